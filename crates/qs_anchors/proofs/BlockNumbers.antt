@@ -1,9 +1,10 @@
--- The anchor of a client's block is one of the script's anchors: it stands among those of the client's item. By induction on the items.
+-- The anchor of a client's block is one of the script's anchors: it stands among those of the client's item. By
+-- induction on the items.
 use Rattle.std.proofs.Common.{◌≡◌, ◌<◌, ◌≤◌, ◌+◌, ℕ, zero, suc, Bool, true, false, List, [], ◌∷◌, ◌++◌, length, take, Option, Some, None, if◌then◌else◌, ap, arith, nat_lt, length-append}
 use Rattle.std.proofs.lemmas.Bool.Decides.{nat_tests}
-use Rattle.qs_script.specs.declared.tree.Block.{Block}
-use Rattle.qs_script.specs.declared.tree.Item.{Item}
-use Rattle.qs_script.specs.declared.tree.Item.TheVariants.{Object, Client, Template, Started}
+use Rattle.qs_tree.specs.declared.tree.Block.{Block}
+use Rattle.qs_tree.specs.declared.tree.Item.{Item}
+use Rattle.qs_tree.specs.declared.tree.Item.TheVariants.{Object, Client, Template, Started}
 use Rattle.qs_anchors.specs.Anchors.{block_anchors, blocks_anchors, item_anchors, script_anchors}
 use Rattle.qs_anchors.specs.Blocks.{own_number, block_number}
 

@@ -1,21 +1,21 @@
--- The first anchor with a fault has the first fault of the text: the places at the anchors, one after another, are the places of the
--- script, and of a template's formals and blocks by themselves. By induction on the tree.
+-- The first anchor with a fault has the first fault of the text: the places at the anchors, one after another, are the
+-- places of the script, and of a template's formals and blocks by themselves. By induction on the tree.
 use Rattle.std.proofs.Common.{◌≡◌, ℕ, suc, ◌+◌, List, [], ◌∷◌, ◌++◌, Bool, true, false, length, map, refl, ap, sym, ◌∙◌, append_assoc, option_map, Ok, Err}
-use Rattle.qs_script.specs.declared.tree.Atom.{Atom}
-use Rattle.qs_script.specs.declared.tree.Atom.TheVariants.{Variable, Number}
-use Rattle.qs_script.specs.declared.tree.Expr.{Expr}
-use Rattle.qs_script.specs.declared.tree.Expr.TheVariants.{Plain, Binary}
-use Rattle.qs_script.specs.declared.tree.Call.{Call}
-use Rattle.qs_script.specs.declared.tree.Block.{Block}
-use Rattle.qs_script.specs.declared.tree.KindText.{KindText}
-use Rattle.qs_script.specs.declared.tree.KindText.TheVariants.{Account, Buffer, Grid}
-use Rattle.qs_script.specs.declared.tree.Formal.{Formal}
-use Rattle.qs_script.specs.declared.tree.TemplateItem.{TemplateItem}
-use Rattle.qs_script.specs.declared.tree.Item.{Item}
-use Rattle.qs_script.specs.declared.tree.Item.TheVariants.{Object, Client, Template, Started}
-use Rattle.qs_script.specs.Tree.{Stmts, end, command, query, assign, choose, choose_else, again, leave}
+use Rattle.qs_tree.specs.declared.tree.Atom.{Atom}
+use Rattle.qs_tree.specs.declared.tree.Atom.TheVariants.{Variable, Number}
+use Rattle.qs_tree.specs.declared.tree.Expr.{Expr}
+use Rattle.qs_tree.specs.declared.tree.Expr.TheVariants.{Plain, Binary}
+use Rattle.qs_tree.specs.declared.tree.Call.{Call}
+use Rattle.qs_tree.specs.declared.tree.Block.{Block}
+use Rattle.qs_tree.specs.declared.tree.KindText.{KindText}
+use Rattle.qs_tree.specs.declared.tree.KindText.TheVariants.{Account, Buffer, Grid}
+use Rattle.qs_tree.specs.declared.tree.Formal.{Formal}
+use Rattle.qs_tree.specs.declared.tree.TemplateItem.{TemplateItem}
+use Rattle.qs_tree.specs.declared.tree.Item.{Item}
+use Rattle.qs_tree.specs.declared.tree.Item.TheVariants.{Object, Client, Template, Started}
+use Rattle.qs_tree.specs.Tree.{Stmts, end, command, query, assign, choose, choose_else, again, leave}
 use Rattle.qs_program.specs.Limits.{most_turns}
-use Rattle.qs_places.specs.Places.{Scope, TextPlace, ScopeOrFault, object, number, client, separate, listed, target, operation, arguments, variable, leaves, template, text, starts, given, step, scope_or_fault, then_at, at_each, atom_places, atoms_places, expr_places, call_places, places, listed_places, block_places, blocks_places, kind_places, formals_places, formal_kinds, kind_of, text_places, start, fault_in, fault_of_text, given_places, item_places, script_places}
+use Rattle.qs_places.specs.Places.{Scope, TextPlace, ScopeOrFault, object, number, client, separate, listed, target, operation, arguments, variable, leaves, template, text, starts, given, pass_place, scope_or_fault, then_at, at_each, atom_places, atoms_places, expr_places, call_places, places, listed_places, block_places, blocks_places, kind_places, formals_places, formal_kinds, kind_of, text_places, start, fault_in, fault_of_text, given_places, item_places, script_places}
 use Rattle.qs_places.proofs.Walks.{met-append}
 use Rattle.qs_anchors.specs.declared.anchor.Anchor.{Anchor}
 use Rattle.qs_anchors.specs.declared.anchor.Anchor.TheVariants as m
@@ -132,7 +132,7 @@ item : (s : Scope) (n : ℕ) (i : Item) → unnumbered (item_anchored s n i) ≡
 item s n (Object o) = walk s n (item_anchors (Object o)) ∙ ap (λ ps. scope_or_fault s (object o.name (kind_of o.kind) ∷ ps)) (kind o.kind)
 item s n (Client c) = walk s n (item_anchors (Client c)) ∙ ap (λ ps. scope_or_fault s (client c.name ∷ ps)) (blocks c.blocks)
 item s n (Template t) =
-    at_then (step s (template t.name (formal_kinds t.formals))) n (λ u. outside u (scope_or_anchored start (n + 1) (text_anchors t)))
+    at_then (pass_place s (template t.name (formal_kinds t.formals))) n (λ u. outside u (scope_or_anchored start (n + 1) (text_anchors t)))
     (λ u. scope_or_fault u (text (fault_of_text t) ∷ [])) (λ u. text_alone u (n + 1) t)
 item s n (Started c) =
     walk s n (item_anchors (Started c))

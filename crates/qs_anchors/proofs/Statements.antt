@@ -1,10 +1,10 @@
--- The anchors of a list of statements are those of its first statement and of the others. The loop that goes through a body adds the
--- anchors of one statement after another.
+-- The anchors of a list of statements are those of its first statement and of the others. The loop that goes through a
+-- body adds the anchors of one statement after another.
 use Rattle.std.proofs.Common.{◌≡◌, ℕ, suc, ◌+◌, ◌<◌, Bool, true, false, List, [], ◌∷◌, ◌++◌, length, get_or, drop, refl, ap, sym, ◌∙◌, append_assoc, append-nil, add-one}
 use Rattle.std.proofs.Math.Seq.{drop-cons}
-use Rattle.qs_script.specs.declared.tree.Stmt.{Stmt}
-use Rattle.qs_script.specs.declared.tree.Stmt.TheVariants.{Command, Query, Assign, If, IfElse, Repeat, Leave}
-use Rattle.qs_script.specs.Views.{stmts_of, single}
+use Rattle.qs_tree.specs.declared.tree.Stmt.{Stmt}
+use Rattle.qs_tree.specs.declared.tree.Stmt.TheVariants.{Command, Query, Assign, If, IfElse, Repeat, Leave}
+use Rattle.qs_tree.specs.Views.{stmts_of, single}
 use Rattle.qs_program.specs.Limits.{most_turns}
 use Rattle.qs_anchors.specs.declared.anchor.Anchor.{Anchor}
 use Rattle.qs_anchors.specs.declared.anchor.Anchor.TheVariants as m

@@ -1,29 +1,29 @@
--- The anchors of a tree are those of any tokens that are written for it. By induction on the tree: each part has its anchors first, and
--- then those of the tokens after it.
+-- The anchors of a tree are those of any tokens that are written for it. By induction on the tree: each part has its
+-- anchors first, and then those of the tokens after it.
 use Rattle.std.proofs.Common.{◌≡◌, ℕ, zero, suc, inl, inr, List, [], ◌∷◌, ◌++◌, Bool, true, false, map, refl, ap, sym, ◌∙◌, pos, neg_ℤ, unsigned_abs}
 use Rattle.qs_tokens.specs.declared.token.Token.{Token}
 use Rattle.qs_tokens.specs.declared.token.Token.TheVariants as t
-use Rattle.qs_script.specs.declared.tree.Atom.{Atom}
-use Rattle.qs_script.specs.declared.tree.Atom.TheVariants.{Variable, Number}
-use Rattle.qs_script.specs.declared.tree.Operator.{Operator}
-use Rattle.qs_script.specs.declared.tree.Operator.TheVariants as o
-use Rattle.qs_script.specs.declared.tree.Relation.{Relation}
-use Rattle.qs_script.specs.declared.tree.Relation.TheVariants as r
-use Rattle.qs_script.specs.declared.tree.Expr.{Expr}
-use Rattle.qs_script.specs.declared.tree.Expr.TheVariants.{Plain, Binary}
-use Rattle.qs_script.specs.declared.tree.Test.{Test}
-use Rattle.qs_script.specs.declared.tree.Call.{Call}
-use Rattle.qs_script.specs.declared.tree.Block.{Block}
-use Rattle.qs_script.specs.declared.tree.KindText.{KindText}
-use Rattle.qs_script.specs.declared.tree.KindText.TheVariants.{Account, Buffer, Grid}
-use Rattle.qs_script.specs.declared.tree.KindWord.{KindWord}
-use Rattle.qs_script.specs.declared.tree.KindWord.TheVariants as kind
-use Rattle.qs_script.specs.declared.tree.Formal.{Formal}
-use Rattle.qs_script.specs.declared.tree.Item.{Item}
-use Rattle.qs_script.specs.declared.tree.Item.TheVariants.{Object, Client, Template, Started}
-use Rattle.qs_script.specs.Limits.{most_levels}
-use Rattle.qs_script.specs.Tree.{Stmts, end, command, query, assign, choose, choose_else, again, leave}
-use Rattle.qs_script.specs.Grammar.{IsAtom, AreMore, AreArgs, IsCall, operator_token, relation_token, IsExpr, IsTest, AreStmts, AreNames, AreSomeNames, IsBlock, AreBlocks, IsKind, kind_token, IsFormal, AreMoreFormals, AreFormals, AreMoreNames, AreGiven, IsItem, AreItems, IsScript}
+use Rattle.qs_tree.specs.declared.tree.Atom.{Atom}
+use Rattle.qs_tree.specs.declared.tree.Atom.TheVariants.{Variable, Number}
+use Rattle.qs_tree.specs.declared.tree.Operator.{Operator}
+use Rattle.qs_tree.specs.declared.tree.Operator.TheVariants as o
+use Rattle.qs_tree.specs.declared.tree.Relation.{Relation}
+use Rattle.qs_tree.specs.declared.tree.Relation.TheVariants as r
+use Rattle.qs_tree.specs.declared.tree.Expr.{Expr}
+use Rattle.qs_tree.specs.declared.tree.Expr.TheVariants.{Plain, Binary}
+use Rattle.qs_tree.specs.declared.tree.Test.{Test}
+use Rattle.qs_tree.specs.declared.tree.Call.{Call}
+use Rattle.qs_tree.specs.declared.tree.Block.{Block}
+use Rattle.qs_tree.specs.declared.tree.KindText.{KindText}
+use Rattle.qs_tree.specs.declared.tree.KindText.TheVariants.{Account, Buffer, Grid}
+use Rattle.qs_tree.specs.declared.tree.KindWord.{KindWord}
+use Rattle.qs_tree.specs.declared.tree.KindWord.TheVariants as kind
+use Rattle.qs_tree.specs.declared.tree.Formal.{Formal}
+use Rattle.qs_tree.specs.declared.tree.Item.{Item}
+use Rattle.qs_tree.specs.declared.tree.Item.TheVariants.{Object, Client, Template, Started}
+use Rattle.qs_tree.specs.Limits.{most_levels}
+use Rattle.qs_tree.specs.Tree.{Stmts, end, command, query, assign, choose, choose_else, again, leave}
+use Rattle.qs_grammar.specs.Grammar.{IsAtom, AreMore, AreArgs, IsCall, operator_token, relation_token, IsExpr, IsTest, AreStmts, AreNames, AreSomeNames, IsBlock, AreBlocks, IsKind, kind_token, IsFormal, AreMoreFormals, AreFormals, AreMoreNames, AreGiven, IsItem, AreItems, IsScript}
 use Rattle.qs_anchors.specs.declared.anchor.Anchor.{Anchor}
 use Rattle.qs_anchors.specs.declared.anchor.Anchor.TheVariants as m
 use Rattle.qs_anchors.specs.Anchors.{anchor_token, anchors_in, atom_anchor, expr_anchors, test_anchors, call_anchors, anchors, block_anchors, blocks_anchors, kind_anchors, formal_anchor, given_anchors, item_anchors, script_anchors}

@@ -1,8 +1,8 @@
 -- A walk stops only at one of the anchors that it goes through. By induction on the anchors, and then on the items.
 use Rattle.std.proofs.Common.{◌≡◌, ℕ, ◌+◌, ◌<◌, List, [], ◌∷◌, length, ap, arith, length-append, Some, Ok, Err}
-use Rattle.qs_script.specs.declared.tree.Item.{Item}
-use Rattle.qs_script.specs.declared.tree.Item.TheVariants.{Object, Client, Template, Started}
-use Rattle.qs_places.specs.Places.{Scope, ScopeOrFault, scope_or_fault, start, step, template, formal_kinds}
+use Rattle.qs_tree.specs.declared.tree.Item.{Item}
+use Rattle.qs_tree.specs.declared.tree.Item.TheVariants.{Object, Client, Template, Started}
+use Rattle.qs_places.specs.Places.{Scope, ScopeOrFault, scope_or_fault, start, pass_place, template, formal_kinds}
 use Rattle.qs_anchors.specs.declared.anchor.Anchor.{Anchor}
 use Rattle.qs_anchors.specs.declared.finding.Anchored.{Anchored}
 use Rattle.qs_anchors.specs.Anchors.{anchor_places, text_anchors, item_anchors, script_anchors}
@@ -40,7 +40,7 @@ item s n (Object o) = stops s n (item_anchors (Object o))
 item s n (Client c) = stops s n (item_anchors (Client c))
 item s n (Template t) =
     let inner : ScopeOrAnchored = scope_or_anchored start (n + 1) (text_anchors t) in
-    at_one n (n + length (item_anchors (Template t))) (step s (template t.name (formal_kinds t.formals))) (λ u. outside u inner) (omega arith)
+    at_one n (n + length (item_anchors (Template t))) (pass_place s (template t.name (formal_kinds t.formals))) (λ u. outside u inner) (omega arith)
     (λ u. from_outside (n + length (item_anchors (Template t))) u inner
     (further (n + 1 + length (text_anchors t)) (n + length (item_anchors (Template t))) inner (omega arith) (stops start (n + 1) (text_anchors t))))
 item s n (Started c) = stops s n (item_anchors (Started c))

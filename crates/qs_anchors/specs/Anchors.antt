@@ -1,22 +1,23 @@
--- The anchors of a script, in text order: its tokens that are a name, a number, `separate` or `leave`, each with the places that stand
--- there. All other tokens only part them. A tree tells its anchors, and not all its tokens: `-0` and `0` make one tree.
+-- The anchors of a script, in text order: its tokens that are a name, a number, `separate` or `leave`, each with the
+-- places that stand there. All other tokens only part them. A tree tells its anchors, and not all its tokens: `-0` and
+-- `0` make one tree.
 use Rattle.std.specs.Prelude.{◌≡◌, ℕ, suc, ◌<◌, Bool, true, false, if◌then◌else◌, List, [], ◌∷◌, ◌++◌, length, get_or, take, map, flat_map, unsigned_abs}
 use Rattle.qs_tokens.specs.declared.token.Token.{Token}
 use Rattle.qs_tokens.specs.declared.token.Token.TheVariants as t
-use Rattle.qs_script.specs.declared.tree.Atom.{Atom}
-use Rattle.qs_script.specs.declared.tree.Atom.TheVariants.{Variable, Number}
-use Rattle.qs_script.specs.declared.tree.Expr.{Expr}
-use Rattle.qs_script.specs.declared.tree.Expr.TheVariants.{Plain, Binary}
-use Rattle.qs_script.specs.declared.tree.Test.{Test}
-use Rattle.qs_script.specs.declared.tree.Call.{Call}
-use Rattle.qs_script.specs.declared.tree.Block.{Block}
-use Rattle.qs_script.specs.declared.tree.KindText.{KindText}
-use Rattle.qs_script.specs.declared.tree.KindText.TheVariants.{Account, Buffer, Grid}
-use Rattle.qs_script.specs.declared.tree.Formal.{Formal}
-use Rattle.qs_script.specs.declared.tree.TemplateItem.{TemplateItem}
-use Rattle.qs_script.specs.declared.tree.Item.{Item}
-use Rattle.qs_script.specs.declared.tree.Item.TheVariants.{Object, Client, Template, Started}
-use Rattle.qs_script.specs.Tree.{Stmts, end, command, query, assign, choose, choose_else, again, leave}
+use Rattle.qs_tree.specs.declared.tree.Atom.{Atom}
+use Rattle.qs_tree.specs.declared.tree.Atom.TheVariants.{Variable, Number}
+use Rattle.qs_tree.specs.declared.tree.Expr.{Expr}
+use Rattle.qs_tree.specs.declared.tree.Expr.TheVariants.{Plain, Binary}
+use Rattle.qs_tree.specs.declared.tree.Test.{Test}
+use Rattle.qs_tree.specs.declared.tree.Call.{Call}
+use Rattle.qs_tree.specs.declared.tree.Block.{Block}
+use Rattle.qs_tree.specs.declared.tree.KindText.{KindText}
+use Rattle.qs_tree.specs.declared.tree.KindText.TheVariants.{Account, Buffer, Grid}
+use Rattle.qs_tree.specs.declared.tree.Formal.{Formal}
+use Rattle.qs_tree.specs.declared.tree.TemplateItem.{TemplateItem}
+use Rattle.qs_tree.specs.declared.tree.Item.{Item}
+use Rattle.qs_tree.specs.declared.tree.Item.TheVariants.{Object, Client, Template, Started}
+use Rattle.qs_tree.specs.Tree.{Stmts, end, command, query, assign, choose, choose_else, again, leave}
 use Rattle.qs_objects.specs.Limits.{greatest_balance, most_lines, most_values}
 use Rattle.qs_program.specs.Limits.{most_turns}
 use Rattle.qs_program.specs.Numbering.{Name}
@@ -40,7 +41,8 @@ anchor_token (m.Template n) = t.Name n
 anchor_token (m.Starts n count) = t.Name n
 anchor_token (m.Given n i o) = t.Name o
 
--- the places that stand at an anchor. Nothing can be wrong with a number among the values; a template's name is met with its formals
+-- the places that stand at an anchor. Nothing can be wrong with a number among the values; a template's name is met
+-- with its formals
 abbrev pub anchor_places : Anchor → List TextPlace
 anchor_places (m.Object n kind) = object n kind ∷ []
 anchor_places (m.Range low high n) = number low high n ∷ []
@@ -95,7 +97,8 @@ anchors inside (command c rest) = call_anchors false c ++ anchors inside rest
 anchors inside (query x c rest) = m.Variable x ∷ (call_anchors true c ++ anchors inside rest)
 anchors inside (assign x e rest) = m.Variable x ∷ (expr_anchors e ++ anchors inside rest)
 anchors inside (choose t first rest) = test_anchors t ++ (anchors inside first ++ anchors inside rest)
-anchors inside (choose_else t first other rest) = test_anchors t ++ (anchors inside first ++ (anchors inside other ++ anchors inside rest))
+anchors inside (choose_else t first other rest) =
+    test_anchors t ++ (anchors inside first ++ (anchors inside other ++ anchors inside rest))
 anchors inside (again n body rest) = m.Range 0 most_turns n ∷ (anchors true body ++ anchors inside rest)
 anchors inside (leave rest) = m.Leave inside ∷ anchors inside rest
 
@@ -126,7 +129,8 @@ abbrev pub item_anchors : Item → List Anchor
 item_anchors (Object o) = m.Object o.name (kind_of o.kind) ∷ kind_anchors o.kind
 item_anchors (Client c) = m.Client c.name ∷ blocks_anchors c.blocks
 item_anchors (Template t) = m.Template t.name ∷ text_anchors t
-item_anchors (Started c) = m.Client c.name ∷ m.Starts c.template (length c.objects) ∷ given_anchors c.template 0 c.objects
+item_anchors (Started c) =
+    m.Client c.name ∷ m.Starts c.template (length c.objects) ∷ given_anchors c.template 0 c.objects
 
 -- the anchors of a whole script
 abbrev pub script_anchors : List Item → List Anchor

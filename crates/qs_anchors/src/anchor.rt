@@ -1,7 +1,7 @@
 //! The anchors of a script.
 
 use qs_objects::Kind;
-use qs_script::{Name, Number};
+use qs_tree::{Name, Number};
 
 /// A token of a script that is a name, a number, `separate` or `leave`, by what stands there.
 #[derive(Drop)]

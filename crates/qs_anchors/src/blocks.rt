@@ -5,11 +5,12 @@ ghost use Rattle.qs_anchors.specs.Blocks.{block_number, own_number};
 
 use crate::anchor::Anchor;
 use crate::anchors::{put_blocks, put_item};
-use qs_script::{ClientItem, Item, Script};
+use qs_tree::{ClientItem, Item, Script};
 use std::alloc::{AllocError, Global};
 
-/// The number of the anchor of a client's block among the anchors of a script: that of its `separate`, or that of the client's name where
-/// the client is started with a template. Nothing, where there is no such client or no such block. It fails only where memory runs out.
+/// The number of the anchor of a client's block among the anchors of a script: that of its `separate`, or that of the
+/// client's name where the client is started with a template. Nothing, where there is no such client or no such block.
+/// It fails only where memory runs out.
 pub fn block_anchor(
     alloc: Global,
     script: &Script,

@@ -1,17 +1,18 @@
 //! The first anchor of a script with a fault.
 
 ghost use Rattle.std.specs.Prelude.{◌≡◌, ◌≢◌, ◌≤◌, ◌<◌, ◌+◌, ◌++◌, [], length, drop, IfOk, IfErr, OnOk, Some, None};
-ghost use Rattle.qs_places.specs.Places.{Scope as Known, Meets, scope_or_fault, start, step, leaves};
+ghost use Rattle.qs_places.specs.Places.{Scope as Known, Meets, scope_or_fault, start, pass_place, leaves};
 ghost use Rattle.qs_anchors.specs.Anchors.{anchor_places, item_anchors, text_anchors};
 ghost use Rattle.qs_anchors.specs.Anchored.{Finds, outside, scope_or_anchored, template_anchored, item_anchored, items_anchored, first_anchored};
 
 use crate::anchor::Anchor;
 use crate::anchors::put_item;
 use qs_places::{CheckFault, Scope, check_number};
-use qs_script::{Item, Script, TemplateItem};
+use qs_tree::{Item, Script, TemplateItem};
 use std::alloc::{AllocError, Global};
 
-/// The first fault of a script, and the number of the anchor at which it stands, counted from 0 among the anchors of the script.
+/// The first fault of a script, and the number of the anchor at which it stands, counted from 0 among the anchors of
+/// the script.
 #[derive(Clone, Copy, Debug, PartialEq, Eq)]
 pub struct Anchored {
     /// How many anchors stand before it.
@@ -58,7 +59,7 @@ fn meet(alloc: Global, scope: &mut Scope, anchor: &Anchor) -> Result<(), CheckFa
 
 // A `leave` stands inside of a `repeat`.
 fn check_leave(inside: bool) -> Result<(), CheckFault>
-    ensures meets { (s : Known) → Meets result (step s (leaves inside)) s }
+    ensures meets { (s : Known) → Meets result (pass_place s (leaves inside)) s }
 {
     if !inside {
         return Err(CheckFault::LeaveOutside);
@@ -162,8 +163,8 @@ fn walk_script(alloc: Global, items: &[Item]) -> Result<(), Anchored>
     walked
 }
 
-/// The first fault of a script's text in text order, which is the one that `check` answers, and the anchor at which it stands; nothing
-/// where the text has no fault. It fails only where memory runs out.
+/// The first fault of a script's text in text order, which is the one that `check` answers, and the anchor at which it
+/// stands; nothing where the text has no fault. It fails only where memory runs out.
 pub fn first_fault(alloc: Global, script: &Script) -> Result<Option<Anchored>, AllocError>
     ensures exact { IfOk result (λ found. found ≡ first_anchored script.now) }
 {

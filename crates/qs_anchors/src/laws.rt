@@ -3,14 +3,14 @@
 ghost use Rattle.qs_anchors.specs.Examples.{AnchorExamples};
 ghost use Rattle.qs_anchors.specs.Laws.{AnchorsAreTokens, BlocksHaveAnchors, FirstIsFirst, FirstIsAnAnchor};
 
-/// The anchors of a script are the names, the numbers, each `separate` and each `leave` of any tokens that are written for it, in their
-/// order. It does nothing.
+/// The anchors of a script are the names, the numbers, each `separate` and each `leave` of any tokens that are written
+/// for it, in their order. It does nothing.
 pub fn anchors_are_tokens()
     ensures same { AnchorsAreTokens }
 {}
 
-/// The fault at the first anchor with one is the first fault of the script's places, by which `check` of `qs_check` is exact, and there
-/// is none where these have none. It does nothing.
+/// The fault at the first anchor with one is the first fault of the script's places, by which `check` of `qs_check` is
+/// exact, and there is none where these have none. It does nothing.
 pub fn first_is_first()
     ensures same { FirstIsFirst }
 {}

@@ -1,10 +1,11 @@
--- A loop over a list of statements that replaces formals by objects gives what the definition `bound_statements` says, and the
--- result is nested as deep as the text over formals. The proof of the functions that do this stands on it. The invariant is that the
--- statements made so far, joined with what the rest stands for, are what the whole list stands for.
+-- A loop over a list of statements that replaces formals by objects gives what the definition `bound_statements` says,
+-- and the result is nested as deep as the text over formals. The proof of the functions that do this stands on it. The
+-- invariant is that the statements made so far, joined with what the rest stands for, are what the whole list stands
+-- for.
 use Rattle.std.proofs.Common.{◌≡◌, ℕ, zero, suc, ◌+◌, ◌<◌, ◌≤◌, Bool, true, false, not, ◌||◌, ◌&&◌, ◌==◌, List, [], ◌∷◌, ◌++◌, length, map, filter, get_or, drop, refl, ap, sym, ◌∙◌, add-one, append_assoc, append-nil, arith, if◌then◌else◌}
 use Rattle.std.proofs.Math.Seq.{drop-cons}
 use Rattle.std.proofs.lemmas.List.Folds.{list_any-append}
-use Rattle.qs_script.proofs.Sizes.{drop_past}
+use Rattle.qs_tree.proofs.Sizes.{drop_past}
 use Rattle.qs_program.specs.Binding.{bound, bound_statements, first_of_each}
 use Rattle.qs_program.specs.declared.code.Stmt.{Stmt}
 use Rattle.qs_program.specs.declared.code.Stmt.TheVariants.{Command, Query, Assign, If, Repeat, Leave}

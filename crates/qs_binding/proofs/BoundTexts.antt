@@ -1,6 +1,6 @@
--- A block over formals that is sound and formed stays so once each formal stands for its object: the objects are declared and of
--- their formals' kinds, and each is reserved once. The soundness of a client of a template stands on it. It goes by induction on
--- the statements, and on the list for what comes first in it.
+-- A block over formals that is sound and formed stays so once each formal stands for its object: the objects are
+-- declared and of their formals' kinds, and each is reserved once. The soundness of a client of a template stands on
+-- it. It goes by induction on the statements, and on the list for what comes first in it.
 use Rattle.std.proofs.Common.{◌≡◌, ℕ, zero, suc, ◌<◌, max, Bool, true, false, not, ◌||◌, ◌==◌, List, [], ◌∷◌, length, map, get_or, filter, slice_index_or, refl, ap, sym, ◌∙◌, subst, arith, if◌then◌else◌}
 use Rattle.std.specs.List.{AllByRecursion, IsDistinct}
 use Rattle.qs_objects.specs.declared.Op.{Op}

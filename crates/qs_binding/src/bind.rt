@@ -2,7 +2,7 @@
 
 ghost use Rattle.std.specs.Prelude.{◌≡◌, ◌≤◌, [], ◌∷◌, ◌++◌, if◌then◌else◌, IfOk, OnOk, map};
 ghost use Rattle.std.specs.List.{AllByRecursion};
-ghost use Rattle.qs_script.specs.Limits.{most_levels};
+ghost use Rattle.qs_tree.specs.Limits.{most_levels};
 ghost use Rattle.qs_program.specs.Binding.{bound as object_of, bound_call, bound_statements, bound_block, first_of_each};
 ghost use Rattle.qs_program.specs.Sound.{is_in, levels_of};
 ghost use Rattle.qs_program.specs.Views.{single};

@@ -1,11 +1,11 @@
--- Tokens that stand in a text are within it, and a fault of the text's script stands at one of them. The first goes by induction on
--- the tokens; the second since the anchors of a script are those of the tokens of its text.
+-- Tokens that stand in a text are within it, and a fault of the text's script stands at one of them. The first goes by
+-- induction on the tokens; the second since the anchors of a script are those of the tokens of its text.
 use Rattle.std.proofs.Common.{◌≡◌, ℕ, zero, suc, ◌<◌, ◌≤◌, true, List, [], ◌∷◌, length, get_or, take, refl, ap, sym, ◌∙◌, arith, Option, Some, None, unwrap_or, Result, Ok}
 use Rattle.std.proofs.lemmas.List.{length-map}
 use Rattle.qs_tokens.specs.declared.token.Token.{Token}
 use Rattle.qs_tokens.specs.declared.token.Token.TheVariants.{Semicolon}
 use Rattle.qs_tokens.specs.declared.lex.TokenFault.{TokenFault}
-use Rattle.qs_script.specs.declared.tree.Item.{Item}
+use Rattle.qs_tree.specs.declared.tree.Item.{Item}
 use Rattle.qs_script.specs.Reads.{IsScriptText}
 use Rattle.qs_anchors.specs.declared.finding.Anchored.{Anchored}
 use Rattle.qs_anchors.specs.Anchors.{IsAnchorAt, anchor_token, anchors_in, is_anchor, script_anchors}

@@ -1,5 +1,5 @@
--- What is told of a fault of form is told within the text: at a token that stands there, right after one, or at the text's end. It goes
--- by induction on the tokens.
+-- What is told of a fault of form is told within the text: at a token that stands there, right after one, or at the
+-- text's end. It goes by induction on the tokens.
 use Rattle.std.proofs.Common.{ℕ, zero, suc, ◌-◌, ◌≤◌, List, [], ◌∷◌, length, arith, inl, inr, Result, Ok}
 use Rattle.qs_tokens.specs.declared.token.Token.{Token}
 use Rattle.qs_tokens.specs.declared.lex.TokenFault.{TokenFault}

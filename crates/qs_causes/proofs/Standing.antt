@@ -1,5 +1,5 @@
--- A token that is cut off at the front of what is left of a text stands at its place, and so do those before it still. By
--- induction on the tokens before it: what comes after each of them has one token more.
+-- A token that is cut off at the front of what is left of a text stands at its place, and so do those before it still.
+-- By induction on the tokens before it: what comes after each of them has one token more.
 use Rattle.std.proofs.Common.{◌≡◌, ℕ, ◌<◌, ◌≤◌, ◌+◌, ◌-◌, List, [], ◌∷◌, ◌++◌, length, drop, refl, sym, ap, ◌∙◌, arith, Result}
 use Rattle.std.proofs.lemmas.List.{drop-drop}
 use Rattle.qs_tokens.specs.declared.token.Token.{Token}

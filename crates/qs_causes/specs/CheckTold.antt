@@ -1,8 +1,8 @@
--- What is told of a script that is refused: a diagnosis of the token at which its first fault stands, or of the block with which it
--- passes a limit.
+-- What is told of a script that is refused: a diagnosis of the token at which its first fault stands, or of the block
+-- with which it passes a limit.
 use Rattle.std.specs.Prelude.{◌≡◌, ℕ, ◌-◌, List, get_or, Option, Some, None, option_map}
 use Rattle.qs_tokens.specs.declared.token.Token.TheVariants as t
-use Rattle.qs_script.specs.declared.tree.Item.{Item}
+use Rattle.qs_tree.specs.declared.tree.Item.{Item}
 use Rattle.qs_script.specs.Reads.{IsScriptText}
 use Rattle.qs_told.specs.declared.told.Span.{Span}
 use Rattle.qs_told.specs.declared.told.Diagnosis.{Diagnosis}
@@ -56,7 +56,8 @@ block_anchor_of items (Some e) = block_number 0 items e.client e.block
 abbrev pub IsExcessAt : List Item → Option ℕ → Type 0
 IsExcessAt items anchor = (found : Option Excess) × IsExcessOf items found × (anchor ≡ block_anchor_of items found)
 
--- the anchor of the first fault of a script's text, if there is one, or else that of the block with which it passes a limit
+-- the anchor of the first fault of a script's text, if there is one, or else that of the block with which it passes a
+-- limit
 abbrev pub IsRefusalAnchor : List Item → Option Anchored → Option ℕ → Type 0
 IsRefusalAnchor items None anchor = IsExcessAt items anchor
 IsRefusalAnchor items (Some first) anchor = anchor ≡ Some first.anchor

@@ -33,14 +33,18 @@ begins_block _ = false
 
 -- which block it is: the one that begins here, or one of the client that is started here, counted from 1
 abbrev pub block_text : Bool → Excess → List ℕ
-block_text begins e = if begins then codes "this block" else codes "block " ++ decimal (min (e.block + 1) (2 ^ 64 - 1)) ++ codes " of this client"
+block_text begins e =
+    if begins then codes "this block" else codes "block " ++ decimal (min (e.block + 1) (2 ^ 64 - 1))
+    ++ codes " of this client"
 
 abbrev pub label_text : Option Token → Excess → List ℕ
 label_text token e = block_text (begins_block token) e ++ count_text e ++ before_text e
 
 -- which limit is passed
 abbrev pub cause_text : Measure → List ℕ
-cause_text m = codes "the blocks of this script" ++ can_text m ++ codes "more than " ++ decimal (limit_by m) ++ unit_text m ++ codes " in all"
+cause_text m =
+    codes "the blocks of this script" ++ can_text m ++ codes "more than " ++ decimal (limit_by m) ++ unit_text m
+    ++ codes " in all"
 
 abbrev pub help_text : Measure → List ℕ
 help_text Load = codes "a `repeat N` counts its body N times, and an `if` the greater of its two bodies"

@@ -50,4 +50,5 @@ declaration_of text tokens k word = find (declares text tokens (template_here k)
 
 -- the number of the template of a word, counted from 1
 abbrev pub template_named : List ℕ → List PlacedToken → Known → List ℕ → Option ℕ
-template_named text tokens k word = option_map (λ n. min (n + 1) (2 ^ 64 - 1)) (position (stands_at text tokens word) k.templates.items)
+template_named text tokens k word =
+    option_map (λ n. min (n + 1) (2 ^ 64 - 1)) (position (stands_at text tokens word) k.templates.items)

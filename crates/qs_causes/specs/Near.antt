@@ -9,4 +9,5 @@ edits left right = levenshtein_row nat_eq left right (length right)
 -- one or two, and two others stay
 abbrev pub is_near : List ℕ → List ℕ → Bool
 is_near left right =
-    nat_lt 0 (edits left right) && nat_le (edits left right) 2 && nat_le 2 (max (length left) (length right) - edits left right)
+    nat_lt 0 (edits left right) && nat_le (edits left right) 2
+    && nat_le 2 (max (length left) (length right) - edits left right)

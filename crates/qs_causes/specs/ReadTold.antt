@@ -1,13 +1,13 @@
--- What is told of a text that can't be read: a diagnosis of its first token at fault, or of the place of its fault of form. And what a
--- text's tokens declare.
+-- What is told of a text that can't be read: a diagnosis of its first token at fault, or of the place of its fault of
+-- form. And what a text's tokens declare.
 use Rattle.std.specs.Prelude.{◌≡◌, ◌⊎◌, ◌↔◌, ℕ, ◌-◌, Bool, true, false, IsTrue, List, [], ◌∷◌, ◌++◌, take, Option, Some, None, Result, Ok, Err}
 use Rattle.std.specs.List.{count_by}
 use Rattle.qs_tokens.specs.declared.token.Token.{Token}
 use Rattle.qs_tokens.specs.declared.token.Token.TheVariants as t
 use Rattle.qs_tokens.specs.declared.lex.TokenFault.{TokenFault}
-use Rattle.qs_script.specs.declared.tree.Item.{Item}
-use Rattle.qs_script.specs.Grammar.{IsScript}
-use Rattle.qs_script.specs.Reads.{BeginsScript, IsFormPlace}
+use Rattle.qs_tree.specs.declared.tree.Item.{Item}
+use Rattle.qs_grammar.specs.Grammar.{IsScript}
+use Rattle.qs_grammar.specs.FormPlaces.{BeginsScript, IsFormPlace}
 use Rattle.qs_told.specs.declared.told.Span.{Span}
 use Rattle.qs_causes.specs.declared.finding.FormFault.{FormFault}
 use Rattle.qs_causes.specs.declared.spans.PlacedToken.{PlacedToken}
@@ -20,14 +20,19 @@ use Rattle.qs_causes.specs.Spans.{ArePlaced, IsFaultAt, tokens_in}
 abbrev pub MayEnd : List Token → ℕ → Type 0
 MayEnd ts place = BeginsScript (take place ts ++ t.Semicolon ∷ [])
 
--- the fault of form of tokens that no script has: its place, and whether a `;` may stand there; none, where a script has them
+-- the fault of form of tokens that no script has: its place, and whether a `;` may stand there; none, where a script
+-- has them
 abbrev pub IsFormFaultOf : List Token → Option FormFault → Type 0
 IsFormFaultOf ts None = (script : List Item) × IsScript script ts
-IsFormFaultOf ts (Some found) = ((script : List Item) → IsScript script ts → ⊥) × IsFormPlace ts found.place × (IsTrue found.ends ↔ MayEnd ts found.place)
+IsFormFaultOf ts (Some found) =
+    ((script : List Item) → IsScript script ts → ⊥) × IsFormPlace ts found.place
+    × (IsTrue found.ends ↔ MayEnd ts found.place)
 
--- what is told of the token at a place, or of the text's end; or, where that may be, of the place right after the token before
+-- what is told of the token at a place, or of the text's end; or, where that may be, of the place right after the token
+-- before
 abbrev pub IsSpot : List ℕ → List PlacedToken → ℕ → Type 0 → Span → Type 0
-IsSpot text tokens place after span = (span ≡ span_in text tokens place) ⊎ (after × (span ≡ end_in text tokens (place - 1)))
+IsSpot text tokens place after span =
+    (span ≡ span_in text tokens place) ⊎ (after × (span ≡ end_in text tokens (place - 1)))
 
 -- a diagnosis of the text's fault of form was put at the end
 pub record IsFormTold (text : List ℕ) (old new : List ℕ) : Type 0 where

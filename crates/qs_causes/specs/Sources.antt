@@ -11,7 +11,8 @@ token_in tokens place = option_map (λ (p : PlacedToken). p.token) (slice_get to
 -- the bytes of a token
 abbrev pub bytes_of : List ℕ → Option PlacedToken → List ℕ
 bytes_of text None = []
-bytes_of text (Some p) = if nat_le p.start p.end && nat_le p.end (length text) then take (p.end - p.start) (drop p.start text) else []
+bytes_of text (Some p) =
+    if nat_le p.start p.end && nat_le p.end (length text) then take (p.end - p.start) (drop p.start text) else []
 
 -- the bytes of the token at a place; none after the last token
 abbrev pub word_in : List ℕ → List PlacedToken → ℕ → List ℕ

@@ -18,12 +18,13 @@ placed_in (piece.Token t) start end = record { token = t; start = start; end = e
 placed_in piece.Line start end = []
 placed_in piece.Gap start end = []
 
--- Each token stands at its place: from its start on, the text has this token and those after it, and from its end on those after it.
--- What comes after all of them is `later`.
+-- Each token stands at its place: from its start on, the text has this token and those after it, and from its end on
+-- those after it. What comes after all of them is `later`.
 abbrev pub Stand : List ℕ → List PlacedToken → Result (List Token) TokenFault → Type 0
 Stand text [] later = ⊤
 Stand text (p ∷ ps) later =
-    (tokens_of (drop p.start text) ≡ after (tokens_in (p ∷ ps)) later) × (tokens_of (drop p.end text) ≡ after (tokens_in ps) later)
+    (tokens_of (drop p.start text) ≡ after (tokens_in (p ∷ ps)) later)
+    × (tokens_of (drop p.end text) ≡ after (tokens_in ps) later)
     × (p.start < p.end) × (p.end ≤ length text) × Stand text ps later
 
 -- all tokens of a text, each at its place
@@ -32,5 +33,6 @@ ArePlaced text ps = (tokens_of text ≡ Ok (tokens_in ps)) × Stand text ps (Ok 
 
 -- the text's first fault is one of its tokens, and from the place on the text has this fault
 abbrev pub IsFaultAt : List ℕ → SpanFault → Type 0
-IsFaultAt text (fault.Token f start) = (tokens_of text ≡ Err f) × (tokens_of (drop start text) ≡ Err f) × (start < length text)
+IsFaultAt text (fault.Token f start) =
+    (tokens_of text ≡ Err f) × (tokens_of (drop start text) ≡ Err f) × (start < length text)
 IsFaultAt text fault.Memory = ⊤

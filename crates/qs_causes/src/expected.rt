@@ -1,46 +1,50 @@
 // What may stand at each place of a script, in words.
 
-use crate::form::Stage;
+use crate::form::FormStage;
 
 /// What may stand at a place, in words.
-pub(crate) fn expected(stage: Stage) -> &'static [u8] {
+pub(crate) fn expected(stage: FormStage) -> &'static [u8] {
     match stage {
-        Stage::Item => b"`object`, `client`, `template` or the text's end",
-        Stage::ObjectName | Stage::ClientName | Stage::TemplateName => b"a name",
-        Stage::ObjectKind => b"`account`, `buffer` or `grid`",
-        Stage::Balance | Stage::Capacity | Stage::Rows | Stage::Columns => b"a number",
-        Stage::ClientNext => b"`{`, or `=` and a template",
-        Stage::TemplateOf => b"a template's name",
-        Stage::GivenOpen | Stage::FormalsOpen => b"`(`",
-        Stage::GivenFirst | Stage::GivenMore => b"an object's name",
-        Stage::GivenNext | Stage::FormalNext => b"`,` or `)`",
-        Stage::FormalKind => b"`account`, `buffer` or `grid`",
-        Stage::FormalName => b"a name",
-        Stage::TemplateBrace => b"`{`",
-        Stage::Block => b"`separate` or `}`",
-        Stage::ListFirst => b"an object's name",
-        Stage::ListNext => b"an object's name or `{`",
+        FormStage::Item => b"`object`, `client`, `template` or the text's end",
+        FormStage::ObjectName | FormStage::ClientName | FormStage::TemplateName => b"a name",
+        FormStage::ObjectKind => b"`account`, `buffer` or `grid`",
+        FormStage::Balance | FormStage::Capacity | FormStage::Rows | FormStage::Columns =>
+            b"a number",
+        FormStage::ClientNext => b"`{`, or `=` and a template",
+        FormStage::TemplateOf => b"a template's name",
+        FormStage::GivenOpen | FormStage::FormalsOpen => b"`(`",
+        FormStage::GivenFirst | FormStage::GivenMore => b"an object's name",
+        FormStage::GivenNext | FormStage::FormalNext => b"`,` or `)`",
+        FormStage::FormalKind => b"`account`, `buffer` or `grid`",
+        FormStage::FormalName => b"a name",
+        FormStage::TemplateBrace => b"`{`",
+        FormStage::Block => b"`separate` or `}`",
+        FormStage::ListFirst => b"an object's name",
+        FormStage::ListNext => b"an object's name or `{`",
         stage => expected_in_block(stage),
     }
 }
 
-fn expected_in_block(stage: Stage) -> &'static [u8] {
+fn expected_in_block(stage: FormStage) -> &'static [u8] {
     match stage {
-        Stage::Statement => b"a statement or `}`",
-        Stage::AfterIf => b"`else`, a statement or `}`",
-        Stage::AfterName => b"`.` or `=`",
-        Stage::Operation => b"an operation's name",
-        Stage::ArgumentsOpen => b"`(`",
-        Stage::ArgumentFirst => b"a number, a variable or `)`",
-        Stage::ArgumentNext => b"`,` or `)`",
-        Stage::ArgumentMore | Stage::Second | Stage::Left | Stage::Right => {
+        FormStage::Statement => b"a statement or `}`",
+        FormStage::AfterIf => b"`else`, a statement or `}`",
+        FormStage::AfterName => b"`.` or `=`",
+        FormStage::Operation => b"an operation's name",
+        FormStage::ArgumentsOpen => b"`(`",
+        FormStage::ArgumentFirst => b"a number, a variable or `)`",
+        FormStage::ArgumentNext => b"`,` or `)`",
+        FormStage::ArgumentMore | FormStage::Second | FormStage::Left | FormStage::Right => {
             b"a number or a variable"
         }
-        Stage::Value => b"a number, a variable or a query",
-        Stage::AfterVariable | Stage::AfterNumber => b"`+`, `-`, `*` or `;`",
-        Stage::Relation => b"`==`, `!=`, `<`, `<=`, `>` or `>=`",
-        Stage::BodyBrace | Stage::ElseBrace | Stage::TurnsBrace => b"`{`",
-        Stage::CommandEnd | Stage::QueryEnd | Stage::ExpressionEnd | Stage::LeaveEnd => b"`;`",
+        FormStage::Value => b"a number, a variable or a query",
+        FormStage::AfterVariable | FormStage::AfterNumber => b"`+`, `-`, `*` or `;`",
+        FormStage::Relation => b"`==`, `!=`, `<`, `<=`, `>` or `>=`",
+        FormStage::BodyBrace | FormStage::ElseBrace | FormStage::TurnsBrace => b"`{`",
+        FormStage::CommandEnd
+        | FormStage::QueryEnd
+        | FormStage::ExpressionEnd
+        | FormStage::LeaveEnd => b"`;`",
         _ => b"a number",
     }
 }

@@ -3,7 +3,7 @@
 ghost use Rattle.std.specs.Prelude.{◌↔◌, IfOk, IsTrue};
 ghost use Rattle.qs_causes.specs.ReadTold.{IsFormFaultOf, MayEnd};
 
-use crate::form::{Form, Stage};
+use crate::form::{Form, FormStage};
 use crate::known::{Declared, Known, kind_of, place_in};
 use crate::operations::{Kind, operation_of};
 use crate::source::Source;
@@ -73,8 +73,8 @@ pub(crate) enum Cause {
     },
 }
 
-/// A fault of form: the place of the first token with which no script goes on, one more than the last place at the text's end; and
-/// whether a `;` may stand there.
+/// A fault of form: the place of the first token with which no script goes on, one more than the last place at the
+/// text's end; and whether a `;` may stand there.
 #[derive(Clone, Copy)]
 pub(crate) struct FormFault {
     pub(crate) place: usize,
@@ -138,13 +138,13 @@ impl Search {
     fn learn_name(&mut self, source: Source<'_>, place: usize) -> Result<(), AllocError> {
         self.leave_template();
         match self.form.stage() {
-            Stage::ObjectName => self.known.add_object(place, kind_after(source, place))?,
-            Stage::FormalName => self.known.add_object(place, kind_before(source, place))?,
-            Stage::ClientName => self.known.clients.push(place)?,
-            Stage::TemplateName => self.known.add_template(place)?,
-            Stage::TemplateOf => self.known.start(source, source.word(place)),
-            Stage::GivenFirst | Stage::GivenMore => self.known.give(),
-            Stage::ListFirst | Stage::ListNext => self.known.reserved.push(place)?,
+            FormStage::ObjectName => self.known.add_object(place, kind_after(source, place))?,
+            FormStage::FormalName => self.known.add_object(place, kind_before(source, place))?,
+            FormStage::ClientName => self.known.clients.push(place)?,
+            FormStage::TemplateName => self.known.add_template(place)?,
+            FormStage::TemplateOf => self.known.start(source, source.word(place)),
+            FormStage::GivenFirst | FormStage::GivenMore => self.known.give(),
+            FormStage::ListFirst | FormStage::ListNext => self.known.reserved.push(place)?,
             _ => {}
         }
         Ok(())
@@ -152,7 +152,10 @@ impl Search {
 
     // An object or a client stands in no template.
     fn leave_template(&mut self) {
-        if matches!(self.form.stage(), Stage::ObjectName | Stage::ClientName) {
+        if matches!(
+            self.form.stage(),
+            FormStage::ObjectName | FormStage::ClientName
+        ) {
             self.known.is_template = false;
         }
     }
@@ -184,11 +187,11 @@ impl Search {
     // What a token declares or begins.
     fn what(&self) -> What {
         match self.form.stage() {
-            Stage::ObjectName => What::Object,
-            Stage::FormalName => What::Formal,
-            Stage::ClientName => What::Client,
-            Stage::TemplateName => What::Template,
-            Stage::Block => What::Block,
+            FormStage::ObjectName => What::Object,
+            FormStage::FormalName => What::Formal,
+            FormStage::ClientName => What::Client,
+            FormStage::TemplateName => What::Template,
+            FormStage::Block => What::Block,
             _ => What::Variable,
         }
     }
@@ -258,13 +261,13 @@ fn count_to_paren(source: Source<'_>, from: usize) -> usize {
 }
 
 // What a number has to be.
-fn cause_of_number(stage: Stage) -> Option<Cause> {
+fn cause_of_number(stage: FormStage) -> Option<Cause> {
     let what: &'static [u8] = match stage {
-        Stage::Balance => b"an account begins with 0 to 1000000000000000",
-        Stage::Capacity => b"a buffer has 1 to 1024 places",
-        Stage::Rows => b"a grid has 1 to 16 rows",
-        Stage::Columns => b"a grid has 1 to 16 columns",
-        Stage::Count => b"a `repeat` turns at most 1000 times",
+        FormStage::Balance => b"an account begins with 0 to 1000000000000000",
+        FormStage::Capacity => b"a buffer has 1 to 1024 places",
+        FormStage::Rows => b"a grid has 1 to 16 rows",
+        FormStage::Columns => b"a grid has 1 to 16 columns",
+        FormStage::Count => b"a `repeat` turns at most 1000 times",
         _ => return None,
     };
     Some(Cause::Range { what })

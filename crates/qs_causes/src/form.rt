@@ -6,7 +6,7 @@ use std::alloc::{AllocError, Global};
 
 /// What has been read so far, by what may come next.
 #[derive(Clone, Copy, Debug, PartialEq, Eq)]
-pub(crate) enum Stage {
+pub(crate) enum FormStage {
     /// An item, or the text's end.
     Item,
     ObjectName,
@@ -81,7 +81,7 @@ const MOST_AROUND: usize = 8;
 /// What a script has come to, token by token.
 #[derive(Drop)]
 pub(crate) struct Form {
-    stage: Stage,
+    stage: FormStage,
     asks: bool,
     bodies: Vec<Body>,
 }
@@ -90,14 +90,14 @@ impl Form {
     /// Before the first token.
     pub(crate) fn new(alloc: Global) -> Form {
         Form {
-            stage: Stage::Item,
+            stage: FormStage::Item,
             asks: false,
             bodies: Vec::new(alloc),
         }
     }
 
     /// What may come next.
-    pub(crate) fn stage(&self) -> Stage {
+    pub(crate) fn stage(&self) -> FormStage {
         self.stage
     }
 
@@ -133,17 +133,17 @@ impl Form {
     /// Goes past a token. False where it may not stand here.
     pub(crate) fn pass(&mut self, token: &Token) -> Result<bool, AllocError> {
         match self.stage {
-            Stage::Statement | Stage::AfterIf => Ok(self.pass_statement(token)),
-            Stage::BodyBrace => self.open(token, Body::First),
-            Stage::ElseBrace => self.open(token, Body::Other),
-            Stage::TurnsBrace => self.open(token, Body::Turns),
-            Stage::ArgumentFirst | Stage::ArgumentNext => Ok(self.pass_argument(token)),
-            Stage::Value | Stage::AfterVariable => Ok(self.pass_value(token)),
+            FormStage::Statement | FormStage::AfterIf => Ok(self.pass_statement(token)),
+            FormStage::BodyBrace => self.open(token, Body::First),
+            FormStage::ElseBrace => self.open(token, Body::Other),
+            FormStage::TurnsBrace => self.open(token, Body::Turns),
+            FormStage::ArgumentFirst | FormStage::ArgumentNext => Ok(self.pass_argument(token)),
+            FormStage::Value | FormStage::AfterVariable => Ok(self.pass_value(token)),
             stage => Ok(self.go(next_stage(stage, token))),
         }
     }
 
-    fn go(&mut self, next: Option<Stage>) -> bool {
+    fn go(&mut self, next: Option<FormStage>) -> bool {
         match next {
             Some(stage) => {
                 self.stage = stage;
@@ -157,7 +157,7 @@ impl Form {
         match token {
             Token::OpenBrace => {
                 self.bodies.push(body)?;
-                self.stage = Stage::Statement;
+                self.stage = FormStage::Statement;
                 Ok(true)
             }
             _ => Ok(false),
@@ -166,9 +166,9 @@ impl Form {
 
     fn close(&mut self) {
         self.stage = match self.bodies.pop() {
-            Some(Body::First) => Stage::AfterIf,
-            Some(Body::Other) | Some(Body::Turns) => Stage::Statement,
-            None => Stage::Block,
+            Some(Body::First) => FormStage::AfterIf,
+            Some(Body::Other) | Some(Body::Turns) => FormStage::Statement,
+            None => FormStage::Block,
         };
     }
 
@@ -178,24 +178,24 @@ impl Form {
                 self.close();
                 true
             }
-            Token::Else if self.stage == Stage::AfterIf => self.go(Some(Stage::ElseBrace)),
+            Token::Else if self.stage == FormStage::AfterIf => self.go(Some(FormStage::ElseBrace)),
             _ if self.is_deep() => false,
             Token::Name(_) => {
                 self.asks = false;
-                self.go(Some(Stage::AfterName))
+                self.go(Some(FormStage::AfterName))
             }
-            Token::If => self.go(Some(Stage::Left)),
-            Token::Repeat => self.go(Some(Stage::Count)),
-            Token::Leave => self.go(Some(Stage::LeaveEnd)),
+            Token::If => self.go(Some(FormStage::Left)),
+            Token::Repeat => self.go(Some(FormStage::Count)),
+            Token::Leave => self.go(Some(FormStage::LeaveEnd)),
             _ => false,
         }
     }
 
     fn pass_argument(&mut self, token: &Token) -> bool {
         let end = if self.asks {
-            Stage::QueryEnd
+            FormStage::QueryEnd
         } else {
-            Stage::CommandEnd
+            FormStage::CommandEnd
         };
         match token {
             Token::CloseParen => self.go(Some(end)),
@@ -205,107 +205,119 @@ impl Form {
 
     fn pass_value(&mut self, token: &Token) -> bool {
         match token {
-            Token::Dot if self.stage == Stage::AfterVariable => {
+            Token::Dot if self.stage == FormStage::AfterVariable => {
                 self.asks = true;
-                self.go(Some(Stage::Operation))
+                self.go(Some(FormStage::Operation))
             }
             _ => self.go(next_stage(self.stage, token)),
         }
     }
 }
 
-fn next_stage(stage: Stage, token: &Token) -> Option<Stage> {
+fn next_stage(stage: FormStage, token: &Token) -> Option<FormStage> {
     match stage {
-        Stage::Item => after_item(token),
-        Stage::ObjectName => after_name(token, Stage::ObjectKind),
-        Stage::ObjectKind => after_kind(token),
-        Stage::Balance | Stage::Capacity | Stage::Columns => after_number(token, Stage::Item),
-        Stage::Rows => after_number(token, Stage::Columns),
-        Stage::ClientName => after_name(token, Stage::ClientNext),
-        Stage::ClientNext => after_client(token),
-        Stage::TemplateOf => after_name(token, Stage::GivenOpen),
-        Stage::GivenOpen => after_open(token, Stage::GivenFirst),
-        Stage::GivenFirst | Stage::GivenMore => after_name(token, Stage::GivenNext),
-        Stage::GivenNext => after_comma(token, Stage::GivenMore, Stage::Item),
-        Stage::TemplateName => after_name(token, Stage::FormalsOpen),
-        Stage::FormalsOpen => after_open(token, Stage::FormalKind),
-        Stage::FormalKind => after_formal_kind(token),
-        Stage::FormalName => after_name(token, Stage::FormalNext),
-        Stage::FormalNext => after_comma(token, Stage::FormalKind, Stage::TemplateBrace),
-        Stage::TemplateBrace => after_brace(token, Stage::Block),
-        Stage::Block => after_block(token),
-        Stage::ListFirst => after_name(token, Stage::ListNext),
-        Stage::ListNext => after_listed(token),
+        FormStage::Item => after_item(token),
+        FormStage::ObjectName => after_name(token, FormStage::ObjectKind),
+        FormStage::ObjectKind => after_kind(token),
+        FormStage::Balance | FormStage::Capacity | FormStage::Columns => after_number(
+            token,
+            FormStage::Item,
+        ),
+        FormStage::Rows => after_number(token, FormStage::Columns),
+        FormStage::ClientName => after_name(token, FormStage::ClientNext),
+        FormStage::ClientNext => after_client(token),
+        FormStage::TemplateOf => after_name(token, FormStage::GivenOpen),
+        FormStage::GivenOpen => after_open(token, FormStage::GivenFirst),
+        FormStage::GivenFirst | FormStage::GivenMore => after_name(token, FormStage::GivenNext),
+        FormStage::GivenNext => after_comma(token, FormStage::GivenMore, FormStage::Item),
+        FormStage::TemplateName => after_name(token, FormStage::FormalsOpen),
+        FormStage::FormalsOpen => after_open(token, FormStage::FormalKind),
+        FormStage::FormalKind => after_formal_kind(token),
+        FormStage::FormalName => after_name(token, FormStage::FormalNext),
+        FormStage::FormalNext => after_comma(
+            token,
+            FormStage::FormalKind,
+            FormStage::TemplateBrace,
+        ),
+        FormStage::TemplateBrace => after_brace(token, FormStage::Block),
+        FormStage::Block => after_block(token),
+        FormStage::ListFirst => after_name(token, FormStage::ListNext),
+        FormStage::ListNext => after_listed(token),
         stage => next_in_statement(stage, token),
     }
 }
 
-fn next_in_statement(stage: Stage, token: &Token) -> Option<Stage> {
+fn next_in_statement(stage: FormStage, token: &Token) -> Option<FormStage> {
     match stage {
-        Stage::AfterName => after_subject(token),
-        Stage::Operation => after_name(token, Stage::ArgumentsOpen),
-        Stage::ArgumentsOpen => after_open(token, Stage::ArgumentFirst),
-        Stage::ArgumentFirst | Stage::ArgumentMore => {
-            after_atom(token, Stage::ArgumentNext, Stage::ArgumentNumber)
+        FormStage::AfterName => after_subject(token),
+        FormStage::Operation => after_name(token, FormStage::ArgumentsOpen),
+        FormStage::ArgumentsOpen => after_open(token, FormStage::ArgumentFirst),
+        FormStage::ArgumentFirst | FormStage::ArgumentMore => {
+            after_atom(token, FormStage::ArgumentNext, FormStage::ArgumentNumber)
         }
-        Stage::ArgumentNext => after_comma(token, Stage::ArgumentMore, Stage::CommandEnd),
-        Stage::ArgumentNumber => after_number(token, Stage::ArgumentNext),
-        Stage::Value => after_value(token),
-        Stage::ValueNumber => after_number(token, Stage::AfterNumber),
-        Stage::AfterVariable | Stage::AfterNumber => after_first(token),
-        Stage::Second => after_atom(token, Stage::ExpressionEnd, Stage::SecondNumber),
-        Stage::SecondNumber => after_number(token, Stage::ExpressionEnd),
-        Stage::Left => after_atom(token, Stage::Relation, Stage::LeftNumber),
-        Stage::LeftNumber => after_number(token, Stage::Relation),
-        Stage::Relation => after_relation(token),
-        Stage::Right => after_atom(token, Stage::BodyBrace, Stage::RightNumber),
-        Stage::RightNumber => after_number(token, Stage::BodyBrace),
-        Stage::Count => after_number(token, Stage::TurnsBrace),
-        Stage::CommandEnd | Stage::QueryEnd | Stage::ExpressionEnd | Stage::LeaveEnd => {
-            after_semicolon(token)
-        }
+        FormStage::ArgumentNext => after_comma(
+            token,
+            FormStage::ArgumentMore,
+            FormStage::CommandEnd,
+        ),
+        FormStage::ArgumentNumber => after_number(token, FormStage::ArgumentNext),
+        FormStage::Value => after_value(token),
+        FormStage::ValueNumber => after_number(token, FormStage::AfterNumber),
+        FormStage::AfterVariable | FormStage::AfterNumber => after_first(token),
+        FormStage::Second => after_atom(token, FormStage::ExpressionEnd, FormStage::SecondNumber),
+        FormStage::SecondNumber => after_number(token, FormStage::ExpressionEnd),
+        FormStage::Left => after_atom(token, FormStage::Relation, FormStage::LeftNumber),
+        FormStage::LeftNumber => after_number(token, FormStage::Relation),
+        FormStage::Relation => after_relation(token),
+        FormStage::Right => after_atom(token, FormStage::BodyBrace, FormStage::RightNumber),
+        FormStage::RightNumber => after_number(token, FormStage::BodyBrace),
+        FormStage::Count => after_number(token, FormStage::TurnsBrace),
+        FormStage::CommandEnd
+        | FormStage::QueryEnd
+        | FormStage::ExpressionEnd
+        | FormStage::LeaveEnd => { after_semicolon(token) }
         _ => None,
     }
 }
 
-fn after_item(token: &Token) -> Option<Stage> {
+fn after_item(token: &Token) -> Option<FormStage> {
     match token {
-        Token::Object => Some(Stage::ObjectName),
-        Token::Client => Some(Stage::ClientName),
-        Token::Template => Some(Stage::TemplateName),
+        Token::Object => Some(FormStage::ObjectName),
+        Token::Client => Some(FormStage::ClientName),
+        Token::Template => Some(FormStage::TemplateName),
         _ => None,
     }
 }
 
-fn after_name(token: &Token, next: Stage) -> Option<Stage> {
+fn after_name(token: &Token, next: FormStage) -> Option<FormStage> {
     match token {
         Token::Name(_) => Some(next),
         _ => None,
     }
 }
 
-fn after_number(token: &Token, next: Stage) -> Option<Stage> {
+fn after_number(token: &Token, next: FormStage) -> Option<FormStage> {
     match token {
         Token::Number(_) => Some(next),
         _ => None,
     }
 }
 
-fn after_open(token: &Token, next: Stage) -> Option<Stage> {
+fn after_open(token: &Token, next: FormStage) -> Option<FormStage> {
     match token {
         Token::OpenParen => Some(next),
         _ => None,
     }
 }
 
-fn after_brace(token: &Token, next: Stage) -> Option<Stage> {
+fn after_brace(token: &Token, next: FormStage) -> Option<FormStage> {
     match token {
         Token::OpenBrace => Some(next),
         _ => None,
     }
 }
 
-fn after_comma(token: &Token, more: Stage, end: Stage) -> Option<Stage> {
+fn after_comma(token: &Token, more: FormStage, end: FormStage) -> Option<FormStage> {
     match token {
         Token::Comma => Some(more),
         Token::CloseParen => Some(end),
@@ -313,63 +325,63 @@ fn after_comma(token: &Token, more: Stage, end: Stage) -> Option<Stage> {
     }
 }
 
-fn after_semicolon(token: &Token) -> Option<Stage> {
+fn after_semicolon(token: &Token) -> Option<FormStage> {
     match token {
-        Token::Semicolon => Some(Stage::Statement),
+        Token::Semicolon => Some(FormStage::Statement),
         _ => None,
     }
 }
 
-fn after_kind(token: &Token) -> Option<Stage> {
+fn after_kind(token: &Token) -> Option<FormStage> {
     match token {
-        Token::Account => Some(Stage::Balance),
-        Token::Buffer => Some(Stage::Capacity),
-        Token::Grid => Some(Stage::Rows),
+        Token::Account => Some(FormStage::Balance),
+        Token::Buffer => Some(FormStage::Capacity),
+        Token::Grid => Some(FormStage::Rows),
         _ => None,
     }
 }
 
-fn after_formal_kind(token: &Token) -> Option<Stage> {
+fn after_formal_kind(token: &Token) -> Option<FormStage> {
     match token {
-        Token::Account | Token::Buffer | Token::Grid => Some(Stage::FormalName),
+        Token::Account | Token::Buffer | Token::Grid => Some(FormStage::FormalName),
         _ => None,
     }
 }
 
-fn after_client(token: &Token) -> Option<Stage> {
+fn after_client(token: &Token) -> Option<FormStage> {
     match token {
-        Token::OpenBrace => Some(Stage::Block),
-        Token::Assign => Some(Stage::TemplateOf),
+        Token::OpenBrace => Some(FormStage::Block),
+        Token::Assign => Some(FormStage::TemplateOf),
         _ => None,
     }
 }
 
-fn after_block(token: &Token) -> Option<Stage> {
+fn after_block(token: &Token) -> Option<FormStage> {
     match token {
-        Token::Separate => Some(Stage::ListFirst),
-        Token::CloseBrace => Some(Stage::Item),
+        Token::Separate => Some(FormStage::ListFirst),
+        Token::CloseBrace => Some(FormStage::Item),
         _ => None,
     }
 }
 
-fn after_listed(token: &Token) -> Option<Stage> {
+fn after_listed(token: &Token) -> Option<FormStage> {
     match token {
-        Token::Name(_) => Some(Stage::ListNext),
-        Token::OpenBrace => Some(Stage::Statement),
+        Token::Name(_) => Some(FormStage::ListNext),
+        Token::OpenBrace => Some(FormStage::Statement),
         _ => None,
     }
 }
 
-fn after_subject(token: &Token) -> Option<Stage> {
+fn after_subject(token: &Token) -> Option<FormStage> {
     match token {
-        Token::Dot => Some(Stage::Operation),
-        Token::Assign => Some(Stage::Value),
+        Token::Dot => Some(FormStage::Operation),
+        Token::Assign => Some(FormStage::Value),
         _ => None,
     }
 }
 
 // An atom, or its sign.
-fn after_atom(token: &Token, next: Stage, signed: Stage) -> Option<Stage> {
+fn after_atom(token: &Token, next: FormStage, signed: FormStage) -> Option<FormStage> {
     match token {
         Token::Name(_) | Token::Number(_) => Some(next),
         Token::Minus => Some(signed),
@@ -377,30 +389,30 @@ fn after_atom(token: &Token, next: Stage, signed: Stage) -> Option<Stage> {
     }
 }
 
-fn after_value(token: &Token) -> Option<Stage> {
+fn after_value(token: &Token) -> Option<FormStage> {
     match token {
-        Token::Name(_) => Some(Stage::AfterVariable),
-        Token::Number(_) => Some(Stage::AfterNumber),
-        Token::Minus => Some(Stage::ValueNumber),
+        Token::Name(_) => Some(FormStage::AfterVariable),
+        Token::Number(_) => Some(FormStage::AfterNumber),
+        Token::Minus => Some(FormStage::ValueNumber),
         _ => None,
     }
 }
 
-fn after_first(token: &Token) -> Option<Stage> {
+fn after_first(token: &Token) -> Option<FormStage> {
     match token {
-        Token::Plus | Token::Minus | Token::Times => Some(Stage::Second),
+        Token::Plus | Token::Minus | Token::Times => Some(FormStage::Second),
         _ => after_semicolon(token),
     }
 }
 
-fn after_relation(token: &Token) -> Option<Stage> {
+fn after_relation(token: &Token) -> Option<FormStage> {
     match token {
         Token::Equal
         | Token::Unequal
         | Token::Less
         | Token::AtMost
         | Token::Greater
-        | Token::AtLeast => Some(Stage::Right),
+        | Token::AtLeast => Some(FormStage::Right),
         _ => None,
     }
 }

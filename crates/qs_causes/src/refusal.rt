@@ -11,7 +11,7 @@ use crate::words::say_cause;
 use qs_anchors::{block_anchor, first_fault};
 use qs_check::{Excess, first_excess};
 use qs_places::CheckFault;
-use qs_script::Script;
+use qs_tree::Script;
 use std::alloc::{AllocError, Global};
 
 /// Why a script is refused: a fault of its text, or a block with which it passes a limit.
@@ -44,8 +44,8 @@ fn excess_of(alloc: Global, script: &Script) -> Result<Option<Refusal>, AllocErr
     }
 }
 
-/// Why a script is refused: its first fault in text order, or, where its text has none, the block with which it passes a limit. Nothing,
-/// where it is not refused. It fails only where memory runs out.
+/// Why a script is refused: its first fault in text order, or, where its text has none, the block with which it passes
+/// a limit. Nothing, where it is not refused. It fails only where memory runs out.
 pub(crate) fn refusal_of(alloc: Global, script: &Script) -> Result<Option<Refusal>, AllocError>
     ensures at { IfOk result (λ found. IsRefusedAt script.now (anchor_of found)) }
 {

@@ -6,7 +6,7 @@ ghost use Rattle.qs_causes.specs.Sources.{end_in, span_in};
 
 use crate::expected::expected;
 use crate::finding::FormFault;
-use crate::form::{Form, Stage};
+use crate::form::{Form, FormStage};
 use crate::said::{Said, joined, part, say};
 use crate::source::Source;
 use crate::usual::usual_at;
@@ -33,7 +33,7 @@ pub(crate) fn say_form(
 fn say_at(
     alloc: Global,
     source: Source<'_>,
-    stage: Stage,
+    stage: FormStage,
     is_deep: bool,
     fault: FormFault,
 ) -> Result<Said, AllocError>
@@ -80,7 +80,7 @@ fn say_semicolon(alloc: Global, source: Source<'_>, before: usize) -> Result<Sai
 fn say_end(
     alloc: Global,
     source: Source<'_>,
-    stage: Stage,
+    stage: FormStage,
     place: usize,
     help: &[u8],
 ) -> Result<Said, AllocError>
@@ -99,10 +99,10 @@ fn say_end(
 fn word_help(
     alloc: Global,
     source: Source<'_>,
-    stage: Stage,
+    stage: FormStage,
     place: usize,
 ) -> Result<Vec<u8>, AllocError> {
-    let before = stage == Stage::AfterName;
+    let before = stage == FormStage::AfterName;
     let word = if before {
         source.word(place.saturating_sub(1))
     } else {
@@ -132,14 +132,18 @@ fn nearest(
 }
 
 // The word that is meant by another, at a place.
-fn meant(alloc: Global, stage: Stage, word: &[u8]) -> Result<Option<&'static [u8]>, AllocError> {
+fn meant(
+    alloc: Global,
+    stage: FormStage,
+    word: &[u8],
+) -> Result<Option<&'static [u8]>, AllocError> {
     match stage {
-        Stage::Item => nearest(alloc, word, &[b"object", b"client", b"template"]),
-        Stage::Block => nearest(alloc, word, &[b"separate"]),
-        Stage::ObjectKind | Stage::FormalKind => {
+        FormStage::Item => nearest(alloc, word, &[b"object", b"client", b"template"]),
+        FormStage::Block => nearest(alloc, word, &[b"separate"]),
+        FormStage::ObjectKind | FormStage::FormalKind => {
             nearest(alloc, word, &[b"account", b"buffer", b"grid"])
         }
-        Stage::AfterName => match foreign(word) {
+        FormStage::AfterName => match foreign(word) {
             Some(other) => Ok(Some(other)),
             None => nearest(
                 alloc,

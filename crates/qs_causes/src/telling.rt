@@ -5,9 +5,10 @@ ghost use Rattle.std.specs.List.{count_by};
 ghost use Rattle.qs_tokens.specs.declared.token.Token.{Token};
 ghost use Rattle.qs_tokens.specs.declared.lex.TokenFault.{TokenFault};
 ghost use Rattle.qs_tokens.specs.Tokens.{tokens_of};
-ghost use Rattle.qs_script.specs.Grammar.{IsScript};
-ghost use Rattle.qs_script.specs.Reads.{IsFormPlace, IsScriptText};
-ghost use Rattle.qs_script.specs.declared.tree.Item.{Item};
+ghost use Rattle.qs_grammar.specs.Grammar.{IsScript};
+ghost use Rattle.qs_script.specs.Reads.{IsScriptText};
+ghost use Rattle.qs_grammar.specs.FormPlaces.{IsFormPlace};
+ghost use Rattle.qs_tree.specs.declared.tree.Item.{Item};
 ghost use Rattle.qs_causes.specs.ReadTold.{IsFormTold, IsTokenTold, MayEnd, declared_in, is_client, is_object};
 ghost use Rattle.qs_causes.specs.Spans.{ArePlaced, IsFaultAt, Stand, tokens_in};
 ghost use Rattle.qs_causes.specs.CheckTold.{IsCheckTold, IsRefusalTold, IsRefusedAt, IsSaidAt, IsToldAt, span_at};
@@ -19,9 +20,10 @@ use crate::said::Said;
 use crate::shape::say_form;
 use crate::source::Source;
 use crate::spans::{PlacedToken, SpanFault, place_of_anchor, placed_tokens};
-use qs_script::{ReadFault, Script, read};
+use qs_script::{ReadFault, read};
 use qs_tokens::{ListFault, Token, TokenFault, list_tokens};
 use qs_told::{Diagnosis, Span, put_diagnosis};
+use qs_tree::Script;
 use std::alloc::{AllocError, Global};
 
 // Puts what is said of some bytes at the end.
@@ -97,9 +99,9 @@ fn tell_token(
     put_said(alloc, out, text, said.span, &said)
 }
 
-/// Puts the diagnosis of a text that can't be read at the end: of its first token at fault, or else of the first token with which no
-/// script goes on; where a `;` may stand there, that may be told right after the token before. Nothing, where some script has the text's
-/// tokens.
+/// Puts the diagnosis of a text that can't be read at the end: of its first token at fault, or else of the first token
+/// with which no script goes on; where a `;` may stand there, that may be told right after the token before. Nothing,
+/// where some script has the text's tokens.
 pub fn tell_read(alloc: Global, out: &mut Vec<u8>, text: &[u8]) -> Result<(), AllocError>
     ensures token { OnOk result ((fault : TokenFault) → tokens_of text.now ≡ Err fault → IsTokenTold text.now fault out.old.items out.new.items) }
     ensures form { OnOk result ((ts : List Token) → tokens_of text.now ≡ Ok ts → ((s : List Item) → IsScript s ts → ⊥) → IsFormTold text.now out.old.items out.new.items) }
@@ -182,10 +184,10 @@ fn tell_script(
     }
 }
 
-/// Puts the diagnosis of a script that is refused at the end: of the token at which its first fault in text order stands, which is the
-/// fault that `check` answers; or, where its text has none, of the block with which it passes the limit of the load or of the weight, at
-/// its `separate`, or at its client's name where the client is started with a template. Nothing, where the script is not refused, or the
-/// text is no script.
+/// Puts the diagnosis of a script that is refused at the end: of the token at which its first fault in text order
+/// stands, which is the fault that `check` answers; or, where its text has none, of the block with which it passes the
+/// limit of the load or of the weight, at its `separate`, or at its client's name where the client is started with a
+/// template. Nothing, where the script is not refused, or the text is no script.
 pub fn tell_check(alloc: Global, out: &mut Vec<u8>, text: &[u8]) -> Result<(), AllocError>
     ensures told { OnOk result (IsCheckTold text.now out.old.items out.new.items) }
     ensures no_script { OnOk result (((items : List Item) → IsScriptText text.now items → ⊥) → out.new.items ≡ out.old.items) }
@@ -225,7 +227,8 @@ fn count_objects(tokens: &[Token]) -> usize
     tokens.iter().filter(|token| begins_object(token)).count()
 }
 
-/// How many clients and how many objects the tokens of a text declare; none, where it has no tokens. It fails only where memory runs out.
+/// How many clients and how many objects the tokens of a text declare; none, where it has no tokens. It fails only
+/// where memory runs out.
 pub fn actors(alloc: Global, text: &[u8]) -> Result<(usize, usize), AllocError>
     ensures exact { IfOk result (λ found. found ≡ declared_in (tokens_of text.now)) }
 {

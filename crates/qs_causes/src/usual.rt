@@ -1,6 +1,6 @@
 // What new users write, and what to write instead.
 
-use crate::form::Stage;
+use crate::form::FormStage;
 use crate::source::Source;
 use qs_tokens::Token;
 
@@ -18,7 +18,7 @@ fn mistake(cause: &'static [u8], help: &'static [u8]) -> Option<Usual> {
 /// The usual mistake at a place, where it is one.
 pub(crate) fn usual_at(
     source: Source<'_>,
-    stage: Stage,
+    stage: FormStage,
     is_deep: bool,
     place: usize,
 ) -> Option<Usual> {
@@ -30,28 +30,32 @@ pub(crate) fn usual_at(
         );
     }
     match stage {
-        Stage::Item => at_item(token),
-        Stage::Block => at_block(token),
-        Stage::Statement | Stage::AfterIf if is_deep => mistake(
+        FormStage::Item => at_item(token),
+        FormStage::Block => at_block(token),
+        FormStage::Statement | FormStage::AfterIf if is_deep => mistake(
             b"a statement stands inside at most eight `if`s and `repeat`s",
             b"",
         ),
-        Stage::Statement | Stage::AfterIf => at_statement(token),
-        Stage::AfterName => at_subject(source, token, place),
-        Stage::ArgumentsOpen | Stage::ArgumentFirst | Stage::ArgumentNext | Stage::ArgumentMore =>
-            at_arguments(stage, token),
-        Stage::Left | Stage::Relation | Stage::Right | Stage::BodyBrace => at_test(stage, token),
-        Stage::ElseBrace | Stage::Count | Stage::TurnsBrace => at_body(stage, token),
-        Stage::ListFirst | Stage::ListNext => at_list(token),
+        FormStage::Statement | FormStage::AfterIf => at_statement(token),
+        FormStage::AfterName => at_subject(source, token, place),
+        FormStage::ArgumentsOpen
+        | FormStage::ArgumentFirst
+        | FormStage::ArgumentNext
+        | FormStage::ArgumentMore => at_arguments(stage, token),
+        FormStage::Left | FormStage::Relation | FormStage::Right | FormStage::BodyBrace => at_test(
+            stage, token,
+        ),
+        FormStage::ElseBrace | FormStage::Count | FormStage::TurnsBrace => at_body(stage, token),
+        FormStage::ListFirst | FormStage::ListNext => at_list(token),
         stage => at_value(stage, token).or(at_declaration(stage, token)),
     }
 }
 
 // Whether nothing has begun at a place.
-fn is_between(stage: Stage) -> bool {
+fn is_between(stage: FormStage) -> bool {
     matches!(
         stage,
-        Stage::Item | Stage::Block | Stage::Statement | Stage::AfterIf
+        FormStage::Item | FormStage::Block | FormStage::Statement | FormStage::AfterIf
     )
 }
 
@@ -141,29 +145,29 @@ fn at_subject(source: Source<'_>, token: &Token, place: usize) -> Option<Usual> 
     }
 }
 
-fn at_arguments(stage: Stage, token: &Token) -> Option<Usual> {
+fn at_arguments(stage: FormStage, token: &Token) -> Option<Usual> {
     match token {
         Token::Plus | Token::Minus | Token::Times => mistake(
             b"an argument is a number or a variable, and no sum",
             b"give the sum to a variable before, as in `x = 1 + 2;`",
         ),
-        Token::Dot if stage == Stage::ArgumentNext => mistake(
+        Token::Dot if stage == FormStage::ArgumentNext => mistake(
             b"an argument is a number or a variable, and no query",
             b"ask before, as in `x = b.take();`",
         ),
-        Token::CloseParen if stage == Stage::ArgumentMore => {
+        Token::CloseParen if stage == FormStage::ArgumentMore => {
             mistake(
                 b"no comma stands after the last argument",
                 b"leave the comma out",
             )
         }
-        Token::Name(_) | Token::Number(_) if stage == Stage::ArgumentNext => {
+        Token::Name(_) | Token::Number(_) if stage == FormStage::ArgumentNext => {
             mistake(
                 b"a comma stands between two arguments",
                 b"write `g.set(0, 1, 5);`",
             )
         }
-        _ if stage == Stage::ArgumentsOpen => mistake(
+        _ if stage == FormStage::ArgumentsOpen => mistake(
             b"the arguments of a request stand in parentheses, which stand there without arguments, too",
             b"write `a.deposit(1);` and `x = a.balance();`",
         ),
@@ -171,13 +175,13 @@ fn at_arguments(stage: Stage, token: &Token) -> Option<Usual> {
     }
 }
 
-fn at_test(stage: Stage, token: &Token) -> Option<Usual> {
+fn at_test(stage: FormStage, token: &Token) -> Option<Usual> {
     match token {
         Token::OpenParen => mistake(
             b"a condition has no parentheses",
             b"write `if x == 0 { .. }`",
         ),
-        Token::Assign if stage == Stage::Relation => {
+        Token::Assign if stage == FormStage::Relation => {
             mistake(b"equality is written `==`", b"write `if x == 0 { .. }`")
         }
         Token::Dot => mistake(
@@ -188,11 +192,11 @@ fn at_test(stage: Stage, token: &Token) -> Option<Usual> {
             b"a condition compares numbers and variables, and no sums",
             b"give the sum to a variable before, as in `z = x + 1;`",
         ),
-        Token::OpenBrace if stage == Stage::Relation => mistake(
+        Token::OpenBrace if stage == FormStage::Relation => mistake(
             b"a condition compares two numbers or variables",
             b"write `if x != 0 { .. }`",
         ),
-        _ if stage == Stage::BodyBrace => mistake(
+        _ if stage == FormStage::BodyBrace => mistake(
             b"a body stands in braces",
             b"write `if x == 0 { .. }`",
         ),
@@ -200,27 +204,27 @@ fn at_test(stage: Stage, token: &Token) -> Option<Usual> {
     }
 }
 
-fn at_body(stage: Stage, token: &Token) -> Option<Usual> {
+fn at_body(stage: FormStage, token: &Token) -> Option<Usual> {
     match token {
-        Token::If if stage == Stage::ElseBrace => mistake(
+        Token::If if stage == FormStage::ElseBrace => mistake(
             b"there is no `else if`",
             b"write `else { if .. { .. } }`",
         ),
-        Token::Name(_) if stage == Stage::Count => mistake(
+        Token::Name(_) if stage == FormStage::Count => mistake(
             b"the number of a `repeat` is no variable",
             b"write a number, and end the loop by `leave;`",
         ),
-        Token::Minus if stage == Stage::Count => {
+        Token::Minus if stage == FormStage::Count => {
             mistake(
                 b"the number of a `repeat` has no sign",
                 b"write the number alone",
             )
         }
-        Token::OpenBrace if stage == Stage::Count => mistake(
+        Token::OpenBrace if stage == FormStage::Count => mistake(
             b"a `repeat` says how often it turns at most",
             b"write `repeat 1000 { .. }`, and end the loop by `leave;`",
         ),
-        _ if stage == Stage::Count => None,
+        _ if stage == FormStage::Count => None,
         _ => mistake(b"a body stands in braces", b"write `{ .. }`"),
     }
 }
@@ -243,9 +247,9 @@ fn at_list(token: &Token) -> Option<Usual> {
     }
 }
 
-fn at_value(stage: Stage, token: &Token) -> Option<Usual> {
+fn at_value(stage: FormStage, token: &Token) -> Option<Usual> {
     match stage {
-        Stage::Value | Stage::Second => match token {
+        FormStage::Value | FormStage::Second => match token {
             Token::OpenParen => mistake(
                 b"an expression has no parentheses",
                 b"write `x = a + b;`, with one operator at most",
@@ -253,11 +257,11 @@ fn at_value(stage: Stage, token: &Token) -> Option<Usual> {
             Token::Plus => mistake(b"a number has no sign `+`", b"write the number alone"),
             _ => None,
         },
-        Stage::ValueNumber
-        | Stage::ArgumentNumber
-        | Stage::SecondNumber
-        | Stage::LeftNumber
-        | Stage::RightNumber => match token {
+        FormStage::ValueNumber
+        | FormStage::ArgumentNumber
+        | FormStage::SecondNumber
+        | FormStage::LeftNumber
+        | FormStage::RightNumber => match token {
             Token::Name(_) => mistake(
                 b"a minus before a variable is not there",
                 b"write `y = 0 - x;`, and use y",
@@ -265,16 +269,17 @@ fn at_value(stage: Stage, token: &Token) -> Option<Usual> {
             Token::Minus => mistake(b"a number has at most one sign", b"write `x = -5;`"),
             _ => None,
         },
-        Stage::AfterVariable | Stage::AfterNumber | Stage::ExpressionEnd | Stage::QueryEnd => {
-            after_value(stage, token)
-        }
+        FormStage::AfterVariable
+        | FormStage::AfterNumber
+        | FormStage::ExpressionEnd
+        | FormStage::QueryEnd => { after_value(stage, token) }
         _ => None,
     }
 }
 
-fn after_value(stage: Stage, token: &Token) -> Option<Usual> {
+fn after_value(stage: FormStage, token: &Token) -> Option<Usual> {
     match token {
-        Token::Plus | Token::Minus | Token::Times if stage == Stage::QueryEnd => mistake(
+        Token::Plus | Token::Minus | Token::Times if stage == FormStage::QueryEnd => mistake(
             b"a query stands alone at the right of `=`",
             b"write `x = a.balance(); x = x + 1;`",
         ),
@@ -282,11 +287,11 @@ fn after_value(stage: Stage, token: &Token) -> Option<Usual> {
             b"an expression has at most one operator",
             b"write `x = a + b; x = x + c;`",
         ),
-        Token::Dot if stage == Stage::ExpressionEnd => mistake(
+        Token::Dot if stage == FormStage::ExpressionEnd => mistake(
             b"a query stands alone at the right of `=`",
             b"ask before, as in `y = a.balance();`, and use y",
         ),
-        Token::Dot if stage == Stage::AfterNumber => {
+        Token::Dot if stage == FormStage::AfterNumber => {
             mistake(b"numbers are whole", b"write the number without a point")
         }
         Token::OpenParen => mistake(b"a query names its object", b"write `x = a.balance();`"),
@@ -312,33 +317,37 @@ fn is_word(token: &Token) -> bool {
     )
 }
 
-fn at_declaration(stage: Stage, token: &Token) -> Option<Usual> {
+fn at_declaration(stage: FormStage, token: &Token) -> Option<Usual> {
     match stage {
-        Stage::ObjectName | Stage::ClientName | Stage::TemplateName | Stage::FormalName
+        FormStage::ObjectName
+        | FormStage::ClientName
+        | FormStage::TemplateName
+        | FormStage::FormalName
             if is_word(token) => {
             mistake(b"a word of the language is no name", b"take another name")
         }
-        Stage::ObjectKind => at_kind(token),
-        Stage::Balance | Stage::Capacity | Stage::Rows | Stage::Columns => at_number(token),
-        Stage::ClientNext => match token {
+        FormStage::ObjectKind => at_kind(token),
+        FormStage::Balance | FormStage::Capacity | FormStage::Rows | FormStage::Columns =>
+            at_number(token),
+        FormStage::ClientNext => match token {
             Token::OpenParen => mistake(
                 b"a client has no parameters",
                 b"write `client ann { .. }`, or a template with formals",
             ),
             _ => None,
         },
-        Stage::GivenOpen => mistake(
+        FormStage::GivenOpen => mistake(
             b"the objects for the formals stand in parentheses",
             b"write `client ann = pay(a)`",
         ),
-        Stage::FormalKind => match token {
+        FormStage::FormalKind => match token {
             Token::CloseParen => mistake(
                 b"a template has at least one formal",
                 b"write `template pay(account f) { .. }`",
             ),
             _ => mistake(b"a formal has a kind", b"write `account f`"),
         },
-        Stage::FormalNext => match token {
+        FormStage::FormalNext => match token {
             Token::Number(_) => mistake(
                 b"a formal has a kind and a name, and no number",
                 b"write `account f`",

@@ -13,8 +13,8 @@ use qs_tokens::Token;
 use std::alloc::{AllocError, Global};
 use strsim::generic_levenshtein;
 
-/// Whether two words differ, by at most two letters that are put in, left out or changed, and two others stay. An error says that memory
-/// ran out.
+/// Whether two words differ, by at most two letters that are put in, left out or changed, and two others stay. An error
+/// says that memory ran out.
 pub fn is_near(alloc: Global, left: &[u8], right: &[u8]) -> Result<bool, AllocError>
     ensures near { IfOk result (λ it. it ≡ is_near left.now right.now) }
 {

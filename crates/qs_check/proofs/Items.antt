@@ -1,18 +1,18 @@
--- After each client the check forgets that client's variables, and this changes neither the faults that it meets later nor what
--- it knows of the rest. The loop of `check_items` over the items of a script stands on it. Its main lemma, `forget`, goes by
--- induction on the items: an object looks at no variables, and a client begins with none.
+-- After each client the check forgets that client's variables, and this changes neither the faults that it meets later
+-- nor what it knows of the rest. The loop of `check_items` over the items of a script stands on it. Its main lemma,
+-- `forget`, goes by induction on the items: an object looks at no variables, and a client begins with none.
 use Rattle.std.proofs.Common.{◌≡◌, ℕ, suc, ◌+◌, ◌<◌, Bool, true, false, ◌||◌, nat_lt, List, [], ◌∷◌, ◌++◌, length, get_or, drop, refl, ap, sym, ◌∙◌, add-one, append_assoc, Option, Some, None, Ok, Err, if◌then◌else◌}
 use Rattle.std.proofs.Math.Seq.{drop-cons}
-use Rattle.qs_script.specs.declared.tree.KindText.{KindText}
-use Rattle.qs_script.specs.declared.tree.KindText.TheVariants.{Account, Buffer, Grid}
-use Rattle.qs_script.specs.declared.tree.Item.{Item}
-use Rattle.qs_script.specs.declared.tree.Item.TheVariants.{Object, Client, Template, Started}
+use Rattle.qs_tree.specs.declared.tree.KindText.{KindText}
+use Rattle.qs_tree.specs.declared.tree.KindText.TheVariants.{Account, Buffer, Grid}
+use Rattle.qs_tree.specs.declared.tree.Item.{Item}
+use Rattle.qs_tree.specs.declared.tree.Item.TheVariants.{Object, Client, Template, Started}
 use Rattle.qs_places.specs.declared.fault.CheckFault.{CheckFault}
 use Rattle.qs_places.specs.declared.fault.CheckFault.TheVariants as f
 use Rattle.qs_program.specs.Numbering.{Name, is_among}
 use Rattle.qs_program.specs.Limits.{most_objects}
 use Rattle.qs_places.specs.Places.{Scope, TextPlace, ScopeOrFault, number, text, fault_of_text, formal_kinds, most_templates, unless_fault, with_template, scope_or_fault, then_at, over, without_variables, with_object, kind_of, kind_places, script_places, Fails}
-use Rattle.qs_check.specs.Resolve.{lists_of}
+use Rattle.qs_resolution.specs.Resolve.{variable_lists}
 use Rattle.qs_places.proofs.Walks.{met-then, fails_first}
 
 -- a walk that has come from s to t, but for the variables of the clients that are over
@@ -57,8 +57,8 @@ forget (Object o ∷ rest) s =
     (after_kind o.kind (with_object s o.name k) (script_places rest) (forget rest (with_object s o.name k)))
 
 -- the lists of variables of the items from i on, of which the one at i is known
-pub lists_at : (xs : List Item) (i : ℕ) (item : Item) → i < length xs → item ≡ get_or xs i item → lists_of (drop i xs) ≡ lists_of (item ∷ drop (i + 1) xs)
-lists_at xs i item within item_is = rw (drop-cons xs i item within, add-one) (ap (λ x. lists_of (x ∷ drop (suc i) xs)) (sym item_is))
+pub lists_at : (xs : List Item) (i : ℕ) (item : Item) → i < length xs → item ≡ get_or xs i item → variable_lists (drop i xs) ≡ variable_lists (item ∷ drop (i + 1) xs)
+lists_at xs i item within item_is = rw (drop-cons xs i item within, add-one) (ap (λ x. variable_lists (x ∷ drop (suc i) xs)) (sym item_is))
 
 -- one more list of variables, where so many are left
 pub list_added : (first all vs left rest now : List (List Name)) (v : List Name) → first ++ all ≡ vs ++ left → left ≡ v ∷ rest → now ≡ vs ++ v ∷ [] → first ++ all ≡ now ++ rest

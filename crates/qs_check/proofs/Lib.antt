@@ -1,4 +1,3 @@
-pub mod Resolving
 pub mod Items
 pub mod SoundStatements
 pub mod Scripts
@@ -10,7 +9,6 @@ pub mod TextLoads
 pub mod TemplateTexts
 pub mod Starts
 pub mod SoundStarts
-pub mod TemplateSearch
 pub mod WellFormed
 pub mod SoundTexts
 pub mod Passing

@@ -1,4 +1,5 @@
--- The block with which a count passes its limit counts in the whole: so the load, or the weight, of the program is past its limit too.
+-- The block with which a count passes its limit counts in the whole: so the load, or the weight, of the program is past
+-- its limit too.
 use Rattle.std.proofs.Common.{◌≡◌, ◌<◌, ◌≤◌, ◌+◌, ℕ, true, false, min, List, Option, Some, None, refl, subst, sym, sum_by, slice_index_or, nat_lt, arith}
 use Rattle.std.proofs.lemmas.Bool.Decides.{nat_tests}
 use Rattle.std.specs.Prelude.{MatchOption}

@@ -1,26 +1,26 @@
--- When a script is walked with no fault, the scope at the end has its objects and kinds in order, their numbers are within the
--- limits, and each object has a starting state. The proofs that such a script is well formed and makes a sound program begin from
--- this. It goes by induction on the items, with a case for an object and a case for a client.
+-- When a script is walked with no fault, the scope at the end has its objects and kinds in order, their numbers are
+-- within the limits, and each object has a starting state. The proofs that such a script is well formed and makes a
+-- sound program begin from this. It goes by induction on the items, with a case for an object and a case for a client.
 use Rattle.std.proofs.Common.{◌≡◌, ℕ, suc, ◌+◌, ◌<◌, ◌≤◌, Bool, true, false, ◌&&◌, nat_le, List, [], ◌∷◌, ◌++◌, length, IsSome, Some, None, refl, ap, sym, ◌∙◌, subst, arith, append_assoc, append-nil, length-append, Ok, if◌then◌else◌}
 use Rattle.std.proofs.lemmas.Bool.Decides.{nat_tests}
 use Rattle.std.specs.List.{AllByRecursion}
 use Rattle.qs_objects.specs.Objects.{starts}
-use Rattle.qs_script.specs.declared.tree.KindText.{KindText}
-use Rattle.qs_script.specs.declared.tree.KindText.TheVariants.{Account, Buffer, Grid}
-use Rattle.qs_script.specs.declared.tree.ClientItem.{ClientItem}
+use Rattle.qs_tree.specs.declared.tree.KindText.{KindText}
+use Rattle.qs_tree.specs.declared.tree.KindText.TheVariants.{Account, Buffer, Grid}
+use Rattle.qs_tree.specs.declared.tree.ClientItem.{ClientItem}
 use Rattle.qs_objects.specs.declared.object.Kind.{Kind}
-use Rattle.qs_script.specs.declared.tree.ObjectItem.{ObjectItem}
-use Rattle.qs_script.specs.declared.tree.StartedItem.{StartedItem}
-use Rattle.qs_script.specs.declared.tree.TemplateItem.{TemplateItem}
-use Rattle.qs_script.specs.declared.tree.Item.{Item}
-use Rattle.qs_script.specs.declared.tree.Item.TheVariants.{Object, Client, Template, Started}
+use Rattle.qs_tree.specs.declared.tree.ObjectItem.{ObjectItem}
+use Rattle.qs_tree.specs.declared.tree.StartedItem.{StartedItem}
+use Rattle.qs_tree.specs.declared.tree.TemplateItem.{TemplateItem}
+use Rattle.qs_tree.specs.declared.tree.Item.{Item}
+use Rattle.qs_tree.specs.declared.tree.Item.TheVariants.{Object, Client, Template, Started}
 use Rattle.qs_program.specs.declared.program.Declared.{Declared}
 use Rattle.qs_program.specs.Limits.{most_clients, most_objects, most_variables}
 use Rattle.qs_program.specs.Kinds.{same_kind}
 use Rattle.qs_program.specs.Numbering.{Name, is_among, found_at}
 use Rattle.qs_places.specs.Places.{Scope, object, number, client, template, text, starts as begins, given, scope_or_fault, formal_kinds, formals_at, fault_of_text, given_places, kind_in, most_templates, with_template, kind_of, kind_places, item_places, blocks_places, script_places, with_object, with_client}
 use Rattle.qs_places.specs.Variables.{variables_of}
-use Rattle.qs_check.specs.Resolve.{AreFaultless, objects_of, names_of, kinds_of, lists_of, templates_in}
+use Rattle.qs_resolution.specs.Resolve.{AreFaultless, objects_of, names_of, kinds_of, variable_lists, templates_in}
 use Rattle.qs_check.specs.WellFormed.{client_names}
 use Rattle.qs_places.proofs.Steps.{split, variables_met, ok_same}
 use Rattle.qs_places.proofs.Inner.{parted}
@@ -125,7 +125,7 @@ pub record Scripted (s t : Scope) (items : List Item) : Type 0 where
   pub few_objects : length s.objects ≤ most_objects → length t.objects ≤ most_objects
   pub few_clients : length s.clients ≤ most_clients → length s.clients + length (client_names items) ≤ most_clients
   pub few_templates : length s.templates ≤ most_templates → length s.templates + length (templates_in items) ≤ most_templates
-  pub few_variables : AllByRecursion (λ v. length v ≤ most_variables) (lists_of items)
+  pub few_variables : AllByRecursion (λ v. length v ≤ most_variables) (variable_lists items)
   pub starting : AllByRecursion (λ (o : Declared). IsSome (starts o.kind)) (objects_of items)
 
 pub scripted : (items : List Item) (s t : Scope) → scope_or_fault s (script_places items) ≡ Ok t → Scripted s t items

@@ -1,16 +1,16 @@
--- A client of a template is sound where its template is well formed and each object that is given is declared and of its formal's
--- kind. The soundness of whole programs stands on it. The template's blocks are sound over its formals, since its text is walked
--- without a fault, and stay so once each formal stands for its object.
+-- A client of a template is sound where its template is well formed and each object that is given is declared and of
+-- its formal's kind. The soundness of whole programs stands on it. The template's blocks are sound over its formals,
+-- since its text is walked without a fault, and stay so once each formal stands for its object.
 use Rattle.std.proofs.Common.{◌≡◌, ℕ, zero, suc, ◌<◌, true, false, if◌then◌else◌, Bool, List, [], ◌∷◌, ◌++◌, length, map, slice_index_or, Option, Some, refl, ap, sym, ◌∙◌, subst, arith, append_assoc, length-append, pos}
 use Rattle.std.proofs.Math.ListN.{get_or-append}
 use Rattle.std.proofs.lemmas.List.{length-map}
 use Rattle.std.specs.List.{AllByRecursion, Contains, IsDistinct}
 use Rattle.qs_objects.specs.declared.object.Kind.TheVariants.{Account}
-use Rattle.qs_script.specs.declared.tree.Formal.{Formal}
-use Rattle.qs_script.specs.declared.tree.StartedItem.{StartedItem}
-use Rattle.qs_script.specs.declared.tree.TemplateItem.{TemplateItem}
-use Rattle.qs_script.specs.declared.tree.Item.{Item}
-use Rattle.qs_script.specs.declared.tree.Item.TheVariants.{Object, Client, Template, Started}
+use Rattle.qs_tree.specs.declared.tree.Formal.{Formal}
+use Rattle.qs_tree.specs.declared.tree.StartedItem.{StartedItem}
+use Rattle.qs_tree.specs.declared.tree.TemplateItem.{TemplateItem}
+use Rattle.qs_tree.specs.declared.tree.Item.{Item}
+use Rattle.qs_tree.specs.declared.tree.Item.TheVariants.{Object, Client, Template, Started}
 use Rattle.qs_program.specs.declared.program.Declared.{Declared}
 use Rattle.qs_program.specs.Binding.{bound_block}
 use Rattle.qs_program.specs.Kinds.{same_kind}
@@ -20,13 +20,15 @@ use Rattle.qs_program.specs.Sound.{IsSoundBlock, IsSoundClient}
 use Rattle.qs_program.proofs.Found.{found_within}
 use Rattle.qs_places.specs.Places.{formal_kind, kind_of}
 use Rattle.qs_places.specs.Variables.{variables_of}
-use Rattle.qs_check.specs.Resolve.{as_client, binding_of, block_of, declared_formals, objects_of, own_client, started_of, template_called, templates_in}
+use Rattle.qs_resolution.specs.Resolve.{as_client, binding_of, block_shape, declared_formals, objects_of, own_client, started_of, template_called, templates_in}
 use Rattle.qs_check.specs.WellFormed.{AreGiven, AreItems, IsWellFormedTemplate}
 use Rattle.qs_binding.proofs.BoundTexts.{sound_bounds}
-use Rattle.qs_check.proofs.SoundStatements.{names, kinds, Known}
+use Rattle.qs_check.proofs.SoundStatements.{Known}
+use Rattle.qs_resolution.proofs.Scopes.{names, kinds}
 use Rattle.qs_check.proofs.Soundness.{AreStartsSound, sound_blocks}
 use Rattle.qs_check.proofs.Starts.{one_match, given_to}
-use Rattle.qs_check.proofs.TemplateTexts.{formals_scope, text_to, text_walked}
+use Rattle.qs_check.proofs.TemplateTexts.{text_to, text_walked}
+use Rattle.qs_resolution.proofs.TemplateFormals.{formals_scope}
 
 kind_at : (D : List Declared) (i : ℕ) → (slice_index_or D i no_object).kind ≡ slice_index_or (kinds D) i (Account (pos 0))
 kind_at [] i = refl
@@ -68,7 +70,7 @@ module _ (D : List Declared) (distinct : IsDistinct same_name (names D)) where
       let kinds_fit = given_kinds t.formals c.objects given in
       record {
         variables = w.few_variables;
-        blocks = omega (arith, length-map (own_client t).blocks (bound_block B), length-map t.blocks (block_of (names F) (kinds F) V), well.client.blocks);
+        blocks = omega (arith, length-map (own_client t).blocks (bound_block B), length-map t.blocks (block_shape (names F) (kinds F) V), well.client.blocks);
         each = sound_bounds B F D each inside kinds_fit (own_client t).blocks own;
         start = record { few = omega (arith, w.few_formals, length-map t.formals (λ (x : Formal). declared x)); each = each; inside = inside; kinds = kinds_fit; texts = own; bound = refl };
       }

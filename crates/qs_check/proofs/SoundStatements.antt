@@ -1,6 +1,7 @@
--- In a script with no fault each request names an object of the block's list, with an operation of that object's kind and the
--- right number of arguments, so the statements by number are sound. The soundness of blocks and of whole programs stands on
--- `sound_body`. It goes by induction on the statements, and reads each fact off the place that was passed without a fault.
+-- In a script with no fault each request names an object of the block's list, with an operation of that object's kind
+-- and the right number of arguments, so the statements by number are sound. The soundness of blocks and of whole
+-- programs stands on `sound_body`. It goes by induction on the statements, and reads each fact off the place that was
+-- passed without a fault.
 use Rattle.std.proofs.Common.{◌≡◌, ℕ, zero, suc, ◌≤◌, rules, Bool, true, false, List, [], ◌∷◌, ◌++◌, length, map, slice_index_or, Option, Some, None, refl, ap, sym, ◌∙◌, subst, arith, Ok, pos, if◌then◌else◌}
 use Rattle.std.proofs.lemmas.Bool.Decides.{nat_tests}
 use Rattle.std.proofs.lemmas.List.{length-map}
@@ -9,23 +10,24 @@ use Rattle.qs_objects.specs.declared.Op.{Op}
 use Rattle.qs_objects.specs.declared.object.Kind.{Kind}
 use Rattle.qs_objects.specs.declared.object.Kind.TheVariants.{Account}
 use Rattle.qs_objects.specs.Operations.{is_query, arity, fits, operations_of, word}
-use Rattle.qs_script.specs.declared.tree.Atom as text
-use Rattle.qs_script.specs.declared.tree.Atom.TheVariants.{Variable, Number}
-use Rattle.qs_script.specs.declared.tree.Expr as text_expr
-use Rattle.qs_script.specs.declared.tree.Expr.TheVariants.{Plain, Binary}
-use Rattle.qs_script.specs.declared.tree.Test as text_test
-use Rattle.qs_script.specs.declared.tree.Call as text_call
-use Rattle.qs_script.specs.Tree as tree
+use Rattle.qs_tree.specs.declared.tree.Atom as text
+use Rattle.qs_tree.specs.declared.tree.Atom.TheVariants.{Variable, Number}
+use Rattle.qs_tree.specs.declared.tree.Expr as text_expr
+use Rattle.qs_tree.specs.declared.tree.Expr.TheVariants.{Plain, Binary}
+use Rattle.qs_tree.specs.declared.tree.Test as text_test
+use Rattle.qs_tree.specs.declared.tree.Call as text_call
+use Rattle.qs_tree.specs.Tree as tree
 use Rattle.qs_program.specs.declared.program.Declared.{Declared}
 use Rattle.qs_program.specs.Numbering.{Name, same_name, is_among, found_at}
 use Rattle.qs_places.specs.Operators.{called, is_meant, op_of, op_or_refused}
 use Rattle.qs_places.specs.Places.{Scope, TextPlace, number, target, operation, arguments, variable, leaves, scope_or_fault, places, atoms_places, expr_places, test_places, call_places, op_at, is_known, takes}
 use Rattle.qs_program.specs.Program.{no_object}
-use Rattle.qs_check.specs.Resolve.{atom_of, expr_of, test_of, call_of, body_of}
+use Rattle.qs_resolution.specs.Resolve.{atom_of, expr_of, test_of, call_of, body_of}
 use Rattle.qs_program.specs.Sound.{IsSoundAtom, IsSoundExpr, IsSoundTest, IsSoundCall, IsSoundBody, is_in}
 use Rattle.qs_program.proofs.Found.{found_small}
 use Rattle.qs_program.specs.Limits.{most_variables}
 use Rattle.qs_places.proofs.Inner.{Inner, kept, parted, inner_body, inner_call, inner_expr, inner_test}
+use Rattle.qs_resolution.proofs.Scopes.{kinds, names}
 use Rattle.qs_places.proofs.Steps.{split}
 
 -- an operation that is known is one of the kind, and a query where one is asked
@@ -69,21 +71,15 @@ kind_at (o ∷ D) zero = refl
 kind_at (o ∷ D) (suc i) = kind_at D i
 
 module _ (D : List Declared) where
-  abbrev pub names : List Name
-  names = map (λ (o : Declared). o.name) D
-
-  abbrev pub kinds : List Kind
-  kinds = map (λ (o : Declared). o.kind) D
-
   -- the objects so far have the same kinds at the end
   abbrev pub Known : List Name → List Kind → Type 0
   Known os ks =
       (o : Name) → is_among os o ≡ true
-      → (is_among names o ≡ true) × (slice_index_or kinds (found_at names o) (Account (pos 0)) ≡ slice_index_or ks (found_at os o) (Account (pos 0)))
+      → (is_among (names D) o ≡ true) × (slice_index_or (kinds D) (found_at (names D) o) (Account (pos 0)) ≡ slice_index_or ks (found_at os o) (Account (pos 0)))
 
   module _ (R : List ℕ) (V : List Name) (few : length V ≤ most_variables) where
     abbrev pub Here : Scope → Type 0
-    Here s = Known s.objects s.kinds × ((o : Name) → is_among s.reserved o ≡ true → is_in R (found_at names o) ≡ true)
+    Here s = Known s.objects s.kinds × ((o : Name) → is_among s.reserved o ≡ true → is_in R (found_at (names D) o) ≡ true)
 
     here_after : (s u : Scope) (ps : List TextPlace) → Inner ps → scope_or_fault s ps ≡ Ok u → Here s → Here u
     here_after s u ps i h here = let P : Scope → Type 0 = λ t. Here t in subst P (sym (kept s u ps i h)) here
@@ -103,7 +99,7 @@ module _ (D : List Declared) where
     sound_test : (t : text_test.Test) → IsSoundTest (test_of V t)
     sound_test t = (sound_atom t.left, sound_atom t.right)
 
-    sound_call : (asks : Bool) (c : text_call.Call) (s t : Scope) → Here s → scope_or_fault s (call_places asks c) ≡ Ok t → IsSoundCall D R asks (call_of names kinds V asks c)
+    sound_call : (asks : Bool) (c : text_call.Call) (s t : Scope) → Here s → scope_or_fault s (call_places asks c) ≡ Ok t → IsSoundCall D R asks (call_of (names D) (kinds D) V asks c)
     sound_call asks c s t here h =
         let o = c.object in
         let n = length c.args in
@@ -111,20 +107,20 @@ module _ (D : List Declared) where
         let b = split a.0 t (operation asks o c.op) (arguments asks o c.op n ∷ atoms_places c.args) a.2 in
         let d = split b.0 t (arguments asks o c.op n) (atoms_places c.args) b.2 in
         let known = here.0 o a.1.0 in
-        let op_is : op_at names kinds asks o c.op ≡ op_at s.objects s.kinds asks o c.op = ap (λ k. op_of asks k c.op) known.1 in
+        let op_is : op_at (names D) (kinds D) asks o c.op ≡ op_at s.objects s.kinds asks o c.op = ap (λ k. op_of asks k c.op) known.1 in
         let at_s : b.0 ≡ s = b.1.1 ∙ a.1.2 in
-        let is_op : is_known (op_at names kinds asks o c.op) ≡ true = ap is_known op_is ∙ ap (λ u. is_known (op_at u.objects u.kinds asks o c.op)) (sym a.1.2) ∙ b.1.0 in
-        let fit : takes (op_at names kinds asks o c.op) n ≡ true = ap (λ x. takes x n) op_is ∙ ap (λ u. takes (op_at u.objects u.kinds asks o c.op) n) (sym at_s) ∙ d.1.0 in
-        let good = suits asks (slice_index_or kinds (found_at names o) (Account (pos 0))) c.op is_op in
+        let is_op : is_known (op_at (names D) (kinds D) asks o c.op) ≡ true = ap is_known op_is ∙ ap (λ u. is_known (op_at u.objects u.kinds asks o c.op)) (sym a.1.2) ∙ b.1.0 in
+        let fit : takes (op_at (names D) (kinds D) asks o c.op) n ≡ true = ap (λ x. takes x n) op_is ∙ ap (λ u. takes (op_at u.objects u.kinds asks o c.op) n) (sym at_s) ∙ d.1.0 in
+        let good = suits asks (slice_index_or (kinds D) (found_at (names D) o) (Account (pos 0))) c.op is_op in
         record {
           reserves = here.1 o a.1.1;
-          kind = ap (fits (op_or_refused (op_at names kinds asks o c.op))) (kind_at D (found_at names o)) ∙ good.0;
+          kind = ap (fits (op_or_refused (op_at (names D) (kinds D) asks o c.op))) (kind_at D (found_at (names D) o)) ∙ good.0;
           query = good.1;
-          arity = length-map c.args (atom_of V) ∙ taken (op_at names kinds asks o c.op) n fit;
+          arity = length-map c.args (atom_of V) ∙ taken (op_at (names D) (kinds D) asks o c.op) n fit;
           args = sound_atoms c.args;
         }
 
-    pub sound_body : (body : tree.Stmts) (inside : Bool) (s t : Scope) → Here s → scope_or_fault s (places inside body) ≡ Ok t → IsSoundBody D R (body_of names kinds V body)
+    pub sound_body : (body : tree.Stmts) (inside : Bool) (s t : Scope) → Here s → scope_or_fault s (places inside body) ≡ Ok t → IsSoundBody D R (body_of (names D) (kinds D) V body)
     sound_body tree.end inside s t here h = tt
     sound_body (tree.command c rest) inside s t here h =
         let w = parted s t (call_places false c) (places inside rest) h in

@@ -1,31 +1,32 @@
--- Why the program of a script with no fault is sound: names apart, variables of the client, leaves inside repeats, few levels.
+-- Why the program of a script with no fault is sound: names apart, variables of the client, leaves inside repeats, few
+-- levels.
 use Rattle.std.proofs.Common.{◌≡◌, ◌≤◌, Bool, true, false, ◌||◌, List, [], ◌∷◌, ◌++◌, length, map, Option, Some, None, append_assoc, refl, ap, sym, ◌∙◌, subst, arith, Ok, Err}
 use Rattle.std.proofs.lemmas.List.{length-map}
 use Rattle.std.specs.List.{AllByRecursion, IsDistinct}
 use Rattle.qs_objects.specs.declared.object.Kind.{Kind}
-use Rattle.qs_script.specs.Form.{HasForm}
-use Rattle.qs_script.specs.declared.tree.Atom as text
-use Rattle.qs_script.specs.declared.tree.Atom.TheVariants.{Variable, Number}
-use Rattle.qs_script.specs.declared.tree.Block as text_block
-use Rattle.qs_script.specs.declared.tree.StartedItem.{StartedItem}
-use Rattle.qs_script.specs.declared.tree.TemplateItem.{TemplateItem}
-use Rattle.qs_script.specs.declared.tree.Expr as text_expr
-use Rattle.qs_script.specs.declared.tree.Expr.TheVariants.{Plain, Binary}
-use Rattle.qs_script.specs.declared.tree.Item.{Item}
-use Rattle.qs_script.specs.declared.tree.Item.TheVariants.{Object, Client, Template, Started}
-use Rattle.qs_script.specs.Tree as tree
+use Rattle.qs_tree.specs.Form.{HasForm}
+use Rattle.qs_tree.specs.declared.tree.Atom as text
+use Rattle.qs_tree.specs.declared.tree.Atom.TheVariants.{Variable, Number}
+use Rattle.qs_tree.specs.declared.tree.Block as text_block
+use Rattle.qs_tree.specs.declared.tree.StartedItem.{StartedItem}
+use Rattle.qs_tree.specs.declared.tree.TemplateItem.{TemplateItem}
+use Rattle.qs_tree.specs.declared.tree.Expr as text_expr
+use Rattle.qs_tree.specs.declared.tree.Expr.TheVariants.{Plain, Binary}
+use Rattle.qs_tree.specs.declared.tree.Item.{Item}
+use Rattle.qs_tree.specs.declared.tree.Item.TheVariants.{Object, Client, Template, Started}
+use Rattle.qs_tree.specs.Tree as tree
 use Rattle.qs_program.specs.declared.program.Declared.{Declared}
 use Rattle.qs_check.specs.Checked.{first_fault, text_fault, fault_of, excess_of}
 use Rattle.qs_program.specs.Numbering.{Name, same_name, is_among, found_at}
 use Rattle.qs_places.specs.Places.{Scope, ScopeOrFault, scope_or_fault, start, script_places}
 use Rattle.qs_program.specs.Program.{ClientShape, ProgramShape, whole_load, whole_weight}
 use Rattle.qs_places.specs.Variables.{variables_of}
-use Rattle.qs_check.specs.Resolve.{as_client, atom_of, binding_of, expr_of, body_of, block_of, clients_of, declared_formals, names_of, kinds_of, objects_of, own_client, started_of, template_called, templates_in, program_of_items}
+use Rattle.qs_resolution.specs.Resolve.{as_client, atom_of, binding_of, expr_of, body_of, block_shape, clients_of, declared_formals, names_of, kinds_of, objects_of, own_client, started_of, template_called, templates_in, program_of_items}
 use Rattle.qs_program.specs.Sound.{IsAtomBelow, IsExprBelow, AreVariablesBelow, AreLeavesInside, IsFormedBlock, IsFormedClient, AreNamesApart, IsFormedProgram, IsSound}
 use Rattle.qs_check.specs.WellFormed.{atom_names, atoms_names, expr_names, test_names, variables_in, variables_in_all, AreStatements, AreItems, IsWellFormedBlock, IsWellFormedTemplate, client_names, IsWellFormed}
 use Rattle.qs_program.proofs.Found.{found_within, or_true, same_name-refl}
 use Rattle.qs_program.specs.Limits.{most_requests, most_steps}
-use Rattle.qs_check.proofs.Resolving.{levels_same}
+use Rattle.qs_resolution.proofs.Resolving.{levels_same}
 use Rattle.qs_binding.proofs.BoundTexts.{formed_bounds}
 use Rattle.qs_check.proofs.Soundness.{sound}
 use Rattle.qs_check.proofs.SoundStarts.{all_with, called_more, starts_sound, well_called}
@@ -97,7 +98,7 @@ module _ (N : List Name) (K : List Kind) (V : List Name) where
   leaves_inside D R inside (tree.again n body rest) (r, k, h) = (leaves_inside D R true body k, leaves_inside D R inside rest h)
   leaves_inside D R inside (tree.leave rest) (i, h) = (i, leaves_inside D R inside rest h)
 
-  blocks_formed : (D : List Declared) (bs : List text_block.Block) → AllByRecursion (IsWellFormedBlock D) bs → Among (variables_in_all bs) → AllByRecursion (IsFormedBlock (length V)) (map (block_of N K V) bs)
+  blocks_formed : (D : List Declared) (bs : List text_block.Block) → AllByRecursion (IsWellFormedBlock D) bs → Among (variables_in_all bs) → AllByRecursion (IsFormedBlock (length V)) (map (block_shape N K V) bs)
   blocks_formed D [] h k = tt
   blocks_formed D (b ∷ bs) h k = (
     record {

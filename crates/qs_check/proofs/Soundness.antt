@@ -1,6 +1,6 @@
--- A script that is walked with no fault, and whose load and weight are within their limits, makes a sound program. The promise of
--- the check that whatever it accepts is sound stands on `sound`. The proof goes from a block's list up to its client, and then by
--- induction on the items, where the objects known so far are a front of all that are declared.
+-- A script that is walked with no fault, and whose load and weight are within their limits, makes a sound program. The
+-- promise of the check that whatever it accepts is sound stands on `sound`. The proof goes from a block's list up to
+-- its client, and then by induction on the items, where the objects known so far are a front of all that are declared.
 use Rattle.std.proofs.Common.{◌≡◌, ℕ, suc, ◌+◌, ◌<◌, ◌≤◌, Bool, true, false, ◌||◌, ◌==◌, List, [], ◌∷◌, ◌++◌, length, map, slice_index_or, refl, ap, sym, ◌∙◌, subst, arith, append_assoc, append-nil, length-append, Ok, Err, pos}
 use Rattle.std.proofs.Math.ListN.{get_or-append}
 use Rattle.std.proofs.lemmas.List.{length-map}
@@ -8,17 +8,17 @@ use Rattle.std.specs.Cmp.Lexicographic.{same_text}
 use Rattle.std.specs.List.{AllByRecursion, IsDistinct}
 use Rattle.qs_objects.specs.declared.object.Kind.{Kind}
 use Rattle.qs_objects.specs.declared.object.Kind.TheVariants.{Account}
-use Rattle.qs_script.specs.declared.tree.Block.{Block}
-use Rattle.qs_script.specs.declared.tree.ClientItem.{ClientItem}
-use Rattle.qs_script.specs.declared.tree.TemplateItem.{TemplateItem}
-use Rattle.qs_script.specs.declared.tree.Item.{Item}
-use Rattle.qs_script.specs.declared.tree.Item.TheVariants.{Object, Client, Template, Started}
+use Rattle.qs_tree.specs.declared.tree.Block.{Block}
+use Rattle.qs_tree.specs.declared.tree.ClientItem.{ClientItem}
+use Rattle.qs_tree.specs.declared.tree.TemplateItem.{TemplateItem}
+use Rattle.qs_tree.specs.declared.tree.Item.{Item}
+use Rattle.qs_tree.specs.declared.tree.Item.TheVariants.{Object, Client, Template, Started}
 use Rattle.qs_program.specs.declared.program.Declared.{Declared}
 use Rattle.qs_program.specs.Numbering.{Name, same_name, is_among, found_at}
-use Rattle.qs_places.specs.Places.{Scope, ScopeOrFault, separate, listed, scope_or_fault, places, listed_places, block_places, blocks_places, item_places, script_places, start, with_block, with_listed, with_client, kind_of, over, without_variables}
+use Rattle.qs_places.specs.Places.{Scope, ScopeOrFault, separate, listed, scope_or_fault, places, listed_places, block_places, blocks_places, item_places, script_places, start, scope_of_block, with_listed, with_client, kind_of, over, without_variables}
 use Rattle.qs_program.specs.Program.{whole_load, whole_weight}
 use Rattle.qs_places.specs.Variables.{variables_of}
-use Rattle.qs_check.specs.Resolve.{block_of, client_of, clients_of, objects_of, names_of, kinds_of, lists_of, started_of, template_called, templates_in, program_of_items}
+use Rattle.qs_resolution.specs.Resolve.{block_shape, client_shape, clients_of, objects_of, names_of, kinds_of, variable_lists, started_of, template_called, templates_in, program_of_items}
 use Rattle.qs_check.specs.WellFormed.{client_names}
 use Rattle.qs_program.specs.Sound.{IsSoundBlock, IsSoundClient, IsFormedProgram, IsSound, is_in}
 use Rattle.qs_program.proofs.Found.{apart, same, false_not_true, or_true, is_among-append, is_among-last, found_within, found_append, found_apart}
@@ -26,7 +26,8 @@ use Rattle.qs_program.specs.Limits.{most_objects, most_requests, most_steps, mos
 use Rattle.qs_places.proofs.Inner.{parted}
 use Rattle.qs_places.proofs.ScopesInBlocks.{block_stays, blocks_stay}
 use Rattle.qs_check.proofs.Scripts.{object_stays, client_stays, few_variables, scripted, started_stays, template_stays}
-use Rattle.qs_check.proofs.SoundStatements.{names, kinds, Known, Here, sound_body}
+use Rattle.qs_check.proofs.SoundStatements.{Known, Here, sound_body}
+use Rattle.qs_resolution.proofs.Scopes.{names, kinds}
 use Rattle.qs_places.proofs.Steps.{split, ok_same}
 
 abbrev pub with_list : Scope → List Name → Scope
@@ -90,10 +91,10 @@ module _ (D : List Declared) where
       let Q : List Kind → Type 0 = λ ks. Known D s.objects ks in
       subst P (sym e) (subst Q (sym f) known)
 
-  sound_block : (V : List Name) → length V ≤ most_variables → (b : Block) (s t : Scope) → Known D s.objects s.kinds → scope_or_fault s (block_places b) ≡ Ok t → IsSoundBlock D (block_of (names D) (kinds D) V b)
+  sound_block : (V : List Name) → length V ≤ most_variables → (b : Block) (s t : Scope) → Known D s.objects s.kinds → scope_or_fault s (block_places b) ≡ Ok t → IsSoundBlock D (block_shape (names D) (kinds D) V b)
   sound_block V few b s t known h =
       let w = split s t separate (listed_places b.reserved ++ places false b.body) h in
-      let s1 = with_block s in
+      let s1 = scope_of_block s in
       let h1 : scope_or_fault s1 (listed_places b.reserved ++ places false b.body) ≡ Ok t = ap (λ u. scope_or_fault u (listed_places b.reserved ++ places false b.body)) (sym w.1.1) ∙ w.2 in
       let v = parted s1 t (listed_places b.reserved) (places false b.body) h1 in
       let R = map (found_at (names D)) b.reserved in
@@ -105,20 +106,20 @@ module _ (D : List Declared) where
         body = sound_body D R V few b.body false v.0 t here v.2;
       }
 
-  pub sound_blocks : (V : List Name) → length V ≤ most_variables → (bs : List Block) (s t : Scope) → Known D s.objects s.kinds → scope_or_fault s (blocks_places bs) ≡ Ok t → AllByRecursion (IsSoundBlock D) (map (block_of (names D) (kinds D) V) bs)
+  pub sound_blocks : (V : List Name) → length V ≤ most_variables → (bs : List Block) (s t : Scope) → Known D s.objects s.kinds → scope_or_fault s (blocks_places bs) ≡ Ok t → AllByRecursion (IsSoundBlock D) (map (block_shape (names D) (kinds D) V) bs)
   sound_blocks V few [] s t known h = tt
   sound_blocks V few (b ∷ bs) s t known h =
       let w = parted s t (block_places b) (blocks_places bs) h in
       let one = (block_stays s w.0 b w.1).1 in
       (sound_block V few b s w.0 known w.1, sound_blocks V few bs w.0 t (known_after s w.0 one.objects one.kinds known) w.2)
 
-  sound_client : (c : ClientItem) (s t : Scope) → Known D s.objects s.kinds → scope_or_fault s (item_places (Client c)) ≡ Ok t → IsSoundClient D (client_of (names D) (kinds D) c)
+  sound_client : (c : ClientItem) (s t : Scope) → Known D s.objects s.kinds → scope_or_fault s (item_places (Client c)) ≡ Ok t → IsSoundClient D (client_shape (names D) (kinds D) c)
   sound_client c s t known h =
       let w = (client_stays s t c h).1 in
       let few = few_variables s t c h in
       record {
         variables = few;
-        blocks = rw (length-map c.blocks (block_of (names D) (kinds D) (variables_of c))) (omega (arith, (blocks_stay (with_client s c.name) t c.blocks w).count (omega arith)));
+        blocks = rw (length-map c.blocks (block_shape (names D) (kinds D) (variables_of c))) (omega (arith, (blocks_stay (with_client s c.name) t c.blocks w).count (omega arith)));
         each = sound_blocks (variables_of c) few c.blocks (with_client s c.name) t known w;
         start = tt;
       }
@@ -194,7 +195,7 @@ pub record Walked (items : List Item) (s : Scope) : Type 0 where
   pub objects : s.objects ≡ names_of items
   pub kinds : s.kinds ≡ kinds_of items
   pub few_objects : length s.objects ≤ most_objects
-  pub few_variables : AllByRecursion (λ v. length v ≤ most_variables) (lists_of items)
+  pub few_variables : AllByRecursion (λ v. length v ≤ most_variables) (variable_lists items)
 
 over_ok : (m : ScopeOrFault) (s : Scope) → over m ≡ Ok (without_variables s) → (t : Scope) × (m ≡ Ok t) × (without_variables s ≡ without_variables t)
 over_ok (Ok t) s h = (t, refl, ok_same (without_variables t) (without_variables s) h)

@@ -1,27 +1,26 @@
--- A client of a template is walked without a fault exactly where its template is declared before it, and each object that is given
--- is declared and of its formal's kind. The proof that well-formed scripts are those without a fault needs both directions. Both go
--- by induction on the formals, beside the objects that are given for them.
+-- A client of a template is walked without a fault exactly where its template is declared before it, and each object
+-- that is given is declared and of its formal's kind. The proof that well-formed scripts are those without a fault
+-- needs both directions. Both go by induction on the formals, beside the objects that are given for them.
 use Rattle.std.proofs.Common.{◌≡◌, ℕ, suc, ◌<◌, Bool, true, false, ◌||◌, nat_eq, List, [], ◌∷◌, ◌++◌, length, get_or, slice_index_or, Option, Some, None, refl, ap, sym, ◌∙◌, subst, arith, Ok, Err, pos, if◌then◌else◌}
 use Rattle.std.proofs.lemmas.Bool.Decides.{nat_tests}
 use Rattle.std.proofs.lemmas.List.{length-map}
 use Rattle.std.specs.List.{IsDistinct, position_or_len}
 use Rattle.qs_objects.specs.declared.object.Kind.{Kind}
 use Rattle.qs_objects.specs.declared.object.Kind.TheVariants.{Account}
-use Rattle.qs_script.specs.declared.tree.Formal.{Formal}
-use Rattle.qs_script.specs.declared.tree.StartedItem.{StartedItem}
-use Rattle.qs_script.specs.declared.tree.TemplateItem.{TemplateItem}
+use Rattle.qs_tree.specs.declared.tree.Formal.{Formal}
+use Rattle.qs_tree.specs.declared.tree.StartedItem.{StartedItem}
+use Rattle.qs_tree.specs.declared.tree.TemplateItem.{TemplateItem}
 use Rattle.qs_program.specs.declared.program.Declared.{Declared}
 use Rattle.qs_program.specs.Kinds.{same_kind}
 use Rattle.qs_program.specs.Numbering.{Name, same_name, is_among, found_at}
 use Rattle.qs_program.proofs.Found.{found_is, found_within, name_at}
 use Rattle.qs_places.specs.declared.fault.CheckFault.TheVariants as f
 use Rattle.qs_places.specs.Places.{Scope, TextPlace, scope_or_fault, given, starts, formal_kind, formal_kinds, formals_at, given_places, is_given, kind_in}
-use Rattle.qs_check.specs.Resolve.{template_called}
+use Rattle.qs_resolution.specs.Resolve.{template_called}
 use Rattle.qs_check.specs.WellFormed.{AreGiven, IsGiven, IsWellFormedStart}
 use Rattle.qs_places.proofs.FinePlaces.{then_step, leads}
 use Rattle.qs_check.proofs.Scripts.{AllMatch}
-use Rattle.qs_check.proofs.SoundStatements.{names, kinds}
-use Rattle.qs_check.proofs.TextBlocks.{scope, template_names, template_formals}
+use Rattle.qs_resolution.proofs.Scopes.{names, kinds, scope, template_names, template_formals}
 use Rattle.qs_check.proofs.TextRequests.{among_at, at_number, found_only, place_here, place_later}
 
 -- ---- the template of a name

@@ -1,42 +1,32 @@
--- A template's formals and blocks are walked by themselves without a fault exactly where the template is well formed. The proof
--- that well-formed scripts are those without a fault needs both directions. Formals are walked as objects, by induction on their
--- list; then the blocks are those of a client that has these objects.
-use Rattle.std.proofs.Common.{◌≡◌, ℕ, ◌+◌, ◌<◌, ◌≤◌, false, true, nat_lt, List, [], ◌∷◌, ◌++◌, length, map, None, refl, ap, sym, ◌∙◌, subst, arith, append_assoc, append-nil, Ok, Err, if◌then◌else◌}
-use Rattle.std.proofs.lemmas.List.{length-map}
+-- A template's formals and blocks are walked by themselves without a fault exactly where the template is well formed.
+-- The proof that well-formed scripts are those without a fault needs both directions. Formals are walked as objects, by
+-- induction on their list; then the blocks are those of a client that has these objects.
+use Rattle.std.proofs.Common.{◌≡◌, ℕ, ◌+◌, ◌<◌, ◌≤◌, false, true, nat_lt, List, [], ◌∷◌, ◌++◌, length, None, refl, ap, sym, ◌∙◌, subst, arith, append_assoc, append-nil, Ok, Err, if◌then◌else◌}
 use Rattle.std.proofs.lemmas.Map.Made.{is_member-Decides}
 use Rattle.std.specs.List.{AllByRecursion, IsDistinct}
-use Rattle.qs_script.specs.Form.{IsFormed}
-use Rattle.qs_script.specs.declared.tree.Block.{Block}
-use Rattle.qs_script.specs.declared.tree.Formal.{Formal}
-use Rattle.qs_script.specs.declared.tree.TemplateItem.{TemplateItem}
+use Rattle.qs_tree.specs.Form.{IsFormed}
+use Rattle.qs_tree.specs.declared.tree.Block.{Block}
+use Rattle.qs_tree.specs.declared.tree.Formal.{Formal}
+use Rattle.qs_tree.specs.declared.tree.TemplateItem.{TemplateItem}
 use Rattle.qs_program.specs.declared.program.Declared.{Declared}
 use Rattle.qs_program.specs.Limits.{most_formals, most_objects, most_variables}
 use Rattle.qs_program.specs.Numbering.{Name, same_name, is_among}
 use Rattle.qs_places.specs.declared.fault.CheckFault.TheVariants as f
 use Rattle.qs_places.specs.Places.{Scope, ScopeOrFault, object, scope_or_fault, start, fault_in, fault_of_text, formal_kind, formal_kinds, formals_places, blocks_places, text_places, with_object, with_template}
 use Rattle.qs_places.specs.Variables.{variables_of}
-use Rattle.qs_check.specs.Resolve.{as_client, declared_formals}
+use Rattle.qs_resolution.specs.Resolve.{as_client, declared_formals}
 use Rattle.qs_check.specs.WellFormed.{IsDeclared, IsWellFormedBlock, IsWellFormedTemplate}
 use Rattle.qs_places.proofs.FinePlaces.{then_step, else_step, below, again, leads}
 use Rattle.qs_places.proofs.Inner.{parted}
 use Rattle.qs_places.proofs.ScopesInBlocks.{blocks_stay}
-use Rattle.qs_check.proofs.SoundStatements.{names, kinds}
-use Rattle.qs_places.proofs.Steps.{split, ok_same, variables_met}
-use Rattle.qs_check.proofs.TextBlocks.{scope, template_names, template_formals, Fresh, fresh_more, fresh_rest, no_fresh, IsRight, blocks_from, blocks_to}
+use Rattle.qs_resolution.proofs.Scopes.{names, kinds, scope, template_names, template_formals, names_with, grown}
+use Rattle.qs_places.proofs.Steps.{variables_met}
+use Rattle.qs_check.proofs.TextBlocks.{IsRight, blocks_from, blocks_to}
+use Rattle.qs_resolution.proofs.FreshNames.{Fresh, fresh_rest}
 use Rattle.qs_check.proofs.TextNames.{count_variables}
+use Rattle.qs_resolution.proofs.TemplateFormals.{declared, formal_names, formals_from, formals_scope}
 use Rattle.qs_check.proofs.TextRequests.{same_decides}
 use Rattle.qs_places.proofs.Walks.{met-then}
-
-pub names_with : (D : List Declared) (d : Declared) → names D ++ d.name ∷ [] ≡ names (D ++ d ∷ [])
-names_with [] d = refl
-names_with (e ∷ D) d = ap (λ ns. e.name ∷ ns) (names_with D d)
-
-kinds_with : (D : List Declared) (d : Declared) → kinds D ++ d.kind ∷ [] ≡ kinds (D ++ d ∷ [])
-kinds_with [] d = refl
-kinds_with (e ∷ D) d = ap (λ ks. e.kind ∷ ks) (kinds_with D d)
-
-pub grown : (D : List Declared) (T : List TemplateItem) (C : List Name) (n : ℕ) (V R : List Name) (d : Declared) → with_object (scope D T C n V R) d.name d.kind ≡ scope (D ++ d ∷ []) T C n V R
-grown D T C n V R d = λ i. record { objects = names_with D d i; kinds = kinds_with D d i; clients = C; templates = template_names T; formals = template_formals T; blocks = n; variables = V; reserved = R }
 
 -- one more template
 pub template_names_with : (T : List TemplateItem) (t : TemplateItem) → template_names T ++ t.name ∷ [] ≡ template_names (T ++ t ∷ [])
@@ -72,35 +62,6 @@ right_blocks D (b ∷ bs) h =
     (record { declares = declared_to D b.reserved h.0.declares; distinct = h.0.distinct; statements = h.0.statements }, right_blocks D bs h.1)
 
 -- ---- formals as objects
-
-abbrev formal_names : List Formal → List Name
-formal_names fs = map (λ (x : Formal). x.name) fs
-
-abbrev declared : Formal → Declared
-declared x = record { name = x.name; kind = formal_kind x.kind }
-
-abbrev pub formals_scope : List Declared → Scope
-formals_scope D = scope D [] [] 0 [] []
-
-formals_from : (fs : List Formal) (D : List Declared) (t : Scope) → scope_or_fault (formals_scope D) (formals_places fs) ≡ Ok t → (t ≡ formals_scope (D ++ declared_formals fs)) × Fresh (names D) (formal_names fs) × (length D ≤ most_objects → length D + length fs ≤ most_objects)
-formals_from [] D t h = (ok_same (formals_scope D) t h ∙ ap formals_scope (sym (append-nil D)), no_fresh (names D), λ l. omega arith)
-formals_from (x ∷ fs) D t h =
-    let s = formals_scope D in
-    let w = split s t (object x.name (formal_kind x.kind)) (formals_places fs) h in
-    let E = D ++ declared x ∷ [] in
-    let e : w.0 ≡ formals_scope E = w.1.2 ∙ grown D [] [] 0 [] [] (declared x) in
-    let more = formals_from fs E t (again (formals_scope E) t w.0 (formals_places fs) e w.2) in
-    let P : List Name → Type 0 = λ ns. Fresh ns (formal_names fs) in
-    let longer : length E ≡ length D + 1 = length_last D (declared x) in
-    let here : length D < most_objects = omega (arith, w.1.1, length-map D (λ (o : Declared). o.name)) in (
-      more.0 ∙ ap formals_scope (append_assoc D (declared x ∷ []) (declared_formals fs)),
-      fresh_more (names D) x.name (formal_names fs) w.1.0 (subst P (sym (names_with D (declared x))) more.1),
-      λ l. omega (arith, longer, more.2 (omega (arith, longer, here))),
-    )
-  where
-    length_last : (ds : List Declared) (d : Declared) → length (ds ++ d ∷ []) ≡ length ds + 1
-    length_last [] d = refl
-    length_last (e ∷ ds) d = omega (arith, length_last ds d)
 
 formals_to : (fs : List Formal) (D : List Declared) → Fresh (names D) (formal_names fs) → length (names D) + length fs ≤ most_objects → scope_or_fault (formals_scope D) (formals_places fs) ≡ Ok (formals_scope (D ++ declared_formals fs))
 formals_to [] D fresh few = ap (λ E. Ok (formals_scope E)) (sym (append-nil D))
@@ -153,30 +114,6 @@ text_walked t u h =
       few_formals = omega (arith, g.2 (omega arith));
       few_variables = rw (← variables_met s u (blocks_places t.blocks) walk) small;
       all = h;
-    }
-
--- what is known after a template's text
-pub record TextKnown (t : TemplateItem) (u : Scope) : Type 0 where
-  pub objects : u.objects ≡ names (declared_formals t.formals)
-  pub kinds : u.kinds ≡ kinds (declared_formals t.formals)
-  pub variables : u.variables ≡ variables_of (as_client t)
-  pub few_objects : length u.objects ≤ most_objects
-  pub few_variables : length u.variables ≤ most_variables
-
-pub text_known : (t : TemplateItem) (u : Scope) → scope_or_fault start (text_places t) ≡ Ok u → TextKnown t u
-text_known t u h =
-    let w = parted start u (formals_places t.formals) (blocks_places t.blocks) h in
-    let g = formals_from t.formals [] w.0 w.1 in
-    let F = declared_formals t.formals in
-    let s = formals_scope F in
-    let walk = again s u w.0 (blocks_places t.blocks) g.0 w.2 in
-    let stay = blocks_stay s u t.blocks walk in
-    record {
-      objects = stay.objects;
-      kinds = stay.kinds;
-      variables = variables_met s u (blocks_places t.blocks) walk;
-      few_objects = omega (arith, ap length stay.objects, length-map F (λ (o : Declared). o.name), length-map t.formals declared, g.2 (omega arith));
-      few_variables = stay.few (omega arith);
     }
 
 pub template_from : (t : TemplateItem) → AllByRecursion IsFormed t.blocks → fault_of_text t ≡ None → IsWellFormedTemplate t

@@ -1,72 +1,25 @@
--- Blocks are walked without a fault exactly where they are right: their lists, their statements, their number and their variables.
-use Rattle.std.proofs.Common.{◌≡◌, ℕ, ◌+◌, ◌<◌, ◌≤◌, Bool, true, false, ◌||◌, nat_lt, List, [], ◌∷◌, ◌++◌, length, map, refl, ap, sym, ◌∙◌, arith, append_assoc, append-nil, Ok, Err, if◌then◌else◌}
-use Rattle.std.proofs.lemmas.Cmp.{nat_list_eq_equiv}
-use Rattle.std.proofs.lemmas.List.Folds.{list_any-append}
+-- Blocks are walked without a fault exactly where they are right: their lists, their statements, their number and their
+-- variables.
+use Rattle.std.proofs.Common.{◌≡◌, ℕ, ◌+◌, ◌<◌, ◌≤◌, true, false, nat_lt, List, [], ◌∷◌, ◌++◌, length, refl, ap, sym, ◌∙◌, arith, append_assoc, append-nil, Ok, Err, if◌then◌else◌}
 use Rattle.std.specs.List.{AllByRecursion, IsDistinct}
-use Rattle.qs_objects.specs.declared.object.Kind.{Kind}
-use Rattle.qs_script.specs.declared.tree.Block.{Block}
-use Rattle.qs_script.specs.declared.tree.TemplateItem.{TemplateItem}
+use Rattle.qs_tree.specs.declared.tree.Block.{Block}
+use Rattle.qs_tree.specs.declared.tree.TemplateItem.{TemplateItem}
 use Rattle.qs_places.specs.declared.fault.CheckFault.TheVariants as f
 use Rattle.qs_program.specs.declared.program.Declared.{Declared}
 use Rattle.qs_program.specs.Numbering.{Name, same_name, is_among, with_name}
 use Rattle.qs_program.specs.Limits.{most_blocks, most_variables}
-use Rattle.qs_places.specs.Places.{Scope, formal_kinds, listed, separate, scope_or_fault, places, listed_places, block_places, blocks_places, with_listed}
+use Rattle.qs_places.specs.Places.{Scope, listed, separate, scope_or_fault, places, listed_places, block_places, blocks_places, with_listed}
 use Rattle.qs_places.specs.Variables.{variables_at}
 use Rattle.qs_check.specs.WellFormed.{AreStatements, variables_in_all}
 use Rattle.qs_places.proofs.FinePlaces.{then_step, else_step, below, again, leads, named_more, are_fine, fine_met}
 use Rattle.qs_places.proofs.Inner.{parted, inner_body, kept}
-use Rattle.qs_check.proofs.SoundStatements.{names, kinds}
+use Rattle.qs_resolution.proofs.Scopes.{names, scope}
 use Rattle.qs_check.proofs.Soundness.{with_list, listed_first, list_kept}
 use Rattle.qs_places.proofs.Steps.{with_names, split, variables_met}
-use Rattle.qs_check.proofs.TextNames.{all_named, or_false, or_false_first, or_false_later, variables_at-append, tell_list, tell_blocks}
+use Rattle.qs_check.proofs.TextNames.{all_named, variables_at-append, tell_list, tell_blocks}
+use Rattle.qs_resolution.proofs.FreshNames.{Fresh, fresh_more, fresh_rest, no_fresh}
 use Rattle.qs_check.proofs.TextRequests.{statements_from, statements_to}
 use Rattle.qs_places.proofs.Walks.{met-then}
-
--- what is known with these objects and templates declared
-abbrev pub template_names : List TemplateItem → List Name
-template_names T = map (λ (t : TemplateItem). t.name) T
-
-abbrev pub template_formals : List TemplateItem → List (List Kind)
-template_formals T = map (λ (t : TemplateItem). formal_kinds t.formals) T
-
-abbrev pub scope : List Declared → List TemplateItem → List Name → ℕ → List Name → List Name → Scope
-scope D T clients blocks variables reserved = record { objects = names D; kinds = kinds D; clients = clients; templates = template_names T; formals = template_formals T; blocks = blocks; variables = variables; reserved = reserved }
-
--- names that are none of those seen, and none the same as another
-abbrev pub Fresh : List Name → List Name → Type 0
-Fresh seen ns = AllByRecursion (λ n. is_among seen n ≡ false) ns × IsDistinct same_name ns
-
-among_last : (seen : List Name) (n m : Name) → is_among (seen ++ n ∷ []) m ≡ (is_among seen m || same_name m n)
-among_last seen n m = list_any-append (same_name m) seen (n ∷ []) ∙ ap (λ b. is_among seen m || b) (or_false (same_name m n))
-
-none_of_both : (a b : Bool) → a ≡ false → b ≡ false → (a || b) ≡ false
-none_of_both a b h k = ap (λ x. x || b) h ∙ k
-
-unseen_first : (seen : List Name) (n : Name) (ns : List Name) → AllByRecursion (λ m. is_among (seen ++ n ∷ []) m ≡ false) ns → AllByRecursion (λ m. is_among seen m ≡ false) ns
-unseen_first seen n [] h = tt
-unseen_first seen n (m ∷ ns) h = (or_false_first (is_among seen m) (same_name m n) (sym (among_last seen n m) ∙ h.0), unseen_first seen n ns h.1)
-
-unseen_last : (seen : List Name) (n : Name) (ns : List Name) → AllByRecursion (λ m. is_among (seen ++ n ∷ []) m ≡ false) ns → AllByRecursion (λ m. same_name n m ≡ false) ns
-unseen_last seen n [] h = tt
-unseen_last seen n (m ∷ ns) h =
-    (nat_list_eq_equiv.symm n m ∙ or_false_later (is_among seen m) (same_name m n) (sym (among_last seen n m) ∙ h.0), unseen_last seen n ns h.1)
-
-unseen_both : (seen : List Name) (n : Name) (ns : List Name) → AllByRecursion (λ m. is_among seen m ≡ false) ns → AllByRecursion (λ m. same_name n m ≡ false) ns → AllByRecursion (λ m. is_among (seen ++ n ∷ []) m ≡ false) ns
-unseen_both seen n [] h k = tt
-unseen_both seen n (m ∷ ns) h k =
-    (among_last seen n m ∙ none_of_both (is_among seen m) (same_name m n) h.0 (nat_list_eq_equiv.symm m n ∙ k.0), unseen_both seen n ns h.1 k.1)
-
-pub fresh_more : (seen : List Name) (n : Name) (ns : List Name) → is_among seen n ≡ false → Fresh (seen ++ n ∷ []) ns → Fresh seen (n ∷ ns)
-unfolding IsDistinct
-fresh_more seen n ns h k = ((h, unseen_first seen n ns k.0), (unseen_last seen n ns k.0, k.1))
-
-pub fresh_rest : (seen : List Name) (n : Name) (ns : List Name) → Fresh seen (n ∷ ns) → (is_among seen n ≡ false) × Fresh (seen ++ n ∷ []) ns
-unfolding IsDistinct
-fresh_rest seen n ns h = (h.0.0, (unseen_both seen n ns h.0.1 h.1.0, h.1.1))
-
-pub no_fresh : (seen : List Name) → Fresh seen []
-unfolding IsDistinct
-no_fresh seen = (tt, tt)
 
 -- a block's list
 list_from : (ns : List Name) (s t : Scope) → scope_or_fault s (listed_places ns) ≡ Ok t → AllByRecursion (λ o. is_among s.objects o ≡ true) ns

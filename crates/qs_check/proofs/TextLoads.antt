@@ -5,17 +5,17 @@ use Rattle.std.proofs.lemmas.List.Sums.{sum_by-cons}
 use Rattle.std.specs.Cmp.Lexicographic.{same_text}
 use Rattle.std.specs.List.{AllByRecursion, Contains}
 use Rattle.qs_objects.specs.declared.object.Kind.{Kind}
-use Rattle.qs_script.specs.declared.tree.Block.{Block}
-use Rattle.qs_script.specs.Tree as tree
+use Rattle.qs_tree.specs.declared.tree.Block.{Block}
+use Rattle.qs_tree.specs.Tree as tree
 use Rattle.qs_program.specs.declared.program.Declared.{Declared}
 use Rattle.qs_program.specs.Loads.{load_of, weight_of}
 use Rattle.qs_program.specs.Numbering.{Name, same_name, is_among, found_at}
 use Rattle.qs_program.specs.Program.{BlockShape, block_load}
-use Rattle.qs_check.specs.Resolve.{body_of, block_of}
+use Rattle.qs_resolution.specs.Resolve.{body_of, block_shape}
 use Rattle.qs_check.specs.TextLoads.{requests_on, steps_in, text_block_load}
 use Rattle.qs_check.specs.WellFormed.{AreStatements}
 use Rattle.qs_program.proofs.Found.{apart, same, found_apart, is_among-append, false_not_true, same_name-refl}
-use Rattle.qs_check.proofs.SoundStatements.{names}
+use Rattle.qs_resolution.proofs.Scopes.{names}
 use Rattle.qs_check.proofs.TextBlocks.{IsRight}
 use Rattle.qs_check.proofs.TextRequests.{among_at, at_number}
 
@@ -72,14 +72,14 @@ module _ (N : List Name) (K : List Kind) (V : List Name) where
         rw (sum_by-cons (load_of (body_of N K V b.body)) (found_at N n) (map (found_at N) ns), sum_by-cons (λ o. requests_on o b.body) n ns)
         (omega (arith, load_same D b.reserved declared_among n (lifted n h.0) false b.body right.statements, list_loads b ns right h.1))
 
-    pub blocks_loads : (bs : List Block) → AllByRecursion (IsRight D) bs → sum_by block_load (map (block_of N K V) bs) ≡ sum_by text_block_load bs
+    pub blocks_loads : (bs : List Block) → AllByRecursion (IsRight D) bs → sum_by block_load (map (block_shape N K V) bs) ≡ sum_by text_block_load bs
     blocks_loads [] h = refl
     blocks_loads (b ∷ bs) h =
-        rw (sum_by-cons block_load (block_of N K V b) (map (block_of N K V) bs), sum_by-cons text_block_load b bs)
+        rw (sum_by-cons block_load (block_shape N K V b) (map (block_shape N K V) bs), sum_by-cons text_block_load b bs)
         (omega (arith, list_loads b b.reserved h.0 h.0.declares, blocks_loads bs h.1))
 
-  pub blocks_weights : (bs : List Block) → sum_by (λ (b : BlockShape). weight_of b.body) (map (block_of N K V) bs) ≡ sum_by (λ (b : Block). steps_in b.body) bs
+  pub blocks_weights : (bs : List Block) → sum_by (λ (b : BlockShape). weight_of b.body) (map (block_shape N K V) bs) ≡ sum_by (λ (b : Block). steps_in b.body) bs
   blocks_weights [] = refl
   blocks_weights (b ∷ bs) =
-      rw (sum_by-cons (λ (b : BlockShape). weight_of b.body) (block_of N K V b) (map (block_of N K V) bs), sum_by-cons (λ (b : Block). steps_in b.body) b bs)
+      rw (sum_by-cons (λ (b : BlockShape). weight_of b.body) (block_shape N K V b) (map (block_shape N K V) bs), sum_by-cons (λ (b : Block). steps_in b.body) b bs)
       (omega (arith, weight_same b.body, blocks_weights bs))

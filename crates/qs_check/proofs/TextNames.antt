@@ -1,6 +1,7 @@
--- The list of a client's variables has each name that its blocks assign or read, and has it once. The proofs that a script has no
--- fault exactly where it is well formed use it to count the variables. It shows by induction on the statements that their places
--- name just these variables, and that adding a name only where it is new keeps the names distinct.
+-- The list of a client's variables has each name that its blocks assign or read, and has it once. The proofs that a
+-- script has no fault exactly where it is well formed use it to count the variables. It shows by induction on the
+-- statements that their places name just these variables, and that adding a name only where it is new keeps the names
+-- distinct.
 use Rattle.std.proofs.Common.{◌≡◌, Bool, true, false, ◌||◌, List, [], ◌∷◌, ◌++◌, length, refl, ap, sym, ◌∙◌, subst, if◌then◌else◌}
 use Rattle.std.proofs.lemmas.Cmp.{nat_list_eq_equiv}
 use Rattle.std.proofs.lemmas.List.Folds.{list_any-append}
@@ -8,19 +9,20 @@ use Rattle.std.proofs.lemmas.Map.Made.{length-from_keys}
 use Rattle.std.specs.Cmp.Lexicographic.{same_text}
 use Rattle.std.specs.List.{AllByRecursion, IsDistinct}
 use Rattle.std.specs.Set.{distinct_count}
-use Rattle.qs_script.specs.declared.tree.Atom.{Atom}
-use Rattle.qs_script.specs.declared.tree.Atom.TheVariants.{Variable, Number}
-use Rattle.qs_script.specs.declared.tree.Expr.{Expr}
-use Rattle.qs_script.specs.declared.tree.Expr.TheVariants.{Plain, Binary}
-use Rattle.qs_script.specs.declared.tree.Test.{Test}
-use Rattle.qs_script.specs.declared.tree.Call.{Call}
-use Rattle.qs_script.specs.declared.tree.Block.{Block}
-use Rattle.qs_script.specs.declared.tree.ClientItem.{ClientItem}
-use Rattle.qs_script.specs.Tree as tree
+use Rattle.qs_tree.specs.declared.tree.Atom.{Atom}
+use Rattle.qs_tree.specs.declared.tree.Atom.TheVariants.{Variable, Number}
+use Rattle.qs_tree.specs.declared.tree.Expr.{Expr}
+use Rattle.qs_tree.specs.declared.tree.Expr.TheVariants.{Plain, Binary}
+use Rattle.qs_tree.specs.declared.tree.Test.{Test}
+use Rattle.qs_tree.specs.declared.tree.Call.{Call}
+use Rattle.qs_tree.specs.declared.tree.Block.{Block}
+use Rattle.qs_tree.specs.declared.tree.ClientItem.{ClientItem}
+use Rattle.qs_tree.specs.Tree as tree
 use Rattle.qs_program.specs.Numbering.{Name, same_name, is_among, with_name}
 use Rattle.qs_places.specs.Places.{TextPlace, object, number, client, separate, listed, target, operation, arguments, variable, leaves, template, text, starts, given, places, atom_places, atoms_places, expr_places, test_places, call_places, listed_places, block_places, blocks_places}
 use Rattle.qs_places.specs.Variables.{variables_at, variables_of}
 use Rattle.qs_check.specs.WellFormed.{atom_names, atoms_names, expr_names, test_names, variables_in, variables_in_all}
+use Rattle.qs_resolution.proofs.FreshNames.{or_false, or_false_first, or_false_later}
 
 -- more names, each where it is new
 abbrev pub all_named : List Name → List Name → List Name
@@ -108,10 +110,6 @@ or_assoc : (a b c : Bool) → ((a || b) || c) ≡ (a || (b || c))
 or_assoc true b c = refl
 or_assoc false b c = refl
 
-pub or_false : (a : Bool) → (a || false) ≡ a
-or_false true = refl
-or_false false = refl
-
 -- a name that is there already adds nothing
 nothing_new : (names : List Name) (x q : Name) (s : Bool) → same_name q x ≡ s → is_among names x ≡ true → is_among names q ≡ (is_among names q || s)
 nothing_new names x q true e h =
@@ -130,14 +128,6 @@ among_named names (x ∷ xs) q =
     among_named (with_name names x) xs q
     ∙ ap (λ b. b || is_among xs q) (one_more names x q (is_among names x) refl)
     ∙ or_assoc (is_among names q) (same_name q x) (is_among xs q)
-
-pub or_false_first : (a b : Bool) → (a || b) ≡ false → a ≡ false
-or_false_first true b h = h
-or_false_first false b h = refl
-
-pub or_false_later : (a b : Bool) → (a || b) ≡ false → b ≡ false
-or_false_later true b h = absurd (cc)
-or_false_later false b h = h
 
 -- a list keeps its names apart with a new name at its end
 pub apart_last : (names : List Name) (x y : Name) → AllByRecursion (λ z. same_name y z ≡ false) names → same_name y x ≡ false → AllByRecursion (λ z. same_name y z ≡ false) (names ++ x ∷ [])

@@ -1,6 +1,7 @@
--- The places of a block's statements are fine exactly where each request is on a listed object with an operation that it has,
--- each repeat's count is in range, and each leave stands in a repeat. The proof that well-formed scripts are those without a
--- fault needs both directions. Each goes by induction on the statements, and uses that no two objects have the same name.
+-- The places of a block's statements are fine exactly where each request is on a listed object with an operation that
+-- it has, each repeat's count is in range, and each leave stands in a repeat. The proof that well-formed scripts are
+-- those without a fault needs both directions. Each goes by induction on the statements, and uses that no two objects
+-- have the same name.
 use Rattle.std.proofs.Common.{◌≡◌, ℕ, zero, suc, ◌+◌, ◌<◌, Bool, true, false, not, ◌||◌, cond, List, [], ◌∷◌, ◌++◌, length, get_or, slice_index_or, Option, Some, None, refl, ap, sym, ◌∙◌, arith, pos}
 use Rattle.std.proofs.lemmas.Bool.Decides.{nat_tests}
 use Rattle.std.proofs.lemmas.Cmp.{nat_list_eq_equiv}
@@ -13,13 +14,13 @@ use Rattle.qs_objects.specs.declared.Op.{Op}
 use Rattle.qs_objects.specs.declared.object.Kind.TheVariants.{Account}
 use Rattle.qs_objects.specs.Operations.{arity}
 use Rattle.qs_objects.proofs.Elements.{AllByRecursion-get_or}
-use Rattle.qs_script.specs.declared.tree.Atom.{Atom}
-use Rattle.qs_script.specs.declared.tree.Atom.TheVariants.{Variable, Number}
-use Rattle.qs_script.specs.declared.tree.Expr.{Expr}
-use Rattle.qs_script.specs.declared.tree.Expr.TheVariants.{Plain, Binary}
-use Rattle.qs_script.specs.declared.tree.Test.{Test}
-use Rattle.qs_script.specs.declared.tree.Call.{Call}
-use Rattle.qs_script.specs.Tree as tree
+use Rattle.qs_tree.specs.declared.tree.Atom.{Atom}
+use Rattle.qs_tree.specs.declared.tree.Atom.TheVariants.{Variable, Number}
+use Rattle.qs_tree.specs.declared.tree.Expr.{Expr}
+use Rattle.qs_tree.specs.declared.tree.Expr.TheVariants.{Plain, Binary}
+use Rattle.qs_tree.specs.declared.tree.Test.{Test}
+use Rattle.qs_tree.specs.declared.tree.Call.{Call}
+use Rattle.qs_tree.specs.Tree as tree
 use Rattle.qs_program.specs.declared.program.Declared.{Declared}
 use Rattle.qs_program.specs.Numbering.{Name, same_name, is_among, found_at}
 use Rattle.qs_places.specs.Operators.{op_of}
@@ -27,7 +28,7 @@ use Rattle.qs_places.specs.Places.{TextPlace, places, atom_places, atoms_places,
 use Rattle.qs_check.specs.WellFormed.{IsRequest, AreStatements}
 use Rattle.qs_program.proofs.Found.{name_at, found_is, found_within, or_true, same_name-refl}
 use Rattle.qs_places.proofs.FinePlaces.{IsFine}
-use Rattle.qs_check.proofs.SoundStatements.{names, kinds}
+use Rattle.qs_resolution.proofs.Scopes.{names, kinds}
 
 pub same_decides : (a b : Name) → Decides (same_name a b) (a ≡ b)
 same_decides a b = (λ e. same_text a b (sym e), λ e. ap (same_name a) (sym e) ∙ same_name-refl a)

@@ -1,6 +1,7 @@
--- A script has no fault exactly where it is well formed, so the check refuses nothing that is right. The contract of `check` and
--- the law on faultless scripts stand on it. One direction reads the facts off a walk without a fault, the other leads a walk
--- through a well-formed script, both by induction on the items; then the load and the weight are compared.
+-- A script has no fault exactly where it is well formed, so the check refuses nothing that is right. The contract of
+-- `check` and the law on faultless scripts stand on it. One direction reads the facts off a walk without a fault, the
+-- other leads a walk through a well-formed script, both by induction on the items; then the load and the weight are
+-- compared.
 use Rattle.std.proofs.Common.{◌≡◌, ℕ, ◌+◌, ◌<◌, ◌≤◌, Bool, true, false, nat_lt, List, [], ◌∷◌, ◌++◌, length, Option, Some, None, refl, ap, sym, ◌∙◌, subst, arith, append_assoc, length-append, Result, Ok, Err, if◌then◌else◌, sum_by}
 use Rattle.std.proofs.lemmas.Bool.Decides.{nat_tests}
 use Rattle.std.proofs.lemmas.List.{length-map}
@@ -8,14 +9,14 @@ use Rattle.std.proofs.lemmas.List.Sums.{sum_by-cons}
 use Rattle.std.specs.List.{AllByRecursion, IsDistinct}
 use Rattle.qs_objects.specs.declared.object.Kind.{Kind}
 use Rattle.qs_objects.specs.Limits.{most_lines}
-use Rattle.qs_script.specs.Form.{IsFormed, HasForm}
-use Rattle.qs_script.specs.declared.tree.Block.{Block}
-use Rattle.qs_script.specs.declared.tree.Item.{Item}
-use Rattle.qs_script.specs.declared.tree.Item.TheVariants.{Object, Client, Template, Started}
-use Rattle.qs_script.specs.declared.tree.KindText.{KindText}
-use Rattle.qs_script.specs.declared.tree.KindText.TheVariants.{Account, Buffer, Grid}
-use Rattle.qs_script.specs.declared.tree.ObjectItem.{ObjectItem}
-use Rattle.qs_script.specs.declared.tree.TemplateItem.{TemplateItem}
+use Rattle.qs_tree.specs.Form.{IsFormed, HasForm}
+use Rattle.qs_tree.specs.declared.tree.Block.{Block}
+use Rattle.qs_tree.specs.declared.tree.Item.{Item}
+use Rattle.qs_tree.specs.declared.tree.Item.TheVariants.{Object, Client, Template, Started}
+use Rattle.qs_tree.specs.declared.tree.KindText.{KindText}
+use Rattle.qs_tree.specs.declared.tree.KindText.TheVariants.{Account, Buffer, Grid}
+use Rattle.qs_tree.specs.declared.tree.ObjectItem.{ObjectItem}
+use Rattle.qs_tree.specs.declared.tree.TemplateItem.{TemplateItem}
 use Rattle.qs_places.specs.declared.fault.CheckFault.{CheckFault}
 use Rattle.qs_places.specs.declared.fault.CheckFault.TheVariants as f
 use Rattle.qs_program.specs.declared.program.Declared.{Declared}
@@ -26,17 +27,18 @@ use Rattle.qs_places.specs.Places.{Scope, ScopeOrFault, number, object, client, 
 use Rattle.qs_program.specs.Program.{BlockShape, ClientShape, ProgramShape, block_load, whole_load, whole_weight}
 use Rattle.qs_program.specs.Limits.{most_clients, most_objects, most_requests, most_steps, most_variables}
 use Rattle.qs_places.specs.Variables.{variables_of}
-use Rattle.qs_check.specs.Resolve.{objects_of, names_of, kinds_of, clients_of, client_of, declared_formals, started_of, template_called, templates_in, program_of_items}
+use Rattle.qs_resolution.specs.Resolve.{objects_of, names_of, kinds_of, clients_of, client_shape, declared_formals, started_of, template_called, templates_in, program_of_items}
 use Rattle.qs_check.specs.TextLoads.{text_load, text_weight}
 use Rattle.qs_check.specs.WellFormed.{IsKindInRange, IsWellFormedBlock, IsWellFormedClient, AreItems, client_names, IsWellFormed, FaultlessAreWellFormed, AcceptsWellFormed}
 use Rattle.qs_places.proofs.FinePlaces.{then_step, else_step, between, below, again, leads}
 use Rattle.qs_places.proofs.Inner.{parted}
 use Rattle.qs_places.proofs.ScopesInBlocks.{blocks_stay}
 use Rattle.qs_check.proofs.Scripts.{few_variables, scripted, started_stays, template_stays}
-use Rattle.qs_check.proofs.SoundStatements.{names}
+use Rattle.qs_resolution.proofs.Scopes.{grown, names, names_with, scope, template_names}
 use Rattle.qs_places.proofs.Steps.{split, ok_same}
-use Rattle.qs_check.proofs.TextBlocks.{scope, template_names, Fresh, fresh_more, fresh_rest, no_fresh, blocks_from, blocks_to}
-use Rattle.qs_check.proofs.TemplateTexts.{names_with, grown, right_blocks, well_blocks, template_from, template_to, template_names_with, with_last}
+use Rattle.qs_check.proofs.TextBlocks.{blocks_from, blocks_to}
+use Rattle.qs_resolution.proofs.FreshNames.{Fresh, fresh_more, fresh_rest, no_fresh}
+use Rattle.qs_check.proofs.TemplateTexts.{right_blocks, well_blocks, template_from, template_to, template_names_with, with_last}
 use Rattle.qs_check.proofs.Starts.{started_from, started_met}
 use Rattle.qs_check.proofs.TextLoads.{blocks_loads, blocks_weights}
 use Rattle.qs_check.proofs.TextNames.{count_variables, distinct_last, no_names}
@@ -192,7 +194,7 @@ items_loads [] D T S N K front each = refl
 items_loads (Object o ∷ rest) D T S N K front (kind, each) =
     items_loads rest (with_one D o) T S N K (front ∙ sym (append_assoc (names D) (o.name ∷ []) (names_of rest)) ∙ ap (λ ns. ns ++ names_of rest) (names_with D (declared_as o))) each
 items_loads (Client c ∷ rest) D T S N K front (one, each) =
-    rw (sum_by-cons (λ (c : ClientShape). sum_by block_load c.blocks) (client_of N K c) (clients_of T N K rest))
+    rw (sum_by-cons (λ (c : ClientShape). sum_by block_load c.blocks) (client_shape N K c) (clients_of T N K rest))
     (omega (arith, blocks_loads N K (variables_of c) D (names_of rest) front c.blocks (right_blocks D c.blocks one.each), items_loads rest D T S N K front each))
 items_loads (Template c ∷ rest) D T S N K front (one, each) = items_loads rest D T (S ++ c ∷ []) N K front each
 items_loads (Started c ∷ rest) D T S N K front (one, each) =
@@ -203,7 +205,7 @@ items_weights : (items : List Item) (T : List TemplateItem) (N : List Name) (K :
 items_weights [] T N K = refl
 items_weights (Object o ∷ rest) T N K = items_weights rest T N K
 items_weights (Client c ∷ rest) T N K =
-    rw (sum_by-cons (λ (c : ClientShape). sum_by (λ (b : BlockShape). weight_of b.body) c.blocks) (client_of N K c) (clients_of T N K rest))
+    rw (sum_by-cons (λ (c : ClientShape). sum_by (λ (b : BlockShape). weight_of b.body) c.blocks) (client_shape N K c) (clients_of T N K rest))
     (omega (arith, blocks_weights N K (variables_of c) c.blocks, items_weights rest T N K))
 items_weights (Template c ∷ rest) T N K = items_weights rest T N K
 items_weights (Started c ∷ rest) T N K =

@@ -1,21 +1,21 @@
 -- Scripts with their faults, computed by the definitions.
 use Rattle.std.specs.Prelude.{◌≡◌, ℕ, zero, suc, List, [], ◌∷◌, Some, None, codes, pos}
-use Rattle.qs_script.specs.Tree.{Stmts, end, command, query, assign, choose_else, again, leave}
-use Rattle.qs_script.specs.declared.tree.Atom.TheVariants.{Variable, Number}
-use Rattle.qs_script.specs.declared.tree.Expr.TheVariants.{Plain}
-use Rattle.qs_script.specs.declared.tree.Relation.TheVariants.{Less}
-use Rattle.qs_script.specs.declared.tree.Call.{Call}
-use Rattle.qs_script.specs.declared.tree.Test.{Test}
-use Rattle.qs_script.specs.declared.tree.KindText.{KindText}
-use Rattle.qs_script.specs.declared.tree.KindText.TheVariants.{Account, Buffer, Grid}
-use Rattle.qs_script.specs.declared.tree.KindWord.TheVariants as kind
-use Rattle.qs_script.specs.declared.tree.Formal.{Formal}
-use Rattle.qs_script.specs.declared.tree.Item.{Item}
-use Rattle.qs_script.specs.declared.tree.Item.TheVariants.{Object, Client, Template, Started}
+use Rattle.qs_tree.specs.Tree.{Stmts, end, command, query, assign, choose_else, again, leave}
+use Rattle.qs_tree.specs.declared.tree.Atom.TheVariants.{Variable, Number}
+use Rattle.qs_tree.specs.declared.tree.Expr.TheVariants.{Plain}
+use Rattle.qs_tree.specs.declared.tree.Relation.TheVariants.{Less}
+use Rattle.qs_tree.specs.declared.tree.Call.{Call}
+use Rattle.qs_tree.specs.declared.tree.Test.{Test}
+use Rattle.qs_tree.specs.declared.tree.KindText.{KindText}
+use Rattle.qs_tree.specs.declared.tree.KindText.TheVariants.{Account, Buffer, Grid}
+use Rattle.qs_tree.specs.declared.tree.KindWord.TheVariants as kind
+use Rattle.qs_tree.specs.declared.tree.Formal.{Formal}
+use Rattle.qs_tree.specs.declared.tree.Item.{Item}
+use Rattle.qs_tree.specs.declared.tree.Item.TheVariants.{Object, Client, Template, Started}
 use Rattle.qs_places.specs.declared.fault.CheckFault.TheVariants as f
 use Rattle.qs_program.specs.Numbering.{Name}
 use Rattle.qs_program.specs.Program.{whole_load, whole_weight}
-use Rattle.qs_check.specs.Resolve.{program_of_items}
+use Rattle.qs_resolution.specs.Resolve.{program_of_items}
 use Rattle.qs_check.specs.Checked.{fault_of}
 
 abbrev pub a : Name
@@ -75,7 +75,8 @@ pub record CheckExamples : Type 0 where
   pub three_sets : fault_of (object a (Account 1) ∷ client a (a ∷ []) (query a (balance a) end) ∷ []) ≡ None
   pub unknown : fault_of (client a (a ∷ []) end ∷ object a (Account 1) ∷ []) ≡ Some f.UnknownObject
   pub reserved_twice : fault_of (object a (Account 1) ∷ client a (a ∷ a ∷ []) end ∷ []) ≡ Some f.ReservedTwice
-  pub not_reserved : fault_of (object a (Account 1) ∷ object b (Account 1) ∷ client a (a ∷ []) (command (deposit b) end) ∷ []) ≡ Some f.NotReserved
+  pub not_reserved : fault_of (object a (Account 1) ∷ object b (Account 1)
+      ∷ client a (a ∷ []) (command (deposit b) end) ∷ []) ≡ Some f.NotReserved
   pub query_as_command : fault_of (one_block (command (balance a) end)) ≡ Some f.UnknownOp
   pub arity : fault_of (one_block (command (record { object = a; op = codes "deposit"; args = [] }) end)) ≡ Some f.Arity
   pub outside : fault_of (one_block (again 2 end (leave end))) ≡ Some f.LeaveOutside
@@ -83,21 +84,33 @@ pub record CheckExamples : Type 0 where
   pub repeat_range : fault_of (one_block (again 1001 end end)) ≡ Some f.Range
   pub no_room : fault_of (object a (Buffer 0) ∷ []) ≡ Some f.Range
   pub no_rows : fault_of (object a (Grid 16 17) ∷ []) ≡ Some f.Range
-  pub greatest_load : whole_load (program_of_items (one_block (again 1000 (again 100 (command (deposit a) end) end) end))) ≡ 100000
-  pub its_weight : whole_weight (program_of_items (one_block (again 1000 (again 100 (command (deposit a) end) end) end))) ≡ 101001
+  pub greatest_load : whole_load (program_of_items
+      (one_block (again 1000 (again 100 (command (deposit a) end) end) end))) ≡ 100000
+  pub its_weight : whole_weight (program_of_items
+      (one_block (again 1000 (again 100 (command (deposit a) end) end) end))) ≡ 101001
   pub its_fault : fault_of (one_block (again 1000 (again 100 (command (deposit a) end) end) end)) ≡ None
-  pub too_much_load : fault_of (one_block (again 1000 (again 100 (command (deposit a) end) end) (command (deposit a) end))) ≡ Some f.Load
-  pub greatest_weight : whole_weight (program_of_items (one_block (again 999 (again 1000 (assignment end) end) end))) ≡ 1000000
+  pub too_much_load : fault_of (one_block (again 1000 (again 100 (command (deposit a) end) end)
+      (command (deposit a) end))) ≡ Some f.Load
+  pub greatest_weight : whole_weight (program_of_items (one_block (again 999 (again 1000 (assignment end) end) end)))
+      ≡ 1000000
   pub at_greatest_weight : fault_of (one_block (again 999 (again 1000 (assignment end) end) end)) ≡ None
-  pub too_much_weight : fault_of (one_block (again 999 (again 1000 (assignment end) end) (assignment end))) ≡ Some f.Weight
+  pub too_much_weight : fault_of (one_block (again 999 (again 1000 (assignment end) end) (assignment end)))
+      ≡ Some f.Weight
   pub unstarted : fault_of (template (nested_repeats 8 1000 deposits) ∷ []) ≡ None
-  pub unknown_template : fault_of (object a (Account 0) ∷ started (a ∷ a ∷ []) ∷ template deposits ∷ []) ≡ Some f.UnknownTemplate
+  pub unknown_template : fault_of (object a (Account 0) ∷ started (a ∷ a ∷ []) ∷ template deposits ∷ [])
+      ≡ Some f.UnknownTemplate
   pub count : fault_of (template deposits ∷ started (a ∷ []) ∷ []) ≡ Some f.Count
   pub given_unknown : fault_of (template deposits ∷ started (a ∷ a ∷ []) ∷ []) ≡ Some f.UnknownObject
   pub other_kind : fault_of (object a (Buffer 1) ∷ template deposits ∷ started (a ∷ b ∷ []) ∷ []) ≡ Some f.OtherKind
-  pub objects_in_text : fault_of (object a (Account 0) ∷ Template (record { name = b; formals = account b ∷ []; blocks = record { reserved = a ∷ []; body = end } ∷ [] }) ∷ []) ≡ Some f.UnknownObject
+  pub objects_in_text : fault_of (object a (Account 0) ∷ Template (record {
+    name = b;
+    formals = account b ∷ [];
+    blocks = record { reserved = a ∷ []; body = end } ∷ [];
+  }) ∷ []) ≡ Some f.UnknownObject
   -- two formals that are one object, which is in the list once
-  pub one_object : whole_load (program_of_items (object a (Account 0) ∷ template deposits ∷ started (a ∷ a ∷ []) ∷ [])) ≡ 2
-  pub two_objects : fault_of (object a (Account 0) ∷ object b (Account 0) ∷ template deposits ∷ started (b ∷ a ∷ []) ∷ []) ≡ None
+  pub one_object : whole_load (program_of_items (object a (Account 0) ∷ template deposits ∷ started (a ∷ a ∷ []) ∷ []))
+      ≡ 2
+  pub two_objects : fault_of (object a (Account 0) ∷ object b (Account 0) ∷ template deposits ∷ started (b ∷ a ∷ [])
+      ∷ []) ≡ None
   pub nested_requests : fault_of (one_block (nested_repeats 8 1000 (command (deposit a) end))) ≡ Some f.Load
   pub nested_steps : fault_of (one_block (nested_repeats 8 1000 (assignment end))) ≡ Some f.Weight

@@ -1,18 +1,19 @@
 -- Which scripts are accepted, and why the others are not.
 use Rattle.std.specs.Prelude.{◌≡◌, ◌≢◌, nat_lt, if◌then◌else◌, List, Option, Some, None, Result, Ok, Err}
-use Rattle.qs_script.specs.declared.tree.Item.{Item}
+use Rattle.qs_tree.specs.declared.tree.Item.{Item}
 use Rattle.qs_program.specs.Limits.{most_requests, most_steps}
 use Rattle.qs_places.specs.declared.fault.CheckFault.{CheckFault}
 use Rattle.qs_places.specs.declared.fault.CheckFault.TheVariants as f
 use Rattle.qs_check.specs.declared.checker.Resolved.{Resolved}
 use Rattle.qs_places.specs.Places.{ScopeOrFault, scope_or_fault, start, script_places}
 use Rattle.qs_program.specs.Program.{ProgramShape, whole_load, whole_weight}
-use Rattle.qs_check.specs.Resolve.{program_of_items}
+use Rattle.qs_resolution.specs.Resolve.{program_of_items}
 
 -- what is wrong with a program whose text is right
 abbrev pub excess_of : ProgramShape → Option CheckFault
 excess_of p =
-    if nat_lt most_requests (whole_load p) then Some f.Load else (if nat_lt most_steps (whole_weight p) then Some f.Weight else None)
+    if nat_lt most_requests (whole_load p) then Some f.Load else
+    (if nat_lt most_steps (whole_weight p) then Some f.Weight else None)
 
 abbrev pub first_fault : ScopeOrFault → Option CheckFault → Option CheckFault
 first_fault (Ok s) after = after

@@ -1,6 +1,6 @@
 -- The block with which a script passes the limit of its load, or of its weight.
 use Rattle.std.specs.Prelude.{◌≡◌, ◌<◌, ◌≤◌, ◌+◌, ℕ, min, List, Option, Some, None, length, take, slice_index_or, sum_by}
-use Rattle.qs_script.specs.declared.tree.Item.{Item}
+use Rattle.qs_tree.specs.declared.tree.Item.{Item}
 use Rattle.qs_places.specs.declared.fault.CheckFault.{CheckFault}
 use Rattle.qs_places.specs.declared.fault.CheckFault.TheVariants as f
 use Rattle.qs_program.specs.Limits.{most_requests, most_steps}
@@ -10,7 +10,7 @@ use Rattle.qs_check.specs.declared.excess.Measure.{Measure}
 use Rattle.qs_check.specs.declared.excess.Measure.TheVariants.{Load, Weight}
 use Rattle.qs_check.specs.declared.excess.Excess.{Excess}
 use Rattle.qs_check.specs.Checked.{excess_of, text_fault}
-use Rattle.qs_check.specs.Resolve.{program_of_items}
+use Rattle.qs_resolution.specs.Resolve.{program_of_items}
 
 -- what is counted of a block
 abbrev pub counted_by : Measure → BlockShape → ℕ
@@ -42,7 +42,8 @@ pub record IsPassedIn (m : Measure) (c first : ℕ) (blocks : List BlockShape) (
 -- the block with which some clients' blocks pass the limit
 pub record IsPassedBy (m : Measure) (clients : List ClientShape) (e : Excess) : Type 0 where
   pub client : e.client < length clients
-  pub passed : IsPassedIn m e.client (counted_in m (take e.client clients)) (slice_index_or clients e.client no_client).blocks e
+  pub passed : IsPassedIn m e.client (counted_in m (take e.client clients))
+      (slice_index_or clients e.client no_client).blocks e
 
 -- the block with which a program passes the limit of its load, or else of its weight
 abbrev pub IsFirstExcess : ProgramShape → Option Excess → Type 0

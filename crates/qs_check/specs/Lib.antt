@@ -1,6 +1,7 @@
-pub mod Resolve
+-- What an auditor reads: the promises and the calls of the surface are said with these.
 pub mod Checked
-pub mod Excess
 pub mod TextLoads
 pub mod WellFormed
+-- What crates promise one another, what proofs use, and worked examples.
+pub mod Excess
 pub mod CheckExamples

@@ -1,14 +1,14 @@
 -- The loads and weights of a script's text, by the names that are written there.
 use Rattle.std.specs.Prelude.{ℕ, ◌+◌, ◌*◌, max, if◌then◌else◌, List, [], ◌∷◌, sum_by}
-use Rattle.qs_script.specs.declared.tree.Block.{Block}
-use Rattle.qs_script.specs.declared.tree.TemplateItem.{TemplateItem}
-use Rattle.qs_script.specs.declared.tree.Item.{Item}
-use Rattle.qs_script.specs.declared.tree.Item.TheVariants.{Object, Client, Template, Started}
-use Rattle.qs_script.specs.Tree.{Stmts, end, command, query, assign, choose, choose_else, again, leave}
+use Rattle.qs_tree.specs.declared.tree.Block.{Block}
+use Rattle.qs_tree.specs.declared.tree.TemplateItem.{TemplateItem}
+use Rattle.qs_tree.specs.declared.tree.Item.{Item}
+use Rattle.qs_tree.specs.declared.tree.Item.TheVariants.{Object, Client, Template, Started}
+use Rattle.qs_tree.specs.Tree.{Stmts, end, command, query, assign, choose, choose_else, again, leave}
 use Rattle.qs_program.specs.Loads.{weight_of}
 use Rattle.qs_program.specs.Numbering.{Name, same_name}
 use Rattle.qs_program.specs.Program.{block_load}
-use Rattle.qs_check.specs.Resolve.{started_of, template_called}
+use Rattle.qs_resolution.specs.Resolve.{started_of, template_called}
 
 -- the most requests on an object
 abbrev pub requests_on : Name → Stmts → ℕ
@@ -36,20 +36,23 @@ steps_in (leave rest) = 1 + steps_in rest
 abbrev pub text_block_load : Block → ℕ
 text_block_load b = sum_by (λ o. requests_on o b.body) b.reserved
 
--- over all blocks of all clients; of a client of a template its blocks count once each formal stands for its object, and a template
--- itself counts nothing
+-- over all blocks of all clients; of a client of a template its blocks count once each formal stands for its object,
+-- and a template itself counts nothing
 abbrev pub text_load : List TemplateItem → List Name → List Item → ℕ
 text_load templates objects [] = 0
 text_load templates objects (Object o ∷ rest) = text_load templates objects rest
 text_load templates objects (Client c ∷ rest) = sum_by text_block_load c.blocks + text_load templates objects rest
 text_load templates objects (Template t ∷ rest) = text_load templates objects rest
 text_load templates objects (Started c ∷ rest) =
-    sum_by block_load (started_of objects (template_called templates c.template) c).blocks + text_load templates objects rest
+    sum_by block_load (started_of objects (template_called templates c.template) c).blocks
+    + text_load templates objects rest
 
 abbrev pub text_weight : List TemplateItem → List Name → List Item → ℕ
 text_weight templates objects [] = 0
 text_weight templates objects (Object o ∷ rest) = text_weight templates objects rest
-text_weight templates objects (Client c ∷ rest) = sum_by (λ b. steps_in b.body) c.blocks + text_weight templates objects rest
+text_weight templates objects (Client c ∷ rest) =
+    sum_by (λ b. steps_in b.body) c.blocks + text_weight templates objects rest
 text_weight templates objects (Template t ∷ rest) = text_weight templates objects rest
 text_weight templates objects (Started c ∷ rest) =
-    sum_by (λ b. weight_of b.body) (started_of objects (template_called templates c.template) c).blocks + text_weight templates objects rest
+    sum_by (λ b. weight_of b.body) (started_of objects (template_called templates c.template) c).blocks
+    + text_weight templates objects rest

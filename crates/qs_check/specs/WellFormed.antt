@@ -5,25 +5,25 @@ use Rattle.std.specs.Set.{distinct_count}
 use Rattle.qs_objects.specs.declared.Op.{Op}
 use Rattle.qs_objects.specs.declared.object.Kind.{Kind}
 use Rattle.qs_objects.specs.Operations.{arity}
-use Rattle.qs_script.specs.declared.tree.Atom.{Atom}
-use Rattle.qs_script.specs.declared.tree.Atom.TheVariants.{Variable, Number}
-use Rattle.qs_script.specs.declared.tree.Expr.{Expr}
-use Rattle.qs_script.specs.declared.tree.Expr.TheVariants.{Plain, Binary}
-use Rattle.qs_script.specs.declared.tree.Test.{Test}
-use Rattle.qs_script.specs.declared.tree.Call.{Call}
-use Rattle.qs_script.specs.declared.tree.Block.{Block}
-use Rattle.qs_script.specs.declared.tree.KindText.{KindText}
-use Rattle.qs_script.specs.declared.tree.KindText.TheVariants.{Account, Buffer, Grid}
-use Rattle.qs_script.specs.declared.tree.ClientItem.{ClientItem}
-use Rattle.qs_script.specs.declared.tree.Formal.{Formal}
-use Rattle.qs_script.specs.declared.tree.StartedItem.{StartedItem}
-use Rattle.qs_script.specs.declared.tree.TemplateItem.{TemplateItem}
-use Rattle.qs_script.specs.declared.tree.Item.{Item}
-use Rattle.qs_script.specs.declared.tree.Item.TheVariants.{Object, Client, Template, Started}
-use Rattle.qs_script.specs.Tree.{Stmts, end, command, query, assign, choose, choose_else, again, leave}
-use Rattle.qs_script.specs.Form.{levels_of, HasForm}
+use Rattle.qs_tree.specs.declared.tree.Atom.{Atom}
+use Rattle.qs_tree.specs.declared.tree.Atom.TheVariants.{Variable, Number}
+use Rattle.qs_tree.specs.declared.tree.Expr.{Expr}
+use Rattle.qs_tree.specs.declared.tree.Expr.TheVariants.{Plain, Binary}
+use Rattle.qs_tree.specs.declared.tree.Test.{Test}
+use Rattle.qs_tree.specs.declared.tree.Call.{Call}
+use Rattle.qs_tree.specs.declared.tree.Block.{Block}
+use Rattle.qs_tree.specs.declared.tree.KindText.{KindText}
+use Rattle.qs_tree.specs.declared.tree.KindText.TheVariants.{Account, Buffer, Grid}
+use Rattle.qs_tree.specs.declared.tree.ClientItem.{ClientItem}
+use Rattle.qs_tree.specs.declared.tree.Formal.{Formal}
+use Rattle.qs_tree.specs.declared.tree.StartedItem.{StartedItem}
+use Rattle.qs_tree.specs.declared.tree.TemplateItem.{TemplateItem}
+use Rattle.qs_tree.specs.declared.tree.Item.{Item}
+use Rattle.qs_tree.specs.declared.tree.Item.TheVariants.{Object, Client, Template, Started}
+use Rattle.qs_tree.specs.Tree.{Stmts, end, command, query, assign, choose, choose_else, again, leave}
+use Rattle.qs_tree.specs.Form.{levels_of, HasForm}
 use Rattle.qs_objects.specs.Limits.{greatest_balance, most_lines, most_values}
-use Rattle.qs_script.specs.Limits.{most_levels}
+use Rattle.qs_tree.specs.Limits.{most_levels}
 use Rattle.qs_program.specs.Limits.{most_blocks, most_clients, most_formals, most_objects, most_requests, most_steps, most_turns, most_variables}
 use Rattle.qs_places.specs.declared.fault.CheckFault.{CheckFault}
 use Rattle.qs_places.specs.declared.fault.CheckFault.TheVariants as f
@@ -33,7 +33,7 @@ use Rattle.qs_program.specs.Numbering.{Name, same_name}
 use Rattle.qs_places.specs.Operators.{op_of}
 use Rattle.qs_places.specs.Places.{formal_kind, kind_of, most_templates}
 use Rattle.qs_program.specs.Program.{ProgramShape}
-use Rattle.qs_check.specs.Resolve.{as_client, declared_formals, names_of, objects_of, template_called, templates_in}
+use Rattle.qs_resolution.specs.Resolve.{as_client, declared_formals, names_of, objects_of, template_called, templates_in}
 use Rattle.qs_check.specs.TextLoads.{text_load, text_weight}
 use Rattle.qs_check.specs.Checked.{fault_of}
 
@@ -45,7 +45,8 @@ IsKindInRange (Account n) = IsBetween 0 greatest_balance n
 IsKindInRange (Buffer n) = IsBetween 1 most_values n
 IsKindInRange (Grid r c) = IsBetween 1 most_lines r × IsBetween 1 most_lines c
 
--- a request on an object of the block's list, which is declared with a kind that has the operation, with its number of arguments
+-- a request on an object of the block's list, which is declared with a kind that has the operation, with its number of
+-- arguments
 pub record IsRequest (declared : List Declared) (reserved : List Name) (asks : Bool) (c : Call) : Type 0 where
   pub reserves : Contains reserved c.object
   pub kind : Kind
@@ -62,7 +63,8 @@ module _ (declared : List Declared) (reserved : List Name) where
   AreStatements inside (query x c rest) = IsRequest declared reserved true c × AreStatements inside rest
   AreStatements inside (assign x e rest) = AreStatements inside rest
   AreStatements inside (choose t first rest) = AreStatements inside first × AreStatements inside rest
-  AreStatements inside (choose_else t first other rest) = AreStatements inside first × AreStatements inside other × AreStatements inside rest
+  AreStatements inside (choose_else t first other rest) =
+      AreStatements inside first × AreStatements inside other × AreStatements inside rest
   AreStatements inside (again n body rest) = (n ≤ most_turns) × AreStatements true body × AreStatements inside rest
   AreStatements inside (leave rest) = (inside ≡ true) × AreStatements inside rest
 
@@ -88,7 +90,8 @@ variables_in (command c rest) = atoms_names c.args ++ variables_in rest
 variables_in (query x c rest) = x ∷ (atoms_names c.args ++ variables_in rest)
 variables_in (assign x e rest) = x ∷ (expr_names e ++ variables_in rest)
 variables_in (choose t first rest) = test_names t ++ (variables_in first ++ variables_in rest)
-variables_in (choose_else t first other rest) = test_names t ++ (variables_in first ++ (variables_in other ++ variables_in rest))
+variables_in (choose_else t first other rest) =
+    test_names t ++ (variables_in first ++ (variables_in other ++ variables_in rest))
 variables_in (again n body rest) = variables_in body ++ variables_in rest
 variables_in (leave rest) = variables_in rest
 
@@ -144,7 +147,8 @@ AreItems declared templates (Object o ∷ rest) =
     IsKindInRange o.kind × AreItems (declared ++ record { name = o.name; kind = kind_of o.kind } ∷ []) templates rest
 AreItems declared templates (Client c ∷ rest) = IsWellFormedClient declared c × AreItems declared templates rest
 AreItems declared templates (Template t ∷ rest) = IsWellFormedTemplate t × AreItems declared (templates ++ t ∷ []) rest
-AreItems declared templates (Started c ∷ rest) = IsWellFormedStart templates declared c × AreItems declared templates rest
+AreItems declared templates (Started c ∷ rest) =
+    IsWellFormedStart templates declared c × AreItems declared templates rest
 
 -- the names of all clients
 abbrev pub client_names : List Item → List Name

@@ -2,21 +2,21 @@
 
 ghost use Rattle.std.specs.List.{AllByRecursion};
 ghost use Rattle.std.specs.Prelude.{◌≡◌, ◌≢◌, ◌≤◌, [], ◌∷◌, ◌++◌, length, IfOk, OnOk, MatchResult};
-ghost use Rattle.qs_script.specs.Form.{HasForm};
+ghost use Rattle.qs_tree.specs.Form.{HasForm};
 ghost use Rattle.qs_program.specs.Limits.{most_objects, most_requests, most_steps, most_variables};
 ghost use Rattle.qs_check.specs.Checked.{IsCheckOf, text_fault, excess_of, shape_of};
 ghost use Rattle.qs_places.specs.Places.{Meets, scope_or_fault, over, start, without_variables, script_places};
-ghost use Rattle.qs_check.specs.Resolve.{AreFaultless, program_of_items as resolved_of, clients_of, lists_of, objects_of, templates_in};
+ghost use Rattle.qs_resolution.specs.Resolve.{AreFaultless, program_of_items as resolved_of, clients_of, variable_lists, objects_of, templates_in};
 ghost use Rattle.qs_program.specs.Program.{whole_load, whole_weight};
 ghost use Rattle.qs_program.specs.Sound.{IsSound};
 ghost use Rattle.qs_check.specs.WellFormed.{AcceptsWellFormed};
 
-use crate::resolve::{resolve_clients, resolve_objects};
 use qs_places::{CheckFault, Scope, check_client, check_object, check_started, check_template};
 use qs_program::{
     Client, Declared, MOST_REQUESTS, MOST_STEPS, Names, Program, all_load, all_weight,
 };
-use qs_script::{Item, Script};
+use qs_resolution::{resolve_clients, resolve_objects};
+use qs_tree::{Item, Script};
 use std::alloc::{AllocError, Global};
 use std::collections::VecDeque;
 
@@ -27,14 +27,14 @@ pub(crate) struct Resolved {
     pub(crate) clients: Vec<Client>,
 }
 
-/// Checks a script and replaces each name by its number. `Ok` exactly where the script has no fault; else the first fault
-/// in text order, then `Load`, then `Weight`. `Memory` where an allocation failed, at any place. An error leaves nothing. So a
-/// script is accepted exactly where it is well formed.
+/// Checks a script and replaces each name by its number. `Ok` exactly where the script has no fault; else the first
+/// fault in text order, then `Load`, then `Weight`. `Memory` where an allocation failed, at any place. An error leaves
+/// nothing. So a script is accepted exactly where it is well formed.
 pub fn check(alloc: Global, script: Script) -> Result<Program, CheckFault>
     ensures check { IsCheckOf script result }
     ensures well_formed { AcceptsWellFormed script result }
 {
-    script.is_formed();
+    script.keeps_form();
     check_formed(alloc, script.as_slice())
 }
 
@@ -62,7 +62,8 @@ pub(crate) fn resolve(alloc: Global, items: &[Item]) -> Result<Resolved, CheckFa
     resolved
 }
 
-// The same, from a scope in which nothing is known. The caller keeps what is large: its drop at each `?` would be long to prove.
+// The same, from a scope in which nothing is known. The caller keeps what is large: its drop at each `?` would be long
+// to prove.
 fn resolve_from(
     alloc: Global,
     scope: &mut Scope,
@@ -90,7 +91,7 @@ fn numbered(
     requires form { HasForm items.now }
     requires texts { AreFaultless (templates_in items.now) }
     requires objects { length scope.now.objects ≤ most_objects }
-    requires variables { variables.old.items ≡ lists_of items.now }
+    requires variables { variables.old.items ≡ variable_lists items.now }
     requires limit { AllByRecursion (λ v. length v ≤ most_variables) variables.old.items }
     ensures objects { IfOk result (λ r. r.objects.items ≡ objects_of items.now) }
     ensures clients { IfOk result (λ r. r.clients.items ≡ clients_of (templates_in items.now) scope.now.objects scope.now.kinds items.now) }
@@ -123,8 +124,9 @@ fn sized(resolved: Resolved) -> Result<Program, CheckFault>
     Ok(Program::new(resolved.objects, resolved.clients, load, weight))
 }
 
-// Checks the items of a script one after another from a scope, and gathers the variables of each client with blocks of its own. The first
-// fault of their text comes as an error, or `Memory` where an allocation failed; what an error leaves of the scope is of no use.
+// Checks the items of a script one after another from a scope, and gathers the variables of each client with blocks of
+// its own. The first fault of their text comes as an error, or `Memory` where an allocation failed; what an error
+// leaves of the scope is of no use.
 fn check_items(
     alloc: Global,
     scope: &mut Scope,
@@ -132,7 +134,7 @@ fn check_items(
     items: &[Item],
 ) -> Result<(), CheckFault>
     ensures meets { Meets result (over (scope_or_fault scope.old (script_places items.now))) (without_variables scope.new) }
-    ensures variables { OnOk result (variables.new.items ≡ variables.old.items ++ lists_of items.now) }
+    ensures variables { OnOk result (variables.new.items ≡ variables.old.items ++ variable_lists items.now) }
 {
     for item in items {
         match item {

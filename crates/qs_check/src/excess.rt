@@ -1,7 +1,7 @@
 //! The block with which a script passes the limit of its load, or of its weight.
 
 ghost use Rattle.std.specs.Prelude.{◌≡◌, ◌≤◌, ◌+◌, min, IfOk, IfErr, MatchOption, None, sum_by};
-ghost use Rattle.qs_script.specs.Form.{HasForm};
+ghost use Rattle.qs_tree.specs.Form.{HasForm};
 ghost use Rattle.qs_program.specs.Limits.{most_steps};
 ghost use Rattle.qs_check.specs.Checked.{shape_of};
 ghost use Rattle.qs_check.specs.Excess.{counted_by, counted_in, limit_by, IsPassedIn, IsPassedBy, IsFirstExcess, IsExcessOf};
@@ -9,7 +9,7 @@ ghost use Rattle.qs_check.specs.Excess.{counted_by, counted_in, limit_by, IsPass
 use crate::checker::{Resolved, resolve};
 use qs_places::CheckFault;
 use qs_program::{Block, Client, MOST_REQUESTS, MOST_STEPS, block_load};
-use qs_script::{Item, Script};
+use qs_tree::{Item, Script};
 use std::alloc::{AllocError, Global};
 
 /// What is counted of a program, and has a limit.
@@ -21,7 +21,8 @@ pub enum Measure {
     Weight,
 }
 
-/// The block with which a program passes a limit: with all blocks before it the program keeps the limit, and with it no more.
+/// The block with which a program passes a limit: with all blocks before it the program keeps the limit, and with it no
+/// more.
 #[derive(Clone, Copy, Debug, PartialEq, Eq)]
 pub struct Excess {
     /// Which limit.
@@ -111,12 +112,12 @@ fn first_of(resolved: &Resolved) -> Option<Excess>
     }
 }
 
-/// The block with which a script passes the limit of its load; or, where it keeps that, the limit of its weight. Nothing, where it keeps
-/// both, or where its text has a fault. It fails only where memory runs out.
+/// The block with which a script passes the limit of its load; or, where it keeps that, the limit of its weight.
+/// Nothing, where it keeps both, or where its text has a fault. It fails only where memory runs out.
 pub fn first_excess(alloc: Global, script: &Script) -> Result<Option<Excess>, AllocError>
     ensures excess { IfOk result (IsExcessOf script.now) }
 {
-    script.is_formed();
+    script.keeps_form();
     excess_in(alloc, script.as_slice())
 }
 

@@ -4,8 +4,6 @@
 mod checker;
 mod excess;
 pub mod laws;
-mod resolve;
-mod start;
 
 pub use checker::check;
 pub use excess::{Excess, Measure, first_excess};

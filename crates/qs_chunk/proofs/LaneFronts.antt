@@ -1,6 +1,7 @@
--- A list in which each parcel may follow those before it is the beginning of a list of the lane's form, and the other way round.
--- The two ends of a lane look at one parcel at a time, and they promise the form of the whole lane by this. One direction
--- completes the last block by induction on the parcels, the other goes by induction on the blocks and their rounds.
+-- A list in which each parcel may follow those before it is the beginning of a list of the lane's form, and the other
+-- way round. The two ends of a lane look at one parcel at a time, and they promise the form of the whole lane by this.
+-- One direction completes the last block by induction on the parcels, the other goes by induction on the blocks and
+-- their rounds.
 use Rattle.std.proofs.Common.{◌≡◌, ℕ, Bool, true, false, pos, List, [], ◌∷◌, ◌++◌, map, flat_map, refl, sym, ap, ◌∙◌, subst, append_assoc}
 use Rattle.std.specs.List.{AllByRecursion}
 use Rattle.qs_objects.specs.Act.{account}
@@ -8,7 +9,7 @@ use Rattle.qs_objects.specs.Objects.{fresh}
 use Rattle.qs_objects.specs.Journals.{HeldState}
 use Rattle.qs_objects.specs.declared.Request.{Request}
 use Rattle.qs_chunk.specs.Batch.{Batch}
-use Rattle.qs_chunk.specs.Lanes.{Round, Sending, round_parcels, block_parcels, HasSize, IsFront, is_sync, is_asked, MayFollow, StandsFrom, IsLane}
+use Rattle.qs_chunk.specs.Lanes.{Round, Sending, round_parcels, block_parcels, HasSize, BeginsLane, is_sync, is_asked, MayFollow, StandsFrom, IsLane}
 use Rattle.qs_chunk.specs.LaneLaws.{LanesAreFronts, NextKeepsForm, LaneLaws}
 use Rattle.qs_chunk.specs.declared.parcel.Parcel.{Parcel}
 use Rattle.qs_chunk.specs.declared.parcel.Parcel.TheVariants.{Work, Sync, Home, End}
@@ -105,11 +106,11 @@ blocks_go size (s ∷ ss) =
     subst (StandsInOrder size) parted
     (chunks_go size s.chunks (rounds ++ End ∷ others) (rounds_go size s.rounds (End ∷ others) (λ sizes. ((refl, tt), blocks_go size ss sizes.1))))
 
-pub front_of_lane : (size : ℕ) (ps : List Parcel) → IsLane size ps → IsFront size ps
+pub front_of_lane : (size : ℕ) (ps : List Parcel) → IsLane size ps → BeginsLane size ps
 front_of_lane size ps stands =
     let r = completed size false ps stands in (r.0, (r.1.0 ∷ r.1.1, r.1.2, r.2))
 
-pub lane_of_front : (size : ℕ) (ps : List Parcel) → IsFront size ps → IsLane size ps
+pub lane_of_front : (size : ℕ) (ps : List Parcel) → BeginsLane size ps → IsLane size ps
 lane_of_front size ps (rest, (blocks, is, sizes)) =
     let go = blocks_go size blocks in
     StandsFrom-front size false ps rest (subst (StandsInOrder size) (sym is) go sizes)

@@ -1,6 +1,7 @@
--- The events that a client believes to have run on an object are those that ran there, followed by commands that still wait. The
--- protocol's proofs stand on it, because a client and a handler each see only their own end of a lane. It goes by induction on
--- the parcels that the handler received, with cases on whether the object is at home, asked for or given away.
+-- The events that a client believes to have run on an object are those that ran there, followed by commands that still
+-- wait. The protocol's proofs stand on it, because a client and a handler each see only their own end of a lane. It
+-- goes by induction on the parcels that the handler received, with cases on whether the object is at home, asked for or
+-- given away.
 use Rattle.std.proofs.Common.{◌≡◌, Bool, true, false, if◌then◌else◌, None, List, [], ◌∷◌, ◌++◌, map, refl, sym, ap, ◌∙◌, subst, append_assoc, append-nil}
 use Rattle.std.proofs.lemmas.List.{map-append}
 use Rattle.qs_objects.specs.Act.{act}

@@ -1,5 +1,5 @@
--- A run of a lane, by its lists and by its steps. The one fact to count with: along parcels that stand in order a Sync is followed by
--- its Home, so there are as many of both, or one Sync more where it is the last parcel.
+-- A run of a lane, by its lists and by its steps. The one fact to count with: along parcels that stand in order a Sync
+-- is followed by its Home, so there are as many of both, or one Sync more where it is the last parcel.
 use Rattle.std.proofs.Common.{◌≡◌, ◌<◌, ◌≤◌, ◌+◌, ⊎_elim, ℕ, Bool, true, false, if◌then◌else◌, List, [], ◌∷◌, ◌++◌, length, refl, sym, ◌∙◌, subst, append_assoc, arith, inl, inr, length-append}
 use Rattle.std.specs.Prelude.{count_by}
 use Rattle.std.specs.List.{AllByRecursion}

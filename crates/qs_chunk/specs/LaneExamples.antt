@@ -27,7 +27,8 @@ deposit_and_ask = Work chunk ∷ Sync ∷ Home account_of_100 ∷ End ∷ []
 
 -- a query, a command, a query again and two chunks; then a block without requests
 abbrev pub two_blocks : List Parcel
-two_blocks = Sync ∷ Home account_of_100 ∷ Work chunk ∷ Sync ∷ Home account_of_100 ∷ Work chunk ∷ Work chunk ∷ End ∷ End ∷ []
+two_blocks =
+    Sync ∷ Home account_of_100 ∷ Work chunk ∷ Sync ∷ Home account_of_100 ∷ Work chunk ∷ Work chunk ∷ End ∷ End ∷ []
 
 -- the lane's state after these parcels: whether a parcel may stand there
 abbrev pub CanFollow : List Parcel → Parcel → Type 0
@@ -44,7 +45,9 @@ pub record LaneExamples : Type 0 where
       flat_map block_parcels
       (record {
         chunks = [];
-        rounds = record { home = account_of_100; chunks = chunk ∷ [] } ∷ record { home = account_of_100; chunks = chunk ∷ chunk ∷ [] } ∷ [];
+        rounds =
+            record { home = account_of_100; chunks = chunk ∷ [] }
+            ∷ record { home = account_of_100; chunks = chunk ∷ chunk ∷ [] } ∷ [];
       } ∷ record { chunks = []; rounds = [] } ∷ [])
       ≡ two_blocks
   pub a_block : IsLane 8 deposit_and_ask

@@ -1,17 +1,17 @@
 -- What the form of a lane promises.
 use Rattle.std.specs.Prelude.{ℕ, false, List, [], ◌∷◌, ◌++◌, ◌↔◌}
-use Rattle.qs_chunk.specs.Lanes.{IsFront, is_asked, MayFollow, IsLane}
+use Rattle.qs_chunk.specs.Lanes.{BeginsLane, is_asked, MayFollow, IsLane}
 use Rattle.qs_chunk.specs.declared.parcel.Parcel.{Parcel}
 
 -- where each parcel may follow those before it, and only there, the list is the beginning of one of the form
 abbrev pub LanesAreFronts : Type 0
-LanesAreFronts = (size : ℕ) (parcels : List Parcel) → IsLane size parcels ↔ IsFront size parcels
+LanesAreFronts = (size : ℕ) (parcels : List Parcel) → IsLane size parcels ↔ BeginsLane size parcels
 
 -- a parcel may follow exactly where the longer list is again the beginning of one of the form
 abbrev pub NextKeepsForm : Type 0
 NextKeepsForm =
     (size : ℕ) (parcels : List Parcel) (next : Parcel)
-    → IsFront size parcels → MayFollow size (is_asked false parcels) next ↔ IsFront size (parcels ++ next ∷ [])
+    → BeginsLane size parcels → MayFollow size (is_asked false parcels) next ↔ BeginsLane size (parcels ++ next ∷ [])
 
 -- a front of what a lane may have carried is one too
 abbrev pub FrontsAreLanes : Type 0

@@ -6,7 +6,8 @@ use Rattle.qs_chunk.specs.Lanes.{HasSize, IsLane, MayFollow, is_asked}
 use Rattle.qs_chunk.specs.LaneRun.{IsLaneRun, syncs}
 use Rattle.qs_chunk.specs.declared.parcel.Parcel.{Parcel}
 
--- the same by steps: each parcel that was sent may follow those before it, and no more objects were given than asked for
+-- the same by steps: each parcel that was sent may follow those before it, and no more objects were given than asked
+-- for
 pub record IsRunByParcels (size : ℕ) (sent received : List Parcel) (given got : List HeldState) : Type 0 where
   pub parcels : (rest : List Parcel) × (sent ≡ received ++ rest)
   pub form : IsLane size sent

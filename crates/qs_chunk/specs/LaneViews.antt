@@ -20,8 +20,8 @@ abbrev pub Extends : Ticket → HeldState → List Event → HeldState → Type 
 Extends t x [] y = x ≡ y
 Extends t x (e ∷ es) y = (e.reply ≡ (run_one x t e.request).1) × Extends t (run_one x t e.request).0 es y
 
--- how a client stands to an object in its block: requests are in the chunk in hand; it asked for the object; it holds it;
--- it has sent the end
+-- how a client stands to an object in its block: requests are in the chunk in hand; it asked for the object; it holds
+-- it; it has sent the end
 pub data ObjectStance : Type 0 where
   sends : (chunk : List Request) → ObjectStance
   asks : ObjectStance
@@ -33,8 +33,8 @@ abbrev pub ClientAsks : Ticket → List HeldState → List Event → ObjectStanc
 ClientAsks t [] events end = (events ≡ []) × (end ≡ asks)
 ClientAsks t (x ∷ got) events end = (y : HeldState) × (got ≡ []) × (end ≡ holds y) × Extends t x events y
 
--- What a client sent and got for one object in one block, the events of its trace there, and how it stands at the end. Right
--- after a Sync (asked) the object comes, and goes home before anything else.
+-- What a client sent and got for one object in one block, the events of its trace there, and how it stands at the end.
+-- Right after a Sync (asked) the object comes, and goes home before anything else.
 abbrev pub ClientLane : Ticket → Bool → List Parcel → List HeldState → List Event → ObjectStance → Type 0
 ClientLane t false [] got events end =
     (chunk : List Request) × (end ≡ sends chunk) × (got ≡ []) × (events ≡ map command_event chunk) × AllCommands chunk
@@ -52,7 +52,8 @@ ClientLane t true (Work chunk ∷ sent) got events end = ⊥
 ClientLane t true (Sync ∷ sent) got events end = ⊥
 ClientLane t true (End ∷ sent) got events end = ⊥
 
--- how a handler stands to the block that it serves: it has the object; it is to give it; it gave it; it has taken the end
+-- how a handler stands to the block that it serves: it has the object; it is to give it; it gave it; it has taken the
+-- end
 pub data Serving : Type 0 where
   serves : (held : HeldState) → Serving
   gives : (held : HeldState) → Serving
@@ -64,8 +65,8 @@ abbrev pub HandlerGives : HeldState → List HeldState → Serving → Type 0
 HandlerGives x [] end = end ≡ gives x
 HandlerGives x (given ∷ more) end = (given ≡ x) × (more ≡ []) × (end ≡ lent x)
 
--- What a handler received and gave for one ticket, from the object x on, and how it stands at the end. Right after a Sync (asked)
--- the object is given, and comes home before anything else.
+-- What a handler received and gave for one ticket, from the object x on, and how it stands at the end. Right after a
+-- Sync (asked) the object is given, and comes home before anything else.
 abbrev pub HandlerLane : Ticket → Bool → HeldState → List Parcel → List HeldState → Serving → Type 0
 HandlerLane t false x [] gave end = (gave ≡ []) × (end ≡ serves x)
 HandlerLane t false x (Work chunk ∷ received) gave end = HandlerLane t false (ran_all x t chunk.items) received gave end
@@ -79,8 +80,8 @@ HandlerLane t true x (Work chunk ∷ received) gave end = ⊥
 HandlerLane t true x (Sync ∷ received) gave end = ⊥
 HandlerLane t true x (End ∷ received) gave end = ⊥
 
--- the object wherever it is: with its handler; on its way to the client; with the client; or on its way home, among what the
--- client sent and the handler has not received
+-- the object wherever it is: with its handler; on its way to the client; with the client; or on its way home, among
+-- what the client sent and the handler has not received
 abbrev pub object_of : Serving → ObjectStance → List Parcel → HeldState
 object_of (serves x) client way = x
 object_of (gives x) client way = x
@@ -97,8 +98,8 @@ pub record IsMatched (t : Ticket) (x : HeldState) (events : List Event) (y : Hel
   pub extends : Extends t x done y
   pub commands : AllCommands waiting
 
--- What the client believes to have run is what ran on the object, wherever that is, and then what waits: if the handler received a
--- front of what the client sent, and the client got a front of what the handler gave.
+-- What the client believes to have run is what ran on the object, wherever that is, and then what waits: if the handler
+-- received a front of what the client sent, and the client got a front of what the handler gave.
 abbrev pub LanesMatch : Type 0
 LanesMatch =
     (t : Ticket) (x : HeldState) (received way : List Parcel) (got gave : List HeldState) (events : List Event)

@@ -36,8 +36,8 @@ HasForm size parcels =
     (blocks : List Sending) × (parcels ≡ flat_map block_parcels blocks) × AllByRecursion (HasSize size) parcels
 
 -- the beginning of a list of the form, possibly all of it
-abbrev pub IsFront : ℕ → List Parcel → Type 0
-IsFront size parcels = (rest : List Parcel) × HasForm size (parcels ++ rest)
+abbrev pub BeginsLane : ℕ → List Parcel → Type 0
+BeginsLane size parcels = (rest : List Parcel) × HasForm size (parcels ++ rest)
 
 abbrev pub is_sync : Parcel → Bool
 is_sync Sync = true

@@ -1,13 +1,15 @@
+-- What an auditor reads: the promises and the calls of the surface are said with these.
 pub mod Limits
 pub mod Batch
 pub mod Runs
 pub mod Lanes
+pub mod LaneParts
+pub mod LaneRun
+-- What crates promise one another, what proofs use, and worked examples.
 pub mod LaneLaws
 pub mod LaneExamples
 pub mod LaneViews
 pub mod LaneViewExamples
-pub mod LaneParts
-pub mod LaneRun
 pub mod LaneRunLaws
 pub mod LaneRunExamples
 pub mod Ring

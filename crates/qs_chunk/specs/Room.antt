@@ -22,5 +22,6 @@ row_owns R b o (place ∷ places) = fsep (place_owns R b o place) (row_owns R b 
 -- places that take fewer than 2 ^ 63 bytes, and the right, the token's, to give their block back
 abbrev pub room_owns : (R : RattleType) → (Ty → Ptr → Fml) → Ptr → List (Option R.Denot) → Fml
 room_owns R token (block_ptr b o) places =
-    fsep (flt (length places * type_size R) (2 ^ 63)) (fsep (row_owns R b o places) (token (raw (ty_array (lone R.mir) (length places))) (block_ptr b o)))
+    fsep (flt (length places * type_size R) (2 ^ 63))
+    (fsep (row_owns R b o places) (token (raw (ty_array (lone R.mir) (length places))) (block_ptr b o)))
 room_owns R token null_ptr places = ffalse

@@ -1,7 +1,7 @@
 //! The room of a chunk: places side by side, each empty or with a value. No other file has a pointer.
 //!
-//! A value goes only into an empty place, it leaves its place empty, and the memory goes back only where each place is empty: so
-//! no value is lost, and none is handed out or dropped twice.
+//! A value goes only into an empty place, it leaves its place empty, and the memory goes back only where each place is
+//! empty: so no value is lost, and none is handed out or dropped twice.
 
 ghost use Rattle.std.specs.Prelude.{◌≡◌, ◌<◌, ◌≤◌, List, Option, Some, None, length, replicate, get_or, slice_set, IfOk};
 ghost use Rattle.std.specs.Vec.Ownership.{FitsInBlock};

@@ -12,8 +12,8 @@ use std::marker::Model;
 use std::mem::size_of;
 use std_alloc::room::may_hold;
 
-/// Values in order, at most as many as the capacity. No call but the constructor takes memory. They lie from the place `start` on,
-/// and go on at place 0 behind the last place.
+/// Values in order, at most as many as the capacity. No call but the constructor takes memory. They lie from the place
+/// `start` on, and go on at place 0 behind the last place.
 pub struct Chunk<T> {
     room: Room<T, Global>,
     capacity: usize,

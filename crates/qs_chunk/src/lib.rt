@@ -1,4 +1,5 @@
-//! Requests travel from a client to a handler in chunks, and chunks, objects and marks in lanes: the values, and the form of a lane.
+//! Requests travel from a client to a handler in chunks, and chunks, objects and marks in lanes: the values, and the
+//! form of a lane.
 #![tactic(auto)]
 
 mod cells;

@@ -1,6 +1,7 @@
--- A block begins: `Mind::begin` does what the model says, and what holds of every mind holds again. The hard part is that the run may go through
--- the new block: its walk ends, no query comes without its object, and its trace has room for all requests, since on each path the
--- requests on an object are at most the block's load on it, and the room is the sum of the loads.
+-- A block begins: `Mind::begin` does what the model says, and what holds of every mind holds again. The hard part is
+-- that the run may go through the new block: its walk ends, no query comes without its object, and its trace has room
+-- for all requests, since on each path the requests on an object are at most the block's load on it, and the room is
+-- the sum of the loads.
 use Rattle.std.proofs.Common.{◌≡◌, ℕ, zero, suc, ◌+◌, ◌-◌, ◌*◌, ◌<◌, ◌≤◌, Bool, true, false, ◌==◌, if◌then◌else◌, inl, inr, List, [], ◌∷◌, ◌++◌, is_some, length, length-append, replicate, refl, sym, ap, ◌∙◌, subst, arith, ⊎_elim}
 use Rattle.std.proofs.lemmas.Bool.{cases_lt}
 use Rattle.std.proofs.lemmas.List.{length-replicate}
@@ -22,12 +23,12 @@ use Rattle.qs_graph.specs.Synced.{Synced, Done, Call, Sync, Query, without_syncs
 use Rattle.qs_graph.specs.Walk.{entry, walk, Within}
 use Rattle.qs_syncset.specs.Codes.{BlockCode, ClientCode, IsCode, IsBlockCode, code_at, load_at}
 use Rattle.qs_syncset.specs.CodeLaws.{IsSoundWalk}
-use Rattle.qs_syncset.specs.Flow.{nothing}
+use Rattle.qs_held_sets.specs.Flow.{nothing}
 use Rattle.qs_syncset.specs.SoundSynced.{IsOnReserved, IsSoundSynced}
 use Rattle.qs_syncset.proofs.CodeWalks.{walks_are_sound}
 use Rattle.qs_client_run.specs.Beginning.{at_beginning}
-use Rattle.qs_client_run.specs.Client.{Settlement, between, begin, settle}
-use Rattle.qs_client_run.specs.Holdings.{chunk_at, held_at}
+use Rattle.qs_client_rules.specs.Client.{Settlement, between, begin, settle}
+use Rattle.qs_client_run.specs.Holdings.{chunk_at, holding_at}
 use Rattle.qs_client_run.specs.BlockSizes.{room_for, sum_below}
 use Rattle.qs_client_run.specs.ClientOfRun.{HasSettled, items_of, progress_after, stage_by}
 use Rattle.qs_client_run.specs.Running.{MakesAtMost, IsRunning}
@@ -39,7 +40,7 @@ use Rattle.qs_client.proofs.ReservedLists.{reserved_below_eight}
 use Rattle.qs_client_run.proofs.CodeBounds.{longest_covers}
 use Rattle.qs_client_run.proofs.ArrivalRefinement.{reserves_here}
 use Rattle.qs_client_run.proofs.StepRefinement.{standing_of}
-use Rattle.qs_client_run.specs.declared.act.Act.TheVariants as acts
+use Rattle.qs_client_rules.specs.declared.act.Act.TheVariants as acts
 use Rattle.qs_client_run.specs.declared.stage.Stage.TheVariants as stages
 use Rattle.qs_client.specs.SoundMind.{IsSoundMind}
 use Rattle.qs_client.specs.ClientModel.{Asks, mind_after_begin, mind_after_begin_with, locals_at, tree_at}
@@ -203,7 +204,7 @@ module _ (m : MindState) (w : IsSoundMind m) (t : Ticket) (asked : Asks (mind_of
         few = omega arith;
         within = b.ends;
         counted = long;
-        sound = b.sound (λ h. is_some (held_at m.run.holdings h));
+        sound = b.sound (λ h. is_some (holding_at m.run.holdings h));
         fits = subst (λ (x : TraceState). MakesAtMost x.room (walk (code_at m.code t.index).graph limit (entry m.run.position.locals counts)))
             (sym (w.later t.index (omega (arith, is)) inside)) b.fits;
         row = omega (arith, w.rows, inside);
@@ -235,7 +236,7 @@ module _ (m : MindState) (w : IsSoundMind m) (t : Ticket) (asked : Asks (mind_of
         (record {
           begun = begun i;
           stage = stage_by (stands i) (block_of m).reserved (walk (block_of m).graph limit m.run.position) m.run.position.locals;
-          held = held_at m.run.holdings;
+          held = holding_at m.run.holdings;
           chunk = λ h. items_of (chunk_at m.run.holdings h);
         })))
         ∙ done.same;

@@ -1,5 +1,6 @@
--- What `Mind::new` makes is the model's `fresh_mind`, and what holds of every mind holds of it. The idea: nothing was begun, so each fact about
--- blocks that were begun is empty, and the counts and traces are as fresh as their constructors say.
+-- What `Mind::new` makes is the model's `fresh_mind`, and what holds of every mind holds of it. The idea: nothing was
+-- begun, so each fact about blocks that were begun is empty, and the counts and traces are as fresh as their
+-- constructors say.
 use Rattle.std.proofs.Common.{◌≡◌, ℕ, zero, suc, ◌+◌, ◌*◌, ◌≤◌, List, [], ◌∷◌, Option, None, length, map, replicate, get_or, refl, sym, ap, ◌∙◌, subst, arith}
 use Rattle.std.proofs.Math.Path.{fun_ext}
 use Rattle.std.proofs.lemmas.List.{get_or-map, length-map, length-replicate}
@@ -14,16 +15,16 @@ use Rattle.qs_sync_counts.proofs.CountRows.{few_none}
 use Rattle.qs_syncset.specs.Codes.{BlockCode, ClientCode, IsCode, no_code}
 use Rattle.qs_chunk.specs.Batch.{Batch}
 use Rattle.qs_client_run.specs.Beginning.{fresh_run}
-use Rattle.qs_client_run.specs.Client.{between}
+use Rattle.qs_client_rules.specs.Client.{between}
 use Rattle.qs_client_run.specs.BlockSizes.{empty_rows, room_for, longest}
 use Rattle.qs_client_run.specs.ClientOfRun.{items_of}
 use Rattle.qs_client_run.specs.Running.{IsOpen}
 use Rattle.qs_objects.specs.Traces.{empty_trace, events_of, trace_state}
 use Rattle.qs_chunk.specs.Limits.{largest_chunk}
 use Rattle.qs_client_run.specs.RunState.{RunState}
-use Rattle.qs_client_run.specs.declared.stage.Outgoing.TheVariants as outgoings
+use Rattle.qs_client_rules.specs.declared.outgoing.Outgoing.TheVariants as outgoings
 use Rattle.qs_client.specs.SoundMind.{IsSoundMind}
-use Rattle.qs_client.specs.ClientModel.{lists_of, fresh_mind}
+use Rattle.qs_client.specs.ClientModel.{lists_of_code, fresh_mind}
 use Rattle.qs_client.specs.MindState.{MindState, mind_of}
 
 none_at : {X : Type 0} (n i : ℕ) (d : X) → get_or (replicate n d) i d ≡ d
@@ -49,7 +50,7 @@ fresh_with code size run entries counts = record {
 }
 
 abbrev pub fresh_state : ClientCode → ℕ → ℕ → MindState
-fresh_state code size room = fresh_with code size (fresh_run code.blocks) [] (counts_state (fresh_rows (lists_of code.blocks)) room)
+fresh_state code size room = fresh_with code size (fresh_run code.blocks) [] (counts_state (fresh_rows (lists_of_code code.blocks)) room)
 
 none_sent : (lists : List (List ℕ)) (k : ℕ) → AreFew 1 (get_or (fresh_rows lists) k [])
 none_sent [] k = tt
@@ -71,8 +72,8 @@ fresh_sound code size room ok sized = record {
   first = λ none. (refl, refl);
   left = 0;
   few = no_nodes;
-  tallies = length-map (lists_of code.blocks) no_syncs ∙ length-map code.blocks (λ (b : BlockCode). b.reserved);
-  few_each = none_sent (lists_of code.blocks);
+  tallies = length-map (lists_of_code code.blocks) no_syncs ∙ length-map code.blocks (λ (b : BlockCode). b.reserved);
+  few_each = none_sent (lists_of_code code.blocks);
   standing = record { held = refl; chunks = refl; opened = λ h. subst (IsOpen size) (sym (none_at {X = Option (Batch Request)} 8 h None)) tt };
   gone = tt;
   later = λ k past inside.
@@ -95,6 +96,6 @@ fresh_is code size room = λ i. record {
   entries = [];
   traces = no_events code.blocks i;
   syncs = 0;
-  counts = fresh_rows (lists_of code.blocks);
+  counts = fresh_rows (lists_of_code code.blocks);
   outgoing = outgoings.Nothing;
 }

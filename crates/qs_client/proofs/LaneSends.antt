@@ -1,6 +1,7 @@
--- What a client sends to a handler may follow what it sent there before (the law `sends_may_follow`): so each lane keeps its form, for threads
--- as for the optimised machine. The one fact to keep: the last parcel is a Sync exactly where the client waits for the object or holds it. All quiet work leaves it as it is, since that awaits nothing, and neither takes an object up
--- nor gives one away.
+-- What a client sends to a handler may follow what it sent there before (the law `sends_may_follow`): so each lane
+-- keeps its form, for threads as for the optimised machine. The one fact to keep: the last parcel is a Sync exactly
+-- where the client waits for the object or holds it. All quiet work leaves it as it is, since that awaits nothing, and
+-- neither takes an object up nor gives one away.
 use Rattle.std.proofs.Common.{◌≡◌, ◌≢◌, ℕ, suc, Bool, true, false, ◌==◌, ◌&&◌, ◌||◌, if◌then◌else◌, is_some, nat_lt, List, [], ◌∷◌, ◌++◌, length, Option, Some, None, ℤ, refl, sym, ap, ◌∙◌, subst, ⊎_elim}
 use Rattle.qs_objects.specs.Journals.{HeldState, run_one}
 use Rattle.qs_objects.specs.declared.held.Ticket.{Ticket}
@@ -14,14 +15,14 @@ use Rattle.qs_chunk.specs.Lanes.{MayFollow, is_asked, is_sync}
 use Rattle.qs_chunk.proofs.LaneFronts.{asked_last}
 use Rattle.qs_chunk.specs.declared.parcel.Parcel.{Parcel}
 use Rattle.qs_chunk.specs.declared.parcel.Parcel.TheVariants as parcels
-use Rattle.qs_client_run.specs.Client.{Client, ClientStage, Settings, Settlement, between, runs, full, awaits, leaves, act_at, call_act, clear, rest_act, work, stop_at, set_held, set_chunk, end_block, call, query, settle, after_parcel, after_home, after_work, after_sync, after_end, take_object, take_chunk}
+use Rattle.qs_client_rules.specs.Client.{Client, ClientStage, Settings, Settlement, between, runs, full, awaits, leaves, act_at, call_act, clear, rest_act, work, stop_at, set_held, set_chunk, end_block, call, query, settle, after_parcel, after_home, after_work, after_sync, after_end, take_object, take_chunk}
 use Rattle.qs_client_run.specs.NextActs.{SendsNothing}
-use Rattle.qs_client_run.specs.declared.act.Act.{Act}
-use Rattle.qs_client_run.specs.declared.act.Act.TheVariants as acts
-use Rattle.qs_client_run.proofs.CarriedValues.{sends_are_parted}
-use Rattle.qs_client.specs.ClientLanes.{is_awaited, IsFree, StandsAt, BeginsAtLanes, SendsMayFollow, SendsKeepOtherLanes, QuietActsKeepLanes, TicketsKeepLanes, ObjectsKeepLanes, ChunksKeepLanes, ClientLaneLaws}
+use Rattle.qs_client_rules.specs.declared.act.Act.{Act}
+use Rattle.qs_client_rules.specs.declared.act.Act.TheVariants as acts
+use Rattle.qs_client_rules.proofs.CarriedValues.{sends_are_parted}
+use Rattle.qs_client.specs.ClientLanes.{is_awaited, IsFree, ClientFitsLane, BeginsAtLanes, SendsMayFollow, SendsKeepOtherLanes, QuietActsKeepLanes, TicketsKeepLanes, ObjectsKeepLanes, ChunksKeepLanes, ClientLaneLaws}
 use Rattle.qs_client.specs.ClientModel.{Asks, ClientModel, finish, locals_at, next_act, next_mind, reserved_by, settings_of, tree_at}
-use Rattle.qs_client_run.specs.BetweenActs.{after_send, without_act, outgoing_of}
+use Rattle.qs_client_rules.specs.Outgoings.{after_send, without_act, outgoing_of}
 use Rattle.qs_syncset.specs.Codes.{code_at}
 
 -- the object of h is held or not, nothing is awaited, and a full chunk is for an object that is not held
@@ -244,7 +245,7 @@ not_awaited settings blocks m (awaits g rest) h a other is = absurd (other g is)
 not_awaited settings blocks m (leaves g hs l) h a other is = refl
 
 -- a client that has come to rest
-stands_at : (c new : Client) (h : ℕ) (sent : List Parcel) → StandsAt c h sent → is_awaited c.stage h ≡ false → Rests new h (is_some (c.held h)) → StandsAt new h sent
+stands_at : (c new : Client) (h : ℕ) (sent : List Parcel) → ClientFitsLane c h sent → is_awaited c.stage h ≡ false → Rests new h (is_some (c.held h)) → ClientFitsLane new h sent
 stands_at c new h sent stands quiet rests = record {
   last = stands.last ∙ (ap (λ b. b || is_some (c.held h)) quiet ∙ sym (settles new h (is_some (c.held h)) rests));
   free = rests.free;
@@ -263,7 +264,7 @@ now_held true x y = refl
 now_held false x y = refl
 
 got_stands : (settings : Settings) (ticket : Ticket) (reserved : List ℕ) (m : Client) (x : HeldState) (h : ℕ) (sent : List Parcel) (p : ClientStage)
-    → is_asked false sent ≡ (is_awaited p h || is_some (m.held h)) → IsFree p m h → StandsAt (take_object settings ticket reserved m x p).client h sent
+    → is_asked false sent ≡ (is_awaited p h || is_some (m.held h)) → IsFree p m h → ClientFitsLane (take_object settings ticket reserved m x p).client h sent
 got_stands settings ticket reserved m x h sent (awaits k rest) last free =
     let new = (settle settings ticket reserved rest (set_held m k (Some x))).client in
     let rests = rests_settle settings ticket reserved h rest (set_held m k (Some x)) in
@@ -286,7 +287,7 @@ sends_may_follow m h parcel sent is stands =
     let s = sends_of m h parcel is in
     let last : is_asked false sent ≡ is_some (c.held h) = stands.last ∙ ap (λ b. b || is_some (c.held h)) (s.quiet h) in (
       subst (λ b. MayFollow m.size b parcel) (sym last) (s.may stands.free),
-      subst (λ n. StandsAt n h (sent ++ parcel ∷ [])) (sent_done m h parcel is)
+      subst (λ n. ClientFitsLane n h (sent ++ parcel ∷ [])) (sent_done m h parcel is)
           (let new = s.own stands.free in record { last = asked_last false sent parcel ∙ sym new.0; free = new.1 }),
     )
 
@@ -296,15 +297,15 @@ sends_keep_other_lanes m g h parcel sent is apart stands =
     let s = sends_of m g parcel is in
     let last : is_asked false sent ≡ is_some (c.held h) = stands.last ∙ ap (λ b. b || is_some (c.held h)) (s.quiet h) in
     let new = s.others h apart in
-    subst (λ n. StandsAt n h sent) (sent_done m g parcel is) (record { last = last ∙ sym new.0; free = new.1 })
+    subst (λ n. ClientFitsLane n h sent) (sent_done m g parcel is) (record { last = last ∙ sym new.0; free = new.1 })
 
 quiet_acts_keep_lanes : QuietActsKeepLanes
 quiet_acts_keep_lanes m h sent quiet stands =
-    subst (λ c. StandsAt c h sent) (quiet_done (settings_of m) m.ticket (reserved_by m) (client_of m) (next_act m) quiet) stands
+    subst (λ c. ClientFitsLane c h sent) (quiet_done (settings_of m) m.ticket (reserved_by m) (client_of m) (next_act m) quiet) stands
 
 tickets_keep_lanes : TicketsKeepLanes
 tickets_keep_lanes m t h sent asks stands =
-    let at : StandsAt m.client h sent = subst (λ c. StandsAt c h sent) (asked_client m acts.Reserve asks) stands in
+    let at : ClientFitsLane m.client h sent = subst (λ c. ClientFitsLane c h sent) (asked_client m acts.Reserve asks) stands in
     let reserved = (code_at m.code t.index).reserved in
     let begun : Client = record m.client { begun = suc m.client.begun } in
     let tree = tree_at m.code t.index (locals_at m.client.stage) in
@@ -314,12 +315,12 @@ tickets_keep_lanes m t h sent asks stands =
 
 objects_keep_lanes : ObjectsKeepLanes
 objects_keep_lanes m g x h sent asks stands =
-    let at : StandsAt m.client h sent = subst (λ c. StandsAt c h sent) (asked_client m (acts.Await g) asks) stands in
+    let at : ClientFitsLane m.client h sent = subst (λ c. ClientFitsLane c h sent) (asked_client m (acts.Await g) asks) stands in
     got_stands (settings_of m) m.ticket (reserved_by m) m.client x h sent m.client.stage at.last at.free
 
 chunks_keep_lanes : ChunksKeepLanes
 chunks_keep_lanes m g h sent asks stands =
-    let at : StandsAt m.client h sent = subst (λ c. StandsAt c h sent) (asked_client m (acts.NeedChunk g) asks) stands in
+    let at : ClientFitsLane m.client h sent = subst (λ c. ClientFitsLane c h sent) (asked_client m (acts.NeedChunk g) asks) stands in
     let quiet = not_awaited (settings_of m) (length m.code.blocks) m.client m.client.stage h (acts.NeedChunk g) (λ k is. cc is) asks.1 in
     stands_at m.client (take_chunk (settings_of m) m.ticket (reserved_by m) m.client g m.client.stage).client h sent at quiet
     (chunk_rests (settings_of m) m.ticket (reserved_by m) m.client g h m.client.stage quiet at.free)

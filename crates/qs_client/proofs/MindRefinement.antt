@@ -1,6 +1,7 @@
--- What each call of a mind does is what the model says, and what holds of every mind is kept. The contracts of `next`, `take_object` and
--- `take_chunk` need both. The idea: the run's contracts say what became of the client and its block's trace (`HasCome`, `HasActed`); the
--- rest of the data stays, and of the invariant only the number of Syncs needs an argument, as each of them took a node.
+-- What each call of a mind does is what the model says, and what holds of every mind is kept. The contracts of `next`,
+-- `take_object` and `take_chunk` need both. The idea: the run's contracts say what became of the client and its block's
+-- trace (`HasCome`, `HasActed`); the rest of the data stays, and of the invariant only the number of Syncs needs an
+-- argument, as each of them took a node.
 use Rattle.std.proofs.Common.{◌≡◌, inl, inr, ℕ, zero, suc, ◌+◌, ◌*◌, ◌<◌, ◌≤◌, true, false, ◌==◌, List, [], ◌++◌, length, length-set, get_or, get_or-set_same, get_or-set_other, set, refl, sym, ap, ◌∙◌, subst, arith, append-nil, ⊎_elim}
 use Rattle.std.proofs.Math.ListN.{get_or-map}
 use Rattle.std.proofs.lemmas.Bool.{cases_lt, ne_eqb}
@@ -16,21 +17,22 @@ use Rattle.qs_sync_counts.specs.declared.sync_counts.SyncCount.{SyncCount}
 use Rattle.qs_sync_counts.proofs.CountRows.{few_in, few_more}
 use Rattle.qs_syncset.specs.Codes.{BlockCode, IsCode, code_at}
 use Rattle.qs_client_run.specs.NextActs.{HasActed, Wants, SendsNothing}
-use Rattle.qs_client_run.specs.Client.{Settlement, take_object, take_chunk}
+use Rattle.qs_client_rules.specs.Client.{Settlement, take_object, take_chunk}
 use Rattle.qs_client_run.specs.BlockSizes.{room_for, longest}
-use Rattle.qs_client_run.specs.BetweenActs.{count_sync, HasCome, HasGot, HasSent, HasTaken, IsOutgoingAt, IsStanding, after_send, outgoing_of, nodes_left}
+use Rattle.qs_client_run.specs.BetweenActs.{HasCome, HasGot, HasSent, HasTaken, IsOutgoingAt, IsStanding, nodes_left}
+use Rattle.qs_client_rules.specs.Outgoings.{count_sync, after_send, outgoing_of}
 use Rattle.qs_client_run.specs.ClientOfRun.{ClientProgress, stage_by}
 use Rattle.qs_client_run.specs.Running.{KeepsRows}
 use Rattle.qs_objects.specs.Traces.{TraceState, empty_trace, events_of, trace_at, trace_state}
 use Rattle.qs_chunk.specs.Limits.{largest_chunk}
-use Rattle.qs_client_run.specs.declared.act.Act.{Act}
+use Rattle.qs_client_rules.specs.declared.act.Act.{Act}
 use Rattle.qs_client_run.specs.RunState.{RunState}
-use Rattle.qs_client_run.specs.declared.stage.Outgoing.{Outgoing}
+use Rattle.qs_client_rules.specs.declared.outgoing.Outgoing.{Outgoing}
 use Rattle.qs_client_run.specs.declared.stage.Stage.{Stage}
 use Rattle.qs_client_run.proofs.CodeBounds.{few_blocks}
 use Rattle.qs_client_run.proofs.ArrivalRefinement.{at_call, awaits_here, nothing_between}
-use Rattle.qs_client_run.specs.declared.act.Act.TheVariants as acts
-use Rattle.qs_client_run.specs.declared.stage.Outgoing.TheVariants as outgoings
+use Rattle.qs_client_rules.specs.declared.act.Act.TheVariants as acts
+use Rattle.qs_client_rules.specs.declared.outgoing.Outgoing.TheVariants as outgoings
 use Rattle.qs_client_run.specs.declared.stage.Stage.TheVariants as stages
 use Rattle.qs_client.specs.SoundMind.{IsSoundMind}
 use Rattle.qs_client.specs.ClientModel.{Asks, ClientModel, act_due, mind_after_chunk, comes_to, finish, extend, mind_after_object, hands_out, is_between, tally}

@@ -1,4 +1,5 @@
--- A block reserves at most 8 handlers, each among the 8. The idea: a code is that of a sound program (`IsCode`), whose checks say it.
+-- A block reserves at most 8 handlers, each among the 8. The idea: a code is that of a sound program (`IsCode`), whose
+-- checks say it.
 use Rattle.std.proofs.Common.{◌≡◌, ℕ, ◌<◌, ◌≤◌, true, false, ◌==◌, ◌||◌, List, [], ◌∷◌, length, sym, ap, ◌∙◌, subst, arith, ⊎_elim}
 use Rattle.std.specs.List.{AllByRecursion}
 use Rattle.qs_objects.proofs.Choices.{num_cases}

@@ -6,8 +6,8 @@ use Rattle.qs_syncset.specs.Codes.{ClientCode}
 use Rattle.qs_chunk.specs.Lanes.{MayFollow, is_asked}
 use Rattle.qs_chunk.specs.declared.parcel.Parcel.{Parcel}
 use Rattle.qs_client_run.specs.NextActs.{SendsNothing}
-use Rattle.qs_client_run.specs.Client.{Client, ClientStage, between, runs, full, awaits, leaves}
-use Rattle.qs_client_run.specs.declared.act.Act.TheVariants as acts
+use Rattle.qs_client_rules.specs.Client.{Client, ClientStage, between, runs, full, awaits, leaves}
+use Rattle.qs_client_rules.specs.declared.act.Act.TheVariants as acts
 use Rattle.qs_client.specs.ClientModel.{Asks, ClientModel, mind_after_begin, mind_after_chunk, finish, fresh_mind, mind_after_object, next_act, next_mind}
 
 -- whether a client waits for the object of a handler
@@ -27,18 +27,19 @@ IsFree (awaits g rest) m h = Unit {0}
 IsFree (leaves g hs l) m h = Unit {0}
 
 -- the last parcel that it sent to the handler is a Sync exactly where it waits for the object or holds it
-pub record StandsAt (m : Client) (h : ℕ) (sent : List Parcel) : Type 0 where
+pub record ClientFitsLane (m : Client) (h : ℕ) (sent : List Parcel) : Type 0 where
   pub last : is_asked false sent ≡ (is_awaited m.stage h || is_some (m.held h))
   pub free : IsFree m.stage m h
 
 -- so a mind stands to the lane of a handler, once its last act was done
 abbrev pub MindStandsAt : ClientModel → ℕ → List Parcel → Type 0
-MindStandsAt m h sent = StandsAt (finish m).client h sent
+MindStandsAt m h sent = ClientFitsLane (finish m).client h sent
 
 abbrev pub BeginsAtLanes : Type 0
 BeginsAtLanes = (code : ClientCode) (size h : ℕ) → MindStandsAt (fresh_mind code size) h []
 
--- what it sends to a handler may follow what it sent there before, in chunks of its size; and it stands to the lane so again once that was sent
+-- what it sends to a handler may follow what it sent there before, in chunks of its size; and it stands to the lane so
+-- again once that was sent
 abbrev pub SendsMayFollow : Type 0
 SendsMayFollow =
     (m : ClientModel) (h : ℕ) (parcel : Parcel) (sent : List Parcel)
@@ -53,7 +54,8 @@ SendsKeepOtherLanes =
 
 abbrev pub QuietActsKeepLanes : Type 0
 QuietActsKeepLanes =
-    (m : ClientModel) (h : ℕ) (sent : List Parcel) → SendsNothing (next_act m) → MindStandsAt m h sent → MindStandsAt (next_mind m) h sent
+    (m : ClientModel) (h : ℕ) (sent : List Parcel) → SendsNothing (next_act m) → MindStandsAt m h sent
+    → MindStandsAt (next_mind m) h sent
 
 -- what comes to it keeps this too: a ticket, an object, an empty chunk
 abbrev pub TicketsKeepLanes : Type 0

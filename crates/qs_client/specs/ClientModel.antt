@@ -1,6 +1,6 @@
--- The model of a mind: what a client has come to, and what each call of `Mind` does to it. `next` finishes the last act (`finish`), answers the
--- next (`next_act`) and gives out what it carries (`next_mind`); `begin`, `take_object` and `take_chunk` are `mind_after_begin`,
--- `mind_after_object` and `mind_after_chunk`.
+-- The model of a mind: what a client has come to, and what each call of `Mind` does to it. `next` finishes the last act
+-- (`finish`), answers the next (`next_act`) and gives out what it carries (`next_mind`); `begin`, `take_object` and
+-- `take_chunk` are `mind_after_begin`, `mind_after_object` and `mind_after_chunk`.
 use Rattle.std.specs.Prelude.{◌≡◌, ℕ, suc, ◌&&◌, ◌||◌, nat_lt, nat_eq, ◌+◌, ◌-◌, Bool, true, false, if◌then◌else◌, List, [], ◌∷◌, ◌++◌, length, map, replicate, slice_index_or, slice_set}
 use Rattle.qs_objects.specs.Journals.{HeldState}
 use Rattle.qs_objects.specs.declared.held.Event.{Event}
@@ -13,25 +13,26 @@ use Rattle.qs_graph.specs.Walk.{entry, walk}
 use Rattle.qs_syncset.specs.Codes.{BlockCode, ClientCode, code_at}
 use Rattle.qs_sync_counts.specs.SyncRows.{fresh_rows, with_sync}
 use Rattle.qs_sync_counts.specs.declared.sync_counts.SyncCount.{SyncCount}
-use Rattle.qs_client_run.specs.Client.{Client, ClientStage, Settings, Settlement, act_of, between, runs, full, awaits, leaves, begin, first_client, take_object, take_chunk}
-use Rattle.qs_client_run.specs.ClientLaws.{with_act}
-use Rattle.qs_client_run.specs.BetweenActs.{after_send, without_act, outgoing_of, count_sync}
-use Rattle.qs_client_run.specs.declared.act.Act.{Act}
-use Rattle.qs_client_run.specs.declared.stage.Outgoing.{Outgoing}
+use Rattle.qs_client_rules.specs.Client.{Client, ClientStage, Settings, Settlement, act_of, between, runs, full, awaits, leaves, begin, first_client, take_object, take_chunk}
+use Rattle.qs_client_rules.specs.ClientLaws.{with_act}
+use Rattle.qs_client_rules.specs.Outgoings.{after_send, without_act, outgoing_of, count_sync}
+use Rattle.qs_client_rules.specs.declared.act.Act.{Act}
+use Rattle.qs_client_rules.specs.declared.outgoing.Outgoing.{Outgoing}
 use Rattle.qs_client_run.specs.BlockSizes.{longest}
-use Rattle.qs_client_run.specs.declared.stage.Outgoing.TheVariants as outgoings
+use Rattle.qs_client_rules.specs.declared.outgoing.Outgoing.TheVariants as outgoings
 
--- a block as a tree with the synchronisations that are left in it, from these variables; each repeat sets its count as it begins
+-- a block as a tree with the synchronisations that are left in it, from these variables; each repeat sets its count as
+-- it begins
 abbrev pub tree_at : ClientCode → ℕ → Locals → Synced
 tree_at code k l = walk (code_at code k).graph limit (entry l (replicate (longest code.blocks) 0))
 
 -- the lists of objects that the blocks reserve
-abbrev pub lists_of : List BlockCode → List (List ℕ)
-lists_of blocks = map (λ (b : BlockCode). b.reserved) blocks
+abbrev pub lists_of_code : List BlockCode → List (List ℕ)
+lists_of_code blocks = map (λ (b : BlockCode). b.reserved) blocks
 
--- the code and the chunks' size; the ticket of the block that was begun last; the client; for each block that was begun the variables at
--- entry, and for each block the trace so far; the Syncs that were sent, all and for each block and each object of its list; and what the last
--- act gave out and was not yet confirmed as sent
+-- the code and the chunks' size; the ticket of the block that was begun last; the client; for each block that was begun
+-- the variables at entry, and for each block the trace so far; the Syncs that were sent, all and for each block and
+-- each object of its list; and what the last act gave out and was not yet confirmed as sent
 pub record ClientModel : Type 0 where
   pub code : ClientCode
   pub size : ℕ
@@ -111,7 +112,8 @@ enters m t l = record m { ticket = t; entries = m.entries ++ l ∷ [] }
 -- once its next block was reserved, which begins with these variables
 abbrev pub mind_after_begin_with : ClientModel → Ticket → Locals → ClientModel
 mind_after_begin_with m t l =
-    comes_to (enters m t l) (begin (settings_of m) t (code_at m.code t.index).reserved m.client (tree_at m.code t.index l))
+    comes_to (enters m t l) (begin (settings_of m) t (code_at m.code t.index).reserved m.client
+    (tree_at m.code t.index l))
 
 abbrev pub mind_after_begin : ClientModel → Ticket → ClientModel
 mind_after_begin m t = mind_after_begin_with m t (locals_at m.client.stage)
@@ -145,7 +147,7 @@ fresh_mind code size = record {
   entries = [];
   traces = replicate (length code.blocks) [];
   syncs = 0;
-  counts = fresh_rows (lists_of code.blocks);
+  counts = fresh_rows (lists_of_code code.blocks);
   outgoing = outgoings.Nothing;
 }
 

@@ -3,10 +3,11 @@ use Rattle.std.specs.Prelude.{◌≡◌, ℕ, suc, ◌==◌, if◌then◌else◌
 use Rattle.qs_objects.specs.Journals.{HeldState}
 use Rattle.qs_objects.specs.declared.held.Ticket.{Ticket}
 use Rattle.qs_chunk.specs.declared.parcel.Parcel.{Parcel}
-use Rattle.qs_client_run.specs.declared.act.Act.TheVariants as acts
+use Rattle.qs_client_rules.specs.declared.act.Act.TheVariants as acts
 use Rattle.qs_client.specs.ClientModel.{ClientModel, mind_after_begin, mind_after_chunk, mind_after_object, next_act, next_mind}
 
--- it reserved its next block, sent a parcel to a handler, got the object of a handler, or took an empty chunk of the lane to a handler
+-- it reserved its next block, sent a parcel to a handler, got the object of a handler, or took an empty chunk of the
+-- lane to a handler
 pub data Deed : Type 0 where
   reserves : Deed
   sends : (handler : ℕ) → (parcel : Parcel) → Deed
@@ -23,8 +24,10 @@ DeedsLead c m [] end = m ≡ end
 DeedsLead c m (reserves ∷ deeds) end =
     (next_act m ≡ acts.Reserve) × DeedsLead c (mind_after_begin (next_mind m) (next_ticket c (next_mind m))) deeds end
 DeedsLead c m (sends h parcel ∷ deeds) end = (next_act m ≡ acts.Send h parcel) × DeedsLead c (next_mind m) deeds end
-DeedsLead c m (gets h x ∷ deeds) end = (next_act m ≡ acts.Await h) × DeedsLead c (mind_after_object (next_mind m) x) deeds end
-DeedsLead c m (takes_chunk h ∷ deeds) end = (next_act m ≡ acts.NeedChunk h) × DeedsLead c (mind_after_chunk (next_mind m) h) deeds end
+DeedsLead c m (gets h x ∷ deeds) end =
+    (next_act m ≡ acts.Await h) × DeedsLead c (mind_after_object (next_mind m) x) deeds end
+DeedsLead c m (takes_chunk h ∷ deeds) end =
+    (next_act m ≡ acts.NeedChunk h) × DeedsLead c (mind_after_chunk (next_mind m) h) deeds end
 
 -- and after them the mind asks for nothing more
 pub record RunsTo (c : ℕ) (m : ClientModel) (deeds : List Deed) (end : ClientModel) : Type 0 where
@@ -45,7 +48,8 @@ reservations (takes_chunk h ∷ deeds) = reservations deeds
 abbrev pub sent_to : ℕ → List Deed → List Parcel
 sent_to handler [] = []
 sent_to handler (reserves ∷ deeds) = sent_to handler deeds
-sent_to handler (sends h parcel ∷ deeds) = if h == handler then parcel ∷ sent_to handler deeds else sent_to handler deeds
+sent_to handler (sends h parcel ∷ deeds) =
+    if h == handler then parcel ∷ sent_to handler deeds else sent_to handler deeds
 sent_to handler (gets h x ∷ deeds) = sent_to handler deeds
 sent_to handler (takes_chunk h ∷ deeds) = sent_to handler deeds
 

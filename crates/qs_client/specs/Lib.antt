@@ -1,5 +1,7 @@
-pub mod SoundMind
+-- What an auditor reads: the promises and the calls of the surface are said with these.
 pub mod ClientModel
 pub mod MindState
-pub mod ClientLanes
 pub mod ClientRuns
+-- What crates promise one another, what proofs use, and worked examples.
+pub mod SoundMind
+pub mod ClientLanes

@@ -5,16 +5,17 @@ use Rattle.qs_program.specs.Values.{Locals}
 use Rattle.qs_graph.specs.Steps.{limit}
 use Rattle.qs_sync_counts.specs.SyncRows.{CountsState}
 use Rattle.qs_syncset.specs.Codes.{BlockCode, ClientCode, IsCode, code_at}
-use Rattle.qs_client_run.specs.Client.{Client, Settings}
-use Rattle.qs_client_run.specs.ClientOfRun.{client_of}
+use Rattle.qs_client_rules.specs.Client.{Client, Settings}
+use Rattle.qs_client_run.specs.ClientOfRun.{client_of_run}
 use Rattle.qs_objects.specs.Traces.{events_of}
 use Rattle.qs_chunk.specs.Limits.{largest_chunk}
 use Rattle.qs_client_run.specs.RunState.{RunState}
-use Rattle.qs_client_run.specs.declared.stage.Outgoing.{Outgoing}
+use Rattle.qs_client_rules.specs.declared.outgoing.Outgoing.{Outgoing}
 use Rattle.qs_client.specs.ClientModel.{ClientModel, is_between}
 
--- the code and the chunks' size; the ticket of the block that was begun last, and where the client stands in it; the variables at entry of
--- the blocks that were begun; the Syncs that were sent, all and for each block and each object of its list; and what the last act gave out
+-- the code and the chunks' size; the ticket of the block that was begun last, and where the client stands in it; the
+-- variables at entry of the blocks that were begun; the Syncs that were sent, all and for each block and each object of
+-- its list; and what the last act gave out
 pub record MindState : Type 0 where
   pub code : ClientCode
   pub size : ℕ
@@ -34,7 +35,7 @@ settings_in m = record { dynamic = m.code.dynamic; size = m.size }
 
 -- the client in its block
 abbrev pub client_in : MindState → Client
-client_in m = client_of (block_of m).graph (block_of m).reserved (length m.entries) m.run
+client_in m = client_of_run (block_of m).graph (block_of m).reserved (length m.entries) m.run
 
 -- the model that the data stand for
 unfoldable pub mind_of : MindState → ClientModel

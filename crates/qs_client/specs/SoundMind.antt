@@ -7,7 +7,7 @@ use Rattle.qs_client_run.specs.BlockSizes.{longest, room_for}
 use Rattle.qs_client_run.specs.BetweenActs.{IsOutgoingAt, IsStanding}
 use Rattle.qs_objects.specs.Traces.{empty_trace, trace_at}
 use Rattle.qs_chunk.specs.Limits.{largest_chunk}
-use Rattle.qs_client_run.specs.declared.stage.Outgoing.TheVariants as outgoings
+use Rattle.qs_client_rules.specs.declared.outgoing.Outgoing.TheVariants as outgoings
 use Rattle.qs_client_run.specs.declared.stage.Stage.TheVariants as stages
 use Rattle.qs_client.specs.MindState.{MindState, block_of}
 
@@ -28,4 +28,5 @@ pub record IsSoundMind (m : MindState) : Type 0 where
   pub few_each : (k : ℕ) → AreFew (suc m.syncs) (slice_index_or m.counts.rows k [])
   pub standing : IsStanding (block_of m) m.size m.ticket.index left m.run m.run.stage
   pub gone : IsOutgoingAt (block_of m).graph m.outgoing m.run m.run.stage
-  pub later : (k : ℕ) → length m.entries ≤ k → k < length m.code.blocks → trace_at m.run.traces k ≡ empty_trace (room_for (code_at m.code k))
+  pub later : (k : ℕ) → length m.entries ≤ k → k < length m.code.blocks
+      → trace_at m.run.traces k ≡ empty_trace (room_for (code_at m.code k))

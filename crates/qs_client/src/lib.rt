@@ -5,4 +5,4 @@ pub mod laws;
 mod mind;
 
 pub use mind::Mind;
-pub use qs_client_run::Act;
+pub use qs_client_rules::Act;

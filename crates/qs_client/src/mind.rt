@@ -2,7 +2,7 @@
 
 ghost use Rattle.std.specs.Prelude.{◌≡◌, ◌<◌, ℕ, [], IfOk, IsErr, length, option_copied, slice_index_or};
 ghost use Rattle.qs_chunk.specs.Batch.{batch};
-ghost use Rattle.qs_client.specs.ClientModel.{Asks, lists_of, tally, mind_after_begin, mind_after_chunk, finish, blocks_ended, fresh_mind, mind_after_object, is_between, next_act, next_mind};
+ghost use Rattle.qs_client.specs.ClientModel.{Asks, lists_of_code, tally, mind_after_begin, mind_after_chunk, finish, blocks_ended, fresh_mind, mind_after_object, is_between, next_act, next_mind};
 ghost use Rattle.qs_sync_counts.specs.SyncRows.{AreFew, all_counts, counts_state, fresh_rows, greatest_count};
 ghost use Rattle.qs_client_run.specs.NextActs.{SendsNothing};
 ghost use Rattle.qs_client.specs.MindState.{IsMind, mind_of};
@@ -11,7 +11,8 @@ ghost use Rattle.qs_objects.specs.Traces.{events_of};
 ghost use Rattle.qs_program.specs.Limits.{most_handlers};
 
 use qs_chunk::{Chunk, ChunkSize};
-use qs_client_run::{Act, Outgoing, Run, Stage};
+use qs_client_rules::{Act, Outgoing};
+use qs_client_run::{Run, Stage};
 use qs_objects::{Event, Held, Request, Ticket, Traces};
 use qs_program::Locals;
 use qs_sync_counts::SyncCounts;
@@ -78,10 +79,10 @@ impl Model for Mind {
 
 // Of each block of a code no Sync is counted yet. An error comes only where there is a block.
 fn fresh_counts(alloc: Global, code: &Code) -> Result<SyncCounts, AllocError>
-    ensures fresh { IfOk result (λ counts. counts.rows ≡ fresh_rows (lists_of code.now.blocks)) }
+    ensures fresh { IfOk result (λ counts. counts.rows ≡ fresh_rows (lists_of_code code.now.blocks)) }
     ensures memory { IsErr result → 0 < length code.now.blocks }
 {
-    code.is_code();
+    code.keeps_code();
     let blocks = code.blocks();
     let mut room = 0;
     for block in 0..blocks {
@@ -106,13 +107,13 @@ fn tally(counts: &mut SyncCounts, outgoing: Outgoing, block: usize)
 }
 
 impl Mind {
-    /// The mind of a client that runs this code in chunks of this size, before its first block, with all the memory that it will ever need.
-    /// An error says that this memory was refused: it comes only where the client has a block.
+    /// The mind of a client that runs this code in chunks of this size, before its first block, with all the memory
+    /// that it will ever need. An error says that this memory was refused: it comes only where the client has a block.
     pub fn new(alloc: Global, code: Code, size: ChunkSize) -> Result<Mind, AllocError>
         ensures fresh { IfOk result (λ m. mind_of m ≡ fresh_mind code size) }
         ensures memory { IsErr result → 0 < length code.blocks }
     {
-        code.is_code();
+        code.keeps_code();
         let _ = size.get();
         let run = Run::new(alloc, &code)?;
         let counts = fresh_counts(alloc, &code)?;
@@ -133,7 +134,7 @@ impl Mind {
     }
 
     /// What holds of every mind. It does nothing.
-    pub fn is_mind(&self)
+    pub fn keeps_mind(&self)
         ensures mind { IsMind (mind_of self.now) }
     {
         let _ = &self.code;
@@ -157,7 +158,8 @@ impl Mind {
         self.outgoing = Outgoing::Nothing;
     }
 
-    /// What the client does next, to be called once the last act was done. An object or a chunk that it sends goes out of the mind.
+    /// What the client does next, to be called once the last act was done. An object or a chunk that it sends goes out
+    /// of the mind.
     pub fn next(&mut self) -> Act
         ensures act { result ≡ next_act (mind_of self.old) }
         ensures rest { mind_of self.new ≡ next_mind (mind_of self.old) }
@@ -267,7 +269,8 @@ impl Mind {
         self.syncs
     }
 
-    /// How many Syncs were sent, as the act after each comes: a count for each block and each object of its list, in order.
+    /// How many Syncs were sent, as the act after each comes: a count for each block and each object of its list, in
+    /// order.
     #[tactic(auto, unfolding(crate::specs::MindState::mind_of))]
     pub fn sync_counts(&self) -> &[u32]
         ensures value { result.now ≡ join_rows (all_counts (mind_of self.now).counts) }

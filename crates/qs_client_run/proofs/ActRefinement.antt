@@ -1,6 +1,7 @@
--- The act that `Run::act` answers is the one that `act_of` defines, and what stays behind is the client without what the act carries
--- (`HasActed`). The contract of `act` needs it at each stage. The idea: at each stage the code looks at the holdings of one handler, so a case
--- for the object, for the open chunk and for neither suffices; that the walk's tree is the one that the client has comes from `walk_up`.
+-- The act that `Run::act` answers is the one that `act_of` defines, and what stays behind is the client without what
+-- the act carries (`HasActed`). The contract of `act` needs it at each stage. The idea: at each stage the code looks at
+-- the holdings of one handler, so a case for the object, for the open chunk and for neither suffices; that the walk's
+-- tree is the one that the client has comes from `walk_up`.
 use Rattle.std.proofs.Common.{◌≡◌, ℕ, zero, suc, ◌<◌, ◌≤◌, false, Option, Some, None, List, length, get_or, refl, sym, ap, ◌∙◌, subst, arith}
 use Rattle.std.proofs.lemmas.List.{get_or-set_same}
 use Rattle.qs_objects.specs.Journals.{HeldState}
@@ -17,17 +18,18 @@ use Rattle.qs_syncset.specs.SoundSynced.{IsSoundSynced}
 use Rattle.qs_chunk.specs.Batch.{Batch}
 use Rattle.qs_chunk.specs.declared.parcel.Parcel.TheVariants as parcels
 use Rattle.qs_client_run.specs.NextActs.{HasActed, act_by, holdings_by, clear, clear_by, send_full, with_holdings, without, without_by}
-use Rattle.qs_client_run.specs.Client.{Settings, act_at, act_of, rest_act}
-use Rattle.qs_client_run.specs.Holdings.{held_at, chunk_at, with_chunk, holding}
-use Rattle.qs_client_run.specs.ClientOfRun.{client_of, stage_by}
+use Rattle.qs_client_rules.specs.Client.{Settings, act_at, act_of, rest_act}
+use Rattle.qs_client_run.specs.Holdings.{holding_at, chunk_at, with_chunk, holding}
+use Rattle.qs_client_run.specs.ClientOfRun.{client_of_run, stage_by}
 use Rattle.qs_client_run.specs.Running.{IsOver, IsFull, IsRunning, IsLoud}
-use Rattle.qs_client_run.specs.BetweenActs.{IsOutgoingAt, IsStanding, IsSyncing, without_act, outgoing_of}
-use Rattle.qs_client_run.specs.declared.act.Act.{Act}
-use Rattle.qs_client_run.specs.declared.act.Act.TheVariants.{Send, NeedChunk}
+use Rattle.qs_client_run.specs.BetweenActs.{IsOutgoingAt, IsStanding, IsSyncing}
+use Rattle.qs_client_rules.specs.Outgoings.{without_act, outgoing_of}
+use Rattle.qs_client_rules.specs.declared.act.Act.{Act}
+use Rattle.qs_client_rules.specs.declared.act.Act.TheVariants.{Send, NeedChunk}
 use Rattle.qs_client_run.specs.RunState.{RunState}
 use Rattle.qs_client_run.proofs.StepRefinement.{IsAmongEight, among_eight, sized_of}
 use Rattle.qs_client_run.proofs.ClearedLanes.{clears_sized, calls_sized, without_cleared, full_sized, without_full, away_at_call, away_at_sync, cleared_running, cleared_over, emptied}
-use Rattle.qs_client_run.specs.Client as clients
+use Rattle.qs_client_rules.specs.Client as clients
 use Rattle.qs_client_run.specs.declared.stage.Stage.TheVariants as stages
 
 -- what is known of what is outgoing, at a node, at the end, and with a full chunk
@@ -53,14 +55,14 @@ module _ (b : BlockCode) (settings : Settings) (blocks k begun most : ℕ) where
   at_node : (n h : ℕ) (s : RunState) (m : Move) (other : Act) → suc n ≤ most → s.stage ≡ stages.Runs → move b.graph s.position ≡ m → h < most_handlers → IsLoud m
       → IsSoundSynced (put (holding s.holdings) h false) (tree_of_move (walk b.graph n) s.position.locals m)
       → IsRunning b.graph settings.size k (suc n) s
-      → clear_by h (held_at s.holdings h) (chunk_at s.holdings h) other
-      ≡ rest_act settings (client_of b.graph b.reserved begun s) (tree_of_move (walk b.graph n) s.position.locals m)
+      → clear_by h (holding_at s.holdings h) (chunk_at s.holdings h) other
+      ≡ rest_act settings (client_of_run b.graph b.reserved begun s) (tree_of_move (walk b.graph n) s.position.locals m)
       → ((c : clients.Client) → without_act c other ≡ c)
-      → IsOutgoingAt b.graph (outgoing_of other) (with_holdings s (without_by s.holdings h (held_at s.holdings h))) stages.Runs
-      → HasActed b settings blocks k begun most (clear_by h (held_at s.holdings h) (chunk_at s.holdings h) other) s
-      (with_holdings s (without_by s.holdings h (held_at s.holdings h)))
+      → IsOutgoingAt b.graph (outgoing_of other) (with_holdings s (without_by s.holdings h (holding_at s.holdings h))) stages.Runs
+      → HasActed b settings blocks k begun most (clear_by h (holding_at s.holdings h) (chunk_at s.holdings h) other) s
+      (with_holdings s (without_by s.holdings h (holding_at s.holdings h)))
   at_node n h s m other few stands is eight loud sound w act same gone =
-      let x = held_at s.holdings h in
+      let x = holding_at s.holdings h in
       let c = chunk_at s.holdings h in
       let given = clear_by h x c other in
       let new = with_holdings s (without_by s.holdings h x) in
@@ -69,7 +71,7 @@ module _ (b : BlockCode) (settings : Settings) (blocks k begun most : ℕ) where
       record {
         act =
             act
-            ∙ sym (λ i. act_at settings blocks (client_of b.graph b.reserved begun s) (stage_by (stands i) b.reserved (tree i) s.position.locals));
+            ∙ sym (λ i. act_at settings blocks (client_of_run b.graph b.reserved begun s) (stage_by (stands i) b.reserved (tree i) s.position.locals));
         rest =
             without_cleared begun (stage_by s.stage b.reserved (walk b.graph limit s.position) s.position.locals) s.holdings h other
             (same _) (omega (arith, eight, w.held)) (omega (arith, eight, w.chunks)) x c refl refl;
@@ -98,12 +100,12 @@ module _ (b : BlockCode) (settings : Settings) (blocks k begun most : ℕ) where
   acts_by n s (Queries r t) few stands is eight loud sound w = absurd loud
   acts_by n s (Calls r t) few stands is eight loud sound w =
       at_node n r.object s (Calls r t) (NeedChunk r.object) few stands is eight loud (away_at_call (holding s.holdings) r (walk b.graph n t) sound) w
-      (calls_sized settings r.object (held_at s.holdings r.object) (chunk_at s.holdings r.object)
+      (calls_sized settings r.object (holding_at s.holdings r.object) (chunk_at s.holdings r.object)
       (sized_of settings.size (chunk_at s.holdings r.object) (w.opened r.object)))
       (λ c. refl) tt
   acts_by n s (Syncs h t) few stands is eight loud sound w =
       at_node n h s (Syncs h t) (Send h parcels.Sync) few stands is eight loud (away_at_sync (holding s.holdings) h (walk b.graph n t) sound) w
-      (clears_sized settings h (held_at s.holdings h) (chunk_at s.holdings h) (Send h parcels.Sync)
+      (clears_sized settings h (holding_at s.holdings h) (chunk_at s.holdings h) (Send h parcels.Sync)
       (sized_of settings.size (chunk_at s.holdings h) (w.opened h)))
       (λ c. refl) (subst IsSyncing (sym is) tt)
 
@@ -123,7 +125,7 @@ module _ (b : BlockCode) (settings : Settings) (blocks k begun most : ℕ) where
       record {
         act =
             full_sized settings h c (w.in_block.opened h).0
-            ∙ sym (λ i. act_at settings blocks (client_of b.graph b.reserved begun s) (stage_by (stands i) b.reserved (walk b.graph limit s.position) s.position.locals));
+            ∙ sym (λ i. act_at settings blocks (client_of_run b.graph b.reserved begun s) (stage_by (stands i) b.reserved (walk b.graph limit s.position) s.position.locals));
         rest = without_full begun (stage_by s.stage b.reserved (walk b.graph limit s.position) s.position.locals) s.holdings h room c refl;
         position = refl;
         traces = refl;
@@ -139,14 +141,14 @@ module _ (b : BlockCode) (settings : Settings) (blocks k begun most : ℕ) where
       (with_holdings s (without s.holdings (get_or b.reserved i 0)))
   acts_leaving i s stands inside eight w =
       let h = get_or b.reserved i 0 in
-      let x = held_at s.holdings h in
+      let x = holding_at s.holdings h in
       let c = chunk_at s.holdings h in
       let given = clear_by h x c (Send h parcels.End) in
       let new = with_holdings s (without_by s.holdings h x) in
       record {
         act =
             clears_sized settings h x c (Send h parcels.End) (sized_of settings.size c (w.opened h))
-            ∙ sym (λ j. act_at settings blocks (client_of b.graph b.reserved begun s) (stage_by (stands j) b.reserved (walk b.graph limit s.position) s.position.locals));
+            ∙ sym (λ j. act_at settings blocks (client_of_run b.graph b.reserved begun s) (stage_by (stands j) b.reserved (walk b.graph limit s.position) s.position.locals));
         rest =
             without_cleared begun (stage_by s.stage b.reserved (walk b.graph limit s.position) s.position.locals) s.holdings h (Send h parcels.End)
             refl (omega (arith, eight, w.held)) (omega (arith, eight, w.chunks)) x c refl refl;
@@ -158,8 +160,8 @@ module _ (b : BlockCode) (settings : Settings) (blocks k begun most : ℕ) where
       }
 
   -- an act that carries nothing
-  pub acts_empty : (s : RunState) (given : Act) → given ≡ act_of settings blocks (client_of b.graph b.reserved begun s)
-      → without_act (client_of b.graph b.reserved begun s) given ≡ client_of b.graph b.reserved begun s
+  pub acts_empty : (s : RunState) (given : Act) → given ≡ act_of settings blocks (client_of_run b.graph b.reserved begun s)
+      → without_act (client_of_run b.graph b.reserved begun s) given ≡ client_of_run b.graph b.reserved begun s
       → IsStanding b settings.size k most s s.stage → IsOutgoingAt b.graph (outgoing_of given) s s.stage
       → HasActed b settings blocks k begun most given s s
   acts_empty s given act same w gone = record {

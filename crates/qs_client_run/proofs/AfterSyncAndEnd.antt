@@ -1,6 +1,7 @@
--- What `Run::await_object` and `Run::leave_next` do once a Sync or an End was sent is what the model's `after_sync` and `after_end` do. The
--- contract of `after_send` needs it (`HasSent`). The idea: neither makes a quiet move, so the trace stays, and it only has to be shown
--- that the new stage stands for the model's: the rest of the tree after the synchronisation, or the rest of the list of handlers.
+-- What `Run::await_object` and `Run::leave_next` do once a Sync or an End was sent is what the model's `after_sync` and
+-- `after_end` do. The contract of `after_send` needs it (`HasSent`). The idea: neither makes a quiet move, so the trace
+-- stays, and it only has to be shown that the new stage stands for the model's: the rest of the tree after the
+-- synchronisation, or the rest of the list of handlers.
 use Rattle.std.proofs.Common.{◌≡◌, ℕ, zero, suc, ◌+◌, ◌<◌, ◌≤◌, Bool, true, false, nat_lt, if◌then◌else◌, List, [], ◌∷◌, length, get_or, drop, refl, sym, ap, ◌∙◌, subst, arith, append-nil, add-one, drop-cons}
 use Rattle.std.proofs.lemmas.List.{drop_all}
 use Rattle.std.proofs.lemmas.Bool.{ltb-true, ltb-false}
@@ -12,10 +13,10 @@ use Rattle.qs_graph.specs.Walk.{Spot, Move, Ends, Goes, Calls, Syncs, Queries, m
 use Rattle.qs_graph.specs.WellFormed.{IsGraph}
 use Rattle.qs_graph.proofs.Saying.{walk_up}
 use Rattle.qs_syncset.specs.Codes.{BlockCode}
-use Rattle.qs_client_run.specs.Client.{Client, Settings, after_sync, after_end, end_block, awaits, between}
+use Rattle.qs_client_rules.specs.Client.{Client, Settings, after_sync, after_end, end_block, awaits, between}
 use Rattle.qs_client_run.specs.Holdings.{HoldingsState, holding}
 use Rattle.qs_objects.specs.Traces.{TraceState, trace_at}
-use Rattle.qs_client_run.specs.ClientOfRun.{client_with, client_of, stage_by, progress_after}
+use Rattle.qs_client_run.specs.ClientOfRun.{client_with, client_of_run, stage_by, progress_after}
 use Rattle.qs_client_run.specs.Running.{IsOpen, IsOver, IsRunning}
 use Rattle.qs_client_run.specs.BetweenActs.{IsStanding, IsSyncing, HasSent, await_by, await_object, leave_next_by, leave_next}
 use Rattle.qs_client_run.specs.RunState.{RunState}
@@ -23,8 +24,8 @@ use Rattle.qs_client_run.specs.declared.run.BlockContext.{BlockContext}
 use Rattle.qs_client_run.specs.declared.stage.Stage.{Stage}
 use Rattle.qs_client_run.proofs.StepRefinement.{IsBeforeMove, ready, keeps_rows, counts_kept}
 use Rattle.qs_client_run.proofs.InBlock.{moved_in_block}
-use Rattle.qs_client_run.specs.Client as clients
-use Rattle.qs_client_run.specs.declared.stage.Outgoing.TheVariants as outgoings
+use Rattle.qs_client_rules.specs.Client as clients
+use Rattle.qs_client_rules.specs.declared.outgoing.Outgoing.TheVariants as outgoings
 use Rattle.qs_client_run.specs.declared.stage.Stage.TheVariants as stages
 
 module _ (b : BlockCode) (settings : Settings) (ticket : Ticket) (begun : ℕ) where
@@ -53,7 +54,7 @@ module _ (b : BlockCode) (settings : Settings) (ticket : Ticket) (begun : ℕ) w
     rows = keeps_rows ticket.index s.traces;
     counts = subst (EachNext (λ (u : Spot). length u.counts ≡ length s.position.counts)) w.is (counts_kept b.graph s.position);
     same =
-        let m = client_of b.graph b.reserved begun s in
+        let m = client_of_run b.graph b.reserved begun s in
         (λ i. progress_after (tr s) (after_sync settings ticket b.reserved m (stage_by (w.stands i) b.reserved (w.tree i) s.position.locals)))
         ∙ (λ i. record {
           client = client_with begun (awaits h (sym (walk_up b.graph n limit t (omega (arith, w.whole.few)) w.next) i)) s.holdings;
@@ -79,7 +80,7 @@ module _ (b : BlockCode) (settings : Settings) (ticket : Ticket) (begun : ℕ) w
       → HasSent b settings ticket begun most outgoings.End (at position holdings traces stage) (at position holdings traces (leave_next_by (length b.reserved) stage))
   left_stays most position holdings traces stage p e same on w =
       let s = at position holdings traces stage in
-      let c = client_of b.graph b.reserved begun s in
+      let c = client_of_run b.graph b.reserved begun s in
       subst (λ x. HasSent b settings ticket begun most outgoings.End s (at position holdings traces x)) (sym on)
       (record {
         standing = w;
@@ -98,7 +99,7 @@ module _ (b : BlockCode) (settings : Settings) (ticket : Ticket) (begun : ℕ) w
   leaves_on most position holdings traces i over true e =
       let inside : i + 1 < length b.reserved = ltb-true (i + 1) (length b.reserved) e in
       let s = at position holdings traces (stages.Leaves i) in
-      let c = client_of b.graph b.reserved begun s in
+      let c = client_of_run b.graph b.reserved begun s in
       let next : drop (suc i) b.reserved ≡ get_or b.reserved (i + 1) 0 ∷ drop (suc (i + 1)) b.reserved =
       ap (λ k. drop k b.reserved) (sym (add-one i)) ∙ drop-cons b.reserved (i + 1) 0 inside in
       record {
@@ -115,7 +116,7 @@ module _ (b : BlockCode) (settings : Settings) (ticket : Ticket) (begun : ℕ) w
   leaves_on most position holdings traces i over false e =
       let past : length b.reserved ≤ i + 1 = ltb-false (i + 1) (length b.reserved) e in
       let s = at position holdings traces (stages.Leaves i) in
-      let c = client_of b.graph b.reserved begun s in
+      let c = client_of_run b.graph b.reserved begun s in
       let none : drop (suc i) b.reserved ≡ [] = drop_all (suc i) b.reserved (omega (arith, past)) in
       record {
         standing = record { held = over.held; chunks = over.chunks; opened = over.opened };

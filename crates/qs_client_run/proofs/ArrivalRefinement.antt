@@ -1,7 +1,8 @@
--- What `Run::take_object` and `Run::take_chunk` do is what the model does as an object or an empty chunk comes (`HasGot`, `HasTaken`), and the
--- client then stood where it may come. The code finds the stage or the node in its data, while the caller knows only the client's next act;
--- so it is shown first that an act that sends nothing names the stage: who awaits an object is at the stage `Awaits`, who needs a chunk
--- is at a command, and who reserves is between blocks.
+-- What `Run::take_object` and `Run::take_chunk` do is what the model does as an object or an empty chunk comes
+-- (`HasGot`, `HasTaken`), and the client then stood where it may come. The code finds the stage or the node in its
+-- data, while the caller knows only the client's next act; so it is shown first that an act that sends nothing names
+-- the stage: who awaits an object is at the stage `Awaits`, who needs a chunk is at a command, and who reserves is
+-- between blocks.
 use Rattle.std.proofs.Common.{◌≡◌, ℕ, zero, suc, ◌<◌, ◌≤◌, Bool, true, false, nat_lt, if◌then◌else◌, Option, Some, None, List, [], length, length-set, get_or, refl, sym, ap, ◌∙◌, subst, arith}
 use Rattle.std.proofs.lemmas.Bool.{ltb-true}
 use Rattle.qs_objects.specs.Journals.{HeldState}
@@ -23,22 +24,23 @@ use Rattle.qs_syncset.specs.SoundSynced.{IsSoundSynced}
 use Rattle.qs_chunk.specs.Batch.{batch}
 use Rattle.qs_chunk.specs.declared.parcel.Parcel.TheVariants as parcels
 use Rattle.qs_client_run.specs.NextActs.{Wants, with_holdings, SendsNothing}
-use Rattle.qs_client_run.specs.Client.{Client, Settings, act_at, act_of, call_act, clear, take_object, rest_act, take_chunk, settle}
-use Rattle.qs_client_run.specs.Holdings.{held_at, holding, chunk_at, with_held, with_chunk}
+use Rattle.qs_client_rules.specs.Client.{Client, Settings, act_at, act_of, call_act, clear, take_object, rest_act, take_chunk, settle}
+use Rattle.qs_client_run.specs.Holdings.{holding_at, holding, chunk_at, with_held, with_chunk}
 use Rattle.qs_objects.specs.Traces.{trace_at}
 use Rattle.qs_program.specs.Limits.{most_handlers, most_objects}
-use Rattle.qs_client_run.specs.ClientOfRun.{HasSettled, client_of, items_of, progress_after, stage_by, stage_of}
+use Rattle.qs_client_run.specs.ClientOfRun.{HasSettled, client_of_run, items_of, progress_after, stage_by, stage_of}
 use Rattle.qs_client_run.specs.Running.{IsAwaiting, IsOpen, IsRunning, IsLoud}
-use Rattle.qs_client_run.specs.BetweenActs.{HasGot, HasTaken, IsStanding, outgoing_of}
-use Rattle.qs_client_run.specs.declared.act.Act.{Act}
+use Rattle.qs_client_run.specs.BetweenActs.{HasGot, HasTaken, IsStanding}
+use Rattle.qs_client_rules.specs.Outgoings.{outgoing_of}
+use Rattle.qs_client_rules.specs.declared.act.Act.{Act}
 use Rattle.qs_client_run.specs.RunState.{RunState}
 use Rattle.qs_client_run.specs.declared.stage.Stage.{Stage}
 use Rattle.qs_client_run.proofs.StepRefinement.{IsAmongEight, among_eight, standing_of}
 use Rattle.qs_client_run.proofs.StepAtNode.{moves}
 use Rattle.qs_client_run.proofs.HoldingsAsFunctions.{chunk_each, held_put, holding_put, items_put}
 use Rattle.qs_client_run.proofs.InBlock.{held_in_block}
-use Rattle.qs_client_run.specs.declared.act.Act.TheVariants as acts
-use Rattle.qs_client_run.specs.declared.stage.Outgoing.TheVariants as outgoings
+use Rattle.qs_client_rules.specs.declared.act.Act.TheVariants as acts
+use Rattle.qs_client_rules.specs.declared.outgoing.Outgoing.TheVariants as outgoings
 use Rattle.qs_client_run.specs.declared.stage.Stage.TheVariants as stages
 
 clears_other : (settings : Settings) (h : ℕ) (x : Option HeldState) (c : Option (List Request)) (other given : Act) → SendsNothing given
@@ -115,7 +117,7 @@ is_call g s h w other =
 
 module _ (b : BlockCode) (settings : Settings) (ticket : Ticket) (blocks begun most : ℕ) (s : RunState) where
   abbrev c : Client
-  c = client_of b.graph b.reserved begun s
+  c = client_of_run b.graph b.reserved begun s
 
   -- at its node a client that sends nothing needs a chunk
   quiet_by : (n : ℕ) (m : Move) (given : Act) → SendsNothing given → s.stage ≡ stages.Runs → move b.graph s.position ≡ m → IsLoud m
@@ -125,13 +127,13 @@ module _ (b : BlockCode) (settings : Settings) (ticket : Ticket) (blocks begun m
   quiet_by n (Queries r t) given quiet stands is loud e = absurd loud
   quiet_by n (Calls r t) given quiet stands is loud e = (
     r.object,
-    sym (call_other settings r.object (held_at s.holdings r.object) (items_of (chunk_at s.holdings r.object)) given quiet e),
+    sym (call_other settings r.object (holding_at s.holdings r.object) (items_of (chunk_at s.holdings r.object)) given quiet e),
     record { stands = stands; request = r; to = t; is = is; same = refl },
   )
   quiet_by n (Syncs g t) given quiet stands is loud e =
       absurd
       (subst SendsNothing
-      (sym (clears_other settings g (held_at s.holdings g) (items_of (chunk_at s.holdings g)) (acts.Send g parcels.Sync) given quiet e)) quiet)
+      (sym (clears_other settings g (holding_at s.holdings g) (items_of (chunk_at s.holdings g)) (acts.Send g parcels.Sync) given quiet e)) quiet)
 
   quiet_running : (n : ℕ) (given : Act) → SendsNothing given → s.stage ≡ stages.Runs → IsRunning b.graph settings.size ticket.index n s → IsLoud (move b.graph s.position)
       → rest_act settings c (walk b.graph limit s.position) ≡ given → (h : ℕ) × (given ≡ acts.NeedChunk h) × IsAtCall b.graph s h
@@ -157,7 +159,7 @@ module _ (b : BlockCode) (settings : Settings) (ticket : Ticket) (blocks begun m
   quiet_at given (stages.Leaves i) quiet stands w e =
       let g = get_or b.reserved i 0 in
       subst SendsNothing
-      (sym (clears_other settings g (held_at s.holdings g) (items_of (chunk_at s.holdings g)) (acts.Send g parcels.End) given quiet e)) quiet
+      (sym (clears_other settings g (holding_at s.holdings g) (items_of (chunk_at s.holdings g)) (acts.Send g parcels.End) given quiet e)) quiet
 
   waits_at : (h : ℕ) (stage : Stage) → IsQuietAt (acts.Await h) stage → stage ≡ stages.Awaits h
   waits_at h stages.Between w = absurd (between_waits (nat_lt begun blocks) h w)
@@ -220,7 +222,7 @@ module _ (b : BlockCode) (settings : Settings) (ticket : Ticket) (blocks begun m
         let goes = λ (tree : Synced) (held : ℕ → Option HeldState). progress_after tr (settle settings ticket b.reserved tree
         (record { begun = begun; stage = stage_of b.graph b.reserved s; held = held; chunk = λ j. items_of (chunk_at s.holdings j) })) in
         (λ i. progress_after tr (take_object settings ticket b.reserved c x (stage_by (stands i) b.reserved rest s.position.locals)))
-        ∙ ap (λ (tree : Synced). goes tree (put (held_at s.holdings) h (Some x))) (walk_up b.graph n limit s.position w.in_block.few w.in_block.within)
+        ∙ ap (λ (tree : Synced). goes tree (put (holding_at s.holdings) h (Some x))) (walk_up b.graph n limit s.position w.in_block.few w.in_block.within)
         ∙ ap (goes (walk b.graph n s.position)) (sym (held_put s.holdings h (Some x) (omega (arith, w.handler, w.in_block.held))))
         ∙ done.same;
   }
@@ -246,7 +248,7 @@ module _ (b : BlockCode) (settings : Settings) (ticket : Ticket) (blocks begun m
         let tr = (trace_at s.traces ticket.index).events in
         let rest = walk b.graph limit s.position in
         let goes = λ (tree : Synced) (chunk : ℕ → Option (List Request)). progress_after tr (settle settings ticket b.reserved tree
-        (record { begun = begun; stage = stage_of b.graph b.reserved s; held = held_at s.holdings; chunk = chunk })) in
+        (record { begun = begun; stage = stage_of b.graph b.reserved s; held = holding_at s.holdings; chunk = chunk })) in
         (λ i. progress_after tr (take_chunk settings ticket b.reserved c h (stage_by (stands i) b.reserved rest s.position.locals)))
         ∙ ap (λ (tree : Synced). goes tree (put (λ j. items_of (chunk_at s.holdings j)) h (Some []))) (walk_up b.graph n limit s.position w.few w.within)
         ∙ ap (goes (walk b.graph n s.position)) (sym (items_put s.holdings h (Some (batch [] settings.size)) (omega (arith, eight, w.chunks))))

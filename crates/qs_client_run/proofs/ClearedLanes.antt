@@ -1,6 +1,7 @@
--- What goes to a handler before anything else: the code's `clear` and `send_full` are the model's `clear`, given that an open chunk has the
--- size of all chunks; and what is kept after them is the client without what went, of which all still holds that held before. The proofs
--- of the acts stand on it. The idea: a case for the object, for the chunk, and for neither.
+-- What goes to a handler before anything else: the code's `clear` and `send_full` are the model's `clear`, given that
+-- an open chunk has the size of all chunks; and what is kept after them is the client without what went, of which all
+-- still holds that held before. The proofs of the acts stand on it. The idea: a case for the object, for the chunk, and
+-- for neither.
 use Rattle.std.proofs.Common.{◌≡◌, ℕ, ◌<◌, ◌==◌, Bool, true, false, Option, Some, None, List, length, length-set, refl, sym, ap, ◌∙◌, subst, arith}
 use Rattle.qs_objects.specs.Journals.{HeldState}
 use Rattle.qs_objects.specs.declared.Request.{Request}
@@ -13,15 +14,16 @@ use Rattle.qs_syncset.specs.SoundSynced.{IsSoundSynced}
 use Rattle.qs_chunk.specs.Batch.{Batch, batch}
 use Rattle.qs_chunk.specs.declared.parcel.Parcel.TheVariants as parcels
 use Rattle.qs_client_run.specs.NextActs.{clear_by, send_full, without_by}
-use Rattle.qs_client_run.specs.Client.{ClientStage, Settings, call_act, clear}
-use Rattle.qs_client_run.specs.Holdings.{HoldingsState, held_at, chunk_at, with_held, with_chunk, holding}
+use Rattle.qs_client_rules.specs.Client.{ClientStage, Settings, call_act, clear}
+use Rattle.qs_client_run.specs.Holdings.{HoldingsState, holding_at, chunk_at, with_held, with_chunk, holding}
 use Rattle.qs_client_run.specs.ClientOfRun.{client_with, items_of}
 use Rattle.qs_client_run.specs.Running.{IsOpen, IsSized, IsRunning, IsFull, IsOver}
-use Rattle.qs_client_run.specs.BetweenActs.{without_act}
-use Rattle.qs_client_run.specs.declared.act.Act.{Act}
-use Rattle.qs_client_run.specs.declared.act.Act.TheVariants.{Send, NeedChunk, Finished}
+use Rattle.qs_client_rules.specs.Outgoings.{without_act}
+use Rattle.qs_client_rules.specs.declared.act.Act.{Act}
+use Rattle.qs_client_rules.specs.declared.act.Act.TheVariants.{Send, NeedChunk, Finished}
 use Rattle.qs_client_run.specs.RunState.{RunState}
-use Rattle.qs_client_run.proofs.HoldingsAsFunctions.{held_put, items_put, holding_put, put_same, put_twice, chunk_each}
+use Rattle.qs_client_run.proofs.HoldingsAsFunctions.{held_put, items_put, holding_put, chunk_each}
+use Rattle.qs_client_rules.proofs.Puts.{put_same, put_twice}
 use Rattle.qs_client_run.proofs.InBlock.{held_in_block}
 
 pub clears_sized : (settings : Settings) (h : ℕ) (x : Option HeldState) (c : Option (Batch Request)) (other : Act) → IsSized settings.size c
@@ -43,7 +45,7 @@ full_sized settings h None w = refl
 
 -- what is kept after an act, by what the act is
 pub without_cleared : (begun : ℕ) (p : ClientStage) (s : HoldingsState) (h : ℕ) (other : Act) → without_act (client_with begun p s) other ≡ client_with begun p s
-    → h < length s.held → h < length s.chunks → (x : Option HeldState) (c : Option (Batch Request)) → held_at s h ≡ x → chunk_at s h ≡ c
+    → h < length s.held → h < length s.chunks → (x : Option HeldState) (c : Option (Batch Request)) → holding_at s h ≡ x → chunk_at s h ≡ c
     → client_with begun p (without_by s h x) ≡ without_act (client_with begun p s) (clear_by h x c other)
 without_cleared begun p s h other same inside room (Some x) c e f =
     λ i. record { begun = begun; stage = p; held = held_put s h None inside i; chunk = λ n. items_of (chunk_at s n) }
@@ -51,14 +53,14 @@ without_cleared begun p s h other same inside room None (Some b) e f =
     λ i. record {
       begun = begun;
       stage = p;
-      held = (held_put s h None inside ∙ put_same (held_at s) h None e) i;
+      held = (held_put s h None inside ∙ put_same (holding_at s) h None e) i;
       chunk = items_put (with_held s h None) h None room i;
     }
 without_cleared begun p s h other same inside room None None e f =
     (λ i. record {
       begun = begun;
       stage = p;
-      held = (held_put s h None inside ∙ put_same (held_at s) h None e) i;
+      held = (held_put s h None inside ∙ put_same (holding_at s) h None e) i;
       chunk = (items_put (with_held s h None) h None room ∙ put_same (λ n. items_of (chunk_at s n)) h None (ap items_of f)) i;
     })
     ∙ sym same
@@ -66,12 +68,12 @@ without_cleared begun p s h other same inside room None None e f =
 pub without_full : (begun : ℕ) (p : ClientStage) (s : HoldingsState) (h : ℕ) → h < length s.chunks → (c : Option (Batch Request)) → chunk_at s h ≡ c
     → client_with begun p (with_chunk s h None) ≡ without_act (client_with begun p s) (send_full h c)
 without_full begun p s h room (Some b) f =
-    λ i. record { begun = begun; stage = p; held = held_at s; chunk = items_put s h None room i }
+    λ i. record { begun = begun; stage = p; held = holding_at s; chunk = items_put s h None room i }
 without_full begun p s h room None f =
     λ i. record {
       begun = begun;
       stage = p;
-      held = held_at s;
+      held = holding_at s;
       chunk = (items_put s h None room ∙ put_same (λ n. items_of (chunk_at s n)) h None (ap items_of f)) i;
     }
 

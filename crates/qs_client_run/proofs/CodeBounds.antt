@@ -1,5 +1,6 @@
--- What a client relies on in its code: a handler of a block's list is one of 8, blocks are few, and no graph is longer than the longest. The code
--- needs it for its indexes and its room. The idea: a code is that of a sound program (`IsCode`), whose checks say it.
+-- What a client relies on in its code: a handler of a block's list is one of 8, blocks are few, and no graph is longer
+-- than the longest. The code needs it for its indexes and its room. The idea: a code is that of a sound program
+-- (`IsCode`), whose checks say it.
 use Rattle.std.proofs.Common.{◌≡◌, inl, inr, ℕ, zero, suc, ◌<◌, ◌≤◌, List, [], ◌∷◌, length, get_or, ap, arith}
 use Rattle.std.proofs.lemmas.Bool.{cases_lt}
 use Rattle.std.proofs.lemmas.List.{get_or_past}

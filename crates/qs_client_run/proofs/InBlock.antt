@@ -1,5 +1,6 @@
--- A client within a block whose holdings change, or whose position does. What `IsInBlock` says has ten parts, and an act or a quiet move
--- touches few of them: these lemmas ask for those and keep the others, so that no proof has to list all ten.
+-- A client within a block whose holdings change, or whose position does. What `IsInBlock` says has ten parts, and an
+-- act or a quiet move touches few of them: these lemmas ask for those and keep the others, so that no proof has to list
+-- all ten.
 use Rattle.std.proofs.Common.{◌≡◌, ◌≤◌, ℕ, Bool, Option, List, length}
 use Rattle.qs_objects.specs.declared.Request.{Request}
 use Rattle.qs_objects.specs.Traces.{trace_at}

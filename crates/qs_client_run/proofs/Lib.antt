@@ -6,7 +6,6 @@ pub mod StepRefinement
 pub mod HoldingsAsFunctions
 pub mod InBlock
 pub mod StepAtNode
-pub mod CarriedValues
 pub mod NodeRequirements
 pub mod AfterSyncAndEnd
 pub mod CallAndQuery

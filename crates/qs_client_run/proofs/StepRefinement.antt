@@ -1,7 +1,8 @@
--- Quiet work of the data is quiet work of the client. The contracts of `settle` and of all that resumes need it (`HasSettled`).
--- The idea: one step either goes on, and then what remains of the block's tree makes the same of the client and its trace, or it stops, and
--- then nothing remains to be done (`IsAfterStep`); each kind of move is a case, and what holds within a block is kept by each (`IsInBlock`).
--- The loop of `settle` joins steps by `goes_on` and `stops`, and ends since each step leaves one move less (`moves_fall`).
+-- Quiet work of the data is quiet work of the client. The contracts of `settle` and of all that resumes need it
+-- (`HasSettled`). The idea: one step either goes on, and then what remains of the block's tree makes the same of the
+-- client and its trace, or it stops, and then nothing remains to be done (`IsAfterStep`); each kind of move is a case,
+-- and what holds within a block is kept by each (`IsInBlock`). The loop of `settle` joins steps by `goes_on` and
+-- `stops`, and ends since each step leaves one move less (`moves_fall`).
 use Rattle.std.proofs.Common.{◌≡◌, ℕ, zero, suc, ◌<◌, ◌≤◌, Bool, true, false, not, ◌==◌, ◌&&◌, if◌then◌else◌, List, [], ◌∷◌, ◌++◌, ℤ, Option, Some, None, is_some, length, get_or, refl, sym, ap, ◌∙◌, subst, arith, append-nil, append_assoc, ⊎_elim, length-append, length-set}
 use Rattle.std.proofs.lemmas.List.{get_or-set_same, get_or-set_other}
 use Rattle.qs_objects.specs.Journals.{HeldState, run_one}
@@ -24,22 +25,24 @@ use Rattle.qs_graph.specs.declared.node.Node.TheVariants as nodes
 use Rattle.qs_syncset.specs.SoundSynced.{IsSoundSynced}
 use Rattle.qs_syncset.specs.Codes.{BlockCode}
 use Rattle.qs_chunk.specs.Batch.{Batch, batch}
-use Rattle.qs_client_run.specs.Client.{Client, Settings, Settlement, settle, stop_at, with_event, runs, full}
-use Rattle.qs_client_run.specs.Holdings.{HoldingsState, held_at, chunk_at, with_held, with_chunk, holding}
+use Rattle.qs_client_rules.specs.Client.{Client, Settings, Settlement, settle, stop_at, with_event, runs, full}
+use Rattle.qs_client_run.specs.Holdings.{HoldingsState, holding_at, chunk_at, with_held, with_chunk, holding}
 use Rattle.qs_objects.proofs.TraceRows.{empty_after_note}
 use Rattle.qs_objects.specs.Traces.{TraceState, trace_state, trace_at, with_last_event, noted_at}
 use Rattle.qs_objects.proofs.Elements.{AllByRecursion-get_or}
 use Rattle.qs_program.specs.Limits.{most_handlers, most_objects}
-use Rattle.qs_client_run.specs.ClientOfRun.{items_of, client_with, client_of, stage_of, stage_by, progress_after, progress_through, progress_at, HasSettled}
-use Rattle.qs_client_run.specs.BetweenActs.{IsStanding, HasSent, resume}
-use Rattle.qs_client_run.specs.Running.{IsInBlock, IsRunning, IsFull, IsStopped, IsLoud, IsOpen, IsSized, KeepsRows, MakesAtMost, go_to, call_by, call, query_by, query, sync, end_block, step_by, step}
+use Rattle.qs_client_run.specs.ClientOfRun.{items_of, client_with, client_of_run, stage_of, stage_by, progress_after, progress_through, progress_at, HasSettled}
+use Rattle.qs_client_run.specs.BetweenActs.{IsStanding, HasSent}
+use Rattle.qs_client_rules.specs.Outgoings.{resume}
+use Rattle.qs_client_run.specs.Running.{IsInBlock, IsRunning, IsFull, IsStopped, IsLoud, IsOpen, IsSized, KeepsRows, MakesAtMost, go_to, call_by, call, query_by, query, sync, end_block, step_by, quiet_step}
 use Rattle.qs_client_run.specs.RunState.{RunState}
 use Rattle.qs_client_run.specs.declared.run.BlockContext.{BlockContext}
 use Rattle.qs_client_run.specs.declared.stage.Stage.{Stage}
-use Rattle.qs_client_run.proofs.HoldingsAsFunctions.{held_put, items_put, holding_put, put_same, chunk_each}
+use Rattle.qs_client_run.proofs.HoldingsAsFunctions.{held_put, items_put, holding_put, chunk_each}
+use Rattle.qs_client_rules.proofs.Puts.{put_same}
 use Rattle.qs_client_run.proofs.InBlock.{held_in_block, moved_in_block}
-use Rattle.qs_client_run.specs.Client as clients
-use Rattle.qs_client_run.specs.declared.stage.Outgoing.TheVariants as outgoings
+use Rattle.qs_client_rules.specs.Client as clients
+use Rattle.qs_client_rules.specs.declared.outgoing.Outgoing.TheVariants as outgoings
 use Rattle.qs_client_run.specs.declared.stage.Stage.TheVariants as stages
 
 -- the handlers that a move names are among the 8
@@ -150,21 +153,21 @@ step_counts : (context : BlockContext) (reserved : List ℕ) (m : ℕ) (x : Move
     → length (step_by context reserved x s).0.position.counts ≡ m
 step_counts context reserved m Ends s h w = h
 step_counts context reserved m (Goes t) s h w = w
-step_counts context reserved m (Calls r t) s h w = call_counts m context.ticket.index r t s (held_at s.holdings r.object) (chunk_at s.holdings r.object) h w
-step_counts context reserved m (Syncs o t) s h w = sync_counts m (context.dynamic && is_some (held_at s.holdings o)) s t h w
-step_counts context reserved m (Queries r t) s h w = query_counts m context.ticket r t s (held_at s.holdings r.object) h w
+step_counts context reserved m (Calls r t) s h w = call_counts m context.ticket.index r t s (holding_at s.holdings r.object) (chunk_at s.holdings r.object) h w
+step_counts context reserved m (Syncs o t) s h w = sync_counts m (context.dynamic && is_some (holding_at s.holdings o)) s t h w
+step_counts context reserved m (Queries r t) s h w = query_counts m context.ticket r t s (holding_at s.holdings r.object) h w
 
-all_counts : (g : List GraphNode) (context : BlockContext) (reserved : List ℕ) (s : RunState) → length (step g context reserved s).0.position.counts ≡ length s.position.counts
+all_counts : (g : List GraphNode) (context : BlockContext) (reserved : List ℕ) (s : RunState) → length (quiet_step g context reserved s).0.position.counts ≡ length s.position.counts
 all_counts g context reserved s = step_counts context reserved (length s.position.counts) (move g s.position) s refl (counts_kept g s.position)
 
 rows_by : (context : BlockContext) (reserved : List ℕ) (m : Move) (s : RunState) → KeepsRows context.ticket.index s.traces (step_by context reserved m s).0.traces
 rows_by context reserved Ends s = keeps_rows context.ticket.index s.traces
 rows_by context reserved (Goes t) s = keeps_rows context.ticket.index s.traces
-rows_by context reserved (Calls r t) s = call_rows context.ticket.index r t s (held_at s.holdings r.object) (chunk_at s.holdings r.object)
-rows_by context reserved (Syncs h t) s = sync_rows context.ticket.index (context.dynamic && is_some (held_at s.holdings h)) s t
-rows_by context reserved (Queries r t) s = query_rows context.ticket r t s (held_at s.holdings r.object)
+rows_by context reserved (Calls r t) s = call_rows context.ticket.index r t s (holding_at s.holdings r.object) (chunk_at s.holdings r.object)
+rows_by context reserved (Syncs h t) s = sync_rows context.ticket.index (context.dynamic && is_some (holding_at s.holdings h)) s t
+rows_by context reserved (Queries r t) s = query_rows context.ticket r t s (holding_at s.holdings r.object)
 
-rows_kept : (g : List GraphNode) (context : BlockContext) (reserved : List ℕ) (s : RunState) → KeepsRows context.ticket.index s.traces (step g context reserved s).0.traces
+rows_kept : (g : List GraphNode) (context : BlockContext) (reserved : List ℕ) (s : RunState) → KeepsRows context.ticket.index s.traces (quiet_step g context reserved s).0.traces
 rows_kept g context reserved s = rows_by context reserved (move g s.position) s
 
 -- who has stopped within fewer nodes has stopped within more
@@ -182,7 +185,7 @@ one_more left (t, false) = 0
 -- how many quiet moves are left, counted up to a number
 abbrev pub moves_left : List GraphNode → BlockContext → List ℕ → ℕ → RunState → ℕ
 moves_left g context reserved zero s = 0
-moves_left g context reserved (suc most) s = one_more (moves_left g context reserved most) (step g context reserved s)
+moves_left g context reserved (suc most) s = one_more (moves_left g context reserved most) (quiet_step g context reserved s)
 
 more_on : (left : RunState → ℕ) (r : RunState × Bool) → r.1 ≡ true → one_more left r ≡ suc (left r.0)
 more_on left (t, true) e = refl
@@ -237,7 +240,7 @@ module _ (g : List GraphNode) (settings : Settings) (context : BlockContext) (re
       by_list (h ∷ hs) = ((record { held = w.whole.held; chunks = w.whole.chunks; opened = w.whole.opened }, omega arith), λ i. record { client = client_with begun (clients.leaves h hs s.position.locals) s.holdings; trace = append-nil (trace_at s.traces context.ticket.index).events i })
 
   syncs_case : (n : ℕ) (s : RunState) (h : ℕ) (t : Spot) → IsBeforeMove n s (Syncs h t) → IsAfterStep n (Sync h (walk g n t)) s (sync context.dynamic h t s)
-  syncs_case n s h t w = by_test (context.dynamic && is_some (held_at s.holdings h)) refl
+  syncs_case n s h t w = by_test (context.dynamic && is_some (holding_at s.holdings h)) refl
     where
       tr : List Event
       tr = (trace_at s.traces context.ticket.index).events
@@ -245,26 +248,26 @@ module _ (g : List GraphNode) (settings : Settings) (context : BlockContext) (re
       c : Client
       c = client_with begun p s.holdings
 
-      by_test : (b : Bool) → (context.dynamic && is_some (held_at s.holdings h)) ≡ b
+      by_test : (b : Bool) → (context.dynamic && is_some (holding_at s.holdings h)) ≡ b
           → IsAfterStep n (Sync h (walk g n t)) s (if b then (go_to s t, true) else (s, false))
       by_test true e = (
         moved_in_block g context.ticket.index (holding s.holdings) (holding s.holdings) (λ h c. IsOpen settings.size c) (λ h c. IsOpen settings.size c) s s.stage (suc n) n t w.whole
             (omega (arith, w.whole.few)) w.next w.counted
-            (subst (λ f. IsSoundSynced f (walk g n t)) (put_same (holding s.holdings) h true (and_cases context.dynamic (is_some (held_at s.holdings h)) e).1) w.sound)
+            (subst (λ f. IsSoundSynced f (walk g n t)) (put_same (holding s.holdings) h true (and_cases context.dynamic (is_some (holding_at s.holdings h)) e).1) w.sound)
             w.fits,
         refl,
         ap (λ (b : Bool). progress_after tr (if b then settle settings context.ticket reserved (walk g n t) c else stop_at c (runs (Sync h (walk g n t)))))
-            (ap (λ (d : Bool). d && is_some (held_at s.holdings h)) w.dynamic ∙ e),
+            (ap (λ (d : Bool). d && is_some (holding_at s.holdings h)) w.dynamic ∙ e),
       )
       by_test false e =
           let here = stays_here n s (Syncs h t) w tt in (
             here.0,
             ap (λ (b : Bool). progress_after tr (if b then settle settings context.ticket reserved (walk g n t) c else stop_at c (runs (Sync h (walk g n t)))))
-                (ap (λ (d : Bool). d && is_some (held_at s.holdings h)) w.dynamic ∙ e) ∙ here.1,
+                (ap (λ (d : Bool). d && is_some (holding_at s.holdings h)) w.dynamic ∙ e) ∙ here.1,
           )
 
   calls_case : (n : ℕ) (s : RunState) (r : Request) (t : Spot) → IsBeforeMove n s (Calls r t) → IsAfterStep n (Call r (walk g n t)) s (call context.ticket.index r t s)
-  calls_case n s r t w = by_holdings (held_at s.holdings r.object) (chunk_at s.holdings r.object) refl refl
+  calls_case n s r t w = by_holdings (holding_at s.holdings r.object) (chunk_at s.holdings r.object) refl refl
     where
       k : ℕ
       k = context.ticket.index
@@ -281,7 +284,7 @@ module _ (g : List GraphNode) (settings : Settings) (context : BlockContext) (re
       does : Option HeldState → Option (Batch Request) → Settlement
       does x b = clients.call settings context.ticket reserved c r (walk g n t) go x (items_of b)
 
-      by_holdings : (x : Option HeldState) (b : Option (Batch Request)) → held_at s.holdings r.object ≡ x → chunk_at s.holdings r.object ≡ b
+      by_holdings : (x : Option HeldState) (b : Option (Batch Request)) → holding_at s.holdings r.object ≡ x → chunk_at s.holdings r.object ≡ b
           → IsAfterStep n (Call r (walk g n t)) s (call_by k r t s x b)
       by_holdings (Some x) b e f =
           let here = stays_here n s (Calls r t) w tt in (here.0, (λ i. progress_after tr (does (e i) (f i))) ∙ here.1)
@@ -320,7 +323,7 @@ module _ (g : List GraphNode) (settings : Settings) (context : BlockContext) (re
           new d = record { position = t; holdings = holdings; traces = ts; stage = if d then stages.Full r.object else s.stage }
 
           after : (ℕ → Option (List Request)) → Client
-          after chunk = record { begun = begun; stage = p; held = held_at s.holdings; chunk = chunk }
+          after chunk = record { begun = begun; stage = p; held = holding_at s.holdings; chunk = chunk }
 
           ends : Client → Bool → Settlement
           ends m d = if d then stop_at m (full r.object (walk g n t)) else go m
@@ -377,7 +380,7 @@ module _ (g : List GraphNode) (settings : Settings) (context : BlockContext) (re
 
   queries_case : (n : ℕ) (s : RunState) (r : Request) (t : ℤ → Spot) → IsBeforeMove n s (Queries r t)
       → IsAfterStep n (Query r (λ v. walk g n (t v))) s (query context.ticket r t s)
-  queries_case n s r t w = by_held (held_at s.holdings r.object) refl
+  queries_case n s r t w = by_held (holding_at s.holdings r.object) refl
     where
       k : ℕ
       k = context.ticket.index
@@ -388,8 +391,8 @@ module _ (g : List GraphNode) (settings : Settings) (context : BlockContext) (re
       after : (ℕ → Option HeldState) → Client
       after held = record { begun = begun; stage = p; held = held; chunk = λ h. items_of (chunk_at s.holdings h) }
 
-      by_held : (x : Option HeldState) → held_at s.holdings r.object ≡ x → IsAfterStep n (Query r (λ v. walk g n (t v))) s (query_by context.ticket r t s x)
-      by_held None e = absurd (let no : is_some (held_at s.holdings r.object) ≡ false = ap (λ (y : Option HeldState). is_some y) e in let yes = w.sound.0 in cc)
+      by_held : (x : Option HeldState) → holding_at s.holdings r.object ≡ x → IsAfterStep n (Query r (λ v. walk g n (t v))) s (query_by context.ticket r t s x)
+      by_held None e = absurd (let no : is_some (holding_at s.holdings r.object) ≡ false = ap (λ (y : Option HeldState). is_some y) e in let yes = w.sound.0 in cc)
       by_held (Some x) e =
           let o : HeldState × Option ℤ = run_one x context.ticket r in
           let put_in : r.object < length s.holdings.held = omega (arith, w.eight, w.whole.held) in
@@ -439,7 +442,7 @@ module _ (g : List GraphNode) (settings : Settings) (context : BlockContext) (re
   }
 
   pub quiet : (n : ℕ) (s : RunState) → IsGraph g → settings.dynamic ≡ context.dynamic → s.stage ≡ stages.Runs → IsRunning g settings.size context.ticket.index (suc n) s
-      → IsAfterStep n (walk g (suc n) s.position) s (step g context reserved s)
+      → IsAfterStep n (walk g (suc n) s.position) s (quiet_step g context reserved s)
   quiet n s ok dynamic stands w = by_move n s (move g s.position) (ready n s ok dynamic stands w)
 
   leaves_on : (n : ℕ) (tree : Synced) (s : RunState) (r : RunState × Bool) → r.1 ≡ true → IsAfterStep n tree s r → IsAfterStep n tree s (r.0, true)
@@ -461,10 +464,10 @@ module _ (g : List GraphNode) (settings : Settings) (context : BlockContext) (re
     pub same : progress_through settings context.ticket reserved begun p (walk g m s.position) s ≡ progress_through settings context.ticket reserved begun p (walk g left t.position) t
 
   pub goes_on : (m : ℕ) (s t : RunState) → IsGraph g → settings.dynamic ≡ context.dynamic → s.stage ≡ stages.Runs → IsRunning g settings.size context.ticket.index m s
-      → t ≡ (step g context reserved s).0 → (step g context reserved s).1 ≡ true → HasGoneOn m s t
+      → t ≡ (quiet_step g context reserved s).0 → (quiet_step g context reserved s).1 ≡ true → HasGoneOn m s t
   goes_on zero s t ok dynamic stands w new on = absurd w.within
   goes_on (suc m) s t ok dynamic stands w new on =
-      let done = leaves_on m (walk g (suc m) s.position) s (step g context reserved s) on (quiet m s ok dynamic stands w) in
+      let done = leaves_on m (walk g (suc m) s.position) s (quiet_step g context reserved s) on (quiet m s ok dynamic stands w) in
       subst (λ u. HasGoneOn (suc m) s u) (sym new) (record { stands = done.1 ∙ stands; left = m; fewer = omega arith; rows = rows_kept g context reserved s; counts = all_counts g context reserved s; running = done.0; same = done.2 })
 
   same_after : (m most : ℕ) (tree : Synced) (s : RunState) (r : RunState × Bool) → IsAfterStep m tree s r
@@ -479,25 +482,25 @@ module _ (g : List GraphNode) (settings : Settings) (context : BlockContext) (re
   moves_same zero most s ok dynamic stands w few = absurd w.within
   moves_same (suc m) zero s ok dynamic stands w few = absurd (omega (arith, few))
   moves_same (suc m) (suc most) s ok dynamic stands w few =
-      same_after m most (walk g (suc m) s.position) s (step g context reserved s) (quiet m s ok dynamic stands w)
+      same_after m most (walk g (suc m) s.position) s (quiet_step g context reserved s) (quiet m s ok dynamic stands w)
       (λ t stays on. moves_same m most t ok dynamic (stays ∙ stands) on (omega (arith, few)))
 
   -- after a step that goes on there is one move less
   pub moves_fall : (m : ℕ) (s t : RunState) → IsGraph g → settings.dynamic ≡ context.dynamic → s.stage ≡ stages.Runs → IsRunning g settings.size context.ticket.index m s
-      → t ≡ (step g context reserved s).0 → (step g context reserved s).1 ≡ true → moves_left g context reserved limit t < moves_left g context reserved limit s
+      → t ≡ (quiet_step g context reserved s).0 → (quiet_step g context reserved s).1 ≡ true → moves_left g context reserved limit t < moves_left g context reserved limit s
   moves_fall zero s t ok dynamic stands w new on = absurd w.within
   moves_fall (suc m) s t ok dynamic stands w new on =
-      let u = (step g context reserved s).0 in
-      let done = leaves_on m (walk g (suc m) s.position) s (step g context reserved s) on (quiet m s ok dynamic stands w) in
-      let before = moves_same (suc m) limit s ok dynamic stands w w.few ∙ more_on (moves_left g context reserved m) (step g context reserved s) on in
+      let u = (quiet_step g context reserved s).0 in
+      let done = leaves_on m (walk g (suc m) s.position) s (quiet_step g context reserved s) on (quiet m s ok dynamic stands w) in
+      let before = moves_same (suc m) limit s ok dynamic stands w w.few ∙ more_on (moves_left g context reserved m) (quiet_step g context reserved s) on in
       let after = ap (moves_left g context reserved limit) new ∙ moves_same m limit u ok dynamic (done.1 ∙ stands) done.0 (omega (arith, w.few)) in
       omega (arith, before, after)
 
   pub stops : (m : ℕ) (s t : RunState) → IsGraph g → settings.dynamic ≡ context.dynamic → s.stage ≡ stages.Runs → IsRunning g settings.size context.ticket.index m s
-      → t ≡ (step g context reserved s).0 → (step g context reserved s).1 ≡ false → HasSettled g settings context.ticket reserved begun p m s t
+      → t ≡ (quiet_step g context reserved s).0 → (quiet_step g context reserved s).1 ≡ false → HasSettled g settings context.ticket reserved begun p m s t
   stops zero s t ok dynamic stands w new off = absurd w.within
   stops (suc m) s t ok dynamic stands w new off =
-      let done = leaves_off m (walk g (suc m) s.position) s (step g context reserved s) off (quiet m s ok dynamic stands w) in
+      let done = leaves_off m (walk g (suc m) s.position) s (quiet_step g context reserved s) off (quiet m s ok dynamic stands w) in
       subst (HasSettled g settings context.ticket reserved begun p (suc m) s) (sym new) (record { stopped = done.0; rows = rows_kept g context reserved s; counts = all_counts g context reserved s; same = done.1 })
 
 -- where it stopped it may stay until its next act
@@ -532,7 +535,7 @@ resumes b settings ticket begun n most old new stage at few on w done = record {
   same =
       let tr = (trace_at old.traces ticket.index).events in
       let rest = walk b.graph limit old.position in
-      let m = client_of b.graph b.reserved begun old in
+      let m = client_of_run b.graph b.reserved begun old in
       (λ i. progress_after tr (resume settings ticket b.reserved m (stage_by (at i) b.reserved rest old.position.locals)))
       ∙ ap (progress_after tr) (on m rest)
       ∙ ap (λ tree. progress_after tr (settle settings ticket b.reserved tree m)) (walk_up b.graph n limit old.position w.few w.within)

@@ -1,57 +1,23 @@
--- A client between two acts: what its last act left to be done, what then holds of what its run keeps, and what the run keeps once that was
--- done, once an object came, or once an empty chunk came. The contracts of `after_send`, `take_object` and `take_chunk` say it by these.
+-- A client between two acts: what holds of what its run keeps, and what the run keeps once what its last act left to be
+-- done was done, once an object came, or once an empty chunk came. The contracts of `after_send`, `take_object` and
+-- `take_chunk` say it by these.
 use Rattle.std.specs.Prelude.{ℕ, ◌≡◌, ◌<◌, ◌≤◌, ◌+◌, ◌-◌, nat_lt, if◌then◌else◌, List, length, None}
 use Rattle.qs_objects.specs.Journals.{HeldState}
 use Rattle.qs_objects.specs.declared.held.Ticket.{Ticket}
 use Rattle.qs_graph.specs.Nodes.{GraphNode}
 use Rattle.qs_graph.specs.Walk.{Move, Syncs, move}
 use Rattle.qs_syncset.specs.Codes.{BlockCode}
-use Rattle.qs_chunk.specs.declared.parcel.Parcel.TheVariants as parcels
-use Rattle.qs_client_run.specs.declared.stage.Outgoing.{Outgoing}
-use Rattle.qs_client_run.specs.Client.{Client, Settings, Settlement, ClientStage, settle, stop_at, set_held, set_chunk, take_object, take_chunk, after_sync, after_end, runs, full}
+use Rattle.qs_client_rules.specs.declared.outgoing.Outgoing.{Outgoing}
+use Rattle.qs_client_rules.specs.Client.{Settings, Settlement, take_object, take_chunk}
+use Rattle.qs_client_rules.specs.Outgoings.{after_send}
 use Rattle.qs_client_run.specs.Holdings.{chunk_at}
 use Rattle.qs_objects.specs.Traces.{trace_at}
-use Rattle.qs_client_run.specs.ClientOfRun.{client_of, stage_of, progress_after, progress_at}
+use Rattle.qs_client_run.specs.ClientOfRun.{client_of_run, stage_of, progress_after, progress_at}
 use Rattle.qs_client_run.specs.Running.{IsAwaiting, IsOver, IsStopped, KeepsRows}
-use Rattle.qs_client_run.specs.declared.act.Act.{Act}
 use Rattle.qs_client_run.specs.RunState.{RunState}
 use Rattle.qs_client_run.specs.declared.stage.Stage.{Stage}
-use Rattle.qs_client_run.specs.declared.stage.Outgoing.TheVariants as outgoings
-use Rattle.qs_client_run.specs.declared.act.Act.TheVariants as acts
+use Rattle.qs_client_rules.specs.declared.outgoing.Outgoing.TheVariants as outgoings
 use Rattle.qs_client_run.specs.declared.stage.Stage.TheVariants as stages
-
--- how many Syncs went out
-abbrev pub count_sync : Outgoing → ℕ
-count_sync (outgoings.Sync h) = 1
-count_sync outgoing = 0
-
--- what an act gives out, as far as something is left to be done once that was sent
-abbrev pub outgoing_of : Act → Outgoing
-outgoing_of (acts.Send h (parcels.Home x)) = outgoings.Value
-outgoing_of (acts.Send h (parcels.Work c)) = outgoings.Value
-outgoing_of (acts.Send h parcels.Sync) = outgoings.Sync h
-outgoing_of (acts.Send h parcels.End) = outgoings.End
-outgoing_of act = outgoings.Nothing
-
--- a client without what an act carries
-abbrev pub without_act : Client → Act → Client
-without_act m (acts.Send h (parcels.Home x)) = set_held m h None
-without_act m (acts.Send h (parcels.Work c)) = set_chunk m h None
-without_act m act = m
-
-module _ (settings : Settings) (ticket : Ticket) (reserved : List ℕ) where
-  -- a client goes on, once the object or the chunk that was in its way has gone
-  abbrev pub resume : Client → ClientStage → Settlement
-  resume m (runs rest) = settle settings ticket reserved rest m
-  resume m (full h rest) = settle settings ticket reserved rest m
-  resume m p = stop_at m p
-
-  -- what a client does once its last act was sent
-  abbrev pub after_send : Outgoing → Client → Settlement
-  after_send outgoings.Nothing m = stop_at m m.stage
-  after_send outgoings.Value m = resume m m.stage
-  after_send (outgoings.Sync h) m = after_sync settings ticket reserved m m.stage
-  after_send outgoings.End m = after_end settings ticket reserved m m.stage
 
 -- after a Sync was sent the object is awaited
 abbrev pub await_by : Move → RunState → RunState
@@ -82,7 +48,8 @@ abbrev pub IsSyncing : Move → Type 0
 IsSyncing (Syncs h t) = Unit {0}
 IsSyncing m = ⊥
 
--- what is outgoing left from here: a full chunk is no more among the holdings, and a Sync was given out at a synchronisation
+-- what is outgoing left from here: a full chunk is no more among the holdings, and a Sync was given out at a
+-- synchronisation
 abbrev pub IsOutgoingAt : List GraphNode → Outgoing → RunState → Stage → Type 0
 IsOutgoingAt g outgoings.Value s (stages.Full h) = chunk_at s.holdings h ≡ None
 IsOutgoingAt g (outgoings.Sync h) s stages.Runs = IsSyncing (move g s.position)
@@ -90,11 +57,13 @@ IsOutgoingAt g (outgoings.Sync h) s stage = ⊥
 IsOutgoingAt g outgoing s stage = Unit {0}
 
 -- a client that has come to its next act, at most `most` nodes from its block's end, and has done just what `by` says
-pub record HasCome (b : BlockCode) (settings : Settings) (ticket : Ticket) (begun most : ℕ) (by : Settlement) (old new : RunState) : Type 0 where
+pub record HasCome (b : BlockCode) (settings : Settings) (ticket : Ticket) (begun most : ℕ) (by : Settlement)
+    (old new : RunState) : Type 0 where
   pub standing : IsStanding b settings.size ticket.index most new new.stage
   pub rows : KeepsRows ticket.index old.traces new.traces
   pub counts : length new.position.counts ≡ length old.position.counts
-  pub same : progress_after (trace_at old.traces ticket.index).events by ≡ progress_at b.graph b.reserved begun ticket.index new
+  pub same : progress_after (trace_at old.traces ticket.index).events by
+      ≡ progress_at b.graph b.reserved begun ticket.index new
 
 -- how many nodes are left of so many: a Sync that was sent took one
 abbrev pub nodes_left : Outgoing → ℕ → ℕ
@@ -104,14 +73,17 @@ nodes_left outgoing most = most
 -- a client once its last act was sent, up to its next act
 abbrev pub HasSent : BlockCode → Settings → Ticket → ℕ → ℕ → Outgoing → RunState → RunState → Type 0
 HasSent b settings ticket begun most outgoing old new =
-    HasCome b settings ticket begun (nodes_left outgoing most) (after_send settings ticket b.reserved outgoing (client_of b.graph b.reserved begun old)) old new
+    HasCome b settings ticket begun (nodes_left outgoing most)
+    (after_send settings ticket b.reserved outgoing (client_of_run b.graph b.reserved begun old)) old new
 
 -- a client once the object came that it waited for, up to its next act
 abbrev pub HasGot : BlockCode → Settings → Ticket → ℕ → ℕ → HeldState → RunState → RunState → Type 0
 HasGot b settings ticket begun most x old new =
-    HasCome b settings ticket begun most (take_object settings ticket b.reserved (client_of b.graph b.reserved begun old) x (stage_of b.graph b.reserved old)) old new
+    HasCome b settings ticket begun most (take_object settings ticket b.reserved
+    (client_of_run b.graph b.reserved begun old) x (stage_of b.graph b.reserved old)) old new
 
 -- a client once an empty chunk for handler h came, up to its next act
 abbrev pub HasTaken : BlockCode → Settings → Ticket → ℕ → ℕ → ℕ → RunState → RunState → Type 0
 HasTaken b settings ticket begun most h old new =
-    HasCome b settings ticket begun most (take_chunk settings ticket b.reserved (client_of b.graph b.reserved begun old) h (stage_of b.graph b.reserved old)) old new
+    HasCome b settings ticket begun most (take_chunk settings ticket b.reserved
+    (client_of_run b.graph b.reserved begun old) h (stage_of b.graph b.reserved old)) old new

@@ -10,15 +10,15 @@ pub record HoldingsState : Type 0 where
   pub held : List (Option HeldState)
   pub chunks : List (Option (Batch Request))
 
-abbrev pub held_at : HoldingsState → ℕ → Option HeldState
-held_at s h = slice_index_or s.held h None
+abbrev pub holding_at : HoldingsState → ℕ → Option HeldState
+holding_at s h = slice_index_or s.held h None
 
 abbrev pub chunk_at : HoldingsState → ℕ → Option (Batch Request)
 chunk_at s h = slice_index_or s.chunks h None
 
 -- for each handler whether its object is held
 abbrev pub holding : HoldingsState → ℕ → Bool
-holding s h = is_some (held_at s h)
+holding s h = is_some (holding_at s h)
 
 abbrev pub with_held : HoldingsState → ℕ → Option HeldState → HoldingsState
 with_held s h x = record { held = slice_set s.held h x; chunks = s.chunks }

@@ -1,4 +1,5 @@
--- The next act of a client, by what its run keeps: what the act carries, what is left, and what the contract of `act` says of both.
+-- The next act of a client, by what its run keeps: what the act carries, what is left, and what the contract of `act`
+-- says of both.
 use Rattle.std.specs.Prelude.{◌≡◌, ◌<◌, ℕ, Option, Some, None}
 use Rattle.qs_objects.specs.Journals.{HeldState}
 use Rattle.qs_objects.specs.declared.Request.{Request}
@@ -7,16 +8,17 @@ use Rattle.qs_syncset.specs.Codes.{BlockCode}
 use Rattle.qs_chunk.specs.Batch.{Batch}
 use Rattle.qs_chunk.specs.declared.parcel.Parcel.{Parcel}
 use Rattle.qs_chunk.specs.declared.parcel.Parcel.TheVariants as parcels
-use Rattle.qs_client_run.specs.Client.{Settings, act_of}
-use Rattle.qs_client_run.specs.Holdings.{HoldingsState, held_at, chunk_at, with_held, with_chunk}
-use Rattle.qs_client_run.specs.ClientOfRun.{client_of}
-use Rattle.qs_client_run.specs.BetweenActs.{IsOutgoingAt, IsStanding, without_act, outgoing_of}
-use Rattle.qs_client_run.specs.declared.act.Act.{Act}
-use Rattle.qs_client_run.specs.declared.act.Act.TheVariants.{Send, NeedChunk, Finished}
+use Rattle.qs_client_rules.specs.Client.{Settings, act_of}
+use Rattle.qs_client_run.specs.Holdings.{HoldingsState, holding_at, chunk_at, with_held, with_chunk}
+use Rattle.qs_client_run.specs.ClientOfRun.{client_of_run}
+use Rattle.qs_client_run.specs.BetweenActs.{IsOutgoingAt, IsStanding}
+use Rattle.qs_client_rules.specs.Outgoings.{without_act, outgoing_of}
+use Rattle.qs_client_rules.specs.declared.act.Act.{Act}
+use Rattle.qs_client_rules.specs.declared.act.Act.TheVariants.{Send, NeedChunk, Finished}
 use Rattle.qs_client_run.specs.RunState.{RunState}
 use Rattle.qs_client_run.specs.declared.stage.Stage.{Stage}
 use Rattle.qs_client_run.specs.declared.stage.Stage.TheVariants as stages
-use Rattle.qs_client_run.specs.declared.act.Act.TheVariants as acts
+use Rattle.qs_client_rules.specs.declared.act.Act.TheVariants as acts
 
 -- what goes to a handler first: a held object goes home; else an open chunk goes
 abbrev pub first_parcel : Option HeldState → Option (Batch Request) → Option Parcel
@@ -33,7 +35,7 @@ abbrev pub clear_by : ℕ → Option HeldState → Option (Batch Request) → Ac
 clear_by h x c other = send_or h (first_parcel x c) other
 
 abbrev pub clear : HoldingsState → ℕ → Act → Act
-clear s h other = clear_by h (held_at s h) (chunk_at s h) other
+clear s h other = clear_by h (holding_at s h) (chunk_at s h) other
 
 -- the holdings without what went
 abbrev pub without_by : HoldingsState → ℕ → Option HeldState → HoldingsState
@@ -41,7 +43,7 @@ without_by s h (Some x) = with_held s h None
 without_by s h None = with_chunk (with_held s h None) h None
 
 abbrev pub without : HoldingsState → ℕ → HoldingsState
-without s h = without_by s h (held_at s h)
+without s h = without_by s h (holding_at s h)
 
 -- the act at a node, and the holdings after it
 abbrev pub act_by : HoldingsState → Move → Act
@@ -69,9 +71,10 @@ IsInside stages.Between k blocks = Unit {0}
 IsInside stage k blocks = k < blocks
 
 -- a run as its next act comes: without what the act carries, and else as it was
-pub record HasActed (b : BlockCode) (settings : Settings) (blocks k begun most : ℕ) (given : Act) (old new : RunState) : Type 0 where
-  pub act : given ≡ act_of settings blocks (client_of b.graph b.reserved begun old)
-  pub rest : client_of b.graph b.reserved begun new ≡ without_act (client_of b.graph b.reserved begun old) given
+pub record HasActed (b : BlockCode) (settings : Settings) (blocks k begun most : ℕ) (given : Act)
+    (old new : RunState) : Type 0 where
+  pub act : given ≡ act_of settings blocks (client_of_run b.graph b.reserved begun old)
+  pub rest : client_of_run b.graph b.reserved begun new ≡ without_act (client_of_run b.graph b.reserved begun old) given
   pub position : new.position ≡ old.position
   pub traces : new.traces ≡ old.traces
   pub stage : new.stage ≡ old.stage
@@ -79,9 +82,10 @@ pub record HasActed (b : BlockCode) (settings : Settings) (blocks k begun most :
   pub gone : IsOutgoingAt b.graph (outgoing_of given) new new.stage
 
 -- a run whose client has this to do next
-pub record Wants (b : BlockCode) (settings : Settings) (blocks k begun most : ℕ) (s : RunState) (wanted : Act) : Type 0 where
+pub record Wants (b : BlockCode) (settings : Settings) (blocks k begun most : ℕ) (s : RunState)
+    (wanted : Act) : Type 0 where
   pub standing : IsStanding b settings.size k most s s.stage
-  pub act : act_of settings blocks (client_of b.graph b.reserved begun s) ≡ wanted
+  pub act : act_of settings blocks (client_of_run b.graph b.reserved begun s) ≡ wanted
 
 -- an act that sends nothing
 abbrev pub SendsNothing : Act → Type 0

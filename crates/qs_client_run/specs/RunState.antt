@@ -5,7 +5,8 @@ use Rattle.qs_objects.specs.Traces.{TraceState}
 use Rattle.qs_client_run.specs.Holdings.{HoldingsState}
 use Rattle.qs_client_run.specs.declared.stage.Stage.{Stage}
 
--- the position in the block's graph, the objects that the client holds and its open chunks, the traces of all its blocks, and its stage
+-- the position in the block's graph, the objects that the client holds and its open chunks, the traces of all its
+-- blocks, and its stage
 pub record RunState : Type 0 where
   pub position : Spot
   pub holdings : HoldingsState

@@ -1,5 +1,6 @@
--- A client within a block, by what its run keeps: one quiet move, which the code makes by `step`, and what holds of the client at each stage.
--- The rules have the names of `Client.antt` and of the code: `call`, `query`, `sync`, `end_block`.
+-- A client within a block, by what its run keeps: one quiet move, which the code makes by `quiet_step`, and what holds
+-- of the client at each stage. The rules have the names of `Client.antt` and of the code: `call`, `query`, `sync`,
+-- `end_block`.
 use Rattle.std.specs.Prelude.{◌≡◌, ◌<◌, ◌≤◌, ℕ, ◌-◌, ◌==◌, ℤ, Bool, true, false, not, ◌&&◌, if◌then◌else◌, is_some, List, [], ◌∷◌, ◌++◌, length, Option, Some, None}
 use Rattle.qs_objects.specs.Journals.{HeldState, run_one}
 use Rattle.qs_objects.specs.Parts.{command_event}
@@ -12,7 +13,7 @@ use Rattle.qs_graph.specs.Synced.{Synced, Done, Call, Sync, Query}
 use Rattle.qs_graph.specs.Walk.{Spot, Move, Ends, Goes, Calls, Syncs, Queries, move, walk, Within}
 use Rattle.qs_syncset.specs.SoundSynced.{IsSoundSynced}
 use Rattle.qs_chunk.specs.Batch.{Batch, batch}
-use Rattle.qs_client_run.specs.Holdings.{held_at, holding, chunk_at, with_held, with_chunk}
+use Rattle.qs_client_run.specs.Holdings.{holding_at, holding, chunk_at, with_held, with_chunk}
 use Rattle.qs_objects.specs.Traces.{AreEmptyAfter, TraceState, trace_at, noted_at}
 use Rattle.qs_program.specs.Limits.{most_handlers}
 use Rattle.qs_client_run.specs.declared.stage.Stage.{Stage}
@@ -43,7 +44,7 @@ call_by k r t s None None = (s, false)
 call_by k r t s None (Some b) = fill k r t s b
 
 abbrev pub call : ℕ → Request → Spot → RunState → RunState × Bool
-call k r t s = call_by k r t s (held_at s.holdings r.object) (chunk_at s.holdings r.object)
+call k r t s = call_by k r t s (holding_at s.holdings r.object) (chunk_at s.holdings r.object)
 
 -- a query is run by the client itself on the object that it holds
 abbrev pub query_by : Ticket → Request → (ℤ → Spot) → RunState → Option HeldState → RunState × Bool
@@ -59,11 +60,11 @@ query_by u r t s (Some x) =
     (new, true)
 
 abbrev pub query : Ticket → Request → (ℤ → Spot) → RunState → RunState × Bool
-query u r t s = query_by u r t s (held_at s.holdings r.object)
+query u r t s = query_by u r t s (holding_at s.holdings r.object)
 
 -- a synchronisation with an object that is held is skipped, where the client tests that
 abbrev pub sync : Bool → ℕ → Spot → RunState → RunState × Bool
-sync dynamic h t s = if dynamic && is_some (held_at s.holdings h) then (go_to s t, true) else (s, false)
+sync dynamic h t s = if dynamic && is_some (holding_at s.holdings h) then (go_to s t, true) else (s, false)
 
 -- at the end of a block the handlers of its list are left in order
 abbrev pub stage_at_end : List ℕ → Stage
@@ -81,8 +82,8 @@ step_by context reserved (Syncs h t) s = sync context.dynamic h t s
 step_by context reserved (Queries r t) s = query context.ticket r t s
 
 -- one quiet move, and whether another may follow
-abbrev pub step : List GraphNode → BlockContext → List ℕ → RunState → RunState × Bool
-step g context reserved s = step_by context reserved (move g s.position) s
+abbrev pub quiet_step : List GraphNode → BlockContext → List ℕ → RunState → RunState × Bool
+quiet_step g context reserved s = step_by context reserved (move g s.position) s
 
 -- each path, whatever the replies, makes at most n requests
 abbrev pub MakesAtMost : ℕ → Synced → Type 0
@@ -96,9 +97,10 @@ abbrev pub IsOpen : ℕ → Option (Batch Request) → Type 0
 IsOpen size None = Unit {0}
 IsOpen size (Some b) = (b.capacity ≡ size) × (length b.items < size)
 
--- what holds of a client within a block, at most n nodes from its end: the rest of the block may rely on these objects as held, and this holds
--- of the open chunk of each handler
-pub record IsInBlock (g : List GraphNode) (k n : ℕ) (relied : ℕ → Bool) (IsChunk : ℕ → Option (Batch Request) → Type 0) (s : RunState) : Type 0 where
+-- what holds of a client within a block, at most n nodes from its end: the rest of the block may rely on these objects
+-- as held, and this holds of the open chunk of each handler
+pub record IsInBlock (g : List GraphNode) (k n : ℕ) (relied : ℕ → Bool) (IsChunk : ℕ → Option (Batch Request) → Type 0)
+    (s : RunState) : Type 0 where
   pub few : n ≤ limit
   pub within : Within g n s.position
   pub counted : length g ≤ length s.position.counts
@@ -143,7 +145,8 @@ pub record IsOver (g : List GraphNode) (size : ℕ) (s : RunState) : Type 0 wher
 
 -- a client that makes no quiet move at its stage, at most `most` nodes from its block's end
 abbrev pub IsStopped : List GraphNode → List ℕ → ℕ → ℕ → ℕ → RunState → Stage → Type 0
-IsStopped g reserved size k most s stages.Runs = (n : ℕ) × (n ≤ most) × IsRunning g size k n s × IsLoud (move g s.position)
+IsStopped g reserved size k most s stages.Runs =
+    (n : ℕ) × (n ≤ most) × IsRunning g size k n s × IsLoud (move g s.position)
 IsStopped g reserved size k most s (stages.Full h) = (n : ℕ) × (n ≤ most) × IsFull g size k n h s
 IsStopped g reserved size k most s (stages.Awaits h) = ⊥
 IsStopped g reserved size k most s (stages.Leaves i) = IsOver g size s × (i < length reserved)

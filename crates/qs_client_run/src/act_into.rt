@@ -6,22 +6,23 @@ ghost use Rattle.qs_chunk.specs.declared.parcel.Parcel.TheVariants as parcels;
 ghost use Rattle.qs_graph.specs.Walk.{move};
 ghost use Rattle.qs_syncset.specs.Codes.{code_at};
 ghost use Rattle.qs_client_run.specs.NextActs.{HasActed, IsInside, act_by, clear, send_full, holdings_by, with_holdings, without};
-ghost use Rattle.qs_client_run.specs.Client.{Settings};
-ghost use Rattle.qs_client_run.specs.Holdings.{chunk_at, held_at, with_chunk, with_held};
+ghost use Rattle.qs_client_rules.specs.Client.{Settings};
+ghost use Rattle.qs_client_run.specs.Holdings.{chunk_at, holding_at, with_chunk, with_held};
 ghost use Rattle.qs_client_run.specs.Running.{IsLoud};
 ghost use Rattle.qs_client_run.specs.BetweenActs.{IsStanding};
-ghost use Rattle.qs_client_run.specs.declared.act.Act.{Act as ActShape};
+ghost use Rattle.qs_client_rules.specs.declared.act.Act.{Act as ActShape};
 
-use crate::act::Act;
 use crate::holdings::Holdings;
 use crate::run::Run;
 use crate::stage::Stage;
 use qs_chunk::Parcel;
+use qs_client_rules::Act;
 use qs_graph::{Graph, Node};
 use qs_objects::Ticket;
 use qs_syncset::Code;
 
-// An act takes the place of another one. Of one that sends nothing, nothing is to be dropped: so both branches do the same.
+// An act takes the place of another one. Of one that sends nothing, nothing is to be dropped: so both branches do the
+// same.
 #[inline(always)]
 fn put(act: &mut Act, next: Act)
     ensures put { act.new ≡ next }
@@ -38,7 +39,7 @@ impl Holdings {
     #[inline(always)]
     fn send_home(&mut self, handler: u8, act: &mut Act)
         requires handler { handler < most_handlers }
-        ensures goes { is_some (held_at self.old handler) ≡ true → (other : ActShape) → act.new ≡ clear self.old handler other }
+        ensures goes { is_some (holding_at self.old handler) ≡ true → (other : ActShape) → act.new ≡ clear self.old handler other }
         ensures rest { self.new ≡ with_held self.old handler None }
     {
         if let Some(held) = self.take_held(handler) {
@@ -50,7 +51,7 @@ impl Holdings {
     #[inline(always)]
     fn send_chunk(&mut self, handler: u8, act: &mut Act)
         requires handler { handler < most_handlers }
-        ensures goes { is_some (held_at self.old handler) ≡ false → is_some (chunk_at self.old handler) ≡ true
+        ensures goes { is_some (holding_at self.old handler) ≡ false → is_some (chunk_at self.old handler) ≡ true
             → (other : ActShape) → act.new ≡ clear self.old handler other }
         ensures rest { self.new ≡ with_chunk self.old handler None }
     {
@@ -132,7 +133,7 @@ impl Run {
         ensures act { act.new ≡ act_by self.old.holdings (move graph.now.nodes self.old.position) }
         ensures rest { self.new ≡ with_holdings self.old (holdings_by self.old.holdings (move graph.now.nodes self.old.position)) }
     {
-        graph.is_graph();
+        graph.keeps_graph();
         match graph.node(self.position.node()) {
             Node::Call(call) => self.holdings.clear_or_chunk(call.object, act),
             Node::Sync(name) => self.holdings.clear_or_sync(*name, act),
@@ -140,7 +141,8 @@ impl Run {
         }
     }
 
-    /// The next act of a client that has begun so many blocks, put where another act lay. What the act carries goes out.
+    /// The next act of a client that has begun so many blocks, put where another act lay. What the act carries goes
+    /// out.
     pub fn act_into(&mut self, code: &Code, ticket: Ticket, begun: usize, act: &mut Act)
         requires inside { IsInside self.old.stage ticket.index (length code.now.blocks) }
         requires standing { (size : ℕ) × (most : ℕ) × IsStanding (code_at code.now ticket.index) size ticket.index most self.old self.old.stage }
@@ -148,7 +150,7 @@ impl Run {
             → IsStanding (code_at code.now ticket.index) settings.size ticket.index most self.old self.old.stage
             → HasActed (code_at code.now ticket.index) settings (length code.now.blocks) ticket.index begun most act.new self.old self.new }
     {
-        code.is_code();
+        code.keeps_code();
         let block = usize::from(ticket.index);
         match self.stage {
             Stage::Between => {
@@ -160,7 +162,7 @@ impl Run {
             }
             Stage::Runs => {
                 let graph = code.graph(block);
-                graph.is_graph();
+                graph.keeps_graph();
                 self.act_at_node(graph, act);
             }
             Stage::Full(handler) => self.holdings.send_full(handler, act),

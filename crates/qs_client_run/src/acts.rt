@@ -4,34 +4,17 @@ ghost use Rattle.std.specs.Prelude.{◌≡◌, ◌<◌, [], ℕ, length};
 ghost use Rattle.qs_chunk.specs.Batch.{batch};
 ghost use Rattle.qs_syncset.specs.Codes.{code_at};
 ghost use Rattle.qs_client_run.specs.NextActs.{HasActed, IsInside, Wants};
-ghost use Rattle.qs_client_run.specs.Client.{Settings};
-ghost use Rattle.qs_client_run.specs.BetweenActs.{HasGot, HasTaken, IsStanding, outgoing_of};
+ghost use Rattle.qs_client_rules.specs.Client.{Settings};
+ghost use Rattle.qs_client_run.specs.BetweenActs.{HasGot, HasTaken, IsStanding};
 
-use crate::act::Act;
 use crate::holdings::Holdings;
 use crate::run::Run;
-use crate::stage::{Outgoing, Stage};
-use qs_chunk::{Chunk, Parcel};
+use crate::stage::Stage;
+use qs_chunk::Chunk;
+use qs_client_rules::Act;
 use qs_graph::{Graph, Node};
 use qs_objects::{Held, Request, Ticket};
 use qs_syncset::Code;
-
-impl Act {
-    /// What the act gives out, as far as something is left to be done once that was sent.
-    pub fn outgoing(&self) -> Outgoing
-        ensures value { result ≡ outgoing_of self.now }
-    {
-        let Act::Send(handler, parcel) = self else {
-            return Outgoing::Nothing;
-        };
-        match parcel {
-            Parcel::Home(_) => Outgoing::Value,
-            Parcel::Work(_) => Outgoing::Value,
-            Parcel::Sync => Outgoing::Sync(*handler),
-            Parcel::End => Outgoing::End,
-        }
-    }
-}
 
 impl Run {
     /// The object came that the client waits for.
@@ -61,7 +44,7 @@ impl Run {
             → HasTaken (code_at code.now ticket.index) settings ticket begun most h self.old self.new }
     {
         let graph = code.graph(usize::from(ticket.index));
-        graph.is_graph();
+        graph.keeps_graph();
         let Node::Call(call) = graph.node(self.position.node()) else {
             unreachable!();
         };

@@ -2,27 +2,29 @@
 
 ghost use Rattle.std.specs.Prelude.{◌≡◌, ◌<◌, ℕ, IsTrue, List, false, length};
 ghost use Rattle.qs_syncset.specs.Codes.{code_at};
-ghost use Rattle.qs_client_run.specs.Client.{ClientStage, Settings};
+ghost use Rattle.qs_client_rules.specs.Client.{ClientStage, Settings};
 ghost use Rattle.qs_client_run.specs.ClientOfRun.{HasSettled};
 ghost use Rattle.qs_client_run.specs.BetweenActs.{HasSent, IsOutgoingAt, IsStanding, leave_next, await_object};
-ghost use Rattle.qs_client_run.specs.Running.{IsRunning, step};
+ghost use Rattle.qs_client_run.specs.Running.{IsRunning, quiet_step};
 ghost use Rattle.qs_client_run.specs.declared.run.BlockContext.{BlockContext};
 
 use crate::run::{BlockContext, Run};
-use crate::stage::{Outgoing, Stage};
+use crate::stage::Stage;
+use qs_client_rules::Outgoing;
 use qs_graph::{Graph, Node};
 use qs_objects::Ticket;
 use qs_syncset::Code;
 
 impl Run {
-    // Whether the client can make no quiet move, as at a command that may go into no chunk, or at a synchronisation that is not skipped.
+    // Whether the client can make no quiet move, as at a command that may go into no chunk, or at a synchronisation
+    // that is not skipped.
     #[inline(always)]
     pub(crate) fn rests(&self, graph: &Graph, dynamic: bool) -> bool
         requires inside { self.now.position.node < length graph.now.nodes }
         ensures still { IsTrue result → (context : BlockContext) (reserved : List ℕ) → context.dynamic ≡ dynamic
-            → step graph.now.nodes context reserved self.now ≡ (self.now, false) }
+            → quiet_step graph.now.nodes context reserved self.now ≡ (self.now, false) }
     {
-        graph.is_graph();
+        graph.keeps_graph();
         match graph.node(self.position.node()) {
             Node::Call(call) => !self.holdings.takes_requests(call.object),
             Node::Sync(name) => !self.holdings.skips(dynamic, *name),
@@ -86,7 +88,7 @@ impl Run {
     {
         let block = usize::from(ticket.index);
         let graph = code.graph(block);
-        graph.is_graph();
+        graph.keeps_graph();
         match outgoing {
             Outgoing::Nothing => {}
             Outgoing::Value => match self.stage {

@@ -4,7 +4,7 @@ ghost use Rattle.std.specs.Prelude.{◌≡◌, ◌<◌, ◌≤◌, ◌*◌, ℕ,
 ghost use Rattle.qs_program.specs.Limits.{most_handlers, most_requests};
 ghost use Rattle.qs_syncset.specs.Codes.{code_at};
 ghost use Rattle.qs_client_run.specs.Beginning.{at_beginning, fresh_run};
-ghost use Rattle.qs_client_run.specs.Client.{ClientStage, Settings};
+ghost use Rattle.qs_client_rules.specs.Client.{ClientStage, Settings};
 ghost use Rattle.qs_client_run.specs.BlockSizes.{empty_rows, room_for};
 ghost use Rattle.qs_client_run.specs.BlockSizes.{longest};
 ghost use Rattle.qs_client_run.specs.ClientOfRun.{HasSettled};
@@ -48,7 +48,7 @@ fn empty_traces(alloc: Global, code: &Code) -> Result<Traces, AllocError>
     ensures empty { IfOk result (λ traces. traces ≡ empty_rows code.now.blocks) }
     ensures memory { IsErr result → 0 < length code.now.blocks }
 {
-    code.is_code();
+    code.keeps_code();
     let count = code.blocks();
     let mut rooms = Vec::with_capacity(alloc, count)?;
     let mut room = 0;
@@ -72,8 +72,8 @@ fn repeat_counts(alloc: Global, code: &Code) -> Result<Vec<u64>, AllocError>
 }
 
 impl Run {
-    /// Before the first block, with all variables 0 and all the memory. An error says that this memory was refused: it comes only where the
-    /// client has a block.
+    /// Before the first block, with all variables 0 and all the memory. An error says that this memory was refused: it
+    /// comes only where the client has a block.
     pub fn new(alloc: Global, code: &Code) -> Result<Run, AllocError>
         ensures fresh { IfOk result (λ run. run ≡ fresh_run code.now.blocks) }
         ensures memory { IsErr result → 0 < length code.now.blocks }

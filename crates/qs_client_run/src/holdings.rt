@@ -5,7 +5,7 @@ ghost use Rattle.qs_objects.specs.Journals.{HeldState, run_one};
 ghost use Rattle.qs_objects.specs.declared.Request.{Request};
 ghost use Rattle.qs_chunk.specs.Batch.{Batch};
 ghost use Rattle.qs_program.specs.Limits.{most_handlers};
-ghost use Rattle.qs_client_run.specs.Holdings.{held_at, chunk_at, with_held, with_chunk, with_request, is_full, no_holdings};
+ghost use Rattle.qs_client_run.specs.Holdings.{holding_at, chunk_at, with_held, with_chunk, with_request, is_full, no_holdings};
 
 use qs_chunk::Chunk;
 use qs_objects::{Held, Request, Ticket};
@@ -59,7 +59,7 @@ impl Holdings {
     /// The object, where the client holds it.
     pub fn held(&self, handler: u8) -> Option<&Held>
         requires handler { handler < most_handlers }
-        ensures value { option_copied result ≡ held_at self.now handler }
+        ensures value { option_copied result ≡ holding_at self.now handler }
     {
         self.held[usize::from(handler)].as_ref()
     }
@@ -67,7 +67,7 @@ impl Holdings {
     /// Whether the client holds the object.
     pub fn holds(&self, handler: u8) -> bool
         requires handler { handler < most_handlers }
-        ensures value { result ≡ is_some (held_at self.now handler) }
+        ensures value { result ≡ is_some (holding_at self.now handler) }
     {
         self.held[usize::from(handler)].is_some()
     }
@@ -83,7 +83,7 @@ impl Holdings {
     /// Whether a command may go into an open chunk: the object is not held, and there is one.
     pub fn takes_requests(&self, handler: u8) -> bool
         requires handler { handler < most_handlers }
-        ensures value { result ≡ (not (is_some (held_at self.now handler)) && is_some (chunk_at self.now handler)) }
+        ensures value { result ≡ (not (is_some (holding_at self.now handler)) && is_some (chunk_at self.now handler)) }
     {
         !self.holds(handler) && self.has_chunk(handler)
     }
@@ -91,7 +91,7 @@ impl Holdings {
     /// Whether a synchronisation is skipped: the client tests, and the object is held.
     pub fn skips(&self, dynamic: bool, handler: u8) -> bool
         requires handler { handler < most_handlers }
-        ensures value { result ≡ (dynamic && is_some (held_at self.now handler)) }
+        ensures value { result ≡ (dynamic && is_some (holding_at self.now handler)) }
     {
         dynamic && self.holds(handler)
     }
@@ -99,8 +99,8 @@ impl Holdings {
     /// Runs a request on the object, which the client holds.
     pub fn run(&mut self, handler: u8, ticket: Ticket, request: Request) -> Option<i64>
         requires handler { handler < most_handlers }
-        requires held { IsSome (held_at self.old handler) }
-        ensures ran { (x : HeldState) → held_at self.old handler ≡ Some x
+        requires held { IsSome (holding_at self.old handler) }
+        ensures ran { (x : HeldState) → holding_at self.old handler ≡ Some x
             → (self.new ≡ with_held self.old handler (Some (run_one x ticket request).0)) × (result ≡ (run_one x ticket request).1) }
     {
         match &mut self.held[usize::from(handler)] {
@@ -125,7 +125,7 @@ impl Holdings {
     /// Takes the object out.
     pub fn take_held(&mut self, handler: u8) -> Option<Held>
         requires handler { handler < most_handlers }
-        ensures value { result ≡ held_at self.old handler }
+        ensures value { result ≡ holding_at self.old handler }
         ensures rest { self.new ≡ with_held self.old handler None }
     {
         mem::replace(&mut self.held[usize::from(handler)], None)

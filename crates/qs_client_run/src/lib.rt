@@ -1,18 +1,15 @@
-//! A client in its blocks: the walk through their graphs, the objects that it holds, its open chunks and its traces; what it does by itself
-//! between two acts, and what each act does to it.
+//! A client in its blocks: the walk through their graphs, the objects that it holds, its open chunks and its traces;
+//! what it does by itself between two acts, and what each act does to it.
 #![tactic(auto)]
 
-mod act;
 mod act_into;
 mod acts;
 mod after_send;
 mod begin;
 mod holdings;
-pub mod laws;
 mod position;
 mod run;
 mod stage;
 
-pub use act::Act;
 pub use run::Run;
-pub use stage::{Outgoing, Stage};
+pub use stage::Stage;

@@ -3,11 +3,11 @@
 ghost use Rattle.std.specs.Prelude.{◌≡◌, ◌<◌, ◌≤◌, ℕ, IsSome, length, option_copied};
 ghost use Rattle.qs_program.specs.Values.{request_of};
 ghost use Rattle.qs_graph.specs.Walk.{at_node, with_value};
-ghost use Rattle.qs_client_run.specs.Holdings.{chunk_at, held_at};
-ghost use Rattle.qs_client_run.specs.Running.{IsOpen, IsRunning, query, call, end_block, step, sync};
+ghost use Rattle.qs_client_run.specs.Holdings.{chunk_at, holding_at};
+ghost use Rattle.qs_client_run.specs.Running.{IsOpen, IsRunning, query, call, end_block, quiet_step, sync};
 ghost use Rattle.qs_objects.specs.Traces.{AreEmptyAfter, trace_at};
 ghost use Rattle.qs_program.specs.Limits.{most_handlers, most_objects};
-ghost use Rattle.qs_client_run.specs.Client.{Settings, ClientStage};
+ghost use Rattle.qs_client_rules.specs.Client.{Settings, ClientStage};
 ghost use Rattle.qs_client_run.specs.ClientOfRun.{HasSettled};
 ghost use Rattle.qs_client_run.specs.declared.stage.Stage.TheVariants as stages;
 
@@ -36,7 +36,8 @@ impl Model for Run {
     ghost view = { λ r. record { position = r.position; holdings = r.holdings; traces = r.traces; stage = r.stage } };
 }
 
-/// What a client goes by in a block: whether it tests what it holds as it comes to a synchronisation, and the block's ticket.
+/// What a client goes by in a block: whether it tests what it holds as it comes to a synchronisation, and the block's
+/// ticket.
 #[derive(Clone, Copy)]
 pub struct BlockContext {
     pub dynamic: bool,
@@ -68,7 +69,7 @@ impl Run {
     /// The object of a handler, where the client holds it.
     pub fn held(&self, handler: u8) -> Option<&Held>
         requires handler { handler < most_handlers }
-        ensures value { option_copied result ≡ held_at self.now.holdings handler }
+        ensures value { option_copied result ≡ holding_at self.now.holdings handler }
     {
         self.holdings.held(handler)
     }
@@ -125,7 +126,7 @@ impl Run {
         requires block { ticket.index < length self.old.traces }
         requires last { AreEmptyAfter self.old.traces ticket.index }
         requires room { 0 < (trace_at self.old.traces ticket.index).room }
-        requires held { IsSome (held_at self.old.holdings call.now.object) }
+        requires held { IsSome (holding_at self.old.holdings call.now.object) }
         ensures new { self.new
             ≡ (query ticket (request_of self.old.position.locals call.now) (λ v. at_node (with_value self.old.position variable v) next) self.old).0 }
     {
@@ -138,7 +139,8 @@ impl Run {
         self.position.go_to(next);
     }
 
-    // A synchronisation, skipped only where the client tests and holds the object. Answers whether another quiet move may follow.
+    // A synchronisation, skipped only where the client tests and holds the object. Answers whether another quiet move
+    // may follow.
     fn sync(&mut self, dynamic: bool, handler: u8, next: usize) -> bool
         requires handler { handler < most_handlers }
         ensures new { self.new ≡ (sync dynamic handler (at_node self.old.position next) self.old).0 }
@@ -165,10 +167,10 @@ impl Run {
     /// One quiet move; answers whether another may follow.
     fn step(&mut self, graph: &Graph, reserved: &[u8], context: BlockContext) -> bool
         requires running { (size : ℕ) × (n : ℕ) × IsRunning graph.now.nodes size context.ticket.index n self.old }
-        ensures new { self.new ≡ (step graph.now.nodes context reserved.now self.old).0 }
-        ensures on { result ≡ (step graph.now.nodes context reserved.now self.old).1 }
+        ensures new { self.new ≡ (quiet_step graph.now.nodes context reserved.now self.old).0 }
+        ensures on { result ≡ (quiet_step graph.now.nodes context reserved.now self.old).1 }
     {
-        graph.is_graph();
+        graph.keeps_graph();
         self.holdings.are_8();
         let node = self.position.node();
         let next = graph.first_target(node);
@@ -211,7 +213,7 @@ impl Run {
             → IsRunning graph.now.nodes settings.size context.ticket.index n self.old
             → HasSettled graph.now.nodes settings context.ticket reserved.now begun p n self.old self.new }
     {
-        graph.is_graph();
+        graph.keeps_graph();
         'moves: loop {
             if !self.step(graph, reserved, context) {
                 return;

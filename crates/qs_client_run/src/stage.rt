@@ -1,10 +1,7 @@
-//! The stage of a client, and what its last act gave out.
+//! The stage of a client.
 
-ghost use Rattle.std.specs.Prelude.{◌≡◌};
-ghost use Rattle.qs_client_run.specs.BetweenActs.{count_sync};
-
-/// Between blocks; in a block; there with a full chunk for a handler; waiting for an object; or at the block's end, leaving the handler
-/// at this place of the block's list.
+/// Between blocks; in a block; there with a full chunk for a handler; waiting for an object; or at the block's end,
+/// leaving the handler at this place of the block's list.
 #[derive(Clone, Copy)]
 pub enum Stage {
     Between,
@@ -12,25 +9,4 @@ pub enum Stage {
     Full(u8),
     Awaits(u8),
     Leaves(usize),
-}
-
-/// What the last act gave out and is still to be confirmed as sent: nothing, an object or a chunk, a Sync to this handler, or an End.
-#[derive(Clone, Copy)]
-pub enum Outgoing {
-    Nothing,
-    Value,
-    Sync(u8),
-    End,
-}
-
-impl Outgoing {
-    /// How many Syncs were sent.
-    pub fn syncs(self) -> u64
-        ensures value { result ≡ count_sync self }
-    {
-        match self {
-            Outgoing::Sync(_) => 1,
-            Outgoing::Nothing | Outgoing::Value | Outgoing::End => 0,
-        }
-    }
 }

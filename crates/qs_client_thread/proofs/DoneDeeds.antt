@@ -7,7 +7,7 @@ use Rattle.qs_objects.proofs.Choices.{apart_eqb, num_cases}
 use Rattle.qs_client.specs.ClientRuns.{Deed, reserves, sends, gets, takes_chunk, got_from, sent_to}
 use Rattle.qs_lane.specs.Views.{OutView}
 use Rattle.qs_protocol.proofs.DeedJoins.{got_join, sent_join}
-use Rattle.qs_client_thread.specs.ClientThreads.{HasDone, chunks_of, lane_at}
+use Rattle.qs_client_thread.specs.ClientThreads.{HasDone, chunks_of, out_lane_at}
 
 pub chunks_join : (h : ℕ) (before after : List Deed) → chunks_of h (before ++ after) ≡ chunks_of h after + chunks_of h before
 chunks_join h [] after = sym (add-zero (chunks_of h after))
@@ -58,24 +58,24 @@ as_before h deeds d (Some first) (Some lane) none was = one_more h deeds d (Some
   taken = let chunks = none.2 in omega (arith, chunks);
 })
 
-set_here : (lanes : List (Option OutView)) (h : ℕ) (lane : OutView) (new : Option OutView) → lane_at lanes h ≡ Some lane
-    → lane_at (slice_set lanes h new) h ≡ new
+set_here : (lanes : List (Option OutView)) (h : ℕ) (lane : OutView) (new : Option OutView) → out_lane_at lanes h ≡ Some lane
+    → out_lane_at (slice_set lanes h new) h ≡ new
 set_here [] h lane new is = absurd (cc)
 set_here (l ∷ lanes) zero lane new is = refl
 set_here (l ∷ lanes) (suc h) lane new is = set_here lanes h lane new is
 
 -- all ends after a deed that shows at the lane to handler h alone
 pub at_one_lane : (start lanes lanes' : List (Option OutView)) (deeds : List Deed) (d : Deed) (h : ℕ) (old new : OutView)
-    → ((a : ℕ) → HasDone a deeds (lane_at start a) (lane_at lanes a)) → lane_at lanes h ≡ Some old → lanes' ≡ slice_set lanes h (Some new)
-    → HasMore h d old new → ((a : ℕ) → (h == a) ≡ false → IsElsewhere a d) → (a : ℕ) → HasDone a (deeds ++ d ∷ []) (lane_at start a) (lane_at lanes' a)
+    → ((a : ℕ) → HasDone a deeds (out_lane_at start a) (out_lane_at lanes a)) → out_lane_at lanes h ≡ Some old → lanes' ≡ slice_set lanes h (Some new)
+    → HasMore h d old new → ((a : ℕ) → (h == a) ≡ false → IsElsewhere a d) → (a : ℕ) → HasDone a (deeds ++ d ∷ []) (out_lane_at start a) (out_lane_at lanes' a)
 at_one_lane start lanes lanes' deeds d h old new ends is put more others a =
-    subst (λ ls. HasDone a (deeds ++ d ∷ []) (lane_at start a) (lane_at ls a)) (sym put)
+    subst (λ ls. HasDone a (deeds ++ d ∷ []) (out_lane_at start a) (out_lane_at ls a)) (sym put)
     (⊎_elim
-    (λ (own : h ≡ a). subst (λ a. HasDone a (deeds ++ d ∷ []) (lane_at start a) (lane_at (slice_set lanes h (Some new)) a)) own
-    (subst (HasDone h (deeds ++ d ∷ []) (lane_at start h)) (sym (set_here lanes h old (Some new) is))
-    (one_more h deeds d (lane_at start h) old new (subst (HasDone h deeds (lane_at start h)) is (ends h)) more)))
+    (λ (own : h ≡ a). subst (λ a. HasDone a (deeds ++ d ∷ []) (out_lane_at start a) (out_lane_at (slice_set lanes h (Some new)) a)) own
+    (subst (HasDone h (deeds ++ d ∷ []) (out_lane_at start h)) (sym (set_here lanes h old (Some new) is))
+    (one_more h deeds d (out_lane_at start h) old new (subst (HasDone h deeds (out_lane_at start h)) is (ends h)) more)))
     (λ (other : (h == a) ≡ false).
-    subst (HasDone a (deeds ++ d ∷ []) (lane_at start a))
+    subst (HasDone a (deeds ++ d ∷ []) (out_lane_at start a))
     (sym (get_or-set_other lanes h a (Some new) None (λ is. apart_eqb h a other (sym is))))
-    (as_before a deeds d (lane_at start a) (lane_at lanes a) (others a other) (ends a)))
+    (as_before a deeds d (out_lane_at start a) (out_lane_at lanes a) (others a other) (ends a)))
     (num_cases h a))

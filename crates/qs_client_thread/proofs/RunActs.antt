@@ -1,5 +1,5 @@
--- What a client asks for in the midst of its run can be had. It is read off the client's tale so far: the block that it is in, with what that
--- block sent and got; and off how it stands to each lane.
+-- What a client asks for in the midst of its run can be had. It is read off the client's tale so far: the block that it
+-- is in, with what that block sent and got; and off how it stands to each lane.
 use Rattle.std.proofs.Common.{◌≡◌, ◌<◌, arith, ℕ, true, false, List, [], length, replicate, refl, subst, Some}
 use Rattle.std.proofs.lemmas.List.{length-replicate}
 use Rattle.qs_program.specs.Program.{ProgramShape, blocks_of}
@@ -13,8 +13,8 @@ use Rattle.qs_syncset.proofs.CodeWalks.{walks_are_sound}
 use Rattle.qs_chunk.specs.Lanes.{MayFollow, is_asked}
 use Rattle.qs_chunk.specs.declared.parcel.Parcel.{Parcel}
 use Rattle.qs_client_run.specs.BlockSizes.{longest}
-use Rattle.qs_client_run.specs.declared.act.Act.{Act}
-use Rattle.qs_client_run.specs.declared.act.Act.TheVariants as acts
+use Rattle.qs_client_rules.specs.declared.act.Act.{Act}
+use Rattle.qs_client_rules.specs.declared.act.Act.TheVariants as acts
 use Rattle.qs_client.specs.ClientRuns.{Deed, reservations, sent_to}
 use Rattle.qs_client.specs.ClientModel.{ClientModel, finish, fresh_mind, next_act, tree_at}
 use Rattle.qs_client.proofs.LaneSends.{client_lane_laws}

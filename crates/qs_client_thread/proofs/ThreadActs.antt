@@ -1,4 +1,5 @@
--- What each act of a client's thread keeps: its deeds grow by one, and its share and its ends of lanes show it; and what each call needs.
+-- What each act of a client's thread keeps: its deeds grow by one, and its share and its ends of lanes show it; and
+-- what each call needs.
 use Rattle.std.proofs.Common.{◌≡◌, ◌<◌, arith, ℕ, ◌+◌, true, true≢false, false, List, [], ◌∷◌, ◌++◌, refl, sym, ap, ◌∙◌, subst}
 use Rattle.std.proofs.Common.{add-zero, append-nil, Option, Some, None}
 use Rattle.std.specs.Prelude.{IsSome, slice_set}
@@ -15,8 +16,8 @@ use Rattle.qs_syncset.specs.declared.mode.Mode.{Mode}
 use Rattle.qs_chunk.specs.Batch.{Batch, batch}
 use Rattle.qs_chunk.specs.Lanes.{MayFollow, is_asked}
 use Rattle.qs_chunk.specs.declared.parcel.Parcel.{Parcel}
-use Rattle.qs_client_run.specs.declared.act.Act.{Act}
-use Rattle.qs_client_run.specs.declared.act.Act.TheVariants as acts
+use Rattle.qs_client_rules.specs.declared.act.Act.{Act}
+use Rattle.qs_client_rules.specs.declared.act.Act.TheVariants as acts
 use Rattle.qs_client.specs.ClientRuns.{Deed, DeedsLead, RunsTo, next_ticket, reservations, sent_to}
 use Rattle.qs_client.specs.ClientRuns as deeds
 use Rattle.qs_client.specs.ClientModel.{ClientModel, mind_after_begin, mind_after_chunk, finish, fresh_mind, mind_after_object, hands_out, next_act, next_mind}
@@ -25,7 +26,7 @@ use Rattle.qs_desk.specs.Views.{ShareView}
 use Rattle.qs_lane.specs.Views.{OutView}
 use Rattle.qs_played.proofs.ReservedObjects.{reserved_inside}
 use Rattle.qs_protocol.proofs.DeedJoins.{deeds_join, reservations_join}
-use Rattle.qs_client_thread.specs.ClientThreads.{AreDone, HasDone, IsFresh, lane_at}
+use Rattle.qs_client_thread.specs.ClientThreads.{AreDone, HasDone, IsFresh, out_lane_at}
 use Rattle.qs_client_thread.specs.RunActs.{IsMidRun, lane_of}
 use Rattle.qs_client_thread.proofs.DoneDeeds.{as_before, at_one_lane}
 use Rattle.qs_client_thread.proofs.RunActs.{act_reserved, begun_is, block_left, send_follows, size_is}
@@ -60,28 +61,28 @@ module _ (p : ProgramShape) (c : ℕ) (first : ClientModel) (start : List (Optio
   HasDeeds m share lanes = (done : List Deed) × DeedsLead c first done m × AreDone c start done share lanes
 
   -- before its first block
-  pub begins : (share : ShareView) → share.client ≡ c → share.count ≡ 0 → ((h : ℕ) → IsFresh first.size (lane_at start h)) → HasDeeds first share start
+  pub begins : (share : ShareView) → share.client ≡ c → share.count ≡ 0 → ((h : ℕ) → IsFresh first.size (out_lane_at start h)) → HasDeeds first share start
   begins share client none fresh =
-      ([], refl, record { booked = share_path share c 0 client none; ends = λ h. nothing_done first.size h (lane_at start h) (fresh h) })
+      ([], refl, record { booked = share_path share c 0 client none; ends = λ h. nothing_done first.size h (out_lane_at start h) (fresh h) })
 
   module _ (sound : IsSound p) (code : (mode : Mode) × IsCodeOf p mode c first.code) (at_first : first ≡ fresh_mind first.code first.size)
-      (fresh : (h : ℕ) → IsFresh first.size (lane_at start h))
-      (reached : (k h : ℕ) → k < blocks_of p c → reserves p (ticket c k) h ≡ true → IsSome (lane_at start h))
+      (fresh : (h : ℕ) → IsFresh first.size (out_lane_at start h))
+      (reached : (k h : ℕ) → k < blocks_of p c → reserves p (ticket c k) h ≡ true → IsSome (out_lane_at start h))
       (m n : ClientModel) (share : ShareView) (lanes : List (Option OutView)) (kept : HasDeeds m share lanes) (at : n ≡ next_mind m) where
     mid : IsMidRun p c first.code first.size kept.0 m
     mid = record { sound = sound; mode = code.0; of = code.1; lead = subst (λ (x : ClientModel). DeedsLead c x kept.0 m) at_first kept.1 }
 
     -- a lane is there for what the mind asks for
-    pub reaches : (h : ℕ) (act : Act) → next_act m ≡ act → lane_of act ≡ Some h → (h < most_handlers) × IsSome (lane_at lanes h)
+    pub reaches : (h : ℕ) (act : Act) → next_act m ≡ act → lane_of act ≡ Some h → (h < most_handlers) × IsSome (out_lane_at lanes h)
     reaches h act is uses =
         let own = act_reserved p c first.code first.size kept.0 m mid h act is uses in
         let object = reserved_inside p sound (ticket c own.0) h own.2 in
         let few = sound.objects in
-        (omega (arith, object, few), still_there h kept.0 (lane_at start h) (lane_at lanes h) (kept.2.ends h) (reached own.0 h own.1 own.2))
+        (omega (arith, object, few), still_there h kept.0 (out_lane_at start h) (out_lane_at lanes h) (kept.2.ends h) (reached own.0 h own.1 own.2))
 
-    shows : (h : ℕ) (lane : OutView) → lane_at lanes h ≡ Some lane → (lane.size ≡ first.size) × (lane.sent ≡ sent_to h kept.0)
+    shows : (h : ℕ) (lane : OutView) → out_lane_at lanes h ≡ Some lane → (lane.size ≡ first.size) × (lane.sent ≡ sent_to h kept.0)
     shows h lane is =
-        lane_shows first.size h kept.0 (lane_at start h) lane (fresh h) (subst (HasDone h kept.0 (lane_at start h)) is (kept.2.ends h))
+        lane_shows first.size h kept.0 (out_lane_at start h) lane (fresh h) (subst (HasDone h kept.0 (out_lane_at start h)) is (kept.2.ends h))
 
     -- it reserves where a block is left
     pub has_left : next_act m ≡ acts.Reserve → share.count < blocks_of p share.client
@@ -107,7 +108,7 @@ module _ (p : ProgramShape) (c : ℕ) (first : ClientModel) (start : List (Optio
             booked = share_is ∙ share_path (record share { count = share.count + 1 }) c (reservations (kept.0 ++ d ∷ []))
                 (ap (λ (s : ShareView). s.client) kept.2.booked)
                 (let before = ap (λ (s : ShareView). s.count) kept.2.booked in let all = reservations_join kept.0 (d ∷ []) in omega (arith, before, all));
-            ends = λ h. as_before h kept.0 d (lane_at start h) (lane_at lanes h) (refl, refl, refl) (kept.2.ends h);
+            ends = λ h. as_before h kept.0 d (out_lane_at start h) (out_lane_at lanes h) (refl, refl, refl) (kept.2.ends h);
           },
         )
 
@@ -118,7 +119,7 @@ module _ (p : ProgramShape) (c : ℕ) (first : ClientModel) (start : List (Optio
         ∙ ap (λ n. record { client = c; count = n }) (let all = reservations_join kept.0 (d ∷ []) in omega (arith, all, none))
 
     -- what it sends may follow
-    pub may_follow : (h : ℕ) (parcel : Parcel) → next_act m ≡ acts.Send h parcel → (lane : OutView) → lane_at lanes h ≡ Some lane
+    pub may_follow : (h : ℕ) (parcel : Parcel) → next_act m ≡ acts.Send h parcel → (lane : OutView) → out_lane_at lanes h ≡ Some lane
         → MayFollow lane.size (is_asked false lane.sent) parcel
     may_follow h parcel is lane here =
         let s = shows h lane here in
@@ -126,11 +127,11 @@ module _ (p : ProgramShape) (c : ℕ) (first : ClientModel) (start : List (Optio
         (subst (λ ps. MayFollow first.size (is_asked false ps) parcel) (sym s.1) (send_follows p c first.code first.size kept.0 m mid h parcel is))
 
     pub kept_by_parcel : (h : ℕ) (parcel : Parcel) (lanes' : List (Option OutView)) → next_act m ≡ acts.Send h parcel
-        → ((lane : OutView) → lane_at lanes h ≡ Some lane → lanes' ≡ slice_set lanes h (Some (record lane { sent = lane.sent ++ parcel ∷ [] })))
+        → ((lane : OutView) → out_lane_at lanes h ≡ Some lane → lanes' ≡ slice_set lanes h (Some (record lane { sent = lane.sent ++ parcel ∷ [] })))
         → HasDeeds n share lanes'
     kept_by_parcel h parcel lanes' is did =
         let d = deeds.sends h parcel in
-        let found = some_lane (lane_at lanes h) (reaches h (acts.Send h parcel) is refl).1 in
+        let found = some_lane (out_lane_at lanes h) (reaches h (acts.Send h parcel) is refl).1 in
         let lane = found.0 in (
           kept.0 ++ d ∷ [],
           deeds_join c kept.0 (d ∷ []) first m n kept.1 (is, sym at),
@@ -149,11 +150,11 @@ module _ (p : ProgramShape) (c : ℕ) (first : ClientModel) (start : List (Optio
         )
 
     pub kept_by_object : (m' : ClientModel) (h : ℕ) (x : HeldState) (lanes' : List (Option OutView)) → next_act m ≡ acts.Await h → m' ≡ mind_after_object n x
-        → ((lane : OutView) → lane_at lanes h ≡ Some lane → lanes' ≡ slice_set lanes h (Some (record lane { got = lane.got ++ x ∷ [] })))
+        → ((lane : OutView) → out_lane_at lanes h ≡ Some lane → lanes' ≡ slice_set lanes h (Some (record lane { got = lane.got ++ x ∷ [] })))
         → HasDeeds m' share lanes'
     kept_by_object m' h x lanes' is gets did =
         let d = deeds.gets h x in
-        let found = some_lane (lane_at lanes h) (reaches h (acts.Await h) is refl).1 in
+        let found = some_lane (out_lane_at lanes h) (reaches h (acts.Await h) is refl).1 in
         let lane = found.0 in (
           kept.0 ++ d ∷ [],
           deeds_join c kept.0 (d ∷ []) first m m' kept.1 (is, sym (gets ∙ ap (λ (n : ClientModel). mind_after_object n x) at)),
@@ -174,13 +175,13 @@ module _ (p : ProgramShape) (c : ℕ) (first : ClientModel) (start : List (Optio
     -- by what the call says of the lane that is there: a chunk was taken, and it is empty
     abbrev pub Took : ℕ → Batch Request → List (Option OutView) → Type 0
     Took h chunk lanes' =
-        (lane : OutView) → lane_at lanes h ≡ Some lane
+        (lane : OutView) → out_lane_at lanes h ≡ Some lane
         → (lanes' ≡ slice_set lanes h (Some (record lane { taken = lane.taken + 1 }))) × (chunk ≡ batch [] lane.size)
 
     pub is_empty : (h : ℕ) (chunk : Batch Request) (lanes' : List (Option OutView)) → next_act m ≡ acts.NeedChunk h → Took h chunk lanes'
         → chunk ≡ batch [] n.size
     is_empty h chunk lanes' is took =
-        let found = some_lane (lane_at lanes h) (reaches h (acts.NeedChunk h) is refl).1 in
+        let found = some_lane (out_lane_at lanes h) (reaches h (acts.NeedChunk h) is refl).1 in
         (took found.0 found.1).1
         ∙ ap (batch [])
         ((shows h found.0 found.1).0 ∙ (sym (size_is p c first.code first.size kept.0 m mid) ∙ ap (λ (n : ClientModel). n.size) (sym at)))
@@ -189,7 +190,7 @@ module _ (p : ProgramShape) (c : ℕ) (first : ClientModel) (start : List (Optio
         → m' ≡ mind_after_chunk n h → Took h chunk lanes' → HasDeeds m' share lanes'
     kept_by_chunk m' h chunk lanes' is takes took =
         let d = deeds.takes_chunk h in
-        let found = some_lane (lane_at lanes h) (reaches h (acts.NeedChunk h) is refl).1 in
+        let found = some_lane (out_lane_at lanes h) (reaches h (acts.NeedChunk h) is refl).1 in
         let lane = found.0 in (
           kept.0 ++ d ∷ [],
           deeds_join c kept.0 (d ∷ []) first m m' kept.1 (is, sym (takes ∙ ap (λ (n : ClientModel). mind_after_chunk n h) at)),

@@ -1,2 +1,3 @@
+-- What crates promise one another, what proofs use, and worked examples.
 pub mod ClientThreads
 pub mod RunActs

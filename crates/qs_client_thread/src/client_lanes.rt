@@ -4,7 +4,7 @@ ghost use Rattle.std.specs.Prelude.{◌≡◌, ◌+◌, ◌<◌, [], ◌∷◌, 
 ghost use Rattle.qs_program.specs.Limits.{most_handlers};
 ghost use Rattle.qs_chunk.specs.Batch.{batch};
 ghost use Rattle.qs_chunk.specs.Lanes.{MayFollow, is_asked};
-ghost use Rattle.qs_client_thread.specs.ClientThreads.{lane_at};
+ghost use Rattle.qs_client_thread.specs.ClientThreads.{out_lane_at};
 ghost use Rattle.qs_lane.specs.Views.{OutView};
 
 use qs_chunk::{Chunk, Parcel};
@@ -19,9 +19,9 @@ pub type Lanes = [Option<LaneOut>; MOST_HANDLERS];
 /// Sends a parcel, which may follow what was sent, to a handler. Waits until there is room.
 pub(crate) fn send<R: Wait>(rt: &R, lanes: &mut Lanes, handler: u8, parcel: Parcel)
     requires handler { handler < most_handlers }
-    requires lane { IsSome (lane_at lanes.old handler) }
-    requires follows { (lane : OutView) → lane_at lanes.old handler ≡ Some lane → MayFollow lane.size (is_asked false lane.sent) parcel }
-    ensures sent { (lane : OutView) → lane_at lanes.old handler ≡ Some lane
+    requires lane { IsSome (out_lane_at lanes.old handler) }
+    requires follows { (lane : OutView) → out_lane_at lanes.old handler ≡ Some lane → MayFollow lane.size (is_asked false lane.sent) parcel }
+    ensures sent { (lane : OutView) → out_lane_at lanes.old handler ≡ Some lane
         → lanes.new ≡ slice_set lanes.old handler (Some (record lane { sent = lane.sent ++ parcel ∷ [] })) }
 {
     match &mut lanes[usize::from(handler)] {
@@ -42,8 +42,8 @@ pub(crate) fn wake_all(lanes: &Lanes) {
 /// Takes the next object that a handler gave. Sleeps until there is one.
 pub(crate) fn get<R: Wait>(rt: &R, lanes: &mut Lanes, handler: u8) -> Held
     requires handler { handler < most_handlers }
-    requires lane { IsSome (lane_at lanes.old handler) }
-    ensures got { (lane : OutView) → lane_at lanes.old handler ≡ Some lane
+    requires lane { IsSome (out_lane_at lanes.old handler) }
+    ensures got { (lane : OutView) → out_lane_at lanes.old handler ≡ Some lane
         → lanes.new ≡ slice_set lanes.old handler (Some (record lane { got = lane.got ++ result ∷ [] })) }
 {
     match &mut lanes[usize::from(handler)] {
@@ -55,8 +55,8 @@ pub(crate) fn get<R: Wait>(rt: &R, lanes: &mut Lanes, handler: u8) -> Held
 /// Takes an empty chunk of the lane to a handler. Sleeps until there is one.
 pub(crate) fn empty<R: Wait>(rt: &R, lanes: &mut Lanes, handler: u8) -> Chunk<Request>
     requires handler { handler < most_handlers }
-    requires lane { IsSome (lane_at lanes.old handler) }
-    ensures taken { (lane : OutView) → lane_at lanes.old handler ≡ Some lane
+    requires lane { IsSome (out_lane_at lanes.old handler) }
+    ensures taken { (lane : OutView) → out_lane_at lanes.old handler ≡ Some lane
         → (lanes.new ≡ slice_set lanes.old handler (Some (record lane { taken = lane.taken + 1 }))) × (result ≡ batch [] lane.size) }
 {
     match &mut lanes[usize::from(handler)] {

@@ -2,8 +2,9 @@
 
 ghost use Rattle.qs_client_thread.specs.RunActs.{RunActLaws};
 
-/// What a client asks for in the midst of its run can be had: each act is on the lane of a handler that a block of it reserves, what it sends
-/// may follow what it sent there before, and where it reserves it has a block left. It does nothing.
+/// What a client asks for in the midst of its run can be had: each act is on the lane of a handler that a block of it
+/// reserves, what it sends may follow what it sent there before, and where it reserves it has a block left. It does
+/// nothing.
 pub fn acts_can_be_met()
     ensures acts { RunActLaws }
 {}

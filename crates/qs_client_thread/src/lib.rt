@@ -1,4 +1,5 @@
-//! What a client's thread does: it reserves its blocks at the desk, and runs each over its ends of lanes, until no further one is left.
+//! What a client's thread does: it reserves its blocks at the desk, and runs each over its ends of lanes, until no
+//! further one is left.
 #![tactic(auto)]
 
 mod client_lanes;

@@ -6,7 +6,7 @@ ghost use Rattle.qs_program.specs.Sound.{IsSound};
 ghost use Rattle.qs_client.specs.ClientRuns.{Deed, RunsTo};
 ghost use Rattle.qs_client.specs.ClientModel.{fresh_mind};
 ghost use Rattle.qs_client.specs.MindState.{mind_of};
-ghost use Rattle.qs_client_thread.specs.ClientThreads.{AreDone, IsFresh, lane_at};
+ghost use Rattle.qs_client_thread.specs.ClientThreads.{AreDone, IsFresh, out_lane_at};
 ghost use Rattle.qs_desk.specs.Tickets.{ticket};
 ghost use Rattle.qs_meaning.specs.Following.{reserves};
 ghost use Rattle.qs_syncset.specs.Codes.{IsCodeOf};
@@ -17,9 +17,9 @@ use qs_client::{Act, Mind};
 use qs_desk::{DeskName, Front, Share};
 use std::sync::Wait;
 
-/// Runs all blocks of a client: what its mind asks for, one thing after another, from before its first block. It reserves at the desk, and
-/// sends, gets and takes chunks at its lanes; there is one to each handler that a block of it reserves. Waits for the desk, for room, for
-/// objects and for chunks.
+/// Runs all blocks of a client: what its mind asks for, one thing after another, from before its first block. It
+/// reserves at the desk, and sends, gets and takes chunks at its lanes; there is one to each handler that a block of it
+/// reserves. Waits for the desk, for room, for objects and for chunks.
 pub fn run<D: DeskName, R: Wait>(
     rt: &R,
     mind: Mind,
@@ -31,9 +31,9 @@ pub fn run<D: DeskName, R: Wait>(
     requires code { (mode : Mode) × IsCodeOf D.program mode share.client (mind_of mind).code }
     requires begins { mind_of mind ≡ fresh_mind (mind_of mind).code (mind_of mind).size }
     requires unbooked { share.count ≡ 0 }
-    requires fresh { (h : ℕ) → IsFresh (mind_of mind).size (lane_at lanes h) }
+    requires fresh { (h : ℕ) → IsFresh (mind_of mind).size (out_lane_at lanes h) }
     requires reached { (k h : ℕ) → k < blocks_of D.program share.client → reserves D.program (ticket share.client k) h ≡ true
-        → IsSome (lane_at lanes h) }
+        → IsSome (out_lane_at lanes h) }
     ensures run { (deeds : List Deed) × RunsTo share.client (mind_of mind) deeds (mind_of result.0)
         × AreDone share.client lanes deeds result.1 result.2 }
 {

@@ -1,6 +1,7 @@
--- A block that is played alone on the optimised machine, as the code does it: the first turn of the client leads into its block, each turn
--- leaves fewer steps of the client, and in the end nobody is in a block. The loops of `turn`, `play_block` and `play_clients` stand on
--- this. Actors that lead on are joined, one list after another, and the blocks that a list of clients names are taken from its front.
+-- A block that is played alone on the optimised machine, as the code does it: the first turn of the client leads into
+-- its block, each turn leaves fewer steps of the client, and in the end nobody is in a block. The loops of `turn`,
+-- `play_block` and `play_clients` stand on this. Actors that lead on are joined, one list after another, and the blocks
+-- that a list of clients names are taken from its front.
 use Rattle.std.proofs.Common.{◌≡◌, ◌<◌, ◌≤◌, ◌∙◌, ◌+◌, ◌++◌, ◌∷◌, [], ℕ, zero, suc, Bool, true, false, None, List, refl, sym, ap, subst, length, slice_index_or, nat_eq, nat_lt, add-one, append_assoc, append-nil, arith}
 use Rattle.std.proofs.lemmas.Bool.Decides.{nat_tests}
 use Rattle.std.specs.Bool.{OnTrue}
@@ -15,7 +16,7 @@ use Rattle.qs_meaning.specs.Reduced.{Counts}
 use Rattle.qs_meaning.specs.Serial.{IsLegal, LegalFrom}
 use Rattle.qs_meaning.specs.Solo.{put}
 use Rattle.qs_meaning.proofs.Orders.{configuration-append, legal-rest}
-use Rattle.qs_orders.specs.NamedOrders.{order_from, order_of}
+use Rattle.qs_serial.specs.NamedOrders.{order_from, order_of}
 use Rattle.qs_graph.specs.Steps.{limit}
 use Rattle.qs_syncset.specs.declared.mode.Mode.{Mode}
 use Rattle.qs_syncset.proofs.ShortLists.{few_reserved}
@@ -34,7 +35,7 @@ use Rattle.qs_core_orders.proofs.BlocksPlayed.{begin_quiet, has_begun, named_app
 use Rattle.qs_core_orders.proofs.Entering.{block_over, most_turns}
 use Rattle.qs_core_orders.proofs.Turns.{IsWithin}
 use Rattle.qs_core.specs.CoreOrders.{CoreGoes, IsOneBlockOn, IsQuietNow, blocks_begun}
-use Rattle.qs_core_state.specs.CoreState.{CoreState, CoreSteps, IsCoreState, IsFreshCore, IsPlayedOn, IsReachedCore, codes_of, core_of, side_at}
+use Rattle.qs_core_state.specs.CoreState.{CoreState, CoreSteps, IsCoreState, IsFreshCore, IsPlayedOn, IsReachedCore, codes_of, core_of, client_part_at}
 use Rattle.qs_core.proofs.CoreGoing.{goes_join, goes_played}
 use Rattle.qs_core.proofs.CorePlaying.{fresh_played}
 use Rattle.qs_core_state.proofs.CoreReaching.{core_plays_more}
@@ -63,13 +64,13 @@ ended_is s t begun =
     rw (out, last) refl
 
 -- how the code reads off how many blocks a client has begun, and whether one has ended
-pub begun_is : (m s : CoreState) (c : ℕ) → m ≡ s → (side_at m.clients c).mind.client.begun ≡ blocks_begun s c
+pub begun_is : (m s : CoreState) (c : ℕ) → m ≡ s → (client_part_at m.clients c).mind.client.begun ≡ blocks_begun s c
 unfolding core_of
-begun_is m s c view = ap (λ (x : CoreState). (side_at x.clients c).mind.client.begun) view
+begun_is m s c view = ap (λ (x : CoreState). (client_part_at x.clients c).mind.client.begun) view
 
-pub ended_told : (m s : CoreState) (c n k : ℕ) (b : Bool) → m ≡ s → n ≡ k → b ≡ has_ended (side_at m.clients c).mind.client n → b ≡ has_ended ((core_of s).client c) k
+pub ended_told : (m s : CoreState) (c n k : ℕ) (b : Bool) → m ≡ s → n ≡ k → b ≡ has_ended (client_part_at m.clients c).mind.client n → b ≡ has_ended ((core_of s).client c) k
 unfolding core_of
-ended_told m s c n k b view same is = is ∙ (λ i. has_ended (side_at (view i).clients c).mind.client (same i))
+ended_told m s c n k b view same is = is ∙ (λ i. has_ended (client_part_at (view i).clients c).mind.client (same i))
 
 few : (objects : List Declared) (cs : List ClientShape) → AllByRecursion (IsSoundClient objects) cs → (c : ℕ) → length (slice_index_or cs c no_client).blocks ≤ most_blocks
 few objects [] all c = omega arith
@@ -91,8 +92,8 @@ few_turns p sound t some =
 abbrev pub next_ticket : CoreState → ℕ → Ticket
 next_ticket s c = record { client = c; index = blocks_begun s c }
 
--- Some actors have led from one state to another, in which the client is in its next block, alone; after so many turns of this block, so
--- many more are left at most.
+-- Some actors have led from one state to another, in which the client is in its next block, alone; after so many turns
+-- of this block, so many more are left at most.
 pub record StandsIn (first : CoreState) (c turns : ℕ) (s : CoreState) : Type 0 where
   pub actors : List Actor
   pub named : all_named first.program actors ≡ true

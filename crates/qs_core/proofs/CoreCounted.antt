@@ -1,6 +1,7 @@
--- The synchronisations of every state that the optimised machine can be stepped to are counted exactly, and so are those that a
--- schedule shows. The contracts of `step`, `is_counted`, `into_played` and `play_core` promise it. A state that was reached is
--- where some list of actors leads, and the law `core_syncs_counted` speaks of every such list.
+-- The synchronisations of every state that the optimised machine can be stepped to are counted exactly, and so are
+-- those that a schedule shows. The contracts of `step`, `keeps_counted`, `into_played` and `play_core` promise it. A
+-- state that was reached is where some list of actors leads, and the law `core_syncs_counted` speaks of every such
+-- list.
 use Rattle.std.proofs.Common.{◌≡◌, ℕ, Bool, true, false, List, refl, sym, subst}
 use Rattle.std.specs.Bool.{OnTrue}
 use Rattle.qs_program.specs.Program.{ProgramShape}

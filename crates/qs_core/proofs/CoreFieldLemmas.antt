@@ -1,6 +1,7 @@
--- The lemmas on a client's step are stated here in the words that the proofs of `reserve` and `go_on` have at hand. There the
--- machine's fields, the client's number and the client itself are read out of the code and only equal to those of the lemmas. The
--- proofs rewrite along these equations, and look at both cases, that a step was made and that none was.
+-- The lemmas on a client's step are stated here in the words that the proofs of `reserve` and `go_on` have at hand.
+-- There the machine's fields, the client's number and the client itself are read out of the code and only equal to
+-- those of the lemmas. The proofs rewrite along these equations, and look at both cases, that a step was made and that
+-- none was.
 use Rattle.std.proofs.Common.{◌≡◌, ◌<◌, ℕ, Bool, true, false, List, [], ◌∷◌, ◌++◌, length, get_or, Option, Some, None, refl, sym, ap, subst, ◌∙◌, arith}
 use Rattle.std.specs.Bool.{OnTrue}
 use Rattle.std.proofs.Math.ListN.{set}
@@ -9,11 +10,11 @@ use Rattle.qs_objects.specs.declared.held.Ticket.{Ticket}
 use Rattle.qs_objects.proofs.Elements.{AllByRecursion-get_or}
 use Rattle.qs_program.specs.Program.{block_at, blocks_of}
 use Rattle.qs_program.specs.Sound.{IsSound}
-use Rattle.qs_client_run.specs.Client.{act_of as client_act}
+use Rattle.qs_client_rules.specs.Client.{act_of as client_act}
 use Rattle.qs_client.specs.ClientModel.{act_due, mind_after_begin}
 use Rattle.qs_client.specs.MindState.{IsMind, mind_of}
-use Rattle.qs_client_run.specs.declared.act.Act.{Act}
-use Rattle.qs_client_run.specs.declared.act.Act.TheVariants as wants
+use Rattle.qs_client_rules.specs.declared.act.Act.{Act}
+use Rattle.qs_client_rules.specs.declared.act.Act.TheVariants as wants
 use Rattle.qs_played.specs.Played.{ticket}
 use Rattle.qs_played.proofs.Lists.{get_or-any}
 use Rattle.qs_played.specs.declared.schedule.actor.Actor.TheVariants as actor
@@ -22,20 +23,20 @@ use Rattle.qs_core_laws.specs.CoreReached.{ReachedCore}
 use Rattle.qs_core_parts.specs.CoreClients.{AreStocked, CoreClientState, HasLane, IsCoreClient, LaneStays, LaneSteps, turns_to, whole_of}
 use Rattle.qs_core_parts.specs.CoreHandlers.{CanEnterAll, CoreHandlerState, with_ticket_at_all}
 use Rattle.qs_core_parts.proofs.ClientModels.{IsSeatOf}
-use Rattle.qs_core_state.specs.CoreState.{CoreKeeps, CoreState, CoreSteps, GoesOn, IsCoreState, Side, all_blocks, codes_of, core_of, no_side, side_at, side_of}
+use Rattle.qs_core_state.specs.CoreState.{CoreKeeps, CoreState, CoreSteps, StepsAreReached, IsCoreState, ClientPart, all_blocks, codes_of, core_of, no_client_part, client_part_at, client_part}
 use Rattle.qs_core_state.proofs.CoreLists.{map_here}
 use Rattle.qs_core_state.proofs.CoreMoves.{client_kept, client_rests, client_steps, with_clients}
 use Rattle.qs_core_state.proofs.CoreBooking as booking
 
-pub client_here : (cs : List CoreClientState) (c n : ℕ) (d : CoreClientState) → n ≡ c → c < length cs → d ≡ get_or cs n d → side_at cs c ≡ side_of d
-client_here cs c n d number less value = map_here side_of cs c d no_side less ∙ ap side_of (sym (value ∙ ap (λ m. get_or cs m d) number))
+pub client_here : (cs : List CoreClientState) (c n : ℕ) (d : CoreClientState) → n ≡ c → c < length cs → d ≡ get_or cs n d → client_part_at cs c ≡ client_part d
+client_here cs c n d number less value = map_here client_part cs c d no_client_part less ∙ ap client_part (sym (value ∙ ap (λ m. get_or cs m d) number))
 
 module _ (r s : CoreState) (view : r ≡ s) (kept : IsCoreState r) (keeps : CoreKeeps s) (c n : ℕ) (number : n ≡ c) (less : c < length s.clients)
     (d : CoreClientState) (value : d ≡ get_or r.clients n d) (seat : IsCoreClient d) (ok : IsMind (mind_of d.mind)) where
   inside : c < length r.clients
   inside = subst (λ (x : CoreState). c < length x.clients) (sym view) less
 
-  here : side_at r.clients c ≡ side_of d
+  here : client_part_at r.clients c ≡ client_part d
   here = client_here r.clients c n d number inside value
 
   pub stocked : AreStocked d
@@ -47,12 +48,12 @@ module _ (r s : CoreState) (view : r ≡ s) (kept : IsCoreState r) (keeps : Core
   machine_act : client_act (settings_of (codes_of r) r.size c) (blocks (codes_of r) r.size c) ((core_of r).client c) ≡ d.act
   unfolding core_of
   machine_act =
-      (λ k. client_act (record { dynamic = (side_at r.clients c).mind.code.dynamic; size = sym (kept.sides c inside).size k }) (length (side_at r.clients c).mind.code.blocks) (side_at r.clients c).mind.client)
-      ∙ ap (λ (x : Side). act_due x.mind) here
+      (λ k. client_act (record { dynamic = (client_part_at r.clients c).mind.code.dynamic; size = sym (kept.sides c inside).size k }) (length (client_part_at r.clients c).mind.code.blocks) (client_part_at r.clients c).mind.client)
+      ∙ ap (λ (x : ClientPart). act_due x.mind) here
       ∙ sym seat.act
 
   lanes_are : length d.lanes ≡ length r.program.objects
-  lanes_are = ap (λ (x : Side). length x.lanes) (sym here) ∙ (kept.sides c inside).lanes
+  lanes_are = ap (λ (x : ClientPart). length x.lanes) (sym here) ∙ (kept.sides c inside).lanes
 
   number_of : Option ℕ → ℕ
   number_of None = 0
@@ -99,9 +100,9 @@ module _ (r s : CoreState) (view : r ≡ s) (kept : IsCoreState r) (keeps : Core
   seat_is = ap (λ (x : CoreState). get_or x.clients c d) (sym view) ∙ sym (value ∙ ap (λ m. get_or r.clients m d) number)
 
   -- where it reserves its next block
-  module _ (sound : IsSound r.program) (on : GoesOn s) (asked : d.act ≡ wants.Reserve) where
-    on_here : GoesOn r
-    on_here = subst GoesOn (sym view) on
+  module _ (sound : IsSound r.program) (on : StepsAreReached s) (asked : d.act ≡ wants.Reserve) where
+    on_here : StepsAreReached r
+    on_here = subst StepsAreReached (sym view) on
 
     pub order_roomy : length r.order < all_blocks r.program
     order_roomy = booking.order_room r kept sound keeps_here on_here c inside d here seat stocked ok asked

@@ -1,6 +1,7 @@
--- Actors that lead the optimised machine from one state to another (`CoreGoes`): one list after another, one actor more, one round more. The
--- loops of `turn`, `round` and `play_rounds` keep this. What was led to a state from the beginning of a program is led on by it, and where a
--- round leads to the state that it began with, so do all further ones, by induction on their number.
+-- Actors that lead the optimised machine from one state to another (`CoreGoes`): one list after another, one actor
+-- more, one round more. The loops of `turn`, `round` and `play_rounds` keep this. What was led to a state from the
+-- beginning of a program is led on by it, and where a round leads to the state that it began with, so do all further
+-- ones, by induction on their number.
 use Rattle.std.proofs.Common.{◌≡◌, ◌∙◌, ◌+◌, ◌++◌, ◌∷◌, [], ℕ, zero, suc, Bool, true, false, IsSome, None, List, is_some, refl, sym, ap, subst, add-one, append_assoc, arith}
 use Rattle.std.specs.Bool.{OnTrue}
 use Rattle.qs_program.specs.Program.{ProgramShape}

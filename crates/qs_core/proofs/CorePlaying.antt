@@ -1,5 +1,6 @@
--- These lemmas play a schedule of the optimised machine one actor at a time, and say what is shown at its end. The loop of `play_core`
--- keeps that its state is where the actors so far lead (`IsPlayedOn`). An actor adds its step or nothing.
+-- These lemmas play a schedule of the optimised machine one actor at a time, and say what is shown at its end. The loop
+-- of `play_core` keeps that its state is where the actors so far lead (`IsPlayedOn`). An actor adds its step or
+-- nothing.
 use Rattle.std.proofs.Common.{◌≡◌, ◌<◌, ℕ, zero, suc, ◌+◌, Bool, true, false, length, get_or, take, arith, List, [], ◌∷◌, ◌++◌, None, refl, ap, sym, subst, ◌∙◌, add-one}
 use Rattle.std.specs.Bool.{OnTrue}
 use Rattle.qs_program.specs.Program.{ProgramShape}

@@ -1,11 +1,8 @@
 pub mod CoreCounted
 pub mod CoreGoing
 pub mod CorePlaying
-pub mod CoreReadings
 pub mod ServiceFieldLemmas
-pub mod CoreShowing
 pub mod CoreFieldLemmas
-pub mod CoreRows
 pub mod CoreBlocks
 pub mod CoreDeeds
 pub mod CorePlaces

@@ -1,6 +1,7 @@
--- The lemmas on a handler's step are stated here in the words that the proofs of `meet` and `take_ticket` have at hand. There the
--- machine's fields, the numbers, the handler and the client are read out of the code and only equal to those of the lemmas. The
--- proofs rewrite along these equations, and look at both cases, that a step was made and that none was.
+-- The lemmas on a handler's step are stated here in the words that the proofs of `meet` and `take_ticket` have at hand.
+-- There the machine's fields, the numbers, the handler and the client are read out of the code and only equal to those
+-- of the lemmas. The proofs rewrite along these equations, and look at both cases, that a step was made and that none
+-- was.
 use Rattle.std.proofs.Common.{◌≡◌, ◌<◌, ◌≤◌, ℕ, Bool, true, false, List, [], ◌∷◌, length, get_or, Option, Some, None, refl, sym, ap, subst, ◌∙◌, arith}
 use Rattle.std.specs.Bool.{OnTrue}
 use Rattle.std.proofs.Math.ListN.{set}
@@ -17,9 +18,9 @@ use Rattle.qs_played.specs.declared.schedule.actor.Actor.TheVariants as actor
 use Rattle.qs_core_laws.specs.Core.{core_step}
 use Rattle.qs_core_laws.specs.CoreReached.{ReachedCore}
 use Rattle.qs_core_parts.specs.CoreClients.{AreStocked, CoreClientState, Meets, whole_of}
-use Rattle.qs_core_parts.specs.CoreHandlers.{CoreHandlerState, IsCoreHandler, MayCome, TakesTicket, handler_of, lane_step, turns_to}
+use Rattle.qs_core_parts.specs.CoreHandlers.{CoreHandlerState, IsCoreHandler, MayCome, TakesTicket, handler_with_act, lane_step_of_handler, turns_to}
 use Rattle.qs_core_parts.specs.LaneStates.{lane_at}
-use Rattle.qs_core_state.specs.CoreState.{CoreKeeps, CoreState, CoreSteps, IsCoreState, Side, all_blocks, codes_of, core_of, handler_at, side_at, side_of, tickets_at}
+use Rattle.qs_core_state.specs.CoreState.{CoreKeeps, CoreState, CoreSteps, IsCoreState, ClientPart, all_blocks, codes_of, core_of, core_handler_of, client_part_at, client_part, tickets_at}
 use Rattle.qs_core_state.proofs.CoreBooking.{ticket_kept, ticket_rests, ticket_steps}
 use Rattle.qs_core_state.proofs.CoreLists.{map_here}
 use Rattle.qs_core_state.proofs.CoreMoves.{handler_kept, handler_rests, handler_steps, with_handlers}
@@ -36,8 +37,8 @@ module _ (r s : CoreState) (view : r ≡ s) (kept : IsCoreState r) (keeps : Core
   pub seat_is : get_or s.handlers h d ≡ d
   seat_is = ap (λ (x : CoreState). get_or x.handlers h d) (sym view) ∙ in_list
 
-  here : handler_at r.program r.handlers h ≡ handler_of d
-  here = map_here handler_of r.handlers h d _ inside ∙ ap handler_of in_list
+  here : core_handler_of r.program r.handlers h ≡ handler_with_act d
+  here = map_here handler_with_act r.handlers h d _ inside ∙ ap handler_with_act in_list
 
   queue : tickets_at r.handlers h ≡ d.tickets
   queue = map_here (λ (x : CoreHandlerState). x.tickets) r.handlers h d [] inside ∙ ap (λ (x : CoreHandlerState). x.tickets) in_list
@@ -49,18 +50,18 @@ module _ (r s : CoreState) (view : r ≡ s) (kept : IsCoreState r) (keeps : Core
   keeps_here = subst CoreKeeps (sym view) keeps
 
   -- its act is the machine's
-  machine_act : act_of (handler_at r.program r.handlers h) ≡ d.act
+  machine_act : act_of (core_handler_of r.program r.handlers h) ≡ d.act
   machine_act = ap act_of here ∙ sym seat.act
 
   -- where it turns to no lane it wants a ticket
   pub wants_ticket : turns_to d.act ≡ None → d.act ≡ acts.TakeTicket
   unfolding core_of ReachedCore
-  wants_ticket none = by_handler (handler_of d) refl
+  wants_ticket none = by_handler (handler_with_act d) refl
     where
-      act_is : (x : Handler) → handler_of d ≡ x → d.act ≡ act_of x
+      act_is : (x : Handler) → handler_with_act d ≡ x → d.act ≡ act_of x
       act_is x is = seat.act ∙ ap act_of is
 
-      by_handler : (x : Handler) → handler_of d ≡ x → d.act ≡ acts.TakeTicket
+      by_handler : (x : Handler) → handler_with_act d ≡ x → d.act ≡ acts.TakeTicket
       by_handler (free y) is = act_is (free y) is
       by_handler (serves t y) is = let bad : turns_to (act_of (serves t y)) ≡ None = ap turns_to (sym (act_is (serves t y) is)) ∙ none in cc
       by_handler (spares t y m) is = let bad : turns_to (act_of (spares t y m)) ≡ None = ap turns_to (sym (act_is (spares t y m) is)) ∙ none in cc
@@ -110,7 +111,7 @@ module _ (r s : CoreState) (view : r ≡ s) (kept : IsCoreState r) (keeps : Core
     there = let in_program = by_act d.act refl turned in omega (arith, in_program, kept.clients)
 
     module _ (n' : ℕ) (number' : n' ≡ c) (g : CoreClientState) (value' : g ≡ get_or r.clients n' g) where
-      found : side_at r.clients c ≡ side_of g
+      found : client_part_at r.clients c ≡ client_part g
       found = client_here r.clients c n' g number' there value'
 
       stocked : AreStocked g
@@ -118,18 +119,18 @@ module _ (r s : CoreState) (view : r ≡ s) (kept : IsCoreState r) (keeps : Core
 
       pub lane_there : h < length g.lanes
       lane_there =
-          let lanes : length g.lanes ≡ length r.program.objects = ap (λ (x : Side). length x.lanes) (sym found) ∙ (kept.sides c there).lanes in
+          let lanes : length g.lanes ≡ length r.program.objects = ap (λ (x : ClientPart). length x.lanes) (sym found) ∙ (kept.sides c there).lanes in
           omega (arith, lanes, inside, kept.handlers)
 
       pub may_come : MayCome d (lane_at g.lanes h)
       unfolding core_of ReachedCore number_of
       may_come c' p ps asked first =
           let same : c' ≡ c = ap number_of (ap turns_to (sym asked) ∙ turned) in
-          let down : (lane_at (side_at r.clients c').lanes h).down ≡ p ∷ ps = ap (λ m. (lane_at (side_at r.clients m).lanes h).down) same ∙ ap (λ (x : Side). (lane_at x.lanes h).down) found ∙ first in
+          let down : (lane_at (client_part_at r.clients c').lanes h).down ≡ p ∷ ps = ap (λ m. (lane_at (client_part_at r.clients m).lanes h).down) same ∙ ap (λ (x : ClientPart). (lane_at x.lanes h).down) found ∙ first in
           subst (λ (x : Handler). IsTrue (may_stand (is_away x) p)) here (keeps_here.next c' h p ps (machine_act ∙ asked) down)
 
       size_is : (whole_of g).size ≡ r.size
-      size_is = ap (λ (x : Side). x.mind.size) (sym found) ∙ (kept.sides c there).size
+      size_is = ap (λ (x : ClientPart). x.mind.size) (sym found) ∙ (kept.sides c there).size
 
       spare_empty : (x : Handler) (k : Batch Request) → act_of x ≡ acts.Spare c k → k.items ≡ []
       spare_empty (free y) k e = cc
@@ -150,11 +151,11 @@ module _ (r s : CoreState) (view : r ≡ s) (kept : IsCoreState r) (keeps : Core
       unfolding core_of ReachedCore
       fits k e =
           let sized : k.capacity ≡ r.size = (keeps_here.handlers.spares h c k (machine_act ∙ e)).1 in
-          λ i. record { items = spare_empty (handler_of d) k (sym seat.act ∙ e) i; capacity = (sized ∙ sym size_is) i }
+          λ i. record { items = spare_empty (handler_with_act d) k (sym seat.act ∙ e) i; capacity = (sized ∙ sym size_is) i }
 
       -- after a step at that lane, or without one
       module _ (later : CoreHandlerState) (new : CoreClientState) (b : Bool) (meets : OnTrue b (Meets h g d new later))
-          (none : b ≡ false → lane_step (handler_of d) d.act (lane_at g.lanes h) ≡ None) (same_seat : b ≡ false → new ≡ g) (same_handler : b ≡ false → later ≡ d) where
+          (none : b ≡ false → lane_step_of_handler (handler_with_act d) d.act (lane_at g.lanes h) ≡ None) (same_seat : b ≡ false → new ≡ g) (same_handler : b ≡ false → later ≡ d) where
         abbrev state_after_visit : CoreState
         state_after_visit = record { program = r.program; size = r.size; order = r.order; clients = set r.clients n' new; handlers = set r.handlers n later }
 

@@ -6,9 +6,9 @@ use Rattle.qs_syncset.specs.Codes.{ClientCode}
 use Rattle.qs_chunk.specs.declared.parcel.Parcel.{Parcel}
 use Rattle.qs_chunk.specs.declared.parcel.Parcel.TheVariants.{Work, Sync, Home, End}
 use Rattle.qs_handler.specs.Handler.{Handler, free, serves, spares, gives, away, closed}
-use Rattle.qs_client_run.specs.Client.{act_of}
-use Rattle.qs_client_run.specs.declared.act.Act.{Act}
-use Rattle.qs_client_run.specs.declared.act.Act.TheVariants as wants
+use Rattle.qs_client_rules.specs.Client.{act_of}
+use Rattle.qs_client_rules.specs.declared.act.Act.{Act}
+use Rattle.qs_client_rules.specs.declared.act.Act.TheVariants as wants
 use Rattle.qs_played.specs.Played.{ticket}
 use Rattle.qs_played.specs.declared.schedule.actor.Actor.{Actor}
 use Rattle.qs_played.specs.declared.schedule.actor.Actor.TheVariants as actor
@@ -52,8 +52,8 @@ abbrev pub deed_of_lane : Ticket → List Parcel → Option CoreDeed
 deed_of_lane t [] = None
 deed_of_lane t (p ∷ ps) = Some (deed_of_parcel t p)
 
--- A handler serves the next ticket of its queue, takes a parcel of that ticket, gives an empty chunk back, or gives its object. `down` are
--- the parcels in the lane of each client to it.
+-- A handler serves the next ticket of its queue, takes a parcel of that ticket, gives an empty chunk back, or gives its
+-- object. `down` are the parcels in the lane of each client to it.
 abbrev pub deed_of_handler : List Ticket → (down : ℕ → List Parcel) → Handler → Option CoreDeed
 deed_of_handler ts down (free x) = deed_of_tickets ts
 deed_of_handler ts down (serves t x) = deed_of_lane t (down t.client)
@@ -71,7 +71,8 @@ requests_of_handler down (gives t x) = []
 requests_of_handler down (away t) = first_requests (down t.client)
 requests_of_handler down (closed x) = []
 
--- a lane's parcels, the object on its way up, and how many empty chunks lie ready, are those of the lane from client c to handler h
+-- a lane's parcels, the object on its way up, and how many empty chunks lie ready, are those of the lane from client c
+-- to handler h
 pub record IsLaneOf (s : Core) (c h : ℕ) (lane : LaneState) : Type 0 where
   pub down : lane.down ≡ s.down c h
   pub up : lane.up ≡ s.up c h

@@ -27,4 +27,5 @@ pub record IsOneBlockOn (old : CoreState) (c : ℕ) (new : CoreState) : Type 0 w
   pub actors : List Actor
   pub named : all_named old.program actors ≡ true
   pub goes : CoreGoes old actors new
-  pub quiet : IsCoreQuiet (old.order ++ record { client = c; index = blocks_begun old c } ∷ []) (put (blocks_begun old) c (suc (blocks_begun old c))) (core_of new)
+  pub quiet : IsCoreQuiet (old.order ++ record { client = c; index = blocks_begun old c }
+      ∷ []) (put (blocks_begun old) c (suc (blocks_begun old c))) (core_of new)

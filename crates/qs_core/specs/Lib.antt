@@ -1,3 +1,4 @@
-pub mod CoreShown
-pub mod CoreOrders
+-- What an auditor reads: the promises and the calls of the surface are said with these.
 pub mod CoreDeeds
+-- What crates promise one another, what proofs use, and worked examples.
+pub mod CoreOrders

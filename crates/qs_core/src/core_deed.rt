@@ -2,9 +2,10 @@
 
 use qs_objects::Ticket;
 
-/// What a step does. A client reserves its next block, takes an empty chunk of a handler, sends the requests of a chunk, waits for a
-/// handler's object, gets it, returns it, or ends its block there. A handler serves a ticket, runs the requests of a chunk, gives a client
-/// an empty chunk, sees that a client waits, gives itself to a client, comes back from one, or leaves a ticket.
+/// What a step does. A client reserves its next block, takes an empty chunk of a handler, sends the requests of a
+/// chunk, waits for a handler's object, gets it, returns it, or ends its block there. A handler serves a ticket, runs
+/// the requests of a chunk, gives a client an empty chunk, sees that a client waits, gives itself to a client, comes
+/// back from one, or leaves a ticket.
 #[derive(Clone, Copy, Debug, PartialEq, Eq)]
 pub enum CoreDeed {
     Reserves(Ticket),

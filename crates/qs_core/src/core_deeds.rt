@@ -4,17 +4,17 @@ ghost use Rattle.std.specs.Prelude.{◌≡◌, ◌<◌, IfOk, length, vec_len};
 ghost use Rattle.qs_client.specs.ClientModel.{act_due};
 ghost use Rattle.qs_core_parts.specs.CarriedRequests.{sent_requests};
 ghost use Rattle.qs_core_parts.specs.CoreClients.{whole_of};
-ghost use Rattle.qs_core_parts.specs.CoreHandlers.{core_handler_at, handler_of};
+ghost use Rattle.qs_core_parts.specs.CoreHandlers.{core_handler_at, handler_with_act};
 ghost use Rattle.qs_core_parts.specs.LaneStates.{lane_at};
-ghost use Rattle.qs_core_state.specs.CoreState.{side_at};
+ghost use Rattle.qs_core_state.specs.CoreState.{client_part_at};
 ghost use Rattle.qs_core.specs.CoreDeeds.{deed_of_client, deed_of_handler, deed_of_lane, deed_of_parcel, deed_of_sent, deed_of_tickets, requests_of_handler};
-ghost use Rattle.qs_core.specs.CoreShown.{HaveLane, TurnsTo};
+ghost use Rattle.qs_core_shown.specs.CoreShown.{HaveLane, TurnsTo};
 
 use crate::core_deed::CoreDeed;
-use crate::core_showing::{client_at, handler_at};
 use qs_chunk::Parcel;
 use qs_client::Act;
 use qs_core_parts::{CoreClient, CoreHandler, Lane};
+use qs_core_shown::{client_at, handler_at};
 use qs_handler::Act as HandlerAct;
 use qs_objects::{Request, Ticket};
 use std::alloc::{AllocError, Global};
@@ -66,7 +66,7 @@ fn deed_of(client: &CoreClient, number: u8) -> Option<CoreDeed>
 /// What a client does next.
 pub(crate) fn client_deed(clients: &[CoreClient], number: u8) -> Option<CoreDeed>
     requires { number < length clients.now }
-    ensures value { result ≡ deed_of_client number (side_at clients.now number).mind.client.begun (act_due (side_at clients.now number).mind) }
+    ensures value { result ≡ deed_of_client number (client_part_at clients.now number).mind.client.begun (act_due (client_part_at clients.now number).mind) }
 {
     deed_of(client_at(clients, usize::from(number)), number)
 }
@@ -112,8 +112,8 @@ pub(crate) fn handler_deed(
     requires number { number < length handlers.now }
     requires lanes { HaveLane clients.now number }
     requires turns { TurnsTo clients.now (core_handler_at handlers.now number) }
-    ensures value { result ≡ deed_of_handler (core_handler_at handlers.now number).tickets (λ c. (lane_at (side_at clients.now c).lanes number).down)
-        (handler_of (core_handler_at handlers.now number)) }
+    ensures value { result ≡ deed_of_handler (core_handler_at handlers.now number).tickets (λ c. (lane_at (client_part_at clients.now c).lanes number).down)
+        (handler_with_act (core_handler_at handlers.now number)) }
 {
     let handler = handler_at(handlers, number);
     match handler.act() {
@@ -138,7 +138,7 @@ pub(crate) fn client_requests(
     number: u8,
 ) -> Result<Vec<Request>, AllocError>
     requires { number < length clients.old.items }
-    ensures value { IfOk result (λ requests. requests.items ≡ sent_requests (act_due (side_at clients.old.items number).mind)) }
+    ensures value { IfOk result (λ requests. requests.items ≡ sent_requests (act_due (client_part_at clients.old.items number).mind)) }
     ensures same { clients.new.items ≡ clients.old.items }
     ensures len { vec_len clients.new ≡ vec_len clients.old }
 {
@@ -157,8 +157,8 @@ pub(crate) fn handler_requests(
     requires number { number < length handlers.now }
     requires lanes { HaveLane clients.old.items number }
     requires turns { TurnsTo clients.old.items (core_handler_at handlers.now number) }
-    ensures value { IfOk result (λ requests. requests.items ≡ requests_of_handler (λ c. (lane_at (side_at clients.old.items c).lanes number).down)
-        (handler_of (core_handler_at handlers.now number))) }
+    ensures value { IfOk result (λ requests. requests.items ≡ requests_of_handler (λ c. (lane_at (client_part_at clients.old.items c).lanes number).down)
+        (handler_with_act (core_handler_at handlers.now number))) }
     ensures same { clients.new.items ≡ clients.old.items }
     ensures len { vec_len clients.new ≡ vec_len clients.old }
 {

@@ -5,10 +5,10 @@ ghost use Rattle.std.specs.Bool.{OnTrue};
 ghost use Rattle.qs_core_laws.specs.Core.{core_step};
 ghost use Rattle.qs_core_laws.specs.CoreSchedule.{core_played};
 ghost use Rattle.qs_client.specs.ClientModel.{has_ended};
-ghost use Rattle.qs_core_state.specs.CoreState.{AreFreshClients, AreFreshHandlers, CoreKeeps, CoreSteps, GoesOn, IsCoreState, IsFreshClient, IsFreshCore, core_of, codes_of, side_at};
+ghost use Rattle.qs_core_state.specs.CoreState.{AreFreshClients, AreFreshHandlers, CoreKeeps, CoreSteps, StepsAreReached, IsCoreState, IsFreshClient, IsFreshCore, core_of, codes_of, client_part_at};
 ghost use Rattle.qs_core_parts.specs.CoreClients.{CoreClientState};
 ghost use Rattle.qs_core_parts.specs.CoreHandlers.{CanEnterAll, CoreHandlerState, with_ticket_at_all, with_ticket_at, core_handler_at, turns_to};
-ghost use Rattle.qs_client_run.specs.declared.act.Act.TheVariants as wants;
+ghost use Rattle.qs_client_rules.specs.declared.act.Act.TheVariants as wants;
 ghost use Rattle.qs_core.specs.CoreDeeds.{act_at, core_deed, core_requests};
 ghost use Rattle.qs_core_parts.specs.CoreClients.{turns_to as lane_wanted};
 ghost use Rattle.qs_handler.specs.Handler.{act_of};
@@ -18,9 +18,9 @@ mod reading;
 
 use crate::core_deed::CoreDeed;
 use crate::core_deeds::{client_deed, client_requests, handler_deed, handler_requests};
-use crate::core_showing;
 use qs_chunk::ChunkSize;
 use qs_core_parts::{CoreClient, CoreHandler};
+use qs_core_shown::shown;
 use qs_objects::{Request, Ticket};
 use qs_played::{Actor, Played, declared_held};
 use qs_program::Program;
@@ -28,8 +28,8 @@ use qs_syncset::{Mode, compile};
 use std::alloc::{AllocError, Global};
 use std::marker::Model;
 
-/// A program on its way in the optimised machine: clients with their lanes, and handlers with their queues of tickets. Its steps take
-/// no memory.
+/// A program on its way in the optimised machine: clients with their lanes, and handlers with their queues of tickets.
+/// Its steps take no memory.
 #[derive(Drop)]
 pub(crate) struct CoreMachine<'p> {
     program: &'p Program,
@@ -83,7 +83,7 @@ fn fresh_clients(
 ) -> Result<Vec<CoreClient>, AllocError>
     ensures fresh { IfOk result (λ clients. AreFreshClients program.now mode size clients.items) }
 {
-    program.is_sound();
+    program.keeps_sound();
     let mut clients = Vec::new(alloc);
     for number in 0..program.clients() as u8 {
         clients.push(fresh_client(alloc, program, mode, size, number)?)?;
@@ -113,7 +113,7 @@ fn fresh_handlers(
 ) -> Result<Vec<CoreHandler>, AllocError>
     ensures fresh { IfOk result (λ handlers. AreFreshHandlers program.now room handlers.items) }
 {
-    program.is_sound();
+    program.keeps_sound();
     let mut handlers = Vec::new(alloc);
     for object in 0..program.objects() as u8 {
         let held = declared_held(alloc, program, object)?;
@@ -123,7 +123,8 @@ fn fresh_handlers(
 }
 
 impl<'p> CoreMachine<'p> {
-    /// A program before its first step. It takes all the memory that the run will need, by the loads; an allocation that fails leaves nothing.
+    /// A program before its first step. It takes all the memory that the run will need, by the loads; an allocation
+    /// that fails leaves nothing.
     pub(crate) fn new(
         alloc: Global,
         program: &'p Program,
@@ -132,7 +133,7 @@ impl<'p> CoreMachine<'p> {
     ) -> Result<CoreMachine<'p>, AllocError>
         ensures fresh { IfOk result (IsFreshCore program.now mode size) }
     {
-        program.is_sound();
+        program.keeps_sound();
         let blocks = program.blocks();
         let clients = fresh_clients(alloc, program, mode, size)?;
         let handlers = fresh_handlers(alloc, program, blocks)?;
@@ -147,7 +148,7 @@ impl<'p> CoreMachine<'p> {
     }
 
     /// What holds of every machine. It does nothing.
-    pub(crate) fn is_machine(&self)
+    pub(crate) fn keeps_machine(&self)
         ensures state { IsCoreState self.now }
     {
         let _ = &self.order;
@@ -163,7 +164,7 @@ impl<'p> CoreMachine<'p> {
     /// How many blocks a client has begun.
     pub(crate) fn begun(&self, number: u8) -> usize
         requires { number < length self.now.clients }
-        ensures value { result ≡ (side_at self.now.clients number).mind.client.begun }
+        ensures value { result ≡ (client_part_at self.now.clients number).mind.client.begun }
     {
         self.clients[usize::from(number)].begun()
     }
@@ -171,7 +172,7 @@ impl<'p> CoreMachine<'p> {
     /// Whether the block of a client with this number has ended.
     pub(crate) fn has_ended(&self, number: u8, index: u8) -> bool
         requires { number < length self.now.clients }
-        ensures value { result ≡ has_ended (side_at self.now.clients number).mind.client index }
+        ensures value { result ≡ has_ended (client_part_at self.now.clients number).mind.client index }
     {
         self.clients[usize::from(number)].has_ended(index)
     }
@@ -203,7 +204,7 @@ impl<'p> CoreMachine<'p> {
     pub(crate) fn step_client(&mut self, number: u8) -> bool
         requires number { number < length self.old.clients }
         requires keeps { CoreKeeps self.old }
-        requires on { GoesOn self.old }
+        requires on { StepsAreReached self.old }
         ensures steps { OnTrue result (CoreSteps self.old (actors.Client number) self.new) }
         ensures none { result ≡ false → core_step (codes_of self.old) self.old.size (core_of self.old) (actors.Client number) ≡ None }
         ensures unchanged { result ≡ false → self.new ≡ self.old }
@@ -221,10 +222,10 @@ impl<'p> CoreMachine<'p> {
         requires number { number < length self.old.clients }
         requires asked { (d : CoreClientState) → (slice_index_or self.old.clients number d).act ≡ wants.Reserve }
         requires keeps { CoreKeeps self.old }
-        requires on { GoesOn self.old }
+        requires on { StepsAreReached self.old }
         ensures steps { CoreSteps self.old (actors.Client number) self.new }
     {
-        self.program.is_sound();
+        self.program.keeps_sound();
         let client = &self.clients[usize::from(number)];
         client.has_next_act();
         let ticket = Ticket {
@@ -301,7 +302,7 @@ impl<'p> CoreMachine<'p> {
         requires keeps { CoreKeeps self.now }
         ensures value { result ≡ core_deed (codes_of self.now) self.now.size (core_of self.now) actor }
     {
-        self.is_machine();
+        self.keeps_machine();
         match actor {
             Actor::Client(client) => {
                 if usize::from(client) < self.clients.len() {
@@ -320,7 +321,8 @@ impl<'p> CoreMachine<'p> {
         }
     }
 
-    /// The requests of the chunk that an actor sends or runs next, if it does; nothing changes. An error says that their memory was refused.
+    /// The requests of the chunk that an actor sends or runs next, if it does; nothing changes. An error says that
+    /// their memory was refused.
     pub(crate) fn requests(
         &mut self,
         alloc: Global,
@@ -330,7 +332,7 @@ impl<'p> CoreMachine<'p> {
         ensures value { IfOk result (λ requests. requests.items ≡ core_requests (codes_of self.old) self.old.size (core_of self.old) actor) }
         ensures same { self.new ≡ self.old }
     {
-        self.is_machine();
+        self.keeps_machine();
         match actor {
             Actor::Client(client) => {
                 if usize::from(client) < self.clients.len() {
@@ -354,7 +356,7 @@ impl<'p> CoreMachine<'p> {
         requires keeps { CoreKeeps self }
         ensures shown { IfOk result (λ played. played ≡ core_played self.entry.program (core_of self.entry)) }
     {
-        self.program.is_sound();
-        core_showing::shown(alloc, self.order, self.clients, self.handlers)
+        self.program.keeps_sound();
+        shown(alloc, self.order, self.clients, self.handlers)
     }
 }

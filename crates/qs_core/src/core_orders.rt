@@ -2,21 +2,22 @@
 
 ghost use Rattle.std.specs.Prelude.{IfOk, IsErrOf};
 ghost use Rattle.qs_meaning.specs.Serial.{IsLegal};
-ghost use Rattle.qs_orders.specs.NamedOrders.{order_of};
+ghost use Rattle.qs_serial.specs.NamedOrders.{order_of};
 ghost use Rattle.qs_core_orders.specs.CoreOrders.{IsPlayedInOrderOn};
 
 use crate::optimised::Core;
 use qs_chunk::ChunkSize;
-use qs_orders::{OrderFault, names_order};
 use qs_played::Played;
 use qs_program::Program;
+use qs_serial::{OrderFault, names_order};
 use qs_syncset::Mode;
 use std::alloc::{AllocError, Global};
 
-/// What a program shows in the optimised machine after the blocks that a list of clients names, each client's in turn: one block after
-/// another, each from its reservation to its end, by turns of one step of the client and two of each handler. What is shown are exactly
-/// these blocks in this order, all ended, and the run is finished where they are all. `Order` comes exactly where no legal order is named,
-/// before any allocation; `Memory` where one fails. It is isolated and counted like every run.
+/// What a program shows in the optimised machine after the blocks that a list of clients names, each client's in turn:
+/// one block after another, each from its reservation to its end, by turns of one step of the client and two of each
+/// handler. What is shown are exactly these blocks in this order, all ended, and the run is finished where they are
+/// all. `Order` comes exactly where no legal order is named, before any allocation; `Memory` where one fails. It is
+/// isolated and counted like every run.
 pub fn play_in_order(
     alloc: Global,
     program: &Program,
@@ -48,7 +49,7 @@ fn play_clients(
     requires legal { IsLegal program.now (order_of clients.now) }
     ensures played { IfOk result (IsPlayedInOrderOn program.now mode size (order_of clients.now)) }
 {
-    program.is_sound();
+    program.keeps_sound();
     let mut core = Core::new(alloc, program, mode, size)?;
     for client in clients {
         core.play_block(*client);

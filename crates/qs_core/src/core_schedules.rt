@@ -12,12 +12,13 @@ use qs_program::Program;
 use qs_syncset::Mode;
 use std::alloc::{AllocError, Global};
 
-/// What a program shows in the optimised machine after a schedule: first the picks, one step each, then so many rounds, each of them one
-/// step of every client and then of every handler in text order; an actor without a step changes nothing. It ends early, at the first
-/// round that steps nobody: the rounds left would change nothing, so it shows the same as after all of them. The mode says how
-/// synchronisations with objects that are held are left out, and chunks have this size. `Rounds` comes for more than 1,000,000 rounds,
-/// `Actor` for a pick that names no actor of the program, both before any allocation; `Memory` where one fails. What is shown is
-/// isolated, as under the plain rules, and its Syncs are counted, reservation by reservation and object by object.
+/// What a program shows in the optimised machine after a schedule: first the picks, one step each, then so many rounds,
+/// each of them one step of every client and then of every handler in text order; an actor without a step changes
+/// nothing. It ends early, at the first round that steps nobody: the rounds left would change nothing, so it shows the
+/// same as after all of them. The mode says how synchronisations with objects that are held are left out, and chunks
+/// have this size. `Rounds` comes for more than 1,000,000 rounds, `Actor` for a pick that names no actor of the
+/// program, both before any allocation; `Memory` where one fails. What is shown is isolated, as under the plain rules,
+/// and its Syncs are counted, reservation by reservation and object by object.
 pub fn play(
     alloc: Global,
     program: &Program,

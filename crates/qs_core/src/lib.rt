@@ -1,4 +1,5 @@
-//! The optimised machine, and what is played on it; with it all that the plain rules, the laws of both, and comparisons offer.
+//! The optimised machine, and what is played on it; with it all that the plain rules, the laws of both, and comparisons
+//! offer.
 #![tactic(auto)]
 
 mod core_deed;
@@ -6,7 +7,6 @@ mod core_deeds;
 mod core_machine;
 mod core_orders;
 mod core_schedules;
-mod core_showing;
 pub mod laws;
 mod optimised;
 mod stuck;

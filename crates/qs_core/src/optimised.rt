@@ -26,8 +26,8 @@ use qs_syncset::Mode;
 use std::alloc::{AllocError, Global};
 use std::marker::Model;
 
-/// A program on its way in the optimised machine, from its beginning on: each client sends chunks of commands to the handlers, and
-/// runs its queries itself on the objects that come to it. Its steps take no memory.
+/// A program on its way in the optimised machine, from its beginning on: each client sends chunks of commands to the
+/// handlers, and runs its queries itself on the objects that come to it. Its steps take no memory.
 pub struct Core<'p> {
     machine: CoreMachine<'p>,
     stuck: Stuck,
@@ -57,8 +57,8 @@ impl<'p> Model for Core<'p> {
 }
 
 impl<'p> Core<'p> {
-    /// A program before its first step, in this mode and with chunks of this size. It takes all the memory that the run will need, by the
-    /// loads; an allocation that fails leaves nothing.
+    /// A program before its first step, in this mode and with chunks of this size. It takes all the memory that the run
+    /// will need, by the loads; an allocation that fails leaves nothing.
     pub fn new(
         alloc: Global,
         program: &'p Program,
@@ -72,8 +72,8 @@ impl<'p> Core<'p> {
         Ok(Core { machine, stuck })
     }
 
-    /// One step of an actor: true where it has one, and else false, with nothing changed; also where there is no such actor. What has
-    /// run stays isolated, and each Sync that was sent is counted.
+    /// One step of an actor: true where it has one, and else false, with nothing changed; also where there is no such
+    /// actor. What has run stays isolated, and each Sync that was sent is counted.
     #[inline(always)]
     pub fn step(&mut self, actor: Actor) -> bool
         ensures steps { OnTrue result (CoreSteps self.old actor self.new) }
@@ -82,8 +82,8 @@ impl<'p> Core<'p> {
         ensures isolated { CoreIsIsolated self.new }
         ensures counted { CoreIsCounted self.new }
     {
-        self.machine.program().is_sound();
-        self.machine.is_machine();
+        self.machine.program().keeps_sound();
+        self.machine.keeps_machine();
         let stepped = match actor {
             Actor::Client(client) => {
                 usize::from(client) < self.machine.clients().len() && self.step_client(client)
@@ -92,8 +92,8 @@ impl<'p> Core<'p> {
                 usize::from(handler) < self.machine.handlers().len() && self.step_handler(handler)
             }
         };
-        self.is_isolated();
-        self.is_counted();
+        self.keeps_isolated();
+        self.keeps_counted();
         stepped
     }
 
@@ -105,8 +105,8 @@ impl<'p> Core<'p> {
         ensures none { result ≡ false → core_step (codes_of self.old) self.old.size (core_of self.old) (actors.Client client) ≡ None }
         ensures unchanged { result ≡ false → self.new ≡ self.old }
     {
-        self.machine.program().is_sound();
-        self.machine.is_machine();
+        self.machine.program().keeps_sound();
+        self.machine.keeps_machine();
         if self.stuck.has_client(client) {
             return false;
         }
@@ -130,8 +130,8 @@ impl<'p> Core<'p> {
         ensures none { result ≡ false → core_step (codes_of self.old) self.old.size (core_of self.old) (actors.Handler handler) ≡ None }
         ensures unchanged { result ≡ false → self.new ≡ self.old }
     {
-        self.machine.program().is_sound();
-        self.machine.is_machine();
+        self.machine.program().keeps_sound();
+        self.machine.keeps_machine();
         if self.stuck.has_handler(handler) {
             return false;
         }
@@ -151,45 +151,47 @@ impl<'p> Core<'p> {
     pub fn next_deed(&self, actor: Actor) -> Option<CoreDeed>
         ensures value { result ≡ core_deed (codes_of self.now) self.now.size (core_of self.now) actor }
     {
-        self.machine.program().is_sound();
-        self.machine.is_machine();
+        self.machine.program().keeps_sound();
+        self.machine.keeps_machine();
         self.machine.next_deed(actor)
     }
 
-    /// The requests of the chunk that an actor sends or runs next, if it does; nothing changes. An error says that their memory was refused.
+    /// The requests of the chunk that an actor sends or runs next, if it does; nothing changes. An error says that
+    /// their memory was refused.
     pub fn requests(&mut self, alloc: Global, actor: Actor) -> Result<Vec<Request>, AllocError>
         ensures value { IfOk result (λ requests. requests.items ≡ core_requests (codes_of self.old) self.old.size (core_of self.old) actor) }
         ensures same { self.new ≡ self.old }
     {
-        self.machine.program().is_sound();
-        self.machine.is_machine();
+        self.machine.program().keeps_sound();
+        self.machine.keeps_machine();
         self.machine.requests(alloc, actor)
     }
 
     /// At every moment each reservation has done what its block does alone, as far as it has come; it does nothing.
-    pub fn is_isolated(&self)
+    pub fn keeps_isolated(&self)
         ensures isolated { CoreIsIsolated self.now }
     {
-        self.machine.program().is_sound();
-        self.machine.is_machine();
+        self.machine.program().keeps_sound();
+        self.machine.keeps_machine();
     }
 
-    /// At every moment the Syncs that each reservation has sent for each object are counted by its trace, as the mode says; it does nothing.
-    pub fn is_counted(&self)
+    /// At every moment the Syncs that each reservation has sent for each object are counted by its trace, as the mode
+    /// says; it does nothing.
+    pub fn keeps_counted(&self)
         ensures counted { CoreIsCounted self.now }
     {
-        self.machine.program().is_sound();
+        self.machine.program().keeps_sound();
     }
 
-    /// One step of each client and then of each handler, in text order: true where one of them has stepped, and else false, with
-    /// nothing changed.
+    /// One step of each client and then of each handler, in text order: true where one of them has stepped, and else
+    /// false, with nothing changed.
     fn round(&mut self) -> bool
         ensures goes { CoreGoes self.old (actors_of self.old.program) self.new }
         ensures stepped { result ≡ true → HasStep (core_step (codes_of self.old) self.old.size) (actors_of self.old.program) (core_of self.old) }
         ensures unchanged { result ≡ false → self.new ≡ self.old }
     {
         let program = self.machine.program();
-        program.is_sound();
+        program.keeps_sound();
         let clients = program.clients() as u8;
         let handlers = program.objects() as u8;
         let mut stepped = false;
@@ -222,7 +224,7 @@ impl<'p> Core<'p> {
         ensures goes { CoreGoes self.old (turn_of self.old.program client) self.new }
     {
         let program = self.machine.program();
-        program.is_sound();
+        program.keeps_sound();
         let handlers = program.objects() as u8;
         let _stepped = self.step(Actor::Client(client));
         for handler in 0..handlers {
@@ -231,19 +233,19 @@ impl<'p> Core<'p> {
         }
     }
 
-    /// The next block of a client, from its reservation to its end, where nobody is in a block: turns of the client, until the block
-    /// has ended.
+    /// The next block of a client, from its reservation to its end, where nobody is in a block: turns of the client,
+    /// until the block has ended.
     pub(crate) fn play_block(&mut self, client: u8)
         requires quiet { IsQuietNow self.old }
         requires left { blocks_begun self.old client < blocks_of self.old.program client }
         ensures on { IsOneBlockOn self.old client self.new }
     {
-        self.machine.program().is_sound();
-        self.machine.is_machine();
+        self.machine.program().keeps_sound();
+        self.machine.keeps_machine();
         let index = self.machine.begun(client) as u8;
         self.turn(client);
         for _turn in 0..u64::MAX {
-            self.machine.is_machine();
+            self.machine.keeps_machine();
             if self.machine.has_ended(client, index) {
                 return;
             }
@@ -258,8 +260,8 @@ impl<'p> Core<'p> {
         ensures counted { CoreIsCounted self.entry }
     {
         let Core { machine, stuck: _ } = self;
-        machine.program().is_sound();
-        machine.is_machine();
+        machine.program().keeps_sound();
+        machine.keeps_machine();
         machine.into_played(alloc)
     }
 }

@@ -7,7 +7,8 @@ ghost use Rattle.qs_core_state.specs.CoreStuck.{IsNobody};
 use qs_program::{MOST_CLIENTS, MOST_HANDLERS};
 use std::marker::Model;
 
-/// A flag for each client and for each handler: whether it is known to have no step. Where it is not set, nothing is known.
+/// A flag for each client and for each handler: whether it is known to have no step. Where it is not set, nothing is
+/// known.
 #[derive(Drop)]
 pub(crate) struct Stuck {
     clients: [bool; MOST_CLIENTS],

@@ -1,6 +1,7 @@
--- A program of one client with one block has, in a given mode, the codes that consist of this block's graph, if the graph is the
--- one of the mode. The law `coalesced_examples` plays blocks whose graphs were worked out by hand, and needs that these are the
--- codes of their programs. The only client and the only block have the number 0, and no other client has any blocks.
+-- A program of one client with one block has, in a given mode, the codes that consist of this block's graph, if the
+-- graph is the one of the mode. The law `coalesced_examples` plays blocks whose graphs were worked out by hand, and
+-- needs that these are the codes of their programs. The only client and the only block have the number 0, and no other
+-- client has any blocks.
 use Rattle.std.proofs.Common.{◌≡◌, ◌<◌, ◌≤◌, ℕ, zero, suc, arith, List, [], refl, sym}
 use Rattle.std.proofs.lemmas.List.FromFn.{get_or-map-range_with_len}
 use Rattle.qs_program.specs.Loads.{load_of}

@@ -1,4 +1,5 @@
--- A reservation keeps the machine's invariant: it adds one ticket to the order, to its handlers' queues and to its client.
+-- A reservation keeps the machine's invariant: it adds one ticket to the order, to its handlers' queues and to its
+-- client.
 use Rattle.std.proofs.Common.{◌≡◌, ◌<◌, ◌≤◌, arith, ℕ, zero, suc, Bool, true, false, if◌then◌else◌, ◌==◌, List, [], ◌∷◌, ◌++◌, filter, refl, sym, ap, ◌∙◌, subst, ⊎_elim, append-nil, None}
 use Rattle.std.specs.List.{AllByRecursion}
 use Rattle.std.proofs.Math.Path.{fun_ext}
@@ -19,7 +20,7 @@ use Rattle.qs_graph.specs.Synced.{Synced, without_syncs}
 use Rattle.qs_syncset.specs.SoundSynced.{IsSoundSynced, IsOnReserved}
 use Rattle.qs_chunk.specs.LaneViews.{ObjectStance, sends, gone}
 use Rattle.qs_chunk.specs.declared.parcel.Parcel.{Parcel}
-use Rattle.qs_client_run.specs.Client.{Client, Settings, Settlement, between, begin}
+use Rattle.qs_client_rules.specs.Client.{Client, Settings, Settlement, between, begin}
 use Rattle.qs_played.proofs.FunctionUpdate.{put_at, put_at_here, put_at_there, put_all, put_field, put_at_field}
 use Rattle.qs_played.specs.Played.{ticket}
 use Rattle.qs_played.proofs.Orders.{legal-more, counts-more}

@@ -1,6 +1,7 @@
--- The graphs of a program as they are built, with every synchronisation in them, are the codes of its clients in each mode that
--- removes none. The worked runs of the law `core_examples`, and the worked run of threads, begin with these codes. In such a mode
--- the definition of a code asks for the built graph itself, so each client and each block is looked up in the mapped lists.
+-- The graphs of a program as they are built, with every synchronisation in them, are the codes of its clients in each
+-- mode that removes none. The worked runs of the law `core_examples`, and the worked run of threads, begin with these
+-- codes. In such a mode the definition of a code asks for the built graph itself, so each client and each block is
+-- looked up in the mapped lists.
 use Rattle.std.proofs.Common.{◌≡◌, ℕ, Bool, false, length, map, refl, sym, ap, ◌∙◌, subst, arith}
 use Rattle.std.specs.List.{range_with_len}
 use Rattle.std.proofs.lemmas.List.{get_or_past, length-map}

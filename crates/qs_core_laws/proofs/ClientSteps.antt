@@ -1,6 +1,6 @@
--- An act of a client in its block keeps the invariant of the optimised machine, once it is known what the act does to the
--- objects. The three kinds of such acts (`send_kept`, `get_kept`, `chunk_kept`) stand on `client_moves`. Only the page and the
--- lanes of the client's current ticket change, so each ticket is either this one or stays as it was.
+-- An act of a client in its block keeps the invariant of the optimised machine, once it is known what the act does to
+-- the objects. The three kinds of such acts (`send_kept`, `get_kept`, `chunk_kept`) stand on `client_moves`. Only the
+-- page and the lanes of the client's current ticket change, so each ticket is either this one or stays as it was.
 use Rattle.std.proofs.Common.{◌≡◌, ◌<◌, ◌≤◌, arith, ℕ, suc, Bool, true, false, if◌then◌else◌, ◌==◌, List, [], ◌++◌, filter, sym, ap, ◌∙◌, subst, ⊎_elim, Option, None}
 use Rattle.qs_sync_counts.specs.declared.sync_counts.SyncCount.{SyncCount}
 use Rattle.qs_objects.specs.Journals.{HeldState}
@@ -17,7 +17,7 @@ use Rattle.qs_meaning.specs.Serial.{zeros}
 use Rattle.qs_meaning.specs.BlockRecords.{BlockRecord, IsDone}
 use Rattle.qs_chunk.specs.LaneViews.{ObjectStance, asks, gone, ClientLane}
 use Rattle.qs_chunk.specs.declared.parcel.Parcel.{Parcel}
-use Rattle.qs_client_run.specs.Client.{Client, ClientStage, between, runs, full, awaits, leaves}
+use Rattle.qs_client_rules.specs.Client.{Client, ClientStage, between, runs, full, awaits, leaves}
 use Rattle.qs_played.proofs.FunctionUpdate.{put_at, put_at_here, put_at_there, put_all, put_at_field, put_at_kept, put_kept}
 use Rattle.qs_played.specs.Played.{ticket}
 use Rattle.qs_protocol.proofs.ObjectViews.{HandlerLog, IsObject}

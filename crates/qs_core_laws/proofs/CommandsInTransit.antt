@@ -1,7 +1,7 @@
--- The commands that are on their way to an object for a ticket are those of the ticket's own parcels in the lane, and then those
--- in its client's open chunk. The proof that journals follow the order of reservations needs this for each ticket. A lane's
--- parcels are cut into the tickets that the handler has still to serve, by induction on its queue; a ticket that was served has
--- none left.
+-- The commands that are on their way to an object for a ticket are those of the ticket's own parcels in the lane, and
+-- then those in its client's open chunk. The proof that journals follow the order of reservations needs this for each
+-- ticket. A lane's parcels are cut into the tickets that the handler has still to serve, by induction on its queue; a
+-- ticket that was served has none left.
 use Rattle.std.proofs.Common.{◌≡◌, ◌<◌, ◌≤◌, arith, ℕ, suc, Bool, true, false, true≢false, if◌then◌else◌, ◌==◌, List, [], ◌∷◌, ◌++◌, map, filter, refl, sym, ap, ap₂, ◌∙◌, subst, ◌⊎◌, inl, inr, ⊎_elim, append-nil, Option, Some, None}
 use Rattle.std.specs.List.{AllByRecursion}
 use Rattle.qs_objects.specs.Journals.{HeldState}
@@ -23,7 +23,7 @@ use Rattle.qs_chunk.specs.declared.parcel.Parcel.{Parcel}
 use Rattle.qs_chunk.specs.LaneParts.{commands_in, lane_of}
 use Rattle.qs_chunk.specs.LaneViews as views
 use Rattle.qs_handler.specs.Handler.{Handler, free, serves, spares, gives, away, closed, serving}
-use Rattle.qs_client_run.specs.Client.{Client, ClientStage, between, runs, full, awaits, leaves}
+use Rattle.qs_client_rules.specs.Client.{Client, ClientStage, between, runs, full, awaits, leaves}
 use Rattle.qs_played.proofs.Orders.{each_among, apart_kept, apart_both}
 use Rattle.qs_protocol.proofs.ClientInvariants.{in_hand, PlaceOk, standing_at}
 use Rattle.qs_protocol.proofs.ObjectViews.{stance, Rising, HandlerLog, ahead}

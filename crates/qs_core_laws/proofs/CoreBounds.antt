@@ -1,6 +1,7 @@
--- In each state that the optimised machine comes to, chunks have the machine's size, clients beyond the program do nothing, and a
--- block that was not begun has neither values at entry nor a trace. What the code may rely on in such states (`CoreReached`)
--- takes these facts from here. They are one invariant, `CoreBounded`, which each step keeps, by cases on the actor and its act.
+-- In each state that the optimised machine comes to, chunks have the machine's size, clients beyond the program do
+-- nothing, and a block that was not begun has neither values at entry nor a trace. What the code may rely on in such
+-- states (`CoreReached`) takes these facts from here. They are one invariant, `CoreBounded`, which each step keeps, by
+-- cases on the actor and its act.
 use Rattle.std.proofs.Common.{◌≡◌, ◌<◌, ◌≤◌, ◌-◌, ℕ, zero, suc, nat_lt, ◌==◌, Bool, true, false, if◌then◌else◌, List, [], ◌∷◌, ◌++◌, length, refl, sym, ap, ◌∙◌, subst, ⊎_elim, Option, Some, None, arith}
 use Rattle.std.specs.List.{AllByRecursion}
 use Rattle.qs_sync_counts.specs.declared.sync_counts.SyncCount.{SyncCount}
@@ -26,9 +27,9 @@ use Rattle.qs_chunk.specs.declared.parcel.Parcel.{Parcel}
 use Rattle.qs_chunk.specs.declared.parcel.Parcel.TheVariants as parcels
 use Rattle.qs_handler.specs.Handler.{Handler, free, serves, spares, gives, away, closed, accept_next, accept_parcel, gave}
 use Rattle.qs_handler.specs.Handler as handlers
-use Rattle.qs_client_run.specs.Client.{Client, ClientStage, Settings, Settlement, act_at, act_of, between, runs, full, awaits, leaves, begin, call_act, clear, first_client, take_object, after_parcel, take_chunk, work}
-use Rattle.qs_client_run.specs.declared.act.Act.{Act}
-use Rattle.qs_client_run.specs.declared.act.Act.TheVariants.{Reserve, Send, Await, NeedChunk, Finished}
+use Rattle.qs_client_rules.specs.Client.{Client, ClientStage, Settings, Settlement, act_at, act_of, between, runs, full, awaits, leaves, begin, call_act, clear, first_client, take_object, after_parcel, take_chunk, work}
+use Rattle.qs_client_rules.specs.declared.act.Act.{Act}
+use Rattle.qs_client_rules.specs.declared.act.Act.TheVariants.{Reserve, Send, Await, NeedChunk, Finished}
 use Rattle.qs_played.specs.Played.{ticket}
 use Rattle.qs_played.specs.declared.schedule.actor.Actor.{Actor}
 use Rattle.qs_played.proofs.ReservedObjects.{none_beyond}

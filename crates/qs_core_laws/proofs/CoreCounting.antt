@@ -1,6 +1,7 @@
--- Each step of the optimised machine keeps, for each block and object, how many Syncs the block has sent, and the counts in the
--- machine say these numbers. The exact counts at the end (`CoreSyncs`) are read off this. The proof goes by cases on the actor
--- and its act: only a client that sends a Sync changes a number, by one, and then induction on the list of actors.
+-- Each step of the optimised machine keeps, for each block and object, how many Syncs the block has sent, and the
+-- counts in the machine say these numbers. The exact counts at the end (`CoreSyncs`) are read off this. The proof goes
+-- by cases on the actor and its act: only a client that sends a Sync changes a number, by one, and then induction on
+-- the list of actors.
 use Rattle.std.proofs.Common.{◌≡◌, ◌<◌, ◌≤◌, ℕ, zero, suc, ◌-◌, ◌==◌, nat_lt, Bool, true, false, if◌then◌else◌, is_some, List, [], ◌∷◌, ◌++◌, length, map, refl, sym, ap, ◌∙◌, subst, ⊎_elim, Option, Some, None, arith}
 use Rattle.std.specs.Prelude.{sum_by}
 use Rattle.std.specs.List.{IsDistinct, range_with_len}
@@ -31,10 +32,10 @@ use Rattle.qs_handler.specs.Handler.{Handler, gave, accept_parcel, accept_next}
 use Rattle.qs_handler.specs.Handler as handlers
 use Rattle.qs_handler.specs.declared.mind.Act as handler_acts
 use Rattle.qs_handler.specs.declared.mind.Act.TheVariants as acts
-use Rattle.qs_client_run.specs.Client.{Client, Settlement, between, begin, take_object, after_parcel, take_chunk}
+use Rattle.qs_client_rules.specs.Client.{Client, Settlement, between, begin, take_object, after_parcel, take_chunk}
 use Rattle.qs_client_run.specs.BlockSizes.{longest}
-use Rattle.qs_client_run.specs.declared.act.Act.{Act}
-use Rattle.qs_client_run.specs.declared.act.Act.TheVariants.{Reserve, Send, Await, NeedChunk, Finished}
+use Rattle.qs_client_rules.specs.declared.act.Act.{Act}
+use Rattle.qs_client_rules.specs.declared.act.Act.TheVariants.{Reserve, Send, Await, NeedChunk, Finished}
 use Rattle.qs_played.specs.Played.{ticket}
 use Rattle.qs_played.specs.declared.schedule.actor.Actor.{Actor}
 use Rattle.qs_played.proofs.ReservedObjects.{distinct_objects, reserved_inside}

@@ -1,7 +1,7 @@
--- This file defines the invariant of the optimised machine: for each ticket its page, for each ticket and object what was sent
--- and got, and how the machine's state goes on with this history. The proof of isolation keeps it through each step and reads the
--- journals off it. A client's history and an object's are kept apart, each by its own records, and meet in what lies in the
--- lanes.
+-- This file defines the invariant of the optimised machine: for each ticket its page, for each ticket and object what
+-- was sent and got, and how the machine's state goes on with this history. The proof of isolation keeps it through each
+-- step and reads the journals off it. A client's history and an object's are kept apart, each by its own records, and
+-- meet in what lies in the lanes.
 use Rattle.std.proofs.Common.{◌≡◌, ◌<◌, ◌≤◌, ℕ, suc, true, false, List, [], filter}
 use Rattle.std.specs.List.{AllByRecursion}
 use Rattle.qs_objects.specs.Journals.{HeldState}
@@ -13,7 +13,7 @@ use Rattle.qs_meaning.specs.Serial.{IsLegal, zeros}
 use Rattle.qs_meaning.specs.BlockRecords.{BlockRecord, Begins, IsDone}
 use Rattle.qs_chunk.specs.LaneViews.{ObjectStance, gone, ClientLane}
 use Rattle.qs_chunk.specs.declared.parcel.Parcel.{Parcel}
-use Rattle.qs_client_run.specs.Client.{between}
+use Rattle.qs_client_rules.specs.Client.{between}
 use Rattle.qs_played.specs.Played.{ticket}
 use Rattle.qs_played.proofs.Orders.{counts_after}
 use Rattle.qs_protocol.proofs.ClientInvariants.{PlaceOk, standing_at}

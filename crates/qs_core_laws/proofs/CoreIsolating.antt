@@ -1,4 +1,5 @@
--- Runs of the optimised machine are isolated: the histories of their lanes make up an abstract run, whose journals flow as the handlers served.
+-- Runs of the optimised machine are isolated: the histories of their lanes make up an abstract run, whose journals flow
+-- as the handlers served.
 use Rattle.std.proofs.Common.{◌≡◌, ◌<◌, ◌≤◌, ℕ, zero, suc, ◌+◌, ◌&&◌, ◌||◌, Bool, true, false, nat_lt, nat_eq, List, [], ◌∷◌, ◌++◌, map, length, refl, ap, ap₂, sym, subst, ◌∙◌, arith}
 use Rattle.std.proofs.lemmas.List.{get_or-map, get_or_past, length-map}
 use Rattle.std.proofs.lemmas.List.FromFn.{get_or-map-range_with_len, length-range_with_len}
@@ -17,7 +18,7 @@ use Rattle.qs_meaning.specs.BlockRecords.{IsDone}
 use Rattle.qs_meaning.proofs.SerialRuns.{line}
 use Rattle.qs_meaning.specs.Interaction as tree
 use Rattle.qs_handler.specs.Handler.{Handler, free, serves, spares, gives, away, closed, is_free, serving}
-use Rattle.qs_client_run.specs.Client.{ClientStage, between, runs, full, awaits, leaves}
+use Rattle.qs_client_rules.specs.Client.{ClientStage, between, runs, full, awaits, leaves}
 use Rattle.qs_client.specs.ClientModel.{is_between, has_ended}
 use Rattle.qs_played.specs.Isolation.{IsIsolated, journal_of, state_of, ticket_at, trace_of}
 use Rattle.qs_played.specs.Played.{ticket}

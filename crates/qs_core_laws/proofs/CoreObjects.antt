@@ -1,6 +1,7 @@
--- Each object can be found in each state that the optimised machine comes to: its handler has it, or it lies in a lane, or the
--- client to which it was given has it. The states that a run shows are taken from there, and isolation speaks of them. Where the
--- handler gave the object away, both ends of the lane are compared, by induction on what the handler received.
+-- Each object can be found in each state that the optimised machine comes to: its handler has it, or it lies in a lane,
+-- or the client to which it was given has it. The states that a run shows are taken from there, and isolation speaks of
+-- them. Where the handler gave the object away, both ends of the lane are compared, by induction on what the handler
+-- received.
 use Rattle.std.proofs.Common.{◌≡◌, ◌≤◌, arith, ℕ, suc, Bool, true, false, true≢false, if◌then◌else◌, ◌==◌, ◌&&◌, List, [], ◌∷◌, ◌++◌, filter, flat_map, refl, sym, ap, ap₂, ◌∙◌, subst, ◌⊎◌, inl, inr, ⊎_elim, Option, Some, None}
 use Rattle.std.specs.List.{AllByRecursion}
 use Rattle.qs_objects.specs.Journals.{HeldState}
@@ -18,7 +19,7 @@ use Rattle.qs_chunk.specs.LaneParts.{away_at}
 use Rattle.qs_chunk.specs.LaneViews as views
 use Rattle.qs_chunk.specs.declared.parcel.Parcel.TheVariants as parcels
 use Rattle.qs_handler.specs.Handler.{Handler, free, serves, spares, gives, away, closed, serving}
-use Rattle.qs_client_run.specs.Client.{Client, ClientStage, between, runs, full, awaits, leaves}
+use Rattle.qs_client_rules.specs.Client.{Client, ClientStage, between, runs, full, awaits, leaves}
 use Rattle.qs_protocol.proofs.ObjectViews.{stance, as_list, HandlerLog, ahead}
 use Rattle.qs_protocol.proofs.ClientInvariants.{in_hand, objects_of_block, Lined, standing_at}
 use Rattle.qs_protocol.proofs.LaneWays.{LastOf, none_of}

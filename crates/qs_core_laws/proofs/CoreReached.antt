@@ -1,7 +1,7 @@
--- In each state that the optimised machine comes to, the next parcel of a lane may stand there, acts name clients and objects of
--- the program, tickets come once, and each object can be found. The code relies on this for each of its steps, by
--- `reached_keeps`. It is read off the invariant and the bounds that every run keeps; the order is no longer than the program has
--- blocks, since it is legal.
+-- In each state that the optimised machine comes to, the next parcel of a lane may stand there, acts name clients and
+-- objects of the program, tickets come once, and each object can be found. The code relies on this for each of its
+-- steps, by `reached_keeps`. It is read off the invariant and the bounds that every run keeps; the order is no longer
+-- than the program has blocks, since it is legal.
 use Rattle.std.proofs.Common.{◌≡◌, ◌≢◌, ◌<◌, ◌≤◌, ◌+◌, ◌-◌, arith, ℕ, suc, ◌==◌, Bool, true, false, if◌then◌else◌, List, [], ◌∷◌, ◌++◌, length, filter, sum_by, refl, sym, ap, ◌∙◌, subst, ⊎_elim, IsSome, IsTrue}
 use Rattle.std.specs.List.{AllByRecursion, range_with_len}
 use Rattle.std.proofs.lemmas.List.{length-append}
@@ -30,9 +30,9 @@ use Rattle.qs_chunk.specs.declared.parcel.Parcel.TheVariants as parcels
 use Rattle.qs_handler.specs.Handler.{Handler, free, serves, spares, gives, away, closed, is_away, serving}
 use Rattle.qs_handler.specs.Handler as handlers
 use Rattle.qs_handler.specs.declared.mind.Act.TheVariants as acts
-use Rattle.qs_client_run.specs.Client.{act_of, between}
-use Rattle.qs_client_run.specs.declared.act.Act.{Act}
-use Rattle.qs_client_run.specs.declared.act.Act.TheVariants as wants
+use Rattle.qs_client_rules.specs.Client.{act_of, between}
+use Rattle.qs_client_rules.specs.declared.act.Act.{Act}
+use Rattle.qs_client_rules.specs.declared.act.Act.TheVariants as wants
 use Rattle.qs_played.specs.Played.{ticket}
 use Rattle.qs_played.specs.declared.schedule.actor.Actor.{Actor}
 use Rattle.qs_played.proofs.ReservedObjects.{reserved_inside}

@@ -1,6 +1,7 @@
--- Each step of the optimised machine keeps its invariant, so every list of actors does, from the beginning on. Isolation is read
--- off the invariant (`run_kept`), and the bounds and the counts are kept along the same steps. The proof goes by cases on the
--- actor and on its act, where each kind of step has its own lemma in another file, and then by induction on the list.
+-- Each step of the optimised machine keeps its invariant, so every list of actors does, from the beginning on.
+-- Isolation is read off the invariant (`run_kept`), and the bounds and the counts are kept along the same steps. The
+-- proof goes by cases on the actor and on its act, where each kind of step has its own lemma in another file, and then
+-- by induction on the list.
 use Rattle.std.proofs.Common.{◌≡◌, ◌<◌, ◌-◌, ℕ, zero, suc, nat_lt, Bool, true, false, if◌then◌else◌, List, [], ◌∷◌, ◌++◌, length, refl, sym, ap, ◌∙◌, subst, Option, Some, None, arith}
 use Rattle.qs_objects.specs.Journals.{HeldState}
 use Rattle.qs_objects.specs.declared.held.Ticket.{Ticket}
@@ -18,9 +19,9 @@ use Rattle.qs_chunk.specs.LaneViews.{sends}
 use Rattle.qs_chunk.specs.declared.parcel.Parcel.{Parcel}
 use Rattle.qs_handler.specs.Handler.{Handler, free, serves, spares, gives, away, closed, accept_next, accept_parcel, gave}
 use Rattle.qs_handler.specs.Handler as handlers
-use Rattle.qs_client_run.specs.Client.{Settlement, act_of, act_at, between, after_parcel, take_object, take_chunk, begin}
-use Rattle.qs_client_run.specs.declared.act.Act.{Act}
-use Rattle.qs_client_run.specs.declared.act.Act.TheVariants.{Reserve, Send, Await, NeedChunk, Finished}
+use Rattle.qs_client_rules.specs.Client.{Settlement, act_of, act_at, between, after_parcel, take_object, take_chunk, begin}
+use Rattle.qs_client_rules.specs.declared.act.Act.{Act}
+use Rattle.qs_client_rules.specs.declared.act.Act.TheVariants.{Reserve, Send, Await, NeedChunk, Finished}
 use Rattle.qs_played.specs.Played.{ticket}
 use Rattle.qs_played.specs.declared.schedule.actor.Actor.{Actor}
 use Rattle.qs_played.specs.declared.schedule.actor.Actor.TheVariants as actor

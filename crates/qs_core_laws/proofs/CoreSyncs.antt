@@ -1,6 +1,7 @@
--- What the optimised machine shows of the Syncs of each block is the exact count of its mode for the block's trace, or one more
--- at one object while the block is open, and their sum is what it shows as its syncs. The law `core_syncs_are_counted` is this.
--- The count was kept step by step; here it is read off, by cases on where the client stands in its block.
+-- What the optimised machine shows of the Syncs of each block is the exact count of its mode for the block's trace, or
+-- one more at one object while the block is open, and their sum is what it shows as its syncs. The law
+-- `core_syncs_are_counted` is this. The count was kept step by step; here it is read off, by cases on where the client
+-- stands in its block.
 use Rattle.std.proofs.Common.{◌≡◌, ◌<◌, ◌≤◌, ℕ, suc, ◌&&◌, nat_lt, nat_eq, Bool, true, false, List, [], ◌∷◌, length, map, refl, sym, ap, ap₂, ◌∙◌, subst, inl, inr, arith}
 use Rattle.std.specs.Prelude.{sum_by}
 use Rattle.std.specs.List.{AllByRecursion}
@@ -15,7 +16,7 @@ use Rattle.qs_syncset.specs.declared.mode.Mode.{Mode}
 use Rattle.qs_syncset.specs.Codes.{ClientCode}
 use Rattle.qs_syncset.specs.SyncCounts.{syncs_along}
 use Rattle.qs_sync_counts.specs.SyncRows.{object_of, syncs_for, syncs_of}
-use Rattle.qs_client_run.specs.Client.{Client, ClientStage, between, runs, full, awaits, leaves}
+use Rattle.qs_client_rules.specs.Client.{Client, ClientStage, between, runs, full, awaits, leaves}
 use Rattle.qs_client.specs.ClientModel.{is_between, has_ended}
 use Rattle.qs_played.specs.Isolation.{ended_of, entry_of, ticket_at, trace_of}
 use Rattle.qs_played.specs.Played.{ticket}
@@ -121,8 +122,8 @@ module _ (program : ProgramShape) (sound : IsSound program) (mode : Mode) (code 
         (sent_as (ended_of r i) (n t) (by_tree t) (tree_count program sound mode code codes size r i) tree_is
         (subst (λ b. AreSent b (n t) (by_tree t)) (sym ended_is) (ticket_sent t below)))
 
-    is_counted : IsCounted program mode r i
-    is_counted =
+    keeps_counted : IsCounted program mode r i
+    keeps_counted =
         trace_counted program sound mode code codes size r i own_block (y.page t).rest leads counts_sent (ap (map object_of) counts_are ∙ (told t).objects)
 
   -- all counts together
@@ -147,5 +148,5 @@ core_syncs_counted program sound mode code codes size actors =
     let told = k.1.2 in
     record {
       all = sym c.total ∙ sym (all_syncs program sound mode code codes size s k.0.0 k.0.1 k.0.2 n c told s.order);
-      each = is_counted program sound mode code codes size s k.0.0 k.0.1 k.0.2 n c told;
+      each = keeps_counted program sound mode code codes size s k.0.0 k.0.1 k.0.2 n c told;
     }

@@ -1,4 +1,5 @@
--- The counts of one reservation's synchronisations, by its trace: what a block's tree says of them is what its mode says.
+-- The counts of one reservation's synchronisations, by its trace: what a block's tree says of them is what its mode
+-- says.
 use Rattle.std.proofs.Common.{◌≡◌, ◌<◌, ℕ, ◌+◌, ◌==◌, Bool, false, if◌then◌else◌, length, ap, ◌∙◌, inl, inr, arith}
 use Rattle.qs_objects.specs.declared.held.Ticket.{Ticket}
 use Rattle.qs_program.specs.Program.{ProgramShape, blocks_of, text_of}

@@ -1,6 +1,6 @@
--- Each step of a handler keeps the invariant of the optimised machine. The proof that every step does (`CoreSteps`) stands on it.
--- A handler's step moves one object's view along the lane of the ticket that is served, and nothing else changes; what lies first
--- in that lane is of this ticket and may come, by cases on the parcel.
+-- Each step of a handler keeps the invariant of the optimised machine. The proof that every step does (`CoreSteps`)
+-- stands on it. A handler's step moves one object's view along the lane of the ticket that is served, and nothing else
+-- changes; what lies first in that lane is of this ticket and may come, by cases on the parcel.
 use Rattle.std.proofs.Common.{◌≡◌, ◌≤◌, arith, ℕ, suc, true, false, ◌==◌, List, [], ◌∷◌, ◌++◌, filter, flat_map, refl, sym, ap, ◌∙◌, subst, ⊎_elim, Option, Some, None}
 use Rattle.std.specs.List.{AllByRecursion}
 use Rattle.std.proofs.Math.Path.{fun_ext}

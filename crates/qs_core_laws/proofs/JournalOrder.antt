@@ -1,7 +1,7 @@
--- The journal of each object goes on along the order of reservations: each ticket's part is what its trace says of the object,
--- but for the commands that are on their way. Isolation of the optimised machine needs this (`goes`). The proof is an induction
--- along the order, through the tickets that were served, the one that is, and those to come; the room suffices, as no part is
--- longer than its block's load.
+-- The journal of each object goes on along the order of reservations: each ticket's part is what its trace says of the
+-- object, but for the commands that are on their way. Isolation of the optimised machine needs this (`goes`). The proof
+-- is an induction along the order, through the tickets that were served, the one that is, and those to come; the room
+-- suffices, as no part is longer than its block's load.
 use Rattle.std.proofs.Common.{◌≡◌, ◌+◌, ◌≤◌, arith, ℕ, suc, Bool, true, false, true≢false, if◌then◌else◌, List, [], ◌∷◌, ◌++◌, map, filter, length, refl, sym, ap, ◌∙◌, subst, inl, inr, append_assoc, append-nil, None}
 use Rattle.std.specs.List.{AllByRecursion}
 use Rattle.std.proofs.lemmas.List.{length-append, length-map, map-append}

@@ -1,6 +1,7 @@
 pub mod AloneCodes
 pub mod BookingPreserved
 pub mod BuiltCodes
+pub mod ProgramCodes
 pub mod ClientSteps
 pub mod CoreBounds
 pub mod CoreCodes

@@ -1,6 +1,7 @@
--- A client's steps within its block keep the invariant of the optimised machine: it sends a parcel, gets an object, or takes an
--- empty chunk. The proof that every step does (`CoreSteps`) stands on it. Only the client's newest ticket and the lane that it
--- uses move; as no later ticket of this client is in that object's queue, a parcel more is the last of its lane.
+-- A client's steps within its block keep the invariant of the optimised machine: it sends a parcel, gets an object, or
+-- takes an empty chunk. The proof that every step does (`CoreSteps`) stands on it. Only the client's newest ticket and
+-- the lane that it uses move; as no later ticket of this client is in that object's queue, a parcel more is the last of
+-- its lane.
 use Rattle.std.proofs.Common.{◌≡◌, ◌≢◌, ◌<◌, ◌≤◌, arith, ℕ, suc, Bool, true, false, true≢false, if◌then◌else◌, ◌==◌, List, [], ◌∷◌, ◌++◌, filter, refl, sym, ap, ◌∙◌, subst, ◌⊎◌, inl, inr, ⊎_elim, Option, Some, None}
 use Rattle.std.specs.List.{AllByRecursion}
 use Rattle.std.proofs.Math.Path.{fun_ext}
@@ -20,9 +21,9 @@ use Rattle.qs_program.specs.Program.{ProgramShape}
 use Rattle.qs_chunk.specs.LaneViews.{ObjectStance, asks, gone, ClientLane}
 use Rattle.qs_chunk.specs.declared.parcel.Parcel.{Parcel}
 use Rattle.qs_handler.specs.Handler.{serving}
-use Rattle.qs_client_run.specs.Client.{Client, Settings, Settlement, act_of, after_parcel, take_chunk}
-use Rattle.qs_client_run.specs.declared.act.Act.TheVariants.{Send, Await, NeedChunk}
-use Rattle.qs_client_run.specs.Client as clients
+use Rattle.qs_client_rules.specs.Client.{Client, Settings, Settlement, act_of, after_parcel, take_chunk}
+use Rattle.qs_client_rules.specs.declared.act.Act.TheVariants.{Send, Await, NeedChunk}
+use Rattle.qs_client_rules.specs.Client as clients
 use Rattle.qs_played.proofs.FunctionUpdate.{put_at, put_at_here, put_at_there}
 use Rattle.qs_played.specs.Played.{ticket}
 use Rattle.qs_played.proofs.Orders.{legal_among}

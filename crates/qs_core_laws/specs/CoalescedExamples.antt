@@ -32,10 +32,13 @@ codes_with dynamic body g zero = record {
 codes_with dynamic body g (suc c) = record { dynamic = dynamic; blocks = [] }
 
 abbrev pub shown_alone : Mode → Statements → List GraphNode → Played
-shown_alone mode body g = core_played (alone body) (core_scheduled (alone body) (codes_with (is_dynamic mode) body g) 8 [] 40)
+shown_alone mode body g =
+    core_played (alone body) (core_scheduled (alone body) (codes_with (is_dynamic mode) body g) 8 [] 40)
 
--- in this mode the block has this graph; after 40 rounds it has finished with these replies (None to a command) and so many syncs
-pub record PlaysAlone (body : Statements) (mode : Mode) (g : List GraphNode) (replies : List (Option ℤ)) (syncs : ℕ) : Type 0 where
+-- in this mode the block has this graph; after 40 rounds it has finished with these replies (None to a command) and so
+-- many syncs
+pub record PlaysAlone (body : Statements) (mode : Mode) (g : List GraphNode) (replies : List (Option ℤ))
+    (syncs : ℕ) : Type 0 where
   pub codes : AreCodes (alone body) mode (codes_with (is_dynamic mode) body g)
   pub replies_are : answers (shown_alone mode body g) ≡ replies ∷ []
   pub syncs_are : (shown_alone mode body g).syncs ≡ syncs
@@ -47,7 +50,8 @@ hundreds = some 100 ∷ some 100 ∷ []
 pub record CoalescedExamples : Type 0 where
   -- the synchronisation in the repeat is removed
   pub queries_plain : PlaysAlone query_in_repeat Plain (block_graph query_in_repeat) (some 100 ∷ some 100 ∷ hundreds) 4
-  pub queries_dynamic : PlaysAlone query_in_repeat Dynamic (block_graph query_in_repeat) (some 100 ∷ some 100 ∷ hundreds) 1
+  pub queries_dynamic : PlaysAlone query_in_repeat Dynamic (block_graph query_in_repeat) (some 100 ∷ some 100
+      ∷ hundreds) 1
   pub queries_static : PlaysAlone query_in_repeat Static without_inner (some 100 ∷ some 100 ∷ hundreds) 1
   pub queries_both : PlaysAlone query_in_repeat Both without_inner (some 100 ∷ some 100 ∷ hundreds) 1
   -- the command that is never reached takes nothing out
@@ -56,10 +60,16 @@ pub record CoalescedExamples : Type 0 where
   pub leaves_static : PlaysAlone leave_first Static without_last hundreds 1
   pub leaves_both : PlaysAlone leave_first Both without_last hundreds 1
   -- the command at the end of the repeat's body keeps the synchronisation at its beginning
-  pub calls_plain : PlaysAlone call_in_repeat Plain (block_graph call_in_repeat) (some 100 ∷ some 100 ∷ None ∷ some 101 ∷ None ∷ []) 3
-  pub calls_dynamic : PlaysAlone call_in_repeat Dynamic (block_graph call_in_repeat) (some 100 ∷ some 100 ∷ None ∷ some 101 ∷ None ∷ []) 2
-  pub calls_static : PlaysAlone call_in_repeat Static (block_graph call_in_repeat) (some 100 ∷ some 100 ∷ None ∷ some 101 ∷ None ∷ []) 3
-  pub calls_both : PlaysAlone call_in_repeat Both (block_graph call_in_repeat) (some 100 ∷ some 100 ∷ None ∷ some 101 ∷ None ∷ []) 2
+  pub calls_plain : PlaysAlone call_in_repeat Plain (block_graph call_in_repeat) (some 100 ∷ some 100 ∷ None ∷ some 101
+      ∷ None ∷ []) 3
+  pub calls_dynamic : PlaysAlone call_in_repeat Dynamic (block_graph call_in_repeat) (some 100 ∷ some 100 ∷ None
+      ∷ some 101 ∷ None ∷ []) 2
+  pub calls_static : PlaysAlone call_in_repeat Static (block_graph call_in_repeat) (some 100 ∷ some 100 ∷ None
+      ∷ some 101 ∷ None ∷ []) 3
+  pub calls_both : PlaysAlone call_in_repeat Both (block_graph call_in_repeat) (some 100 ∷ some 100 ∷ None ∷ some 101
+      ∷ None ∷ []) 2
   -- a Sync for each turn of the repeat and one before it
-  pub counts_static : (shown_alone Static call_in_repeat (block_graph call_in_repeat)).sync_counts ≡ (sync_count 0 3 ∷ []) ∷ []
-  pub counts_both : (shown_alone Both call_in_repeat (block_graph call_in_repeat)).sync_counts ≡ (sync_count 0 2 ∷ []) ∷ []
+  pub counts_static : (shown_alone Static call_in_repeat (block_graph call_in_repeat)).sync_counts
+      ≡ (sync_count 0 3 ∷ []) ∷ []
+  pub counts_both : (shown_alone Both call_in_repeat (block_graph call_in_repeat)).sync_counts ≡ (sync_count 0 2 ∷ [])
+      ∷ []

@@ -22,18 +22,19 @@ use Rattle.qs_handler.specs.Handler.{Handler, free, gave, accept_parcel, accept_
 use Rattle.qs_handler.specs.Handler as handlers
 use Rattle.qs_handler.specs.declared.mind.Act as handler_acts
 use Rattle.qs_handler.specs.declared.mind.Act.TheVariants as acts
-use Rattle.qs_client_run.specs.Client.{Client, ClientStage, Settings, Settlement, act_of, between, runs, full, awaits, leaves, begin, first_client, take_object, after_parcel, take_chunk}
+use Rattle.qs_client_rules.specs.Client.{Client, ClientStage, Settings, Settlement, act_of, between, runs, full, awaits, leaves, begin, first_client, take_object, after_parcel, take_chunk}
 use Rattle.qs_client.specs.ClientModel.{tree_at}
-use Rattle.qs_client_run.specs.declared.act.Act as client_acts
-use Rattle.qs_client_run.specs.declared.act.Act.TheVariants as wants
+use Rattle.qs_client_rules.specs.declared.act.Act as client_acts
+use Rattle.qs_client_rules.specs.declared.act.Act.TheVariants as wants
 use Rattle.qs_played.specs.JournalRooms.{fresh_held}
 use Rattle.qs_played.specs.Played.{ticket}
 use Rattle.qs_played.specs.declared.schedule.actor.Actor.{Actor}
 use Rattle.qs_played.specs.declared.schedule.actor.Actor.TheVariants as actor
 
--- The order of reservations; each client, and the Syncs that it sent, also apart for each ticket and object of its block's list; of the lane from a client to a handler the parcels that lie there, the
--- object on its way up, and how many empty chunks lie ready; each handler and its queue of tickets; of each ticket the variables at entry
--- and the trace.
+-- The order of reservations; each client, and the Syncs that it sent, also apart for each ticket and object of its
+-- block's list; of the lane from a client to a handler the parcels that lie there, the object on its way up, and how
+-- many empty chunks lie ready; each handler and its queue of tickets; of each ticket the variables at entry and the
+-- trace.
 pub record Core : Type 0 where
   pub order : List Ticket
   pub client : ℕ → Client
@@ -199,7 +200,8 @@ module _ (code : ℕ → ClientCode) (size : ℕ) where
   -- an empty chunk is given back
   abbrev pub gives_chunk : Core → ℕ → ℕ → Option Core
   gives_chunk s h c =
-      if nat_lt (s.spare c h) spare_room then Some (handles (with_spare s c h (suc (s.spare c h))) h (gave (s.handler h))) else None
+      if nat_lt (s.spare c h) spare_room then Some
+      (handles (with_spare s c h (suc (s.spare c h))) h (gave (s.handler h))) else None
 
   abbrev pub handler_step : Core → ℕ → handler_acts.Act → Option Core
   handler_step s h acts.TakeTicket = takes_ticket s h (s.tickets h)

@@ -25,16 +25,22 @@ use Rattle.qs_core_laws.specs.CoreSchedule.{core_played, core_scheduled, on_way}
 abbrev pub built_block : ProgramShape → ℕ → ℕ → BlockCode
 built_block p c k =
     let b = block_at p c k in
-    record { reserved = b.reserved; graph = bound_nodes (binding_of p c) (graph_of p c k).nodes; loads = map (load_of b.body) (range_with_len 0 8) }
+    record {
+      reserved = b.reserved;
+      graph = bound_nodes (binding_of p c) (graph_of p c k).nodes;
+      loads = map (load_of b.body) (range_with_len 0 8);
+    }
 
 abbrev pub example_code : Bool → ProgramShape → ℕ → ClientCode
-example_code dynamic p c = record { dynamic = dynamic; blocks = map (built_block p c) (range_with_len 0 (blocks_of p c)) }
+example_code dynamic p c =
+    record { dynamic = dynamic; blocks = map (built_block p c) (range_with_len 0 (blocks_of p c)) }
 
 abbrev pub core_shown : Bool → ProgramShape → List Actor → ℕ → Played
 core_shown dynamic p picks rounds = core_played p (core_scheduled p (example_code dynamic p) 8 picks rounds)
 
 -- in chunks of 8, after a schedule a program has these tickets, replies, states, syncs, and this end
-pub record CorePlays (dynamic : Bool) (p : ProgramShape) (picks : List Actor) (rounds : ℕ) (order : List Ticket) (ended : List Bool)
+pub record CorePlays (dynamic : Bool) (p : ProgramShape) (picks : List Actor) (rounds : ℕ) (order : List Ticket)
+    (ended : List Bool)
     (replies : List (List (Option ℤ))) (states : List State) (syncs : ℕ) (finished : Bool) : Type 0 where
   pub order_is : (core_shown dynamic p picks rounds).order ≡ order
   pub ended_is : (core_shown dynamic p picks rounds).ended ≡ ended
@@ -45,11 +51,15 @@ pub record CorePlays (dynamic : Bool) (p : ProgramShape) (picks : List Actor) (r
 
 -- a client with two blocks on one object
 abbrev pub twice : ProgramShape
-twice = program (hundred ∷ []) (client (block (0 ∷ []) (command (call 0 Deposit (n 1 ∷ [])) end) ∷ block (0 ∷ []) (command (call 0 Deposit (n 2 ∷ [])) end) ∷ []) ∷ [])
+twice =
+    program (hundred ∷ []) (client (block (0 ∷ []) (command (call 0 Deposit (n 1 ∷ [])) end)
+    ∷ block (0 ∷ []) (command (call 0 Deposit (n 2 ∷ [])) end) ∷ []) ∷ [])
 
 -- the numbers of a ticket's commands on their way, after so many steps of client 0
 abbrev pub waiting : ProgramShape → ℕ → Ticket → List (List ℤ)
-waiting p steps t = map (λ (r : Request). r.args) (on_way (core_scheduled p (example_code false p) 8 (replicate steps (actor.Client 0)) 0) 0 t)
+waiting p steps t =
+    map (λ (r : Request). r.args) (on_way (core_scheduled p (example_code false p) 8 (replicate steps (actor.Client 0))
+    0) 0 t)
 
 -- so many Syncs for an object of a block's list
 abbrev pub sync_count : ℕ → ℕ → SyncCount
@@ -64,34 +74,45 @@ pub record CoreExamples : Type 0 where
   pub reserved : CorePlays false deposit_of_5 [] 1 only (false ∷ []) ([] ∷ []) (holding 100 ∷ []) 0 false
   pub in_chunk : CorePlays false deposit_of_5 [] 2 only (false ∷ []) ((None ∷ []) ∷ []) (holding 100 ∷ []) 0 false
   pub deposited : CorePlays false deposit_of_5 [] 3 only (false ∷ []) ((None ∷ []) ∷ []) (holding 105 ∷ []) 0 false
-  pub asked : CorePlays false deposit_of_5 [] 7 only (false ∷ []) ((None ∷ some 105 ∷ []) ∷ []) (holding 105 ∷ []) 1 false
-  pub home : CorePlays false deposit_of_5 [] 8 only (false ∷ []) ((None ∷ some 105 ∷ []) ∷ []) (holding 105 ∷ []) 1 false
+  pub asked : CorePlays false deposit_of_5 [] 7 only (false ∷ []) ((None ∷ some 105 ∷ []) ∷ []) (holding 105
+      ∷ []) 1 false
+  pub home : CorePlays false deposit_of_5 [] 8 only (false ∷ []) ((None ∷ some 105 ∷ []) ∷ []) (holding 105
+      ∷ []) 1 false
   pub done : CorePlays false deposit_of_5 [] 9 only (true ∷ []) ((None ∷ some 105 ∷ []) ∷ []) (holding 105 ∷ []) 1 true
   pub tested : CorePlays true deposit_of_5 [] 9 only (true ∷ []) ((None ∷ some 105 ∷ []) ∷ []) (holding 105 ∷ []) 1 true
   -- the first pick decides who comes first
   pub greater_first :
-      CorePlays false withdrawals [] 30 (ticket 0 0 ∷ ticket 1 0 ∷ []) (true ∷ true ∷ []) ((None ∷ some 100 ∷ []) ∷ (None ∷ some 20 ∷ []) ∷ [])
+      CorePlays false withdrawals [] 30 (ticket 0 0 ∷ ticket 1 0 ∷ []) (true ∷ true ∷ []) ((None ∷ some 100 ∷ [])
+      ∷ (None ∷ some 20 ∷ []) ∷ [])
       (left_with (account (pos 20)) 1 ∷ []) 2 true
   pub smaller_first :
-      CorePlays false withdrawals (actor.Client 1 ∷ []) 30 (ticket 1 0 ∷ ticket 0 0 ∷ []) (true ∷ true ∷ []) ((None ∷ some 20 ∷ []) ∷ (None ∷ some 20 ∷ []) ∷ [])
+      CorePlays false withdrawals (actor.Client 1 ∷ []) 30 (ticket 1 0 ∷ ticket 0 0 ∷ []) (true ∷ true
+      ∷ []) ((None ∷ some 20 ∷ []) ∷ (None ∷ some 20 ∷ []) ∷ [])
       (left_with (account (pos 20)) 1 ∷ []) 2 true
   -- a synchronisation is skipped where the object is held
   pub full :
-      CorePlays false full_buffer [] 40 only (true ∷ []) ((None ∷ None ∷ some 1 ∷ None ∷ some 0 ∷ some 2 ∷ []) ∷ []) (left_with (buffer 1 []) 2 ∷ []) 3 true
+      CorePlays false full_buffer [] 40 only (true ∷ []) ((None ∷ None ∷ some 1 ∷ None ∷ some 0 ∷ some 2 ∷ [])
+      ∷ []) (left_with (buffer 1 []) 2 ∷ []) 3 true
   pub full_tested :
-      CorePlays true full_buffer [] 40 only (true ∷ []) ((None ∷ None ∷ some 1 ∷ None ∷ some 0 ∷ some 2 ∷ []) ∷ []) (left_with (buffer 1 []) 2 ∷ []) 2 true
-  pub left : CorePlays false left_at_once [] 20 only (true ∷ []) ((some 100 ∷ some 100 ∷ []) ∷ []) (holding 100 ∷ []) 2 true
-  pub left_tested : CorePlays true left_at_once [] 20 only (true ∷ []) ((some 100 ∷ some 100 ∷ []) ∷ []) (holding 100 ∷ []) 1 true
+      CorePlays true full_buffer [] 40 only (true ∷ []) ((None ∷ None ∷ some 1 ∷ None ∷ some 0 ∷ some 2 ∷ [])
+      ∷ []) (left_with (buffer 1 []) 2 ∷ []) 2 true
+  pub left : CorePlays false left_at_once [] 20 only (true ∷ []) ((some 100 ∷ some 100 ∷ []) ∷ []) (holding 100
+      ∷ []) 2 true
+  pub left_tested : CorePlays true left_at_once [] 20 only (true ∷ []) ((some 100 ∷ some 100 ∷ []) ∷ []) (holding 100
+      ∷ []) 1 true
   -- a reservation of two objects is one step
   pub both_at_once :
-      CorePlays false transfer (actor.Client 0 ∷ actor.Client 1 ∷ actor.Client 1 ∷ actor.Client 1 ∷ actor.Client 1 ∷ actor.Client 1 ∷ []) 40
+      CorePlays false transfer (actor.Client 0 ∷ actor.Client 1 ∷ actor.Client 1 ∷ actor.Client 1 ∷ actor.Client 1
+      ∷ actor.Client 1 ∷ []) 40
       (ticket 0 0 ∷ ticket 1 0 ∷ ticket 1 1 ∷ []) (true ∷ true ∷ true ∷ [])
       ((None ∷ None ∷ some 70 ∷ some 130 ∷ []) ∷ (None ∷ []) ∷ (None ∷ some 131 ∷ []) ∷ []) in_transfer 3 true
   pub behind_one :
-      CorePlays false transfer (actor.Client 1 ∷ []) 40 (ticket 1 0 ∷ ticket 0 0 ∷ ticket 1 1 ∷ []) (true ∷ true ∷ true ∷ [])
+      CorePlays false transfer (actor.Client 1 ∷ []) 40 (ticket 1 0 ∷ ticket 0 0 ∷ ticket 1 1 ∷ []) (true ∷ true ∷ true
+      ∷ [])
       ((None ∷ []) ∷ (None ∷ None ∷ some 71 ∷ some 130 ∷ []) ∷ (None ∷ some 131 ∷ []) ∷ []) in_transfer 3 true
   pub behind_both :
-      CorePlays false transfer (actor.Client 1 ∷ actor.Client 1 ∷ actor.Client 1 ∷ actor.Client 1 ∷ actor.Client 1 ∷ []) 40
+      CorePlays false transfer (actor.Client 1 ∷ actor.Client 1 ∷ actor.Client 1 ∷ actor.Client 1 ∷ actor.Client 1
+      ∷ []) 40
       (ticket 1 0 ∷ ticket 1 1 ∷ ticket 0 0 ∷ []) (true ∷ true ∷ true ∷ [])
       ((None ∷ []) ∷ (None ∷ some 101 ∷ []) ∷ (None ∷ None ∷ some 71 ∷ some 131 ∷ []) ∷ []) in_transfer 3 true
   -- in the open chunk, in the lane, and in a lane that two tickets share
@@ -106,5 +127,6 @@ pub record CoreExamples : Type 0 where
   pub counts_while_open : (core_shown true deposit_of_5 [] 4).sync_counts ≡ (sync_count 0 1 ∷ []) ∷ []
   pub counted_before_its_reply : answers (core_shown true deposit_of_5 [] 4) ≡ (None ∷ []) ∷ []
   pub counts_of_both :
-      (core_shown false transfer (actor.Client 0 ∷ actor.Client 1 ∷ actor.Client 1 ∷ actor.Client 1 ∷ actor.Client 1 ∷ actor.Client 1 ∷ []) 40).sync_counts
+      (core_shown false transfer (actor.Client 0 ∷ actor.Client 1 ∷ actor.Client 1 ∷ actor.Client 1 ∷ actor.Client 1
+      ∷ actor.Client 1 ∷ []) 40).sync_counts
       ≡ (sync_count 0 1 ∷ sync_count 1 1 ∷ []) ∷ (sync_count 0 0 ∷ []) ∷ (sync_count 1 1 ∷ []) ∷ []

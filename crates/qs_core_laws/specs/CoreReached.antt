@@ -14,8 +14,8 @@ use Rattle.qs_chunk.specs.declared.parcel.Parcel.{Parcel}
 use Rattle.qs_handler.specs.Handler.{free, closed, is_away}
 use Rattle.qs_handler.specs.Handler as handlers
 use Rattle.qs_handler.specs.declared.mind.Act.TheVariants as acts
-use Rattle.qs_client_run.specs.Client.{act_of, first_client}
-use Rattle.qs_client_run.specs.declared.act.Act.TheVariants as wants
+use Rattle.qs_client_rules.specs.Client.{act_of, first_client}
+use Rattle.qs_client_rules.specs.declared.act.Act.TheVariants as wants
 use Rattle.qs_played.specs.declared.schedule.actor.Actor.TheVariants as actor
 use Rattle.qs_played.specs.JournalRooms.{fresh_held}
 use Rattle.qs_core_laws.specs.Core.{Core, blocks, core_step, settings_of}
@@ -25,7 +25,8 @@ use Rattle.qs_core_laws.specs.CoreSchedule.{before_it, found_by}
 abbrev pub NextStands : Core → Type 0
 NextStands s =
     (c h : ℕ) (parcel : Parcel) (ps : List Parcel)
-    → handlers.act_of (s.handler h) ≡ acts.TakeParcel c → s.down c h ≡ parcel ∷ ps → IsTrue (may_stand (is_away (s.handler h)) parcel)
+    → handlers.act_of (s.handler h) ≡ acts.TakeParcel c → s.down c h ≡ parcel ∷ ps
+    → IsTrue (may_stand (is_away (s.handler h)) parcel)
 
 -- a ticket of a block that a client of the program has begun
 abbrev pub IsBegun : ProgramShape → Core → Ticket → Type 0
@@ -35,15 +36,18 @@ IsBegun p s t = (t.client < length p.clients) × (t.index < (s.client t.client).
 pub record HandlersServe (p : ProgramShape) (size : ℕ) (s : Core) : Type 0 where
   pub takes : (h c : ℕ) → handlers.act_of (s.handler h) ≡ acts.TakeParcel c → c < length p.clients
   pub gives : (h c : ℕ) (x : HeldState) → handlers.act_of (s.handler h) ≡ acts.Give c x → c < length p.clients
-  pub spares : (h c : ℕ) (chunk : Batch Request) → handlers.act_of (s.handler h) ≡ acts.Spare c chunk → (c < length p.clients) × (chunk.capacity ≡ size)
+  pub spares : (h c : ℕ) (chunk : Batch Request) → handlers.act_of (s.handler h) ≡ acts.Spare c chunk
+      → (c < length p.clients) × (chunk.capacity ≡ size)
   pub opened : (h : ℕ) (x : HeldState) → s.handler h ≡ closed x → ⊥
 
 -- what a client does next is for an object of the program
 pub record ClientsAsk (p : ProgramShape) (code : ℕ → ClientCode) (size : ℕ) (s : Core) : Type 0 where
   pub sends : (c h : ℕ) (parcel : Parcel)
       → act_of (settings_of code size c) (blocks code size c) (s.client c) ≡ wants.Send h parcel → h < length p.objects
-  pub awaits : (c h : ℕ) → act_of (settings_of code size c) (blocks code size c) (s.client c) ≡ wants.Await h → h < length p.objects
-  pub needs : (c h : ℕ) → act_of (settings_of code size c) (blocks code size c) (s.client c) ≡ wants.NeedChunk h → h < length p.objects
+  pub awaits : (c h : ℕ) → act_of (settings_of code size c) (blocks code size c) (s.client c) ≡ wants.Await h
+      → h < length p.objects
+  pub needs : (c h : ℕ) → act_of (settings_of code size c) (blocks code size c) (s.client c) ≡ wants.NeedChunk h
+      → h < length p.objects
 
 -- the blocks that were begun, and their tickets
 pub record TicketsStand (p : ProgramShape) (s : Core) : Type 0 where

@@ -11,7 +11,7 @@ use Rattle.qs_syncset.specs.declared.mode.Mode.{Mode}
 use Rattle.qs_syncset.specs.Codes.{ClientCode}
 use Rattle.qs_chunk.specs.LaneParts.{away_at, commands_in, lane_of}
 use Rattle.qs_handler.specs.Handler.{Handler, free, serves, spares, gives, away, closed, serving, is_free}
-use Rattle.qs_client_run.specs.Client.{Client}
+use Rattle.qs_client_rules.specs.Client.{Client}
 use Rattle.qs_client.specs.ClientModel.{is_between, has_ended}
 use Rattle.qs_played.specs.Isolation.{IsIsolated}
 use Rattle.qs_played.specs.Schedule.{schedule, plays_by, IsPlayedAs}
@@ -77,7 +77,9 @@ is_idle p s h =
     && all_of (λ c. nat_eq (length (s.down c h)) 0) (range_with_len 0 (length p.clients))
 
 abbrev pub is_finished : ProgramShape → Core → Bool
-is_finished p s = all_of (is_done p s) (range_with_len 0 (length p.clients)) && all_of (is_idle p s) (range_with_len 0 (length p.objects))
+is_finished p s =
+    all_of (is_done p s) (range_with_len 0 (length p.clients))
+    && all_of (is_idle p s) (range_with_len 0 (length p.objects))
 
 -- what a run has shown
 abbrev pub core_played : ProgramShape → Core → Played
@@ -95,7 +97,8 @@ core_played p s = record {
 
 -- what is shown after a schedule, by the codes of the program's clients
 abbrev pub IsShown : ProgramShape → Mode → ℕ → List Actor → ℕ → Played → Type 0
-IsShown p mode size picks rounds played = (code : ℕ → ClientCode) × AreCodes p mode code × (played ≡ core_played p (core_scheduled p code size picks rounds))
+IsShown p mode size picks rounds played =
+    (code : ℕ → ClientCode) × AreCodes p mode code × (played ≡ core_played p (core_scheduled p code size picks rounds))
 
 -- the result of playing
 abbrev pub IsPlayedIn : ProgramShape → Mode → ℕ → List Actor → ℕ → Result Played PlayFault → Type 0
@@ -104,5 +107,7 @@ IsPlayedIn p mode size picks rounds result = IsPlayedAs (IsShown p mode size pic
 -- for every program, mode, chunk size and list of actors
 abbrev pub CoreRunsAreIsolated : Type 0
 CoreRunsAreIsolated =
-    (p : ProgramShape) → IsSound p → (mode : Mode) (code : ℕ → ClientCode) → AreCodes p mode code → (size : ℕ) (actors : List Actor)
-    → IsIsolated p (core_played p (core_plays code size actors (core_begin p))) (on_way (core_plays code size actors (core_begin p)))
+    (p : ProgramShape) → IsSound p → (mode : Mode) (code : ℕ → ClientCode) → AreCodes p mode code
+    → (size : ℕ) (actors : List Actor)
+    → IsIsolated p (core_played p (core_plays code size actors (core_begin p)))
+    (on_way (core_plays code size actors (core_begin p)))

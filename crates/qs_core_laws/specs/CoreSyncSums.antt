@@ -12,5 +12,6 @@ use Rattle.qs_core_laws.specs.CoreSchedule.{core_played, core_plays}
 -- for every program, mode, chunk size and list of actors
 abbrev pub CoreSyncsAreCounted : Type 0
 CoreSyncsAreCounted =
-    (p : ProgramShape) → IsSound p → (mode : Mode) (code : ℕ → ClientCode) → AreCodes p mode code → (size : ℕ) (actors : List Actor)
+    (p : ProgramShape) → IsSound p → (mode : Mode) (code : ℕ → ClientCode) → AreCodes p mode code
+    → (size : ℕ) (actors : List Actor)
     → AreSyncsCounted p mode (core_played p (core_plays code size actors (core_begin p)))

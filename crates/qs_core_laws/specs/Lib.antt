@@ -1,6 +1,8 @@
-pub mod CoalescedExamples
+-- What an auditor reads: the promises and the calls of the surface are said with these.
 pub mod Core
+pub mod CoreSchedule
+-- What crates promise one another, what proofs use, and worked examples.
+pub mod CoalescedExamples
 pub mod CoreExamples
 pub mod CoreReached
-pub mod CoreSchedule
 pub mod CoreSyncSums

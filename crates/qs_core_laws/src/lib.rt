@@ -1,4 +1,5 @@
-//! The optimised machine as a step function, and what holds of it after every list of steps, in each mode and with each chunk size.
+//! The optimised machine as a step function, and what holds of it after every list of steps, in each mode and with each
+//! chunk size.
 #![tactic(auto)]
 
 pub mod laws;

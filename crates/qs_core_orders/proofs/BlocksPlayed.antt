@@ -1,7 +1,8 @@
--- Each legal order of blocks is played on the optimised machine, in every mode and with every chunk size: one block after another, each
--- alone. Where nobody is in a block, the next ticket's client reserves, and then turns until its block is over; each turn leaves fewer
--- steps of the client, so it ends. So it goes by induction on the order, with the configuration that counts the blocks that each client
--- has begun. At the end each block has ended; where nobody has a block left, the run is finished.
+-- Each legal order of blocks is played on the optimised machine, in every mode and with every chunk size: one block
+-- after another, each alone. Where nobody is in a block, the next ticket's client reserves, and then turns until its
+-- block is over; each turn leaves fewer steps of the client, so it ends. So it goes by induction on the order, with the
+-- configuration that counts the blocks that each client has begun. At the end each block has ended; where nobody has a
+-- block left, the run is finished.
 use Rattle.std.proofs.Common.{◌≡◌, ◌<◌, ◌≤◌, ◌∙◌, ◌==◌, ◌++◌, ◌∷◌, [], ℕ, zero, suc, Bool, true, false, nat_eq, nat_lt, List, refl, sym, ap, subst, length, map, append_assoc, append-nil, ⊎_elim, arith}
 use Rattle.std.proofs.lemmas.Bool.{lt-ltb}
 use Rattle.std.proofs.lemmas.Bool.Decides.{nat_tests}

@@ -1,6 +1,7 @@
--- A client that has its block alone always has a step: where it sends, the lane is empty; where it waits for an object, that is on its way
--- up; where it needs a chunk, one lies ready. Each step changes one corner, as the client's act says, and fewer steps are left after it.
--- Which act it is follows from the client's stage and from what it has in hand, by what is known of each place in a block (`PlaceOk`).
+-- A client that has its block alone always has a step: where it sends, the lane is empty; where it waits for an object,
+-- that is on its way up; where it needs a chunk, one lies ready. Each step changes one corner, as the client's act
+-- says, and fewer steps are left after it. Which act it is follows from the client's stage and from what it has in
+-- hand, by what is known of each place in a block (`PlaceOk`).
 use Rattle.std.proofs.Common.{◌≡◌, ◌<◌, ◌∙◌, ◌==◌, ◌+◌, ◌*◌, ◌-◌, ◌&&◌, ◌++◌, ◌∷◌, [], ℕ, suc, Bool, true, false, true≢false, if◌then◌else◌, is_some, List, Option, Some, None, refl, sym, ap, subst, length, ⊎_elim, arith}
 use Rattle.qs_objects.specs.Journals.{HeldState}
 use Rattle.qs_objects.specs.declared.held.Ticket.{Ticket}
@@ -20,9 +21,9 @@ use Rattle.qs_chunk.specs.Batch.{Batch, batch}
 use Rattle.qs_chunk.specs.Limits.{spare_room}
 use Rattle.qs_chunk.specs.declared.parcel.Parcel.{Parcel}
 use Rattle.qs_chunk.specs.declared.parcel.Parcel.TheVariants as parcels
-use Rattle.qs_client_run.specs.Client.{Client, ClientStage, Settings, Settlement, act_at, act_of, after_end, after_home, after_parcel, after_sync, after_work, awaits, between, call, call_act, clear, full, leaves, runs, set_chunk, set_held, set_stage, settle, stop_at, take_chunk, take_object}
-use Rattle.qs_client_run.specs.declared.act.Act.{Act}
-use Rattle.qs_client_run.specs.declared.act.Act.TheVariants.{Await, Finished, NeedChunk, Send}
+use Rattle.qs_client_rules.specs.Client.{Client, ClientStage, Settings, Settlement, act_at, act_of, after_end, after_home, after_parcel, after_sync, after_work, awaits, between, call, call_act, clear, full, leaves, runs, set_chunk, set_held, set_stage, settle, stop_at, take_chunk, take_object}
+use Rattle.qs_client_rules.specs.declared.act.Act.{Act}
+use Rattle.qs_client_rules.specs.declared.act.Act.TheVariants.{Await, Finished, NeedChunk, Send}
 use Rattle.qs_client.specs.ClientModel.{is_between}
 use Rattle.qs_played.specs.Schedule.{or_stay}
 use Rattle.qs_played.specs.declared.schedule.actor.Actor.TheVariants as actor

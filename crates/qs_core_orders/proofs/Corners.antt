@@ -1,6 +1,6 @@
--- What a client and a handler share, its *corner*: the handler, its queue of tickets, and the lane between the two. While a client has its
--- block alone, each corner is one of a few (`Due`), and each step of the handler leads it on to one where the handler waits for the client
--- again. A step changes one corner, and keeps all others as they are.
+-- What a client and a handler share, its *corner*: the handler, its queue of tickets, and the lane between the two.
+-- While a client has its block alone, each corner is one of a few (`Due`), and each step of the handler leads it on to
+-- one where the handler waits for the client again. A step changes one corner, and keeps all others as they are.
 use Rattle.std.proofs.Common.{◌≡◌, ◌∙◌, ◌==◌, ℕ, false, List, [], ◌∷◌, Option, Some, None, refl, sym, ap, subst}
 use Rattle.qs_objects.specs.Journals.{HeldState}
 use Rattle.qs_objects.specs.declared.held.Ticket.{Ticket}
@@ -38,8 +38,8 @@ pub record Corner : Type 0 where
 abbrev pub corner : Core → ℕ → ℕ → Corner
 corner s c h = record { handler = s.handler h; tickets = s.tickets h; down = s.down c h; up = s.up c h; spare = s.spare c h }
 
--- where the handler waits: free; serving the block; without its object; and with its object on the way up. Where it has a step: a ticket
--- has come to it, or a parcel; and halfway with an empty chunk or the object to give.
+-- where the handler waits: free; serving the block; without its object; and with its object on the way up. Where it has
+-- a step: a ticket has come to it, or a parcel; and halfway with an empty chunk or the object to give.
 pub data Due : Type 0 where
   Free : (held : HeldState) → (spare : ℕ) → Due
   Serves : (held : HeldState) → (spare : ℕ) → Due

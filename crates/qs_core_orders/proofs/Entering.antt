@@ -1,5 +1,6 @@
--- Where nobody is in a block, a client with a block left reserves in one step, and then has this block alone: each handler of its list has
--- the ticket in its queue, and the client has nothing in hand. Where such a block is over, again nobody is in a block.
+-- Where nobody is in a block, a client with a block left reserves in one step, and then has this block alone: each
+-- handler of its list has the ticket in its queue, and the client has nothing in hand. Where such a block is over,
+-- again nobody is in a block.
 use Rattle.std.proofs.Common.{◌≡◌, ◌<◌, ◌∙◌, ◌==◌, ◌+◌, ◌*◌, ◌++◌, ◌∷◌, [], ℕ, zero, suc, Bool, true, false, true≢false, if◌then◌else◌, is_some, nat_lt, List, Some, inl, inr, refl, sym, ap, subst, length, replicate, ⊎_elim, arith}
 use Rattle.std.proofs.lemmas.Bool.{lt-ltb}
 use Rattle.qs_objects.specs.Journals.{HeldState}
@@ -16,8 +17,8 @@ use Rattle.qs_graph.specs.Walk.{entry}
 use Rattle.qs_syncset.specs.declared.mode.Mode.{Mode}
 use Rattle.qs_syncset.specs.Codes.{ClientCode, code_at}
 use Rattle.qs_client_run.specs.BlockSizes.{longest}
-use Rattle.qs_client_run.specs.Client.{Client, ClientStage, Settlement, act_at, act_of, awaits, begin, between, full, leaves, runs}
-use Rattle.qs_client_run.specs.declared.act.Act.TheVariants.{Finished, Reserve}
+use Rattle.qs_client_rules.specs.Client.{Client, ClientStage, Settlement, act_at, act_of, awaits, begin, between, full, leaves, runs}
+use Rattle.qs_client_rules.specs.declared.act.Act.TheVariants.{Finished, Reserve}
 use Rattle.qs_client.specs.ClientModel.{is_between}
 use Rattle.qs_played.specs.Played.{ticket}
 use Rattle.qs_played.specs.Schedule.{or_stay}

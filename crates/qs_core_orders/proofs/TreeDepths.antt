@@ -1,5 +1,5 @@
--- A block's tree is no deeper than its walk has nodes: on no path there are more calls, synchronisations and queries. How many turns are
--- left of a block is bounded by this depth.
+-- A block's tree is no deeper than its walk has nodes: on no path there are more calls, synchronisations and queries.
+-- How many turns are left of a block is bounded by this depth.
 use Rattle.std.proofs.Common.{◌<◌, ◌≤◌, ℕ, zero, suc, ℤ, List, arith}
 use Rattle.qs_graph.specs.Nodes.{GraphNode}
 use Rattle.qs_graph.specs.Synced.{Synced, Done, Call, Sync, Query}

@@ -1,6 +1,7 @@
--- A client in its block, alone, and what a turn of it changes: a step of the client leaves one corner at which the handler has something
--- to do, and two steps of each handler lead every corner to one where the handler waits for the client again. Here are what holds between
--- the steps (`IsWithin`), the steps of handlers, and what is to be known of a client's step for it.
+-- A client in its block, alone, and what a turn of it changes: a step of the client leaves one corner at which the
+-- handler has something to do, and two steps of each handler lead every corner to one where the handler waits for the
+-- client again. Here are what holds between the steps (`IsWithin`), the steps of handlers, and what is to be known of a
+-- client's step for it.
 use Rattle.std.proofs.Common.{◌≡◌, ◌<◌, ◌≤◌, ◌∙◌, ◌==◌, ◌+◌, ◌⊎◌, ◌∷◌, [], ℕ, zero, suc, true, false, if◌then◌else◌, is_some, List, inl, inr, sym, ap, subst, length, ⊎_elim, arith}
 use Rattle.std.proofs.lemmas.Bool.Decides.{nat_tests}
 use Rattle.qs_objects.specs.declared.held.Ticket.{Ticket}
@@ -11,7 +12,7 @@ use Rattle.qs_meaning.specs.Solo.{put}
 use Rattle.qs_meaning.proofs.TreeWalks.{put_here, put_there}
 use Rattle.qs_syncset.specs.Codes.{ClientCode}
 use Rattle.qs_chunk.specs.Limits.{spare_room}
-use Rattle.qs_client_run.specs.Client.{Client}
+use Rattle.qs_client_rules.specs.Client.{Client}
 use Rattle.qs_client.specs.ClientModel.{is_between}
 use Rattle.qs_played.specs.Schedule.{or_stay}
 use Rattle.qs_played.specs.declared.schedule.actor.Actor.{Actor}
@@ -45,8 +46,8 @@ pub record IsAside (s : Core) (d : ℕ) : Type 0 where
   pub stage : is_between (s.client d).stage ≡ true
   pub lanes : (h : ℕ) → IsLaneClear s d h
 
--- The client of this ticket is in its block, and all others are between two blocks: the order so far, and how many blocks each client has
--- begun. The handlers below a number wait, and the block is over within n steps of its client.
+-- The client of this ticket is in its block, and all others are between two blocks: the order so far, and how many
+-- blocks each client has begun. The handlers below a number wait, and the block is over within n steps of its client.
 pub record IsWithin (p : ProgramShape) (so_far : List Ticket) (blocks : ℕ → ℕ) (t : Ticket) (from n : ℕ) (s : Core) : Type 0 where
   pub order : s.order ≡ so_far
   pub begun : (d : ℕ) → (s.client d).begun ≡ blocks d
@@ -140,7 +141,8 @@ module _ (p : ProgramShape) (so_far : List Ticket) (blocks : ℕ → ℕ) (t : T
       (sym (plays_by-append (core_step code size) (two_of_each many) (actor.Handler many ∷ actor.Handler many ∷ []) s))
       (serve_twice many n (core_plays code size (two_of_each many) s) le (serve_each many n s (omega (arith, le)) now))
 
-  -- What is to be known of a step of the client at a handler: what it leaves at that corner, and that it keeps all others.
+  -- What is to be known of a step of the client at a handler: what it leaves at that corner, and that it keeps all
+  -- others.
   pub record IsActAt (h k : ℕ) (due : Due) (s : Core) (m : Client) (n : Core) : Type 0 where
     pub order : n.order ≡ s.order
     pub client : n.client ≡ put s.client t.client m

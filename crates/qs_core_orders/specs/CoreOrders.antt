@@ -15,8 +15,9 @@ use Rattle.qs_played.specs.declared.schedule.actor.Actor.{Actor}
 use Rattle.qs_core_laws.specs.Core.{AreCodes}
 use Rattle.qs_core_laws.specs.CoreSchedule.{IsPlayedIn, core_played, core_scheduled, on_way}
 
--- What is shown after some picks, without a round after them, are exactly these tickets, in this order, and each of their blocks has
--- ended; where the order is complete, the run is finished. By the codes of the program in this mode it is what those picks show, isolated and counted like every run.
+-- What is shown after some picks, without a round after them, are exactly these tickets, in this order, and each of
+-- their blocks has ended; where the order is complete, the run is finished. By the codes of the program in this mode it
+-- is what those picks show, isolated and counted like every run.
 pub record IsPlayedInOrderOn (p : ProgramShape) (mode : Mode) (size : ℕ) (due : List Ticket) (r : Played) : Type 0 where
   pub picks : List Actor
   pub played : IsPlayedIn p mode size picks 0 (Ok r)
@@ -32,5 +33,6 @@ pub record IsPlayedInOrderOn (p : ProgramShape) (mode : Mode) (size : ℕ) (due 
 -- for every checked program, mode, chunk size and legal order of its blocks
 abbrev pub CoreOrdersArePlayed : Type 0
 CoreOrdersArePlayed =
-    (p : ProgramShape) → IsSound p → (mode : Mode) (code : ℕ → ClientCode) → AreCodes p mode code → (size : ℕ) (order : List Ticket) → IsLegal p order
+    (p : ProgramShape) → IsSound p → (mode : Mode) (code : ℕ → ClientCode) → AreCodes p mode code
+    → (size : ℕ) (order : List Ticket) → IsLegal p order
     → (r : Played) × IsPlayedInOrderOn p mode size order r

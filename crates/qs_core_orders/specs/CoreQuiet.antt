@@ -16,7 +16,8 @@ pub record IsLaneClear (s : Core) (c h : ℕ) : Type 0 where
   pub up : s.up c h ≡ None
   pub spare : s.spare c h ≡ spare_room
 
--- Nobody is in a block, and nothing is in a lane or a queue of tickets; these tickets were reserved, and each client has begun so many blocks.
+-- Nobody is in a block, and nothing is in a lane or a queue of tickets; these tickets were reserved, and each client
+-- has begun so many blocks.
 pub record IsCoreQuiet (so_far : List Ticket) (blocks : ℕ → ℕ) (s : Core) : Type 0 where
   pub order : s.order ≡ so_far
   pub begun : (c : ℕ) → (s.client c).begun ≡ blocks c

@@ -1,2 +1,4 @@
-pub mod CoreQuiet
+-- What an auditor reads: the promises and the calls of the surface are said with these.
 pub mod CoreOrders
+-- What crates promise one another, what proofs use, and worked examples.
+pub mod CoreQuiet

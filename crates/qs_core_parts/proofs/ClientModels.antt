@@ -9,16 +9,16 @@ use Rattle.qs_objects.specs.declared.Request.{Request}
 use Rattle.qs_syncset.specs.Codes.{ClientCode}
 use Rattle.qs_chunk.specs.Batch.{Batch}
 use Rattle.qs_chunk.specs.declared.parcel.Parcel.{Parcel}
-use Rattle.qs_client_run.specs.Client.{Settlement}
+use Rattle.qs_client_rules.specs.Client.{Settlement}
 use Rattle.qs_sync_counts.specs.SyncRows.{fresh_rows}
 use Rattle.qs_chunk.specs.Limits.{lane_room}
-use Rattle.qs_client.specs.ClientModel.{Asks, ClientModel, lists_of, act_due, mind_after_chunk, comes_to, count_syncs, finish, extend, mind_after_object, hands_out, next_act, next_mind, settings_of, with_act_again, mind_after_begin, enters, fresh_mind, locals_at}
+use Rattle.qs_client.specs.ClientModel.{Asks, ClientModel, lists_of_code, act_due, mind_after_chunk, comes_to, count_syncs, finish, extend, mind_after_object, hands_out, next_act, next_mind, settings_of, with_act_again, mind_after_begin, enters, fresh_mind, locals_at}
 use Rattle.qs_client.specs.MindState.{MindState, mind_of}
-use Rattle.qs_client_run.specs.declared.act.Act.{Act}
-use Rattle.qs_client_run.proofs.CarriedValues.{acts_lose_nothing}
-use Rattle.qs_client_run.specs.declared.act.Act.TheVariants as acts
+use Rattle.qs_client_rules.specs.declared.act.Act.{Act}
+use Rattle.qs_client_rules.proofs.CarriedValues.{acts_lose_nothing}
+use Rattle.qs_client_rules.specs.declared.act.Act.TheVariants as acts
 use Rattle.qs_played.proofs.Lists.{get_or-any}
-use Rattle.qs_core_parts.specs.CoreClients.{CoreClientState, IsCoreClient, LaneSteps, lane_step, turns_to, whole_of}
+use Rattle.qs_core_parts.specs.CoreClients.{CoreClientState, IsCoreClient, LaneSteps, lane_step_of_client, turns_to, whole_of}
 use Rattle.qs_core_parts.specs.LaneStates.{LaneState, fresh_lane, lane_at, with_down, with_spare, with_up}
 
 extended_by_none : (ts : List (List Event)) (k : ℕ) → extend ts k [] ≡ ts
@@ -117,7 +117,7 @@ module _ (s : CoreClientState) (kept : IsCoreClient s) (t : CoreClientState) (h 
         handler = h;
         turned = ap turns_to is;
         lane = with_down lane (lane.down ++ p ∷ []);
-        steps = ap (λ (a : Act). lane_step (whole_of s) a lane) is ∙ rw room (λ k. Some (sym sent k, with_down lane (lane.down ++ p ∷ [])));
+        steps = ap (λ (a : Act). lane_step_of_client (whole_of s) a lane) is ∙ rw room (λ k. Some (sym sent k, with_down lane (lane.down ++ p ∷ [])));
         lanes = lanes_are;
       }
 
@@ -133,7 +133,7 @@ module _ (s : CoreClientState) (kept : IsCoreClient s) (t : CoreClientState) (h 
         handler = h;
         turned = ap turns_to is;
         lane = with_up lane None;
-        steps = ap (λ (a : Act). lane_step (whole_of s) a lane) is ∙ rw there (λ k. Some (sym after k, with_up lane None));
+        steps = ap (λ (a : Act). lane_step_of_client (whole_of s) a lane) is ∙ rw there (λ k. Some (sym after k, with_up lane None));
         lanes = lanes_are;
       }
 
@@ -149,7 +149,7 @@ module _ (s : CoreClientState) (kept : IsCoreClient s) (t : CoreClientState) (h 
         handler = h;
         turned = ap turns_to is;
         lane = with_spare lane bs;
-        steps = ap (λ (a : Act). lane_step (whole_of s) a lane) is ∙ rw there (λ k. Some (sym after k, with_spare lane bs));
+        steps = ap (λ (a : Act). lane_step_of_client (whole_of s) a lane) is ∙ rw there (λ k. Some (sym after k, with_spare lane bs));
         lanes = lanes_are;
       }
 
@@ -240,7 +240,7 @@ module _ (code : ClientCode) (size : ℕ) where
     entries = [];
     traces = extended_by_none first.traces 0 k;
     syncs = 0;
-    counts = fresh_rows (lists_of code.blocks);
+    counts = fresh_rows (lists_of_code code.blocks);
     outgoing = first.outgoing;
   }
 
@@ -253,7 +253,7 @@ module _ (code : ClientCode) (size : ℕ) where
     entries = [];
     traces = first.traces;
     syncs = 0;
-    counts = fresh_rows (lists_of code.blocks);
+    counts = fresh_rows (lists_of_code code.blocks);
     outgoing = first.outgoing;
   }
 

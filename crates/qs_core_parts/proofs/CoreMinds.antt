@@ -1,6 +1,7 @@
--- A client's step at a lane keeps its mind's code, chunk size and ticket, and that the lane's spare chunks are empty ones of one
--- size; a client that turns to a lane has begun a block. The lemmas on the steps of the code's lists (`client_kept`) need these
--- facts. They are shown by cases on the act, and then on whether the lane has room, an object or a chunk.
+-- A client's step at a lane keeps its mind's code, chunk size and ticket, and that the lane's spare chunks are empty
+-- ones of one size; a client that turns to a lane has begun a block. The lemmas on the steps of the code's lists
+-- (`client_kept`) need these facts. They are shown by cases on the act, and then on whether the lane has room, an
+-- object or a chunk.
 use Rattle.std.proofs.Common.{◌≡◌, ◌<◌, ◌≤◌, ℕ, zero, suc, ◌*◌, Bool, true, false, nat_lt, if◌then◌else◌, List, [], ◌∷◌, length, Option, Some, None, refl, sym, ap, subst, ◌∙◌, arith}
 use Rattle.std.specs.List.{AllByRecursion}
 use Rattle.qs_objects.specs.Journals.{HeldState}
@@ -9,13 +10,13 @@ use Rattle.qs_graph.specs.Steps.{limit}
 use Rattle.qs_chunk.specs.Batch.{Batch, batch}
 use Rattle.qs_chunk.specs.declared.parcel.Parcel.TheVariants as parcels
 use Rattle.qs_chunk.specs.Limits.{lane_room}
-use Rattle.qs_client_run.specs.Client.{Client, ClientStage, act_at, between, runs, full, awaits, leaves}
+use Rattle.qs_client_rules.specs.Client.{Client, ClientStage, act_at, between, runs, full, awaits, leaves}
 use Rattle.qs_client.specs.ClientModel.{ClientModel, act_due, hands_out, is_between, settings_of}
 use Rattle.qs_client.specs.MindState.{IsMind, mind_of}
-use Rattle.qs_client_run.specs.BetweenActs.{without_act}
-use Rattle.qs_client_run.specs.declared.act.Act.{Act}
-use Rattle.qs_client_run.specs.declared.act.Act.TheVariants as acts
-use Rattle.qs_core_parts.specs.CoreClients.{CoreClientState, IsCoreClient, lane_step, takes_empty, takes_object, turns_to, whole_of}
+use Rattle.qs_client_rules.specs.Outgoings.{without_act}
+use Rattle.qs_client_rules.specs.declared.act.Act.{Act}
+use Rattle.qs_client_rules.specs.declared.act.Act.TheVariants as acts
+use Rattle.qs_core_parts.specs.CoreClients.{CoreClientState, IsCoreClient, lane_step_of_client, takes_empty, takes_object, turns_to, whole_of}
 use Rattle.qs_core_parts.specs.LaneStates.{IsStocked, LaneState}
 
 pub gave_begun : (m : Client) (act : Act) → (without_act m act).begun ≡ m.begun
@@ -91,11 +92,11 @@ KeepsMindBy m l (Some q) = KeepsMind m q.0 l q.1
 tail_stocked : (size : ℕ) (bs : List (Batch Request)) (l : LaneState) → l.spare ≡ bs → IsStocked size l → AllByRecursion (λ (b : Batch Request). b ≡ batch [] size) bs
 tail_stocked size bs l is all = subst (AllByRecursion (λ (b : Batch Request). b ≡ batch [] size)) is all
 
-all_kept : (m : ClientModel) (act : Act) (l : LaneState) → KeepsMindBy m l (lane_step m act l)
+all_kept : (m : ClientModel) (act : Act) (l : LaneState) → KeepsMindBy m l (lane_step_of_client m act l)
 all_kept m acts.Reserve l = tt
 all_kept m (acts.Send h p) l = by_room (nat_lt (length l.down) lane_room) refl
   where
-    by_room : (b : Bool) → nat_lt (length l.down) lane_room ≡ b → KeepsMindBy m l (lane_step m (acts.Send h p) l)
+    by_room : (b : Bool) → nat_lt (length l.down) lane_room ≡ b → KeepsMindBy m l (lane_step_of_client m (acts.Send h p) l)
     by_room true e = rw e (record { code = refl; size = refl; ticket = refl; stocked = λ size all. all })
     by_room false e = rw e tt
 all_kept m (acts.Await h) l = by_object l.up
@@ -110,5 +111,5 @@ all_kept m (acts.NeedChunk h) l = by_spare l.spare refl
     by_spare (b ∷ bs) e = record { code = refl; size = refl; ticket = refl; stocked = λ size all. (tail_stocked size (b ∷ bs) l e all).1 }
 all_kept m acts.Finished l = tt
 
-pub step_keeps : (m n : ClientModel) (act : Act) (l k : LaneState) → lane_step m act l ≡ Some (n, k) → KeepsMind m n l k
+pub step_keeps : (m n : ClientModel) (act : Act) (l k : LaneState) → lane_step_of_client m act l ≡ Some (n, k) → KeepsMind m n l k
 step_keeps m n act l k e = subst (KeepsMindBy m l) e (all_kept m act l)

@@ -1,6 +1,6 @@
--- The parcel that lies first in a lane may be handed to the mind of a handler that wants one. The code's call `take_parcel` hands
--- it on, and the mind asks for this. What is known speaks of the mind together with what its act carries; an act that takes a
--- parcel carries nothing, so this is the mind itself, by cases on its state.
+-- The parcel that lies first in a lane may be handed to the mind of a handler that wants one. The code's call
+-- `take_parcel` hands it on, and the mind asks for this. What is known speaks of the mind together with what its act
+-- carries; an act that takes a parcel carries nothing, so this is the mind itself, by cases on its state.
 use Rattle.std.proofs.Common.{◌≡◌, ℕ, true, refl, ap, ◌∙◌, subst, ◌∷◌, List}
 use Rattle.qs_objects.specs.Journals.{HeldState}
 use Rattle.std.specs.Prelude.{IsTrue}

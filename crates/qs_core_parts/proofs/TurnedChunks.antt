@@ -1,5 +1,5 @@
--- A chunk is turned round once as its requests are copied: what was copied lies behind what is left, and once all are copied it lies
--- as it did. `requests_of` needs this, since a chunk gives its requests only one after another.
+-- A chunk is turned round once as its requests are copied: what was copied lies behind what is left, and once all are
+-- copied it lies as it did. `requests_of` needs this, since a chunk gives its requests only one after another.
 use Rattle.std.proofs.Common.{◌≡◌, ◌<◌, List, [], ◌∷◌, ◌++◌, length, ap, sym, ◌∙◌, append_assoc, arith}
 use Rattle.std.proofs.lemmas.List.{append-nil, length-append}
 use Rattle.std.specs.Prelude.{Result, Ok, Err, IfOk, IsOk}

@@ -7,8 +7,8 @@ use Rattle.qs_chunk.specs.Batch.{Batch}
 use Rattle.qs_chunk.specs.Limits.{lane_room}
 use Rattle.qs_client.specs.ClientModel.{ClientModel, act_due, mind_after_chunk, finish, mind_after_object, hands_out, with_act_again}
 use Rattle.qs_client.specs.MindState.{MindState, mind_of}
-use Rattle.qs_client_run.specs.declared.act.Act.{Act}
-use Rattle.qs_client_run.specs.declared.act.Act.TheVariants as acts
+use Rattle.qs_client_rules.specs.declared.act.Act.{Act}
+use Rattle.qs_client_rules.specs.declared.act.Act.TheVariants as acts
 use Rattle.qs_played.specs.Played.{ClientRows}
 use Rattle.qs_core_parts.specs.CoreHandlers.{CoreHandlerState, LaneSteps as HandlerSteps}
 use Rattle.qs_core_parts.specs.LaneStates.{IsStocked, LaneState, lane_at, with_down, with_spare, with_up}
@@ -49,25 +49,28 @@ takes_empty m h l [] = None
 takes_empty m h l (b ∷ bs) = Some (mind_after_chunk m h, with_spare l bs)
 
 -- what it does at that lane: the mind and the lane after it, where it can step
-abbrev pub lane_step : ClientModel → Act → LaneState → Option (ClientModel × LaneState)
-lane_step m acts.Reserve l = None
-lane_step m (acts.Send h parcel) l =
-    if nat_lt (length l.down) lane_room then Some (finish (hands_out m (acts.Send h parcel)), with_down l (l.down ++ parcel ∷ [])) else None
-lane_step m (acts.Await h) l = takes_object m l l.up
-lane_step m (acts.NeedChunk h) l = takes_empty m h l l.spare
-lane_step m acts.Finished l = None
+abbrev pub lane_step_of_client : ClientModel → Act → LaneState → Option (ClientModel × LaneState)
+lane_step_of_client m acts.Reserve l = None
+lane_step_of_client m (acts.Send h parcel) l =
+    if nat_lt (length l.down) lane_room then Some (
+      finish (hands_out m (acts.Send h parcel)),
+      with_down l (l.down ++ parcel ∷ []),
+    ) else None
+lane_step_of_client m (acts.Await h) l = takes_object m l l.up
+lane_step_of_client m (acts.NeedChunk h) l = takes_empty m h l l.spare
+lane_step_of_client m acts.Finished l = None
 
 -- it came to this by a step at a lane
 pub record LaneSteps (old new : CoreClientState) : Type 0 where
   pub handler : ℕ
   pub turned : turns_to old.act ≡ Some handler
   pub lane : LaneState
-  pub steps : lane_step (whole_of old) old.act (lane_at old.lanes handler) ≡ Some (whole_of new, lane)
+  pub steps : lane_step_of_client (whole_of old) old.act (lane_at old.lanes handler) ≡ Some (whole_of new, lane)
   pub lanes : new.lanes ≡ slice_set old.lanes handler lane
 
 -- it can't step at a lane
 abbrev pub LaneStays : CoreClientState → Type 0
-LaneStays s = (h : ℕ) → turns_to s.act ≡ Some h → lane_step (whole_of s) s.act (lane_at s.lanes h) ≡ None
+LaneStays s = (h : ℕ) → turns_to s.act ≡ Some h → lane_step_of_client (whole_of s) s.act (lane_at s.lanes h) ≡ None
 
 -- it has the lane that it turns to
 abbrev pub HasLane : CoreClientState → Type 0
@@ -84,8 +87,10 @@ is_reserve (acts.Await h) = false
 is_reserve (acts.NeedChunk h) = false
 is_reserve acts.Finished = false
 
--- a handler came to this by a step at the client's lane to it, and the client's seat to this with the lane as it is then
-pub record Meets (h : ℕ) (old : CoreClientState) (handler : CoreHandlerState) (new : CoreClientState) (later : CoreHandlerState) : Type 0 where
+-- a handler came to this by a step at the client's lane to it, and the client's seat to this with the lane as it is
+-- then
+pub record Meets (h : ℕ) (old : CoreClientState) (handler : CoreHandlerState) (new : CoreClientState)
+    (later : CoreHandlerState) : Type 0 where
   pub lane : LaneState
   pub steps : HandlerSteps handler (lane_at old.lanes h) later lane
   pub seat : new ≡ record { mind = old.mind; act = old.act; lanes = slice_set old.lanes h lane }

@@ -30,17 +30,17 @@ abbrev pub handler_with : Handler → List Ticket → ℕ → CoreHandlerState
 handler_with h ts room = record { mind = gave h; act = act_of h; tickets = ts; room = room }
 
 -- the handler with what the act carries
-abbrev pub handler_of : CoreHandlerState → Handler
-handler_of s = with_act s.mind s.act
+abbrev pub handler_with_act : CoreHandlerState → Handler
+handler_with_act s = with_act s.mind s.act
 
 -- a handler serves nobody and has no ticket
 abbrev pub is_waiting : CoreHandlerState → Bool
-is_waiting s = is_free (handler_of s) && nat_eq (length s.tickets) 0
+is_waiting s = is_free (handler_with_act s) && nat_eq (length s.tickets) 0
 
 -- the act is the next one of the handler, and the mind is without what it carries
 pub record IsCoreHandler (s : CoreHandlerState) : Type 0 where
-  pub act : s.act ≡ act_of (handler_of s)
-  pub mind : s.mind ≡ gave (handler_of s)
+  pub act : s.act ≡ act_of (handler_with_act s)
+  pub mind : s.mind ≡ gave (handler_with_act s)
 
 -- with a ticket at the end of its queue
 abbrev pub with_ticket : Ticket → CoreHandlerState → CoreHandlerState
@@ -67,26 +67,32 @@ gives_up h x l None = Some (gave h, with_up l (Some x))
 gives_up h x l (Some y) = None
 
 -- what it does at that lane: the handler and the lane after it, where it can step
-abbrev pub lane_step : Handler → Act → LaneState → Option (Handler × LaneState)
-lane_step h acts.TakeTicket l = None
-lane_step h (acts.TakeParcel c) l = takes_first h l l.down
-lane_step h (acts.Give c x) l = gives_up h x l l.up
-lane_step h (acts.Spare c chunk) l = if nat_lt (length l.spare) 4 then Some (gave h, with_spare l (l.spare ++ chunk ∷ [])) else None
-lane_step h acts.Closed l = None
+abbrev pub lane_step_of_handler : Handler → Act → LaneState → Option (Handler × LaneState)
+lane_step_of_handler h acts.TakeTicket l = None
+lane_step_of_handler h (acts.TakeParcel c) l = takes_first h l l.down
+lane_step_of_handler h (acts.Give c x) l = gives_up h x l l.up
+lane_step_of_handler h (acts.Spare c chunk) l =
+    if nat_lt (length l.spare) 4 then Some (gave h, with_spare l (l.spare ++ chunk ∷ [])) else None
+lane_step_of_handler h acts.Closed l = None
 
 -- it came to this by a step at a lane
 abbrev pub LaneSteps : CoreHandlerState → LaneState → CoreHandlerState → LaneState → Type 0
-LaneSteps old l new k = (h : Handler) × (lane_step (handler_of old) old.act l ≡ Some (h, k)) × (new ≡ handler_with h old.tickets old.room)
+LaneSteps old l new k =
+    (h : Handler) × (lane_step_of_handler (handler_with_act old) old.act l ≡ Some (h, k))
+    × (new ≡ handler_with h old.tickets old.room)
 
 -- it took the first ticket of its queue
 abbrev pub TakesTicket : CoreHandlerState → CoreHandlerState → Type 0
 TakesTicket old new =
     (t : Ticket) × (ts : List Ticket) × (h : Handler)
-    × (old.tickets ≡ t ∷ ts) × (accept_next (handler_of old) (nexts.Ticket t) ≡ Some h) × (new ≡ handler_with h ts old.room)
+    × (old.tickets ≡ t ∷ ts) × (accept_next (handler_with_act old) (nexts.Ticket t) ≡ Some h)
+    × (new ≡ handler_with h ts old.room)
 
 -- a parcel that comes to it may stand there
 abbrev pub MayCome : CoreHandlerState → LaneState → Type 0
-MayCome s l = (c : ℕ) (p : Parcel) (ps : List Parcel) → s.act ≡ acts.TakeParcel c → l.down ≡ p ∷ ps → IsTrue (may_stand (is_away (handler_of s)) p)
+MayCome s l =
+    (c : ℕ) (p : Parcel) (ps : List Parcel) → s.act ≡ acts.TakeParcel c → l.down ≡ p ∷ ps
+    → IsTrue (may_stand (is_away (handler_with_act s)) p)
 
 -- no handler
 abbrev pub no_core_handler : CoreHandlerState
@@ -106,4 +112,6 @@ with_ticket_at_all t hs (h ∷ rest) = with_ticket_at_all t (with_ticket_at t hs
 -- there are these handlers, and each has room for one more ticket
 abbrev pub CanEnterAll : Ticket → List CoreHandlerState → List ℕ → Type 0
 CanEnterAll t hs [] = Unit {0}
-CanEnterAll t hs (h ∷ rest) = (h < length hs) × (length (core_handler_at hs h).tickets < (core_handler_at hs h).room) × CanEnterAll t (with_ticket_at t hs h) rest
+CanEnterAll t hs (h ∷ rest) =
+    (h < length hs) × (length (core_handler_at hs h).tickets < (core_handler_at hs h).room)
+    × CanEnterAll t (with_ticket_at t hs h) rest

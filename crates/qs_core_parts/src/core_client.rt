@@ -6,8 +6,8 @@ ghost use Rattle.qs_program.specs.Limits.{most_handlers};
 ghost use Rattle.qs_client.specs.ClientModel.{mind_after_begin, fresh_mind, is_between};
 ghost use Rattle.qs_client.specs.MindState.{IsMind, mind_of};
 ghost use Rattle.qs_chunk.specs.declared.parcel.Parcel.{Parcel as ParcelShape};
-ghost use Rattle.qs_client_run.specs.declared.act.Act.TheVariants as acts;
-ghost use Rattle.qs_core_parts.specs.CoreHandlers.{MayCome, handler_of, lane_step as handler_lane_step};
+ghost use Rattle.qs_client_rules.specs.declared.act.Act.TheVariants as acts;
+ghost use Rattle.qs_core_parts.specs.CoreHandlers.{MayCome, handler_with_act, lane_step_of_handler as handler_lane_step};
 ghost use Rattle.qs_core_parts.specs.CoreClients.{Meets, AreStocked, HasLane, IsCoreClient, LaneStays, LaneSteps, is_reserve, rows_of, turns_to, whole_of};
 ghost use Rattle.qs_chunk.specs.LaneParts.{away_at, home_of};
 ghost use Rattle.qs_client.specs.ClientModel.{has_ended};
@@ -28,7 +28,8 @@ use std::alloc::{AllocError, Global};
 use std::marker::Model;
 use std::mem;
 
-/// A client's mind with the act that it handed out last, and the client's lanes, one to each handler. Its steps take no memory.
+/// A client's mind with the act that it handed out last, and the client's lanes, one to each handler. Its steps take no
+/// memory.
 pub struct CoreClient {
     mind: Mind,
     act: Act,
@@ -80,7 +81,7 @@ impl CoreClient {
         ensures seat { IsCoreClient self.now }
         ensures mind { IsMind (mind_of self.now.mind) }
     {
-        self.mind.is_mind();
+        self.mind.keeps_mind();
     }
 
     /// The act that its mind handed out last.
@@ -90,7 +91,8 @@ impl CoreClient {
         &self.act
     }
 
-    /// The requests of the chunk that it sends next, if it sends one; nothing changes. An error says that their memory was refused.
+    /// The requests of the chunk that it sends next, if it sends one; nothing changes. An error says that their memory
+    /// was refused.
     pub fn sent_requests(&mut self, alloc: Global) -> Result<Vec<Request>, AllocError>
         ensures value { IfOk result (λ requests. requests.items ≡ sent_requests self.old.act) }
         ensures same { self.new ≡ self.old }
@@ -104,7 +106,8 @@ impl CoreClient {
         }
     }
 
-    /// The requests of the first parcel in the lane to a handler; nothing changes. An error says that their memory was refused.
+    /// The requests of the first parcel in the lane to a handler; nothing changes. An error says that their memory was
+    /// refused.
     pub fn lane_requests(&mut self, alloc: Global, handler: u8) -> Result<Vec<Request>, AllocError>
         requires { handler < length self.old.lanes }
         ensures value { IfOk result (λ requests. requests.items ≡ first_requests (lane_at self.old.lanes handler).down) }
@@ -249,7 +252,7 @@ impl CoreClient {
         requires lane { number < length self.old.lanes }
         requires comes { MayCome handler.old (lane_at self.old.lanes number) }
         ensures steps { OnTrue result (Meets number self.old handler.old self.new handler.new) }
-        ensures none { result ≡ false → handler_lane_step (handler_of handler.old) handler.old.act (lane_at self.old.lanes number) ≡ None }
+        ensures none { result ≡ false → handler_lane_step (handler_with_act handler.old) handler.old.act (lane_at self.old.lanes number) ≡ None }
         ensures unchanged { result ≡ false → self.new ≡ self.old }
         ensures handler { result ≡ false → handler.new ≡ handler.old }
     {
@@ -324,7 +327,8 @@ impl CoreClient {
         &self.lanes[handler]
     }
 
-    /// The handler's object, where the handler gave it away: on its way to the client, on its way home, or with the client.
+    /// The handler's object, where the handler gave it away: on its way to the client, on its way home, or with the
+    /// client.
     pub fn away(&self, handler: u8) -> Option<&Held>
         requires few { handler < most_handlers }
         requires lane { handler < length self.now.lanes }

@@ -9,7 +9,7 @@ ghost use Rattle.std.specs.Bool.{OnTrue};
 ghost use Rattle.qs_handler.specs.Handler.{free, held_of, serving};
 ghost use Rattle.qs_handler.specs.declared.mind.Act.TheVariants as acts;
 ghost use Rattle.qs_core_parts.specs.CoreHandlers.{is_waiting, takes_ticket};
-ghost use Rattle.qs_core_parts.specs.CoreHandlers.{IsCoreHandler, LaneSteps, MayCome, TakesTicket, with_ticket, handler_of, handler_with, lane_step, turns_to};
+ghost use Rattle.qs_core_parts.specs.CoreHandlers.{IsCoreHandler, LaneSteps, MayCome, TakesTicket, with_ticket, handler_with_act, handler_with, lane_step_of_handler, turns_to};
 
 mod reading;
 
@@ -22,7 +22,8 @@ use std::alloc::{AllocError, Global};
 use std::collections::VecDeque;
 use std::marker::Model;
 
-/// A handler's mind with the act that it handed out last, and the handler's queue of tickets. It takes memory in `new` alone.
+/// A handler's mind with the act that it handed out last, and the handler's queue of tickets. It takes memory in `new`
+/// alone.
 pub struct CoreHandler {
     mind: Mind,
     act: Act,
@@ -117,7 +118,7 @@ impl CoreHandler {
     /// The block that it serves, if there is one.
     #[tactic(auto, using(crate::proofs::HandlerFronts::serving_behind))]
     pub fn serving(&self) -> Option<Ticket>
-        ensures value { MatchOption result (serving (handler_of self.now) ≡ []) (λ ticket. serving (handler_of self.now) ≡ ticket ∷ []) }
+        ensures value { MatchOption result (serving (handler_with_act self.now) ≡ []) (λ ticket. serving (handler_with_act self.now) ≡ ticket ∷ []) }
     {
         self.mind.serving()
     }
@@ -177,7 +178,7 @@ impl CoreHandler {
     pub fn serve_lane(&mut self, lane: &mut Lane) -> bool
         requires comes { MayCome self.old lane.old }
         ensures steps { OnTrue result (LaneSteps self.old lane.old self.new lane.new) }
-        ensures none { result ≡ false → lane_step (handler_of self.old) self.old.act lane.old ≡ None }
+        ensures none { result ≡ false → lane_step_of_handler (handler_with_act self.old) self.old.act lane.old ≡ None }
         ensures unchanged { result ≡ false → self.new ≡ self.old }
         ensures lane { result ≡ false → lane.new ≡ lane.old }
     {
@@ -195,7 +196,7 @@ impl CoreHandler {
         requires asked { (c : ℕ) × (self.old.act ≡ acts.TakeParcel c) }
         requires comes { MayCome self.old lane.old }
         ensures steps { OnTrue result (LaneSteps self.old lane.old self.new lane.new) }
-        ensures none { result ≡ false → lane_step (handler_of self.old) self.old.act lane.old ≡ None }
+        ensures none { result ≡ false → lane_step_of_handler (handler_with_act self.old) self.old.act lane.old ≡ None }
         ensures unchanged { result ≡ false → self.new ≡ self.old }
         ensures lane { result ≡ false → lane.new ≡ lane.old }
     {
@@ -211,7 +212,7 @@ impl CoreHandler {
         requires asked { (c : ℕ) × (self.old.act ≡ acts.TakeParcel c) }
         requires comes { MayCome self.old lane.old }
         ensures steps { OnTrue result (LaneSteps self.old lane.old self.new lane.new) }
-        ensures none { result ≡ false → lane_step (handler_of self.old) self.old.act lane.old ≡ None }
+        ensures none { result ≡ false → lane_step_of_handler (handler_with_act self.old) self.old.act lane.old ≡ None }
         ensures unchanged { result ≡ false → self.new ≡ self.old }
         ensures lane { result ≡ false → lane.new ≡ lane.old }
     {
@@ -227,7 +228,7 @@ impl CoreHandler {
     fn give(&mut self, lane: &mut Lane) -> bool
         requires asked { (c : ℕ) × (x : HeldState) × (self.old.act ≡ acts.Give c x) }
         ensures steps { OnTrue result (LaneSteps self.old lane.old self.new lane.new) }
-        ensures none { result ≡ false → lane_step (handler_of self.old) self.old.act lane.old ≡ None }
+        ensures none { result ≡ false → lane_step_of_handler (handler_with_act self.old) self.old.act lane.old ≡ None }
         ensures unchanged { result ≡ false → self.new ≡ self.old }
         ensures lane { result ≡ false → lane.new ≡ lane.old }
     {
@@ -244,7 +245,7 @@ impl CoreHandler {
     fn spare(&mut self, lane: &mut Lane) -> bool
         requires asked { (c : ℕ) × (chunk : Batch RequestShape) × (self.old.act ≡ acts.Spare c chunk) }
         ensures steps { OnTrue result (LaneSteps self.old lane.old self.new lane.new) }
-        ensures none { result ≡ false → lane_step (handler_of self.old) self.old.act lane.old ≡ None }
+        ensures none { result ≡ false → lane_step_of_handler (handler_with_act self.old) self.old.act lane.old ≡ None }
         ensures unchanged { result ≡ false → self.new ≡ self.old }
         ensures lane { result ≡ false → lane.new ≡ lane.old }
     {
@@ -278,7 +279,7 @@ impl CoreHandler {
 
     /// The object with its journal, where the handler has it, or is about to give it.
     pub fn held(&self) -> Option<&Held>
-        ensures value { option_copied result ≡ held_of (handler_of self.now) }
+        ensures value { option_copied result ≡ held_of (handler_with_act self.now) }
     {
         match &self.act {
             Act::Give(_, held) => Some(held),
@@ -292,7 +293,7 @@ impl CoreHandler {
     /// The object with its journal, by move, of one that waits for a ticket.
     pub fn into_held(self) -> Held
         requires free { takes_ticket self.act ≡ true }
-        ensures held { Some result ≡ held_of (handler_of self) }
+        ensures held { Some result ≡ held_of (handler_with_act self) }
     {
         let CoreHandler {
             mut mind,

@@ -16,7 +16,8 @@ use std::collections::VecDeque;
 use std::marker::Model;
 use std::mem;
 
-/// The lane from a client to a handler: parcels on their way, the object on its way up, and empty chunks. Only `new` and copies of requests take memory.
+/// The lane from a client to a handler: parcels on their way, the object on its way up, and empty chunks. Only `new`
+/// and copies of requests take memory.
 pub struct Lane {
     down: VecDeque<Parcel>,
     up: Option<Held>,
@@ -84,7 +85,8 @@ impl Lane {
         self.down.front()
     }
 
-    /// The requests of the parcel that comes next; the lane stays the same. An error says that their memory was refused.
+    /// The requests of the parcel that comes next; the lane stays the same. An error says that their memory was
+    /// refused.
     pub fn first_requests(&mut self, alloc: Global) -> Result<Vec<Request>, AllocError>
         ensures value { IfOk result (λ requests. requests.items ≡ first_requests self.old.down) }
         ensures same { self.new ≡ self.old }

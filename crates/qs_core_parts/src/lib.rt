@@ -1,4 +1,5 @@
-//! The parts of the optimised machine: a client's mind with its lanes, a handler's mind with its queue of tickets, and a lane.
+//! The parts of the optimised machine: a client's mind with its lanes, a handler's mind with its queue of tickets, and
+//! a lane.
 #![tactic(auto)]
 
 mod core_client;

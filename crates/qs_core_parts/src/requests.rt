@@ -1,4 +1,5 @@
-//! The requests of a chunk, read without taking them. A chunk gives its values only one after another, so it is turned round once.
+//! The requests of a chunk, read without taking them. A chunk gives its values only one after another, so it is turned
+//! round once.
 
 ghost use Rattle.std.specs.Prelude.{◌≡◌, IfOk};
 ghost use Rattle.qs_core_parts.specs.CarriedRequests.{requests_in};
@@ -7,7 +8,8 @@ use qs_chunk::{Chunk, Parcel};
 use qs_objects::Request;
 use std::alloc::{AllocError, Global};
 
-/// The requests that a parcel carries, the first first; the parcel stays the same. An error says that their memory was refused.
+/// The requests that a parcel carries, the first first; the parcel stays the same. An error says that their memory was
+/// refused.
 pub(crate) fn carried(alloc: Global, parcel: &mut Parcel) -> Result<Vec<Request>, AllocError>
     ensures value { IfOk result (λ requests. requests.items ≡ requests_in parcel.old) }
     ensures same { parcel.new ≡ parcel.old }

@@ -26,9 +26,9 @@ use Rattle.qs_chunk.specs.declared.parcel.Parcel.TheVariants as parcels
 use Rattle.qs_handler.specs.Handler.{Handler, free, serves, spares, gives, away, closed, accept_next, accept_parcel, gave}
 use Rattle.qs_handler.specs.Handler as handlers
 use Rattle.qs_client_run.specs.BlockSizes.{longest}
-use Rattle.qs_client_run.specs.Client.{Client, Settlement, between, runs, act_of, after_parcel, begin, take_chunk, take_object}
-use Rattle.qs_client_run.specs.declared.act.Act.{Act}
-use Rattle.qs_client_run.specs.declared.act.Act.TheVariants.{Reserve, Send, Await, NeedChunk, Finished}
+use Rattle.qs_client_rules.specs.Client.{Client, Settlement, between, runs, act_of, after_parcel, begin, take_chunk, take_object}
+use Rattle.qs_client_rules.specs.declared.act.Act.{Act}
+use Rattle.qs_client_rules.specs.declared.act.Act.TheVariants.{Reserve, Send, Await, NeedChunk, Finished}
 use Rattle.qs_client_run.proofs.CodeBounds.{longest_covers}
 use Rattle.qs_played.specs.Played.{ticket}
 use Rattle.qs_played.specs.Schedule.{or_stay}

@@ -16,9 +16,9 @@ use Rattle.qs_syncset.proofs.SyncTrees.{IsAsking, IsQueryOf}
 use Rattle.qs_chunk.specs.Batch.{Batch}
 use Rattle.qs_chunk.specs.declared.parcel.Parcel.{Parcel}
 use Rattle.qs_chunk.specs.declared.parcel.Parcel.TheVariants as parcels
-use Rattle.qs_client_run.specs.Client.{Client, ClientStage, Settings, between, runs, full, awaits, leaves, stop_at, act_at, act_of, clear, call_act, end_block, call, query, settle, set_chunk, set_held, after_home, after_work, after_sync, after_end, after_parcel, take_chunk, take_object}
-use Rattle.qs_client_run.specs.declared.act.Act.{Act}
-use Rattle.qs_client_run.specs.declared.act.Act.TheVariants.{Send, Await, NeedChunk, Finished}
+use Rattle.qs_client_rules.specs.Client.{Client, ClientStage, Settings, between, runs, full, awaits, leaves, stop_at, act_at, act_of, clear, call_act, end_block, call, query, settle, set_chunk, set_held, after_home, after_work, after_sync, after_end, after_parcel, take_chunk, take_object}
+use Rattle.qs_client_rules.specs.declared.act.Act.{Act}
+use Rattle.qs_client_rules.specs.declared.act.Act.TheVariants.{Send, Await, NeedChunk, Finished}
 use Rattle.qs_played.proofs.FunctionUpdate.{put_kept}
 use Rattle.qs_plain_progress.proofs.RequestCounts.{AtMost}
 use Rattle.qs_protocol.proofs.ActKinds.{call_not_await, clears_not_await, clears_not_need, full_not_await, full_not_need, outside_not_await, outside_not_need, outside_not_send}

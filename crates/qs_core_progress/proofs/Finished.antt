@@ -1,7 +1,7 @@
 -- Where all is finished nobody has a step: each client stands behind its last block, and each handler is free with no
 -- ticket before it. So enough rounds finish, as for every machine that is never stuck and makes few steps (`Rounds` of
 -- `qs_plain_progress`).
-use Rattle.std.proofs.Common.{◌≡◌, ◌<◌, ◌≤◌, ◌∙◌, ◌&&◌, ⊎_elim, ℕ, zero, suc, ◌+◌, ◌==◌, Bool, true, false, true≢false, if◌then◌else◌, nat_eq, nat_lt, List, [], ◌∷◌, None, length, refl, sym, ap, subst, arith}
+use Rattle.std.proofs.Common.{◌≡◌, ◌<◌, ◌≤◌, ◌∙◌, ◌&&◌, ⊎_elim, ℕ, zero, suc, ◌+◌, ◌==◌, Bool, true, false, true≢false, if◌then◌else◌, nat_eq, nat_lt, List, [], ◌∷◌, None, Ok, length, refl, sym, ap, subst, arith}
 use Rattle.std.specs.List.{range_with_len}
 use Rattle.qs_objects.specs.declared.held.Ticket.{Ticket}
 use Rattle.qs_objects.proofs.Choices.{and_cases, apart_eqb, num_cases}
@@ -12,21 +12,24 @@ use Rattle.qs_syncset.specs.Codes.{ClientCode}
 use Rattle.qs_handler.specs.Handler.{Handler, free, serves, spares, gives, away, closed, is_free}
 use Rattle.qs_handler.specs.Handler as handlers
 use Rattle.qs_client.specs.ClientModel.{is_between}
-use Rattle.qs_client_run.specs.Client.{ClientStage, between, runs, full, awaits, leaves, act_of}
-use Rattle.qs_client_run.specs.declared.act.Act.{Act}
-use Rattle.qs_client_run.specs.declared.act.Act.TheVariants.{Reserve, Finished}
+use Rattle.qs_client_rules.specs.Client.{ClientStage, between, runs, full, awaits, leaves, act_of}
+use Rattle.qs_client_rules.specs.declared.act.Act.{Act}
+use Rattle.qs_client_rules.specs.declared.act.Act.TheVariants.{Reserve, Finished}
+use Rattle.qs_played.specs.Played.{Played}
+use Rattle.qs_played.specs.Schedule.{most_rounds}
 use Rattle.qs_played.specs.declared.schedule.actor.Actor.{Actor}
 use Rattle.qs_played.specs.declared.schedule.actor.Actor.TheVariants as actor
 use Rattle.qs_plain_progress.proofs.Rounds.{enough_rounds}
 use Rattle.qs_protocol.proofs.ActObjects.{between_acts}
 use Rattle.qs_core_laws.specs.Core.{Core, AreCodes, blocks, client_step, core_begin, core_step, handler_step, settings_of, takes_ticket}
 use Rattle.qs_core_laws.specs.CoreReached.{CoreStands}
-use Rattle.qs_core_laws.specs.CoreSchedule.{all_of, core_plays, core_scheduled, is_done, is_finished, is_idle}
+use Rattle.qs_core_laws.specs.CoreSchedule.{IsPlayedIn, all_of, core_plays, core_scheduled, is_done, is_finished, is_idle}
 use Rattle.qs_core_laws.proofs.CoreCodes.{blocks_are}
 use Rattle.qs_core_laws.proofs.CoreReached.{reached_keeps}
 use Rattle.qs_core_progress.specs.CoreFinishing.{CoreEnoughRoundsFinish, CoreFinishedRunsStay}
 use Rattle.qs_core_progress.specs.CoreSteps.{most_core_steps_of}
 use Rattle.qs_core_progress.proofs.Bounded.{core_steps_bounded}
+use Rattle.qs_core_progress.proofs.SmallBounds.{core_bounds_small}
 use Rattle.qs_core_progress.proofs.Stuck.{core_runs_never_stuck, stands_of}
 
 -- ---- where all is finished
@@ -112,3 +115,11 @@ core_rounds_finish p sound mode size picks rounds many shown played =
     (λ actors over. core_finished_stay p sound mode code codes size actors over)
     (core_runs_never_stuck p sound mode code codes size)
     (most_core_steps_of p) (core_steps_bounded p sound mode code codes size) picks rounds many
+
+-- as many rounds as a command line plays by default are enough
+pub core_default_rounds_finish : (p : ProgramShape) → IsSound p → (mode : Mode) (size : ℕ) (picks : List Actor)
+    (rounds : ℕ) (shown : Played) → IsPlayedIn p mode size picks rounds (Ok shown) → rounds ≡ most_rounds
+    → shown.finished ≡ true
+core_default_rounds_finish p sound mode size picks rounds shown played all =
+    let few = core_bounds_small p sound in
+    core_rounds_finish p sound mode size picks rounds (omega (arith, few, all)) shown played

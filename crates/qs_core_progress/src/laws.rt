@@ -15,8 +15,8 @@ pub fn core_finished_runs_stay()
     ensures stay { CoreFinishedRunsStay }
 {}
 
-/// In the optimised machine, for every checked program, mode, chunk size and list of actors: no more of them have a step
-/// than the program's blocks have steps in all. It does nothing.
+/// In the optimised machine, for every checked program, mode, chunk size and list of actors: no more of them have a
+/// step than the program's blocks have steps in all. It does nothing.
 pub fn core_steps_are_bounded()
     ensures bounded { CoreStepsAreBounded }
 {}

@@ -1,6 +1,6 @@
--- What a client does at one of its lanes is the step that the optimised machine defines, and where it can't act there the machine
--- has no step. The lemmas on the code's lists (`client_steps` and `client_rests`) stand on this. The machine is made of functions
--- of numbers, so the proof compares it field by field, by cases on the act that is due.
+-- What a client does at one of its lanes is the step that the optimised machine defines, and where it can't act there
+-- the machine has no step. The lemmas on the code's lists (`client_steps` and `client_rests`) stand on this. The
+-- machine is made of functions of numbers, so the proof compares it field by field, by cases on the act that is due.
 use Rattle.std.proofs.Common.{◌≡◌, ◌<◌, ℕ, Bool, true, false, nat_lt, List, [], ◌∷◌, ◌++◌, length, get_or, refl, sym, ap, subst, ◌∙◌, arith, Option, Some, None, add-zero}
 use Rattle.std.proofs.Math.ListN.{set}
 use Rattle.qs_objects.specs.Journals.{HeldState}
@@ -17,36 +17,36 @@ use Rattle.qs_chunk.specs.declared.parcel.Parcel.{Parcel}
 use Rattle.qs_chunk.specs.declared.parcel.Parcel.TheVariants as parcels
 use Rattle.qs_chunk.specs.Limits.{lane_room}
 use Rattle.qs_handler.specs.Handler.{Handler}
-use Rattle.qs_client_run.specs.Client.{Settlement, take_object, after_parcel, take_chunk}
+use Rattle.qs_client_rules.specs.Client.{Settlement, take_object, after_parcel, take_chunk}
 use Rattle.qs_client.specs.ClientModel.{ClientModel, act_due, mind_after_chunk, finish, extend, mind_after_object, hands_out, settings_of}
-use Rattle.qs_client_run.specs.BetweenActs.{after_send, without_act, outgoing_of}
-use Rattle.qs_client_run.specs.declared.act.Act.{Act}
-use Rattle.qs_client_run.proofs.HoldingsAsFunctions.{put_same, put_set_at}
-use Rattle.qs_client_run.specs.ClientLaws.{SendsAreParted}
-use Rattle.qs_client_run.specs.declared.act.Act.TheVariants as acts
+use Rattle.qs_client_rules.specs.Outgoings.{after_send, without_act, outgoing_of}
+use Rattle.qs_client_rules.specs.declared.act.Act.{Act}
+use Rattle.qs_client_rules.proofs.Puts.{put_same, put_set_at}
+use Rattle.qs_client_rules.specs.ClientLaws.{SendsAreParted}
+use Rattle.qs_client_rules.specs.declared.act.Act.TheVariants as acts
 use Rattle.qs_played.specs.declared.schedule.actor.Actor.TheVariants as actor
 use Rattle.qs_core_laws.specs.Core.{Core, core_step, current, after_act, lies}
-use Rattle.qs_core_parts.specs.CoreClients.{lane_step, turns_to}
+use Rattle.qs_core_parts.specs.CoreClients.{lane_step_of_client, turns_to}
 use Rattle.qs_core_parts.specs.LaneStates.{LaneState, lane_at, with_down}
 use Rattle.qs_core_parts.specs.LaneStates as lanes
-use Rattle.qs_core_state.specs.CoreState.{Side, core_from}
+use Rattle.qs_core_state.specs.CoreState.{ClientPart, core_from}
 use Rattle.qs_core_state.proofs.CoreFields.{by_ticket, each, field_put, in_lanes, lanes_put, lanes_kept, tickets_kept, tickets_put}
 
 -- what a client has of each block
-abbrev pub entries_in : Side → ℕ → Locals
+abbrev pub entries_in : ClientPart → ℕ → Locals
 entries_in s k = get_or s.mind.entries k []
 
-abbrev pub traces_in : Side → ℕ → List Event
+abbrev pub traces_in : ClientPart → ℕ → List Event
 traces_in s k = get_or s.mind.traces k []
 
-abbrev pub counts_in : Side → ℕ → List SyncCount
+abbrev pub counts_in : ClientPart → ℕ → List SyncCount
 counts_in s k = get_or s.mind.counts k []
 
 abbrev pub with_events : List (List Event) → ℕ → List Event → ℕ → List Event
 with_events ts k es n = get_or (extend ts k es) n []
 
 -- a client that came to this by an act at its lane to handler h
-module _ (order : List Ticket) (sides : ℕ → Side) (handler : ℕ → Handler) (tickets : ℕ → List Ticket) (c : ℕ) where
+module _ (order : List Ticket) (sides : ℕ → ClientPart) (handler : ℕ → Handler) (tickets : ℕ → List Ticket) (c : ℕ) where
   abbrev pub own : ClientModel
   own = (sides c).mind
 
@@ -64,7 +64,7 @@ module _ (order : List Ticket) (sides : ℕ → Side) (handler : ℕ → Handler
     lane = lane_at (sides c).lanes h
 
     -- the client's side with this lane
-    abbrev pub side_with : ClientModel → LaneState → Side
+    abbrev pub side_with : ClientModel → LaneState → ClientPart
     side_with n l = record { mind = n; lanes = set (sides c).lanes h l }
 
     abbrev pub after : ClientModel → LaneState → Core
@@ -89,7 +89,7 @@ module _ (order : List Ticket) (sides : ℕ → Side) (handler : ℕ → Handler
     -- all of it, where the client has come to this
     pub comes : (r : Settlement) (n : ClientModel) (l : LaneState) (syncs : ℕ → ℕ) (tallies : Ticket → List SyncCount) (down : ℕ → ℕ → List Parcel) (up : ℕ → ℕ → Option HeldState) (spare : ℕ → ℕ → ℕ)
         → n.client ≡ r.client → n.traces ≡ extend own.traces now.index r.events → n.entries ≡ own.entries
-        → put (each (λ (s : Side). s.mind.syncs) sides) c n.syncs ≡ syncs
+        → put (each (λ (s : ClientPart). s.mind.syncs) sides) c n.syncs ≡ syncs
         → by_ticket counts_in (put sides c (side_with n l)) ≡ tallies
         → in_lanes (λ (k : LaneState). k.down) (put sides c (side_with n l)) ≡ down
         → in_lanes (λ (k : LaneState). k.up) (put sides c (side_with n l)) ≡ up
@@ -97,8 +97,8 @@ module _ (order : List Ticket) (sides : ℕ → Side) (handler : ℕ → Handler
         → after_act code own.size (between syncs tallies down up spare) c now r ≡ after n l
     comes r n l syncs tallies down up spare client_is traces_are entries_are syncs_are tallies_are down_is up_is spare_is = λ k. record {
       order = order;
-      client = (ap (put before.client c) (sym client_is) ∙ sym (field_put (λ (s : Side). s.mind.client) sides c v)) k;
-      syncs = (sym syncs_are ∙ sym (field_put (λ (s : Side). s.mind.syncs) sides c v)) k;
+      client = (ap (put before.client c) (sym client_is) ∙ sym (field_put (λ (s : ClientPart). s.mind.client) sides c v)) k;
+      syncs = (sym syncs_are ∙ sym (field_put (λ (s : ClientPart). s.mind.syncs) sides c v)) k;
       sync_counts = sym tallies_are k;
       down = sym down_is k;
       up = sym up_is k;
@@ -109,7 +109,7 @@ module _ (order : List Ticket) (sides : ℕ → Side) (handler : ℕ → Handler
       trace = sym (tickets_put traces_in sides c now.index v (traces_in (sides c) now.index ++ r.events) put_there) k;
     }
       where
-        v : Side
+        v : ClientPart
         v = side_with n l
 
         put_there : traces_in v ≡ put (traces_in (sides c)) now.index (traces_in (sides c) now.index ++ r.events)
@@ -141,13 +141,13 @@ module _ (order : List Ticket) (sides : ℕ → Side) (handler : ℕ → Handler
           (lanes_kept (λ (k : LaneState). k.up) sides c _ h _ inside refl refl)
           (lanes_kept (λ (k : LaneState). length k.spare) sides c _ h _ inside refl refl))))
         where
-          syncs_are : (q : Parcel) → put (each (λ (s : Side). s.mind.syncs) sides) c (finish (hands_out own (acts.Send h q))).syncs ≡ (lies code own.size before c h q).syncs
+          syncs_are : (q : Parcel) → put (each (λ (s : ClientPart). s.mind.syncs) sides) c (finish (hands_out own (acts.Send h q))).syncs ≡ (lies code own.size before c h q).syncs
           syncs_are (parcels.Work b) = put_same _ c _ (sym (add-zero own.syncs))
-          syncs_are parcels.Sync = ap (put (each (λ (s : Side). s.mind.syncs) sides) c) (omega arith)
+          syncs_are parcels.Sync = ap (put (each (λ (s : ClientPart). s.mind.syncs) sides) c) (omega arith)
           syncs_are (parcels.Home x) = put_same _ c _ (sym (add-zero own.syncs))
           syncs_are parcels.End = put_same _ c _ (sym (add-zero own.syncs))
 
-          side_after : Parcel → Side
+          side_after : Parcel → ClientPart
           side_after q = side_with (finish (hands_out own (acts.Send h q))) (with_down lane (lane.down ++ p ∷ []))
 
           more : List SyncCount
@@ -216,7 +216,7 @@ module _ (order : List Ticket) (sides : ℕ → Side) (handler : ℕ → Handler
 
     module _ (parted : SendsAreParted) where
       abbrev IsStepOf : Act → Type 0
-      IsStepOf act = core_step code own.size before (actor.Client c) ≡ result_of (lane_step own act lane)
+      IsStepOf act = core_step code own.size before (actor.Client c) ≡ result_of (lane_step_of_client own act lane)
 
       sent_or_not : (p : Parcel) (room : Bool) → nat_lt (length lane.down) lane_room ≡ room → act_due own ≡ acts.Send h p → IsStepOf (acts.Send h p)
       sent_or_not p true e asked = sends_steps parted p asked e ∙ sym (rw e refl)

@@ -1,6 +1,6 @@
--- A client or a handler whose number lies beyond the code's lists has no step in the optimised machine. The contract of `step`
--- asks for this, since the code answers false for such an actor. The machine's invariant says that a client beyond the program
--- has no step, and that a handler beyond it is idle and has no ticket.
+-- A client or a handler whose number lies beyond the code's lists has no step in the optimised machine. The contract of
+-- `step` asks for this, since the code answers false for such an actor. The machine's invariant says that a client
+-- beyond the program has no step, and that a handler beyond it is idle and has no ticket.
 use Rattle.std.proofs.Common.{◌≡◌, ◌≤◌, ℕ, length, None, refl, sym, ap, subst, ◌∙◌, arith}
 use Rattle.qs_played.specs.declared.schedule.actor.Actor.{Actor}
 use Rattle.qs_played.specs.declared.schedule.actor.Actor.TheVariants as actor

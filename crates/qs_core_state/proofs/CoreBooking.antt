@@ -1,7 +1,7 @@
--- After a client has reserved a block, or a handler has taken a ticket, the code's lists are the optimised machine after that
--- step, and what the code keeps still holds. The code's calls that reserve a block and take a ticket promise this. The step is
--- known for functions of numbers, and the changed lists are read as these functions; there is room, as no order has more tickets
--- than the program has blocks.
+-- After a client has reserved a block, or a handler has taken a ticket, the code's lists are the optimised machine
+-- after that step, and what the code keeps still holds. The code's calls that reserve a block and take a ticket promise
+-- this. The step is known for functions of numbers, and the changed lists are read as these functions; there is room,
+-- as no order has more tickets than the program has blocks.
 use Rattle.std.proofs.Common.{◌≡◌, ◌<◌, ◌≤◌, ℕ, ◌+◌, ◌==◌, ◌||◌, Bool, true, false, nat_lt, if◌then◌else◌, List, [], ◌∷◌, ◌++◌, length, filter, get_or, Option, Some, None, refl, sym, ap, subst, ◌∙◌, arith}
 use Rattle.std.specs.List.{AllByRecursion}
 use Rattle.std.proofs.Math.ListN.{set}
@@ -23,11 +23,11 @@ use Rattle.qs_chunk.specs.declared.parcel.Parcel.TheVariants as parcels
 use Rattle.qs_handler.specs.Handler.{Handler, act_of, accept_next, serving}
 use Rattle.qs_handler.proofs.HandlerActs.{acts_lose_nothing}
 use Rattle.qs_handler.specs.declared.mind.Act.TheVariants as acts
-use Rattle.qs_client_run.specs.Client.{ClientStage, act_at, between, runs, full, awaits, leaves, call_act, clear}
+use Rattle.qs_client_rules.specs.Client.{ClientStage, act_at, between, runs, full, awaits, leaves, call_act, clear}
 use Rattle.qs_client.specs.ClientModel.{ClientModel, act_due, mind_after_begin, mind_after_begin_with, locals_at, settings_of}
 use Rattle.qs_client.specs.MindState.{IsMind, mind_of}
-use Rattle.qs_client_run.specs.declared.act.Act.{Act}
-use Rattle.qs_client_run.specs.declared.act.Act.TheVariants as wants
+use Rattle.qs_client_rules.specs.declared.act.Act.{Act}
+use Rattle.qs_client_rules.specs.declared.act.Act.TheVariants as wants
 use Rattle.qs_played.specs.Played.{ticket}
 use Rattle.qs_played.specs.declared.schedule.actor.Actor.{Actor}
 use Rattle.qs_played.specs.declared.schedule.actor.Actor.TheVariants as actor
@@ -35,11 +35,11 @@ use Rattle.qs_core_laws.specs.Core.{AreCodes, Core, core_step}
 use Rattle.qs_core_laws.specs.CoreReached.{CoreStands, IsBegun, ReachedCore}
 use Rattle.qs_core_laws.specs.CoreSchedule.{before_it}
 use Rattle.qs_core_parts.specs.CoreClients.{AreStocked, CoreClientState, IsCoreClient, whole_of}
-use Rattle.qs_core_parts.specs.CoreHandlers.{CanEnterAll, CoreHandlerState, IsCoreHandler, TakesTicket, with_ticket_at_all, handler_of, no_core_handler, core_handler_at}
+use Rattle.qs_core_parts.specs.CoreHandlers.{CanEnterAll, CoreHandlerState, IsCoreHandler, TakesTicket, with_ticket_at_all, handler_with_act, no_core_handler, core_handler_at}
 use Rattle.qs_core_parts.specs.LaneStates.{IsStocked}
 use Rattle.qs_core_parts.proofs.CoreMinds.{whole_mind}
 use Rattle.qs_core_parts.proofs.ClientModels.{IsSeatOf}
-use Rattle.qs_core_state.specs.CoreState.{CoreKeeps, CoreState, CoreSteps, IsCoreState, IsSide, Side, all_blocks, codes_of, core_from, core_of, handler_at, side_at, side_of, tickets_at}
+use Rattle.qs_core_state.specs.CoreState.{CoreKeeps, CoreState, CoreSteps, IsCoreState, IsSide, ClientPart, all_blocks, codes_of, core_from, core_of, core_handler_of, client_part_at, client_part, tickets_at}
 use Rattle.qs_core_state.proofs.CoreEntering.{can_enter, handlers_entered, length_entered, order_few, rooms_entered, tickets_entered}
 use Rattle.qs_core_state.proofs.CoreFields.{each, field_kept}
 use Rattle.qs_core_state.proofs.CoreLists.{all_set, handler_put, map_here, side_put, tickets_put_at}
@@ -97,19 +97,19 @@ reserving_at n asked = by_place n.client.stage refl asked
 
 module _ (s : CoreState) (kept : IsCoreState s) (sound : IsSound s.program) (keeps : CoreKeeps s)
     (keeps_on : (a : Actor) (x : Core) → core_step (codes_of s) s.size (core_of s) a ≡ Some x → ReachedCore s.program (codes_of s) s.size x)
-    (c : ℕ) (inside : c < length s.clients) (old : CoreClientState) (here : side_at s.clients c ≡ side_of old)
+    (c : ℕ) (inside : c < length s.clients) (old : CoreClientState) (here : client_part_at s.clients c ≡ client_part old)
     (seat : IsCoreClient old) (stocked : AreStocked old) (ok : IsMind (mind_of old.mind)) (asked : old.act ≡ wants.Reserve) where
   abbrev own : ClientModel
   own = whole_of old
 
   abbrev host : ClientModel
-  host = (side_at s.clients c).mind
+  host = (client_part_at s.clients c).mind
 
   own_ok : IsMind own
   own_ok = whole_mind old seat ok
 
   host_is : host ≡ own
-  host_is = ap (λ (x : Side). x.mind) here
+  host_is = ap (λ (x : ClientPart). x.mind) here
 
   abbrev pub now : Ticket
   now = ticket c own.client.begun
@@ -132,14 +132,14 @@ module _ (s : CoreState) (kept : IsCoreState s) (sound : IsSound s.program) (kee
   in_program : c < length s.program.clients
   in_program = omega (arith, inside, kept.clients)
 
-  is_code : IsCodeOf s.program kept.mode c host.code
-  is_code = kept.codes.own c in_program
+  keeps_code : IsCodeOf s.program kept.mode c host.code
+  keeps_code = kept.codes.own c in_program
 
   pub in_blocks : own.client.begun < blocks_of s.program c
-  in_blocks = let code_is : host.code ≡ own.code = ap (λ (m : ClientModel). m.code) host_is in let m : length own.code.blocks ≡ blocks_of s.program c = ap (λ (x : ClientCode). length x.blocks) (sym code_is) ∙ is_code.count in omega (arith, k_less, m)
+  in_blocks = let code_is : host.code ≡ own.code = ap (λ (m : ClientModel). m.code) host_is in let m : length own.code.blocks ≡ blocks_of s.program c = ap (λ (x : ClientCode). length x.blocks) (sym code_is) ∙ keeps_code.count in omega (arith, k_less, m)
 
   list_is : (code_at host.code own.client.begun).reserved ≡ list
-  list_is = (is_code.blocks own.client.begun in_blocks).reserved
+  list_is = (keeps_code.blocks own.client.begun in_blocks).reserved
 
   block_sound : IsSoundBlock s.program.objects (block_at s.program c own.client.begun)
   block_sound = sound_block s.program c own.client.begun sound in_program in_blocks
@@ -150,9 +150,9 @@ module _ (s : CoreState) (kept : IsCoreState s) (sound : IsSound s.program) (kee
   -- the machine after the step
   abbrev next : Core
   next = core_from (s.order ++ ticket c host.client.begun ∷ [])
-      (put (side_at s.clients) c (reserving.reserved_side s.order (side_at s.clients) (handler_at s.program s.handlers) (tickets_at s.handlers) c room.0))
-      (handler_at s.program s.handlers)
-      (reserving.more_tickets s.order (side_at s.clients) (handler_at s.program s.handlers) (tickets_at s.handlers) c room.0)
+      (put (client_part_at s.clients) c (reserving.reserved_side s.order (client_part_at s.clients) (core_handler_of s.program s.handlers) (tickets_at s.handlers) c room.0))
+      (core_handler_of s.program s.handlers)
+      (reserving.more_tickets s.order (client_part_at s.clients) (core_handler_of s.program s.handlers) (tickets_at s.handlers) c room.0)
 
   fresh : get_or host.traces host.client.begun [] ≡ []
   unfolding core_of ReachedCore
@@ -165,7 +165,7 @@ module _ (s : CoreState) (kept : IsCoreState s) (sound : IsSound s.program) (kee
   unfolding core_of
   stepped =
       subst (λ n. core_step (codes_of s) n (core_of s) (actor.Client c) ≡ Some next) size_is
-      (reserving.reserve_steps s.order (side_at s.clients) (handler_at s.program s.handlers) (tickets_at s.handlers) c room.0 room.1 wants_it host_ok.entries (omega (arith, host_ok.traces, room.2)) fresh)
+      (reserving.reserve_steps s.order (client_part_at s.clients) (core_handler_of s.program s.handlers) (tickets_at s.handlers) c room.0 room.1 wants_it host_ok.entries (omega (arith, host_ok.traces, room.2)) fresh)
 
   then : CoreStands s.program (codes_of s) s.size next
   unfolding ReachedCore
@@ -196,9 +196,9 @@ module _ (s : CoreState) (kept : IsCoreState s) (sound : IsSound s.program) (kee
       let mine : is_in (code_at host.code host.client.begun).reserved h ≡ true =
       subst (λ n. is_in (code_at host.code n).reserved h ≡ true) (ap (λ (m : ClientModel). m.client.begun) (sym host_is)) (ap (λ rs. is_in rs h) list_is ∙ member) in
       let has : next.tickets h ≡ tickets_at s.handlers h ++ ticket c host.client.begun ∷ [] = rw mine refl in
-      let all : length (serving (handler_at s.program s.handlers h) ++ (tickets_at s.handlers h ++ ticket c host.client.begun ∷ [])) ≤ all_blocks s.program =
-      subst (λ ts. length (serving (handler_at s.program s.handlers h) ++ ts) ≤ all_blocks s.program) has few in
-      omega (arith, all, length-append (serving (handler_at s.program s.handlers h)) (tickets_at s.handlers h ++ ticket c host.client.begun ∷ []), length-append (tickets_at s.handlers h) (ticket c host.client.begun ∷ []))
+      let all : length (serving (core_handler_of s.program s.handlers h) ++ (tickets_at s.handlers h ++ ticket c host.client.begun ∷ [])) ≤ all_blocks s.program =
+      subst (λ ts. length (serving (core_handler_of s.program s.handlers h) ++ ts) ≤ all_blocks s.program) has few in
+      omega (arith, all, length-append (serving (core_handler_of s.program s.handlers h)) (tickets_at s.handlers h ++ ticket c host.client.begun ∷ []), length-append (tickets_at s.handlers h) (ticket c host.client.begun ∷ []))
 
   pub can_enter_all : CanEnterAll now s.handlers list
   can_enter_all = can_enter now s.handlers list block_sound.distinct (members list (λ h. (h < length s.handlers) × (length (core_handler_at s.handlers h).tickets < (core_handler_at s.handlers h).room)) (λ h member.
@@ -224,11 +224,11 @@ module _ (s : CoreState) (kept : IsCoreState s) (sound : IsSound s.program) (kee
     new_is : whole_of new ≡ mind_after_begin_with own now room.0
     new_is = came.whole_is ∙ ap (λ (p : ClientStage). mind_after_begin_with own now (locals_at p)) place_is
 
-    sides_then : put (side_at s.clients) c (record { mind = mind_after_begin_with host (ticket c host.client.begun) room.0; lanes = (side_at s.clients c).lanes }) ≡ side_at (set s.clients c new)
+    sides_then : put (client_part_at s.clients) c (record { mind = mind_after_begin_with host (ticket c host.client.begun) room.0; lanes = (client_part_at s.clients c).lanes }) ≡ client_part_at (set s.clients c new)
     sides_then =
-        (λ i. put (side_at s.clients) c (record {
+        (λ i. put (client_part_at s.clients) c (record {
           mind = (ap (λ (m : ClientModel). mind_after_begin_with m (ticket c m.client.begun) room.0) host_is ∙ sym new_is) i;
-          lanes = (ap (λ (x : Side). x.lanes) here ∙ sym lanes_stay) i;
+          lanes = (ap (λ (x : ClientPart). x.lanes) here ∙ sym lanes_stay) i;
         }))
         ∙ sym (side_put s.clients c new inside)
 
@@ -240,8 +240,8 @@ module _ (s : CoreState) (kept : IsCoreState s) (sound : IsSound s.program) (kee
 
     codes_then : codes_of booked_after ≡ codes_of s
     codes_then =
-        ap (each (λ (x : Side). x.mind.code)) (side_put s.clients c new inside)
-        ∙ field_kept (λ (x : Side). x.mind.code) (side_at s.clients) c (side_of new) (ap (λ (m : ClientModel). m.code) new_is ∙ sym (ap (λ (m : ClientModel). m.code) host_is))
+        ap (each (λ (x : ClientPart). x.mind.code)) (side_put s.clients c new inside)
+        ∙ field_kept (λ (x : ClientPart). x.mind.code) (client_part_at s.clients) c (client_part new) (ap (λ (m : ClientModel). m.code) new_is ∙ sym (ap (λ (m : ClientModel). m.code) host_is))
 
     pub reserve_steps : CoreSteps s (actor.Client c) booked_after
     unfolding core_of
@@ -252,10 +252,10 @@ module _ (s : CoreState) (kept : IsCoreState s) (sound : IsSound s.program) (kee
       codes = codes_then;
     }
 
-    is_side : IsSide s.program s.size c (side_of old)
+    is_side : IsSide s.program s.size c (client_part old)
     is_side = subst (IsSide s.program s.size c) here (kept.sides c inside)
 
-    new_side : IsSide s.program s.size c (side_of new)
+    new_side : IsSide s.program s.size c (client_part new)
     new_side = record {
       lanes = ap length lanes_stay ∙ is_side.lanes;
       size = ap (λ (m : ClientModel). m.size) new_is ∙ is_side.size;
@@ -267,7 +267,7 @@ module _ (s : CoreState) (kept : IsCoreState s) (sound : IsSound s.program) (kee
       clients = length-set s.clients c new ∙ kept.clients;
       handlers = length_entered now s.handlers list ∙ kept.handlers;
       sides = λ n less. subst (IsSide s.program s.size n) (λ i. sym (side_put s.clients c new inside) i n)
-          (all_put (IsSide s.program s.size) (length s.clients) (side_at s.clients) c (side_of new) new_side kept.sides n (subst (λ m. n < m) (length-set s.clients c new) less));
+          (all_put (IsSide s.program s.size) (length s.clients) (client_part_at s.clients) c (client_part new) new_side kept.sides n (subst (λ m. n < m) (length-set s.clients c new) less));
       stocked = all_set AreStocked s.clients c new
           (subst (λ (m : ClientModel). AllByRecursion (IsStocked m.size) new.lanes) (sym new_is) (subst (AllByRecursion (IsStocked own.size)) (sym lanes_stay) stocked))
           kept.stocked;
@@ -277,36 +277,36 @@ module _ (s : CoreState) (kept : IsCoreState s) (sound : IsSound s.program) (kee
     }
 
 -- a handler takes the first ticket of its queue
-module _ (s : CoreState) (kept : IsCoreState s) (h : ℕ) (inside : h < length s.handlers) (old : CoreHandlerState) (here : handler_at s.program s.handlers h ≡ handler_of old)
+module _ (s : CoreState) (kept : IsCoreState s) (h : ℕ) (inside : h < length s.handlers) (old : CoreHandlerState) (here : core_handler_of s.program s.handlers h ≡ handler_with_act old)
     (queue : tickets_at s.handlers h ≡ old.tickets) (seat : IsCoreHandler old) (roomy : all_blocks s.program ≤ old.room) (asked : old.act ≡ acts.TakeTicket) where
-  abbrev wants_ticket : act_of (handler_at s.program s.handlers h) ≡ acts.TakeTicket
+  abbrev wants_ticket : act_of (core_handler_of s.program s.handlers h) ≡ acts.TakeTicket
   wants_ticket = ap act_of here ∙ sym seat.act ∙ asked
 
   pub ticket_rests : old.tickets ≡ [] → core_step (codes_of s) s.size (core_of s) (actor.Handler h) ≡ None
   unfolding core_of
-  ticket_rests none = handlers.ticket_stays (codes_of s) s.size s.order (side_at s.clients) (handler_at s.program s.handlers) (tickets_at s.handlers) h wants_ticket (queue ∙ none)
+  ticket_rests none = handlers.ticket_stays (codes_of s) s.size s.order (client_part_at s.clients) (core_handler_of s.program s.handlers) (tickets_at s.handlers) h wants_ticket (queue ∙ none)
 
   module _ (new : CoreHandlerState) (takes : TakesTicket old new) where
     abbrev pub taken_after : CoreState
     taken_after = record { program = s.program; size = s.size; order = s.order; clients = s.clients; handlers = set s.handlers h new }
 
-    new_handler : handler_of new ≡ takes.2
-    new_handler = ap handler_of takes.5 ∙ acts_lose_nothing takes.2
+    new_handler : handler_with_act new ≡ takes.2
+    new_handler = ap handler_with_act takes.5 ∙ acts_lose_nothing takes.2
 
     pub ticket_steps : CoreSteps s (actor.Handler h) taken_after
     unfolding core_of
     ticket_steps = record {
       steps =
-          handlers.ticket_steps (codes_of s) s.size s.order (side_at s.clients) (handler_at s.program s.handlers) (tickets_at s.handlers) h takes.0 takes.1 takes.2
+          handlers.ticket_steps (codes_of s) s.size s.order (client_part_at s.clients) (core_handler_of s.program s.handlers) (tickets_at s.handlers) h takes.0 takes.1 takes.2
           wants_ticket (queue ∙ takes.3) (ap (λ (x : Handler). accept_next x (nexts.Ticket takes.0)) here ∙ takes.4)
-          ∙ (λ i. Some (core_from s.order (side_at s.clients) (handlers_then i) (tickets_then i)));
+          ∙ (λ i. Some (core_from s.order (client_part_at s.clients) (handlers_then i) (tickets_then i)));
       program = refl;
       size = refl;
       codes = refl;
     }
       where
-        handlers_then : put (handler_at s.program s.handlers) h takes.2 ≡ handler_at s.program (set s.handlers h new)
-        handlers_then = ap (put (handler_at s.program s.handlers) h) (sym new_handler) ∙ sym (handler_put s.program s.handlers h new inside)
+        handlers_then : put (core_handler_of s.program s.handlers) h takes.2 ≡ core_handler_of s.program (set s.handlers h new)
+        handlers_then = ap (put (core_handler_of s.program s.handlers) h) (sym new_handler) ∙ sym (handler_put s.program s.handlers h new inside)
 
         tickets_then : put (tickets_at s.handlers) h takes.1 ≡ tickets_at (set s.handlers h new)
         tickets_then = ap (put (tickets_at s.handlers) h) (sym (ap (λ (x : CoreHandlerState). x.tickets) takes.5)) ∙ sym (tickets_put_at s.handlers h new inside)

@@ -1,6 +1,7 @@
--- A ticket that is added to the queues of a list of handlers, one after another, is then at the end of exactly these queues, and
--- the handlers' minds stay as they were. The lemma on reservations in the code needs this, and that each queue and the order have
--- room. The proofs go by induction on the list, whose members differ, and for the room by a sum over the clients.
+-- A ticket that is added to the queues of a list of handlers, one after another, is then at the end of exactly these
+-- queues, and the handlers' minds stay as they were. The lemma on reservations in the code needs this, and that each
+-- queue and the order have room. The proofs go by induction on the list, whose members differ, and for the room by a
+-- sum over the clients.
 use Rattle.std.proofs.Common.{◌≡◌, ◌<◌, ◌≤◌, ℕ, zero, suc, ◌+◌, ◌==◌, ◌||◌, Bool, true, false, nat_lt, if◌then◌else◌, List, [], ◌∷◌, ◌++◌, length, filter, sum_by, refl, sym, ap, subst, ◌∙◌, arith}
 use Rattle.std.specs.List.{AllByRecursion, IsDistinct, range_with_len}
 use Rattle.std.proofs.lemmas.List.{length-set, get_or-set_other}
@@ -10,10 +11,10 @@ use Rattle.qs_objects.proofs.Elements.{AllByRecursion-get_or}
 use Rattle.qs_program.specs.Program.{ProgramShape}
 use Rattle.qs_meaning.specs.Solo.{put}
 use Rattle.qs_program.specs.Sound.{is_in}
-use Rattle.qs_client_run.proofs.HoldingsAsFunctions.{put_same}
+use Rattle.qs_client_rules.proofs.Puts.{put_same}
 use Rattle.qs_played.proofs.Lists.{sum_by-range_more}
-use Rattle.qs_core_parts.specs.CoreHandlers.{CanEnterAll, CoreHandlerState, with_ticket, with_ticket_at_all, with_ticket_at, handler_of, no_core_handler, core_handler_at}
-use Rattle.qs_core_state.specs.CoreState.{handler_at, tickets_at}
+use Rattle.qs_core_parts.specs.CoreHandlers.{CanEnterAll, CoreHandlerState, with_ticket, with_ticket_at_all, with_ticket_at, handler_with_act, no_core_handler, core_handler_at}
+use Rattle.qs_core_state.specs.CoreState.{core_handler_of, tickets_at}
 use Rattle.qs_core_state.proofs.CoreLists.{all_set, handler_put, map_here, tickets_put_at}
 
 module _ (t : Ticket) where
@@ -22,12 +23,12 @@ module _ (t : Ticket) where
   length_entered hs (h ∷ rest) = length_entered (with_ticket_at t hs h) rest ∙ length-set hs h (with_ticket t (core_handler_at hs h))
 
   -- the handlers' minds stay
-  pub handlers_entered : (p : ProgramShape) (hs : List CoreHandlerState) (rs : List ℕ) → AllByRecursion (λ h. h < length hs) rs → handler_at p (with_ticket_at_all t hs rs) ≡ handler_at p hs
+  pub handlers_entered : (p : ProgramShape) (hs : List CoreHandlerState) (rs : List ℕ) → AllByRecursion (λ h. h < length hs) rs → core_handler_of p (with_ticket_at_all t hs rs) ≡ core_handler_of p hs
   handlers_entered p hs [] inside = refl
   handlers_entered p hs (h ∷ rest) inside =
       handlers_entered p (with_ticket_at t hs h) rest (subst (λ n. AllByRecursion (λ k. k < n) rest) (sym (length-set hs h (with_ticket t (core_handler_at hs h)))) inside.1)
       ∙ handler_put p hs h (with_ticket t (core_handler_at hs h)) inside.0
-      ∙ put_same (handler_at p hs) h (handler_of (with_ticket t (core_handler_at hs h))) (map_here handler_of hs h no_core_handler _ inside.0)
+      ∙ put_same (core_handler_of p hs) h (handler_with_act (with_ticket t (core_handler_at hs h))) (map_here handler_with_act hs h no_core_handler _ inside.0)
 
   one_entered : (hs : List CoreHandlerState) (h : ℕ) → h < length hs → tickets_at (with_ticket_at t hs h) ≡ put (tickets_at hs) h (tickets_at hs h ++ t ∷ [])
   one_entered hs h inside =

@@ -1,6 +1,6 @@
--- The lists that `new` builds are the optimised machine before its first step, and all that the code keeps holds of them. The
--- contract of `new` promises both. The machine's fields are compared at each number: within the lists every client and every
--- handler is a fresh one, and beyond them nobody has begun anything.
+-- The lists that `new` builds are the optimised machine before its first step, and all that the code keeps holds of
+-- them. The contract of `new` promises both. The machine's fields are compared at each number: within the lists every
+-- client and every handler is a fresh one, and beyond them nobody has begun anything.
 use Rattle.std.proofs.Common.{◌≡◌, ◌<◌, ◌≤◌, ℕ, zero, suc, ◌+◌, Bool, true, false, nat_lt, List, [], ◌∷◌, map, length, replicate, get_or, sum_by, refl, sym, ap, subst, ◌∙◌, arith, ◌⊎◌, inl, inr, None}
 use Rattle.std.specs.List.{AllByRecursion, range_with_len}
 use Rattle.std.proofs.Math.Path.{fun_ext}
@@ -14,14 +14,14 @@ use Rattle.qs_syncset.specs.declared.mode.Mode.{Mode}
 use Rattle.qs_syncset.specs.Codes.{BlockCode, ClientCode, IsCodeOf, code_at, no_code}
 use Rattle.qs_sync_counts.specs.SyncRows.{fresh_rows, no_syncs}
 use Rattle.qs_handler.specs.Handler.{free}
-use Rattle.qs_client.specs.ClientModel.{ClientModel, fresh_mind, lists_of}
+use Rattle.qs_client.specs.ClientModel.{ClientModel, fresh_mind, lists_of_code}
 use Rattle.qs_played.specs.JournalRooms.{fresh_held}
 use Rattle.qs_core_laws.specs.Core.{AreCodes, core_begin}
 use Rattle.qs_core_laws.proofs.CoreCodes.{reserved_is}
 use Rattle.qs_core_parts.specs.CoreClients.{AreStocked, CoreClientState, whole_of}
-use Rattle.qs_core_parts.specs.CoreHandlers.{CoreHandlerState, handler_of, no_core_handler}
+use Rattle.qs_core_parts.specs.CoreHandlers.{CoreHandlerState, handler_with_act, no_core_handler}
 use Rattle.qs_core_parts.specs.LaneStates.{IsStocked, LaneState, fresh_lane, lane_at}
-use Rattle.qs_core_state.specs.CoreState.{AreFreshClients, AreFreshHandlers, CoreState, IsCoreState, IsSide, Side, all_blocks, codes_of, core_of, handler_at, no_side, side_at, side_of, tickets_at}
+use Rattle.qs_core_state.specs.CoreState.{AreFreshClients, AreFreshHandlers, CoreState, IsCoreState, IsSide, ClientPart, all_blocks, codes_of, core_of, core_handler_of, no_client_part, client_part_at, client_part, tickets_at}
 use Rattle.qs_core_state.proofs.CoreLists.{map_here}
 
 -- the blocks, client by client
@@ -45,7 +45,7 @@ none_at (suc n) zero = refl
 none_at (suc n) (suc k) = none_at n k
 
 -- no Sync of a block is counted before the first
-none_counted : (blocks : List BlockCode) (k : ℕ) → get_or (fresh_rows (lists_of blocks)) k [] ≡ no_syncs (get_or blocks k no_code).reserved
+none_counted : (blocks : List BlockCode) (k : ℕ) → get_or (fresh_rows (lists_of_code blocks)) k [] ≡ no_syncs (get_or blocks k no_code).reserved
 none_counted [] k = refl
 none_counted (b ∷ blocks) zero = refl
 none_counted (b ∷ blocks) (suc k) = none_counted blocks k
@@ -70,7 +70,7 @@ pick (x ∷ xs) zero less = x
 pick (x ∷ xs) (suc i) less = pick xs i (omega (arith, less))
 
 -- a client's side before its first block
-pub record IsFreshSide (s : Side) : Type 0 where
+pub record IsFreshSide (s : ClientPart) : Type 0 where
   pub code : ClientCode
   pub chunk : ℕ
   pub lanes_of : ℕ
@@ -81,14 +81,14 @@ module _ (p : ProgramShape) (mode : Mode) (chunk room : ℕ) (cs : List CoreClie
   abbrev fresh_state : CoreState
   fresh_state = record { program = p; size = chunk; order = []; clients = cs; handlers = hs }
 
-  in_list : (c : ℕ) (d : CoreClientState) → c < length p.clients → side_at cs c ≡ side_of (get_or cs c d)
-  in_list c d less = map_here side_of cs c d no_side (subst (λ n. c < n) (sym clients.many) less)
+  in_list : (c : ℕ) (d : CoreClientState) → c < length p.clients → client_part_at cs c ≡ client_part (get_or cs c d)
+  in_list c d less = map_here client_part cs c d no_client_part (subst (λ n. c < n) (sym clients.many) less)
 
   -- the client of this number
   seat_of : (c : ℕ) → c < length p.clients → CoreClientState
   seat_of c less = pick cs c (subst (λ n. c < n) (sym clients.many) less)
 
-  fresh_inside : (c : ℕ) → c < length p.clients → IsFreshSide (side_at cs c)
+  fresh_inside : (c : ℕ) → c < length p.clients → IsFreshSide (client_part_at cs c)
   fresh_inside c less =
       let f = clients.each c (seat_of c less) less in
       subst IsFreshSide (sym (in_list c (seat_of c less) less)) (record { code = f.code; chunk = chunk; lanes_of = length p.objects; mind = f.mind; lanes = f.lanes })
@@ -98,34 +98,34 @@ module _ (p : ProgramShape) (mode : Mode) (chunk room : ℕ) (cs : List CoreClie
   out_of (x ∷ xs) zero d out = absurd (omega (arith, out))
   out_of (x ∷ xs) (suc c) d out = out_of xs c d (omega (arith, out))
 
-  beyond : (c : ℕ) → length p.clients ≤ c → side_at cs c ≡ no_side
-  beyond c out = out_of (map side_of cs) c no_side (let m : length (map side_of cs) ≡ length cs = length-map cs side_of in omega (arith, m, clients.many, out))
+  beyond : (c : ℕ) → length p.clients ≤ c → client_part_at cs c ≡ no_client_part
+  beyond c out = out_of (map client_part cs) c no_client_part (let m : length (map client_part cs) ≡ length cs = length-map cs client_part in omega (arith, m, clients.many, out))
 
-  fresh_side : (c : ℕ) → IsFreshSide (side_at cs c)
+  fresh_side : (c : ℕ) → IsFreshSide (client_part_at cs c)
   fresh_side c = by_test (nat_lt c (length p.clients)) refl
     where
-      by_test : (b : Bool) → nat_lt c (length p.clients) ≡ b → IsFreshSide (side_at cs c)
+      by_test : (b : Bool) → nat_lt c (length p.clients) ≡ b → IsFreshSide (client_part_at cs c)
       by_test true e = fresh_inside c (grind (arith, e))
       by_test false e = subst IsFreshSide (sym (beyond c (grind (arith, e)))) (record { code = record { dynamic = false; blocks = [] }; chunk = 0; lanes_of = 0; mind = refl; lanes = refl })
 
   codes_inside : (c : ℕ) → c < length p.clients → IsCodeOf p mode c (codes_of fresh_state c)
   codes_inside c less =
       let f = clients.each c (seat_of c less) less in
-      subst (IsCodeOf p mode c) (sym (ap (λ (x : Side). x.mind.code) (in_list c (seat_of c less) less) ∙ ap (λ (m : ClientModel). m.code) f.mind)) f.of
+      subst (IsCodeOf p mode c) (sym (ap (λ (x : ClientPart). x.mind.code) (in_list c (seat_of c less) less) ∙ ap (λ (m : ClientModel). m.code) f.mind)) f.of
 
   pub codes_are : AreCodes p mode (codes_of fresh_state)
-  codes_are = record { own = codes_inside; none = λ c out. ap (λ (x : Side). x.mind.code.blocks) (beyond c out) }
+  codes_are = record { own = codes_inside; none = λ c out. ap (λ (x : ClientPart). x.mind.code.blocks) (beyond c out) }
 
-  handlers_are : (h : ℕ) → handler_at p hs h ≡ free (fresh_held p h)
+  handlers_are : (h : ℕ) → core_handler_of p hs h ≡ free (fresh_held p h)
   handlers_are h = by_test (nat_lt h (length p.objects)) refl
     where
-      by_test : (b : Bool) → nat_lt h (length p.objects) ≡ b → handler_at p hs h ≡ free (fresh_held p h)
+      by_test : (b : Bool) → nat_lt h (length p.objects) ≡ b → core_handler_of p hs h ≡ free (fresh_held p h)
       by_test true e =
           let less : h < length p.objects = grind (arith, e) in
-          map_here handler_of hs h no_core_handler (free (fresh_held p h)) (omega (arith, less, handlers.many)) ∙ ap handler_of (handlers.each h no_core_handler less)
+          map_here handler_with_act hs h no_core_handler (free (fresh_held p h)) (omega (arith, less, handlers.many)) ∙ ap handler_with_act (handlers.each h no_core_handler less)
       by_test false e =
           let out : length p.objects ≤ h = grind (arith, e) in
-          out_of (map handler_of hs) h (free (fresh_held p h)) (let m : length (map handler_of hs) ≡ length hs = length-map hs handler_of in omega (arith, m, handlers.many, out))
+          out_of (map handler_with_act hs) h (free (fresh_held p h)) (let m : length (map handler_with_act hs) ≡ length hs = length-map hs handler_with_act in omega (arith, m, handlers.many, out))
 
   tickets_are : (h : ℕ) → tickets_at hs h ≡ []
   tickets_are h = by_test (nat_lt h (length p.objects)) refl
@@ -141,7 +141,7 @@ module _ (p : ProgramShape) (mode : Mode) (chunk room : ℕ) (cs : List CoreClie
           let out : length p.objects ≤ h = grind (arith, e) in
           out_of (map queue_of hs) h [] (let m : length (map queue_of hs) ≡ length hs = length-map hs queue_of in omega (arith, m, handlers.many, out))
 
-  counts_are : (t : Ticket) → get_or (side_at cs t.client).mind.counts t.index [] ≡ no_syncs (text_of p t).reserved
+  counts_are : (t : Ticket) → get_or (client_part_at cs t.client).mind.counts t.index [] ≡ no_syncs (text_of p t).reserved
   counts_are t =
       ap (λ (m : ClientModel). get_or m.counts t.index []) (fresh_side t.client).mind
       ∙ (none_counted (fresh_side t.client).code.blocks t.index

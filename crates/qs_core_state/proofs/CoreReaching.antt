@@ -1,6 +1,7 @@
--- A list of actors with one more at its end leads the optimised machine to that actor's step, or leaves it where the list led. So
--- each state that `step` leads to is again one that can be reached, and the contracts of `step`, `is_isolated` and `into_played`
--- promise of it what the laws say of every list of actors: that it is isolated, and what else holds after each list.
+-- A list of actors with one more at its end leads the optimised machine to that actor's step, or leaves it where the
+-- list led. So each state that `step` leads to is again one that can be reached, and the contracts of `step`,
+-- `keeps_isolated` and `into_played` promise of it what the laws say of every list of actors: that it is isolated, and
+-- what else holds after each list.
 use Rattle.std.proofs.Common.{◌≡◌, ℕ, Bool, true, false, List, [], ◌∷◌, ◌++◌, Some, refl, ap, sym, subst, ◌∙◌}
 use Rattle.std.specs.Bool.{OnTrue}
 use Rattle.qs_program.specs.Sound.{IsSound}
@@ -15,7 +16,7 @@ use Rattle.qs_core_laws.specs.CoreSchedule.{core_played, core_plays, on_way}
 use Rattle.qs_played.specs.Schedule.{or_stay}
 use Rattle.qs_core_laws.proofs.CoreIsolating.{core_isolated}
 use Rattle.qs_core_laws.proofs.CoreReached.{reached_keeps}
-use Rattle.qs_core_state.specs.CoreState.{CoreIsIsolated, CoreKeeps, CoreState, CoreSteps, GoesOn, IsCoreState, IsReachedCore, codes_of, core_of}
+use Rattle.qs_core_state.specs.CoreState.{CoreIsIsolated, CoreKeeps, CoreState, CoreSteps, StepsAreReached, IsCoreState, IsReachedCore, codes_of, core_of}
 
 pub core_plays_more : (code : ℕ → ClientCode) (size : ℕ) (actors : List Actor) (a : Actor) (s : Core)
     → core_plays code size (actors ++ a ∷ []) s ≡ or_stay (core_plays code size actors s) (core_step code size (core_plays code size actors s) a)
@@ -32,7 +33,7 @@ pub core_keeps : (s : CoreState) → IsSound s.program → IsCoreState s → IsR
 core_keeps s sound kept reached =
     subst (ReachedCore s.program (codes_of s) s.size) (sym reached.1) (reached_keeps s.program sound kept.mode (codes_of s) kept.codes s.size reached.0)
 
-pub core_goes_on : (s : CoreState) → IsSound s.program → IsCoreState s → IsReachedCore s → GoesOn s
+pub core_goes_on : (s : CoreState) → IsSound s.program → IsCoreState s → IsReachedCore s → StepsAreReached s
 core_goes_on s sound kept reached = λ a x e.
     subst (ReachedCore s.program (codes_of s) s.size) (one_more s a x reached e) (reached_keeps s.program sound kept.mode (codes_of s) kept.codes s.size (reached.0 ++ a ∷ []))
 

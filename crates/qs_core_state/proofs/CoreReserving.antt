@@ -1,6 +1,7 @@
--- A client's reservation is a step of the optimised machine: the order and the queue of each handler of the block's list have one
--- ticket more, and the client stands at its block's beginning. The lemma that says so of the code's lists stands on this one. The
--- machine is compared field by field; the client's values at entry, added at the end of a list, are one more place of a function.
+-- A client's reservation is a step of the optimised machine: the order and the queue of each handler of the block's
+-- list have one ticket more, and the client stands at its block's beginning. The lemma that says so of the code's lists
+-- stands on this one. The machine is compared field by field; the client's values at entry, added at the end of a list,
+-- are one more place of a function.
 use Rattle.std.proofs.Common.{◌≡◌, ◌<◌, ℕ, zero, suc, false, ◌==◌, arith, if◌then◌else◌, List, [], ◌∷◌, ◌++◌, length, get_or, refl, sym, ap, ◌∙◌, Some}
 use Rattle.std.proofs.Math.Path.{fun_ext}
 use Rattle.qs_objects.specs.declared.held.Event.{Event}
@@ -9,15 +10,15 @@ use Rattle.qs_meaning.specs.Solo.{put}
 use Rattle.qs_program.specs.Values.{Locals}
 use Rattle.qs_syncset.specs.Codes.{ClientCode, code_at}
 use Rattle.qs_handler.specs.Handler.{Handler}
-use Rattle.qs_client_run.specs.Client.{Settlement, between, begin}
+use Rattle.qs_client_rules.specs.Client.{Settlement, between, begin}
 use Rattle.qs_client.specs.ClientModel.{ClientModel, act_due, mind_after_begin_with, settings_of, tree_at}
-use Rattle.qs_client_run.proofs.HoldingsAsFunctions.{put_set_at}
-use Rattle.qs_client_run.specs.declared.act.Act.TheVariants as acts
+use Rattle.qs_client_rules.proofs.Puts.{put_set_at}
+use Rattle.qs_client_rules.specs.declared.act.Act.TheVariants as acts
 use Rattle.qs_played.specs.Played.{ticket}
 use Rattle.qs_played.specs.declared.schedule.actor.Actor.TheVariants as actor
 use Rattle.qs_core_laws.specs.Core.{core_step, may, reserves_from}
 use Rattle.qs_core_parts.specs.LaneStates.{LaneState}
-use Rattle.qs_core_state.specs.CoreState.{Side, core_from}
+use Rattle.qs_core_state.specs.CoreState.{ClientPart, core_from}
 use Rattle.qs_core_state.proofs.ClientFields.{counts_in, entries_in, traces_in}
 use Rattle.qs_core_state.proofs.CoreFields.{field_put, field_kept, lanes_stay, tickets_kept, tickets_put}
 
@@ -28,7 +29,7 @@ last_put [] x d (suc n) = let other : (0 == suc n) ≡ false = grind arith in rw
 last_put (y ∷ xs) x d zero = let other : (suc (length xs) == 0) ≡ false = grind arith in rw other refl
 last_put (y ∷ xs) x d (suc n) = let next : (suc (length xs) == suc n) ≡ (length xs == n) = grind arith in rw next (last_put xs x d n)
 
-module _ (order : List Ticket) (sides : ℕ → Side) (handler : ℕ → Handler) (tickets : ℕ → List Ticket) (c : ℕ) (l : Locals) where
+module _ (order : List Ticket) (sides : ℕ → ClientPart) (handler : ℕ → Handler) (tickets : ℕ → List Ticket) (c : ℕ) (l : Locals) where
   abbrev own : ClientModel
   own = (sides c).mind
 
@@ -39,7 +40,7 @@ module _ (order : List Ticket) (sides : ℕ → Side) (handler : ℕ → Handler
   next_of = ticket c own.client.begun
 
   -- the client's side once its block was reserved
-  abbrev pub reserved_side : Side
+  abbrev pub reserved_side : ClientPart
   reserved_side = record { mind = mind_after_begin_with own next_of l; lanes = (sides c).lanes }
 
   -- each handler of the block's list has one more ticket
@@ -54,8 +55,8 @@ module _ (order : List Ticket) (sides : ℕ → Side) (handler : ℕ → Handler
       → core_step code own.size (core_from order sides handler tickets) (actor.Client c) ≡ Some (core_from (order ++ next_of ∷ []) (put sides c reserved_side) handler more_tickets)
   reserve_steps place_is asked counted traced empty = rw asked (ap (reserves_from code own.size (core_from order sides handler tickets) c) place_is ∙ (λ k. Some (record {
     order = order ++ next_of ∷ [];
-    client = sym (field_put (λ (s : Side). s.mind.client) sides c reserved_side) k;
-    syncs = sym (field_kept (λ (s : Side). s.mind.syncs) sides c reserved_side refl) k;
+    client = sym (field_put (λ (s : ClientPart). s.mind.client) sides c reserved_side) k;
+    syncs = sym (field_kept (λ (s : ClientPart). s.mind.syncs) sides c reserved_side refl) k;
     sync_counts = sym (tickets_kept counts_in sides c reserved_side refl) k;
     down = sym (lanes_stay (λ (x : LaneState). x.down) sides c reserved_side refl) k;
     up = sym (lanes_stay (λ (x : LaneState). x.up) sides c reserved_side refl) k;

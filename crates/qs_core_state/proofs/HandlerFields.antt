@@ -1,6 +1,7 @@
--- What a handler does is the step that the optimised machine defines: it takes a ticket or a parcel, gives its object, or gives
--- back an empty chunk; where queue and lane don't allow it, the machine has no step. The lemmas on the code's lists stand on
--- this. The machine is compared field by field, by cases on the handler's act and on what lies in the lane.
+-- What a handler does is the step that the optimised machine defines: it takes a ticket or a parcel, gives its object,
+-- or gives back an empty chunk; where queue and lane don't allow it, the machine has no step. The lemmas on the code's
+-- lists stand on this. The machine is compared field by field, by cases on the handler's act and on what lies in the
+-- lane.
 use Rattle.std.proofs.Common.{◌≡◌, ◌<◌, ℕ, Bool, true, false, nat_lt, List, [], ◌∷◌, ◌++◌, length, refl, sym, ap, subst, ◌∙◌, suc, Option, Some, None}
 use Rattle.std.proofs.Math.ListN.{set}
 use Rattle.qs_objects.specs.Journals.{HeldState}
@@ -17,9 +18,9 @@ use Rattle.qs_handler.specs.declared.mind.Act.TheVariants as acts
 use Rattle.qs_played.specs.declared.schedule.actor.Actor.TheVariants as actor
 use Rattle.qs_core_laws.specs.Core.{Core, core_step, gives, after_handler, handler_step, put_lane, takes_parcel}
 use Rattle.qs_core_laws.specs.Core as core
-use Rattle.qs_core_parts.specs.CoreHandlers.{beside, gives_up, lane_step, takes_first, turns_to}
+use Rattle.qs_core_parts.specs.CoreHandlers.{beside, gives_up, lane_step_of_handler, takes_first, turns_to}
 use Rattle.qs_core_parts.specs.LaneStates.{LaneState, lane_at, with_down, with_spare, with_up}
-use Rattle.qs_core_state.specs.CoreState.{Side, core_from}
+use Rattle.qs_core_state.specs.CoreState.{ClientPart, core_from}
 use Rattle.qs_core_state.proofs.ClientFields.{counts_in, entries_in, traces_in}
 use Rattle.qs_core_state.proofs.CoreFields.{field_kept, in_lanes, lanes_put, lanes_kept, tickets_kept}
 
@@ -27,7 +28,7 @@ one_more : {A : Type 0} (xs : List A) (x : A) → length (xs ++ x ∷ []) ≡ su
 one_more [] x = refl
 one_more (y ∷ xs) x = ap suc (one_more xs x)
 
-module _ (code : ℕ → ClientCode) (size : ℕ) (order : List Ticket) (sides : ℕ → Side) (handler : ℕ → Handler) (tickets : ℕ → List Ticket) (h : ℕ) where
+module _ (code : ℕ → ClientCode) (size : ℕ) (order : List Ticket) (sides : ℕ → ClientPart) (handler : ℕ → Handler) (tickets : ℕ → List Ticket) (h : ℕ) where
   abbrev pub before : Core
   before = core_from order sides handler tickets
 
@@ -44,7 +45,7 @@ module _ (code : ℕ → ClientCode) (size : ℕ) (order : List Ticket) (sides :
     abbrev pub lane : LaneState
     lane = lane_at (sides c).lanes h
 
-    abbrev pub side_with : LaneState → Side
+    abbrev pub side_with : LaneState → ClientPart
     side_with l = record { mind = (sides c).mind; lanes = set (sides c).lanes h l }
 
     abbrev pub after : Handler → LaneState → Core
@@ -73,8 +74,8 @@ module _ (code : ℕ → ClientCode) (size : ℕ) (order : List Ticket) (sides :
         → between x down up spare ≡ after x l
     comes x l down up spare down_is up_is spare_is = λ k. record {
       order = order;
-      client = sym (field_kept (λ (s : Side). s.mind.client) sides c (side_with l) refl) k;
-      syncs = sym (field_kept (λ (s : Side). s.mind.syncs) sides c (side_with l) refl) k;
+      client = sym (field_kept (λ (s : ClientPart). s.mind.client) sides c (side_with l) refl) k;
+      syncs = sym (field_kept (λ (s : ClientPart). s.mind.syncs) sides c (side_with l) refl) k;
       sync_counts = sym (tickets_kept counts_in sides c (side_with l) refl) k;
       down = sym down_is k;
       up = sym up_is k;
@@ -112,7 +113,7 @@ module _ (code : ℕ → ClientCode) (size : ℕ) (order : List Ticket) (sides :
         (lanes_kept (λ (k : LaneState). length k.spare) sides c _ h (with_up lane (Some x)) inside refl refl))
     given x (Some y) is = refl
 
-    spared : (b : Batch Request) (room : Bool) → nat_lt (length lane.spare) 4 ≡ room → step_result (acts.Spare c b) ≡ result_of (lane_step (handler h) (acts.Spare c b) lane)
+    spared : (b : Batch Request) (room : Bool) → nat_lt (length lane.spare) 4 ≡ room → step_result (acts.Spare c b) ≡ result_of (lane_step_of_handler (handler h) (acts.Spare c b) lane)
     spared b true e = rw e (ap Some (comes (gave (handler h)) (with_spare lane (lane.spare ++ b ∷ [])) _ _ _
         (lanes_kept (λ (k : LaneState). k.down) sides c _ h (with_spare lane (lane.spare ++ b ∷ [])) inside refl refl)
         (lanes_kept (λ (k : LaneState). k.up) sides c _ h (with_spare lane (lane.spare ++ b ∷ [])) inside refl refl)
@@ -123,12 +124,12 @@ module _ (code : ℕ → ClientCode) (size : ℕ) (order : List Ticket) (sides :
     client_or_none None = 0
     client_or_none (Some n) = n
 
-    at_act : (act : Act) → turns_to act ≡ Some c → step_result act ≡ result_of (lane_step (handler h) act lane)
+    at_act : (act : Act) → turns_to act ≡ Some c → step_result act ≡ result_of (lane_step_of_handler (handler h) act lane)
     at_act acts.TakeTicket e = cc
-    at_act (acts.TakeParcel d) e = let same : d ≡ c = ap client_or_none e in subst (λ n. step_result (acts.TakeParcel n) ≡ result_of (lane_step (handler h) (acts.TakeParcel n) lane)) (sym same) (takes lane.down refl)
-    at_act (acts.Give d x) e = let same : d ≡ c = ap client_or_none e in subst (λ n. step_result (acts.Give n x) ≡ result_of (lane_step (handler h) (acts.Give n x) lane)) (sym same) (given x lane.up refl)
-    at_act (acts.Spare d b) e = let same : d ≡ c = ap client_or_none e in subst (λ n. step_result (acts.Spare n b) ≡ result_of (lane_step (handler h) (acts.Spare n b) lane)) (sym same) (spared b (nat_lt (length lane.spare) 4) refl)
+    at_act (acts.TakeParcel d) e = let same : d ≡ c = ap client_or_none e in subst (λ n. step_result (acts.TakeParcel n) ≡ result_of (lane_step_of_handler (handler h) (acts.TakeParcel n) lane)) (sym same) (takes lane.down refl)
+    at_act (acts.Give d x) e = let same : d ≡ c = ap client_or_none e in subst (λ n. step_result (acts.Give n x) ≡ result_of (lane_step_of_handler (handler h) (acts.Give n x) lane)) (sym same) (given x lane.up refl)
+    at_act (acts.Spare d b) e = let same : d ≡ c = ap client_or_none e in subst (λ n. step_result (acts.Spare n b) ≡ result_of (lane_step_of_handler (handler h) (acts.Spare n b) lane)) (sym same) (spared b (nat_lt (length lane.spare) 4) refl)
     at_act acts.Closed e = cc
 
-    pub at_lane : (act : Act) → act_of (handler h) ≡ act → turns_to act ≡ Some c → core_step code size before (actor.Handler h) ≡ result_of (lane_step (handler h) act lane)
+    pub at_lane : (act : Act) → act_of (handler h) ≡ act → turns_to act ≡ Some c → core_step code size before (actor.Handler h) ≡ result_of (lane_step_of_handler (handler h) act lane)
     at_lane act asked turned = rw asked (at_act act turned)

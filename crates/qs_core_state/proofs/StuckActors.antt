@@ -1,7 +1,8 @@
--- An actor that has no step has none after a step that does not concern it. A client's step changes the client itself, its own lanes, and
--- as it reserves the queues of tickets; a handler's step changes the handler itself, its queue, and the lane from the client that it turns to.
--- So a client is freed by the step of a handler at its lane alone, and a handler by the step of a client at its lane or by a reservation.
--- The invariant of the machine with its flags rests on this.
+-- An actor that has no step has none after a step that does not concern it. A client's step changes the client itself,
+-- its own lanes, and as it reserves the queues of tickets; a handler's step changes the handler itself, its queue, and
+-- the lane from the client that it turns to. So a client is freed by the step of a handler at its lane alone, and a
+-- handler by the step of a client at its lane or by a reservation. The invariant of the machine with its flags rests on
+-- this.
 use Rattle.std.proofs.Common.{◌≡◌, ◌==◌, ℕ, zero, suc, Bool, true, false, true≢false, if◌then◌else◌, nat_lt, List, [], ◌∷◌, length, get_or, set, Option, Some, None, inl, inr, ◌⊎◌, refl, sym, ap, subst, ◌∙◌, ⊎_elim}
 use Rattle.std.proofs.lemmas.List.{get_or-set_other}
 use Rattle.qs_objects.specs.Journals.{HeldState}
@@ -16,9 +17,9 @@ use Rattle.qs_handler.specs.Handler.{Handler, accept_next, accept_parcel}
 use Rattle.qs_handler.specs.Handler as handlers
 use Rattle.qs_handler.specs.declared.mind.Act.{Act as HandlerAct}
 use Rattle.qs_handler.specs.declared.mind.Act.TheVariants as acts
-use Rattle.qs_client_run.specs.Client.{Client, ClientStage, act_of, awaits, between, full, leaves, runs}
-use Rattle.qs_client_run.specs.declared.act.Act.{Act}
-use Rattle.qs_client_run.specs.declared.act.Act.TheVariants as wants
+use Rattle.qs_client_rules.specs.Client.{Client, ClientStage, act_of, awaits, between, full, leaves, runs}
+use Rattle.qs_client_rules.specs.declared.act.Act.{Act}
+use Rattle.qs_client_rules.specs.declared.act.Act.TheVariants as wants
 use Rattle.qs_played.specs.declared.schedule.actor.Actor.{Actor}
 use Rattle.qs_played.specs.declared.schedule.actor.Actor.TheVariants as actor
 use Rattle.qs_core_laws.specs.Core.{Core, after_handler, blocks, client_step, core_step, gets, gives, handler_step, reserves_from, settings_of, takes_chunk, takes_parcel, takes_ticket, with_down, with_tickets}

@@ -19,7 +19,7 @@ use Rattle.qs_core_laws.specs.Core.{AreCodes, Core, core_begin, core_step}
 use Rattle.qs_core_laws.specs.CoreReached.{ReachedCore}
 use Rattle.qs_core_laws.specs.CoreSchedule.{core_played, core_plays, core_scheduled, on_way}
 use Rattle.qs_core_parts.specs.CoreClients.{AreStocked, CoreClientState, whole_of}
-use Rattle.qs_core_parts.specs.CoreHandlers.{CoreHandlerState, handler_of, handler_with}
+use Rattle.qs_core_parts.specs.CoreHandlers.{CoreHandlerState, handler_with_act, handler_with}
 use Rattle.qs_core_parts.specs.LaneStates.{LaneState, fresh_lane, lane_at}
 
 pub record CoreState : Type 0 where
@@ -30,28 +30,28 @@ pub record CoreState : Type 0 where
   pub handlers : List CoreHandlerState
 
 -- a client's mind with what its act carries, and its lanes
-pub record Side : Type 0 where
+pub record ClientPart : Type 0 where
   pub mind : ClientModel
   pub lanes : List LaneState
 
-abbrev pub side_of : CoreClientState → Side
-side_of s = record { mind = whole_of s; lanes = s.lanes }
+abbrev pub client_part : CoreClientState → ClientPart
+client_part s = record { mind = whole_of s; lanes = s.lanes }
 
 -- no client: it has no block
-abbrev pub no_side : Side
-no_side = record { mind = fresh_mind (record { dynamic = false; blocks = [] }) 0; lanes = [] }
+abbrev pub no_client_part : ClientPart
+no_client_part = record { mind = fresh_mind (record { dynamic = false; blocks = [] }) 0; lanes = [] }
 
-abbrev pub side_at : List CoreClientState → ℕ → Side
-side_at cs c = slice_index_or (map side_of cs) c no_side
+abbrev pub client_part_at : List CoreClientState → ℕ → ClientPart
+client_part_at cs c = slice_index_or (map client_part cs) c no_client_part
 
-abbrev pub handler_at : ProgramShape → List CoreHandlerState → ℕ → Handler
-handler_at p hs h = slice_index_or (map handler_of hs) h (free (fresh_held p h))
+abbrev pub core_handler_of : ProgramShape → List CoreHandlerState → ℕ → Handler
+core_handler_of p hs h = slice_index_or (map handler_with_act hs) h (free (fresh_held p h))
 
 abbrev pub tickets_at : List CoreHandlerState → ℕ → List Ticket
 tickets_at hs h = slice_index_or (map (λ (s : CoreHandlerState). s.tickets) hs) h []
 
 -- the machine of these clients and handlers
-abbrev pub core_from : List Ticket → (ℕ → Side) → (ℕ → Handler) → (ℕ → List Ticket) → Core
+abbrev pub core_from : List Ticket → (ℕ → ClientPart) → (ℕ → Handler) → (ℕ → List Ticket) → Core
 core_from order sides handler tickets = record {
   order = order;
   client = λ c. (sides c).mind.client;
@@ -68,11 +68,11 @@ core_from order sides handler tickets = record {
 
 -- the state of the machine
 unfoldable pub core_of : CoreState → Core
-core_of s = core_from s.order (side_at s.clients) (handler_at s.program s.handlers) (tickets_at s.handlers)
+core_of s = core_from s.order (client_part_at s.clients) (core_handler_of s.program s.handlers) (tickets_at s.handlers)
 
 -- the codes of its clients
 abbrev pub codes_of : CoreState → ℕ → ClientCode
-codes_of s c = (side_at s.clients c).mind.code
+codes_of s c = (client_part_at s.clients c).mind.code
 
 -- one step of the actor, of the same program, codes and chunk size
 pub record CoreSteps (old : CoreState) (actor : Actor) (new : CoreState) : Type 0 where
@@ -86,7 +86,7 @@ abbrev pub all_blocks : ProgramShape → ℕ
 all_blocks p = sum_by (blocks_of p) (range_with_len 0 (length p.clients))
 
 -- what a client keeps: the program's lanes, the chunks' size, and that its tickets are its own
-pub record IsSide (p : ProgramShape) (chunk c : ℕ) (s : Side) : Type 0 where
+pub record IsSide (p : ProgramShape) (chunk c : ℕ) (s : ClientPart) : Type 0 where
   pub lanes : length s.lanes ≡ length p.objects
   pub size : s.mind.size ≡ chunk
   pub owner : 0 < s.mind.client.begun → s.mind.ticket.client ≡ c
@@ -94,7 +94,7 @@ pub record IsSide (p : ProgramShape) (chunk c : ℕ) (s : Side) : Type 0 where
 pub record IsCoreState (s : CoreState) : Type 0 where
   pub clients : length s.clients ≡ length s.program.clients
   pub handlers : length s.handlers ≡ length s.program.objects
-  pub sides : (c : ℕ) → c < length s.clients → IsSide s.program s.size c (side_at s.clients c)
+  pub sides : (c : ℕ) → c < length s.clients → IsSide s.program s.size c (client_part_at s.clients c)
   pub stocked : AllByRecursion AreStocked s.clients
   pub rooms : AllByRecursion (λ (h : CoreHandlerState). all_blocks s.program ≤ h.room) s.handlers
   pub mode : Mode
@@ -114,7 +114,8 @@ pub record AreFreshClients (p : ProgramShape) (mode : Mode) (chunk : ℕ) (cs : 
 -- handlers that are free, each with its object as declared and room for so many tickets
 pub record AreFreshHandlers (p : ProgramShape) (room : ℕ) (hs : List CoreHandlerState) : Type 0 where
   pub many : length hs ≡ length p.objects
-  pub each : (h : ℕ) (d : CoreHandlerState) → h < length p.objects → slice_index_or hs h d ≡ handler_with (free (fresh_held p h)) [] room
+  pub each : (h : ℕ) (d : CoreHandlerState) → h < length p.objects
+      → slice_index_or hs h d ≡ handler_with (free (fresh_held p h)) [] room
 
 -- the machine of a program before its first step, with its clients' codes in this mode
 pub record IsFreshCore (p : ProgramShape) (mode : Mode) (chunk : ℕ) (s : CoreState) : Type 0 where
@@ -123,7 +124,8 @@ pub record IsFreshCore (p : ProgramShape) (mode : Mode) (chunk : ℕ) (s : CoreS
   pub begins : core_of s ≡ core_begin p
   pub codes : AreCodes p mode (codes_of s)
 
--- these actors led to it from the beginning of this program, with its clients' codes in this mode and chunks of this size
+-- these actors led to it from the beginning of this program, with its clients' codes in this mode and chunks of this
+-- size
 pub record IsPlayedOn (p : ProgramShape) (mode : Mode) (chunk : ℕ) (actors : List Actor) (s : CoreState) : Type 0 where
   pub program : s.program ≡ p
   pub size : s.size ≡ chunk
@@ -139,8 +141,10 @@ abbrev pub CoreKeeps : CoreState → Type 0
 CoreKeeps s = ReachedCore s.program (codes_of s) s.size (core_of s)
 
 -- and after each step from it
-abbrev pub GoesOn : CoreState → Type 0
-GoesOn s = (a : Actor) (x : Core) → core_step (codes_of s) s.size (core_of s) a ≡ Some x → ReachedCore s.program (codes_of s) s.size x
+abbrev pub StepsAreReached : CoreState → Type 0
+StepsAreReached s =
+    (a : Actor) (x : Core) → core_step (codes_of s) s.size (core_of s) a ≡ Some x
+    → ReachedCore s.program (codes_of s) s.size x
 
 -- what it has shown is isolated, with the commands that are on their way
 abbrev pub CoreIsIsolated : CoreState → Type 0
@@ -155,7 +159,8 @@ handler_code = hlevel codes
 abbrev pub core_code : Coded CoreState
 core_code =
     code_by (ProgramShape × (ℕ × (List Ticket × (List CoreClientState × List CoreHandlerState))))
-    (coded× program_code (coded× coded_ℕ (coded× (coded_list ticket_code) (coded× (coded_list client_code) (coded_list handler_code)))))
+    (coded× program_code (coded× coded_ℕ (coded× (coded_list ticket_code)
+    (coded× (coded_list client_code) (coded_list handler_code)))))
     (λ s. (s.program, (s.size, (s.order, (s.clients, s.handlers)))))
     (λ p. record { program = p.0; size = p.1.0; order = p.1.1.0; clients = p.1.1.1.0; handlers = p.1.1.1.1 })
     (λ _. refl)
@@ -163,8 +168,11 @@ core_code =
 -- what is shown after a schedule is isolated, with the commands that are on their way then
 unfoldable pub IsShownIsolated : ProgramShape → Mode → ℕ → List Actor → ℕ → Played → Type 0
 IsShownIsolated p mode chunk picks rounds played =
-    (code : ℕ → ClientCode) × AreCodes p mode code × (played ≡ core_played p (core_scheduled p code chunk picks rounds)) × IsIsolated p played (on_way (core_scheduled p code chunk picks rounds))
+    (code : ℕ → ClientCode) × AreCodes p mode code × (played ≡ core_played p (core_scheduled p code chunk picks rounds))
+    × IsIsolated p played (on_way (core_scheduled p code chunk picks rounds))
 
 -- what the optimised machine has shown is counted, in each mode whose codes it runs
 abbrev pub CoreIsCounted : CoreState → Type 0
-CoreIsCounted s = (mode : Mode) → AreCodes s.program mode (codes_of s) → AreSyncsCounted s.program mode (core_played s.program (core_of s))
+CoreIsCounted s =
+    (mode : Mode) → AreCodes s.program mode (codes_of s)
+    → AreSyncsCounted s.program mode (core_played s.program (core_of s))

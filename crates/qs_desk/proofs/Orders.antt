@@ -1,6 +1,6 @@
--- A legal order stays legal when the next ticket of a client comes at its end, and it never has more tickets than a desk has room
--- for. The desk's invariant needs both at each booking. The length is bounded by sharing the tickets out among the eight clients
--- that there can be, each of which has a limited number of blocks.
+-- A legal order stays legal when the next ticket of a client comes at its end, and it never has more tickets than a
+-- desk has room for. The desk's invariant needs both at each booking. The length is bounded by sharing the tickets out
+-- among the eight clients that there can be, each of which has a limited number of blocks.
 use Rattle.std.proofs.Common.{◌≡◌, ℕ, zero, suc, ◌+◌, ◌<◌, ◌≤◌, ◌==◌, Bool, true, false, List, [], ◌∷◌, ◌++◌, cond, length, slice_index_or, refl, ap, ◌∙◌, arith}
 use Rattle.std.specs.List.{AllByRecursion}
 use Rattle.qs_objects.specs.declared.held.Ticket.{Ticket}

@@ -1,6 +1,6 @@
--- What a desk pushes to a handler are the tickets that reserve the handler, in the order of the bookings, and nothing comes after
--- the closing mark. The steps of booking and closing stand on it, and so does what a handler knows of a ticket that it takes. It
--- goes by induction on the history, with cases on whether a ticket reserves the handler.
+-- What a desk pushes to a handler are the tickets that reserve the handler, in the order of the bookings, and nothing
+-- comes after the closing mark. The steps of booking and closing stand on it, and so does what a handler knows of a
+-- ticket that it takes. It goes by induction on the history, with cases on whether a ticket reserves the handler.
 use Rattle.std.proofs.Common.{◌≡◌, ℕ, suc, ◌<◌, ◌≤◌, Bool, true, false, List, [], ◌∷◌, ◌++◌, cond, map, length, refl, ap, sym, ◌∙◌, subst, arith, append-nil}
 use Rattle.std.proofs.lemmas.List.{map-append}
 use Rattle.std.proofs.lemmas.List.Elements.{filter-append}

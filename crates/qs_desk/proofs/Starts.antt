@@ -1,6 +1,6 @@
--- While the queues of a new desk are made, each new queue stands at the place of its handler, and those made before it stay as
--- they were. The loop of `make_lines`, which makes one queue for each handler, stands on it. The proofs go by induction on the
--- queues made so far, or by cases on how many of the eight there are.
+-- While the queues of a new desk are made, each new queue stands at the place of its handler, and those made before it
+-- stay as they were. The loop of `make_lines`, which makes one queue for each handler, stands on it. The proofs go by
+-- induction on the queues made so far, or by cases on how many of the eight there are.
 use Rattle.std.proofs.Common.{◌≡◌, ℕ, zero, suc, ◌<◌, Some, List, [], ◌∷◌, ◌++◌, map, length, set, refl, ap, arith}
 use Rattle.atomic_table.specs.Seated.{TableId}
 use Rattle.qs_program.specs.Program.{ProgramShape}

@@ -1,6 +1,6 @@
--- A desk stays a desk: its history is a legal order, each handler's queue has the tickets that reserve it, and the books count
--- each client's tickets. The proofs of `book` and `close` stand on it. Each field of the invariant `IsDesk` is shown again for
--- the history with one more ticket, or for the closed queues.
+-- A desk stays a desk: its history is a legal order, each handler's queue has the tickets that reserve it, and the
+-- books count each client's tickets. The proofs of `book` and `close` stand on it. Each field of the invariant `IsDesk`
+-- is shown again for the history with one more ticket, or for the closed queues.
 use Rattle.std.proofs.Common.{◌≡◌, ℕ, zero, suc, ◌+◌, ◌<◌, ◌≤◌, ◌==◌, Bool, true, false, Some, List, [], ◌∷◌, ◌++◌, cond, map, replicate, length, slice_get, refl, ap, sym, ◌∙◌, subst, arith, length-append, length-set, ◌≢◌, ⊎_elim, get_or-set_other}
 use Rattle.std.proofs.lemmas.Grind.{get_or-set_at}
 use Rattle.std.proofs.lemmas.Bool.Decides.{eqb_tells}

@@ -9,9 +9,10 @@ use Rattle.qs_program.specs.Limits.{most_clients}
 use Rattle.qs_desk.specs.TicketQueues.{QueueView, queue_at, IsQueueOf}
 use Rattle.qs_desk.specs.Tickets.{of_client}
 
--- the history is a legal order; what was pushed to a handler are its tickets that reserve the handler, in that order; the books have
--- each client's tickets
-pub record IsDesk (p : ProgramShape) (names : List TableId) (history : List Ticket) (closed : Bool) (senders : List QueueView) (books : List ℕ) : Type 0 where
+-- the history is a legal order; what was pushed to a handler are its tickets that reserve the handler, in that order;
+-- the books have each client's tickets
+pub record IsDesk (p : ProgramShape) (names : List TableId) (history : List Ticket) (closed : Bool)
+    (senders : List QueueView) (books : List ℕ) : Type 0 where
   pub sound : IsSound p
   pub legal : IsLegal p history
   pub pushed : (h : ℕ) → h < length senders → IsQueueOf p names history closed h (queue_at senders h)

@@ -6,15 +6,15 @@ use Rattle.qs_desk.specs.declared.share.LedgerShare.{LedgerShare}
 use Rattle.qs_desk.specs.declared.share.LedgerShare.TheVariants.{First, Second, Third, Fourth, Fifth, Sixth, Seventh, Eighth}
 
 module _ {D : Type 0} where
-  abbrev pub client_of : LedgerShare D → ℕ
-  client_of (First m) = 0
-  client_of (Second m) = 1
-  client_of (Third m) = 2
-  client_of (Fourth m) = 3
-  client_of (Fifth m) = 4
-  client_of (Sixth m) = 5
-  client_of (Seventh m) = 6
-  client_of (Eighth m) = 7
+  abbrev pub client_of_ledger : LedgerShare D → ℕ
+  client_of_ledger (First m) = 0
+  client_of_ledger (Second m) = 1
+  client_of_ledger (Third m) = 2
+  client_of_ledger (Fourth m) = 3
+  client_of_ledger (Fifth m) = 4
+  client_of_ledger (Sixth m) = 5
+  client_of_ledger (Seventh m) = 6
+  client_of_ledger (Eighth m) = 7
 
   abbrev pub parts_of : LedgerShare D → ℕ
   parts_of (First m) = m.parts

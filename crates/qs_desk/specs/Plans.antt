@@ -9,5 +9,5 @@ abbrev pub lists_of_client : ClientShape → List (List ℕ)
 lists_of_client c = map list_of c.blocks
 
 -- for each client and each of its blocks the list of the block
-abbrev pub lists_of : ProgramShape → List (List (List ℕ))
-lists_of p = map lists_of_client p.clients
+abbrev pub lists_of_program : ProgramShape → List (List (List ℕ))
+lists_of_program p = map lists_of_client p.clients

@@ -53,7 +53,8 @@ IsEndOf p names h end = (slice_get names h ≡ Some end.name) × (end.key ≡ ow
 -- the desk's end of a handler's queue holds what was pushed to the handler
 abbrev pub IsQueueOf : ProgramShape → List TableId → List held.Ticket → Bool → ℕ → QueueView → Type 0
 IsQueueOf p names history closed h l =
-    (slice_get names h ≡ Some l.name) × (l.room ≡ queue_room) × (l.key ≡ owner p h) × (l.sent ≡ pushed_to p h history closed)
+    (slice_get names h ≡ Some l.name) × (l.room ≡ queue_room) × (l.key ≡ owner p h)
+    × (l.sent ≡ pushed_to p h history closed)
 
 -- with a ticket more, if its block reserves the handler
 abbrev pub with_ticket : ProgramShape → held.Ticket → ℕ → QueueView → QueueView

@@ -30,5 +30,10 @@ pub record RawView : Type 0 where
 
 abbrev pub raw_code : Coded RawView
 raw_code =
-    code_by (ProgramShape × (List TableId × List ℕ)) (coded× program_code (coded× (coded_list table_id_coded) (coded_list coded_ℕ)))
-    (λ r. (r.program, (r.queues, r.ledgers))) (λ p. record { program = p.0; queues = p.1.0; ledgers = p.1.1 }) (λ _. refl)
+    code_by (ProgramShape × (List TableId × List ℕ))
+    (coded× program_code (coded× (coded_list table_id_coded) (coded_list coded_ℕ)))
+    (λ r. (r.program, (r.queues, r.ledgers))) (λ p. record {
+      program = p.0;
+      queues = p.1.0;
+      ledgers = p.1.1;
+    }) (λ _. refl)

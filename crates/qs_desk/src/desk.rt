@@ -7,7 +7,7 @@ ghost use Rattle.qs_meaning.specs.Serial.{IsLegal};
 ghost use Rattle.qs_program.specs.Sound.{IsSound};
 ghost use Rattle.qs_desk.specs.Limits.{all_bookings};
 ghost use Rattle.qs_desk.specs.TicketQueues.{queue_at, with_ticket, closed_queue, queue_name, IsNewQueue, MayGrow, MayClose};
-ghost use Rattle.qs_desk.specs.Plans.{lists_of};
+ghost use Rattle.qs_desk.specs.Plans.{lists_of_program};
 ghost use Rattle.qs_desk.specs.Tickets.{ticket, of_client, pushed_to};
 ghost use Rattle.qs_objects.specs.declared.held.Next.{Next};
 
@@ -20,8 +20,8 @@ use qs_program::MOST_HANDLERS;
 use std::marker::Model;
 use std::sync::Wait;
 
-/// The desk: the order of all reservations, and the desk's ends of the handlers' queues of tickets. What wakes the handlers lies here until
-/// the desk is put under a lock.
+/// The desk: the order of all reservations, and the desk's ends of the handlers' queues of tickets. What wakes the
+/// handlers lies here until the desk is put under a lock.
 pub struct Desk<D: DeskName> {
     plan: Plan,
     history: Vec<Ticket>,
@@ -51,7 +51,7 @@ impl<D: DeskName> Model for Desk<D> {
     ghost use Rattle.std.specs.Prelude.{◌≡◌, ◌≤◌, vec_capacity};
     ghost use Rattle.qs_desk.specs.Desks.{IsDesk};
     ghost use Rattle.qs_desk.specs.Limits.{all_bookings};
-    ghost use Rattle.qs_desk.specs.Plans.{lists_of};
+    ghost use Rattle.qs_desk.specs.Plans.{lists_of_program};
     ghost use Rattle.qs_desk.specs.Views.{DeskView};
 
     ghost Value = { DeskView };
@@ -60,7 +60,7 @@ impl<D: DeskName> Model for Desk<D> {
 
     ghost invariant = { λ d.
         IsDesk D.program D.queues d.history.items d.closed d.senders.items d.books
-        × (d.plan ≡ lists_of D.program)
+        × (d.plan ≡ lists_of_program D.program)
         × (all_bookings ≤ vec_capacity d.history) };
 }
 
@@ -72,7 +72,7 @@ impl<D: DeskName> Desk<D> {
         books: Books<D>,
         wakers: Vec<TicketWaker>,
     ) -> Desk<D>
-        requires program { IsSound D.program × (plan ≡ lists_of D.program) }
+        requires program { IsSound D.program × (plan ≡ lists_of_program D.program) }
         requires history { (history.items ≡ []) × (all_bookings ≤ vec_capacity history) }
         requires names { (map queue_name senders.items ≡ D.queues) × (length senders.items ≡ length D.program.objects) }
         requires senders { (h : ℕ) → h < length senders.items → IsNewQueue D.program h (queue_at senders.items h) }
@@ -89,8 +89,8 @@ impl<D: DeskName> Desk<D> {
         }
     }
 
-    /// Books the next block of the share's client: the history grows by its ticket, and so does the queue of each handler that the block
-    /// reserves, all in one. It wakes nobody.
+    /// Books the next block of the share's client: the history grows by its ticket, and so does the queue of each
+    /// handler that the block reserves, all in one. It wakes nobody.
     pub fn book<R: Wait>(&mut self, rt: &R, share: &mut Share<D>) -> Ticket
         requires unclosed { self.old.closed ≡ false }
         requires left { share.old.count < blocks_of D.program share.old.client }
@@ -186,7 +186,7 @@ fn push_ticket<D: DeskName, R: Wait>(
     senders: &mut Vec<TicketSender>,
     ticket: Ticket,
 ) -> Reserved
-    requires plan { plan.now ≡ lists_of D.program }
+    requires plan { plan.now ≡ lists_of_program D.program }
     requires room { (h : ℕ) → h < length senders.old.items → MayGrow D.program ticket h (queue_at senders.old.items h) }
     ensures len { length senders.new.items ≡ length senders.old.items }
     ensures grown { (h : ℕ) → h < length senders.old.items → queue_at senders.new.items h ≡ with_ticket D.program ticket h (queue_at senders.old.items h) }

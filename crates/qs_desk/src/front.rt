@@ -54,7 +54,8 @@ impl<D: DeskName> Front<D> {
         }
     }
 
-    /// Books the next block of the share's client, under the lock: one order holds all reservations. Waits for the lock; it wakes nobody.
+    /// Books the next block of the share's client, under the lock: one order holds all reservations. Waits for the
+    /// lock; it wakes nobody.
     pub fn reserve<R: Wait>(&self, rt: &R, share: &mut Share<D>) -> Ticket
         requires left { share.old.count < blocks_of D.program share.old.client }
         ensures ticket { result ≡ ticket share.old.client share.old.count }
@@ -83,8 +84,8 @@ impl<D: DeskName> Front<D> {
         self.lock.lock(rt).book(rt, share)
     }
 
-    /// Puts the closing mark at the end of each handler's queue, wakes each handler that sleeps until it gets a ticket, and gives the desk
-    /// back.
+    /// Puts the closing mark at the end of each handler's queue, wakes each handler that sleeps until it gets a ticket,
+    /// and gives the desk back.
     pub fn close<R: Wait>(self, rt: &R) -> Desk<D>
         ensures closed { result.closed ≡ true }
     {

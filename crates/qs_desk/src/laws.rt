@@ -18,8 +18,9 @@ pub fn booked<D: DeskName>(desk: &mut Desk<D>, share: &mut Share<D>)
     desk.booked(share);
 }
 
-/// What a handler took is a front of what was pushed to it, and all of it where the closing mark was taken: the tickets of the history
-/// whose blocks reserve the handler, in that order, and then the mark. The handler takes no more afterwards.
+/// What a handler took is a front of what was pushed to it, and all of it where the closing mark was taken: the tickets
+/// of the history whose blocks reserve the handler, in that order, and then the mark. The handler takes no more
+/// afterwards.
 pub fn follows<D: DeskName>(desk: &mut Desk<D>, tickets: Tickets<D>)
     ensures same { desk.new ≡ desk.old }
     ensures front { (rest : List Next) × (pushed_to D.program tickets.handler desk.old.history desk.old.closed ≡ tickets.taken ++ rest) }

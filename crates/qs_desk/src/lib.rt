@@ -9,8 +9,6 @@ mod plan;
 mod queue;
 mod raw;
 mod share;
-#[cfg(test)]
-mod tests;
 
 pub use desk::Desk;
 pub use front::Front;

@@ -4,7 +4,7 @@ ghost use Rattle.std.specs.Prelude.{◌≡◌, ◌<◌, length, IfOk, slice_inde
 ghost use Rattle.qs_meaning.specs.Following.{reserves};
 ghost use Rattle.qs_program.specs.Program.{ProgramShape, blocks_of, client_at, block_at};
 ghost use Rattle.qs_program.specs.Sound.{is_in};
-ghost use Rattle.qs_desk.specs.Plans.{list_of, lists_of_client, lists_of};
+ghost use Rattle.qs_desk.specs.Plans.{list_of, lists_of_client, lists_of_program};
 
 use qs_objects::Ticket;
 use qs_program::Program;
@@ -86,7 +86,7 @@ fn blocks_by(alloc: Global, program: &Program, client: u8) -> Result<Blocks, All
     requires client { client < length program.now.clients }
     ensures lists { IfOk result (λ b. b ≡ lists_of_client (client_at program.now client)) }
 {
-    program.is_sound();
+    program.keeps_sound();
     let mut blocks = Vec::new(alloc);
     for block in 0..program.blocks_of(client) {
         blocks.push(reserved_by(alloc, program, client, block as u8)?)?;
@@ -97,9 +97,9 @@ fn blocks_by(alloc: Global, program: &Program, client: u8) -> Result<Blocks, All
 impl Plan {
     /// The lists of a program's blocks. An error says that memory was refused.
     pub(crate) fn new(alloc: Global, program: &Program) -> Result<Plan, AllocError>
-        ensures lists { IfOk result (λ plan. plan ≡ lists_of program.now) }
+        ensures lists { IfOk result (λ plan. plan ≡ lists_of_program program.now) }
     {
-        program.is_sound();
+        program.keeps_sound();
         let mut clients = Vec::new(alloc);
         for client in 0..program.clients() {
             clients.push(blocks_by(alloc, program, client as u8)?)?;
@@ -125,7 +125,7 @@ impl Plan {
 
     /// Whether a ticket's block reserves a handler, in the program of which these are the lists.
     pub(crate) fn reserves(&self, ticket: Ticket, handler: usize) -> bool
-        ensures value { (p : ProgramShape) → self.now ≡ lists_of p → result ≡ reserves p ticket handler }
+        ensures value { (p : ProgramShape) → self.now ≡ lists_of_program p → result ≡ reserves p ticket handler }
     {
         let Some(client) = self.clients.get(usize::from(ticket.client)) else {
             return false;

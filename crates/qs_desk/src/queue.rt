@@ -12,7 +12,8 @@ use std::alloc::{AllocError, Global};
 use std::marker::{Brand, Model, PhantomData};
 use std::sync::Wait;
 
-/// Whose tickets may be in a queue: those of the blocks of this program that reserve this handler. No value of it is made.
+/// Whose tickets may be in a queue: those of the blocks of this program that reserve this handler. No value of it is
+/// made.
 pub struct QueueOwner {
     pub program: Program,
     pub handler: u8,
@@ -147,7 +148,8 @@ impl<D: DeskName> Tickets<D> {
         self.handler
     }
 
-    /// Takes the next ticket, whose block reserves this handler, or the closing mark. Tries until there is one; it does not sleep.
+    /// Takes the next ticket, whose block reserves this handler, or the closing mark. Tries until there is one; it does
+    /// not sleep.
     pub fn take<R: Wait>(&mut self, rt: &R) -> Next
         ensures taken { self.new ≡ record self.old { taken = self.old.taken ++ result ∷ [] } }
         ensures reserved { IsFor D.program self.old.handler result }

@@ -4,7 +4,7 @@ ghost use Rattle.std.specs.Prelude.{◌≡◌, ℕ, ◌<◌, ◌≤◌, length, 
 ghost use Rattle.qs_program.specs.Sound.{IsSound};
 ghost use Rattle.qs_desk.specs.TicketQueues.{queue_at, queue_name, IsNewQueue, end_at, tickets_at};
 ghost use Rattle.qs_desk.specs.Places.{places, share_at};
-ghost use Rattle.qs_desk.specs.Plans.{lists_of};
+ghost use Rattle.qs_desk.specs.Plans.{lists_of_program};
 
 use crate::desk::Desk;
 use crate::name::DeskName;
@@ -48,7 +48,7 @@ impl Model for RawDesk {
     ghost use Rattle.qs_desk.specs.Limits.{all_bookings};
     ghost use Rattle.qs_desk.specs.TicketQueues.{queue_at, queue_name, IsNewQueue, end_at};
     ghost use Rattle.qs_desk.specs.Places.{places};
-    ghost use Rattle.qs_desk.specs.Plans.{lists_of};
+    ghost use Rattle.qs_desk.specs.Plans.{lists_of_program};
     ghost use Rattle.qs_desk.specs.Views.{RawView, raw_code};
 
     ghost Value = { RawView };
@@ -59,7 +59,7 @@ impl Model for RawDesk {
 
     ghost invariant = { λ r.
         IsSound r.program.value
-        × (r.plan ≡ lists_of r.program.value)
+        × (r.plan ≡ lists_of_program r.program.value)
         × (r.history.items ≡ []) × (all_bookings ≤ vec_capacity r.history)
         × (length r.senders.items ≡ length r.program.value.objects)
         × ((h : ℕ) → h < length r.senders.items → IsNewQueue r.program.value h (queue_at r.senders.items h))
@@ -82,7 +82,7 @@ fn make_queues(
     ensures senders { IfOk result (λ made. (h : ℕ) → h < length made.0.items → IsNewQueue program.now h (queue_at made.0.items h)) }
     ensures ends { IfOk result (λ made. made.1 ≡ map (end_at program.now (map queue_name made.0.items)) places) }
 {
-    program.is_sound();
+    program.keeps_sound();
     let mut senders = Vec::new(alloc);
     let mut ends = [None, None, None, None, None, None, None, None];
     for handler in 0..program.objects() {
@@ -103,12 +103,12 @@ fn make_wakers(alloc: Global, senders: &[TicketSender]) -> Result<Vec<TicketWake
 }
 
 impl RawDesk {
-    /// A desk for a program, with all the memory that it will need: its queues have room for all bookings and a closing mark. An error
-    /// says that memory was refused.
+    /// A desk for a program, with all the memory that it will need: its queues have room for all bookings and a closing
+    /// mark. An error says that memory was refused.
     pub fn new(alloc: Global, program: &Program) -> Result<RawDesk, AllocError>
         ensures program { IfOk result (λ raw. raw.program ≡ program.now) }
     {
-        program.is_sound();
+        program.keeps_sound();
         let plan = Plan::new(alloc, program)?;
         let history = Vec::with_capacity(alloc, MOST_TICKETS)?;
         let (senders, ends) = make_queues(alloc, program)?;
@@ -124,7 +124,8 @@ impl RawDesk {
         })
     }
 
-    /// The desk under a name, with a share for each client of the program, and the tickets of each of its handlers; takes no memory.
+    /// The desk under a name, with a share for each client of the program, and the tickets of each of its handlers;
+    /// takes no memory.
     pub fn open<D: DeskName>(self) -> DeskParts<D>
         requires program { D.program ≡ self.program }
         requires queues { D.queues ≡ self.queues }

@@ -3,8 +3,8 @@
 ghost use Rattle.std.specs.Prelude.{◌≡◌, ◌+◌, ◌<◌, ◌∷◌, [], slice_index, slice_set, replicate, nat_lt, map};
 ghost use Rattle.qs_program.specs.Limits.{most_blocks, most_clients};
 ghost use Rattle.qs_program.specs.Program.{blocks_of};
-ghost use Rattle.qs_desk.specs.Places.{client_of, parts_of, amount_of, share_at, places};
-ghost use Rattle.qs_desk.specs.Plans.{lists_of};
+ghost use Rattle.qs_desk.specs.Places.{client_of_ledger, parts_of, amount_of, share_at, places};
+ghost use Rattle.qs_desk.specs.Plans.{lists_of_program};
 ghost use Rattle.qs_desk.specs.Tickets.{ticket};
 
 use crate::name::DeskName;
@@ -62,7 +62,7 @@ impl<D: DeskName> Drop for Share<D> {
 impl<D: DeskName> Model for Share<D> {
     ghost use Rattle.std.specs.Prelude.{◌≡◌};
     ghost use Rattle.qs_program.specs.Program.{blocks_of};
-    ghost use Rattle.qs_desk.specs.Places.{client_of, parts_of, amount_of};
+    ghost use Rattle.qs_desk.specs.Places.{client_of_ledger, parts_of, amount_of};
     ghost use Rattle.qs_desk.specs.Views.{ShareView};
 
     ghost Value = { ShareView };
@@ -70,7 +70,7 @@ impl<D: DeskName> Model for Share<D> {
     ghost view = { λ s. record { client = s.client; count = s.count } };
 
     ghost invariant = { λ s.
-        (s.client ≡ client_of s.ledger_share) × (parts_of s.ledger_share ≡ 1) × (s.count ≡ amount_of s.ledger_share) × (s.blocks ≡ blocks_of D.program s.client) };
+        (s.client ≡ client_of_ledger s.ledger_share) × (parts_of s.ledger_share ≡ 1) × (s.count ≡ amount_of s.ledger_share) × (s.blocks ≡ blocks_of D.program s.client) };
 }
 
 impl<D: DeskName> Share<D> {
@@ -112,8 +112,8 @@ fn first_share<D: DeskName>(
     client: u8,
     ledger_share: LedgerShare<D>,
 ) -> Option<Share<D>>
-    requires plan { plan.now ≡ lists_of D.program }
-    requires ledger_share { (client_of ledger_share ≡ client) × (parts_of ledger_share ≡ 1) × (amount_of ledger_share ≡ 0) }
+    requires plan { plan.now ≡ lists_of_program D.program }
+    requires ledger_share { (client_of_ledger ledger_share ≡ client) × (parts_of ledger_share ≡ 1) × (amount_of ledger_share ≡ 0) }
     ensures share { result ≡ share_at D.program client }
 {
     if usize::from(client) >= plan.clients() {
@@ -209,7 +209,7 @@ impl BlankLedgers {
         plan: &Plan,
     ) -> (Books<D>, [Option<Share<D>>; MOST_CLIENTS])
         requires ledgers { D.ledgers ≡ self }
-        requires plan { plan.now ≡ lists_of D.program }
+        requires plan { plan.now ≡ lists_of_program D.program }
         ensures books { result.0 ≡ replicate most_clients 0 }
         ensures shares { result.1 ≡ map (share_at D.program) places }
     {

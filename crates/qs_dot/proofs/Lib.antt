@@ -2,3 +2,5 @@ pub mod Parts
 pub mod BlocksAdded
 pub mod OneDrawing
 pub mod WorkedDrawings
+pub mod Charting
+pub mod Ends

@@ -1,5 +1,6 @@
--- The drawings that were worked out by hand for some small programs are those of the definition. The law on these examples,
--- `DotTextExamples`, is proved here. What is held at each node was found for the text of these graphs, and the rest is computed.
+-- The drawings that were worked out by hand for some small programs are those of the definition. The law on these
+-- examples, `DotTextExamples`, is proved here. What is held at each node was found for the text of these graphs, and
+-- the rest is computed.
 use Rattle.std.proofs.Common.{◌≡◌, List, [], ◌∷◌, ◌++◌, ℕ, codes, Bool, refl}
 use Rattle.std.specs.Fmt.{digits}
 use Rattle.qs_program.specs.Program.{BlockShape, ProgramShape}
@@ -7,10 +8,10 @@ use Rattle.qs_program.specs.Statements.{end}
 use Rattle.qs_graph.specs.GraphExamples.{query_in_repeat, two_bodies}
 use Rattle.qs_graph.specs.Graphs.{block_graph}
 use Rattle.qs_graph.specs.Names.{graph_of}
-use Rattle.qs_syncset.specs.Table.{AreSetsOf}
-use Rattle.qs_report.specs.GraphTextExamples.{on_a, on_b_and_a}
-use Rattle.qs_report.proofs.CheckedSets.{sets_in}
-use Rattle.qs_report.proofs.WorkedTexts.{in_repeat, in_repeat_sets, sets_met, met_sets, neither, neither_sets, either, either_sets}
+use Rattle.qs_held_sets.specs.Table.{AreSetsOf}
+use Rattle.qs_text.specs.Worked.{on_a, on_b_and_a}
+use Rattle.qs_text.proofs.CheckedSets.{sets_in}
+use Rattle.qs_text.proofs.WorkedSets.{in_repeat, in_repeat_sets, sets_met, met_sets, neither, neither_sets, either, either_sets}
 use Rattle.qs_dot.specs.DotText.{frame_text, nodes_text, IsBlockDrawn, IsDotText}
 use Rattle.qs_dot.specs.DotTextExamples.{DotTextExamples, WrittenExamples, with_variables}
 
@@ -25,7 +26,7 @@ alone : (s : BlockShape) (lines : List ℕ) (sets : List (List Bool)) (text : Li
 unfolding IsDotText
 alone s lines sets text held e =
     let block = drawn (with_variables (s ∷ [])) lines 0 s sets in
-    (block, ([], block, refl, ([], block, refl, record { sets = sets; held = held; lines = refl }, refl), refl), e)
+    (block, ([], block, refl, ([], block, refl, record { sets = sets; held = held; is = refl }, refl), refl), e)
 
 no_block : IsDotText (with_variables []) ([] ∷ []) (codes "digraph graphs {\n}\n")
 unfolding IsDotText
@@ -44,7 +45,7 @@ bare : IsDotText (with_variables (on_a end ∷ [])) [] (codes "digraph graphs {\
 unfolding IsDotText digits
 bare =
     let block = drawn (with_variables (on_a end ∷ [])) [] 0 (on_a end) (sets_in neither) in
-    (block, ([], block, refl, ([], block, refl, record { sets = sets_in neither; held = neither_sets; lines = refl }, refl), refl), refl)
+    (block, ([], block, refl, ([], block, refl, record { sets = sets_in neither; held = neither_sets; is = refl }, refl), refl), refl)
 
 abbrev twice : ProgramShape
 twice = with_variables (on_a end ∷ on_b_and_a ∷ [])
@@ -68,6 +69,6 @@ dot_text_examples = record {
   two_blocks = two (on_a end) on_b_and_a (((3 ∷ []) ∷ second_lines ∷ []) ∷ [])
       (drawn twice (3 ∷ []) 0 (on_a end) (sets_in neither))
       (drawn twice second_lines 1 on_b_and_a (sets_in either)) _
-      (record { sets = sets_in neither; held = neither_sets; lines = refl })
-      (record { sets = sets_in either; held = either_sets; lines = refl }) refl;
+      (record { sets = sets_in neither; held = neither_sets; is = refl })
+      (record { sets = sets_in either; held = either_sets; is = refl }) refl;
 }

@@ -1,17 +1,17 @@
 -- The control-flow graphs of a program as a drawing in the DOT language, as bytes.
 use Rattle.std.specs.Prelude.{◌≡◌, ℕ, List, [], ◌∷◌, ◌++◌, codes, decimal, length, Bool, if◌then◌else◌, nat_eq, slice_get, slice_index_or, Option, Some, None}
 use Rattle.std.specs.List.{filter}
-use Rattle.qs_program.specs.Program.{ProgramShape, blocks_of, client_at, own_block}
+use Rattle.qs_program.specs.Program.{ProgramShape, client_at}
 use Rattle.qs_program.specs.Sound.{IsSound}
 use Rattle.qs_graph.specs.declared.node.Choice.TheVariants.{If, Repeat}
 use Rattle.qs_graph.specs.declared.node.Node.{Node}
 use Rattle.qs_graph.specs.declared.node.Node.TheVariants.{Entry, Local, Branch, Sync, Query, Call, Exit}
-use Rattle.qs_graph.specs.Names.{graph_of}
-use Rattle.qs_graph.specs.Nodes.{ControlGraph, GraphNode, place_at}
-use Rattle.qs_syncset.specs.Flow.{Holding}
-use Rattle.qs_syncset.specs.Table.{AreSetsOf, has}
-use Rattle.qs_report.specs.GraphText.{AreTextsUpTo, list_text, name_of}
-use Rattle.qs_report.specs.Texts.{texts_up_to}
+use Rattle.qs_graph.specs.Nodes.{GraphNode, place_at}
+use Rattle.qs_held_sets.specs.Flow.{Holding}
+use Rattle.qs_held_sets.specs.Table.{has}
+use Rattle.qs_text.specs.Blocks.{AreBlocks, IsBlock, NodesText}
+use Rattle.qs_text.specs.Texts.{list_text, texts_up_to}
+use Rattle.qs_text.specs.Words.{name_of}
 use Rattle.qs_node_lines.specs.NodeLines.{lines_of_block}
 use Rattle.qs_dot.specs.Written.{written}
 
@@ -48,14 +48,17 @@ held_text p c (h ∷ hs) = codes "\\nheld" ++ list_text (name_of p c) (h ∷ hs)
 -- the beginning of a node's line, up to the number in its label: its name, its outline and how that is drawn
 abbrev pub head_text : (c k : ℕ) → List GraphNode → (sets : List (List Bool)) → ℕ → List ℕ
 head_text c k g sets n =
-    codes "    " ++ node_name c k n ++ codes " [shape=" ++ outline_text (place_at g n).node ++ line_text (has sets n) (place_at g n).node
+    codes "    " ++ node_name c k n ++ codes " [shape=" ++ outline_text (place_at g n).node
+    ++ line_text (has sets n) (place_at g n).node
     ++ codes ", label=\"" ++ decimal n ++ codes " "
 
--- a node with its outline, its number, what it does, the line on which that stands, and which names of the block's list are held there,
--- in the list's order; `lines` are those of the block's nodes
-abbrev pub node_line : ProgramShape → (c k : ℕ) → (lines reserved : List ℕ) → List GraphNode → (sets : List (List Bool)) → ℕ → List ℕ
+-- a node with its outline, its number, what it does, the line on which that stands, and which names of the block's list
+-- are held there, in the list's order; `lines` are those of the block's nodes
+abbrev pub node_line : ProgramShape → (c k : ℕ) → (lines reserved : List ℕ) → List GraphNode → (sets : List (List Bool))
+    → ℕ → List ℕ
 node_line p c k lines reserved g sets n =
-    head_text c k g sets n ++ written p c (place_at g n).node ++ place_text (slice_get lines n) ++ held_text p c (filter (has sets n) reserved) ++ codes "\"];\n"
+    head_text c k g sets n ++ written p c (place_at g n).node ++ place_text (slice_get lines n)
+    ++ held_text p c (filter (has sets n) reserved) ++ codes "\"];\n"
 
 -- what stands at the edge of a place among a node's edges: which of the two it is at a branch, and nothing elsewhere
 abbrev pub edge_text : Node → ℕ → List ℕ
@@ -70,11 +73,13 @@ edge_line c k g n i =
     ++ edge_text (place_at g n).node i ++ codes ";\n"
 
 -- a node, and the edges that it has
-abbrev pub node_text : ProgramShape → (c k : ℕ) → (lines reserved : List ℕ) → List GraphNode → (sets : List (List Bool)) → ℕ → List ℕ
+abbrev pub node_text : ProgramShape → (c k : ℕ) → (lines reserved : List ℕ) → List GraphNode → (sets : List (List Bool))
+    → ℕ → List ℕ
 node_text p c k lines reserved g sets n =
     node_line p c k lines reserved g sets n ++ texts_up_to (length (place_at g n).edges) (edge_line c k g n)
 
-abbrev pub nodes_text : ProgramShape → (c k : ℕ) → (lines reserved : List ℕ) → List GraphNode → (sets : List (List Bool)) → List ℕ
+abbrev pub nodes_text : ProgramShape → (c k : ℕ) → (lines reserved : List ℕ) → List GraphNode
+    → (sets : List (List Bool)) → List ℕ
 nodes_text p c k lines reserved g sets = texts_up_to (length g) (node_text p c k lines reserved g sets)
 
 -- block k of client c by numbers
@@ -90,28 +95,24 @@ abbrev pub frame_text : ProgramShape → (c k : ℕ) → List ℕ
 frame_text p c k =
     frame_head c k ++ (client_at p c).name ++ (codes " " ++ decimal k ++ codes "\";\n")
 
--- the nodes of a graph, with what is held at each on every path, and the end of their block's frame
-abbrev pub AreNodesDrawn : ProgramShape → (c k : ℕ) → (lines reserved : List ℕ) → ControlGraph → List ℕ → Type 0
-AreNodesDrawn p c k lines reserved g text =
-    (sets : List (List Bool)) × AreSetsOf g sets × (text ≡ nodes_text p c k lines reserved g.nodes sets ++ codes "  }\n")
+-- the nodes of a graph, and the end of their block's frame
+abbrev pub graph_nodes_drawn : ProgramShape → (c k : ℕ) → (lines : List ℕ) → NodesText
+graph_nodes_drawn p c k lines reserved g sets = nodes_text p c k lines reserved g.nodes sets ++ codes "  }\n"
 
--- block k of client c: the nodes of its graph as it is built, with what is held at each on every path, in a frame
-pub record IsBlockDrawn (p : ProgramShape) (node_lines : List (List (List ℕ))) (c k : ℕ) (text : List ℕ) : Type 0 where
-  pub sets : List (List Bool)
-  pub held : AreSetsOf (graph_of p c k) sets
-  pub lines : text
-      ≡ frame_text p c k ++ (nodes_text p c k (lines_of_block node_lines c k) (own_block p c k).reserved (graph_of p c k).nodes sets ++ codes "  }\n")
+-- block k of client c, in a frame
+abbrev pub IsBlockDrawn : ProgramShape → (node_lines : List (List (List ℕ))) → (c k : ℕ) → List ℕ → Type 0
+IsBlockDrawn p node_lines c k text =
+    IsBlock p c k (frame_text p c k) (graph_nodes_drawn p c k (lines_of_block node_lines c k)) text
 
--- the blocks of client c
-abbrev pub IsClientDrawn : ProgramShape → List (List (List ℕ)) → (c : ℕ) → List ℕ → Type 0
-IsClientDrawn p lines c text = AreTextsUpTo (blocks_of p c) (IsBlockDrawn p lines c) text
-
--- the blocks of all clients, as one drawing, where the nodes have these lines: of each client, of each of its blocks, in their order
+-- the blocks of all clients, as one drawing, where the nodes have these lines: of each client, of each of its blocks,
+-- in their order
 unfoldable pub IsDotText : ProgramShape → (lines : List (List (List ℕ))) → List ℕ → Type 0
 IsDotText p lines text =
-    (blocks : List ℕ) × AreTextsUpTo (length p.clients) (IsClientDrawn p lines) blocks × (text ≡ (codes "digraph graphs {\n" ++ blocks) ++ codes "}\n")
+    (blocks : List ℕ) × AreBlocks p (IsBlockDrawn p lines) blocks
+    × (text ≡ (codes "digraph graphs {\n" ++ blocks) ++ codes "}\n")
 
 -- a program whose nodes have these lines has one such text
 abbrev pub DotTextsAreUnique : Type 0
 DotTextsAreUnique =
-    (p : ProgramShape) (lines : List (List (List ℕ))) (one other : List ℕ) → IsSound p → IsDotText p lines one → IsDotText p lines other → one ≡ other
+    (p : ProgramShape) (lines : List (List (List ℕ))) (one other : List ℕ) → IsSound p → IsDotText p lines one
+    → IsDotText p lines other → one ≡ other

@@ -4,8 +4,9 @@ ghost use Rattle.std.specs.Prelude.{◌≡◌, ◌<◌, ◌++◌, codes, decimal
 ghost use Rattle.std.specs.List.{AllByRecursion};
 ghost use Rattle.qs_program.specs.Limits.{most_handlers};
 ghost use Rattle.qs_program.specs.Program.{blocks_of};
-ghost use Rattle.qs_report.specs.GraphText.{IsAdded};
-ghost use Rattle.qs_dot.specs.DotText.{AreNodesDrawn, IsBlockDrawn, IsClientDrawn, IsDotText, block_name, frame_head, frame_text};
+ghost use Rattle.qs_text.specs.Blocks.{AreBlocksOf, AreNodes};
+ghost use Rattle.qs_text.specs.Texts.{IsAdded};
+ghost use Rattle.qs_dot.specs.DotText.{IsBlockDrawn, IsDotText, block_name, frame_head, frame_text, graph_nodes_drawn};
 
 use crate::nodes::put_nodes;
 use itoa::Buffer;
@@ -13,8 +14,8 @@ use qs_graph::{Graph, graph};
 use qs_node_lines::NodeLines;
 use qs_objects::Ticket;
 use qs_program::Program;
-use qs_report::{client_name, put, put_all, reserved_by};
 use qs_syncset::held_sets;
+use qs_text::{client_name, put, put_all, reserved_by};
 use std::alloc::{AllocError, Global};
 
 // A block by numbers.
@@ -74,7 +75,7 @@ fn put_graph(
 ) -> Result<(), AllocError>
     requires client { ticket.client < length program.now.clients }
     requires handlers { AllByRecursion (λ h. h < most_handlers) reserved.now }
-    ensures ok { OnOk result (IsAdded (AreNodesDrawn program.now ticket.client ticket.index lines.now reserved.now graph.now) out.old.items out.new.items) }
+    ensures ok { OnOk result (IsAdded (AreNodes (graph_nodes_drawn program.now ticket.client ticket.index lines.now) reserved.now graph.now) out.old.items out.new.items) }
 {
     let sets = held_sets(alloc, graph)?;
     put_nodes(alloc, out, program, ticket, lines, reserved, graph, &sets)?;
@@ -107,9 +108,9 @@ fn put_blocks(
     client: u8,
 ) -> Result<(), AllocError>
     requires client { client < length program.now.clients }
-    ensures ok { OnOk result (IsAdded (IsClientDrawn program.now lines.now client) out.old.items out.new.items) }
+    ensures ok { OnOk result (IsAdded (AreBlocksOf program.now (IsBlockDrawn program.now lines.now) client) out.old.items out.new.items) }
 {
-    program.is_sound();
+    program.keeps_sound();
     for block in 0..program.blocks_of(client) {
         let ticket = Ticket {
             client,
@@ -120,14 +121,15 @@ fn put_blocks(
     Ok(())
 }
 
-/// A program's control-flow graphs as one drawing in the DOT language, which graphviz draws: each block in a frame of its own, its nodes
-/// outlined by kind and named by what they do, by the line of the script on which that stands, and by what is held there, a
-/// synchronisation that static coalescing removes with a dashed outline, and its edges. A node has the line that stands for it among those
-/// of its block, and none where there are fewer. An error says that an allocation failed, and nothing is left.
+/// A program's control-flow graphs as one drawing in the DOT language, which graphviz draws: each block in a frame of
+/// its own, its nodes outlined by kind and named by what they do, by the line of the script on which that stands, and
+/// by what is held there, a synchronisation that static coalescing removes with a dashed outline, and its edges. A node
+/// has the line that stands for it among those of its block, and none where there are fewer. An error says that an
+/// allocation failed, and nothing is left.
 pub fn dot_text(alloc: Global, program: &Program, lines: &NodeLines) -> Result<Vec<u8>, AllocError>
     ensures text { IfOk result (λ bytes. IsDotText program.now lines.now bytes.items) }
 {
-    program.is_sound();
+    program.keeps_sound();
     let mut out = Vec::new(alloc);
     put(&mut out, b"digraph graphs {\n")?;
     for client in 0..program.clients() {

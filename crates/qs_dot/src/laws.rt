@@ -1,5 +1,6 @@
-//! Worked examples of drawings, and what holds of them.
+//! Worked examples of drawings, and what holds of them and of every chart.
 
+ghost use Rattle.qs_dot.specs.ChartLaws.{ChartDotExamples, EndsAreOutcomes};
 ghost use Rattle.qs_dot.specs.DotText.{DotTextsAreUnique};
 ghost use Rattle.qs_dot.specs.DotTextExamples.{DotTextExamples};
 
@@ -11,4 +12,14 @@ pub fn dot_text_examples()
 /// A sound program has one drawing of its graphs; it does nothing.
 pub fn dot_texts_are_unique()
     ensures unique { DotTextsAreUnique }
+{}
+
+/// No block leads on from a place of a chart exactly where no client has a block left; it does nothing.
+pub fn ends_are_outcomes()
+    ensures ends { EndsAreOutcomes }
+{}
+
+/// The drawings of two charts, worked out by hand; it does nothing.
+pub fn chart_dot_examples()
+    ensures examples { ChartDotExamples }
 {}

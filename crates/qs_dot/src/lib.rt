@@ -1,9 +1,13 @@
-//! The control-flow graphs of a program as a drawing, in the language of graphviz.
+//! Graphs in the language of graphviz: the control-flow graphs of a program, and the chart of all that it can come to.
 #![tactic(auto)]
 
 mod blocks;
+mod chart;
+mod chart_text;
 pub mod laws;
 mod nodes;
 mod written;
 
 pub use blocks::dot_text;
+pub use chart::{Chart, Lead, chart_after};
+pub use chart_text::{MOST_PLACES, chart_dot};

@@ -4,8 +4,8 @@ ghost use Rattle.std.specs.Prelude.{◌≡◌, ◌<◌, ◌++◌, length, slice_
 ghost use Rattle.std.specs.List.{AllByRecursion, filter};
 ghost use Rattle.qs_program.specs.Limits.{most_handlers};
 ghost use Rattle.qs_graph.specs.Nodes.{place_at};
-ghost use Rattle.qs_report.specs.Texts.{texts_up_to};
-ghost use Rattle.qs_syncset.specs.Table.{has};
+ghost use Rattle.qs_text.specs.Texts.{texts_up_to};
+ghost use Rattle.qs_held_sets.specs.Table.{has};
 ghost use Rattle.qs_dot.specs.DotText.{edge_line, edge_text, head_text, held_text, line_text, node_line, node_name, node_text, nodes_text, outline_text, place_text};
 
 use crate::written::put_written;
@@ -13,8 +13,8 @@ use itoa::Buffer;
 use qs_graph::{Choice, Graph, Node};
 use qs_objects::Ticket;
 use qs_program::Program;
-use qs_report::{held_at, put, put_all, put_names};
 use qs_syncset::Sets;
+use qs_text::{held_at, put, put_all, put_names};
 use std::alloc::{AllocError, Global};
 
 fn outline_word(node: &Node) -> &'static [u8]
@@ -37,7 +37,7 @@ fn line_word(graph: &Graph, sets: &Sets, n: usize) -> &'static [u8]
     requires sets { length sets.now ≡ length graph.now.nodes }
     ensures word { result.now ≡ line_text (has sets.now n) (place_at graph.now.nodes n).node }
 {
-    graph.is_graph();
+    graph.keeps_graph();
     match graph.node(n) {
         Node::Sync(handler) => {
             if sets.holds(n, *handler) {

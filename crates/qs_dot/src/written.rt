@@ -1,15 +1,15 @@
 // What the statement of a node says, as a script writes it.
 
 ghost use Rattle.std.specs.Prelude.{◌≡◌, ◌<◌, ◌++◌, codes, flat_map, length, OnOk};
-ghost use Rattle.qs_report.specs.GraphText.{name_of};
+ghost use Rattle.qs_text.specs.Words.{name_of};
 ghost use Rattle.qs_dot.specs.Written.{action_text, atom_text, atoms_text, call_text, choice_text, expression_text, names_of_variables, opened_text, operator_text, relation_text, test_text, written};
 
 use itoa::Buffer;
 use qs_graph::{Action, Choice, Node};
 use qs_objects::Op;
 use qs_program::{Atom, Atoms, Call, Expr, Names, Program, Test};
-use qs_report::{declared_name, put, put_all, put_number, variable_name};
-use qs_script::{Operator, Relation};
+use qs_text::{declared_name, put, put_all, put_number, variable_name};
+use qs_tree::{Operator, Relation};
 use std::alloc::AllocError;
 
 fn operator_word(operator: Operator) -> &'static [u8]

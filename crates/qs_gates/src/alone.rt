@@ -27,8 +27,8 @@ pub const TWENTY_BLOCKS: &str = "object a account 100
 pub const MANY_COMMANDS: &str = "object a account 0
     client c { separate a { repeat 1000 { repeat 100 { a.deposit(0); } } } }";
 
-/// What a run shows: how many tickets there are and how often the gate was passed, how many entries the traces and the account's
-/// journal have, its balance, what it refused, and the synchronisations.
+/// What a run shows: how many tickets there are and how often the gate was passed, how many entries the traces and the
+/// account's journal have, its balance, what it refused, and the synchronisations.
 #[derive(Drop)]
 pub struct Shown {
     tickets: usize,
@@ -65,7 +65,8 @@ fn traced(outcome: &Outcome) -> usize {
     traced
 }
 
-/// A run of a script in a mode, with chunks of a size; its handler turns at each ticket, so that its client comes to a full lane.
+/// A run of a script in a mode, with chunks of a size; its handler turns at each ticket, so that its client comes to a
+/// full lane.
 pub fn run<R: Threads + Wait + Sync>(
     rt: &R,
     alloc: Global,

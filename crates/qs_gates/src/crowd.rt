@@ -48,8 +48,9 @@ pub enum Held {
     First,
 }
 
-/// What a run of them shows: the load and the weight of the program, how many tickets, how many clients have 32 of them, how many replies are the place of their ticket, counted
-/// from 1, how many accounts have 256 and refused nothing, the synchronisations, and how often the gate was passed, where it counts.
+/// What a run of them shows: the load and the weight of the program, how many tickets, how many clients have 32 of
+/// them, how many replies are the place of their ticket, counted from 1, how many accounts have 256 and refused
+/// nothing, the synchronisations, and how often the gate was passed, where it counts.
 #[derive(Drop)]
 pub struct Shown {
     load: u64,

@@ -22,7 +22,8 @@ pub enum Until {
     AllBegun,
 }
 
-/// What each handler is held for, which have begun a ticket, how many tickets were begun, and whether a handler was held too long.
+/// What each handler is held for, which have begun a ticket, how many tickets were begun, and whether a handler was
+/// held too long.
 #[derive(Drop)]
 pub struct Holding {
     until: [Until; 8],

@@ -1,10 +1,12 @@
-//! Runs on threads in which a gate holds handlers, in each mode, with chunks of 1 and of 32. What is printed depends on no schedule: a run
-//! that is not made by threads at once, or whose answer is not the threads', prints something else.
+//! A desk by itself, and runs on threads in which a gate holds handlers, in each mode, with chunks of 1 and of 32. What
+//! is printed depends on no schedule: a run that is not made by threads at once, or whose answer is not the threads',
+//! prints something else.
 #![tactic(auto)]
 
 mod alone;
 mod apart;
 mod crowd;
+mod desks;
 mod gates;
 mod refused;
 mod scripts;
@@ -73,7 +75,8 @@ fn two_blocks_at_once<R: Threads + Wait + Sync, W: Write>(
     put_replies(out, "two_blocks_at_once", two)
 }
 
-// Which of two clients comes first at a third object is decided by the gate, which holds the first handler or the second.
+// Which of two clients comes first at a third object is decided by the gate, which holds the first handler or the
+// second.
 fn gate_decides<R: Threads + Wait + Sync, W: Write>(
     rt: &R,
     alloc: Global,
@@ -143,6 +146,10 @@ fn run_all<R: Threads + Wait + Sync, W: Write>(
     alloc: Global,
     out: &mut W,
 ) -> io::Result<()> {
+    let booked = desks::books_in_order(rt, alloc);
+    put(out, "bookings_come_in_their_order", booked)?;
+    let reserved = desks::reserves_in_one_order(rt, alloc);
+    put(out, "two_threads_reserve_in_one_order", reserved)?;
     for mode in MODES {
         for size in SIZES {
             two_blocks_at_once(rt, alloc, mode, size, out)?;

@@ -32,7 +32,8 @@ impl Starter for Refusing {
     }
 }
 
-/// What came of a run: its fault, if it was refused, how often its starter was asked, and how often the gate was passed.
+/// What came of a run: its fault, if it was refused, how often its starter was asked, and how often the gate was
+/// passed.
 #[derive(Drop)]
 pub struct Started {
     fault: Option<RunFault>,

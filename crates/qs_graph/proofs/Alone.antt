@@ -1,7 +1,7 @@
--- A walk through a graph that does each request at once makes the same trace, variables and states as running the tree that the
--- walk says, and a block's tree without its synchronisations is the block's interaction tree. The law that walks follow their
--- blocks stands on it. The first goes by induction on the nodes that the walk may take, the second by induction on the
--- statements.
+-- A walk through a graph that does each request at once makes the same trace, variables and states as running the tree
+-- that the walk says, and a block's tree without its synchronisations is the block's interaction tree. The law that
+-- walks follow their blocks stands on it. The first goes by induction on the nodes that the walk may take, the second
+-- by induction on the statements.
 use Rattle.std.proofs.Common.{◌≡◌, ℕ, zero, suc, Bool, true, false, if◌then◌else◌, List, slice_set, refl, sym, ap, ◌∙◌, None}
 use Rattle.std.proofs.Math.Path.{fun_ext}
 use Rattle.qs_objects.specs.Journals.{answer}

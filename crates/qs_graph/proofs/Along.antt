@@ -1,6 +1,6 @@
--- Each move of a walk goes along an edge of its graph, so the nodes that the walk has passed form a path. The proof that
--- coalescing is right needs this, because it knows what is held only along paths. It goes by cases on the node at which the walk
--- stands, and then puts that node in front of the path.
+-- Each move of a walk goes along an edge of its graph, so the nodes that the walk has passed form a path. The proof
+-- that coalescing is right needs this, because it knows what is held only along paths. It goes by cases on the node at
+-- which the walk stands, and then puts that node in front of the path.
 use Rattle.std.proofs.Common.{◌≡◌, ℕ, zero, suc, ◌<◌, Bool, true, false, if◌then◌else◌, inl, inr, List, [], ◌∷◌, length, slice_index_or, refl, arith}
 use Rattle.qs_objects.proofs.Elements.{AllByRecursion-get_or}
 use Rattle.qs_program.specs.Values.{test_value}

@@ -1,6 +1,6 @@
--- A graph over names, with each name replaced by its object: it has the same paths, and it is the graph of the text in which the
--- names were replaced. The proofs on coalescing by names stand on the first, and those on a client's code on the second. Both go by
--- induction: on the path, and on the statements.
+-- A graph over names, with each name replaced by its object: it has the same paths, and it is the graph of the text in
+-- which the names were replaced. The proofs on coalescing by names stand on the first, and those on a client's code on
+-- the second. Both go by induction: on the path, and on the statements.
 use Rattle.std.proofs.Common.{◌≡◌, ℕ, zero, suc, ◌+◌, ◌<◌, ◌≤◌, List, [], ◌∷◌, ◌++◌, length, set, slice_index_or, Option, Some, None, refl, sym, ap, ◌∙◌, subst, arith, below_more}
 use Rattle.std.specs.List.{AllByRecursion}
 use Rattle.std.proofs.lemmas.List.{ext_get_or, get_or-set_other, get_or-set_same, length-map, length-set, map-append}

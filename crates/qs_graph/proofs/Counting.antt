@@ -1,6 +1,6 @@
--- The graph's nodes for a list of statements are those of its first statement and then those of the rest, and there are as many
--- as the statements count. The functions that count and build the nodes of a graph stand on it; their loops keep that the nodes
--- so far and those of the rest make the whole list. It goes by cases on the first statement.
+-- The graph's nodes for a list of statements are those of its first statement and then those of the rest, and there are
+-- as many as the statements count. The functions that count and build the nodes of a graph stand on it; their loops
+-- keep that the nodes so far and those of the rest make the whole list. It goes by cases on the first statement.
 use Rattle.std.proofs.Common.{◌≡◌, ℕ, zero, suc, ◌+◌, ◌<◌, ◌≤◌, List, [], ◌∷◌, ◌++◌, length, get_or, drop, refl, sym, ap, ◌∙◌, arith, add-one, append_assoc, length-append, length-drop}
 use Rattle.std.proofs.lemmas.List.{append-nil}
 use Rattle.std.proofs.Math.Seq.{drop-cons}

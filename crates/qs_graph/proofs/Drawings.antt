@@ -1,5 +1,5 @@
--- The graph of a block, as it is numbered, is the only one that is drawn from the block: the places of statements stand in a graph exactly
--- where the statements are drawn there.
+-- The graph of a block, as it is numbered, is the only one that is drawn from the block: the places of statements stand
+-- in a graph exactly where the statements are drawn there.
 use Rattle.std.proofs.Common.{◌≡◌, ℕ, ◌+◌, List, [], ◌∷◌, ◌++◌, length, refl, sym, ap, ◌∙◌, arith, subst, append_assoc, length-append}
 use Rattle.qs_program.specs.Statements.{Statements, end, command, query, assign, choose, again, leave}
 use Rattle.qs_graph.specs.declared.node.Node.TheVariants.{Entry, Local, Branch, Query, Call}

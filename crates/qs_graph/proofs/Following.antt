@@ -1,6 +1,7 @@
--- A walk through the graph of a block, from Entry and with any counts, says the block's tree with its synchronisations and ends
--- within a known number of nodes. The laws on walks stand on `block_says`. It goes by induction on the statements; the body of a
--- repeat goes by induction on the turns that are left, while the counts of all earlier branches stay as they are.
+-- A walk through the graph of a block, from Entry and with any counts, says the block's tree with its synchronisations
+-- and ends within a known number of nodes. The laws on walks stand on `block_says`. It goes by induction on the
+-- statements; the body of a repeat goes by induction on the turns that are left, while the counts of all earlier
+-- branches stay as they are.
 use Rattle.std.proofs.Common.{◌≡◌, ℕ, zero, suc, ◌+◌, ◌*◌, ◌<◌, ◌≤◌, max, ℤ, Bool, true, false, if◌then◌else◌, List, [], ◌∷◌, ◌++◌, length, slice_index_or, slice_set, refl, ap, ◌∙◌, arith, subst, length-append}
 use Rattle.std.proofs.Math.ListN.{length-set}
 use Rattle.std.proofs.lemmas.List.{get_or-set_same, get_or-set_other}

@@ -1,5 +1,5 @@
--- Each edge of a graph leads to a node of the graph, so a path never leaves it. The computation of the held sets uses this for
--- its indexes. It goes by induction on the path.
+-- Each edge of a graph leads to a node of the graph, so a path never leaves it. The computation of the held sets uses
+-- this for its indexes. It goes by induction on the path.
 use Rattle.std.proofs.Common.{◌≡◌, ℕ, ◌<◌, inl, inr, List, [], ◌∷◌, length, arith, subst, sym}
 use Rattle.std.specs.List.{AllByRecursion}
 use Rattle.qs_graph.specs.declared.node.Node.TheVariants.{Entry}

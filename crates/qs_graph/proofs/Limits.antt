@@ -1,6 +1,6 @@
--- Each walk through a block of a sound program ends within one fixed limit of nodes and says the block's tree. The proofs on a
--- client's code need this, since they use that limit for all blocks. A block weighs at most as much as the whole program, and a
--- walk takes at most three nodes for each unit of weight.
+-- Each walk through a block of a sound program ends within one fixed limit of nodes and says the block's tree. The
+-- proofs on a client's code need this, since they use that limit for all blocks. A block weighs at most as much as the
+-- whole program, and a walk takes at most three nodes for each unit of weight.
 use Rattle.std.proofs.Common.{◌≡◌, ℕ, zero, suc, ◌+◌, ◌*◌, ◌≤◌, List, [], ◌∷◌, get_or, arith, sum_by, refl}
 use Rattle.std.proofs.lemmas.List.Sums.{sum_by-cons}
 use Rattle.qs_program.specs.Statements.{Statements}

@@ -1,6 +1,7 @@
--- The nodes of a sound program's block form a graph: each edge leads to a node, each node has its number of edges, and the
--- numbers in it are in range. The function that builds the graph promises this, and the proofs on walks and held sets begin from
--- it. It goes by induction on the statements; the invariant is that the nodes to which they lead are in range.
+-- The nodes of a sound program's block form a graph: each edge leads to a node, each node has its number of edges, and
+-- the numbers in it are in range. The function that builds the graph promises this, and the proofs on walks and held
+-- sets begin from it. It goes by induction on the statements; the invariant is that the nodes to which they lead are in
+-- range.
 use Rattle.std.proofs.Common.{◌≡◌, ℕ, zero, suc, ◌+◌, ◌<◌, ◌≤◌, Bool, true, false, ◌||◌, ◌==◌, List, [], ◌∷◌, ◌++◌, length, map, get_or, Option, Some, None, refl, sym, ap, ◌∙◌, arith, subst, length-append}
 use Rattle.std.specs.List.{AllByRecursion}
 use Rattle.qs_objects.proofs.Arities.{arity_small}

@@ -1,6 +1,6 @@
 -- When some synchronisations of a graph are removed, a walk stays within as many nodes and says the same but for these
--- synchronisations. The law `RemovalsKeepWalks` is proved here. It goes by induction on the nodes that the walk may take; at a
--- removed synchronisation the walk goes on silently to the same spot.
+-- synchronisations. The law `RemovalsKeepWalks` is proved here. It goes by induction on the nodes that the walk may
+-- take; at a removed synchronisation the walk goes on silently to the same spot.
 use Rattle.std.proofs.Common.{◌≡◌, inl, inr, ℕ, zero, suc, ◌<◌, List, length, refl, sym, ap, subst, ◌∙◌, arith}
 use Rattle.std.proofs.Math.Path.{fun_ext}
 use Rattle.qs_meaning.specs.Interaction as tree

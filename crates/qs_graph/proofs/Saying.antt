@@ -1,6 +1,6 @@
--- A walk that ends within n nodes says the same with any larger limit, and each kind of node adds its own part to what the rest
--- of the walk says. The proofs on whole walks, on coalescing and on a client in its block build on these steps. They go by
--- induction on the limit, or by cases on one move.
+-- A walk that ends within n nodes says the same with any larger limit, and each kind of node adds its own part to what
+-- the rest of the walk says. The proofs on whole walks, on coalescing and on a client in its block build on these
+-- steps. They go by induction on the limit, or by cases on one move.
 use Rattle.std.proofs.Common.{◌≡◌, ℕ, zero, suc, ◌<◌, ◌≤◌, ℤ, List, length, refl, ap, ◌∙◌, arith}
 use Rattle.std.proofs.Math.Path.{fun_ext}
 use Rattle.qs_objects.specs.declared.Request.{Request}

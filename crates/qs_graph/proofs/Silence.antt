@@ -1,6 +1,6 @@
--- Within the limit, a walk says what its node says and then what the next spots say, and each silent move leaves fewer silent
--- moves before the next act. The law `WalksUnfold` is proved here, with which a walk can be followed step by step. It goes by
--- induction on the limit, since the walk is the same for each limit within which it ends.
+-- Within the limit, a walk says what its node says and then what the next spots say, and each silent move leaves fewer
+-- silent moves before the next act. The law `WalksUnfold` is proved here, with which a walk can be followed step by
+-- step. It goes by induction on the limit, since the walk is the same for each limit within which it ends.
 use Rattle.std.proofs.Common.{◌≡◌, ℕ, zero, suc, ◌<◌, ◌≤◌, List, refl, sym, ap, arith, subst}
 use Rattle.qs_graph.specs.Nodes.{GraphNode}
 use Rattle.qs_graph.specs.Walk.{Spot, Move, Ends, Goes, Calls, Syncs, Queries, move, tree_of_move, walk, EachNext, Within, silent_by, silent}

@@ -1,6 +1,6 @@
--- The nodes of a list of statements stand in a graph one after another from a number on, and so do both parts of a list that is
--- cut in two. The proofs on building a graph and on walking through it find each node by this. It goes by induction on the list
--- of nodes.
+-- The nodes of a list of statements stand in a graph one after another from a number on, and so do both parts of a list
+-- that is cut in two. The proofs on building a graph and on walking through it find each node by this. It goes by
+-- induction on the list of nodes.
 use Rattle.std.proofs.Common.{◌≡◌, ℕ, ◌+◌, ◌<◌, List, [], ◌∷◌, ◌++◌, length, refl, arith, append_assoc, length-append, subst}
 use Rattle.qs_program.specs.Statements.{Statements, end, command, query, assign, choose, again, leave}
 use Rattle.qs_graph.specs.Nodes.{GraphNode, place_at}

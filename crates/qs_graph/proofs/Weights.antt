@@ -1,6 +1,6 @@
--- A walk through statements takes at most three nodes for each unit of their weight. The limit for all walks of a checked program
--- stands on it. It goes by induction on the statements, together with a second bound for the body of a repeat, which takes one
--- node more and weighs at least 1.
+-- A walk through statements takes at most three nodes for each unit of their weight. The limit for all walks of a
+-- checked program stands on it. It goes by induction on the statements, together with a second bound for the body of a
+-- repeat, which takes one node more and weighs at least 1.
 use Rattle.std.proofs.Common.{◌≡◌, ℕ, zero, suc, ◌+◌, ◌*◌, ◌≤◌, max, arith}
 use Rattle.qs_program.specs.Statements.{Statements, end, command, query, assign, choose, again, leave}
 use Rattle.qs_program.specs.Loads.{weight_of}

@@ -12,20 +12,23 @@ module _ (g : List GraphNode) where
   abbrev pub IsNode : ℕ → GraphNode → Type 0
   IsNode n p = (n < length g) × (place_at g n ≡ p)
 
-  -- the statements have the numbers from `at` to before `past` in text order, and begin at `first`; `next` comes after the last of them,
-  -- and a `leave` goes to `out`. An empty list begins at what comes after it. What comes next after a statement is where the rest of its
-  -- list begins; after the last of a repeat's body comes the repeat's branch, and a `leave` in it goes to what comes after the repeat
+  -- the statements have the numbers from `at` to before `past` in text order, and begin at `first`; `next` comes after
+  -- the last of them, and a `leave` goes to `out`. An empty list begins at what comes after it. What comes next after a
+  -- statement is where the rest of its list begins; after the last of a repeat's body comes the repeat's branch, and a
+  -- `leave` in it goes to what comes after the repeat
   abbrev pub AreDrawn : Statements → (at past first next out : ℕ) → Type 0
   AreDrawn end at past first next out = (past ≡ at) × (first ≡ next)
   AreDrawn (assign x e rest) at past first next out =
-      (after : ℕ) × (first ≡ at) × IsNode at (to (Local (Assign x e)) after) × AreDrawn rest (at + 1) past after next out
+      (after : ℕ) × (first ≡ at) × IsNode at (to (Local (Assign x e)) after)
+      × AreDrawn rest (at + 1) past after next out
   AreDrawn (command c rest) at past first next out =
       (after : ℕ) × (first ≡ at) × IsNode at (to (Call c) after) × AreDrawn rest (at + 1) past after next out
   AreDrawn (query x c rest) at past first next out =
       (after : ℕ) × (first ≡ at) × IsNode at (to (Sync c.object) (at + 1)) × IsNode (at + 1) (to (Query x c) after)
       × AreDrawn rest (at + 2) past after next out
   AreDrawn (choose t has_else one other rest) at past first next out =
-      (at_other at_rest inside otherwise after : ℕ) × (first ≡ at) × IsNode at (to_either (Branch (If t)) inside otherwise)
+      (at_other at_rest inside otherwise after : ℕ) × (first ≡ at)
+      × IsNode at (to_either (Branch (If t)) inside otherwise)
       × AreDrawn one (at + 1) at_other inside after out × AreDrawn other at_other at_rest otherwise after out
       × AreDrawn rest at_rest past after next out
   AreDrawn (again n body rest) at past first next out =

@@ -1,16 +1,18 @@
+-- What an auditor reads: the promises and the calls of the surface are said with these.
 pub mod Nodes
-pub mod Shapes
 pub mod Graphs
 pub mod Names
 pub mod Bound
 pub mod Drawn
 pub mod Paths
-pub mod WellFormed
-pub mod SoundNodes
 pub mod Synced
 pub mod Walk
-pub mod WalkAlone
 pub mod Steps
+-- What crates promise one another, what proofs use, and worked examples.
+pub mod Shapes
+pub mod WellFormed
+pub mod SoundNodes
+pub mod WalkAlone
 pub mod WalkLaws
 pub mod Removal
 pub mod GraphExamples

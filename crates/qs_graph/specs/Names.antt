@@ -26,6 +26,7 @@ abbrev pub are_of_one_kind : List Named → ℕ → ℕ → Bool
 are_of_one_kind names x y =
     list_any (λ m. (m.name == x) && list_any (λ n. (n.name == y) && same_kind m.kind n.kind) names) names
 
--- Whether a call of name x may be a call of the object of name y: of the same name, and where names may be aliases, of any name of its kind.
+-- Whether a call of name x may be a call of the object of name y: of the same name, and where names may be aliases, of
+-- any name of its kind.
 abbrev pub may_be_one : ControlGraph → ℕ → ℕ → Bool
 may_be_one g x y = if g.aliases then (x == y) || are_of_one_kind g.names x y else (x == y)

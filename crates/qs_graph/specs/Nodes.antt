@@ -10,8 +10,8 @@ pub record GraphNode : Type 0 where
   pub node : Node
   pub edges : List ℕ
 
--- a block's graph: its nodes by number, the names of the block's list with their kinds, and whether two names may be aliases: stand for
--- one object, as the formal names of a template may
+-- a block's graph: its nodes by number, the names of the block's list with their kinds, and whether two names may be
+-- aliases: stand for one object, as the formal names of a template may
 pub record ControlGraph : Type 0 where
   pub nodes : List GraphNode
   pub names : List Named

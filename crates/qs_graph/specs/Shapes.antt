@@ -4,7 +4,8 @@ use Rattle.std.specs.Coded.{Coded, code_by, coded×, coded_list, coded_ℕ, code
 use Rattle.qs_graph.specs.declared.node.Node.{Node}
 use Rattle.qs_graph.specs.Nodes.{GraphNode}
 
--- so many of two targets are edges, and those behind them are 0: so a target is what the edge of its place is, and 0 where there is none
+-- so many of two targets are edges, and those behind them are 0: so a target is what the edge of its place is, and 0
+-- where there is none
 pub record AreEdges (count : ℕ) (targets : List ℕ) : Type 0 where
   pub within : (count ≤ 2) × (length targets ≡ 2)
   pub first : slice_index_or (take count targets) 0 0 ≡ slice_index_or targets 0 0

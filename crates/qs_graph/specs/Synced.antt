@@ -6,7 +6,8 @@ use Rattle.qs_program.specs.Values.{Locals}
 use Rattle.qs_meaning.specs.Interaction.{Interaction}
 use Rattle.qs_meaning.specs.Interaction as tree
 
--- over, with these variables; a command, and the rest; a synchronisation, and the rest; a query, and for each reply the rest
+-- over, with these variables; a command, and the rest; a synchronisation, and the rest; a query, and for each reply the
+-- rest
 pub data Synced : Type 0 where
   Done : (locals : Locals) → Synced
   Call : (request : Request) → (next : Synced) → Synced

@@ -26,6 +26,7 @@ pub record SyncedExamples : Type 0 where
       ≡ query_then (λ v. query_then (λ w. query_then (λ u. query_then (λ t. Done (both t (pos 0))))))
   pub nothing : synced_of empty_bodies (both (pos 7) (pos 8)) ≡ Done (both (pos 7) (pos 8))
   pub left_at_once : synced_of leave_first (both (pos 0) (pos 0)) ≡ query_then (λ v. query_then (λ w. Done (both v w)))
-  pub first_body : synced_of two_bodies (both (pos 0) (pos 0)) ≡ Call deposit_1 (query_then (λ v. Done (both (pos 0) v)))
+  pub first_body : synced_of two_bodies (both (pos 0) (pos 0))
+      ≡ Call deposit_1 (query_then (λ v. Done (both (pos 0) v)))
   pub second_body : synced_of two_bodies (both (pos 1) (pos 0)) ≡ query_then (λ v. query_then (λ w. Done (both v w)))
   pub most_nodes : whole_steps query_in_repeat ≡ 15

@@ -13,7 +13,8 @@ result_of_move go l st Ends = record { trace = []; locals = l; states = st }
 result_of_move go l st (Goes s) = go s st
 result_of_move go l st (Calls r s) = after_event (event r None) (go s (states_after st r))
 result_of_move go l st (Syncs h s) = go s st
-result_of_move go l st (Queries r s) = let v = answer (st r.object) r in after_event (event r v) (go (s (value_of v)) (states_after st r))
+result_of_move go l st (Queries r s) =
+    let v = answer (st r.object) r in after_event (event r v) (go (s (value_of v)) (states_after st r))
 
 -- a walk of at most n nodes, each request done at once
 abbrev pub walk_alone : List GraphNode → ℕ → Spot → States → BlockResult

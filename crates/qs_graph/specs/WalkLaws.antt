@@ -20,8 +20,9 @@ use Rattle.qs_graph.specs.Walk.{Spot, Goes, entry, move, tree_of_move, walk, Eac
 use Rattle.qs_graph.specs.WalkAlone.{walk_alone}
 use Rattle.qs_graph.specs.Steps.{steps, whole_steps, limit}
 
--- from Entry, with these variables and any counts: within n nodes the walk is at Exit, it says what the block's tree with
--- its synchronisations says, and with each request done at once it makes the trace, the variables and the states of the block alone
+-- from Entry, with these variables and any counts: within n nodes the walk is at Exit, it says what the block's tree
+-- with its synchronisations says, and with each request done at once it makes the trace, the variables and the states
+-- of the block alone
 pub record FollowsBlock (n : ℕ) (body : Statements) (l : Locals) (counts : List ℕ) : Type 0 where
   pub ends : Within (block_graph body) n (entry l counts)
   pub tree : walk (block_graph body) n (entry l counts) ≡ synced_of body l
@@ -39,15 +40,16 @@ StepsWithinWeight = (body : Statements) → steps body ≤ 3 * weight_of body
 -- each block of a sound program; past its last block one that is empty
 abbrev pub WalksWithinLimit : Type 0
 WalksWithinLimit =
-    (p : ProgramShape) (c k : ℕ) (l : Locals) (counts : List ℕ) → IsSound p → length (block_graph (block_at p c k).body) ≤ length counts
+    (p : ProgramShape) (c k : ℕ) (l : Locals) (counts : List ℕ) → IsSound p
+    → length (block_graph (block_at p c k).body) ≤ length counts
     → FollowsBlock limit (block_at p c k).body l counts
 
 -- the tree without its synchronisations is the block's interaction tree
 abbrev pub SyncsErased : Type 0
 SyncsErased = (body : Statements) (l : Locals) → without_syncs (synced_of body l) ≡ tree_of body l
 
--- where a walk is within the limit, so is each spot that follows; what it says is what its node says and then what they say;
--- and a silent move leaves fewer silent moves before the next one that is not
+-- where a walk is within the limit, so is each spot that follows; what it says is what its node says and then what they
+-- say; and a silent move leaves fewer silent moves before the next one that is not
 pub record Unfolds (g : List GraphNode) (s : Spot) : Type 0 where
   pub next : EachNext (Within g limit) (move g s)
   pub here : walk g limit s ≡ tree_of_move (walk g limit) s.locals (move g s)
@@ -66,8 +68,8 @@ WalksGoAlongPaths =
     (g : List GraphNode) (s : Spot) (before : List ℕ) → IsGraph g → s.node < length g → IsPath g before s.node
     → EachNext (λ t. IsPath g (s.node ∷ before) t.node) (move g s)
 
--- The places of a block are a graph, and its nodes are sound by the block's list; so are those of the block's own text, by what its names
--- were declared as. Once each name stands for its object, these are the places of the block.
+-- The places of a block are a graph, and its nodes are sound by the block's list; so are those of the block's own text,
+-- by what its names were declared as. Once each name stands for its object, these are the places of the block.
 pub record HasGraph (p : ProgramShape) (c k : ℕ) : Type 0 where
   pub graph : IsGraph (block_graph (block_at p c k).body)
   pub sound : AreSoundNodes p.objects (block_at p c k).reserved (block_graph (block_at p c k).body)
@@ -78,6 +80,9 @@ pub record HasGraph (p : ProgramShape) (c k : ℕ) : Type 0 where
 abbrev pub BlocksHaveGraphs : Type 0
 BlocksHaveGraphs = (p : ProgramShape) (c k : ℕ) → IsSound p → HasGraph p c k
 
--- each name of a text stands for an object: the graph of the text with its names replaced is the graph with its names replaced
+-- each name of a text stands for an object: the graph of the text with its names replaced is the graph with its names
+-- replaced
 abbrev pub GraphsAreBound : Type 0
-GraphsAreBound = (binding : List ℕ) (body : Statements) → block_graph (bound_statements binding body) ≡ bound_nodes binding (block_graph body)
+GraphsAreBound =
+    (binding : List ℕ) (body : Statements) → block_graph (bound_statements binding body)
+    ≡ bound_nodes binding (block_graph body)

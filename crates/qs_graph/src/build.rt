@@ -18,7 +18,8 @@ use qs_program::{Body, Call as Request, Program, Stmt};
 use std::alloc::{AllocError, Global};
 use std::mem;
 
-/// The control-flow graph of a block in its client's own text: where the client is of a template, its nodes name formals.
+/// The control-flow graph of a block in its client's own text: where the client is of a template, its nodes name
+/// formals.
 pub fn graph(alloc: Global, program: &Program, client: u8, block: u8) -> Result<Graph, AllocError>
     requires client { client < length program.now.clients }
     requires block { block < blocks_of program.now client }
@@ -44,7 +45,7 @@ pub fn graph_in(
 {
     let room = mem::replace(room, Vec::new(alloc));
     let names = block_names(program, client, block, room)?;
-    program.is_sound();
+    program.keeps_sound();
     match block_places(alloc, program.own_block(client, block).body()) {
         Ok(places) => Ok(Graph::of(places, names, program.is_started(client))),
         Err(error) => {
@@ -85,7 +86,7 @@ fn reserved_by(program: &Program, client: u8, block: u8) -> &[u8]
     ensures value { result.now ≡ (own_block program.now client block).reserved }
     ensures inside { AllByRecursion (λ h. h < length (declarations_of program.now client)) result.now }
 {
-    program.is_sound();
+    program.keeps_sound();
     program.own_block(client, block).reserved()
 }
 

@@ -92,8 +92,8 @@ impl GraphNode {
     }
 }
 
-/// The control-flow graph of a block: nodes by number, each with its edges in order, the names of the block's list, and whether two of
-/// these may stand for one object.
+/// The control-flow graph of a block: nodes by number, each with its edges in order, the names of the block's list, and
+/// whether two of these may stand for one object.
 pub struct Graph {
     places: Vec<GraphNode>,
     names: Vec<Named>,
@@ -136,16 +136,16 @@ impl Graph {
         }
     }
 
-    /// The graph over objects: each name is replaced by the object that it stands for in a client's blocks. The room that the names took
-    /// is left for those of another graph. Takes no memory.
+    /// The graph over objects: each name is replaced by the object that it stands for in a client's blocks. The room
+    /// that the names took is left for those of another graph. Takes no memory.
     pub fn bound_in(self, program: &Program, client: u8, room: &mut Vec<Named>) -> Graph
         requires client { client < length program.now.clients }
         ensures value { result.nodes ≡ bound_nodes (binding_of program.now client) self.nodes }
         ensures no_names { result.names ≡ [] }
         ensures no_aliases { result.aliases ≡ false }
     {
-        self.is_graph();
-        program.is_sound();
+        self.keeps_graph();
+        program.keeps_sound();
         let Graph {
             mut places,
             names,
@@ -162,7 +162,7 @@ impl Graph {
     }
 
     /// What holds of every graph: node 0 is Entry, edges lead to nodes, and numbers are in range. It does nothing.
-    pub fn is_graph(&self)
+    pub fn keeps_graph(&self)
         ensures graph { IsGraph self.now.nodes }
     {
         let _ = &self.places;
@@ -182,8 +182,8 @@ impl Graph {
         self.aliases
     }
 
-    /// Whether a call of one name may be a call of another name's object: it is the same name, or names may stand for one object and both
-    /// are of one kind.
+    /// Whether a call of one name may be a call of another name's object: it is the same name, or names may stand for
+    /// one object and both are of one kind.
     pub fn may_be_one(&self, name: u8, other: u8) -> bool
         ensures value { result ≡ may_be_one self.now name other }
     {

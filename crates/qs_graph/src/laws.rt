@@ -21,7 +21,8 @@ pub fn graph_examples()
     ensures examples { GraphExamples }
 {}
 
-/// The graph of a block is drawn from its statements, by what comes next after each, and no other graph is; it does nothing.
+/// The graph of a block is drawn from its statements, by what comes next after each, and no other graph is; it does
+/// nothing.
 pub fn graphs_are_drawings()
     ensures law { GraphsAreDrawings }
 {}
@@ -31,15 +32,15 @@ pub fn synced_examples()
     ensures examples { SyncedExamples }
 {}
 
-/// Each block of a sound program has a graph: node 0 is Entry, edges lead to nodes, numbers are in range, and its nodes are
-/// sound by the program's objects and the block's list; it does nothing.
+/// Each block of a sound program has a graph: node 0 is Entry, edges lead to nodes, numbers are in range, and its nodes
+/// are sound by the program's objects and the block's list; it does nothing.
 pub fn blocks_have_graphs()
     ensures graphs { BlocksHaveGraphs }
 {}
 
-/// From the same variables and states the walk from Entry is at Exit after a number of nodes that the block tells, says what
-/// the block's tree with its synchronisations says, and makes the trace, the variables and the states of the block alone, each
-/// request done at once; it does nothing.
+/// From the same variables and states the walk from Entry is at Exit after a number of nodes that the block tells, says
+/// what the block's tree with its synchronisations says, and makes the trace, the variables and the states of the block
+/// alone, each request done at once; it does nothing.
 pub fn walks_follow_blocks()
     ensures follow { WalksFollowBlocks }
 {}
@@ -74,12 +75,14 @@ pub fn walks_go_along_paths()
     ensures along { WalksGoAlongPaths }
 {}
 
-/// Where some synchronisations of a graph are removed, its walks take as many nodes and say the same but for these; it does nothing.
+/// Where some synchronisations of a graph are removed, its walks take as many nodes and say the same but for these; it
+/// does nothing.
 pub fn removals_keep_walks()
     ensures keep { RemovalsKeepWalks }
 {}
 
-/// The graph of a text in which names were replaced by their objects is the text's graph with its names replaced; it does nothing.
+/// The graph of a text in which names were replaced by their objects is the text's graph with its names replaced; it
+/// does nothing.
 pub fn graphs_are_bound()
     ensures law { GraphsAreBound }
 {}

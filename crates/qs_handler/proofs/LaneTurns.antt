@@ -1,6 +1,6 @@
--- Whatever a handler does, it goes on standing to each client's lane as it should: it asks only for parcels that may follow
--- there, and gives its object only for a Sync that is not served yet. The proofs on a handler's whole run and on its thread stand
--- on these laws. Each goes by cases on the handler's state and on the parcel.
+-- Whatever a handler does, it goes on standing to each client's lane as it should: it asks only for parcels that may
+-- follow there, and gives its object only for a Sync that is not served yet. The proofs on a handler's whole run and on
+-- its thread stand on these laws. Each goes by cases on the handler's state and on the parcel.
 use Rattle.std.proofs.Common.{◌≡◌, ◌+◌, if◌then◌else◌, false, List, [], ◌∷◌, ◌++◌, length, Some, refl, sym, ap, ◌∙◌, subst, arith, length-append}
 use Rattle.std.proofs.lemmas.List.Sums.{sum_by-append}
 use Rattle.qs_objects.specs.Journals.{HeldState}
@@ -13,7 +13,7 @@ use Rattle.qs_chunk.proofs.LaneFronts.{asked_last}
 use Rattle.qs_chunk.specs.declared.parcel.Parcel.{Parcel}
 use Rattle.qs_chunk.specs.declared.parcel.Parcel.TheVariants.{Work, Sync, Home, End}
 use Rattle.qs_handler.specs.Handler.{Handler, free, serves, spares, gives, away, closed}
-use Rattle.qs_handler.specs.HandlerLanes.{OwesNothing, StandsAt, BeginsAtLanes, TicketsKeepLanes, AsksForWhatFollows, ParcelsKeepLanes, ParcelsKeepOtherLanes, GivesAreAskedFor, GivesKeepOtherLanes, SparesAreEmpty, SparesKeepLanes, EndsAtLanes, HandlerLaneLaws}
+use Rattle.qs_handler.specs.HandlerLanes.{OwesNothing, HandlerFitsLane, BeginsAtLanes, TicketsKeepLanes, AsksForWhatFollows, ParcelsKeepLanes, ParcelsKeepOtherLanes, GivesAreAskedFor, GivesKeepOtherLanes, SparesAreEmpty, SparesKeepLanes, EndsAtLanes, HandlerLaneLaws}
 
 syncs_with : (ps : List Parcel) (p : Parcel) → syncs (ps ++ p ∷ []) ≡ syncs ps + (if is_sync p then 1 else 0)
 syncs_with ps p = let parted = sum_by-append (λ q. if is_sync q then 1 else 0) ps (p ∷ []) in omega arith
@@ -32,8 +32,8 @@ begins_at_lanes : BeginsAtLanes
 begins_at_lanes size client x = record { last = refl; served = refl }
 
 tickets_keep_lanes : TicketsKeepLanes
-tickets_keep_lanes size client (free x) new (nexts.Ticket t) ps given is quiet = goes_on (λ h. StandsAt size client h ps given) (serves t x) new is quiet
-tickets_keep_lanes size client (free x) new nexts.Closed ps given is quiet = goes_on (λ h. StandsAt size client h ps given) (closed x) new is quiet
+tickets_keep_lanes size client (free x) new (nexts.Ticket t) ps given is quiet = goes_on (λ h. HandlerFitsLane size client h ps given) (serves t x) new is quiet
+tickets_keep_lanes size client (free x) new nexts.Closed ps given is quiet = goes_on (λ h. HandlerFitsLane size client h ps given) (closed x) new is quiet
 tickets_keep_lanes size client (serves t x) new next ps given is quiet = absurd (cc is)
 tickets_keep_lanes size client (spares t x n) new next ps given is quiet = absurd (cc is)
 tickets_keep_lanes size client (gives t x) new next ps given is quiet = absurd (cc is)
@@ -50,17 +50,17 @@ asks_for_what_follows size client (closed x) ps given asked stands = absurd (cc 
 
 parcels_keep_lanes : ParcelsKeepLanes
 parcels_keep_lanes size client (serves t x) new (Work chunk) ps given asked is sized quiet =
-    goes_on (λ h. StandsAt size client h (ps ++ Work chunk ∷ []) given) (spares t (ran_all x t chunk.items) chunk.capacity) new is (quiet_on ps (Work chunk) given refl quiet.served, λ _. sized)
+    goes_on (λ h. HandlerFitsLane size client h (ps ++ Work chunk ∷ []) given) (spares t (ran_all x t chunk.items) chunk.capacity) new is (quiet_on ps (Work chunk) given refl quiet.served, λ _. sized)
 parcels_keep_lanes size client (serves t x) new Sync ps given asked is sized quiet =
-    goes_on (λ h. StandsAt size client h (ps ++ Sync ∷ []) given) (gives t x) new is (
+    goes_on (λ h. HandlerFitsLane size client h (ps ++ Sync ∷ []) given) (gives t x) new is (
       (λ _. record { last = asked_last false ps Sync; unserved = let n = syncs_with ps Sync in let all = quiet.served in omega arith }),
       λ apart. absurd (apart (cc asked)),
     )
 parcels_keep_lanes size client (serves t x) new End ps given asked is sized quiet =
-    goes_on (λ h. StandsAt size client h (ps ++ End ∷ []) given) (free x) new is (quiet_on ps End given refl quiet.served)
+    goes_on (λ h. HandlerFitsLane size client h (ps ++ End ∷ []) given) (free x) new is (quiet_on ps End given refl quiet.served)
 parcels_keep_lanes size client (serves t x) new (Home y) ps given asked is sized quiet = absurd (cc is)
 parcels_keep_lanes size client (away t) new (Home y) ps given asked is sized stands =
-    goes_on (λ h. StandsAt size client h (ps ++ Home y ∷ []) given) (serves t y) new is (quiet_on ps (Home y) given refl (stands.0 (cc asked)).served)
+    goes_on (λ h. HandlerFitsLane size client h (ps ++ Home y ∷ []) given) (serves t y) new is (quiet_on ps (Home y) given refl (stands.0 (cc asked)).served)
 parcels_keep_lanes size client (away t) new (Work chunk) ps given asked is sized stands = absurd (cc is)
 parcels_keep_lanes size client (away t) new Sync ps given asked is sized stands = absurd (cc is)
 parcels_keep_lanes size client (away t) new End ps given asked is sized stands = absurd (cc is)
@@ -71,13 +71,13 @@ parcels_keep_lanes size client (closed x) new parcel ps given asked is sized sta
 
 parcels_keep_other_lanes : ParcelsKeepOtherLanes
 parcels_keep_other_lanes size client other (serves t x) new (Work chunk) ps given asked is apart quiet =
-    goes_on (λ h. StandsAt size other h ps given) (spares t (ran_all x t chunk.items) chunk.capacity) new is (quiet, λ same. absurd (apart (sym (cc asked) ∙ same)))
+    goes_on (λ h. HandlerFitsLane size other h ps given) (spares t (ran_all x t chunk.items) chunk.capacity) new is (quiet, λ same. absurd (apart (sym (cc asked) ∙ same)))
 parcels_keep_other_lanes size client other (serves t x) new Sync ps given asked is apart quiet =
-    goes_on (λ h. StandsAt size other h ps given) (gives t x) new is ((λ same. absurd (apart (sym (cc asked) ∙ same))), λ _. quiet)
-parcels_keep_other_lanes size client other (serves t x) new End ps given asked is apart quiet = goes_on (λ h. StandsAt size other h ps given) (free x) new is quiet
+    goes_on (λ h. HandlerFitsLane size other h ps given) (gives t x) new is ((λ same. absurd (apart (sym (cc asked) ∙ same))), λ _. quiet)
+parcels_keep_other_lanes size client other (serves t x) new End ps given asked is apart quiet = goes_on (λ h. HandlerFitsLane size other h ps given) (free x) new is quiet
 parcels_keep_other_lanes size client other (serves t x) new (Home y) ps given asked is apart quiet = absurd (cc is)
 parcels_keep_other_lanes size client other (away t) new (Home y) ps given asked is apart stands =
-    goes_on (λ h. StandsAt size other h ps given) (serves t y) new is (stands.1 (λ same. apart (sym (cc asked) ∙ same)))
+    goes_on (λ h. HandlerFitsLane size other h ps given) (serves t y) new is (stands.1 (λ same. apart (sym (cc asked) ∙ same)))
 parcels_keep_other_lanes size client other (away t) new (Work chunk) ps given asked is apart stands = absurd (cc is)
 parcels_keep_other_lanes size client other (away t) new Sync ps given asked is apart stands = absurd (cc is)
 parcels_keep_other_lanes size client other (away t) new End ps given asked is apart stands = absurd (cc is)

@@ -1,5 +1,6 @@
--- A handler's whole run is a turn for each ticket: by induction over its tasks, from the last to the first. While a block is served, what
--- is to come is the rest of its turn, by the state that the handler is in, and then the turns of the tickets after it.
+-- A handler's whole run is a turn for each ticket: by induction over its tasks, from the last to the first. While a
+-- block is served, what is to come is the rest of its turn, by the state that the handler is in, and then the turns of
+-- the tickets after it.
 use Rattle.std.proofs.Common.{◌≡◌, ℕ, Bool, true, false, ◌==◌, if◌then◌else◌, List, [], ◌∷◌, ◌++◌, map, flat_map, refl, sym, ap, ◌∙◌, subst, Some}
 use Rattle.qs_objects.specs.Journals.{HeldState}
 use Rattle.qs_objects.specs.declared.held.Next.TheVariants.{Ticket, Closed}

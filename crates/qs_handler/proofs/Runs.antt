@@ -1,6 +1,7 @@
--- After any run from its first ticket on, a handler stands to each client's lane as it should: it gives its object only for a
--- Sync that is not served yet, and gives back empty chunks of the lane's size. The proof of the loop in a handler's thread stands
--- on it. It goes by induction on the tasks of the run, with cases on whether a task is with this client or with another.
+-- After any run from its first ticket on, a handler stands to each client's lane as it should: it gives its object only
+-- for a Sync that is not served yet, and gives back empty chunks of the lane's size. The proof of the loop in a
+-- handler's thread stands on it. It goes by induction on the tasks of the run, with cases on whether a task is with
+-- this client or with another.
 use Rattle.std.proofs.Common.{◌≡◌, ℕ, true, false, ◌==◌, if◌then◌else◌, List, [], ◌∷◌, ◌++◌, refl, sym, subst, ⊎_elim, append_assoc, append-nil}
 use Rattle.std.specs.List.{AllByRecursion}
 use Rattle.qs_objects.specs.Journals.{HeldState}
@@ -8,7 +9,7 @@ use Rattle.qs_objects.proofs.Choices.{apart_eqb, eqb_self, num_cases}
 use Rattle.qs_chunk.specs.Lanes.{HasSize}
 use Rattle.qs_chunk.specs.declared.parcel.Parcel.{Parcel}
 use Rattle.qs_handler.specs.Handler.{Handler, free, act_of, gave}
-use Rattle.qs_handler.specs.HandlerLanes.{StandsAt}
+use Rattle.qs_handler.specs.HandlerLanes.{HandlerFitsLane}
 use Rattle.qs_handler.specs.HandlerRuns.{Task, takes, receives, gives, spares, TasksLead, received_from, given_to, RunsKeepLanes, GivesFollowSyncs, SparesFollowChunks, HandlerRunLaws}
 use Rattle.qs_handler.specs.declared.mind.Act.TheVariants as acts
 use Rattle.qs_handler.proofs.LaneTurns.{handler_lane_laws}
@@ -16,26 +17,26 @@ use Rattle.qs_handler.proofs.LaneTurns.{handler_lane_laws}
 module _ (size client : ℕ) where
   -- what came of this client's lane, and what went there, beside these lists
   abbrev Comes : Handler → List Parcel → List HeldState → List Task → Type 0
-  Comes end parcels given tasks = StandsAt size client end (parcels ++ received_from client tasks) (given ++ given_to client tasks)
+  Comes end parcels given tasks = HandlerFitsLane size client end (parcels ++ received_from client tasks) (given ++ given_to client tasks)
 
   module _ (end : Handler) (parcels : List Parcel) (given : List HeldState) (tasks : List Task) where
     own_parcel : (p : Parcel) → Comes end (parcels ++ p ∷ []) given tasks → Comes end parcels given (receives client p ∷ tasks)
     own_parcel p comes =
-        subst (λ b. StandsAt size client end (parcels ++ (if b then p ∷ received_from client tasks else received_from client tasks)) (given ++ given_to client tasks)) (sym (eqb_self client))
-        (subst (λ ps. StandsAt size client end ps (given ++ given_to client tasks)) (append_assoc parcels (p ∷ []) (received_from client tasks)) comes)
+        subst (λ b. HandlerFitsLane size client end (parcels ++ (if b then p ∷ received_from client tasks else received_from client tasks)) (given ++ given_to client tasks)) (sym (eqb_self client))
+        (subst (λ ps. HandlerFitsLane size client end ps (given ++ given_to client tasks)) (append_assoc parcels (p ∷ []) (received_from client tasks)) comes)
 
     other_parcel : (c : ℕ) (p : Parcel) → (c == client) ≡ false → Comes end parcels given tasks → Comes end parcels given (receives c p ∷ tasks)
     other_parcel c p apart comes =
-        subst (λ b. StandsAt size client end (parcels ++ (if b then p ∷ received_from client tasks else received_from client tasks)) (given ++ given_to client tasks)) (sym apart) comes
+        subst (λ b. HandlerFitsLane size client end (parcels ++ (if b then p ∷ received_from client tasks else received_from client tasks)) (given ++ given_to client tasks)) (sym apart) comes
 
     own_object : (x : HeldState) → Comes end parcels (given ++ x ∷ []) tasks → Comes end parcels given (gives client x ∷ tasks)
     own_object x comes =
-        subst (λ b. StandsAt size client end (parcels ++ received_from client tasks) (given ++ (if b then x ∷ given_to client tasks else given_to client tasks))) (sym (eqb_self client))
-        (subst (λ xs. StandsAt size client end (parcels ++ received_from client tasks) xs) (append_assoc given (x ∷ []) (given_to client tasks)) comes)
+        subst (λ b. HandlerFitsLane size client end (parcels ++ received_from client tasks) (given ++ (if b then x ∷ given_to client tasks else given_to client tasks))) (sym (eqb_self client))
+        (subst (λ xs. HandlerFitsLane size client end (parcels ++ received_from client tasks) xs) (append_assoc given (x ∷ []) (given_to client tasks)) comes)
 
     other_object : (c : ℕ) (x : HeldState) → (c == client) ≡ false → Comes end parcels given tasks → Comes end parcels given (gives c x ∷ tasks)
     other_object c x apart comes =
-        subst (λ b. StandsAt size client end (parcels ++ received_from client tasks) (given ++ (if b then x ∷ given_to client tasks else given_to client tasks))) (sym apart) comes
+        subst (λ b. HandlerFitsLane size client end (parcels ++ received_from client tasks) (given ++ (if b then x ∷ given_to client tasks else given_to client tasks))) (sym apart) comes
 
   is_own : (c : ℕ) → c ≡ client → (c == client) ≡ true
   is_own c same = subst (λ k. (c == k) ≡ true) same (eqb_self c)
@@ -52,10 +53,10 @@ module _ (size client : ℕ) where
       subst (λ b. AllByRecursion (HasSize size) (if b then p ∷ received_from client tasks else received_from client tasks)) apart sized
 
   runs_on : (h end : Handler) (parcels : List Parcel) (given : List HeldState) (tasks : List Task)
-      → StandsAt size client h parcels given → TasksLead h tasks end → AllByRecursion (HasSize size) (received_from client tasks) → Comes end parcels given tasks
+      → HandlerFitsLane size client h parcels given → TasksLead h tasks end → AllByRecursion (HasSize size) (received_from client tasks) → Comes end parcels given tasks
   runs_on h end parcels given [] stands leads sized =
-      subst (λ e. StandsAt size client e (parcels ++ []) (given ++ [])) leads
-      (subst (λ ps. StandsAt size client h ps (given ++ [])) (sym (append-nil parcels)) (subst (λ xs. StandsAt size client h parcels xs) (sym (append-nil given)) stands))
+      subst (λ e. HandlerFitsLane size client e (parcels ++ []) (given ++ [])) leads
+      (subst (λ ps. HandlerFitsLane size client h ps (given ++ [])) (sym (append-nil parcels)) (subst (λ xs. HandlerFitsLane size client h parcels xs) (sym (append-nil given)) stands))
   runs_on h end parcels given (takes next ∷ tasks) stands leads sized =
       runs_on leads.0 end parcels given tasks (handler_lane_laws.tickets size client h leads.0 next parcels given leads.1 stands) leads.2 sized
   runs_on h end parcels given (receives c p ∷ tasks) stands leads sized =

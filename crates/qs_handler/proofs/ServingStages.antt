@@ -5,11 +5,11 @@ use Rattle.qs_objects.specs.declared.Request.{Request}
 use Rattle.qs_objects.specs.declared.held.Ticket.{Ticket}
 use Rattle.qs_chunk.specs.Batch.{Batch}
 use Rattle.qs_handler.specs.Handler.{serves}
-use Rattle.qs_handler.specs.Stages.{handler_of}
-use Rattle.qs_handler.specs.declared.mind.Stage.{Stage}
-use Rattle.qs_handler.specs.declared.mind.Stage.TheVariants as stages
+use Rattle.qs_handler.specs.Stages.{staged_handler}
+use Rattle.qs_handler.specs.declared.mind.HandlerStage.{HandlerStage}
+use Rattle.qs_handler.specs.declared.mind.HandlerStage.TheVariants as stages
 
-pub serves_with : (s : Stage) (held : Option HeldState) (spare : Option (Batch Request)) (t : Ticket) (x : HeldState) → handler_of s held spare ≡ serves t x → held ≡ Some x
+pub serves_with : (s : HandlerStage) (held : Option HeldState) (spare : Option (Batch Request)) (t : Ticket) (x : HeldState) → staged_handler s held spare ≡ serves t x → held ≡ Some x
 serves_with stages.Free (Some y) spare t x e = cc
 serves_with stages.Free None spare t x e = cc
 serves_with (stages.Serves u) (Some y) spare t x e = cc

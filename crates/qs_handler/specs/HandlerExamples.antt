@@ -1,4 +1,5 @@
--- A handler's turns that were worked out by hand: an account of 100, of which a block asks a deposit of 5 and the balance.
+-- A handler's turns that were worked out by hand: an account of 100, of which a block asks a deposit of 5 and the
+-- balance.
 use Rattle.std.specs.Prelude.{◌≡◌, ℕ, List, [], ◌∷◌, Option, Some, None, ℤ, pos}
 use Rattle.qs_objects.specs.Act.{account}
 use Rattle.qs_objects.specs.Journals.{HeldState}
@@ -71,12 +72,15 @@ pub record OneBlock : Type 0 where
 pub record OrderOfRequests : Type 0 where
   pub first_to_last :
       accept_parcel (serves ticket (account_held 3 (pos 100) (pos 0) []))
-      (Work (batch (request Withdraw (pos 120 ∷ []) ∷ request Deposit (pos 50 ∷ []) ∷ request Withdraw (pos 120 ∷ []) ∷ []) 3))
+      (Work (batch (request Withdraw (pos 120 ∷ []) ∷ request Deposit (pos 50 ∷ []) ∷ request Withdraw (pos 120 ∷ [])
+      ∷ []) 3))
       ≡ Some (spares ticket (account_held 3 (pos 30) (pos 1)
-      (entry_of Withdraw (pos 120 ∷ []) None ∷ entry_of Deposit (pos 50 ∷ []) None ∷ entry_of Withdraw (pos 120 ∷ []) None ∷ [])) 3)
+      (entry_of Withdraw (pos 120 ∷ []) None ∷ entry_of Deposit (pos 50 ∷ []) None
+      ∷ entry_of Withdraw (pos 120 ∷ []) None ∷ [])) 3)
   pub nothing_to_run : accept_parcel (serves ticket start) (Work (batch [] 8)) ≡ Some (spares ticket start 8)
   pub no_room :
-      accept_parcel (serves ticket (account_held 1 (pos 100) (pos 0) [])) (Work (batch (request Deposit five ∷ request Deposit five ∷ []) 8))
+      accept_parcel (serves ticket (account_held 1 (pos 100) (pos 0) [])) (Work (batch (request Deposit five
+      ∷ request Deposit five ∷ []) 8))
       ≡ Some (spares ticket (account_held 1 (pos 105) (pos 0) (deposit_entry ∷ [])) 8)
 
 -- what can't come

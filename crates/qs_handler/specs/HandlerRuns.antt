@@ -9,10 +9,11 @@ use Rattle.qs_chunk.specs.Lanes.{HasSize, is_asked}
 use Rattle.qs_chunk.specs.LaneRun.{syncs}
 use Rattle.qs_chunk.specs.declared.parcel.Parcel.{Parcel}
 use Rattle.qs_handler.specs.Handler.{Handler, free, act_of, gave, accept_next, accept_parcel}
-use Rattle.qs_handler.specs.HandlerLanes.{StandsAt}
+use Rattle.qs_handler.specs.HandlerLanes.{HandlerFitsLane}
 use Rattle.qs_handler.specs.declared.mind.Act.TheVariants as acts
 
--- it took what its queue of tickets had next, or a parcel of a client's lane, or gave a client its object or an empty chunk
+-- it took what its queue of tickets had next, or a parcel of a client's lane, or gave a client its object or an empty
+-- chunk
 pub data Task : Type 0 where
   takes : (next : Next) → Task
   receives : (client : ℕ) → (parcel : Parcel) → Task
@@ -32,7 +33,8 @@ TasksLead h (spares c chunk ∷ tasks) end = (act_of h ≡ acts.Spare c chunk) �
 abbrev pub received_from : ℕ → List Task → List Parcel
 received_from client [] = []
 received_from client (takes next ∷ tasks) = received_from client tasks
-received_from client (receives c parcel ∷ tasks) = if c == client then parcel ∷ received_from client tasks else received_from client tasks
+received_from client (receives c parcel ∷ tasks) =
+    if c == client then parcel ∷ received_from client tasks else received_from client tasks
 received_from client (gives c x ∷ tasks) = received_from client tasks
 received_from client (spares c chunk ∷ tasks) = received_from client tasks
 
@@ -51,19 +53,21 @@ taken_by (receives c parcel ∷ tasks) = taken_by tasks
 taken_by (gives c x ∷ tasks) = taken_by tasks
 taken_by (spares c chunk ∷ tasks) = taken_by tasks
 
--- after all that it did from its first ticket on, it stands to each lane as it should, where chunks came in the lane's size
+-- after all that it did from its first ticket on, it stands to each lane as it should, where chunks came in the lane's
+-- size
 abbrev pub RunsKeepLanes : Type 0
 RunsKeepLanes =
     (size client : ℕ) (x : HeldState) (tasks : List Task) (end : Handler)
     → TasksLead (free x) tasks end → AllByRecursion (HasSize size) (received_from client tasks)
-    → StandsAt size client end (received_from client tasks) (given_to client tasks)
+    → HandlerFitsLane size client end (received_from client tasks) (given_to client tasks)
 
--- whatever it did before, it gives a client its object only where the last parcel that it received from the client is a Sync, which alone
--- is not served yet
+-- whatever it did before, it gives a client its object only where the last parcel that it received from the client is a
+-- Sync, which alone is not served yet
 abbrev pub GivesFollowSyncs : Type 0
 GivesFollowSyncs =
     (size client : ℕ) (x y : HeldState) (before later : List Task) (end : Handler)
-    → TasksLead (free x) (before ++ gives client y ∷ later) end → AllByRecursion (HasSize size) (received_from client before)
+    → TasksLead (free x) (before ++ gives client y ∷ later) end
+    → AllByRecursion (HasSize size) (received_from client before)
     → (is_asked false (received_from client before) ≡ true)
     × (length (given_to client before) + 1 ≡ syncs (received_from client before))
 
@@ -71,7 +75,8 @@ GivesFollowSyncs =
 abbrev pub SparesFollowChunks : Type 0
 SparesFollowChunks =
     (size client : ℕ) (x : HeldState) (chunk : Batch Request) (before later : List Task) (end : Handler)
-    → TasksLead (free x) (before ++ spares client chunk ∷ later) end → AllByRecursion (HasSize size) (received_from client before)
+    → TasksLead (free x) (before ++ spares client chunk ∷ later) end
+    → AllByRecursion (HasSize size) (received_from client before)
     → chunk ≡ batch [] size
 
 pub record HandlerRunLaws : Type 0 where

@@ -11,7 +11,8 @@ use Rattle.qs_handler.specs.HandlerTurns.{Turn, TurnsLead, turns_for}
 -- all that the handler did
 abbrev pub tasks : List Task
 tasks =
-    takes (Ticket ticket) ∷ receives 1 deposit ∷ spares 1 (batch [] 8) ∷ receives 1 Sync ∷ gives 1 middle ∷ receives 1 (Home end)
+    takes (Ticket ticket) ∷ receives 1 deposit ∷ spares 1 (batch [] 8) ∷ receives 1 Sync ∷ gives 1 middle
+    ∷ receives 1 (Home end)
     ∷ receives 1 End ∷ takes Closed ∷ []
 
 -- what it did for the one ticket

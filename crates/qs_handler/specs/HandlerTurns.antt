@@ -23,13 +23,14 @@ TurnsLead x (u ∷ us) z = (y : HeldState) × HandlerLane u.ticket false x u.rec
 abbrev pub turns_for : ℕ → List Turn → List Turn
 turns_for client turns = filter (λ (u : Turn). u.ticket.client == client) turns
 
--- The turns of a run. It took their tickets from its queue, and then that no further one comes; and what it received from a client, and
--- gave to it, is what that client's turns have, in their order.
+-- The turns of a run. It took their tickets from its queue, and then that no further one comes; and what it received
+-- from a client, and gave to it, is what that client's turns have, in their order.
 pub record HasTurns (x : HeldState) (tasks : List Task) (z : HeldState) : Type 0 where
   pub turns : List Turn
   pub lead : TurnsLead x turns z
   pub taken : taken_by tasks ≡ map (λ (u : Turn). Ticket u.ticket) turns ++ Closed ∷ []
-  pub received : (client : ℕ) → received_from client tasks ≡ flat_map (λ (u : Turn). u.received) (turns_for client turns)
+  pub received : (client : ℕ) → received_from client tasks
+      ≡ flat_map (λ (u : Turn). u.received) (turns_for client turns)
   pub given : (client : ℕ) → given_to client tasks ≡ flat_map (λ (u : Turn). u.gave) (turns_for client turns)
 
 -- whatever it was told to do, from its first ticket until it is closed, was a turn for each ticket

@@ -12,8 +12,8 @@ use qs_chunk::{Chunk, Parcel};
 use qs_objects::{Held, Next, Request, Ticket};
 use std::marker::Model;
 
-/// What a handler does next: takes a ticket of its queue of queues, takes a parcel of that client's lane, gives the client the
-/// object or an empty chunk, or ends.
+/// What a handler does next: takes a ticket of its queue of queues, takes a parcel of that client's lane, gives the
+/// client the object or an empty chunk, or ends.
 #[derive(Drop)]
 pub enum Act {
     TakeTicket,
@@ -25,7 +25,7 @@ pub enum Act {
 
 // Where a handler stands, beside its object and the chunk that it gives back.
 #[derive(Clone, Copy)]
-enum Stage {
+enum HandlerStage {
     Free,
     Serves(Ticket),
     Spares(Ticket),
@@ -34,10 +34,10 @@ enum Stage {
     Closed,
 }
 
-/// A handler's decisions. No call takes memory or refuses. The object and a chunk lie where they are from one act to the next, and move only
-/// as they change hands.
+/// A handler's decisions. No call takes memory or refuses. The object and a chunk lie where they are from one act to
+/// the next, and move only as they change hands.
 pub struct Mind {
-    stage: Stage,
+    stage: HandlerStage,
     held: Option<Held>,
     spare: Option<Chunk<Request>>,
 }
@@ -57,9 +57,9 @@ impl Model for Mind {
 
     ghost Value = { Handler };
 
-    ghost use Rattle.qs_handler.specs.Stages.{handler_of, IsTidy};
+    ghost use Rattle.qs_handler.specs.Stages.{staged_handler, IsTidy};
 
-    ghost view = { λ m. handler_of m.stage m.held m.spare };
+    ghost view = { λ m. staged_handler m.stage m.held m.spare };
 
     ghost invariant = { λ m. IsTidy m.stage m.held m.spare };
 }
@@ -103,13 +103,14 @@ impl Mind {
         ensures free { result ≡ free held }
     {
         Mind {
-            stage: Stage::Free,
+            stage: HandlerStage::Free,
             held: Some(held),
             spare: None,
         }
     }
 
-    /// What the handler does next, to be called once the last act was done. An object or a chunk that it gives goes out of the mind.
+    /// What the handler does next, to be called once the last act was done. An object or a chunk that it gives goes out
+    /// of the mind.
     pub fn next(&mut self) -> Act
         ensures act { result ≡ act_of self.old }
         ensures rest { self.new ≡ gave self.old }
@@ -126,12 +127,12 @@ impl Mind {
         ensures rest { self.new ≡ gave self.old }
     {
         match self.stage {
-            Stage::Free => put(act, Act::TakeTicket),
-            Stage::Serves(ticket) => put_parcel(act, ticket.client),
-            Stage::Spares(ticket) => self.spare(ticket, act),
-            Stage::Gives(ticket) => self.give(ticket, act),
-            Stage::Away(ticket) => put_parcel(act, ticket.client),
-            Stage::Closed => put(act, Act::Closed),
+            HandlerStage::Free => put(act, Act::TakeTicket),
+            HandlerStage::Serves(ticket) => put_parcel(act, ticket.client),
+            HandlerStage::Spares(ticket) => self.spare(ticket, act),
+            HandlerStage::Gives(ticket) => self.give(ticket, act),
+            HandlerStage::Away(ticket) => put_parcel(act, ticket.client),
+            HandlerStage::Closed => put(act, Act::Closed),
         }
     }
 
@@ -142,7 +143,7 @@ impl Mind {
         ensures act { act.new ≡ act_of self.old }
         ensures rest { self.new ≡ gave self.old }
     {
-        self.stage = Stage::Serves(ticket);
+        self.stage = HandlerStage::Serves(ticket);
         match self.spare.take() {
             Some(chunk) => put(act, Act::Spare(ticket.client, chunk)),
             None => unreachable!(),
@@ -156,7 +157,7 @@ impl Mind {
         ensures act { act.new ≡ act_of self.old }
         ensures rest { self.new ≡ gave self.old }
     {
-        self.stage = Stage::Away(ticket);
+        self.stage = HandlerStage::Away(ticket);
         match self.held.take() {
             Some(held) => put(act, Act::Give(ticket.client, held)),
             None => unreachable!(),
@@ -169,8 +170,8 @@ impl Mind {
         ensures taken { accept_next self.old next ≡ Some self.new }
     {
         self.stage = match next {
-            Next::Ticket(ticket) => Stage::Serves(ticket),
-            Next::Closed => Stage::Closed,
+            Next::Ticket(ticket) => HandlerStage::Serves(ticket),
+            Next::Closed => HandlerStage::Closed,
         };
     }
 
@@ -182,13 +183,14 @@ impl Mind {
         ensures received { accept_parcel self.old parcel ≡ Some self.new }
     {
         match self.stage {
-            Stage::Serves(ticket) => self.serve(ticket, parcel),
-            Stage::Away(ticket) => self.take_home(ticket, parcel),
+            HandlerStage::Serves(ticket) => self.serve(ticket, parcel),
+            HandlerStage::Away(ticket) => self.take_home(ticket, parcel),
             _ => unreachable!(),
         }
     }
 
-    /// What the lane had next, and what the handler does next then, put where another act lay: `parcel`, and then `next_into`.
+    /// What the lane had next, and what the handler does next then, put where another act lay: `parcel`, and then
+    /// `next_into`.
     #[inline(always)]
     pub fn parcel_into(&mut self, parcel: Parcel, act: &mut Act)
         requires asked { (client : ℕ) × (act_of self.old ≡ Act.TakeParcel client) }
@@ -196,8 +198,8 @@ impl Mind {
         ensures received { (h : HandlerShape) × (accept_parcel self.old parcel ≡ Some h) × (act.new ≡ act_of h) × (self.new ≡ gave h) }
     {
         match self.stage {
-            Stage::Serves(ticket) => self.serve_into(ticket, parcel, act),
-            Stage::Away(ticket) => self.go_on_at_home(ticket, parcel, act),
+            HandlerStage::Serves(ticket) => self.serve_into(ticket, parcel, act),
+            HandlerStage::Away(ticket) => self.go_on_at_home(ticket, parcel, act),
             _ => unreachable!(),
         }
     }
@@ -212,11 +214,11 @@ impl Mind {
         match parcel {
             Parcel::Work(chunk) => self.run_into(ticket, chunk, act),
             Parcel::Sync => {
-                self.stage = Stage::Gives(ticket);
+                self.stage = HandlerStage::Gives(ticket);
                 self.give(ticket, act);
             }
             Parcel::End => {
-                self.stage = Stage::Free;
+                self.stage = HandlerStage::Free;
                 put(act, Act::TakeTicket);
             }
             Parcel::Home(_) => unreachable!(),
@@ -234,7 +236,7 @@ impl Mind {
             Some(object) => run_all(ticket, object, &mut chunk),
             None => unreachable!(),
         }
-        self.stage = Stage::Serves(ticket);
+        self.stage = HandlerStage::Serves(ticket);
         put(act, Act::Spare(ticket.client, chunk));
     }
 
@@ -258,8 +260,8 @@ impl Mind {
     {
         match parcel {
             Parcel::Work(chunk) => self.run(ticket, chunk),
-            Parcel::Sync => self.stage = Stage::Gives(ticket),
-            Parcel::End => self.stage = Stage::Free,
+            Parcel::Sync => self.stage = HandlerStage::Gives(ticket),
+            Parcel::End => self.stage = HandlerStage::Free,
             Parcel::Home(_) => unreachable!(),
         }
     }
@@ -275,7 +277,7 @@ impl Mind {
             Some(held) => run_all(ticket, held, &mut chunk),
             None => unreachable!(),
         }
-        self.stage = Stage::Spares(ticket);
+        self.stage = HandlerStage::Spares(ticket);
         self.spare = Some(chunk);
     }
 
@@ -288,7 +290,7 @@ impl Mind {
     {
         match parcel {
             Parcel::Home(held) => {
-                self.stage = Stage::Serves(ticket);
+                self.stage = HandlerStage::Serves(ticket);
                 if self.held.is_some() {
                     self.held = Some(held);
                 } else {
@@ -311,12 +313,12 @@ impl Mind {
         ensures value { MatchOption result (serving self.now ≡ []) (λ ticket. serving self.now ≡ ticket ∷ []) }
     {
         match self.stage {
-            Stage::Free => None,
-            Stage::Serves(ticket) => Some(ticket),
-            Stage::Spares(ticket) => Some(ticket),
-            Stage::Gives(ticket) => Some(ticket),
-            Stage::Away(ticket) => Some(ticket),
-            Stage::Closed => None,
+            HandlerStage::Free => None,
+            HandlerStage::Serves(ticket) => Some(ticket),
+            HandlerStage::Spares(ticket) => Some(ticket),
+            HandlerStage::Gives(ticket) => Some(ticket),
+            HandlerStage::Away(ticket) => Some(ticket),
+            HandlerStage::Closed => None,
         }
     }
 

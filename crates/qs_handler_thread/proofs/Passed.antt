@@ -1,5 +1,5 @@
--- A gate that was passed for what a handler took so far, and then for what it takes next, was passed for all of that. The loop of a
--- handler's thread stands on it. It goes by induction on what was taken first.
+-- A gate that was passed for what a handler took so far, and then for what it takes next, was passed for all of that.
+-- The loop of a handler's thread stands on it. It goes by induction on what was taken first.
 use Rattle.std.proofs.Common.{ℕ, List, [], ◌∷◌, ◌++◌, sym, subst}
 use Rattle.qs_objects.specs.declared.held.Next.{Next}
 use Rattle.qs_objects.specs.declared.held.Next.TheVariants as nexts

@@ -19,7 +19,7 @@ use Rattle.qs_chunk.specs.Runs.{ran_all}
 use Rattle.qs_chunk.specs.declared.parcel.Parcel.{Parcel}
 use Rattle.qs_chunk.specs.declared.parcel.Parcel.TheVariants.{Work, Sync, Home, End}
 use Rattle.qs_handler.specs.Handler.{Handler, free, serves, spares, gives, away, closed, act_of, gave, is_away, accept_parcel, serving, accept_next}
-use Rattle.qs_handler.specs.HandlerLanes.{StandsAt}
+use Rattle.qs_handler.specs.HandlerLanes.{HandlerFitsLane}
 use Rattle.qs_handler.specs.HandlerRuns.{Task, TasksLead, given_to, received_from, taken_by}
 use Rattle.qs_handler.specs.HandlerRuns as tasks
 use Rattle.qs_handler.specs.declared.mind.Act.TheVariants as acts
@@ -29,7 +29,7 @@ use Rattle.qs_handler.proofs.Runs.{handler_run_laws}
 use Rattle.qs_desk.specs.Tickets.{IsFor}
 use Rattle.qs_desk.specs.Views.{TicketsView}
 use Rattle.qs_lane.specs.Views.{InView}
-use Rattle.qs_handler_thread.specs.HandlerThreads.{HasServed, IsAllServed, IsFresh, IsServing, lane_at, spared_to}
+use Rattle.qs_handler_thread.specs.HandlerThreads.{HasServed, IsAllServed, IsFresh, IsServing, in_lane_at, spared_to}
 use Rattle.qs_handler_thread.proofs.Tasks.{given_more, received_more, spared_more, taken_more, tasks_lead}
 use Rattle.qs_meaning.proofs.Each.{each_snoc}
 
@@ -64,7 +64,7 @@ some_lane : (o : Option InView) → IsSome o → (k : InView) × (o ≡ Some k)
 some_lane None some = absurd (true≢false (sym some))
 some_lane (Some k) some = (k, refl)
 
-set_here : (lanes : List (Option InView)) (c : ℕ) (k : InView) (v : Option InView) → lane_at lanes c ≡ Some k → lane_at (slice_set lanes c v) c ≡ v
+set_here : (lanes : List (Option InView)) (c : ℕ) (k : InView) (v : Option InView) → in_lane_at lanes c ≡ Some k → in_lane_at (slice_set lanes c v) c ≡ v
 set_here [] c k v is = absurd (cc)
 set_here (l ∷ lanes) zero k v is = refl
 set_here (l ∷ lanes) (suc c) k v is = set_here lanes c k v is
@@ -159,14 +159,14 @@ module _ (p : ProgramShape) (h : ℕ) where
     HasTasks m tickets lanes = (done : List Task) × IsServing p h x start done m tickets lanes
 
     -- before its first ticket
-    pub begins : (m : Handler) (tickets : TicketsView) → m ≡ free x → tickets.handler ≡ h → tickets.taken ≡ [] → ((c : ℕ) → IsFresh (lane_at start c))
+    pub begins : (m : Handler) (tickets : TicketsView) → m ≡ free x → tickets.handler ≡ h → tickets.taken ≡ [] → ((c : ℕ) → IsFresh (in_lane_at start c))
         → HasTasks m tickets start
     begins m tickets is handler none fresh = (
       [],
       record {
         lead = sym is;
         queue = tickets_path tickets handler none;
-        ends = λ c. at_lane c (lane_at start c) (fresh c);
+        ends = λ c. at_lane c (in_lane_at start c) (fresh c);
         own = subst (λ m. AllByRecursion (λ t. reserves p t h ≡ true) (serving m)) (sym is) tt;
       },
     )
@@ -191,43 +191,43 @@ module _ (p : ProgramShape) (h : ℕ) where
             lead = tasks_lead done (tasks.takes next ∷ []) (free x) m m' k.1.lead (m', here, refl);
             queue = more ∙ (ap (λ (v : TicketsView). record { handler = v.handler; taken = v.taken ++ next ∷ [] }) k.1.queue
                 ∙ ap (λ xs. record { handler = h; taken = xs }) (sym (taken_more done (tasks.takes next ∷ []))));
-            ends = λ c. unchanged c done (tasks.takes next) (lane_at start c) (lane_at lanes c) refl refl (k.1.ends c);
+            ends = λ c. unchanged c done (tasks.takes next) (in_lane_at start c) (in_lane_at lanes c) refl refl (k.1.ends c);
             own = serving_taken m m' next here (subst (λ h. IsFor p h next) (ap (λ (v : TicketsView). v.handler) k.1.queue) own);
           },
         )
 
     module _ (m n : Handler) (tickets : TicketsView) (lanes : List (Option InView)) (k : HasTasks m tickets lanes) (at : n ≡ gave m)
-        (reached : (t : Ticket) → reserves p t h ≡ true → (t.client < most_clients) × IsSome (lane_at start t.client)) where
+        (reached : (t : Ticket) → reserves p t h ≡ true → (t.client < most_clients) × IsSome (in_lane_at start t.client)) where
       -- it has a lane to the client that it serves
-      reaches : (c : ℕ) → Serves m c → (c < most_clients) × IsSome (lane_at lanes c)
+      reaches : (c : ℕ) → Serves m c → (c < most_clients) × IsSome (in_lane_at lanes c)
       reaches c s =
           let own = (subst (AllByRecursion (λ t. reserves p t h ≡ true)) s.own k.1.own).0 in
           let there = reached s.ticket own in
-          subst (λ c. (c < most_clients) × IsSome (lane_at lanes c)) s.client
-          (there.0, still_there s.ticket.client k.0 (lane_at start s.ticket.client) (lane_at lanes s.ticket.client) (k.1.ends s.ticket.client) there.1)
+          subst (λ c. (c < most_clients) × IsSome (in_lane_at lanes c)) s.client
+          (there.0, still_there s.ticket.client k.0 (in_lane_at start s.ticket.client) (in_lane_at lanes s.ticket.client) (k.1.ends s.ticket.client) there.1)
 
-      pub reaches_sender : (c : ℕ) → act_of m ≡ acts.TakeParcel c → (c < most_clients) × IsSome (lane_at lanes c)
+      pub reaches_sender : (c : ℕ) → act_of m ≡ acts.TakeParcel c → (c < most_clients) × IsSome (in_lane_at lanes c)
       reaches_sender c asks = reaches c (takes_from m c asks)
 
-      pub reaches_asker : (c : ℕ) (y : HeldState) → act_of m ≡ acts.Give c y → (c < most_clients) × IsSome (lane_at lanes c)
+      pub reaches_asker : (c : ℕ) (y : HeldState) → act_of m ≡ acts.Give c y → (c < most_clients) × IsSome (in_lane_at lanes c)
       reaches_asker c y asks = reaches c (gives_to m c y asks)
 
-      pub reaches_spared : (c : ℕ) (b : Batch Request) → act_of m ≡ acts.Spare c b → (c < most_clients) × IsSome (lane_at lanes c)
+      pub reaches_spared : (c : ℕ) (b : Batch Request) → act_of m ≡ acts.Spare c b → (c < most_clients) × IsSome (in_lane_at lanes c)
       reaches_spared c b asks = reaches c (spares_to m c b asks)
 
-      lane_is : (c : ℕ) (lane : InView) → lane_at lanes c ≡ Some lane → Between c k.0 (lane_at start c) lane
-      lane_is c lane is = between c k.0 (lane_at start c) (lane_at lanes c) lane (k.1.ends c) is
+      lane_is : (c : ℕ) (lane : InView) → in_lane_at lanes c ≡ Some lane → Between c k.0 (in_lane_at start c) lane
+      lane_is c lane is = between c k.0 (in_lane_at start c) (in_lane_at lanes c) lane (k.1.ends c) is
 
       -- how it stands to a lane
-      stands : (c : ℕ) (lane : InView) → lane_at lanes c ≡ Some lane → StandsAt lane.size c m lane.received lane.given
+      stands : (c : ℕ) (lane : InView) → in_lane_at lanes c ≡ Some lane → HandlerFitsLane lane.size c m lane.received lane.given
       stands c lane is =
           let b = lane_is c lane is in
           let here = handler_run_laws.lanes b.was.size c x k.0 m k.1.lead b.sizes in
-          subst (λ size. StandsAt size c m lane.received lane.given) (sym b.size)
-          (subst (λ ps. StandsAt b.was.size c m ps lane.given) (sym b.received) (subst (λ xs. StandsAt b.was.size c m (received_from c k.0) xs) (sym b.given) here))
+          subst (λ size. HandlerFitsLane size c m lane.received lane.given) (sym b.size)
+          (subst (λ ps. HandlerFitsLane b.was.size c m ps lane.given) (sym b.received) (subst (λ xs. HandlerFitsLane b.was.size c m (received_from c k.0) xs) (sym b.given) here))
 
       -- what comes may stand at the handler
-      pub may_come : (c : ℕ) (parcel : Parcel) (lane : InView) → act_of m ≡ acts.TakeParcel c → lane_at lanes c ≡ Some lane
+      pub may_come : (c : ℕ) (parcel : Parcel) (lane : InView) → act_of m ≡ acts.TakeParcel c → in_lane_at lanes c ≡ Some lane
           → MayFollow lane.size (is_asked false lane.received) parcel → IsTrue (may_stand (is_away n) parcel)
       may_come c parcel lane asks is follows =
           let same : gave m ≡ m = (parcels_stand m c parcel asks).1 in
@@ -235,7 +235,7 @@ module _ (p : ProgramShape) (h : ℕ) where
           follows.0
 
       pub received_parcel : (m' : Handler) (c : ℕ) (parcel : Parcel) (lane : InView) (lanes' : List (Option InView)) → act_of m ≡ acts.TakeParcel c
-          → lane_at lanes c ≡ Some lane → accept_parcel n parcel ≡ Some m' → MayFollow lane.size (is_asked false lane.received) parcel
+          → in_lane_at lanes c ≡ Some lane → accept_parcel n parcel ≡ Some m' → MayFollow lane.size (is_asked false lane.received) parcel
           → lanes' ≡ slice_set lanes c (Some (record lane { received = lane.received ++ parcel ∷ [] })) → HasTasks m' tickets lanes'
       received_parcel m' c parcel lane lanes' asks is receives follows more =
           let done = k.0 in
@@ -247,25 +247,25 @@ module _ (p : ProgramShape) (h : ℕ) where
             record {
               lead = tasks_lead done (d ∷ []) (free x) m m' k.1.lead (m', asks, here, refl);
               queue = k.1.queue ∙ ap (λ xs. record { handler = h; taken = xs }) (sym (taken_more done (d ∷ []) ∙ append-nil (taken_by done)));
-              ends = λ a. subst (λ ls. HasServed a (done ++ d ∷ []) (lane_at start a) (lane_at ls a)) (sym more) (⊎_elim
-                  (λ (own : c ≡ a). subst (λ a. HasServed a (done ++ d ∷ []) (lane_at start a) (lane_at (slice_set lanes c (Some (record lane { received = lane.received ++ parcel ∷ [] }))) a)) own
+              ends = λ a. subst (λ ls. HasServed a (done ++ d ∷ []) (in_lane_at start a) (in_lane_at ls a)) (sym more) (⊎_elim
+                  (λ (own : c ≡ a). subst (λ a. HasServed a (done ++ d ∷ []) (in_lane_at start a) (in_lane_at (slice_set lanes c (Some (record lane { received = lane.received ++ parcel ∷ [] }))) a)) own
                   (here_now b))
                   (λ (other : (c == a) ≡ false).
-                  subst (HasServed a (done ++ d ∷ []) (lane_at start a)) (sym (get_or-set_other lanes c a (Some (record lane { received = lane.received ++ parcel ∷ [] })) None (λ is. apart_eqb c a other (sym is))))
-                  (unchanged a done d (lane_at start a) (lane_at lanes a) (rw other refl) refl (k.1.ends a)))
+                  subst (HasServed a (done ++ d ∷ []) (in_lane_at start a)) (sym (get_or-set_other lanes c a (Some (record lane { received = lane.received ++ parcel ∷ [] })) None (λ is. apart_eqb c a other (sym is))))
+                  (unchanged a done d (in_lane_at start a) (in_lane_at lanes a) (rw other refl) refl (k.1.ends a)))
                   (num_cases c a));
               own = serving_received (λ t. reserves p t h ≡ true) m m' parcel here k.1.own;
             },
           )
         where
-          here_now : Between c k.0 (lane_at start c) lane
-              → HasServed c (k.0 ++ tasks.receives c parcel ∷ []) (lane_at start c) (lane_at (slice_set lanes c (Some (record lane { received = lane.received ++ parcel ∷ [] }))) c)
+          here_now : Between c k.0 (in_lane_at start c) lane
+              → HasServed c (k.0 ++ tasks.receives c parcel ∷ []) (in_lane_at start c) (in_lane_at (slice_set lanes c (Some (record lane { received = lane.received ++ parcel ∷ [] }))) c)
           here_now b =
               let more_received : received_from c (k.0 ++ tasks.receives c parcel ∷ []) ≡ received_from c k.0 ++ parcel ∷ [] =
               received_more c k.0 (tasks.receives c parcel ∷ []) ∙ ap (λ ps. received_from c k.0 ++ ps) (rw (eqb_self c) refl) in
               let same_given : given_to c (k.0 ++ tasks.receives c parcel ∷ []) ≡ given_to c k.0 =
               given_more c k.0 (tasks.receives c parcel ∷ []) ∙ append-nil (given_to c k.0) in
-              subst (λ o. HasServed c (k.0 ++ tasks.receives c parcel ∷ []) (lane_at start c) o) (sym (set_here lanes c lane (Some (record lane { received = lane.received ++ parcel ∷ [] })) is))
+              subst (λ o. HasServed c (k.0 ++ tasks.receives c parcel ∷ []) (in_lane_at start c) o) (sym (set_here lanes c lane (Some (record lane { received = lane.received ++ parcel ∷ [] })) is))
               (subst (λ o. HasServed c (k.0 ++ tasks.receives c parcel ∷ []) o (Some (record lane { received = lane.received ++ parcel ∷ [] }))) (sym b.before_is) (
                 b.name,
                 b.size,
@@ -277,13 +277,13 @@ module _ (p : ProgramShape) (h : ℕ) where
               ))
 
       -- it gives its object only where that was asked for
-      pub is_asked_for : (c : ℕ) (y : HeldState) (lane : InView) → act_of m ≡ acts.Give c y → lane_at lanes c ≡ Some lane
+      pub is_asked_for : (c : ℕ) (y : HeldState) (lane : InView) → act_of m ≡ acts.Give c y → in_lane_at lanes c ≡ Some lane
           → (is_asked false lane.received ≡ true) × (length lane.given + 1 ≡ syncs lane.received)
       is_asked_for c y lane asks is =
           let g = handler_lane_laws.gives lane.size c m y lane.received lane.given asks (stands c lane is) in
           (g.0, g.1)
 
-      pub gave_object : (c : ℕ) (y : HeldState) (lane : InView) (lanes' : List (Option InView)) → act_of m ≡ acts.Give c y → lane_at lanes c ≡ Some lane
+      pub gave_object : (c : ℕ) (y : HeldState) (lane : InView) (lanes' : List (Option InView)) → act_of m ≡ acts.Give c y → in_lane_at lanes c ≡ Some lane
           → lanes' ≡ slice_set lanes c (Some (record lane { given = lane.given ++ y ∷ [] })) → HasTasks n tickets lanes'
       gave_object c y lane lanes' asks is more =
           let done = k.0 in
@@ -293,25 +293,25 @@ module _ (p : ProgramShape) (h : ℕ) where
             record {
               lead = tasks_lead done (d ∷ []) (free x) m n k.1.lead (asks, sym at);
               queue = k.1.queue ∙ ap (λ xs. record { handler = h; taken = xs }) (sym (taken_more done (d ∷ []) ∙ append-nil (taken_by done)));
-              ends = λ a. subst (λ ls. HasServed a (done ++ d ∷ []) (lane_at start a) (lane_at ls a)) (sym more) (⊎_elim
-                  (λ (own : c ≡ a). subst (λ a. HasServed a (done ++ d ∷ []) (lane_at start a) (lane_at (slice_set lanes c (Some (record lane { given = lane.given ++ y ∷ [] }))) a)) own
+              ends = λ a. subst (λ ls. HasServed a (done ++ d ∷ []) (in_lane_at start a) (in_lane_at ls a)) (sym more) (⊎_elim
+                  (λ (own : c ≡ a). subst (λ a. HasServed a (done ++ d ∷ []) (in_lane_at start a) (in_lane_at (slice_set lanes c (Some (record lane { given = lane.given ++ y ∷ [] }))) a)) own
                   (here_now b))
                   (λ (other : (c == a) ≡ false).
-                  subst (HasServed a (done ++ d ∷ []) (lane_at start a)) (sym (get_or-set_other lanes c a (Some (record lane { given = lane.given ++ y ∷ [] })) None (λ is. apart_eqb c a other (sym is))))
-                  (unchanged a done d (lane_at start a) (lane_at lanes a) refl (rw other refl) (k.1.ends a)))
+                  subst (HasServed a (done ++ d ∷ []) (in_lane_at start a)) (sym (get_or-set_other lanes c a (Some (record lane { given = lane.given ++ y ∷ [] })) None (λ is. apart_eqb c a other (sym is))))
+                  (unchanged a done d (in_lane_at start a) (in_lane_at lanes a) refl (rw other refl) (k.1.ends a)))
                   (num_cases c a));
               own = subst (λ m. AllByRecursion (λ t. reserves p t h ≡ true) (serving m)) (sym at) (serving_gave (λ t. reserves p t h ≡ true) m k.1.own);
             },
           )
         where
-          here_now : Between c k.0 (lane_at start c) lane
-              → HasServed c (k.0 ++ tasks.gives c y ∷ []) (lane_at start c) (lane_at (slice_set lanes c (Some (record lane { given = lane.given ++ y ∷ [] }))) c)
+          here_now : Between c k.0 (in_lane_at start c) lane
+              → HasServed c (k.0 ++ tasks.gives c y ∷ []) (in_lane_at start c) (in_lane_at (slice_set lanes c (Some (record lane { given = lane.given ++ y ∷ [] }))) c)
           here_now b =
               let more_given : given_to c (k.0 ++ tasks.gives c y ∷ []) ≡ given_to c k.0 ++ y ∷ [] =
               given_more c k.0 (tasks.gives c y ∷ []) ∙ ap (λ xs. given_to c k.0 ++ xs) (rw (eqb_self c) refl) in
               let same_received : received_from c (k.0 ++ tasks.gives c y ∷ []) ≡ received_from c k.0 =
               received_more c k.0 (tasks.gives c y ∷ []) ∙ append-nil (received_from c k.0) in
-              subst (λ o. HasServed c (k.0 ++ tasks.gives c y ∷ []) (lane_at start c) o) (sym (set_here lanes c lane (Some (record lane { given = lane.given ++ y ∷ [] })) is))
+              subst (λ o. HasServed c (k.0 ++ tasks.gives c y ∷ []) (in_lane_at start c) o) (sym (set_here lanes c lane (Some (record lane { given = lane.given ++ y ∷ [] })) is))
               (subst (λ o. HasServed c (k.0 ++ tasks.gives c y ∷ []) o (Some (record lane { given = lane.given ++ y ∷ [] }))) (sym b.before_is) (
                 b.name,
                 b.size,
@@ -323,10 +323,10 @@ module _ (p : ProgramShape) (h : ℕ) where
               ))
 
       -- a chunk that it gives back is empty and has the lane's size
-      pub is_empty : (c : ℕ) (chunk : Batch Request) (lane : InView) → act_of m ≡ acts.Spare c chunk → lane_at lanes c ≡ Some lane → chunk ≡ batch [] lane.size
+      pub is_empty : (c : ℕ) (chunk : Batch Request) (lane : InView) → act_of m ≡ acts.Spare c chunk → in_lane_at lanes c ≡ Some lane → chunk ≡ batch [] lane.size
       is_empty c chunk lane asks is = handler_lane_laws.spares lane.size c m chunk lane.received lane.given asks (stands c lane is)
 
-      pub spared_chunk : (c : ℕ) (chunk : Batch Request) (lane : InView) (lanes' : List (Option InView)) → act_of m ≡ acts.Spare c chunk → lane_at lanes c ≡ Some lane
+      pub spared_chunk : (c : ℕ) (chunk : Batch Request) (lane : InView) (lanes' : List (Option InView)) → act_of m ≡ acts.Spare c chunk → in_lane_at lanes c ≡ Some lane
           → (lanes' ≡ slice_set lanes c (Some (record lane { spared = lane.spared + 1 }))) ⊎ (lanes' ≡ lanes) → HasTasks n tickets lanes'
       spared_chunk c chunk lane lanes' asks is more =
           let done = k.0 in
@@ -343,13 +343,13 @@ module _ (p : ProgramShape) (h : ℕ) where
           d : Task
           d = tasks.spares c chunk
 
-          now_here : Between c k.0 (lane_at start c) lane
-              → HasServed c (k.0 ++ d ∷ []) (lane_at start c) (lane_at (slice_set lanes c (Some (record lane { spared = lane.spared + 1 }))) c)
+          now_here : Between c k.0 (in_lane_at start c) lane
+              → HasServed c (k.0 ++ d ∷ []) (in_lane_at start c) (in_lane_at (slice_set lanes c (Some (record lane { spared = lane.spared + 1 }))) c)
           now_here b =
               let same_received : received_from c (k.0 ++ d ∷ []) ≡ received_from c k.0 = received_more c k.0 (d ∷ []) ∙ append-nil (received_from c k.0) in
               let same_given : given_to c (k.0 ++ d ∷ []) ≡ given_to c k.0 = given_more c k.0 (d ∷ []) ∙ append-nil (given_to c k.0) in
               let more_spared : spared_to c (k.0 ++ d ∷ []) ≡ spared_to c k.0 + 1 = spared_more c k.0 (d ∷ []) ∙ ap (λ n. spared_to c k.0 + n) (rw (eqb_self c) refl) in
-              subst (λ o. HasServed c (k.0 ++ d ∷ []) (lane_at start c) o) (sym (set_here lanes c lane (Some (record lane { spared = lane.spared + 1 })) is))
+              subst (λ o. HasServed c (k.0 ++ d ∷ []) (in_lane_at start c) o) (sym (set_here lanes c lane (Some (record lane { spared = lane.spared + 1 })) is))
               (subst (λ o. HasServed c (k.0 ++ d ∷ []) o (Some (record lane { spared = lane.spared + 1 }))) (sym b.before_is) (
                 b.name,
                 b.size,
@@ -360,45 +360,45 @@ module _ (p : ProgramShape) (h : ℕ) where
                 (let few = b.few in omega (arith, more_spared, few)),
               ))
 
-          kept : (a : ℕ) → (lanes' ≡ slice_set lanes c (Some (record lane { spared = lane.spared + 1 }))) ⊎ (lanes' ≡ lanes) → HasServed a (k.0 ++ d ∷ []) (lane_at start a) (lane_at lanes' a)
-          kept a (inr same) = subst (λ ls. HasServed a (k.0 ++ d ∷ []) (lane_at start a) (lane_at ls a)) (sym same) (unchanged a k.0 d (lane_at start a) (lane_at lanes a) refl refl (k.1.ends a))
-          kept a (inl one) = subst (λ ls. HasServed a (k.0 ++ d ∷ []) (lane_at start a) (lane_at ls a)) (sym one) (⊎_elim
-              (λ (own : c ≡ a). subst (λ a. HasServed a (k.0 ++ d ∷ []) (lane_at start a) (lane_at (slice_set lanes c (Some (record lane { spared = lane.spared + 1 }))) a)) own
+          kept : (a : ℕ) → (lanes' ≡ slice_set lanes c (Some (record lane { spared = lane.spared + 1 }))) ⊎ (lanes' ≡ lanes) → HasServed a (k.0 ++ d ∷ []) (in_lane_at start a) (in_lane_at lanes' a)
+          kept a (inr same) = subst (λ ls. HasServed a (k.0 ++ d ∷ []) (in_lane_at start a) (in_lane_at ls a)) (sym same) (unchanged a k.0 d (in_lane_at start a) (in_lane_at lanes a) refl refl (k.1.ends a))
+          kept a (inl one) = subst (λ ls. HasServed a (k.0 ++ d ∷ []) (in_lane_at start a) (in_lane_at ls a)) (sym one) (⊎_elim
+              (λ (own : c ≡ a). subst (λ a. HasServed a (k.0 ++ d ∷ []) (in_lane_at start a) (in_lane_at (slice_set lanes c (Some (record lane { spared = lane.spared + 1 }))) a)) own
               (now_here (lane_is c lane is)))
               (λ (other : (c == a) ≡ false).
-              subst (HasServed a (k.0 ++ d ∷ []) (lane_at start a)) (sym (get_or-set_other lanes c a (Some (record lane { spared = lane.spared + 1 })) None (λ is. apart_eqb c a other (sym is))))
-              (unchanged a k.0 d (lane_at start a) (lane_at lanes a) refl refl (k.1.ends a)))
+              subst (HasServed a (k.0 ++ d ∷ []) (in_lane_at start a)) (sym (get_or-set_other lanes c a (Some (record lane { spared = lane.spared + 1 })) None (λ is. apart_eqb c a other (sym is))))
+              (unchanged a k.0 d (in_lane_at start a) (in_lane_at lanes a) refl refl (k.1.ends a)))
               (num_cases c a))
 
       -- by what the calls on a lane's end say of the lane that is there
       abbrev pub Took : ℕ → Parcel → List (Option InView) → Type 0
       Took c parcel lanes' =
-          (lane : InView) → lane_at lanes c ≡ Some lane
+          (lane : InView) → in_lane_at lanes c ≡ Some lane
           → (lanes' ≡ slice_set lanes c (Some (record lane { received = lane.received ++ parcel ∷ [] }))) × MayFollow lane.size (is_asked false lane.received) parcel
 
       pub parcel_stands : (c : ℕ) (parcel : Parcel) (lanes' : List (Option InView)) → act_of m ≡ acts.TakeParcel c → Took c parcel lanes'
           → IsTrue (may_stand (is_away n) parcel)
       parcel_stands c parcel lanes' asks took =
-          let lane = some_lane (lane_at lanes c) (reaches_sender c asks).1 in
+          let lane = some_lane (in_lane_at lanes c) (reaches_sender c asks).1 in
           may_come c parcel lane.0 asks lane.1 (took lane.0 lane.1).1
 
       pub kept_by_parcel : (m' : Handler) (c : ℕ) (parcel : Parcel) (lanes' : List (Option InView)) → act_of m ≡ acts.TakeParcel c → accept_parcel n parcel ≡ Some m'
           → Took c parcel lanes' → HasTasks m' tickets lanes'
       kept_by_parcel m' c parcel lanes' asks receives took =
-          let lane = some_lane (lane_at lanes c) (reaches_sender c asks).1 in
+          let lane = some_lane (in_lane_at lanes c) (reaches_sender c asks).1 in
           let did = took lane.0 lane.1 in
           received_parcel m' c parcel lane.0 lanes' asks lane.1 receives did.1 did.0
 
       pub kept_by_object : (c : ℕ) (y : HeldState) (lanes' : List (Option InView)) → act_of m ≡ acts.Give c y
-          → ((lane : InView) → lane_at lanes c ≡ Some lane → lanes' ≡ slice_set lanes c (Some (record lane { given = lane.given ++ y ∷ [] }))) → HasTasks n tickets lanes'
+          → ((lane : InView) → in_lane_at lanes c ≡ Some lane → lanes' ≡ slice_set lanes c (Some (record lane { given = lane.given ++ y ∷ [] }))) → HasTasks n tickets lanes'
       kept_by_object c y lanes' asks did =
-          let lane = some_lane (lane_at lanes c) (reaches_asker c y asks).1 in
+          let lane = some_lane (in_lane_at lanes c) (reaches_asker c y asks).1 in
           gave_object c y lane.0 lanes' asks lane.1 (did lane.0 lane.1)
 
       pub kept_by_chunk : (c : ℕ) (chunk : Batch Request) (lanes' : List (Option InView)) → act_of m ≡ acts.Spare c chunk
-          → ((lane : InView) → lane_at lanes c ≡ Some lane → (lanes' ≡ slice_set lanes c (Some (record lane { spared = lane.spared + 1 }))) ⊎ (lanes' ≡ lanes)) → HasTasks n tickets lanes'
+          → ((lane : InView) → in_lane_at lanes c ≡ Some lane → (lanes' ≡ slice_set lanes c (Some (record lane { spared = lane.spared + 1 }))) ⊎ (lanes' ≡ lanes)) → HasTasks n tickets lanes'
       kept_by_chunk c chunk lanes' asks did =
-          let lane = some_lane (lane_at lanes c) (reaches_spared c chunk asks).1 in
+          let lane = some_lane (in_lane_at lanes c) (reaches_spared c chunk asks).1 in
           spared_chunk c chunk lane.0 lanes' asks lane.1 (did lane.0 lane.1)
 
     -- a handler that has ended
@@ -416,8 +416,8 @@ module _ (p : ProgramShape) (h : ℕ) where
 
     -- a handler that has ended has given as many objects as it received Syncs
     pub all_served : (y : HeldState) (tickets : TicketsView) (lanes : List (Option InView)) → HasTasks (closed y) tickets lanes
-        → (c : ℕ) → IsAllServed (lane_at lanes c)
-    all_served y tickets lanes k c = at_lane (lane_at start c) (lane_at lanes c) (k.1.ends c)
+        → (c : ℕ) → IsAllServed (in_lane_at lanes c)
+    all_served y tickets lanes k c = at_lane (in_lane_at start c) (in_lane_at lanes c) (k.1.ends c)
       where
         at_lane : (a b : Option InView) → HasServed c k.0 a b → IsAllServed b
         at_lane None None served = tt

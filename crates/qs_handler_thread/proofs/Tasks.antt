@@ -1,6 +1,6 @@
--- When more tasks are added at the end of a run, it leads to where they lead, and what it took, received and gave is what both
--- parts did, one after the other. The loop of a handler's thread adds one task at a time, and its invariant stands on this. It
--- goes by induction on the tasks of the first part.
+-- When more tasks are added at the end of a run, it leads to where they lead, and what it took, received and gave is
+-- what both parts did, one after the other. The loop of a handler's thread adds one task at a time, and its invariant
+-- stands on this. It goes by induction on the tasks of the first part.
 use Rattle.std.proofs.Common.{◌≡◌, ◌+◌, arith, ℕ, suc, Bool, true, false, if◌then◌else◌, ◌==◌, List, [], ◌∷◌, ◌++◌, refl, sym, ap, subst}
 use Rattle.qs_handler.specs.Handler.{Handler, gave}
 use Rattle.qs_handler.specs.HandlerRuns.{Task, takes, receives, gives, spares, TasksLead, given_to, received_from, taken_by}

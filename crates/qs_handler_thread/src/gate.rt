@@ -24,8 +24,8 @@ impl Gate for FreeGate {
     }
 }
 
-/// A gate beside a log of which nothing is known but that each pass moves it on. What a handler does is proved for every such log, so that
-/// it passes the gate once for each ticket, and in their order.
+/// A gate beside a log of which nothing is known but that each pass moves it on. What a handler does is proved for
+/// every such log, so that it passes the gate once for each ticket, and in their order.
 pub trait Passage<L>: Sync {
     ghost use Rattle.std.specs.Prelude.{ℕ};
     ghost use Rattle.qs_objects.specs.declared.held.Ticket.{Ticket};

@@ -4,7 +4,7 @@ ghost use Rattle.std.specs.Prelude.{◌≡◌, ◌<◌, ℕ, [], ◌∷◌, List
 ghost use Rattle.qs_program.specs.Limits.{most_clients};
 ghost use Rattle.qs_handler.specs.Handler.{closed};
 ghost use Rattle.qs_handler.specs.HandlerRuns.{Task};
-ghost use Rattle.qs_handler_thread.specs.HandlerThreads.{IsAllServed, IsFresh, IsServing, lane_at};
+ghost use Rattle.qs_handler_thread.specs.HandlerThreads.{IsAllServed, IsFresh, IsServing, in_lane_at};
 ghost use Rattle.qs_handler_thread.specs.Passes.{ArePassed};
 ghost use Rattle.qs_meaning.specs.Following.{reserves};
 
@@ -24,8 +24,9 @@ fn announce<L, G: Passage<L>>(gate: &G, log: &mut L, next: Next, object: u8)
     }
 }
 
-/// Serves tickets at their clients' lanes until no further one comes: what the handler was told to do, one thing after another, from its
-/// object as it was. The gate is passed once as each ticket is begun, with the object's number. Waits for tickets and for parcels.
+/// Serves tickets at their clients' lanes until no further one comes: what the handler was told to do, one thing after
+/// another, from its object as it was. The gate is passed once as each ticket is begun, with the object's number. Waits
+/// for tickets and for parcels.
 pub fn serve<D: DeskName, L, G: Passage<L>, R: Wait>(
     rt: &R,
     gate: &G,
@@ -35,11 +36,11 @@ pub fn serve<D: DeskName, L, G: Passage<L>, R: Wait>(
     lanes: Lanes,
 ) -> (Held, Tickets<D>, Lanes)
     requires taken { tickets.taken ≡ [] }
-    requires fresh { (c : ℕ) → IsFresh (lane_at lanes c) }
-    requires reached { (t : Ticket) → reserves D.program t tickets.handler ≡ true → (t.client < most_clients) × IsSome (lane_at lanes t.client) }
+    requires fresh { (c : ℕ) → IsFresh (in_lane_at lanes c) }
+    requires reached { (t : Ticket) → reserves D.program t tickets.handler ≡ true → (t.client < most_clients) × IsSome (in_lane_at lanes t.client) }
     ensures served { (tasks : List Task)
         × IsServing D.program tickets.handler held lanes tasks (closed result.0) result.1 result.2 }
-    ensures given { (c : ℕ) → IsAllServed (lane_at result.2 c) }
+    ensures given { (c : ℕ) → IsAllServed (in_lane_at result.2 c) }
     ensures passed { ArePassed (G.moves gate.now) tickets.handler log.old result.1.taken log.new }
 {
     let object = tickets.handler();

@@ -1,18 +1,14 @@
--- After one more element of an array, the text has the elements up to there; and the elements at all places of a list are the list's texts,
--- joined by commas. Every loop that writes an array stands on it. It goes by induction on the number of elements.
+-- After one more element of an array, the text has the elements up to there; and the elements at all places of a list
+-- are the list's texts, joined by commas. Every loop that writes an array stands on it. It goes by induction on the
+-- number of elements.
 use Rattle.std.proofs.Common.{◌≡◌, ℕ, zero, suc, ◌+◌, ◌≤◌, List, [], ◌∷◌, ◌++◌, codes, length, take, get_or, flat_map, refl, sym, ap, ◌∙◌, append-nil, add-one, arith, false, nat_eq}
 use Rattle.std.proofs.lemmas.Bool.Decides.{nat_tests}
 use Rattle.std.specs.List.{join_by}
 use Rattle.std.proofs.Math.Seq.{take-suc}
 use Rattle.std.proofs.lemmas.List.{flat_map_more, take_all}
-use Rattle.qs_report.specs.Texts.{texts_up_to}
-use Rattle.qs_json.specs.Pieces.{Puts, comma_at, element}
-use Rattle.qs_json.proofs.Parts.{then}
-
--- one text more
-pub one_text_more : (text : ℕ → List ℕ) (n : ℕ) {first before after : List ℕ} → Puts (texts_up_to n text) first before → Puts (text n) before after
-    → Puts (texts_up_to (n + 1) text) first after
-one_text_more text n before last = rw add-one (then before last)
+use Rattle.qs_text.specs.Texts.{texts_up_to, Puts}
+use Rattle.qs_json.specs.Pieces.{comma_at, element}
+use Rattle.qs_text.proofs.Parts.{one_text_more, then}
 
 -- one element more, after its comma
 pub one_element_more : (text : ℕ → List ℕ) (n : ℕ) {first before comma after : List ℕ} → Puts (texts_up_to n (element text)) first before

@@ -1,8 +1,6 @@
-pub mod Parts
 pub mod Elements
 pub mod Nothing
 pub mod Refusals
-pub mod BlocksAdded
 pub mod OneGraphJson
 pub mod OneOutcomesJson
 pub mod WorkedGraphs

@@ -1,23 +1,19 @@
--- A sound program has just one text of its graphs, although the definition lets the held sets be any that fit. The law on these texts,
--- `GraphJsonIsUnique`, is proved here. What is held at a node is fixed by the graph, so each node is, and then it goes by induction on the
--- nodes, the blocks and the clients, as for the text of graphs.
-use Rattle.std.proofs.Common.{◌≡◌, ℕ, ◌<◌, Bool, List, ◌++◌, codes, decimal, length, refl, sym, ap, ap₂, ◌∙◌, arith}
-use Rattle.std.specs.List.{AllByRecursion}
-use Rattle.qs_objects.proofs.Elements.{AllByRecursion-get_or}
-use Rattle.qs_program.specs.Program.{ProgramShape, blocks_of, own_block}
+-- A sound program has just one text of its graphs, although the definition lets the held sets be any that fit. The law
+-- on these texts, `GraphJsonIsUnique`, is proved here. What is held at a node is fixed by the graph, so each node is.
+use Rattle.std.proofs.Common.{◌≡◌, ℕ, ◌<◌, Bool, List, ◌++◌, codes, decimal, length, refl, ap, ap₂}
+use Rattle.qs_program.specs.Program.{ProgramShape, own_block}
 use Rattle.qs_program.specs.Sound.{IsSound}
-use Rattle.qs_meaning.proofs.Each.{each_map}
 use Rattle.qs_graph.specs.declared.node.Node.{Node}
 use Rattle.qs_graph.specs.declared.node.Node.TheVariants.{Entry, Local, Branch, Sync, Query, Call, Exit}
 use Rattle.qs_graph.specs.Names.{graph_of}
-use Rattle.qs_graph.specs.Nodes.{ControlGraph, place_at, exit}
-use Rattle.qs_graph.specs.WellFormed.{IsGraph, IsGraphNode, IsInRange}
-use Rattle.qs_graph.proofs.Ranges.{blocks_have_graphs, sound_own}
-use Rattle.qs_syncset.specs.Flow.{Holding}
-use Rattle.qs_syncset.specs.Table.{AreSetsOf, has}
-use Rattle.qs_report.proofs.UniqueTexts.{same_sets, same_filter, same_texts, one_up_to}
+use Rattle.qs_graph.specs.Nodes.{place_at}
+use Rattle.qs_graph.specs.WellFormed.{IsInRange}
+use Rattle.qs_held_sets.specs.Flow.{Holding}
+use Rattle.qs_held_sets.specs.Table.{AreSetsOf, has}
+use Rattle.qs_text.proofs.BlockTexts.{IsAlike, alike, one_block, one_of_blocks}
+use Rattle.qs_text.proofs.SameTexts.{same_texts}
 use Rattle.qs_json.specs.Pieces.{array, comma_at, element, field, first_field, truth}
-use Rattle.qs_json.specs.GraphJson.{label_json, name_json, node_json, owner_json, word_json, IsBlockJson, IsClientJson, IsGraphJson, GraphJsonIsUnique}
+use Rattle.qs_json.specs.GraphJson.{graph_nodes_json, label_json, name_json, node_json, nodes_json, owner_json, word_json, IsBlockJson, IsGraphJson, GraphJsonIsUnique}
 
 same_label : (p : ProgramShape) (c : ℕ) (f g : Holding) (v : Node) → IsInRange v → ((h : ℕ) → h < 8 → f h ≡ g h) → label_json p c f v ≡ label_json p c g v
 same_label p c f g Entry range same = refl
@@ -29,35 +25,25 @@ same_label p c f g (Query x q) range same = refl
 same_label p c f g (Call q) range same = refl
 same_label p c f g Exit range same = refl
 
-same_node : (p : ProgramShape) (c : ℕ) (reserved : List ℕ) (g : ControlGraph) (one other : List (List Bool)) → AllByRecursion (λ h. h < 8) reserved
-    → IsGraph g.nodes → AreSetsOf g one → AreSetsOf g other → (n : ℕ) → n < length g.nodes
-    → element (node_json p c reserved g.nodes one) n ≡ element (node_json p c reserved g.nodes other) n
-same_node p c reserved g one other below is a b n inside =
-    let same = same_sets g one other a b n inside in
-    let v = (place_at g.nodes n).node in
-    let place : IsGraphNode (length g.nodes) (place_at g.nodes n) =
-    AllByRecursion-get_or (IsGraphNode (length g.nodes)) g.nodes n exit is.places inside in
+same_node : (p : ProgramShape) (c k : ℕ) (one other : List (List Bool)) (n : ℕ) → IsAlike p c k one other n
+    → element (node_json p c (own_block p c k).reserved (graph_of p c k).nodes one) n
+    ≡ element (node_json p c (own_block p c k).reserved (graph_of p c k).nodes other) n
+same_node p c k one other n a =
+    let place = place_at (graph_of p c k).nodes n in
     ap₂ (λ label held. comma_at n ++ ((first_field (codes "node") (decimal n) ++ label
-    ++ field (codes "targets") (array decimal (place_at g.nodes n).edges)) ++ field (codes "held") (array (name_json p c) held) ++ codes "}"))
-    (same_label p c (has one n) (has other n) v place.in_range same)
-    (same_filter (has one n) (has other n) reserved (each_map same reserved below))
+    ++ field (codes "targets") (array decimal place.edges)) ++ field (codes "held") (array (name_json p c) held) ++ codes "}"))
+    (same_label p c (has one n) (has other n) place.node a.in_range a.held) a.names
 
-one_block : (p : ProgramShape) (c k : ℕ) → IsSound p → c < length p.clients → k < blocks_of p c
-    → (one other : List ℕ) → IsBlockJson p c k one → IsBlockJson p c k other → one ≡ other
-one_block p c k sound client block one other a b =
-    let own = own_block p c k in
-    let g = graph_of p c k in
-    let below : AllByRecursion (λ h. h < 8) own.reserved =
-    let text = sound_own p c k sound in
-    each_map (λ h l. omega (arith, l, text.few)) own.reserved text.text.known in
-    let node = same_node p c own.reserved g a.sets b.sets below (blocks_have_graphs p c k sound).own a.held b.held in
-    a.line
-    ∙ ap (λ l. owner_json p c k ++ (field (codes "nodes") (codes "[" ++ l ++ codes "]") ++ codes "}\n"))
-    (same_texts (element (node_json p c own.reserved g.nodes a.sets)) (element (node_json p c own.reserved g.nodes b.sets)) (length g.nodes) node)
-    ∙ sym b.line
+same_nodes : (p : ProgramShape) (c k : ℕ) → IsSound p → (one other : List (List Bool)) → AreSetsOf (graph_of p c k) one → AreSetsOf (graph_of p c k) other
+    → nodes_json p c (own_block p c k).reserved (graph_of p c k).nodes one ≡ nodes_json p c (own_block p c k).reserved (graph_of p c k).nodes other
+same_nodes p c k sound one other a b =
+    let g = (graph_of p c k).nodes in
+    let own = (own_block p c k).reserved in
+    ap (λ l. field (codes "nodes") (codes "[" ++ l ++ codes "]") ++ codes "}\n")
+    (same_texts (element (node_json p c own g one)) (element (node_json p c own g other)) (length g)
+    (λ n inside. same_node p c k one other n (alike p c k sound one other a b n inside)))
 
 pub one_graph_json : GraphJsonIsUnique
 unfolding IsGraphJson
 one_graph_json p one other sound =
-    one_up_to (IsClientJson p) (length p.clients)
-    (λ c client. one_up_to (IsBlockJson p c) (blocks_of p c) (λ k block. one_block p c k sound client block)) one other
+    one_of_blocks p (IsBlockJson p) (λ c k. one_block p c k (owner_json p c k) (graph_nodes_json p c) (same_nodes p c k sound)) one other

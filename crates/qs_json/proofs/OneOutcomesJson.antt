@@ -1,14 +1,15 @@
--- A program has just one text of its outcomes after a front, however they are found. The law on these texts, `OutcomesJsonIsUnique`, is
--- proved here. Two lists of all outcomes are the same, place by place, and have the same count; so their texts are the same.
+-- A program has just one text of its outcomes after a front, however they are found. The law on these texts,
+-- `OutcomesJsonIsUnique`, is proved here. Two lists of all outcomes are the same, place by place, and have the same
+-- count; so their texts are the same.
 use Rattle.std.proofs.Common.{◌≡◌, ◌+◌, ℕ, ◌++◌, codes, decimal, length, get_or, sym, ap, ◌∙◌}
 use Rattle.std.proofs.lemmas.List.Elements.{AllZip-get_or, length_all_zip}
 use Rattle.qs_program.specs.Program.{ProgramShape, client_at, object_at}
-use Rattle.qs_orders.specs.NamedOrders.{order_of}
-use Rattle.qs_outcomes.specs.Standings.{StandingShape}
+use Rattle.qs_serial.specs.NamedOrders.{order_of}
+use Rattle.qs_standings.specs.Standings.{StandingShape}
 use Rattle.qs_report.specs.OutcomesText.{no_standing}
-use Rattle.qs_report.specs.Texts.{texts_up_to}
+use Rattle.qs_text.specs.Texts.{texts_up_to}
 use Rattle.qs_report.proofs.UniqueOutcomes.{IsSame, same_lists}
-use Rattle.qs_report.proofs.UniqueTexts.{same_texts}
+use Rattle.qs_text.proofs.SameTexts.{same_texts}
 use Rattle.qs_json.specs.Pieces.{array_up_to, field, first_field, quoted}
 use Rattle.qs_json.specs.RunJson.{state_json}
 use Rattle.qs_json.specs.OutcomesJson.{head_json, listed_json, outcome_json, outcome_json_at, variables_json, IsOutcomesJson, OutcomesJsonIsUnique}

@@ -1,5 +1,5 @@
--- The pieces in which a refusal is written are its text. The function `fault_json`, which takes no memory and so puts nothing together, stands
--- on it. It is the same text in other brackets.
+-- The pieces in which a refusal is written are its text. The function `fault_json`, which takes no memory and so puts
+-- nothing together, stands on it. It is the same text in other brackets.
 use Rattle.std.proofs.Common.{◌≡◌, ℕ, List, ◌++◌, Option, codes, sym, ap, ap₂, ◌∙◌, append_assoc}
 use Rattle.qs_report.specs.declared.faults.Fault.{Fault}
 use Rattle.qs_report.specs.Faults.{fault_place, fault_words}

@@ -1,5 +1,6 @@
--- The texts of graphs that were worked out by hand for some small programs are those of the definition. The law on these examples,
--- `GraphJsonExamples`, is proved here. What is held at each node was found for the other text of these graphs, and the rest is computed.
+-- The texts of graphs that were worked out by hand for some small programs are those of the definition. The law on
+-- these examples, `GraphJsonExamples`, is proved here. What is held at each node was found for the other text of these
+-- graphs, and the rest is computed.
 use Rattle.std.proofs.Common.{◌≡◌, List, [], ◌∷◌, ◌++◌, ℕ, Bool, refl}
 use Rattle.std.specs.Fmt.{digits}
 use Rattle.qs_program.specs.Program.{BlockShape, ProgramShape}
@@ -7,10 +8,10 @@ use Rattle.qs_program.specs.Statements.{end}
 use Rattle.qs_graph.specs.GraphExamples.{query_in_repeat}
 use Rattle.qs_graph.specs.Graphs.{block_graph}
 use Rattle.qs_graph.specs.Names.{graph_of}
-use Rattle.qs_syncset.specs.Table.{AreSetsOf}
-use Rattle.qs_report.specs.GraphTextExamples.{by_ann, on_a, on_b_and_a}
-use Rattle.qs_report.proofs.CheckedSets.{sets_in}
-use Rattle.qs_report.proofs.WorkedTexts.{ann_twice, in_repeat, in_repeat_sets, neither, neither_sets, either, either_sets}
+use Rattle.qs_held_sets.specs.Table.{AreSetsOf}
+use Rattle.qs_text.specs.Worked.{by_ann, on_a, on_b_and_a}
+use Rattle.qs_text.proofs.CheckedSets.{sets_in}
+use Rattle.qs_text.proofs.WorkedSets.{ann_twice, in_repeat, in_repeat_sets, neither, neither_sets, either, either_sets}
 use Rattle.qs_json.specs.GraphJson.{nodes_json, owner_json, IsBlockJson, IsGraphJson}
 use Rattle.qs_json.specs.GraphJsonExamples.{GraphJsonExamples}
 
@@ -22,7 +23,7 @@ line p k s sets = owner_json p 0 k ++ nodes_json p 0 s.reserved (block_graph s.b
 alone : (s : BlockShape) (sets : List (List Bool)) (text : List ℕ) → AreSetsOf (graph_of (by_ann (s ∷ [])) 0 0) sets
     → text ≡ line (by_ann (s ∷ [])) 0 s sets → IsGraphJson (by_ann (s ∷ [])) text
 unfolding IsGraphJson
-alone s sets text held e = ([], text, refl, ([], text, refl, record { sets = sets; held = held; line = e }, refl), refl)
+alone s sets text held e = ([], text, refl, ([], text, refl, record { sets = sets; held = held; is = e }, refl), refl)
 
 no_block : IsGraphJson (by_ann []) []
 unfolding IsGraphJson
@@ -43,6 +44,6 @@ graph_json_examples = record {
   two_blocks = two (on_a end) on_b_and_a
       (line ann_twice 0 (on_a end) (sets_in neither))
       (line ann_twice 1 on_b_and_a (sets_in either))
-      (record { sets = sets_in neither; held = neither_sets; line = refl })
-      (record { sets = sets_in either; held = either_sets; line = refl });
+      (record { sets = sets_in neither; held = neither_sets; is = refl })
+      (record { sets = sets_in either; held = either_sets; is = refl });
 }

@@ -11,7 +11,8 @@ line_json (Some line) = field (codes "line") (decimal line)
 
 -- the words and the line that stand in the fault's text
 abbrev pub words_json : Fault → List ℕ
-words_json fault = first_field (codes "fault") (quoted (fault_words fault)) ++ line_json (fault_place fault) ++ codes "}"
+words_json fault =
+    first_field (codes "fault") (quoted (fault_words fault)) ++ line_json (fault_place fault) ++ codes "}"
 
 abbrev pub fault_json : Fault → List ℕ
 fault_json fault = first_field (codes "refused") (words_json fault) ++ codes "}\n"

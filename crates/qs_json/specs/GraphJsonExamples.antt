@@ -2,7 +2,7 @@
 use Rattle.std.specs.Prelude.{[], ◌∷◌, codes}
 use Rattle.qs_program.specs.Statements.{end}
 use Rattle.qs_graph.specs.GraphExamples.{query_in_repeat}
-use Rattle.qs_report.specs.GraphTextExamples.{by_ann, on_a, on_b_and_a}
+use Rattle.qs_text.specs.Worked.{by_ann, on_a, on_b_and_a}
 use Rattle.qs_json.specs.GraphJson.{IsGraphJson}
 
 pub record GraphJsonExamples : Type 0 where

@@ -1,8 +1,10 @@
+-- What an auditor reads: the promises and the calls of the surface are said with these.
 pub mod Pieces
 pub mod RunJson
 pub mod FaultJson
-pub mod RunJsonExamples
 pub mod OutcomesJson
-pub mod OutcomesJsonExamples
 pub mod GraphJson
+-- What crates promise one another, what proofs use, and worked examples.
+pub mod RunJsonExamples
+pub mod OutcomesJsonExamples
 pub mod GraphJsonExamples

@@ -5,13 +5,13 @@ use Rattle.qs_objects.specs.declared.held.Ticket.{Ticket}
 use Rattle.qs_program.specs.Numbering.{Name}
 use Rattle.qs_program.specs.Program.{ProgramShape, client_at, object_at}
 use Rattle.qs_program.specs.Values.{Locals}
-use Rattle.qs_orders.specs.NamedOrders.{order_of}
+use Rattle.qs_serial.specs.NamedOrders.{order_of}
 use Rattle.qs_meaning.specs.Serial.{zeros}
-use Rattle.qs_outcomes.specs.Outcomes.{OutcomesShape}
-use Rattle.qs_outcomes.specs.Standings.{StandingShape}
-use Rattle.qs_report.specs.OutcomesText.{AreOutcomesAfter, next_client_text, no_standing}
-use Rattle.qs_report.specs.Report.{no_state}
-use Rattle.qs_report.specs.Texts.{texts_up_to}
+use Rattle.qs_outcomes.specs.Outcomes.{AreOutcomesAfter, OutcomesShape}
+use Rattle.qs_standings.specs.Standings.{StandingShape}
+use Rattle.qs_report.specs.OutcomesText.{next_client_text, no_standing}
+use Rattle.qs_text.specs.Words.{no_state}
+use Rattle.qs_text.specs.Texts.{texts_up_to}
 use Rattle.qs_json.specs.Pieces.{array, array_up_to, field, first_field, quoted}
 use Rattle.qs_json.specs.RunJson.{state_json}
 
@@ -22,7 +22,8 @@ next_client_json t = quoted (next_client_text t)
 -- a variable with its value, by its number
 abbrev pub variable_json : List Name → Locals → ℕ → List ℕ
 variable_json names l x =
-    first_field (codes "variable") (quoted (slice_index_or names x [])) ++ field (codes "value") (signed_decimal (slice_index_or l x (pos 0))) ++ codes "}"
+    first_field (codes "variable") (quoted (slice_index_or names x []))
+    ++ field (codes "value") (signed_decimal (slice_index_or l x (pos 0))) ++ codes "}"
 
 -- the variables of a client, in the order of their first appearance
 abbrev pub variables_json : List Name → Locals → List ℕ
@@ -31,7 +32,8 @@ variables_json names l = field (codes "variables") (array_up_to (length names) (
 -- a client with its variables
 abbrev pub client_json : ProgramShape → StandingShape → ℕ → List ℕ
 client_json p s c =
-    first_field (codes "client") (quoted (client_at p c).name) ++ variables_json (client_at p c).variables (slice_index_or s.locals c zeros) ++ codes "}"
+    first_field (codes "client") (quoted (client_at p c).name)
+    ++ variables_json (client_at p c).variables (slice_index_or s.locals c zeros) ++ codes "}"
 
 -- an object at the end
 abbrev pub object_json : ProgramShape → StandingShape → ℕ → List ℕ
@@ -56,15 +58,18 @@ outcome_json_at p found i = outcome_json p (i + 1) (slice_index_or found i no_st
 abbrev pub listed_json : ProgramShape → OutcomesShape → List ℕ
 listed_json p all =
     texts_up_to (length all.found) (outcome_json_at p all.found)
-    ++ first_field (codes "outcomes") (decimal (length all.found)) ++ field (codes "configurations") (decimal all.configurations) ++ codes "}\n"
+    ++ first_field (codes "outcomes") (decimal (length all.found))
+    ++ field (codes "configurations") (decimal all.configurations) ++ codes "}\n"
 
--- There is a list of all outcomes of the program after the blocks that a list of clients names, in this order and with this count, which is
--- within the limit, whose text this is.
+-- There is a list of all outcomes of the program after the blocks that a list of clients names, in this order and with
+-- this count, which is within the limit, whose text this is.
 unfoldable pub IsOutcomesJson : ProgramShape → (limit : ℕ) → (front : List ℕ) → List ℕ → Type 0
 IsOutcomesJson p limit front text =
-    (all : OutcomesShape) × AreOutcomesAfter p (order_of front) all × (all.configurations ≤ limit) × (text ≡ listed_json p all)
+    (all : OutcomesShape) × AreOutcomesAfter p (order_of front) all × (all.configurations ≤ limit)
+    × (text ≡ listed_json p all)
 
 -- a program has one such text
 abbrev pub OutcomesJsonIsUnique : Type 0
 OutcomesJsonIsUnique =
-    (p : ProgramShape) (limit bound : ℕ) (front one other : List ℕ) → IsOutcomesJson p limit front one → IsOutcomesJson p bound front other → one ≡ other
+    (p : ProgramShape) (limit bound : ℕ) (front one other : List ℕ) → IsOutcomesJson p limit front one
+    → IsOutcomesJson p bound front other → one ≡ other

@@ -1,6 +1,7 @@
 -- Lists of outcomes with their texts, worked out by hand.
 use Rattle.std.specs.Prelude.{◌≡◌, [], ◌∷◌, codes}
-use Rattle.qs_report.specs.OutcomesTextExamples.{ann_first, as_declared, bob_first, list_of, unused, withdrawals}
+use Rattle.qs_report.specs.OutcomesTextExamples.{ann_first, as_declared, bob_first, list_of}
+use Rattle.qs_text.specs.Worked.{unused, withdrawals}
 use Rattle.qs_json.specs.OutcomesJson.{listed_json}
 
 pub record OutcomesJsonExamples : Type 0 where

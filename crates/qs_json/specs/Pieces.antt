@@ -1,10 +1,10 @@
 -- What texts for machines are made of: strings, truths, and arrays.
-use Rattle.std.specs.Prelude.{◌≡◌, ℕ, List, ◌++◌, [], codes, Bool, if◌then◌else◌, nat_eq}
+use Rattle.std.specs.Prelude.{ℕ, List, ◌++◌, [], codes, Bool, if◌then◌else◌, nat_eq}
 use Rattle.std.specs.List.{join_by}
-use Rattle.qs_report.specs.Texts.{texts_up_to}
+use Rattle.qs_text.specs.Texts.{texts_up_to}
 
--- A name as a string. The names of a script are lower-case letters, digits and `_` alone, and so are all other words that stand in strings
--- here, but for spaces; so nothing in a string has to be escaped.
+-- A name as a string. The names of a script are lower-case letters, digits and `_` alone, and so are all other words
+-- that stand in strings here, but for spaces; so nothing in a string has to be escaped.
 abbrev pub quoted : List ℕ → List ℕ
 quoted name = codes "\"" ++ name ++ codes "\""
 
@@ -33,7 +33,3 @@ array_up_to n text = codes "[" ++ texts_up_to n (element text) ++ codes "]"
 -- the texts of a list, as an array
 abbrev pub array : {X : Type 0} → (X → List ℕ) → List X → List ℕ
 array text xs = codes "[" ++ join_by text (codes ",") xs ++ codes "]"
-
--- a text is put at the end
-pub record Puts (text old new : List ℕ) : Type 0 where
-  pub is : new ≡ old ++ text

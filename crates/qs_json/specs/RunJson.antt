@@ -10,7 +10,7 @@ use Rattle.qs_objects.specs.declared.object.Kind.TheVariants as kinds
 use Rattle.qs_program.specs.Program.{ClientShape, ProgramShape, object_at, client_at, whole_load, whole_weight}
 use Rattle.qs_played.specs.Played.{Played}
 use Rattle.qs_sync_counts.specs.declared.sync_counts.SyncCount.{SyncCount}
-use Rattle.qs_report.specs.Report.{first_ticket, no_state}
+use Rattle.qs_text.specs.Words.{first_ticket, no_state}
 use Rattle.qs_objects.specs.Operations.{word}
 use Rattle.qs_json.specs.Pieces.{array, array_up_to, field, first_field, quoted, truth}
 
@@ -29,16 +29,20 @@ event_json p e =
 
 -- how many synchronisations a block has sent for an object
 abbrev pub sync_json : ProgramShape → SyncCount → List ℕ
-sync_json p s = first_field (codes "object") (quoted (object_at p s.object).name) ++ field (codes "count") (decimal s.count) ++ codes "}"
+sync_json p s =
+    first_field (codes "object") (quoted (object_at p s.object).name) ++ field (codes "count") (decimal s.count)
+    ++ codes "}"
 
 -- those of the ticket at a place, one for each object of its block's list, where they are asked for
 abbrev pub syncs_json : (counts : Bool) → ProgramShape → Played → ℕ → List ℕ
-syncs_json counts p run i = if counts then field (codes "sync_counts") (array (sync_json p) (slice_index_or run.sync_counts i [])) else []
+syncs_json counts p run i =
+    if counts then field (codes "sync_counts") (array (sync_json p) (slice_index_or run.sync_counts i [])) else []
 
 -- the first fields of a ticket: whose it is, and whether its block has ended
 abbrev pub block_json : ProgramShape → Ticket → Bool → List ℕ
 block_json p t ended =
-    first_field (codes "client") (quoted (client_at p t.client).name) ++ field (codes "block") (decimal t.index) ++ field (codes "done") (truth ended)
+    first_field (codes "client") (quoted (client_at p t.client).name) ++ field (codes "block") (decimal t.index)
+    ++ field (codes "done") (truth ended)
 
 -- the ticket at a place of the order, with its trace
 abbrev pub ticket_json : (counts : Bool) → ProgramShape → Played → ℕ → List ℕ
@@ -55,10 +59,13 @@ values_json values = field (codes "values") (array signed_decimal values)
 
 -- a kind with its numbers, and the values of an object that has some
 abbrev pub content_json : Kind → List ℤ → List ℕ
-content_json (kinds.Account balance) values = kind_json (codes "account") ++ field (codes "balance") (signed_decimal balance)
-content_json (kinds.Buffer capacity) values = kind_json (codes "buffer") ++ field (codes "capacity") (signed_decimal capacity) ++ values_json values
+content_json (kinds.Account balance) values =
+    kind_json (codes "account") ++ field (codes "balance") (signed_decimal balance)
+content_json (kinds.Buffer capacity) values =
+    kind_json (codes "buffer") ++ field (codes "capacity") (signed_decimal capacity) ++ values_json values
 content_json (kinds.Grid rows columns) values =
-    kind_json (codes "grid") ++ field (codes "rows") (signed_decimal rows) ++ field (codes "columns") (signed_decimal columns) ++ values_json values
+    kind_json (codes "grid") ++ field (codes "rows") (signed_decimal rows)
+    ++ field (codes "columns") (signed_decimal columns) ++ values_json values
 
 -- an object with its name
 abbrev pub state_json : List ℕ → State → List ℕ
@@ -70,8 +77,8 @@ state_json name s =
 abbrev pub object_json : ProgramShape → Played → ℕ → List ℕ
 object_json p run h = state_json (object_at p h).name (slice_index_or run.states h no_state)
 
--- the tickets in their order, each with its trace, and with its counts where they are asked for; the objects' states, the number of syncs,
--- and whether the run is finished
+-- the tickets in their order, each with its trace, and with its counts where they are asked for; the objects' states,
+-- the number of syncs, and whether the run is finished
 abbrev pub run_json : (counts : Bool) → ProgramShape → Played → List ℕ
 run_json counts p run =
     first_field (codes "order") (array_up_to (length run.order) (ticket_json counts p run))

@@ -2,9 +2,9 @@
 use Rattle.std.specs.Prelude.{◌≡◌, codes, true, false}
 use Rattle.qs_script.specs.declared.fault.ReadFault.TheVariants as read
 use Rattle.qs_places.specs.declared.fault.CheckFault.TheVariants as check
-use Rattle.qs_orders.specs.declared.fault.OrderFault.TheVariants as order_fault
+use Rattle.qs_serial.specs.declared.fault.OrderFault.TheVariants as order_fault
 use Rattle.qs_outcomes.specs.declared.fault.OutcomesFault.TheVariants as outcomes
-use Rattle.qs_report.specs.Examples.{after_deposit, before, counted_syncs, deposited_once, deposits, three, two_clients_played}
+use Rattle.qs_text.specs.Worked.{after_deposit, before, counted_syncs, deposited_once, deposits, three, two_clients_played}
 use Rattle.qs_report.specs.declared.faults.Fault.TheVariants.{CommandLine, Read, Check, Order, Outcomes, Memory}
 use Rattle.qs_json.specs.FaultJson.{fault_json}
 use Rattle.qs_json.specs.RunJson.{counts_json, run_json}
@@ -31,7 +31,8 @@ pub record FaultJsonExamples : Type 0 where
   pub command_line : fault_json CommandLine ≡ codes "{\"refused\":{\"fault\":\"command line\"}}\n"
   pub read_byte : fault_json (Read (read.Byte 7)) ≡ codes "{\"refused\":{\"fault\":\"read 2 Byte\",\"line\":7}}\n"
   pub read_size : fault_json (Read read.Size) ≡ codes "{\"refused\":{\"fault\":\"read 1 Size\"}}\n"
-  pub check_unknown_template : fault_json (Check check.UnknownTemplate) ≡ codes "{\"refused\":{\"fault\":\"check 13 UnknownTemplate\"}}\n"
+  pub check_unknown_template : fault_json (Check check.UnknownTemplate)
+      ≡ codes "{\"refused\":{\"fault\":\"check 13 UnknownTemplate\"}}\n"
   pub order : fault_json (Order order_fault.Order) ≡ codes "{\"refused\":{\"fault\":\"play 4 Order\"}}\n"
   pub outcomes_limit : fault_json (Outcomes outcomes.Limit) ≡ codes "{\"refused\":{\"fault\":\"outcomes 2 Limit\"}}\n"
   pub memory : fault_json Memory ≡ codes "{\"refused\":{\"fault\":\"memory\"}}\n"

@@ -3,12 +3,12 @@
 ghost use Rattle.std.specs.Prelude.{◌≡◌, IfOk};
 ghost use Rattle.qs_json.specs.RunJson as definitions;
 
-use crate::pieces::{put_count, put_word};
 use qs_program::Program;
+use qs_text::{put_count, put_word};
 use std::alloc::{AllocError, Global};
 
-/// The counts of a program as one object on one line: objects, clients, blocks, load and weight. An error says that an allocation failed,
-/// and nothing is left.
+/// The counts of a program as one object on one line: objects, clients, blocks, load and weight. An error says that an
+/// allocation failed, and nothing is left.
 pub fn counts_json(alloc: Global, program: &Program) -> Result<Vec<u8>, AllocError>
     ensures text { IfOk result (λ bytes. bytes.items ≡ definitions.counts_json program.now) }
 {

@@ -4,12 +4,14 @@ ghost use Rattle.std.specs.Prelude.{◌≡◌, ◌<◌, ◌++◌, OnOk, codes};
 ghost use Rattle.std.specs.Fmt.{signed_decimal};
 ghost use Rattle.std.specs.List.{join_by};
 ghost use Rattle.qs_objects.specs.Operations.{word};
-ghost use Rattle.qs_json.specs.Pieces.{Puts, array, field, quoted};
+ghost use Rattle.qs_text.specs.Texts.{Puts};
+ghost use Rattle.qs_json.specs.Pieces.{array, field, quoted};
 ghost use Rattle.qs_json.specs.RunJson.{event_json, reply_json};
 
-use crate::pieces::{put_comma, put_integer, put_object_name, put_string, put_word};
+use crate::pieces::{put_comma, put_integer, put_object_name, put_string};
 use qs_objects::{Event, Op};
 use qs_program::Program;
+use qs_text::put_word;
 use std::alloc::AllocError;
 
 // The operation of a request, as a field.

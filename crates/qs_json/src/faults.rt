@@ -1,31 +1,18 @@
 // The objects of refusals.
 
-ghost use Rattle.std.specs.Prelude.{◌≡◌, ◌||◌, flat_map, IsTrue, not};
+ghost use Rattle.std.specs.Prelude.{◌≡◌, ◌||◌, IsTrue, not};
 ghost use Rattle.std.specs.Io.KnownBytes.{Appends};
-ghost use Rattle.qs_report.specs.Texts.{AppendsFront};
+ghost use Rattle.qs_text.specs.Texts.{AppendsFront};
 ghost use Rattle.qs_json.specs.FaultJson as definitions;
 
 use itoa::Buffer;
-use qs_report::{Fault, Watch, place_of, words_of, write_text};
+use qs_report::{Fault, place_of, words_of};
+use qs_text::{Watch, write_texts};
 use std::io::Write;
 
-// Writes texts one after another, up to the first failure.
-fn write_texts<W: Write>(out: &mut W, watch: &mut Watch<W>, texts: &[&[u8]]) -> bool
-    ensures front { AppendsFront (W.contents out.old) (W.contents out.new) (flat_map (λ text. text.now) texts.now) }
-    ensures whole { IsTrue result → Appends (W.contents out.old) (W.contents out.new) (flat_map (λ text. text.now) texts.now) }
-    ensures failed { watch.new.has_failed ≡ (watch.old.has_failed || not result) }
-{
-    for text in texts {
-        if !write_text(out, watch, text) {
-            return false;
-        }
-    }
-    true
-}
-
-/// Writes a refusal as one object on one line: the fault's words, and the line of the script where it has one. False exactly where a
-/// write fails, which `watch` shows; no more is written then, and what was written is a front of the text. Takes no memory, and asks for no
-/// flush.
+/// Writes a refusal as one object on one line: the fault's words, and the line of the script where it has one. False
+/// exactly where a write fails, which `watch` shows; no more is written then, and what was written is a front of the
+/// text. Takes no memory, and asks for no flush.
 pub fn fault_json<W: Write>(fault: &Fault, out: &mut W, watch: &mut Watch<W>) -> bool
     ensures front { AppendsFront (W.contents out.old) (W.contents out.new) (definitions.fault_json fault.now) }
     ensures whole { IsTrue result → Appends (W.contents out.old) (W.contents out.new) (definitions.fault_json fault.now) }

@@ -5,18 +5,18 @@ ghost use Rattle.std.specs.List.{AllByRecursion, filter, join_by};
 ghost use Rattle.qs_program.specs.Limits.{most_handlers};
 ghost use Rattle.qs_program.specs.Program.{blocks_of};
 ghost use Rattle.qs_graph.specs.Nodes.{place_at};
-ghost use Rattle.qs_report.specs.GraphText.{IsAdded};
-ghost use Rattle.qs_report.specs.Texts.{texts_up_to};
-ghost use Rattle.qs_syncset.specs.Table.{has};
-ghost use Rattle.qs_json.specs.Pieces.{Puts, array, element};
-ghost use Rattle.qs_json.specs.GraphJson.{AreNodesJson, IsBlockJson, IsClientJson, IsGraphJson, label_json, name_json, node_json, nodes_json, owner_json, step_json};
+ghost use Rattle.qs_text.specs.Blocks.{AreBlocksOf, AreNodes};
+ghost use Rattle.qs_text.specs.Texts.{IsAdded, texts_up_to, Puts};
+ghost use Rattle.qs_held_sets.specs.Table.{has};
+ghost use Rattle.qs_json.specs.Pieces.{array, element};
+ghost use Rattle.qs_json.specs.GraphJson.{IsBlockJson, IsGraphJson, graph_nodes_json, label_json, name_json, node_json, nodes_json, owner_json, step_json};
 
-use crate::pieces::{put_client_name, put_comma, put_count, put_string, put_truth, put_word};
+use crate::pieces::{put_client_name, put_comma, put_string, put_truth};
 use qs_graph::{Graph, Node, graph};
 use qs_objects::Ticket;
 use qs_program::Program;
-use qs_report::{declared_name, held_at, reserved_by};
 use qs_syncset::{Sets, held_sets};
+use qs_text::{declared_name, held_at, put_count, put_word, reserved_by};
 use std::alloc::{AllocError, Global};
 
 // A word and a name of a client's own text, as a string.
@@ -47,7 +47,7 @@ fn put_label(
     requires sets { length sets.now ≡ length graph.now.nodes }
     ensures ok { OnOk result (Puts (label_json program.now client (has sets.now n) (place_at graph.now.nodes n).node) out.old.items out.new.items) }
 {
-    graph.is_graph();
+    graph.keeps_graph();
     match graph.node(n) {
         Node::Entry => put_word(out, b",\"label\":\"entry\""),
         Node::Local(_) => put_word(out, b",\"label\":\"local\""),
@@ -235,7 +235,7 @@ fn put_graph(
 ) -> Result<(), AllocError>
     requires client { client < length program.now.clients }
     requires handlers { AllByRecursion (λ h. h < most_handlers) reserved.now }
-    ensures ok { OnOk result (IsAdded (AreNodesJson program.now client reserved.now graph.now) out.old.items out.new.items) }
+    ensures ok { OnOk result (IsAdded (AreNodes (graph_nodes_json program.now client) reserved.now graph.now) out.old.items out.new.items) }
 {
     let sets = held_sets(alloc, graph)?;
     let put = put_nodes(alloc, out, program, client, reserved, graph, &sets);
@@ -266,9 +266,9 @@ fn put_blocks(
     client: u8,
 ) -> Result<(), AllocError>
     requires client { client < length program.now.clients }
-    ensures ok { OnOk result (IsAdded (IsClientJson program.now client) out.old.items out.new.items) }
+    ensures ok { OnOk result (IsAdded (AreBlocksOf program.now (IsBlockJson program.now) client) out.old.items out.new.items) }
 {
-    program.is_sound();
+    program.keeps_sound();
     for block in 0..program.blocks_of(client) {
         let ticket = Ticket {
             client,
@@ -279,13 +279,13 @@ fn put_blocks(
     Ok(())
 }
 
-/// A program's control-flow graphs, an object on a line for each block: whose it is, and its nodes as they are built, each with its number,
-/// what it does, the nodes that it leads to, and the names that are held as it is reached. An error says that an allocation failed, and
-/// nothing is left.
+/// A program's control-flow graphs, an object on a line for each block: whose it is, and its nodes as they are built,
+/// each with its number, what it does, the nodes that it leads to, and the names that are held as it is reached. An
+/// error says that an allocation failed, and nothing is left.
 pub fn graph_json(alloc: Global, program: &Program) -> Result<Vec<u8>, AllocError>
     ensures text { IfOk result (λ bytes. IsGraphJson program.now bytes.items) }
 {
-    program.is_sound();
+    program.keeps_sound();
     let mut out = Vec::new(alloc);
     for client in 0..program.clients() {
         put_blocks(alloc, &mut out, program, client as u8)?;

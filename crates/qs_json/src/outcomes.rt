@@ -4,20 +4,18 @@ ghost use Rattle.std.specs.Prelude.{◌≡◌, ◌<◌, [], IfOk, OnOk, codes, l
 ghost use Rattle.std.specs.Fmt.{signed_decimal};
 ghost use Rattle.std.specs.List.{AllByRecursion, join_by};
 ghost use Rattle.qs_outcomes.specs.Outcomes.{HasPlaces};
-ghost use Rattle.qs_report.specs.OutcomesText.{no_standing};
-ghost use Rattle.qs_report.specs.Texts.{texts_up_to};
-ghost use Rattle.qs_json.specs.Pieces.{Puts, element, field, first_field, quoted};
+ghost use Rattle.qs_text.specs.Texts.{texts_up_to, Puts};
+ghost use Rattle.qs_json.specs.Pieces.{element, field, first_field, quoted};
 ghost use Rattle.qs_json.specs.OutcomesJson.{client_json, head_json, listed_json, next_client_json, object_json, outcome_json, outcome_json_at, variable_json, variables_json};
 
-use crate::pieces::{
-    object_name, put_client_name, put_comma, put_count, put_integer, put_string, put_word,
-};
+use crate::pieces::{put_client_name, put_comma, put_integer, put_string};
 use crate::states::put_state;
 use itoa::Buffer;
 use qs_objects::Ticket;
 use qs_outcomes::{AllOutcomes, Standing};
 use qs_program::{Locals, Names, Program};
-use qs_report::{put_all, variable_name};
+use qs_report::outcome_at;
+use qs_text::{object_name, put_all, put_count, put_word, variable_name};
 use std::alloc::{AllocError, Global};
 
 // The client whose block comes next.
@@ -136,7 +134,7 @@ fn put_clients(out: &mut Vec<u8>, program: &Program, standing: &Standing) -> Res
     requires places { HasPlaces program.now standing.now }
     ensures ok { OnOk result (Puts (texts_up_to (length program.now.clients) (element (client_json program.now standing.now))) out.old.items out.new.items) }
 {
-    program.is_sound();
+    program.keeps_sound();
     for client in 0..program.clients() as u8 {
         put_comma(out, usize::from(client))?;
         put_client(out, program, standing, client)?;
@@ -149,7 +147,7 @@ fn put_objects(out: &mut Vec<u8>, program: &Program, standing: &Standing) -> Res
     requires places { HasPlaces program.now standing.now }
     ensures ok { OnOk result (Puts (texts_up_to (length program.now.objects) (element (object_json program.now standing.now))) out.old.items out.new.items) }
 {
-    program.is_sound();
+    program.keeps_sound();
     for object in 0..program.objects() as u8 {
         put_comma(out, usize::from(object))?;
         put_object(out, program, standing, object)?;
@@ -177,14 +175,6 @@ fn put_outcome(
     put_word(out, b"}\n")
 }
 
-// The outcome at a place of a list.
-fn outcome_at(found: &[Standing], place: usize) -> &Standing
-    requires { place < length found.now }
-    ensures standing { result.now ≡ slice_index_or found.now place no_standing }
-{
-    &found[place]
-}
-
 // All outcomes, one after another.
 fn put_found(out: &mut Vec<u8>, program: &Program, found: &[Standing]) -> Result<(), AllocError>
     requires places { AllByRecursion (HasPlaces program.now) found.now }
@@ -196,9 +186,9 @@ fn put_found(out: &mut Vec<u8>, program: &Program, found: &[Standing]) -> Result
     Ok(())
 }
 
-/// All outcomes of a program, an object on a line for each: its number, an order that comes to it, the objects and the clients with their
-/// variables; and a last line with how many outcomes and how many configurations there are. An error says that an allocation failed, and
-/// nothing is left.
+/// All outcomes of a program, an object on a line for each: its number, an order that comes to it, the objects and the
+/// clients with their variables; and a last line with how many outcomes and how many configurations there are. An error
+/// says that an allocation failed, and nothing is left.
 pub fn outcomes_json(
     alloc: Global,
     program: &Program,

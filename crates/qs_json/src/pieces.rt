@@ -1,37 +1,19 @@
 // Pieces of texts for machines, put at the end of bytes.
 
-ghost use Rattle.std.specs.Prelude.{◌≡◌, ◌++◌, OnOk, codes, decimal};
+ghost use Rattle.std.specs.Prelude.{◌≡◌, ◌++◌, OnOk, codes};
 ghost use Rattle.std.specs.Fmt.{signed_decimal};
 ghost use Rattle.qs_program.specs.Program.{client_at, object_at};
-ghost use Rattle.qs_json.specs.Pieces.{Puts, comma_at, first_field, quoted, truth};
+ghost use Rattle.qs_text.specs.Texts.{Puts};
+ghost use Rattle.qs_json.specs.Pieces.{comma_at, first_field, quoted, truth};
 
-use itoa::Buffer;
 use qs_program::Program;
-use qs_report::{client_name, put, put_all, put_number};
+use qs_text::{client_name, object_name, put, put_all, put_number};
 use std::alloc::AllocError;
 
 fn truth_word(is_true: bool) -> &'static [u8]
     ensures word { result.now ≡ truth is_true }
 {
     if is_true { b"true" } else { b"false" }
-}
-
-pub(crate) fn object_name(program: &Program, object: usize) -> &[u8]
-    ensures name { result.now ≡ (object_at program.now object).name }
-{
-    program.is_sound();
-    if object < program.objects() {
-        program.object_name(object as u8).as_slice()
-    } else {
-        b""
-    }
-}
-
-// A word.
-pub(crate) fn put_word(out: &mut Vec<u8>, word: &[u8]) -> Result<(), AllocError>
-    ensures ok { OnOk result (Puts word.now out.old.items out.new.items) }
-{
-    put(out, word)
 }
 
 // A word and a truth.
@@ -80,14 +62,6 @@ pub(crate) fn put_string(out: &mut Vec<u8>, word: &[u8], string: &[u8]) -> Resul
     ensures ok { OnOk result (Puts (word.now ++ quoted string.now) out.old.items out.new.items) }
 {
     put_all(out, &[word, b"\"", string, b"\""])
-}
-
-// A word and a count.
-pub(crate) fn put_count(out: &mut Vec<u8>, word: &[u8], count: u64) -> Result<(), AllocError>
-    ensures ok { OnOk result (Puts (word.now ++ decimal count) out.old.items out.new.items) }
-{
-    let mut buffer = Buffer::new();
-    put_all(out, &[word, buffer.format(count).as_bytes()])
 }
 
 // A word and a number.

@@ -3,20 +3,19 @@
 ghost use Rattle.std.specs.Prelude.{◌≡◌, ◌<◌, [], IfOk, OnOk, codes, false, length, slice_index_or};
 ghost use Rattle.std.specs.List.{join_by};
 ghost use Rattle.qs_sync_counts.specs.SyncRows.{sync_count};
-ghost use Rattle.qs_report.specs.Report.{first_ticket};
-ghost use Rattle.qs_report.specs.Texts.{texts_up_to};
-ghost use Rattle.qs_json.specs.Pieces.{Puts, array, element, field};
+ghost use Rattle.qs_text.specs.Words.{first_ticket};
+ghost use Rattle.qs_text.specs.Texts.{texts_up_to, Puts};
+ghost use Rattle.qs_json.specs.Pieces.{array, element, field};
 ghost use Rattle.qs_json.specs.RunJson as definitions;
 ghost use Rattle.qs_json.specs.RunJson.{block_json, object_json, sync_json, syncs_json, ticket_json};
 
 use crate::events::put_trace;
-use crate::pieces::{
-    object_name, put_client_name, put_comma, put_count, put_object_name, put_truth, put_word,
-};
+use crate::pieces::{put_client_name, put_comma, put_object_name, put_truth};
 use crate::states::put_state;
 use qs_objects::Ticket;
 use qs_played::Played;
 use qs_program::Program;
+use qs_text::{object_name, put_count, put_word};
 use std::alloc::{AllocError, Global};
 
 // How many synchronisations a block has sent for an object.
@@ -179,9 +178,10 @@ fn put_objects(out: &mut Vec<u8>, program: &Program, played: &Played) -> Result<
     Ok(())
 }
 
-/// A run as one object on one line: the tickets in their order, each with its trace, and with `counts` with its synchronisations for each
-/// object of its block's list; the objects' states; the number of syncs; and whether the run is finished. A number past the program's
-/// objects or clients has no name. An error says that an allocation failed, and nothing is left.
+/// A run as one object on one line: the tickets in their order, each with its trace, and with `counts` with its
+/// synchronisations for each object of its block's list; the objects' states; the number of syncs; and whether the run
+/// is finished. A number past the program's objects or clients has no name. An error says that an allocation failed,
+/// and nothing is left.
 pub fn run_json(
     alloc: Global,
     program: &Program,

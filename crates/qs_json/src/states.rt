@@ -4,11 +4,13 @@ ghost use Rattle.std.specs.Prelude.{◌<◌, ◌++◌, OnOk, codes, length, pos,
 ghost use Rattle.std.specs.Fmt.{signed_decimal};
 ghost use Rattle.std.specs.List.{join_by};
 ghost use Rattle.qs_objects.specs.Objects.{kind_of, values_of};
-ghost use Rattle.qs_json.specs.Pieces.{Puts, array};
+ghost use Rattle.qs_text.specs.Texts.{Puts};
+ghost use Rattle.qs_json.specs.Pieces.{array};
 ghost use Rattle.qs_json.specs.RunJson.{content_json, state_json};
 
-use crate::pieces::{put_comma, put_integer, put_string, put_word};
+use crate::pieces::{put_comma, put_integer, put_string};
 use qs_objects::{Kind, Object};
+use qs_text::put_word;
 use std::alloc::AllocError;
 
 // One value of an object.

@@ -1,5 +1,5 @@
--- When a parcel other than a Sync is sent to a lane, the last parcel there is no Sync, whether this one went or came back. The
--- test that sends the end of a block, `send_end`, promises this. It goes by cases on the result of sending.
+-- When a parcel other than a Sync is sent to a lane, the last parcel there is no Sync, whether this one went or came
+-- back. The test that sends the end of a block, `send_end`, promises this. It goes by cases on the result of sending.
 use Rattle.std.proofs.Common.{◌≡◌, false, [], ◌∷◌, ◌++◌, Ok, Err, ap, ◌∙◌}
 use Rattle.std.specs.Prelude.{Result, IfOk, IfErr}
 use Rattle.qs_chunk.specs.Lanes.{is_asked, is_sync}

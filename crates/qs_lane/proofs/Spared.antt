@@ -1,6 +1,6 @@
--- A queue of empty chunks and a queue of parcels keep their form when a value is sent, whether it went or came back to its
--- sender. The functions of `LaneIn` and `LaneOut` that send parcels and chunks stand on it. It goes by induction on the chunks,
--- and by cases on the result of sending.
+-- A queue of empty chunks and a queue of parcels keep their form when a value is sent, whether it went or came back to
+-- its sender. The functions of `LaneIn` and `LaneOut` that send parcels and chunks stand on it. It goes by induction on
+-- the chunks, and by cases on the result of sending.
 use Rattle.std.proofs.Common.{◌≡◌, ℕ, List, [], ◌∷◌, ◌++◌, Ok, Err, sym, ap, subst}
 use Rattle.std.specs.Prelude.{Result, IfOk, IfErr}
 use Rattle.qs_objects.specs.declared.Request.{Request}

@@ -1,5 +1,5 @@
--- The chunks with which a lane begins are all empty and have the lane's size, and this stays so with one more of them. The loop
--- of `fill`, which makes these chunks, stands on it. It goes by induction on how many chunks there are.
+-- The chunks with which a lane begins are all empty and have the lane's size, and this stays so with one more of them.
+-- The loop of `fill`, which makes these chunks, stands on it. It goes by induction on how many chunks there are.
 use Rattle.std.proofs.Common.{◌≡◌, ℕ, zero, suc, List, [], ◌∷◌, ◌++◌, replicate, refl, sym, ap, ◌∙◌, subst}
 use Rattle.qs_objects.specs.declared.Request.{Request}
 use Rattle.qs_chunk.specs.Batch.{Batch, batch}

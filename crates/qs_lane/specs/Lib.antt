@@ -1,2 +1,4 @@
-pub mod Spares
+-- What an auditor reads: the promises and the calls of the surface are said with these.
 pub mod Views
+-- What crates promise one another, what proofs use, and worked examples.
+pub mod Spares

@@ -10,8 +10,8 @@ pub record LaneName : Type 0 where
   pub up : TableId
   pub spare : TableId
 
--- the client's end: the lane's name, the size of its chunks, the parcels that were sent, the objects that were got, and how many empty
--- chunks were taken
+-- the client's end: the lane's name, the size of its chunks, the parcels that were sent, the objects that were got, and
+-- how many empty chunks were taken
 pub record OutView : Type 0 where
   pub name : LaneName
   pub size : ℕ
@@ -19,8 +19,8 @@ pub record OutView : Type 0 where
   pub got : List HeldState
   pub taken : ℕ
 
--- the handler's end: the parcels that were received, the objects that were given, and how many empty chunks were put into the lane, with
--- those that it began with
+-- the handler's end: the parcels that were received, the objects that were given, and how many empty chunks were put
+-- into the lane, with those that it began with
 pub record InView : Type 0 where
   pub name : LaneName
   pub size : ℕ

@@ -165,8 +165,9 @@ pub fn make_events(alloc: Global) -> Result<Arc<Events, Global>, AllocError> {
     Ok(events)
 }
 
-/// The two ends of a lane whose chunks have this size: room for sixteen parcels down and one object up, and four empty chunks. All its
-/// memory is taken here; an error says that it was refused. Both ends have one event count, which no other lane has.
+/// The two ends of a lane whose chunks have this size: room for sixteen parcels down and one object up, and four empty
+/// chunks. All its memory is taken here; an error says that it was refused. Both ends have one event count, which no
+/// other lane has.
 pub fn lane<R: Wait>(
     rt: &R,
     alloc: Global,
@@ -193,8 +194,9 @@ pub fn lane_at<R: Wait>(
 }
 
 impl LaneOut {
-    /// Sends a parcel that may follow what was sent; a chunk in it has the lane's size. The parcel comes back, and nothing changes, only
-    /// where sixteen parcels lie in the lane; so sixteen at least were sent before. It wakes nobody.
+    /// Sends a parcel that may follow what was sent; a chunk in it has the lane's size. The parcel comes back, and
+    /// nothing changes, only where sixteen parcels lie in the lane; so sixteen at least were sent before. It wakes
+    /// nobody.
     pub fn try_send<R: Wait>(&mut self, rt: &R, parcel: Parcel) -> Result<(), Parcel>
         requires follows { MayFollow self.old.size (is_asked false self.old.sent) parcel }
         ensures ok { IfOk result (λ _. self.new ≡ record self.old { sent = self.old.sent ++ parcel ∷ [] }) }
@@ -204,7 +206,8 @@ impl LaneOut {
         self.down.try_send(rt, parcel)
     }
 
-    /// Sends a parcel that may follow what was sent; a chunk in it has the lane's size. Tries until there is room; it wakes nobody.
+    /// Sends a parcel that may follow what was sent; a chunk in it has the lane's size. Tries until there is room; it
+    /// wakes nobody.
     pub fn send<R: Wait>(&mut self, rt: &R, parcel: Parcel)
         requires follows { MayFollow self.old.size (is_asked false self.old.sent) parcel }
         ensures sent { self.new ≡ record self.old { sent = self.old.sent ++ parcel ∷ [] } }
@@ -212,8 +215,9 @@ impl LaneOut {
         self.down.send(rt, parcel);
     }
 
-    /// Sends a parcel as `send` does, to a handler that may sleep. It wakes the handler where it has to wait for room, and after an End
-    /// where somebody waits for the handler. Else a handler that sleeps may sleep on, until somebody waits for it or wakes it.
+    /// Sends a parcel as `send` does, to a handler that may sleep. It wakes the handler where it has to wait for room,
+    /// and after an End where somebody waits for the handler. Else a handler that sleeps may sleep on, until somebody
+    /// waits for it or wakes it.
     pub fn send_and_wake_handler<R: Wait>(&mut self, rt: &R, parcel: Parcel)
         requires follows { MayFollow self.old.size (is_asked false self.old.sent) parcel }
         ensures sent { self.new ≡ record self.old { sent = self.old.sent ++ parcel ∷ [] } }
@@ -260,7 +264,8 @@ impl LaneOut {
         self.spare.take(rt)
     }
 
-    /// Takes an empty chunk of the lane's size. Where none lies in the lane it wakes the handler, and sleeps until there is one.
+    /// Takes an empty chunk of the lane's size. Where none lies in the lane it wakes the handler, and sleeps until
+    /// there is one.
     pub fn empty_or_sleep<R: Wait>(&mut self, rt: &R) -> Chunk<Request>
         ensures taken { self.new ≡ record self.old { taken = self.old.taken + 1 } }
         ensures empty { result ≡ batch [] self.old.size }
@@ -290,7 +295,8 @@ impl LaneOut {
 }
 
 impl LaneIn {
-    /// Takes the next parcel, which may follow what was received. There is none only where the lane was empty, and then nothing changes.
+    /// Takes the next parcel, which may follow what was received. There is none only where the lane was empty, and then
+    /// nothing changes.
     pub fn try_take<R: Wait>(&mut self, rt: &R) -> Option<Parcel>
         ensures none { IfNone result (self.new ≡ self.old) }
         ensures some { IfSome result (λ parcel. self.new ≡ record self.old { received = self.old.received ++ parcel ∷ [] }) }
@@ -307,8 +313,8 @@ impl LaneIn {
         self.down.take(rt)
     }
 
-    /// Takes the next parcel, which may follow what was received. Sleeps until there is one. Before it sleeps, and at an End, it wakes a
-    /// client that sleeps until there is an empty chunk.
+    /// Takes the next parcel, which may follow what was received. Sleeps until there is one. Before it sleeps, and at
+    /// an End, it wakes a client that sleeps until there is an empty chunk.
     pub fn take_or_sleep<R: Wait>(&mut self, rt: &R) -> Parcel
         ensures taken { self.new ≡ record self.old { received = self.old.received ++ result ∷ [] } }
         ensures follows { MayFollow self.old.size (is_asked false self.old.received) result }
@@ -334,8 +340,8 @@ impl LaneIn {
         self.down.take_or_sleep_at(rt, &self.events)
     }
 
-    /// Gives the object to the client, which asked for it by the last parcel and has not got it yet. Tries while an object lies in the
-    /// lane; it wakes nobody.
+    /// Gives the object to the client, which asked for it by the last parcel and has not got it yet. Tries while an
+    /// object lies in the lane; it wakes nobody.
     pub fn give<R: Wait>(&mut self, rt: &R, held: Held)
         requires asked { is_asked false self.old.received ≡ true }
         requires unserved { length self.old.given < syncs self.old.received }
@@ -354,8 +360,8 @@ impl LaneIn {
         self.up.wake();
     }
 
-    /// Gives an empty chunk of the lane's size back: it is put into the lane, or dropped, where four lie there, and nothing changes. It
-    /// wakes nobody: a client that sleeps until there is one is woken by a later `take_or_sleep`.
+    /// Gives an empty chunk of the lane's size back: it is put into the lane, or dropped, where four lie there, and
+    /// nothing changes. It wakes nobody: a client that sleeps until there is one is woken by a later `take_or_sleep`.
     pub fn spare<R: Wait>(&mut self, rt: &R, chunk: Chunk<Request>)
         requires empty { chunk ≡ batch [] self.old.size }
         ensures spared { (self.new ≡ record self.old { spared = self.old.spared + 1 }) ⊎ (self.new ≡ self.old) }
@@ -364,10 +370,10 @@ impl LaneIn {
     }
 }
 
-/// What the two ends of one lane know together: what was received is a front of what was sent, each parcel of which may follow those
-/// before it; what was got is a front of what was given; no more objects are given than were asked for, and where the client sent home
-/// only what it got, one was given for each Sync, but that the last parcel may be a Sync that waits; and the client took no more empty
-/// chunks than were put there.
+/// What the two ends of one lane know together: what was received is a front of what was sent, each parcel of which may
+/// follow those before it; what was got is a front of what was given; no more objects are given than were asked for,
+/// and where the client sent home only what it got, one was given for each Sync, but that the last parcel may be a Sync
+/// that waits; and the client took no more empty chunks than were put there.
 pub fn agree(out: LaneOut, inside: LaneIn)
     requires lane { out.name ≡ inside.name }
     ensures run { IsLaneRun out.size out.sent inside.received inside.given out.got }

@@ -176,8 +176,8 @@ fn take_and_spare<R: Wait>(rt: &R, out: &mut LaneOut, inside: &mut LaneIn) -> us
     room
 }
 
-// What a lane carried: the object's value as it came home; how many Ends of seventeen it had room for, whether one more went once one was
-// taken, and how many were taken then; the object of a request, and the room of three chunks.
+// What a lane carried: the object's value as it came home; how many Ends of seventeen it had room for, whether one more
+// went once one was taken, and how many were taken then; the object of a request, and the room of three chunks.
 #[derive(Clone, Copy)]
 struct Carried {
     value: i64,
@@ -234,8 +234,8 @@ fn carry_through<R: Wait>(rt: &R, alloc: Global, size: ChunkSize) -> Option<Opti
     Some(carried)
 }
 
-// A lane is dropped with what lies in it: a chunk of one request, and three empty chunks. Whether the chunk was sent; none where memory
-// is refused.
+// A lane is dropped with what lies in it: a chunk of one request, and three empty chunks. Whether the chunk was sent;
+// none where memory is refused.
 fn leave_parcels<R: Wait>(rt: &R, alloc: Global, size: ChunkSize) -> Option<bool> {
     let Ok((mut out, inside)) = lane(rt, alloc, size) else {
         return None;
@@ -251,7 +251,8 @@ fn leave_parcels<R: Wait>(rt: &R, alloc: Global, size: ChunkSize) -> Option<bool
     Some(fits)
 }
 
-// Takes the parcel that lies in the lane by one try, and gives its chunk back; whether it was a chunk of one request, at this object.
+// Takes the parcel that lies in the lane by one try, and gives its chunk back; whether it was a chunk of one request,
+// at this object.
 fn take_and_give_back<R: Wait>(rt: &R, inside: &mut LaneIn, object: u8) -> bool
     ensures lane { (inside.new.name ≡ inside.old.name) × (inside.new.size ≡ inside.old.size) }
 {
@@ -274,8 +275,8 @@ fn take_and_give_back<R: Wait>(rt: &R, inside: &mut LaneIn, object: u8) -> bool
     is_own
 }
 
-// A thousand turns of one chunk: nothing lies in the lane, a chunk with one request is sent, it is taken by the first try, and goes back. In
-// how many turns it was so.
+// A thousand turns of one chunk: nothing lies in the lane, a chunk with one request is sent, it is taken by the first
+// try, and goes back. In how many turns it was so.
 fn turn_round<R: Wait>(rt: &R, alloc: Global, out: &mut LaneOut, inside: &mut LaneIn) -> u16
     requires quiet { is_asked false out.old.sent ≡ false }
     ensures names { (out.new.name ≡ out.old.name) × (inside.new.name ≡ inside.old.name) }
@@ -322,7 +323,8 @@ struct ServedIn {
     ghost is_served: { length inside.given ≤ syncs inside.received },
 }
 
-// What a client sends in one turn: an empty chunk, a Sync, the object home, and an End. Whether the object that it got is the account.
+// What a client sends in one turn: an empty chunk, a Sync, the object home, and an End. Whether the object that it got
+// is the account.
 #[tactic(auto, using(qs_chunk::proofs::LaneFronts::asked_last))]
 fn client_turn<R: Wait>(rt: &R, out: &mut LaneOut) -> bool
     requires quiet { is_asked false out.old.sent ≡ false }

@@ -1,9 +1,10 @@
--- The depth of a list of statements is that of its first or of the rest, and a block of a sound program is at most as deep as the language
--- lets it be. The loops over statements stand on the first, and what is counted of a block on the second.
+-- The depth of a list of statements is that of its first or of the rest, and a block of a sound program is at most as
+-- deep as the language lets it be. The loops over statements stand on the first, and what is counted of a block on the
+-- second.
 use Rattle.std.proofs.Common.{◌≡◌, ℕ, zero, suc, ◌+◌, ◌<◌, ◌≤◌, max, List, [], ◌∷◌, length, get_or, drop, arith, add-one}
 use Rattle.std.specs.List.{AllByRecursion}
 use Rattle.std.proofs.Math.Seq.{drop-cons}
-use Rattle.qs_script.specs.Limits.{most_levels}
+use Rattle.qs_tree.specs.Limits.{most_levels}
 use Rattle.qs_program.specs.declared.code.Stmt.{Stmt}
 use Rattle.qs_program.specs.declared.code.Stmt.TheVariants.{Command, Query, Assign, If, Repeat, Leave}
 use Rattle.qs_program.specs.Program.{BlockShape, ClientShape, ProgramShape, block_at, no_block, no_client}

@@ -1,5 +1,5 @@
--- One number more: what is found over the numbers below n + 1 is what is found over those below n, and n after them. The loops over
--- clients and blocks by number stand on it.
+-- One number more: what is found over the numbers below n + 1 is what is found over those below n, and n after them.
+-- The loops over clients and blocks by number stand on it.
 use Rattle.std.proofs.Common.{◌≡◌, ℕ, ◌+◌, add-one, ap, ◌∙◌}
 use Rattle.qs_limits.specs.Greatest.{up_to}
 

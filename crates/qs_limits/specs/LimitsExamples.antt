@@ -2,7 +2,7 @@
 use Rattle.std.specs.Prelude.{◌≡◌, ℕ, false, List, [], ◌∷◌, ◌++◌, None, codes, pos}
 use Rattle.qs_objects.specs.declared.Op.TheVariants.{Deposit, Balance}
 use Rattle.qs_objects.specs.declared.object.Kind.TheVariants.{Account}
-use Rattle.qs_script.specs.declared.tree.Relation.TheVariants.{Less}
+use Rattle.qs_tree.specs.declared.tree.Relation.TheVariants.{Less}
 use Rattle.qs_program.specs.declared.code.Atom.TheVariants.{Variable, Number}
 use Rattle.qs_program.specs.declared.code.Test.{Test}
 use Rattle.qs_program.specs.declared.program.Declared.{Declared}
@@ -45,7 +45,8 @@ below_one = record { left = Variable 0; relation = Less; right = Number (pos 1) 
 abbrev pub two_clients : ProgramShape
 two_clients = of_clients (
     client (codes "ann") [] (block end ∷ block (deposit end) ∷ [])
-    ∷ client (codes "bob") (codes "x" ∷ []) (block (balance (again 3 (choose below_one false (again 7 (deposit (leave end)) end) end end) end)) ∷ [])
+    ∷ client (codes "bob") (codes "x" ∷ []) (block
+    (balance (again 3 (choose below_one false (again 7 (deposit (leave end)) end) end end) end)) ∷ [])
     ∷ [])
 
 abbrev pub used : ℕ → ℕ → ℕ → Use
@@ -60,9 +61,11 @@ pub record LimitsExamples : Type 0 where
   pub nesting : most_of_blocks Nesting two_clients ≡ used 3 1 0
   pub turns : most_of_blocks Turns two_clients ≡ used 7 1 0
   -- of two that use as much, the first is named
-  pub first : most_of_blocks Turns (of_clients (client (codes "ann") [] (block end ∷ block (again 2 end end) ∷ block (again 2 end end) ∷ []) ∷ [])) ≡ used 2 0 1
+  pub first : most_of_blocks Turns (of_clients (client (codes "ann") [] (block end ∷ block (again 2 end end)
+      ∷ block (again 2 end end) ∷ []) ∷ [])) ≡ used 2 0 1
   -- an empty body has nothing that stands inside it
-  pub empty_body : most_of_blocks Nesting (of_clients (client (codes "ann") [] (block (again 2 end end) ∷ []) ∷ [])) ≡ nobody
+  pub empty_body : most_of_blocks Nesting (of_clients (client (codes "ann") [] (block (again 2 end end) ∷ []) ∷ []))
+      ≡ nobody
   pub text : limits_text 130 no_template two_clients
       ≡ codes "limits: 130 of 65536 bytes, 65406 left\n"
       ++ codes "limits: 1 of 8 objects, 7 left\n"

@@ -1,6 +1,6 @@
 -- What a script uses of each limit of the language, and how much is left, as lines of text.
 use Rattle.std.specs.Prelude.{ℕ, ◌-◌, List, ◌++◌, codes, decimal, length, nat_eq, if◌then◌else◌}
-use Rattle.qs_script.specs.Limits.{longest_text, most_levels}
+use Rattle.qs_tree.specs.Limits.{longest_text, most_levels}
 use Rattle.qs_program.specs.Limits.{most_blocks, most_clients, most_formals, most_objects, most_requests, most_steps, most_turns, most_variables}
 use Rattle.qs_program.specs.Program.{ProgramShape, client_at, whole_load, whole_weight}
 use Rattle.qs_places.specs.Places.{most_templates}
@@ -10,10 +10,12 @@ use Rattle.qs_limits.specs.declared.greatest.Use.{Use}
 use Rattle.qs_limits.specs.declared.templates.TemplateUse.{TemplateUse}
 use Rattle.qs_limits.specs.Greatest.{most_of_blocks, most_of_clients}
 
--- how much is used, of how much, and what is left. The lines do not unfold by themselves, so that a proof about all of them sees no bytes.
+-- how much is used, of how much, and what is left. The lines do not unfold by themselves, so that a proof about all of
+-- them sees no bytes.
 unfoldable pub used_text : ℕ → ℕ → List ℕ → List ℕ
 used_text used most what =
-    codes "limits: " ++ decimal used ++ codes " of " ++ decimal most ++ codes " " ++ what ++ codes ", " ++ decimal (most - used) ++ codes " left"
+    codes "limits: " ++ decimal used ++ codes " of " ++ decimal most ++ codes " " ++ what ++ codes ", "
+    ++ decimal (most - used) ++ codes " left"
 
 -- of a limit of the whole script
 unfoldable pub use_line : ℕ → ℕ → List ℕ → List ℕ
@@ -29,7 +31,8 @@ client_line p u most what = used_text u.amount most what ++ end_text u.amount (c
 
 -- of a limit of each block: of the one that uses the most, with its client and its number
 unfoldable pub block_line : ProgramShape → Use → ℕ → List ℕ → List ℕ
-block_line p u most what = used_text u.amount most what ++ end_text u.amount ((client_at p u.client).name ++ codes " " ++ decimal u.block)
+block_line p u most what =
+    used_text u.amount most what ++ end_text u.amount ((client_at p u.client).name ++ codes " " ++ decimal u.block)
 
 abbrev pub item_lines : ℕ → ProgramShape → List ℕ
 item_lines bytes p =

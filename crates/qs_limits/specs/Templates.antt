@@ -1,7 +1,7 @@
 -- What a script uses of the limits on templates.
 use Rattle.std.specs.Prelude.{◌+◌, nat_lt, if◌then◌else◌, List, [], fold, length}
-use Rattle.qs_script.specs.declared.tree.Item.{Item}
-use Rattle.qs_script.specs.declared.tree.Item.TheVariants.{Object, Client, Template, Started}
+use Rattle.qs_tree.specs.declared.tree.Item.{Item}
+use Rattle.qs_tree.specs.declared.tree.Item.TheVariants.{Object, Client, Template, Started}
 use Rattle.qs_limits.specs.declared.templates.TemplateUse.{TemplateUse}
 
 abbrev pub no_template : TemplateUse

@@ -25,8 +25,8 @@ pub enum OfBlock {
     Turns,
 }
 
-/// How much of a limit is used, and by whom: a client, and one of its blocks where the limit is of each block. They are named by their
-/// numbers, and where nothing is used they name nobody.
+/// How much of a limit is used, and by whom: a client, and one of its blocks where the limit is of each block. They are
+/// named by their numbers, and where nothing is used they name nobody.
 #[derive(Clone, Copy, Debug)]
 pub struct Use {
     pub amount: u64,
@@ -64,7 +64,7 @@ fn amount_in_block(program: &Program, what: OfBlock, client: u8, block: u8) -> u
     requires block { block < blocks_of program.now client }
     ensures exact { result ≡ of_block what (block_at program.now client block) }
 {
-    program.is_sound();
+    program.keeps_sound();
     let body = program.block(client, block).body();
     match what {
         OfBlock::Nesting => u64::from(body_levels(body).saturating_sub(1)),
@@ -77,7 +77,7 @@ fn with_client(program: &Program, what: OfBlock, so_far: Use, client: u8) -> Use
     requires client { client < length program.now.clients }
     ensures exact { result ≡ most_in_client what program.now so_far client }
 {
-    program.is_sound();
+    program.keeps_sound();
     let mut most = so_far;
     for block in 0..program.blocks_of(client) as u8 {
         let amount = amount_in_block(program, what, client, block);
@@ -91,12 +91,12 @@ fn with_client(program: &Program, what: OfBlock, so_far: Use, client: u8) -> Use
     most
 }
 
-/// Which client uses the most of a limit of each client, and how much: the first of those that use as much. Nothing and nobody, where
-/// there is no client.
+/// Which client uses the most of a limit of each client, and how much: the first of those that use as much. Nothing and
+/// nobody, where there is no client.
 pub fn most_of_clients(program: &Program, what: OfClient) -> Use
     ensures exact { result ≡ most_of_clients_in what program.now }
 {
-    program.is_sound();
+    program.keeps_sound();
     let mut most = Use {
         amount: 0,
         client: 0,
@@ -108,12 +108,12 @@ pub fn most_of_clients(program: &Program, what: OfClient) -> Use
     most
 }
 
-/// Which block uses the most of a limit of each block, and how much: the first of those that use as much. Nothing and nobody, where there
-/// is no block.
+/// Which block uses the most of a limit of each block, and how much: the first of those that use as much. Nothing and
+/// nobody, where there is no block.
 pub fn most_of_blocks(program: &Program, what: OfBlock) -> Use
     ensures exact { result ≡ most_of_blocks_in what program.now }
 {
-    program.is_sound();
+    program.keeps_sound();
     let mut most = Use {
         amount: 0,
         client: 0,

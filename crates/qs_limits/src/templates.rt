@@ -3,10 +3,10 @@
 ghost use Rattle.std.specs.Prelude.{◌≡◌, ◌<◌, ◌^◌};
 ghost use Rattle.qs_limits.specs.Templates.{template_use as template_use_of, with_item};
 
-use qs_script::{Item, Name};
+use qs_tree::{Item, Name};
 
-/// How many templates there are, and the most formals of one, with its name: the first of those that have as many. Without a template
-/// the name is empty.
+/// How many templates there are, and the most formals of one, with its name: the first of those that have as many.
+/// Without a template the name is empty.
 #[derive(Drop)]
 pub struct TemplateUse {
     pub count: u64,
@@ -37,7 +37,8 @@ fn with_one(used: TemplateUse, item: &Item) -> TemplateUse
     }
 }
 
-/// What the items of a script use of the limits on templates. A template counts whether or not a client is started with it. Takes no memory.
+/// What the items of a script use of the limits on templates. A template counts whether or not a client is started with
+/// it. Takes no memory.
 pub fn template_use(items: &[Item]) -> TemplateUse
     ensures exact { result ≡ template_use_of items.now }
 {

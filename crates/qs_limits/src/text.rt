@@ -11,8 +11,8 @@ use qs_program::{
     MOST_BLOCKS, MOST_CLIENTS, MOST_OBJECTS, MOST_REQUESTS, MOST_STEPS, MOST_TURNS, MOST_VARIABLES,
     Program,
 };
-use qs_script::LONGEST_TEXT;
 use qs_told::{put, put_all};
+use qs_tree::LONGEST_TEXT;
 use std::alloc::{AllocError, Global};
 
 // Templates of a script, and formals of a template.
@@ -190,10 +190,10 @@ fn put_blocks(out: &mut Vec<u8>, program: &Program) -> Result<(), AllocError>
     put_block(out, program, turns, MOST_TURNS, b"turns of a repeat")
 }
 
-/// The text of what a script uses of each limit, and how much is left: a line each for the bytes of its text, objects, clients, templates,
-/// formals of a template, blocks and variables of a client, nesting, turns of a repeat, requests and steps. Where the limit is of each
-/// template, client or block, it is told of the one that uses the most, with its name. An error says that an allocation failed, and nothing
-/// is left.
+/// The text of what a script uses of each limit, and how much is left: a line each for the bytes of its text, objects,
+/// clients, templates, formals of a template, blocks and variables of a client, nesting, turns of a repeat, requests
+/// and steps. Where the limit is of each template, client or block, it is told of the one that uses the most, with its
+/// name. An error says that an allocation failed, and nothing is left.
 pub fn limits_text(
     alloc: Global,
     bytes: usize,

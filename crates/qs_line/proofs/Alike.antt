@@ -1,5 +1,6 @@
--- All kinds of error that clap lists for a line come to the same, help or version or a refusal: each step of its walk lists one kind, but
--- for a stray word, where both are refusals, and for the word `help`, which this command leaves out.
+-- All kinds of error that clap lists for a line come to the same, help or version or a refusal: each step of its walk
+-- lists one kind, but for a stray word, where both are refusals, and for the word `help`, which this command leaves
+-- out.
 use Rattle.std.proofs.Common.{◌≡◌, ℕ, Bool, zero, suc, List, [], ◌∷◌, Option, Some, None, true, false, refl, ap, inl, inr}
 use Rattle.std.specs.Prelude.{⊤, ◌&&◌, ◌||◌, ◌==◌, not, nat_lt, length, drop, find, is_some, encode_utf8, slice_get, codes, if◌then◌else◌}
 use Rattle.std.specs.Str.{bytes_eq, chars}

@@ -1,6 +1,6 @@
--- When clap refuses a line, the fault that is answered is the one that the kind of clap's error stands for, or that memory ran
--- out. The proofs of `matches_of` and `read_line` stand on it. It goes by cases on the kinds of error that clap may give, all of
--- which stand for one and the same answer.
+-- When clap refuses a line, the fault that is answered is the one that the kind of clap's error stands for, or that
+-- memory ran out. The proofs of `matches_of` and `read_line` stand on it. It goes by cases on the kinds of error that
+-- clap may give, all of which stand for one and the same answer.
 use Rattle.std.proofs.Common.{◌≡◌, ◌≢◌, ◌∙◌, [], ◌∷◌, Option, Result, Ok, Err, refl, sym, ap, inl, inr}
 use Rattle.std.specs.Result.{IsErrAnd}
 use Rattle.clap.specs.Kinds.{HasKind, IsAmong, Kinds}

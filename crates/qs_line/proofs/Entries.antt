@@ -1,5 +1,5 @@
--- The command `qs_app` is of the simple form for which clap's contracts say the matches and the kinds of error. The proof of
--- `matches_of` needs this before it can use them. Both facts are found by computing the test on the command.
+-- The command `qs_app` is of the simple form for which clap's contracts say the matches and the kinds of error. The
+-- proof of `matches_of` needs this before it can use them. Both facts are found by computing the test on the command.
 use Rattle.std.proofs.Common.{◌≡◌, true, refl}
 use Rattle.clap.specs.Faults.{is_simple_and_free}
 use Rattle.clap.specs.Words.{is_simple}

@@ -1,3 +1,5 @@
+pub mod PartLists
+pub mod ListNumbers
 pub mod Alike
 pub mod Answering
 pub mod Entries

@@ -1,6 +1,6 @@
--- When the text of a setting is parsed, the number is the one that the settings name, in the range of a chunk's size, of a number of
--- rounds or of a limit, and a text that is refused names none. The proofs of `chunk_of`, `rounds_of` and `limit_of` stand on it. It goes by cases
--- on the result of parsing, whose range is compared with that of the setting.
+-- When the text of a setting is parsed, the number is the one that the settings name, in the range of a chunk's size,
+-- of a number of rounds or of a limit, and a text that is refused names none. The proofs of `chunk_of`, `rounds_of` and
+-- `limit_of` stand on it. It goes by cases on the result of parsing, whose range is compared with that of the setting.
 use Rattle.std.proofs.Common.{◌≡◌, ◌≤◌, ◌^◌, ◌<◌, ℕ, Bool, List, true, false, Option, Some, None, Result, Ok, Err, refl, sym, ap, ◌∙◌, arith, ◌↔◌, IfSome}
 use Rattle.std.specs.Prelude.{if◌then◌else◌, IsSome, unwrap_or}
 use Rattle.std.specs.Result.{result_ok}

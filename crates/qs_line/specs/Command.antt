@@ -18,7 +18,8 @@ chunk_rule = record (defaulted_rule (codes "chunk") (codes "8")) { parser = Some
 
 -- `--limit`, of 1 to 4294967295
 abbrev pub limit_rule : Rule
-limit_rule = record (defaulted_rule (codes "limit") (codes "1000000")) { parser = Some (parser.Signed (pos 1) (pos 4294967295)) }
+limit_rule =
+    record (defaulted_rule (codes "limit") (codes "1000000")) { parser = Some (parser.Signed (pos 1) (pos 4294967295)) }
 
 -- `--NAME`, without a value
 abbrev pub flag_rule : Text → Rule
@@ -38,12 +39,15 @@ graph_app = shared_app (new_app (codes "graph"))
 
 -- `.. [--rounds N] [--pick LIST] [--order LIST]`
 abbrev pub scheduled_app : App → App
-scheduled_app app = with_rule (with_rule (with_rule app (option_rule (codes "rounds"))) (option_rule (codes "pick"))) (option_rule (codes "order"))
+scheduled_app app =
+    with_rule (with_rule (with_rule app (option_rule (codes "rounds"))) (option_rule (codes "pick")))
+    (option_rule (codes "order"))
 
 -- `.. [--rounds N] [--pick LIST] [--order LIST] [--counts] [--steps] [--queues]`
 abbrev pub planned_app : App → App
 planned_app app =
-    with_rule (with_rule (with_rule (scheduled_app app) (flag_rule (codes "counts"))) (flag_rule (codes "steps"))) (flag_rule (codes "queues"))
+    with_rule (with_rule (with_rule (scheduled_app app) (flag_rule (codes "counts"))) (flag_rule (codes "steps")))
+    (flag_rule (codes "queues"))
 
 -- `rules [--rounds N] [--pick LIST] [--order LIST] [--counts] [--steps] [--queues] [--format F] [--warn]`
 abbrev pub rules_app : App
@@ -53,7 +57,8 @@ rules_app = shared_app (planned_app (new_app (codes "rules")))
 abbrev pub machine_app : Text → App
 machine_app word = with_rule (with_rule (new_app word) (defaulted_rule (codes "mode") (codes "both"))) chunk_rule
 
--- `play [--mode M] [--chunk N] [--rounds N] [--pick LIST] [--order LIST] [--counts] [--steps] [--queues] [--format F] [--warn]`
+-- `play [--mode M] [--chunk N] [--rounds N] [--pick LIST] [--order LIST] [--counts] [--steps] [--queues] [--format F]
+-- [--warn]`
 abbrev pub play_app : App
 play_app = shared_app (planned_app (machine_app (codes "play")))
 
@@ -67,7 +72,13 @@ outcomes_app = shared_app (with_rule (with_rule (new_app (codes "outcomes")) lim
 
 -- the program's name and its version, with no word `help`
 abbrev pub named_app : App
-named_app = record (new_app (codes "qs")) { top = record (new_app (codes "qs")).top { disable_help_subcommand = true; has_version = true } }
+named_app =
+    record (new_app (codes "qs")) {
+      top = record (new_app (codes "qs")).top {
+        disable_help_subcommand = true;
+        has_version = true;
+      };
+    }
 
 -- `check [--verbose] [--format F] [--warn]` and `graph [--format F] [--warn]`
 abbrev pub texts_app : App
@@ -75,4 +86,6 @@ texts_app = with_subcommand (with_subcommand named_app check_app.top) graph_app.
 
 -- the whole command
 abbrev pub qs_app : App
-qs_app = with_subcommand (with_subcommand (with_subcommand (with_subcommand texts_app rules_app.top) play_app.top) run_app.top) outcomes_app.top
+qs_app =
+    with_subcommand (with_subcommand (with_subcommand (with_subcommand texts_app rules_app.top) play_app.top)
+    run_app.top) outcomes_app.top

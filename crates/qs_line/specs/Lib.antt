@@ -1,3 +1,9 @@
+-- What an auditor reads: the promises and the calls of the surface are said with these.
+pub mod Limits
+pub mod Parts
+pub mod Named
 pub mod Command
 pub mod Line
+-- What crates promise one another, what proofs use, and worked examples.
+pub mod Numbers
 pub mod LineExamples

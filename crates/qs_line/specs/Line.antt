@@ -12,8 +12,8 @@ use Rattle.clap.specs.declared.error.kind.ErrorKind.{ErrorKind}
 use Rattle.qs_played.specs.Schedule.{most_rounds}
 use Rattle.qs_syncset.specs.declared.mode.Mode.{Mode}
 use Rattle.qs_syncset.specs.declared.mode.Mode.TheVariants.{Plain, Dynamic, Static, Both}
-use Rattle.qs_lists.specs.Parts.{clients_in, list_in}
-use Rattle.qs_lists.specs.declared.parts.Part.{Part}
+use Rattle.qs_line.specs.Parts.{clients_in, list_in}
+use Rattle.qs_line.specs.declared.parts.Part.{Part}
 use Rattle.qs_line.specs.Command.{qs_app}
 use Rattle.qs_line.specs.declared.line.Format.{Format}
 use Rattle.qs_line.specs.declared.line.Format.TheVariants as format
@@ -29,15 +29,16 @@ use Rattle.qs_line.specs.declared.line.Settings.TheVariants as word
 use Rattle.qs_line.specs.declared.plan.Plan.{Plan}
 use Rattle.qs_line.specs.declared.plan.Plan.TheVariants as plan
 
--- who goes when: all actors by a schedule, so many rounds after its picks; or clients in an order, one whole block after another. Picks and
--- orders are lists as they are written: whom they name is the script's.
+-- who goes when: all actors by a schedule, so many rounds after its picks; or clients in an order, one whole block
+-- after another. Picks and orders are lists as they are written: whom they name is the script's.
 pub data PlanShape : Type 0 where
   by_schedule : (rounds : ℕ) → (picks : List Part) → PlanShape
   by_order : (clients : List Part) → PlanShape
 
--- what is asked for: the counts; the graphs; a run by the plain rules; one in the optimised machine, in a mode and by chunks of a size;
--- one on threads; or all outcomes after the blocks of some clients, with so many configurations at most. Each is asked for in a format, and
--- of a run the counts of synchronisations may be asked for as well, and of a schedule a line for each step, and what lies where at its end.
+-- what is asked for: the counts; the graphs; a run by the plain rules; one in the optimised machine, in a mode and by
+-- chunks of a size; one on threads; or all outcomes after the blocks of some clients, with so many configurations at
+-- most. Each is asked for in a format, and of a run the counts of synchronisations may be asked for as well, and of a
+-- schedule a line for each step, and what lies where at its end.
 pub data Request : Type 0 where
   check : Format → Request
   graph : GraphFormat → Request
@@ -201,15 +202,19 @@ rules_at rows = option_and_then (λ style. option_map (rules style) (styled_plan
 
 abbrev pub play_at : List Row → Option Request
 play_at rows =
-    option_and_then (λ style. option_and_then (λ mode. option_and_then (λ chunk. option_map (play style mode chunk) (styled_plan_at style rows))
+    option_and_then (λ style. option_and_then (λ mode. option_and_then
+    (λ chunk. option_map (play style mode chunk) (styled_plan_at style rows))
     (chunk_at rows)) (mode_at rows)) (style_at rows)
 
 abbrev pub run_at : List Row → Option Request
-run_at rows = option_and_then (λ style. option_and_then (λ mode. option_map (run style mode) (chunk_at rows)) (mode_at rows)) (style_at rows)
+run_at rows =
+    option_and_then (λ style. option_and_then (λ mode. option_map (run style mode) (chunk_at rows)) (mode_at rows))
+    (style_at rows)
 
 abbrev pub outcomes_at : List Row → Option Request
 outcomes_at rows =
-    option_and_then (λ how. option_and_then (λ limit. option_map (outcomes how limit) (front_at rows)) (limit_at rows)) (graph_format_at rows)
+    option_and_then (λ how. option_and_then (λ limit. option_map (outcomes how limit) (front_at rows)) (limit_at rows))
+    (graph_format_at rows)
 
 -- what a word asks for, with the entries that clap finds after it
 abbrev pub request_at : Text → List Row → Option Request

@@ -2,10 +2,10 @@
 use Rattle.std.specs.Prelude.{◌≡◌, List, [], ◌∷◌, codes, true, false}
 use Rattle.clap.specs.Words.{Text}
 use Rattle.qs_played.specs.declared.schedule.actor.Actor.TheVariants.{Client, Handler}
-use Rattle.qs_lists.specs.declared.parts.Part.{Part}
-use Rattle.qs_lists.specs.declared.parts.Who.TheVariants.{Name, Number}
-use Rattle.qs_lists.specs.Numbers.{once}
-use Rattle.qs_lists.specs.Parts.{times}
+use Rattle.qs_line.specs.declared.parts.Part.{Part}
+use Rattle.qs_line.specs.declared.parts.Who.TheVariants.{Name, Number}
+use Rattle.qs_line.specs.Numbers.{once}
+use Rattle.qs_line.specs.Parts.{times}
 use Rattle.qs_syncset.specs.declared.mode.Mode.TheVariants.{Plain, Dynamic, Static, Both}
 use Rattle.qs_line.specs.declared.line.Format.TheVariants as format
 use Rattle.qs_line.specs.declared.line.GraphFormat.TheVariants as graph_format
@@ -17,8 +17,8 @@ use Rattle.qs_line.specs.Line.{Line, asks, by_order, by_schedule, check, graph, 
 abbrev pub line : List Text → Line
 line words = line_in (codes "qs" ∷ words)
 
--- a report as text, without the counts and with them, after the lines of its steps, and before those of its queues; and one as JSON and as a
--- picture
+-- a report as text, without the counts and with them, after the lines of its steps, and before those of its queues; and
+-- one as JSON and as a picture
 abbrev pub plain : ReportStyle
 plain = record { counts = false; format = report_format.Text; steps = false; queues = false }
 
@@ -50,11 +50,15 @@ pub record DefaultLines : Type 0 where
   pub outcomes_alone : line (codes "outcomes" ∷ []) ≡ asks (outcomes graph_format.Text 1000000 [])
 
 pub record SetLines : Type 0 where
-  pub mode : line (codes "play" ∷ codes "--mode" ∷ codes "static" ∷ []) ≡ asks (play plain Static 8 (by_schedule 1000000 []))
+  pub mode : line (codes "play" ∷ codes "--mode" ∷ codes "static" ∷ [])
+      ≡ asks (play plain Static 8 (by_schedule 1000000 []))
   pub chunk : line (codes "play" ∷ codes "--chunk=32" ∷ []) ≡ asks (play plain Both 32 (by_schedule 1000000 []))
-  pub most_rounds : line (codes "rules" ∷ codes "--rounds" ∷ codes "4294967295" ∷ []) ≡ asks (rules plain (by_schedule 4294967295 []))
-  pub picks : line (codes "rules" ∷ codes "--pick" ∷ codes "c0,h9,c0" ∷ []) ≡ asks (rules plain (by_schedule 1000000 (once (Client 0) ∷ once (Handler 9) ∷ once (Client 0) ∷ [])))
-  pub all : line (codes "play" ∷ codes "--rounds" ∷ codes "0" ∷ codes "--pick=h1" ∷ codes "--chunk" ∷ codes "1" ∷ codes "--mode=dynamic" ∷ [])
+  pub most_rounds : line (codes "rules" ∷ codes "--rounds" ∷ codes "4294967295" ∷ [])
+      ≡ asks (rules plain (by_schedule 4294967295 []))
+  pub picks : line (codes "rules" ∷ codes "--pick" ∷ codes "c0,h9,c0" ∷ [])
+      ≡ asks (rules plain (by_schedule 1000000 (once (Client 0) ∷ once (Handler 9) ∷ once (Client 0) ∷ [])))
+  pub all : line (codes "play" ∷ codes "--rounds" ∷ codes "0" ∷ codes "--pick=h1" ∷ codes "--chunk" ∷ codes "1"
+      ∷ codes "--mode=dynamic" ∷ [])
       ≡ asks (play plain Dynamic 1 (by_schedule 0 (once (Handler 1) ∷ [])))
   pub runs : line (codes "run" ∷ codes "--chunk" ∷ codes "4" ∷ codes "--mode=static" ∷ []) ≡ asks (run plain Static 4)
 
@@ -71,21 +75,26 @@ pub record LimitLines : Type 0 where
   pub counted : line (codes "outcomes" ∷ codes "--counts" ∷ []) ≡ refused
 
 pub record FrontLines : Type 0 where
-  pub one : line (codes "outcomes" ∷ codes "--after" ∷ codes "c1" ∷ []) ≡ asks (outcomes graph_format.Text 1000000 (once (Client 1) ∷ []))
-  pub more : line (codes "outcomes" ∷ codes "--after=c0,c9,c0" ∷ codes "--limit=7" ∷ []) ≡ asks (outcomes graph_format.Text 7 (once (Client 0) ∷ once (Client 9) ∷ once (Client 0) ∷ []))
+  pub one : line (codes "outcomes" ∷ codes "--after" ∷ codes "c1" ∷ [])
+      ≡ asks (outcomes graph_format.Text 1000000 (once (Client 1) ∷ []))
+  pub more : line (codes "outcomes" ∷ codes "--after=c0,c9,c0" ∷ codes "--limit=7" ∷ [])
+      ≡ asks (outcomes graph_format.Text 7 (once (Client 0) ∷ once (Client 9) ∷ once (Client 0) ∷ []))
   pub a_handler : line (codes "outcomes" ∷ codes "--after" ∷ codes "c0,h0" ∷ []) ≡ refused
   pub nobody : line (codes "outcomes" ∷ codes "--after" ∷ [] ∷ []) ≡ refused
   pub a_bare_name : line (codes "outcomes" ∷ codes "--after" ∷ codes "ann" ∷ []) ≡ refused
   pub two_digits : line (codes "outcomes" ∷ codes "--after" ∷ codes "c10" ∷ []) ≡ refused
-  pub repeated : line (codes "outcomes" ∷ codes "--after=@ann*2,c1" ∷ []) ≡ asks (outcomes graph_format.Text 1000000 (times 2 (Name (codes "ann")) ∷ once (Client 1) ∷ []))
+  pub repeated : line (codes "outcomes" ∷ codes "--after=@ann*2,c1" ∷ [])
+      ≡ asks (outcomes graph_format.Text 1000000 (times 2 (Name (codes "ann")) ∷ once (Client 1) ∷ []))
   pub twice : line (codes "outcomes" ∷ codes "--after=c0" ∷ codes "--after=c0" ∷ []) ≡ refused
   pub of_play : line (codes "play" ∷ codes "--after" ∷ codes "c0" ∷ []) ≡ refused
 
 pub record OrderLines : Type 0 where
-  pub by_rules : line (codes "rules" ∷ codes "--order" ∷ codes "c1" ∷ []) ≡ asks (rules plain (by_order (once (Client 1) ∷ [])))
+  pub by_rules : line (codes "rules" ∷ codes "--order" ∷ codes "c1" ∷ [])
+      ≡ asks (rules plain (by_order (once (Client 1) ∷ [])))
   pub by_play : line (codes "play" ∷ codes "--order=c0,c9,c0" ∷ [])
       ≡ asks (play plain Both 8 (by_order (once (Client 0) ∷ once (Client 9) ∷ once (Client 0) ∷ [])))
-  pub beside_others : line (codes "play" ∷ codes "--counts" ∷ codes "--order=c1" ∷ codes "--chunk=1" ∷ codes "--mode=static" ∷ [])
+  pub beside_others : line (codes "play" ∷ codes "--counts" ∷ codes "--order=c1" ∷ codes "--chunk=1"
+      ∷ codes "--mode=static" ∷ [])
       ≡ asks (play counted Static 1 (by_order (once (Client 1) ∷ [])))
   pub beside_picks : line (codes "rules" ∷ codes "--order=c0" ∷ codes "--pick=c0" ∷ []) ≡ refused
   pub after_picks : line (codes "play" ∷ codes "--pick=c0" ∷ codes "--order=c0" ∷ []) ≡ refused
@@ -95,7 +104,8 @@ pub record OrderLines : Type 0 where
   pub nobody : line (codes "rules" ∷ codes "--order" ∷ [] ∷ []) ≡ refused
   pub a_bare_name : line (codes "play" ∷ codes "--order=bob" ∷ []) ≡ refused
   pub two_digits : line (codes "rules" ∷ codes "--order" ∷ codes "c10" ∷ []) ≡ refused
-  pub called_c1 : line (codes "rules" ∷ codes "--order" ∷ codes "@c1" ∷ []) ≡ asks (rules plain (by_order (named (codes "c1") ∷ [])))
+  pub called_c1 : line (codes "rules" ∷ codes "--order" ∷ codes "@c1" ∷ [])
+      ≡ asks (rules plain (by_order (named (codes "c1") ∷ [])))
   pub repeated : line (codes "rules" ∷ codes "--order=@bob,@ann*2" ∷ [])
       ≡ asks (rules plain (by_order (named (codes "bob") ∷ times 2 (Name (codes "ann")) ∷ [])))
   pub twice : line (codes "play" ∷ codes "--order=c0" ∷ codes "--order=c0" ∷ []) ≡ refused
@@ -112,13 +122,19 @@ pub record FormatLines : Type 0 where
   pub twice : line (codes "graph" ∷ codes "--format=dot" ∷ codes "--format=dot" ∷ []) ≡ refused
   pub json : line (codes "graph" ∷ codes "--format=json" ∷ []) ≡ asks (graph graph_format.Json)
   pub checks : line (codes "check" ∷ codes "--format=json" ∷ codes "--verbose" ∷ []) ≡ asks (check format.Json)
-  pub rules_as_json : line (codes "rules" ∷ codes "--format" ∷ codes "json" ∷ []) ≡ asks (rules as_json (by_schedule 1000000 []))
-  pub plays : line (codes "play" ∷ codes "--counts" ∷ codes "--format=json" ∷ []) ≡ asks (play (record as_json { counts = true }) Both 8 (by_schedule 1000000 []))
+  pub rules_as_json : line (codes "rules" ∷ codes "--format" ∷ codes "json" ∷ [])
+      ≡ asks (rules as_json (by_schedule 1000000 []))
+  pub plays : line (codes "play" ∷ codes "--counts" ∷ codes "--format=json" ∷ [])
+      ≡ asks (play (record as_json { counts = true }) Both 8 (by_schedule 1000000 []))
   pub runs : line (codes "run" ∷ codes "--format=json" ∷ []) ≡ asks (run as_json Both 8)
-  pub lists : line (codes "outcomes" ∷ codes "--format=json" ∷ codes "--limit=7" ∷ []) ≡ asks (outcomes graph_format.Json 7 [])
-  pub play_as_text : line (codes "play" ∷ codes "--format=text" ∷ []) ≡ asks (play plain Both 8 (by_schedule 1000000 []))
-  pub rules_as_picture : line (codes "rules" ∷ codes "--format=svg" ∷ codes "--order=c0" ∷ []) ≡ asks (rules as_picture (by_order (once (Client 0) ∷ [])))
-  pub a_counted_picture : line (codes "play" ∷ codes "--format" ∷ codes "svg" ∷ codes "--counts" ∷ []) ≡ asks (play (record as_picture { counts = true }) Both 8 (by_schedule 1000000 []))
+  pub lists : line (codes "outcomes" ∷ codes "--format=json" ∷ codes "--limit=7" ∷ [])
+      ≡ asks (outcomes graph_format.Json 7 [])
+  pub play_as_text : line (codes "play" ∷ codes "--format=text" ∷ [])
+      ≡ asks (play plain Both 8 (by_schedule 1000000 []))
+  pub rules_as_picture : line (codes "rules" ∷ codes "--format=svg" ∷ codes "--order=c0" ∷ [])
+      ≡ asks (rules as_picture (by_order (once (Client 0) ∷ [])))
+  pub a_counted_picture : line (codes "play" ∷ codes "--format" ∷ codes "svg" ∷ codes "--counts" ∷ [])
+      ≡ asks (play (record as_picture { counts = true }) Both 8 (by_schedule 1000000 []))
   pub run_as_picture : line (codes "run" ∷ codes "--format=svg" ∷ []) ≡ asks (run as_picture Both 8)
   pub picture_of_check : line (codes "check" ∷ codes "--format=svg" ∷ []) ≡ refused
   pub picture_of_outcomes : line (codes "outcomes" ∷ codes "--format=svg" ∷ []) ≡ refused
@@ -126,7 +142,8 @@ pub record FormatLines : Type 0 where
   pub of_rules : line (codes "rules" ∷ codes "--format=dot" ∷ []) ≡ refused
   pub of_play : line (codes "play" ∷ codes "--format=dot" ∷ []) ≡ refused
   pub of_run : line (codes "run" ∷ codes "--format" ∷ codes "xml" ∷ []) ≡ refused
-  pub outcomes_as_drawing : line (codes "outcomes" ∷ codes "--format=dot" ∷ codes "--after=c1" ∷ []) ≡ asks (outcomes graph_format.Dot 1000000 (once (Client 1) ∷ []))
+  pub outcomes_as_drawing : line (codes "outcomes" ∷ codes "--format=dot" ∷ codes "--after=c1" ∷ [])
+      ≡ asks (outcomes graph_format.Dot 1000000 (once (Client 1) ∷ []))
   pub before_word : line (codes "--format=dot" ∷ codes "graph" ∷ []) ≡ refused
 
 -- the steps of a schedule are told before a report as text alone
@@ -134,7 +151,8 @@ pub record StepLines : Type 0 where
   pub by_rules : line (codes "rules" ∷ codes "--steps" ∷ []) ≡ asks (rules stepped (by_schedule 1000000 []))
   pub by_play : line (codes "play" ∷ codes "--rounds=2" ∷ codes "--steps" ∷ codes "--counts" ∷ codes "--mode=none" ∷ [])
       ≡ asks (play (record stepped { counts = true }) Plain 8 (by_schedule 2 []))
-  pub as_text : line (codes "rules" ∷ codes "--format=text" ∷ codes "--steps" ∷ []) ≡ asks (rules stepped (by_schedule 1000000 []))
+  pub as_text : line (codes "rules" ∷ codes "--format=text" ∷ codes "--steps" ∷ [])
+      ≡ asks (rules stepped (by_schedule 1000000 []))
   pub as_json : line (codes "rules" ∷ codes "--format=json" ∷ codes "--steps" ∷ []) ≡ refused
   pub as_picture : line (codes "play" ∷ codes "--steps" ∷ codes "--format=svg" ∷ []) ≡ refused
   pub of_an_order : line (codes "rules" ∷ codes "--steps" ∷ codes "--order=c0" ∷ []) ≡ refused
@@ -147,9 +165,12 @@ pub record StepLines : Type 0 where
 
 -- so are the queues, after it
 pub record QueueLines : Type 0 where
-  pub by_rules : line (codes "rules" ∷ codes "--rounds=3" ∷ codes "--queues" ∷ []) ≡ asks (rules queued (by_schedule 3 []))
-  pub by_play : line (codes "play" ∷ codes "--queues" ∷ codes "--mode=none" ∷ []) ≡ asks (play queued Plain 8 (by_schedule 1000000 []))
-  pub with_steps : line (codes "rules" ∷ codes "--queues" ∷ codes "--steps" ∷ []) ≡ asks (rules (record stepped { queues = true }) (by_schedule 1000000 []))
+  pub by_rules : line (codes "rules" ∷ codes "--rounds=3" ∷ codes "--queues" ∷ [])
+      ≡ asks (rules queued (by_schedule 3 []))
+  pub by_play : line (codes "play" ∷ codes "--queues" ∷ codes "--mode=none" ∷ [])
+      ≡ asks (play queued Plain 8 (by_schedule 1000000 []))
+  pub with_steps : line (codes "rules" ∷ codes "--queues" ∷ codes "--steps" ∷ [])
+      ≡ asks (rules (record stepped { queues = true }) (by_schedule 1000000 []))
   pub as_json : line (codes "rules" ∷ codes "--format=json" ∷ codes "--queues" ∷ []) ≡ refused
   pub as_picture : line (codes "play" ∷ codes "--queues" ∷ codes "--format=svg" ∷ []) ≡ refused
   pub of_an_order : line (codes "play" ∷ codes "--queues" ∷ codes "--order=c0" ∷ []) ≡ refused
@@ -163,9 +184,11 @@ pub record CountedLines : Type 0 where
   pub run_alone : line (codes "run" ∷ codes "--counts" ∷ []) ≡ asks (run counted Both 8)
   pub before_others : line (codes "rules" ∷ codes "--counts" ∷ codes "--pick" ∷ codes "c0" ∷ codes "--rounds=4" ∷ [])
       ≡ asks (rules counted (by_schedule 4 (once (Client 0) ∷ [])))
-  pub between_others : line (codes "play" ∷ codes "--mode=static" ∷ codes "--counts" ∷ codes "--rounds" ∷ codes "4" ∷ [])
+  pub between_others : line (codes "play" ∷ codes "--mode=static" ∷ codes "--counts" ∷ codes "--rounds" ∷ codes "4"
+      ∷ [])
       ≡ asks (play counted Static 8 (by_schedule 4 []))
-  pub after_others : line (codes "run" ∷ codes "--chunk" ∷ codes "4" ∷ codes "--mode=static" ∷ codes "--counts" ∷ []) ≡ asks (run counted Static 4)
+  pub after_others : line (codes "run" ∷ codes "--chunk" ∷ codes "4" ∷ codes "--mode=static" ∷ codes "--counts" ∷ [])
+      ≡ asks (run counted Static 4)
 
 pub record UncountedLines : Type 0 where
   pub twice : line (codes "rules" ∷ codes "--counts" ∷ codes "--counts" ∷ []) ≡ refused
@@ -179,15 +202,19 @@ pub record UncountedLines : Type 0 where
 -- a part is an actor by its number or a name after an `@`, and after a `*` how often
 pub record ListLines : Type 0 where
   pub names : line (codes "rules" ∷ codes "--pick=@ann*3,@a,h0*2" ∷ [])
-      ≡ asks (rules plain (by_schedule 1000000 (times 3 (Name (codes "ann")) ∷ named (codes "a") ∷ times 2 (Number (Handler 0)) ∷ [])))
-  pub called_c10 : line (codes "play" ∷ codes "--pick" ∷ codes "@c10" ∷ []) ≡ asks (play plain Both 8 (by_schedule 1000000 (named (codes "c10") ∷ [])))
-  pub most : line (codes "rules" ∷ codes "--pick=c0*1000000" ∷ []) ≡ asks (rules plain (by_schedule 1000000 (times 1000000 (Number (Client 0)) ∷ [])))
+      ≡ asks (rules plain (by_schedule 1000000 (times 3 (Name (codes "ann")) ∷ named (codes "a")
+      ∷ times 2 (Number (Handler 0)) ∷ [])))
+  pub called_c10 : line (codes "play" ∷ codes "--pick" ∷ codes "@c10" ∷ [])
+      ≡ asks (play plain Both 8 (by_schedule 1000000 (named (codes "c10") ∷ [])))
+  pub most : line (codes "rules" ∷ codes "--pick=c0*1000000" ∷ [])
+      ≡ asks (rules plain (by_schedule 1000000 (times 1000000 (Number (Client 0)) ∷ [])))
   pub one_more : line (codes "rules" ∷ codes "--pick=c0*1000001" ∷ []) ≡ refused
   pub more_in_all : line (codes "rules" ∷ codes "--pick=c0*1000000,h0" ∷ []) ≡ refused
   pub no_times : line (codes "rules" ∷ codes "--pick=c0*0" ∷ []) ≡ refused
   pub no_number : line (codes "rules" ∷ codes "--pick=c0*" ∷ []) ≡ refused
   pub two_numbers : line (codes "rules" ∷ codes "--pick=c0*2*2" ∷ []) ≡ refused
-  pub longest_name : line (codes "rules" ∷ codes "--order=@abcdefghijklmnop" ∷ []) ≡ asks (rules plain (by_order (named (codes "abcdefghijklmnop") ∷ [])))
+  pub longest_name : line (codes "rules" ∷ codes "--order=@abcdefghijklmnop" ∷ [])
+      ≡ asks (rules plain (by_order (named (codes "abcdefghijklmnop") ∷ [])))
   pub handlers_in_an_order : line (codes "rules" ∷ codes "--order=@ann,h0*2" ∷ []) ≡ refused
 
 -- parts that are neither
@@ -208,7 +235,8 @@ pub record NoPartLines : Type 0 where
 pub record WarnedLines : Type 0 where
   pub checks : line (codes "check" ∷ codes "--warn" ∷ []) ≡ asks (check format.Text)
   pub runs : line (codes "run" ∷ codes "--warn" ∷ codes "--counts" ∷ []) ≡ asks (run counted Both 8)
-  pub lists : line (codes "outcomes" ∷ codes "--limit" ∷ codes "7" ∷ codes "--warn" ∷ []) ≡ asks (outcomes graph_format.Text 7 [])
+  pub lists : line (codes "outcomes" ∷ codes "--limit" ∷ codes "7" ∷ codes "--warn" ∷ [])
+      ≡ asks (outcomes graph_format.Text 7 [])
   pub asked : warns_in (codes "qs" ∷ codes "graph" ∷ codes "--warn" ∷ []) ≡ true
   pub unasked : warns_in (codes "qs" ∷ codes "graph" ∷ []) ≡ false
   pub twice : line (codes "check" ∷ codes "--warn" ∷ codes "--warn" ∷ []) ≡ refused

@@ -8,11 +8,12 @@ ghost use Rattle.qs_line.specs.Line.{IsAnswer, IsFault, IsFaultAmong, check_at, 
 
 use crate::command::command;
 use crate::found::text_at;
+use crate::parts::Part;
 use crate::plan::{Plan, given_plan};
+use crate::reading::clients_in;
 use clap::error::ErrorKind;
 use clap::{ArgMatches, Error};
 use qs_chunk::ChunkSize;
-use qs_lists::{Part, clients_in};
 use qs_syncset::Mode;
 use std::alloc::{AllocError, Global};
 
@@ -32,7 +33,8 @@ pub enum GraphFormat {
     Text,
     /// As JSON, for programs.
     Json,
-    /// As a drawing in the DOT language, which graphviz draws: the graphs, or the configurations that lead to the outcomes.
+    /// As a drawing in the DOT language, which graphviz draws: the graphs, or the configurations that lead to the
+    /// outcomes.
     Dot,
 }
 
@@ -70,7 +72,8 @@ pub struct ReportStyle {
     pub format: ReportFormat,
     /// Whether a line for each step stands before it: only where a schedule is played and the report is text.
     pub steps: bool,
-    /// Whether, after the report of a run that has not finished, stands what lies where and who waits: only where steps may be told.
+    /// Whether, after the report of a run that has not finished, stands what lies where and who waits: only where steps
+    /// may be told.
     pub queues: bool,
 }
 
@@ -415,10 +418,11 @@ fn matches_of<'a>(alloc: Global, words: &'a [&'a str]) -> Result<ArgMatches<'a>,
     }
 }
 
-/// The settings of a line, whose first word is the program's name: those that `clap` finds, and its defaults. `Refused` comes exactly where
-/// `clap` refuses the words by an error, where a format, a mode, a number or a list does not read, where an order stands beside picks or a number
-/// of rounds, or where steps or queues are asked for of an order or beside a report that is no text; `Help` and
-/// `Version` come exactly where it answers with help or with the version. `Memory` may come in place of each.
+/// The settings of a line, whose first word is the program's name: those that `clap` finds, and its defaults. `Refused`
+/// comes exactly where `clap` refuses the words by an error, where a format, a mode, a number or a list does not read,
+/// where an order stands beside picks or a number of rounds, or where steps or queues are asked for of an order or
+/// beside a report that is no text; `Help` and `Version` come exactly where it answers with help or with the version.
+/// `Memory` may come in place of each.
 pub fn read_line<'a>(alloc: Global, words: &'a [&'a str]) -> Result<Settings, LineFault>
     ensures line { IsAnswer (line_in (map (λ word. word.now) words.entry.now)) result }
 {
@@ -451,8 +455,8 @@ fn asked_of(matches: &ArgMatches<'_>) -> Asked
     }
 }
 
-/// What a line that `clap` takes asks for beside its result: warnings where `--warn` stands after its word, and the limits that are left
-/// where `--verbose` does. A line that `clap` does not take has the fault of `read_line`.
+/// What a line that `clap` takes asks for beside its result: warnings where `--warn` stands after its word, and the
+/// limits that are left where `--verbose` does. A line that `clap` does not take has the fault of `read_line`.
 pub fn asked_for<'a>(alloc: Global, words: &'a [&'a str]) -> Result<Asked, LineFault>
     ensures warnings { IfOk result (λ asked. asked.warnings ≡ warns_in (map (λ word. word.now) words.entry.now)) }
     ensures limits { IfOk result (λ asked. asked.limits ≡ is_verbose_in (map (λ word. word.now) words.entry.now)) }

@@ -5,8 +5,9 @@ ghost use Rattle.clap.specs.Words.{found_of, rows_of};
 ghost use Rattle.qs_line.specs.Line.{has_schedule, order_at, picks_at, plan_at, plan_of, rounds_at, schedule_at};
 
 use crate::found::text_at;
+use crate::parts::Part;
+use crate::reading::{clients_in, list_in};
 use clap::ArgMatches;
-use qs_lists::{Part, clients_in, list_in};
 use qs_played::MOST_ROUNDS;
 use std::alloc::{AllocError, Global};
 

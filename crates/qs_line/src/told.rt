@@ -4,8 +4,8 @@ use crate::command::command;
 use clap::error::ErrorKind;
 use std::alloc::{AllocError, Global};
 
-/// What `clap` says of a line that it refuses by an error, with its suggestion and the usage; None where it takes the line, or answers
-/// with help or with the version.
+/// What `clap` says of a line that it refuses by an error, with its suggestion and the usage; None where it takes the
+/// line, or answers with help or with the version.
 pub fn refusal<'a>(alloc: Global, words: &'a [&'a str]) -> Result<Option<String>, AllocError> {
     match command(alloc)?.try_get_matches_from(words) {
         Ok(matches) => {

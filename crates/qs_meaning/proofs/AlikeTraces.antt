@@ -1,6 +1,6 @@
--- Blocks of equal text make the same requests and get the same replies, up to a query on an object that started in another state. Two twin trees are
--- run side by side: as long as all replies were equal, objects that started in the same state are in the same state, since both served the same
--- requests.
+-- Blocks of equal text make the same requests and get the same replies, up to a query on an object that started in
+-- another state. Two twin trees are run side by side: as long as all replies were equal, objects that started in the
+-- same state are in the same state, since both served the same requests.
 use Rattle.std.proofs.Common.{◌≡◌, ◌≢◌, ◌<◌, ◌≤◌, ℕ, zero, suc, ℤ, Bool, true, false, true≢false, ◌==◌, if◌then◌else◌, List, [], ◌∷◌, ◌++◌, length, map, get_or}
 use Rattle.std.proofs.Common.{slice_set, Option, Some, None, ◌⊎◌, inl, inr, ⊎_elim, refl, sym, ap, ◌∙◌, subst, arith}
 use Rattle.std.specs.List.{AllByRecursion, IsDistinct}

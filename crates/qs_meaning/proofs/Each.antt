@@ -1,6 +1,6 @@
--- What holds of each element of a list also holds after the list is mapped, joined, cut or filtered, and functions that agree on
--- each element give the same list. Proofs about histories, lanes and machines in many crates stand on these lemmas. Each goes by
--- induction on the list.
+-- What holds of each element of a list also holds after the list is mapped, joined, cut or filtered, and functions that
+-- agree on each element give the same list. Proofs about histories, lanes and machines in many crates stand on these
+-- lemmas. Each goes by induction on the list.
 use Rattle.std.proofs.Common.{◌≡◌, ◌<◌, ℕ, zero, suc, Bool, true, false, if◌then◌else◌, List, [], ◌∷◌, ◌++◌, length, get_or, map, filter, flat_map, refl, ap₂, arith}
 use Rattle.std.specs.List.{AllByRecursion, AllZip}
 

@@ -1,5 +1,6 @@
--- What equal texts are worth: the relations of two comparisons of the same statements hold together, and the interaction trees of blocks of equal
--- text ask for the same, reply by reply. Variables of one name have one number in each client, so an assignment keeps equal values equal.
+-- What equal texts are worth: the relations of two comparisons of the same statements hold together, and the
+-- interaction trees of blocks of equal text ask for the same, reply by reply. Variables of one name have one number in
+-- each client, so an assignment keeps equal values equal.
 use Rattle.std.proofs.Common.{◌≡◌, ◌<◌, ◌≤◌, ℕ, zero, suc, ℤ, pos, Bool, true, false, ◌==◌, if◌then◌else◌, List, [], ◌∷◌, length, map, slice_set, refl, sym}
 use Rattle.std.proofs.Common.{ap₂, ◌∙◌, subst, ⊎_elim, arith}
 use Rattle.std.specs.List.{AllByRecursion, AllZip}
@@ -107,7 +108,8 @@ Twin p q (Call r next) (Call s later) = SameRequest p q r s × Twin p q next lat
 Twin p q (Query r next) (Query s later) = SameRequest p q r s × ((v : ℤ) → Twin p q (next v) (later v))
 Twin p q _ _ = ⊥
 
--- V: variables of one name, each the only one of its client that is matched with the other; n and m: how many values there are
+-- V: variables of one name, each the only one of its client that is matched with the other; n and m: how many values
+-- there are
 module _ (p q : ProgramShape) (V : ℕ → ℕ → Type 0) (n m : ℕ)
     (one : (x y z : ℕ) → V x y → V x z → y ≡ z) (only : (x y z : ℕ) → V x z → V y z → x ≡ y) (bound : (x y : ℕ) → V x y → Below n m x y) where
   abbrev Objects : ℕ → ℕ → Type 0

@@ -1,6 +1,6 @@
--- Three blocks of two example programs meet the premises of the law on blocks of equal text, so that law speaks of real programs.
--- The law on these examples, `AlikeExamples`, is proved here. It shows that both programs are sound and that the objects and
--- variables match, and then computes the traces.
+-- Three blocks of two example programs meet the premises of the law on blocks of equal text, so that law speaks of real
+-- programs. The law on these examples, `AlikeExamples`, is proved here. It shows that both programs are sound and that
+-- the objects and variables match, and then computes the traces.
 use Rattle.std.proofs.Common.{◌≡◌, ◌≢◌, ◌<◌, ◌≤◌, ℕ, true, false, true≢false, ◌==◌, List, [], ◌∷◌, length, codes, slice_index_or, refl, sym, ap, ⊎_elim, subst}
 use Rattle.std.proofs.Common.{arith}
 use Rattle.std.specs.List.{IsDistinct}

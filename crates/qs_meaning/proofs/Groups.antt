@@ -1,6 +1,7 @@
--- Nobody disturbs those who go on. A set that was grown from a client is closed after as many rounds as there are clients, since each round
--- that changes it adds a client; the first of the smallest is one of these sets; and it is there where somebody has a block left. Reduced
--- orders stand on it. It goes by induction on the rounds and on the clients.
+-- Nobody disturbs those who go on. A set that was grown from a client is closed after as many rounds as there are
+-- clients, since each round that changes it adds a client; the first of the smallest is one of these sets; and it is
+-- there where somebody has a block left. Reduced orders stand on it. It goes by induction on the rounds and on the
+-- clients.
 use Rattle.std.proofs.Common.{◌≡◌, ◌<◌, ◌≤◌, ℕ, zero, suc, Bool, true, false, true≢false, if◌then◌else◌, ◌==◌, ◌&&◌, ◌||◌, nat_lt, List, [], ◌∷◌, length, drop, refl, sym, ap, ◌∙◌, subst, arith, ◌⊎◌, inl, inr, ⊎_elim}
 use Rattle.std.proofs.lemmas.Bool.{cases_Bool}
 use Rattle.std.proofs.lemmas.Bool.Decides.{nat_tests}

@@ -1,6 +1,7 @@
--- A journal that goes on along an order of tickets is, ticket by ticket, what each block did, and a ticket has entries only where
--- all before it are through with the object. The isolation of every machine and of the threads stands on it. The main lemma,
--- `told`, goes by induction on the order, with cases on whether the first ticket is through or the object is still busy with it.
+-- A journal that goes on along an order of tickets is, ticket by ticket, what each block did, and a ticket has entries
+-- only where all before it are through with the object. The isolation of every machine and of the threads stands on it.
+-- The main lemma, `told`, goes by induction on the order, with cases on whether the first ticket is through or the
+-- object is still busy with it.
 use Rattle.std.proofs.Common.{◌≡◌, ◌≢◌, ℕ, Bool, true, false, true≢false, List, [], ◌∷◌, ◌++◌, map, flat_map, refl, sym, ap, ap₂, ◌∙◌, subst, ◌⊎◌, inl, inr, append-nil}
 use Rattle.std.proofs.lemmas.List.Elements.{filter-append}
 use Rattle.std.specs.List.{AllByRecursion}
@@ -49,7 +50,8 @@ pub record Piece (s : State) (t : Ticket) (es : List Event) (ws : List Request) 
   pub honest : IsHonest s ran
   pub commands : AllByRecursion NoQuery ws
 
--- An object seen along the order: which tickets reserve it, their parts, which are over, what waits; whether the order isn't through there, and its state.
+-- An object seen along the order: which tickets reserve it, their parts, which are over, what waits; whether the order
+-- isn't through there, and its state.
 pub record ObjectCourse : Type 1 where
   pub may : Ticket → Bool
   pub parts : Ticket → List Event

@@ -1,6 +1,7 @@
--- A legal order leads to the configuration that its serial run describes, and it is complete exactly where it leaves no client a block.
--- The search for all outcomes goes by configurations alone, and this is what ties it to orders. Both go by induction on the order: a legal
--- ticket names its client's next block, so a client's tickets are those from its count of begun blocks up to its count at the end.
+-- A legal order leads to the configuration that its serial run describes, and it is complete exactly where it leaves no
+-- client a block. The search for all outcomes goes by configurations alone, and this is what ties it to orders. Both go
+-- by induction on the order: a legal ticket names its client's next block, so a client's tickets are those from its
+-- count of begun blocks up to its count at the end.
 use Rattle.std.proofs.Common.{◌≡◌, ℕ, suc, ◌<◌, ◌≤◌, arith, Bool, true, false, if◌then◌else◌, ◌==◌, ◌&&◌, List, [], ◌∷◌, ◌++◌, length, filter, refl, sym, ap, ◌∙◌, subst, ⊎_elim}
 use Rattle.qs_objects.specs.Parts.{same}
 use Rattle.qs_objects.specs.declared.held.Ticket.{Ticket}

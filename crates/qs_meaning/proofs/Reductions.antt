@@ -1,6 +1,6 @@
--- Every complete order comes to what a reduced one comes to. The first of its blocks whose client goes on comes before all others as well as
--- where it stands: the blocks before it are of other clients, and share no object with it. So it is moved to the front, one neighbour after
--- another, and what is left is shorter by one.
+-- Every complete order comes to what a reduced one comes to. The first of its blocks whose client goes on comes before
+-- all others as well as where it stands: the blocks before it are of other clients, and share no object with it. So it
+-- is moved to the front, one neighbour after another, and what is left is shorter by one.
 use Rattle.std.proofs.Common.{◌≡◌, ◌<◌, ◌≤◌, ℕ, zero, suc, Bool, true, false, true≢false, ◌==◌, List, [], ◌∷◌, length, get_or, drop, refl, sym, ap, ◌∙◌, subst, arith, ◌⊎◌, inl, inr, ⊎_elim}
 use Rattle.std.specs.List.{list_any}
 use Rattle.qs_objects.specs.declared.held.Ticket.{Ticket}

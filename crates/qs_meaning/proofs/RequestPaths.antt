@@ -1,6 +1,6 @@
--- Whatever the replies are, a block makes at most as many requests on an object as its load says. The proofs that traces, queues
--- and journals have enough room stand on it, since their rooms are made from the loads. It goes by induction on the statements,
--- and for a repeat by induction on its turns.
+-- Whatever the replies are, a block makes at most as many requests on an object as its load says. The proofs that
+-- traces, queues and journals have enough room stand on it, since their rooms are made from the loads. It goes by
+-- induction on the statements, and for a repeat by induction on its turns.
 use Rattle.std.proofs.Common.{ℕ, zero, suc, ◌+◌, ◌*◌, ◌-◌, ◌≤◌, max, Bool, true, false, if◌then◌else◌, slice_set, arith}
 use Rattle.qs_program.specs.Statements.{Statements, end, command, query, assign, choose, again, leave}
 use Rattle.qs_program.specs.Values.{Locals, expr_value, test_value, request_of}

@@ -1,6 +1,7 @@
--- Where the pages of blocks and the journals of objects go on along a legal order, they agree with the serial run of that order.
--- The isolation of every machine and of the threads stands on `runs_serially`. It goes by induction on the order; the invariant
--- is that each client has the variables, and each object the state, that the blocks before left to them.
+-- Where the pages of blocks and the journals of objects go on along a legal order, they agree with the serial run of
+-- that order. The isolation of every machine and of the threads stands on `runs_serially`. It goes by induction on the
+-- order; the invariant is that each client has the variables, and each object the state, that the blocks before left to
+-- them.
 use Rattle.std.proofs.Common.{◌≡◌, ◌≢◌, ℕ, zero, suc, ◌≤◌, arith, Bool, true, false, ◌==◌, List, [], ◌∷◌, ◌++◌, map, refl, sym, ap, ◌∙◌, subst, ◌⊎◌, inl, inr, ⊎_elim, append_assoc, append-nil}
 use Rattle.std.proofs.lemmas.List.{map-append}
 use Rattle.std.specs.List.{AllByRecursion, AllZip}

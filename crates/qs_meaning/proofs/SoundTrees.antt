@@ -1,6 +1,6 @@
--- The interaction tree of a sound block makes requests on no objects but those of the block's list. The proofs of isolation and
--- of what clients send need this to leave all other objects aside. It goes by induction on the statements, and for a repeat by
--- induction on its turns.
+-- The interaction tree of a sound block makes requests on no objects but those of the block's list. The proofs of
+-- isolation and of what clients send need this to leave all other objects aside. It goes by induction on the
+-- statements, and for a repeat by induction on its turns.
 use Rattle.std.proofs.Common.{◌≡◌, ◌<◌, ℕ, zero, suc, Bool, true, false, if◌then◌else◌, nat_lt, List, length, get_or, refl, sym, ap, subst, arith, slice_set}
 use Rattle.std.proofs.lemmas.List.{get_or_past}
 use Rattle.qs_program.specs.declared.program.Declared.{Declared}

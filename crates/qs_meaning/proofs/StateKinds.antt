@@ -1,4 +1,5 @@
--- No request changes an object's kind; so the states of a serial run stay of the declared kinds, from the declared states on.
+-- No request changes an object's kind; so the states of a serial run stay of the declared kinds, from the declared
+-- states on.
 use Rattle.std.proofs.Common.{◌≡◌, ℕ, Bool, true, false, true≢false, ◌&&◌, replicate, pos, if◌then◌else◌, List, [], ◌∷◌, Option, Some, None, refl}
 use Rattle.std.proofs.Common.{sym, ◌∙◌}
 use Rattle.std.specs.List.{AllByRecursion}

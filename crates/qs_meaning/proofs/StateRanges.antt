@@ -1,5 +1,5 @@
--- Objects begin in range, and no request leads out of it; so they are in range after any order of blocks. By this a row of the search tells
--- which configuration it is. It goes by induction on the order.
+-- Objects begin in range, and no request leads out of it; so they are in range after any order of blocks. By this a row
+-- of the search tells which configuration it is. It goes by induction on the order.
 use Rattle.std.proofs.Common.{◌≡◌, List, [], ◌∷◌, Option, Some, None, refl}
 use Rattle.std.specs.Prelude.{IsSome}
 use Rattle.qs_objects.specs.Act.{State}

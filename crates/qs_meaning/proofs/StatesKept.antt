@@ -1,5 +1,5 @@
--- What each request leaves true of an object's state stays true of all objects while a block runs alone. That states stay of their kinds and
--- in their ranges stands on it. It goes by induction on the block's tree.
+-- What each request leaves true of an object's state stays true of all objects while a block runs alone. That states
+-- stay of their kinds and in their ranges stands on it. It goes by induction on the block's tree.
 use Rattle.std.proofs.Common.{◌≡◌, ℕ, false, ◌==◌, sym, subst, ⊎_elim}
 use Rattle.qs_objects.specs.Act.{State}
 use Rattle.qs_objects.specs.Journals.{after, answer}

@@ -1,5 +1,6 @@
--- Two blocks that reserve no object both may be run in either order: a block reads and writes its own objects and its own client's
--- variables alone. Reduced orders stand on it. It goes along the interaction tree of a block, whose requests are on its objects.
+-- Two blocks that reserve no object both may be run in either order: a block reads and writes its own objects and its
+-- own client's variables alone. Reduced orders stand on it. It goes along the interaction tree of a block, whose
+-- requests are on its objects.
 use Rattle.std.proofs.Common.{◌≡◌, ℕ, suc, Bool, true, false, true≢false, ◌==◌, refl, sym, ap, ◌∙◌, subst, ⊎_elim, inl, inr}
 use Rattle.std.proofs.lemmas.Bool.{cases_Bool}
 use Rattle.qs_objects.specs.Act.{State}

@@ -1,6 +1,6 @@
--- A block alone, and each block of a serial run, makes at most as many requests on an object as its load says. The law on traces
--- and loads is proved here. It goes by induction on the interaction tree along the path that the trace takes, and for a serial
--- run by induction on the order.
+-- A block alone, and each block of a serial run, makes at most as many requests on an object as its load says. The law
+-- on traces and loads is proved here. It goes by induction on the interaction tree along the path that the trace takes,
+-- and for a serial run by induction on the order.
 use Rattle.std.proofs.Common.{◌≡◌, ℕ, ◌-◌, ◌≤◌, Bool, true, false, ◌==◌, if◌then◌else◌, List, [], ◌∷◌, length, ap, arith, None}
 use Rattle.std.specs.List.{AllByRecursion}
 use Rattle.qs_objects.specs.Journals.{answer}

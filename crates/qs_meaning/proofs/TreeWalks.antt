@@ -1,6 +1,6 @@
--- A trace whose replies are the objects' own is a beginning of what the block does alone, and an object that a block may not
--- reach is in neither its trace nor its changes. The proofs on histories, isolation and both machines use these facts about
--- traces. They go by induction on the trace and on the tree along which it leads.
+-- A trace whose replies are the objects' own is a beginning of what the block does alone, and an object that a block
+-- may not reach is in neither its trace nor its changes. The proofs on histories, isolation and both machines use these
+-- facts about traces. They go by induction on the trace and on the tree along which it leads.
 use Rattle.std.proofs.Common.{◌≡◌, ℕ, Bool, false, true≢false, ◌==◌, List, [], ◌∷◌, ◌++◌, refl, ⊎_elim, sym, ap, ◌∙◌, subst, Option, ℤ, append-nil, if◌then◌else◌}
 use Rattle.std.proofs.lemmas.List.Elements.{filter-append}
 use Rattle.qs_objects.specs.Journals.{after, answer, replay, IsHonest}

@@ -1,6 +1,6 @@
--- A block that is run alone by its statements makes the trace, the variables and the states that its interaction tree makes. The
--- serial run is defined by statements and the machines follow trees, so isolation stands on `trees_agree`. It goes by induction
--- on the statements, with one tree for what comes next and one for what follows a leave.
+-- A block that is run alone by its statements makes the trace, the variables and the states that its interaction tree
+-- makes. The serial run is defined by statements and the machines follow trees, so isolation stands on `trees_agree`.
+-- It goes by induction on the statements, with one tree for what comes next and one for what follows a leave.
 use Rattle.std.proofs.Common.{◌≡◌, ℕ, zero, suc, Bool, true, false, if◌then◌else◌, List, [], ◌∷◌, ◌++◌, refl, sym, ap, ◌∙◌, None, append_assoc}
 use Rattle.std.proofs.lemmas.List.{append-nil}
 use Rattle.qs_objects.specs.declared.held.Event.{Event}

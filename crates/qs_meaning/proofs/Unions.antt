@@ -1,6 +1,6 @@
--- The outcomes after a front of an order are a union: those after the front and the next block of one who goes on there, over all of these.
--- By it a search is cut into parts that any machine can do. A complete order after the front has the outcome of a reduced one, whose first
--- block is that of one who goes on.
+-- The outcomes after a front of an order are a union: those after the front and the next block of one who goes on
+-- there, over all of these. By it a search is cut into parts that any machine can do. A complete order after the front
+-- has the outcome of a reduced one, whose first block is that of one who goes on.
 use Rattle.std.proofs.Common.{◌≡◌, ◌<◌, ℕ, List, [], ◌∷◌, ◌++◌, length, refl, sym, ap, ◌∙◌, subst, arith, append_assoc}
 use Rattle.qs_objects.specs.declared.held.Ticket.{Ticket}
 use Rattle.qs_program.specs.Program.{ProgramShape, blocks_of}

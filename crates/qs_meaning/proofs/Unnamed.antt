@@ -1,5 +1,6 @@
--- A variable that its client's text does not name stays 0, since a block sets no other variables than those that its text names. A row of the
--- search for all outcomes leaves such variables out. It goes by induction on the statements, on turns and on the order.
+-- A variable that its client's text does not name stays 0, since a block sets no other variables than those that its
+-- text names. A row of the search for all outcomes leaves such variables out. It goes by induction on the statements,
+-- on turns and on the order.
 use Rattle.std.proofs.Common.{◌≡◌, ◌<◌, ℕ, zero, suc, Bool, true, false, if◌then◌else◌, ◌==◌, List, [], ◌∷◌, ◌++◌, length, take, drop, refl, sym, ap, ◌∙◌, arith, slice_set, ⊎_elim, ℤ}
 use Rattle.std.proofs.lemmas.List.{length-set, length-replicate}
 use Rattle.std.proofs.Common.{pos}

@@ -1,5 +1,5 @@
--- Blocks of equal text, also of two programs, and what is the same of their traces. Objects and variables are matched by their names: the two
--- programs may number them otherwise, and have others beside them.
+-- Blocks of equal text, also of two programs, and what is the same of their traces. Objects and variables are matched
+-- by their names: the two programs may number them otherwise, and have others beside them.
 use Rattle.std.specs.Prelude.{◌≡◌, ◌≢◌, ◌≤◌, ℕ, ℤ, pos, true, List, [], length, map, slice_index_or}
 use Rattle.std.specs.List.{AllByRecursion, AllZip}
 use Rattle.qs_objects.specs.Operations.{is_query}
@@ -22,7 +22,8 @@ use Rattle.qs_meaning.specs.Following.{reserves}
 use Rattle.qs_meaning.specs.Serial.{SerialBlock, serial}
 use Rattle.qs_meaning.specs.Solo.{States, solo}
 
--- the same statements but for their numbers: at each place the two objects, and the two variables, stand in these relations
+-- the same statements but for their numbers: at each place the two objects, and the two variables, stand in these
+-- relations
 module _ (Objects Variables : ℕ → ℕ → Type 0) where
   abbrev pub SameAtom : Atom → Atom → Type 0
   SameAtom (Variable x) (Variable y) = Variables x y
@@ -46,8 +47,10 @@ module _ (Objects Variables : ℕ → ℕ → Type 0) where
   SameStatements (query x c rest) (query y d later) = Variables x y × SameCall c d × SameStatements rest later
   SameStatements (assign x e rest) (assign y f later) = Variables x y × SameExpr e f × SameStatements rest later
   SameStatements (choose t has_else first other rest) (choose u has_too one two later) =
-      SameTest t u × (has_else ≡ has_too) × SameStatements first one × SameStatements other two × SameStatements rest later
-  SameStatements (again n body rest) (again m text later) = (n ≡ m) × SameStatements body text × SameStatements rest later
+      SameTest t u × (has_else ≡ has_too) × SameStatements first one × SameStatements other two
+      × SameStatements rest later
+  SameStatements (again n body rest) (again m text later) =
+      (n ≡ m) × SameStatements body text × SameStatements rest later
   SameStatements (leave rest) (leave later) = SameStatements rest later
   SameStatements _ _ = ⊥
 
@@ -90,7 +93,8 @@ module _ (p q : ProgramShape) (t u : Ticket) where
 
   -- wherever the texts name a variable, it has the same value in both
   abbrev pub SameValues : Locals → Locals → Type 0
-  SameValues l k = SameStatements (λ h g. Unit {0}) (λ x y. value_at l x ≡ value_at k y) (text_of p t).body (text_of q u).body
+  SameValues l k =
+      SameStatements (λ h g. Unit {0}) (λ x y. value_at l x ≡ value_at k y) (text_of p t).body (text_of q u).body
 
   -- reserved by the one block and by the other, under one name
   pub record SameObject (h g : ℕ) : Type 0 where
@@ -105,24 +109,29 @@ module _ (p q : ProgramShape) (t u : Ticket) where
   -- each object on which these events have a query starts in the same state
   abbrev pub AskAlike : States → States → List Event → Type 0
   AskAlike st tu es =
-      AllByRecursion (λ e. is_query e.request.op ≡ true → (g : ℕ) → SameObject e.request.object g → st e.request.object ≡ tu g) es
+      AllByRecursion (λ e. is_query e.request.op ≡ true → (g : ℕ) → SameObject e.request.object g
+      → st e.request.object ≡ tu g) es
 
-  -- Two traces are equal if each object on which both have a request starts in the same state; up to the first query on an object that
-  -- starts in another state they are equal in any case, and wholly if there is no such query.
+  -- Two traces are equal if each object on which both have a request starts in the same state; up to the first query on
+  -- an object that starts in another state they are equal in any case, and wholly if there is no such query.
   pub record AlikeFrom (st tu : States) (es ds : List Event) : Type 0 where
     pub equal : StartAlike st tu es ds → SameTrace p q es ds
-    pub front : (xs : List Event) → IsFront xs es → AskAlike st tu xs → (ys : List Event) × IsFront ys ds × SameTrace p q xs ys
+    pub front : (xs : List Event) → IsFront xs es → AskAlike st tu xs → (ys : List Event) × IsFront ys ds
+        × SameTrace p q xs ys
     pub whole : AskAlike st tu es → SameTrace p q es ds
 
--- Two blocks of equal text, with equal entry values of the variables that it names, have traces that are alike, from any states.
+-- Two blocks of equal text, with equal entry values of the variables that it names, have traces that are alike, from
+-- any states.
 abbrev pub BlocksAlike : Type 0
 BlocksAlike =
     (p q : ProgramShape) → IsSound p → IsSound q
     → (t u : Ticket) → SameText p q t u
     → (l k : Locals) → HasValues p t l → HasValues q u k → SameValues p q t u l k
-    → (st tu : States) → AlikeFrom p q t u st tu (solo (text_of p t).body l st).trace (solo (text_of q u).body k tu).trace
+    → (st tu : States) → AlikeFrom p q t u st tu (solo (text_of p t).body l st).trace
+    (solo (text_of q u).body k tu).trace
 
--- So have a place of one serial run and a place of another, of the same program or of another one, from the states that the places found.
+-- So have a place of one serial run and a place of another, of the same program or of another one, from the states that
+-- the places found.
 abbrev pub PlacesAlike : Type 0
 PlacesAlike =
     (p q : ProgramShape) → IsSound p → IsSound q

@@ -1,5 +1,6 @@
--- Three clients of two programs whose blocks have equal text under other numbers, computed by the definitions. Ann's and bob's blocks find the objects in
--- the same states, and their traces are equal; carol's finds the account in another state, and its trace is equal to ann's before the query alone.
+-- Three clients of two programs whose blocks have equal text under other numbers, computed by the definitions. Ann's
+-- and bob's blocks find the objects in the same states, and their traces are equal; carol's finds the account in
+-- another state, and its trace is equal to ann's before the query alone.
 use Rattle.std.specs.Prelude.{◌≡◌, ℕ, pos, List, [], ◌∷◌, codes, None, slice_index_or}
 use Rattle.qs_objects.specs.Act.{account}
 use Rattle.qs_objects.specs.declared.Op.TheVariants.{Deposit}
@@ -18,7 +19,8 @@ use Rattle.qs_meaning.specs.Serial.{SerialBlock, serial, no_state, zeros}
 abbrev pub account_of : Name → ℕ → Declared
 account_of name b = record { name = name; kind = kinds.Account (pos b) }
 
--- a client with the block `separate a, b { a.deposit(5); x = a.balance(); b.deposit(x); }`, where a, b and x have these numbers
+-- a client with the block `separate a, b { a.deposit(5); x = a.balance(); b.deposit(x); }`, where a, b and x have these
+-- numbers
 abbrev pub depositor : Name → List Name → (a b x : ℕ) → ClientShape
 depositor name variables a b x = record {
   name = name;
@@ -39,7 +41,9 @@ first = record {
 abbrev pub second : ProgramShape
 second = record {
   objects = account_of (codes "b") 7 ∷ account_of (codes "c") 1 ∷ account_of (codes "a") 100 ∷ [];
-  clients = depositor (codes "bob") (codes "z" ∷ codes "x" ∷ []) 2 0 1 ∷ depositor (codes "carol") (codes "x" ∷ []) 2 0 0 ∷ [];
+  clients =
+      depositor (codes "bob") (codes "z" ∷ codes "x" ∷ []) 2 0 1 ∷ depositor (codes "carol") (codes "x" ∷ []) 2 0 0
+      ∷ [];
 }
 
 abbrev pub no_place : SerialBlock
@@ -76,4 +80,5 @@ pub record AlikeExamples : Type 0 where
   pub other_start : carol.starts 2 ≡ left_with (account (pos 105)) 0
   pub same_front : AskAlike first second ann.ticket carol.ticket ann.starts carol.starts (deposit_of_five 0 ∷ [])
   pub answers : replies (serial first (ticket 0 0 ∷ [])) ≡ (None ∷ some 105 ∷ None ∷ []) ∷ []
-  pub later_answers : replies (serial second (ticket 0 0 ∷ ticket 1 0 ∷ [])) ≡ (None ∷ some 105 ∷ None ∷ []) ∷ (None ∷ some 110 ∷ None ∷ []) ∷ []
+  pub later_answers : replies (serial second (ticket 0 0 ∷ ticket 1 0 ∷ [])) ≡ (None ∷ some 105 ∷ None ∷ [])
+      ∷ (None ∷ some 110 ∷ None ∷ []) ∷ []

@@ -1,4 +1,5 @@
--- What is recorded of a block while it runs, whatever machine runs it: the client's variables at entry, the trace so far, and what is left.
+-- What is recorded of a block while it runs, whatever machine runs it: the client's variables at entry, the trace so
+-- far, and what is left.
 use Rattle.std.specs.Prelude.{◌≡◌, ℕ, zero, suc, List}
 use Rattle.qs_objects.specs.declared.held.Event.{Event}
 use Rattle.qs_objects.specs.declared.held.Ticket.{Ticket}

@@ -1,4 +1,5 @@
--- The two complete orders of two clients that withdraw from one account, and what they come to, computed by the definitions.
+-- The two complete orders of two clients that withdraw from one account, and what they come to, computed by the
+-- definitions.
 use Rattle.std.specs.Prelude.{◌≡◌, ℕ, List, [], ◌∷◌, ℤ, pos, slice_index_or}
 use Rattle.qs_objects.specs.Act.{account}
 use Rattle.qs_objects.specs.declared.held.Ticket.{Ticket}

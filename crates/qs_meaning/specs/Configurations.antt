@@ -1,4 +1,5 @@
--- Configurations: where a program stands between blocks that run one after another, and what it comes to at the end of an order.
+-- Configurations: where a program stands between blocks that run one after another, and what it comes to at the end of
+-- an order.
 use Rattle.std.specs.Prelude.{◌≡◌, ◌<◌, ◌↔◌, ℕ, suc, List, [], ◌∷◌, ◌++◌, length, filter, take, drop}
 use Rattle.qs_objects.specs.Parts.{same}
 use Rattle.qs_objects.specs.declared.held.Ticket.{Ticket}
@@ -58,7 +59,9 @@ outcome_in g = record { locals = g.locals; states = g.states }
 
 -- The configuration after a legal order is what the serial run says of it.
 abbrev pub ConfigurationsFollowOrders : Type 0
-ConfigurationsFollowOrders = (p : ProgramShape) (order : List Ticket) → IsLegal p order → outcome_in (configuration_after p order) ≡ outcome_of p order
+ConfigurationsFollowOrders =
+    (p : ProgramShape) (order : List Ticket) → IsLegal p order
+    → outcome_in (configuration_after p order) ≡ outcome_of p order
 
 -- A legal order is complete exactly where no client has a block left after it.
 abbrev pub CompleteOrdersLeaveNone : Type 0
@@ -73,4 +76,6 @@ pub record AreNamedAlone (p : ProgramShape) (c : ℕ) (l : Locals) : Type 0 wher
 
 -- After any order a variable that its client's text does not name is 0.
 abbrev pub UnnamedStayZero : Type 0
-UnnamedStayZero = (p : ProgramShape) → IsSound p → (order : List Ticket) (c : ℕ) → AreNamedAlone p c ((configuration_after p order).locals c)
+UnnamedStayZero =
+    (p : ProgramShape) → IsSound p → (order : List Ticket) (c : ℕ)
+    → AreNamedAlone p c ((configuration_after p order).locals c)

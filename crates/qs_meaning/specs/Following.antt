@@ -27,7 +27,8 @@ changed_all st (e ∷ es) = changed_all (states_after st e.request) es
 abbrev pub noted_all : List Event → BlockResult → BlockResult
 noted_all es o = record { trace = es ++ o.trace; locals = o.locals; states = o.states }
 
--- A trace along a tree, whose replies on each object are the object's own, is what the tree does if each request is done at once.
+-- A trace along a tree, whose replies on each object are the object's own, is what the tree does if each request is
+-- done at once.
 abbrev pub HonestTracesRun : Type 0
 HonestTracesRun =
     (tree : Interaction) (es : List Event) (rest : Interaction) (st : States)

@@ -18,10 +18,12 @@ module _ {T : Type 0} (call : Request → T → T) (query_of : Request → (ℤ 
   abbrev pub meaning_in : Statements → (Locals → T) → (Locals → T) → Locals → T
   meaning_in end next leaves l = next l
   meaning_in (command c rest) next leaves l = call (request_of l c) (meaning_in rest next leaves l)
-  meaning_in (query x c rest) next leaves l = query_of (request_of l c) (λ v. meaning_in rest next leaves (slice_set l x v))
+  meaning_in (query x c rest) next leaves l =
+      query_of (request_of l c) (λ v. meaning_in rest next leaves (slice_set l x v))
   meaning_in (assign x e rest) next leaves l = meaning_in rest next leaves (slice_set l x (expr_value l e))
   meaning_in (choose t has_else first other rest) next leaves l =
-      let later = meaning_in rest next leaves in if test_value l t then meaning_in first later leaves l else meaning_in other later leaves l
+      let later = meaning_in rest next leaves in
+      if test_value l t then meaning_in first later leaves l else meaning_in other later leaves l
   meaning_in (again n body rest) next leaves l =
       let later = meaning_in rest next leaves in turns_in n (λ turn. meaning_in body turn later) later l
   meaning_in (leave rest) next leaves l = leaves l
@@ -55,7 +57,8 @@ after_event e o = record { trace = e ∷ o.trace; locals = o.locals; states = o.
 abbrev pub run : Interaction → States → BlockResult
 run (Done l) st = record { trace = []; locals = l; states = st }
 run (Call r next) st = after_event (event r None) (run next (states_after st r))
-run (Query r next) st = let v = answer (st r.object) r in after_event (event r v) (run (next (value_of v)) (states_after st r))
+run (Query r next) st =
+    let v = answer (st r.object) r in after_event (event r v) (run (next (value_of v)) (states_after st r))
 
 -- a block alone does what its interaction tree does
 abbrev pub TreesAgree : Type 0

@@ -1,16 +1,18 @@
+-- What an auditor reads: the promises and the calls of the surface are said with these.
 pub mod Solo
 pub mod Interaction
 pub mod Following
 pub mod Serial
+pub mod Alike
+pub mod Configurations
+pub mod Reduced
+-- What crates promise one another, what proofs use, and worked examples.
 pub mod Paths
 pub mod TraceLoads
-pub mod Alike
 pub mod StateKinds
 pub mod MeaningExamples
 pub mod AlikeExamples
 pub mod BlockRecords
-pub mod Configurations
 pub mod StateRanges
 pub mod ConfigurationExamples
-pub mod Reduced
 pub mod ReducedExamples

@@ -6,8 +6,8 @@ use Rattle.qs_objects.specs.declared.Op.TheVariants.{Deposit, Withdraw, Balance,
 use Rattle.qs_objects.specs.declared.object.Kind.{Kind}
 use Rattle.qs_objects.specs.declared.object.Kind.TheVariants as kinds
 use Rattle.qs_objects.specs.declared.held.Ticket.{Ticket}
-use Rattle.qs_script.specs.declared.tree.Operator.TheVariants.{Times}
-use Rattle.qs_script.specs.declared.tree.Relation.TheVariants.{Unequal}
+use Rattle.qs_tree.specs.declared.tree.Operator.TheVariants.{Times}
+use Rattle.qs_tree.specs.declared.tree.Relation.TheVariants.{Unequal}
 use Rattle.qs_program.specs.declared.code.Atom.{Atom}
 use Rattle.qs_program.specs.declared.code.Atom.TheVariants.{Variable, Number}
 use Rattle.qs_program.specs.declared.code.Expr.TheVariants.{Binary}
@@ -63,7 +63,8 @@ abbrev pub left_with : Content → ℕ → State
 left_with c refused = record { content = c; refused = pos refused }
 
 -- with its blocks in this order, a program has these replies, and object 0 is left so
-pub record Shows (p : ProgramShape) (order : List Ticket) (answers : List (List (Option ℤ))) (first : State) : Type 0 where
+pub record Shows (p : ProgramShape) (order : List Ticket) (answers : List (List (Option ℤ)))
+    (first : State) : Type 0 where
   pub answered : replies (serial p order) ≡ answers
   pub state : (serial p order).states 0 ≡ first
 
@@ -120,7 +121,8 @@ abbrev pub transfer : ProgramShape
 transfer =
     program (hundred ∷ hundred ∷ [])
     (client (block (0 ∷ 1 ∷ [])
-    (command (call 0 Withdraw (n 30 ∷ [])) (command (call 1 Deposit (n 30 ∷ [])) (query 0 (balance 0) (query 1 (balance 1) end)))) ∷ [])
+    (command (call 0 Withdraw (n 30 ∷ [])) (command (call 1 Deposit (n 30
+    ∷ [])) (query 0 (balance 0) (query 1 (balance 1) end)))) ∷ [])
     ∷ client (block (0 ∷ []) (command (call 0 Deposit (n 1 ∷ [])) end)
     ∷ block (1 ∷ []) (command (call 1 Deposit (n 1 ∷ [])) (query 0 (balance 1) end)) ∷ []) ∷ [])
 
@@ -143,7 +145,8 @@ pub record MeaningExamples : Type 0 where
       Shows full_buffer only ((None ∷ None ∷ some 1 ∷ None ∷ some 0 ∷ some 2 ∷ []) ∷ []) (left_with (buffer 1 []) 2)
   pub row_sum :
       Shows cells only ((None ∷ some 0 ∷ None ∷ None ∷ some 1999999999999999998 ∷ []) ∷ [])
-      (left_with (grid 3 ((pos 999999999999999999 ∷ pos 999999999999999999 ∷ pos 0 ∷ []) ∷ (pos 0 ∷ pos 0 ∷ pos 0 ∷ []) ∷ [])) 1)
+      (left_with (grid 3 ((pos 999999999999999999 ∷ pos 999999999999999999 ∷ pos 0 ∷ []) ∷ (pos 0 ∷ pos 0 ∷ pos 0 ∷ [])
+      ∷ [])) 1)
   pub left : Shows left_at_once only ((some 100 ∷ some 100 ∷ []) ∷ []) (left_with (account (pos 100)) 0)
   pub clamped :
       Shows products only ((None ∷ None ∷ some 9223372036854775807 ∷ []) ∷ [])

@@ -1,6 +1,6 @@
--- Reduced orders: at each configuration only some clients go on, those for whom it can matter who comes first, and yet every outcome is
--- reached. They are a smallest set of clients of which nobody else comes in the way: nobody else has a block left that shares an object
--- with the next block of one of them.
+-- Reduced orders: at each configuration only some clients go on, those for whom it can matter who comes first, and yet
+-- every outcome is reached. They are a smallest set of clients of which nobody else comes in the way: nobody else has a
+-- block left that shares an object with the next block of one of them.
 use Rattle.std.specs.Prelude.{◌≡◌, ◌<◌, ◌↔◌, ◌++◌, ℕ, zero, suc, Bool, true, false, ◌==◌, ◌&&◌, ◌||◌, if◌then◌else◌, List, [], ◌∷◌, length, drop, nat_lt}
 use Rattle.std.specs.List.{list_any}
 use Rattle.qs_objects.specs.declared.held.Ticket.{Ticket}
@@ -64,7 +64,8 @@ smaller p one other = if size_of_set p one == 0 || nat_lt (size_of_set p other) 
 abbrev pub first_smallest : ProgramShape → Counts → ℕ → Clients
 first_smallest p begun zero = λ _. false
 first_smallest p begun (suc n) =
-    let best = first_smallest p begun n in if has_block_left p begun n then smaller p best (group_of p begun n) else best
+    let best = first_smallest p begun n in
+    if has_block_left p begun n then smaller p best (group_of p begun n) else best
 
 -- who goes on, by how many blocks each client has begun
 abbrev pub goes_on : ProgramShape → Counts → Clients
@@ -78,10 +79,12 @@ IsReducedFrom p g (t ∷ ts) = (goes_on p g.begun t.client ≡ true) × IsReduce
 abbrev pub IsReduced : ProgramShape → List Ticket → Type 0
 IsReduced p order = IsReducedFrom p (first_configuration p) order
 
--- all members have a block left, and nobody else has a block left that shares an object with the next block of one of them
+-- all members have a block left, and nobody else has a block left that shares an object with the next block of one of
+-- them
 pub record IsUndisturbed (p : ProgramShape) (begun : Counts) (set : Clients) : Type 0 where
   pub left : (c : ℕ) → set c ≡ true → begun c < blocks_of p c
-  pub apart : (c d h : ℕ) → set c ≡ true → set d ≡ false → is_in (block_at p c (begun c)).reserved h ≡ true → still_reserves p begun d h ≡ false
+  pub apart : (c d h : ℕ) → set c ≡ true → set d ≡ false → is_in (block_at p c (begun c)).reserved h ≡ true
+      → still_reserves p begun d h ≡ false
 
 -- Nobody disturbs those who go on, and somebody goes on wherever somebody has a block left.
 pub record GoingOn (p : ProgramShape) (begun : Counts) : Type 0 where
@@ -93,7 +96,8 @@ SomeGoOn = (p : ProgramShape) (begun : Counts) → GoingOn p begun
 
 -- the next blocks of two clients reserve no object both
 abbrev pub AreNextApart : ProgramShape → Counts → ℕ → ℕ → Type 0
-AreNextApart p begun c d = (h : ℕ) → is_in (block_at p c (begun c)).reserved h ≡ true → is_in (block_at p d (begun d)).reserved h ≡ false
+AreNextApart p begun c d =
+    (h : ℕ) → is_in (block_at p c (begun c)).reserved h ≡ true → is_in (block_at p d (begun d)).reserved h ≡ false
 
 -- Neighbours of different clients that share no object may be swapped.
 abbrev pub NeighboursSwap : Type 0
@@ -126,8 +130,10 @@ pub record GoesOnTo (p : ProgramShape) (front : List Ticket) (x : OrderOutcome) 
   pub goes : goes_on p (configuration_after p front).begun client ≡ true
   pub outcome : IsOutcomeAfter p (with_next p front client) x
 
--- Where a block is left after a front, the outcomes after it are all those after it and the next block of one who goes on.
+-- Where a block is left after a front, the outcomes after it are all those after it and the next block of one who goes
+-- on.
 abbrev pub OutcomesAreUnion : Type 0
 OutcomesAreUnion =
-    (p : ProgramShape) → IsSound p → (front : List Ticket) (c : ℕ) → (configuration_after p front).begun c < blocks_of p c
+    (p : ProgramShape) → IsSound p → (front : List Ticket) (c : ℕ)
+    → (configuration_after p front).begun c < blocks_of p c
     → (x : OrderOutcome) → IsOutcomeAfter p front x ↔ GoesOnTo p front x

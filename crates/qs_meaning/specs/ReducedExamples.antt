@@ -1,5 +1,5 @@
--- Who goes on in a program of two accounts, and one of its reduced orders, computed by the definitions. Client 0 has a block on account 0;
--- client 1 has a block on account 1, and then one on account 0.
+-- Who goes on in a program of two accounts, and one of its reduced orders, computed by the definitions. Client 0 has a
+-- block on account 0; client 1 has a block on account 1, and then one on account 0.
 use Rattle.std.specs.Prelude.{◌≡◌, Bool, true, false, List, [], ◌∷◌}
 use Rattle.qs_objects.specs.Act.{account}
 use Rattle.qs_objects.specs.declared.Op.TheVariants.{Deposit, Withdraw}
@@ -15,7 +15,8 @@ abbrev pub two_accounts : ProgramShape
 two_accounts =
     program (hundred ∷ hundred ∷ [])
     (client (block (0 ∷ []) (command (call 0 Withdraw (n 80 ∷ [])) end) ∷ [])
-    ∷ client (block (1 ∷ []) (command (call 1 Deposit (n 5 ∷ [])) end) ∷ block (0 ∷ []) (query 0 (balance 0) end) ∷ []) ∷ [])
+    ∷ client (block (1 ∷ []) (command (call 1 Deposit (n 5 ∷ [])) end) ∷ block (0 ∷ []) (query 0 (balance 0) end) ∷ [])
+    ∷ [])
 
 -- whether the first client and whether the second one goes on
 abbrev pub both_go : Configuration → List Bool
@@ -24,8 +25,8 @@ both_go g = goes_on two_accounts g.begun 0 ∷ goes_on two_accounts g.begun 1 �
 abbrev pub deposited : List Ticket
 deposited = ticket 1 0 ∷ []
 
--- The first client's account is reserved by a block that the second has left, so this one is of the group of the first; the deposit is
--- disturbed by nobody, so the second goes on alone. After it both go on; after that the one who is left.
+-- The first client's account is reserved by a block that the second has left, so this one is of the group of the first;
+-- the deposit is disturbed by nobody, so the second goes on alone. After it both go on; after that the one who is left.
 pub record ReducedExamples : Type 0 where
   pub group : group_of two_accounts (λ _. 0) 0 1 ≡ true
   pub alone : group_of two_accounts (λ _. 0) 1 0 ≡ false
@@ -36,4 +37,5 @@ pub record ReducedExamples : Type 0 where
   pub same :
       (configuration_after two_accounts (ticket 1 0 ∷ ticket 0 0 ∷ ticket 1 1 ∷ [])).states 0
       ≡ (configuration_after two_accounts (ticket 0 0 ∷ ticket 1 0 ∷ ticket 1 1 ∷ [])).states 0
-  pub state : (configuration_after two_accounts (ticket 1 0 ∷ ticket 0 0 ∷ ticket 1 1 ∷ [])).states 0 ≡ left_with (account (pos 20)) 0
+  pub state : (configuration_after two_accounts (ticket 1 0 ∷ ticket 0 0 ∷ ticket 1 1 ∷ [])).states 0
+      ≡ left_with (account (pos 20)) 0

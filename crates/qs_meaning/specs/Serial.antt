@@ -9,7 +9,8 @@ use Rattle.qs_meaning.specs.Solo.{States, put, solo}
 use Rattle.qs_program.specs.Program.{ProgramShape, object_at, text_of, blocks_of}
 use Rattle.qs_program.specs.Limits.{most_variables}
 
--- the tickets of each client come as 0, 1, 2, .. and each names a block of the program; from these counts of begun blocks on
+-- the tickets of each client come as 0, 1, 2, .. and each names a block of the program; from these counts of begun
+-- blocks on
 abbrev pub LegalFrom : ProgramShape → (ℕ → ℕ) → List Ticket → Type 0
 LegalFrom p begun [] = Unit {0}
 LegalFrom p begun (t ∷ ts) =
@@ -46,15 +47,15 @@ pub record Serial : Type 0 where
   pub locals : ℕ → Locals
   pub states : States
 
-abbrev pub with_block : SerialBlock → Serial → Serial
-with_block p s = record { places = p ∷ s.places; locals = s.locals; states = s.states }
+abbrev pub with_serial_block : SerialBlock → Serial → Serial
+with_serial_block p s = record { places = p ∷ s.places; locals = s.locals; states = s.states }
 
 -- the blocks of an order, each whole, one after another, from these variables and states
 abbrev pub serial_from : ProgramShape → (ℕ → Locals) → States → List Ticket → Serial
 serial_from p ls st [] = record { places = []; locals = ls; states = st }
 serial_from p ls st (t ∷ ts) =
     let o = solo (text_of p t).body (ls t.client) st in
-    with_block (record { ticket = t; entry = ls t.client; starts = st; trace = o.trace })
+    with_serial_block (record { ticket = t; entry = ls t.client; starts = st; trace = o.trace })
     (serial_from p (put ls t.client o.locals) o.states ts)
 
 abbrev pub serial : ProgramShape → List Ticket → Serial

@@ -27,7 +27,8 @@ event r v = record { request = r; reply = v }
 abbrev pub states_after : States → Request → States
 states_after st r = put st r.object (after (st r.object) r)
 
--- what statements did: their requests with the replies, whether a `leave` looks for its repeat, the variables and the states
+-- what statements did: their requests with the replies, whether a `leave` looks for its repeat, the variables and the
+-- states
 pub record Ending : Type 0 where
   pub trace : List Event
   pub left : Bool

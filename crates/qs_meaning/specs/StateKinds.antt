@@ -23,4 +23,5 @@ AreOfKind p st = (h : ℕ) → IsOfKind (object_at p h).kind (st h)
 abbrev pub SerialKeepsKinds : Type 0
 SerialKeepsKinds =
     (p : ProgramShape) → IsSound p → (order : List Ticket)
-    → AllByRecursion (λ (a : SerialBlock). AreOfKind p a.starts) (serial p order).places × AreOfKind p (serial p order).states
+    → AllByRecursion (λ (a : SerialBlock). AreOfKind p a.starts) (serial p order).places
+    × AreOfKind p (serial p order).states

@@ -12,4 +12,5 @@ AreInRange st = (h : ℕ) → IsInRange (st h).content
 
 -- After any order each object is in range.
 abbrev pub OrdersKeepRanges : Type 0
-OrdersKeepRanges = (p : ProgramShape) → IsSound p → (order : List Ticket) → AreInRange (configuration_after p order).states
+OrdersKeepRanges =
+    (p : ProgramShape) → IsSound p → (order : List Ticket) → AreInRange (configuration_after p order).states

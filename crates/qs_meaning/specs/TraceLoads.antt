@@ -12,7 +12,8 @@ use Rattle.qs_meaning.specs.Solo.{States, solo}
 
 -- a block alone makes at most as many requests on an object as its load says, whatever the variables and the states
 abbrev pub TracesWithinLoad : Type 0
-TracesWithinLoad = (body : Statements) (l : Locals) (st : States) (h : ℕ) → length (part h (solo body l st).trace) ≤ load_of body h
+TracesWithinLoad =
+    (body : Statements) (l : Locals) (st : States) (h : ℕ) → length (part h (solo body l st).trace) ≤ load_of body h
 
 -- so does each block of a serial run
 abbrev pub SerialWithinLoad : Type 0

@@ -1,11 +1,12 @@
--- How many anchors a list of statements has: those of its first statement and those of the others. What comes after the anchors of a
--- list is what comes after those of its statements, one after another; the loops that go through a body stand on it.
+-- How many anchors a list of statements has: those of its first statement and those of the others. What comes after the
+-- anchors of a list is what comes after those of its statements, one after another; the loops that go through a body
+-- stand on it.
 use Rattle.std.proofs.Common.{◌≡◌, ℕ, suc, ◌+◌, ◌<◌, Bool, true, false, List, [], ◌∷◌, ◌++◌, length, get_or, drop, refl, ap, sym, ◌∙◌, length-append, arith}
 use Rattle.std.proofs.lemmas.List.{at_drop_more, drop-drop}
-use Rattle.qs_script.specs.declared.tree.Stmt.{Stmt}
-use Rattle.qs_script.specs.declared.tree.Stmt.TheVariants.{Command, Query, Assign, If, IfElse, Repeat, Leave}
-use Rattle.qs_script.specs.Tree.{Stmts, end, command, query, assign, choose, choose_else, again, leave}
-use Rattle.qs_script.specs.Views.{stmts_of, single}
+use Rattle.qs_tree.specs.declared.tree.Stmt.{Stmt}
+use Rattle.qs_tree.specs.declared.tree.Stmt.TheVariants.{Command, Query, Assign, If, IfElse, Repeat, Leave}
+use Rattle.qs_tree.specs.Tree.{Stmts, end, command, query, assign, choose, choose_else, again, leave}
+use Rattle.qs_tree.specs.Views.{stmts_of, single}
 use Rattle.qs_program.specs.Numbering.{Name}
 use Rattle.qs_anchors.specs.declared.anchor.Anchor.TheVariants as m
 use Rattle.qs_anchors.specs.Anchors.{call_anchors, expr_anchors, anchors, given_anchors}

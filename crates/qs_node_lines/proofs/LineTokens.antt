@@ -1,11 +1,11 @@
--- The tokens of a text are those of its lines, one line after another: whatever has begun ends at a LF, and what comes after the LF begins
--- anew. So the anchors of the lines are those of the text's script. By induction on the bytes.
+-- The tokens of a text are those of its lines, one line after another: whatever has begun ends at a LF, and what comes
+-- after the LF begins anew. So the anchors of the lines are those of the text's script. By induction on the bytes.
 use Rattle.std.proofs.Common.{◌≡◌, ℕ, ◌+◌, Bool, true, false, if◌then◌else◌, nat_eq, List, [], ◌∷◌, ◌++◌, map, Result, Ok, Err, refl, ap, ap₂, sym, ◌∙◌, append_assoc, append-nil, arith}
 use Rattle.std.proofs.lemmas.Bool.Decides.{nat_tests}
 use Rattle.std.proofs.lemmas.List.{map-append}
 use Rattle.qs_tokens.specs.declared.token.Token.{Token}
 use Rattle.qs_tokens.specs.declared.lex.TokenFault.{TokenFault}
-use Rattle.qs_tokens.specs.Tokens.{Pending, nothing, word, digits, comment, sign, over, Step, step, ends, going_on, after, tokens_from, tokens_of}
+use Rattle.qs_tokens.specs.Tokens.{Pending, nothing, word, digits, comment, sign, over, Step, byte_step, ends, going_on, after, tokens_from, tokens_of}
 use Rattle.qs_anchors.specs.Anchors.{anchors_in}
 use Rattle.qs_anchors.proofs.Tokens.{anchors_are_tokens}
 use Rattle.qs_node_lines.specs.AnchorLines.{anchors_from, its_token, numbered, tokens_or_none}
@@ -43,7 +43,7 @@ through (Err e) xs ys h = refl
 
 cut_at_lf : (p : Pending) (xs ys : List ℕ) → tokens_from p (xs ++ 10 ∷ ys) ≡ both (tokens_from p xs) (tokens_of ys)
 cut_at_lf p [] ys = lf_ends p ys
-cut_at_lf p (b ∷ xs) ys = through (step p b) xs ys (λ q. cut_at_lf q xs ys)
+cut_at_lf p (b ∷ xs) ys = through (byte_step p b) xs ys (λ q. cut_at_lf q xs ys)
 
 -- what both are, where they have no fault
 record AreBoth (r s : Result (List Token) TokenFault) (ts : List Token) : Type 0 where

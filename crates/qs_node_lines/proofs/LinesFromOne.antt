@@ -1,12 +1,13 @@
--- No node of a script has a line below 1: each takes the line of an anchor that is there. There are as many lines as anchors, and each part
--- of the tree has at least as many entries left as it has anchors. By induction on the tree, the blocks and the items.
+-- No node of a script has a line below 1: each takes the line of an anchor that is there. There are as many lines as
+-- anchors, and each part of the tree has at least as many entries left as it has anchors. By induction on the tree, the
+-- blocks and the items.
 use Rattle.std.proofs.Common.{◌≡◌, ◌<◌, ◌≤◌, ℕ, zero, suc, ◌+◌, Bool, true, false, if◌then◌else◌, nat_eq, List, [], ◌∷◌, ◌++◌, length, drop, map, ap, sym, ◌∙◌, length-append, length-drop, arith}
 use Rattle.std.specs.List.{AllByRecursion}
 use Rattle.std.proofs.lemmas.List.{length-map}
-use Rattle.qs_script.specs.declared.tree.Block.{Block}
-use Rattle.qs_script.specs.declared.tree.Item.{Item}
-use Rattle.qs_script.specs.declared.tree.Item.TheVariants.{Object, Client, Template, Started}
-use Rattle.qs_script.specs.Tree.{Stmts, end, command, query, assign, choose, choose_else, again, leave}
+use Rattle.qs_tree.specs.declared.tree.Block.{Block}
+use Rattle.qs_tree.specs.declared.tree.Item.{Item}
+use Rattle.qs_tree.specs.declared.tree.Item.TheVariants.{Object, Client, Template, Started}
+use Rattle.qs_tree.specs.Tree.{Stmts, end, command, query, assign, choose, choose_else, again, leave}
 use Rattle.qs_program.specs.Numbering.{Name, same_name}
 use Rattle.qs_tokens.specs.declared.token.Token.{Token}
 use Rattle.qs_anchors.specs.declared.anchor.Anchor.TheVariants as m

@@ -1,20 +1,21 @@
--- Each block has as many lines as its graph has nodes but Exit. Both follow the block's tree, statement by statement; for a client that is
--- started with a template both take the first template of the name. By induction on the tree, the blocks and the items.
+-- Each block has as many lines as its graph has nodes but Exit. Both follow the block's tree, statement by statement;
+-- for a client that is started with a template both take the first template of the name. By induction on the tree, the
+-- blocks and the items.
 use Rattle.std.proofs.Common.{◌≡◌, ◌<◌, ℕ, zero, suc, ◌+◌, Bool, true, false, if◌then◌else◌, List, [], ◌∷◌, ◌++◌, length, drop, get_or, map, Option, Some, refl, length-append, arith}
 use Rattle.std.proofs.lemmas.List.{length-map}
 use Rattle.qs_objects.specs.declared.object.Kind.{Kind}
-use Rattle.qs_script.specs.Tree as tree
-use Rattle.qs_script.specs.declared.tree.Block.{Block}
-use Rattle.qs_script.specs.declared.tree.ClientItem.{ClientItem}
-use Rattle.qs_script.specs.declared.tree.StartedItem.{StartedItem}
-use Rattle.qs_script.specs.declared.tree.TemplateItem.{TemplateItem}
-use Rattle.qs_script.specs.declared.tree.Item.{Item}
-use Rattle.qs_script.specs.declared.tree.Item.TheVariants.{Object, Client, Template, Started}
+use Rattle.qs_tree.specs.Tree as tree
+use Rattle.qs_tree.specs.declared.tree.Block.{Block}
+use Rattle.qs_tree.specs.declared.tree.ClientItem.{ClientItem}
+use Rattle.qs_tree.specs.declared.tree.StartedItem.{StartedItem}
+use Rattle.qs_tree.specs.declared.tree.TemplateItem.{TemplateItem}
+use Rattle.qs_tree.specs.declared.tree.Item.{Item}
+use Rattle.qs_tree.specs.declared.tree.Item.TheVariants.{Object, Client, Template, Started}
 use Rattle.qs_program.specs.Numbering.{Name, same_name}
 use Rattle.qs_program.specs.Statements.{Statements}
 use Rattle.qs_program.specs.Program.{ClientShape, no_block, no_client, own_in}
 use Rattle.qs_program.specs.Binding.{bound_block}
-use Rattle.qs_check.specs.Resolve.{as_client, binding_of, block_of, body_of, client_of, clients_of, declared_formals, kinds_of, names_of, own_client, started_of, template_called, templates_in}
+use Rattle.qs_resolution.specs.Resolve.{as_client, binding_of, block_shape, body_of, client_shape, clients_of, declared_formals, kinds_of, names_of, own_client, started_of, template_called, templates_in}
 use Rattle.qs_graph.specs.Graphs.{block_graph, node_count, places_of}
 use Rattle.qs_graph.specs.Nodes.{exit}
 use Rattle.qs_graph.proofs.StatementPlaces.{length_places}
@@ -68,7 +69,7 @@ module _ (objects : List Name) (kinds : List Kind) (variables : List Name) where
 
   -- so do the blocks
   blocks_count : (es : List ℕ) (bs : List Block) (k : ℕ) → k < length bs
-      → length (get_or (blocks_nodes es bs) k []) + 1 ≡ length (block_graph (get_or (map (block_of objects kinds variables) bs) k no_block).body)
+      → length (get_or (blocks_nodes es bs) k []) + 1 ≡ length (block_graph (get_or (map (block_shape objects kinds variables) bs) k no_block).body)
   blocks_count es [] k h = absurd (omega (arith, h))
   blocks_count es (b ∷ bs) zero h =
       omega (
@@ -83,11 +84,11 @@ abbrev HaveLines : List (List ℕ) → ClientShape → Type 0
 HaveLines lines c =
     (k : ℕ) → k < length c.blocks → length (get_or lines k []) + 1 ≡ length (block_graph (own_in c.start k (get_or c.blocks k no_block)).body)
 
-own_blocks : (objects : List Name) (kinds : List Kind) (es : List ℕ) (c : ClientItem) → HaveLines (blocks_nodes es c.blocks) (client_of objects kinds c)
+own_blocks : (objects : List Name) (kinds : List Kind) (es : List ℕ) (c : ClientItem) → HaveLines (blocks_nodes es c.blocks) (client_shape objects kinds c)
 own_blocks objects kinds es c k h =
-    let client = client_of objects kinds c in
+    let client = client_shape objects kinds c in
     blocks_count objects kinds client.variables es c.blocks k
-    (omega (arith, h, length-map c.blocks (block_of objects kinds client.variables)))
+    (omega (arith, h, length-map c.blocks (block_shape objects kinds client.variables)))
 
 -- the blocks of a template that is found have those of its text
 template_blocks : (objects : List Name) (es : List ℕ) (t : TemplateItem) (i : StartedItem) → HaveLines (blocks_nodes es t.blocks) (started_of objects (Some t) i)

@@ -1,10 +1,10 @@
--- The nodes of a list of statements are those of its first statement and then those of the others, which begin after its anchors. The
--- loop that goes through a body stands on it.
+-- The nodes of a list of statements are those of its first statement and then those of the others, which begin after
+-- its anchors. The loop that goes through a body stands on it.
 use Rattle.std.proofs.Common.{◌≡◌, ℕ, ◌+◌, ◌<◌, true, false, List, [], ◌∷◌, ◌++◌, length, get_or, drop, refl, ap, ap₂, sym, ◌∙◌, append-nil, append_assoc, length-append, arith}
 use Rattle.std.proofs.lemmas.List.{at_drop_more, drop-drop}
-use Rattle.qs_script.specs.declared.tree.Stmt.{Stmt}
-use Rattle.qs_script.specs.declared.tree.Stmt.TheVariants.{Command, Query, Assign, If, IfElse, Repeat, Leave}
-use Rattle.qs_script.specs.Views.{stmts_of, single}
+use Rattle.qs_tree.specs.declared.tree.Stmt.{Stmt}
+use Rattle.qs_tree.specs.declared.tree.Stmt.TheVariants.{Command, Query, Assign, If, IfElse, Repeat, Leave}
+use Rattle.qs_tree.specs.Views.{stmts_of, single}
 use Rattle.qs_anchors.specs.Anchors.{call_anchors, expr_anchors, anchors}
 use Rattle.qs_node_lines.specs.NodeLines.{anchor_count, first_entry, statement_nodes}
 use Rattle.qs_node_lines.proofs.Counts.{same_count}

@@ -1,5 +1,5 @@
--- How the loops over a text's bytes find the lines of its anchors: a line's anchors are counted piece by piece, and the lines of a text
--- follow one after another.
+-- How the loops over a text's bytes find the lines of its anchors: a line's anchors are counted piece by piece, and the
+-- lines of a text follow one after another.
 use Rattle.std.proofs.Common.{◌≡◌, ◌≢◌, ℕ, ◌+◌, ◌-◌, ◌≤◌, ◌<◌, Bool, true, false, if◌then◌else◌, nat_eq, List, [], ◌∷◌, ◌++◌, length, get_or, take, drop, map, replicate, Result, Ok, Err, refl, ap, sym, ◌∙◌, append_assoc, length-append, length-drop, arith}
 use Rattle.std.proofs.lemmas.Bool.Decides.{nat_tests}
 use Rattle.std.proofs.lemmas.List.{drop_more, map-append, take_more, get_or-drop}

@@ -1,5 +1,5 @@
--- The line of each anchor of a text. No token goes on past the end of its line, so each line has tokens of its own, and these are the
--- text's, line by line.
+-- The line of each anchor of a text. No token goes on past the end of its line, so each line has tokens of its own, and
+-- these are the text's, line by line.
 use Rattle.std.specs.Prelude.{ℕ, ◌+◌, nat_eq, if◌then◌else◌, List, [], ◌∷◌, ◌++◌, map, Result, Ok, Err}
 use Rattle.qs_tokens.specs.declared.token.Token.{Token}
 use Rattle.qs_tokens.specs.declared.lex.TokenFault.{TokenFault}
@@ -32,7 +32,8 @@ lines_in n line = map its_line (numbered n line)
 -- the anchors of a text, each with its line, where some bytes of the line of this number stand before the text
 abbrev pub anchors_from : ℕ → List ℕ → List ℕ → List (Token × ℕ)
 anchors_from n begun [] = numbered n begun
-anchors_from n begun (b ∷ bs) = if nat_eq b 10 then numbered n begun ++ anchors_from (n + 1) [] bs else anchors_from n (begun ++ b ∷ []) bs
+anchors_from n begun (b ∷ bs) =
+    if nat_eq b 10 then numbered n begun ++ anchors_from (n + 1) [] bs else anchors_from n (begun ++ b ∷ []) bs
 
 -- the anchors of a text, each with its line, counted from 1
 abbrev pub placed_anchors : List ℕ → List (Token × ℕ)

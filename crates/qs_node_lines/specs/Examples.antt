@@ -1,16 +1,16 @@
 -- Scripts with the anchors of their nodes by number and with the lines of these, computed by the definitions.
 use Rattle.std.specs.Prelude.{◌≡◌, ℕ, zero, suc, List, [], ◌∷◌, ◌++◌, codes, length, pos}
-use Rattle.qs_script.specs.Tree.{Stmts, end, command, query, assign, choose, choose_else, again, leave}
-use Rattle.qs_script.specs.declared.tree.Atom.TheVariants.{Variable, Number}
-use Rattle.qs_script.specs.declared.tree.Operator.TheVariants.{Plus}
-use Rattle.qs_script.specs.declared.tree.Relation.TheVariants.{Less, Greater}
-use Rattle.qs_script.specs.declared.tree.Call.{Call}
-use Rattle.qs_script.specs.declared.tree.Expr.TheVariants.{Plain, Binary}
-use Rattle.qs_script.specs.declared.tree.Block.{Block}
-use Rattle.qs_script.specs.declared.tree.KindText.TheVariants.{Account}
-use Rattle.qs_script.specs.declared.tree.KindWord.TheVariants as kind
-use Rattle.qs_script.specs.declared.tree.Item.{Item}
-use Rattle.qs_script.specs.declared.tree.Item.TheVariants.{Object, Client, Template, Started}
+use Rattle.qs_tree.specs.Tree.{Stmts, end, command, query, assign, choose, choose_else, again, leave}
+use Rattle.qs_tree.specs.declared.tree.Atom.TheVariants.{Variable, Number}
+use Rattle.qs_tree.specs.declared.tree.Operator.TheVariants.{Plus}
+use Rattle.qs_tree.specs.declared.tree.Relation.TheVariants.{Less, Greater}
+use Rattle.qs_tree.specs.declared.tree.Call.{Call}
+use Rattle.qs_tree.specs.declared.tree.Expr.TheVariants.{Plain, Binary}
+use Rattle.qs_tree.specs.declared.tree.Block.{Block}
+use Rattle.qs_tree.specs.declared.tree.KindText.TheVariants.{Account}
+use Rattle.qs_tree.specs.declared.tree.KindWord.TheVariants as kind
+use Rattle.qs_tree.specs.declared.tree.Item.{Item}
+use Rattle.qs_tree.specs.declared.tree.Item.TheVariants.{Object, Client, Template, Started}
 use Rattle.qs_program.specs.Numbering.{Name}
 use Rattle.qs_anchors.specs.Anchors.{script_anchors}
 use Rattle.qs_node_lines.specs.NodeLines.{node_lines, script_nodes}
@@ -48,9 +48,14 @@ client_of blocks = Client (record { name = codes "c"; blocks = blocks })
 -- a block with each kind of statement
 abbrev pub each_kind : Stmts
 each_kind =
-    command (deposit a) (query (codes "x") balance (assign (codes "y") (Binary (Variable (codes "x")) Plus (Number (pos 1)))
+    command (deposit a) (query (codes "x") balance
+    (assign (codes "y") (Binary (Variable (codes "x")) Plus (Number (pos 1)))
     (again 2 (choose (record { left = Variable (codes "x"); relation = Less; right = Number (pos 1) }) (leave end) end)
-    (choose_else (record { left = Number (pos 1); relation = Greater; right = Number (pos 0) }) (assign (codes "y") (Plain (Number (pos 2))) end)
+    (choose_else (record {
+      left = Number (pos 1);
+      relation = Greater;
+      right = Number (pos 0);
+    }) (assign (codes "y") (Plain (Number (pos 2))) end)
     (command (deposit a) end) end))))
 
 abbrev pub each_kind_text : List ℕ
@@ -78,10 +83,13 @@ with_template_text =
 pub record NodeLineExamples : Type 0 where
   pub none : node_lines [] [] ≡ []
   -- comments have no anchors, and the first line has the number 1
-  pub comments : node_lines (codes "# 1\n\nobject a account 1 # b\nclient c{separate a{}}") (account ∷ client_of (block_of a end ∷ []) ∷ []) ≡ ((4 ∷ []) ∷ []) ∷ []
+  pub comments : node_lines (codes "# 1\n\nobject a account 1 # b\nclient c{separate a{}}") (account
+      ∷ client_of (block_of a end ∷ []) ∷ []) ≡ ((4 ∷ []) ∷ []) ∷ []
   pub kinds : node_anchors (account ∷ client_of (block_of a each_kind ∷ []) ∷ [])
       ≡ ((3 ∷ 5 ∷ 8 ∷ 8 ∷ 11 ∷ 14 ∷ 14 ∷ 15 ∷ 17 ∷ 18 ∷ 20 ∷ 22 ∷ []) ∷ []) ∷ []
   pub kinds_lines : node_lines each_kind_text (account ∷ client_of (block_of a each_kind ∷ []) ∷ [])
       ≡ ((3 ∷ 4 ∷ 5 ∷ 5 ∷ 6 ∷ 8 ∷ 8 ∷ 9 ∷ 10 ∷ 14 ∷ 14 ∷ 14 ∷ []) ∷ []) ∷ []
-  pub template : node_anchors with_template ≡ ((12 ∷ []) ∷ (14 ∷ 16 ∷ 16 ∷ []) ∷ []) ∷ ((4 ∷ 6 ∷ []) ∷ (9 ∷ []) ∷ []) ∷ []
-  pub template_lines : node_lines with_template_text with_template ≡ ((6 ∷ []) ∷ (7 ∷ 7 ∷ 7 ∷ []) ∷ []) ∷ ((3 ∷ 3 ∷ []) ∷ (4 ∷ []) ∷ []) ∷ []
+  pub template : node_anchors with_template ≡ ((12 ∷ []) ∷ (14 ∷ 16 ∷ 16 ∷ []) ∷ []) ∷ ((4 ∷ 6 ∷ []) ∷ (9 ∷ []) ∷ [])
+      ∷ []
+  pub template_lines : node_lines with_template_text with_template ≡ ((6 ∷ []) ∷ (7 ∷ 7 ∷ 7 ∷ []) ∷ [])
+      ∷ ((3 ∷ 3 ∷ []) ∷ (4 ∷ []) ∷ []) ∷ []

@@ -1,10 +1,10 @@
 -- What the definitions of the lines of nodes have to say of scripts and of graphs.
 use Rattle.std.specs.Prelude.{◌≡◌, ◌<◌, ◌≤◌, ◌+◌, ℕ, List, length, map}
 use Rattle.std.specs.List.{AllByRecursion}
-use Rattle.qs_script.specs.declared.tree.Item.{Item}
+use Rattle.qs_tree.specs.declared.tree.Item.{Item}
 use Rattle.qs_script.specs.Reads.{IsScriptText}
 use Rattle.qs_program.specs.Program.{blocks_of}
-use Rattle.qs_check.specs.Resolve.{program_of_items}
+use Rattle.qs_resolution.specs.Resolve.{program_of_items}
 use Rattle.qs_graph.specs.Names.{graph_of}
 use Rattle.qs_anchors.specs.Anchors.{anchor_token, script_anchors}
 use Rattle.qs_node_lines.specs.AnchorLines.{its_token, placed_anchors}
@@ -13,7 +13,8 @@ use Rattle.qs_node_lines.specs.NodeLines.{lines_of_block, node_lines, script_nod
 -- the anchors of a text's lines, one line after another, are those of its script
 abbrev pub AnchorsHaveLines : Type 0
 AnchorsHaveLines =
-    (text : List ℕ) (items : List Item) → IsScriptText text items → map its_token (placed_anchors text) ≡ map anchor_token (script_anchors items)
+    (text : List ℕ) (items : List Item) → IsScriptText text items
+    → map its_token (placed_anchors text) ≡ map anchor_token (script_anchors items)
 
 -- each node of a text's script has the line of an anchor: lines are counted from 1
 abbrev pub LinesFromOne : Type 0

@@ -1,10 +1,11 @@
--- The line of each node of a script's graphs: that of the first anchor of its statement. The first definitions take an entry for each
--- anchor from the first one of a part on, in text order, and give each node the entry of its anchor: entries may be lines, or numbers.
+-- The line of each node of a script's graphs: that of the first anchor of its statement. The first definitions take an
+-- entry for each anchor from the first one of a part on, in text order, and give each node the entry of its anchor:
+-- entries may be lines, or numbers.
 use Rattle.std.specs.Prelude.{ℕ, ◌+◌, false, true, if◌then◌else◌, List, [], ◌∷◌, ◌++◌, length, drop, slice_index_or}
-use Rattle.qs_script.specs.declared.tree.Block.{Block}
-use Rattle.qs_script.specs.declared.tree.Item.{Item}
-use Rattle.qs_script.specs.declared.tree.Item.TheVariants.{Object, Client, Template, Started}
-use Rattle.qs_script.specs.Tree.{Stmts, end, command, query, assign, choose, choose_else, again, leave}
+use Rattle.qs_tree.specs.declared.tree.Block.{Block}
+use Rattle.qs_tree.specs.declared.tree.Item.{Item}
+use Rattle.qs_tree.specs.declared.tree.Item.TheVariants.{Object, Client, Template, Started}
+use Rattle.qs_tree.specs.Tree.{Stmts, end, command, query, assign, choose, choose_else, again, leave}
 use Rattle.qs_program.specs.Numbering.{Name, same_name}
 use Rattle.qs_anchors.specs.Anchors.{call_anchors, expr_anchors, test_anchors, anchors, block_anchors, item_anchors}
 use Rattle.qs_node_lines.specs.AnchorLines.{anchor_lines}
@@ -17,8 +18,8 @@ first_entry es = slice_index_or es 0 0
 abbrev pub anchor_count : Stmts → ℕ
 anchor_count s = length (anchors false s)
 
--- the nodes of statements in the order of the graph: two of a query, which are its synchronisation and the query, and two of a repeat,
--- which are its beginning and its branch
+-- the nodes of statements in the order of the graph: two of a query, which are its synchronisation and the query, and
+-- two of a repeat, which are its beginning and its branch
 abbrev pub statement_nodes : List ℕ → Stmts → List ℕ
 statement_nodes es end = []
 statement_nodes es (command c rest) = first_entry es ∷ statement_nodes (drop (length (call_anchors false c)) es) rest
@@ -32,13 +33,16 @@ statement_nodes es (choose_else t first other rest) =
     let inside = drop (length (test_anchors t)) es in
     let otherwise = drop (anchor_count first) inside in
     first_entry es
-    ∷ (statement_nodes inside first ++ (statement_nodes otherwise other ++ statement_nodes (drop (anchor_count other) otherwise) rest))
+    ∷ (statement_nodes inside first ++ (statement_nodes otherwise other
+    ++ statement_nodes (drop (anchor_count other) otherwise) rest))
 statement_nodes es (again n body rest) =
     let inside = drop 1 es in
-    first_entry es ∷ first_entry es ∷ (statement_nodes inside body ++ statement_nodes (drop (anchor_count body) inside) rest)
+    first_entry es ∷ first_entry es ∷ (statement_nodes inside body
+    ++ statement_nodes (drop (anchor_count body) inside) rest)
 statement_nodes es (leave rest) = first_entry es ∷ statement_nodes (drop 1 es) rest
 
--- the nodes of a block but the last, Exit, which has no anchor: Entry, which has that of `separate`, and those of the statements
+-- the nodes of a block but the last, Exit, which has no anchor: Entry, which has that of `separate`, and those of the
+-- statements
 abbrev pub block_nodes : List ℕ → Block → List ℕ
 block_nodes es b = first_entry es ∷ statement_nodes (drop (1 + length b.reserved) es) b.body
 
@@ -65,10 +69,11 @@ client_in templates es (Started c) = templates c.template ∷ []
 
 abbrev pub clients_nodes : (templates : Name → List (List ℕ)) → List ℕ → List Item → List (List (List ℕ))
 clients_nodes templates es [] = []
-clients_nodes templates es (i ∷ is) = client_in templates es i ++ clients_nodes templates (drop (length (item_anchors i)) es) is
+clients_nodes templates es (i ∷ is) =
+    client_in templates es i ++ clients_nodes templates (drop (length (item_anchors i)) es) is
 
--- for each client of a script, each of its blocks and each node of the block's graph but Exit, the entry of the node's anchor; a client
--- that is started with a template has those of the template's text
+-- for each client of a script, each of its blocks and each node of the block's graph but Exit, the entry of the node's
+-- anchor; a client that is started with a template has those of the template's text
 abbrev pub script_nodes : List ℕ → List Item → List (List (List ℕ))
 script_nodes es items = clients_nodes (template_nodes es items) es items
 

@@ -1,7 +1,7 @@
 // The line of each anchor of a text.
 
 ghost use Rattle.std.specs.Prelude.{◌≡◌, ◌≤◌, ◌++◌, IfOk, OnOk, length};
-ghost use Rattle.qs_script.specs.Limits.{longest_text};
+ghost use Rattle.qs_tree.specs.Limits.{longest_text};
 ghost use Rattle.qs_anchors.specs.Anchors.{anchors_in, is_anchor as is_anchor_of};
 ghost use Rattle.qs_tokens.specs.Cutting.{tokens_in};
 ghost use Rattle.qs_node_lines.specs.AnchorLines.{anchor_lines, line_anchors, lines_in};

@@ -8,7 +8,8 @@ pub fn anchors_have_lines()
     ensures same { AnchorsHaveLines }
 {}
 
-/// Each client of a script's program, each of its blocks and each node of the block's graph but Exit has a line. It does nothing.
+/// Each client of a script's program, each of its blocks and each node of the block's graph but Exit has a line. It
+/// does nothing.
 pub fn nodes_have_lines()
     ensures count { NodesHaveLines }
 {}

@@ -1,17 +1,18 @@
 //! The line of each node of a script's graphs.
 
 ghost use Rattle.std.specs.Prelude.{◌≡◌, ◌≤◌, ◌++◌, IfOk, OnOk, length};
-ghost use Rattle.qs_script.specs.Limits.{longest_text};
+ghost use Rattle.qs_tree.specs.Limits.{longest_text};
 ghost use Rattle.qs_node_lines.specs.NodeLines.{blocks_nodes, client_in, node_lines, script_nodes, template_nodes};
 
 use crate::anchor_lines::anchor_lines;
 use crate::nodes::nodes_of;
 use crate::skipping::{skip, skip_block, skip_item};
-use qs_script::{Block, Item, Name, Script};
+use qs_tree::{Block, Item, Name, Script};
 use std::alloc::{AllocError, Global};
 use std::marker::Model;
 
-/// The lines of the nodes of a block, in their order; the last node of the graph, Exit, has none. Contracts see a list of numbers.
+/// The lines of the nodes of a block, in their order; the last node of the graph, Exit, has none. Contracts see a list
+/// of numbers.
 #[derive(Drop)]
 pub struct BlockLines {
     lines: Vec<u32>,
@@ -188,9 +189,9 @@ fn lines_of_clients(alloc: Global, entries: &[u32], items: &[Item]) -> Result<No
     Ok(NodeLines { clients })
 }
 
-/// The line on which the statement of each node of a script's graphs stands in its text, counted from 1; of a client that is started with a
-/// template, in the template's text. The text is cut into tokens once; for each client that is started, the script is gone through up to
-/// its template once more. It fails only where memory runs out.
+/// The line on which the statement of each node of a script's graphs stands in its text, counted from 1; of a client
+/// that is started with a template, in the template's text. The text is cut into tokens once; for each client that is
+/// started, the script is gone through up to its template once more. It fails only where memory runs out.
 pub fn node_lines(alloc: Global, text: &[u8], script: &Script) -> Result<NodeLines, AllocError>
     requires short { length text.now ≤ longest_text }
     ensures lines { IfOk result (λ lines. lines ≡ node_lines text.now script.now) }

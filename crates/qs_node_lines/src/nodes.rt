@@ -1,11 +1,11 @@
 // The lines of the nodes of a block, from its tree.
 
 ghost use Rattle.std.specs.Prelude.{◌≡◌, ◌∷◌, ◌++◌, [], drop, IfOk, OnOk};
-ghost use Rattle.qs_script.specs.Views.{single};
+ghost use Rattle.qs_tree.specs.Views.{single};
 ghost use Rattle.qs_node_lines.specs.NodeLines.{anchor_count, block_nodes, first_entry, statement_nodes};
 
 use crate::skipping::{skip, skip_call, skip_expr};
-use qs_script::{Block, Body, Stmt};
+use qs_tree::{Block, Body, Stmt};
 use std::alloc::{AllocError, Global};
 
 // Adds the first entry, once for a node.

@@ -1,11 +1,11 @@
 // How many anchors the parts of a script have, and what comes after them.
 
 ghost use Rattle.std.specs.Prelude.{◌≡◌, ◌+◌, drop, length, false};
-ghost use Rattle.qs_script.specs.Views.{single};
+ghost use Rattle.qs_tree.specs.Views.{single};
 ghost use Rattle.qs_anchors.specs.Anchors.{block_anchors, blocks_anchors, call_anchors, expr_anchors, item_anchors};
 ghost use Rattle.qs_node_lines.specs.NodeLines.{anchor_count};
 
-use qs_script::{Block, Body, Call, Expr, Item, KindText, Stmt};
+use qs_tree::{Block, Body, Call, Expr, Item, KindText, Stmt};
 
 /// What comes after so many entries.
 pub(crate) fn skip(entries: &[u32], count: usize) -> &[u32]

@@ -1,4 +1,5 @@
--- No operation takes more than three numbers: so many fit into a request's arguments, wherever a statement's call is made into one.
+-- No operation takes more than three numbers: so many fit into a request's arguments, wherever a statement's call is
+-- made into one.
 use Rattle.std.proofs.Common.{◌≤◌, arith, rules}
 use Rattle.qs_objects.specs.Operations.{arity}
 use Rattle.qs_objects.specs.declared.Op.{Op}

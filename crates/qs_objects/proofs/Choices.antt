@@ -1,6 +1,6 @@
--- Two numbers are the same or not, two tickets are the same or not, and the tests for equality tell which. Almost every proof
--- about tickets, objects and clients splits its cases with these lemmas. For numbers they are arithmetic, and for tickets they
--- follow from the two numbers of a ticket.
+-- Two numbers are the same or not, two tickets are the same or not, and the tests for equality tell which. Almost every
+-- proof about tickets, objects and clients splits its cases with these lemmas. For numbers they are arithmetic, and for
+-- tickets they follow from the two numbers of a ticket.
 use Rattle.std.proofs.Common.{◌≡◌, ◌≢◌, ℕ, Bool, true, false, true≢false, ◌==◌, ◌&&◌, ◌⊎◌, inl, inr, ⊎_elim, refl, sym, ◌∙◌, subst, arith}
 use Rattle.std.proofs.lemmas.Bool.{cases_Bool}
 use Rattle.std.proofs.lemmas.Bool.Decides.{nat_tests}

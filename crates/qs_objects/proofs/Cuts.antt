@@ -1,4 +1,5 @@
--- Rows cut from one list: what each row is, and what changes as a value comes to the last row that has any, or takes another's place.
+-- Rows cut from one list: what each row is, and what changes as a value comes to the last row that has any, or takes
+-- another's place.
 use Rattle.std.proofs.Common.{◌≡◌, ◌<◌, ◌≤◌, ℕ, zero, suc, ◌+◌, ◌-◌, ◌==◌, false, List, [], ◌∷◌, ◌++◌, length, get_or, set, take, drop, replicate, refl, sym, ap, ◌∙◌, subst, ⊎_elim, arith, take-append-drop}
 use Rattle.std.proofs.lemmas.List.{take_all, take-append-le, drop-append-le, drop-drop, length-drop, length-set, length-take-le, length-append, get_or-set_same, get_or-set_other, take-set-le, drop-set-lt, drop-set-add}
 use Rattle.std.proofs.Math.Seq.{take-set-lt}

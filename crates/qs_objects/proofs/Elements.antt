@@ -1,5 +1,6 @@
--- What holds of each element of a list holds of the element at any index in the list. Code takes elements by index while most
--- statements speak of all elements, so proofs in many crates need this step. It goes by induction on the list and the index.
+-- What holds of each element of a list holds of the element at any index in the list. Code takes elements by index
+-- while most statements speak of all elements, so proofs in many crates need this step. It goes by induction on the
+-- list and the index.
 use Rattle.std.proofs.Common.{ℕ, zero, suc, ◌<◌, List, [], ◌∷◌, length, get_or, arith}
 use Rattle.std.specs.List.{AllByRecursion}
 

@@ -1,6 +1,6 @@
--- The rows of a grid, as the code keeps them: one after another in one list. Cut into rows again, the list has the cells, the sums and the
--- changes that the rows have; the contracts of `src/grid.rt`, which speak of rows, stand on it. It goes by induction on the rows, of which
--- each takes as many cells off the front of the list as there are columns.
+-- The rows of a grid, as the code keeps them: one after another in one list. Cut into rows again, the list has the
+-- cells, the sums and the changes that the rows have; the contracts of `src/grid.rt`, which speak of rows, stand on it.
+-- It goes by induction on the rows, of which each takes as many cells off the front of the list as there are columns.
 use Rattle.std.proofs.Common.{◌≡◌, ℕ, zero, suc, ◌+◌, ◌*◌, ◌-◌, ◌<◌, ◌≤◌, Bool, true, false, ◌&&◌, not, List, [], ◌∷◌, ◌++◌, length, get_or, set, take, drop, replicate, refl, ap, sym, ◌∙◌, subst, arith, ℤ, pos, negsuc, ◌+ℤ◌, None, Some, if◌then◌else◌, take-append-drop}
 use Rattle.std.proofs.lemmas.Bool.Decides.{nat_tests}
 use Rattle.std.proofs.lemmas.List.{take-replicate, drop-replicate, take-set-le, drop-set-lt, drop-set-add, length-drop, length-take-le, length-replicate, length-set, get_or-drop}

@@ -1,6 +1,6 @@
--- A command never answers, a query answers, a request that does not fit does nothing, and objects keep their kind and their
--- range. The proofs on journals, lanes and private queues use these laws as lemmas. Each goes by cases on the object and the
--- operation, which the proof search or arithmetic finds.
+-- A command never answers, a query answers, a request that does not fit does nothing, and objects keep their kind and
+-- their range. The proofs on journals, lanes and private queues use these laws as lemmas. Each goes by cases on the
+-- object and the operation, which the proof search or arithmetic finds.
 use Rattle.std.proofs.Common.{◌≡◌, Bool, true, false, List, [], ℤ, pos, if◌then◌else◌, Option, arith, rules, refl, replicate, None, IsSome}
 use Rattle.std.proofs.lemmas.Grind.{common_steps}
 use Rattle.std.proofs.lemmas.List.{length-replicate, length-set}

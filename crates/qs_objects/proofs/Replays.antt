@@ -1,6 +1,6 @@
--- A journal in two parts is replayed one part after the other, it is honest where both parts are, and serving a request keeps it
--- true to its object. The law that journals stay honest stands on it, and the proofs of isolation cut journals by it. It goes by
--- induction on the first part.
+-- A journal in two parts is replayed one part after the other, it is honest where both parts are, and serving a request
+-- keeps it true to its object. The law that journals stay honest stands on it, and the proofs of isolation cut journals
+-- by it. It goes by induction on the first part.
 use Rattle.std.proofs.Common.{◌≡◌, Bool, Option, None, ℤ, if◌then◌else◌, true, false, List, [], ◌∷◌, ◌++◌, refl, sym, ap, ◌∙◌, subst}
 use Rattle.std.proofs.lemmas.List.{map-append}
 use Rattle.qs_objects.specs.Act.{State, act}

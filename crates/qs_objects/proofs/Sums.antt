@@ -1,5 +1,6 @@
--- The sum of a list from an index on is the value at that index and the sum of what comes after it. The loop of `clamped_sum`,
--- which adds one value in each turn, is proved with it. The proof takes the first value off the rest of the list.
+-- The sum of a list from an index on is the value at that index and the sum of what comes after it. The loop of
+-- `clamped_sum`, which adds one value in each turn, is proved with it. The proof takes the first value off the rest of
+-- the list.
 use Rattle.std.proofs.Common.{◌≡◌, ℕ, ◌+◌, ◌<◌, List, length, get_or, drop, refl, ℤ, pos, ◌+ℤ◌, add-one}
 use Rattle.std.proofs.Math.Seq.{drop-cons}
 use Rattle.qs_objects.specs.Act.{exact_sum}

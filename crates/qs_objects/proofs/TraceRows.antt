@@ -1,6 +1,6 @@
--- The traces of a client's blocks, stored as rows of events and a list of rooms, are what contracts see of them: each block's
--- events, and how many more it may have. The functions of `Traces` stand on these lemmas. They go by induction on the rows and
--- the rooms together.
+-- The traces of a client's blocks, stored as rows of events and a list of rooms, are what contracts see of them: each
+-- block's events, and how many more it may have. The functions of `Traces` stand on these lemmas. They go by induction
+-- on the rows and the rooms together.
 use Rattle.std.proofs.Common.{◌≡◌, ◌<◌, ◌≤◌, ℕ, zero, suc, ◌+◌, ◌-◌, List, [], ◌∷◌, ◌++◌, length, get_or, set, map, replicate, refl, sym, ap, ◌∙◌, arith}
 use Rattle.std.proofs.lemmas.List.{get_or-set_other, length-append, length-set}
 use Rattle.qs_objects.specs.Rows.{IsLast}

@@ -63,7 +63,8 @@ first_or_zero (x ∷ xs) = x
 abbrev pub buffer_act : State → ℕ → List ℤ → Op → List ℤ → ActResult
 buffer_act s k xs Put (n ∷ []) = unless (nat_le k (length xs)) s (buffer k (xs ++ n ∷ []))
 buffer_act s k xs DropFirst [] = unless (nat_eq (length xs) 0) s (buffer k (drop 1 xs))
-buffer_act s k xs TakeFirst [] = (record { content = buffer k (drop 1 xs); refused = s.refused }, Some (first_or_zero xs))
+buffer_act s k xs TakeFirst [] =
+    (record { content = buffer k (drop 1 xs); refused = s.refused }, Some (first_or_zero xs))
 buffer_act s k xs First [] = replying s (first_or_zero xs)
 buffer_act s k xs Size [] = replying s (pos (length xs))
 buffer_act s k xs Refused [] = replying s s.refused

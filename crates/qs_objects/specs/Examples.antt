@@ -32,7 +32,8 @@ results_of s (l ∷ ls) = let o = act s l.op l.args in let rest = results_of o.0
 
 -- from these contents the lines leave those, and this many refused commands
 abbrev pub Leads : Content → List ExpectedAct → Content → ℕ → Type 0
-Leads c ls end refused = results_of (fresh c) ls ≡ (record { content = end; refused = pos refused }, map (λ l. l.reply) ls)
+Leads c ls end refused =
+    results_of (fresh c) ls ≡ (record { content = end; refused = pos refused }, map (λ l. l.reply) ls)
 
 abbrev pub greatest : ℤ
 greatest = pos 9223372036854775807
@@ -201,11 +202,13 @@ put_take y z =
     ∷ record { request = request TakeFirst []; reply = Some z } ∷ []
 
 pub record JournalExamples : Type 0 where
-  pub answered : run_one (account_held 1 (pos 1) []) ticket (request Balance []) ≡ (account_held 1 (pos 1) (balance_entry ∷ []), Some (pos 1))
+  pub answered : run_one (account_held 1 (pos 1) []) ticket (request Balance [])
+      ≡ (account_held 1 (pos 1) (balance_entry ∷ []), Some (pos 1))
   pub noted :
       run_one (account_held 2 (pos 1) (balance_entry ∷ [])) ticket (request Deposit (one (pos 5)))
       ≡ (account_held 2 (pos 6) (balance_entry ∷ entry (request Deposit (one (pos 5))) None ∷ []), None)
-  pub no_room : run_one (account_held 1 (pos 1) (balance_entry ∷ [])) ticket (request Balance []) ≡ (account_held 1 (pos 1) (balance_entry ∷ []), None)
+  pub no_room : run_one (account_held 1 (pos 1) (balance_entry ∷ [])) ticket (request Balance [])
+      ≡ (account_held 1 (pos 1) (balance_entry ∷ []), None)
   pub replayed : replay (fresh (buffer 1 (one (pos 4)))) (put_take (pos 5) (pos 4)) ≡ counting (pos 1)
   pub honest : IsHonest (fresh (buffer 1 [])) (put_take (pos 5) (pos 5))
   pub dishonest : ¬ IsHonest (fresh (buffer 1 [])) (put_take (pos 5) (pos 4))

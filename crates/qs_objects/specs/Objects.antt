@@ -48,10 +48,10 @@ abbrev pub grid_state : ℕ → ℕ → List ℤ → ℤ → State
 grid_state r c cells n = record { content = grid c (cut_rows r c cells); refused = n }
 
 -- what the code keeps true of what it holds
-abbrev pub IsKept : code.Content → Type 0
-IsKept (Account b) = IsBalance b
-IsKept (Buffer v) = IsRoomy v
-IsKept (Grid r c v) = IsFull r c v
+abbrev pub KeepsContent : code.Content → Type 0
+KeepsContent (Account b) = IsBalance b
+KeepsContent (Buffer v) = IsRoomy v
+KeepsContent (Grid r c v) = IsFull r c v
 
 -- a number from low to high
 abbrev pub between : ℕ → ℤ → ℕ → Bool

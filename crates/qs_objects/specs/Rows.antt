@@ -28,7 +28,11 @@ module _ {X : Type 0} where
   rows_state rows room = record { rows = rows; room = room }
 
   abbrev pub rows_code : Coded X → Coded (RowsState X)
-  rows_code c = code_by (List (List X) × ℕ) (coded× (coded_list (coded_list c)) coded_ℕ) (λ s. (s.rows, s.room)) (λ p. rows_state p.0 p.1) (λ _. refl)
+  rows_code c =
+      code_by (List (List X) × ℕ) (coded× (coded_list (coded_list c)) coded_ℕ) (λ s. (
+        s.rows,
+        s.room,
+      )) (λ p. rows_state p.0 p.1) (λ _. refl)
 
   -- how many values more there may be, of `room` in all
   abbrev pub room_left : ℕ → List X → ℕ

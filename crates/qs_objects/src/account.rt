@@ -36,8 +36,8 @@ pub(crate) fn apply(balance: &mut i64, refused: &mut i64, op: Op, args: &[i64]) 
     }
 }
 
-// Answers what is no command that fits: a query, or None where the request fits nothing. A function of its own, so that `apply`
-// looks at commands first.
+// Answers what is no command that fits: a query, or None where the request fits nothing. A function of its own, so that
+// `apply` looks at commands first.
 #[inline(never)]
 fn ask(balance: i64, refused: i64, op: Op, args: &[i64]) -> Option<i64>
     ensures answers { result ≡ (account_act (account_state balance refused) balance op args.now).1 }

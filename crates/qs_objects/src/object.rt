@@ -2,7 +2,7 @@
 
 ghost use Rattle.std.specs.Prelude.{◌≡◌, ◌↔◌, ◌≤◌, ◌+◌, ◌++◌, length, Some, None, IfOk, IsErr, IsErrOf, IsSome, IsTrue, slice_get, pos, ◌+ℤ◌, ℤ};
 ghost use Rattle.std.specs.VecDeque.{deque_capacity, deque_len};
-ghost use Rattle.qs_objects.specs.Objects.{IsInRange, IsKept, starts, has_memory, needs_memory, kind_of, state_of, values_of};
+ghost use Rattle.qs_objects.specs.Objects.{IsInRange, KeepsContent, starts, has_memory, needs_memory, kind_of, state_of, values_of};
 ghost use Rattle.qs_objects.specs.Act.{act, clamp_to_word};
 ghost use Rattle.qs_objects.specs.Limits.{most_values};
 
@@ -88,9 +88,9 @@ fn copied_queue(alloc: Global, values: &VecDeque<i64>) -> Result<VecDeque<i64>, 
 
 impl Content {
     fn copied(&self, alloc: Global) -> Result<Content, AllocError>
-        requires kept { IsKept self.now }
+        requires kept { KeepsContent self.now }
         ensures same { IfOk result (λ content. (refused : ℤ) → state_of content refused ≡ state_of self.now refused) }
-        ensures kept { IfOk result IsKept }
+        ensures kept { IfOk result KeepsContent }
         ensures memory { IsErr result → (refused : ℤ) → IsTrue (has_memory (state_of self.now refused).content) }
     {
         match self {
@@ -131,11 +131,11 @@ impl Model for Object {
 
     ghost Value = { State };
 
-    ghost use Rattle.qs_objects.specs.Objects.{state_of, IsKept};
+    ghost use Rattle.qs_objects.specs.Objects.{state_of, KeepsContent};
 
     ghost view = { λ o. state_of o.content o.refused };
 
-    ghost invariant = { λ o. IsKept o.content };
+    ghost invariant = { λ o. KeepsContent o.content };
 }
 
 /// The greatest balance of an account.
@@ -193,7 +193,8 @@ impl Object {
         })
     }
 
-    /// The same object once more, with memory of its own. An error says that this memory was refused, never at an account.
+    /// The same object once more, with memory of its own. An error says that this memory was refused, never at an
+    /// account.
     pub fn copied(&self, alloc: Global) -> Result<Object, AllocError>
         ensures same { IfOk result (λ object. object ≡ self.now) }
         ensures memory { IsErr result → IsTrue (has_memory self.now.content) }
@@ -206,7 +207,7 @@ impl Object {
 
     /// What it holds is in range: its balance, its number of values, its rows and columns. It does nothing.
     #[tactic(auto, using(crate::proofs::GridRows::cut_length, crate::proofs::GridRows::cut_even))]
-    pub fn is_in_range(&self)
+    pub fn keeps_range(&self)
         ensures range { IsInRange self.now.content }
     {
         match &self.content {

@@ -6,7 +6,8 @@ ghost use Rattle.qs_objects.specs.Rows.{IsLast, join_rows, rows_state};
 use std::alloc::{AllocError, Global};
 use std::marker::Model;
 
-/// Rows of values, which lie one row after another in one list. Memory is taken in `new` alone; `room` says for how many values in all.
+/// Rows of values, which lie one row after another in one list. Memory is taken in `new` alone; `room` says for how
+/// many values in all.
 pub struct Rows<T> {
     items: Vec<T>,
     starts: Vec<usize>,
@@ -57,8 +58,8 @@ fn zeros(alloc: Global, count: usize) -> Result<Vec<usize>, AllocError>
 }
 
 impl<T> Rows<T> {
-    /// So many empty rows, with room for so many values together. An error says that this memory was refused: it comes only where there is a
-    /// row or room.
+    /// So many empty rows, with room for so many values together. An error says that this memory was refused: it comes
+    /// only where there is a row or room.
     pub fn new(alloc: Global, rows: usize, room: usize) -> Result<Rows<T>, AllocError>
         ensures fresh { IfOk result (λ r. r ≡ rows_state (replicate rows []) room) }
         ensures memory { IsErr result → 0 < rows + room }

@@ -10,8 +10,8 @@ use crate::rows::Rows;
 use std::alloc::{AllocError, Global};
 use std::marker::Model;
 
-/// For each block of a client its trace so far, and how many events there may be. The events of all blocks lie in one row, since a
-/// client's blocks run one after another. Memory is taken in `new` alone.
+/// For each block of a client its trace so far, and how many events there may be. The events of all blocks lie in one
+/// row, since a client's blocks run one after another. Memory is taken in `new` alone.
 pub struct Traces {
     rows: Rows<Event>,
     rooms: Vec<usize>,
@@ -35,8 +35,8 @@ impl Model for Traces {
 }
 
 impl Traces {
-    /// For each room an empty trace with room for so many events; `room` is their sum. An error says that memory was refused: it comes only
-    /// where there is a room.
+    /// For each room an empty trace with room for so many events; `room` is their sum. An error says that memory was
+    /// refused: it comes only where there is a room.
     pub fn new(alloc: Global, rooms: Vec<usize>, room: usize) -> Result<Traces, AllocError>
         requires whole { total rooms.items ≡ room }
         ensures fresh { IfOk result (λ t. t ≡ map empty_trace rooms.items) }

@@ -1,6 +1,6 @@
--- Orders compared by their clients' numbers: one that is before another stays so however the two go on, and none is before an order that it
--- goes on from. A reduced order in two parts is reduced in both, and no order leads back to where it began. The least order that leads to a
--- configuration is found by these. Each goes by induction on an order.
+-- Orders compared by their clients' numbers: one that is before another stays so however the two go on, and none is
+-- before an order that it goes on from. A reduced order in two parts is reduced in both, and no order leads back to
+-- where it began. The least order that leads to a configuration is found by these. Each goes by induction on an order.
 use Rattle.std.proofs.Common.{◌≡◌, ◌<◌, ◌≤◌, ℕ, suc, false, ◌==◌, List, [], ◌∷◌, ◌++◌, refl, sym, ap, ◌∙◌, subst, arith, inl, inr, ⊎_elim, append_assoc}
 use Rattle.std.proofs.lemmas.List.{append_cancel_left}
 use Rattle.qs_objects.specs.declared.held.Ticket.{Ticket}
@@ -12,7 +12,7 @@ use Rattle.qs_meaning.specs.Solo.{put}
 use Rattle.qs_meaning.proofs.Orders.{configuration-append}
 use Rattle.qs_meaning.proofs.TreeWalks.{put_here, put_there}
 use Rattle.qs_outcomes.specs.LeastOrders.{IsBefore}
-use Rattle.qs_outcomes.specs.Standings.{IsReducedAfter}
+use Rattle.qs_standings.specs.Standings.{IsReducedAfter}
 
 pub before_onward : (ts us rest : List Ticket) → IsBefore ts us → IsBefore (ts ++ rest) us
 before_onward [] us rest h = absurd h

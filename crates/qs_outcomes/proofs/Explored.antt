@@ -1,6 +1,7 @@
--- What an explored program tells, once nothing is left on the stack: along any legal order the configuration was seen, at the end of a complete
--- one it was found, and each that was found is the end of its own complete order, the least that comes to the same. Two that were found differ in what they come to, as equal
--- numbers make equal rows. The rows that were seen count the configurations.
+-- What an explored program tells, once nothing is left on the stack: along any legal order the configuration was seen,
+-- at the end of a complete one it was found, and each that was found is the end of its own complete order, the least
+-- that comes to the same. Two that were found differ in what they come to, as equal numbers make equal rows. The rows
+-- that were seen count the configurations.
 use Rattle.std.proofs.Common.{◌≡◌, ◌<◌, ◌≤◌, ℕ, suc, true, List, [], ◌∷◌, ◌++◌, length, get_or, refl, sym, ap, ◌∙◌, subst, arith, inl, inr, length-append}
 use Rattle.std.specs.List.{AllByRecursion}
 use Rattle.qs_objects.specs.declared.held.Ticket.{Ticket}
@@ -14,11 +15,11 @@ use Rattle.qs_meaning.proofs.Each.{each_both, each_map, each_snoc}
 use Rattle.qs_meaning.proofs.Orders.{begun_within, complete_orders_leave_none, configuration-append, configurations_follow_orders, legal-rest, legal_on}
 use Rattle.qs_outcomes.specs.Outcomes.{AreAllOutcomesAfter, AreApart, AreDifferent, HasConfigurationsAfter, HasMoreThanAfter, IsLeastAfter, IsListedAfter, outcome_at}
 use Rattle.qs_outcomes.specs.LeastOrders.{IsLeastThere}
-use Rattle.qs_outcomes.specs.Lists.{HasOne, NoTwo}
-use Rattle.qs_outcomes.specs.Search.{IsExplored, IsFound, IsReached, IsSeen, NoneNext}
-use Rattle.qs_outcomes.specs.Standings.{GoesOn, IsFirst, IsNext, IsStanding, RowShape, StandingShape, configuration_in, row_of}
-use Rattle.qs_outcomes.proofs.Lists.{has_map, has_some, none_of, same_list, two_snoc}
-use Rattle.qs_outcomes.proofs.RowTells.{pick, row_tells, same_configurations, same_row}
+use Rattle.qs_standings.specs.Lists.{HasOne, NoTwo}
+use Rattle.qs_outcomes.specs.Search.{IsExplored, IsFound, IsSeenOrAhead, IsSeen}
+use Rattle.qs_standings.specs.Standings.{NoneNext, GoesOn, IsFirst, IsNext, IsStanding, RowShape, StandingShape, configuration_in, row_of}
+use Rattle.qs_standings.proofs.Lists.{has_map, has_some, none_of, same_list, two_snoc}
+use Rattle.qs_standings.proofs.RowTells.{pick, row_tells, same_configurations, same_row}
 
 -- no block left: each client has begun all that it has
 all_begun : (p : ProgramShape) (front : List Ticket) (s : StandingShape) → IsStanding p front s → NoneNext p s → (c : ℕ) → get_or s.begun c 0 ≡ blocks_of p c
@@ -53,7 +54,7 @@ two_map : {X : Type 0} {Q : X → Type 0} (R S : X → X → Type 0) → ((x y :
 two_map R S f [] each h = tt
 two_map R S f (x ∷ xs) each h = (all_but R S f x each.0 xs each.1 h.0, two_map R S f xs each.1 h.1)
 
-seen_one : (p : ProgramShape) (Q : StandingShape → Type 0) (rows : List RowShape) → IsReached p Q rows [] → (n : StandingShape) × Q n × HasOne (λ r. row_of p n ≡ r) rows
+seen_one : (p : ProgramShape) (Q : StandingShape → Type 0) (rows : List RowShape) → IsSeenOrAhead p Q rows [] → (n : StandingShape) × Q n × HasOne (λ r. row_of p n ≡ r) rows
 seen_one p Q rows (inl h) = absurd h
 seen_one p Q rows (inr h) = pick p Q rows h
 

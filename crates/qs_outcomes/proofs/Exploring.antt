@@ -1,6 +1,7 @@
--- What the search keeps true: each standing that was taken off the stack is seen, what its next blocks lead to is seen or on the stack, and it
--- is found where no block is left. So once the stack is empty, what was seen is closed, and by induction along any legal order its configuration
--- was seen; where the order is complete, it was found. Rows of equal numbers stand for one configuration.
+-- What the search keeps true: each standing that was taken off the stack is seen, what its next blocks lead to is seen
+-- or on the stack, and it is found where no block is left. So once the stack is empty, what was seen is closed, and by
+-- induction along any legal order its configuration was seen; where the order is complete, it was found. Rows of equal
+-- numbers stand for one configuration.
 use Rattle.std.proofs.Common.{◌≡◌, ◌<◌, ◌≤◌, ℕ, suc, Bool, true, false, List, [], ◌∷◌, ◌++◌, length, refl, sym, ap, ◌∙◌, subst, arith, ◌⊎◌, inl, inr, ⊎_elim, append_assoc, append-nil, length-append}
 use Rattle.std.specs.List.{AllByRecursion}
 use Rattle.qs_objects.specs.declared.held.Ticket.{Ticket}
@@ -8,13 +9,13 @@ use Rattle.qs_program.specs.Program.{ProgramShape}
 use Rattle.qs_program.specs.Sound.{IsSound}
 use Rattle.qs_meaning.proofs.Each.{each_back, each_front, each_join, each_map, each_snoc}
 use Rattle.qs_outcomes.specs.LeastOrders.{IsBefore, IsLeastFirst}
-use Rattle.qs_outcomes.specs.Lists.{HasOne, NoTwo}
-use Rattle.qs_outcomes.specs.Search.{AreNextFrom, IsExplored, IsFound, IsLonger, IsNoted, IsPushed, IsReached, IsSeen, NoneNext, WasSeen}
-use Rattle.qs_outcomes.specs.Standings.{GoesOn, IsFirst, IsNext, IsStanding, RowShape, StandingShape, configuration_in, row_of}
+use Rattle.qs_standings.specs.Lists.{HasOne, NoTwo}
+use Rattle.qs_outcomes.specs.Search.{AreNextFrom, IsExplored, IsFound, IsLonger, IsNoted, IsPushed, IsSeenOrAhead, IsSeen, WasSeen}
+use Rattle.qs_standings.specs.Standings.{NoneNext, GoesOn, IsFirst, IsNext, IsStanding, RowShape, StandingShape, configuration_in, row_of}
 use Rattle.qs_outcomes.proofs.Before.{fork}
 use Rattle.qs_outcomes.proofs.LeastFirst.{first_ends, first_pushes, first_skips}
-use Rattle.qs_outcomes.proofs.Lists.{has_back, has_either, has_front, has_map, has_only, none_of, pairs_join, two_snoc}
-use Rattle.qs_outcomes.proofs.Stands.{below_or_past, goes_left, in_program}
+use Rattle.qs_standings.proofs.Lists.{has_back, has_either, has_front, has_map, has_only, none_of, pairs_join, two_snoc}
+use Rattle.qs_standings.proofs.Stands.{below_or_past, goes_left, in_program}
 
 here_or_above : (c d : ℕ) → c ≤ d → (c ≡ d) ⊎ (suc c ≤ d)
 here_or_above c d h =
@@ -26,7 +27,7 @@ here_or_above c d h =
 -- whatever was reached stays so, where the last of the stack was seen
 reached_on : (p : ProgramShape) (Q : StandingShape → Type 0) (rows later : List RowShape) (stack now : List StandingShape) (s : StandingShape)
     → HasOne (λ r. row_of p s ≡ r) later → ((P : RowShape → Type 0) → HasOne P rows → HasOne P later) → ((P : StandingShape → Type 0) → HasOne P stack → HasOne P now)
-    → IsReached p Q rows (stack ++ s ∷ []) → IsReached p Q later now
+    → IsSeenOrAhead p Q rows (stack ++ s ∷ []) → IsSeenOrAhead p Q later now
 reached_on p Q rows later stack now s seen more on (inl h) =
     ⊎_elim
     (λ (before : HasOne Q stack). inl (on Q before))
@@ -65,10 +66,10 @@ module _ (p : ProgramShape) (front : List Ticket) (sound : IsSound p) (rows : Li
     here : HasOne (λ r. row_of p s ≡ r) (rows ++ row_of p s ∷ [])
     here = has_back (λ r. row_of p s ≡ r) rows (row_of p s ∷ []) (inl refl)
 
-    onward : (Q : StandingShape → Type 0) → IsReached p Q rows (stack ++ s ∷ []) → IsReached p Q (rows ++ row_of p s ∷ []) (stack ++ added)
+    onward : (Q : StandingShape → Type 0) → IsSeenOrAhead p Q rows (stack ++ s ∷ []) → IsSeenOrAhead p Q (rows ++ row_of p s ∷ []) (stack ++ added)
     onward Q = reached_on p Q rows (rows ++ row_of p s ∷ []) stack (stack ++ added) s here (λ P. has_front P rows (row_of p s ∷ [])) (λ P. has_front P stack added)
 
-    ahead : (c : ℕ) → IsReached p (IsNext p front s c) (rows ++ row_of p s ∷ []) added → IsReached p (IsNext p front s c) (rows ++ row_of p s ∷ []) (stack ++ added)
+    ahead : (c : ℕ) → IsSeenOrAhead p (IsNext p front s c) (rows ++ row_of p s ∷ []) added → IsSeenOrAhead p (IsNext p front s c) (rows ++ row_of p s ∷ []) (stack ++ added)
     ahead c (inl h) = inl (has_back (IsNext p front s c) stack added h)
     ahead c (inr h) = inr h
 
@@ -150,7 +151,7 @@ pushed_on p front rows s c before middle after client (added, is, next) (inl (n,
         (subst (IsBefore (s.order ++ record { client = c; index = (configuration_in s).begun c } ∷ [])) (sym later.order)
         (fork s.order (record { client = c; index = (configuration_in s).begun c }) (record { client = d; index = (configuration_in s).begun d }) (omega (arith, above))))
 
-    longer : (d : ℕ) → IsReached p (IsNext p front s d) rows added → IsReached p (IsNext p front s d) rows (added ++ n ∷ [])
+    longer : (d : ℕ) → IsSeenOrAhead p (IsNext p front s d) rows added → IsSeenOrAhead p (IsNext p front s d) rows (added ++ n ∷ [])
     longer d (inl h) = inl (has_front (IsNext p front s d) added (n ∷ []) h)
     longer d (inr h) = inr h
 pushed_on p front rows s c before middle after client (added, is, next) (inr (why, now)) = (
@@ -161,14 +162,14 @@ pushed_on p front rows s c before middle after client (added, is, next) (inr (wh
     sorted = next.sorted;
     each = λ d from within goes.
         ⊎_elim
-        (λ (same : c ≡ d). subst (λ e. GoesOn p s e → IsReached p (IsNext p front s e) rows added) same (λ here. seen_or_not why here) goes)
+        (λ (same : c ≡ d). subst (λ e. GoesOn p s e → IsSeenOrAhead p (IsNext p front s e) rows added) same (λ here. seen_or_not why here) goes)
         (λ (above : suc c ≤ d). next.each d above within goes)
         (here_or_above c d from);
     few = (let few = next.few in omega (arith, few));
   },
 )
   where
-    seen_or_not : WasSeen p front rows s c ⊎ (GoesOn p s c → ⊥) → GoesOn p s c → IsReached p (IsNext p front s c) rows added
+    seen_or_not : WasSeen p front rows s c ⊎ (GoesOn p s c → ⊥) → GoesOn p s c → IsSeenOrAhead p (IsNext p front s c) rows added
     seen_or_not (inl seen) goes = inr seen
     seen_or_not (inr not) goes = absurd (not goes)
 

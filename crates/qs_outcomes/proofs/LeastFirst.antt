@@ -1,7 +1,8 @@
--- The search notes each configuration first by its least order. Each reduced order leads to what was seen or goes through a standing on the
--- stack, and the top of the stack is before all below it: so an order before the top leads to what was seen. Where the top was not seen, no
--- order before its own leads there. Where it was seen, or its next block leads to what was seen, that was noted by an order before it, and an
--- order that goes on from there instead is before the top, too: so nothing is lost where it is passed over.
+-- The search notes each configuration first by its least order. Each reduced order leads to what was seen or goes
+-- through a standing on the stack, and the top of the stack is before all below it: so an order before the top leads to
+-- what was seen. Where the top was not seen, no order before its own leads there. Where it was seen, or its next block
+-- leads to what was seen, that was noted by an order before it, and an order that goes on from there instead is before
+-- the top, too: so nothing is lost where it is passed over.
 use Rattle.std.proofs.Common.{◌≡◌, ◌≤◌, ℕ, true, List, [], ◌∷◌, ◌++◌, refl, sym, ap, ◌∙◌, subst, arith, ◌⊎◌, inl, inr, append_assoc, append-nil}
 use Rattle.std.specs.List.{AllByRecursion}
 use Rattle.qs_objects.specs.declared.held.Ticket.{Ticket}
@@ -13,13 +14,13 @@ use Rattle.qs_meaning.specs.Serial.{IsLegal, LegalFrom}
 use Rattle.qs_meaning.proofs.Each.{each_back, each_front, each_join, each_map, each_snoc}
 use Rattle.qs_meaning.proofs.Orders.{configuration-append, legal-join, legal-rest}
 use Rattle.qs_outcomes.specs.LeastOrders.{IsAheadOf, IsBefore, IsLeastFirst, IsLeastThere, IsLongerBy, IsNotedAhead, IsSeenAfter}
-use Rattle.qs_outcomes.specs.Lists.{HasOne}
+use Rattle.qs_standings.specs.Lists.{HasOne}
 use Rattle.qs_outcomes.specs.Search.{AreNextFrom}
-use Rattle.qs_outcomes.specs.Standings.{GoesOn, IsNext, IsReducedAfter, IsStanding, RowShape, StandingShape, configuration_in, row_of}
+use Rattle.qs_standings.specs.Standings.{GoesOn, IsNext, IsReducedAfter, IsStanding, RowShape, StandingShape, configuration_in, row_of}
 use Rattle.qs_outcomes.proofs.Before.{before_both, before_longer, before_onward, never_back, not_before, reduced_back, reduced_onward}
-use Rattle.qs_outcomes.proofs.Lists.{has_back, has_either, has_front, has_map, has_only, has_some, pairs_front, pairs_join, pairs_last}
-use Rattle.qs_outcomes.proofs.RowTells.{pick, row_tells, same_configurations}
-use Rattle.qs_outcomes.proofs.Stands.{configuration-snoc, goes_left, in_program}
+use Rattle.qs_standings.proofs.Lists.{has_back, has_either, has_front, has_map, has_only, has_some, pairs_front, pairs_join, pairs_last}
+use Rattle.qs_standings.proofs.RowTells.{pick, row_tells, same_configurations}
+use Rattle.qs_standings.proofs.Stands.{configuration-snoc, goes_left, in_program}
 
 abbrev GoesThrough : List Ticket → StandingShape → Type 0
 GoesThrough order s = (rest : List Ticket) × IsLongerBy s.order rest order
@@ -77,7 +78,8 @@ module _ (p : ProgramShape) (front : List Ticket) (sound : IsSound p) (rows : Li
       (sym (configuration-append p (first_configuration p) v.order (u ∷ (rest ++ more)))
       ∙ ap (configuration_after p) (sym (ap (λ ts. ts ++ more) longer ∙ append_assoc v.order (u ∷ rest) more)) ∙ sym same ∙ stands.stands))
 
-  -- where an order leads from the top to a standing whose row was seen, all that goes on from there leads to what was seen
+  -- where an order leads from the top to a standing whose row was seen, all that goes on from there leads to what was
+  -- seen
   seen_onward : (n : StandingShape) → IsStanding p front n → HasOne (λ r. row_of p n ≡ r) rows → (more rest : List Ticket) → configuration_in n ≡ configuration_after p (s.order ++ more)
       → IsReducedAfter p front (s.order ++ more) → (order : List Ticket) → order ≡ (s.order ++ more) ++ rest → IsLegal p order → IsReducedAfter p front order
       → LeadsToSeen p front rows order

@@ -1,12 +1,4 @@
-pub mod Fronts
-pub mod RowSteps
-pub mod Stands
-pub mod Lists
 pub mod Before
 pub mod LeastFirst
-pub mod RowTells
 pub mod Exploring
 pub mod Explored
-pub mod Inserting
-pub mod GoingSets
-pub mod NextRows

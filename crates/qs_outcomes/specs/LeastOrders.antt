@@ -1,12 +1,13 @@
--- Which order is shown of those that lead to one configuration: orders are compared by their clients' numbers, the first place first.
+-- Which order is shown of those that lead to one configuration: orders are compared by their clients' numbers, the
+-- first place first.
 use Rattle.std.specs.Prelude.{◌≡◌, ◌<◌, List, [], ◌∷◌, ◌++◌, ◌⊎◌}
 use Rattle.std.specs.List.{AllByRecursion}
 use Rattle.qs_objects.specs.declared.held.Ticket.{Ticket}
 use Rattle.qs_program.specs.Program.{ProgramShape}
 use Rattle.qs_meaning.specs.Configurations.{configuration_after}
 use Rattle.qs_meaning.specs.Serial.{IsLegal}
-use Rattle.qs_outcomes.specs.Lists.{EachTwo, HasOne}
-use Rattle.qs_outcomes.specs.Standings.{IsReducedAfter, IsStanding, RowShape, StandingShape, configuration_in, row_of}
+use Rattle.qs_standings.specs.Lists.{EachTwo, HasOne}
+use Rattle.qs_standings.specs.Standings.{IsReducedAfter, IsStanding, RowShape, StandingShape, configuration_in, row_of}
 
 -- at the first place where the clients differ, the first order's has the smaller number
 abbrev pub IsBefore : List Ticket → List Ticket → Type 0
@@ -21,7 +22,8 @@ AreSorted ss = EachTwo (λ s t. IsBefore s.order t.order) ss
 -- No reduced order that leads to the same configuration is before its own.
 abbrev pub IsLeastThere : ProgramShape → List Ticket → StandingShape → Type 0
 IsLeastThere p front s =
-    (order : List Ticket) → IsLegal p order → IsReducedAfter p front order → configuration_after p order ≡ configuration_in s → IsBefore order s.order → ⊥
+    (order : List Ticket) → IsLegal p order → IsReducedAfter p front order
+    → configuration_after p order ≡ configuration_in s → IsBefore order s.order → ⊥
 
 -- an order, and what it has behind a part with which it begins
 abbrev pub IsLongerBy : List Ticket → List Ticket → List Ticket → Type 0
@@ -32,24 +34,28 @@ abbrev pub IsAheadOf : StandingShape → StandingShape → Type 0
 IsAheadOf s t = IsBefore s.order t.order ⊎ ((u : Ticket) × (rest : List Ticket) × IsLongerBy s.order (u ∷ rest) t.order)
 
 -- a row was noted of a standing whose order is ahead of all on the stack
-pub record IsNotedAhead (p : ProgramShape) (front : List Ticket) (stack : List StandingShape) (r : RowShape) (s : StandingShape) : Type 0 where
+pub record IsNotedAhead (p : ProgramShape) (front : List Ticket) (stack : List StandingShape) (r : RowShape)
+    (s : StandingShape) : Type 0 where
   pub standing : IsStanding p front s
   pub row : row_of p s ≡ r
   pub ahead : AllByRecursion (IsAheadOf s) stack
 
 -- a standing whose row was seen is where the order leads
-pub record IsSeenAfter (p : ProgramShape) (front : List Ticket) (rows : List RowShape) (order : List Ticket) (s : StandingShape) : Type 0 where
+pub record IsSeenAfter (p : ProgramShape) (front : List Ticket) (rows : List RowShape) (order : List Ticket)
+    (s : StandingShape) : Type 0 where
   pub standing : IsStanding p front s
   pub there : configuration_in s ≡ configuration_after p order
   pub row : HasOne (λ r. row_of p s ≡ r) rows
 
--- The stack is sorted from its top down, and what was found in the order in which it was found. What was noted is ahead of the stack, and
--- each reduced order leads to what was seen or through a standing on the stack.
-pub record IsLeastFirst (p : ProgramShape) (front : List Ticket) (rows : List RowShape) (stack found : List StandingShape) : Type 0 where
+-- The stack is sorted from its top down, and what was found in the order in which it was found. What was noted is ahead
+-- of the stack, and each reduced order leads to what was seen or through a standing on the stack.
+pub record IsLeastFirst (p : ProgramShape) (front : List Ticket) (rows : List RowShape)
+    (stack found : List StandingShape) : Type 0 where
   pub stack_sorted : EachTwo (λ s t. IsBefore t.order s.order) stack
   pub noted : AllByRecursion (λ r. (s : StandingShape) × IsNotedAhead p front stack r s) rows
   pub covered : (order : List Ticket) → IsLegal p order → IsReducedAfter p front order
-      → ((s : StandingShape) × IsSeenAfter p front rows order s) ⊎ HasOne (λ s. (rest : List Ticket) × IsLongerBy s.order rest order) stack
+      → ((s : StandingShape) × IsSeenAfter p front rows order s)
+      ⊎ HasOne (λ s. (rest : List Ticket) × IsLongerBy s.order rest order) stack
   pub least : AllByRecursion (IsLeastThere p front) found
   pub sorted : AreSorted found
   pub before : AllByRecursion (λ x. AllByRecursion (λ s. IsBefore x.order s.order) stack) found

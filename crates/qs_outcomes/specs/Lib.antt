@@ -1,7 +1,5 @@
-pub mod Going
-pub mod Standings
-pub mod Lists
+-- What an auditor reads: the promises and the calls of the surface are said with these.
 pub mod LeastOrders
-pub mod Search
-pub mod Rows
 pub mod Outcomes
+-- What crates promise one another, what proofs use, and worked examples.
+pub mod Search

@@ -6,9 +6,9 @@ use Rattle.qs_program.specs.Program.{ProgramShape}
 use Rattle.qs_meaning.specs.Configurations.{IsComplete, OrderOutcome, configuration_after, outcome_in, outcome_of}
 use Rattle.qs_meaning.specs.Reduced.{IsReducedFrom}
 use Rattle.qs_meaning.specs.Serial.{IsLegal}
-use Rattle.qs_outcomes.specs.LeastOrders.{IsBefore}
-use Rattle.qs_outcomes.specs.Lists.{HasOne, NoTwo}
-use Rattle.qs_outcomes.specs.Standings.{IsReducedAfter, IsStanding, StandingShape, configuration_in}
+use Rattle.qs_outcomes.specs.LeastOrders.{AreSorted, IsBefore}
+use Rattle.qs_standings.specs.Lists.{HasOne, NoTwo}
+use Rattle.qs_standings.specs.Standings.{IsReducedAfter, IsStanding, StandingShape, configuration_in}
 
 -- what was found, and how many configurations there are
 pub record OutcomesShape : Type 0 where
@@ -37,11 +37,12 @@ IsListed p s = IsListedAfter p [] s
 -- the outcome of each complete order that begins with the front is among these
 abbrev pub AreAllOutcomesAfter : ProgramShape → List Ticket → List StandingShape → Type 0
 AreAllOutcomesAfter p front found =
-    (rest : List Ticket) → IsComplete p (front ++ rest) → HasOne (λ s. outcome_at s ≡ outcome_of p (front ++ rest)) found
+    (rest : List Ticket) → IsComplete p (front ++ rest)
+    → HasOne (λ s. outcome_at s ≡ outcome_of p (front ++ rest)) found
 
 -- the outcome of each complete order is among these
 abbrev pub AreAllOutcomes : ProgramShape → List StandingShape → Type 0
-AreAllOutcomes p found = (order : List Ticket) → IsComplete p order → HasOne (λ s. outcome_at s ≡ outcome_of p order) found
+AreAllOutcomes p found = AreAllOutcomesAfter p [] found
 
 abbrev pub AreApart : List StandingShape → Type 0
 AreApart found = NoTwo (λ s t. outcome_at s ≡ outcome_at t) found
@@ -49,7 +50,8 @@ AreApart found = NoTwo (λ s t. outcome_at s ≡ outcome_at t) found
 -- no complete order that is reduced after the front and comes to the same is before its own
 abbrev pub IsLeastAfter : ProgramShape → List Ticket → StandingShape → Type 0
 IsLeastAfter p front s =
-    (order : List Ticket) → IsComplete p order → IsReducedAfter p front order → outcome_of p order ≡ outcome_at s → IsBefore order s.order → ⊥
+    (order : List Ticket) → IsComplete p order → IsReducedAfter p front order → outcome_of p order ≡ outcome_at s
+    → IsBefore order s.order → ⊥
 
 abbrev pub IsLeast : ProgramShape → StandingShape → Type 0
 IsLeast p s = IsLeastAfter p [] s
@@ -71,9 +73,21 @@ HasConfigurationsAfter p front count =
 abbrev pub HasMoreThanAfter : ProgramShape → List Ticket → ℕ → Type 0
 HasMoreThanAfter p front limit = (ss : List StandingShape) × AreDifferent p front ss (suc limit)
 
--- reduced orders lead to exactly so many different configurations
-abbrev pub HasConfigurations : ProgramShape → ℕ → Type 0
-HasConfigurations p count = HasConfigurationsAfter p [] count
-
 abbrev pub HasMoreThan : ProgramShape → ℕ → Type 0
 HasMoreThan p limit = HasMoreThanAfter p [] limit
+
+-- Of the complete orders that begin with a legal front: each that is listed comes from the order that it shows, the
+-- least of the reduced ones that come to it, and they stand in the order of these; the outcome of each such order is
+-- among them, and no two are equal; and so many configurations there are.
+pub record AreOutcomesAfter (p : ProgramShape) (front : List Ticket) (all : OutcomesShape) : Type 0 where
+  pub legal : IsLegal p front
+  pub sound : AllByRecursion (IsListedAfter p front) all.found
+  pub complete : AreAllOutcomesAfter p front all.found
+  pub least : AllByRecursion (IsLeastAfter p front) all.found
+  pub sorted : AreSorted all.found
+  pub once : AreApart all.found
+  pub counted : HasConfigurationsAfter p front all.configurations
+
+-- of all complete orders
+abbrev pub AreOutcomes : ProgramShape → OutcomesShape → Type 0
+AreOutcomes p all = AreOutcomesAfter p [] all

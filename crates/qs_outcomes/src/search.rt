@@ -1,30 +1,25 @@
 //! The search over configurations.
 
 ghost use Rattle.std.specs.Prelude.{◌≡◌, ◌<◌, ◌≤◌, ◌+◌, true, false, IfOk, OnOk, IsErrOf, [], ◌∷◌, ◌++◌, length};
-ghost use Rattle.std.specs.List.{AllByRecursion};
-ghost use Rattle.qs_orders.specs.NamedOrders.{order_of};
+ghost use Rattle.qs_serial.specs.NamedOrders.{order_of};
 ghost use Rattle.qs_meaning.specs.Serial.{IsLegal};
-ghost use Rattle.qs_outcomes.specs.Outcomes.{AreAllOutcomes, AreAllOutcomesAfter, AreApart, HasConfigurations, HasConfigurationsAfter, HasMoreThan, HasMoreThanAfter, IsLeast, IsLeastAfter, IsListed, IsListedAfter};
-ghost use Rattle.qs_outcomes.specs.LeastOrders.{AreSorted};
-ghost use Rattle.qs_outcomes.specs.Lists.{HasOne};
-ghost use Rattle.qs_outcomes.specs.Rows.{AreStarts, drafted, rows_in, shape_of};
-ghost use Rattle.qs_outcomes.specs.Search.{IsExplored, IsInserted, IsLonger, IsNoted, IsPushed, work_left};
+ghost use Rattle.qs_outcomes.specs.Outcomes.{AreOutcomes, AreOutcomesAfter, HasMoreThan, HasMoreThanAfter};
+ghost use Rattle.qs_standings.specs.Lists.{HasOne};
+ghost use Rattle.qs_standings.specs.Rows.{AreStarts, drafted, rows_in, shape_of, IsInserted};
+ghost use Rattle.qs_outcomes.specs.Search.{IsExplored, IsLonger, IsNoted, IsPushed, work_left};
 ghost use Rattle.qs_meaning.specs.Reduced.{goes_on};
-ghost use Rattle.qs_outcomes.specs.Going.{AreLast, in_byte};
-ghost use Rattle.qs_outcomes.specs.Standings.{IsFirst, IsStanding, configuration_in, row_of};
+ghost use Rattle.qs_standings.specs.Going.{AreLast, in_byte};
+ghost use Rattle.qs_standings.specs.Standings.{IsFirst, IsStanding, configuration_in, row_of};
 
-use crate::copies::copied;
 use crate::fault::OutcomesFault;
-use crate::front::placed;
-use crate::going::{Last, last_blocks};
-use crate::hints::Hints;
-use crate::rows::{Draft, Row, row_starts};
-use crate::standing::Standing;
 use crate::watcher::{Unwatched, Watcher};
-use indexmap::{Equivalent, IndexSet};
+use indexmap::IndexSet;
 use qs_objects::{Object, Ticket};
-use qs_orders::names_order;
 use qs_program::{Locals, MOST_VARIABLES, Program};
+use qs_serial::names_order;
+use qs_standings::{
+    Draft, Hints, Last, Row, Standing, copied, insert, last_blocks, placed, row_starts, was_seen,
+};
 use std::alloc::{AllocError, Global};
 use std::marker::Model;
 
@@ -67,8 +62,9 @@ impl AllOutcomes {
     }
 }
 
-// What the search writes into again and again: the row of the standing that was taken up, what a next block leaves of the client's variables
-// and of the objects, and the row of where it leads; standings that are done with; and guesses where rows stand.
+// What the search writes into again and again: the row of the standing that was taken up, what a next block leaves of
+// the client's variables and of the objects, and the row of where it leads; standings that are done with; and guesses
+// where rows stand.
 #[derive(Drop)]
 struct Scratch {
     base: Draft,
@@ -91,16 +87,6 @@ fn spare_standing(alloc: Global, spare: &mut Vec<Standing>) -> Standing {
 fn put_by(spare: &mut Vec<Standing>, standing: Standing) -> Result<(), AllocError> {
     spare.push(standing)?;
     Ok(())
-}
-
-// Adds a row: whether it is new.
-fn insert(seen: &mut IndexSet<Row>, row: Row) -> Result<bool, AllocError>
-    ensures inserted { IfOk result (λ new. IsInserted (rows_in seen.old.keys) (shape_of row) new (rows_in seen.new.keys)) }
-{
-    let Ok((_, new)) = seen.insert_full(row) else {
-        return Err(AllocError);
-    };
-    Ok(new)
 }
 
 // Notes a standing's row: whether it is new.
@@ -132,26 +118,6 @@ fn note(
     Ok(new)
 }
 
-// Whether a row stands at a place of the table.
-fn stands_at(seen: &IndexSet<Row>, place: usize, row: &Draft) -> bool
-    ensures seen { result ≡ true → HasOne (λ r. drafted row.now ≡ r) (rows_in seen.now.keys) }
-{
-    match seen.get_index(place) {
-        Some(known) => row.equivalent(known),
-        None => false,
-    }
-}
-
-// Whether a row is found in the table. Where there is no guess it is not looked for: it can hardly be there.
-fn was_seen(seen: &IndexSet<Row>, hints: &Hints, row: &Draft) -> bool
-    ensures seen { result ≡ true → HasOne (λ r. drafted row.now ≡ r) (rows_in seen.now.keys) }
-{
-    match hints.at(&row.begun) {
-        None => false,
-        Some(place) => stands_at(seen, place, row) || seen.contains(row),
-    }
-}
-
 // Adds where a client's next block leads, if the client is one of those who go on and this was not seen.
 fn push_one(
     alloc: Global,
@@ -173,7 +139,7 @@ fn push_one(
     ensures base { scratch.new.base ≡ scratch.old.base }
     ensures pushed { OnOk result (IsPushed program.now front.now (rows_in seen.now.keys) standing.now client stack.old.items stack.new.items) }
 {
-    program.is_sound();
+    program.keeps_sound();
     if (goes >> client) & 1 == 1 {
         standing.run_next(
             alloc,
@@ -229,7 +195,7 @@ fn push_next(
     requires base { drafted scratch.old.base ≡ row_of program.now standing.now }
     ensures longer { OnOk result (IsLonger program.now front.now (rows_in seen.now.keys) standing.now 0 stack.old.items stack.new.items) }
 {
-    program.is_sound();
+    program.keeps_sound();
     let goes = standing.goes_on(program, last, front);
     let clients = program.clients() as u8;
     for back in 0..clients {
@@ -256,8 +222,8 @@ fn add(list: &mut Vec<Standing>, standing: Standing) -> Result<(), AllocError>
     Ok(())
 }
 
-// Takes up a standing: nothing where its row was seen, else what the next blocks of those who go on lead to, or an outcome where no block is
-// left. The watcher is told of a standing whose row was not seen.
+// Takes up a standing: nothing where its row was seen, else what the next blocks of those who go on lead to, or an
+// outcome where no block is left. The watcher is told of a standing whose row was not seen.
 fn visit<W: Watcher>(
     alloc: Global,
     program: &Program,
@@ -283,7 +249,7 @@ fn visit<W: Watcher>(
     ensures limit { IsErrOf result OutcomesFault.Limit → HasMoreThanAfter program.now front.now limit }
     ensures order { ¬ IsErrOf result OutcomesFault.Order }
 {
-    program.is_sound();
+    program.keeps_sound();
     match note(alloc, program, front, limit, &standing, scratch, seen) {
         Err(fault) => return Err(fault),
         Ok(false) => return Ok(put_by(&mut scratch.spare, standing)?),
@@ -310,17 +276,12 @@ fn search_from<W: Watcher>(
     watcher: &mut W,
 ) -> Result<AllOutcomes, OutcomesFault>
     requires first { IsFirst program.now front.now first }
-    ensures sound { IfOk result (λ all. AllByRecursion (IsListedAfter program.now front.now) all.found) }
-    ensures complete { IfOk result (λ all. AreAllOutcomesAfter program.now front.now all.found) }
-    ensures least { IfOk result (λ all. AllByRecursion (IsLeastAfter program.now front.now) all.found) }
-    ensures sorted { IfOk result (λ all. AreSorted all.found) }
-    ensures once { IfOk result (λ all. AreApart all.found) }
-    ensures counted { IfOk result (λ all. HasConfigurationsAfter program.now front.now all.configurations) }
+    ensures outcomes { IfOk result (λ all. AreOutcomesAfter program.now front.now all) }
     ensures within { IfOk result (λ all. all.configurations ≤ limit) }
     ensures limit { IsErrOf result OutcomesFault.Limit → HasMoreThanAfter program.now front.now limit }
     ensures order { ¬ IsErrOf result OutcomesFault.Order }
 {
-    program.is_sound();
+    program.keeps_sound();
     let last = last_blocks(alloc, program)?;
     let starts = row_starts(alloc, program)?;
     let mut seen = IndexSet::new(alloc);
@@ -357,10 +318,11 @@ fn search_from<W: Watcher>(
     })
 }
 
-/// All outcomes of a program after the blocks that a list of clients names, each client's in turn: each once, with the least complete order
-/// that begins with these, is reduced after them and comes to it, and sorted by these orders; and how many different configurations orders
-/// lead to that are reduced after them. `Order` comes exactly where no legal order is named, `Limit` only where there are more
-/// configurations than the limit, `Memory` where memory was refused. The watcher is told of each new configuration as it is noted.
+/// All outcomes of a program after the blocks that a list of clients names, each client's in turn: each once, with the
+/// least complete order that begins with these, is reduced after them and comes to it, and sorted by these orders; and
+/// how many different configurations orders lead to that are reduced after them. `Order` comes exactly where no legal
+/// order is named, `Limit` only where there are more configurations than the limit, `Memory` where memory was refused.
+/// The watcher is told of each new configuration as it is noted.
 pub fn outcomes_watched<W: Watcher>(
     alloc: Global,
     program: &Program,
@@ -368,13 +330,7 @@ pub fn outcomes_watched<W: Watcher>(
     limit: u32,
     watcher: &mut W,
 ) -> Result<AllOutcomes, OutcomesFault>
-    ensures legal { IfOk result (λ all. IsLegal program.now (order_of front.now)) }
-    ensures sound { IfOk result (λ all. AllByRecursion (IsListedAfter program.now (order_of front.now)) all.found) }
-    ensures complete { IfOk result (λ all. AreAllOutcomesAfter program.now (order_of front.now) all.found) }
-    ensures least { IfOk result (λ all. AllByRecursion (IsLeastAfter program.now (order_of front.now)) all.found) }
-    ensures sorted { IfOk result (λ all. AreSorted all.found) }
-    ensures once { IfOk result (λ all. AreApart all.found) }
-    ensures counted { IfOk result (λ all. HasConfigurationsAfter program.now (order_of front.now) all.configurations) }
+    ensures outcomes { IfOk result (λ all. AreOutcomesAfter program.now (order_of front.now) all) }
     ensures within { IfOk result (λ all. all.configurations ≤ limit) }
     ensures limit { IsErrOf result OutcomesFault.Limit → HasMoreThanAfter program.now (order_of front.now) limit }
     ensures order { IsErrOf result OutcomesFault.Order → ¬ IsLegal program.now (order_of front.now) }
@@ -387,23 +343,17 @@ pub fn outcomes_watched<W: Watcher>(
     search_from(alloc, program, order.as_slice(), first, limit, watcher)
 }
 
-/// All outcomes of a program after the blocks that a list of clients names, each client's in turn: each once, with the least complete order
-/// that begins with these, is reduced after them and comes to it, and sorted by these orders; and how many different configurations orders
-/// lead to that are reduced after them. `Order` comes exactly where no legal order is named, `Limit` only where there are more
-/// configurations than the limit, `Memory` where memory was refused.
+/// All outcomes of a program after the blocks that a list of clients names, each client's in turn: each once, with the
+/// least complete order that begins with these, is reduced after them and comes to it, and sorted by these orders; and
+/// how many different configurations orders lead to that are reduced after them. `Order` comes exactly where no legal
+/// order is named, `Limit` only where there are more configurations than the limit, `Memory` where memory was refused.
 pub fn outcomes_after(
     alloc: Global,
     program: &Program,
     front: &[u8],
     limit: u32,
 ) -> Result<AllOutcomes, OutcomesFault>
-    ensures legal { IfOk result (λ all. IsLegal program.now (order_of front.now)) }
-    ensures sound { IfOk result (λ all. AllByRecursion (IsListedAfter program.now (order_of front.now)) all.found) }
-    ensures complete { IfOk result (λ all. AreAllOutcomesAfter program.now (order_of front.now) all.found) }
-    ensures least { IfOk result (λ all. AllByRecursion (IsLeastAfter program.now (order_of front.now)) all.found) }
-    ensures sorted { IfOk result (λ all. AreSorted all.found) }
-    ensures once { IfOk result (λ all. AreApart all.found) }
-    ensures counted { IfOk result (λ all. HasConfigurationsAfter program.now (order_of front.now) all.configurations) }
+    ensures outcomes { IfOk result (λ all. AreOutcomesAfter program.now (order_of front.now) all) }
     ensures within { IfOk result (λ all. all.configurations ≤ limit) }
     ensures limit { IsErrOf result OutcomesFault.Limit → HasMoreThanAfter program.now (order_of front.now) limit }
     ensures order { IsErrOf result OutcomesFault.Order → ¬ IsLegal program.now (order_of front.now) }
@@ -411,16 +361,11 @@ pub fn outcomes_after(
     outcomes_watched(alloc, program, front, limit, &mut Unwatched)
 }
 
-/// All outcomes of a program, each once, with the least reduced order that comes to it, and sorted by these orders; and how many different
-/// configurations reduced orders lead to. `Limit` comes only where there are more configurations than the limit, `Memory` where memory was
-/// refused, and `Order` never.
+/// All outcomes of a program, each once, with the least reduced order that comes to it, and sorted by these orders; and
+/// how many different configurations reduced orders lead to. `Limit` comes only where there are more configurations
+/// than the limit, `Memory` where memory was refused, and `Order` never.
 pub fn outcomes(alloc: Global, program: &Program, limit: u32) -> Result<AllOutcomes, OutcomesFault>
-    ensures sound { IfOk result (λ all. AllByRecursion (IsListed program.now) all.found) }
-    ensures complete { IfOk result (λ all. AreAllOutcomes program.now all.found) }
-    ensures least { IfOk result (λ all. AllByRecursion (IsLeast program.now) all.found) }
-    ensures sorted { IfOk result (λ all. AreSorted all.found) }
-    ensures once { IfOk result (λ all. AreApart all.found) }
-    ensures counted { IfOk result (λ all. HasConfigurations program.now all.configurations) }
+    ensures outcomes { IfOk result (λ all. AreOutcomes program.now all) }
     ensures within { IfOk result (λ all. all.configurations ≤ limit) }
     ensures limit { IsErrOf result OutcomesFault.Limit → HasMoreThan program.now limit }
     ensures order { ¬ IsErrOf result OutcomesFault.Order }

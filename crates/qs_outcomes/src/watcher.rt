@@ -2,8 +2,8 @@
 
 /// Is told of a search while it goes on: a sign of life of one that takes long.
 pub trait Watcher {
-    /// Is told, once for each new configuration, how many different ones were noted so far, this one among them. Whatever it does, it
-    /// returns, and the search goes on.
+    /// Is told, once for each new configuration, how many different ones were noted so far, this one among them.
+    /// Whatever it does, it returns, and the search goes on.
     fn noted(&mut self, configurations: usize);
 }
 

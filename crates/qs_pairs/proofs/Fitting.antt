@@ -1,6 +1,6 @@
--- What a played run shows fits its program, and the order of its tickets is legal. The function `played`, which plays the runs
--- whose blocks are compared, promises both. Each is a part of the isolation that playing promises, taken from it by cases on the
--- result.
+-- What a played run shows fits its program, and the order of its tickets is legal. The function `played`, which plays
+-- the runs whose blocks are compared, promises both. Each is a part of the isolation that playing promises, taken from
+-- it by cases on the result.
 use Rattle.std.proofs.Common.{ℕ, List, Result, Ok, Err}
 use Rattle.std.specs.Prelude.{IfOk, IfSome}
 use Rattle.std.specs.Result.{result_ok}

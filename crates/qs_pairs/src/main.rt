@@ -1,5 +1,5 @@
-//! Blocks of two runs on the optimised machine, compared in every two modes, and the line of a run that is refused. What is printed depends
-//! on nothing but the scripts below.
+//! Blocks of two runs on the optimised machine, compared in every two modes, and the line of a run that is refused.
+//! What is printed depends on nothing but the scripts below.
 #![tactic(auto)]
 
 ghost use Rattle.std.specs.Prelude.{◌<◌, length, IfSome};
@@ -31,7 +31,8 @@ const BOTH: &str = "object a account 100
 const ALONE: &str = "object a account 100
     client ann { separate a { a.deposit(5); x = a.balance(); } }";
 
-// The same block, beside another client and another object, with other names of numbers and in another order of objects.
+// The same block, beside another client and another object, with other names of numbers and in another order of
+// objects.
 const BESIDE: &str = "object b account 7 object a account 100
     client ann { separate a { a.deposit(5); x = a.balance(); } }
     client bob { separate b { b.deposit(1); } }";

@@ -1,5 +1,5 @@
--- The places of a block, and what each asks of the objects, their kinds and the block's list: where all of them are fine and the
--- variables stay few, no fault is met, and the other way round.
+-- The places of a block, and what each asks of the objects, their kinds and the block's list: where all of them are
+-- fine and the variables stay few, no fault is met, and the other way round.
 use Rattle.std.proofs.Common.{◌≡◌, ℕ, ◌+◌, ◌<◌, ◌≤◌, Bool, true, false, ◌||◌, nat_lt, List, [], ◌∷◌, ◌++◌, length, refl, ap, sym, ◌∙◌, arith, length-append, Ok, Err, if◌then◌else◌}
 use Rattle.std.proofs.lemmas.Bool.Decides.{nat_tests}
 use Rattle.std.specs.List.{AllByRecursion}
@@ -8,7 +8,7 @@ use Rattle.qs_places.specs.declared.fault.CheckFault.{CheckFault}
 use Rattle.qs_places.specs.declared.fault.CheckFault.TheVariants as f
 use Rattle.qs_program.specs.Numbering.{Name, is_among, with_name}
 use Rattle.qs_program.specs.Limits.{most_variables}
-use Rattle.qs_places.specs.Places.{Scope, TextPlace, ScopeOrFault, object, number, client, separate, listed, target, operation, arguments, variable, leaves, template, text, starts, given, step, scope_or_fault, then_at, with_variable, op_at, is_known, takes}
+use Rattle.qs_places.specs.Places.{Scope, TextPlace, ScopeOrFault, object, number, client, separate, listed, target, operation, arguments, variable, leaves, template, text, starts, given, pass_place, scope_or_fault, then_at, with_variable, op_at, is_known, takes}
 use Rattle.qs_places.specs.Variables.{variables_at}
 use Rattle.qs_places.proofs.Inner.{Inner}
 use Rattle.qs_places.proofs.Steps.{with_names, fine, split}
@@ -102,7 +102,7 @@ else_step true m e h = cc
 else_step false m e h = refl
 
 -- a step that leads on
-pub leads : (s u : Scope) (p : TextPlace) (ps : List TextPlace) (m : ScopeOrFault) → step s p ≡ Ok u → scope_or_fault u ps ≡ m → scope_or_fault s (p ∷ ps) ≡ m
+pub leads : (s u : Scope) (p : TextPlace) (ps : List TextPlace) (m : ScopeOrFault) → pass_place s p ≡ Ok u → scope_or_fault u ps ≡ m → scope_or_fault s (p ∷ ps) ≡ m
 leads s u p ps m h k = ap (λ r. then_at r (λ t. scope_or_fault t ps)) h ∙ k
 
 pub below : (a b : ℕ) → a < b → nat_lt a b ≡ true
@@ -118,10 +118,10 @@ variable_case s x true h = refl
 variable_case s x false h =
     then_step (nat_lt (length s.variables) most_variables) s (Ok (with_variable s x)) f.Limit (below (length s.variables) 16 (room 16 s.variables x false h refl))
 
-pub variable_step : (s : Scope) (x : Name) → length (with_name s.variables x) ≤ most_variables → step s (variable x) ≡ Ok (with_names s (with_name s.variables x))
+pub variable_step : (s : Scope) (x : Name) → length (with_name s.variables x) ≤ most_variables → pass_place s (variable x) ≡ Ok (with_names s (with_name s.variables x))
 variable_step s x h = variable_case s x (is_among s.variables x) h
 
-target_step : (s : Scope) (o : Name) → is_among s.objects o ≡ true → is_among s.reserved o ≡ true → step s (target o) ≡ Ok s
+target_step : (s : Scope) (o : Name) → is_among s.objects o ≡ true → is_among s.reserved o ≡ true → pass_place s (target o) ≡ Ok s
 target_step s o h k =
     then_step (is_among s.objects o) s (if is_among s.reserved o then Ok s else Err f.NotReserved) f.UnknownObject h
     ∙ then_step (is_among s.reserved o) s (Ok s) f.NotReserved k

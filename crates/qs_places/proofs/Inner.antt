@@ -1,15 +1,16 @@
--- The places in a block's body, such as a call's operation or a variable, change nothing of what the check knows but the
--- variables. The proofs that a script with no fault is sound need this to carry what they know of objects and lists past a
--- statement. It goes by induction on the statements, and `parted` cuts a walk at the scope between two lists of places.
+-- The places in a block's body, such as a call's operation or a variable, change nothing of what the check knows but
+-- the variables. The proofs that a script with no fault is sound need this to carry what they know of objects and lists
+-- past a statement. It goes by induction on the statements, and `parted` cuts a walk at the scope between two lists of
+-- places.
 use Rattle.std.proofs.Common.{◌≡◌, Bool, true, false, List, [], ◌∷◌, ◌++◌, ap, sym, ◌∙◌, Ok}
-use Rattle.qs_script.specs.declared.tree.Atom.{Atom}
-use Rattle.qs_script.specs.declared.tree.Atom.TheVariants.{Variable, Number}
-use Rattle.qs_script.specs.declared.tree.Expr.{Expr}
-use Rattle.qs_script.specs.declared.tree.Expr.TheVariants.{Plain, Binary}
-use Rattle.qs_script.specs.declared.tree.Test.{Test}
-use Rattle.qs_script.specs.declared.tree.Call.{Call}
-use Rattle.qs_script.specs.Tree.{Stmts, end, command, query, assign, choose, choose_else, again}
-use Rattle.qs_script.specs.Tree as tree
+use Rattle.qs_tree.specs.declared.tree.Atom.{Atom}
+use Rattle.qs_tree.specs.declared.tree.Atom.TheVariants.{Variable, Number}
+use Rattle.qs_tree.specs.declared.tree.Expr.{Expr}
+use Rattle.qs_tree.specs.declared.tree.Expr.TheVariants.{Plain, Binary}
+use Rattle.qs_tree.specs.declared.tree.Test.{Test}
+use Rattle.qs_tree.specs.declared.tree.Call.{Call}
+use Rattle.qs_tree.specs.Tree.{Stmts, end, command, query, assign, choose, choose_else, again}
+use Rattle.qs_tree.specs.Tree as tree
 use Rattle.qs_places.specs.Places.{Scope, TextPlace, object, number, client, separate, listed, target, operation, arguments, variable, leaves, template, text, starts, given, scope_or_fault, places, atom_places, atoms_places, expr_places, test_places, call_places}
 use Rattle.qs_places.proofs.Steps.{with_names, split, ok_same, then_at_ok}
 use Rattle.qs_places.proofs.Walks.{met-append}

@@ -1,4 +1,5 @@
--- A block's list that is kept by the numbers of its objects: a name is in it where its number is, and a further object changes nothing.
+-- A block's list that is kept by the numbers of its objects: a name is in it where its number is, and a further object
+-- changes nothing.
 use Rattle.std.proofs.Common.{◌≡◌, ℕ, Bool, true, false, ◌||◌, ◌==◌, List, [], ◌∷◌, ◌++◌, get_or, refl, ap, sym, subst, ◌∙◌, arith, length-append}
 use Rattle.std.proofs.Math.ListN.{get_or-append}
 use Rattle.std.proofs.lemmas.List.{map-append}

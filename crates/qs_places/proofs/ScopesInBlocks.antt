@@ -1,11 +1,11 @@
--- The places of a block leave the objects and the clients as they are, add one block, and keep the number of variables within its
--- limit. The proofs that a script with no fault is well formed and sound use this to know the scope after each client. It goes by
--- induction on the places, and then on a client's blocks.
+-- The places of a block leave the objects and the clients as they are, add one block, and keep the number of variables
+-- within its limit. The proofs that a script with no fault is well formed and sound use this to know the scope after
+-- each client. It goes by induction on the places, and then on a client's blocks.
 use Rattle.std.proofs.Common.{◌≡◌, ℕ, ◌+◌, ◌<◌, ◌≤◌, false, List, [], ◌∷◌, ◌++◌, length, refl, ap, sym, ◌∙◌, subst, arith, Ok}
-use Rattle.qs_script.specs.declared.tree.Block.{Block}
+use Rattle.qs_tree.specs.declared.tree.Block.{Block}
 use Rattle.qs_program.specs.Numbering.{Name}
 use Rattle.qs_program.specs.Limits.{most_blocks, most_variables}
-use Rattle.qs_places.specs.Places.{Scope, TextPlace, object, number, client, separate, listed, target, operation, arguments, variable, leaves, template, text, starts, given, scope_or_fault, places, listed_places, block_places, blocks_places, with_block, with_listed}
+use Rattle.qs_places.specs.Places.{Scope, TextPlace, object, number, client, separate, listed, target, operation, arguments, variable, leaves, template, text, starts, given, scope_or_fault, places, listed_places, block_places, blocks_places, scope_of_block, with_listed}
 use Rattle.qs_places.proofs.Steps.{split, ok_same}
 use Rattle.qs_places.proofs.Inner.{Inner, parted, inner_body}
 
@@ -98,7 +98,7 @@ stays s t (starts m count ∷ ps) i h = absurd i
 stays s t (given m j o ∷ ps) i h = absurd i
 
 -- after a block: one more block, and all else as before
-pub block_stays : (s t : Scope) (b : Block) → scope_or_fault s (block_places b) ≡ Ok t → (s.blocks < most_blocks) × Stays (with_block s) t
+pub block_stays : (s t : Scope) (b : Block) → scope_or_fault s (block_places b) ≡ Ok t → (s.blocks < most_blocks) × Stays (scope_of_block s) t
 block_stays s t b h =
     let w = split s t separate (listed_places b.reserved ++ places false b.body) h in
     let P : Scope → Type 0 = λ u. Stays u t in

@@ -1,13 +1,13 @@
--- A place that is passed without a fault tells something: a name is new, a number is in its range, or an operation is known.
--- Almost every proof about a check without a fault reads its facts with `stepped`, which says what each place tells, and with
--- `split`, which cuts off the first place. Both go by cases on the place.
+-- A place that is passed without a fault tells something: a name is new, a number is in its range, or an operation is
+-- known. Almost every proof about a check without a fault reads its facts with `stepped`, which says what each place
+-- tells, and with `split`, which cuts off the first place. Both go by cases on the place.
 use Rattle.std.proofs.Common.{◌≡◌, ℕ, ◌<◌, ◌≤◌, Bool, true, false, ◌||◌, nat_lt, List, [], ◌∷◌, ◌++◌, length, refl, ap, ◌∙◌, arith, length-append, Option, Some, None, nat_eq, Result, Ok, Err, OnOk, if◌then◌else◌}
 use Rattle.std.proofs.lemmas.Bool.Decides.{nat_tests}
 use Rattle.qs_places.specs.declared.fault.CheckFault.{CheckFault}
 use Rattle.qs_places.specs.declared.fault.CheckFault.TheVariants as f
 use Rattle.qs_program.specs.Numbering.{Name, is_among, with_name}
 use Rattle.qs_program.specs.Limits.{most_blocks, most_clients, most_objects, most_variables}
-use Rattle.qs_places.specs.Places.{Scope, TextPlace, ScopeOrFault, object, number, client, separate, listed, target, operation, arguments, variable, leaves, template, text, starts, given, step, scope_or_fault, then_at, with_object, with_client, with_block, with_listed, with_variable, op_at, is_known, takes, most_templates, with_template, formals_at, is_given, unless_fault, Meets}
+use Rattle.qs_places.specs.Places.{Scope, TextPlace, ScopeOrFault, object, number, client, separate, listed, target, operation, arguments, variable, leaves, template, text, starts, given, pass_place, scope_or_fault, then_at, with_object, with_client, scope_of_block, with_listed, with_variable, op_at, is_known, takes, most_templates, with_template, formals_at, is_given, unless_fault, Meets}
 use Rattle.qs_places.specs.Variables.{variables_at}
 
 -- the scope with other variables
@@ -19,7 +19,7 @@ abbrev pub Stepped : Scope → TextPlace → Scope → Type 0
 Stepped s (object n k) t = (is_among s.objects n ≡ false) × (length s.objects < most_objects) × (t ≡ with_object s n k)
 Stepped s (number low high n) t = (low ≤ n) × (n ≤ high) × (t ≡ s)
 Stepped s (client n) t = (is_among s.clients n ≡ false) × (length s.clients < most_clients) × (t ≡ with_client s n)
-Stepped s separate t = (s.blocks < most_blocks) × (t ≡ with_block s)
+Stepped s separate t = (s.blocks < most_blocks) × (t ≡ scope_of_block s)
 Stepped s (listed o) t = (is_among s.objects o ≡ true) × (is_among s.reserved o ≡ false) × (t ≡ with_listed s o)
 Stepped s (target o) t = (is_among s.objects o ≡ true) × (is_among s.reserved o ≡ true) × (t ≡ s)
 Stepped s (operation asks o op) t = (is_known (op_at s.objects s.kinds asks o op) ≡ true) × (t ≡ s)
@@ -65,7 +65,7 @@ variable_stepped s t x false e h =
     let same = ok_same (with_variable s x) t p.1 in
     (same, λ l. rw (ap (λ u. length u.variables) same, length-append) (omega (arith, below _ _ p.0)))
 
-pub stepped : (s t : Scope) (p : TextPlace) → step s p ≡ Ok t → Stepped s p t
+pub stepped : (s t : Scope) (p : TextPlace) → pass_place s p ≡ Ok t → Stepped s p t
 stepped s t (object n k) h =
     let p = else_ok (is_among s.objects n) (if nat_lt (length s.objects) most_objects then Ok (with_object s n k) else Err f.Limit) f.Twice t h in
     let q = then_ok (nat_lt (length s.objects) most_objects) (Ok (with_object s n k)) f.Limit t p.1 in
@@ -79,7 +79,7 @@ stepped s t (client n) h =
     let q = then_ok (nat_lt (length s.clients) most_clients) (Ok (with_client s n)) f.Limit t p.1 in
     (p.0, below _ _ q.0, ok_same _ t q.1)
 stepped s t separate h =
-    let q = then_ok (nat_lt s.blocks most_blocks) (Ok (with_block s)) f.Limit t h in (below _ _ q.0, ok_same _ t q.1)
+    let q = then_ok (nat_lt s.blocks most_blocks) (Ok (scope_of_block s)) f.Limit t h in (below _ _ q.0, ok_same _ t q.1)
 stepped s t (listed o) h =
     let p = then_ok (is_among s.objects o) (if is_among s.reserved o then Err f.ReservedTwice else Ok (with_listed s o)) f.UnknownObject t h in
     let q = else_ok (is_among s.reserved o) (Ok (with_listed s o)) f.ReservedTwice t p.1 in
@@ -116,7 +116,7 @@ then_at_ok (Err e) next t h = cc
 
 pub split : (s t : Scope) (p : TextPlace) (ps : List TextPlace) → scope_or_fault s (p ∷ ps) ≡ Ok t → (u : Scope) × Stepped s p u × (scope_or_fault u ps ≡ Ok t)
 split s t p ps h =
-    let w = then_at_ok (step s p) (λ v. scope_or_fault v ps) t h in (w.0, stepped s w.0 p w.1, w.2)
+    let w = then_at_ok (pass_place s p) (λ v. scope_or_fault v ps) t h in (w.0, stepped s w.0 p w.1, w.2)
 
 -- the variables that are met are those of the places
 pub variables_met : (s t : Scope) (ps : List TextPlace) → scope_or_fault s ps ≡ Ok t → t.variables ≡ variables_at s.variables ps

@@ -1,13 +1,13 @@
--- A walk over two lists of places fails where the first list fails, and otherwise goes on from the scope that the first list
--- leaves. The loops of the check over statements, blocks and items stand on it; their invariant is that the walk over the places
--- that are left ends as the walk over all places does. The first lemma goes by induction on the places.
+-- A walk over two lists of places fails where the first list fails, and otherwise goes on from the scope that the first
+-- list leaves. The loops of the check over statements, blocks and items stand on it; their invariant is that the walk
+-- over the places that are left ends as the walk over all places does. The first lemma goes by induction on the places.
 use Rattle.std.proofs.Common.{◌≡◌, ℕ, suc, ◌+◌, ◌<◌, Bool, true, false, List, [], ◌∷◌, ◌++◌, length, get_or, drop, refl, ap, sym, ◌∙◌, subst, append_assoc, append-nil, add-one, Result, Ok, Err}
 use Rattle.std.proofs.Math.Seq.{drop-cons}
-use Rattle.qs_script.specs.declared.tree.Stmt.{Stmt}
-use Rattle.qs_script.specs.declared.tree.Stmt.TheVariants.{Command, Query, Assign, If, IfElse, Repeat, Leave}
-use Rattle.qs_script.specs.Views.{stmts_of, single}
+use Rattle.qs_tree.specs.declared.tree.Stmt.{Stmt}
+use Rattle.qs_tree.specs.declared.tree.Stmt.TheVariants.{Command, Query, Assign, If, IfElse, Repeat, Leave}
+use Rattle.qs_tree.specs.Views.{stmts_of, single}
 use Rattle.qs_places.specs.declared.fault.CheckFault.{CheckFault}
-use Rattle.qs_places.specs.Places.{Scope, TextPlace, ScopeOrFault, step, scope_or_fault, then_at, places, number, variable, call_places, expr_places, test_places, at_each, Fails, Meets}
+use Rattle.qs_places.specs.Places.{Scope, TextPlace, ScopeOrFault, pass_place, scope_or_fault, then_at, places, number, variable, call_places, expr_places, test_places, at_each, Fails, Meets}
 
 then_at-then : (r : ScopeOrFault) (f g h : Scope → ScopeOrFault) → ((t : Scope) → f t ≡ then_at (g t) h) → then_at r f ≡ then_at (then_at r g) h
 then_at-then (Ok t) f g h e = e t
@@ -15,7 +15,7 @@ then_at-then (Err x) f g h e = refl
 
 pub met-append : (s : Scope) (ps qs : List TextPlace) → scope_or_fault s (ps ++ qs) ≡ then_at (scope_or_fault s ps) (λ t. scope_or_fault t qs)
 met-append s [] qs = refl
-met-append s (p ∷ ps) qs = then_at-then (step s p) (λ t. scope_or_fault t (ps ++ qs)) (λ t. scope_or_fault t ps) (λ t. scope_or_fault t qs) (λ t. met-append t ps qs)
+met-append s (p ∷ ps) qs = then_at-then (pass_place s p) (λ t. scope_or_fault t (ps ++ qs)) (λ t. scope_or_fault t ps) (λ t. scope_or_fault t qs) (λ t. met-append t ps qs)
 
 -- after the first places
 pub met-then : (s t : Scope) (ps qs : List TextPlace) → scope_or_fault s ps ≡ Ok t → scope_or_fault s (ps ++ qs) ≡ scope_or_fault t qs
@@ -76,18 +76,18 @@ module _ (s t u : Scope) (test first other : List TextPlace) (tested : scope_or_
       subst P (sym e) h
 
 -- a single place
-pub met_one : (s t : Scope) (p : TextPlace) → step s p ≡ Ok t → scope_or_fault s (p ∷ []) ≡ Ok t
+pub met_one : (s t : Scope) (p : TextPlace) → pass_place s p ≡ Ok t → scope_or_fault s (p ∷ []) ≡ Ok t
 met_one s t p h = ap (λ r. then_at r (λ t. scope_or_fault t [])) h
 
 -- a place before others
-pub one_then : {X : Type 0} (r : Result X CheckFault) (s t u : Scope) (p : TextPlace) (qs : List TextPlace) → step s p ≡ Ok t → Meets r (scope_or_fault t qs) u → Meets r (scope_or_fault s (p ∷ (qs ++ []))) u
+pub one_then : {X : Type 0} (r : Result X CheckFault) (s t u : Scope) (p : TextPlace) (qs : List TextPlace) → pass_place s p ≡ Ok t → Meets r (scope_or_fault t qs) u → Meets r (scope_or_fault s (p ∷ (qs ++ []))) u
 one_then r s t u p qs h m =
     let e : scope_or_fault s (p ∷ (qs ++ [])) ≡ scope_or_fault t qs = ap (λ x. then_at x (λ v. scope_or_fault v (qs ++ []))) h ∙ ap (scope_or_fault t) (append-nil qs) in
     let P : ScopeOrFault → Type 0 = λ x. Meets r x u in
     subst P (sym e) m
 
 -- a place, and others of which the first end well
-module _ (s t : Scope) (p : TextPlace) (qs rs : List TextPlace) (first : step s p ≡ Ok t) where
+module _ (s t : Scope) (p : TextPlace) (qs rs : List TextPlace) (first : pass_place s p ≡ Ok t) where
   pub fails_after : (fault : CheckFault) → Fails fault (scope_or_fault t qs) → Fails fault (scope_or_fault s (p ∷ (qs ++ rs)))
   fails_after fault h = λ n. ap (λ x. then_at x (λ v. scope_or_fault v (qs ++ rs))) first ∙ fails_first fault t qs rs h n
 

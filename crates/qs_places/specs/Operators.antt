@@ -14,7 +14,8 @@ is_meant false op = if is_query op then false else true
 -- the first query, or the first command, of a list that has the word
 abbrev pub called : (asks : Bool) → Name → List Op → Option Op
 called asks w [] = None
-called asks w (op ∷ ops) = if is_meant asks op then if same_name w (word op) then Some op else called asks w ops else called asks w ops
+called asks w (op ∷ ops) =
+    if is_meant asks op then if same_name w (word op) then Some op else called asks w ops else called asks w ops
 
 -- the command, or the query, that a kind has under a word
 abbrev pub op_of : (asks : Bool) → Kind → Name → Option Op

@@ -4,23 +4,23 @@ use Rattle.qs_objects.specs.declared.Op.{Op}
 use Rattle.qs_objects.specs.declared.object.Kind.{Kind}
 use Rattle.qs_objects.specs.declared.object.Kind.TheVariants as k
 use Rattle.qs_objects.specs.Operations.{arity}
-use Rattle.qs_script.specs.declared.tree.Atom.{Atom}
-use Rattle.qs_script.specs.declared.tree.Atom.TheVariants.{Variable, Number}
-use Rattle.qs_script.specs.declared.tree.Expr.{Expr}
-use Rattle.qs_script.specs.declared.tree.Expr.TheVariants.{Plain, Binary}
-use Rattle.qs_script.specs.declared.tree.Test.{Test}
-use Rattle.qs_script.specs.declared.tree.Call.{Call}
-use Rattle.qs_script.specs.declared.tree.Block.{Block}
-use Rattle.qs_script.specs.declared.tree.KindText.{KindText}
-use Rattle.qs_script.specs.declared.tree.KindText.TheVariants.{Account, Buffer, Grid}
-use Rattle.qs_script.specs.declared.tree.KindWord.{KindWord}
-use Rattle.qs_script.specs.declared.tree.KindWord.TheVariants as word
-use Rattle.qs_script.specs.declared.tree.Formal.{Formal}
-use Rattle.qs_script.specs.declared.tree.TemplateItem.{TemplateItem}
-use Rattle.qs_script.specs.declared.tree.StartedItem.{StartedItem}
-use Rattle.qs_script.specs.declared.tree.Item.{Item}
-use Rattle.qs_script.specs.declared.tree.Item.TheVariants.{Object, Client, Template, Started}
-use Rattle.qs_script.specs.Tree.{Stmts, end, command, query, assign, choose, choose_else, again, leave}
+use Rattle.qs_tree.specs.declared.tree.Atom.{Atom}
+use Rattle.qs_tree.specs.declared.tree.Atom.TheVariants.{Variable, Number}
+use Rattle.qs_tree.specs.declared.tree.Expr.{Expr}
+use Rattle.qs_tree.specs.declared.tree.Expr.TheVariants.{Plain, Binary}
+use Rattle.qs_tree.specs.declared.tree.Test.{Test}
+use Rattle.qs_tree.specs.declared.tree.Call.{Call}
+use Rattle.qs_tree.specs.declared.tree.Block.{Block}
+use Rattle.qs_tree.specs.declared.tree.KindText.{KindText}
+use Rattle.qs_tree.specs.declared.tree.KindText.TheVariants.{Account, Buffer, Grid}
+use Rattle.qs_tree.specs.declared.tree.KindWord.{KindWord}
+use Rattle.qs_tree.specs.declared.tree.KindWord.TheVariants as word
+use Rattle.qs_tree.specs.declared.tree.Formal.{Formal}
+use Rattle.qs_tree.specs.declared.tree.TemplateItem.{TemplateItem}
+use Rattle.qs_tree.specs.declared.tree.StartedItem.{StartedItem}
+use Rattle.qs_tree.specs.declared.tree.Item.{Item}
+use Rattle.qs_tree.specs.declared.tree.Item.TheVariants.{Object, Client, Template, Started}
+use Rattle.qs_tree.specs.Tree.{Stmts, end, command, query, assign, choose, choose_else, again, leave}
 use Rattle.qs_objects.specs.Limits.{greatest_balance, most_lines, most_values}
 use Rattle.qs_program.specs.Limits.{most_blocks, most_clients, most_objects, most_turns, most_variables}
 use Rattle.qs_places.specs.declared.fault.CheckFault.{CheckFault}
@@ -33,9 +33,9 @@ use Rattle.qs_places.specs.Operators.{op_of}
 abbrev pub most_templates : ℕ
 most_templates = 8
 
--- what is known at a place: the objects declared so far with their kinds, the clients so far, the templates so far with their
--- formals' kinds,
--- how many blocks and which variables the current client has so far, and the current block's list so far
+-- what is known at a place: the objects declared so far with their kinds, the clients so far, the templates so far with
+-- their formals' kinds, how many blocks and which variables the current client has so far, and the current block's list
+-- so far
 pub record Scope : Type 0 where
   pub objects : List Name
   pub kinds : List Kind
@@ -99,8 +99,8 @@ with_client s n = record s { clients = s.clients ++ n ∷ []; blocks = 0; variab
 abbrev pub with_template : Scope → Name → List Kind → Scope
 with_template s n formals = record s { templates = s.templates ++ n ∷ []; formals = s.formals ++ formals ∷ [] }
 
-abbrev pub with_block : Scope → Scope
-with_block s = record s { blocks = s.blocks + 1; reserved = [] }
+abbrev pub scope_of_block : Scope → Scope
+scope_of_block s = record s { blocks = s.blocks + 1; reserved = [] }
 
 abbrev pub with_listed : Scope → Name → Scope
 with_listed s o = record s { reserved = s.reserved ++ o ∷ [] }
@@ -129,35 +129,36 @@ unless_fault (Some fault) s = Err fault
 
 -- the faults of each place in their order, and else what is known after it: at most 8 objects and 8 clients,
 -- 64 blocks and 16 variables of a client
-abbrev pub step : Scope → TextPlace → ScopeOrFault
-step s (object n kind) =
+abbrev pub pass_place : Scope → TextPlace → ScopeOrFault
+pass_place s (object n kind) =
     if is_among s.objects n then Err f.Twice
     else (if nat_lt (length s.objects) most_objects then Ok (with_object s n kind) else Err f.Limit)
-step s (number low high n) = if nat_lt n low || nat_lt high n then Err f.Range else Ok s
-step s (client n) =
+pass_place s (number low high n) = if nat_lt n low || nat_lt high n then Err f.Range else Ok s
+pass_place s (client n) =
     if is_among s.clients n then Err f.Twice
     else (if nat_lt (length s.clients) most_clients then Ok (with_client s n) else Err f.Limit)
-step s separate = if nat_lt s.blocks most_blocks then Ok (with_block s) else Err f.Limit
-step s (listed o) =
+pass_place s separate = if nat_lt s.blocks most_blocks then Ok (scope_of_block s) else Err f.Limit
+pass_place s (listed o) =
     if is_among s.objects o then (if is_among s.reserved o then Err f.ReservedTwice else Ok (with_listed s o))
     else Err f.UnknownObject
-step s (target o) =
+pass_place s (target o) =
     if is_among s.objects o then (if is_among s.reserved o then Ok s else Err f.NotReserved)
     else Err f.UnknownObject
-step s (operation asks o op) = if is_known (op_at s.objects s.kinds asks o op) then Ok s else Err f.UnknownOp
-step s (arguments asks o op n) = if takes (op_at s.objects s.kinds asks o op) n then Ok s else Err f.Arity
-step s (variable x) =
+pass_place s (operation asks o op) = if is_known (op_at s.objects s.kinds asks o op) then Ok s else Err f.UnknownOp
+pass_place s (arguments asks o op n) = if takes (op_at s.objects s.kinds asks o op) n then Ok s else Err f.Arity
+pass_place s (variable x) =
     if is_among s.variables x then Ok s
     else (if nat_lt (length s.variables) most_variables then Ok (with_variable s x) else Err f.Limit)
-step s (leaves inside) = if inside then Ok s else Err f.LeaveOutside
-step s (template n formals) =
+pass_place s (leaves inside) = if inside then Ok s else Err f.LeaveOutside
+pass_place s (template n formals) =
     if is_among s.templates n then Err f.Twice
     else (if nat_lt (length s.templates) most_templates then Ok (with_template s n formals) else Err f.Limit)
-step s (text fault) = unless_fault fault s
-step s (starts n count) =
-    if is_among s.templates n then (if nat_eq (length (formals_at s.templates s.formals n)) count then Ok s else Err f.Count)
+pass_place s (text fault) = unless_fault fault s
+pass_place s (starts n count) =
+    if is_among s.templates n then (if nat_eq (length (formals_at s.templates s.formals n)) count then Ok s else Err
+    f.Count)
     else Err f.UnknownTemplate
-step s (given n i o) =
+pass_place s (given n i o) =
     if is_among s.objects o then (if is_given s n i o then Ok s else Err f.OtherKind)
     else Err f.UnknownObject
 
@@ -168,7 +169,7 @@ then_at (Err e) next = Err e
 -- the first fault, or what is known at the end
 abbrev pub scope_or_fault : Scope → List TextPlace → ScopeOrFault
 scope_or_fault s [] = Ok s
-scope_or_fault s (p ∷ ps) = then_at (step s p) (λ t. scope_or_fault t ps)
+scope_or_fault s (p ∷ ps) = then_at (pass_place s p) (λ t. scope_or_fault t ps)
 
 abbrev pub atom_places : Atom → List TextPlace
 atom_places (Variable x) = variable x ∷ []
@@ -250,7 +251,17 @@ text_places t = formals_places t.formals ++ blocks_places t.blocks
 
 -- nothing is known at the start
 abbrev pub start : Scope
-start = record { objects = []; kinds = []; clients = []; templates = []; formals = []; blocks = 0; variables = []; reserved = [] }
+start =
+    record {
+      objects = [];
+      kinds = [];
+      clients = [];
+      templates = [];
+      formals = [];
+      blocks = 0;
+      variables = [];
+      reserved = [];
+    }
 
 abbrev pub fault_in : ScopeOrFault → Option CheckFault
 fault_in (Ok s) = None

@@ -1,6 +1,6 @@
 -- The variables of a client: those that the places of its blocks name.
 use Rattle.std.specs.Prelude.{List, [], ◌∷◌}
-use Rattle.qs_script.specs.declared.tree.ClientItem.{ClientItem}
+use Rattle.qs_tree.specs.declared.tree.ClientItem.{ClientItem}
 use Rattle.qs_program.specs.Numbering.{Name, with_name}
 use Rattle.qs_places.specs.Places.{TextPlace, object, number, client, separate, listed, target, operation, arguments, variable, leaves, template, text, starts, given, blocks_places}
 

@@ -27,7 +27,8 @@ pub enum CheckFault {
     /// A `leave` stands inside no `repeat`.
     #[error("7 LeaveOutside")]
     LeaveOutside,
-    /// A ninth object, client, template, or formal of a template; a 65th block or a 17th variable of a client or a template.
+    /// A ninth object, client, template, or formal of a template; a 65th block or a 17th variable of a client or a
+    /// template.
     #[error("8 Limit")]
     Limit,
     /// A number is out of its range.

@@ -7,7 +7,8 @@ use qs_program::MOST_OBJECTS;
 use std::alloc::{AllocError, Global};
 use std::marker::Model;
 
-// Numbers of objects in the order of a block's list, and a flag for each number of 8 objects, which tells whether it is there.
+// Numbers of objects in the order of a block's list, and a flag for each number of 8 objects, which tells whether it is
+// there.
 #[derive(Drop)]
 pub(crate) struct Listed {
     numbers: Vec<usize>,

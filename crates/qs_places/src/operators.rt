@@ -5,9 +5,10 @@ ghost use Rattle.qs_program.specs.Numbering.{same_name};
 ghost use Rattle.qs_places.specs.Operators.{is_meant as is_meant_of, op_of as operation_of};
 
 use qs_objects::{Kind, Op};
-use qs_script::Name;
+use qs_tree::Name;
 
-// Whether a word is a known one. Both are short, so they are compared byte by byte, which the compiler writes out for each.
+// Whether a word is a known one. Both are short, so they are compared byte by byte, which the compiler writes out for
+// each.
 #[inline(always)]
 fn is_word(word: &[u8], known: &[u8]) -> bool
     ensures value { result ≡ same_name word.now known.now }

@@ -2,14 +2,14 @@
 
 ghost use Rattle.std.specs.Prelude.{◌≡◌, [], ◌∷◌, ◌++◌, OnOk, IfOk, IfSome, is_some, slice_index_or, pos};
 ghost use Rattle.qs_program.specs.Numbering.{is_among, found_at};
-ghost use Rattle.qs_places.specs.Places.{Scope as Known, Meets, scope_or_fault, step, start, op_at, object, number, client, separate, listed, target, operation_places, request_places, variable, without_variables, template, starts, given, formals_at, formal_kind, formal_kinds};
+ghost use Rattle.qs_places.specs.Places.{Scope as Known, Meets, scope_or_fault, pass_place, start, op_at, object, number, client, separate, listed, target, operation_places, request_places, variable, without_variables, template, starts, given, formals_at, formal_kind, formal_kinds};
 
 use crate::fault::CheckFault;
 use crate::listed::Listed;
 use crate::operators::find_op;
 use qs_objects::{Kind, Op};
 use qs_program::{MOST_BLOCKS, MOST_CLIENTS, MOST_OBJECTS, MOST_VARIABLES, Names, same_kind};
-use qs_script::{Formal, KindWord, Name, Number};
+use qs_tree::{Formal, KindWord, Name, Number};
 use std::alloc::{AllocError, Global};
 use std::marker::Model;
 use std::mem;
@@ -84,7 +84,7 @@ impl Scope {
     /// An object's name.
     #[tactic(auto, using(crate::proofs::ListedNames::are_first_append, crate::proofs::ListedNames::names_append))]
     pub fn object(&mut self, name: &Name, kind: Kind) -> Result<(), CheckFault>
-        ensures meets { Meets result (step self.old (object name.now kind)) self.new }
+        ensures meets { Meets result (pass_place self.old (object name.now kind)) self.new }
     {
         if self.objects.contains(name) {
             return Err(CheckFault::Twice);
@@ -99,7 +99,7 @@ impl Scope {
 
     /// A client's name.
     pub fn client(&mut self, alloc: Global, name: &Name) -> Result<(), CheckFault>
-        ensures meets { Meets result (step self.old (client name.now)) self.new }
+        ensures meets { Meets result (pass_place self.old (client name.now)) self.new }
     {
         if self.clients.contains(name) {
             return Err(CheckFault::Twice);
@@ -121,7 +121,7 @@ impl Scope {
         name: &Name,
         formals: &[Formal],
     ) -> Result<(), CheckFault>
-        ensures meets { Meets result (step self.old (template name.now (formal_kinds formals.now))) self.new }
+        ensures meets { Meets result (pass_place self.old (template name.now (formal_kinds formals.now))) self.new }
     {
         if self.templates.contains(name) {
             return Err(CheckFault::Twice);
@@ -146,7 +146,7 @@ impl Scope {
 
     /// The template of a client, for which so many objects are given.
     pub fn starts(&self, name: &Name, count: usize) -> Result<(), CheckFault>
-        ensures meets { Meets result (step self.now (starts name.now count)) self.now }
+        ensures meets { Meets result (pass_place self.now (starts name.now count)) self.now }
     {
         if !self.templates.contains(name) {
             return Err(CheckFault::UnknownTemplate);
@@ -159,7 +159,7 @@ impl Scope {
 
     /// An object that is given for the formal at a place.
     pub fn given(&self, template: &Name, place: usize, object: &Name) -> Result<(), CheckFault>
-        ensures meets { Meets result (step self.now (given template.now place object.now)) self.now }
+        ensures meets { Meets result (pass_place self.now (given template.now place object.now)) self.now }
     {
         if !self.objects.contains(object) {
             return Err(CheckFault::UnknownObject);
@@ -173,7 +173,7 @@ impl Scope {
 
     /// A block's beginning.
     pub fn separate(&mut self) -> Result<(), CheckFault>
-        ensures meets { Meets result (step self.old separate) self.new }
+        ensures meets { Meets result (pass_place self.old separate) self.new }
     {
         if self.blocks >= MOST_BLOCKS {
             return Err(CheckFault::Limit);
@@ -198,7 +198,7 @@ impl Scope {
     /// A name of a block's list.
     #[tactic(auto, using(crate::proofs::ListedNames::are_first_more, crate::proofs::ListedNames::names_more))]
     pub fn listed(&mut self, name: &Name) -> Result<(), CheckFault>
-        ensures meets { Meets result (step self.old (listed name.now)) self.new }
+        ensures meets { Meets result (pass_place self.old (listed name.now)) self.new }
     {
         let Some((number, is_listed)) = self.place(name) else {
             return Err(CheckFault::UnknownObject);
@@ -212,7 +212,7 @@ impl Scope {
 
     /// A request's object.
     pub fn target(&self, name: &Name) -> Result<(), CheckFault>
-        ensures meets { Meets result (step self.now (target name.now)) self.now }
+        ensures meets { Meets result (pass_place self.now (target name.now)) self.now }
     {
         let Some((_, is_listed)) = self.place(name) else {
             return Err(CheckFault::UnknownObject);
@@ -277,7 +277,7 @@ impl Scope {
 
     /// A variable that is assigned or read.
     pub fn variable(&mut self, name: &Name) -> Result<(), CheckFault>
-        ensures meets { Meets result (step self.old (variable name.now)) self.new }
+        ensures meets { Meets result (pass_place self.old (variable name.now)) self.new }
     {
         if self.variables.contains(name) {
             return Ok(());
@@ -376,7 +376,7 @@ pub fn kind_at(kinds: &[Kind], number: usize) -> Kind
 
 /// A number with a range.
 pub fn check_number(low: u64, high: u64, n: Number) -> Result<(), CheckFault>
-    ensures meets { (s : Known) → Meets result (step s (number low high n)) s }
+    ensures meets { (s : Known) → Meets result (pass_place s (number low high n)) s }
 {
     if n.count() < low || n.count() > high {
         return Err(CheckFault::Range);

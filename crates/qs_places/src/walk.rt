@@ -1,15 +1,15 @@
 //! Checks of statements, blocks, clients and objects.
 
 ghost use Rattle.std.specs.Prelude.{◌≡◌, OnOk};
-ghost use Rattle.qs_script.specs.Views.{single};
-ghost use Rattle.qs_places.specs.Places.{Scope as Known, Meets, scope_or_fault, places, call_places, atom_places, atoms_places, expr_places, test_places, listed_places, block_places, blocks_places, item_places, kind_of, kind_places, step, text, fault_of_text, text_places, formals_places, given_places};
+ghost use Rattle.qs_tree.specs.Views.{single};
+ghost use Rattle.qs_places.specs.Places.{Scope as Known, Meets, scope_or_fault, places, call_places, atom_places, atoms_places, expr_places, test_places, listed_places, block_places, blocks_places, item_places, kind_of, kind_places, pass_place, text, fault_of_text, text_places, formals_places, given_places};
 ghost use Rattle.qs_places.specs.Variables.{variables_of};
 
 use crate::fault::CheckFault;
 use crate::scope::{Scope, check_number, formal_value};
 use qs_objects::{GREATEST_BALANCE, Kind, MOST_LINES, MOST_VALUES};
 use qs_program::MOST_TURNS;
-use qs_script::{
+use qs_tree::{
     Atom, Block, Body, Call, ClientItem, Expr, Formal, Item, KindText, Name, ObjectItem,
     StartedItem, Stmt, TemplateItem, Test,
 };
@@ -157,7 +157,7 @@ pub fn check_template(
 }
 
 fn check_text_alone(alloc: Global, item: &TemplateItem) -> Result<(), CheckFault>
-    ensures meets { (s : Known) → Meets result (step s (text (fault_of_text item.now))) s }
+    ensures meets { (s : Known) → Meets result (pass_place s (text (fault_of_text item.now))) s }
 {
     let mut inner = Scope::new(alloc);
     let checked = check_text(alloc, &mut inner, item);

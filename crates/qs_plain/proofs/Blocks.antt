@@ -1,6 +1,7 @@
--- A block that is played alone, as the code does it: the client comes into its block in one step, each turn leads on in it, and in the end
--- nobody is in a block. The loops of `turn`, `play_block` and `play_clients` stand on this. Actors that lead on are joined, one list after
--- another, and the blocks that a list of clients names are taken from its front.
+-- A block that is played alone, as the code does it: the client comes into its block in one step, each turn leads on in
+-- it, and in the end nobody is in a block. The loops of `turn`, `play_block` and `play_clients` stand on this. Actors
+-- that lead on are joined, one list after another, and the blocks that a list of clients names are taken from its
+-- front.
 use Rattle.std.proofs.Common.{◌≡◌, ◌<◌, ◌∙◌, ◌++◌, ◌∷◌, ◌⊎◌, [], ℕ, suc, true, false, true≢false, List, inl, refl, sym, ap, subst, length, map, append_assoc, append-nil, ⊎_elim}
 use Rattle.std.proofs.lemmas.Bool.{lt-ltb}
 use Rattle.qs_objects.specs.declared.held.Ticket.{Ticket}
@@ -12,7 +13,7 @@ use Rattle.qs_meaning.specs.Serial.{IsLegal, LegalFrom}
 use Rattle.qs_meaning.specs.Solo.{put}
 use Rattle.qs_meaning.proofs.Orders.{configuration-append, legal-rest}
 use Rattle.qs_meaning.proofs.TreeWalks.{put_here}
-use Rattle.qs_orders.specs.NamedOrders.{order_from, order_of}
+use Rattle.qs_serial.specs.NamedOrders.{order_from, order_of}
 use Rattle.qs_played.specs.Schedule.{all_named, or_stay}
 use Rattle.qs_played.specs.declared.schedule.actor.Actor.{Actor}
 use Rattle.qs_played.specs.declared.schedule.actor.Actor.TheVariants as actors

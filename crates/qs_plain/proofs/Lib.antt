@@ -1,7 +1,4 @@
 pub mod Reaching
-pub mod HandlersPreserved
-pub mod HandlersSteps
-pub mod Logged
 pub mod Playing
 pub mod ReadingOff
 pub mod ReadRows

@@ -1,6 +1,7 @@
--- These lemmas play a schedule of the plain rules one actor, one pick and one round at a time, and say what is shown at its end.
--- The loops of `play`, `play_rounds` and `round` keep that their state is where the actors so far lead. Two lists of actors are
--- played one after the other, and where a round changes nothing, further rounds change nothing, by induction.
+-- These lemmas play a schedule of the plain rules one actor, one pick and one round at a time, and say what is shown at
+-- its end. The loops of `play`, `play_rounds` and `round` keep that their state is where the actors so far lead. Two
+-- lists of actors are played one after the other, and where a round changes nothing, further rounds change nothing, by
+-- induction.
 use Rattle.std.proofs.Common.{◌≡◌, ℕ, zero, suc, ◌+◌, Bool, true, false, ◌||◌, is_some, List, [], ◌∷◌, ◌++◌, map, None, refl, ap, sym, subst, ◌∙◌, ◌≤◌, length, drop, arith}
 use Rattle.std.proofs.lemmas.List.{drop_all}
 use Rattle.std.specs.Prelude.{Result, IfOk}

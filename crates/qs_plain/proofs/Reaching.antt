@@ -1,6 +1,7 @@
--- Whatever state the plain rules can be stepped to, what it has shown is isolated and its synchronisations are counted, and one
--- step more leads to such a state again. The contracts of `step`, `is_isolated` and `is_counted` promise it. A state that was
--- reached is where a list of actors leads, and the laws speak of every such list; a step is one more actor at its end.
+-- Whatever state the plain rules can be stepped to, what it has shown is isolated and its synchronisations are counted,
+-- and one step more leads to such a state again. The contracts of `step`, `keeps_isolated` and `keeps_counted` promise
+-- it. A state that was reached is where a list of actors leads, and the laws speak of every such list; a step is one
+-- more actor at its end.
 use Rattle.std.proofs.Common.{sym, subst, ◌≡◌, Bool, true, false, List, [], ◌∷◌, ◌++◌, refl, ap, ◌∙◌, Option, Some, None}
 use Rattle.std.specs.Bool.{OnTrue}
 use Rattle.std.specs.Prelude.{IfNone, IfSome}
@@ -15,9 +16,9 @@ use Rattle.qs_plain_laws.proofs.PlainSyncs.{plain_syncs_counted}
 use Rattle.qs_plain_laws.specs.PlainIsolation.{commands_in_queue}
 use Rattle.qs_plain_laws.specs.Plain.{Plain, begin, step}
 use Rattle.qs_plain_laws.proofs.Isolating.{runs_isolated}
-use Rattle.qs_plain.specs.Rules.{IsReached, RulesState, AreRulesCounted, AreIsolated, Steps, plain_of}
+use Rattle.qs_plain.specs.Rules.{IsSteppedTo, RulesState, AreRulesCounted, AreIsolated, Steps, plain_of}
 
-pub reached_counted : (r : RulesState) → IsSound r.program → IsReached r → AreRulesCounted r
+pub reached_counted : (r : RulesState) → IsSound r.program → IsSteppedTo r → AreRulesCounted r
 reached_counted r sound (actors, is) =
     subst (λ s. AreQueriesCounted r.program s (played_of r.program s)) (sym is) (plain_syncs_counted r.program sound actors)
 
@@ -25,7 +26,7 @@ plays_more : (p : ProgramShape) (actors : List Actor) (a : Actor) (s : Plain) �
 plays_more p [] a s = refl
 plays_more p (b ∷ actors) a s = plays_more p actors a (or_stay s (step p s b))
 
-stepped : (old new : RulesState) (a : Actor) → IsReached old → Steps old a new → IsReached new
+stepped : (old new : RulesState) (a : Actor) → IsSteppedTo old → Steps old a new → IsSteppedTo new
 stepped old new a (actors, is) steps =
     let p = old.program in
     let there : plays p (actors ++ a ∷ []) (begin p) ≡ plain_of new =
@@ -34,15 +35,15 @@ stepped old new a (actors, is) steps =
     (actors ++ a ∷ [], sym there ∙ ap (λ (q : ProgramShape). plays q (actors ++ a ∷ []) (begin q)) (sym steps.1))
 
 -- a step that may have been made
-pub reached_next : (old new : RulesState) (a : Actor) (b : Bool) → IsReached old → OnTrue b (Steps old a new) → (b ≡ false → new ≡ old) → IsReached new
+pub reached_next : (old new : RulesState) (a : Actor) (b : Bool) → IsSteppedTo old → OnTrue b (Steps old a new) → (b ≡ false → new ≡ old) → IsSteppedTo new
 reached_next old new a true reached steps same = stepped old new a reached steps
-reached_next old new a false reached steps same = subst IsReached (sym (same refl)) reached
+reached_next old new a false reached steps same = subst IsSteppedTo (sym (same refl)) reached
 
 -- the same of a step that is told
-pub reached_told : {D : Type 0} (old new : RulesState) (a : Actor) (o : Option D) → IsReached old → IfSome o (λ _. Steps old a new) → IfNone o (new ≡ old) → IsReached new
+pub reached_told : {D : Type 0} (old new : RulesState) (a : Actor) (o : Option D) → IsSteppedTo old → IfSome o (λ _. Steps old a new) → IfNone o (new ≡ old) → IsSteppedTo new
 reached_told old new a (Some d) reached steps same = stepped old new a reached steps
-reached_told old new a None reached steps same = subst IsReached (sym same) reached
+reached_told old new a None reached steps same = subst IsSteppedTo (sym same) reached
 
-pub reached_isolated : (r : RulesState) → IsSound r.program → IsReached r → AreIsolated r
+pub reached_isolated : (r : RulesState) → IsSound r.program → IsSteppedTo r → AreIsolated r
 reached_isolated r sound (actors, is) =
     subst (λ s. IsIsolated r.program (played_of r.program s) (commands_in_queue s)) (sym is) (runs_isolated r.program sound actors)

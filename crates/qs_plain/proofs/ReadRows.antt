@@ -1,13 +1,13 @@
--- The rows that the clients leave behind have a place for each ticket of the order, and there the ticket's values at entry, its
--- trace and its counts. The contract of `into_played` needs this, since it gives the clients' lists away by move and shows them
--- through the rows. The proofs go by induction on the list of clients, and on the order.
+-- The rows that the clients leave behind have a place for each ticket of the order, and there the ticket's values at
+-- entry, its trace and its counts. The contract of `into_played` needs this, since it gives the clients' lists away by
+-- move and shows them through the rows. The proofs go by induction on the list of clients, and on the order.
 use Rattle.std.proofs.Common.{◌≡◌, ◌<◌, ℕ, zero, suc, List, [], ◌∷◌, ◌++◌, length, get_or, get_or-take, map, refl, sym, ap, ◌∙◌, arith}
 use Rattle.qs_objects.specs.declared.held.Ticket.{Ticket}
-use Rattle.qs_played.specs.Played.{ClientRows, HaveRows, counts_in, entry_in, rows_at, trace_in}
-use Rattle.qs_plain_client.specs.Clients.{AreRowsOf, ClientState, client_at, client_of}
+use Rattle.qs_played.specs.Played.{ClientRows, HaveRows, counts_of_ticket, entry_in, rows_at, trace_in}
+use Rattle.qs_plain_client.specs.Clients.{AreRowsOf, ClientState, client_state_at, client_of_state}
 use Rattle.qs_plain.specs.BegunBlocks.{AreBegun, AreRows}
 
-pub rows_push : (rows : List ClientRows) (cs : List ClientState) (r : ClientRows) (d : ClientState) → AreRows rows cs → AreRowsOf r (client_of d) → AreRows (rows ++ r ∷ []) (cs ++ d ∷ [])
+pub rows_push : (rows : List ClientRows) (cs : List ClientState) (r : ClientRows) (d : ClientState) → AreRows rows cs → AreRowsOf r (client_of_state d) → AreRows (rows ++ r ∷ []) (cs ++ d ∷ [])
 rows_push [] [] r d before here = (here, tt)
 rows_push [] (e ∷ cs) r d before here = absurd before
 rows_push (q ∷ rows) [] r d before here = absurd before
@@ -19,7 +19,7 @@ many_rows [] (d ∷ cs) are = absurd are
 many_rows (r ∷ rows) [] are = absurd are
 many_rows (r ∷ rows) (d ∷ cs) are = ap suc (many_rows rows cs are.1)
 
-row_of : (rows : List ClientRows) (cs : List ClientState) (c : ℕ) → AreRows rows cs → c < length cs → AreRowsOf (rows_at rows c) (client_of (client_at cs c))
+row_of : (rows : List ClientRows) (cs : List ClientState) (c : ℕ) → AreRows rows cs → c < length cs → AreRowsOf (rows_at rows c) (client_of_state (client_state_at cs c))
 row_of [] [] c are inside = absurd (omega (arith, inside))
 row_of [] (d ∷ cs) c are inside = absurd are
 row_of (r ∷ rows) [] c are inside = absurd are
@@ -53,19 +53,19 @@ module _ (rows : List ClientRows) (cs : List ClientState) (order : List Ticket) 
         counts = omega (arith, block, counted);
       }
 
-  pub entries_are : map (entry_in rows) order ≡ map (λ (t : Ticket). get_or (client_of (client_at cs t.client)).entries t.index []) order
+  pub entries_are : map (entry_in rows) order ≡ map (λ (t : Ticket). get_or (client_of_state (client_state_at cs t.client)).entries t.index []) order
   entries_are = along _ _ order (λ i d inside.
       let t = get_or order i d in
       ap (λ ls. get_or ls t.index []) (row_of rows cs t.client are (begun i d inside).0).entries)
 
-  pub traces_are : map (trace_in rows) order ≡ map (λ (t : Ticket). get_or (client_of (client_at cs t.client)).traces t.index []) order
+  pub traces_are : map (trace_in rows) order ≡ map (λ (t : Ticket). get_or (client_of_state (client_state_at cs t.client)).traces t.index []) order
   traces_are = along _ _ order (λ i d inside.
       let t = get_or order i d in
       let row = row_of rows cs t.client are (begun i d inside).0 in
-      sym (get_or-take (length (client_at cs t.client).entries) (rows_at rows t.client).traces t.index [] (begun i d inside).1) ∙ ap (λ ess. get_or ess t.index []) row.traces)
+      sym (get_or-take (length (client_state_at cs t.client).entries) (rows_at rows t.client).traces t.index [] (begun i d inside).1) ∙ ap (λ ess. get_or ess t.index []) row.traces)
 
-  pub counts_are : map (counts_in rows) order ≡ map (λ (t : Ticket). get_or (client_of (client_at cs t.client)).counts t.index []) order
+  pub counts_are : map (counts_of_ticket rows) order ≡ map (λ (t : Ticket). get_or (client_of_state (client_state_at cs t.client)).counts t.index []) order
   counts_are = along _ _ order (λ i d inside.
       let t = get_or order i d in
       let row = row_of rows cs t.client are (begun i d inside).0 in
-      sym (get_or-take (length (client_at cs t.client).entries) (rows_at rows t.client).counts t.index [] (begun i d inside).1) ∙ ap (λ xss. get_or xss t.index []) row.counts)
+      sym (get_or-take (length (client_state_at cs t.client).entries) (rows_at rows t.client).counts t.index [] (begun i d inside).1) ∙ ap (λ xss. get_or xss t.index []) row.counts)

@@ -1,36 +1,36 @@
--- What is read off the code's lists of clients and handlers is what the plain rules show: syncs, journals, states, and whether
--- all blocks are done. The contracts of `into_played`, `are_done` and `play` need it. The code's lists are mapped to those of the
--- rules, and each reading is compared by induction on the list.
+-- What is read off the code's lists of clients and handlers is what the plain rules show: syncs, journals, states, and
+-- whether all blocks are done. The contracts of `into_played`, `are_done` and `play` need it. The code's lists are
+-- mapped to those of the rules, and each reading is compared by induction on the list.
 use Rattle.std.proofs.Common.{◌≡◌, ◌<◌, ℕ, zero, suc, ◌+◌, ◌&&◌, List, [], ◌∷◌, map, drop, length, get_or, sum_by, refl, ap, sym, ◌∙◌, add-one}
 use Rattle.std.proofs.Math.Seq.{drop-cons}
 use Rattle.std.proofs.lemmas.List.Sums.{sum_by-cons}
 use Rattle.qs_program.specs.Program.{ProgramShape}
 use Rattle.qs_plain_laws.specs.Plain.{Handler, no_client}
 use Rattle.qs_plain_laws.specs.PlainSchedule.{all_done, is_done, syncs_of}
-use Rattle.qs_plain_client.specs.Clients.{ClientState, client_of, client_at}
-use Rattle.qs_plain.specs.Served.{HandlerState, handler_of}
+use Rattle.qs_plain_client.specs.Clients.{ClientState, client_of_state, client_state_at}
+use Rattle.qs_plain_handler.specs.Served.{HandlerState, handler_of_state}
 
-pub at_client : (cs : List ClientState) (c : ℕ) → client_of (client_at cs c) ≡ get_or (map client_of cs) c no_client
+pub at_client : (cs : List ClientState) (c : ℕ) → client_of_state (client_state_at cs c) ≡ get_or (map client_of_state cs) c no_client
 at_client [] c = refl
 at_client (d ∷ cs) zero = refl
 at_client (d ∷ cs) (suc c) = at_client cs c
 
-pub all_syncs : (cs : List ClientState) → sum_by (λ (d : ClientState). syncs_of (client_of d)) cs ≡ sum_by syncs_of (map client_of cs)
+pub all_syncs : (cs : List ClientState) → sum_by (λ (d : ClientState). syncs_of (client_of_state d)) cs ≡ sum_by syncs_of (map client_of_state cs)
 all_syncs [] = refl
 all_syncs (d ∷ cs) =
-    rw (sum_by-cons (λ (x : ClientState). syncs_of (client_of x)) d cs, sum_by-cons syncs_of (client_of d) (map client_of cs))
-    (ap (λ n. syncs_of (client_of d) + n) (all_syncs cs))
+    rw (sum_by-cons (λ (x : ClientState). syncs_of (client_of_state x)) d cs, sum_by-cons syncs_of (client_of_state d) (map client_of_state cs))
+    (ap (λ n. syncs_of (client_of_state d) + n) (all_syncs cs))
 
-pub all_journals : (hs : List HandlerState) → map (λ (h : HandlerState). h.held.journal) hs ≡ map (λ (h : Handler). h.held.journal) (map handler_of hs)
+pub all_journals : (hs : List HandlerState) → map (λ (h : HandlerState). h.held.journal) hs ≡ map (λ (h : Handler). h.held.journal) (map handler_of_state hs)
 all_journals [] = refl
 all_journals (h ∷ hs) = ap (λ rest. h.held.journal ∷ rest) (all_journals hs)
 
-pub all_states : (hs : List HandlerState) → map (λ (h : HandlerState). h.held.object) hs ≡ map (λ (h : Handler). h.held.object) (map handler_of hs)
+pub all_states : (hs : List HandlerState) → map (λ (h : HandlerState). h.held.object) hs ≡ map (λ (h : Handler). h.held.object) (map handler_of_state hs)
 all_states [] = refl
 all_states (h ∷ hs) = ap (λ rest. h.held.object ∷ rest) (all_states hs)
 
 pub done_from : (p : ProgramShape) (cs : List ClientState) (d : ClientState) (i : ℕ) → i < length cs
-    → all_done p i (map client_of (drop i cs)) ≡ (is_done p i (client_of (get_or cs i d)) && all_done p (i + 1) (map client_of (drop (i + 1) cs)))
+    → all_done p i (map client_of_state (drop i cs)) ≡ (is_done p i (client_of_state (get_or cs i d)) && all_done p (i + 1) (map client_of_state (drop (i + 1) cs)))
 done_from p cs d i within =
-    ap (λ xs. all_done p i (map client_of xs)) (drop-cons cs i d within)
-    ∙ ap (λ n. is_done p i (client_of (get_or cs i d)) && all_done p n (map client_of (drop n cs))) (sym (add-one i))
+    ap (λ xs. all_done p i (map client_of_state xs)) (drop-cons cs i d within)
+    ∙ ap (λ n. is_done p i (client_of_state (get_or cs i d)) && all_done p n (map client_of_state (drop n cs))) (sym (add-one i))

@@ -1,6 +1,6 @@
--- What a step did is what the plain rules' definition says of it. The contracts of `go_on`, `separate` and `step_handler_told`
--- promise this. A client's deed follows from what its frames ask. A handler's deed is read before its step, but for a query's
--- reply: that is read after the step, from the entry that the journal has more.
+-- What a step did is what the plain rules' definition says of it. The contracts of `go_on`, `separate` and
+-- `step_handler_told` promise this. A client's deed follows from what its frames ask. A handler's deed is read before
+-- its step, but for a query's reply: that is read after the step, from the entry that the journal has more.
 use Rattle.std.proofs.Common.{◌≡◌, ◌<◌, ℕ, ◌-◌, Bool, true, false, if◌then◌else◌, List, [], ◌∷◌, ◌++◌, map, length, drop, refl, ap, sym, subst, ◌∙◌, Option, Some, None, ℤ, get_or-set_same, length-set}
 use Rattle.std.proofs.Math.ListN.{set}
 use Rattle.std.proofs.lemmas.List.{length-map}
@@ -17,43 +17,43 @@ use Rattle.qs_plain_laws.specs.Plain.{Client, Handler, Plain, Private, current, 
 use Rattle.qs_plain_laws.specs.Plain as plain
 use Rattle.qs_plain_laws.specs.declared.item.QueueItem.{QueueItem}
 use Rattle.qs_plain_laws.specs.declared.item.QueueItem.TheVariants as item
-use Rattle.qs_plain_client.specs.Clients.{ClientState, absent, client_at, client_of, stage_of}
+use Rattle.qs_plain_client.specs.Clients.{ClientState, absent, client_state_at, client_of_state, stage_of}
 use Rattle.qs_plain_client.specs.Frames.{next_of}
 use Rattle.qs_plain_client.specs.declared.stage.Stage.TheVariants as stage
-use Rattle.qs_plain.specs.Deeds.{answered, deed_of_client, deed_of_queue, deed_of_queues, deed_of_rest, plain_deed, reply_in, reply_of, unanswered}
-use Rattle.qs_plain.specs.Handlers.{handler_at}
+use Rattle.qs_plain_handler.specs.Deeds.{answered, deed_of_client, deed_of_queue, deed_of_queues, deed_of_rest, plain_deed, reply_in, reply_of, unanswered}
+use Rattle.qs_plain_handler.specs.Handlers.{handler_state_at}
 use Rattle.qs_plain.specs.Rules.{RulesState, Steps, plain_of}
-use Rattle.qs_plain.specs.declared.deed.Deed.{Deed}
-use Rattle.qs_plain.specs.declared.deed.Deed.TheVariants as deed
-use Rattle.qs_plain.specs.Served.{HandlerState}
-use Rattle.qs_plain.specs.Told.{IsShort, IsTold, deed_of_did, last_ticket}
-use Rattle.qs_plain.specs.declared.deed.Did.{Did}
+use Rattle.qs_plain_handler.specs.declared.deed.Deed.{Deed}
+use Rattle.qs_plain_handler.specs.declared.deed.Deed.TheVariants as deed
+use Rattle.qs_plain_handler.specs.Served.{HandlerState}
+use Rattle.qs_plain.specs.Told.{IsShortStep, IsTold, deed_of_did, last_ticket}
+use Rattle.qs_plain.specs.declared.did.Did.{Did}
 use Rattle.qs_plain.proofs.RulesFieldLemmas.{new_rules}
 use Rattle.qs_plain.proofs.RulesSteps.{plain_client, plain_handler}
 
 -- a client in a block, by what its frames ask
-pub deed_within : (r : RulesState) (c : ℕ) (rest : Interaction) → (client_at r.clients c).stage ≡ stage.Within → next_of (client_at r.clients c).frames (client_at r.clients c).locals ≡ rest
-    → plain_deed (plain_of r) (actor.Client c) ≡ Some (deed_of_rest (ticket c (length (client_at r.clients c).entries - 1)) rest)
+pub deed_within : (r : RulesState) (c : ℕ) (rest : Interaction) → (client_state_at r.clients c).stage ≡ stage.Within → next_of (client_state_at r.clients c).frames (client_state_at r.clients c).locals ≡ rest
+    → plain_deed (plain_of r) (actor.Client c) ≡ Some (deed_of_rest (ticket c (length (client_state_at r.clients c).entries - 1)) rest)
 deed_within r c rest stays is =
-    let d = client_at r.clients c in
+    let d = client_state_at r.clients c in
     ap (λ (it : Client). deed_of_client c it it.stage) (plain_client r.clients c)
-    ∙ ap (λ s. deed_of_client c (client_of d) (stage_of s d.frames d.locals)) stays
+    ∙ ap (λ s. deed_of_client c (client_of_state d) (stage_of s d.frames d.locals)) stays
     ∙ ap (λ tree. Some (deed_of_rest (ticket c (length d.entries - 1)) tree)) is
 
 -- and between two blocks
-pub deed_out : (r : RulesState) (c : ℕ) → (client_at r.clients c).stage ≡ stage.Out
-    → plain_deed (plain_of r) (actor.Client c) ≡ Some (deed.Reserves (ticket c (length (client_at r.clients c).entries)))
+pub deed_out : (r : RulesState) (c : ℕ) → (client_state_at r.clients c).stage ≡ stage.Out
+    → plain_deed (plain_of r) (actor.Client c) ≡ Some (deed.Reserves (ticket c (length (client_state_at r.clients c).entries)))
 deed_out r c stays =
-    let d = client_at r.clients c in
+    let d = client_state_at r.clients c in
     ap (λ (it : Client). deed_of_client c it it.stage) (plain_client r.clients c)
-    ∙ ap (λ s. deed_of_client c (client_of d) (stage_of s d.frames d.locals)) stays
+    ∙ ap (λ s. deed_of_client c (client_of_state d) (stage_of s d.frames d.locals)) stays
 
 -- the client that has moved
-moved_here : (cs : List ClientState) (c n : ℕ) (new : ClientState) → n ≡ c → c < length cs → client_at (set cs n new) c ≡ new
-moved_here cs c n new is less = ap (λ m. client_at (set cs m new) c) is ∙ get_or-set_same cs c new absent less
+moved_here : (cs : List ClientState) (c n : ℕ) (new : ClientState) → n ≡ c → c < length cs → client_state_at (set cs n new) c ≡ new
+moved_here cs c n new is less = ap (λ m. client_state_at (set cs m new) c) is ∙ get_or-set_same cs c new absent less
 
 -- and what it did is told by it
-pub told_by : (it : Did) (before : Plain) (r : RulesState) (order : List Ticket) (c n : ℕ) (new : ClientState) (hs : List HandlerState) → n ≡ c → c < length r.clients → IsShort it
+pub told_by : (it : Did) (before : Plain) (r : RulesState) (order : List Ticket) (c n : ℕ) (new : ClientState) (hs : List HandlerState) → n ≡ c → c < length r.clients → IsShortStep it
     → plain_deed before (actor.Client c) ≡ deed_of_did it new.locals (last_ticket c new) → IsTold it before c (new_rules r order n new hs)
 told_by it before r order c n new hs is less short deed = record {
   there = subst (λ k. c < k) (sym (length-set r.clients n new)) less;
@@ -112,8 +112,8 @@ module _ (s t : Plain) (h : ℕ) (less : h < length s.handlers) where
 
 -- a handler's deed, read before its step but for the reply
 pub deed_served : (r new : RulesState) (h : ℕ) (first : Deed) (value : Option ℤ) (before : ℕ) → h < length r.handlers → Steps r (actor.Handler h) new
-    → Some first ≡ unanswered (deed_of_queues (handler_at r.handlers h).held (map (λ q. q.queue) (handler_at r.handlers h).queues))
-    → before ≡ length (handler_at r.handlers h).held.journal → value ≡ reply_in (handler_at new.handlers h).held.journal before
+    → Some first ≡ unanswered (deed_of_queues (handler_state_at r.handlers h).held (map (λ q. q.queue) (handler_state_at r.handlers h).queues))
+    → before ≡ length (handler_state_at r.handlers h).held.journal → value ≡ reply_in (handler_state_at new.handlers h).held.journal before
     → plain_deed (plain_of r) (actor.Handler h) ≡ Some (answered value first)
 unfolding answer
 deed_served r new h first value before less steps is many replies =

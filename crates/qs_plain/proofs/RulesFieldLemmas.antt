@@ -1,6 +1,6 @@
--- The lemmas on the steps of the plain rules are stated here in the words that the proofs of `separate`, `go_on`, `step_client`
--- and `step_handler` have at hand. There the machine's fields, the numbers, and the client or handler are read out of the code
--- and only equal to those of the lemmas. The proofs rewrite along these equations.
+-- The lemmas on the steps of the plain rules are stated here in the words that the proofs of `separate`, `go_on`,
+-- `step_client` and `step_handler` have at hand. There the machine's fields, the numbers, and the client or handler are
+-- read out of the code and only equal to those of the lemmas. The proofs rewrite along these equations.
 use Rattle.std.proofs.Common.{◌≡◌, ◌<◌, ℕ, List, [], ◌∷◌, ◌++◌, Some, length, get_or, ap, ◌∙◌, sym, subst}
 use Rattle.std.proofs.Math.ListN.{set}
 use Rattle.qs_objects.specs.declared.held.Ticket.{Ticket}
@@ -9,19 +9,19 @@ use Rattle.qs_played.specs.declared.schedule.actor.Actor.{Actor}
 use Rattle.qs_played.proofs.Lists.{get_or-any}
 use Rattle.qs_plain_laws.specs.declared.item.QueueItem.{QueueItem}
 use Rattle.qs_plain_laws.specs.Plain.{step}
-use Rattle.qs_plain_client.specs.Clients.{ClientState, absent, client_at}
+use Rattle.qs_plain_client.specs.Clients.{ClientState, absent, client_state_at}
 use Rattle.qs_plain_client.specs.declared.stage.Stage.{Stage}
-use Rattle.qs_plain.specs.Handlers.{CanLogAll, logged_all, handler_at, nobody}
+use Rattle.qs_plain_handler.specs.Handlers.{CanLogAll, logged_all, handler_state_at, nobody}
 use Rattle.qs_plain.specs.Rules.{RulesState, IsRules, plain_of}
-use Rattle.qs_plain.specs.Served.{HandlerState}
+use Rattle.qs_plain_handler.specs.Served.{HandlerState}
 
 pub within_of : (r s : RulesState) (c : ℕ) → r ≡ s → c < length s.clients → c < length r.clients
 within_of r s c same less = rw same less
 
-pub stage_of : (r s : RulesState) (c : ℕ) (st : Stage) → r ≡ s → (client_at s.clients c).stage ≡ st → (client_at r.clients c).stage ≡ st
+pub stage_of : (r s : RulesState) (c : ℕ) (st : Stage) → r ≡ s → (client_state_at s.clients c).stage ≡ st → (client_state_at r.clients c).stage ≡ st
 stage_of r s c st same is = rw same is
 
-pub here_of : (cs : List ClientState) (c n : ℕ) (d : ClientState) → n ≡ c → c < length cs → d ≡ get_or cs n d → d ≡ client_at cs c
+pub here_of : (cs : List ClientState) (c n : ℕ) (d : ClientState) → n ≡ c → c < length cs → d ≡ get_or cs n d → d ≡ client_state_at cs c
 here_of cs c n d is less e = e ∙ ap (λ m. get_or cs m d) is ∙ get_or-any cs c d absent less
 
 abbrev pub new_rules : RulesState → List Ticket → ℕ → ClientState → List HandlerState → RulesState
@@ -45,7 +45,7 @@ can_log_all_of t u hs xs ys same is can = subst (λ v. CanLogAll v hs xs) (sym s
 pub logged_all_of : (t u : Ticket) (i : QueueItem) (hs others : List HandlerState) (xs ys : List ℕ) → t ≡ u → xs ≡ ys → others ≡ logged_all t i hs xs → others ≡ logged_all u i hs ys
 logged_all_of t u i hs others xs ys same is e = e ∙ (λ k. logged_all (same k) i hs (is k))
 
-pub handler_here : (hs : List HandlerState) (h n : ℕ) (x : HandlerState) → n ≡ h → h < length hs → x ≡ get_or hs n x → x ≡ handler_at hs h
+pub handler_here : (hs : List HandlerState) (h n : ℕ) (x : HandlerState) → n ≡ h → h < length hs → x ≡ get_or hs n x → x ≡ handler_state_at hs h
 handler_here hs h n x is less e = e ∙ ap (λ m. get_or hs m x) is ∙ get_or-any hs h x nobody less
 
 pub handlers_within : (r s : RulesState) (h : ℕ) → r ≡ s → h < length s.handlers → h < length r.handlers

@@ -1,6 +1,6 @@
--- The lists that `new` builds are the plain rules before their first step, and what the code keeps holds of them. The contract of
--- `new` promises both. Each client and each handler is a fresh one by its number, so two lists that have the same element at each
--- place are equal, by induction; and the blocks to come are all blocks of the program.
+-- The lists that `new` builds are the plain rules before their first step, and what the code keeps holds of them. The
+-- contract of `new` promises both. Each client and each handler is a fresh one by its number, so two lists that have
+-- the same element at each place are equal, by induction; and the blocks to come are all blocks of the program.
 use Rattle.std.proofs.Common.{◌≡◌, ◌<◌, ℕ, suc, ◌+◌, List, [], ◌∷◌, map, length, get_or, sum_by, refl, ap, ◌∙◌, arith}
 use Rattle.std.specs.List.{range_with_len}
 use Rattle.std.proofs.lemmas.List.Sums.{sum_by-cons}
@@ -9,11 +9,11 @@ use Rattle.qs_program.specs.Program.{ProgramShape, ClientShape, no_client}
 use Rattle.qs_plain_laws.specs.Plain.{begin, fresh_client, fresh_handler}
 use Rattle.qs_plain_laws.specs.Plain as plain
 use Rattle.qs_plain_client.specs.FreshClients.{AreFresh}
-use Rattle.qs_plain_client.specs.Clients.{ClientState, IsFresh, client_of, stage_of, absent, client_at}
-use Rattle.qs_plain.specs.Beginning.{AreIdle}
-use Rattle.qs_plain.specs.Handlers.{nobody}
+use Rattle.qs_plain_client.specs.Clients.{ClientState, IsFresh, client_of_state, stage_of, absent, client_state_at}
+use Rattle.qs_plain_handler.specs.Beginning.{AreIdle}
+use Rattle.qs_plain_handler.specs.Handlers.{nobody}
 use Rattle.qs_plain.specs.Rules.{RulesState, IsRules, plain_of, to_come}
-use Rattle.qs_plain.specs.Served.{HandlerState, handler_of}
+use Rattle.qs_plain_handler.specs.Served.{HandlerState, handler_of_state}
 
 -- a list whose elements are given by their numbers
 listed : {X Y : Type 0} (f : X → Y) (g : ℕ → Y) (xs : List X) (d : X) (a : ℕ) → ((i : ℕ) → i < length xs → f (get_or xs i d) ≡ g (a + i)) → map f xs ≡ map g (range_with_len a (length xs))
@@ -24,7 +24,7 @@ listed f g (x ∷ xs) d a each =
     let others = listed f g xs d (a + 1) (λ i less. let place : a + suc i ≡ (a + 1) + i = omega arith in each (suc i) (omega arith) ∙ ap g place) in
     λ k. first k ∷ others k
 
-fresh_is : (p : ProgramShape) (c : ℕ) (d : ClientState) → IsFresh p c d → client_of d ≡ fresh_client c
+fresh_is : (p : ProgramShape) (c : ℕ) (d : ClientState) → IsFresh p c d → client_of_state d ≡ fresh_client c
 fresh_is p c d f =
     (λ k. record { stage = stage_of (f.stage k) d.frames d.locals; entries = f.entries k; traces = map (λ t. t.events) (f.traces k); counts = f.counts k })
     ∙ (λ k. record { stage = plain.out (f.locals k); entries = []; traces = []; counts = [] })
@@ -57,8 +57,8 @@ module _ (p : ProgramShape) (room : ℕ) (cs : List ClientState) (hs : List Hand
 
   pub fresh_plain : plain_of (fresh_rules []) ≡ begin p
   fresh_plain =
-      let clients = listed client_of fresh_client cs absent 0 (λ i less. fresh_is p i (client_at cs i) (fresh.each i (rw fresh.many at less)) ∙ (let place : i ≡ 0 + i = omega arith in ap fresh_client place)) in
-      let handlers = listed handler_of (fresh_handler p) hs nobody 0 (λ h less. ap handler_of (still.each h (rw still.many at less)) ∙ (let place : h ≡ 0 + h = omega arith in ap (fresh_handler p) place)) in
+      let clients = listed client_of_state fresh_client cs absent 0 (λ i less. fresh_is p i (client_state_at cs i) (fresh.each i (rw fresh.many at less)) ∙ (let place : i ≡ 0 + i = omega arith in ap fresh_client place)) in
+      let handlers = listed handler_of_state (fresh_handler p) hs nobody 0 (λ h less. ap handler_of_state (still.each h (rw still.many at less)) ∙ (let place : h ≡ 0 + h = omega arith in ap (fresh_handler p) place)) in
       λ k. record {
         order = [];
         clients = (clients ∙ ap (λ n. map fresh_client (range_with_len 0 n)) fresh.many) k;

@@ -1,6 +1,6 @@
--- As a client goes on in its block, by a command, a query or the block's end, what the code keeps still holds, and the step is
--- that of the plain rules. The contract of `go_on` promises both. An item more in a private queue is met by a request less in the
--- load that is left of the block, so the queues' room suffices; the end mark has its own place.
+-- As a client goes on in its block, by a command, a query or the block's end, what the code keeps still holds, and the
+-- step is that of the plain rules. The contract of `go_on` promises both. An item more in a private queue is met by a
+-- request less in the load that is left of the block, so the queues' room suffices; the end mark has its own place.
 use Rattle.std.proofs.Common.{◌≡◌, ◌≢◌, ◌<◌, ◌≤◌, ℕ, ◌+◌, ◌-◌, ◌==◌, if◌then◌else◌, Bool, true, false, ◌||◌, ◌⊎◌, inl, inr, List, [], ◌∷◌, ◌++◌, map, length, get_or, refl, ap, sym, subst, ◌∙◌, arith, Some, None, nat_lt, ℤ, get_or-set_other, get_or-set_same, length-set}
 use Rattle.std.specs.List.{AllByRecursion, list_any}
 use Rattle.std.proofs.Math.ListN.{set, get_or-map}
@@ -16,12 +16,12 @@ use Rattle.qs_program.specs.Sound.{IsSound, IsSoundBlock, is_in}
 use Rattle.qs_program.proofs.Bounds.{sound_block}
 use Rattle.qs_played.specs.Played.{ticket}
 use Rattle.qs_played.specs.declared.schedule.actor.Actor.TheVariants as actor
-use Rattle.qs_plain_laws.specs.Plain.{Client, step, client_step, goes_on}
+use Rattle.qs_plain_laws.specs.Plain.{Client, step, client_step, moves_on}
 use Rattle.qs_plain_laws.specs.declared.item.QueueItem.{QueueItem}
 use Rattle.qs_plain_laws.specs.Plain as plain
 use Rattle.qs_plain_laws.specs.declared.item.QueueItem.TheVariants as item
 use Rattle.qs_plain_client.specs.ClientMoves.{after_moves}
-use Rattle.qs_plain_client.specs.Clients.{ClientState, IsClient, IsWithin, current_block, client_of, stage_of, absent, client_at}
+use Rattle.qs_plain_client.specs.Clients.{ClientState, IsClient, IsWithin, current_block, client_of_state, stage_of, absent, client_state_at}
 use Rattle.qs_plain_client.specs.Frames.{Frame, next_of, load_left}
 use Rattle.qs_plain_client.specs.TraceMoves.{counted_in, noted_in, last_of, no_trace}
 use Rattle.qs_sync_counts.specs.SyncRows.{with_sync}
@@ -31,9 +31,9 @@ use Rattle.qs_objects.proofs.Elements.{AllByRecursion-get_or}
 use Rattle.qs_plain_client.specs.declared.stage.Stage.{Stage}
 use Rattle.qs_plain_client.proofs.ClientPreserved.{within_of}
 use Rattle.qs_plain_client.specs.declared.stage.Stage.TheVariants as stage
-use Rattle.qs_plain.specs.Handlers.{handler_at, nobody, with_logged_item, logged_at, logged_all, CanLog, CanLogAll}
+use Rattle.qs_plain_handler.specs.Handlers.{handler_state_at, nobody, with_logged_item, logged_at, logged_all, CanLog, CanLogAll}
 use Rattle.qs_plain.specs.Rules.{RulesState, IsRules, IsOpen, to_come, is_in_block, plain_of}
-use Rattle.qs_plain.proofs.HandlersPreserved.{equal_or_not, logged_each, length-logged_all}
+use Rattle.qs_plain_handler.proofs.HandlersPreserved.{equal_or_not, logged_each, length-logged_all}
 use Rattle.qs_plain.proofs.RulesBegin.{each_implies}
 use Rattle.qs_plain.proofs.RulesPreserved.{Continues, logged_kept}
 use Rattle.qs_plain.proofs.RulesSteps.{plain_client, plain-logged_at, plain-logged_all}
@@ -48,9 +48,9 @@ member_all P (x ∷ xs) h member each = by_test (x == h) (λ e. e) member (λ m.
     by_test false same' m later = later m
 
 module _ (r : RulesState) (kept : IsRules r) (sound : IsSound r.program) (c : ℕ) (inside : c < length r.clients)
-    (isc : IsClient (client_at r.clients c)) (stays : (client_at r.clients c).stage ≡ stage.Within) where
+    (isc : IsClient (client_state_at r.clients c)) (stays : (client_state_at r.clients c).stage ≡ stage.Within) where
   abbrev old : ClientState
-  old = client_at r.clients c
+  old = client_state_at r.clients c
 
   abbrev pub here : ℕ
   here = length old.entries - 1
@@ -91,7 +91,7 @@ module _ (r : RulesState) (kept : IsRules r) (sound : IsSound r.program) (c : �
     less,
     (
       λ i d place mine.
-          let opened : IsOpen r.clients h (get_or (handler_at r.handlers h).queues i d) = AllByRecursion-get_or (IsOpen r.clients h) (handler_at r.handlers h).queues i d (kept.queues h less) place in
+          let opened : IsOpen r.clients h (get_or (handler_state_at r.handlers h).queues i d) = AllByRecursion-get_or (IsOpen r.clients h) (handler_state_at r.handlers h).queues i d (kept.queues h less) place in
           let in_block : is_in_block old.stage ≡ true = rw stays refl in
           omega (arith, opened.room c inside in_block mine),
       kept.apart h less,
@@ -125,22 +125,22 @@ module _ (r : RulesState) (kept : IsRules r) (sound : IsSound r.program) (c : �
       → ((k : ℕ) → (if h == k then 1 else 0) + load_left fs k ≤ load_left old.frames k)
       → IsRules (record { program = r.program; order = r.order; clients = set r.clients c new; handlers = logged_at now i r.handlers h })
   asked_kept s l fs ts xs new new_is h member i load =
-      logged_kept r kept c new now i (logged_at now i r.handlers h) inside (continues s l fs ts xs new new_is (λ k. omega (arith, load k))) refl (length-set r.handlers h (with_logged_item now i (handler_at r.handlers h)))
+      logged_kept r kept c new now i (logged_at now i r.handlers h) inside (continues s l fs ts xs new new_is (λ k. omega (arith, load k))) refl (length-set r.handlers h (with_logged_item now i (handler_state_at r.handlers h)))
       (λ k. at_place k (equal_or_not k h)) (λ k e. asked k (equal_or_not k h))
     where
       less : h < length r.handlers
       less = (can_log h member).0
 
-      at_place : (k : ℕ) → (k ≡ h) ⊎ (k ≢ h) → (handler_at (logged_at now i r.handlers h) k ≡ handler_at r.handlers k) ⊎ (handler_at (logged_at now i r.handlers h) k ≡ with_logged_item now i (handler_at r.handlers k))
-      at_place k (inl is) = inr (subst (λ n. handler_at (logged_at now i r.handlers h) n ≡ with_logged_item now i (handler_at r.handlers n)) (sym is) (get_or-set_same r.handlers h (with_logged_item now i (handler_at r.handlers h)) nobody less))
-      at_place k (inr other) = inl (get_or-set_other r.handlers h k (with_logged_item now i (handler_at r.handlers h)) nobody other)
+      at_place : (k : ℕ) → (k ≡ h) ⊎ (k ≢ h) → (handler_state_at (logged_at now i r.handlers h) k ≡ handler_state_at r.handlers k) ⊎ (handler_state_at (logged_at now i r.handlers h) k ≡ with_logged_item now i (handler_state_at r.handlers k))
+      at_place k (inl is) = inr (subst (λ n. handler_state_at (logged_at now i r.handlers h) n ≡ with_logged_item now i (handler_state_at r.handlers n)) (sym is) (get_or-set_same r.handlers h (with_logged_item now i (handler_state_at r.handlers h)) nobody less))
+      at_place k (inr other) = inl (get_or-set_other r.handlers h k (with_logged_item now i (handler_state_at r.handlers h)) nobody other)
 
       strict : load_left fs h + 1 ≤ load_left old.frames h
       strict = let self : (h == h) ≡ true = grind arith in let here' : 1 + load_left fs h ≤ load_left old.frames h = rw self at (load h) in omega (arith, here')
 
-      asked : (k : ℕ) → (k ≡ h) ⊎ (k ≢ h) → (handler_at (logged_at now i r.handlers h) k ≡ handler_at r.handlers k) ⊎ (load_left new.frames k + 1 ≤ load_left old.frames k)
+      asked : (k : ℕ) → (k ≡ h) ⊎ (k ≢ h) → (handler_state_at (logged_at now i r.handlers h) k ≡ handler_state_at r.handlers k) ⊎ (load_left new.frames k + 1 ≤ load_left old.frames k)
       asked k (inl is) = inr (subst (λ (d : ClientState). load_left d.frames k + 1 ≤ load_left old.frames k) (sym new_is) (subst (λ n. load_left fs n + 1 ≤ load_left old.frames n) (sym is) strict))
-      asked k (inr other) = inl (get_or-set_other r.handlers h k (with_logged_item now i (handler_at r.handlers h)) nobody other)
+      asked k (inr other) = inl (get_or-set_other r.handlers h k (with_logged_item now i (handler_state_at r.handlers h)) nobody other)
 
   -- the block has ended
   pub ended_kept : (l : List ℤ) (new : ClientState) → new ≡ after_moves old stage.Out l [] old.traces old.counts
@@ -153,13 +153,13 @@ module _ (r : RulesState) (kept : IsRules r) (sound : IsSound r.program) (c : �
       out_of : is_in_block new.stage ≡ true → ⊥
       out_of e = let e' : false ≡ true = sym (ap (λ (d : ClientState). is_in_block d.stage) new_is) ∙ e in cc
 
-  goes_within : (x : RulesState) (rest : Interaction) → next_of old.frames old.locals ≡ rest → goes_on r.program (plain_of r) c (client_of old) rest ≡ plain_of x → step r.program (plain_of r) (actor.Client c) ≡ Some (plain_of x)
+  goes_within : (x : RulesState) (rest : Interaction) → next_of old.frames old.locals ≡ rest → moves_on r.program (plain_of r) c (client_of_state old) rest ≡ plain_of x → step r.program (plain_of r) (actor.Client c) ≡ Some (plain_of x)
   goes_within x rest is e =
-      let there : nat_lt c (length (map client_of r.clients)) ≡ true = rw length-map (grind (arith, inside)) in
+      let there : nat_lt c (length (map client_of_state r.clients)) ≡ true = rw length-map (grind (arith, inside)) in
       rw there
       (subst (λ (it : Client). client_step r.program (plain_of r) c it it.stage ≡ Some (plain_of x)) (sym (plain_client r.clients c))
-      (subst (λ s. client_step r.program (plain_of r) c (client_of old) (stage_of s old.frames old.locals) ≡ Some (plain_of x)) (sym stays)
-      (ap Some (ap (goes_on r.program (plain_of r) c (client_of old)) is ∙ e))))
+      (subst (λ s. client_step r.program (plain_of r) c (client_of_state old) (stage_of s old.frames old.locals) ≡ Some (plain_of x)) (sym stays)
+      (ap Some (ap (moves_on r.program (plain_of r) c (client_of_state old)) is ∙ e))))
 
   events-noted : (e : Event) → map (λ (t : TraceState). t.events) (noted_in old.traces e)
       ≡ set (map (λ (t : TraceState). t.events) old.traces) here (get_or (map (λ (t : TraceState). t.events) old.traces) here [] ++ e ∷ [])
@@ -173,32 +173,32 @@ module _ (r : RulesState) (kept : IsRules r) (sound : IsSound r.program) (c : �
       → step r.program (plain_of r) (actor.Client c) ≡ Some (plain_of (record { program = r.program; order = r.order; clients = set r.clients c new; handlers = logged_at now (item.Command q) r.handlers q.object }))
   command_steps q l fs new is new_is = goes_within (record { program = r.program; order = r.order; clients = set r.clients c new; handlers = logged_at now (item.Command q) r.handlers q.object }) _ is (λ k. record {
     order = r.order;
-    clients = (ap (set (map client_of r.clients) c) (sym client) ∙ sym (map-set client_of r.clients c new)) k;
+    clients = (ap (set (map client_of_state r.clients) c) (sym client) ∙ sym (map-set client_of_state r.clients c new)) k;
     handlers = sym (plain-logged_at now (item.Command q) r.handlers q.object) k;
   })
     where
-      client : client_of new ≡ plain.stands (plain.with_trace_event (client_of old) here (event q None)) (plain.within (next_of fs l))
-      client = ap client_of new_is ∙ (λ k. record { stage = plain.within (next_of fs l); entries = old.entries; traces = events-noted (event q None) k; counts = old.counts })
+      client : client_of_state new ≡ plain.stands (plain.with_trace_event (client_of_state old) here (event q None)) (plain.within (next_of fs l))
+      client = ap client_of_state new_is ∙ (λ k. record { stage = plain.within (next_of fs l); entries = old.entries; traces = events-noted (event q None) k; counts = old.counts })
 
   pub query_steps : (q : Request) (x : ℕ) (l : List ℤ) (fs : List Frame) (new : ClientState) → next_of old.frames old.locals ≡ Query q (λ v. next_of fs (set l x v)) → new ≡ after_moves old (stage.Waiting x) l fs old.traces (counted_in old.counts q.object)
       → step r.program (plain_of r) (actor.Client c) ≡ Some (plain_of (record { program = r.program; order = r.order; clients = set r.clients c new; handlers = logged_at now (item.Query q) r.handlers q.object }))
   query_steps q x l fs new is new_is = goes_within (record { program = r.program; order = r.order; clients = set r.clients c new; handlers = logged_at now (item.Query q) r.handlers q.object }) _ is (λ k. record {
     order = r.order;
-    clients = (ap (set (map client_of r.clients) c) (sym client) ∙ sym (map-set client_of r.clients c new)) k;
+    clients = (ap (set (map client_of_state r.clients) c) (sym client) ∙ sym (map-set client_of_state r.clients c new)) k;
     handlers = sym (plain-logged_at now (item.Query q) r.handlers q.object) k;
   })
     where
       counts : counted_in old.counts q.object ≡ set old.counts here (with_sync q.object (get_or old.counts here []))
       counts = ap (λ n. set old.counts (n - 1) (with_sync q.object (get_or old.counts (n - 1) []))) isc.counts
 
-      client : client_of new ≡ plain.stands (plain.with_query_counted (client_of old) here q.object) (plain.waiting (λ v. next_of fs (set l x v)))
-      client = ap client_of new_is
+      client : client_of_state new ≡ plain.stands (plain.with_query_counted (client_of_state old) here q.object) (plain.waiting (λ v. next_of fs (set l x v)))
+      client = ap client_of_state new_is
           ∙ (λ k. record { stage = plain.waiting (λ v. next_of fs (set l x v)); entries = old.entries; traces = map (λ (t : TraceState). t.events) old.traces; counts = counts k })
 
   pub end_steps : (l : List ℤ) (new : ClientState) → next_of old.frames old.locals ≡ Done l → new ≡ after_moves old stage.Out l [] old.traces old.counts
       → step r.program (plain_of r) (actor.Client c) ≡ Some (plain_of (record { program = r.program; order = r.order; clients = set r.clients c new; handlers = logged_all now item.EndMark r.handlers block.reserved }))
   end_steps l new is new_is = goes_within (record { program = r.program; order = r.order; clients = set r.clients c new; handlers = logged_all now item.EndMark r.handlers block.reserved }) _ is (λ k. record {
     order = r.order;
-    clients = (ap (set (map client_of r.clients) c) (sym (ap client_of new_is)) ∙ sym (map-set client_of r.clients c new)) k;
+    clients = (ap (set (map client_of_state r.clients) c) (sym (ap client_of_state new_is)) ∙ sym (map-set client_of_state r.clients c new)) k;
     handlers = sym (plain-logged_all now item.EndMark r.handlers block.reserved) k;
   })

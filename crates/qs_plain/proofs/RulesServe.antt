@@ -1,6 +1,7 @@
--- What a handler of the code serves is the step of the plain rules, and what the code keeps still holds after it; a client
--- between blocks with none left has no step. The contracts of `step_handler` and `step_client` promise this. The proof goes by
--- cases on what lies first in the handler's first private queue: nothing, a command, a query or the end mark.
+-- What a handler of the code serves is the step of the plain rules, and what the code keeps still holds after it; a
+-- client between blocks with none left has no step. The contracts of `step_handler` and `step_client` promise this. The
+-- proof goes by cases on what lies first in the handler's first private queue: nothing, a command, a query or the end
+-- mark.
 use Rattle.std.proofs.Common.{◌≡◌, ◌<◌, ◌≤◌, ℕ, ◌+◌, ◌-◌, Bool, true, false, ◌⊎◌, inl, inr, ⊎_elim, List, [], ◌∷◌, ◌++◌, map, length, get_or, refl, ap, sym, subst, ◌∙◌, arith, Option, Some, None, nat_lt, ℤ}
 use Rattle.std.specs.List.{AllByRecursion}
 use Rattle.std.proofs.Math.ListN.{set, get_or-map}
@@ -17,7 +18,7 @@ use Rattle.qs_plain_laws.specs.declared.item.QueueItem.{QueueItem}
 use Rattle.qs_plain_laws.specs.Plain as plain
 use Rattle.qs_plain_laws.specs.declared.item.QueueItem.TheVariants as item
 use Rattle.qs_plain_client.specs.ClientMoves.{Replies, RepliesAt}
-use Rattle.qs_plain_client.specs.Clients.{ClientState, IsClient, client_of, stage_of, client_at}
+use Rattle.qs_plain_client.specs.Clients.{ClientState, IsClient, client_of_state, stage_of, client_state_at}
 use Rattle.qs_plain_client.specs.Frames.{next_of}
 use Rattle.qs_plain_client.specs.TraceMoves.{noted_in, last_of, no_trace}
 use Rattle.qs_plain_client.specs.Queues.{AreApart, QueueState}
@@ -25,11 +26,11 @@ use Rattle.qs_objects.specs.Traces.{TraceState, trace_state}
 use Rattle.qs_plain_client.specs.declared.stage.Stage.{Stage}
 use Rattle.qs_plain_client.specs.ReplyDelivery.{Hears}
 use Rattle.qs_plain_client.specs.declared.stage.Stage.TheVariants as stage
-use Rattle.qs_plain.specs.Handlers.{handler_at}
+use Rattle.qs_plain_handler.specs.Handlers.{handler_state_at}
 use Rattle.qs_plain.specs.Rules.{RulesState, IsRules, IsOpen, plain_of, to_come}
-use Rattle.qs_plain.specs.Served.{HandlerState, handler_of, ServesFirst, ServesItem}
-use Rattle.qs_plain.specs.declared.handler.Served.{Served}
-use Rattle.qs_plain.specs.declared.handler.Served.TheVariants.{Nothing, Done, Replied}
+use Rattle.qs_plain_handler.specs.Served.{HandlerState, handler_of_state, ServesFirst, ServesItem}
+use Rattle.qs_plain_handler.specs.declared.handler.Served.{Served}
+use Rattle.qs_plain_handler.specs.declared.handler.Served.TheVariants.{Nothing, Done, Replied}
 use Rattle.qs_plain.proofs.RulesPreserved.{Continues, client_kept, served_kept, same_to_come}
 use Rattle.qs_plain.proofs.RulesSteps.{plain_client, plain_handler}
 
@@ -37,30 +38,30 @@ abbrev queues_of : List QueueState → List plain.Private
 queues_of qs = map (λ (q : QueueState). q.queue) qs
 
 abbrev plain_after_serving : Plain → ℕ → HandlerState → Plain
-plain_after_serving s h new = record { order = s.order; clients = s.clients; handlers = set s.handlers h (handler_of new) }
+plain_after_serving s h new = record { order = s.order; clients = s.clients; handlers = set s.handlers h (handler_of_state new) }
 
 abbrev handled_and_replied : Plain → ℕ → HandlerState → Ticket → Request → Option ℤ → Plain
 handled_and_replied s h new t q v = record {
   order = s.order;
   clients = set s.clients t.client (after_reply (plain.client_at s t.client) q v);
-  handlers = set s.handlers h (handler_of new);
+  handlers = set s.handlers h (handler_of_state new);
 }
 
 module _ (s : Plain) (h : ℕ) (x : HandlerState) (q : QueueState) (qs : List QueueState) where
-  item_nothing : (items : List QueueItem) (new : HandlerState) → ServesItem x q qs items Nothing new → item_step s h (handler_of x) q.queue (queues_of qs) items ≡ None
+  item_nothing : (items : List QueueItem) (new : HandlerState) → ServesItem x q qs items Nothing new → item_step s h (handler_of_state x) q.queue (queues_of qs) items ≡ None
   item_nothing [] new sv = refl
   item_nothing (item.Command r ∷ items) new sv = let e : Nothing ≡ Done = sv.0 in cc
   item_nothing (item.Query r ∷ items) new sv = let e : Nothing ≡ Replied q.queue.ticket r (run_one x.held q.queue.ticket r).1 = sv.0 in cc
   item_nothing (item.EndMark ∷ items) new sv = let e : Nothing ≡ Done = sv.0 in cc
 
-  item_done : (items : List QueueItem) (new : HandlerState) → ServesItem x q qs items Done new → item_step s h (handler_of x) q.queue (queues_of qs) items ≡ Some (plain_after_serving s h new)
+  item_done : (items : List QueueItem) (new : HandlerState) → ServesItem x q qs items Done new → item_step s h (handler_of_state x) q.queue (queues_of qs) items ≡ Some (plain_after_serving s h new)
   item_done [] new sv = let e : Done ≡ Nothing = sv.0 in cc
   item_done (item.Command r ∷ items) new sv = ap (λ y. Some (plain_after_serving s h y)) (sym sv.1)
   item_done (item.Query r ∷ items) new sv = let e : Done ≡ Replied q.queue.ticket r (run_one x.held q.queue.ticket r).1 = sv.0 in cc
   item_done (item.EndMark ∷ items) new sv = ap (λ y. Some (plain_after_serving s h y)) (sym sv.1)
 
   item_replied : (items : List QueueItem) (new : HandlerState) (t : Ticket) (r : Request) (v : Option ℤ) → ServesItem x q qs items (Replied t r v) new
-      → item_step s h (handler_of x) q.queue (queues_of qs) items ≡ Some (handled_and_replied s h new t r v)
+      → item_step s h (handler_of_state x) q.queue (queues_of qs) items ≡ Some (handled_and_replied s h new t r v)
   item_replied [] new t r v sv = let e : Replied t r v ≡ Nothing = sv.0 in cc
   item_replied (item.Command p ∷ items) new t r v sv = let e : Replied t r v ≡ Done = sv.0 in cc
   item_replied (item.Query p ∷ items) new t r v sv =
@@ -71,16 +72,16 @@ module _ (s : Plain) (h : ℕ) (x : HandlerState) (q : QueueState) (qs : List Qu
       λ k. Some (handled_and_replied s h (sym sv.1 k) (tickets k) (requests k) (replies k))
   item_replied (item.EndMark ∷ items) new t r v sv = let e : Replied t r v ≡ Done = sv.0 in cc
 
-first_nothing : (s : Plain) (h : ℕ) (x new : HandlerState) (qs : List QueueState) → ServesFirst x qs Nothing new → queue_step s h (handler_of x) (queues_of qs) ≡ None
+first_nothing : (s : Plain) (h : ℕ) (x new : HandlerState) (qs : List QueueState) → ServesFirst x qs Nothing new → queue_step s h (handler_of_state x) (queues_of qs) ≡ None
 first_nothing s h x new [] sv = refl
 first_nothing s h x new (q ∷ qs) sv = item_nothing s h x q qs q.queue.items new sv
 
-first_done : (s : Plain) (h : ℕ) (x new : HandlerState) (qs : List QueueState) → ServesFirst x qs Done new → queue_step s h (handler_of x) (queues_of qs) ≡ Some (plain_after_serving s h new)
+first_done : (s : Plain) (h : ℕ) (x new : HandlerState) (qs : List QueueState) → ServesFirst x qs Done new → queue_step s h (handler_of_state x) (queues_of qs) ≡ Some (plain_after_serving s h new)
 first_done s h x new [] sv = let e : Done ≡ Nothing = sv.0 in cc
 first_done s h x new (q ∷ qs) sv = item_done s h x q qs q.queue.items new sv
 
 first_replied : (s : Plain) (h : ℕ) (x new : HandlerState) (qs : List QueueState) (t : Ticket) (r : Request) (v : Option ℤ) → ServesFirst x qs (Replied t r v) new
-    → queue_step s h (handler_of x) (queues_of qs) ≡ Some (handled_and_replied s h new t r v)
+    → queue_step s h (handler_of_state x) (queues_of qs) ≡ Some (handled_and_replied s h new t r v)
 first_replied s h x new [] t r v sv = let e : Replied t r v ≡ Nothing = sv.0 in cc
 first_replied s h x new (q ∷ qs) t r v sv = item_replied s h x q qs q.queue.items new t r v sv
 
@@ -102,9 +103,9 @@ module _ (cs : List ClientState) (h : ℕ) (x : HandlerState) where
 
 module _ (r : RulesState) (h : ℕ) where
   abbrev old : HandlerState
-  old = handler_at r.handlers h
+  old = handler_state_at r.handlers h
 
-  handler_now : (o : Option Plain) → queue_step (plain_of r) h (handler_of old) (queues_of old.queues) ≡ o → step r.program (plain_of r) (actor.Handler h) ≡ o
+  handler_now : (o : Option Plain) → queue_step (plain_of r) h (handler_of_state old) (queues_of old.queues) ≡ o → step r.program (plain_of r) (actor.Handler h) ≡ o
   handler_now o e = subst (λ it. handler_step (plain_of r) h it ≡ o) (sym (plain_handler r.handlers h)) e
 
   pub nothing_steps : (new : HandlerState) → ServesFirst old old.queues Nothing new → step r.program (plain_of r) (actor.Handler h) ≡ None
@@ -114,24 +115,24 @@ module _ (r : RulesState) (h : ℕ) where
       → step r.program (plain_of r) (actor.Handler h) ≡ Some (plain_of (record { program = r.program; order = r.order; clients = r.clients; handlers = set r.handlers h new }))
   done_steps new sv =
       handler_now (Some (plain_after_serving (plain_of r) h new)) (first_done (plain_of r) h old new old.queues sv)
-      ∙ (λ k. Some (record { order = r.order; clients = map client_of r.clients; handlers = sym (map-set handler_of r.handlers h new) k }))
+      ∙ (λ k. Some (record { order = r.order; clients = map client_of_state r.clients; handlers = sym (map-set handler_of_state r.handlers h new) k }))
 
   -- nobody is there to take the reply
   pub unheard_steps : (new : HandlerState) (t : Ticket) (q : Request) (v : Option ℤ) → length r.clients ≤ t.client → ServesFirst old old.queues (Replied t q v) new
       → step r.program (plain_of r) (actor.Handler h) ≡ Some (plain_of (record { program = r.program; order = r.order; clients = r.clients; handlers = set r.handlers h new }))
   unheard_steps new t q v past sv =
-      let far : length (map client_of r.clients) ≤ t.client = rw length-map past in
+      let far : length (map client_of_state r.clients) ≤ t.client = rw length-map past in
       handler_now (Some (handled_and_replied (plain_of r) h new t q v)) (first_replied (plain_of r) h old new old.queues t q v sv)
-      ∙ (λ k. Some (record { order = r.order; clients = set_past (map client_of r.clients) t.client (after_reply (plain.client_at (plain_of r) t.client) q v) far k; handlers = sym (map-set handler_of r.handlers h new) k }))
+      ∙ (λ k. Some (record { order = r.order; clients = set_past (map client_of_state r.clients) t.client (after_reply (plain.client_at (plain_of r) t.client) q v) far k; handlers = sym (map-set handler_of_state r.handlers h new) k }))
 
-  pub replied_steps : (new : HandlerState) (t : Ticket) (q : Request) (v : Option ℤ) (client : ClientState) → after_reply (client_of (client_at r.clients t.client)) q v ≡ client_of client → ServesFirst old old.queues (Replied t q v) new
+  pub replied_steps : (new : HandlerState) (t : Ticket) (q : Request) (v : Option ℤ) (client : ClientState) → after_reply (client_of_state (client_state_at r.clients t.client)) q v ≡ client_of_state client → ServesFirst old old.queues (Replied t q v) new
       → step r.program (plain_of r) (actor.Handler h) ≡ Some (plain_of (record { program = r.program; order = r.order; clients = set r.clients t.client client; handlers = set r.handlers h new }))
   replied_steps new t q v client is sv =
       handler_now (Some (handled_and_replied (plain_of r) h new t q v)) (first_replied (plain_of r) h old new old.queues t q v sv)
       ∙ (λ k. Some (record {
         order = r.order;
-        clients = (ap (λ it. set (map client_of r.clients) t.client (after_reply it q v)) (plain_client r.clients t.client) ∙ ap (set (map client_of r.clients) t.client) is ∙ sym (map-set client_of r.clients t.client client)) k;
-        handlers = sym (map-set handler_of r.handlers h new) k;
+        clients = (ap (λ it. set (map client_of_state r.clients) t.client (after_reply it q v)) (plain_client r.clients t.client) ∙ ap (set (map client_of_state r.clients) t.client) is ∙ sym (map-set client_of_state r.clients t.client client)) k;
+        handlers = sym (map-set handler_of_state r.handlers h new) k;
       }))
 
 -- the traces after an event
@@ -145,13 +146,13 @@ events-noted d isc e =
     ∙ ap (λ es. set (map (λ (t : TraceState). t.events) d.traces) place (es ++ e ∷ [])) (ap (λ (t : TraceState). t.events) last ∙ sym (get_or-map (λ (t : TraceState). t.events) d.traces place no_trace))
 
 module _ (d new : ClientState) (q : Request) (v : Option ℤ) (isc : IsClient d) where
-  replied_at : (st : Stage) → RepliesAt st d q v new → reply_to (client_of d) q v (stage_of st d.frames d.locals) ≡ client_of new
-  replied_at stage.Out sv = ap client_of (sym sv)
-  replied_at stage.Within sv = ap client_of (sym sv)
+  replied_at : (st : Stage) → RepliesAt st d q v new → reply_to (client_of_state d) q v (stage_of st d.frames d.locals) ≡ client_of_state new
+  replied_at stage.Out sv = ap client_of_state (sym sv)
+  replied_at stage.Within sv = ap client_of_state (sym sv)
   replied_at (stage.Waiting x) sv =
-      (λ k. record { stage = plain.within (next_of d.frames (set d.locals x (value_of v))); entries = d.entries; traces = sym (events-noted d isc (event q v)) k; counts = d.counts }) ∙ ap client_of (sym sv)
+      (λ k. record { stage = plain.within (next_of d.frames (set d.locals x (value_of v))); entries = d.entries; traces = sym (events-noted d isc (event q v)) k; counts = d.counts }) ∙ ap client_of_state (sym sv)
 
-  pub replied_is : Replies d q v new → after_reply (client_of d) q v ≡ client_of new
+  pub replied_is : Replies d q v new → after_reply (client_of_state d) q v ≡ client_of_state new
   replied_is sv = replied_at d.stage sv
 
   same_continues : new ≡ d → Continues d new
@@ -180,17 +181,17 @@ module _ (d new : ClientState) (q : Request) (v : Option ℤ) (isc : IsClient d)
   replied_continues sv = continues_at d.stage refl sv
 
 -- a client between blocks with none to come has no step
-pub none_out : (r : RulesState) (c : ℕ) → IsRules r → c < length r.clients → IsClient (client_at r.clients c) → (client_at r.clients c).stage ≡ stage.Out → length (client_at r.clients c).prepared ≡ 0
+pub none_out : (r : RulesState) (c : ℕ) → IsRules r → c < length r.clients → IsClient (client_state_at r.clients c) → (client_state_at r.clients c).stage ≡ stage.Out → length (client_state_at r.clients c).prepared ≡ 0
     → step r.program (plain_of r) (actor.Client c) ≡ None
 none_out r c kept inside isc out none =
-    let d = client_at r.clients c in
+    let d = client_state_at r.clients c in
     let owned = kept.own c inside in
     let begun : length d.entries + length d.prepared ≡ blocks_of r.program c = subst (λ p. length d.entries + length d.prepared ≡ blocks_of p c) owned.0 (subst (λ n. length d.entries + length d.prepared ≡ blocks_of d.program n) owned.1 isc.begun) in
     let no_more : nat_lt (length d.entries) (blocks_of r.program c) ≡ false = grind (arith, begun, none) in
-    let there : nat_lt c (length (map client_of r.clients)) ≡ true = rw length-map (grind (arith, inside)) in
+    let there : nat_lt c (length (map client_of_state r.clients)) ≡ true = rw length-map (grind (arith, inside)) in
     rw there
     (subst (λ (it : Client). client_step r.program (plain_of r) c it it.stage ≡ None) (sym (plain_client r.clients c))
-    (subst (λ s. client_step r.program (plain_of r) c (client_of d) (stage_of s d.frames d.locals) ≡ None) (sym out) (rw no_more refl)))
+    (subst (λ s. client_step r.program (plain_of r) c (client_of_state d) (stage_of s d.frames d.locals) ≡ None) (sym out) (rw no_more refl)))
 
 below_or_not : (m n : ℕ) → (m < n) ⊎ (n ≤ m)
 below_or_not m n = by_test (nat_lt m n) refl
@@ -200,13 +201,13 @@ below_or_not m n = by_test (nat_lt m n) refl
     by_test false e = inr (grind (arith, e))
 
 module _ (r : RulesState) (kept : IsRules r) (h : ℕ) (inside : h < length r.handlers) (new : HandlerState) where
-  pub served_rules : (served : Served) → ServesFirst (handler_at r.handlers h) (handler_at r.handlers h).queues served new → IsRules (record { program = r.program; order = r.order; clients = r.clients; handlers = set r.handlers h new })
+  pub served_rules : (served : Served) → ServesFirst (handler_state_at r.handlers h) (handler_state_at r.handlers h).queues served new → IsRules (record { program = r.program; order = r.order; clients = r.clients; handlers = set r.handlers h new })
   served_rules served sv =
-      let (room, (queues, apart)) = serves_open r.clients h (handler_at r.handlers h) (handler_at r.handlers h).queues served new refl (kept.queues h inside) (kept.apart h inside) sv in
+      let (room, (queues, apart)) = serves_open r.clients h (handler_state_at r.handlers h) (handler_state_at r.handlers h).queues served new refl (kept.queues h inside) (kept.apart h inside) sv in
       served_kept r kept h new inside room queues apart
 
   module _ (t : Ticket) (q : Request) (v : Option ℤ) (later : List ClientState) (heard : t.client < length r.clients → Hears r.clients t.client q v later) (unheard : length r.clients ≤ t.client → later ≡ r.clients)
-      (sv : ServesFirst (handler_at r.handlers h) (handler_at r.handlers h).queues (Replied t q v) new) where
+      (sv : ServesFirst (handler_state_at r.handlers h) (handler_state_at r.handlers h).queues (Replied t q v) new) where
     abbrev next : List ClientState → RulesState
     next cs = record { program = r.program; order = r.order; clients = cs; handlers = set r.handlers h new }
 
@@ -214,7 +215,7 @@ module _ (r : RulesState) (kept : IsRules r) (h : ℕ) (inside : h < length r.ha
     replied_rules = ⊎_elim
         (λ (less : t.client < length r.clients).
         let it = heard less in
-        subst (λ cs. IsRules (next cs)) (sym it.changed) (client_kept (next r.clients) (served_rules (Replied t q v) sv) t.client it.client less (replied_continues (client_at r.clients t.client) it.client q v it.was it.replies)))
+        subst (λ cs. IsRules (next cs)) (sym it.changed) (client_kept (next r.clients) (served_rules (Replied t q v) sv) t.client it.client less (replied_continues (client_state_at r.clients t.client) it.client q v it.was it.replies)))
         (λ (past : length r.clients ≤ t.client). subst (λ cs. IsRules (next cs)) (sym (unheard past)) (served_rules (Replied t q v) sv))
         (below_or_not t.client (length r.clients))
 
@@ -222,7 +223,7 @@ module _ (r : RulesState) (kept : IsRules r) (h : ℕ) (inside : h < length r.ha
     replied_to_come = ⊎_elim
         (λ (less : t.client < length r.clients).
         let it = heard less in
-        ap to_come it.changed ∙ same_to_come r.clients t.client less it.client (replied_continues (client_at r.clients t.client) it.client q v it.was it.replies))
+        ap to_come it.changed ∙ same_to_come r.clients t.client less it.client (replied_continues (client_state_at r.clients t.client) it.client q v it.was it.replies))
         (λ (past : length r.clients ≤ t.client). ap to_come (unheard past))
         (below_or_not t.client (length r.clients))
 
@@ -230,6 +231,6 @@ module _ (r : RulesState) (kept : IsRules r) (h : ℕ) (inside : h < length r.ha
     reply_steps = ⊎_elim
         (λ (less : t.client < length r.clients).
         let it = heard less in
-        replied_steps r h new t q v it.client (replied_is (client_at r.clients t.client) it.client q v it.was it.replies) sv ∙ ap (λ cs. Some (plain_of (next cs))) (sym it.changed))
+        replied_steps r h new t q v it.client (replied_is (client_state_at r.clients t.client) it.client q v it.was it.replies) sv ∙ ap (λ cs. Some (plain_of (next cs))) (sym it.changed))
         (λ (past : length r.clients ≤ t.client). unheard_steps r h new t q v past sv ∙ ap (λ cs. Some (plain_of (next cs))) (sym (unheard past)))
         (below_or_not t.client (length r.clients))

@@ -1,6 +1,6 @@
--- What the code does to its lists of clients and handlers is what the plain rules do to theirs: an item is logged at each handler
--- of a list, or an empty private queue comes to each. The lemmas on the three kinds of steps use this to read the code's state
--- after a step. The proofs go by induction on the list of handlers.
+-- What the code does to its lists of clients and handlers is what the plain rules do to theirs: an item is logged at
+-- each handler of a list, or an empty private queue comes to each. The lemmas on the three kinds of steps use this to
+-- read the code's state after a step. The proofs go by induction on the list of handlers.
 use Rattle.std.proofs.Common.{◌≡◌, ℕ, List, [], ◌∷◌, ◌++◌, map, get_or, refl, ap, sym, ◌∙◌}
 use Rattle.std.specs.List.{AllByRecursion}
 use Rattle.std.proofs.Math.ListN.{set, get_or-map}
@@ -9,30 +9,30 @@ use Rattle.qs_objects.specs.declared.held.Ticket.{Ticket}
 use Rattle.qs_plain_laws.specs.declared.item.QueueItem.{QueueItem}
 use Rattle.qs_plain_laws.specs.Plain.{log_in, enter, at_each, at_handler, put_item}
 use Rattle.qs_plain_laws.specs.Plain as plain
-use Rattle.qs_plain_client.specs.Clients.{ClientState, client_of, absent, client_at}
+use Rattle.qs_plain_client.specs.Clients.{ClientState, client_of_state, absent, client_state_at}
 use Rattle.qs_plain_client.specs.Queues.{QueueState, after_put}
-use Rattle.qs_plain.specs.Handlers.{handler_at, nobody, with_logged_item, logged_at, logged_all, with_queue, entered_at, entered_all}
-use Rattle.qs_plain.specs.Served.{HandlerState, handler_of}
+use Rattle.qs_plain_handler.specs.Handlers.{handler_state_at, nobody, with_logged_item, logged_at, logged_all, with_queue, entered_at, entered_all}
+use Rattle.qs_plain_handler.specs.Served.{HandlerState, handler_of_state}
 
-pub plain_client : (cs : List ClientState) (c : ℕ) → get_or (map client_of cs) c plain.no_client ≡ client_of (client_at cs c)
-plain_client cs c = get_or-map client_of cs c absent
+pub plain_client : (cs : List ClientState) (c : ℕ) → get_or (map client_of_state cs) c plain.no_client ≡ client_of_state (client_state_at cs c)
+plain_client cs c = get_or-map client_of_state cs c absent
 
-pub plain_handler : (hs : List HandlerState) (h : ℕ) → plain.handler_at (map handler_of hs) h ≡ handler_of (handler_at hs h)
-plain_handler hs h = get_or-map handler_of hs h nobody
+pub plain_handler : (hs : List HandlerState) (h : ℕ) → plain.handler_at (map handler_of_state hs) h ≡ handler_of_state (handler_state_at hs h)
+plain_handler hs h = get_or-map handler_of_state hs h nobody
 
 queues-logged : (t : Ticket) (i : QueueItem) (qs : List QueueState) → map (λ (q : QueueState). q.queue) (map (after_put t i) qs) ≡ map (put_item t i) (map (λ (q : QueueState). q.queue) qs)
 queues-logged t i [] = refl
 queues-logged t i (q ∷ qs) = ap (λ xs. put_item t i q.queue ∷ xs) (queues-logged t i qs)
 
-handler-logged : (t : Ticket) (i : QueueItem) (x : HandlerState) → handler_of (with_logged_item t i x) ≡ log_in t i (handler_of x)
+handler-logged : (t : Ticket) (i : QueueItem) (x : HandlerState) → handler_of_state (with_logged_item t i x) ≡ log_in t i (handler_of_state x)
 handler-logged t i x = λ k. record { queues = queues-logged t i x.queues k; held = x.held }
 
-pub plain-logged_at : (t : Ticket) (i : QueueItem) (hs : List HandlerState) (h : ℕ) → map handler_of (logged_at t i hs h) ≡ at_handler (log_in t i) (map handler_of hs) h
+pub plain-logged_at : (t : Ticket) (i : QueueItem) (hs : List HandlerState) (h : ℕ) → map handler_of_state (logged_at t i hs h) ≡ at_handler (log_in t i) (map handler_of_state hs) h
 plain-logged_at t i hs h =
-    map-set handler_of hs h (with_logged_item t i (handler_at hs h))
-    ∙ ap (set (map handler_of hs) h) (handler-logged t i (handler_at hs h) ∙ sym (ap (log_in t i) (plain_handler hs h)))
+    map-set handler_of_state hs h (with_logged_item t i (handler_state_at hs h))
+    ∙ ap (set (map handler_of_state hs) h) (handler-logged t i (handler_state_at hs h) ∙ sym (ap (log_in t i) (plain_handler hs h)))
 
-pub plain-logged_all : (t : Ticket) (i : QueueItem) (hs : List HandlerState) (rs : List ℕ) → map handler_of (logged_all t i hs rs) ≡ at_each (log_in t i) (map handler_of hs) rs
+pub plain-logged_all : (t : Ticket) (i : QueueItem) (hs : List HandlerState) (rs : List ℕ) → map handler_of_state (logged_all t i hs rs) ≡ at_each (log_in t i) (map handler_of_state hs) rs
 plain-logged_all t i hs [] = refl
 plain-logged_all t i hs (h ∷ rest) = plain-logged_all t i (logged_at t i hs h) rest ∙ ap (λ xs. at_each (log_in t i) xs rest) (plain-logged_at t i hs h)
 
@@ -40,17 +40,17 @@ plain-logged_all t i hs (h ∷ rest) = plain-logged_all t i (logged_at t i hs h)
 abbrev pub IsEmptyOf : Ticket → ℕ × QueueState → Type 0
 IsEmptyOf t q = q.1.queue ≡ record { ticket = t; items = [] }
 
-handler-entered : (t : Ticket) (q : QueueState) (x : HandlerState) → q.queue ≡ record { ticket = t; items = [] } → handler_of (with_queue q x) ≡ enter t (handler_of x)
+handler-entered : (t : Ticket) (q : QueueState) (x : HandlerState) → q.queue ≡ record { ticket = t; items = [] } → handler_of_state (with_queue q x) ≡ enter t (handler_of_state x)
 handler-entered t q x fresh = λ k. record {
   queues = (map-append (λ (y : QueueState). y.queue) x.queues (q ∷ []) ∙ ap (λ y. map (λ (z : QueueState). z.queue) x.queues ++ y ∷ []) fresh) k;
   held = x.held;
 }
 
-pub plain-entered_at : (t : Ticket) (hs : List HandlerState) (q : ℕ × QueueState) → IsEmptyOf t q → map handler_of (entered_at hs q) ≡ at_handler (enter t) (map handler_of hs) q.0
+pub plain-entered_at : (t : Ticket) (hs : List HandlerState) (q : ℕ × QueueState) → IsEmptyOf t q → map handler_of_state (entered_at hs q) ≡ at_handler (enter t) (map handler_of_state hs) q.0
 plain-entered_at t hs q fresh =
-    map-set handler_of hs q.0 (with_queue q.1 (handler_at hs q.0))
-    ∙ ap (set (map handler_of hs) q.0) (handler-entered t q.1 (handler_at hs q.0) fresh ∙ sym (ap (enter t) (plain_handler hs q.0)))
+    map-set handler_of_state hs q.0 (with_queue q.1 (handler_state_at hs q.0))
+    ∙ ap (set (map handler_of_state hs) q.0) (handler-entered t q.1 (handler_state_at hs q.0) fresh ∙ sym (ap (enter t) (plain_handler hs q.0)))
 
-pub plain-entered_all : (t : Ticket) (hs : List HandlerState) (qs : List (ℕ × QueueState)) → AllByRecursion (IsEmptyOf t) qs → map handler_of (entered_all hs qs) ≡ at_each (enter t) (map handler_of hs) (map (λ (q : ℕ × QueueState). q.0) qs)
+pub plain-entered_all : (t : Ticket) (hs : List HandlerState) (qs : List (ℕ × QueueState)) → AllByRecursion (IsEmptyOf t) qs → map handler_of_state (entered_all hs qs) ≡ at_each (enter t) (map handler_of_state hs) (map (λ (q : ℕ × QueueState). q.0) qs)
 plain-entered_all t hs [] fresh = refl
 plain-entered_all t hs (q ∷ rest) fresh = plain-entered_all t (entered_at hs q) rest fresh.1 ∙ ap (λ xs. at_each (enter t) xs (map (λ (p : ℕ × QueueState). p.0) rest)) (plain-entered_at t hs q fresh.0)

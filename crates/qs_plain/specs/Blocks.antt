@@ -18,7 +18,9 @@ IsQuietNow r = IsQuiet r.program r.order (blocks_begun r) (plain_of r)
 
 -- some actors of the program lead from one to the other
 abbrev pub LeadsTo : RulesState → RulesState → Type 0
-LeadsTo old new = (actors : List Actor) × (all_named old.program actors ≡ true) × (plain_of new ≡ plays old.program actors (plain_of old))
+LeadsTo old new =
+    (actors : List Actor) × (all_named old.program actors ≡ true)
+    × (plain_of new ≡ plays old.program actors (plain_of old))
 
 -- the next block of a client has run, whole and alone
 pub record IsOneBlockOn (old : RulesState) (c : ℕ) (new : RulesState) : Type 0 where

@@ -1,9 +1,7 @@
-pub mod Beginning
-pub mod BegunBlocks
-pub mod Handlers
+-- What an auditor reads: the promises and the calls of the surface are said with these.
 pub mod Rules
-pub mod Served
+-- What crates promise one another, what proofs use, and worked examples.
+pub mod BegunBlocks
 pub mod Blocks
-pub mod Deeds
 pub mod Awaiting
 pub mod Told

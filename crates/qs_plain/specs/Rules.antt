@@ -13,13 +13,13 @@ use Rattle.qs_plain_laws.specs.PlainIsolation.{commands_in_queue}
 use Rattle.qs_plain_laws.specs.Plain.{Plain, begin, step}
 use Rattle.qs_plain_laws.specs.PlainSchedule.{played_of, plays}
 use Rattle.qs_plain_laws.specs.PlainSyncSums.{AreQueriesCounted}
-use Rattle.qs_plain_client.specs.Clients.{ClientState, client_of, client_code, client_at}
+use Rattle.qs_plain_client.specs.Clients.{ClientState, client_of_state, client_code, client_state_at}
 use Rattle.qs_plain_client.specs.Frames.{load_left}
 use Rattle.qs_plain_client.specs.Queues.{AreApart, QueueState}
 use Rattle.qs_plain_client.specs.declared.stage.Stage.{Stage}
 use Rattle.qs_plain_client.specs.declared.stage.Stage.TheVariants as stage
-use Rattle.qs_plain.specs.Handlers.{handler_at}
-use Rattle.qs_plain.specs.Served.{HandlerState, handler_of}
+use Rattle.qs_plain_handler.specs.Handlers.{handler_state_at}
+use Rattle.qs_plain_handler.specs.Served.{HandlerState, handler_of_state}
 
 pub record RulesState : Type 0 where
   pub program : ProgramShape
@@ -29,15 +29,16 @@ pub record RulesState : Type 0 where
 
 -- the state of the plain rules
 abbrev pub plain_of : RulesState → Plain
-plain_of r = record { order = r.order; clients = map client_of r.clients; handlers = map handler_of r.handlers }
+plain_of r =
+    record { order = r.order; clients = map client_of_state r.clients; handlers = map handler_of_state r.handlers }
 
 -- one step of the actor under the plain rules of the same program
 abbrev pub Steps : RulesState → Actor → RulesState → Type 0
 Steps old actor new = (step old.program (plain_of old) actor ≡ Some (plain_of new)) × (new.program ≡ old.program)
 
 -- a list of actors leads to it
-abbrev pub IsReached : RulesState → Type 0
-IsReached r = (actors : List Actor) × (plain_of r ≡ plays r.program actors (begin r.program))
+abbrev pub IsSteppedTo : RulesState → Type 0
+IsSteppedTo r = (actors : List Actor) × (plain_of r ≡ plays r.program actors (begin r.program))
 
 -- what it has shown is isolated, with the commands that lie in private queues on their way
 abbrev pub AreIsolated : RulesState → Type 0
@@ -52,19 +53,24 @@ is_in_block stage.Out = false
 is_in_block stage.Within = true
 is_in_block (stage.Waiting x) = true
 
--- a private queue at handler h: its block was begun, and it has room for what that block can still log there and for the end mark
+-- a private queue at handler h: its block was begun, and it has room for what that block can still log there and for
+-- the end mark
 pub record IsOpen (cs : List ClientState) (h : ℕ) (q : QueueState) : Type 0 where
-  pub begun : (c : ℕ) → c < length cs → q.queue.ticket.client ≡ c → q.queue.ticket.index < length (client_at cs c).entries
-  pub room : (c : ℕ) → c < length cs → is_in_block (client_at cs c).stage ≡ true → same (ticket c (length (client_at cs c).entries - 1)) q.queue.ticket ≡ true
-      → load_left (client_at cs c).frames h + 1 ≤ q.room
+  pub begun : (c : ℕ) → c < length cs → q.queue.ticket.client ≡ c
+      → q.queue.ticket.index < length (client_state_at cs c).entries
+  pub room : (c : ℕ) → c < length cs → is_in_block (client_state_at cs c).stage ≡ true
+      → same (ticket c (length (client_state_at cs c).entries - 1)) q.queue.ticket ≡ true
+      → load_left (client_state_at cs c).frames h + 1 ≤ q.room
 
 pub record IsRules (r : RulesState) : Type 0 where
   pub clients : length r.clients ≡ length r.program.clients
-  pub own : (c : ℕ) → c < length r.clients → ((client_at r.clients c).program ≡ r.program) × ((client_at r.clients c).number ≡ c)
+  pub own : (c : ℕ) → c < length r.clients → ((client_state_at r.clients c).program ≡ r.program)
+      × ((client_state_at r.clients c).number ≡ c)
   pub handlers : length r.handlers ≡ length r.program.objects
-  pub rooms : (h : ℕ) → h < length r.handlers → to_come r.clients ≤ (handler_at r.handlers h).room
-  pub queues : (h : ℕ) → h < length r.handlers → AllByRecursion (IsOpen r.clients h) (handler_at r.handlers h).queues
-  pub apart : (h : ℕ) → h < length r.handlers → AreApart (handler_at r.handlers h).queues
+  pub rooms : (h : ℕ) → h < length r.handlers → to_come r.clients ≤ (handler_state_at r.handlers h).room
+  pub queues : (h : ℕ) → h < length r.handlers
+      → AllByRecursion (IsOpen r.clients h) (handler_state_at r.handlers h).queues
+  pub apart : (h : ℕ) → h < length r.handlers → AreApart (handler_state_at r.handlers h).queues
 
 pub ticket_code : Coded Ticket
 ticket_code = hlevel codes

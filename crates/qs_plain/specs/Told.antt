@@ -5,13 +5,13 @@ use Rattle.qs_program.specs.Values.{Locals, request_of}
 use Rattle.qs_played.specs.Played.{ticket}
 use Rattle.qs_played.specs.declared.schedule.actor.Actor.TheVariants as actor
 use Rattle.qs_plain_laws.specs.Plain.{Plain}
-use Rattle.qs_plain_client.specs.Clients.{ClientState, client_at}
-use Rattle.qs_plain.specs.Deeds.{plain_deed}
+use Rattle.qs_plain_client.specs.Clients.{ClientState, client_state_at}
+use Rattle.qs_plain_handler.specs.Deeds.{plain_deed}
 use Rattle.qs_plain.specs.Rules.{RulesState}
-use Rattle.qs_plain.specs.declared.deed.Deed.{Deed}
-use Rattle.qs_plain.specs.declared.deed.Deed.TheVariants.{Reserves, Logs, Asks, Ends}
-use Rattle.qs_plain.specs.declared.deed.Did.{Did}
-use Rattle.qs_plain.specs.declared.deed.Did.TheVariants as did
+use Rattle.qs_plain_handler.specs.declared.deed.Deed.{Deed}
+use Rattle.qs_plain_handler.specs.declared.deed.Deed.TheVariants.{Reserves, Logs, Asks, Ends}
+use Rattle.qs_plain.specs.declared.did.Did.{Did}
+use Rattle.qs_plain.specs.declared.did.Did.TheVariants as did
 
 abbrev pub has_stepped : Did → Bool
 has_stepped did.Nothing = false
@@ -33,15 +33,16 @@ deed_of_did (did.Asked c) l t = Some (Asks (request_of l c.now))
 deed_of_did did.Ended l t = Some (Ends t)
 
 -- a request has at most three arguments
-abbrev pub IsShort : Did → Type 0
-IsShort did.Nothing = Unit {0}
-IsShort did.Reserved = Unit {0}
-IsShort (did.Logged c) = length c.now.args ≤ 3
-IsShort (did.Asked c) = length c.now.args ≤ 3
-IsShort did.Ended = Unit {0}
+abbrev pub IsShortStep : Did → Type 0
+IsShortStep did.Nothing = Unit {0}
+IsShortStep did.Reserved = Unit {0}
+IsShortStep (did.Logged c) = length c.now.args ≤ 3
+IsShortStep (did.Asked c) = length c.now.args ≤ 3
+IsShortStep did.Ended = Unit {0}
 
 -- what client c did from the state before is told by the code's state after it
 pub record IsTold (it : Did) (before : Plain) (c : ℕ) (new : RulesState) : Type 0 where
   pub there : c < length new.clients
-  pub short : IsShort it
-  pub deed : plain_deed before (actor.Client c) ≡ deed_of_did it (client_at new.clients c).locals (last_ticket c (client_at new.clients c))
+  pub short : IsShortStep it
+  pub deed : plain_deed before (actor.Client c) ≡ deed_of_did it (client_state_at new.clients c).locals
+      (last_ticket c (client_state_at new.clients c))

@@ -1,10 +1,9 @@
-//! The machine of the plain rules: for each handler a queue of queues, and in it a private queue of single requests for each reservation.
+//! The machine of the plain rules: for each handler a queue of queues, and in it a private queue of single requests for
+//! each reservation.
 #![tactic(auto)]
 
 mod awaited;
-mod deed;
-mod handler;
-mod handlers;
+mod did;
 mod machine;
 mod orders;
 mod rules;
@@ -12,7 +11,7 @@ mod schedules;
 mod showing;
 
 pub use awaited::Awaited;
-pub use deed::Deed;
 pub use orders::play_plain_in_order;
+pub use qs_plain_handler::Deed;
 pub use rules::Rules;
 pub use schedules::play_plain;

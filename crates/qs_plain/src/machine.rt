@@ -5,27 +5,28 @@ ghost use Rattle.std.specs.Bool.{OnTrue};
 ghost use Rattle.qs_plain_laws.specs.Plain.{begin, step as the_step};
 ghost use Rattle.qs_played.specs.declared.schedule.actor.Actor.TheVariants as actors;
 ghost use Rattle.qs_plain_client.specs.declared.stage.Stage.TheVariants as stages;
-ghost use Rattle.qs_plain.specs.Deeds.{plain_deed, reply_in};
-ghost use Rattle.qs_plain.specs.declared.deed.Did.TheVariants as dids;
-ghost use Rattle.qs_plain.specs.Told.{IsShort, IsTold, deed_of_did, has_stepped, last_ticket};
-ghost use Rattle.qs_plain.specs.Handlers.{handler_at};
+ghost use Rattle.qs_plain_handler.specs.Deeds.{plain_deed, reply_in};
+ghost use Rattle.qs_plain.specs.declared.did.Did.TheVariants as dids;
+ghost use Rattle.qs_plain.specs.Told.{IsShortStep, IsTold, deed_of_did, has_stepped, last_ticket};
+ghost use Rattle.qs_plain_handler.specs.Handlers.{handler_state_at};
 
 mod reading;
 
-use crate::deed::{Deed, Did};
-use crate::handler::{HandlerState, Served};
-use crate::handlers::{enter_all, fresh_handlers, log_all, log_command, log_query};
+use crate::did::Did;
 use crate::showing;
 use qs_objects::Ticket;
 use qs_plain_client::{Asked, ClientState, Stage, answer, fresh_clients};
+use qs_plain_handler::{
+    Deed, HandlerState, Served, enter_all, fresh_handlers, log_all, log_command, log_query,
+};
 use qs_plain_laws::QueueItem;
 use qs_played::{Actor, Endings, Played, Row};
 use qs_program::Program;
 use std::alloc::{AllocError, Global};
 use std::marker::Model;
 
-/// A program on its way: each handler has a queue of queues, and each reservation a private queue of single requests. It takes memory
-/// in `new` alone.
+/// A program on its way: each handler has a queue of queues, and each reservation a private queue of single requests.
+/// It takes memory in `new` alone.
 #[derive(Drop)]
 pub(crate) struct Machine<'p> {
     program: &'p Program,
@@ -51,7 +52,7 @@ impl<'p> Model for Machine<'p> {
 }
 
 impl<'p> Machine<'p> {
-    ghost use Rattle.qs_plain_client.specs.Clients.{client_at};
+    ghost use Rattle.qs_plain_client.specs.Clients.{client_state_at};
     ghost use Rattle.qs_plain.specs.Rules.{Steps, plain_of};
     ghost use Rattle.qs_played.specs.Schedule.{HasStep, actors_of, rounds_of};
     ghost use Rattle.qs_plain_laws.specs.PlainSchedule.{is_out, played_of, plays};
@@ -60,11 +61,12 @@ impl<'p> Machine<'p> {
     ghost use Rattle.qs_plain_laws.specs.Plain.{client_at as the_client};
     ghost use Rattle.qs_program.specs.Program.{blocks_of};
 
-    /// A program before its first step. It takes all the memory that the run will need, by the loads; an allocation that fails leaves nothing.
+    /// A program before its first step. It takes all the memory that the run will need, by the loads; an allocation
+    /// that fails leaves nothing.
     pub(crate) fn new(alloc: Global, program: &'p Program) -> Result<Machine<'p>, AllocError>
         ensures fresh { IfOk result (λ r. (r.program ≡ program.now) × (plain_of r ≡ begin program.now)) }
     {
-        program.is_sound();
+        program.keeps_sound();
         let blocks = program.blocks();
         let clients = fresh_clients(alloc, program)?;
         let handlers = fresh_handlers(alloc, program, blocks)?;
@@ -85,7 +87,8 @@ impl<'p> Machine<'p> {
         self.program
     }
 
-    /// One step of an actor: true where it has one, and else false, with nothing changed; also where there is no such actor.
+    /// One step of an actor: true where it has one, and else false, with nothing changed; also where there is no such
+    /// actor.
     pub(crate) fn step(&mut self, actor: Actor) -> bool
         ensures steps { OnTrue result (Steps self.old actor self.new) }
         ensures none { result ≡ false → the_step self.old.program (plain_of self.old) actor ≡ None }
@@ -166,8 +169,8 @@ impl<'p> Machine<'p> {
     fn told(&self, number: u8, did: Did) -> Deed
         requires stepped { has_stepped did ≡ true }
         requires number { number < length self.now.clients }
-        requires short { IsShort did }
-        ensures value { deed_of_did did.entry (client_at self.now.clients number).locals (last_ticket number (client_at self.now.clients number)) ≡ Some result }
+        requires short { IsShortStep did }
+        ensures value { deed_of_did did.entry (client_state_at self.now.clients number).locals (last_ticket number (client_state_at self.now.clients number)) ≡ Some result }
     {
         let client = &self.clients[usize::from(number)];
         let ticket = Ticket {
@@ -187,12 +190,12 @@ impl<'p> Machine<'p> {
     #[inline(never)]
     fn separate(&mut self, number: u8)
         requires number { number < length self.old.clients }
-        requires out { (client_at self.old.clients number).stage ≡ stages.Out }
-        requires more { 0 < length (client_at self.old.clients number).prepared }
+        requires out { (client_state_at self.old.clients number).stage ≡ stages.Out }
+        requires more { 0 < length (client_state_at self.old.clients number).prepared }
         ensures steps { Steps self.old (actors.Client number) self.new }
         ensures told { IsTold dids.Reserved (plain_of self.old) number self.new }
     {
-        self.program.is_sound();
+        self.program.keeps_sound();
         let client = &mut self.clients[usize::from(number)];
         let ticket = Ticket {
             client: number,
@@ -207,12 +210,12 @@ impl<'p> Machine<'p> {
     #[inline(never)]
     fn go_on(&mut self, number: u8) -> Did<'p>
         requires number { number < length self.old.clients }
-        requires within { (client_at self.old.clients number).stage ≡ stages.Within }
+        requires within { (client_state_at self.old.clients number).stage ≡ stages.Within }
         ensures steps { Steps self.old (actors.Client number) self.new }
         ensures stepped { has_stepped result ≡ true }
         ensures told { IsTold result (plain_of self.old) number self.new }
     {
-        self.program.is_sound();
+        self.program.keeps_sound();
         let client = &mut self.clients[usize::from(number)];
         let ticket = Ticket {
             client: number,
@@ -294,7 +297,7 @@ impl<'p> Machine<'p> {
 
     // The reply of the request that a handler's object served after so many.
     fn reply_after(&self, number: u8, before: usize) -> Option<i64>
-        ensures value { result ≡ reply_in (handler_at self.now.handlers number).held.journal before }
+        ensures value { result ≡ reply_in (handler_state_at self.now.handlers number).held.journal before }
     {
         match self.handlers.get(usize::from(number)) {
             Some(handler) => handler.reply_after(before),
@@ -302,15 +305,15 @@ impl<'p> Machine<'p> {
         }
     }
 
-    /// One step of each client and then of each handler, in text order: true where one of them has stepped, and else false, with
-    /// nothing changed.
+    /// One step of each client and then of each handler, in text order: true where one of them has stepped, and else
+    /// false, with nothing changed.
     fn round(&mut self) -> bool
         ensures round { plain_of self.new ≡ plays self.old.program (actors_of self.old.program) (plain_of self.old) }
         ensures program { self.new.program ≡ self.old.program }
         ensures stepped { result ≡ true → HasStep (the_step self.old.program) (actors_of self.old.program) (plain_of self.old) }
         ensures unchanged { result ≡ false → self.new ≡ self.old }
     {
-        self.program.is_sound();
+        self.program.keeps_sound();
         let mut stepped = false;
         for client in 0..self.program.clients() as u8 {
             stepped |= self.step(Actor::Client(client));
@@ -364,14 +367,14 @@ impl<'p> Machine<'p> {
         }
     }
 
-    /// The next block of a client, from its reservation to its end, where nobody is in a block: the client and the handlers of the
-    /// block's list step in turn.
+    /// The next block of a client, from its reservation to its end, where nobody is in a block: the client and the
+    /// handlers of the block's list step in turn.
     pub(crate) fn play_block(&mut self, client: u8)
         requires quiet { IsQuietNow self.old }
         requires left { blocks_begun self.old client < blocks_of self.old.program client }
         ensures on { IsOneBlockOn self.old client self.new }
     {
-        self.program.is_sound();
+        self.program.keeps_sound();
         let program = self.program;
         let index = self.begun(client) as u8;
         let reserved = program.block(client, index).reserved();
@@ -386,7 +389,7 @@ impl<'p> Machine<'p> {
         requires { AreBegun self.clients self.order }
         ensures shown { IfOk result (λ played. played ≡ played_of self.entry.program (plain_of self.entry)) }
     {
-        self.program.is_sound();
+        self.program.keeps_sound();
         let ended = showing::endings(alloc, &self.clients, &self.order)?;
         let syncs = showing::syncs(&self.clients);
         let finished = showing::are_done(&self.clients) && showing::are_idle(&self.handlers);

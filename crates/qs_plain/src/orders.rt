@@ -2,19 +2,20 @@
 
 ghost use Rattle.std.specs.Prelude.{IfOk, IsErrOf};
 ghost use Rattle.qs_meaning.specs.Serial.{IsLegal};
-ghost use Rattle.qs_orders.specs.NamedOrders.{order_of};
+ghost use Rattle.qs_serial.specs.NamedOrders.{order_of};
 ghost use Rattle.qs_plain_orders.specs.PlainOrders.{IsPlayedInOrder};
 
 use crate::machine::Machine;
-use qs_orders::{OrderFault, names_order};
 use qs_played::Played;
 use qs_program::Program;
+use qs_serial::{OrderFault, names_order};
 use std::alloc::{AllocError, Global};
 
-/// What a program shows under the plain rules after the blocks that a list of clients names, each client's in turn: one block after
-/// another, each from its reservation to its end, while the client and the block's handlers step in turn. What is shown are exactly
-/// these blocks in this order, all ended, and the run is finished where they are all. `Order` comes exactly where no legal order is named,
-/// before any allocation; `Memory` where one fails. It is isolated and counted like every run.
+/// What a program shows under the plain rules after the blocks that a list of clients names, each client's in turn: one
+/// block after another, each from its reservation to its end, while the client and the block's handlers step in turn.
+/// What is shown are exactly these blocks in this order, all ended, and the run is finished where they are all. `Order`
+/// comes exactly where no legal order is named, before any allocation; `Memory` where one fails. It is isolated and
+/// counted like every run.
 pub fn play_plain_in_order(
     alloc: Global,
     program: &Program,
@@ -38,7 +39,7 @@ fn play_clients(alloc: Global, program: &Program, clients: &[u8]) -> Result<Play
     requires legal { IsLegal program.now (order_of clients.now) }
     ensures played { IfOk result (IsPlayedInOrder program.now (order_of clients.now)) }
 {
-    program.is_sound();
+    program.keeps_sound();
     let mut rules = Machine::new(alloc, program)?;
     for client in clients {
         rules.play_block(*client);

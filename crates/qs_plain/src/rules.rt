@@ -5,22 +5,22 @@ ghost use Rattle.std.specs.Bool.{OnTrue};
 ghost use Rattle.qs_plain_laws.specs.Plain.{begin, step as the_step};
 ghost use Rattle.qs_plain.specs.Rules.{AreIsolated, Steps, plain_of};
 ghost use Rattle.qs_plain.specs.Rules.{AreRulesCounted};
-ghost use Rattle.qs_plain.specs.Deeds.{plain_deed};
+ghost use Rattle.qs_plain_handler.specs.Deeds.{plain_deed};
 ghost use Rattle.qs_meaning.specs.Serial.{IsLegal};
 ghost use Rattle.qs_plain_laws.specs.PlainSchedule.{played_of};
 
 mod playing;
 mod reading;
 
-use crate::deed::Deed;
 use crate::machine::Machine;
+use qs_plain_handler::Deed;
 use qs_played::{Actor, Played};
 use qs_program::Program;
 use std::alloc::{AllocError, Global};
 use std::marker::Model;
 
-/// A program on its way under the plain rules, from its beginning on: each handler has a queue of queues, and each reservation a
-/// private queue of single requests. It takes memory in `new` alone.
+/// A program on its way under the plain rules, from its beginning on: each handler has a queue of queues, and each
+/// reservation a private queue of single requests. It takes memory in `new` alone.
 pub struct Rules<'p> {
     machine: Machine<'p>,
 }
@@ -32,7 +32,7 @@ impl Drop for Rules<'_> {
 }
 
 impl<'p> Model for Rules<'p> {
-    ghost use Rattle.qs_plain.specs.Rules.{RulesState, rules_code, IsReached};
+    ghost use Rattle.qs_plain.specs.Rules.{RulesState, rules_code, IsSteppedTo};
 
     ghost Value = { RulesState };
 
@@ -40,11 +40,12 @@ impl<'p> Model for Rules<'p> {
 
     ghost view = { λ r. r.machine };
 
-    ghost invariant = { λ r. IsReached r.machine };
+    ghost invariant = { λ r. IsSteppedTo r.machine };
 }
 
 impl<'p> Rules<'p> {
-    /// A program before its first step. It takes all the memory that the run will need, by the loads; an allocation that fails leaves nothing.
+    /// A program before its first step. It takes all the memory that the run will need, by the loads; an allocation
+    /// that fails leaves nothing.
     pub fn new(alloc: Global, program: &'p Program) -> Result<Rules<'p>, AllocError>
         ensures fresh { IfOk result (λ r. (r.program ≡ program.now) × (plain_of r ≡ begin program.now)) }
     {
@@ -52,8 +53,8 @@ impl<'p> Rules<'p> {
         Ok(Rules { machine })
     }
 
-    /// One step of an actor: true where it has one, and else false, with nothing changed; also where there is no such actor. What has
-    /// run stays isolated, and each synchronisation is counted.
+    /// One step of an actor: true where it has one, and else false, with nothing changed; also where there is no such
+    /// actor. What has run stays isolated, and each synchronisation is counted.
     pub fn step(&mut self, actor: Actor) -> bool
         ensures steps { OnTrue result (Steps self.old actor self.new) }
         ensures none { result ≡ false → the_step self.old.program (plain_of self.old) actor ≡ None }
@@ -62,11 +63,12 @@ impl<'p> Rules<'p> {
         ensures counted { AreRulesCounted self.new }
     {
         let stepped = self.machine.step(actor);
-        self.machine.program().is_sound();
+        self.machine.program().keeps_sound();
         stepped
     }
 
-    /// The same step, and what it does: None where the actor has none, with nothing changed; also where there is no such actor.
+    /// The same step, and what it does: None where the actor has none, with nothing changed; also where there is no
+    /// such actor.
     pub fn step_told(&mut self, actor: Actor) -> Option<Deed>
         ensures steps { IfSome result (λ _. Steps self.old actor self.new) }
         ensures deed { IfSome result (λ deed. plain_deed (plain_of self.old) actor ≡ Some deed) }
@@ -77,20 +79,22 @@ impl<'p> Rules<'p> {
     }
 
     /// At every moment each reservation has done what its block does alone, as far as it has come; it does nothing.
-    pub fn is_isolated(&self)
+    pub fn keeps_isolated(&self)
         ensures isolated { AreIsolated self.now }
     {
-        self.machine.program().is_sound();
+        self.machine.program().keeps_sound();
     }
 
-    /// At every moment each reservation has asked for each of its queries once, and these make up all synchronisations; it does nothing.
-    pub fn is_counted(&self)
+    /// At every moment each reservation has asked for each of its queries once, and these make up all synchronisations;
+    /// it does nothing.
+    pub fn keeps_counted(&self)
         ensures counted { AreRulesCounted self.now }
     {
-        self.machine.program().is_sound();
+        self.machine.program().keeps_sound();
     }
 
-    /// What the run has shown. It is isolated, and its synchronisations are counted. An error says that an allocation failed.
+    /// What the run has shown. It is isolated, and its synchronisations are counted. An error says that an allocation
+    /// failed.
     pub fn into_played(self, alloc: Global) -> Result<Played, AllocError>
         ensures shown { IfOk result (λ played. played ≡ played_of self.entry.program (plain_of self.entry)) }
         ensures legal { IfOk result (λ played. IsLegal self.entry.program played.order) }
@@ -98,7 +102,7 @@ impl<'p> Rules<'p> {
         ensures counted { AreRulesCounted self.entry }
     {
         let Rules { machine } = self;
-        machine.program().is_sound();
+        machine.program().keeps_sound();
         machine.into_played(alloc)
     }
 }

@@ -12,12 +12,13 @@ use qs_played::{Actor, MOST_ROUNDS, PlayFault, Played, are_named};
 use qs_program::Program;
 use std::alloc::{AllocError, Global};
 
-/// What a program shows under the plain rules after a schedule: first the picks, one step each, then so many rounds, each of them one
-/// step of every client and then of every handler in text order; an actor without a step changes nothing. It ends early, at the first
-/// round that steps nobody: the rounds left would change nothing, so it shows the same as after all of them. `Rounds` comes for more
-/// than 1,000,000 rounds, `Actor` for a pick that names no actor of the program, both before any allocation; `Memory` where one
-/// fails. What is shown is isolated: each reservation has done what its block does alone, at its place in the order of reservations.
-/// Its synchronisations are counted, reservation by reservation and object by object.
+/// What a program shows under the plain rules after a schedule: first the picks, one step each, then so many rounds,
+/// each of them one step of every client and then of every handler in text order; an actor without a step changes
+/// nothing. It ends early, at the first round that steps nobody: the rounds left would change nothing, so it shows the
+/// same as after all of them. `Rounds` comes for more than 1,000,000 rounds, `Actor` for a pick that names no actor of
+/// the program, both before any allocation; `Memory` where one fails. What is shown is isolated: each reservation has
+/// done what its block does alone, at its place in the order of reservations. Its synchronisations are counted,
+/// reservation by reservation and object by object.
 pub fn play_plain(
     alloc: Global,
     program: &Program,
@@ -52,7 +53,7 @@ fn play(
     ensures isolated { IfOk result (λ played. IsIsolated program.now played (commands_in_queue (scheduled program.now picks.now rounds))) }
     ensures counted { IfOk result (AreQueriesCounted program.now (scheduled program.now picks.now rounds)) }
 {
-    program.is_sound();
+    program.keeps_sound();
     let mut rules = Machine::new(alloc, program)?;
     for pick in picks {
         let _stepped = rules.step(*pick);

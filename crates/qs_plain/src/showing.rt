@@ -4,15 +4,15 @@ ghost use Rattle.std.specs.Prelude.{◌≡◌, ◌≤◌, IfOk, length, map, sum
 ghost use Rattle.qs_objects.specs.declared.held.Ticket.{Ticket as TicketShape};
 ghost use Rattle.qs_program.specs.Program.{ProgramShape};
 ghost use Rattle.qs_program.specs.Limits.{most_clients};
-ghost use Rattle.qs_plain_client.specs.Clients.{ClientState as State, client_of};
-ghost use Rattle.qs_plain_client.specs.Clients.{client_at};
+ghost use Rattle.qs_plain_client.specs.Clients.{ClientState as State, client_of_state};
+ghost use Rattle.qs_plain_client.specs.Clients.{client_state_at};
 ghost use Rattle.qs_plain_laws.specs.PlainSchedule.{all_done, all_idle, has_ended, syncs_of};
-ghost use Rattle.qs_plain.specs.Served.{HandlerState as Serving, handler_of};
+ghost use Rattle.qs_plain_handler.specs.Served.{HandlerState as Serving, handler_of_state};
 ghost use Rattle.qs_plain.specs.BegunBlocks.{AreBegun, AreOwn, AreRows};
 
-use crate::handler::HandlerState;
 use qs_objects::{Journal, Object, Ticket};
 use qs_plain_client::ClientState;
+use qs_plain_handler::HandlerState;
 use qs_played::{ClientRows, Row};
 use std::alloc::{AllocError, Global};
 
@@ -23,7 +23,7 @@ pub(crate) fn endings(
     order: &[Ticket],
 ) -> Result<Row<bool>, AllocError>
     requires { AreBegun clients.now order.now }
-    ensures value { IfOk result (λ row. row ≡ map (λ (t : TicketShape). has_ended (client_of (client_at clients.now t.client)) t.index) order.now) }
+    ensures value { IfOk result (λ row. row ≡ map (λ (t : TicketShape). has_ended (client_of_state (client_state_at clients.now t.client)) t.index) order.now) }
 {
     let mut row = Vec::new(alloc);
     for ticket in order {
@@ -46,7 +46,7 @@ pub(crate) fn rows(alloc: Global, clients: Vec<ClientState>) -> Result<Vec<Clien
 /// How many queries the clients have asked.
 pub(crate) fn syncs(clients: &[ClientState]) -> u64
     requires { length clients.now ≤ most_clients }
-    ensures value { result ≡ sum_by (λ (d : State). syncs_of (client_of d)) clients.now }
+    ensures value { result ≡ sum_by (λ (d : State). syncs_of (client_of_state d)) clients.now }
 {
     let mut syncs = 0;
     for client in clients {
@@ -57,7 +57,7 @@ pub(crate) fn syncs(clients: &[ClientState]) -> u64
 
 /// Whether each client stands between two blocks with none to come.
 pub(crate) fn are_done(clients: &[ClientState]) -> bool
-    ensures value { (p : ProgramShape) → AreOwn p clients.now → result ≡ all_done p 0 (map client_of clients.now) }
+    ensures value { (p : ProgramShape) → AreOwn p clients.now → result ≡ all_done p 0 (map client_of_state clients.now) }
 {
     let mut done = true;
     for client in clients {
@@ -68,7 +68,7 @@ pub(crate) fn are_done(clients: &[ClientState]) -> bool
 
 /// Whether no handler serves anybody.
 pub(crate) fn are_idle(handlers: &[HandlerState]) -> bool
-    ensures value { result ≡ all_idle (map handler_of handlers.now) }
+    ensures value { result ≡ all_idle (map handler_of_state handlers.now) }
 {
     let mut idle = true;
     for handler in handlers {

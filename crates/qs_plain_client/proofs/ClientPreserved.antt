@@ -1,6 +1,6 @@
--- After a command, a query, a reply, the end of a block or the beginning of the next one, a client of the code still keeps what
--- its type asks of it (`IsClient`). The contracts of `begin`, `ask` and `reply` need it. A request takes one from the load that
--- is left of its block, so the trace has room for its event; all other parts stay as they were.
+-- After a command, a query, a reply, the end of a block or the beginning of the next one, a client of the code still
+-- keeps what its type asks of it (`IsClient`). The contracts of `begin`, `ask` and `reply` need it. A request takes one
+-- from the load that is left of its block, so the trace has room for its event; all other parts stay as they were.
 use Rattle.std.proofs.Common.{◌≡◌, ◌<◌, ◌≤◌, ℕ, suc, ◌+◌, ◌-◌, ◌==◌, if◌then◌else◌, Bool, true, false, ◌||◌, List, [], ◌∷◌, ◌++◌, length, get_or, set, sum_by, refl, ap, sym, subst, ◌∙◌, arith, ℤ, length-set, get_or-set_same, add-zero}
 use Rattle.std.specs.List.{list_any}
 use Rattle.std.proofs.lemmas.List.Sums.{sum_by-cons}
@@ -12,7 +12,7 @@ use Rattle.qs_program.specs.Sound.{IsSound, IsSoundBody, is_in}
 use Rattle.qs_program.specs.Loads.{load_of}
 use Rattle.qs_program.proofs.Bounds.{sound_block}
 use Rattle.qs_plain_client.specs.Asking.{AreSound}
-use Rattle.qs_plain_client.specs.Clients.{ClientState, IsClient, IsStaged, IsWithin, IsReady, current_block, current_counts, current_trace, block_of}
+use Rattle.qs_plain_client.specs.Clients.{ClientState, IsClient, IsStaged, IsWithin, IsReady, current_block, current_counts, current_trace, block_of_state}
 use Rattle.qs_plain_client.specs.PreparedBlock.{PreparedState}
 use Rattle.qs_plain_client.specs.Frames.{Frame, rest, load_left}
 use Rattle.qs_plain_client.specs.TraceMoves.{counted_in, noted_in, last_of, no_trace}
@@ -110,7 +110,7 @@ module _ {d : ClientState} (kept : IsClient d) where
   noted_length : (ts : List TraceState) (e : Event) → ts ≡ noted_in d.traces e → length ts ≡ length d.entries
   noted_length ts e is = ap length is ∙ length-noted d.traces e ∙ kept.traces
 
-  prepared_at : (depth : ℕ) → depth ≡ d.depth → (i : ℕ) (x : PreparedState) → i < length d.prepared → IsReady d.number (length d.entries + i) depth (block_of d (length d.entries + i)) (get_or d.prepared i x)
+  prepared_at : (depth : ℕ) → depth ≡ d.depth → (i : ℕ) (x : PreparedState) → i < length d.prepared → IsReady d.number (length d.entries + i) depth (block_of_state d (length d.entries + i)) (get_or d.prepared i x)
   prepared_at depth same i x within = rw same (kept.prepared i x within)
 
   at_kept : (s : Stage) (l : List ℤ) (fs : List Frame) (depth : ℕ) (ts : List TraceState) (cs : List (List SyncCount)) → depth ≡ d.depth → length ts ≡ length d.entries
@@ -196,13 +196,13 @@ module _ {d : ClientState} (kept : IsClient d) (sound : IsSound d.program) (x : 
   in_range = omega (arith, kept.begun, more)
 
   abbrev its_block : BlockShape
-  its_block = block_of d here
+  its_block = block_of_state d here
 
   ready : IsReady d.number here d.depth its_block x
   ready =
       let at_zero = kept.prepared 0 x (omega (arith, more)) in
-      subst (λ n. IsReady d.number n d.depth (block_of d n) x) (add-zero (length d.entries))
-      (subst (IsReady d.number (length d.entries + 0) d.depth (block_of d (length d.entries + 0))) (ap (λ ps. get_or ps 0 x) first) at_zero)
+      subst (λ n. IsReady d.number n d.depth (block_of_state d n) x) (add-zero (length d.entries))
+      (subst (IsReady d.number (length d.entries + 0) d.depth (block_of_state d (length d.entries + 0))) (ap (λ ps. get_or ps 0 x) first) at_zero)
 
   abbrev pub new_client : List ℤ → List Frame → ℕ → List (List ℤ) → List TraceState → List (List SyncCount) → ClientState
   new_client l fs depth es ts cs = record {
@@ -240,8 +240,8 @@ module _ {d : ClientState} (kept : IsClient d) (sound : IsSound d.program) (x : 
       let last : get_or ts here no_trace ≡ x.trace = ap (λ us. get_or us here no_trace) traces ∙ ap (λ n. get_or (d.traces ++ x.trace ∷ []) n no_trace) (sym kept.traces) ∙ get_or-append_seam d.traces x.trace [] no_trace in
       record {
         some = omega (arith, longer es l entries);
-        sound = subst (λ n. AreSound d.program.objects (block_of d n).reserved fs) (sym place) (subst (AreSound d.program.objects its_block.reserved) (sym alone) (body_sound, tt));
-        room = subst (λ n. sum_by (load_left fs) (block_of d n).reserved + 0 ≤ (get_or ts n no_trace).room) (sym place)
+        sound = subst (λ n. AreSound d.program.objects (block_of_state d n).reserved fs) (sym place) (subst (AreSound d.program.objects its_block.reserved) (sym alone) (body_sound, tt));
+        room = subst (λ n. sum_by (load_left fs) (block_of_state d n).reserved + 0 ≤ (get_or ts n no_trace).room) (sym place)
             (subst (λ t. sum_by (load_left fs) its_block.reserved + 0 ≤ t.room) (sym last) (subst (λ gs. sum_by (load_left gs) its_block.reserved + 0 ≤ x.trace.room) (sym alone) (omega (arith, block_load_left, ready.stocked.room))));
         few =
             let row : get_or cs here [] ≡ no_syncs its_block.reserved =
@@ -262,10 +262,10 @@ module _ {d : ClientState} (kept : IsClient d) (sound : IsSound d.program) (x : 
     staged = begun_within l fs depth es ts cs frames entries traces counts;
   }
     where
-      prepared_later : (es : List (List ℤ)) (l : List ℤ) (depth : ℕ) → es ≡ d.entries ++ l ∷ [] → depth ≡ d.depth → (i : ℕ) (y : PreparedState) → i < length later → IsReady d.number (length es + i) depth (block_of d (length es + i)) (get_or later i y)
+      prepared_later : (es : List (List ℤ)) (l : List ℤ) (depth : ℕ) → es ≡ d.entries ++ l ∷ [] → depth ≡ d.depth → (i : ℕ) (y : PreparedState) → i < length later → IsReady d.number (length es + i) depth (block_of_state d (length es + i)) (get_or later i y)
       prepared_later es l depth entries same i y within =
           let old = kept.prepared (suc i) y (omega (arith, more)) in
           let place : here + suc i ≡ length es + i = omega (arith, longer es l entries) in
           rw same
-          (subst (λ n. IsReady d.number n d.depth (block_of d n) (get_or later i y)) place
-          (subst (IsReady d.number (here + suc i) d.depth (block_of d (here + suc i))) (ap (λ ps. get_or ps (suc i) y) first) old))
+          (subst (λ n. IsReady d.number n d.depth (block_of_state d n) (get_or later i y)) place
+          (subst (IsReady d.number (here + suc i) d.depth (block_of_state d (here + suc i))) (ap (λ ps. get_or ps (suc i) y) first) old))

@@ -1,6 +1,7 @@
--- A quiet move on the frames of a block pushes a frame at the end or takes one off there. These lemmas say what that does to the
--- tree of what comes next, to the work and the load that are left, and to the frames' soundness. The contracts of `begin`,
--- `leave` and `advance` on frames stand on them. The moves are taken one by one: a repeat, one more turn, a branch, a leave.
+-- A quiet move on the frames of a block pushes a frame at the end or takes one off there. These lemmas say what that
+-- does to the tree of what comes next, to the work and the load that are left, and to the frames' soundness. The
+-- contracts of `begin`, `leave` and `advance` on frames stand on them. The moves are taken one by one: a repeat, one
+-- more turn, a branch, a leave.
 use Rattle.std.proofs.Common.{length-append, ◌≡◌, ◌<◌, ◌≤◌, ℕ, zero, suc, ◌+◌, ◌-◌, ◌≢◌, ◌⊎◌, ⊎_elim, Bool, true, false, subst, List, [], ◌∷◌, ◌++◌, refl, ap, sym, ◌∙◌, arith, sub-one, slice_set}
 use Rattle.std.specs.List.{AllByRecursion}
 use Rattle.std.proofs.lemmas.List.Sums.{fold-append, sum_by_push}

@@ -1,5 +1,6 @@
--- Each private queue of a handler is of another ticket. So an item that is logged for a ticket goes into the one queue that was
--- found, and no other is looked at. The tickets still differ after a step. The proofs go by induction on the list of queues.
+-- Each private queue of a handler is of another ticket. So an item that is logged for a ticket goes into the one queue
+-- that was found, and no other is looked at. The tickets still differ after a step. The proofs go by induction on the
+-- list of queues.
 use Rattle.std.proofs.Common.{◌≡◌, ◌≢◌, ◌<◌, ℕ, zero, suc, ◌-◌, if◌then◌else◌, true, false, ◌⊎◌, inl, inr, List, [], ◌∷◌, ◌++◌, map, length, get_or, refl, ap, sym, ◌∙◌, arith}
 use Rattle.std.specs.List.{AllByRecursion}
 use Rattle.std.proofs.Math.ListN.{set}

@@ -1,5 +1,5 @@
--- What a client stores of all its blocks, and what contracts see of those that were begun and of those to come: an event, a query or a
--- block more changes both in step.
+-- What a client stores of all its blocks, and what contracts see of those that were begun and of those to come: an
+-- event, a query or a block more changes both in step.
 use Rattle.std.proofs.Common.{◌≡◌, ◌<◌, ◌≤◌, ℕ, zero, suc, ◌+◌, ◌-◌, ◌==◌, false, List, [], ◌∷◌, ◌++◌, drop, drop-cons, inl, inr, get_or, get_or-drop, get_or-set_same, get_or-set_other, get_or-take, length, length-set, length-take-le, map, refl, set, sym, ap, ◌∙◌, subst, take, arith, ⊎_elim, ℤ, zero-add}
 use Rattle.std.proofs.Math.Seq.{take-set-lt}
 use Rattle.std.proofs.lemmas.Bool.{cases_lt}
@@ -14,12 +14,12 @@ use Rattle.qs_program.specs.Program.{BlockShape, ProgramShape, block_at, block_l
 use Rattle.qs_program.specs.Sound.{IsSound}
 use Rattle.qs_program.proofs.Bounds.{block_load-whole}
 use Rattle.qs_program.specs.Limits.{most_requests}
-use Rattle.qs_plain_client.specs.Clients.{AreRowsOf, AreStored, IsClient, IsReady, client_from, client_of}
+use Rattle.qs_plain_client.specs.Clients.{AreRowsOf, AreStored, IsClient, IsReady, client_from, client_of_state}
 use Rattle.qs_plain_client.specs.ClientMoves.{begun_with, after_moves}
 use Rattle.qs_plain_client.specs.Frames.{Frame, places_of, rest}
 use Rattle.qs_plain_client.specs.declared.stage.Stage.{Stage}
 use Rattle.qs_plain_client.specs.declared.stage.Stage.TheVariants as stage
-use Rattle.qs_plain_client.specs.PreparedBlock.{AreQueues, PreparedState, lists_of, prepared_of, rooms_of}
+use Rattle.qs_plain_client.specs.PreparedBlock.{AreQueues, PreparedState, reserved_lists, prepared_of, rooms_of}
 use Rattle.qs_plain_client.specs.Queues.{QueueState}
 use Rattle.qs_plain_client.specs.TraceMoves.{counted_in, last_of, no_trace, noted_in}
 
@@ -242,20 +242,20 @@ module _ (p : ProgramShape) (c : ℕ) (sound : IsSound p) (inside : c < length p
   pub length_fresh : length (map empty_trace (rooms_of p c)) ≡ blocks_of p c
   length_fresh = length-map (rooms_of p c) empty_trace ∙ length-map (client_at p c).blocks block_load
 
-  pub length_none : length (fresh_rows (lists_of p c)) ≡ blocks_of p c
-  length_none = length-map (lists_of p c) no_syncs ∙ length-map (client_at p c).blocks (λ (b : BlockShape). b.reserved)
+  pub length_none : length (fresh_rows (reserved_lists p c)) ≡ blocks_of p c
+  length_none = length-map (reserved_lists p c) no_syncs ∙ length-map (client_at p c).blocks (λ (b : BlockShape). b.reserved)
 
   trace_fresh : (k : ℕ) → k < blocks_of p c → get_or (map empty_trace (rooms_of p c)) k no_trace ≡ empty_trace (block_load (block_at p c k))
   trace_fresh k below =
       let long : length (rooms_of p c) ≡ blocks_of p c = length-map (client_at p c).blocks block_load in
       get_or-map empty_trace (rooms_of p c) k 0 no_trace (omega (arith, below, long)) ∙ ap empty_trace (get_or-map block_load (client_at p c).blocks k no_block 0 below)
 
-  counts_fresh : (k : ℕ) → k < blocks_of p c → get_or (fresh_rows (lists_of p c)) k [] ≡ no_syncs (block_at p c k).reserved
+  counts_fresh : (k : ℕ) → k < blocks_of p c → get_or (fresh_rows (reserved_lists p c)) k [] ≡ no_syncs (block_at p c k).reserved
   counts_fresh k below =
-      let long : length (lists_of p c) ≡ blocks_of p c = length-map (client_at p c).blocks (λ (b : BlockShape). b.reserved) in
-      get_or-map no_syncs (lists_of p c) k [] [] (omega (arith, below, long)) ∙ ap no_syncs (get_or-map (λ (b : BlockShape). b.reserved) (client_at p c).blocks k no_block [] below)
+      let long : length (reserved_lists p c) ≡ blocks_of p c = length-map (client_at p c).blocks (λ (b : BlockShape). b.reserved) in
+      get_or-map no_syncs (reserved_lists p c) k [] [] (omega (arith, below, long)) ∙ ap no_syncs (get_or-map (λ (b : BlockShape). b.reserved) (client_at p c).blocks k no_block [] below)
 
-  pub stored_fresh : (qs : List Queues) → length qs ≡ blocks_of p c → AreStored 0 (map empty_trace (rooms_of p c)) (fresh_rows (lists_of p c)) (length qs)
+  pub stored_fresh : (qs : List Queues) → length qs ≡ blocks_of p c → AreStored 0 (map empty_trace (rooms_of p c)) (fresh_rows (reserved_lists p c)) (length qs)
   stored_fresh qs many =
       let traces = length_fresh in
       let counts = length_none in
@@ -274,11 +274,11 @@ module _ (p : ProgramShape) (c : ℕ) (sound : IsSound p) (inside : c < length p
 
   pub client_fresh : (l : List ℤ) (depth : ℕ) (qs : List Queues) → length qs ≡ blocks_of p c → ((j : ℕ) → j < blocks_of p c → places_of (rest (block_at p c j).body) ≤ depth)
       → ((j : ℕ) (q : Queues) → j < blocks_of p c → AreQueues c j (block_at p c j) (get_or qs j q))
-      → IsClient (client_from p c stage.Out l [] depth [] (map empty_trace (rooms_of p c)) (fresh_rows (lists_of p c)) qs)
+      → IsClient (client_from p c stage.Out l [] depth [] (map empty_trace (rooms_of p c)) (fresh_rows (reserved_lists p c)) qs)
   client_fresh l depth qs many fits each =
       let traces = length_fresh in
       let counts = length_none in
-      let long = length_prepared (map empty_trace (rooms_of p c)) (fresh_rows (lists_of p c)) qs (omega (arith, traces, many)) (omega (arith, counts, many)) in
+      let long = length_prepared (map empty_trace (rooms_of p c)) (fresh_rows (reserved_lists p c)) qs (omega (arith, traces, many)) (omega (arith, counts, many)) in
       record {
         number = inside;
         begun = omega (arith, long, many);
@@ -286,9 +286,9 @@ module _ (p : ProgramShape) (c : ℕ) (sound : IsSound p) (inside : c < length p
         counts = refl;
         prepared = λ i x below.
             let lt : i < blocks_of p c = omega (arith, below, long, many) in
-            let it = prepared_at (map empty_trace (rooms_of p c)) (fresh_rows (lists_of p c)) qs i x (omega (arith, traces, many)) (omega (arith, counts, many)) (omega (arith, lt, many)) in
+            let it = prepared_at (map empty_trace (rooms_of p c)) (fresh_rows (reserved_lists p c)) qs i x (omega (arith, traces, many)) (omega (arith, counts, many)) (omega (arith, lt, many)) in
             let here = each i [] lt in
-            let ready : IsReady c i depth (block_at p c i) (record { trace = get_or (map empty_trace (rooms_of p c)) i no_trace; counts = get_or (fresh_rows (lists_of p c)) i []; queues = get_or qs i [] }) =
+            let ready : IsReady c i depth (block_at p c i) (record { trace = get_or (map empty_trace (rooms_of p c)) i no_trace; counts = get_or (fresh_rows (reserved_lists p c)) i []; queues = get_or qs i [] }) =
             record {
               frames = fits i lt;
               stocked = record {
@@ -299,7 +299,7 @@ module _ (p : ProgramShape) (c : ℕ) (sound : IsSound p) (inside : c < length p
                 queues = here.each;
               };
             } in
-            subst (λ n. IsReady c n depth (block_at p c n) (get_or (prepared_of (map empty_trace (rooms_of p c)) (fresh_rows (lists_of p c)) qs) i x)) (sym (zero-add i))
+            subst (λ n. IsReady c n depth (block_at p c n) (get_or (prepared_of (map empty_trace (rooms_of p c)) (fresh_rows (reserved_lists p c)) qs) i x)) (sym (zero-add i))
             (subst (IsReady c i depth (block_at p c i)) (sym it) ready);
         staged = refl;
       }
@@ -311,7 +311,7 @@ events_taken (suc n) [] = refl
 events_taken (suc n) (t ∷ ts) = ap (λ rest. t.events ∷ rest) (events_taken n ts)
 
 pub rows_are : (p : ProgramShape) (c : ℕ) (s : Stage) (l : List ℤ) (fs : List Frame) (depth : ℕ) (es : List (List ℤ)) (ts : List TraceState) (cs : List (List SyncCount)) (qs : List Queues)
-    → AreStored (length es) ts cs (length qs) → AreRowsOf (record { traces = events_of ts; entries = es; counts = cs }) (client_of (client_from p c s l fs depth es ts cs qs))
+    → AreStored (length es) ts cs (length qs) → AreRowsOf (record { traces = events_of ts; entries = es; counts = cs }) (client_of_state (client_from p c s l fs depth es ts cs qs))
 rows_are p c s l fs depth es ts cs qs is =
     let traces = is.all_traces in
     let counts = is.all_counts in

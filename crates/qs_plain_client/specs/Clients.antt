@@ -1,4 +1,5 @@
--- A client of the code: its stage, what is left of its block, what it has shown, and what is prepared for its later blocks.
+-- A client of the code: its stage, what is left of its block, what it has shown, and what is prepared for its later
+-- blocks.
 use Rattle.std.specs.Prelude.{◌≡◌, ◌<◌, ◌≤◌, ℕ, suc, ◌+◌, ◌-◌, List, [], drop, length, slice_index_or, slice_set, take, ℤ, sum_by, refl}
 use Rattle.std.specs.Coded.{Coded, codes, code_by, coded×, coded_list, coded_ℕ, coded_ℤ}
 use Rattle.qs_program.specs.Program.{ProgramShape, BlockShape, block_at, blocks_of}
@@ -32,21 +33,27 @@ pub record ClientState : Type 0 where
   pub counts : List (List SyncCount)
   pub prepared : List PreparedState
 
-abbrev pub stage_of : Stage → List Frame → List ℤ → plain.Stage
+abbrev pub stage_of : Stage → List Frame → List ℤ → plain.StageOfClient
 stage_of stage.Out fs l = out l
 stage_of stage.Within fs l = within (next_of fs l)
 stage_of (stage.Waiting x) fs l = waiting (λ v. next_of fs (slice_set l x v))
 
 -- the client of the plain rules
-abbrev pub client_of : ClientState → Client
-client_of d = record { stage = stage_of d.stage d.frames d.locals; entries = d.entries; traces = events_of d.traces; counts = d.counts }
+abbrev pub client_of_state : ClientState → Client
+client_of_state d =
+    record {
+      stage = stage_of d.stage d.frames d.locals;
+      entries = d.entries;
+      traces = events_of d.traces;
+      counts = d.counts;
+    }
 
-abbrev pub block_of : ClientState → ℕ → BlockShape
-block_of d k = block_at d.program d.number k
+abbrev pub block_of_state : ClientState → ℕ → BlockShape
+block_of_state d k = block_at d.program d.number k
 
 -- the block that it is in
 abbrev pub current_block : ClientState → BlockShape
-current_block d = block_of d (length d.entries - 1)
+current_block d = block_of_state d (length d.entries - 1)
 
 abbrev pub current_trace : ClientState → TraceState
 current_trace d = slice_index_or d.traces (length d.entries - 1) no_trace
@@ -77,7 +84,9 @@ pub record IsClient (d : ClientState) : Type 0 where
   pub begun : length d.entries + length d.prepared ≡ blocks_of d.program d.number
   pub traces : length d.traces ≡ length d.entries
   pub counts : length d.counts ≡ length d.entries
-  pub prepared : (i : ℕ) (x : PreparedState) → i < length d.prepared → IsReady d.number (length d.entries + i) d.depth (block_of d (length d.entries + i)) (slice_index_or d.prepared i x)
+  pub prepared : (i : ℕ) (x : PreparedState) → i < length d.prepared
+      → IsReady d.number (length d.entries + i) d.depth (block_of_state d (length d.entries
+      + i)) (slice_index_or d.prepared i x)
   pub staged : IsStaged d d.stage
 
 pub stage_code : Coded Stage
@@ -93,21 +102,54 @@ pub prepared_code : Coded PreparedState
 prepared_code = hlevel codes
 
 abbrev pub Fields : Type 0
-Fields = ProgramShape × (ℕ × (Stage × (List ℤ × (List Frame × (ℕ × (List (List ℤ) × (List TraceState × (List (List SyncCount) × List PreparedState))))))))
+Fields =
+    ProgramShape × (ℕ × (Stage × (List ℤ × (List Frame
+    × (ℕ × (List (List ℤ) × (List TraceState × (List (List SyncCount) × List PreparedState))))))))
 
 abbrev pub client_code : Coded ClientState
 client_code =
     code_by Fields
-    (coded× program_code (coded× coded_ℕ (coded× stage_code (coded× (coded_list coded_ℤ) (coded× (coded_list frame_code) (coded× coded_ℕ (coded× (coded_list (coded_list coded_ℤ)) (coded× (coded_list trace_code) (coded× (coded_list (coded_list count_code)) (coded_list prepared_code))))))))))
-    (λ d. (d.program, (d.number, (d.stage, (d.locals, (d.frames, (d.depth, (d.entries, (d.traces, (d.counts, d.prepared))))))))))
-    (λ p. record { program = p.0; number = p.1.0; stage = p.1.1.0; locals = p.1.1.1.0; frames = p.1.1.1.1.0; depth = p.1.1.1.1.1.0; entries = p.1.1.1.1.1.1.0; traces = p.1.1.1.1.1.1.1.0; counts = p.1.1.1.1.1.1.1.1.0; prepared = p.1.1.1.1.1.1.1.1.1 })
+    (coded× program_code (coded× coded_ℕ (coded× stage_code
+    (coded× (coded_list coded_ℤ) (coded× (coded_list frame_code)
+    (coded× coded_ℕ (coded× (coded_list (coded_list coded_ℤ))
+    (coded× (coded_list trace_code) (coded× (coded_list (coded_list count_code)) (coded_list prepared_code))))))))))
+    (λ d. (
+      d.program,
+      (
+        d.number,
+        (
+          d.stage,
+          (
+            d.locals,
+            (
+              d.frames,
+              (d.depth, (d.entries, (d.traces, (d.counts, d.prepared)))),
+            ),
+          ),
+        ),
+      ),
+    ))
+    (λ p. record {
+      program = p.0;
+      number = p.1.0;
+      stage = p.1.1.0;
+      locals = p.1.1.1.0;
+      frames = p.1.1.1.1.0;
+      depth = p.1.1.1.1.1.0;
+      entries = p.1.1.1.1.1.1.0;
+      traces = p.1.1.1.1.1.1.1.0;
+      counts = p.1.1.1.1.1.1.1.1.0;
+      prepared = p.1.1.1.1.1.1.1.1.1;
+    })
     (λ _. refl)
 
 pub queues_code : Coded (List (ℕ × QueueState))
 queues_code = hlevel codes
 
--- a client of the code by what it stores: the traces and counts of all its blocks, of which those that were begun come first
-abbrev pub client_from : ProgramShape → ℕ → Stage → List ℤ → List Frame → ℕ → List (List ℤ) → List TraceState → List (List SyncCount) → List (List (ℕ × QueueState)) → ClientState
+-- a client of the code by what it stores: the traces and counts of all its blocks, of which those that were begun come
+-- first
+abbrev pub client_from : ProgramShape → ℕ → Stage → List ℤ → List Frame → ℕ → List (List ℤ) → List TraceState
+    → List (List SyncCount) → List (List (ℕ × QueueState)) → ClientState
 client_from p c stage locals frames depth entries traces counts queues = record {
   program = p;
   number = c;
@@ -122,7 +164,8 @@ client_from p c stage locals frames depth entries traces counts queues = record 
 }
 
 -- each block has its trace and its counts, and no trace grows beyond the whole load
-pub record AreStored (begun : ℕ) (traces : List TraceState) (counts : List (List SyncCount)) (prepared : ℕ) : Type 0 where
+pub record AreStored (begun : ℕ) (traces : List TraceState) (counts : List (List SyncCount))
+    (prepared : ℕ) : Type 0 where
   pub all_traces : length traces ≡ begun + prepared
   pub all_counts : length counts ≡ begun + prepared
   pub sizes : (k : ℕ) → length (trace_at traces k).events + (trace_at traces k).room ≤ most_requests
@@ -161,5 +204,5 @@ absent = record {
   prepared = [];
 }
 
-abbrev pub client_at : List ClientState → ℕ → ClientState
-client_at cs c = slice_index_or cs c absent
+abbrev pub client_state_at : List ClientState → ℕ → ClientState
+client_state_at cs c = slice_index_or cs c absent

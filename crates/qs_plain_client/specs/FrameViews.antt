@@ -38,7 +38,12 @@ from-to (rest s) = refl
 from-to (turning n body) = refl
 
 abbrev pub frame_code : Coded Frame
-frame_code = code_by (Statements ⊎ (ℕ × Statements)) (coded⊎ statements_code (coded× coded_ℕ statements_code)) to from from-to
+frame_code =
+    code_by (Statements ⊎ (ℕ × Statements)) (coded⊎ statements_code (coded× coded_ℕ statements_code)) to from from-to
 
 abbrev pub stack_code : Coded Stack
-stack_code = code_by (List Frame × ℕ) (coded× (coded_list frame_code) coded_ℕ) (λ s. (s.frames, s.room)) (λ p. stack p.0 p.1) (λ _. refl)
+stack_code =
+    code_by (List Frame × ℕ) (coded× (coded_list frame_code) coded_ℕ) (λ s. (
+      s.frames,
+      s.room,
+    )) (λ p. stack p.0 p.1) (λ _. refl)

@@ -1,4 +1,5 @@
--- Frames from which a list of statements was taken off, frames to which one was put, and a list whose first assignments were done.
+-- Frames from which a list of statements was taken off, frames to which one was put, and a list whose first assignments
+-- were done.
 use Rattle.std.specs.Prelude.{◌≡◌, ◌≤◌, ℕ, ◌+◌, List, [], ◌∷◌, ◌++◌, length}
 use Rattle.qs_program.specs.Statements.{Statements}
 use Rattle.qs_program.specs.Values.{Locals}
@@ -14,7 +15,8 @@ pub record Opens (fs gs : List Frame) (s : Statements) : Type 0 where
   pub next : (l : Locals) → next_of fs l ≡ next_of (gs ++ rest s ∷ []) l
   pub work : work (gs ++ rest s ∷ []) ≤ work fs
   pub load : (h : ℕ) → load_left (gs ++ rest s ∷ []) h ≤ load_left fs h
-  pub sound : (objects : List Declared) (reserved : List ℕ) → AreSound objects reserved fs → AreSound objects reserved (gs ++ rest s ∷ [])
+  pub sound : (objects : List Declared) (reserved : List ℕ) → AreSound objects reserved fs
+      → AreSound objects reserved (gs ++ rest s ∷ [])
 
 -- the frames with the list do the same as with one frame more
 pub record IsAside (fs gs : List Frame) (s : Statements) : Type 0 where
@@ -22,7 +24,8 @@ pub record IsAside (fs gs : List Frame) (s : Statements) : Type 0 where
   pub many : length gs ≤ length fs + 1
   pub work : work gs ≤ work fs + frame_work (rest s)
   pub load : (h : ℕ) → load_left gs h ≡ load_left fs h + frame_load h (rest s)
-  pub sound : (objects : List Declared) (reserved : List ℕ) → AreSound objects reserved (fs ++ rest s ∷ []) → AreSound objects reserved gs
+  pub sound : (objects : List Declared) (reserved : List ℕ) → AreSound objects reserved (fs ++ rest s ∷ [])
+      → AreSound objects reserved gs
 
 -- what is left of a list after some assignments does what the list does before them
 pub record Assigns (s : Statements) (l : Locals) (t : Statements) (m : Locals) : Type 0 where
@@ -30,4 +33,5 @@ pub record Assigns (s : Statements) (l : Locals) (t : Statements) (m : Locals) :
   pub above : above t ≡ above s
   pub work : work_of t ≤ work_of s
   pub load : (h : ℕ) → load_of t h ≡ load_of s h
-  pub sound : (objects : List Declared) (reserved : List ℕ) → IsSoundBody objects reserved s → IsSoundBody objects reserved t
+  pub sound : (objects : List Declared) (reserved : List ℕ) → IsSoundBody objects reserved s
+      → IsSoundBody objects reserved t

@@ -20,7 +20,8 @@ abbrev pub prepared_of : List TraceState → List (List SyncCount) → List (Lis
 prepared_of traces counts [] = []
 prepared_of [] counts (qs ∷ queues) = []
 prepared_of (t ∷ traces) [] (qs ∷ queues) = []
-prepared_of (t ∷ traces) (xs ∷ counts) (qs ∷ queues) = record { trace = t; counts = xs; queues = qs } ∷ prepared_of traces counts queues
+prepared_of (t ∷ traces) (xs ∷ counts) (qs ∷ queues) =
+    record { trace = t; counts = xs; queues = qs } ∷ prepared_of traces counts queues
 
 -- an empty private queue with room for the block's load on its object and for the end mark
 abbrev pub IsReadyQueue : ℕ → ℕ → BlockShape → ℕ × QueueState → Type 0
@@ -43,5 +44,5 @@ pub record AreQueues (c k : ℕ) (b : BlockShape) (queues : List (ℕ × QueueSt
 abbrev pub rooms_of : ProgramShape → ℕ → List ℕ
 rooms_of p c = map block_load (client_at p c).blocks
 
-abbrev pub lists_of : ProgramShape → ℕ → List (List ℕ)
-lists_of p c = map (λ (b : BlockShape). b.reserved) (client_at p c).blocks
+abbrev pub reserved_lists : ProgramShape → ℕ → List (List ℕ)
+reserved_lists p c = map (λ (b : BlockShape). b.reserved) (client_at p c).blocks

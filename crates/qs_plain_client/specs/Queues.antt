@@ -1,4 +1,5 @@
--- A private queue of the code: its ticket and items, and how many more can be logged. And the private queues of one handler.
+-- A private queue of the code: its ticket and items, and how many more can be logged. And the private queues of one
+-- handler.
 use Rattle.std.specs.Prelude.{◌≡◌, ◌≢◌, ◌<◌, ◌≤◌, ℕ, ◌-◌, true, false, if◌then◌else◌, List, [], ◌∷◌, length, slice_index_or}
 use Rattle.std.specs.List.{AllByRecursion}
 use Rattle.qs_objects.specs.declared.held.Ticket.{Ticket}

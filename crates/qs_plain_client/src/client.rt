@@ -2,7 +2,7 @@
 
 ghost use Rattle.qs_program.specs.Limits.{most_blocks, most_requests};
 ghost use Rattle.qs_program.specs.Program.{block_at, block_load, blocks_of};
-ghost use Rattle.qs_plain_client.specs.PreparedBlock.{AreQueues, lists_of, rooms_of};
+ghost use Rattle.qs_plain_client.specs.PreparedBlock.{AreQueues, reserved_lists, rooms_of};
 ghost use Rattle.qs_objects.specs.Traces.{empty_trace};
 ghost use Rattle.qs_sync_counts.specs.SyncRows.{fresh_rows};
 ghost use Rattle.qs_played.specs.Schedule.{queries_in};
@@ -97,12 +97,12 @@ impl<'p> Model for ClientState<'p> {
 }
 
 impl<'p> ClientState<'p> {
-    ghost use Rattle.qs_plain_client.specs.Clients.{AreRowsOf, IsClient, IsFresh, client_of, current_block};
+    ghost use Rattle.qs_plain_client.specs.Clients.{AreRowsOf, IsClient, IsFresh, client_of_state, current_block};
     ghost use Rattle.qs_plain_laws.specs.PlainSchedule.{has_ended, is_done, syncs_of, waits};
-    ghost use Rattle.qs_plain_client.specs.ClientMoves.{Begins, AsksNext, Replies, requested_of, IsReserved, IsShort};
+    ghost use Rattle.qs_plain_client.specs.ClientMoves.{Begins, AsksNext, Replies, requested_of, IsReserved, IsShortAsk};
 
-    /// A client of the program before its first block, with all the memory that it will need. An error says that this memory was refused: it
-    /// comes only where the client has a block.
+    /// A client of the program before its first block, with all the memory that it will need. An error says that this
+    /// memory was refused: it comes only where the client has a block.
     pub fn new(
         alloc: Global,
         program: &'p Program,
@@ -112,7 +112,7 @@ impl<'p> ClientState<'p> {
         ensures fresh { IfOk result (IsFresh program.now number) }
         ensures memory { IsErr result → 0 < blocks_of program.now number }
     {
-        program.is_sound();
+        program.keeps_sound();
         let count = program.blocks_of(number);
         let mut frames = Vec::new(alloc);
         let mut prepared = VecDeque::new(alloc);
@@ -139,7 +139,7 @@ impl<'p> ClientState<'p> {
         ensures limit { result ≤ most_blocks }
         ensures kept { IsClient self.now }
     {
-        self.program.is_sound();
+        self.program.keeps_sound();
         self.entries.len()
     }
 
@@ -160,7 +160,7 @@ impl<'p> ClientState<'p> {
 
     /// Whether it stands between two blocks, with none to come.
     pub fn is_done(&self) -> bool
-        ensures value { result ≡ is_done self.now.program self.now.number (client_of self.now) }
+        ensures value { result ≡ is_done self.now.program self.now.number (client_of_state self.now) }
     {
         match self.stage {
             Stage::Out => self.prepared.is_empty(),
@@ -170,15 +170,16 @@ impl<'p> ClientState<'p> {
 
     /// Whether the block of this number has ended.
     pub fn has_ended(&self, index: u8) -> bool
-        ensures value { result ≡ has_ended (client_of self.now) index }
+        ensures value { result ≡ has_ended (client_of_state self.now) index }
     {
         let next = usize::from(index) + 1;
         next < self.entries.len() || (next == self.entries.len() && self.stage == Stage::Out)
     }
 
-    /// What its blocks have shown, by move: the traces and counts of all blocks, and the entries of those that were begun.
+    /// What its blocks have shown, by move: the traces and counts of all blocks, and the entries of those that were
+    /// begun.
     pub fn into_rows(self) -> ClientRows
-        ensures rows { AreRowsOf result (client_of self.entry) }
+        ensures rows { AreRowsOf result (client_of_state self.entry) }
     {
         let ClientState {
             program: _,
@@ -196,10 +197,10 @@ impl<'p> ClientState<'p> {
 
     /// How many queries it has asked.
     pub fn syncs(&self) -> u64
-        ensures value { result ≡ syncs_of (client_of self.now) }
+        ensures value { result ≡ syncs_of (client_of_state self.now) }
         ensures limit { result ≤ suc (most_blocks * most_requests) }
     {
-        self.program.is_sound();
+        self.program.keeps_sound();
         let mut syncs = self.waits();
         for block in 0..self.entries.len() {
             syncs += queries(self.traces.of(block));
@@ -208,7 +209,7 @@ impl<'p> ClientState<'p> {
     }
 
     fn waits(&self) -> u64
-        ensures value { result ≡ waits (client_of self.now).stage }
+        ensures value { result ≡ waits (client_of_state self.now).stage }
         ensures limit { result ≤ 1 }
     {
         match self.stage {
@@ -223,7 +224,7 @@ impl<'p> ClientState<'p> {
         requires more { 0 < length self.old.prepared }
         ensures begins { Begins self.old result.items self.new }
     {
-        self.program.is_sound();
+        self.program.keeps_sound();
         let program = self.program;
         let index = self.entries.len() as u8;
         let Some(prepared) = self.prepared.pop_front() else {
@@ -250,7 +251,7 @@ impl<'p> ClientState<'p> {
     pub fn ask(&mut self, alloc: Global) -> Asked<'p>
         requires { self.old.stage ≡ stages.Within }
         ensures goes { AsksNext result self.old self.new }
-        ensures short { IsShort result }
+        ensures short { IsShortAsk result }
         ensures load { (h : ℕ) → requested_of result h + load_left self.new.frames h ≤ load_left self.old.frames h }
         ensures reserves { IsReserved (current_block self.old).reserved result }
     {
@@ -296,7 +297,7 @@ pub fn fresh_clients<'p>(
 ) -> Result<Vec<ClientState<'p>>, AllocError>
     ensures fresh { IfOk result (λ clients. AreFresh program.now clients.items) }
 {
-    program.is_sound();
+    program.keeps_sound();
     let mut clients = Vec::new(alloc);
     for number in 0..program.clients() as u8 {
         clients.push(ClientState::new(alloc, program, number)?)?;
@@ -322,7 +323,7 @@ fn prepare(alloc: Global, program: &Program, number: u8, index: u8) -> Result<Pr
     requires block { index < blocks_of program.now number }
     ensures ready { IfOk result (AreQueues number index (block_at program.now number index)) }
 {
-    program.is_sound();
+    program.keeps_sound();
     let reserved = program.block(number, index).reserved();
     let mut queues = VecDeque::with_capacity(alloc, reserved.len())?;
     for object in reserved {
@@ -343,7 +344,7 @@ fn room_of(program: &Program, number: u8, index: u8) -> usize
     ensures value { result ≡ block_load (block_at program.now number index) }
     ensures few { result ≤ most_requests }
 {
-    program.is_sound();
+    program.keeps_sound();
     let mut room = 0;
     for object in program.block(number, index).reserved() {
         room += program.load_of(number, index, *object) as usize;
@@ -351,13 +352,14 @@ fn room_of(program: &Program, number: u8, index: u8) -> usize
     room
 }
 
-// The empty traces of all blocks of a client, each with room for its block's load. An error comes only where there is a block.
+// The empty traces of all blocks of a client, each with room for its block's load. An error comes only where there is a
+// block.
 fn fresh_traces(alloc: Global, program: &Program, number: u8) -> Result<Traces, AllocError>
     requires { number < length program.now.clients }
     ensures fresh { IfOk result (λ traces. traces ≡ map empty_trace (rooms_of program.now number)) }
     ensures memory { IsErr result → 0 < blocks_of program.now number }
 {
-    program.is_sound();
+    program.keeps_sound();
     let count = program.blocks_of(number);
     let mut rooms = Vec::with_capacity(alloc, count)?;
     let mut room = 0;
@@ -372,10 +374,10 @@ fn fresh_traces(alloc: Global, program: &Program, number: u8) -> Result<Traces, 
 // Of each block of a client no query is counted yet. An error comes only where there is a block.
 fn fresh_counts(alloc: Global, program: &Program, number: u8) -> Result<SyncCounts, AllocError>
     requires { number < length program.now.clients }
-    ensures fresh { IfOk result (λ counts. counts.rows ≡ fresh_rows (lists_of program.now number)) }
+    ensures fresh { IfOk result (λ counts. counts.rows ≡ fresh_rows (reserved_lists program.now number)) }
     ensures memory { IsErr result → 0 < blocks_of program.now number }
 {
-    program.is_sound();
+    program.keeps_sound();
     let count = program.blocks_of(number);
     let mut room = 0;
     for index in 0..count as u8 {

@@ -139,7 +139,8 @@ impl<'p> Frames<'p> {
     }
 
     #[tactic(auto, using(crate::proofs::FrameMoves::pushed))]
-    /// Takes off the list that goes on: what was left of one, or the body of a repeat for one more turn, and none of it after the last.
+    /// Takes off the list that goes on: what was left of one, or the body of a repeat for one more turn, and none of it
+    /// after the last.
     fn open(&mut self) -> Option<&'p [Stmt]>
         ensures cases { MatchOption result ((self.old.frames ≡ []) × (self.new ≡ self.old)) (λ stmts. Opens self.old.frames self.new.frames (statements_of stmts.now)) }
         ensures room { self.new.room ≡ self.old.room }

@@ -1,4 +1,5 @@
-//! A client under the plain rules: the frames of its block, and all that its later blocks will need, prepared; and private queues.
+//! A client under the plain rules: the frames of its block, and all that its later blocks will need, prepared; and
+//! private queues.
 #![tactic(auto)]
 
 mod client;

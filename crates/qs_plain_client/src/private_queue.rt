@@ -126,8 +126,8 @@ impl PrivateQueue {
     }
 }
 
-/// Where the ticket's private queue waits among these, the last of which is looked at first; past all of them where none is the
-/// ticket's.
+/// Where the ticket's private queue waits among these, the last of which is looked at first; past all of them where
+/// none is the ticket's.
 #[inline(always)]
 pub fn last_place(queues: &[PrivateQueue], ticket: Ticket) -> usize
     ensures place { IsPlace ticket queues.now result }

@@ -1,4 +1,5 @@
--- Runs by the plain rules are isolated: their state is an abstract run, whose journals flow as each handler's queue of queues was served.
+-- Runs by the plain rules are isolated: their state is an abstract run, whose journals flow as each handler's queue of
+-- queues was served.
 use Rattle.std.proofs.Common.{◌≡◌, ◌<◌, ℕ, zero, suc, ◌+◌, ◌&&◌, ◌||◌, Bool, true, false, true≢false, if◌then◌else◌, nat_lt, nat_eq, List, [], ◌∷◌, ◌++◌, map, flat_map, length, get_or, refl, ap, sym, subst, ◌∙◌, arith}
 use Rattle.std.proofs.Math.ListN.{get_or-map as get_or-map-any}
 use Rattle.std.proofs.lemmas.List.{get_or-map, length-map}

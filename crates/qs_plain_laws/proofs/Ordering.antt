@@ -1,6 +1,7 @@
--- The order of reservations is legal after every list of actors, and each of its tickets names a block that its client has begun.
--- The contract of `play` promises it, and what is shown of a ticket is found by it. Over the plain rules alone it is kept that
--- each client has begun as many blocks as it has tickets in the order, by cases on the step and induction on the actors.
+-- The order of reservations is legal after every list of actors, and each of its tickets names a block that its client
+-- has begun. The contract of `play` promises it, and what is shown of a ticket is found by it. Over the plain rules
+-- alone it is kept that each client has begun as many blocks as it has tickets in the order, by cases on the step and
+-- induction on the actors.
 use Rattle.std.proofs.Common.{◌≡◌, ◌<◌, ℕ, zero, suc, ◌==◌, Bool, true, false, if◌then◌else◌, nat_lt, List, [], ◌∷◌, ◌++◌, map, length, get_or, Some, None, refl, ap, sym, subst, ◌∙◌, arith, add-one, get_or-set_same, get_or-set_other}
 use Rattle.std.proofs.Math.ListN.{set}
 use Rattle.std.proofs.Math.Seq.{map-set_same}
@@ -19,7 +20,7 @@ use Rattle.qs_played.proofs.Lists.{apart}
 use Rattle.qs_played.specs.declared.schedule.actor.Actor.{Actor}
 use Rattle.qs_played.proofs.Orders.{counts_after, legal-more, counts-more, counts_grow}
 use Rattle.qs_played.specs.declared.schedule.actor.Actor.TheVariants as actor
-use Rattle.qs_plain_laws.specs.Plain.{Plain, Client, Handler, Private, Stage, out, within, waiting, begin, begun_blocks, client_at, handler_at, client_step, goes_on, separate, item_step, queue_step, after_reply, reply_to, step, fresh_client, no_client}
+use Rattle.qs_plain_laws.specs.Plain.{Plain, Client, Handler, Private, StageOfClient, out, within, waiting, begin, begun_blocks, client_at, handler_at, client_step, moves_on, separate, item_step, queue_step, after_reply, reply_to, step, fresh_client, no_client}
 use Rattle.qs_plain_laws.specs.PlainSchedule.{plays}
 use Rattle.qs_played.specs.Schedule.{or_stay}
 use Rattle.qs_plain_laws.specs.declared.item.QueueItem.{QueueItem}
@@ -44,7 +45,7 @@ get_or-begun (it ∷ cs) (suc c) = get_or-begun cs c
 heard : (r : Request) (v : Option ℤ) (it : Client) → begun_blocks (after_reply it r v) ≡ begun_blocks it
 heard r v it = by_stage it.stage
   where
-    by_stage : (g : Stage) → begun_blocks (reply_to it r v g) ≡ begun_blocks it
+    by_stage : (g : StageOfClient) → begun_blocks (reply_to it r v g) ≡ begun_blocks it
     by_stage (out l) = refl
     by_stage (within rest) = refl
     by_stage (waiting next) = refl
@@ -64,10 +65,10 @@ module _ (p : ProgramShape) (s : Plain) (o : IsOrdered p s) where
     abbrev it : Client
     it = client_at s c
 
-    going : (rest : Interaction) → IsOrdered p (goes_on p s c it rest)
-    going (Done l) = same_order (goes_on p s c it (Done l)) refl (one_set c _ refl)
-    going (Call r next) = same_order (goes_on p s c it (Call r next)) refl (one_set c _ refl)
-    going (Query r next) = same_order (goes_on p s c it (Query r next)) refl (one_set c _ refl)
+    going : (rest : Interaction) → IsOrdered p (moves_on p s c it rest)
+    going (Done l) = same_order (moves_on p s c it (Done l)) refl (one_set c _ refl)
+    going (Call r next) = same_order (moves_on p s c it (Call r next)) refl (one_set c _ refl)
+    going (Query r next) = same_order (moves_on p s c it (Query r next)) refl (one_set c _ refl)
 
     longer : (l : List ℤ) → suc (begun_blocks it) ≡ length (it.entries ++ l ∷ [])
     longer l = sym (length-append it.entries (l ∷ []) ∙ add-one (begun_blocks it))
@@ -83,7 +84,7 @@ module _ (p : ProgramShape) (s : Plain) (o : IsOrdered p s) where
           ∙ ap (λ xs. get_or xs k 0) (ap (set (map begun_blocks s.clients) c) (longer l) ∙ sym (map-set begun_blocks s.clients c _));
     }
 
-    staged : (g : Stage) → IsOrdered p (or_stay s (client_step p s c it g))
+    staged : (g : StageOfClient) → IsOrdered p (or_stay s (client_step p s c it g))
     staged (out l) = starting l (nat_lt (begun_blocks it) (blocks_of p c)) refl
     staged (within rest) = going rest
     staged (waiting next) = o

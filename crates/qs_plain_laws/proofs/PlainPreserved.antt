@@ -1,7 +1,7 @@
 -- Each step of the plain rules keeps that their state, read as functions of numbers, goes on with a sound served run
--- (`RunInvariant`). Isolation and the counts under the plain rules are read off this. A list with one place changed is read as a
--- function changed at one place, so each step is one for which `Simulation` has a lemma; then the proof goes by induction on the
--- list of actors.
+-- (`RunInvariant`). Isolation and the counts under the plain rules are read off this. A list with one place changed is
+-- read as a function changed at one place, so each step is one for which `Simulation` has a lemma; then the proof goes
+-- by induction on the list of actors.
 use Rattle.std.proofs.Common.{◌≡◌, ◌≢◌, ◌<◌, ◌≤◌, ℕ, zero, suc, ◌+◌, ◌-◌, ◌==◌, ◌||◌, Bool, true, false, true≢false, if◌then◌else◌, nat_lt, List, [], ◌∷◌, ◌++◌, map, length, get_or, Option, Some, None, ℤ, refl, ap, sym, subst, ◌∙◌, arith, ⊎_elim, get_or-set_same, get_or-set_other, length-set}
 use Rattle.std.proofs.Math.ListN.{set}
 use Rattle.std.proofs.Math.Path.{fun_ext}
@@ -36,7 +36,7 @@ use Rattle.qs_played.specs.declared.schedule.actor.Actor.{Actor}
 use Rattle.qs_played.proofs.Lists.{apart}
 use Rattle.qs_played.proofs.FunctionUpdate.{put_at, put_at_here, put_at_there}
 use Rattle.qs_played.specs.declared.schedule.actor.Actor.TheVariants as actor
-use Rattle.qs_plain_laws.specs.Plain.{Plain, Client, with_query_counted, Handler, Private, Stage, out, within, waiting, begin, begun_blocks, client_at, handler_at, client_step, goes_on, item_step, queue_step, at_handler, at_each, log_in, enter, serves, stands, with_trace_event, begins, after_reply, reply_to, step, fresh_client, fresh_handler, no_client, no_handler, calls, asks, ends, runs_command, runs_query, leaves_queue}
+use Rattle.qs_plain_laws.specs.Plain.{Plain, Client, with_query_counted, Handler, Private, StageOfClient, out, within, waiting, begin, begun_blocks, client_at, handler_at, client_step, moves_on, item_step, queue_step, at_handler, at_each, log_in, enter, serves, stands, with_trace_event, begins, after_reply, reply_to, step, fresh_client, fresh_handler, no_client, no_handler, calls, asks, ends, runs_command, runs_query, leaves_queue}
 use Rattle.qs_plain_laws.specs.PlainSchedule.{plays, entry_at, trace_at}
 use Rattle.qs_played.specs.Schedule.{or_stay}
 use Rattle.qs_plain_laws.specs.declared.item.QueueItem.{QueueItem}
@@ -399,12 +399,12 @@ module _ (p : ProgramShape) (sound : IsSound p) (s : Plain) (k : RunInvariant p 
         standing : ℕ → PlainStage → ClientView
         standing n x = record { begun = n; stage = x }
 
-    goes : (rest : Interaction) → me.stage ≡ within rest → RunInvariant p sound (goes_on p s c me rest)
+    goes : (rest : Interaction) → me.stage ≡ within rest → RunInvariant p sound (moves_on p s c me rest)
     goes (Done l) e = ended l e
     goes (Call r next) e = called r next e
     goes (Query r next) e = asked r next e
 
-    client_kept : (g : Stage) → me.stage ≡ g → RunInvariant p sound (or_stay s (client_step p s c me g))
+    client_kept : (g : StageOfClient) → me.stage ≡ g → RunInvariant p sound (or_stay s (client_step p s c me g))
     client_kept (out l) e = by_test (nat_lt (begun_blocks me) (blocks_of p c)) refl
       where
         by_test : (b : Bool) → nat_lt (begun_blocks me) (blocks_of p c) ≡ b → RunInvariant p sound (or_stay s (if b then Some (plain.separate p s c me l) else None))

@@ -1,6 +1,7 @@
--- Under the plain rules each block has sent one synchronisation for each query of its trace, and one more while its client waits
--- for a reply; their sum is what the run shows. The law `plain_syncs_are_counted` is this, and `play` promises it. A legal order
--- has each client's tickets once each, so the clients' counts are summed along the order, by cases on how a client stands.
+-- Under the plain rules each block has sent one synchronisation for each query of its trace, and one more while its
+-- client waits for a reply; their sum is what the run shows. The law `plain_syncs_are_counted` is this, and `play`
+-- promises it. A legal order has each client's tickets once each, so the clients' counts are summed along the order, by
+-- cases on how a client stands.
 use Rattle.std.proofs.Common.{◌≡◌, ◌<◌, ◌≤◌, ℕ, zero, suc, ◌+◌, ◌-◌, ◌==◌, ◌&&◌, nat_lt, nat_eq, Bool, true, false, if◌then◌else◌, List, [], ◌∷◌, length, get_or, map, refl, sym, ap, ◌∙◌, subst, inl, inr, arith}
 use Rattle.std.specs.Prelude.{sum_by}
 use Rattle.std.specs.List.{AllByRecursion, range_with_len}

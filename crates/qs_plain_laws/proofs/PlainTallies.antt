@@ -1,5 +1,6 @@
--- The counts that a client keeps under the plain rules say, for each of its blocks and each object, the queries of the block's trace, and one
--- more for the query that the client waits for: so it is before the first block, and each thing that happens to a client keeps it so.
+-- The counts that a client keeps under the plain rules say, for each of its blocks and each object, the queries of the
+-- block's trace, and one more for the query that the client waits for: so it is before the first block, and each thing
+-- that happens to a client keeps it so.
 use Rattle.std.proofs.Common.{◌≡◌, ◌≢◌, ◌<◌, ℕ, zero, suc, ◌+◌, ◌-◌, ◌==◌, Bool, true, false, if◌then◌else◌, List, [], ◌∷◌, ◌++◌, map, length, get_or, set, Option, None, ℤ, refl, sym, ap, ◌∙◌, subst, ⊎_elim, arith, get_or-set_same, get_or-set_other, length-set}
 use Rattle.std.specs.Prelude.{filter}
 use Rattle.std.specs.List.{IsDistinct}
@@ -21,7 +22,7 @@ use Rattle.qs_sync_counts.specs.declared.sync_counts.SyncCount.{SyncCount}
 use Rattle.qs_syncset.proofs.SyncTrees.{command_asks_none, query_counts}
 use Rattle.qs_played.specs.Played.{ticket}
 use Rattle.qs_played.proofs.SyncTallies.{none_for, objects_none, objects_stay, one_more_for}
-use Rattle.qs_plain_laws.specs.Plain.{Client, Stage, begins, begun_blocks, with_query_counted, stands, with_trace_event, waiting, within}
+use Rattle.qs_plain_laws.specs.Plain.{Client, StageOfClient, begins, begun_blocks, with_query_counted, stands, with_trace_event, waiting, within}
 use Rattle.qs_plain_laws.proofs.RunViews.{PlainStage, Stands, Runs, Awaits}
 
 -- the query that a client waits for, by its object
@@ -88,7 +89,7 @@ nothing h = 0
 
 module _ (p : ProgramShape) (c : ℕ) (it : Client) (extra : ℕ → ℕ) (is : Tallied p c it extra) where
   -- a client that waits for nothing, wherever it stands
-  pub tallied_stand : (g : Stage) → ((h : ℕ) → extra h ≡ 0) → Tallied p c (stands it g) nothing
+  pub tallied_stand : (g : StageOfClient) → ((h : ℕ) → extra h ≡ 0) → Tallied p c (stands it g) nothing
   tallied_stand g none = record {
     long = is.long;
     objects = is.objects;

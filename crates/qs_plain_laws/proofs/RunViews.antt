@@ -12,7 +12,7 @@ use Rattle.qs_meaning.specs.Solo.{put, event, value_of}
 use Rattle.qs_program.specs.Values.{Locals}
 use Rattle.qs_played.specs.Played.{ticket}
 use Rattle.qs_played.proofs.FunctionUpdate.{put_at}
-use Rattle.qs_plain_laws.specs.Plain.{Private, Handler, Stage, out, within, waiting, enter, log_in, serves}
+use Rattle.qs_plain_laws.specs.Plain.{Private, Handler, StageOfClient, out, within, waiting, enter, log_in, serves}
 use Rattle.qs_plain_laws.specs.declared.item.QueueItem.{QueueItem}
 use Rattle.qs_plain_laws.specs.declared.item.QueueItem.TheVariants as item
 
@@ -22,7 +22,7 @@ pub data PlainStage : Type 0 where
   Runs : (rest : Interaction) → PlainStage
   Awaits : (request : Request) → (next : ℤ → Interaction) → PlainStage
 
-abbrev pub stage_of : PlainStage → Stage
+abbrev pub stage_of : PlainStage → StageOfClient
 stage_of (Stands l) = out l
 stage_of (Runs rest) = within rest
 stage_of (Awaits r next) = waiting next

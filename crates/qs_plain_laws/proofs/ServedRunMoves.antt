@@ -1,7 +1,7 @@
--- Each move of a served run keeps it sound: a command is logged, a query is answered, a command that waits is run, a ticket
--- leaves, or a new one comes. Each step of the plain rules is shown to be such a move (`Simulation`). A move changes one ticket's
--- page or one object's service, or adds a ticket; all other pages and services stay, and what is known of the service has its own
--- lemmas.
+-- Each move of a served run keeps it sound: a command is logged, a query is answered, a command that waits is run, a
+-- ticket leaves, or a new one comes. Each step of the plain rules is shown to be such a move (`Simulation`). A move
+-- changes one ticket's page or one object's service, or adds a ticket; all other pages and services stay, and what is
+-- known of the service has its own lemmas.
 use Rattle.std.proofs.Common.{◌≡◌, ℕ, zero, suc, ◌<◌, ◌≤◌, arith, Bool, true, false, if◌then◌else◌, ◌==◌, List, [], ◌∷◌, ◌++◌, refl, sym, ap, ◌∙◌, subst, ⊎_elim, ℤ}
 use Rattle.std.specs.List.{AllByRecursion}
 use Rattle.qs_objects.specs.Journals.{answer}

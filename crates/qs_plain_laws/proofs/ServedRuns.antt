@@ -1,6 +1,7 @@
--- This file defines a served run: the reservations in their order, a page for each, how far each object was served, the moves of
--- such a run, and when it is sound (`IsServedRun`). The proof of isolation under the plain rules keeps one beside the machine's
--- state. A journal is said by tickets: first the parts of those that are over, and then what was run of the first in the queue.
+-- This file defines a served run: the reservations in their order, a page for each, how far each object was served, the
+-- moves of such a run, and when it is sound (`IsServedRun`). The proof of isolation under the plain rules keeps one
+-- beside the machine's state. A journal is said by tickets: first the parts of those that are over, and then what was
+-- run of the first in the queue.
 use Rattle.std.proofs.Common.{◌≡◌, ℕ, suc, ◌≤◌, ℤ, if◌then◌else◌, List, [], ◌∷◌, ◌++◌, map, filter, flat_map}
 use Rattle.std.specs.List.{AllByRecursion}
 use Rattle.qs_objects.specs.Act.{State}
@@ -21,8 +22,8 @@ use Rattle.qs_meaning.specs.BlockRecords.{BlockRecord, IsBlockRecord, Begins}
 use Rattle.qs_played.proofs.Orders.{counts_after}
 use Rattle.qs_played.proofs.FunctionUpdate.{put_at}
 
--- An object's service: the tickets whose requests were all run; those that are still to be served, in order; what was run of the first
--- of them; for each the commands that wait; the journal, and the state.
+-- An object's service: the tickets whose requests were all run; those that are still to be served, in order; what was
+-- run of the first of them; for each the commands that wait; the journal, and the state.
 pub record Service : Type 0 where
   pub past : List Ticket
   pub queue : List Ticket

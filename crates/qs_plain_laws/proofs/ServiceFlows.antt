@@ -1,7 +1,7 @@
--- The journal of an object grows along the order of reservations: each ticket adds what its trace says of the object, but for the
--- commands that still lie in its private queue. Isolation under the plain rules (`Isolating`) needs this of each object of a
--- sound served run. The proof is an induction along the order, over tickets that are over, that are served, or that don't reserve
--- the object.
+-- The journal of an object grows along the order of reservations: each ticket adds what its trace says of the object,
+-- but for the commands that still lie in its private queue. Isolation under the plain rules (`Isolating`) needs this of
+-- each object of a sound served run. The proof is an induction along the order, over tickets that are over, that are
+-- served, or that don't reserve the object.
 use Rattle.std.proofs.Common.{◌≡◌, ◌≢◌, ℕ, suc, ◌==◌, Bool, true, false, true≢false, if◌then◌else◌, List, [], ◌∷◌, ◌++◌, map, filter, flat_map, refl, sym, ap, ap₂, ◌∙◌, subst, inl, inr, append_assoc, append-nil}
 use Rattle.std.specs.List.{AllByRecursion}
 use Rattle.std.proofs.lemmas.List.{map-append}

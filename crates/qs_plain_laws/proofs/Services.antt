@@ -1,6 +1,6 @@
--- Each move of a served run keeps what is known of an object's service (`IsService`): its tickets, what waits for each, its
--- journal and its state. The lemmas on whole served runs (`ServedRunMoves`) stand on this. Only a ticket that isn't over gets a
--- further event, so the parts of those that are over stay; the queue is gone through by induction.
+-- Each move of a served run keeps what is known of an object's service (`IsService`): its tickets, what waits for each,
+-- its journal and its state. The lemmas on whole served runs (`ServedRunMoves`) stand on this. Only a ticket that isn't
+-- over gets a further event, so the parts of those that are over stay; the queue is gone through by induction.
 use Rattle.std.proofs.Common.{◌≡◌, ◌≢◌, ℕ, Bool, true, false, if◌then◌else◌, List, [], ◌∷◌, ◌++◌, map, filter, flat_map, refl, sym, ap, ap₂, ◌∙◌, subst, ⊎_elim, append_assoc, append-nil, true≢false}
 use Rattle.std.specs.List.{AllByRecursion}
 use Rattle.std.proofs.lemmas.List.{map-append}

@@ -1,7 +1,7 @@
--- Each step of the plain rules, over functions of numbers and tickets, is a move of the served run that is kept beside it, or
--- none. The same steps over the machine's lists (`PlainPreserved`) are led back to this. A private queue is the commands that
--- wait and then at most one item more, an end mark or the query that its client waits for, so its first item tells which move is
--- made.
+-- Each step of the plain rules, over functions of numbers and tickets, is a move of the served run that is kept beside
+-- it, or none. The same steps over the machine's lists (`PlainPreserved`) are led back to this. A private queue is the
+-- commands that wait and then at most one item more, an end mark or the query that its client waits for, so its first
+-- item tells which move is made.
 use Rattle.std.proofs.Common.{◌≡◌, ◌≢◌, ℕ, zero, suc, ◌-◌, ◌<◌, ◌≤◌, arith, Bool, true, false, true≢false, if◌then◌else◌, ◌==◌, List, [], ◌∷◌, ◌++◌, map, length, refl, sym, ap, ap₂, ◌∙◌, subst, ⊎_elim, append-nil, Option, ℤ}
 use Rattle.std.specs.List.{AllByRecursion}
 use Rattle.std.proofs.lemmas.List.{map-append}

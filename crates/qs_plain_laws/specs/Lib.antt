@@ -1,6 +1,8 @@
+-- What an auditor reads: the promises and the calls of the surface are said with these.
 pub mod PlainIsolation
-pub mod IsolationExamples
 pub mod Plain
-pub mod PlayExamples
 pub mod PlainSchedule
 pub mod PlainSyncSums
+-- What crates promise one another, what proofs use, and worked examples.
+pub mod IsolationExamples
+pub mod PlayExamples

@@ -1,4 +1,5 @@
--- The plain rules: for each handler a queue of queues, in which each reservation has a private queue of single requests.
+-- The plain rules: for each handler a queue of queues, in which each reservation has a private queue of single
+-- requests.
 use Rattle.std.specs.Prelude.{ℕ, ◌-◌, nat_lt, if◌then◌else◌, List, [], ◌∷◌, ◌++◌, map, length, slice_index_or, slice_set, Option, Some, None, ℤ}
 use Rattle.std.specs.List.{range_with_len}
 use Rattle.qs_objects.specs.Journals.{HeldState, run_one}
@@ -25,14 +26,15 @@ pub record Private : Type 0 where
   pub items : List QueueItem
 
 -- a client stands between blocks with its variables, in a block with the rest of it, or waits for the reply of a query
-pub data Stage : Type 0 where
-  out : (locals : Locals) → Stage
-  within : (rest : Interaction) → Stage
-  waiting : (next : ℤ → Interaction) → Stage
+pub data StageOfClient : Type 0 where
+  out : (locals : Locals) → StageOfClient
+  within : (rest : Interaction) → StageOfClient
+  waiting : (next : ℤ → Interaction) → StageOfClient
 
--- its blocks that were begun: the variables at entry, the traces, and the queries that were asked, for each object of the block's list
+-- its blocks that were begun: the variables at entry, the traces, and the queries that were asked, for each object of
+-- the block's list
 pub record Client : Type 0 where
-  pub stage : Stage
+  pub stage : StageOfClient
   pub entries : List Locals
   pub traces : List (List Event)
   pub counts : List (List SyncCount)
@@ -85,7 +87,7 @@ abbrev pub at_each : (Handler → Handler) → List Handler → List ℕ → Lis
 at_each f hs [] = hs
 at_each f hs (h ∷ rest) = at_each f (at_handler f hs h) rest
 
-abbrev pub stands : Client → Stage → Client
+abbrev pub stands : Client → StageOfClient → Client
 stands it stage = record { stage = stage; entries = it.entries; traces = it.traces; counts = it.counts }
 
 -- an event at the end of the k-th trace
@@ -136,14 +138,14 @@ module _ (p : ProgramShape) where
     handlers = at_each (log_in (current c it) item.EndMark) s.handlers (text_of p (current c it)).reserved;
   }
 
-  abbrev pub goes_on : Plain → ℕ → Client → Interaction → Plain
-  goes_on s c it (Done l) = ends s c it l
-  goes_on s c it (Call r next) = calls s c it r next
-  goes_on s c it (Query r next) = asks s c it r next
+  abbrev pub moves_on : Plain → ℕ → Client → Interaction → Plain
+  moves_on s c it (Done l) = ends s c it l
+  moves_on s c it (Call r next) = calls s c it r next
+  moves_on s c it (Query r next) = asks s c it r next
 
-  abbrev pub client_step : Plain → ℕ → Client → Stage → Option Plain
+  abbrev pub client_step : Plain → ℕ → Client → StageOfClient → Option Plain
   client_step s c it (out l) = if nat_lt (begun_blocks it) (blocks_of p c) then Some (separate s c it l) else None
-  client_step s c it (within rest) = Some (goes_on s c it rest)
+  client_step s c it (within rest) = Some (moves_on s c it rest)
   client_step s c it (waiting next) = None
 
 -- the first item of the first private queue: a request is run, an end mark takes the private queue away
@@ -156,10 +158,11 @@ runs_command s h it q qs items r = record s {
 }
 
 -- the reply goes to the client that waits for it, which no longer waits; one that does not wait gets nothing
-abbrev pub reply_to : Client → Request → Option ℤ → Stage → Client
+abbrev pub reply_to : Client → Request → Option ℤ → StageOfClient → Client
 reply_to it r v (out l) = it
 reply_to it r v (within rest) = it
-reply_to it r v (waiting next) = stands (with_trace_event it (begun_blocks it - 1) (event r v)) (within (next (value_of v)))
+reply_to it r v (waiting next) =
+    stands (with_trace_event it (begun_blocks it - 1) (event r v)) (within (next (value_of v)))
 
 abbrev pub after_reply : Client → Request → Option ℤ → Client
 after_reply it r v = reply_to it r v it.stage
@@ -191,7 +194,8 @@ handler_step s h it = queue_step s h it it.queues
 
 -- an actor's one step, where there is such an actor and it has one
 abbrev pub step : ProgramShape → Plain → Actor → Option Plain
-step p s (actor.Client c) = if nat_lt c (length s.clients) then client_step p s c (client_at s c) (client_at s c).stage else None
+step p s (actor.Client c) =
+    if nat_lt c (length s.clients) then client_step p s c (client_at s c) (client_at s c).stage else None
 step p s (actor.Handler h) = handler_step s h (handler_at s.handlers h)
 
 -- before its first block, with all variables 0
@@ -200,7 +204,8 @@ fresh_client c = record { stage = out zeros; entries = []; traces = []; counts =
 
 -- it serves nobody, and its object is as declared
 abbrev pub fresh_handler : ProgramShape → ℕ → Handler
-fresh_handler p h = record { queues = []; held = record { object = declared_states p h; journal = []; room = room_of p h } }
+fresh_handler p h =
+    record { queues = []; held = record { object = declared_states p h; journal = []; room = room_of p h } }
 
 -- nothing has run
 abbrev pub begin : ProgramShape → Plain

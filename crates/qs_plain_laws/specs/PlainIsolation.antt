@@ -28,4 +28,6 @@ commands_in_queue s h t = flat_map (commands_of t) (handler_at s.handlers h).que
 
 -- for every program and every list of actors
 abbrev pub PlainRunsAreIsolated : Type 0
-PlainRunsAreIsolated = (p : ProgramShape) → IsSound p → (actors : List Actor) → IsIsolated p (played_of p (plays p actors (begin p))) (commands_in_queue (plays p actors (begin p)))
+PlainRunsAreIsolated =
+    (p : ProgramShape) → IsSound p → (actors : List Actor)
+    → IsIsolated p (played_of p (plays p actors (begin p))) (commands_in_queue (plays p actors (begin p)))

@@ -9,7 +9,7 @@ use Rattle.qs_played.specs.declared.schedule.actor.Actor.{Actor}
 use Rattle.qs_played.specs.declared.fault.PlayFault.{PlayFault}
 use Rattle.qs_played.specs.Played.{Played}
 use Rattle.qs_played.specs.Schedule.{schedule, plays_by, queries_in, IsPlayedAs}
-use Rattle.qs_plain_laws.specs.Plain.{Plain, Client, Handler, Stage, out, within, waiting, begin, step, begun_blocks, client_at}
+use Rattle.qs_plain_laws.specs.Plain.{Plain, Client, Handler, StageOfClient, out, within, waiting, begin, step, begun_blocks, client_at}
 
 -- one step of each actor of a list, in this order
 abbrev pub plays : ProgramShape → List Actor → Plain → Plain
@@ -19,7 +19,7 @@ plays p actors s = plays_by (step p) actors s
 unfoldable pub scheduled : ProgramShape → List Actor → ℕ → Plain
 scheduled p picks rounds = plays p (schedule p picks rounds) (begin p)
 
-abbrev pub is_out : Stage → Bool
+abbrev pub is_out : StageOfClient → Bool
 is_out (out l) = true
 is_out (within rest) = false
 is_out (waiting next) = false
@@ -40,7 +40,7 @@ all_idle (h ∷ rest) = nat_eq (length h.queues) 0 && all_idle rest
 abbrev pub is_finished : ProgramShape → Plain → Bool
 is_finished p s = all_done p 0 s.clients && all_idle s.handlers
 
-abbrev pub waits : Stage → ℕ
+abbrev pub waits : StageOfClient → ℕ
 waits (out l) = 0
 waits (within rest) = 0
 waits (waiting next) = 1
@@ -81,4 +81,5 @@ played_of p s = record {
 
 -- the result of playing
 abbrev pub IsPlayed : ProgramShape → List Actor → ℕ → Result Played PlayFault → Type 0
-IsPlayed p picks rounds result = IsPlayedAs (λ played. played ≡ played_of p (scheduled p picks rounds)) p picks rounds result
+IsPlayed p picks rounds result =
+    IsPlayedAs (λ played. played ≡ played_of p (scheduled p picks rounds)) p picks rounds result

@@ -18,8 +18,8 @@ use Rattle.qs_plain_laws.specs.Plain as rules
 abbrev pub waiting : rules.Plain → Ticket → ℕ
 waiting s t = if suc t.index == begun_blocks (client_at s t.client) then waits (client_at s t.client).stage else 0
 
--- The i-th reservation under the plain rules: it has asked for each query of its trace so far once, and for one more exactly while its
--- client waits in it.
+-- The i-th reservation under the plain rules: it has asked for each query of its trace so far once, and for one more
+-- exactly while its client waits in it.
 pub record IsAsked (p : ProgramShape) (s : rules.Plain) (r : Played) (i : ℕ) : Type 0 where
   pub listed : AreListed p r i
   pub each : AreSent (ended_of r i) (syncs_at r i) (λ h. queries h (trace_of r i))

@@ -14,7 +14,8 @@ abbrev pub shown_by_schedule : ProgramShape → List Actor → ℕ → Played
 shown_by_schedule p picks rounds = played_of p (scheduled p picks rounds)
 
 -- after a schedule a program has these tickets, replies, states, syncs, and this end
-pub record Plays (p : ProgramShape) (picks : List Actor) (rounds : ℕ) (order : List Ticket) (ended : List Bool) (replies : List (List (Option ℤ)))
+pub record Plays (p : ProgramShape) (picks : List Actor) (rounds : ℕ) (order : List Ticket) (ended : List Bool)
+    (replies : List (List (Option ℤ)))
     (states : List State) (syncs : ℕ) (finished : Bool) : Type 0 where
   pub order_is : (shown_by_schedule p picks rounds).order ≡ order
   pub ended_is : (shown_by_schedule p picks rounds).ended ≡ ended
@@ -31,15 +32,19 @@ pub record PlayExamples : Type 0 where
   pub replied : Plays deposit_of_5 [] 3 only (false ∷ []) ((None ∷ some 105 ∷ []) ∷ []) (holding 105 ∷ []) 1 false
   pub done : Plays deposit_of_5 [] 4 only (true ∷ []) ((None ∷ some 105 ∷ []) ∷ []) (holding 105 ∷ []) 1 true
   -- picks alone
-  pub picked : Plays deposit_of_5 (actor.Client 0 ∷ actor.Client 0 ∷ actor.Handler 0 ∷ []) 0 only (false ∷ []) ((None ∷ []) ∷ []) (holding 105 ∷ []) 0 false
+  pub picked : Plays deposit_of_5 (actor.Client 0 ∷ actor.Client 0 ∷ actor.Handler 0 ∷ []) 0 only (false
+      ∷ []) ((None ∷ []) ∷ []) (holding 105 ∷ []) 0 false
   -- the first pick decides who comes first
   pub greater_first :
-      Plays withdrawals [] 9 (ticket 0 0 ∷ ticket 1 0 ∷ []) (true ∷ true ∷ []) ((None ∷ some 100 ∷ []) ∷ (None ∷ some 20 ∷ []) ∷ [])
+      Plays withdrawals [] 9 (ticket 0 0 ∷ ticket 1 0 ∷ []) (true ∷ true ∷ []) ((None ∷ some 100 ∷ [])
+      ∷ (None ∷ some 20 ∷ []) ∷ [])
       (left_with (account (pos 20)) 1 ∷ []) 2 true
   pub smaller_first :
-      Plays withdrawals (actor.Client 1 ∷ []) 9 (ticket 1 0 ∷ ticket 0 0 ∷ []) (true ∷ true ∷ []) ((None ∷ some 20 ∷ []) ∷ (None ∷ some 20 ∷ []) ∷ [])
+      Plays withdrawals (actor.Client 1 ∷ []) 9 (ticket 1 0 ∷ ticket 0 0 ∷ []) (true ∷ true
+      ∷ []) ((None ∷ some 20 ∷ []) ∷ (None ∷ some 20 ∷ []) ∷ [])
       (left_with (account (pos 20)) 1 ∷ []) 2 true
-  pub full : Plays full_buffer [] 9 only (true ∷ []) ((None ∷ None ∷ some 1 ∷ None ∷ some 0 ∷ some 2 ∷ []) ∷ []) (left_with (buffer 1 []) 2 ∷ []) 3 true
+  pub full : Plays full_buffer [] 9 only (true ∷ []) ((None ∷ None ∷ some 1 ∷ None ∷ some 0 ∷ some 2 ∷ [])
+      ∷ []) (left_with (buffer 1 []) 2 ∷ []) 3 true
   pub left : Plays left_at_once [] 6 only (true ∷ []) ((some 100 ∷ some 100 ∷ []) ∷ []) (holding 100 ∷ []) 2 true
   -- a reservation of two objects is one step
   pub both_at_once :

@@ -1,6 +1,6 @@
--- Steps of the plain rules, one after another, that lead from a state to one with a property; and what a client in its block, alone, has
--- before it. The proof that each complete order is reached is put together from these: a step of the client, or of a handler, changes one
--- client, one queue or both, and keeps all others as they are.
+-- Steps of the plain rules, one after another, that lead from a state to one with a property; and what a client in its
+-- block, alone, has before it. The proof that each complete order is reached is put together from these: a step of the
+-- client, or of a handler, changes one client, one queue or both, and keeps all others as they are.
 use Rattle.std.proofs.Common.{◌≡◌, ◌<◌, ◌∙◌, ◌==◌, ℕ, suc, true, if◌then◌else◌, false, List, [], ◌∷◌, ◌++◌, Some, refl, sym, ap, subst, length, get_or, get_or-set_same, get_or-set_other, length-set, ⊎_elim, arith}
 use Rattle.std.proofs.Math.ListN.{set}
 use Rattle.qs_objects.specs.Journals.{HeldState, run_one}
@@ -14,7 +14,7 @@ use Rattle.qs_meaning.proofs.TreeWalks.{put_here, put_there}
 use Rattle.qs_played.specs.Schedule.{all_named, names_actor, or_stay}
 use Rattle.qs_played.specs.declared.schedule.actor.Actor.{Actor}
 use Rattle.qs_played.proofs.Lists.{apart}
-use Rattle.qs_plain_laws.specs.Plain.{Client, Handler, Plain, Private, Stage, begun_blocks, client_at, handler_at, no_client, no_handler, out, step, waiting, within}
+use Rattle.qs_plain_laws.specs.Plain.{Client, Handler, Plain, Private, StageOfClient, begun_blocks, client_at, handler_at, no_client, no_handler, out, step, waiting, within}
 use Rattle.qs_plain_laws.specs.PlainSchedule.{plays}
 use Rattle.qs_plain_orders.specs.Quiet.{IsOut}
 
@@ -48,9 +48,9 @@ onward p s Q R (xs, x, q) next =
     let rest = next (plays p xs s) q in
     (xs ++ rest.0, named_append p xs rest.0 x rest.1, subst R (sym (plays_append p xs rest.0 s)) rest.2)
 
--- A client stands in its block at a stage, and all others are between two blocks: the order so far, how many blocks each client has begun,
--- and what each handler has in its queue.
-pub record IsAlone (p : ProgramShape) (so_far : List Ticket) (blocks : ℕ → ℕ) (t : Ticket) (queue : ℕ → List Private) (at : Stage) (s : Plain) : Type 0 where
+-- A client stands in its block at a stage, and all others are between two blocks: the order so far, how many blocks
+-- each client has begun, and what each handler has in its queue.
+pub record IsAlone (p : ProgramShape) (so_far : List Ticket) (blocks : ℕ → ℕ) (t : Ticket) (queue : ℕ → List Private) (at : StageOfClient) (s : Plain) : Type 0 where
   pub order : s.order ≡ so_far
   pub clients : length s.clients ≡ length p.clients
   pub handlers : length s.handlers ≡ length p.objects
@@ -78,7 +78,7 @@ turns_left t (Call r next) hs = suc (turns_left t next (put hs r.object (run_one
 turns_left t (Query r next) hs =
     let o = run_one (hs r.object) t r in suc (turns_left t (next (value_of o.1)) (put hs r.object o.0))
 
-abbrev pub left_at : Ticket → Stage → (ℕ → HeldState) → ℕ
+abbrev pub left_at : Ticket → StageOfClient → (ℕ → HeldState) → ℕ
 left_at t (out l) hs = 0
 left_at t (waiting next) hs = 0
 left_at t (within rest) hs = turns_left t rest hs
@@ -98,7 +98,7 @@ queue_set hs h x queue inside before g = ⊎_elim
     (num_cases h g)
 
 -- the same queues by another name
-pub requeued : (p : ProgramShape) (order : List Ticket) (begun : ℕ → ℕ) (t : Ticket) (queue other : ℕ → List Private) (stage : Stage) (s : Plain)
+pub requeued : (p : ProgramShape) (order : List Ticket) (begun : ℕ → ℕ) (t : Ticket) (queue other : ℕ → List Private) (stage : StageOfClient) (s : Plain)
     → ((g : ℕ) → queue g ≡ other g) → IsAlone p order begun t queue stage s → IsAlone p order begun t other stage s
 requeued p order begun t queue other stage s e now = record {
   order = now.order;
@@ -111,7 +111,7 @@ requeued p order begun t queue other stage s e now = record {
 }
 
 -- the client has moved, and its handlers may have
-pub client_moved : (p : ProgramShape) (order : List Ticket) (begun : ℕ → ℕ) (t : Ticket) (queue later : ℕ → List Private) (stage : Stage) (s : Plain)
+pub client_moved : (p : ProgramShape) (order : List Ticket) (begun : ℕ → ℕ) (t : Ticket) (queue later : ℕ → List Private) (stage : StageOfClient) (s : Plain)
     (it : Client) (hs : List Handler) → t.client < length p.clients → IsAlone p order begun t queue stage s
     → it.entries ≡ (client_at s t.client).entries → length hs ≡ length p.objects → ((h : ℕ) → (handler_at hs h).queues ≡ later h)
     → IsAlone p order begun t later it.stage (record { order = s.order; clients = set s.clients t.client it; handlers = hs })
@@ -136,7 +136,7 @@ client_moved p order begun t queue later stage s it hs less now entries long que
     there c other = get_or-set_other s.clients t.client c it no_client (apart t.client c other)
 
 -- a handler has moved
-pub handler_moved : (p : ProgramShape) (order : List Ticket) (begun : ℕ → ℕ) (t : Ticket) (queue : ℕ → List Private) (stage : Stage) (s : Plain)
+pub handler_moved : (p : ProgramShape) (order : List Ticket) (begun : ℕ → ℕ) (t : Ticket) (queue : ℕ → List Private) (stage : StageOfClient) (s : Plain)
     (h : ℕ) (x : Handler) → h < length p.objects → IsAlone p order begun t queue stage s
     → IsAlone p order begun t (put queue h x.queues) stage (record s { handlers = set s.handlers h x })
 handler_moved p order begun t queue stage s h x less now = record {

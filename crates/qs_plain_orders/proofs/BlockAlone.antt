@@ -1,7 +1,8 @@
--- A client that has its block alone under the plain rules is never stuck: each request that it makes is served at once by the handler,
--- which has nobody else in its queue, and its end marks are taken away. So each turn, a step of the client and then one of each handler of
--- the block's list, leads on in the block's interaction tree, or to where nobody is in a block. How many turns are left is known from the
--- tree and from what the handlers hold, and falls with each turn.
+-- A client that has its block alone under the plain rules is never stuck: each request that it makes is served at once
+-- by the handler, which has nobody else in its queue, and its end marks are taken away. So each turn, a step of the
+-- client and then one of each handler of the block's list, leads on in the block's interaction tree, or to where nobody
+-- is in a block. How many turns are left is known from the tree and from what the handlers hold, and falls with each
+-- turn.
 use Rattle.std.proofs.Common.{◌≡◌, ◌<◌, ◌≤◌, ◌∙◌, ◌==◌, ◌||◌, ◌⊎◌, ℕ, zero, suc, Bool, None, Some, get_or-set_same, get_or-set_other, true, false, if◌then◌else◌, nat_lt, ℤ, List, [], ◌∷◌, refl, sym, ap, subst, inl, inr, length, map, length-set, ⊎_elim, arith}
 use Rattle.std.proofs.Math.ListN.{set}
 use Rattle.std.proofs.lemmas.Bool.{lt-ltb}
@@ -23,7 +24,7 @@ use Rattle.qs_played.specs.declared.schedule.actor.Actor.{Actor}
 use Rattle.qs_played.specs.declared.schedule.actor.Actor.TheVariants as actor
 use Rattle.qs_plain_laws.specs.declared.item.QueueItem.{QueueItem}
 use Rattle.qs_plain_laws.specs.declared.item.QueueItem.TheVariants as item
-use Rattle.qs_plain_laws.specs.Plain.{Handler, Plain, Private, Stage, after_reply, asks, at_each, calls, client_at, current, ends, handler_at, leaves_queue, log_in, no_handler, out, put_item, queue_step, reply_to, runs_command, runs_query, step, waiting, within}
+use Rattle.qs_plain_laws.specs.Plain.{Handler, Plain, Private, StageOfClient, after_reply, asks, at_each, calls, client_at, current, ends, handler_at, leaves_queue, log_in, no_handler, out, put_item, queue_step, reply_to, runs_command, runs_query, step, waiting, within}
 use Rattle.qs_plain_laws.specs.PlainSchedule.{plays}
 use Rattle.qs_plain_laws.proofs.PlainPreserved.{each_is, in_list, reserved_list}
 use Rattle.qs_plain_orders.specs.Quiet.{IsOut, IsQuiet}
@@ -43,7 +44,7 @@ module _ (p : ProgramShape) (sound : IsSound p) (order : List Ticket) (begun : �
   abbrev served : ℕ → List Private
   served h = if reserves p t h then private [] ∷ [] else []
 
-  abbrev At : (ℕ → List Private) → Stage → Plain → Type 0
+  abbrev At : (ℕ → List Private) → StageOfClient → Plain → Type 0
   At queue stage s = IsAlone p order begun t queue stage s
 
   abbrev Over : Plain → Type 0
@@ -55,13 +56,13 @@ module _ (p : ProgramShape) (sound : IsSound p) (order : List Ticket) (begun : �
   served_at : (h : ℕ) → reserves p t h ≡ true → served h ≡ private [] ∷ []
   served_at h e = rw e refl
 
-  is_mine : (queue : ℕ → List Private) (stage : Stage) (s : Plain) → At queue stage s → current t.client (client_at s t.client) ≡ t
+  is_mine : (queue : ℕ → List Private) (stage : StageOfClient) (s : Plain) → At queue stage s → current t.client (client_at s t.client) ≡ t
   is_mine queue stage s now = ticket_path refl (let b = now.begun t.client in omega (arith, b, current_is))
 
   named : nat_lt t.client (length p.clients) ≡ true
   named = lt-ltb t.client (length p.clients) client
 
-  is_there : (queue : ℕ → List Private) (stage : Stage) (s : Plain) → At queue stage s → nat_lt t.client (length s.clients) ≡ true
+  is_there : (queue : ℕ → List Private) (stage : StageOfClient) (s : Plain) → At queue stage s → nat_lt t.client (length s.clients) ≡ true
   is_there queue stage s now = lt-ltb t.client (length s.clients) (let long = now.clients in omega (arith, client, long))
 
   logged : (u : Ticket) (i : QueueItem) (g : Handler) → u ≡ t → g.queues ≡ private [] ∷ [] → (log_in u i g).queues ≡ private (i ∷ []) ∷ []
@@ -82,13 +83,13 @@ module _ (p : ProgramShape) (sound : IsSound p) (order : List Ticket) (begun : �
       put_there (put served h (private (i ∷ []) ∷ [])) h (private [] ∷ []) g other ∙ put_there served h (private (i ∷ []) ∷ []) g other)
       (num_cases h g)
 
-  in_queue : (s : Plain) (stage : Stage) (h : ℕ) (i : QueueItem) → reserves p t h ≡ true → At served stage s → (u : Ticket) → u ≡ t
+  in_queue : (s : Plain) (stage : StageOfClient) (h : ℕ) (i : QueueItem) → reserves p t h ≡ true → At served stage s → (u : Ticket) → u ≡ t
       → (g : ℕ) → (handler_at (set s.handlers h (log_in u i (handler_at s.handlers h))) g).queues ≡ put served h (private (i ∷ []) ∷ []) g
   in_queue s stage h i e now u is g =
       queue_set s.handlers h (log_in u i (handler_at s.handlers h)) served (let long = now.handlers in let l = inside h e in omega (arith, long, l)) now.queues g
       ∙ ap (λ qs. put served h qs g) (logged u i (handler_at s.handlers h) is (now.queues h ∙ served_at h e))
 
-  first_of : (s : Plain) (stage : Stage) (h : ℕ) (i : QueueItem) → At (put served h (private (i ∷ []) ∷ [])) stage s
+  first_of : (s : Plain) (stage : StageOfClient) (h : ℕ) (i : QueueItem) → At (put served h (private (i ∷ []) ∷ [])) stage s
       → (handler_at s.handlers h).queues ≡ private (i ∷ []) ∷ []
   first_of s stage h i now = now.queues h ∙ put_here served h (private (i ∷ []) ∷ [])
 
@@ -104,7 +105,7 @@ module _ (p : ProgramShape) (sound : IsSound p) (order : List Ticket) (begun : �
   nothing_waits s k it false = refl
 
   -- where each has served all so far, no handler has a step
-  idle_plays : (stage : Stage) (s : Plain) → At served stage s → (ks : List ℕ) → plays p (handlers_in ks) s ≡ s
+  idle_plays : (stage : StageOfClient) (s : Plain) → At served stage s → (ks : List ℕ) → plays p (handlers_in ks) s ≡ s
   idle_plays stage s now [] = refl
   idle_plays stage s now (k ∷ ks) =
       ap (λ o. plays p (handlers_in ks) (or_stay s o))
@@ -116,7 +117,7 @@ module _ (p : ProgramShape) (sound : IsSound p) (order : List Ticket) (begun : �
   still_in h k ks other false e is = is
 
   -- of the handlers of a list only the one steps at which the request waits
-  settle : (stage later : Stage) (h : ℕ) (i : QueueItem) (n m : Plain) → At (put served h (private (i ∷ []) ∷ [])) stage n
+  settle : (stage later : StageOfClient) (h : ℕ) (i : QueueItem) (n m : Plain) → At (put served h (private (i ∷ []) ∷ [])) stage n
       → step p n (actor.Handler h) ≡ Some m → At served later m → (ks : List ℕ) → is_in ks h ≡ true → plays p (handlers_in ks) n ≡ m
   settle stage later h i n m now serves done [] e = absurd (cc e)
   settle stage later h i n m now serves done (k ∷ ks) e = ⊎_elim
@@ -130,7 +131,7 @@ module _ (p : ProgramShape) (sound : IsSound p) (order : List Ticket) (begun : �
       ∙ settle stage later h i n m now serves done ks (still_in h k ks other (k == h) refl e))
       (num_cases h k)
 
-  left_is : (queue : ℕ → List Private) (stage : Stage) (s : Plain) → At queue stage s → left_of t s ≡ left_at t stage (helds s)
+  left_is : (queue : ℕ → List Private) (stage : StageOfClient) (s : Plain) → At queue stage s → left_of t s ≡ left_at t stage (helds s)
   left_is queue stage s now = ap (λ g. left_at t g (helds s)) now.stage
 
   held_set : (hs : List Handler) (h : ℕ) (x : Handler) → h < length hs → (g : ℕ) → (handler_at (set hs h x) g).held ≡ put (λ g. (handler_at hs g).held) h x.held g
@@ -156,12 +157,13 @@ module _ (p : ProgramShape) (sound : IsSound p) (order : List Ticket) (begun : �
       held_set logs h x (let long = length-set hs h (log_in u i (handler_at hs h)) in omega (arith, inside, long)) g
       ∙ ap (λ f. put f h x.held g) (λ j k. (held_set hs h (log_in u i (handler_at hs h)) inside k ∙ put_same (λ g. (handler_at hs g).held) h k) j)
 
-  -- a request is logged, and served at once: from the state after the client's step the turn leads to that after the handler's
+  -- a request is logged, and served at once: from the state after the client's step the turn leads to that after the
+  -- handler's
   module _ (s n m : Plain) (r : Request) (i : QueueItem) (u : Ticket) where
     abbrev h : ℕ
     h = r.object
 
-    turned : (stage later : Stage) → reserves p t h ≡ true → step p s (actor.Client t.client) ≡ Some n → At (put served h (private (i ∷ []) ∷ [])) stage n
+    turned : (stage later : StageOfClient) → reserves p t h ≡ true → step p s (actor.Client t.client) ≡ Some n → At (put served h (private (i ∷ []) ∷ [])) stage n
         → step p n (actor.Handler h) ≡ Some m → At served later m → plays p turn s ≡ m
     turned stage later e steps logged_now serves done =
         ap (λ o. plays p (handlers_in (text_of p t).reserved) (or_stay s o)) steps
@@ -347,7 +349,7 @@ module _ (p : ProgramShape) (sound : IsSound p) (order : List Ticket) (begun : �
       let one : left_of t s ≡ 1 = left_is served (within (Done l)) s now in
       (subst Over (sym is) (quiet l _ last), subst (λ m. left_of t m < left_of t s) (sym is) (omega (arith, none, one)))
     where
-      by_test : (s : Plain) (stage : Stage) (g : ℕ) → At served stage s → {u : Ticket} → u ≡ t → (b : Bool) → reserves p t g ≡ b
+      by_test : (s : Plain) (stage : StageOfClient) (g : ℕ) → At served stage s → {u : Ticket} → u ≡ t → (b : Bool) → reserves p t g ≡ b
           → (if b then log_in u item.EndMark (handler_at s.handlers g) else handler_at s.handlers g).queues ≡ (if b then marked else [])
       by_test s stage g now {u} is true e = logged u item.EndMark (handler_at s.handlers g) is (now.queues g ∙ served_at g e)
       by_test s stage g now {u} is false e = now.queues g ∙ rw e refl

@@ -1,6 +1,7 @@
--- Each legal order of blocks is reached under the plain rules: one block after another, each alone. Where nobody is in a block, the next
--- ticket's client reserves, and has its block alone until it is over. So it goes by induction on the order, with the configuration that
--- counts the blocks that each client has begun. At the end each block has ended; where nobody has a block left, the run is finished.
+-- Each legal order of blocks is reached under the plain rules: one block after another, each alone. Where nobody is in
+-- a block, the next ticket's client reserves, and has its block alone until it is over. So it goes by induction on the
+-- order, with the configuration that counts the blocks that each client has begun. At the end each block has ended;
+-- where nobody has a block left, the run is finished.
 use Rattle.std.proofs.Common.{◌≡◌, ◌<◌, ◌≤◌, ◌∙◌, ◌+◌, ◌==◌, ℕ, suc, Bool, true, false, if◌then◌else◌, nat_lt, List, [], ◌∷◌, ◌++◌, Some, map, refl, sym, ap, subst, length, get_or, get_or-set_same, get_or-set_other, length-set, append_assoc, append-nil, ⊎_elim, arith}
 use Rattle.std.proofs.Math.ListN.{set}
 use Rattle.std.proofs.lemmas.Bool.{lt-ltb}
@@ -24,7 +25,7 @@ use Rattle.qs_played.specs.Schedule.{all_named, or_stay}
 use Rattle.qs_played.specs.declared.schedule.actor.Actor.{Actor}
 use Rattle.qs_played.specs.declared.schedule.actor.Actor.TheVariants as actor
 use Rattle.qs_played.proofs.Lists.{apart}
-use Rattle.qs_plain_laws.specs.Plain.{Client, Handler, Plain, Private, Stage, at_each, begin, begins, begun_blocks, client_at, enter, fresh_client, fresh_handler, handler_at, no_client, no_handler, out, step, waiting, within}
+use Rattle.qs_plain_laws.specs.Plain.{Client, Handler, Plain, Private, StageOfClient, at_each, begin, begins, begun_blocks, client_at, enter, fresh_client, fresh_handler, handler_at, no_client, no_handler, out, step, waiting, within}
 use Rattle.qs_plain_laws.specs.PlainIsolation.{commands_in_queue}
 use Rattle.qs_plain_laws.specs.PlainSyncSums.{AreQueriesCounted}
 use Rattle.qs_plain_laws.proofs.Isolating.{runs_isolated}
@@ -46,7 +47,7 @@ has_client p t less = by_test (nat_lt t.client (length p.clients)) refl
         let none : blocks_of p t.client ≡ 0 = ap (λ c. length c.blocks) (get_or_past p.clients t.client no_shape (grind (arith, e))) in
         omega (arith, less, none)
 
-variables_of : (g : Stage) → IsOut g → (l : Locals) × (g ≡ out l)
+variables_of : (g : StageOfClient) → IsOut g → (l : Locals) × (g ≡ out l)
 variables_of (out l) is = (l, refl)
 variables_of (within rest) is = absurd is
 variables_of (waiting next) is = absurd is
@@ -168,7 +169,7 @@ all_are_idle : (hs : List Handler) → ((g : ℕ) → (handler_at hs g).queues �
 all_are_idle [] none = refl
 all_are_idle (h ∷ hs) none = rw (none 0) (all_are_idle hs (λ g. none (suc g)))
 
-pub out_is : (g : Stage) → IsOut g → is_out g ≡ true
+pub out_is : (g : StageOfClient) → IsOut g → is_out g ≡ true
 out_is (out l) is = refl
 out_is (within rest) is = absurd is
 out_is (waiting next) is = absurd is

@@ -1,2 +1,4 @@
-pub mod Quiet
+-- What an auditor reads: the promises and the calls of the surface are said with these.
 pub mod PlainOrders
+-- What crates promise one another, what proofs use, and worked examples.
+pub mod Quiet

@@ -13,8 +13,8 @@ use Rattle.qs_plain_laws.specs.PlainIsolation.{commands_in_queue}
 use Rattle.qs_plain_laws.specs.PlainSchedule.{IsPlayed, scheduled}
 use Rattle.qs_plain_laws.specs.PlainSyncSums.{AreQueriesCounted}
 
--- What is shown after some picks, without a round after them, are exactly these tickets, in this order, and each of their blocks has
--- ended; where the order is complete, the run is finished. It is isolated and counted like every run.
+-- What is shown after some picks, without a round after them, are exactly these tickets, in this order, and each of
+-- their blocks has ended; where the order is complete, the run is finished. It is isolated and counted like every run.
 pub record IsPlayedInOrder (p : ProgramShape) (due : List Ticket) (r : Played) : Type 0 where
   pub picks : List Actor
   pub played : IsPlayed p picks 0 (Ok r)
@@ -26,4 +26,5 @@ pub record IsPlayedInOrder (p : ProgramShape) (due : List Ticket) (r : Played) :
 
 -- for every checked program and every legal order of its blocks
 abbrev pub OrdersArePlayed : Type 0
-OrdersArePlayed = (p : ProgramShape) → IsSound p → (order : List Ticket) → IsLegal p order → (r : Played) × IsPlayedInOrder p order r
+OrdersArePlayed =
+    (p : ProgramShape) → IsSound p → (order : List Ticket) → IsLegal p order → (r : Played) × IsPlayedInOrder p order r

@@ -2,15 +2,16 @@
 use Rattle.std.specs.Prelude.{◌≡◌, ℕ, List, [], length}
 use Rattle.qs_objects.specs.declared.held.Ticket.{Ticket}
 use Rattle.qs_program.specs.Program.{ProgramShape}
-use Rattle.qs_plain_laws.specs.Plain.{Plain, Stage, begun_blocks, client_at, handler_at, out, waiting, within}
+use Rattle.qs_plain_laws.specs.Plain.{Plain, StageOfClient, begun_blocks, client_at, handler_at, out, waiting, within}
 
 -- between two blocks
-abbrev pub IsOut : Stage → Type 0
+abbrev pub IsOut : StageOfClient → Type 0
 IsOut (out l) = Unit {0}
 IsOut (within rest) = ⊥
 IsOut (waiting next) = ⊥
 
--- Nobody is in a block, and nothing is in a queue; these tickets were reserved, and each client has begun so many blocks.
+-- Nobody is in a block, and nothing is in a queue; these tickets were reserved, and each client has begun so many
+-- blocks.
 pub record IsQuiet (p : ProgramShape) (so_far : List Ticket) (blocks : ℕ → ℕ) (s : Plain) : Type 0 where
   pub order : s.order ≡ so_far
   pub clients : length s.clients ≡ length p.clients

@@ -24,7 +24,7 @@ use Rattle.qs_played.specs.Played.{ticket}
 use Rattle.qs_played.specs.Schedule.{or_stay}
 use Rattle.qs_played.specs.declared.schedule.actor.Actor.{Actor}
 use Rattle.qs_played.specs.declared.schedule.actor.Actor.TheVariants as actor
-use Rattle.qs_plain_laws.specs.Plain.{Client, Handler, Plain, Private, Stage, after_reply, at_each, at_handler, begin, begins, begun_blocks, client_at, client_step, current, enter, fresh_client, fresh_handler, goes_on, handler_at, item_step, log_in, no_client, no_handler, out, put_item, queue_step, reply_to, separate, serves, stands, step, waiting, with_query_counted, with_trace_event, within}
+use Rattle.qs_plain_laws.specs.Plain.{Client, Handler, Plain, Private, StageOfClient, after_reply, at_each, at_handler, begin, begins, begun_blocks, client_at, client_step, current, enter, fresh_client, fresh_handler, moves_on, handler_at, item_step, log_in, no_client, no_handler, out, put_item, queue_step, reply_to, separate, serves, stands, step, waiting, with_query_counted, with_trace_event, within}
 use Rattle.qs_plain_laws.specs.declared.item.QueueItem.{QueueItem}
 use Rattle.qs_plain_laws.specs.declared.item.QueueItem.TheVariants as item
 use Rattle.qs_plain_laws.proofs.PlainPreserved.{RunInvariant, begin_kept, sight_of, step_kept}
@@ -144,13 +144,13 @@ entered_each t (k ∷ ks) hs =
 
 -- ---- what the clients have left
 
-abbrev StageAtMost : Stage → ℕ → Type 0
+abbrev StageAtMost : StageOfClient → ℕ → Type 0
 StageAtMost (out l) n = Unit {0}
 StageAtMost (within rest) n = AtMost rest n
 StageAtMost (waiting next) n = (v : ℤ) → AtMost (next v) n
 
 -- of the block that a client is in, with so many requests
-abbrev left_in_block : List ℕ → ℕ → Stage → ℕ
+abbrev left_in_block : List ℕ → ℕ → StageOfClient → ℕ
 left_in_block reserved n (out l) = 0
 left_in_block reserved n (within rest) = 2 * n + length reserved + 1
 left_in_block reserved n (waiting next) = 2 * n + length reserved + 1
@@ -161,7 +161,7 @@ left_from bs k = left_by steps_of_block bs k
 
 module _ (p : ProgramShape) where
   -- in all, where a client stands at a stage
-  abbrev left_of : ℕ → Client → ℕ → Stage → ℕ
+  abbrev left_of : ℕ → Client → ℕ → StageOfClient → ℕ
   left_of c it n g =
       left_in_block (text_of p (current c it)).reserved n g + left_from (shape_at p c).blocks (begun_blocks it)
 
@@ -170,11 +170,11 @@ module _ (p : ProgramShape) where
     pub stage : StageAtMost it.stage requests
     pub most : left_of c it requests it.stage ≤ n
 
-  requests_at : (c : ℕ) (it : Client) (n : ℕ) (g : Stage) → it.stage ≡ g → (l : ClientLeft c it n)
+  requests_at : (c : ℕ) (it : Client) (n : ℕ) (g : StageOfClient) → it.stage ≡ g → (l : ClientLeft c it n)
       → StageAtMost g l.requests
   requests_at c it n g e l = subst (λ g. StageAtMost g l.requests) e l.stage
 
-  most_at : (c : ℕ) (it : Client) (n : ℕ) (g : Stage) → it.stage ≡ g → (l : ClientLeft c it n)
+  most_at : (c : ℕ) (it : Client) (n : ℕ) (g : StageOfClient) → it.stage ≡ g → (l : ClientLeft c it n)
       → left_of c it l.requests g ≤ n
   most_at c it n g e l = subst (λ g. left_of c it l.requests g ≤ n) e l.most
 
@@ -304,7 +304,7 @@ module _ (p : ProgramShape) (sound : IsSound p) (s : Plain) (k : RunInvariant p 
         2 * m + length (text_of p (current c me)).reserved + 1 + left_from (shape_at p c).blocks (begun_blocks me)
 
     -- a request is logged
-    one_sent : (it : Client) (g now : Stage) (r : Request) (i : QueueItem) → it.entries ≡ me.entries → it.stage ≡ now
+    one_sent : (it : Client) (g now : StageOfClient) (r : Request) (i : QueueItem) → it.entries ≡ me.entries → it.stage ≡ now
         → me.stage ≡ g → ((m : ℕ) → StageAtMost g m → (1 ≤ m) × StageAtMost now (m - 1))
         → ((m : ℕ) → left_of p c me m g ≡ left_with m) → ((m : ℕ) → left_of p c me m now ≡ left_with m)
         → Falls p s n (Some (record {
@@ -336,7 +336,7 @@ module _ (p : ProgramShape) (sound : IsSound p) (s : Plain) (k : RunInvariant p 
           },
         ))
 
-    goes : (rest : Interaction) → me.stage ≡ within rest → Falls p s n (Some (goes_on p s c me rest))
+    goes : (rest : Interaction) → me.stage ≡ within rest → Falls p s n (Some (moves_on p s c me rest))
     goes (Done l) e =
         client_falls _ (stands me (out l)) _ (length (text_of p (current c me)).reserved)
         (logged_each (current c me) item.EndMark (text_of p (current c me)).reserved s.handlers apart)
@@ -352,7 +352,7 @@ module _ (p : ProgramShape) (sound : IsSound p) (s : Plain) (k : RunInvariant p 
         (waiting next)
         r (item.Query r) refl refl e (λ m some. some) (λ m. refl) (λ m. refl)
 
-    client_step_falls : (g : Stage) → me.stage ≡ g → Falls p s n (client_step p s c me g)
+    client_step_falls : (g : StageOfClient) → me.stage ≡ g → Falls p s n (client_step p s c me g)
     client_step_falls (out l) e = by_test (nat_lt (begun_blocks me) (blocks_of p c)) refl
       where
         by_test : (b : Bool) → nat_lt (begun_blocks me) (blocks_of p c) ≡ b
@@ -378,7 +378,7 @@ module _ (p : ProgramShape) (sound : IsSound p) (s : Plain) (k : RunInvariant p 
         )
 
     -- the client that hears a reply has as much left
-    heard : (c : ℕ) (it : Client) (r : Request) (v : Option ℤ) (a : ℕ) (g : Stage) → it.stage ≡ g → ClientLeft p c it a
+    heard : (c : ℕ) (it : Client) (r : Request) (v : Option ℤ) (a : ℕ) (g : StageOfClient) → it.stage ≡ g → ClientLeft p c it a
         → Less p c (reply_to it r v g) 0 a
     heard c it r v a (out l) e old = (a, omega arith, old)
     heard c it r v a (within rest) e old = (a, omega arith, old)

@@ -1,15 +1,20 @@
 -- Where all is finished nobody has a step: each client stands behind its last block, and each handler's queue is empty.
 -- So enough rounds finish, as for every machine that is never stuck and makes few steps (`Rounds`).
-use Rattle.std.proofs.Common.{◌≡◌, ◌<◌, ◌∙◌, ℕ, zero, suc, ◌+◌, Bool, true, false, true≢false, if◌then◌else◌, nat_eq, nat_lt, List, [], ◌∷◌, None, length, get_or, refl, sym, ap, subst, arith}
+use Rattle.std.proofs.Common.{◌≡◌, ◌<◌, ◌∙◌, ℕ, zero, suc, ◌+◌, Bool, true, false, true≢false, if◌then◌else◌, nat_eq, nat_lt, List, [], ◌∷◌, None, Ok, length, get_or, refl, sym, ap, subst, arith}
 use Rattle.qs_objects.proofs.Choices.{and_cases}
 use Rattle.qs_program.specs.Program.{ProgramShape, blocks_of}
+use Rattle.qs_program.specs.Sound.{IsSound}
+use Rattle.qs_played.specs.Played.{Played}
+use Rattle.qs_played.specs.Schedule.{most_rounds}
+use Rattle.qs_played.specs.declared.schedule.actor.Actor.{Actor}
 use Rattle.qs_played.specs.declared.schedule.actor.Actor.TheVariants as actor
-use Rattle.qs_plain_laws.specs.Plain.{Client, Handler, Plain, Private, Stage, begin, begun_blocks, client_at, client_step, handler_at, no_client, out, queue_step, step, waiting, within}
-use Rattle.qs_plain_laws.specs.PlainSchedule.{all_done, all_idle, is_done, is_finished, is_out, plays, scheduled}
+use Rattle.qs_plain_laws.specs.Plain.{Client, Handler, Plain, Private, StageOfClient, begin, begun_blocks, client_at, client_step, handler_at, no_client, out, queue_step, step, waiting, within}
+use Rattle.qs_plain_laws.specs.PlainSchedule.{IsPlayed, all_done, all_idle, is_done, is_finished, is_out, plays, scheduled}
 use Rattle.qs_plain_progress.specs.Finishing.{EnoughRoundsFinish, FairRunsFinish, FinishedRunsStay}
 use Rattle.qs_plain_progress.specs.Steps.{most_steps_of}
 use Rattle.qs_plain_progress.proofs.Bounded.{steps_bounded}
 use Rattle.qs_plain_progress.proofs.Rounds.{enough_rounds, enough_turns}
+use Rattle.qs_plain_progress.proofs.SmallBounds.{bounds_small}
 use Rattle.qs_plain_progress.proofs.Stuck.{runs_never_stuck}
 
 done_at : (p : ProgramShape) (cs : List Client) (from c : ℕ) → c < length cs → all_done p from cs ≡ true
@@ -32,7 +37,7 @@ idle_at (x ∷ hs) zero all = none x.queues (and_cases (nat_eq (length x.queues)
     none (q ∷ qs) e = absurd (let long : length (q ∷ qs) ≡ 0 = grind (arith, e) in omega (arith, long))
 idle_at (x ∷ hs) (suc h) all = idle_at hs h (and_cases (nat_eq (length x.queues) 0) (all_idle hs) all).1
 
-done_steps_none : (p : ProgramShape) (s : Plain) (c : ℕ) (it : Client) (g : Stage) → is_out g ≡ true
+done_steps_none : (p : ProgramShape) (s : Plain) (c : ℕ) (it : Client) (g : StageOfClient) → is_out g ≡ true
     → begun_blocks it ≡ blocks_of p c → client_step p s c it g ≡ None
 done_steps_none p s c it (out l) e all =
     let over : nat_lt (begun_blocks it) (blocks_of p c) ≡ false = rw all (grind arith) in
@@ -67,6 +72,13 @@ rounds_finish p sound picks rounds many shown played =
     ∙ enough_rounds p (step p) (begin p) (is_finished p)
     (λ actors over. finished_stay p (plays p actors (begin p)) over)
     (runs_never_stuck p sound) (most_steps_of p) (steps_bounded p sound) picks rounds many
+
+-- as many rounds as a command line plays by default are enough
+pub default_rounds_finish : (p : ProgramShape) → IsSound p → (picks : List Actor) (rounds : ℕ) (shown : Played)
+    → IsPlayed p picks rounds (Ok shown) → rounds ≡ most_rounds → shown.finished ≡ true
+default_rounds_finish p sound picks rounds shown played all =
+    let few = (bounds_small p sound).rounds in
+    rounds_finish p sound picks rounds (omega (arith, few, all)) shown played
 
 pub fair_finish : FairRunsFinish
 fair_finish p sound turns each many =

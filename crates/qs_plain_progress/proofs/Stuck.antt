@@ -22,7 +22,7 @@ use Rattle.qs_played.specs.Schedule.{names_actor}
 use Rattle.qs_played.specs.declared.schedule.actor.Actor.TheVariants as actor
 use Rattle.qs_played.proofs.Orders.{counts_after, each_among, legal_among}
 use Rattle.qs_played.proofs.JournalRooms.{no_block_beyond}
-use Rattle.qs_plain_laws.specs.Plain.{Client, Handler, Plain, Private, Stage, begin, begun_blocks, client_at, client_step, handler_at, item_step, no_client, out, queue_step, within}
+use Rattle.qs_plain_laws.specs.Plain.{Client, Handler, Plain, Private, StageOfClient, begin, begun_blocks, client_at, client_step, handler_at, item_step, no_client, out, queue_step, within}
 use Rattle.qs_plain_laws.specs.PlainSchedule.{all_done, all_idle, is_done, is_finished, plays}
 use Rattle.qs_plain_laws.specs.declared.item.QueueItem.{QueueItem}
 use Rattle.qs_plain_laws.specs.declared.item.QueueItem.TheVariants as item
@@ -157,7 +157,7 @@ module _ (p : ProgramShape) (sound : IsSound p) (s : Plain) (k : RunInvariant p 
   client_there c less = lt-ltb c (length s.clients) (let long = k.clients in omega (arith, less, long))
 
   -- a client steps whose stage has a step
-  client_steps : (c : ℕ) (g : Stage) → c < length p.clients → (client_at s c).stage ≡ g
+  client_steps : (c : ℕ) (g : StageOfClient) → c < length p.clients → (client_at s c).stage ≡ g
       → IsSome (client_step p s c (client_at s c) g) → CanGoOn p s
   client_steps c g less e some = (
     actor.Client c,

@@ -1,4 +1,6 @@
+-- What an auditor reads: the promises and the calls of the surface are said with these.
+pub mod Steps
+-- What crates promise one another, what proofs use, and worked examples.
 pub mod Finishing
 pub mod Progress
 pub mod StepExamples
-pub mod Steps

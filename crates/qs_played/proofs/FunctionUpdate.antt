@@ -1,6 +1,6 @@
--- A function of numbers or of tickets that was changed at one place has the new value there and its old value everywhere else.
--- The invariants of both machines speak of such functions, and each step changes them at one place, so nearly every lemma on a
--- step uses this. The proofs ask whether a place is the one that was changed.
+-- A function of numbers or of tickets that was changed at one place has the new value there and its old value
+-- everywhere else. The invariants of both machines speak of such functions, and each step changes them at one place, so
+-- nearly every lemma on a step uses this. The proofs ask whether a place is the one that was changed.
 use Rattle.std.proofs.Common.{◌≡◌, ℕ, Bool, true, false, if◌then◌else◌, ◌==◌, sym, ap, ◌∙◌, subst, ⊎_elim}
 use Rattle.qs_objects.specs.Parts.{same}
 use Rattle.qs_objects.specs.declared.held.Ticket.{Ticket}

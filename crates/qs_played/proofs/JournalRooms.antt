@@ -1,4 +1,5 @@
--- Sums of loads, for the room of a journal: what is run of each reservation is within its block's load, and a legal order has no block twice.
+-- Sums of loads, for the room of a journal: what is run of each reservation is within its block's load, and a legal
+-- order has no block twice.
 use Rattle.std.proofs.Common.{◌≡◌, ◌<◌, ◌≤◌, ◌+◌, ◌-◌, arith, ℕ, zero, suc, Bool, true, false, if◌then◌else◌, nat_lt, ◌==◌, List, [], ◌∷◌, ◌++◌, length, filter, sum_by, refl, sym, ap, ◌∙◌, ⊎_elim}
 use Rattle.std.specs.List.{AllByRecursion, range_with_len}
 use Rattle.std.proofs.lemmas.List.{get_or_past}

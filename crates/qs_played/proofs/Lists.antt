@@ -1,6 +1,6 @@
--- These are small facts about lists that are read up to some place or grow by one element at the end, and about ranges of numbers
--- and their sums. The proofs of loops in several crates use them, since a loop goes from one place to the next. They are shown by
--- induction on the list or on the number.
+-- These are small facts about lists that are read up to some place or grow by one element at the end, and about ranges
+-- of numbers and their sums. The proofs of loops in several crates use them, since a loop goes from one place to the
+-- next. They are shown by induction on the list or on the number.
 use Rattle.std.proofs.Common.{◌≡◌, ◌≢◌, ◌<◌, ℕ, zero, suc, ◌+◌, ◌==◌, true, false, List, [], ◌∷◌, length, get_or, drop, refl, ap, sym, ◌∙◌, arith, add-one, ◌++◌, sum_by, subst, below_more, add-zero, zero-add}
 use Rattle.std.proofs.Math.Seq.{drop-cons, get_or-append_seam}
 use Rattle.std.specs.List.{range_with_len}

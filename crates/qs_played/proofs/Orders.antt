@@ -1,4 +1,5 @@
--- Legal orders of reservations: how many blocks of each client were begun after one, which tickets are in it, and that none is twice.
+-- Legal orders of reservations: how many blocks of each client were begun after one, which tickets are in it, and that
+-- none is twice.
 use Rattle.std.proofs.Common.{List, [], ◌∷◌, sym, subst, inl, inr, ◌≡◌, ◌≢◌, suc, Bool, true, false, if◌then◌else◌, ◌++◌, filter, length, refl, ap, ◌<◌, ◌≤◌, ℕ, ◌==◌, arith, ⊎_elim}
 use Rattle.std.specs.List.{AllByRecursion}
 use Rattle.qs_objects.specs.declared.held.Ticket.{Ticket}

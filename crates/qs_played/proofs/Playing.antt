@@ -1,5 +1,5 @@
--- Lists of actors, one actor and one round longer, and what playing them comes to, whatever the step function is: both machines' loops over
--- actors and rounds keep their invariants by these.
+-- Lists of actors, one actor and one round longer, and what playing them comes to, whatever the step function is: both
+-- machines' loops over actors and rounds keep their invariants by these.
 use Rattle.std.proofs.Common.{◌≡◌, ℕ, ◌+◌, List, [], ◌∷◌, ◌++◌, Option, IsSome, map, refl, ap, sym, ◌∙◌, add-one, zero-add, append_assoc, inl, inr}
 use Rattle.std.specs.List.{range_with_len}
 use Rattle.qs_program.specs.Program.{ProgramShape}

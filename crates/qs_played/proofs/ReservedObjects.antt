@@ -1,4 +1,5 @@
--- What a sound program says of its blocks: none beyond those of its clients, and each reserved object is one of the program.
+-- What a sound program says of its blocks: none beyond those of its clients, and each reserved object is one of the
+-- program.
 use Rattle.std.proofs.Common.{◌≡◌, ◌<◌, ◌≤◌, ℕ, nat_lt, ◌==◌, Bool, true, false, List, [], ◌∷◌, length, refl, sym, ap, subst, arith, ⊎_elim}
 use Rattle.std.proofs.lemmas.List.{get_or_past}
 use Rattle.std.specs.List.{AllByRecursion, IsDistinct}

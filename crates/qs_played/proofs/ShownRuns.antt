@@ -1,6 +1,6 @@
--- Where a call answers with what a run shows, all that is known of what the run shows holds of the answer. `play` and `play_core`
--- may answer an error instead, and promise of their answer that it is isolated and counted. The proof goes by cases on the
--- answer; nothing is claimed of an error.
+-- Where a call answers with what a run shows, all that is known of what the run shows holds of the answer. `play` and
+-- `play_core` may answer an error instead, and promise of their answer that it is isolated and counted. The proof goes
+-- by cases on the answer; nothing is claimed of an error.
 use Rattle.std.proofs.Common.{◌≡◌}
 use Rattle.std.specs.Prelude.{Result, Ok, Err, IfOk}
 use Rattle.qs_played.specs.Played.{Played}

@@ -1,6 +1,6 @@
--- In a sum over objects or tickets, one more at one place adds one to the sum, and the tickets of a legal order may be summed
--- client by client. Both machines keep a sum for each client and show the counts by ticket and object, and these lemmas lead from
--- one to the other. They are shown by induction on the list, or on the order.
+-- In a sum over objects or tickets, one more at one place adds one to the sum, and the tickets of a legal order may be
+-- summed client by client. Both machines keep a sum for each client and show the counts by ticket and object, and these
+-- lemmas lead from one to the other. They are shown by induction on the list, or on the order.
 use Rattle.std.proofs.Common.{ℕ, List, length, ◌≡◌, ◌<◌, ◌≤◌, zero, suc, ◌+◌, ◌-◌, true, false, ◌==◌, [], ◌∷◌, filter, get_or, refl, sym, ap, ◌∙◌, subst, ⊎_elim, arith, add-one}
 use Rattle.std.specs.Prelude.{sum_by}
 use Rattle.std.specs.List.{range_with_len, AllByRecursion}

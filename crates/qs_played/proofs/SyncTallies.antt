@@ -1,6 +1,6 @@
--- One Sync more for an object adds one to that object's count in its block's row, and changes neither the other counts nor the
--- row's objects; the row's sum is the sum over all objects. The proofs that both machines count exactly use this for each step.
--- It is shown by induction on the row, in which each object stands once.
+-- One Sync more for an object adds one to that object's count in its block's row, and changes neither the other counts
+-- nor the row's objects; the row's sum is the sum over all objects. The proofs that both machines count exactly use
+-- this for each step. It is shown by induction on the row, in which each object stands once.
 use Rattle.std.proofs.Common.{◌≡◌, ◌<◌, ℕ, suc, ◌+◌, ◌==◌, Bool, true, false, if◌then◌else◌, List, [], ◌∷◌, map, refl, sym, ap, ◌∙◌, subst, ⊎_elim, inl, inr, arith}
 use Rattle.std.specs.Prelude.{sum_by}
 use Rattle.std.specs.List.{AllByRecursion, IsDistinct, range_with_len}

@@ -1,4 +1,5 @@
--- What the worked runs of every machine are compared by: the replies of each reservation, and accounts with their balances.
+-- What the worked runs of every machine are compared by: the replies of each reservation, and accounts with their
+-- balances.
 use Rattle.std.specs.Prelude.{ℕ, List, [], ◌∷◌, map, Option, ℤ, pos}
 use Rattle.qs_objects.specs.Act.{State, account}
 use Rattle.qs_objects.specs.declared.held.Event.{Event}

@@ -13,9 +13,9 @@ ticket c k = record { client = c; index = k }
 abbrev pub no_events : List Event
 no_events = []
 
--- The tickets in the order of reservations, and for each of them whether its block has ended, its client's variables at entry, its trace,
--- and how many Syncs it has sent for each object of its block's list; for each object its journal and state; how many Syncs there were,
--- and whether the run is finished.
+-- The tickets in the order of reservations, and for each of them whether its block has ended, its client's variables at
+-- entry, its trace, and how many Syncs it has sent for each object of its block's list; for each object its journal and
+-- state; how many Syncs there were, and whether the run is finished.
 pub record Played : Type 0 where
   pub order : List Ticket
   pub ended : List Bool
@@ -46,8 +46,8 @@ entry_in clients t = slice_index_or (rows_at clients t.client).entries t.index [
 abbrev pub trace_in : List ClientRows → Ticket → List Event
 trace_in clients t = slice_index_or (rows_at clients t.client).traces t.index []
 
-abbrev pub counts_in : List ClientRows → Ticket → List SyncCount
-counts_in clients t = slice_index_or (rows_at clients t.client).counts t.index []
+abbrev pub counts_of_ticket : List ClientRows → Ticket → List SyncCount
+counts_of_ticket clients t = slice_index_or (rows_at clients t.client).counts t.index []
 
 -- a ticket's block is among those of these clients, and so is each of an order
 pub record HasRows (clients : List ClientRows) (t : Ticket) : Type 0 where
@@ -66,7 +66,7 @@ shown_with order ended clients journals states syncs finished = record {
   ended = ended;
   entries = map (entry_in clients) order;
   traces = map (trace_in clients) order;
-  sync_counts = map (counts_in clients) order;
+  sync_counts = map (counts_of_ticket clients) order;
   journals = journals;
   states = states;
   syncs = syncs;

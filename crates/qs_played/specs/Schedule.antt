@@ -1,4 +1,5 @@
--- Schedules: first the picks, one step each, then rounds, each of them one step of every client and of every handler in text order.
+-- Schedules: first the picks, one step each, then rounds, each of them one step of every client and of every handler in
+-- text order.
 use Rattle.std.specs.Prelude.{◌≡◌, ◌<◌, ◌≤◌, ◌⊎◌, IsSome, ℕ, zero, suc, Bool, true, false, ◌&&◌, nat_lt, if◌then◌else◌, List, [], ◌∷◌, ◌++◌, map, length, sum_by, Option, Some, None, Result, Ok, Err}
 use Rattle.std.specs.List.{range_with_len}
 use Rattle.qs_objects.specs.Operations.{is_query}
@@ -12,7 +13,8 @@ use Rattle.qs_played.specs.declared.schedule.actor.Actor.TheVariants as actor
 
 -- a round: all clients, then all handlers, in text order
 abbrev pub actors_of : ProgramShape → List Actor
-actors_of p = map actor.Client (range_with_len 0 (length p.clients)) ++ map actor.Handler (range_with_len 0 (length p.objects))
+actors_of p =
+    map actor.Client (range_with_len 0 (length p.clients)) ++ map actor.Handler (range_with_len 0 (length p.objects))
 
 abbrev pub rounds_of : ℕ → List Actor → List Actor
 rounds_of zero turn = []
@@ -52,7 +54,8 @@ module _ {S : Type 0} where
   HasStep step [] s = ⊥
   HasStep step (a ∷ rest) s = IsSome (step s a) ⊎ HasStep step rest (or_stay s (step s a))
 
--- The result of playing, of which the first says what is shown: the rounds are looked at first, then the picks, and memory last.
+-- The result of playing, of which the first says what is shown: the rounds are looked at first, then the picks, and
+-- memory last.
 abbrev pub IsPlayedAs : (Played → Type 0) → ProgramShape → List Actor → ℕ → Result Played PlayFault → Type 0
 IsPlayedAs IsShown p picks rounds (Ok played) = (rounds ≤ most_rounds) × (all_named p picks ≡ true) × IsShown played
 IsPlayedAs IsShown p picks rounds (Err fault.Rounds) = most_rounds < rounds

@@ -16,7 +16,8 @@ use Rattle.qs_played.specs.Played.{Played}
 -- for each object exactly so many, or, in a block that has not ended, one more for one object
 abbrev pub AreSent : (ended : Bool) → (sent counts : ℕ → ℕ) → Type 0
 AreSent ended sent counts =
-    ((h : ℕ) → sent h ≡ counts h) ⊎ ((ended ≡ false) × (g : ℕ) × ((h : ℕ) → sent h ≡ (if g == h then 1 else 0) + counts h))
+    ((h : ℕ) → sent h ≡ counts h) ⊎ ((ended ≡ false) × (g : ℕ)
+    × ((h : ℕ) → sent h ≡ (if g == h then 1 else 0) + counts h))
 
 -- how many Syncs the i-th reservation has sent, for each object of its block's list, and for object h
 abbrev pub counts_at : Played → ℕ → List SyncCount
@@ -41,10 +42,11 @@ body_of p r i = (text_of p (ticket_at r i)).body
 abbrev pub built_of : ProgramShape → Played → ℕ → ControlGraph
 built_of p r i = graph_of p (ticket_at r i).client (ticket_at r i).index
 
--- The i-th reservation in a mode of the optimised machine, by its trace so far: without coalescing it has sent a Sync for each query, with
--- the dynamic test for each query that comes first on its object or directly after a command there, and with static removal alone for
--- each that comes to a synchronisation at which its object is not held, by any test of that; in the static modes there is one. These
--- numbers are in order, and the runs are never more than the queries.
+-- The i-th reservation in a mode of the optimised machine, by its trace so far: without coalescing it has sent a Sync
+-- for each query, with the dynamic test for each query that comes first on its object or directly after a command
+-- there, and with static removal alone for each that comes to a synchronisation at which its object is not held, by any
+-- test of that; in the static modes there is one. These numbers are in order, and the runs are never more than the
+-- queries.
 pub record IsCounted (p : ProgramShape) (mode : Mode) (r : Played) (i : ℕ) : Type 0 where
   pub listed : AreListed p r i
   pub plain : mode ≡ Plain → AreSent (ended_of r i) (syncs_at r i) (λ h. queries h (trace_of r i))

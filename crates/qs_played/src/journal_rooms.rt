@@ -7,13 +7,14 @@ use qs_objects::{Held, Object, ObjectFault};
 use qs_program::Program;
 use std::alloc::{AllocError, Global};
 
-/// An object as declared, by its number, with room in its journal for all requests that there can be on it: the sum of its loads over all
-/// blocks. All the memory that the object and its journal will need is taken here; an allocation that fails leaves nothing.
+/// An object as declared, by its number, with room in its journal for all requests that there can be on it: the sum of
+/// its loads over all blocks. All the memory that the object and its journal will need is taken here; an allocation
+/// that fails leaves nothing.
 pub fn declared_held(alloc: Global, program: &Program, object: u8) -> Result<Held, AllocError>
     requires { object < length program.now.objects }
     ensures held { IfOk result (λ held. held ≡ fresh_held program.now object) }
 {
-    program.is_sound();
+    program.keeps_sound();
     match Object::new(alloc, program.kind(object)) {
         Ok(state) => Held::new(alloc, state, journal_room(program, object)),
         Err(ObjectFault::Memory) => Err(AllocError),
@@ -25,7 +26,7 @@ pub fn declared_held(alloc: Global, program: &Program, object: u8) -> Result<Hel
 fn journal_room(program: &Program, object: u8) -> usize
     ensures room { result ≡ room_of program.now object }
 {
-    program.is_sound();
+    program.keeps_sound();
     let mut room = 0;
     for client in 0..program.clients() as u8 {
         room += client_room(program, client, object);
@@ -39,7 +40,7 @@ fn client_room(program: &Program, client: u8, object: u8) -> usize
     ensures room { result ≡ room_in program.now client object }
     ensures limit { result ≤ 6400000 }
 {
-    program.is_sound();
+    program.keeps_sound();
     let mut room = 0;
     for block in 0..program.blocks_of(client) as u8 {
         room += program.load_of(client, block, object) as usize;

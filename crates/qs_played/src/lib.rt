@@ -1,7 +1,8 @@
 //! What a run shows, the schedules that it is played by, and what is said of every run, by whatever machine.
 //!
-//! `shown` has what a run has shown, `schedule` who steps when. Isolation and the counts of synchronisations are statements about what is
-//! shown (`specs/Isolation.antt`, `specs/SyncSums.antt`); one proof of them, of an abstract run, serves every machine.
+//! `shown` has what a run has shown, `schedule` who steps when. Isolation and the counts of synchronisations are
+//! statements about what is shown (`specs/Isolation.antt`, `specs/SyncSums.antt`); one proof of them, of an abstract
+//! run, serves every machine.
 #![tactic(auto)]
 
 mod fault;

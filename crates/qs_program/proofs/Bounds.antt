@@ -1,6 +1,6 @@
--- Each block of a sound program is sound, and its load, as a whole and on one object, is at most the load of the whole program.
--- The functions that compute rooms, and many proofs about clients and machines, stand on it. It goes by induction on lists, in
--- which each number is at most their sum, and for a block's load by induction on the statements.
+-- Each block of a sound program is sound, and its load, as a whole and on one object, is at most the load of the whole
+-- program. The functions that compute rooms, and many proofs about clients and machines, stand on it. It goes by
+-- induction on lists, in which each number is at most their sum, and for a block's load by induction on the statements.
 use Rattle.std.proofs.Common.{◌≡◌, ℕ, zero, suc, ◌+◌, ◌*◌, ◌<◌, ◌≤◌, Bool, true, false, ◌||◌, ◌==◌, List, [], ◌∷◌, length, get_or, take, refl, arith, sum_by}
 use Rattle.std.specs.List.{AllByRecursion, list_any}
 use Rattle.std.proofs.lemmas.List.Sums.{sum_by-cons}

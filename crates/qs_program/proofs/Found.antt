@@ -1,6 +1,6 @@
--- The number under which a name is found is its place in the list of names: it is in range, it stays when more names are added,
--- and two different names have different numbers. The proofs of the check, which replaces names by numbers, stand on it. It goes
--- by induction on the list of names.
+-- The number under which a name is found is its place in the list of names: it is in range, it stays when more names
+-- are added, and two different names have different numbers. The proofs of the check, which replaces names by numbers,
+-- stand on it. It goes by induction on the list of names.
 use Rattle.std.proofs.Common.{◌≡◌, ◌≢◌, ℕ, suc, ◌+◌, ◌<◌, ◌≤◌, Bool, true, false, not, ◌||◌, ◌==◌, cond, nat_lt, List, [], ◌∷◌, ◌++◌, length, get_or, Some, None, unwrap_or, refl, ap, sym, ◌∙◌, arith}
 use Rattle.std.proofs.lemmas.Bool.Decides.{nat_tests}
 use Rattle.std.proofs.lemmas.List.Folds.{list_any-append}

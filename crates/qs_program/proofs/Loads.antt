@@ -1,6 +1,6 @@
--- The load and the weight of a list of statements are those of its first statement and those of the rest together, and a cap on a
--- number can be put before or after it is multiplied. The loops that compute the load and the weight of a block are proved with
--- it. It goes by cases on the first statement, and for the cap by arithmetic.
+-- The load and the weight of a list of statements are those of its first statement and those of the rest together, and
+-- a cap on a number can be put before or after it is multiplied. The loops that compute the load and the weight of a
+-- block are proved with it. It goes by cases on the first statement, and for the cap by arithmetic.
 use Rattle.std.proofs.Common.{◌≡◌, ℕ, zero, suc, ◌+◌, ◌*◌, ◌<◌, min, List, ◌∷◌, length, get_or, drop, arith, add-one}
 use Rattle.std.proofs.Math.Seq.{drop-cons}
 use Rattle.qs_program.specs.declared.code.Stmt.{Stmt}

@@ -1,6 +1,7 @@
--- A statement that is pushed to a list of statements is joined to its end, and a statement of a list has no more statements in it
--- than the list. The first is the proof of `push`, and by the second the functions that go down into bodies come to an end. Joining
--- lists of statements is associative, which the loops that make one list of another stand on. All go by induction on the list.
+-- A statement that is pushed to a list of statements is joined to its end, and a statement of a list has no more
+-- statements in it than the list. The first is the proof of `push`, and by the second the functions that go down into
+-- bodies come to an end. Joining lists of statements is associative, which the loops that make one list of another
+-- stand on. All go by induction on the list.
 use Rattle.std.proofs.Common.{◌≡◌, ◌≤◌, ◌<◌, ℕ, zero, suc, List, [], ◌∷◌, ◌++◌, length, get_or, refl, ap, arith}
 use Rattle.qs_program.specs.declared.code.Stmt.{Stmt}
 use Rattle.qs_program.specs.declared.code.Stmt.TheVariants.{Command, Query, Assign, If, Repeat, Leave}

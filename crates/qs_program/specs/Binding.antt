@@ -29,4 +29,5 @@ first_of_each (x ∷ xs) = x ∷ filter (λ y. not (y == x)) (first_of_each xs)
 
 -- an object that comes again in the list is left out there, so it is reserved once
 abbrev pub bound_block : List ℕ → BlockShape → BlockShape
-bound_block binding b = record { reserved = first_of_each (map (bound binding) b.reserved); body = bound_statements binding b.body }
+bound_block binding b =
+    record { reserved = first_of_each (map (bound binding) b.reserved); body = bound_statements binding b.body }

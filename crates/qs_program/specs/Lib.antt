@@ -1,14 +1,16 @@
+-- What an auditor reads: the promises and the calls of the surface are said with these.
 pub mod Statements
-pub mod StatementsCode
-pub mod Views
-pub mod SizeDecreases
 pub mod Values
 pub mod Loads
 pub mod Limits
 pub mod Kinds
 pub mod Numbering
-pub mod Hashing
 pub mod Program
 pub mod Binding
-pub mod Shapes
 pub mod Sound
+-- What crates promise one another, what proofs use, and worked examples.
+pub mod StatementsCode
+pub mod Views
+pub mod SizeDecreases
+pub mod Hashing
+pub mod Shapes

@@ -12,8 +12,8 @@ pub record BlockShape : Type 0 where
   pub reserved : List ℕ
   pub body : Statements
 
--- what a client of a template was started with: the template's formal names with their kinds, for each formal its object, and the
--- template's blocks, whose lists and statements name formals by their numbers
+-- what a client of a template was started with: the template's formal names with their kinds, for each formal its
+-- object, and the template's blocks, whose lists and statements name formals by their numbers
 pub record StartShape : Type 0 where
   pub formals : List Declared
   pub binding : List ℕ

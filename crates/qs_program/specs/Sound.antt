@@ -3,7 +3,7 @@ use Rattle.std.specs.Prelude.{◌≡◌, ◌≤◌, ◌<◌, ℕ, ◌+◌, max, 
 use Rattle.std.specs.List.{AllByRecursion, IsDistinct, list_any}
 use Rattle.qs_objects.specs.Objects.{starts}
 use Rattle.qs_objects.specs.Operations.{is_query, arity, fits}
-use Rattle.qs_script.specs.Limits.{most_levels}
+use Rattle.qs_tree.specs.Limits.{most_levels}
 use Rattle.qs_program.specs.Limits.{most_blocks, most_clients, most_formals, most_objects, most_requests, most_steps, most_turns, most_variables}
 use Rattle.qs_program.specs.declared.code.Atom.{Atom}
 use Rattle.qs_program.specs.declared.code.Atom.TheVariants.{Variable, Number}
@@ -47,7 +47,8 @@ module _ (objects : List Declared) (reserved : List ℕ) where
   IsSoundBody (command c rest) = IsSoundCall objects reserved false c × IsSoundBody rest
   IsSoundBody (query x c rest) = (x < most_variables) × IsSoundCall objects reserved true c × IsSoundBody rest
   IsSoundBody (assign x e rest) = (x < most_variables) × IsSoundExpr e × IsSoundBody rest
-  IsSoundBody (choose t has_else first other rest) = IsSoundTest t × IsSoundBody first × IsSoundBody other × IsSoundBody rest
+  IsSoundBody (choose t has_else first other rest) =
+      IsSoundTest t × IsSoundBody first × IsSoundBody other × IsSoundBody rest
   IsSoundBody (again n body rest) = (n ≤ most_turns) × IsSoundBody body × IsSoundBody rest
   IsSoundBody (leave rest) = IsSoundBody rest
 
@@ -56,14 +57,15 @@ pub record IsSoundBlock (objects : List Declared) (b : BlockShape) : Type 0 wher
   pub distinct : IsDistinct ◌==◌ b.reserved
   pub body : IsSoundBody objects b.reserved b.body
 
--- an object for each formal, of its kind; blocks that are sound by the formals' kinds, and these are the client's blocks once each formal
--- stands for its object
+-- an object for each formal, of its kind; blocks that are sound by the formals' kinds, and these are the client's
+-- blocks once each formal stands for its object
 pub record IsSoundStart (objects : List Declared) (blocks : List BlockShape) (s : StartShape) : Type 0 where
   pub few : length s.formals ≤ most_formals
   pub each : length s.binding ≡ length s.formals
   pub inside : AllByRecursion (λ h. h < length objects) s.binding
   pub kinds : (i : ℕ) → i < length s.formals
-      → same_kind (slice_index_or s.formals i no_object).kind (slice_index_or objects (slice_index_or s.binding i 0) no_object).kind ≡ true
+      → same_kind (slice_index_or s.formals i no_object).kind
+      (slice_index_or objects (slice_index_or s.binding i 0) no_object).kind ≡ true
   pub texts : AllByRecursion (IsSoundBlock s.formals) s.blocks
   pub bound : blocks ≡ map (bound_block s.binding) s.blocks
 
@@ -93,7 +95,8 @@ module _ (count : ℕ) where
   AreVariablesBelow (query x c rest) = (x < count) × AllByRecursion IsAtomBelow c.args × AreVariablesBelow rest
   AreVariablesBelow (assign x e rest) = (x < count) × IsExprBelow e × AreVariablesBelow rest
   AreVariablesBelow (choose t has_else first other rest) =
-      IsAtomBelow t.left × IsAtomBelow t.right × AreVariablesBelow first × AreVariablesBelow other × AreVariablesBelow rest
+      IsAtomBelow t.left × IsAtomBelow t.right × AreVariablesBelow first × AreVariablesBelow other
+      × AreVariablesBelow rest
   AreVariablesBelow (again n body rest) = AreVariablesBelow body × AreVariablesBelow rest
   AreVariablesBelow (leave rest) = AreVariablesBelow rest
 
@@ -103,7 +106,8 @@ AreLeavesInside inside end = Unit {0}
 AreLeavesInside inside (command c rest) = AreLeavesInside inside rest
 AreLeavesInside inside (query x c rest) = AreLeavesInside inside rest
 AreLeavesInside inside (assign x e rest) = AreLeavesInside inside rest
-AreLeavesInside inside (choose t has_else first other rest) = AreLeavesInside inside first × AreLeavesInside inside other × AreLeavesInside inside rest
+AreLeavesInside inside (choose t has_else first other rest) =
+    AreLeavesInside inside first × AreLeavesInside inside other × AreLeavesInside inside rest
 AreLeavesInside inside (again n body rest) = AreLeavesInside true body × AreLeavesInside inside rest
 AreLeavesInside inside (leave rest) = (inside ≡ true) × AreLeavesInside inside rest
 
@@ -117,8 +121,8 @@ levels_of (choose t has_else first other rest) = max (1 + max (levels_of first) 
 levels_of (again n body rest) = max (1 + levels_of body) (levels_of rest)
 levels_of (leave rest) = max 1 (levels_of rest)
 
--- a block of a client with so many variables: its list is not empty, its variables are the client's, a `leave` stands inside a
--- repeat alone, and a statement inside at most eight others
+-- a block of a client with so many variables: its list is not empty, its variables are the client's, a `leave` stands
+-- inside a repeat alone, and a statement inside at most eight others
 pub record IsFormedBlock (variables : ℕ) (b : BlockShape) : Type 0 where
   pub some : 0 < length b.reserved
   pub below : AreVariablesBelow variables b.body
@@ -135,8 +139,8 @@ pub record AreNamesApart (p : ProgramShape) : Type 0 where
   pub objects : IsDistinct same_name (map (λ o. o.name) p.objects)
   pub clients : IsDistinct same_name (map (λ c. c.name) p.clients)
 
--- names apart, and clients formed. It does not unfold by itself, so that a search for a proof that has a sound program in sight
--- does not go through all of it
+-- names apart, and clients formed. It does not unfold by itself, so that a search for a proof that has a sound program
+-- in sight does not go through all of it
 unfoldable pub IsFormedProgram : ProgramShape → Type 0
 IsFormedProgram p = AreNamesApart p × AllByRecursion IsFormedClient p.clients
 

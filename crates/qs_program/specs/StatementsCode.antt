@@ -22,7 +22,8 @@ to end = gnil
 to (command c xs) = gcons (gnum 0) (gcons (call_code.code c) (to xs))
 to (query x c xs) = gcons (gnum 1) (gcons (gnum x) (gcons (call_code.code c) (to xs)))
 to (assign x e xs) = gcons (gnum 2) (gcons (gnum x) (gcons (expr_code.code e) (to xs)))
-to (choose t b first other xs) = gcons (gnum 3) (gcons (test_code.code t) (gcons (coded_bool.code b) (gcons (to first) (gcons (to other) (to xs)))))
+to (choose t b first other xs) =
+    gcons (gnum 3) (gcons (test_code.code t) (gcons (coded_bool.code b) (gcons (to first) (gcons (to other) (to xs)))))
 to (again n body xs) = gcons (gnum 4) (gcons (gnum n) (gcons (to body) (to xs)))
 to (leave xs) = gcons (gnum 5) (to xs)
 
@@ -48,7 +49,8 @@ inj (choose t b first other xs) (choose u d one two ys) p =
     let firsts : to first ≡ to one = cc in
     let others : to other ≡ to two = cc in
     let rests : to xs ≡ to ys = cc in
-    λ i. choose (test_code.inj t u tests i) (coded_bool.inj b d elses i) (inj first one firsts i) (inj other two others i) (inj xs ys rests i)
+    λ i. choose (test_code.inj t u tests i) (coded_bool.inj b d elses i) (inj first one firsts i)
+    (inj other two others i) (inj xs ys rests i)
 inj (again n body xs) (again m other ys) p =
     let counts : n ≡ m = cc in
     let bodies : to body ≡ to other = cc in

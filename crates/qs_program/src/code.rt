@@ -1,7 +1,7 @@
 //! Statements with each name replaced by its number.
 
 ghost use Rattle.std.specs.Prelude.{◌≡◌, ◌≤◌, ◌<◌, ◌+◌, ◌*◌, ℕ, [], ◌∷◌, ◌++◌, OnOk, OnErr, IfOk, max, min, slice_index_or, take, if◌then◌else◌, ◌==◌};
-ghost use Rattle.qs_script.specs.Limits.{most_levels};
+ghost use Rattle.qs_tree.specs.Limits.{most_levels};
 ghost use Rattle.qs_program.specs.Limits.{most_objects, most_requests, most_steps};
 ghost use Rattle.qs_program.specs.Loads.{load_of, weight_of, AreLoads};
 ghost use Rattle.qs_program.specs.Sound.{levels_of};
@@ -10,7 +10,7 @@ ghost use Rattle.qs_program.specs.Views.{single, statements_of};
 
 use crate::limits::{MOST_OBJECTS, PAST_REQUESTS, PAST_STEPS};
 use qs_objects::Op;
-use qs_script::{Operator, Relation};
+use qs_tree::{Operator, Relation};
 use smallvec::SmallVec;
 use std::alloc::{AllocError, Global};
 use std::marker::Model;
@@ -158,8 +158,8 @@ impl Drop for Stmt {
     }
 }
 
-/// A list of statements, in which a statement stands inside at most eight others: `push` adds no other, so that no call on it, nor its
-/// drop, goes deep.
+/// A list of statements, in which a statement stands inside at most eight others: `push` adds no other, so that no call
+/// on it, nor its drop, goes deep.
 #[cycle(code)]
 pub struct Body {
     stmts: Vec<Stmt>,
@@ -219,7 +219,8 @@ impl Body {
         self.stmts.as_slice()
     }
 
-    /// Adds a statement at the end, which stands inside at most eight others. An error means out of memory, and leaves the list as it was.
+    /// Adds a statement at the end, which stands inside at most eight others. An error means out of memory, and leaves
+    /// the list as it was.
     #[inline(always)]
     pub fn push(&mut self, stmt: Stmt) -> Result<(), AllocError>
         requires shallow { levels_of (single stmt) ≤ most_levels }
@@ -256,8 +257,8 @@ impl Body {
         load
     }
 
-    // The most requests that it can make on each of 8 objects, and the most steps that it can take, both counted to one past their
-    // limit.
+    // The most requests that it can make on each of 8 objects, and the most steps that it can take, both counted to one
+    // past their limit.
     pub(crate) fn loads(&self) -> (Loads, u64)
         ensures capped { AreLoads self.now result.0 }
         ensures weight { result.1 ≡ min (weight_of self.now) (most_steps + 1) }
@@ -356,8 +357,8 @@ impl Stmt {
     }
 }
 
-// Adds for each object the greater of two bodies' requests, and tells the greater of their steps. It stands by itself, so that no
-// memory is cleared for other statements.
+// Adds for each object the greater of two bodies' requests, and tells the greater of their steps. It stands by itself,
+// so that no memory is cleared for other statements.
 #[cycle(loads)]
 #[inline(never)]
 fn add_greater_loads(first: &Body, other: &Body, turns: u64, loads: &mut Loads) -> u64

@@ -19,8 +19,8 @@ impl Default for NameHasher {
     }
 }
 
-// Names that differ in their first or their last byte mostly have different hashes: by the eight highest of 32 bits a set tells
-// names apart that lie in one group, and by the lowest it picks the group.
+// Names that differ in their first or their last byte mostly have different hashes: by the eight highest of 32 bits a
+// set tells names apart that lie in one group, and by the lowest it picks the group.
 #[inline(always)]
 fn hash(text: &[u8]) -> u64
     ensures value { result ≡ hash_of text.now }

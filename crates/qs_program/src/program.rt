@@ -13,7 +13,7 @@ use crate::code::{Body, Loads};
 use crate::limits::MOST_OBJECTS;
 use crate::names::Names;
 use qs_objects::Kind;
-use qs_script::Name;
+use qs_tree::Name;
 use std::marker::Model;
 
 /// An object as it is declared.
@@ -28,8 +28,8 @@ impl Drop for Declared {
     }
 }
 
-/// A separate block: the objects that it reserves, its statements, how many requests these can make on each of 8 objects, and how
-/// many steps they can take.
+/// A separate block: the objects that it reserves, its statements, how many requests these can make on each of 8
+/// objects, and how many steps they can take.
 pub struct Block {
     reserved: Vec<u8>,
     body: Body,
@@ -114,8 +114,8 @@ impl Block {
     }
 }
 
-/// What a client of a template was started with: the template's formal names with their kinds, for each formal its object, and the
-/// template's blocks over formals.
+/// What a client of a template was started with: the template's formal names with their kinds, for each formal its
+/// object, and the template's blocks over formals.
 pub struct Start {
     formals: Vec<Declared>,
     binding: Vec<u8>,
@@ -177,8 +177,8 @@ impl Start {
     }
 }
 
-/// A client: its name, the names of its variables by number, its blocks over objects, and what it was started with, if it is of a
-/// template.
+/// A client: its name, the names of its variables by number, its blocks over objects, and what it was started with, if
+/// it is of a template.
 pub struct Client {
     name: Name,
     variables: Names,
@@ -307,7 +307,7 @@ impl Program {
     }
 
     /// What holds of every checked program; it does nothing.
-    pub fn is_sound(&self)
+    pub fn keeps_sound(&self)
         ensures sound { IsSound self.now }
     {
         let _ = &self.objects;
@@ -346,7 +346,8 @@ impl Program {
         self.clients[usize::from(client)].len()
     }
 
-    /// The load: how many requests there can be at most, over all blocks and the objects that they reserve; at most 100,000.
+    /// The load: how many requests there can be at most, over all blocks and the objects that they reserve; at most
+    /// 100,000.
     pub fn load(&self) -> u64
         ensures value { result ≡ whole_load self.now }
         ensures limit { result ≤ most_requests }
@@ -416,8 +417,8 @@ impl Program {
         client.start.is_some()
     }
 
-    /// The object that a name of a client's own text stands for: where the client is of no template, the name is the number of its object.
-    /// Takes no memory.
+    /// The object that a name of a client's own text stands for: where the client is of no template, the name is the
+    /// number of its object. Takes no memory.
     pub fn bound(&self, client: u8, name: u8) -> u8
         requires { client < length self.now.clients }
         ensures value { result ≡ bound (binding_of self.now client) name }

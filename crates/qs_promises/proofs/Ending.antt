@@ -9,10 +9,10 @@ use Rattle.qs_program.specs.Program.{ProgramShape}
 use Rattle.qs_program.specs.Sound.{IsSound}
 use Rattle.qs_meaning.specs.Configurations.{IsComplete, outcome_of}
 use Rattle.qs_meaning.proofs.Each.{each_both}
-use Rattle.qs_outcomes.specs.Lists.{HasOne}
+use Rattle.qs_standings.specs.Lists.{HasOne}
 use Rattle.qs_outcomes.specs.Outcomes.{IsLeast, IsListed, outcome_at}
-use Rattle.qs_outcomes.specs.Standings.{StandingShape}
-use Rattle.qs_outcomes.proofs.Lists.{has_map}
+use Rattle.qs_standings.specs.Standings.{StandingShape}
+use Rattle.qs_standings.proofs.Lists.{has_map}
 use Rattle.qs_played.specs.Isolation.{IsIsolated}
 use Rattle.qs_played.specs.Played.{Played}
 use Rattle.qs_plain_orders.proofs.BlockReached.{orders_played}
@@ -20,7 +20,7 @@ use Rattle.qs_core_orders.proofs.BlocksPlayed.{core_orders_played}
 use Rattle.qs_promises.specs.Finished.{FinishedRunsAreWhole, IsWholeRun, ShowsStates}
 use Rattle.qs_promises.specs.Outcomes.{CanHappen, IsAmong, FinishedRunsAreCovered, IsCovered, ListedOutcomesCanHappen, MachineReachesCompleteOrders, RulesReachCompleteOrders}
 use Rattle.qs_promises.specs.Runs.{by_rules, on_machine}
-use Rattle.qs_promises.proofs.Codes.{program_codes}
+use Rattle.qs_core_laws.proofs.ProgramCodes.{program_codes}
 use Rattle.qs_promises.proofs.Done.{EndsWhole, ends_whole}
 use Rattle.qs_promises.proofs.Isolating.{all_isolated}
 

@@ -16,13 +16,13 @@ use Rattle.qs_core_laws.specs.CoreSchedule.{IsPlayedIn, core_plays, core_schedul
 use Rattle.qs_core_laws.specs.CoreSchedule as machine
 use Rattle.qs_core_progress.proofs.Finished.{core_finished_stay}
 use Rattle.qs_core_progress.proofs.Stuck.{core_runs_never_stuck}
-use Rattle.qs_promises.specs.GoesOn.{GoesOn, MachinesGoOn, RulesGoOn, RunGoesOn, RunsGoOn, SomebodyHasStep}
+use Rattle.qs_promises.specs.GoesOn.{GoesOnOrEnds, MachinesGoOn, RulesGoOn, RunGoesOn, RunsGoOn, SomebodyHasStep}
 use Rattle.qs_promises.specs.Runs.{by_rules, on_machine, on_threads}
-use Rattle.qs_promises.proofs.Codes.{program_codes}
+use Rattle.qs_core_laws.proofs.ProgramCodes.{program_codes}
 
 goes_on : {S : Type 0} (p : ProgramShape) (finished : Bool) (step_of : Actor → Option S)
     → (finished ≡ true) ⊎ SomebodyHasStep p step_of → (finished ≡ true → (a : Actor) → step_of a ≡ None)
-    → GoesOn p finished step_of
+    → GoesOnOrEnds p finished step_of
 goes_on p finished step_of never_stuck stays = record {
   never_stuck = never_stuck;
   ends = λ nobody. elim never_stuck [
@@ -53,7 +53,7 @@ rules_run : (p : ProgramShape) → IsSound p → (picks : List Actor) (rounds : 
 unfolding scheduled
 rules_run p sound picks rounds r (few, named, shows) =
     let s = plays p (schedule p picks rounds) (begin p) in
-    subst (λ finished. GoesOn p finished (step p s)) (sym (ap (λ r. r.finished) shows))
+    subst (λ finished. GoesOnOrEnds p finished (step p s)) (sym (ap (λ r. r.finished) shows))
     (rules_go_on p sound (schedule p picks rounds))
 
 machine_run : (p : ProgramShape) → IsSound p → (mode : Mode) (size : ℕ) (picks : List Actor) (rounds : ℕ) (r : Played)
@@ -64,7 +64,7 @@ machine_run p sound mode size picks rounds r (few, named, (code, are, shows)) =
       code,
       are,
       shows,
-      subst (λ finished. GoesOn p finished (core_step code size s)) (sym (ap (λ r. r.finished) shows))
+      subst (λ finished. GoesOnOrEnds p finished (core_step code size s)) (sym (ap (λ r. r.finished) shows))
           ((machines_go_on p sound mode).each code are size (schedule p picks rounds)),
     )
 

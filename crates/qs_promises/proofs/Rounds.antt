@@ -25,7 +25,7 @@ use Rattle.qs_promises.specs.EnoughRounds.{DefaultRoundsAreEnough, DefaultRounds
 use Rattle.qs_promises.specs.EveryBeginning.{EveryBeginningLeadsToAnOutcome}
 use Rattle.qs_promises.specs.Outcomes.{IsReached}
 use Rattle.qs_promises.specs.Runs.{by_rules, on_machine, on_threads}
-use Rattle.qs_promises.proofs.Codes.{program_codes}
+use Rattle.qs_core_laws.proofs.ProgramCodes.{program_codes}
 use Rattle.qs_promises.proofs.Ending.{finished_covered}
 
 -- ---- enough rounds

@@ -25,7 +25,7 @@ NobodyHasStep p step_of = (a : Actor) → names_actor p a ≡ true → step_of a
 
 -- A state, finished or not, with the step of each actor. It is finished, or somebody has a step; so where nobody of the
 -- program has one it is finished; and where it is finished nobody at all has one.
-pub record GoesOn {S : Type 0} (p : ProgramShape) (finished : Bool) (step_of : Actor → Option S) : Type 0 where
+pub record GoesOnOrEnds {S : Type 0} (p : ProgramShape) (finished : Bool) (step_of : Actor → Option S) : Type 0 where
   pub never_stuck : (finished ≡ true) ⊎ SomebodyHasStep p step_of
   pub ends : NobodyHasStep p step_of → finished ≡ true
   pub stays : finished ≡ true → (a : Actor) → step_of a ≡ None
@@ -33,11 +33,11 @@ pub record GoesOn {S : Type 0} (p : ProgramShape) (finished : Bool) (step_of : A
 -- After a run by the plain rules or on the optimised machine, in the state that is shown. On threads only finished runs
 -- are shown; that one is shown is not claimed.
 abbrev pub RunGoesOn : ProgramShape → Way → Played → Type 0
-RunGoesOn p (by_rules picks rounds) r = GoesOn p r.finished (step p (plays p (schedule p picks rounds) (begin p)))
+RunGoesOn p (by_rules picks rounds) r = GoesOnOrEnds p r.finished (step p (plays p (schedule p picks rounds) (begin p)))
 RunGoesOn p (on_machine mode size picks rounds) r =
     (code : ℕ → ClientCode) × AreCodes p mode code
     × (r ≡ core_played p (core_plays code size (schedule p picks rounds) (core_begin p)))
-    × GoesOn p r.finished (core_step code size (core_plays code size (schedule p picks rounds) (core_begin p)))
+    × GoesOnOrEnds p r.finished (core_step code size (core_plays code size (schedule p picks rounds) (core_begin p)))
 RunGoesOn p (on_threads mode size) r = r.finished ≡ true
 
 -- for every checked program, in whichever way it is run
@@ -49,14 +49,14 @@ RunsGoOn = (p : ProgramShape) → IsSound p → (way : Way) (r : Played) → IsR
 abbrev pub RulesGoOn : Type 0
 RulesGoOn =
     (p : ProgramShape) → IsSound p → (actors : List Actor)
-    → GoesOn p (is_finished p (plays p actors (begin p))) (step p (plays p actors (begin p)))
+    → GoesOnOrEnds p (is_finished p (plays p actors (begin p))) (step p (plays p actors (begin p)))
 
 -- And on the optimised machine, in every mode and with every chunk size: a program has codes in each mode, and by any
 -- of them it goes on.
 pub record MachineGoesOn (p : ProgramShape) (mode : Mode) : Type 0 where
   pub codes : (code : ℕ → ClientCode) × AreCodes p mode code
   pub each : (code : ℕ → ClientCode) → AreCodes p mode code → (size : ℕ) (actors : List Actor)
-      → GoesOn p (machine.is_finished p (core_plays code size actors (core_begin p)))
+      → GoesOnOrEnds p (machine.is_finished p (core_plays code size actors (core_begin p)))
       (core_step code size (core_plays code size actors (core_begin p)))
 
 abbrev pub MachinesGoOn : Type 0

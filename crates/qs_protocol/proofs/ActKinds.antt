@@ -1,14 +1,15 @@
--- What a client has in hand of an object decides which kinds of act it can be due: on its way to a command or a synchronisation
--- it sends only to that object, and never awaits an object or reserves. The lemmas on acts by the client's place (`ActObjects`,
--- `ClientLogs`) rule out with these the acts that can't be. The proofs go by cases on the object and the chunk in hand.
+-- What a client has in hand of an object decides which kinds of act it can be due: on its way to a command or a
+-- synchronisation it sends only to that object, and never awaits an object or reserves. The lemmas on acts by the
+-- client's place (`ActObjects`, `ClientLogs`) rule out with these the acts that can't be. The proofs go by cases on the
+-- object and the chunk in hand.
 use Rattle.std.proofs.Common.{◌≡◌, ◌≢◌, ℕ, Bool, true, false, if◌then◌else◌, List, Option, Some, None}
 use Rattle.qs_objects.specs.Journals.{HeldState}
 use Rattle.qs_objects.specs.declared.Request.{Request}
 use Rattle.qs_chunk.specs.LaneViews.{gone}
 use Rattle.qs_chunk.specs.declared.parcel.Parcel.{Parcel}
-use Rattle.qs_client_run.specs.Client.{Settings, clear, call_act}
-use Rattle.qs_client_run.specs.declared.act.Act.{Act}
-use Rattle.qs_client_run.specs.declared.act.Act.TheVariants.{Reserve, Send, Await, NeedChunk, Finished}
+use Rattle.qs_client_rules.specs.Client.{Settings, clear, call_act}
+use Rattle.qs_client_rules.specs.declared.act.Act.{Act}
+use Rattle.qs_client_rules.specs.declared.act.Act.TheVariants.{Reserve, Send, Await, NeedChunk, Finished}
 use Rattle.qs_protocol.proofs.ClientInvariants.{in_hand}
 
 pub in_hand_gone : (o : Option HeldState) (c : Option (List Request)) → in_hand o c ≡ gone → ⊥

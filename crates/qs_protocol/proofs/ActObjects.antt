@@ -1,6 +1,7 @@
--- Whatever a client sends, awaits or needs a chunk for in its block is of an object that the block reserves; only between blocks
--- does it reserve; and nothing that it does to its own values begins a block. The proofs on steps of the machine and of threads
--- need this. They go by cases on where the client stands (`PlaceOk`), and for its quiet moves by induction on its block's tree.
+-- Whatever a client sends, awaits or needs a chunk for in its block is of an object that the block reserves; only
+-- between blocks does it reserve; and nothing that it does to its own values begins a block. The proofs on steps of the
+-- machine and of threads need this. They go by cases on where the client stands (`PlaceOk`), and for its quiet moves by
+-- induction on its block's tree.
 use Rattle.std.proofs.Common.{◌≡◌, ℕ, nat_lt, Bool, true, false, if◌then◌else◌, ◌==◌, ◌&&◌, is_some, List, [], ◌∷◌, ◌++◌, length, refl, sym, ap, ◌∙◌, subst, Option, Some, None, ℤ}
 use Rattle.qs_objects.specs.Journals.{HeldState, run_one}
 use Rattle.qs_objects.specs.declared.held.Ticket.{Ticket}
@@ -16,9 +17,9 @@ use Rattle.qs_graph.specs.Synced.{Synced, Done, Call, Sync, Query}
 use Rattle.qs_chunk.specs.LaneViews.{asks, gone}
 use Rattle.qs_chunk.specs.declared.parcel.Parcel.{Parcel}
 use Rattle.qs_chunk.specs.declared.parcel.Parcel.TheVariants as parcels
-use Rattle.qs_client_run.specs.declared.act.Act.TheVariants.{Reserve, Send, Await, NeedChunk, Finished}
-use Rattle.qs_client_run.specs.Client.{Client, ClientStage, Settings, between, runs, full, awaits, leaves, stop_at, act_at, act_of, end_block, call, query, settle, after_home, after_work, after_sync, after_end, after_parcel, take_chunk}
-use Rattle.qs_client_run.specs.Client as clients
+use Rattle.qs_client_rules.specs.declared.act.Act.TheVariants.{Reserve, Send, Await, NeedChunk, Finished}
+use Rattle.qs_client_rules.specs.Client.{Client, ClientStage, Settings, between, runs, full, awaits, leaves, stop_at, act_at, act_of, end_block, call, query, settle, after_home, after_work, after_sync, after_end, after_parcel, take_chunk}
+use Rattle.qs_client_rules.specs.Client as clients
 use Rattle.qs_protocol.proofs.ClientInvariants.{in_hand, PlaceOk, standing_at}
 use Rattle.qs_protocol.specs.ClientHistories.{apart_from}
 use Rattle.qs_protocol.proofs.ActKinds.{outside_not_send, outside_not_await, outside_not_need, call_object, clears_object, full_object, need_object, call_not_await, clears_not_await, full_not_await, clears_not_need, full_not_need, call_not_reserve, clears_not_reserve, full_not_reserve, in_hand_gone}

@@ -1,5 +1,5 @@
--- What one client did so far, block by block: for each block its page, what it sent to each object and what it got from it, and what each act
--- adds to that. The last block is where the client stands; those before it are over.
+-- What one client did so far, block by block: for each block its page, what it sent to each object and what it got from
+-- it, and what each act adds to that. The last block is where the client stands; those before it are over.
 use Rattle.std.proofs.Common.{◌≡◌, ◌<◌, ◌≤◌, arith, ℕ, zero, suc, true, false, true≢false, if◌then◌else◌, ◌==◌, List, [], ◌∷◌, ◌++◌, refl, sym, ap, ap₂, ◌∙◌}
 use Rattle.std.proofs.Common.{subst, ⊎_elim, append-nil}
 use Rattle.qs_objects.specs.Journals.{HeldState}
@@ -19,9 +19,9 @@ use Rattle.qs_graph.specs.Synced.{Synced, without_syncs}
 use Rattle.qs_syncset.specs.SoundSynced.{IsSoundSynced, IsOnReserved}
 use Rattle.qs_chunk.specs.LaneViews.{ClientLane}
 use Rattle.qs_chunk.specs.declared.parcel.Parcel.{Parcel}
-use Rattle.qs_client_run.specs.Client.{Client, Settings, Settlement, act_of, between, begin, after_parcel, take_chunk}
-use Rattle.qs_client_run.specs.Client as clients
-use Rattle.qs_client_run.specs.declared.act.Act.TheVariants.{Send, Await, NeedChunk}
+use Rattle.qs_client_rules.specs.Client.{Client, Settings, Settlement, act_of, between, begin, after_parcel, take_chunk}
+use Rattle.qs_client_rules.specs.Client as clients
+use Rattle.qs_client_rules.specs.declared.act.Act.TheVariants.{Send, Await, NeedChunk}
 use Rattle.qs_played.specs.Played.{ticket}
 use Rattle.qs_played.proofs.FunctionUpdate.{put_all, put_both, put_kept}
 use Rattle.qs_protocol.proofs.ActObjects.{await_at, chunk_begun, got_begun, send_at, sent_begun, settle_begun}
@@ -41,7 +41,8 @@ pub record Block : Type 0 where
 abbrev pub block_with : BlockRecord → (ℕ → List Parcel) → (ℕ → List HeldState) → Block
 block_with page sent got = record { page = page; sent = sent; got = got }
 
--- a client with so many blocks, in the midst of its run: the variables at entry and the trace of each block that it began, and all that it sent and got
+-- a client with so many blocks, in the midst of its run: the variables at entry and the trace of each block that it
+-- began, and all that it sent and got
 pub record BlockHistories (program : ProgramShape) (c blocks : ℕ) (m : Client) (entry : ℕ → Locals) (trace : ℕ → List Event)
     (sent : ℕ → List Parcel) (got : ℕ → List HeldState) : Type 0 where
   pub block : ℕ → Block

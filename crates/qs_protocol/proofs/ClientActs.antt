@@ -1,6 +1,6 @@
--- Each single act of a client keeps what its lanes say of its trace: it sends the object home, a chunk, a Sync or an End, or
--- takes an object or an empty chunk. The lemmas on whole acts with the quiet work after them (`ClientLogs`) stand on this. Only
--- one object's lane goes on, by one of the moves of a lane; all others stay as they were.
+-- Each single act of a client keeps what its lanes say of its trace: it sends the object home, a chunk, a Sync or an
+-- End, or takes an object or an empty chunk. The lemmas on whole acts with the quiet work after them (`ClientLogs`)
+-- stand on this. Only one object's lane goes on, by one of the moves of a lane; all others stay as they were.
 use Rattle.std.proofs.Common.{◌≡◌, ℕ, Bool, true, false, true≢false, if◌then◌else◌, ◌==◌, is_some, List, [], ◌∷◌, ◌++◌, refl, sym, ap, ap₂, ◌∙◌, subst, ◌⊎◌, inl, inr, ⊎_elim, append-nil, Option, Some, None}
 use Rattle.qs_objects.specs.Journals.{HeldState}
 use Rattle.qs_objects.specs.Parts.{part}
@@ -20,7 +20,7 @@ use Rattle.qs_chunk.specs.Batch.{batch}
 use Rattle.qs_chunk.specs.LaneViews.{ObjectStance, sends, asks, holds, gone, ClientLane}
 use Rattle.qs_chunk.specs.declared.parcel.Parcel.{Parcel}
 use Rattle.qs_chunk.specs.declared.parcel.Parcel.TheVariants as parcels
-use Rattle.qs_client_run.specs.Client.{Client, Settings, work}
+use Rattle.qs_client_rules.specs.Client.{Client, Settings, work}
 use Rattle.qs_played.proofs.FunctionUpdate.{put_all, put_both}
 use Rattle.qs_protocol.proofs.ClientInvariants.{in_hand, NotBoth, holding, Ready, Waiting, Leaving}
 use Rattle.qs_protocol.specs.ClientHistories.{apart_from}

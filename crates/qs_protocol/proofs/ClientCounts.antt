@@ -1,7 +1,7 @@
--- In a block the Syncs that a client has sent for an object, with those that its tree still asks for, are always the count of the
--- whole trace, whatever replies come. The exact counts of the machine and of threads (`CoreCounting`, `HistoryCounts`) keep this
--- with each act. What holds at each place is `CountAt`; each act keeps it, by cases on the place, and so does quiet work, by
--- induction on the tree.
+-- In a block the Syncs that a client has sent for an object, with those that its tree still asks for, are always the
+-- count of the whole trace, whatever replies come. The exact counts of the machine and of threads (`CoreCounting`,
+-- `HistoryCounts`) keep this with each act. What holds at each place is `CountAt`; each act keeps it, by cases on the
+-- place, and so does quiet work, by induction on the tree.
 use Rattle.std.proofs.Common.{◌≡◌, ℕ, suc, ◌+◌, nat_lt, Bool, true, false, if◌then◌else◌, ◌==◌, ◌&&◌, is_some, List, [], ◌∷◌, ◌++◌, length, refl, sym, ap, ◌∙◌, subst, ⊎_elim, append_assoc, append-nil, Option, Some, None, ℤ, arith}
 use Rattle.qs_objects.specs.Journals.{HeldState, run_one}
 use Rattle.qs_objects.specs.Parts.{command_event}
@@ -17,8 +17,8 @@ use Rattle.qs_syncset.specs.SyncCounts.{syncs_along}
 use Rattle.qs_syncset.proofs.SyncTrees.{IsAsking, IsQueryOf}
 use Rattle.qs_chunk.specs.declared.parcel.Parcel.{Parcel}
 use Rattle.qs_chunk.specs.declared.parcel.Parcel.TheVariants as parcels
-use Rattle.qs_client_run.specs.Client.{Client, ClientStage, Settings, Settlement, act_at, act_of, between, runs, full, awaits, leaves, call_act, call, clear, take_object, end_block, query, after_parcel, after_end, after_home, after_sync, after_work, settle, stop_at, take_chunk, with_event, work}
-use Rattle.qs_client_run.specs.declared.act.Act.TheVariants.{Send, Finished}
+use Rattle.qs_client_rules.specs.Client.{Client, ClientStage, Settings, Settlement, act_at, act_of, between, runs, full, awaits, leaves, call_act, call, clear, take_object, end_block, query, after_parcel, after_end, after_home, after_sync, after_work, settle, stop_at, take_chunk, with_event, work}
+use Rattle.qs_client_rules.specs.declared.act.Act.TheVariants.{Send, Finished}
 use Rattle.qs_protocol.proofs.ActKinds.{outside_not_send}
 use Rattle.qs_protocol.proofs.ClientInvariants.{holding}
 

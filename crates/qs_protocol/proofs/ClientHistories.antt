@@ -1,6 +1,7 @@
--- What one client's whole run says, block by block: all its blocks are over, each with its page, what it sent to each object and what it got
--- from it, and these joined are all that it sent and got. The objects that it got are arbitrary; nothing of threads, queues or other clients
--- is in it. The run is read where nothing is left to be done for the last act, since each act begins with that.
+-- What one client's whole run says, block by block: all its blocks are over, each with its page, what it sent to each
+-- object and what it got from it, and these joined are all that it sent and got. The objects that it got are arbitrary;
+-- nothing of threads, queues or other clients is in it. The run is read where nothing is left to be done for the last
+-- act, since each act begins with that.
 use Rattle.std.proofs.Common.{◌≡◌, ◌<◌, arith, ℕ, zero, suc, true, false, List, [], ◌∷◌, ◌++◌, length, replicate, slice_index_or}
 use Rattle.std.proofs.Common.{refl, sym, ap, ap₂, ◌∙◌, subst, append-nil, ◌+◌, length-append, length-set}
 use Rattle.std.proofs.lemmas.List.{length-replicate}
@@ -18,10 +19,10 @@ use Rattle.qs_syncset.specs.Codes.{ClientCode, code_at}
 use Rattle.qs_syncset.specs.SoundSynced.{IsSoundSynced, IsOnReserved}
 use Rattle.qs_sync_counts.specs.declared.sync_counts.SyncCount.{SyncCount}
 use Rattle.qs_chunk.specs.declared.parcel.Parcel.{Parcel}
-use Rattle.qs_client_run.specs.Client.{Client, ClientStage, Settings, Settlement, act_at, act_of, between, begin, after_parcel, take_chunk}
-use Rattle.qs_client_run.specs.Client as clients
-use Rattle.qs_client_run.specs.BetweenActs.{count_sync, outgoing_of}
-use Rattle.qs_client_run.specs.declared.act.Act.TheVariants as acts
+use Rattle.qs_client_rules.specs.Client.{Client, ClientStage, Settings, Settlement, act_at, act_of, between, begin, after_parcel, take_chunk}
+use Rattle.qs_client_rules.specs.Client as clients
+use Rattle.qs_client_rules.specs.Outgoings.{count_sync, outgoing_of}
+use Rattle.qs_client_rules.specs.declared.act.Act.TheVariants as acts
 use Rattle.qs_client.specs.ClientRuns.{Deed, DeedsLead, RunsTo, got_from, next_ticket, reservations, sent_to}
 use Rattle.qs_client.specs.ClientRuns as deeds
 use Rattle.qs_client.specs.ClientModel.{ClientModel, act_due, mind_after_begin, mind_after_chunk, finish, enters, fresh_mind, mind_after_object, hands_out, is_between, tally, tree_at}

@@ -1,7 +1,7 @@
--- This file defines how a client stands in its block (`PlaceOk`, by its stage): what is left of its tree, what it has in hand,
--- and what its lanes say of its trace. The proofs about clients, of the optimised machine and of threads, keep this with each
--- act. For each object, all that was sent and got is a lane as its client sees it, which ends where the client stands to the
--- object now.
+-- This file defines how a client stands in its block (`PlaceOk`, by its stage): what is left of its tree, what it has
+-- in hand, and what its lanes say of its trace. The proofs about clients, of the optimised machine and of threads, keep
+-- this with each act. For each object, all that was sent and got is a lane as its client sees it, which ends where the
+-- client stands to the object now.
 use Rattle.std.proofs.Common.{◌≡◌, ◌⊎◌, ℕ, Bool, true, false, if◌then◌else◌, ◌==◌, is_some, List, [], ◌∷◌, Option, Some, None}
 use Rattle.qs_objects.specs.Journals.{HeldState}
 use Rattle.qs_objects.specs.Parts.{part}
@@ -19,7 +19,7 @@ use Rattle.qs_syncset.specs.SoundSynced.{IsSoundSynced, IsOnReserved}
 use Rattle.qs_protocol.specs.ClientHistories.{HasNone, IsOpenRecord, apart_from}
 use Rattle.qs_chunk.specs.LaneViews.{ObjectStance, sends, asks, holds, gone, ClientLane}
 use Rattle.qs_chunk.specs.declared.parcel.Parcel.{Parcel}
-use Rattle.qs_client_run.specs.Client.{Client, ClientStage, between, runs, full, awaits, leaves}
+use Rattle.qs_client_rules.specs.Client.{Client, ClientStage, between, runs, full, awaits, leaves}
 
 -- how a client stands to an object, by what it has in hand
 abbrev pub in_hand : Option HeldState → Option (List Request) → ObjectStance

@@ -1,7 +1,7 @@
--- After each act of a client, and all the quiet work that follows it, the client still stands in its block as its lanes say. The
--- machine's invariant and the tale of a client's whole run take this from here (`sends_ok`, `gets_ok`, `chunks_ok`, and
--- `books_ok` where a block begins). The proof goes by cases on the client's stage and on what it has in hand: first the act, then
--- the quiet work.
+-- After each act of a client, and all the quiet work that follows it, the client still stands in its block as its lanes
+-- say. The machine's invariant and the tale of a client's whole run take this from here (`sends_ok`, `gets_ok`,
+-- `chunks_ok`, and `books_ok` where a block begins). The proof goes by cases on the client's stage and on what it has
+-- in hand: first the act, then the quiet work.
 use Rattle.std.proofs.Common.{◌≡◌, ℕ, suc, nat_lt, false, true≢false, List, [], ◌∷◌, ◌++◌, refl, sym, ap₂, subst, inl, Option, Some, None}
 use Rattle.qs_objects.specs.Journals.{HeldState}
 use Rattle.qs_objects.specs.declared.held.Ticket.{Ticket}
@@ -16,9 +16,9 @@ use Rattle.qs_syncset.specs.SoundSynced.{IsSoundSynced, IsOnReserved}
 use Rattle.qs_chunk.specs.LaneViews.{ClientLane}
 use Rattle.qs_chunk.specs.declared.parcel.Parcel.{Parcel}
 use Rattle.qs_chunk.specs.declared.parcel.Parcel.TheVariants as parcels
-use Rattle.qs_client_run.specs.declared.act.Act.TheVariants.{Send, Await, NeedChunk, Finished}
-use Rattle.qs_client_run.specs.Client.{Client, ClientStage, Settings, Settlement, between, runs, full, awaits, leaves, work, clear, call_act, act_at, act_of, settle, after_home, after_work, after_sync, after_end, after_parcel, take_chunk, begin}
-use Rattle.qs_client_run.specs.Client as clients
+use Rattle.qs_client_rules.specs.declared.act.Act.TheVariants.{Send, Await, NeedChunk, Finished}
+use Rattle.qs_client_rules.specs.Client.{Client, ClientStage, Settings, Settlement, between, runs, full, awaits, leaves, work, clear, call_act, act_at, act_of, settle, after_home, after_work, after_sync, after_end, after_parcel, take_chunk, begin}
+use Rattle.qs_client_rules.specs.Client as clients
 use Rattle.qs_protocol.proofs.ClientInvariants.{in_hand, holding, objects_of_block, Lined, Ready, Leaving, PlaceOk}
 use Rattle.qs_protocol.proofs.ActKinds.{outside_not_send, outside_not_await, outside_not_need, call_not_await, clears_not_await, full_not_await, clears_not_need, full_not_need}
 use Rattle.qs_protocol.proofs.SilentSteps.{sound_more, Ends, ends_stays, settle_ends, leaving_ends}

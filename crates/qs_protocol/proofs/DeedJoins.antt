@@ -1,5 +1,5 @@
--- A client's deeds, one run of them after another: where they lead, and what was sent, got and reserved by them. So what is known of a run
--- grows with its next deed, at the end.
+-- A client's deeds, one run of them after another: where they lead, and what was sent, got and reserved by them. So
+-- what is known of a run grows with its next deed, at the end.
 use Rattle.std.proofs.Common.{◌≡◌, arith, ℕ, ◌+◌, Bool, true, false, if◌then◌else◌, ◌==◌, List, [], ◌∷◌, ◌++◌, refl, sym, ap, subst, add-zero}
 use Rattle.qs_client.specs.ClientRuns.{Deed, DeedsLead, got_from, next_ticket, reservations, sent_to}
 use Rattle.qs_client.specs.ClientRuns as deeds

@@ -1,11 +1,11 @@
--- How a client stands to the lane of a handler in the midst of its run: what it sent there by its deeds is what its mind believes, so that
--- what it hands out next may follow.
+-- How a client stands to the lane of a handler in the midst of its run: what it sent there by its deeds is what its
+-- mind believes, so that what it hands out next may follow.
 use Rattle.std.proofs.Common.{◌≡◌, ℕ, true, false, if◌then◌else◌, ◌==◌, List, [], ◌∷◌, ◌++◌, sym, subst, ⊎_elim, append_assoc, append-nil}
 use Rattle.qs_objects.proofs.Choices.{apart_eqb, eqb_self, num_cases}
 use Rattle.qs_chunk.specs.declared.parcel.Parcel.{Parcel}
 use Rattle.qs_client_run.specs.NextActs.{SendsNothing}
-use Rattle.qs_client_run.specs.declared.act.Act.{Act}
-use Rattle.qs_client_run.specs.declared.act.Act.TheVariants as acts
+use Rattle.qs_client_rules.specs.declared.act.Act.{Act}
+use Rattle.qs_client_rules.specs.declared.act.Act.TheVariants as acts
 use Rattle.qs_client.specs.ClientLanes.{MindStandsAt}
 use Rattle.qs_client.specs.ClientRuns.{Deed, DeedsLead, next_ticket, reserves, sends, gets, takes_chunk, sent_to}
 use Rattle.qs_client.specs.ClientModel.{Asks, ClientModel, mind_after_begin, mind_after_chunk, finish, mind_after_object, hands_out, next_act, next_mind}

@@ -13,11 +13,11 @@ use Rattle.qs_meaning.proofs.TreeWalks.{put_here}
 use Rattle.qs_graph.specs.Synced.{Synced, Done, Call, Sync, Query}
 use Rattle.qs_chunk.specs.declared.parcel.Parcel.{Parcel}
 use Rattle.qs_chunk.specs.declared.parcel.Parcel.TheVariants as parcels
-use Rattle.qs_client_run.specs.declared.act.Act.{Act}
-use Rattle.qs_client_run.specs.declared.act.Act.TheVariants.{Reserve, Send, Finished}
-use Rattle.qs_client_run.specs.Client.{Client, ClientStage, Settings, Settlement, between, runs, full, awaits, leaves, act_at, call_act, call, clear, end_block}
-use Rattle.qs_client_run.specs.Client.{query, after_parcel, after_end, after_home, after_sync, after_work, settle, stop_at, take_chunk}
-use Rattle.qs_client_run.specs.Client as clients
+use Rattle.qs_client_rules.specs.declared.act.Act.{Act}
+use Rattle.qs_client_rules.specs.declared.act.Act.TheVariants.{Reserve, Send, Finished}
+use Rattle.qs_client_rules.specs.Client.{Client, ClientStage, Settings, Settlement, between, runs, full, awaits, leaves, act_at, call_act, call, clear, end_block}
+use Rattle.qs_client_rules.specs.Client.{query, after_parcel, after_end, after_home, after_sync, after_work, settle, stop_at, take_chunk}
+use Rattle.qs_client_rules.specs.Client as clients
 use Rattle.qs_protocol.proofs.ActObjects.{between_acts}
 use Rattle.qs_protocol.proofs.ClientInvariants.{PlaceOk}
 

@@ -1,4 +1,5 @@
--- How many Syncs a client's whole run sent for each object, block by block: as many as its block's tree and trace say, and as its rows count.
+-- How many Syncs a client's whole run sent for each object, block by block: as many as its block's tree and trace say,
+-- and as its rows count.
 use Rattle.std.proofs.Common.{◌≡◌, ◌<◌, ◌≤◌, arith, ℕ, suc, ◌+◌, Bool, true, false, ◌==◌, is_some, List, [], ◌∷◌, ◌++◌, length, map, slice_index_or}
 use Rattle.std.proofs.Common.{slice_set, refl, sym, ap, ◌∙◌, subst, true≢false, ⊎_elim, length-set}
 use Rattle.std.specs.List.{AllByRecursion, IsDistinct}
@@ -22,14 +23,14 @@ use Rattle.qs_sync_counts.specs.declared.sync_counts.SyncCount.{SyncCount}
 use Rattle.qs_syncset.proofs.SyncTrees.{IsAsking}
 use Rattle.qs_chunk.specs.declared.parcel.Parcel.{Parcel}
 use Rattle.qs_chunk.specs.declared.parcel.Parcel.TheVariants as parcels
-use Rattle.qs_client_run.specs.Client.{Client, ClientStage, Settings, Settlement, act_of, between, begin, after_parcel, take_chunk}
-use Rattle.qs_client_run.specs.Client as clients
-use Rattle.qs_client_run.specs.BetweenActs.{count_sync, outgoing_of}
-use Rattle.qs_client_run.specs.declared.act.Act.TheVariants as acts
-use Rattle.qs_client_run.specs.declared.stage.Outgoing.TheVariants as outgoings
+use Rattle.qs_client_rules.specs.Client.{Client, ClientStage, Settings, Settlement, act_of, between, begin, after_parcel, take_chunk}
+use Rattle.qs_client_rules.specs.Client as clients
+use Rattle.qs_client_rules.specs.Outgoings.{count_sync, outgoing_of}
+use Rattle.qs_client_rules.specs.declared.act.Act.TheVariants as acts
+use Rattle.qs_client_rules.specs.declared.outgoing.Outgoing.TheVariants as outgoings
 use Rattle.qs_client.specs.ClientRuns.{Deed, DeedsLead, RunsTo, next_ticket}
 use Rattle.qs_client.specs.ClientRuns as deeds
-use Rattle.qs_client.specs.ClientModel.{ClientModel, act_due, mind_after_begin, mind_after_chunk, finish, enters, fresh_mind, mind_after_object, hands_out, is_between, lists_of, tally, tree_at}
+use Rattle.qs_client.specs.ClientModel.{ClientModel, act_due, mind_after_begin, mind_after_chunk, finish, enters, fresh_mind, mind_after_object, hands_out, is_between, lists_of_code, tally, tree_at}
 use Rattle.qs_played.specs.Played.{ticket}
 use Rattle.qs_played.proofs.FunctionUpdate.{put_both}
 use Rattle.qs_played.proofs.SyncTallies.{none_for, objects_none, objects_stay, sent_for}
@@ -323,17 +324,17 @@ module _ (program : ProgramShape) (fine : (t : Ticket) (l : Locals) → AsksOnly
     newest = λ k e. absurd (omega (arith, e));
     older = λ k lt. absurd (omega (arith, lt));
     fresh = λ k low h. refl;
-    row_count = length-map (lists_of code.blocks) no_syncs ∙ length-map code.blocks (λ (b : BlockCode). b.reserved);
+    row_count = length-map (lists_of_code code.blocks) no_syncs ∙ length-map code.blocks (λ (b : BlockCode). b.reserved);
     rows = λ k lt. subst (λ xs. IsTallied (objects_of_block program (ticket c k)) xs (λ h. 0)) (sym (row_is k lt)) (record {
       objects_are = objects_none (objects_of_block program (ticket c k));
       numbers = λ h. none_for (objects_of_block program (ticket c k)) h;
     });
   })
     where
-      row_is : (k : ℕ) → k < length code.blocks → slice_index_or (fresh_rows (lists_of code.blocks)) k [] ≡ no_syncs (objects_of_block program (ticket c k))
+      row_is : (k : ℕ) → k < length code.blocks → slice_index_or (fresh_rows (lists_of_code code.blocks)) k [] ≡ no_syncs (objects_of_block program (ticket c k))
       row_is k lt =
           let many = length-map code.blocks (λ (b : BlockCode). b.reserved) in
-          get_or-map no_syncs (lists_of code.blocks) k [] [] (omega (arith, many, lt))
+          get_or-map no_syncs (lists_of_code code.blocks) k [] [] (omega (arith, many, lt))
           ∙ ap no_syncs (get_or-map (λ (b : BlockCode). b.reserved) code.blocks k no_code [] lt ∙ reserved_is k lt)
 
   abbrev pub Both : List Deed → ClientModel → Type 0

@@ -1,6 +1,6 @@
--- A lane as its client or its handler sees it goes on by one move: what the move sends, gives or logs stands at the end of the
--- lists. Each step of a client at a lane is one of seven such moves, and each step of a handler one of five. As a lane is read
--- from its first parcel on, the proofs go by induction on what was sent or received so far.
+-- A lane as its client or its handler sees it goes on by one move: what the move sends, gives or logs stands at the end
+-- of the lists. Each step of a client at a lane is one of seven such moves, and each step of a handler one of five. As
+-- a lane is read from its first parcel on, the proofs go by induction on what was sent or received so far.
 use Rattle.std.proofs.Common.{◌≡◌, Bool, true, false, List, [], ◌∷◌, ◌++◌, map, refl, sym, ap, ap₂, ◌∙◌, subst, append_assoc}
 use Rattle.std.proofs.lemmas.List.{map-append}
 use Rattle.qs_objects.specs.Journals.{HeldState, run_one}

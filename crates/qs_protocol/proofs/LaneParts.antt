@@ -1,7 +1,7 @@
--- The parcels of several tickets that lie in one lane, one ticket after another, are parted into these tickets again at each End.
--- So it is known what is on its way for one ticket (`CommandsInTransit`), and the lanes of a run on threads are cut into blocks
--- (`LaneCuts`). A client that has left has sent its End, by induction on what it sent; the tickets are then gone through one by
--- one.
+-- The parcels of several tickets that lie in one lane, one ticket after another, are parted into these tickets again at
+-- each End. So it is known what is on its way for one ticket (`CommandsInTransit`), and the lanes of a run on threads
+-- are cut into blocks (`LaneCuts`). A client that has left has sent its End, by induction on what it sent; the tickets
+-- are then gone through one by one.
 use Rattle.std.proofs.Common.{◌≡◌, Bool, true, false, true≢false, List, [], ◌∷◌, ◌++◌, flat_map, refl, sym, ap, ◌∙◌, subst, inl, inr, ⊎_elim}
 use Rattle.std.specs.List.{AllByRecursion}
 use Rattle.qs_objects.specs.Journals.{HeldState}

@@ -1,6 +1,7 @@
--- Both ends of one lane, compared, say which parcel may come next to the handler, and that a handler has nothing more to receive,
--- or a client nothing more to get, once the other has come so far. The steps at an object (`ObjectSteps`) stand on this. The
--- proofs go by induction on what the handler received, where each Sync is met by an object that was given.
+-- Both ends of one lane, compared, say which parcel may come next to the handler, and that a handler has nothing more
+-- to receive, or a client nothing more to get, once the other has come so far. The steps at an object (`ObjectSteps`)
+-- stand on this. The proofs go by induction on what the handler received, where each Sync is met by an object that was
+-- given.
 use Rattle.std.proofs.Common.{◌≡◌, ℕ, Bool, true, false, if◌then◌else◌, ◌==◌, List, [], ◌∷◌, ◌++◌, filter, flat_map, refl, sym, ap, ap₂, ◌∙◌, subst, ◌⊎◌, inl, inr, append_assoc, append-nil}
 use Rattle.std.specs.List.{AllByRecursion}
 use Rattle.qs_objects.specs.Journals.{HeldState}

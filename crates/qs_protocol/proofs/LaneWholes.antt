@@ -1,6 +1,7 @@
--- A ticket's part of its trace is what was run on the object, wherever the object is, then the commands in the lane, and then
--- those in the open chunk; in a lane that was taken to its End all of it was run. So journals follow the traces (`JournalOrder`,
--- `JournalFlows`). The proof reads both ends of the lane side by side, by induction on what the handler received.
+-- A ticket's part of its trace is what was run on the object, wherever the object is, then the commands in the lane,
+-- and then those in the open chunk; in a lane that was taken to its End all of it was run. So journals follow the
+-- traces (`JournalOrder`, `JournalFlows`). The proof reads both ends of the lane side by side, by induction on what the
+-- handler received.
 use Rattle.std.proofs.Common.{◌≡◌, Bool, true, false, List, [], ◌∷◌, ◌++◌, map, refl, sym, ap, ap₂, ◌∙◌, subst, append_assoc, append-nil}
 use Rattle.std.proofs.lemmas.List.{map-append}
 use Rattle.qs_objects.specs.Journals.{HeldState}

@@ -1,6 +1,7 @@
--- Each step at an object keeps how its queue, its lanes and its handler stand to what the clients sent and got (`IsObject`). The
--- lemmas on steps of clients and handlers (`HandlerSteps`, `SendingPreserved`) stand on this. Only one ticket's lane moves: those
--- before it in the queue are over, of those after it nothing was received, and a client's lane is its tickets' parcels joined.
+-- Each step at an object keeps how its queue, its lanes and its handler stand to what the clients sent and got
+-- (`IsObject`). The lemmas on steps of clients and handlers (`HandlerSteps`, `SendingPreserved`) stand on this. Only
+-- one ticket's lane moves: those before it in the queue are over, of those after it nothing was received, and a
+-- client's lane is its tickets' parcels joined.
 use Rattle.std.proofs.Common.{◌≡◌, ◌<◌, arith, ℕ, Bool, true, false, if◌then◌else◌, ◌==◌, List, [], ◌∷◌, ◌++◌, filter, flat_map, refl, sym, ap, ap₂, ◌∙◌, subst, ◌⊎◌, inl, inr, ⊎_elim, append_assoc, append-nil}
 use Rattle.std.specs.List.{AllByRecursion}
 use Rattle.std.proofs.lemmas.List.Elements.{filter-append}

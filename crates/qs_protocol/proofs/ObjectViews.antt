@@ -50,8 +50,8 @@ pub record ClientLog : Type 0 where
   pub events : Ticket → List Event
   pub stands : Ticket → ObjectStance
 
--- what the handler did, ticket by ticket, and what is on the way; the object that it gave last; those that it has served, and the object
--- that the next one found
+-- what the handler did, ticket by ticket, and what is on the way; the object that it gave last; those that it has
+-- served, and the object that the next one found
 pub record HandlerLog : Type 0 where
   pub received : Ticket → List Parcel
   pub way : Ticket → List Parcel

@@ -1,5 +1,5 @@
--- In the midst of its run a client is in one of its blocks wherever it sends, awaits or takes a chunk, and that block reserves the object: so
--- a lane is there for all that it asks for.
+-- In the midst of its run a client is in one of its blocks wherever it sends, awaits or takes a chunk, and that block
+-- reserves the object: so a lane is there for all that it asks for.
 use Rattle.std.proofs.Common.{◌≡◌, ◌<◌, ℕ, true, false, List, length, sym, ◌∙◌}
 use Rattle.qs_objects.specs.declared.held.Ticket.{Ticket}
 use Rattle.qs_program.specs.Program.{ProgramShape}
@@ -9,8 +9,8 @@ use Rattle.qs_graph.specs.Synced.{without_syncs}
 use Rattle.qs_syncset.specs.Codes.{ClientCode, code_at}
 use Rattle.qs_syncset.specs.SoundSynced.{IsSoundSynced, IsOnReserved}
 use Rattle.qs_chunk.specs.declared.parcel.Parcel.{Parcel}
-use Rattle.qs_client_run.specs.Client.{Settings, act_of}
-use Rattle.qs_client_run.specs.declared.act.Act.TheVariants as acts
+use Rattle.qs_client_rules.specs.Client.{Settings, act_of}
+use Rattle.qs_client_rules.specs.declared.act.Act.TheVariants as acts
 use Rattle.qs_client.specs.ClientRuns.{Deed}
 use Rattle.qs_client.specs.ClientModel.{ClientModel, act_due, tree_at}
 use Rattle.qs_played.specs.Played.{ticket}

@@ -1,6 +1,6 @@
--- The list of each block of a sound program names each object once, and each of them is reserved by the block. The proofs on
--- clients ask for this (`lined`), as a client leaves the objects of its list one after another. It is shown by induction on the
--- list, whose members differ; a ticket that is of no block has an empty list.
+-- The list of each block of a sound program names each object once, and each of them is reserved by the block. The
+-- proofs on clients ask for this (`lined`), as a client leaves the objects of its list one after another. It is shown
+-- by induction on the list, whose members differ; a ticket that is of no block has an empty list.
 use Rattle.std.proofs.Common.{◌≡◌, ◌<◌, ℕ, nat_lt, ◌==◌, ◌||◌, Bool, true, false, List, [], ◌∷◌, length, refl, sym, subst, arith}
 use Rattle.std.proofs.lemmas.Map.Keys.{IsDistinct-head, IsDistinct-tail}
 use Rattle.std.specs.List.{AllByRecursion, IsDistinct}

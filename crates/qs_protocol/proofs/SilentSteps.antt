@@ -1,6 +1,7 @@
--- All quiet work of a client keeps what its lanes say of its trace: it puts a command into the open chunk, runs a query on the
--- object in hand, and passes a synchronisation that it may skip. The lemmas on acts with the quiet work after them (`ClientLogs`)
--- stand on this. The proof is an induction on the block's tree, where each event is a move of one object's lane.
+-- All quiet work of a client keeps what its lanes say of its trace: it puts a command into the open chunk, runs a query
+-- on the object in hand, and passes a synchronisation that it may skip. The lemmas on acts with the quiet work after
+-- them (`ClientLogs`) stand on this. The proof is an induction on the block's tree, where each event is a move of one
+-- object's lane.
 use Rattle.std.proofs.Common.{◌≡◌, ℕ, Bool, true, false, true≢false, if◌then◌else◌, ◌==◌, ◌&&◌, is_some, List, [], ◌∷◌, ◌++◌, length, refl, sym, ap, ap₂, ◌∙◌, subst, ◌⊎◌, inl, inr, ⊎_elim, append_assoc, append-nil, Option, Some, None, ℤ}
 use Rattle.qs_objects.specs.Journals.{HeldState, run_one}
 use Rattle.qs_objects.specs.Laws.{IsCommand}
@@ -23,7 +24,7 @@ use Rattle.qs_graph.specs.Synced.{Synced, Done, Call, Sync, Query, without_syncs
 use Rattle.qs_syncset.specs.SoundSynced.{IsSoundSynced}
 use Rattle.qs_chunk.specs.LaneViews.{sends, holds, ClientLane}
 use Rattle.qs_chunk.specs.declared.parcel.Parcel.{Parcel}
-use Rattle.qs_client_run.specs.Client.{Client, ClientStage, Settings, Settlement, between, runs, full, leaves, stop_at, with_event, end_block, call, query, settle}
+use Rattle.qs_client_rules.specs.Client.{Client, ClientStage, Settings, Settlement, between, runs, full, leaves, stop_at, with_event, end_block, call, query, settle}
 use Rattle.qs_played.proofs.FunctionUpdate.{put_all}
 use Rattle.qs_protocol.proofs.ClientInvariants.{in_hand, holding, objects_of_block, Lined, Ready, Leaving, PlaceOk}
 use Rattle.qs_protocol.specs.ClientHistories.{apart_from}

@@ -1,5 +1,6 @@
--- The promise of this crate: what one client's whole run says, block by block, from its deeds alone. Each block is over and has its record,
--- what was sent to each of its objects and what was got from it; joined, these are all that the client sent and got.
+-- The promise of this crate: what one client's whole run says, block by block, from its deeds alone. Each block is over
+-- and has its record, what was sent to each of its objects and what was got from it; joined, these are all that the
+-- client sent and got.
 use Rattle.std.specs.Prelude.{◌≡◌, ◌<◌, ℕ, zero, suc, true, false, if◌then◌else◌, List, [], ◌++◌, length, slice_index_or, None}
 use Rattle.qs_objects.specs.Journals.{HeldState}
 use Rattle.qs_objects.specs.Parts.{part}
@@ -11,8 +12,8 @@ use Rattle.qs_meaning.specs.Serial.{zeros}
 use Rattle.qs_syncset.specs.Codes.{ClientCode}
 use Rattle.qs_chunk.specs.LaneViews.{ObjectStance, gone, sends, ClientLane}
 use Rattle.qs_chunk.specs.declared.parcel.Parcel.{Parcel}
-use Rattle.qs_client_run.specs.Client.{Client}
-use Rattle.qs_client_run.specs.Client as clients
+use Rattle.qs_client_rules.specs.Client.{Client}
+use Rattle.qs_client_rules.specs.Client as clients
 use Rattle.qs_client.specs.ClientModel.{ClientModel, is_between}
 use Rattle.qs_client.specs.ClientRuns.{Deed, got_from, reservations, sent_to}
 use Rattle.qs_played.specs.Played.{ticket}
@@ -37,14 +38,17 @@ upto f (suc n) = upto f n ++ f n
 
 module _ (program : ProgramShape) (c : ℕ) where
   -- a block that is over: its page, and for each object what was sent and got
-  pub record IsBlockHistory (k : ℕ) (pg : BlockRecord) (sent : ℕ → List Parcel) (got : ℕ → List HeldState) : Type 0 where
+  pub record IsBlockHistory (k : ℕ) (pg : BlockRecord) (sent : ℕ → List Parcel)
+      (got : ℕ → List HeldState) : Type 0 where
     pub page : IsOpenRecord program (ticket c k) pg
     pub done : IsDone pg.rest
-    pub lanes : (h : ℕ) → ClientLane (ticket c k) false (sent h) (got h) (part h pg.trace) (apart_from program (ticket c k) h)
+    pub lanes : (h : ℕ) → ClientLane (ticket c k) false (sent h) (got h) (part h pg.trace)
+        (apart_from program (ticket c k) h)
     pub outside : (h : ℕ) → reserves program (ticket c k) h ≡ false → (sent h ≡ []) × (got h ≡ [])
 
 -- what one client's whole run says
-pub record ClientHistory (program : ProgramShape) (c : ℕ) (code : ClientCode) (deeds : List Deed) (end : ClientModel) : Type 0 where
+pub record ClientHistory (program : ProgramShape) (c : ℕ) (code : ClientCode) (deeds : List Deed)
+    (end : ClientModel) : Type 0 where
   pub page : ℕ → BlockRecord
   pub sent : ℕ → ℕ → List Parcel
   pub got : ℕ → ℕ → List HeldState

@@ -1,6 +1,6 @@
--- Each step of a queue keeps its rule: what was received, followed by what the queue holds, is what was sent, and that is good.
--- The functions of `Sender` and `Taker` stand on it, whatever other threads do in between. It goes by cases on what the pass that
--- makes the step may do, and shows again what every other pass knows.
+-- Each step of a queue keeps its rule: what was received, followed by what the queue holds, is what was sent, and that
+-- is good. The functions of `Sender` and `Taker` stand on it, whatever other threads do in between. It goes by cases on
+-- what the pass that makes the step may do, and shows again what every other pass knows.
 use Rattle.std.proofs.Common.{◌≡◌, ◌≢◌, ℕ, zero, suc, true, false, true≢false, List, [], ◌∷◌, ◌++◌, length, set, sym, refl, ap, ◌∙◌, subst, ⊎_elim, append_assoc, inl, inr}
 use mathlib.Core.Option.{some, some-injective, some-ne-none}
 use lib.ListN.{get_elem?}

@@ -19,7 +19,8 @@ module _ {T K : Type 0} where
 
   -- both in one
   abbrev pub whole : K → List T → List T → Known T K
-  whole key sent received = record { opens = false; sends = true; takes = true; key = key; sent = sent; received = received }
+  whole key sent received =
+      record { opens = false; sends = true; takes = true; key = key; sent = sent; received = received }
 
   -- a pass that was joined to another
   abbrev pub spent : K → Known T K

@@ -4,7 +4,8 @@ use crossbeam_utils::sync::EventCount;
 use std::sync::atomic::AtomicU64;
 use std::sync::atomic::Ordering::SeqCst;
 
-/// Where one thread sleeps that takes from several queues, and how many waiters it has: threads that sleep until it has done something.
+/// Where one thread sleeps that takes from several queues, and how many waiters it has: threads that sleep until it has
+/// done something.
 pub struct Events {
     pub(crate) sleeper: EventCount,
     waiters: AtomicU64,

@@ -1,4 +1,5 @@
-//! One kind of queue for all that goes from one thread to another: one end sends, the other takes, and all that was sent keeps to a protocol.
+//! One kind of queue for all that goes from one thread to another: one end sends, the other takes, and all that was
+//! sent keeps to a protocol.
 #![tactic(auto)]
 
 mod events;

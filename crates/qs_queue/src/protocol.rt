@@ -1,7 +1,8 @@
 //! What may be sent.
 
-/// What may be sent through a queue, as a property of the whole list so far: none may be sent, and fronts of good lists are good. It may
-/// depend on a key, which each queue gets as it is made, as a size or a number that is known only then.
+/// What may be sent through a queue, as a property of the whole list so far: none may be sent, and fronts of good lists
+/// are good. It may depend on a key, which each queue gets as it is made, as a size or a number that is known only
+/// then.
 pub trait Protocol<T, K> {
     ghost use Rattle.std.specs.Prelude.{List, [], ◌++◌};
 

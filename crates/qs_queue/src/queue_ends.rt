@@ -2,6 +2,7 @@
 
 ghost use Rattle.std.specs.Prelude.{◌≡◌, ◌<◌, ◌≤◌, List, [], ◌∷◌, ◌++◌, length, IfOk, IfSome, IfNone, IfErr};
 ghost use Rattle.crossbeam_queue.specs.Passes.{view, IsPassOf, ruled_capacity};
+ghost use Rattle.qs_queue.specs.Views.{MayTake};
 
 use crate::events::Events;
 use crate::long_spins::LongSpins;
@@ -15,7 +16,8 @@ use std::hint;
 use std::marker::Model;
 use std::sync::{Arc, Wait};
 
-// How often the taking end looks before it sleeps, some 3 microseconds in all, and how many of these looks have no pause after them.
+// How often the taking end looks before it sleeps, some 3 microseconds in all, and how many of these looks have no
+// pause after them.
 const SPINS: u32 = 80;
 
 const QUICK_SPINS: u32 = 30;
@@ -107,8 +109,8 @@ impl<T, K, P: Protocol<T, K>> Model for Taker<T, K, P> {
     ghost invariant = { λ s. IsPassOf s.shared.value.queue s.pass × (known s.pass ≡ taking (known s.pass).key (known s.pass).received) };
 }
 
-/// The two ends of an empty queue, which has room for so many values, and this key. All its memory is taken here; an error says that it
-/// was refused.
+/// The two ends of an empty queue, which has room for so many values, and this key. All its memory is taken here; an
+/// error says that it was refused.
 pub fn make_ends<T: Drop, K, P: Protocol<T, K>, N: Key<K>>(
     alloc: Global,
     room: usize,
@@ -132,8 +134,8 @@ pub fn make_ends<T: Drop, K, P: Protocol<T, K>, N: Key<K>>(
 }
 
 impl<T: Drop, K, P: Protocol<T, K>> Sender<T, K, P> {
-    /// Sends a value, where what was sent stays good by it. The value comes back, and nothing changes, only where the queue is full; so as
-    /// many values at least were sent before as there is room for. It wakes nobody.
+    /// Sends a value, where what was sent stays good by it. The value comes back, and nothing changes, only where the
+    /// queue is full; so as many values at least were sent before as there is room for. It wakes nobody.
     pub fn try_send<R: Wait>(&mut self, rt: &R, value: T) -> Result<(), T>
         requires good { P.good self.old.key (self.old.sent ++ value ∷ []) }
         ensures ok { IfOk result (λ _. self.new ≡ record self.old { sent = self.old.sent ++ value ∷ [] }) }
@@ -144,7 +146,8 @@ impl<T: Drop, K, P: Protocol<T, K>> Sender<T, K, P> {
         queue.push_as::<Sends, R>(rt, &mut self.pass, value)
     }
 
-    /// Sends a value, where what was sent stays good by it. Tries until the queue has room, with a pause between two tries; it wakes nobody.
+    /// Sends a value, where what was sent stays good by it. Tries until the queue has room, with a pause between two
+    /// tries; it wakes nobody.
     pub fn send<R: Wait>(&mut self, rt: &R, value: T)
         requires good { P.good self.old.key (self.old.sent ++ value ∷ []) }
         ensures sent { self.new ≡ record self.old { sent = self.old.sent ++ value ∷ [] } }
@@ -161,7 +164,8 @@ impl<T: Drop, K, P: Protocol<T, K>> Sender<T, K, P> {
         unreachable!()
     }
 
-    /// Sends a value as `send` does. While it waits for room it is a waiter of the thread of an event count, which it wakes.
+    /// Sends a value as `send` does. While it waits for room it is a waiter of the thread of an event count, which it
+    /// wakes.
     pub fn send_as_waiter<R: Wait>(&mut self, rt: &R, events: &Events, value: T)
         requires good { P.good self.old.key (self.old.sent ++ value ∷ []) }
         ensures sent { self.new ≡ record self.old { sent = self.old.sent ++ value ∷ [] } }
@@ -173,8 +177,8 @@ impl<T: Drop, K, P: Protocol<T, K>> Sender<T, K, P> {
         }
     }
 
-    /// Sends a value, where what was sent stays good by it, to a queue that has room for all that was sent and this value. It wakes
-    /// nobody.
+    /// Sends a value, where what was sent stays good by it, to a queue that has room for all that was sent and this
+    /// value. It wakes nobody.
     pub fn push<R: Wait>(&mut self, rt: &R, value: T)
         requires good { P.good self.old.key (self.old.sent ++ value ∷ []) }
         requires room { length self.old.sent < self.old.room }
@@ -196,7 +200,8 @@ impl<T: Drop, K, P: Protocol<T, K>> Sender<T, K, P> {
         Ok(Waker { shared })
     }
 
-    /// What the two ends of one queue know together: what was received is a front of what was sent, and what was sent is good.
+    /// What the two ends of one queue know together: what was received is a front of what was sent, and what was sent
+    /// is good.
     pub fn agree(&mut self, taker: Taker<T, K, P>)
         requires { self.old.name ≡ taker.name }
         ensures same { self.new ≡ self.old }
@@ -215,7 +220,8 @@ impl<T: Drop, K, P: Protocol<T, K>> Sender<T, K, P> {
 }
 
 impl<T: Drop, K, P: Protocol<T, K>> Taker<T, K, P> {
-    /// Takes the next value; what was received is good. There is none only where the queue was empty, and then nothing changes.
+    /// Takes the next value; what was received is good. There is none only where the queue was empty, and then nothing
+    /// changes.
     pub fn try_take<R: Wait>(&mut self, rt: &R) -> Option<T>
         ensures none { IfNone result (self.new ≡ self.old) }
         ensures some { IfSome result (λ value. self.new ≡ record self.old { received = self.old.received ++ value ∷ [] }) }
@@ -224,7 +230,8 @@ impl<T: Drop, K, P: Protocol<T, K>> Taker<T, K, P> {
         self.shared.queue.pop_as::<Takes<P>, R>(rt, &mut self.pass)
     }
 
-    /// Takes the next value; what was received is good. Tries until there is one, with a pause between two tries; it does not sleep.
+    /// Takes the next value; what was received is good. Tries until there is one, with a pause between two tries; it
+    /// does not sleep.
     pub fn take<R: Wait>(&mut self, rt: &R) -> T
         ensures taken { self.new ≡ record self.old { received = self.old.received ++ result ∷ [] } }
         ensures good { P.good self.old.key (self.old.received ++ result ∷ []) }
@@ -239,30 +246,31 @@ impl<T: Drop, K, P: Protocol<T, K>> Taker<T, K, P> {
         unreachable!()
     }
 
-    /// Takes the next value; what was received is good. Until there is one it spins for some microseconds, and then sleeps at its queue
-    /// until it is woken.
+    /// Takes the next value; what was received is good. Until there is one it spins for some microseconds, and then
+    /// sleeps at its queue until it is woken.
     pub fn take_or_sleep<R: Wait>(&mut self, rt: &R) -> T
         ensures taken { self.new ≡ record self.old { received = self.old.received ++ result ∷ [] } }
         ensures good { P.good self.old.key (self.old.received ++ result ∷ []) }
     {
-        if let Some(value) = self.spin() {
-            return value;
+        match self.spin() {
+            Some(value) => value,
+            None => self.sleep_and_take(rt, None),
         }
-        self.sleep_and_take(rt, None)
     }
 
-    /// The same, but it sleeps at an event count until that is notified.
+    /// Takes the next value as `take_or_sleep` does, but sleeps at an event count until that is notified.
     pub fn take_or_sleep_at<R: Wait>(&mut self, rt: &R, events: &Events) -> T
         ensures taken { self.new ≡ record self.old { received = self.old.received ++ result ∷ [] } }
         ensures good { P.good self.old.key (self.old.received ++ result ∷ []) }
     {
-        if let Some(value) = self.spin() {
-            return value;
+        match self.spin() {
+            Some(value) => value,
+            None => self.sleep_and_take(rt, Some(events)),
         }
-        self.sleep_and_take(rt, Some(events))
     }
 
-    /// The same as `take_or_sleep`. It wakes the thread of an event count, which is to send, and is a waiter of it while it sleeps.
+    /// Takes the next value as `take_or_sleep` does. It wakes the thread of an event count, which is to send, and is a
+    /// waiter of it while it sleeps.
     pub fn take_or_sleep_as_waiter<R: Wait>(&mut self, rt: &R, events: &Events) -> T
         ensures taken { self.new ≡ record self.old { received = self.old.received ++ result ∷ [] } }
         ensures good { P.good self.old.key (self.old.received ++ result ∷ []) }
@@ -284,8 +292,8 @@ impl<T: Drop, K, P: Protocol<T, K>> Taker<T, K, P> {
     {
         for _ in rt.forever() {
             let taken = match events {
-                Some(events) => self.pop_or_sleep_at(rt, events),
-                None => self.pop_or_sleep(rt),
+                Some(events) => self.take_or_sleep_once_at(rt, events),
+                None => self.take_or_sleep_once(rt),
             };
             if let Some(value) = taken {
                 return value;
@@ -294,12 +302,10 @@ impl<T: Drop, K, P: Protocol<T, K>> Taker<T, K, P> {
         unreachable!()
     }
 
-    // Takes the next value, or sleeps at its queue until it is woken. It says that it will sleep before it looks, so that nothing is sent
-    // unseen.
-    fn pop_or_sleep<R: Wait>(&mut self, rt: &R) -> Option<T>
-        ensures none { IfNone result (self.new ≡ self.old) }
-        ensures some { IfSome result (λ value. self.new ≡ record self.old { received = self.old.received ++ value ∷ [] }) }
-        ensures good { IfSome result (λ value. P.good self.old.key (self.old.received ++ value ∷ [])) }
+    // Takes the next value, or sleeps at its queue until it is woken. It says that it will sleep before it looks, so
+    // that nothing is sent unseen.
+    fn take_or_sleep_once<R: Wait>(&mut self, rt: &R) -> Option<T>
+        ensures may { MayTake P.good self.old self.new result }
     {
         let key = self.shared.sleeper.prepare_wait();
         match self.shared.queue.pop_as::<Takes<P>, R>(rt, &mut self.pass) {
@@ -311,14 +317,12 @@ impl<T: Drop, K, P: Protocol<T, K>> Taker<T, K, P> {
         }
     }
 
-    // The same at an event count.
-    fn pop_or_sleep_at<R: Wait>(&mut self, rt: &R, events: &Events) -> Option<T>
-        ensures none { IfNone result (self.new ≡ self.old) }
-        ensures some { IfSome result (λ value. self.new ≡ record self.old { received = self.old.received ++ value ∷ [] }) }
-        ensures good { IfSome result (λ value. P.good self.old.key (self.old.received ++ value ∷ [])) }
+    // Takes the next value, or sleeps at an event count until that is notified, with the same care.
+    fn take_or_sleep_once_at<R: Wait>(&mut self, rt: &R, events: &Events) -> Option<T>
+        ensures may { MayTake P.good self.old self.new result }
     {
         let key = events.sleeper.prepare_wait();
-        match self.shared.queue.pop_as::<Takes<P>, R>(rt, &mut self.pass) {
+        match self.try_take(rt) {
             Some(value) => Some(value),
             None => {
                 key.wait(rt);
@@ -327,12 +331,11 @@ impl<T: Drop, K, P: Protocol<T, K>> Taker<T, K, P> {
         }
     }
 
-    // Spins. It gives no processor away in between: on a busy machine that may take a whole turn of another program. A short spin is enough
-    // where the other thread is at work. Where that is being woken a long one helps, for else both would sleep in turn.
+    // Spins. It gives no processor away in between: on a busy machine that may take a whole turn of another program. A
+    // short spin is enough where the other thread is at work. Where that is being woken a long one helps, for else both
+    // would sleep in turn.
     fn spin(&mut self) -> Option<T>
-        ensures none { IfNone result (self.new ≡ self.old) }
-        ensures some { IfSome result (λ value. self.new ≡ record self.old { received = self.old.received ++ value ∷ [] }) }
-        ensures good { IfSome result (λ value. P.good self.old.key (self.old.received ++ value ∷ [])) }
+        ensures may { MayTake P.good self.old self.new result }
     {
         if let Some(value) = self.spin_for(SPINS, QUICK_SPINS) {
             return Some(value);
@@ -350,18 +353,14 @@ impl<T: Drop, K, P: Protocol<T, K>> Taker<T, K, P> {
 
     // Takes the next value, if one is seen at once. It looks at no more of the queue than where that would lie.
     fn look_once(&mut self) -> Option<T>
-        ensures none { IfNone result (self.new ≡ self.old) }
-        ensures some { IfSome result (λ value. self.new ≡ record self.old { received = self.old.received ++ value ∷ [] }) }
-        ensures good { IfSome result (λ value. P.good self.old.key (self.old.received ++ value ∷ [])) }
+        ensures may { MayTake P.good self.old self.new result }
     {
         self.shared.queue.try_pop_as::<Takes<P>>(&mut self.pass)
     }
 
     // Looks so many times, the first of them without a pause of one instruction in between.
     fn spin_for(&mut self, spins: u32, quick: u32) -> Option<T>
-        ensures none { IfNone result (self.new ≡ self.old) }
-        ensures some { IfSome result (λ value. self.new ≡ record self.old { received = self.old.received ++ value ∷ [] }) }
-        ensures good { IfSome result (λ value. P.good self.old.key (self.old.received ++ value ∷ [])) }
+        ensures may { MayTake P.good self.old self.new result }
     {
         for spin in 0..spins {
             if let Some(value) = self.look_once() {

@@ -1,9 +1,6 @@
 -- The digits of a number, the last ones by themselves.
-use Rattle.std.proofs.Common.{◌≡◌, ℕ, ◌+◌, ◌/◌, ◌%◌, ◌^◌, ◌<◌, ◌≤◌, List, [], ◌∷◌, ◌++◌, decimal, ℤ, pos, negsuc, ◌≤ℤ◌, ◌<ℤ◌, sym, ap, ◌∙◌, append_assoc, arith}
-use Rattle.std.proofs.lemmas.Int.{ints}
-use Rattle.std.proofs.lemmas.Fmt.{decimal_digit, decimal_step}
-use Rattle.std.specs.Int.RustNames.{unsigned_abs}
-use Rattle.std.specs.Fmt.{signed_decimal}
+use Rattle.std.proofs.Common.{◌≡◌, ℕ, ◌+◌, ◌/◌, ◌%◌, ◌^◌, ◌<◌, ◌≤◌, List, [], ◌∷◌, ◌++◌, decimal, sym, ap, ◌∙◌, append_assoc, arith}
+use Rattle.std.proofs.lemmas.Fmt.{decimal_step}
 
 -- the last digit after those before it
 pub last_digit : (n : ℕ) (old front : List ℕ) → 10 ≤ n → n < 2 ^ 64 → decimal (n / 10) ≡ front → (old ++ front) ++ ((48 + n % 10) ∷ []) ≡ old ++ decimal n
@@ -18,8 +15,3 @@ last_digits n old some small =
     ap (λ l. l ++ ((48 + n % 10) ∷ [])) (append_assoc old (decimal (n / 100)) tens)
     ∙ last_digit n old (decimal (n / 100) ++ tens) (omega arith) small
     (decimal_step (n / 10) (omega arith) (omega arith) ∙ ap (λ m. decimal m ++ tens) front)
-
--- the text of a number of one digit
-pub digit_text : (z : ℤ) → pos 0 ≤ℤ z → z <ℤ pos 10 → (48 + unsigned_abs z) ∷ [] ≡ signed_decimal z
-digit_text (pos n) low high = sym (decimal_digit n (omega (arith, ints, high)))
-digit_text (negsuc n) low high = absurd (omega (arith, ints, low))

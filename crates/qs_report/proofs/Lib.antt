@@ -1,10 +1,6 @@
-pub mod Fronts
-pub mod Joined
 pub mod Digits
 pub mod Quick
 pub mod SyncLines
-pub mod Added
 pub mod UniqueTexts
 pub mod UniqueOutcomes
-pub mod CheckedSets
 pub mod WorkedTexts

@@ -1,13 +1,13 @@
--- When the line of one more object with its count of synchronisations is written, the text has the lines of the objects up to
--- there. The loop of `put_syncs`, which goes through the objects and their counts side by side, stands on it. The object and its
--- count stand at one index of the rows, and then one more piece of the text is done.
+-- When the line of one more object with its count of synchronisations is written, the text has the lines of the objects
+-- up to there. The loop of `put_syncs`, which goes through the objects and their counts side by side, stands on it. The
+-- object and its count stand at one index of the rows, and then one more piece of the text is done.
 use Rattle.std.proofs.Common.{◌≡◌, ℕ, ◌<◌, ◌+◌, List, [], ◌∷◌, ◌++◌, flat_map, length, map, take, ap, ap₂, ◌∙◌, get_or, sym, arith}
 use Rattle.std.proofs.lemmas.List.{get_or-map, length-append, length-map}
 use Rattle.qs_program.specs.Program.{ProgramShape}
 use Rattle.qs_sync_counts.specs.declared.sync_counts.SyncCount.{SyncCount}
 use Rattle.qs_sync_counts.specs.SyncRows.{count_of, object_of, sync_count}
 use Rattle.qs_report.specs.Report.{sync_line}
-use Rattle.qs_report.proofs.Joined.{one_item_more}
+use Rattle.qs_text.proofs.Joined.{one_item_more}
 
 -- an object with its count stands at its place among all
 sync_at : (rows : List SyncCount) (n object count : ℕ) → n < length (map object_of rows) → object ≡ get_or (map object_of rows) n 0

@@ -1,28 +1,29 @@
--- A program has just one text of its outcomes after a front, however they are found. The law on texts of outcomes, `OutcomesTextsAreUnique`, is
--- proved here. Of two orders that are both the least neither is before the other, so they have the same clients, and are one as both are legal
--- and complete. Lists that are sorted by their orders and have the same elements agree place by place. And of two lists of all configurations
--- each has an equal in the other for each of its own, which are different: so they are equally long.
+-- A program has just one text of its outcomes after a front, however they are found. The law on texts of outcomes,
+-- `OutcomesTextsAreUnique`, is proved here. Of two orders that are both the least neither is before the other, so they
+-- have the same clients, and are one as both are legal and complete. Lists that are sorted by their orders and have the
+-- same elements agree place by place. And of two lists of all configurations each has an equal in the other for each of
+-- its own, which are different: so they are equally long.
 use Rattle.std.proofs.Common.{◌≡◌, ◌<◌, ◌≤◌, ◌+◌, ℕ, suc, List, [], ◌∷◌, ◌++◌, codes, length, get_or, refl, sym, ap, ◌∙◌, subst, arith, ◌⊎◌, inl, inr, ⊎_elim, append-nil}
 use Rattle.std.specs.List.{AllByRecursion, AllZip}
 use Rattle.std.proofs.lemmas.List.Elements.{AllZip-get_or, length_all_zip}
 use Rattle.qs_objects.specs.declared.held.Ticket.{Ticket}
 use Rattle.qs_program.specs.Program.{ProgramShape, blocks_of, client_at, object_at}
-use Rattle.qs_orders.specs.NamedOrders.{order_of}
+use Rattle.qs_serial.specs.NamedOrders.{order_of}
 use Rattle.qs_meaning.specs.Configurations.{Configuration, IsComplete, configuration_after, configuration_from, first_configuration, one_block_on, outcome_of}
 use Rattle.qs_meaning.specs.Serial.{IsLegal, LegalFrom}
 use Rattle.qs_meaning.proofs.Each.{each_both, each_map}
 use Rattle.qs_meaning.proofs.Orders.{complete_orders_leave_none, legal_on}
 use Rattle.qs_outcomes.specs.LeastOrders.{AreSorted, IsBefore}
-use Rattle.qs_outcomes.specs.Lists.{HasOne, NoTwo}
-use Rattle.qs_outcomes.specs.Outcomes.{OutcomesShape, AreAllOutcomesAfter, HasConfigurationsAfter, IsLeastAfter, IsListedAfter, outcome_at}
-use Rattle.qs_outcomes.specs.Standings.{IsStanding, StandingShape, configuration_in}
+use Rattle.qs_standings.specs.Lists.{HasOne, NoTwo}
+use Rattle.qs_outcomes.specs.Outcomes.{OutcomesShape, AreAllOutcomesAfter, HasConfigurationsAfter, IsLeastAfter, IsListedAfter, outcome_at, AreOutcomesAfter}
+use Rattle.qs_standings.specs.Standings.{IsStanding, StandingShape, configuration_in}
 use Rattle.qs_outcomes.proofs.Before.{before_both, not_before}
-use Rattle.qs_outcomes.proofs.Lists.{has_map, has_of, has_some}
-use Rattle.qs_outcomes.proofs.Stands.{below_or_past}
-use Rattle.qs_report.specs.OutcomesText.{AreOutcomesAfter, IsOutcomesText, OutcomesTextsAreUnique, listed_text, no_standing, outcome_line, outcome_text, outcome_text_at, variables_text}
+use Rattle.qs_standings.proofs.Lists.{has_map, has_of, has_some}
+use Rattle.qs_standings.proofs.Stands.{below_or_past}
+use Rattle.qs_report.specs.OutcomesText.{IsOutcomesText, OutcomesTextsAreUnique, listed_text, no_standing, outcome_line, outcome_text, outcome_text_at, variables_text}
 use Rattle.qs_report.specs.Report.{state_line}
-use Rattle.qs_report.specs.Texts.{count_line, texts_up_to}
-use Rattle.qs_report.proofs.UniqueTexts.{same_texts}
+use Rattle.qs_text.specs.Texts.{count_line, texts_up_to}
+use Rattle.qs_text.proofs.SameTexts.{same_texts}
 
 same_client : (c d : ℕ) → (c < d → ⊥) → (d < c → ⊥) → c ≡ d
 same_client c d h k =

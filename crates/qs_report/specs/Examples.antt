@@ -1,111 +1,16 @@
 -- A few texts, worked out by hand.
-use Rattle.std.specs.Prelude.{◌≡◌, ℕ, ℤ, pos, negsuc, List, [], ◌∷◌, codes, Some, None, true, false}
-use Rattle.qs_objects.specs.Act.{State, Content, account, buffer, grid}
-use Rattle.qs_objects.specs.declared.Op.{Op}
-use Rattle.qs_objects.specs.declared.Op.TheVariants.{Deposit, Balance, TakeFirst, First, SetCell, GetCell, DropFirst, Put}
-use Rattle.qs_objects.specs.declared.held.Event.{Event}
-use Rattle.qs_objects.specs.declared.held.Ticket.{Ticket}
-use Rattle.qs_objects.specs.declared.object.Kind.{Kind}
-use Rattle.qs_objects.specs.declared.object.Kind.TheVariants as kinds
+use Rattle.std.specs.Prelude.{◌≡◌, ℕ, pos, negsuc, List, [], ◌∷◌, codes}
+use Rattle.qs_objects.specs.Act.{account, buffer, grid}
 use Rattle.qs_script.specs.declared.fault.ReadFault.TheVariants as read
 use Rattle.qs_places.specs.declared.fault.CheckFault.TheVariants as check
 use Rattle.qs_played.specs.declared.fault.PlayFault.TheVariants as play
-use Rattle.qs_orders.specs.declared.fault.OrderFault.TheVariants as order_fault
+use Rattle.qs_serial.specs.declared.fault.OrderFault.TheVariants as order_fault
 use Rattle.qs_outcomes.specs.declared.fault.OutcomesFault.TheVariants as outcomes
-use Rattle.qs_program.specs.declared.program.Declared.{Declared}
-use Rattle.qs_program.specs.Program.{ProgramShape, ClientShape, BlockShape}
-use Rattle.qs_program.specs.Statements.{end}
-use Rattle.qs_played.specs.Played.{Played}
-use Rattle.qs_sync_counts.specs.SyncRows.{sync_count}
 use Rattle.qs_report.specs.declared.faults.Fault.{Fault}
 use Rattle.qs_report.specs.declared.faults.Fault.TheVariants.{CommandLine, Input, Read, Check, Play, Order, Outcomes, Memory}
 use Rattle.qs_report.specs.Report.{report_text, counted_report_text, counts_text, state_line}
 use Rattle.qs_report.specs.Faults.{fault_text, fault_status}
-
--- an object that is declared
-abbrev pub declaration : List ℕ → Kind → Declared
-declaration name kind = record { name = name; kind = kind }
-
--- a client with as many blocks as there are lists of reserved objects
-abbrev pub client : List ℕ → List BlockShape → ClientShape
-client name blocks = record { name = name; variables = []; blocks = blocks; start = None }
-
--- a block without statements that reserves these objects
-abbrev pub block : List ℕ → BlockShape
-block after_reservation = record { reserved = after_reservation; body = end }
-
-abbrev pub state : Content → ℤ → State
-state content refused = record { content = content; refused = refused }
-
--- a command on the object of a number
-abbrev pub command : ℕ → Op → List ℤ → Event
-command h op args = record { request = record { object = h; op = op; args = args }; reply = None }
-
--- a query with its reply
-abbrev pub query : ℕ → Op → List ℤ → ℤ → Event
-query h op args reply = record { request = record { object = h; op = op; args = args }; reply = Some reply }
-
-abbrev pub ticket : ℕ → ℕ → Ticket
-ticket client index = record { client = client; index = index }
-
--- an account with 100, and one client with one block
-abbrev pub deposits : ProgramShape
-deposits = record {
-  objects = declaration (codes "a") (kinds.Account (pos 100)) ∷ [];
-  clients = client (codes "ann") (block (0 ∷ []) ∷ []) ∷ [];
-}
-
-abbrev pub after_deposit : Played
-after_deposit = record {
-  order = ticket 0 0 ∷ [];
-  ended = true ∷ [];
-  entries = [];
-  traces = (command 0 Deposit (pos 5 ∷ []) ∷ query 0 Balance [] (pos 105) ∷ []) ∷ [];
-  sync_counts = [];
-  journals = [];
-  states = state (account (pos 105)) (pos 0) ∷ [];
-  syncs = 1;
-  finished = true;
-}
-
--- the same after no round, and after one step
-abbrev pub before : Played
-before = record after_deposit { order = []; ended = []; traces = []; states = state (account (pos 100)) (pos 0) ∷ []; syncs = 0; finished = false }
-
-abbrev pub after_reservation : Played
-after_reservation = record after_deposit { ended = false ∷ []; traces = [] ∷ []; states = state (account (pos 100)) (pos 0) ∷ []; syncs = 0; finished = false }
-
--- two clients on three objects
-abbrev pub three : ProgramShape
-three = record {
-  objects =
-      declaration (codes "b") (kinds.Buffer (pos 1))
-      ∷ declaration (codes "g") (kinds.Grid (pos 2) (pos 3))
-      ∷ declaration (codes "z_9") (kinds.Account (pos 0)) ∷ [];
-  clients = client (codes "ann") (block (0 ∷ []) ∷ []) ∷ client (codes "bob") (block (1 ∷ 2 ∷ []) ∷ block (0 ∷ []) ∷ []) ∷ [];
-}
-
-abbrev pub large : ℤ
-large = pos 999999999999999999
-
-abbrev pub two_clients_played : Played
-two_clients_played = record {
-  order = ticket 1 0 ∷ ticket 0 0 ∷ ticket 1 1 ∷ [];
-  ended = true ∷ true ∷ false ∷ [];
-  entries = [];
-  traces =
-      (command 1 SetCell (pos 2 ∷ pos 0 ∷ pos 9 ∷ []) ∷ query 1 GetCell (pos 5 ∷ negsuc 0 ∷ []) (pos 0) ∷ [])
-      ∷ (command 0 Put (negsuc 6 ∷ []) ∷ command 0 DropFirst [] ∷ query 0 TakeFirst [] (negsuc 6) ∷ query 0 First [] (pos 0) ∷ [])
-      ∷ [] ∷ [];
-  sync_counts = [];
-  journals = [];
-  states =
-      state (buffer 1 []) (pos 2)
-      ∷ state (grid 3 ((large ∷ large ∷ pos 0 ∷ []) ∷ (pos 0 ∷ pos 0 ∷ pos 0 ∷ []) ∷ [])) (pos 1)
-      ∷ state (account (pos 1000000000000000)) (pos 0) ∷ [];
-  syncs = 3;
-  finished = false;
-}
+use Rattle.qs_text.specs.Worked.{after_deposit, after_reservation, before, counted_syncs, deposited_once, deposits, state, three, two_clients_played}
 
 pub record RunExamples : Type 0 where
   pub deposit :
@@ -120,18 +25,6 @@ pub record RunExamples : Type 0 where
   pub several :
       report_text three two_clients_played
       ≡ codes "order 3\nticket bob 0 done\ng.set(2,0,9)\ng.get(5,-1) = 0\nticket ann 0 done\nb.put(-7)\nb.drop()\nb.take() = -7\nb.front() = 0\nticket bob 1 open\nstates\nb buffer 1 [] refused 2\ng grid 2 3 [999999999999999999 999999999999999999 0 0 0 0] refused 1\nz_9 account 1000000000000000 refused 0\nsyncs 3\nunfinished\n"
-
--- the first with a synchronisation for its query
-abbrev pub deposited_once : Played
-deposited_once = record after_deposit { sync_counts = (sync_count 0 1 ∷ []) ∷ [] }
-
--- a block that reserves nothing, one that has sent none, and an open one on two objects in the order of its list
-abbrev pub counted_syncs : Played
-counted_syncs = record two_clients_played {
-  traces = [] ∷ (query 0 First [] (pos 0) ∷ []) ∷ [] ∷ [];
-  sync_counts = [] ∷ (sync_count 0 0 ∷ []) ∷ (sync_count 2 12 ∷ sync_count 0 4294967295 ∷ []) ∷ [];
-  states = [];
-}
 
 pub record CountedRunExamples : Type 0 where
   pub deposit :
@@ -152,7 +45,8 @@ pub record StateExamples : Type 0 where
   pub two :
       state_line (codes "b") (state (buffer 1024 (pos 9223372036854775807 ∷ negsuc 9223372036854775807 ∷ [])) (pos 0))
       ≡ codes "b buffer 1024 [9223372036854775807 -9223372036854775808] refused 0\n"
-  pub cells : state_line (codes "g") (state (grid 2 ((negsuc 0 ∷ pos 0 ∷ []) ∷ [])) (pos 10)) ≡ codes "g grid 1 2 [-1 0] refused 10\n"
+  pub cells : state_line (codes "g") (state (grid 2 ((negsuc 0 ∷ pos 0 ∷ []) ∷ [])) (pos 10))
+      ≡ codes "g grid 1 2 [-1 0] refused 10\n"
 
 -- the counts of these two programs, as far as their blocks have no statements
 pub record CountExamples : Type 0 where

@@ -8,8 +8,8 @@ use Rattle.qs_played.specs.declared.fault.PlayFault.{PlayFault}
 use Rattle.qs_played.specs.declared.fault.PlayFault.TheVariants as play
 use Rattle.qs_played.specs.declared.fault.RunFault.{RunFault}
 use Rattle.qs_played.specs.declared.fault.RunFault.TheVariants as run
-use Rattle.qs_orders.specs.declared.fault.OrderFault.{OrderFault}
-use Rattle.qs_orders.specs.declared.fault.OrderFault.TheVariants as order_fault
+use Rattle.qs_serial.specs.declared.fault.OrderFault.{OrderFault}
+use Rattle.qs_serial.specs.declared.fault.OrderFault.TheVariants as order_fault
 use Rattle.qs_outcomes.specs.declared.fault.OutcomesFault.{OutcomesFault}
 use Rattle.qs_outcomes.specs.declared.fault.OutcomesFault.TheVariants as outcomes
 use Rattle.qs_report.specs.declared.faults.Fault.{Fault}

@@ -1,32 +1,9 @@
 -- Programs with the texts of their graphs, worked out by hand.
-use Rattle.std.specs.Prelude.{List, [], ◌∷◌, codes, pos}
-use Rattle.qs_objects.specs.declared.object.Kind.TheVariants.{Account}
-use Rattle.qs_program.specs.Program.{ProgramShape, BlockShape}
-use Rattle.qs_program.specs.Statements.{Statements, end, command, query}
-use Rattle.qs_graph.specs.GraphExamples.{balance, deposit, query_in_repeat, empty_bodies, leave_first, two_bodies}
-use Rattle.qs_objects.specs.declared.Op.TheVariants.{Balance}
-use Rattle.qs_program.specs.declared.code.Call as calls
-use Rattle.qs_report.specs.Examples.{declaration, client}
+use Rattle.std.specs.Prelude.{[], ◌∷◌, codes}
+use Rattle.qs_program.specs.Statements.{end}
+use Rattle.qs_graph.specs.GraphExamples.{query_in_repeat, empty_bodies, leave_first, two_bodies}
+use Rattle.qs_text.specs.Worked.{by_ann, on_a, on_b_and_a}
 use Rattle.qs_report.specs.GraphText.{IsGraphText}
-
--- two accounts, and a client with these blocks
-abbrev pub by_ann : List BlockShape → ProgramShape
-by_ann blocks = record {
-  objects = declaration (codes "a") (Account (pos 100)) ∷ declaration (codes "b") (Account (pos 100)) ∷ [];
-  clients = client (codes "ann") blocks ∷ [];
-}
-
--- a block on a
-abbrev pub on_a : Statements → BlockShape
-on_a body = record { reserved = 0 ∷ []; body = body }
-
--- x = b.balance()
-abbrev pub balance_of_b : calls.Call
-balance_of_b = record { object = 1; op = Balance; args = [] }
-
--- separate b a { x = a.balance(); x = b.balance(); a.deposit(1); x = b.balance(); }
-abbrev pub on_b_and_a : BlockShape
-on_b_and_a = record { reserved = 1 ∷ 0 ∷ []; body = query 0 balance (query 0 balance_of_b (command deposit (query 0 balance_of_b end))) }
 
 pub record GraphTextExamples : Type 0 where
   pub no_block : IsGraphText (by_ann []) []

@@ -1,10 +1,10 @@
-pub mod Texts
-pub mod Watched
+-- What an auditor reads: the promises and the calls of the surface are said with these.
 pub mod Report
-pub mod Lines
 pub mod GraphText
 pub mod OutcomesText
 pub mod Faults
+-- What crates promise one another, what proofs use, and worked examples.
+pub mod Lines
 pub mod Examples
 pub mod GraphTextExamples
 pub mod OutcomesTextExamples

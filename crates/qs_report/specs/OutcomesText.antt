@@ -1,18 +1,18 @@
 -- All outcomes of a program, as bytes.
 use Rattle.std.specs.Prelude.{◌≡◌, ◌≤◌, ◌+◌, ℕ, pos, List, [], ◌∷◌, ◌++◌, codes, decimal, length, slice_index_or}
 use Rattle.std.specs.Fmt.{signed_decimal}
-use Rattle.std.specs.List.{AllByRecursion, join_by}
+use Rattle.std.specs.List.{join_by}
 use Rattle.qs_objects.specs.declared.held.Ticket.{Ticket}
 use Rattle.qs_program.specs.Numbering.{Name}
 use Rattle.qs_program.specs.Program.{ProgramShape, client_at, object_at}
 use Rattle.qs_program.specs.Values.{Locals}
-use Rattle.qs_orders.specs.NamedOrders.{order_of}
-use Rattle.qs_meaning.specs.Serial.{IsLegal, zeros}
-use Rattle.qs_outcomes.specs.LeastOrders.{AreSorted}
-use Rattle.qs_outcomes.specs.Outcomes.{AreAllOutcomesAfter, AreApart, HasConfigurationsAfter, IsLeastAfter, IsListedAfter, OutcomesShape}
-use Rattle.qs_outcomes.specs.Standings.{StandingShape}
-use Rattle.qs_report.specs.Report.{no_state, state_line}
-use Rattle.qs_report.specs.Texts.{count_line, texts_up_to}
+use Rattle.qs_serial.specs.NamedOrders.{order_of}
+use Rattle.qs_meaning.specs.Serial.{zeros}
+use Rattle.qs_outcomes.specs.Outcomes.{AreOutcomesAfter, OutcomesShape}
+use Rattle.qs_standings.specs.Standings.{StandingShape}
+use Rattle.qs_text.specs.Words.{no_state}
+use Rattle.qs_report.specs.Report.{state_line}
+use Rattle.qs_text.specs.Texts.{count_line, texts_up_to}
 
 -- the client whose block comes next
 abbrev pub next_client_text : Ticket → List ℕ
@@ -29,14 +29,16 @@ outcome_line n order = codes "outcome " ++ decimal n ++ codes " " ++ clients_tex
 
 -- a variable with its value, by its number
 abbrev pub variable_text : List Name → Locals → ℕ → List ℕ
-variable_text names l x = codes " " ++ slice_index_or names x [] ++ codes " " ++ signed_decimal (slice_index_or l x (pos 0))
+variable_text names l x =
+    codes " " ++ slice_index_or names x [] ++ codes " " ++ signed_decimal (slice_index_or l x (pos 0))
 
 abbrev pub variables_text : List Name → Locals → List ℕ
 variables_text names l = texts_up_to (length names) (variable_text names l)
 
 -- a client with its variables, in the order of their first appearance
 abbrev pub client_line : ProgramShape → StandingShape → ℕ → List ℕ
-client_line p s c = (client_at p c).name ++ variables_text (client_at p c).variables (slice_index_or s.locals c zeros) ++ codes "\n"
+client_line p s c =
+    (client_at p c).name ++ variables_text (client_at p c).variables (slice_index_or s.locals c zeros) ++ codes "\n"
 
 -- an object at the end
 abbrev pub object_line : ProgramShape → StandingShape → ℕ → List ℕ
@@ -45,7 +47,8 @@ object_line p s h = state_line (object_at p h).name (slice_index_or s.states h n
 -- an outcome: its line, those of the objects, and those of the clients
 abbrev pub outcome_text : ProgramShape → ℕ → StandingShape → List ℕ
 outcome_text p n s =
-    outcome_line n s.order ++ texts_up_to (length p.objects) (object_line p s) ++ texts_up_to (length p.clients) (client_line p s)
+    outcome_line n s.order ++ texts_up_to (length p.objects) (object_line p s)
+    ++ texts_up_to (length p.clients) (client_line p s)
 
 abbrev pub no_standing : StandingShape
 no_standing = record { order = []; begun = []; locals = []; states = [] }
@@ -60,25 +63,15 @@ listed_text p all =
     count_line (codes "outcomes") (length all.found) ++ texts_up_to (length all.found) (outcome_text_at p all.found)
     ++ count_line (codes "configurations") all.configurations
 
--- Of the complete orders that begin with a legal front: each comes from the order that it shows, the least of the reduced ones that come to
--- it, and they stand in the order of these; the outcome of each such order is among them, and no two are equal; and so many configurations
--- there are.
-pub record AreOutcomesAfter (p : ProgramShape) (front : List Ticket) (all : OutcomesShape) : Type 0 where
-  pub legal : IsLegal p front
-  pub sound : AllByRecursion (IsListedAfter p front) all.found
-  pub complete : AreAllOutcomesAfter p front all.found
-  pub least : AllByRecursion (IsLeastAfter p front) all.found
-  pub sorted : AreSorted all.found
-  pub once : AreApart all.found
-  pub counted : HasConfigurationsAfter p front all.configurations
-
--- There is a list of all outcomes of the program after the blocks that a list of clients names, in this order and with this count, which is
--- within the limit, whose text this is.
+-- There is a list of all outcomes of the program after the blocks that a list of clients names, in this order and with
+-- this count, which is within the limit, whose text this is.
 unfoldable pub IsOutcomesText : ProgramShape → (limit : ℕ) → (front : List ℕ) → List ℕ → Type 0
 IsOutcomesText p limit front text =
-    (all : OutcomesShape) × AreOutcomesAfter p (order_of front) all × (all.configurations ≤ limit) × (text ≡ listed_text p all)
+    (all : OutcomesShape) × AreOutcomesAfter p (order_of front) all × (all.configurations ≤ limit)
+    × (text ≡ listed_text p all)
 
 -- a program has one such text
 abbrev pub OutcomesTextsAreUnique : Type 0
 OutcomesTextsAreUnique =
-    (p : ProgramShape) (limit bound : ℕ) (front one other : List ℕ) → IsOutcomesText p limit front one → IsOutcomesText p bound front other → one ≡ other
+    (p : ProgramShape) (limit bound : ℕ) (front one other : List ℕ) → IsOutcomesText p limit front one
+    → IsOutcomesText p bound front other → one ≡ other

@@ -1,24 +1,10 @@
 -- Lists of outcomes with their texts, worked out by hand.
-use Rattle.std.specs.Prelude.{◌≡◌, ℕ, pos, negsuc, List, [], ◌∷◌, codes, None}
+use Rattle.std.specs.Prelude.{◌≡◌, ℕ, pos, negsuc, List, [], ◌∷◌, codes}
 use Rattle.qs_objects.specs.Act.{account, buffer}
-use Rattle.qs_objects.specs.declared.object.Kind.TheVariants as kinds
-use Rattle.qs_program.specs.Numbering.{Name}
-use Rattle.qs_program.specs.Program.{ClientShape, ProgramShape}
 use Rattle.qs_outcomes.specs.Outcomes.{OutcomesShape}
-use Rattle.qs_outcomes.specs.Standings.{StandingShape}
-use Rattle.qs_report.specs.Examples.{block, declaration, state, ticket}
+use Rattle.qs_standings.specs.Standings.{StandingShape}
+use Rattle.qs_text.specs.Worked.{state, ticket, unused, withdrawals}
 use Rattle.qs_report.specs.OutcomesText.{listed_text}
-
--- a client with these variables, and a block on the first object
-abbrev pub client_with : Name → List Name → ClientShape
-client_with name variables = record { name = name; variables = variables; blocks = block (0 ∷ []) ∷ []; start = None }
-
--- two clients at an account, and a buffer
-abbrev pub withdrawals : ProgramShape
-withdrawals = record {
-  objects = declaration (codes "a") (kinds.Account (pos 100)) ∷ declaration (codes "b") (kinds.Buffer (pos 2)) ∷ [];
-  clients = client_with (codes "ann") (codes "x" ∷ codes "y_1" ∷ []) ∷ client_with (codes "bob") [] ∷ [];
-}
 
 -- where ann is first, and where bob is
 abbrev pub ann_first : StandingShape
@@ -35,10 +21,6 @@ bob_first = record ann_first {
   locals = (pos 20 ∷ pos 0 ∷ pos 0 ∷ []) ∷ (pos 7 ∷ []) ∷ [];
 }
 
--- an account, and nobody who uses it
-abbrev pub unused : ProgramShape
-unused = record { objects = declaration (codes "a") (kinds.Account (pos 100)) ∷ []; clients = [] }
-
 abbrev pub as_declared : StandingShape
 as_declared = record { order = []; begun = []; locals = []; states = state (account (pos 100)) (pos 0) ∷ [] }
 
@@ -50,4 +32,5 @@ pub record OutcomesTextExamples : Type 0 where
       listed_text withdrawals (list_of (ann_first ∷ bob_first ∷ []) 5)
       ≡ codes "outcomes 2\noutcome 1 c0,c1\na account 20 refused 1\nb buffer 2 [5] refused 0\nann x 100 y_1 -3\nbob\noutcome 2 c1,c0\na account 20 refused 1\nb buffer 2 [5] refused 0\nann x 20 y_1 0\nbob\nconfigurations 5\n"
   pub no_client :
-      listed_text unused (list_of (as_declared ∷ []) 1) ≡ codes "outcomes 1\noutcome 1 -\na account 100 refused 0\nconfigurations 1\n"
+      listed_text unused (list_of (as_declared ∷ []) 1)
+      ≡ codes "outcomes 1\noutcome 1 -\na account 100 refused 0\nconfigurations 1\n"

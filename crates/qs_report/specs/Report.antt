@@ -1,44 +1,22 @@
 -- The report of a run, and the counts of a program, as bytes.
-use Rattle.std.specs.Prelude.{ℕ, ℤ, pos, List, [], ◌++◌, codes, decimal, length, flat_map, Option, Some, None, slice_index_or, sum_by, Bool, true, false, if◌then◌else◌}
-use Rattle.std.specs.Fmt.{signed_decimal}
-use Rattle.std.specs.List.{join_by}
-use Rattle.qs_objects.specs.Act.{State, account}
-use Rattle.qs_objects.specs.Objects.{kind_of, values_of}
-use Rattle.qs_objects.specs.Operations.{word}
-use Rattle.qs_objects.specs.declared.Request.{Request}
+use Rattle.std.specs.Prelude.{ℕ, List, [], ◌++◌, codes, decimal, length, flat_map, slice_index_or, sum_by, Bool, true, false, if◌then◌else◌}
+use Rattle.qs_objects.specs.Act.{State}
 use Rattle.qs_objects.specs.declared.held.Ticket.{Ticket}
 use Rattle.qs_objects.specs.declared.held.Event.{Event}
-use Rattle.qs_objects.specs.declared.object.Kind.{Kind}
-use Rattle.qs_objects.specs.declared.object.Kind.TheVariants as kinds
 use Rattle.qs_program.specs.Program.{ClientShape, ProgramShape, object_at, client_at, whole_load, whole_weight}
 use Rattle.qs_played.specs.Played.{Played}
 use Rattle.qs_sync_counts.specs.declared.sync_counts.SyncCount.{SyncCount}
-use Rattle.qs_report.specs.Texts.{count_line, texts_up_to}
-
-abbrev pub args_text : List ℤ → List ℕ
-args_text args = join_by signed_decimal (codes ",") args
-
--- a request on an object of the program; a number past its objects has no name
-abbrev pub request_text : ProgramShape → Request → List ℕ
-request_text p r = (object_at p r.object).name ++ codes "." ++ word r.op ++ codes "(" ++ args_text r.args ++ codes ")"
-
--- a query's reply; a command has none
-abbrev pub reply_text : Option ℤ → List ℕ
-reply_text None = []
-reply_text (Some reply) = codes " = " ++ signed_decimal reply
+use Rattle.qs_text.specs.Texts.{count_line, texts_up_to}
+use Rattle.qs_text.specs.Words.{ended_text, first_ticket, no_state, reply_text, request_text, state_text}
 
 abbrev pub event_line : ProgramShape → Event → List ℕ
 event_line p e = request_text p e.request ++ reply_text e.reply ++ codes "\n"
 
-abbrev pub ended_text : Bool → List ℕ
-ended_text ended = if ended then codes "done" else codes "open"
-
 -- a ticket, and whether its block has ended
 abbrev pub ticket_line : ProgramShape → Ticket → Bool → List ℕ
-ticket_line p t ended = codes "ticket " ++ (client_at p t.client).name ++ codes " " ++ decimal t.index ++ codes " " ++ ended_text ended ++ codes "\n"
-
-abbrev pub first_ticket : Ticket
-first_ticket = record { client = 0; index = 0 }
+ticket_line p t ended =
+    codes "ticket " ++ (client_at p t.client).name ++ codes " " ++ decimal t.index ++ codes " " ++ ended_text ended
+    ++ codes "\n"
 
 -- the ticket at a place of the order, with the lines of its trace
 abbrev pub ticket_text : ProgramShape → Played → ℕ → List ℕ
@@ -59,25 +37,12 @@ abbrev pub shown_ticket : (counts : Bool) → ProgramShape → Played → ℕ �
 shown_ticket counts p run i = if counts then ticket_text p run i ++ sync_lines p run i else ticket_text p run i
 
 abbrev pub order_text : (counts : Bool) → ProgramShape → Played → List ℕ
-order_text counts p run = count_line (codes "order") (length run.order) ++ texts_up_to (length run.order) (shown_ticket counts p run)
+order_text counts p run =
+    count_line (codes "order") (length run.order) ++ texts_up_to (length run.order) (shown_ticket counts p run)
 
--- values between brackets
-abbrev pub values_text : List ℤ → List ℕ
-values_text values = codes "[" ++ join_by signed_decimal (codes " ") values ++ codes "]"
-
--- a kind with its numbers, and the values of an object that has some
-abbrev pub content_text : Kind → List ℤ → List ℕ
-content_text (kinds.Account balance) values = codes " account " ++ signed_decimal balance
-content_text (kinds.Buffer capacity) values = codes " buffer " ++ signed_decimal capacity ++ codes " " ++ values_text values
-content_text (kinds.Grid rows columns) values =
-    codes " grid " ++ signed_decimal rows ++ codes " " ++ signed_decimal columns ++ codes " " ++ values_text values
-
+-- the line of an object's state
 abbrev pub state_line : List ℕ → State → List ℕ
-state_line name s =
-    name ++ content_text (kind_of s.content) (values_of s.content) ++ codes " refused " ++ signed_decimal s.refused ++ codes "\n"
-
-abbrev pub no_state : State
-no_state = record { content = account (pos 0); refused = pos 0 }
+state_line name s = state_text name s ++ codes "\n"
 
 -- the object of a number
 abbrev pub object_text : ProgramShape → Played → ℕ → List ℕ
@@ -89,8 +54,8 @@ states_text p run = codes "states\n" ++ texts_up_to (length run.states) (object_
 abbrev pub finished_text : Bool → List ℕ
 finished_text finished = if finished then codes "finished\n" else codes "unfinished\n"
 
--- the order with its traces, and its counts where they are asked for; the objects' states, the number of syncs, and whether the run is
--- finished
+-- the order with its traces, and its counts where they are asked for; the objects' states, the number of syncs, and
+-- whether the run is finished
 abbrev pub run_text : (counts : Bool) → ProgramShape → Played → List ℕ
 run_text counts p run =
     order_text counts p run ++ states_text p run ++ count_line (codes "syncs") run.syncs ++ finished_text run.finished

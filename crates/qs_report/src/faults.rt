@@ -1,17 +1,17 @@
 // Faults, their lines and their statuses.
 
-ghost use Rattle.std.specs.Prelude.{◌≡◌, ◌||◌, flat_map, IsTrue, not};
+ghost use Rattle.std.specs.Prelude.{◌≡◌, ◌||◌, IsTrue, not};
 ghost use Rattle.std.specs.Io.KnownBytes.{Appends};
-ghost use Rattle.qs_report.specs.Texts.{AppendsFront};
+ghost use Rattle.qs_text.specs.Texts.{AppendsFront};
 ghost use Rattle.qs_report.specs.Faults.{fault_place, fault_status, fault_text, fault_words, read_words, read_place, check_words, play_words, order_words, run_words, outcomes_words};
 
-use crate::watching::{Watch, write_text};
 use itoa::Buffer;
-use qs_orders::OrderFault;
 use qs_outcomes::OutcomesFault;
 use qs_places::CheckFault;
 use qs_played::{PlayFault, RunFault};
 use qs_script::ReadFault;
+use qs_serial::OrderFault;
+use qs_text::{Watch, write_texts};
 use std::io::Write;
 
 /// Why a run was refused.
@@ -150,22 +150,9 @@ pub fn place_of(fault: &Fault) -> Option<u32>
     }
 }
 
-// Writes texts one after another, up to the first failure.
-fn write_texts<W: Write>(out: &mut W, watch: &mut Watch<W>, texts: &[&[u8]]) -> bool
-    ensures front { AppendsFront (W.contents out.old) (W.contents out.new) (flat_map (λ text. text.now) texts.now) }
-    ensures whole { IsTrue result → Appends (W.contents out.old) (W.contents out.new) (flat_map (λ text. text.now) texts.now) }
-    ensures failed { watch.new.has_failed ≡ (watch.old.has_failed || not result) }
-{
-    for text in texts {
-        if !write_text(out, watch, text) {
-            return false;
-        }
-    }
-    true
-}
-
-/// Writes the line of a fault: `refused: ` and the fault's words and numbers. False exactly where a write fails, which `watch` shows; no
-/// more is written then, and what was written is a front of the line. Takes no memory, and asks for no flush.
+/// Writes the line of a fault: `refused: ` and the fault's words and numbers. False exactly where a write fails, which
+/// `watch` shows; no more is written then, and what was written is a front of the line. Takes no memory, and asks for
+/// no flush.
 pub fn fault_line_watched<W: Write>(fault: &Fault, out: &mut W, watch: &mut Watch<W>) -> bool
     ensures front { AppendsFront (W.contents out.old) (W.contents out.new) (fault_text fault.now) }
     ensures whole { IsTrue result → Appends (W.contents out.old) (W.contents out.new) (fault_text fault.now) }
@@ -191,8 +178,8 @@ pub fn fault_line<W: Write>(fault: &Fault, out: &mut W) -> bool
     fault_line_watched(fault, out, &mut watch)
 }
 
-/// The status that a refused run ends with: 2 for a command line, a script or a number that is refused, 3 for out of memory or of
-/// threads, 4 for the input.
+/// The status that a refused run ends with: 2 for a command line, a script or a number that is refused, 3 for out of
+/// memory or of threads, 4 for the input.
 pub fn status(fault: &Fault) -> u8
     ensures status { result ≡ fault_status fault.now }
 {

@@ -3,39 +3,25 @@
 ghost use Rattle.std.specs.Prelude.{◌≡◌, ◌<◌, ◌++◌, decimal, length, IfOk, OnOk};
 ghost use Rattle.std.specs.List.{AllByRecursion, filter};
 ghost use Rattle.qs_program.specs.Limits.{most_handlers};
-ghost use Rattle.qs_program.specs.Program.{blocks_of, own_block};
+ghost use Rattle.qs_program.specs.Program.{blocks_of};
 ghost use Rattle.qs_graph.specs.Nodes.{place_at};
-ghost use Rattle.qs_syncset.specs.Table.{has};
-ghost use Rattle.qs_report.specs.GraphText.{list_text, name_of, removed_text, label_text, node_line, nodes_text, block_line, step_text};
-ghost use Rattle.qs_report.specs.GraphText.{AreNodesText, IsBlockText, IsClientText, IsGraphText, IsAdded};
+ghost use Rattle.qs_held_sets.specs.Table.{has};
+ghost use Rattle.qs_text.specs.Blocks.{AreBlocksOf, AreNodes};
+ghost use Rattle.qs_text.specs.Texts.{list_text, IsAdded};
+ghost use Rattle.qs_text.specs.Words.{name_of};
+ghost use Rattle.qs_report.specs.GraphText.{removed_text, label_text, node_line, nodes_text, block_line, graph_nodes_text, step_text, IsBlockText, IsGraphText};
 
-use crate::bytes::{put, put_all};
-use crate::names::{client_name, declared_name};
 use itoa::Buffer;
 use qs_graph::{Graph, Node, graph};
 use qs_program::Program;
 use qs_syncset::{Sets, held_sets};
+use qs_text::{client_name, held_at, put, put_all, put_named, put_names, reserved_by};
 use std::alloc::{AllocError, Global};
 
 fn removed_word(is_held: bool) -> &'static [u8]
     ensures word { result.now ≡ removed_text is_held }
 {
     if is_held { b" removed" } else { b" kept" }
-}
-
-// A word and a name of a client's own text.
-fn put_named(
-    out: &mut Vec<u8>,
-    program: &Program,
-    client: u8,
-    word: &[u8],
-    name: u8,
-) -> Result<(), AllocError>
-    requires client { client < length program.now.clients }
-    ensures ok { OnOk result (out.new.items ≡ out.old.items ++ (word.now ++ name_of program.now client name)) }
-{
-    put(out, word)?;
-    put(out, declared_name(program, client, name))
 }
 
 // What a node does.
@@ -52,7 +38,7 @@ fn put_label(
     requires sets { length sets.now ≡ length graph.now.nodes }
     ensures ok { OnOk result (out.new.items ≡ out.old.items ++ label_text program.now client (has sets.now n) (place_at graph.now.nodes n).node) }
 {
-    graph.is_graph();
+    graph.keeps_graph();
     match graph.node(n) {
         Node::Entry => put(out, b"entry"),
         Node::Local(_) => put(out, b"local"),
@@ -77,41 +63,6 @@ fn put_targets(out: &mut Vec<u8>, targets: &[usize]) -> Result<(), AllocError>
     for target in targets {
         let mut buffer = Buffer::new();
         put_all(out, &[b" ", buffer.format(*target).as_bytes()])?;
-    }
-    Ok(())
-}
-
-/// The names of a block's list that are held at a node, in the list's order; each is one of 8. An error says that an allocation failed.
-pub fn held_at(alloc: Global, reserved: &[u8], sets: &Sets, n: usize) -> Result<Vec<u8>, AllocError>
-    requires node { n < length sets.now }
-    requires handlers { AllByRecursion (λ h. h < most_handlers) reserved.now }
-    ensures held { IfOk result (λ held. held.items ≡ filter (has sets.now n) reserved.now) }
-{
-    let mut held = Vec::new(alloc);
-    for object in reserved {
-        if sets.holds(n, *object) {
-            held.push(*object)?;
-        }
-    }
-    Ok(held)
-}
-
-/// Puts names of a client's own text at the end, each after a space, or a dash where there are none. An error says that an allocation
-/// failed.
-pub fn put_names(
-    out: &mut Vec<u8>,
-    program: &Program,
-    client: u8,
-    names: &[u8],
-) -> Result<(), AllocError>
-    requires client { client < length program.now.clients }
-    ensures ok { OnOk result (out.new.items ≡ out.old.items ++ list_text (name_of program.now client) names.now) }
-{
-    if names.is_empty() {
-        return put(out, b" -");
-    }
-    for name in names {
-        put_named(out, program, client, b" ", *name)?;
     }
     Ok(())
 }
@@ -216,17 +167,6 @@ fn put_block_line(
     )
 }
 
-/// The names of a block's list, each one of 8.
-pub fn reserved_by(program: &Program, client: u8, block: u8) -> &[u8]
-    requires client { client < length program.now.clients }
-    requires block { block < blocks_of program.now client }
-    ensures value { result.now ≡ (own_block program.now client block).reserved }
-    ensures handlers { AllByRecursion (λ h. h < most_handlers) result.now }
-{
-    program.is_sound();
-    program.own_block(client, block).reserved()
-}
-
 // The nodes of a graph, with what is held at each.
 fn put_graph(
     alloc: Global,
@@ -238,7 +178,7 @@ fn put_graph(
 ) -> Result<(), AllocError>
     requires client { client < length program.now.clients }
     requires handlers { AllByRecursion (λ h. h < most_handlers) reserved.now }
-    ensures ok { OnOk result (IsAdded (AreNodesText program.now client reserved.now graph.now) out.old.items out.new.items) }
+    ensures ok { OnOk result (IsAdded (AreNodes (graph_nodes_text program.now client) reserved.now graph.now) out.old.items out.new.items) }
 {
     let sets = held_sets(alloc, graph)?;
     let put = put_nodes(alloc, out, program, client, reserved, graph, &sets);
@@ -278,21 +218,22 @@ fn put_blocks(
     client: u8,
 ) -> Result<(), AllocError>
     requires client { client < length program.now.clients }
-    ensures ok { OnOk result (IsAdded (IsClientText program.now client) out.old.items out.new.items) }
+    ensures ok { OnOk result (IsAdded (AreBlocksOf program.now (IsBlockText program.now) client) out.old.items out.new.items) }
 {
-    program.is_sound();
+    program.keeps_sound();
     for block in 0..program.blocks_of(client) {
         put_block(alloc, out, program, client, block as u8)?;
     }
     Ok(())
 }
 
-/// The text of a program's control-flow graphs: for each block its nodes as they are built, each with its number, what it does, the
-/// nodes that it leads to, and the names that are held as it is reached. An error says that an allocation failed, and nothing is left.
+/// The text of a program's control-flow graphs: for each block its nodes as they are built, each with its number, what
+/// it does, the nodes that it leads to, and the names that are held as it is reached. An error says that an allocation
+/// failed, and nothing is left.
 pub fn graph_text(alloc: Global, program: &Program) -> Result<Vec<u8>, AllocError>
     ensures text { IfOk result (λ bytes. IsGraphText program.now bytes.items) }
 {
-    program.is_sound();
+    program.keeps_sound();
     let mut out = Vec::new(alloc);
     for client in 0..program.clients() {
         put_blocks(alloc, &mut out, program, client as u8)?;

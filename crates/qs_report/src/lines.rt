@@ -4,12 +4,12 @@ ghost use Rattle.std.specs.Prelude.{◌≡◌, ◌<◌, ◌≤◌, ◌+◌, ◌*
 ghost use Rattle.qs_objects.specs.Operations.{word};
 ghost use Rattle.qs_program.specs.Program.{object_at};
 ghost use Rattle.std.specs.Fmt.{signed_decimal};
-ghost use Rattle.qs_report.specs.Lines.{IsShort, line_text, longest_line};
+ghost use Rattle.qs_report.specs.Lines.{HasSixDigits, line_text, longest_line};
 ghost use Rattle.qs_report.specs.Report.{event_line};
 
-use crate::names::short_name;
 use qs_objects::{Event, Request};
 use qs_program::Program;
+use qs_text::short_name;
 use std::mem;
 
 const LONGEST_LINE: usize = 64;
@@ -114,7 +114,7 @@ fn put_six(out: &mut Vec<u8>, number: u64)
 // A short number.
 #[inline(always)]
 fn put_number(out: &mut Vec<u8>, number: i64)
-    requires short { IsShort number }
+    requires short { HasSixDigits number }
     requires room { vec_len out.old + 6 ≤ vec_capacity out.old }
     ensures items { out.new.items ≡ out.old.items ++ signed_decimal number }
     ensures len { vec_len out.new ≤ vec_len out.old + 6 }
@@ -130,7 +130,7 @@ fn put_number(out: &mut Vec<u8>, number: i64)
 // A request's closing parenthesis, a query's reply, and the line's end.
 #[inline(always)]
 fn put_reply(out: &mut Vec<u8>, reply: i64)
-    requires short { IsShort reply }
+    requires short { HasSixDigits reply }
     requires room { vec_len out.old + 11 ≤ vec_capacity out.old }
     ensures items { out.new.items ≡ out.old.items ++ codes ") = " ++ signed_decimal reply ++ codes "\n" }
     ensures len { vec_len out.new ≤ vec_len out.old + 11 }
@@ -155,7 +155,7 @@ fn put_head(out: &mut Vec<u8>, program: &Program, request: &Request)
 
 #[inline(always)]
 fn is_short(number: i64) -> bool
-    ensures short { IsTrue result → IsShort number }
+    ensures short { IsTrue result → HasSixDigits number }
 {
     0 <= number && number < SHORT
 }
@@ -185,7 +185,8 @@ fn put_command(out: &mut Vec<u8>, program: &Program, request: &Request) -> bool
     }
 }
 
-// The line of a query with at most one argument, where that and the reply are short. Answers whether it is there; else nothing is.
+// The line of a query with at most one argument, where that and the reply are short. Answers whether it is there; else
+// nothing is.
 #[inline(always)]
 fn put_query(out: &mut Vec<u8>, program: &Program, request: &Request, reply: i64) -> bool
     requires room { vec_len out.old + 43 ≤ vec_capacity out.old }
@@ -261,7 +262,8 @@ fn is_quick(event: &Event) -> bool {
     }
 }
 
-// The first lines, as many as there is room for. The bytes are out of their place meanwhile, so that each is written without a look at it.
+// The first lines, as many as there is room for. The bytes are out of their place meanwhile, so that each is written
+// without a look at it.
 #[inline(never)]
 fn put_quick(out: &mut Vec<u8>, program: &Program, trace: &[Event]) -> usize
     ensures few { result ≤ length trace.now }
@@ -275,8 +277,8 @@ fn put_quick(out: &mut Vec<u8>, program: &Program, trace: &[Event]) -> usize
     count
 }
 
-/// Puts the first lines of a trace at the end, as long as there is room, and a line has at most one argument and short numbers. Answers how
-/// many.
+/// Puts the first lines of a trace at the end, as long as there is room, and a line has at most one argument and short
+/// numbers. Answers how many.
 pub(crate) fn put_lines(out: &mut Vec<u8>, program: &Program, trace: &[Event]) -> usize
     ensures few { result ≤ length trace.now }
     ensures items { out.new.items ≡ out.old.items ++ flat_map (event_line program.now) (take result trace.now) }

@@ -4,15 +4,14 @@ ghost use Rattle.std.specs.Prelude.{◌≡◌, ◌<◌, ◌++◌, codes, flat_ma
 ghost use Rattle.std.specs.List.{AllByRecursion};
 ghost use Rattle.qs_outcomes.specs.Outcomes.{HasPlaces};
 ghost use Rattle.qs_report.specs.OutcomesText.{client_line, clients_text, listed_text, next_client_text, no_standing, object_line, outcome_line, outcome_text, outcome_text_at, variable_text, variables_text};
-ghost use Rattle.qs_report.specs.Texts.{texts_up_to};
+ghost use Rattle.qs_text.specs.Texts.{texts_up_to};
 
-use crate::bytes::{put, put_all, put_count, put_number};
-use crate::names::{client_name, object_name, variable_name};
-use crate::states::put_state;
+use crate::states::put_state_line;
 use itoa::Buffer;
 use qs_objects::Ticket;
 use qs_outcomes::{AllOutcomes, Standing};
 use qs_program::{Locals, Names, Program};
+use qs_text::{client_name, object_name, put, put_all, put_count_line, put_number, variable_name};
 use std::alloc::{AllocError, Global};
 
 // The client whose block comes next.
@@ -108,7 +107,7 @@ fn put_object(
     ensures ok { OnOk result (out.new.items ≡ out.old.items ++ object_line program.now standing.now object) }
 {
     let name = object_name(program, usize::from(object));
-    put_state(out, name, standing.object(object))
+    put_state_line(out, name, standing.object(object))
 }
 
 // All clients at the end.
@@ -116,7 +115,7 @@ fn put_clients(out: &mut Vec<u8>, program: &Program, standing: &Standing) -> Res
     requires places { HasPlaces program.now standing.now }
     ensures ok { OnOk result (out.new.items ≡ out.old.items ++ texts_up_to (length program.now.clients) (client_line program.now standing.now)) }
 {
-    program.is_sound();
+    program.keeps_sound();
     for client in 0..program.clients() as u8 {
         put_client(out, program, standing, client)?;
     }
@@ -128,7 +127,7 @@ fn put_objects(out: &mut Vec<u8>, program: &Program, standing: &Standing) -> Res
     requires places { HasPlaces program.now standing.now }
     ensures ok { OnOk result (out.new.items ≡ out.old.items ++ texts_up_to (length program.now.objects) (object_line program.now standing.now)) }
 {
-    program.is_sound();
+    program.keeps_sound();
     for object in 0..program.objects() as u8 {
         put_object(out, program, standing, object)?;
     }
@@ -150,8 +149,8 @@ fn put_outcome(
     put_clients(out, program, standing)
 }
 
-// The outcome at a place of a list.
-fn outcome_at(found: &[Standing], place: usize) -> &Standing
+/// The outcome at a place of a list.
+pub fn outcome_at(found: &[Standing], place: usize) -> &Standing
     requires { place < length found.now }
     ensures standing { result.now ≡ slice_index_or found.now place no_standing }
 {
@@ -169,8 +168,9 @@ fn put_found(out: &mut Vec<u8>, program: &Program, found: &[Standing]) -> Result
     Ok(())
 }
 
-/// The text of all outcomes of a program: how many there are; each with its number, an order that comes to it, the objects' lines and the
-/// clients' lines; and how many configurations there are. An error says that an allocation failed, and nothing is left.
+/// The text of all outcomes of a program: how many there are; each with its number, an order that comes to it, the
+/// objects' lines and the clients' lines; and how many configurations there are. An error says that an allocation
+/// failed, and nothing is left.
 pub fn outcomes_text(
     alloc: Global,
     program: &Program,
@@ -181,8 +181,8 @@ pub fn outcomes_text(
 {
     let mut out = Vec::new(alloc);
     let found = all.found();
-    put_count(&mut out, b"outcomes", found.len() as u64)?;
+    put_count_line(&mut out, b"outcomes", found.len() as u64)?;
     put_found(&mut out, program, found)?;
-    put_count(&mut out, b"configurations", all.configurations() as u64)?;
+    put_count_line(&mut out, b"configurations", all.configurations() as u64)?;
     Ok(out)
 }

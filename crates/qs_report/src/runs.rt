@@ -3,11 +3,11 @@
 ghost use Rattle.std.specs.Prelude.{◌≡◌, IfOk};
 ghost use Rattle.qs_report.specs.Report.{counted_report_text, report_text, run_text, finished_text};
 
-use crate::bytes::{put, put_count};
 use crate::states::put_states;
 use crate::tickets::put_order;
 use qs_played::{Outcome, Played};
 use qs_program::Program;
+use qs_text::{put, put_count_line};
 use std::alloc::{AllocError, Global};
 
 fn finished_line(finished: bool) -> &'static [u8]
@@ -32,21 +32,22 @@ fn text_of_run(
     let mut out = Vec::new(alloc);
     put_order(&mut out, program, played, counts)?;
     put_states(&mut out, program, played)?;
-    put_count(&mut out, b"syncs", played.syncs())?;
+    put_count_line(&mut out, b"syncs", played.syncs())?;
     put(&mut out, finished_line(played.is_finished()))?;
     Ok(out)
 }
 
-/// The text of a run: the order of its tickets, each with its trace; the objects' states; the number of syncs; and whether it is
-/// finished. A number past the program's objects or clients has no name. An error says that an allocation failed, and nothing is left.
+/// The text of a run: the order of its tickets, each with its trace; the objects' states; the number of syncs; and
+/// whether it is finished. A number past the program's objects or clients has no name. An error says that an allocation
+/// failed, and nothing is left.
 pub fn report(alloc: Global, program: &Program, played: &Played) -> Result<Vec<u8>, AllocError>
     ensures text { IfOk result (λ bytes. bytes.items ≡ report_text program.now played.now) }
 {
     text_of_run(alloc, program, played, false)
 }
 
-/// The text of a run on threads: the same, where each ticket is done and the run is finished. An error says that an allocation failed, and
-/// nothing is left.
+/// The text of a run on threads: the same, where each ticket is done and the run is finished. An error says that an
+/// allocation failed, and nothing is left.
 pub fn report_run(
     alloc: Global,
     program: &Program,
@@ -57,8 +58,9 @@ pub fn report_run(
     report(alloc, program, outcome.played())
 }
 
-/// The text of a run as `report` makes it, and after each ticket's trace a line for each object of its block's list, in the list's order:
-/// how many synchronisations the block has sent for it. An error says that an allocation failed, and nothing is left.
+/// The text of a run as `report` makes it, and after each ticket's trace a line for each object of its block's list, in
+/// the list's order: how many synchronisations the block has sent for it. An error says that an allocation failed, and
+/// nothing is left.
 pub fn report_counts(
     alloc: Global,
     program: &Program,
@@ -69,8 +71,8 @@ pub fn report_counts(
     text_of_run(alloc, program, played, true)
 }
 
-/// The text of a run on threads as `report_run` makes it, with the lines of `report_counts`. An error says that an allocation failed, and
-/// nothing is left.
+/// The text of a run on threads as `report_run` makes it, with the lines of `report_counts`. An error says that an
+/// allocation failed, and nothing is left.
 pub fn report_run_counts(
     alloc: Global,
     program: &Program,

@@ -1,67 +1,19 @@
 // The order of a run: its tickets with their traces.
 
 ghost use Rattle.std.specs.Prelude.{◌≡◌, ◌<◌, ◌++◌, length, flat_map, OnOk, codes};
-ghost use Rattle.std.specs.Fmt.{signed_decimal};
 ghost use Rattle.qs_sync_counts.specs.SyncRows.{sync_count};
-ghost use Rattle.qs_report.specs.Report.{args_text, request_text, reply_text, event_line, ended_text, ticket_line, ticket_text, sync_line, sync_lines, shown_ticket, order_text};
+ghost use Rattle.qs_text.specs.Words.{reply_text};
+ghost use Rattle.qs_report.specs.Report.{event_line, ticket_line, ticket_text, sync_line, sync_lines, shown_ticket, order_text};
 
-use crate::bytes::{put, put_all, put_count, put_number, put_short};
 use crate::lines::put_lines;
-use crate::names::{client_name, object_name};
 use itoa::Buffer;
-use qs_objects::{Event, Request, Ticket};
+use qs_objects::{Event, Ticket};
 use qs_played::Played;
 use qs_program::Program;
+use qs_text::{
+    client_name, ended_word, object_name, put, put_all, put_count_line, put_number, put_request,
+};
 use std::alloc::AllocError;
-
-// Further arguments, each after a comma.
-fn put_others(out: &mut Vec<u8>, args: &[i64]) -> Result<(), AllocError>
-    ensures ok { OnOk result (out.new.items
-        ≡ out.old.items ++ flat_map (λ arg. codes "," ++ signed_decimal arg) args.now) }
-{
-    for arg in args {
-        put(out, b",")?;
-        put_number(out, *arg)?;
-    }
-    Ok(())
-}
-
-// The arguments, joined by commas.
-#[inline(always)]
-pub(crate) fn put_args(out: &mut Vec<u8>, args: &[i64]) -> Result<(), AllocError>
-    ensures ok { OnOk result (out.new.items ≡ out.old.items ++ args_text args.now) }
-{
-    match args {
-        [] => Ok(()),
-        [only] => put_number(out, *only),
-        [first, others @ ..] => {
-            put_number(out, *first)?;
-            put_others(out, others)
-        }
-    }
-}
-
-// A request without its closing parenthesis.
-#[inline(always)]
-fn put_request(out: &mut Vec<u8>, program: &Program, request: &Request) -> Result<(), AllocError>
-    ensures ok { OnOk result (out.new.items ++ codes ")" ≡ out.old.items ++ request_text program.now request.now) }
-{
-    put_short(out, object_name(program, usize::from(request.object)))?;
-    put(out, request.op.opening())?;
-    put_args(out, request.args.as_slice())
-}
-
-/// Puts a request at the end, as reports have it. An error says that an allocation failed.
-pub fn put_whole_request(
-    out: &mut Vec<u8>,
-    program: &Program,
-    request: &Request,
-) -> Result<(), AllocError>
-    ensures ok { OnOk result (out.new.items ≡ out.old.items ++ request_text program.now request.now) }
-{
-    put_request(out, program, request)?;
-    put(out, b")")
-}
 
 // A request's closing parenthesis, a query's reply, and the line's end.
 fn put_reply(out: &mut Vec<u8>, reply: Option<i64>) -> Result<(), AllocError>
@@ -82,12 +34,6 @@ fn put_event(out: &mut Vec<u8>, program: &Program, event: &Event) -> Result<(), 
 {
     put_request(out, program, &event.request)?;
     put_reply(out, event.reply)
-}
-
-fn ended_word(ended: bool) -> &'static [u8]
-    ensures word { result.now ≡ ended_text ended }
-{
-    if ended { b"done" } else { b"open" }
 }
 
 fn put_ticket_line(
@@ -142,7 +88,7 @@ fn put_sync(out: &mut Vec<u8>, program: &Program, object: u8, count: u32) -> Res
     ensures ok { OnOk result (out.new.items ≡ out.old.items ++ sync_line program.now (sync_count object count)) }
 {
     put(out, b"sync ")?;
-    put_count(
+    put_count_line(
         out,
         object_name(program, usize::from(object)),
         u64::from(count),
@@ -196,7 +142,7 @@ pub(crate) fn put_order(
     ensures ok { OnOk result (out.new.items ≡ out.old.items ++ order_text counts program.now played.now) }
 {
     let count = played.order().len();
-    put_count(out, b"order", count as u64)?;
+    put_count_line(out, b"order", count as u64)?;
     for place in 0..count {
         put_shown(out, program, played, place, counts)?;
     }

@@ -1,6 +1,6 @@
--- What `collect_outcome` shows is an outcome. Its calls say what each of them did, one after another, and change the desk's name for itself and
--- the handlers on the way; here all of it is said of the desk and the workers as they were in the beginning, and the lemmas on
--- these are brought together.
+-- What `collect_outcome` shows is an outcome. Its calls say what each of them did, one after another, and change the
+-- desk's name for itself and the handlers on the way; here all of it is said of the desk and the workers as they were
+-- in the beginning, and the lemmas on these are brought together.
 use Rattle.std.proofs.Common.{◌≡◌, ◌≤◌, ℕ, List, length, map, sym, ap, ◌∙◌, subst}
 use Rattle.std.specs.List.{AllByRecursion}
 use Rattle.qs_objects.specs.Act.{State}
@@ -40,7 +40,8 @@ module _ {D : Type 0} (p : ProgramShape) (sound : IsSound p) (mode : Mode) (size
     is_outcome = outcome p sound mode size order handlers clients ran joined;
   }
 
-  -- the desk before, after the clients and after the handlers were collected; the handlers before, and without their lanes
+  -- the desk before, after the clients and after the handlers were collected; the handlers before, and without their
+  -- lanes
   pub all_showable : (before after last : DeskView) (old left : List (HandlerWorker D)) (n : ℕ) (order : List Ticket) (rows : List ClientRows)
       (journals : List (List Entry)) (states : List State)
       → old ≡ handlers → after ≡ before → last ≡ after → left ≡ map (without_lanes_below n) old

@@ -1,7 +1,8 @@
--- What all workers gave back, once it is joined, is a run of threads (`IsThreadRun`), so the law of running threads speaks of it. What a worker
--- says of itself is not enough for that: that a client's tickets are in the order, that a handler took all that was pushed to it, and that
--- what went into a lane came out of it, is known only after the comparisons. A run of threads has functions of numbers, and the workers
--- are lists; so the deeds and the mind of a client, and the tasks and the object of a handler, are looked up in these lists.
+-- What all workers gave back, once it is joined, is a run of threads (`IsThreadRun`), so the law of running threads
+-- speaks of it. What a worker says of itself is not enough for that: that a client's tickets are in the order, that a
+-- handler took all that was pushed to it, and that what went into a lane came out of it, is known only after the
+-- comparisons. A run of threads has functions of numbers, and the workers are lists; so the deeds and the mind of a
+-- client, and the tasks and the object of a handler, are looked up in these lists.
 use Rattle.std.proofs.Common.{◌≡◌, ◌<◌, ℕ, true, false, List, [], Option, Some, None, length, slice_get, sym, ap, ◌∙◌, subst, arith, IsSome}
 use Rattle.std.proofs.lemmas.List.Elements.{length_all_zip}
 use Rattle.std.proofs.lemmas.Option.{slice_get_past}
@@ -46,7 +47,7 @@ module _ {D : Type 0} where
     pub booked : AllByRecursion (IsBooked order) clients
     pub taken_all : AllByRecursion (HasTakenAll p order) handlers
     pub lanes : (c h : ℕ) (w : ClientWorker D) (r : HandlerWorker D) → slice_get clients c ≡ Some w → slice_get handlers h ≡ Some r
-        → AreEndsJoined (running.lane_at w.lanes h) (handling.lane_at r.lanes c)
+        → AreEndsJoined (running.out_lane_at w.lanes h) (handling.in_lane_at r.lanes c)
 
 -- the code of no client
 abbrev pub no_code : ClientCode
@@ -162,9 +163,9 @@ module _ {D : Type 0} (p : ProgramShape) (sound : IsSound p) (mode : Mode) (size
       let ready = (ran.ready.all_clients.each c a.first a.first_is).1 in
       let same = sym start.number in
       let some = ready.reached k h (subst (λ n. k < blocks_of p n) same few) (subst (λ n. reserves p (ticket n k) h ≡ true) same own) in
-      let fresh = subst (λ n. running.IsFresh n (running.lane_at a.first.lanes h)) (ap (λ (m : ClientModel). m.size) start.mind.begins) (ready.fresh h) in
-      let run = lane_run size c h a.related.deeds b.related.tasks (running.lane_at a.first.lanes h) (running.lane_at a.second.lanes h)
-      (handling.lane_at b.first.lanes c) (handling.lane_at b.second.lanes c) some fresh (a.related.done.ends h)
+      let fresh = subst (λ n. running.IsFresh n (running.out_lane_at a.first.lanes h)) (ap (λ (m : ClientModel). m.size) start.mind.begins) (ready.fresh h) in
+      let run = lane_run size c h a.related.deeds b.related.tasks (running.out_lane_at a.first.lanes h) (running.out_lane_at a.second.lanes h)
+      (handling.in_lane_at b.first.lanes c) (handling.in_lane_at b.second.lanes c) some fresh (a.related.done.ends h)
       (ran.ready.lanes c h a.first b.first a.first_is b.first_is) (b.related.served.ends c) (joined.lanes c h a.second b.second a.second_is b.second_is) in
       subst (λ (q : List Deed × List Task). IsLaneRun size (sent_to h q.0) (received_from c q.1) (given_to c q.1) (got_from h q.0))
       (λ i. (sym (ap deeds_in a.is) i, sym (ap tasks_in b.is) i)) run

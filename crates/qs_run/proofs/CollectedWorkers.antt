@@ -1,6 +1,7 @@
--- What `collect_outcome` knows of the workers: their lanes belong together in pairs, as they did before the run, so that they can be joined;
--- there are no more workers than there is room for; and in the end all is known of them that makes a run of threads (`IsCollected`). When
--- the handlers are collected, their ends of lanes have been taken out already, but their tickets, journals and states are as before.
+-- What `collect_outcome` knows of the workers: their lanes belong together in pairs, as they did before the run, so
+-- that they can be joined; there are no more workers than there is room for; and in the end all is known of them that
+-- makes a run of threads (`IsCollected`). When the handlers are collected, their ends of lanes have been taken out
+-- already, but their tickets, journals and states are as before.
 use Rattle.std.proofs.Common.{◌≡◌, ◌≤◌, ℕ, zero, suc, true, List, [], ◌∷◌, ◌++◌, Option, Some, None, length, map, refl, sym, ap, ◌∙◌, subst, arith}
 use Rattle.std.specs.List.{AllByRecursion}
 use Rattle.qs_objects.specs.Journals.{HeldState}
@@ -49,8 +50,8 @@ module _ {D : Type 0} where
     all_paired c w es h r er =
         let a = first_of ClientHasRun ran.before_clients clients ran.ran c w es in
         let b = first_of (HandlerHasServed p) ran.before_handlers handlers ran.served h r er in
-        one_lane_still h c a.2.deeds b.2.tasks (running.lane_at a.0.lanes h) (running.lane_at w.lanes h) (handling.lane_at b.0.lanes c)
-        (handling.lane_at r.lanes c) (a.2.done.ends h) (ran.ready.lanes c h a.0 b.0 a.1 b.1) (b.2.served.ends c)
+        one_lane_still h c a.2.deeds b.2.tasks (running.out_lane_at a.0.lanes h) (running.out_lane_at w.lanes h) (handling.in_lane_at b.0.lanes c)
+        (handling.in_lane_at r.lanes c) (a.2.done.ends h) (ran.ready.lanes c h a.0 b.0 a.1 b.1) (b.2.served.ends c)
 
     pub few_handlers : IsSound p → length handlers ≤ most_handlers
     few_handlers sound =

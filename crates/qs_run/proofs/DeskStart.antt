@@ -1,5 +1,6 @@
--- What a new desk has for each client and each handler of a program: a share of which nothing is booked, and a queue of which nothing is taken.
--- The desk has eight places of each; those of the clients and handlers that the program has are filled, by their numbers.
+-- What a new desk has for each client and each handler of a program: a share of which nothing is booked, and a queue of
+-- which nothing is taken. The desk has eight places of each; those of the clients and handlers that the program has are
+-- filled, by their numbers.
 use Rattle.std.proofs.Common.{◌≡◌, ℕ, zero, suc, ◌<◌, ◌≤◌, true, nat_lt, if◌then◌else◌, [], map, length, get_or, Some, None, refl, ap, ◌∙◌, arith, rules, tests}
 use Rattle.std.proofs.lemmas.List.{get_or-map}
 use Rattle.qs_program.specs.Program.{ProgramShape}

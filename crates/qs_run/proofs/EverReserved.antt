@@ -1,5 +1,6 @@
--- Whether some block of a client reserves a handler (`ever_reserves`), against single blocks and against the numbers of a program. Lanes are made
--- by the first and asked for by the second, and no lane is made for a client or a handler that the program does not have.
+-- Whether some block of a client reserves a handler (`ever_reserves`), against single blocks and against the numbers of
+-- a program. Lanes are made by the first and asked for by the second, and no lane is made for a client or a handler
+-- that the program does not have.
 use Rattle.std.proofs.Common.{◌≡◌, ℕ, zero, suc, ◌<◌, ◌≤◌, ◌==◌, Bool, true, false, ◌||◌, List, [], ◌∷◌, length, get_or, refl, sym, ap, ◌∙◌, arith}
 use Rattle.std.specs.List.{AllByRecursion, list_any}
 use Rattle.std.proofs.lemmas.Bool.{false≢true}

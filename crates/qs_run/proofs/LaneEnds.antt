@@ -1,6 +1,6 @@
--- The ends of lanes in their places while they are made. One loop goes through the clients and the other through the handlers of a client; the
--- lanes so far are there and the places of the others are empty, and each new end changes its own place alone. In the end all lanes of
--- the program are there, and beyond its clients and handlers there is none.
+-- The ends of lanes in their places while they are made. One loop goes through the clients and the other through the
+-- handlers of a client; the lanes so far are there and the places of the others are empty, and each new end changes its
+-- own place alone. In the end all lanes of the program are there, and beyond its clients and handlers there is none.
 use Rattle.std.proofs.Common.{◌≡◌, ℕ, ◌+◌, ◌<◌, ◌≤◌, Bool, false, List, Option, None, length, sym, subst, ◌∙◌, inl, inr, below_more, arith}
 use Rattle.std.proofs.lemmas.Bool.{cases_lt}
 use Rattle.qs_program.specs.Program.{ProgramShape}

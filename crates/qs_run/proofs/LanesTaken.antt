@@ -1,6 +1,7 @@
--- What is left of the handlers while clients are collected. As the lanes of a client are joined, each handler's end of them is taken out of its
--- place. So two loops change the handlers: one goes through the handlers of one client, the other through the clients. These lemmas say,
--- for the step of each loop, that the ends which are not taken yet are as before the run was collected, and which are taken afterwards.
+-- What is left of the handlers while clients are collected. As the lanes of a client are joined, each handler's end of
+-- them is taken out of its place. So two loops change the handlers: one goes through the handlers of one client, the
+-- other through the clients. These lemmas say, for the step of each loop, that the ends which are not taken yet are as
+-- before the run was collected, and which are taken afterwards.
 use Rattle.std.proofs.Common.{◌≡◌, ◌≢◌, ◌<◌, ◌≤◌, ◌+◌, ℕ, zero, suc, List, [], ◌∷◌, Option, Some, None, length, map, get_or, slice_get, slice_set, refl, sym, ap, ◌∙◌, subst, arith, add-one}
 use Rattle.std.proofs.lemmas.List.{get_or-set_other}
 use Rattle.qs_lane.specs.Views.{OutView}
@@ -13,7 +14,7 @@ use Rattle.qs_run.proofs.ListPlaces.{front_set, here_at, map_back, map_front, ma
 
 module _ {D : Type 0} where
   -- the ends from later clients are still there
-  pub lane_still : (n c : ℕ) (s : HandlerWorker D) → n ≤ c → handling.lane_at (without_lanes_below n s).lanes c ≡ handling.lane_at s.lanes c
+  pub lane_still : (n c : ℕ) (s : HandlerWorker D) → n ≤ c → handling.in_lane_at (without_lanes_below n s).lanes c ≡ handling.in_lane_at s.lanes c
   lane_still zero c s le = refl
   lane_still (suc n) c s le =
       get_or-set_other (without_lanes_below n s).lanes n c None None (let apart : c ≢ n = omega (arith, le) in apart) ∙ lane_still n c s (omega (arith, le))
@@ -22,14 +23,14 @@ module _ {D : Type 0} where
   pub paired_still : (lanes : List (Option OutView)) (n : ℕ) (hs : List (HandlerWorker D)) → AreLanesPaired lanes n hs → AreLanesPaired lanes n (map (without_lanes_below n) hs)
   paired_still lanes n hs paired h r e =
       let back = map_back (without_lanes_below n) hs h r e in
-      let same : handling.lane_at back.0.lanes n ≡ handling.lane_at r.lanes n =
-      sym (lane_still n n back.0 (omega arith)) ∙ ap (λ (s : HandlerWorker D). handling.lane_at s.lanes n) back.2 in
-      subst (AreOneLane (running.lane_at lanes h)) same (paired h back.0 back.1)
+      let same : handling.in_lane_at back.0.lanes n ≡ handling.in_lane_at r.lanes n =
+      sym (lane_still n n back.0 (omega arith)) ∙ ap (λ (s : HandlerWorker D). handling.in_lane_at s.lanes n) back.2 in
+      subst (AreOneLane (running.out_lane_at lanes h)) same (paired h back.0 back.1)
 
   -- and where they are joined now, those before the first client was collected are joined
   pub joined_before : (lanes : List (Option OutView)) (n : ℕ) (hs : List (HandlerWorker D)) → AreLanesJoined lanes n (map (without_lanes_below n) hs) → AreLanesJoined lanes n hs
   joined_before lanes n hs joined h r e =
-      subst (AreEndsJoined (running.lane_at lanes h)) (lane_still n n r (omega arith)) (joined h (without_lanes_below n r) (map_get (without_lanes_below n) hs h r e))
+      subst (AreEndsJoined (running.out_lane_at lanes h)) (lane_still n n r (omega arith)) (joined h (without_lanes_below n r) (map_get (without_lanes_below n) hs h r e))
 
   -- the steps of the loop through the clients
   pub none_taken : (hs : List (HandlerWorker D)) → hs ≡ map (without_lanes_below 0) hs
@@ -43,19 +44,20 @@ module _ {D : Type 0} where
   pub one_more_taken : (n : ℕ) (hs : List (HandlerWorker D)) → map (without_lane_of n) (map (without_lanes_below n) hs) ≡ map (without_lanes_below (n + 1)) hs
   one_more_taken n hs = next_taken n hs ∙ ap (λ m. map (without_lanes_below m) hs) (sym (add-one n))
 
--- The step of the loop through the handlers of one client, at handler n: `now` and `ls` are the client's and the handlers' lanes at the step.
+-- The step of the loop through the handlers of one client, at handler n: `now` and `ls` are the client's and the
+-- handlers' lanes at the step.
 module _ {D : Type 0} (c n : ℕ) (lanes now : List (Option OutView)) (hs ls : List (HandlerWorker D)) (x : HandlerWorker D) (is : ls ≡ map_front (without_lane_of c) n hs)
-    (still : running.lane_at now n ≡ running.lane_at lanes n) (lt : n < length ls) (e : x ≡ get_or ls n x) where
-  pub paired_here : AreLanesPaired lanes c hs → AreOneLane (running.lane_at now n) (handling.lane_at (get_or ls n x).lanes c)
+    (still : running.out_lane_at now n ≡ running.out_lane_at lanes n) (lt : n < length ls) (e : x ≡ get_or ls n x) where
+  pub paired_here : AreLanesPaired lanes c hs → AreOneLane (running.out_lane_at now n) (handling.in_lane_at (get_or ls n x).lanes c)
   paired_here paired =
-      subst (λ (q : Option OutView × HandlerWorker D). AreOneLane q.0 (handling.lane_at q.1.lanes c)) (λ i. (sym still i, e i))
+      subst (λ (q : Option OutView × HandlerWorker D). AreOneLane q.0 (handling.in_lane_at q.1.lanes c)) (λ i. (sym still i, e i))
       (paired n x (here_at (without_lane_of c) n hs ls x is lt e))
 
-  pub joined_here : AreEndsJoined (running.lane_at now n) (handling.lane_at (get_or ls n x).lanes c) → (r : HandlerWorker D) → slice_get hs n ≡ Some r
-      → AreEndsJoined (running.lane_at lanes n) (handling.lane_at r.lanes c)
+  pub joined_here : AreEndsJoined (running.out_lane_at now n) (handling.in_lane_at (get_or ls n x).lanes c) → (r : HandlerWorker D) → slice_get hs n ≡ Some r
+      → AreEndsJoined (running.out_lane_at lanes n) (handling.in_lane_at r.lanes c)
   joined_here joined r er =
       let same : x ≡ r = (let there = here_at (without_lane_of c) n hs ls x is lt e in cc) in
-      subst (λ (q : Option OutView × HandlerWorker D). AreEndsJoined q.0 (handling.lane_at q.1.lanes c)) (λ i. (still i, (sym e ∙ same) i)) joined
+      subst (λ (q : Option OutView × HandlerWorker D). AreEndsJoined q.0 (handling.in_lane_at q.1.lanes c)) (λ i. (still i, (sym e ∙ same) i)) joined
 
   pub taken_here : (y : HandlerWorker D) → y ≡ without_lane_of c (get_or ls n x) → slice_set ls n y ≡ map_front (without_lane_of c) (n + 1) hs
   taken_here y taken =

@@ -1,6 +1,6 @@
--- What is at the places of lists. The contracts of this crate say of all handlers, or of all clients, what holds at each place of a list, and
--- the loops go through lists from the front, push to the end, or change one place after another. These lemmas say how each such step
--- changes what holds at the places; they know nothing of workers.
+-- What is at the places of lists. The contracts of this crate say of all handlers, or of all clients, what holds at
+-- each place of a list, and the loops go through lists from the front, push to the end, or change one place after
+-- another. These lemmas say how each such step changes what holds at the places; they know nothing of workers.
 use Rattle.std.proofs.Common.{◌≡◌, ◌<◌, ◌≤◌, ◌+◌, ℕ, zero, suc, List, [], ◌∷◌, ◌++◌, Option, Some, None, length, map, drop, get_or, slice_get, slice_set, refl, sym, ap, ap₂, ◌∙◌, subst, arith, add-one}
 use Rattle.std.proofs.lemmas.List.{length_push}
 use Rattle.std.proofs.lemmas.Option.{none-some, same_Some, slice_get-map, slice_get_read}

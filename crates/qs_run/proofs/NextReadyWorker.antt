@@ -1,6 +1,7 @@
--- What the loops of `make_workers` take for the next worker is its own. They go through the parts of a run from the front, and take from the
--- desk's places what lies at the number of the worker. As the parts are in the order of the workers and the desk's places are filled for
--- all of them, the next object or mind, the next row of lanes, and the tickets or the share are those of one handler or client.
+-- What the loops of `make_workers` take for the next worker is its own. They go through the parts of a run from the
+-- front, and take from the desk's places what lies at the number of the worker. As the parts are in the order of the
+-- workers and the desk's places are filled for all of them, the next object or mind, the next row of lanes, and the
+-- tickets or the share are those of one handler or client.
 use Rattle.std.proofs.Common.{◌≡◌, ◌≢◌, ℕ, zero, suc, ◌+◌, ◌<◌, ◌≤◌, List, [], ◌∷◌, map, length, drop, get_or, set, Option, Some, None, sym, ap, ◌∙◌, arith}
 use Rattle.std.proofs.lemmas.List.{get_or-set_other}
 use Rattle.std.proofs.lemmas.Option.{get_or_from_slice_get, none-some, same_Some, slice_get_within}

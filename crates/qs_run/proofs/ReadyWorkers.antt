@@ -1,6 +1,7 @@
--- A worker that is made of the parts of a run is ready, and all workers together are. `make_workers` promises so of what it makes, and the
--- threads are started with no more than that. Each worker has its own row of the ends of lanes; as there is a new lane wherever a block of
--- a client reserves a handler, each worker has the lanes that its thread will ask for, and the two ends of each lane are in two workers.
+-- A worker that is made of the parts of a run is ready, and all workers together are. `make_workers` promises so of
+-- what it makes, and the threads are started with no more than that. Each worker has its own row of the ends of lanes;
+-- as there is a new lane wherever a block of a client reserves a handler, each worker has the lanes that its thread
+-- will ask for, and the two ends of each lane are in two workers.
 use Rattle.std.proofs.Common.{◌≡◌, ℕ, ◌<◌, true, List, [], Option, length, get_or, sym, ap, ◌∙◌, subst, arith}
 use Rattle.qs_program.specs.Program.{ProgramShape}
 use Rattle.qs_program.specs.Sound.{IsSound}
@@ -28,7 +29,7 @@ module _ {D : Type 0} where
       → w.lanes ≡ get_or ins h [] → IsHandlerOf p ins h w
   handler_of p ins h w sound made held tickets row =
       let at : w.tickets.handler ≡ h = ap (λ (t : TicketsView). t.handler) tickets in
-      let at_row : (c : ℕ) → IsNewIn (ever_reserves p c h) (handling.lane_at w.lanes c) = λ c. subst (λ r. IsNewIn (ever_reserves p c h) (handling.lane_at r c)) (sym row) (made c h) in
+      let at_row : (c : ℕ) → IsNewIn (ever_reserves p c h) (handling.in_lane_at w.lanes c) = λ c. subst (λ r. IsNewIn (ever_reserves p c h) (handling.in_lane_at r c)) (sym row) (made c h) in
       record {
         own = record { number = at; object = held };
         row = row;
@@ -49,7 +50,7 @@ module _ {D : Type 0} where
   client_of p mode size outs c w sound made mind share row =
       let at : w.share.client ≡ c = ap (λ (v : ShareView). v.client) share in
       let size_is : (mind_of w.mind).size ≡ size = ap (λ (m : minds.ClientModel). m.size) mind.begins in
-      let at_row : (h : ℕ) → IsNewOut size (ever_reserves p c h) (running.lane_at w.lanes h) = λ h. subst (λ r. IsNewOut size (ever_reserves p c h) (running.lane_at r h)) (sym row) (made c h) in
+      let at_row : (h : ℕ) → IsNewOut size (ever_reserves p c h) (running.out_lane_at w.lanes h) = λ h. subst (λ r. IsNewOut size (ever_reserves p c h) (running.out_lane_at r h)) (sym row) (made c h) in
       record {
         own = record { number = at; mind = mind };
         row = row;
@@ -58,7 +59,7 @@ module _ {D : Type 0} where
           code = (mode, subst (λ n. IsCodeOf p mode n (mind_of w.mind).code) (sym at) mind.code);
           begins = mind.begins ∙ ap (λ n. minds.fresh_mind (mind_of w.mind).code n) (sym size_is);
           unbooked = ap (λ (v : ShareView). v.count) share;
-          fresh = λ h. subst (λ n. running.IsFresh n (running.lane_at w.lanes h)) (sym size_is) (at_row h).fresh;
+          fresh = λ h. subst (λ n. running.IsFresh n (running.out_lane_at w.lanes h)) (sym size_is) (at_row h).fresh;
           reached = λ k h less is.
               let here : reserves p (ticket c k) h ≡ true = subst (λ n. reserves p (ticket n k) h ≡ true) at is in
               (at_row h).there ∙ ever p (ticket c k) h here;
@@ -74,6 +75,6 @@ module _ {D : Type 0} where
     all_handlers = record { many = hs.many; each = λ h w at. ((hs.each h w at).own, (hs.each h w at).ready) };
     all_clients = record { many = cs.many; each = λ c w at. ((cs.each c w at).own, (cs.each c w at).ready) };
     lanes = λ c h w r at_c at_h.
-        subst (λ o. AreOneLane (running.lane_at o h) (handling.lane_at r.lanes c)) (sym (cs.each c w at_c).row)
-        (subst (λ i. AreOneLane (out_at outs c h) (handling.lane_at i c)) (sym (hs.each h r at_h).row) (made c h).one);
+        subst (λ o. AreOneLane (running.out_lane_at o h) (handling.in_lane_at r.lanes c)) (sym (cs.each c w at_c).row)
+        (subst (λ i. AreOneLane (out_at outs c h) (handling.in_lane_at i c)) (sym (hs.each h r at_h).row) (made c h).one);
   }

@@ -1,5 +1,5 @@
--- Two lists that belong together member by member still do once both are turned. The workers are started from the end of their list, so the list
--- is turned before a run, and what the run gives back is turned after it.
+-- Two lists that belong together member by member still do once both are turned. The workers are started from the end
+-- of their list, so the list is turned before a run, and what the run gives back is turned after it.
 use Rattle.std.proofs.Common.{◌≡◌, List, [], ◌∷◌, ◌++◌, sym, subst}
 use Rattle.std.specs.Prelude.{reverse}
 use Rattle.std.specs.List.{AllZip}

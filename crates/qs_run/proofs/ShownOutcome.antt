@@ -1,6 +1,7 @@
--- What is shown of the workers' rows, journals and states is what the law of running threads shows of their run, so it is an outcome
--- (`IsOutcome`). And it can be shown: each block of the order has its row, and its counts are few enough to be added up. The law speaks
--- of functions of numbers and the code has lists, so the two are compared place by place.
+-- What is shown of the workers' rows, journals and states is what the law of running threads shows of their run, so it
+-- is an outcome (`IsOutcome`). And it can be shown: each block of the order has its row, and its counts are few enough
+-- to be added up. The law speaks of functions of numbers and the code has lists, so the two are compared place by
+-- place.
 use Rattle.std.proofs.Common.{◌≡◌, ◌<◌, ◌≤◌, ℕ, zero, suc, true, List, [], ◌∷◌, length, map, get_or, slice_get, refl, sym, ap, ◌∙◌, subst, arith}
 use Rattle.std.proofs.lemmas.List.{get_or-map, length-map}
 use Rattle.std.proofs.lemmas.List.FromFn.{fill_by_all}
@@ -19,7 +20,7 @@ use Rattle.qs_syncset.proofs.ShortLists.{few_reserved}
 use Rattle.qs_client.specs.ClientModel.{ClientModel}
 use Rattle.qs_played.specs.Isolation.{ticket_at}
 use Rattle.qs_played.specs.JournalRooms.{fresh_held}
-use Rattle.qs_played.specs.Played.{ClientRows, HaveRows, counts_in, rows_at, ticket}
+use Rattle.qs_played.specs.Played.{ClientRows, HaveRows, counts_of_ticket, rows_at, ticket}
 use Rattle.qs_played.specs.SyncSums.{AreSyncsCounted, counts_at}
 use Rattle.qs_played.proofs.JournalRooms.{no_block_beyond}
 use Rattle.qs_played.proofs.SyncLists.{legal_blocks}
@@ -107,11 +108,11 @@ module _ {D : Type 0} (p : ProgramShape) (sound : IsSound p) (mode : Mode) (size
   -- a block counts for the objects of its list alone, of which there are few
   pub short : AreCountsShort rows order
   unfolding AreSyncsCounted
-  short = from_places (λ (t : Ticket). length (counts_in rows t) ≤ most_objects) (ticket 0 0) order (λ i few.
+  short = from_places (λ (t : Ticket). length (counts_of_ticket rows t) ≤ most_objects) (ticket 0 0) order (λ i few.
       let t = ticket_at (shown_by p r) i in
       let inside = AllByRecursion-get_or (λ (t : Ticket). t.index < blocks_of p t.client) order i (ticket 0 0) (legal_blocks p (λ _. 0) order joined.legal) few in
       let client = no_block_beyond p t.client (omega (arith, inside)) in
-      let same : counts_in rows t ≡ counts_at (shown_by p r) i =
+      let same : counts_of_ticket rows t ≡ counts_at (shown_by p r) i =
       ap (λ (w : ClientRows). get_or w.counts t.index []) (rows_are clients t.client) ∙ sym (get_or-map (counts_by r) order i (ticket 0 0) [] few) in
       let listed = ap length ((law.counted.each i few).listed) in
       let objects = length-map (counts_at (shown_by p r) i) object_of in

@@ -1,5 +1,6 @@
--- How the answers of a starter add up: its answer for the next worker, and then its answers for those after it. They are wanted at each turn of
--- the recursion that starts the workers. And what a lent starter has answered is what the starter itself has.
+-- How the answers of a starter add up: its answer for the next worker, and then its answers for those after it. They
+-- are wanted at each turn of the recursion that starts the workers. And what a lent starter has answered is what the
+-- starter itself has.
 use Rattle.std.proofs.Common.{◌≡◌, ◌+◌, ◌<◌, ℕ, suc, Bool, true, List, [], ◌∷◌, ◌++◌, Result, Ok, Err, refl, ap, ◌∙◌, subst, arith}
 use Rattle.std.specs.Prelude.{IfErr, IfOk, replicate}
 use Rattle.qs_played.specs.declared.fault.RunFault.{RunFault}

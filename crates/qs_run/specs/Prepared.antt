@@ -27,7 +27,8 @@ out_at outs c h = lane_end_at outs c h
 abbrev pub in_at : List (List (Option InView)) → ℕ → ℕ → Option InView
 in_at ins c h = lane_end_at ins h c
 
--- A client's end of a lane is there exactly if it is wanted; nothing has passed in the lane, and its chunks have this size.
+-- A client's end of a lane is there exactly if it is wanted; nothing has passed in the lane, and its chunks have this
+-- size.
 pub record IsNewOut (size : ℕ) (wanted : Bool) (out : Option OutView) : Type 0 where
   pub there : is_some out ≡ wanted
   pub fresh : running.IsFresh size out
@@ -43,8 +44,8 @@ pub record AreNewEnds (size : ℕ) (wanted : Bool) (out : Option OutView) (insid
   pub taking : IsNewIn wanted inside
   pub one : AreOneLane out inside
 
--- A mind for each client and an object as declared for each handler, in their order; and between each client and each handler a new lane with
--- chunks of this size, exactly where some block of the client reserves the handler.
+-- A mind for each client and an object as declared for each handler, in their order; and between each client and each
+-- handler a new lane with chunks of this size, exactly where some block of the client reserves the handler.
 pub record AreRunParts (p : ProgramShape) (mode : Mode) (size : ℕ) (parts : RunParts) : Type 0 where
   pub minds : IsListOf (length p.clients) (IsMindAtStart p mode size) parts.minds.items
   pub helds : IsListOf (length p.objects) (IsObjectAtStart p) parts.helds.items
@@ -54,13 +55,15 @@ pub record AreRunParts (p : ProgramShape) (mode : Mode) (size : ℕ) (parts : Ru
 
 module _ {D : Type 0} where
   -- The worker of handler h is ready, and has that handler's row of the ends of lanes.
-  pub record IsHandlerOf (p : ProgramShape) (ins : List (List (Option InView))) (h : ℕ) (w : HandlerWorker D) : Type 0 where
+  pub record IsHandlerOf (p : ProgramShape) (ins : List (List (Option InView))) (h : ℕ)
+      (w : HandlerWorker D) : Type 0 where
     pub own : IsHandlerAtStart p h w
     pub row : w.lanes ≡ slice_index_or ins h []
     pub ready : IsHandlerReady p w
 
   -- The worker of client c is ready, and has that client's row of the ends of lanes.
-  pub record IsClientOf (p : ProgramShape) (mode : Mode) (size : ℕ) (outs : List (List (Option OutView))) (c : ℕ) (w : ClientWorker D) : Type 0 where
+  pub record IsClientOf (p : ProgramShape) (mode : Mode) (size : ℕ) (outs : List (List (Option OutView))) (c : ℕ)
+      (w : ClientWorker D) : Type 0 where
     pub own : IsClientAtStart p mode size c w
     pub row : w.lanes ≡ slice_index_or outs c []
     pub ready : IsClientReady p w

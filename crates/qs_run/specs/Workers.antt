@@ -1,6 +1,6 @@
--- What a worker begins with and what it gives back, and all workers of a program before and after a run. A worker is a client or a handler with
--- what its thread needs: a client has its mind and its share of the desk, a handler its object and its queue of tickets, and both have
--- their ends of lanes.
+-- What a worker begins with and what it gives back, and all workers of a program before and after a run. A worker is a
+-- client or a handler with what its thread needs: a client has its mind and its share of the desk, a handler its object
+-- and its queue of tickets, and both have their ends of lanes.
 use Rattle.std.specs.Prelude.{◌≡◌, ◌<◌, ℕ, Bool, true, false, List, [], length, Option, Some, None, IsSome, Result, Ok, Err, slice_get}
 use Rattle.std.specs.List.{AllZip}
 use Rattle.qs_objects.specs.Journals.{HeldState}
@@ -38,7 +38,8 @@ pub record IsListOf {X : Type 0} (n : ℕ) (P : ℕ → X → Type 0) (xs : List
 abbrev pub IsObjectAtStart : ProgramShape → ℕ → HeldState → Type 0
 IsObjectAtStart p h x = x ≡ fresh_held p h
 
--- The mind of client c before its first block: it has the code of that client's blocks in this mode, and chunks of this size.
+-- The mind of client c before its first block: it has the code of that client's blocks in this mode, and chunks of this
+-- size.
 pub record IsMindAtStart (p : ProgramShape) (mode : Mode) (size : ℕ) (c : ℕ) (m : MindState) : Type 0 where
   pub code : IsCodeOf p mode c (mind_of m).code
   pub begins : mind_of m ≡ fresh_mind (mind_of m).code size
@@ -61,29 +62,30 @@ module _ {D : Type 0} where
     pub number : w.share.client ≡ c
     pub mind : IsMindAtStart p mode size c w.mind
 
-  -- The handler's thread may start: no ticket is taken, nothing has passed in its lanes, and it has a lane from each client of which a
-  -- block reserves it.
+  -- The handler's thread may start: no ticket is taken, nothing has passed in its lanes, and it has a lane from each
+  -- client of which a block reserves it.
   pub record IsHandlerReady (p : ProgramShape) (w : HandlerWorker D) : Type 0 where
     pub taken : w.tickets.taken ≡ []
-    pub fresh : (c : ℕ) → handling.IsFresh (handling.lane_at w.lanes c)
+    pub fresh : (c : ℕ) → handling.IsFresh (handling.in_lane_at w.lanes c)
     pub reached : (t : Ticket) → reserves p t w.tickets.handler ≡ true
-        → (t.client < most_clients) × IsSome (handling.lane_at w.lanes t.client)
+        → (t.client < most_clients) × IsSome (handling.in_lane_at w.lanes t.client)
 
-  -- The client's thread may start: no block is booked, nothing has passed in its lanes, and it has a lane to each handler that one of its
-  -- blocks reserves.
+  -- The client's thread may start: no block is booked, nothing has passed in its lanes, and it has a lane to each
+  -- handler that one of its blocks reserves.
   pub record IsClientReady (p : ProgramShape) (w : ClientWorker D) : Type 0 where
     pub sound : IsSound p
     pub code : (mode : Mode) × IsCodeOf p mode w.share.client (mind_of w.mind).code
     pub begins : mind_of w.mind ≡ fresh_mind (mind_of w.mind).code (mind_of w.mind).size
     pub unbooked : w.share.count ≡ 0
-    pub fresh : (h : ℕ) → running.IsFresh (mind_of w.mind).size (running.lane_at w.lanes h)
+    pub fresh : (h : ℕ) → running.IsFresh (mind_of w.mind).size (running.out_lane_at w.lanes h)
     pub reached : (k h : ℕ) → k < blocks_of p w.share.client → reserves p (ticket w.share.client k) h ≡ true
-        → IsSome (running.lane_at w.lanes h)
+        → IsSome (running.out_lane_at w.lanes h)
 
   -- The handler has done its tasks, from the worker before to the worker after.
   pub record HandlerHasServed (p : ProgramShape) (before after : HandlerWorker D) : Type 0 where
     pub tasks : List Task
-    pub served : handling.IsServing p before.tickets.handler before.held before.lanes tasks (closed after.held) after.tickets after.lanes
+    pub served : handling.IsServing p before.tickets.handler before.held before.lanes tasks (closed after.held)
+        after.tickets after.lanes
 
   -- The client has done its deeds, from the worker before to the worker after.
   pub record ClientHasRun (before after : ClientWorker D) : Type 0 where
@@ -91,16 +93,20 @@ module _ {D : Type 0} where
     pub ran : RunsTo before.share.client (mind_of before.mind) deeds (mind_of after.mind)
     pub done : running.AreDone before.share.client before.lanes deeds after.share after.lanes
 
-  -- All workers of a program before a run: one for each handler and one for each client, in their order, each of them ready, and their ends
-  -- of lanes belong together in pairs.
-  pub record AreReady (p : ProgramShape) (mode : Mode) (size : ℕ) (handlers : List (HandlerWorker D)) (clients : List (ClientWorker D)) : Type 0 where
+  -- All workers of a program before a run: one for each handler and one for each client, in their order, each of them
+  -- ready, and their ends of lanes belong together in pairs.
+  pub record AreReady (p : ProgramShape) (mode : Mode) (size : ℕ) (handlers : List (HandlerWorker D))
+      (clients : List (ClientWorker D)) : Type 0 where
     pub all_handlers : IsListOf (length p.objects) (λ h w. IsHandlerAtStart p h w × IsHandlerReady p w) handlers
     pub all_clients : IsListOf (length p.clients) (λ c w. IsClientAtStart p mode size c w × IsClientReady p w) clients
-    pub lanes : (c h : ℕ) (w : ClientWorker D) (v : HandlerWorker D) → slice_get clients c ≡ Some w → slice_get handlers h ≡ Some v
-        → AreOneLane (running.lane_at w.lanes h) (handling.lane_at v.lanes c)
+    pub lanes : (c h : ℕ) (w : ClientWorker D) (v : HandlerWorker D) → slice_get clients c ≡ Some w
+        → slice_get handlers h ≡ Some v
+        → AreOneLane (running.out_lane_at w.lanes h) (handling.in_lane_at v.lanes c)
 
-  -- All workers of a program after a run: they were ready before it, and each handler has served and each client has run from there on.
-  pub record HaveRun (p : ProgramShape) (mode : Mode) (size : ℕ) (handlers : List (HandlerWorker D)) (clients : List (ClientWorker D)) : Type 0 where
+  -- All workers of a program after a run: they were ready before it, and each handler has served and each client has
+  -- run from there on.
+  pub record HaveRun (p : ProgramShape) (mode : Mode) (size : ℕ) (handlers : List (HandlerWorker D))
+      (clients : List (ClientWorker D)) : Type 0 where
     pub before_handlers : List (HandlerWorker D)
     pub before_clients : List (ClientWorker D)
     pub ready : AreReady p mode size before_handlers before_clients

@@ -121,7 +121,7 @@ fn run_program<G: Gate, S: Starter + Drop, R: Threads + Wait + Sync>(
     ensures started { IfOk result.1 (λ _. LetAllStart S.answers 0 (worker_count program.now) starter result.0) }
     ensures refused { IfErr result.1 (λ fault. IsRefusal S.answers (worker_count program.now) fault starter result.0) }
 {
-    program.is_sound();
+    program.keeps_sound();
     let Ok(raw) = RawDesk::new(alloc, program) else {
         return (starter, Err(RunFault::Memory));
     };
@@ -159,17 +159,18 @@ fn take_back<S>(starter: &mut S)
     ensures same { starter.new ≡ starter.old }
 {}
 
-/// Runs a program in a mode and with chunks of a size, each client and each handler on a thread of its own, if the starter lets all of them
-/// start.
+/// Runs a program in a mode and with chunks of a size, each client and each handler on a thread of its own, if the
+/// starter lets all of them start.
 ///
-/// The starter is asked once before each start, by the worker's number: the handlers are 0, 1, 2, .. in text order, and then come the
-/// clients. `Threads` says that the starter answered false, or that the system could not start a thread; it is not asked again, the threads
-/// that were started are told to end, and all workers are as they were. `Memory` says that an allocation failed; the starter was not asked
-/// then, as all memory is taken before the first start. So no fault comes after a first step. The gate is passed on a handler's own
-/// thread as the handler begins each ticket. Waits for all threads, so it returns only if each of them ends.
+/// The starter is asked once before each start, by the worker's number: the handlers are 0, 1, 2, .. in text order, and
+/// then come the clients. `Threads` says that the starter answered false, or that the system could not start a thread;
+/// it is not asked again, the threads that were started are told to end, and all workers are as they were. `Memory`
+/// says that an allocation failed; the starter was not asked then, as all memory is taken before the first start. So no
+/// fault comes after a first step. The gate is passed on a handler's own thread as the handler begins each ticket.
+/// Waits for all threads, so it returns only if each of them ends.
 ///
-/// Whatever the threads did at once, the outcome shows what the blocks do alone, one after another along the order of reservations. It is
-/// the outcome of threads that were compiled in this mode and whose chunks have this size.
+/// Whatever the threads did at once, the outcome shows what the blocks do alone, one after another along the order of
+/// reservations. It is the outcome of threads that were compiled in this mode and whose chunks have this size.
 pub fn execute_with<G: Gate, S: Starter, R: Threads + Wait + Sync>(
     rt: &R,
     alloc: Global,
@@ -188,8 +189,9 @@ pub fn execute_with<G: Gate, S: Starter, R: Threads + Wait + Sync>(
     result
 }
 
-/// Runs a program in a mode and with chunks of a size, each client and each handler on a thread of its own: `execute_with`, with a starter
-/// that lets every worker start. So `Threads` says that the system could not start a thread.
+/// Runs a program in a mode and with chunks of a size, each client and each handler on a thread of its own:
+/// `execute_with`, with a starter that lets every worker start. So `Threads` says that the system could not start a
+/// thread.
 pub fn execute<G: Gate, R: Threads + Wait + Sync>(
     rt: &R,
     alloc: Global,

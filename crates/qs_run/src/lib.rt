@@ -1,7 +1,8 @@
 //! Runs of programs on threads: each client and each handler has a thread of its own.
 //!
-//! `execution` has the public call, `execute`. It prepares what the run begins with (`prepare`), has all workers run on threads of their own
-//! (`start`), and collects what they gave back into the outcome that is shown (`collect`). What a worker is says `worker`.
+//! `execution` has the public call, `execute`. It prepares what the run begins with (`prepare`), has all workers run on
+//! threads of their own (`start`), and collects what they gave back into the outcome that is shown (`collect`). What a
+//! worker is says `worker`.
 #![tactic(auto)]
 
 mod collect;

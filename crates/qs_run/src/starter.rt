@@ -1,7 +1,7 @@
 //! What may refuse the start of a worker's thread.
 
-/// Is asked once before each start of a worker's thread, by the worker's number: 0, 1, 2, .. in text order, the handlers first and then
-/// the clients. Where it answers false the thread is not started, and the run is refused.
+/// Is asked once before each start of a worker's thread, by the worker's number: 0, 1, 2, .. in text order, the
+/// handlers first and then the clients. Where it answers false the thread is not started, and the run is refused.
 pub trait Starter {
     ghost use Rattle.std.specs.Prelude.{ℕ, Bool};
 

@@ -10,7 +10,8 @@ use qs_handler_thread::Lanes as HandlerLanes;
 use qs_objects::Held;
 use std::marker::Model;
 
-/// A handler with its object and journal, its queue of tickets, and its end of the lane from each client that has a lane to it.
+/// A handler with its object and journal, its queue of tickets, and its end of the lane from each client that has a
+/// lane to it.
 #[derive(Drop)]
 pub(crate) struct HandlerWorker<D: DeskName> {
     pub(crate) held: Held,
@@ -26,8 +27,8 @@ pub(crate) struct ClientWorker<D: DeskName> {
     pub(crate) lanes: ClientLanes,
 }
 
-/// A handler's worker before the run: it has taken no ticket, nothing has passed in its lanes, and it has a lane from each client that may
-/// reserve it.
+/// A handler's worker before the run: it has taken no ticket, nothing has passed in its lanes, and it has a lane from
+/// each client that may reserve it.
 pub(crate) struct ReadyHandler<D: DeskName> {
     worker: HandlerWorker<D>,
 }
@@ -68,8 +69,8 @@ impl<D: DeskName> ReadyHandler<D> {
     }
 }
 
-/// A client's worker before the run: it has booked no block, nothing has passed in its lanes, and it has a lane to each handler that one of
-/// its blocks reserves.
+/// A client's worker before the run: it has booked no block, nothing has passed in its lanes, and it has a lane to each
+/// handler that one of its blocks reserves.
 pub(crate) struct ReadyClient<D: DeskName> {
     worker: ClientWorker<D>,
 }

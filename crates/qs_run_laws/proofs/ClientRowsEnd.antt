@@ -1,5 +1,6 @@
--- The minds with which the clients end have a row for each block of the order. What is shown of a run is read from these rows, and reading a
--- row asks that it is there. Each mind ends with as many rows as its client has blocks, and each ticket of a legal order is one of them.
+-- The minds with which the clients end have a row for each block of the order. What is shown of a run is read from
+-- these rows, and reading a row asks that it is there. Each mind ends with as many rows as its client has blocks, and
+-- each ticket of a legal order is one of them.
 use Rattle.std.proofs.Common.{◌<◌, arith, ℕ, sym, subst, length}
 use Rattle.std.specs.List.{AllByRecursion}
 use Rattle.qs_objects.specs.declared.held.Ticket.{Ticket}

@@ -1,6 +1,6 @@
--- The tickets of one client in a legal order are those of its first blocks, one after another. A client's own lists go block by block, and an
--- object's journal goes along the order; these lemmas lead from one to the other, as lists along a client's tickets are lists along its
--- blocks, and tickets of which nothing came may be left out.
+-- The tickets of one client in a legal order are those of its first blocks, one after another. A client's own lists go
+-- block by block, and an object's journal goes along the order; these lemmas lead from one to the other, as lists along
+-- a client's tickets are lists along its blocks, and tickets of which nothing came may be left out.
 use Rattle.std.proofs.Common.{◌≡◌, ◌+◌, arith, ℕ, zero, suc, Bool, true, false, if◌then◌else◌, ◌==◌, List, [], ◌∷◌, ◌++◌, map, filter, flat_map, length, refl, sym, ap, ap₂, ◌∙◌, subst, ⊎_elim, append_assoc, append-nil}
 use Rattle.std.specs.List.{AllByRecursion}
 use Rattle.qs_objects.specs.declared.held.Ticket.{Ticket}

@@ -1,6 +1,6 @@
--- An object's journal grows along the order of reservations, one block after another. Its handler served whole what each client sent, so for
--- each ticket the journal gets what the block's trace says of the object; a block that does not reserve the object adds nothing. The
--- room suffices, as no block's part is longer than its load.
+-- An object's journal grows along the order of reservations, one block after another. Its handler served whole what
+-- each client sent, so for each ticket the journal gets what the block's trace says of the object; a block that does
+-- not reserve the object adds nothing. The room suffices, as no block's part is longer than its load.
 use Rattle.std.proofs.Common.{◌≡◌, ◌+◌, ◌≤◌, arith, ℕ, Bool, true, false, true≢false, if◌then◌else◌, List, [], ◌∷◌, ◌++◌, map, flat_map, filter, length, refl, sym, ap, ◌∙◌, subst, inl, append_assoc, append-nil}
 use Rattle.std.specs.List.{AllByRecursion}
 use Rattle.qs_objects.specs.Journals.{HeldState, replay, without_tickets, IsHonest}

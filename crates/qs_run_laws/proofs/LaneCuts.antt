@@ -1,6 +1,7 @@
--- The lists at the two ends of a lane are cut into tickets at the `End`s, and each ticket has the same on both sides. What a handler received
--- is a front of what a client sent, and what the client got is a front of what the handler gave. The client's lists go block by block and
--- the handler's turn by turn, each up to an `End`, with one object for each `Sync`; so the first block is the first turn, and so on.
+-- The lists at the two ends of a lane are cut into tickets at the `End`s, and each ticket has the same on both sides.
+-- What a handler received is a front of what a client sent, and what the client got is a front of what the handler
+-- gave. The client's lists go block by block and the handler's turn by turn, each up to an `End`, with one object for
+-- each `Sync`; so the first block is the first turn, and so on.
 use Rattle.std.proofs.Common.{◌≡◌, arith, ℕ, suc, Bool, true, false, if◌then◌else◌, ◌==◌, List, [], ◌∷◌, ◌++◌, flat_map, length, refl, sym, ap, ap₂, ◌∙◌, subst}
 use Rattle.std.specs.List.{AllByRecursion}
 use Rattle.qs_objects.specs.Journals.{HeldState}

@@ -1,6 +1,7 @@
--- What a client sent and got for a block is what each handler received and gave in its turn. The desk gives that the blocks of a client are
--- its tickets in the order and that a handler's turns are the tickets of the order that reserve it; the lanes give that the two ends
--- had the same. So a handler served whole what the clients of its tickets sent, one ticket after another.
+-- What a client sent and got for a block is what each handler received and gave in its turn. The desk gives that the
+-- blocks of a client are its tickets in the order and that a handler's turns are the tickets of the order that reserve
+-- it; the lanes give that the two ends had the same. So a handler served whole what the clients of its tickets sent,
+-- one ticket after another.
 use Rattle.std.proofs.Common.{◌≡◌, ◌<◌, arith, ℕ, true, false, if◌then◌else◌, nat_lt, ◌==◌, List, [], ◌∷◌, map, flat_map, length, refl, sym, ap, ◌∙◌, subst, append-nil}
 use Rattle.std.specs.List.{AllByRecursion}
 use Rattle.qs_objects.specs.Journals.{HeldState}

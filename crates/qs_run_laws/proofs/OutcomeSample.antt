@@ -1,5 +1,5 @@
--- The run that was worked out by hand is a run of threads: its program is sound, and all that the law asks for holds. Most of it is computed
--- by the definitions, list by list; so the law says of it what `OutcomeExamples` shows.
+-- The run that was worked out by hand is a run of threads: its program is sound, and all that the law asks for holds.
+-- Most of it is computed by the definitions, list by list; so the law says of it what `OutcomeExamples` shows.
 use Rattle.std.proofs.Common.{◌≡◌, ◌<◌, ◌==◌, arith, ℕ, zero, suc, true, false, true≢false, List, [], ◌∷◌, length, map, refl, sym, ap, append-nil}
 use Rattle.std.specs.List.{IsDistinct}
 use Rattle.qs_objects.specs.Journals.{HeldState}

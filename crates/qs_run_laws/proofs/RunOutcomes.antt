@@ -1,6 +1,6 @@
--- The law of running threads: what is shown of a run of threads is an outcome. The run is an abstract run, so the serial run of its order has
--- the same blocks, one place for each ticket; from that follow entries, traces, journals and states. The synchronisations of a block
--- follow from its trace, by the lemma that the optimised machine uses too.
+-- The law of running threads: what is shown of a run of threads is an outcome. The run is an abstract run, so the
+-- serial run of its order has the same blocks, one place for each ticket; from that follow entries, traces, journals
+-- and states. The synchronisations of a block follow from its trace, by the lemma that the optimised machine uses too.
 use Rattle.std.proofs.Common.{◌≡◌, ◌<◌, ◌≤◌, ◌+◌, arith, ℕ, zero, suc, false, List, [], ◌∷◌, ◌++◌, map, flat_map, length, get_or, refl, sym, ap, ap₂, ◌∙◌, subst, inl}
 use Rattle.std.proofs.lemmas.List.{get_or-map}
 use Rattle.std.specs.List.{AllByRecursion, AllZip, range_with_len}

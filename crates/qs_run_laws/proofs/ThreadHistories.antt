@@ -1,6 +1,6 @@
--- What each client and each handler of a run did: a client one block after another, a handler one turn after another. The laws on one client
--- and on one handler say so from the deeds and the tasks alone. Beyond the clients and objects of the program nobody does anything, so
--- that the later lemmas need not ask whether a number is one of them.
+-- What each client and each handler of a run did: a client one block after another, a handler one turn after another.
+-- The laws on one client and on one handler say so from the deeds and the tasks alone. Beyond the clients and objects
+-- of the program nobody does anything, so that the later lemmas need not ask whether a number is one of them.
 use Rattle.std.proofs.Common.{◌≡◌, ◌<◌, ◌≤◌, arith, ℕ, Bool, true, false, if◌then◌else◌, nat_lt, List, [], ◌∷◌, ◌++◌, map, length, refl, sym, ap, ap₂, ◌∙◌, subst}
 use Rattle.std.specs.List.{AllByRecursion}
 use Rattle.qs_objects.specs.Journals.{HeldState}
@@ -18,7 +18,7 @@ use Rattle.qs_syncset.specs.declared.mode.Mode.{Mode}
 use Rattle.qs_syncset.proofs.CountedSyncs.{code_asks}
 use Rattle.qs_syncset.proofs.SyncTrees.{IsAsking}
 use Rattle.qs_client_run.specs.BlockSizes.{longest}
-use Rattle.qs_client_run.specs.declared.act.Act.TheVariants as acts
+use Rattle.qs_client_rules.specs.declared.act.Act.TheVariants as acts
 use Rattle.qs_handler.specs.Handler.{free, closed}
 use Rattle.qs_handler.specs.HandlerRuns.{Task, takes, TasksLead, taken_by}
 use Rattle.qs_handler.specs.HandlerTurns.{HasTurns, Turn}

@@ -1,5 +1,6 @@
--- A run of threads is isolated. The blocks of its clients and the turns of its handlers make up an abstract run, whose journals grow along the
--- order of reservations; and by the one lemma on abstract runs such a run does what the serial run does.
+-- A run of threads is isolated. The blocks of its clients and the turns of its handlers make up an abstract run, whose
+-- journals grow along the order of reservations; and by the one lemma on abstract runs such a run does what the serial
+-- run does.
 use Rattle.std.proofs.Common.{◌≡◌, ◌<◌, ◌≤◌, arith, ℕ, zero, suc, Bool, true, false, nat_lt, get_or, [], map, length, refl, sym, ap, ◌∙◌, subst}
 use Rattle.std.proofs.lemmas.List.{get_or-map, get_or_past, length-map}
 use Rattle.std.proofs.lemmas.List.FromFn.{get_or-map-range_with_len, length-range_with_len}

@@ -1,5 +1,5 @@
--- A run of threads that was worked out by hand: one client moves 30 between two accounts of 100, and the other deposits 1 in each, in two
--- blocks. It is a run in the sense of the law; so the law is not about nothing.
+-- A run of threads that was worked out by hand: one client moves 30 between two accounts of 100, and the other deposits
+-- 1 in each, in two blocks. It is a run in the sense of the law; so the law is not about nothing.
 use Rattle.std.specs.Prelude.{◌≡◌, ℕ, zero, suc, false, List, [], ◌∷◌, ◌++◌, map, Option, None, ℤ, pos}
 use Rattle.qs_objects.specs.Act.{account}
 use Rattle.qs_objects.specs.Journals.{HeldState}
@@ -33,11 +33,13 @@ abbrev pub holder : ℕ → Declared
 holder letter = record { name = letter ∷ []; kind = hundred }
 
 abbrev pub example_client : ℕ → List (List ℕ) → List BlockShape → ClientShape
-example_client letter variables blocks = record { name = letter ∷ []; variables = variables; blocks = blocks; start = None }
+example_client letter variables blocks =
+    record { name = letter ∷ []; variables = variables; blocks = blocks; start = None }
 
 abbrev pub moves_30 : BlockShape
 moves_30 = block (0 ∷ 1 ∷ [])
-    (command (call 0 Withdraw (n 30 ∷ [])) (command (call 1 Deposit (n 30 ∷ [])) (query 0 (balance 0) (query 1 (balance 1) end))))
+    (command (call 0 Withdraw (n 30 ∷ [])) (command (call 1 Deposit (n 30
+    ∷ [])) (query 0 (balance 0) (query 1 (balance 1) end))))
 
 abbrev pub deposits_1 : BlockShape
 deposits_1 = block (0 ∷ []) (command (call 0 Deposit (n 1 ∷ [])) end)
@@ -48,7 +50,9 @@ deposits_and_asks = block (1 ∷ []) (command (call 1 Deposit (n 1 ∷ [])) (que
 abbrev pub bank : ProgramShape
 bank = record {
   objects = holder 97 ∷ holder 98 ∷ [];
-  clients = example_client 99 ((120 ∷ []) ∷ (121 ∷ []) ∷ []) (moves_30 ∷ []) ∷ example_client 100 ((120 ∷ []) ∷ []) (deposits_1 ∷ deposits_and_asks ∷ []) ∷ [];
+  clients =
+      example_client 99 ((120 ∷ []) ∷ (121 ∷ []) ∷ []) (moves_30 ∷ [])
+      ∷ example_client 100 ((120 ∷ []) ∷ []) (deposits_1 ∷ deposits_and_asks ∷ []) ∷ [];
 }
 
 abbrev pub request : ℕ → Op → ℕ → Request
@@ -80,7 +84,9 @@ abbrev pub giver_asked : HeldState
 giver_asked = giver 70 (example_entry first (request 0 Withdraw 30) None ∷ example_entry first (asks 0) (some 70) ∷ [])
 
 abbrev pub giver_end : HeldState
-giver_end = giver 71 (example_entry first (request 0 Withdraw 30) None ∷ example_entry first (asks 0) (some 70) ∷ example_entry second (request 0 Deposit 1) None ∷ [])
+giver_end =
+    giver 71 (example_entry first (request 0 Withdraw 30) None ∷ example_entry first (asks 0) (some 70)
+    ∷ example_entry second (request 0 Deposit 1) None ∷ [])
 
 -- and the second, with room for four
 abbrev pub taker : ℕ → List Entry → HeldState
@@ -99,7 +105,9 @@ abbrev pub taker_more : HeldState
 taker_more = taker 131 (taker_moved ++ example_entry third (request 1 Deposit 1) None ∷ [])
 
 abbrev pub taker_end : HeldState
-taker_end = taker 131 (taker_moved ++ example_entry third (request 1 Deposit 1) None ∷ example_entry third (asks 1) (some 131) ∷ [])
+taker_end =
+    taker 131 (taker_moved ++ example_entry third (request 1 Deposit 1) None ∷ example_entry third (asks 1) (some 131)
+    ∷ [])
 
 abbrev pub full_chunk : Request → Parcel
 full_chunk r = Work (batch (r ∷ []) 8)
@@ -124,7 +132,8 @@ abbrev pub giver_tasks : List Task
 giver_tasks =
     takes (nexts.Ticket first) ∷ receives 0 (full_chunk (request 0 Withdraw 30)) ∷ spares 0 empty_chunk
     ∷ receives 0 Sync ∷ gives 0 withdrawn ∷ receives 0 (Home giver_asked) ∷ receives 0 End
-    ∷ takes (nexts.Ticket second) ∷ receives 1 (full_chunk (request 0 Deposit 1)) ∷ spares 1 empty_chunk ∷ receives 1 End
+    ∷ takes (nexts.Ticket second) ∷ receives 1 (full_chunk (request 0 Deposit 1)) ∷ spares 1 empty_chunk
+    ∷ receives 1 End
     ∷ takes nexts.Closed ∷ []
 
 abbrev pub taker_tasks : List Task
@@ -174,4 +183,5 @@ pub record OutcomeExamples : Type 0 where
   pub outcome : IsOutcome bank modes.Plain 8 (shown_by bank bank_run)
   pub replies : map (map (λ (e : Event). e.reply)) (map (trace_by bank_run) bank_run.order)
       ≡ (None ∷ None ∷ some 70 ∷ some 130 ∷ []) ∷ (None ∷ []) ∷ (None ∷ some 131 ∷ []) ∷ []
-  pub syncs : map (counts_by bank_run) bank_run.order ≡ (sync_count 0 1 ∷ sync_count 1 1 ∷ []) ∷ (sync_count 0 0 ∷ []) ∷ (sync_count 1 1 ∷ []) ∷ []
+  pub syncs : map (counts_by bank_run) bank_run.order ≡ (sync_count 0 1 ∷ sync_count 1 1 ∷ []) ∷ (sync_count 0 0 ∷ [])
+      ∷ (sync_count 1 1 ∷ []) ∷ []

@@ -1,5 +1,5 @@
--- What comes of a program that is run on threads: what the serial run of its blocks shows, along a legal order of them. `IsOutcome` alone says
--- it, and each of its promises can be read by itself.
+-- What comes of a program that is run on threads: what the serial run of its blocks shows, along a legal order of them.
+-- `IsOutcome` alone says it, and each of its promises can be read by itself.
 use Rattle.std.specs.Prelude.{◌≡◌, ◌<◌, ℕ, true, List, [], filter, flat_map, length, map}
 use Rattle.std.specs.List.{range_with_len}
 use Rattle.qs_objects.specs.Parts.{part, same, stamp}
@@ -25,27 +25,29 @@ abbrev pub IsShownByThreads : ProgramShape → Mode → ℕ → Played → Type 
 IsShownByThreads p mode size o =
     (code : ℕ → ClientCode) × (r : ThreadRun) × AreCodes p mode code × IsThreadRun p code size r × (o ≡ shown_by p r)
 
--- Threads that were compiled in this mode and had chunks of this size have shown it.
--- The order is legal, and each block of the program stands in it exactly once. The variables at entry and the traces are those of the serial
--- run of that order; each object's journal is the serial run's requests on it, one ticket after another, and its state is the one that
--- the serial run leaves. Each block has ended, and the run is finished; so it is isolated with nothing on its way, and its
--- synchronisations are the exact counts of its mode.
+-- Threads that were compiled in this mode and had chunks of this size have shown it. The order is legal, and each block
+-- of the program stands in it exactly once. The variables at entry and the traces are those of the serial run of that
+-- order; each object's journal is the serial run's requests on it, one ticket after another, and its state is the one
+-- that the serial run leaves. Each block has ended, and the run is finished; so it is isolated with nothing on its way,
+-- and its synchronisations are the exact counts of its mode.
 pub record IsOutcome (p : ProgramShape) (mode : Mode) (size : ℕ) (o : Played) : Type 0 where
   pub by_threads : IsShownByThreads p mode size o
   pub legal : IsLegal p o.order
   pub once : (t : Ticket) → t.index < blocks_of p t.client → length (filter (same t) o.order) ≡ 1
   pub entries : o.entries ≡ map (λ (q : SerialBlock). q.entry) (serial p o.order).places
   pub traces : o.traces ≡ map (λ (q : SerialBlock). q.trace) (serial p o.order).places
-  pub journals : o.journals ≡ map (λ h. flat_map (part_at h) (serial p o.order).places) (range_with_len 0 (length p.objects))
+  pub journals : o.journals ≡ map (λ h. flat_map (part_at h) (serial p o.order).places)
+      (range_with_len 0 (length p.objects))
   pub states : o.states ≡ map (serial p o.order).states (range_with_len 0 (length p.objects))
   pub ended : o.ended ≡ map (λ t. true) o.order
   pub finished : o.finished ≡ true
   pub isolated : IsIsolated p o (λ h t. [])
   pub counted : AreSyncsCounted p mode o
 
--- The law of running threads, for every checked program, mode, chunk size and run: what the threads did is what the blocks do alone, one
--- after another along the order of reservations.
+-- The law of running threads, for every checked program, mode, chunk size and run: what the threads did is what the
+-- blocks do alone, one after another along the order of reservations.
 abbrev pub ThreadRunsHaveOutcomes : Type 0
 ThreadRunsHaveOutcomes =
-    (p : ProgramShape) → IsSound p → (mode : Mode) (code : ℕ → ClientCode) → AreCodes p mode code → (size : ℕ) (r : ThreadRun)
+    (p : ProgramShape) → IsSound p → (mode : Mode) (code : ℕ → ClientCode) → AreCodes p mode code
+    → (size : ℕ) (r : ThreadRun)
     → IsThreadRun p code size r → IsOutcome p mode size (shown_by p r)

@@ -3,15 +3,16 @@
 ghost use Rattle.qs_run_laws.specs.OutcomeExamples.{OutcomeExamples};
 ghost use Rattle.qs_run_laws.specs.Outcomes.{ThreadRunsHaveOutcomes};
 
-/// The law of running threads, whatever their schedule, in each mode and with each chunk size: once all have ended, what is shown of the run
-/// is an outcome. `IsOutcome` is a list of promises, each of which can be read by itself: the order is legal and has each block of the
-/// program exactly once, traces, journals and states are those of the serial run along it, and the synchronisations are the exact counts
-/// of the mode. This function does nothing.
+/// The law of running threads, whatever their schedule, in each mode and with each chunk size: once all have ended,
+/// what is shown of the run is an outcome. `IsOutcome` is a list of promises, each of which can be read by itself: the
+/// order is legal and has each block of the program exactly once, traces, journals and states are those of the serial
+/// run along it, and the synchronisations are the exact counts of the mode. This function does nothing.
 pub fn settled()
     ensures outcomes { ThreadRunsHaveOutcomes }
 {}
 
-/// A run of two clients on two objects, written out, with what the law says of it, computed by the definitions. This function does nothing.
+/// A run of two clients on two objects, written out, with what the law says of it, computed by the definitions. This
+/// function does nothing.
 pub fn outcome_examples()
     ensures examples { OutcomeExamples }
 {}

@@ -1,13 +1,4 @@
-pub mod Trees
-pub mod Sizes
 pub mod Loops
-pub mod Counts
-pub mod Complete
-pub mod Sound
 pub mod PassedLines
 pub mod ReadTexts
 pub mod Bytes
-pub mod Form
-pub mod Prefixes
-pub mod Readers
-pub mod Places

@@ -1,17 +1,15 @@
--- A loop that reads one element after another, up to a token that stops it, reads what the definition of the list says. The
--- functions that read arguments, names, blocks, statements and items stand on it. Their invariant is `Continues`: what is done,
--- joined with what the rest is read as, is what the whole is read as.
+-- A loop that reads one element after another, up to a token that stops it, reads what the definition of the list says.
+-- The functions that read arguments, names, blocks, statements and items stand on it. Their invariant is `Continues`:
+-- what is done, joined with what the rest is read as, is what the whole is read as.
 use Rattle.std.proofs.Common.{◌≡◌, ℕ, zero, suc, ◌<◌, List, [], ◌∷◌, ◌++◌, length, refl, ap, sym, ◌∙◌, arith, append_assoc, append-nil, Option, Some, None, Ok, Err}
 use Rattle.qs_tokens.specs.declared.token.Token.{Token}
 use Rattle.qs_script.specs.declared.fault.Fault.{Fault}
 use Rattle.qs_script.specs.declared.fault.Fault.TheVariants.{Form, Memory}
-use Rattle.qs_script.specs.Reading.{Loop, onto, stmt_in, close_brace_at, Read, after, many_at, run, Fails, body_loop, list_loop, one, end_at}
-use Rattle.qs_script.specs.Tree.{Stmts, join_statements}
-use Rattle.qs_script.proofs.Trees.{joined_assoc, joined-end}
-
--- what a list of tokens is read as, in enough steps
-pub record Runs {M : Type 0} (loop : Loop M) (ts : List Token) (read : Read M) : Type 0 where
-  pub runs : (n : ℕ) → length ts < n → many_at loop n ts ≡ read
+use Rattle.qs_grammar.specs.Reading.{Loop, onto, stmt_in, close_brace_at, Read, after, many_at, run, body_loop, list_loop, one, end_at}
+use Rattle.qs_script.specs.Results.{Fails}
+use Rattle.qs_tree.specs.Tree.{Stmts, join_statements}
+use Rattle.qs_grammar.proofs.Loops.{Runs, run_is, runs_stop, runs_no_element, runs_element}
+use Rattle.qs_tree.proofs.Trees.{joined_assoc, joined-end}
 
 -- the code has read done from start and tokens, and the tokens from rest on are left
 pub record Continues {M : Type 0} (loop : Loop M) (start : M) (tokens rest : List Token) (done : M) : Type 0 where
@@ -28,31 +26,6 @@ body_lawful levels = record { none_before = λ x. refl; none_after = joined-end;
 
 pub list_lawful : {A : Type 0} (stop : List Token → Option (List Token)) (element : List Token → Read A) → IsLawful (list_loop stop element)
 list_lawful stop element = record { none_before = λ x. refl; none_after = append-nil; regroups = append_assoc }
-
-pub run_is : {M : Type 0} (loop : Loop M) (ts : List Token) (read : Read M) → Runs loop ts read → run loop ts ≡ read
-unfolding run
-run_is loop ts read r = r.runs (suc (length ts)) (omega arith)
-
-stop_at : {M : Type 0} (loop : Loop M) (n : ℕ) (ts rest : List Token) → length ts < n → loop.stop ts ≡ Some rest → many_at loop n ts ≡ Ok (loop.none, rest)
-stop_at loop zero ts rest lt e = absurd (omega arith)
-stop_at loop (suc n) ts rest lt e = rw e refl
-
-pub runs_stop : {M : Type 0} (loop : Loop M) (ts rest : List Token) → loop.stop ts ≡ Some rest → Runs loop ts (Ok (loop.none, rest))
-runs_stop loop ts rest e = record { runs = λ n lt. stop_at loop n ts rest lt e }
-
-no_element_at : {M : Type 0} (loop : Loop M) (n left : ℕ) (ts : List Token) → length ts < n → loop.stop ts ≡ None → loop.element ts ≡ Err left → many_at loop n ts ≡ Err left
-no_element_at loop zero left ts lt e s = absurd (omega arith)
-no_element_at loop (suc n) left ts lt e s = rw (e, s) refl
-
-pub runs_no_element : {M : Type 0} (loop : Loop M) (left : ℕ) (ts : List Token) → loop.stop ts ≡ None → loop.element ts ≡ Err left → Runs loop ts (Err left)
-runs_no_element loop left ts e s = record { runs = λ n lt. no_element_at loop n left ts lt e s }
-
-element_at : {M : Type 0} (loop : Loop M) (n : ℕ) (ts : List Token) (x : M × List Token) (read : Read M) → length ts < n → loop.stop ts ≡ None → loop.element ts ≡ Ok x → length x.1 < length ts → Runs loop x.1 read → many_at loop n ts ≡ after loop x.0 read
-element_at loop zero ts x read lt e s less r = absurd (omega arith)
-element_at loop (suc n) ts x read lt e s less r = rw (e, s) (ap (after loop x.0) (r.runs n (omega arith)))
-
-pub runs_element : {M : Type 0} (loop : Loop M) (ts : List Token) (x : M × List Token) (read : Read M) → loop.stop ts ≡ None → loop.element ts ≡ Ok x → length x.1 < length ts → Runs loop x.1 read → Runs loop ts (after loop x.0 read)
-runs_element loop ts x read e s less r = record { runs = λ n lt. element_at loop n ts x read lt e s less r }
 
 module _ {M : Type 0} (loop : Loop M) (lawful : IsLawful loop) where
   after-none : (read : Read M) → after loop loop.none read ≡ read

@@ -1,5 +1,5 @@
--- The lines of a text before a place, as `line_of` passes them over: their tokens come before those of the rest, whatever the rest
--- is. It stands on the law that a line feed ends what has begun.
+-- The lines of a text before a place, as `line_of` passes them over: their tokens come before those of the rest,
+-- whatever the rest is. It stands on the law that a line feed ends what has begun.
 use Rattle.std.proofs.Common.{◌≡◌, ℕ, suc, ◌+◌, ◌-◌, ◌<◌, ◌≤◌, Bool, true, false, nat_eq, nat_lt, if◌then◌else◌, List, [], ◌∷◌, ◌++◌, length, take, drop, get_or, refl, ap, sym, ◌∙◌, arith, add-one, append_assoc, append-nil, length-append, length-drop, Result, Ok, Err}
 use Rattle.std.proofs.lemmas.List.{take-append-drop, take_all, length-take-le, get_or-drop}
 use Rattle.std.proofs.lemmas.List.Sums.{fold_more}

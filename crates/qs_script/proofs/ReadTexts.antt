@@ -1,35 +1,21 @@
--- A text belongs to at most one script, and a text that belongs to one is refused only where memory runs out. The contract of
--- `read` and the worked examples stand on it. It joins the two directions that are proved of the grammar: whatever is read is a
--- script, and every script is read.
+-- A text belongs to at most one script, and a text that belongs to one is refused only where memory runs out. The
+-- contract of `read` and the worked examples stand on it. It joins the two directions that are proved of the grammar:
+-- whatever is read is a script, and every script is read.
 use Rattle.std.proofs.Common.{◌≡◌, ℕ, ◌≤◌, List, [], length, refl, sym, subst, arith, Bool, Result, Ok, Err, true, false}
 use Rattle.qs_tokens.specs.declared.token.Token.{Token}
-use Rattle.qs_script.specs.declared.tree.Item.{Item}
+use Rattle.qs_tree.specs.declared.tree.Item.{Item}
 use Rattle.qs_script.specs.declared.fault.ReadFault.{ReadFault}
 use Rattle.qs_script.specs.declared.fault.ReadFault.TheVariants as f
 use Rattle.qs_tokens.specs.declared.lex.TokenFault.{TokenFault}
 use Rattle.qs_tokens.specs.declared.lex.TokenFault.TheVariants as e
 use Rattle.std.proofs.Math.Dec.{ltb}
 use Rattle.qs_tokens.specs.Tokens.{tokens_of}
-use Rattle.qs_script.specs.Reading.{run, items_loop, Read}
-use Rattle.qs_script.specs.Grammar.{IsScript}
+use Rattle.qs_grammar.specs.Reading.{run, items_loop, Read}
+use Rattle.qs_grammar.specs.Grammar.{IsScript}
 use Rattle.qs_script.specs.Reads.{IsScriptText, IsRefused}
-use Rattle.qs_script.proofs.Sound.{items_sound}
-use Rattle.qs_script.proofs.Complete.{items_complete, one_tree}
-use Rattle.qs_script.specs.Limits.{longest_text}
-
-both_ok : {A E : Type 0} (r : Result A E) (x y : A) → r ≡ Ok x → r ≡ Ok y → x ≡ y
-both_ok (Ok z) x y p q = cc
-both_ok (Err e) x y p q = cc
-
-pub not_both : {A E : Type 0} (r : Result A E) (x : A) (e : E) → r ≡ Ok x → r ≡ Err e → ⊥
-not_both (Ok z) x e p q = cc
-not_both (Err d) x e p q = cc
-
-pub is_script : (ts : List Token) (script : List Item) → run items_loop ts ≡ Ok (script, []) → IsScript script ts
-is_script ts script p = items_sound ts (script, []) p
-
-pub is_no_script : (ts : List Token) (left : ℕ) → run items_loop ts ≡ Err left → (script : List Item) → IsScript script ts → ⊥
-is_no_script ts left p script h = not_both (run items_loop ts) (script, []) left (items_complete script ts h) p
+use Rattle.qs_grammar.proofs.Complete.{one_tree}
+use Rattle.qs_grammar.proofs.Readings.{both_ok, not_both, is_script, is_no_script}
+use Rattle.qs_tree.specs.Limits.{longest_text}
 
 -- a text has at most one list of tokens
 same_tokens : (text : List ℕ) (ts us : List Token) → tokens_of text ≡ Ok ts → tokens_of text ≡ Ok us → ts ≡ us

@@ -3,21 +3,22 @@ use Rattle.std.specs.Prelude.{◌≡◌, ℕ, List, [], ◌∷◌, ◌++◌, Ok,
 use Rattle.std.proofs.Common.{neg_ℤ}
 use Rattle.qs_tokens.specs.declared.lex.TokenFault.TheVariants.{Byte, Number, Name}
 use Rattle.qs_tokens.specs.declared.token.Token.TheVariants as t
-use Rattle.qs_script.specs.declared.tree.Atom.TheVariants as a
-use Rattle.qs_script.specs.declared.tree.Expr.TheVariants.{Plain, Binary}
-use Rattle.qs_script.specs.declared.tree.Operator.TheVariants.{Times}
-use Rattle.qs_script.specs.declared.tree.Relation.TheVariants.{Less}
-use Rattle.qs_script.specs.declared.tree.Item.{Item}
-use Rattle.qs_script.specs.declared.tree.Item.TheVariants.{Object, Client, Template, Started}
-use Rattle.qs_script.specs.declared.tree.KindText.TheVariants.{Account, Grid}
-use Rattle.qs_script.specs.declared.tree.KindWord.TheVariants as kind
-use Rattle.qs_script.specs.Tree.{Stmts, end, command, query, assign, choose, choose_else, again, leave}
+use Rattle.qs_tree.specs.declared.tree.Atom.TheVariants as a
+use Rattle.qs_tree.specs.declared.tree.Expr.TheVariants.{Plain, Binary}
+use Rattle.qs_tree.specs.declared.tree.Operator.TheVariants.{Times}
+use Rattle.qs_tree.specs.declared.tree.Relation.TheVariants.{Less}
+use Rattle.qs_tree.specs.declared.tree.Item.{Item}
+use Rattle.qs_tree.specs.declared.tree.Item.TheVariants.{Object, Client, Template, Started}
+use Rattle.qs_tree.specs.declared.tree.KindText.TheVariants.{Account, Grid}
+use Rattle.qs_tree.specs.declared.tree.KindWord.TheVariants as kind
+use Rattle.qs_tree.specs.Tree.{Stmts, end, command, query, assign, choose, choose_else, again, leave}
 use Rattle.qs_tokens.specs.Tokens.{tokens_of}
 use Rattle.qs_script.specs.Reads.{IsScriptText}
 
 pub record TokenExamples : Type 0 where
   pub empty : tokens_of [] ≡ Ok []
-  pub call : tokens_of (codes "a.put(1);#x") ≡ Ok (t.Name (codes "a") ∷ t.Dot ∷ t.Name (codes "put") ∷ t.OpenParen ∷ t.Number 1 ∷ t.CloseParen ∷ t.Semicolon ∷ [])
+  pub call : tokens_of (codes "a.put(1);#x") ≡ Ok (t.Name (codes "a") ∷ t.Dot ∷ t.Name (codes "put") ∷ t.OpenParen
+      ∷ t.Number 1 ∷ t.CloseParen ∷ t.Semicolon ∷ [])
   -- each token is as long as it can be
   pub longest : tokens_of (codes "x<==007") ≡ Ok (t.Name (codes "x") ∷ t.AtMost ∷ t.Assign ∷ t.Number 7 ∷ [])
   pub reserved : tokens_of (codes "repeat 3repeat") ≡ Ok (t.Repeat ∷ t.Number 3 ∷ t.Repeat ∷ [])
@@ -45,9 +46,15 @@ IsNoScript text = (s : List Item) → IsScriptText text s → ⊥
 pub record ScriptExamples : Type 0 where
   pub empty : IsScriptText [] []
   pub objects : IsScriptText (codes "object a account 100 object g grid 2 16")
-      (Object (record { name = codes "a"; kind = Account 100 }) ∷ Object (record { name = codes "g"; kind = Grid 2 16 }) ∷ [])
+      (Object (record { name = codes "a"; kind = Account 100 })
+      ∷ Object (record { name = codes "g"; kind = Grid 2 16 }) ∷ [])
   pub requests : IsScriptText (codes "client c{separate a{a.put(x,-5);x=a.take();}}")
-      (client_with (command (record { object = codes "a"; op = codes "put"; args = a.Variable (codes "x") ∷ a.Number (neg_ℤ (pos 5)) ∷ [] })
+      (client_with (command (record {
+        object = codes "a";
+        op = codes "put";
+        args = a.Variable (codes "x")
+            ∷ a.Number (neg_ℤ (pos 5)) ∷ [];
+      })
       (query (codes "x") (record { object = codes "a"; op = codes "take"; args = [] }) end)))
   pub assignments : IsScriptText (codes "client c{separate a{x=y;x=2*x;}}")
       (client_with (assign (codes "x") (Plain (a.Variable (codes "y")))
@@ -60,7 +67,15 @@ pub record ScriptExamples : Type 0 where
       (Template (record {
         name = codes "t";
         formals = record { kind = kind.Account; name = codes "f" } ∷ record { kind = kind.Grid; name = codes "g" } ∷ [];
-        blocks = record { reserved = codes "f" ∷ []; body = command (record { object = codes "f"; op = codes "put"; args = [] }) end } ∷ [];
+        blocks =
+            record {
+              reserved = codes "f" ∷ [];
+              body = command (record {
+                object = codes "f";
+                op = codes "put";
+                args = [];
+              }) end;
+            } ∷ [];
       })
       ∷ Started (record { name = codes "c"; template = codes "t"; objects = codes "a" ∷ codes "a" ∷ [] })
       ∷ [])
@@ -73,5 +88,6 @@ pub record ScriptExamples : Type 0 where
   pub two_operators : IsNoScript (codes "client c { separate a { x = 1 + 2 + 3; } }")
   -- nine stand one inside another, and not ten
   pub nine : IsScriptText (codes "client c{separate a{repeat 1{repeat 1{repeat 1{repeat 1{repeat 1{repeat 1{repeat 1{repeat 1{repeat 1{}}}}}}}}}}}")
-      (client_with (again 1 (again 1 (again 1 (again 1 (again 1 (again 1 (again 1 (again 1 (again 1 end end) end) end) end) end) end) end) end) end))
+      (client_with (again 1 (again 1 (again 1 (again 1
+      (again 1 (again 1 (again 1 (again 1 (again 1 end end) end) end) end) end) end) end) end) end))
   pub ten : IsNoScript (codes "client c{separate a{repeat 1{repeat 1{repeat 1{repeat 1{repeat 1{repeat 1{repeat 1{repeat 1{repeat 1{leave;}}}}}}}}}}}")

@@ -1,14 +1,6 @@
-pub mod Limits
-pub mod Tree
-pub mod TreeCode
-pub mod Views
-pub mod Form
-pub mod SizeDecreases
-pub mod BlockCode
-pub mod ScriptCode
-pub mod Grammar
-pub mod Reading
+-- What an auditor reads: the promises and the calls of the surface are said with these.
 pub mod Lines
 pub mod Reads
-pub mod Sizes
+-- What crates promise one another, what proofs use, and worked examples.
+pub mod Results
 pub mod Examples

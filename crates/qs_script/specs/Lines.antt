@@ -1,4 +1,5 @@
--- The line of a fault. No token goes beyond its line, so the tokens of a text are those of its lines, one after another.
+-- The line of a fault. No token goes beyond its line, so the tokens of a text are those of its lines, one after
+-- another.
 use Rattle.std.specs.Prelude.{◌≡◌, ℕ, ◌+◌, ◌<◌, ◌≤◌, List, length, take, drop, Ok, Err}
 use Rattle.qs_told.specs.Spots.{line_end_at, spot_at}
 use Rattle.qs_tokens.specs.declared.token.Token.{Token}

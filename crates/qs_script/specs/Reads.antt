@@ -1,15 +1,16 @@
 -- What reading a text answers.
-use Rattle.std.specs.Prelude.{◌≡◌, ℕ, suc, ◌≤◌, ◌<◌, List, ◌++◌, length, take, Option, Some, None, Result, Ok, Err}
+use Rattle.std.specs.Prelude.{◌≡◌, ℕ, ◌≤◌, ◌<◌, List, length, Result, Ok, Err}
 use Rattle.qs_tokens.specs.declared.token.Token.{Token}
-use Rattle.qs_script.specs.declared.tree.Item.{Item}
+use Rattle.qs_tree.specs.declared.tree.Item.{Item}
 use Rattle.qs_script.specs.declared.fault.ReadFault.{ReadFault}
 use Rattle.qs_script.specs.declared.fault.ReadFault.TheVariants as f
 use Rattle.qs_tokens.specs.declared.lex.TokenFault.{TokenFault}
 use Rattle.qs_tokens.specs.declared.lex.TokenFault.TheVariants as token
 use Rattle.qs_tokens.specs.Tokens.{tokens_of}
-use Rattle.qs_script.specs.Grammar.{IsScript}
+use Rattle.qs_grammar.specs.Grammar.{IsScript}
+use Rattle.qs_grammar.specs.FormPlaces.{IsFormPlace}
 use Rattle.qs_script.specs.Lines.{IsFaultLine, IsTokenLine, last_line}
-use Rattle.qs_script.specs.Limits.{longest_text}
+use Rattle.qs_tree.specs.Limits.{longest_text}
 
 -- the text has at most 65,536 bytes, and its tokens are the script's
 pub record IsScriptText (text : List ℕ) (script : List Item) : Type 0 where
@@ -22,22 +23,6 @@ pub record IsScriptText (text : List ℕ) (script : List Item) : Type 0 where
 abbrev pub IsFaultAt : List ℕ → TokenFault → ℕ → Type 0
 IsFaultAt text fault line = (tokens_of text ≡ Err fault) × IsFaultLine text fault line
 
--- some script begins with these tokens
-abbrev pub BeginsScript : List Token → Type 0
-BeginsScript ts = (rest : List Token) × (script : List Item) × IsScript script (ts ++ rest)
-
--- The place of a fault of form, told by the grammar alone: that of the first token with which no script goes on, or the end. Some script
--- begins with the tokens before it, and none with those and the token there.
-pub record IsFormPlace (ts : List Token) (place : ℕ) : Type 0 where
-  pub within : place ≤ length ts
-  pub goes_on : BeginsScript (take place ts)
-  pub stops : place < length ts → BeginsScript (take (suc place) ts) → ⊥
-
--- the place of the fault of form of tokens that no script has; none, where a script has them
-abbrev pub IsFormPlaceOf : List Token → Option ℕ → Type 0
-IsFormPlaceOf ts None = (script : List Item) × IsScript script ts
-IsFormPlaceOf ts (Some place) = ((script : List Item) → IsScript script ts → ⊥) × IsFormPlace ts place
-
 -- the line of a fault of form: that of the token at its place, or of the text's end
 pub record IsFormLine (text : List ℕ) (ts : List Token) (line : ℕ) : Type 0 where
   pub place : ℕ
@@ -45,15 +30,16 @@ pub record IsFormLine (text : List ℕ) (ts : List Token) (line : ℕ) : Type 0 
   pub at_token : place < length ts → IsTokenLine text place line
   pub at_end : length ts ≤ place → line ≡ last_line text
 
--- why a text is refused: too long; its first token fault, with its line; or no script has its tokens, with the line where none goes on.
--- Where memory runs out no more is said than that the text wasn't too long
+-- why a text is refused: too long; its first token fault, with its line; or no script has its tokens, with the line
+-- where none goes on. Where memory runs out no more is said than that the text wasn't too long
 abbrev pub IsRefused : ReadFault → List ℕ → Type 0
 IsRefused f.Size text = longest_text < length text
 IsRefused (f.Byte line) text = (length text ≤ longest_text) × IsFaultAt text token.Byte line
 IsRefused (f.Number line) text = (length text ≤ longest_text) × IsFaultAt text token.Number line
 IsRefused (f.Name line) text = (length text ≤ longest_text) × IsFaultAt text token.Name line
 IsRefused (f.Form line) text =
-    (length text ≤ longest_text) × (ts : List Token) × (tokens_of text ≡ Ok ts) × ((script : List Item) → IsScript script ts → ⊥)
+    (length text ≤ longest_text) × (ts : List Token) × (tokens_of text ≡ Ok ts)
+    × ((script : List Item) → IsScript script ts → ⊥)
     × IsFormLine text ts line
 IsRefused f.Memory text = length text ≤ longest_text
 

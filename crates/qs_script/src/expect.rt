@@ -1,7 +1,8 @@
 // Single tokens.
 
 ghost use Rattle.std.specs.Prelude.{◌<◌, length, IfOk, IfSome};
-ghost use Rattle.qs_script.specs.Reading.{Gives, Finds, name_at, open_brace_at, close_brace_at, close_paren_at};
+ghost use Rattle.qs_grammar.specs.Reading.{name_at, open_brace_at, close_brace_at, close_paren_at};
+ghost use Rattle.qs_script.specs.Results.{Gives, Finds};
 
 use crate::fault::Fault;
 use qs_tokens::{Name, Token};

@@ -3,7 +3,8 @@
 use std::alloc::AllocError;
 use thiserror::Error;
 
-/// Why a text is no script. A line is one more than the number of LF before the fault's place. A reading that fails leaves nothing.
+/// Why a text is no script. A line is one more than the number of LF before the fault's place. A reading that fails
+/// leaves nothing.
 #[derive(Clone, Copy, Debug, PartialEq, Eq, Error)]
 pub enum ReadFault {
     /// The text has more than 65,536 bytes. This is found before anything else.

@@ -1,20 +1,43 @@
 // Items: objects, and clients with their blocks.
 
 ghost use Rattle.std.specs.Prelude.{◌<◌, [], ◌∷◌, length, IfOk};
-ghost use Rattle.qs_script.specs.Reading.{Gives, after, run, names_loop, block_at, separate_at, blocks_loop, object_at, object_called_at, client_at, client_called_at, own_blocks_at, item_at, items_loop};
+ghost use Rattle.qs_grammar.specs.Reading.{after, run, names_loop, block_at, separate_at, blocks_loop, object_at, object_called_at, client_at, client_called_at, own_blocks_at, item_at, items_loop};
+ghost use Rattle.qs_script.specs.Results.{Gives};
 
 use crate::expect::{name, past_close_brace, past_open_brace};
 use crate::fault::Fault;
-use crate::limits::MOST_LEVELS;
-use crate::lists::add;
+use crate::lists::{Listing, list};
 use crate::statements::body;
 use crate::templates::{started, template};
-use crate::tree::{Block, Blocks, ClientItem, Item, KindText, NameList, ObjectItem, Script};
 use qs_tokens::{Name, Token};
+use qs_tree::{
+    Block, Blocks, ClientItem, Item, KindText, MOST_LEVELS, NameList, ObjectItem, Script, add,
+};
 use std::alloc::Global;
 
 // How many objects a block may well reserve.
 const USUAL_NAMES: usize = 8;
+
+// Names up to the brace that opens after them.
+struct Reserved;
+
+impl Listing for Reserved {
+    type Element = Name;
+
+    ghost use Rattle.qs_grammar.specs.Reading.{name_at, open_brace_at};
+
+    ghost stop_at = { open_brace_at };
+
+    ghost element_at = { name_at };
+
+    fn past_end(tokens: &[Token]) -> Option<&[Token]> {
+        past_open_brace(tokens)
+    }
+
+    fn element(alloc: Global, tokens: &[Token]) -> Result<(Name, &[Token]), Fault> {
+        name(tokens)
+    }
+}
 
 // The names after the first, and the brace that opens after them.
 fn names(alloc: Global, first: Name, tokens: &[Token]) -> Result<(NameList, &[Token]), Fault>
@@ -23,15 +46,8 @@ fn names(alloc: Global, first: Name, tokens: &[Token]) -> Result<(NameList, &[To
 {
     let mut names = Vec::with_capacity(alloc, USUAL_NAMES)?;
     add(&mut names, first)?;
-    let mut rest = tokens;
-    'each: loop {
-        if let Some(after) = past_open_brace(rest) {
-            return Ok((NameList { names }, after));
-        }
-        let (name, after) = name(rest)?;
-        add(&mut names, name)?;
-        rest = after;
-    }
+    let (names, rest) = list::<Reserved>(alloc, names, tokens)?;
+    Ok((NameList::of(names), rest))
 }
 
 // A block, after the word separate.
@@ -56,21 +72,34 @@ fn separate(alloc: Global, tokens: &[Token]) -> Result<(Block, &[Token]), Fault>
     }
 }
 
+// Blocks up to the brace that closes them.
+struct Separates;
+
+impl Listing for Separates {
+    type Element = Block;
+
+    ghost use Rattle.qs_grammar.specs.Reading.{close_brace_at, separate_at};
+
+    ghost stop_at = { close_brace_at };
+
+    ghost element_at = { separate_at };
+
+    fn past_end(tokens: &[Token]) -> Option<&[Token]> {
+        past_close_brace(tokens)
+    }
+
+    fn element(alloc: Global, tokens: &[Token]) -> Result<(Block, &[Token]), Fault> {
+        separate(alloc, tokens)
+    }
+}
+
 // Blocks and the brace that closes them.
 pub(crate) fn blocks(alloc: Global, tokens: &[Token]) -> Result<(Blocks, &[Token]), Fault>
     ensures exact { Gives (λ x. (x.0, x.1.now)) result (run blocks_loop tokens.now) }
     ensures shorter { IfOk result (λ x. length x.1.now < length tokens.now) }
 {
-    let mut blocks = Vec::new(alloc);
-    let mut rest = tokens;
-    'each: loop {
-        if let Some(after) = past_close_brace(rest) {
-            return Ok((Blocks { blocks }, after));
-        }
-        let (block, after) = separate(alloc, rest)?;
-        add(&mut blocks, block)?;
-        rest = after;
-    }
+    let (blocks, rest) = list::<Separates>(alloc, Vec::new(alloc), tokens)?;
+    Ok((Blocks::of(blocks), rest))
 }
 
 // An object, after that word.
@@ -168,5 +197,5 @@ pub(crate) fn script(alloc: Global, tokens: &[Token]) -> Result<Script, Fault>
         add(&mut items, item)?;
         rest = after;
     }
-    Ok(Script { items })
+    Ok(Script::of(items))
 }

@@ -1,28 +1,24 @@
-// Laws of the language's definitions.
+// Laws of texts, and what is passed on of those of the grammar.
 
 ghost use Rattle.std.specs.Prelude.{◌≡◌, ◌<◌, ℕ, List, length};
-ghost use Rattle.qs_tokens.specs.declared.token.Token.{Token};
-ghost use Rattle.qs_script.specs.declared.tree.Item.{Item};
+ghost use Rattle.qs_tree.specs.declared.tree.Item.{Item};
 ghost use Rattle.qs_script.specs.declared.fault.ReadFault.{ReadFault};
 ghost use Rattle.qs_script.specs.declared.fault.ReadFault.TheVariants.{Memory};
-ghost use Rattle.qs_script.specs.Grammar.{IsScript};
-ghost use Rattle.qs_script.specs.Reads.{IsScriptText, IsRefused, IsFormPlace};
-ghost use Rattle.qs_script.specs.Sizes.{statements};
+ghost use Rattle.qs_script.specs.Reads.{IsScriptText, IsRefused};
+ghost use Rattle.qs_tree.specs.Sizes.{statements};
 ghost use Rattle.qs_script.specs.Examples.{TokenExamples, ScriptExamples};
 
-/// Worked examples: texts with their tokens or their first token fault, texts with their scripts, and texts that are none.
+pub use qs_grammar::laws::{one_place, one_tree};
+
+/// Worked examples: texts with their tokens or their first token fault, texts with their scripts, and texts that are
+/// none.
 pub fn examples()
     ensures tokens { TokenExamples }
     ensures scripts { ScriptExamples }
 {}
 
-/// A list of tokens has at most one tree.
-pub fn one_tree()
-    ensures { (s u : List Item) (ts : List Token) → IsScript s ts → IsScript u ts → s ≡ u }
-{}
-
-/// A text is at most one script's, and what is a script's text is refused only where memory runs out: so what `read` answers is, but
-/// for memory, settled by the text.
+/// A text is at most one script's, and what is a script's text is refused only where memory runs out: so what `read`
+/// answers is, but for memory, settled by the text.
 pub fn one_answer()
     ensures one_script { (text : List ℕ) (s u : List Item) → IsScriptText text s → IsScriptText text u → s ≡ u }
     ensures only_memory { (text : List ℕ) (s : List Item) (fault : ReadFault) → IsScriptText text s → IsRefused fault text → fault ≡ Memory }
@@ -31,10 +27,4 @@ pub fn one_answer()
 /// A script with statements has fewer of them, inner ones too, than its text has bytes.
 pub fn fewer_statements()
     ensures { (text : List ℕ) (s : List Item) → IsScriptText text s → 0 < statements s → statements s < length text }
-{}
-
-/// Tokens that no script has are at fault at a place, and only at one.
-pub fn one_place()
-    ensures some { (ts : List Token) → ((s : List Item) → IsScript s ts → ⊥) → (place : ℕ) × IsFormPlace ts place }
-    ensures one { (ts : List Token) (place other : ℕ) → IsFormPlace ts place → IsFormPlace ts other → place ≡ other }
 {}

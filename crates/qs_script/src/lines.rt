@@ -6,7 +6,7 @@ ghost use Rattle.qs_tokens.specs.declared.token.Token.{Token};
 ghost use Rattle.qs_tokens.specs.declared.lex.TokenFault.{TokenFault as Fault};
 ghost use Rattle.qs_tokens.specs.Tokens.{tokens_of};
 ghost use Rattle.qs_tokens.specs.Cutting.{tokens_in};
-ghost use Rattle.qs_script.specs.Limits.{longest_text};
+ghost use Rattle.qs_tree.specs.Limits.{longest_text};
 ghost use Rattle.qs_script.specs.Lines.{IsFaultLine, IsTokenLine, last_line};
 
 use qs_tokens::{Piece, TokenFault, front};
@@ -48,7 +48,8 @@ fn line_at(text: &[u8], place: usize) -> u32
     spot_of(text, place).line as u32
 }
 
-/// The line of the token before which so many stand; or, where there are not so many, of the first fault, or of the text's end.
+/// The line of the token before which so many stand; or, where there are not so many, of the first fault, or of the
+/// text's end.
 pub(crate) fn line_of(text: &[u8], number: usize) -> u32
     requires short { length text.now ≤ longest_text }
     ensures fault { (fault : Fault) → tokens_of text.now ≡ Err fault → length text.now ≤ number → IsFaultLine text.now fault result }

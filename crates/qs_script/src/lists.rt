@@ -1,36 +1,52 @@
-// Lists that grow.
+// Lists, read element by element.
 
-ghost use Rattle.std.specs.Prelude.{◌≡◌, ◌<◌, [], ◌∷◌, ◌++◌, vec_len, vec_capacity, OnOk};
+ghost use Rattle.std.specs.Prelude.{◌<◌, length, IfOk, IfSome, List, Option};
+ghost use Rattle.qs_tokens.specs.declared.token.Token.{Token as token};
+ghost use Rattle.qs_grammar.specs.Reading.{Read, after, run, list_loop};
+ghost use Rattle.qs_script.specs.Results.{Gives, Finds};
 
-use std::alloc::AllocError;
+use crate::fault::Fault;
+use qs_tokens::Token;
+use qs_tree::add;
+use std::alloc::Global;
 
-// Adds a value at the end.
-#[inline(always)]
-pub(crate) fn add<T: Drop>(list: &mut Vec<T>, value: T) -> Result<(), AllocError>
-    ensures added { OnOk result (list.new.items ≡ list.old.items ++ value ∷ []) }
-{
-    make_room(list)?;
-    list.push_reserved(value);
-    Ok(())
+// How a list is read: what ends it, and what each of its elements is.
+pub(crate) trait Listing {
+    type Element: Drop;
+
+    ghost stop_at: { List token → Option (List token) };
+
+    ghost element_at: { List token → Read Self.Element };
+
+    // What comes after the end, where it stands.
+    fn past_end(tokens: &[Token]) -> Option<&[Token]>
+        ensures exact { Finds (λ x. x.now) result (stop_at tokens.now) }
+        ensures shorter { IfSome result (λ x. length x.now < length tokens.now) };
+
+    // The element at the front.
+    fn element(alloc: Global, tokens: &[Token]) -> Result<(Self::Element, &[Token]), Fault>
+        ensures exact { Gives (λ x. (x.0, x.1.now)) result (element_at tokens.now) }
+        ensures shorter { IfOk result (λ x. length x.1.now < length tokens.now) };
 }
 
-// Makes room for one more value.
+// The elements up to the end, after those that are there.
 #[inline(always)]
-pub(crate) fn make_room<T>(list: &mut Vec<T>) -> Result<(), AllocError>
-    ensures same { list.new.items ≡ list.old.items }
-    ensures room { OnOk result (vec_len list.new < vec_capacity list.new) }
+pub(crate) fn list<L: Listing>(
+    alloc: Global,
+    before: Vec<L::Element>,
+    tokens: &[Token],
+) -> Result<(Vec<L::Element>, &[Token]), Fault>
+    ensures exact { Gives (λ x. (x.0.items, x.1.now)) result (after (list_loop L.stop_at L.element_at) before.items (run (list_loop L.stop_at L.element_at) tokens.now)) }
+    ensures shorter { IfOk result (λ x. length x.1.now < length tokens.now) }
 {
-    if list.len() == list.capacity() {
-        grow(list)?;
+    let mut list = before;
+    let mut rest = tokens;
+    'each: loop {
+        if let Some(after) = L::past_end(rest) {
+            return Ok((list, after));
+        }
+        let (element, after) = L::element(alloc, rest)?;
+        add(&mut list, element)?;
+        rest = after;
     }
-    Ok(())
-}
-
-// The same, where there is none.
-#[inline(never)]
-fn grow<T>(list: &mut Vec<T>) -> Result<(), AllocError>
-    ensures same { list.new.items ≡ list.old.items }
-    ensures room { OnOk result (vec_len list.new < vec_capacity list.new) }
-{
-    list.reserve(1)
 }

@@ -2,15 +2,15 @@
 
 ghost use Rattle.std.specs.Prelude.{◌≡◌, ◌<◌, ◌≤◌, ◌↔◌, length, Ok, IfOk, IfErr, IsErrOf, IsTrue};
 ghost use Rattle.qs_tokens.specs.Tokens.{tokens_of};
-ghost use Rattle.qs_script.specs.Reads.{BeginsScript, HasFault, IsFormPlaceOf, IsReadOf, IsPlaced};
-ghost use Rattle.qs_script.specs.Limits.{longest_text};
+ghost use Rattle.qs_script.specs.Reads.{HasFault, IsReadOf, IsPlaced};
+ghost use Rattle.qs_grammar.specs.FormPlaces.{BeginsScript, IsFormPlaceOf};
+ghost use Rattle.qs_tree.specs.Limits.{longest_text};
 
 use crate::fault::{Fault, ReadFault};
 use crate::items::script;
-use crate::limits::LONGEST_TEXT;
 use crate::lines::line_of;
-use crate::tree::Script;
 use qs_tokens::{ListFault, Token, TokenFault, list_tokens};
+use qs_tree::{LONGEST_TEXT, Script};
 use std::alloc::{AllocError, Global};
 
 // The fault at that line.
@@ -37,10 +37,10 @@ fn tokenize(alloc: Global, text: &[u8]) -> Result<Vec<Token>, ReadFault>
     }
 }
 
-/// Reads a script: objects, and clients whose blocks reserve the objects that they name together. The answer is the tree of the
-/// text's tokens, which is the only one, or the first fault of the whole text: `Size` before anything else and before any memory
-/// is taken, then the first byte that begins no token or number or name that is too long, then `Form` where no script has these
-/// tokens. `Memory` may come at any allocation. A fault leaves nothing behind.
+/// Reads a script: objects, and clients whose blocks reserve the objects that they name together. The answer is the
+/// tree of the text's tokens, which is the only one, or the first fault of the whole text: `Size` before anything else
+/// and before any memory is taken, then the first byte that begins no token or number or name that is too long, then
+/// `Form` where no script has these tokens. `Memory` may come at any allocation. A fault leaves nothing behind.
 pub fn read(alloc: Global, text: &[u8]) -> Result<Script, ReadFault>
     ensures exact { IsReadOf text.now result }
     ensures size { IsErrOf result ReadFault.Size ↔ (longest_text < length text.now) }
@@ -58,8 +58,8 @@ pub fn read(alloc: Global, text: &[u8]) -> Result<Script, ReadFault>
     }
 }
 
-/// The place of the fault of form of some tokens: how many stand before the first with which no script goes on, or, where there is no
-/// such token, all of them. Nothing, where they are a script's. It fails only where memory runs out.
+/// The place of the fault of form of some tokens: how many stand before the first with which no script goes on, or,
+/// where there is no such token, all of them. Nothing, where they are a script's. It fails only where memory runs out.
 pub fn form_place(alloc: Global, tokens: &[Token]) -> Result<Option<usize>, AllocError>
     ensures exact { IfOk result (IsFormPlaceOf tokens.now) }
 {

@@ -1,14 +1,15 @@
 // Templates, and clients of templates.
 
 ghost use Rattle.std.specs.Prelude.{◌<◌, [], ◌∷◌, length, IfOk};
-ghost use Rattle.qs_script.specs.Reading.{Gives, after, run, formal_at, further_formal_at, formals_loop, further_name_at, given_loop, template_at, template_called_at, template_blocks_at, started_at, started_with_at};
+ghost use Rattle.qs_grammar.specs.Reading.{after, run, formal_at, further_formal_at, formals_loop, further_name_at, given_loop, template_at, template_called_at, template_blocks_at, started_at, started_with_at};
+ghost use Rattle.qs_script.specs.Results.{Gives};
 
 use crate::expect::{name as expect_name, past_close_paren};
 use crate::fault::Fault;
 use crate::items::blocks;
-use crate::lists::add;
-use crate::tree::{Formal, Formals, Item, KindWord, NameList, StartedItem, TemplateItem};
+use crate::lists::{Listing, list};
 use qs_tokens::{Name, Token};
+use qs_tree::{Formal, Formals, Item, KindWord, NameList, StartedItem, TemplateItem, add};
 use std::alloc::Global;
 
 // A formal: its kind and its name.
@@ -48,6 +49,27 @@ fn further_formal(tokens: &[Token]) -> Result<(Formal, &[Token]), Fault>
     }
 }
 
+// Formals up to the bracket that closes them.
+struct FurtherFormals;
+
+impl Listing for FurtherFormals {
+    type Element = Formal;
+
+    ghost use Rattle.qs_grammar.specs.Reading.{close_paren_at, further_formal_at};
+
+    ghost stop_at = { close_paren_at };
+
+    ghost element_at = { further_formal_at };
+
+    fn past_end(tokens: &[Token]) -> Option<&[Token]> {
+        past_close_paren(tokens)
+    }
+
+    fn element(alloc: Global, tokens: &[Token]) -> Result<(Formal, &[Token]), Fault> {
+        further_formal(tokens)
+    }
+}
+
 // The formals after the first, and the bracket that closes them.
 fn formals(alloc: Global, first: Formal, tokens: &[Token]) -> Result<(Formals, &[Token]), Fault>
     ensures exact { Gives (λ x. (x.0, x.1.now)) result (after formals_loop (first ∷ []) (run formals_loop tokens.now)) }
@@ -55,15 +77,8 @@ fn formals(alloc: Global, first: Formal, tokens: &[Token]) -> Result<(Formals, &
 {
     let mut formals = Vec::new(alloc);
     add(&mut formals, first)?;
-    let mut rest = tokens;
-    'each: loop {
-        if let Some(after) = past_close_paren(rest) {
-            return Ok((Formals { formals }, after));
-        }
-        let (formal, after) = further_formal(rest)?;
-        add(&mut formals, formal)?;
-        rest = after;
-    }
+    let (formals, rest) = list::<FurtherFormals>(alloc, formals, tokens)?;
+    Ok((Formals::of(formals), rest))
 }
 
 // A further name.
@@ -77,6 +92,27 @@ fn further_name(tokens: &[Token]) -> Result<(Name, &[Token]), Fault>
     }
 }
 
+// Names up to the bracket that closes them.
+struct FurtherNames;
+
+impl Listing for FurtherNames {
+    type Element = Name;
+
+    ghost use Rattle.qs_grammar.specs.Reading.{close_paren_at, further_name_at};
+
+    ghost stop_at = { close_paren_at };
+
+    ghost element_at = { further_name_at };
+
+    fn past_end(tokens: &[Token]) -> Option<&[Token]> {
+        past_close_paren(tokens)
+    }
+
+    fn element(alloc: Global, tokens: &[Token]) -> Result<(Name, &[Token]), Fault> {
+        further_name(tokens)
+    }
+}
+
 // The names after the first, and the bracket that closes them.
 fn given(alloc: Global, first: Name, tokens: &[Token]) -> Result<(NameList, &[Token]), Fault>
     ensures exact { Gives (λ x. (x.0, x.1.now)) result (after given_loop (first ∷ []) (run given_loop tokens.now)) }
@@ -84,15 +120,8 @@ fn given(alloc: Global, first: Name, tokens: &[Token]) -> Result<(NameList, &[To
 {
     let mut names = Vec::new(alloc);
     add(&mut names, first)?;
-    let mut rest = tokens;
-    'each: loop {
-        if let Some(after) = past_close_paren(rest) {
-            return Ok((NameList { names }, after));
-        }
-        let (name, after) = further_name(rest)?;
-        add(&mut names, name)?;
-        rest = after;
-    }
+    let (names, rest) = list::<FurtherNames>(alloc, names, tokens)?;
+    Ok((NameList::of(names), rest))
 }
 
 // A template, after that word.

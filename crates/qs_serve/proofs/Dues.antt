@@ -1,6 +1,6 @@
--- Out of memory is always a due answer, the status 4 is due only after a read has failed, the status 0 only with a text, and the report of a run is due where
--- the line asked for that run. The function `serve` and those that find what is due stand on it. Each goes by cases on what the
--- line asks for and on the answer.
+-- Out of memory is always a due answer, the status 4 is due only after a read has failed, the status 0 only with a
+-- text, and the report of a run is due where the line asked for that run. The function `serve` and those that find what
+-- is due stand on it. Each goes by cases on what the line asks for and on the answer.
 use Rattle.std.proofs.Common.{◌≡◌, ◌≤◌, ◌⊎◌, ◌||◌, if◌then◌else◌, ℕ, Bool, List, [], ◌∙◌, Option, Result, Ok, true, false, refl, sym, subst, inl, inr, IsOkAnd}
 use Rattle.std.proofs.lemmas.List.{append-nil}
 use Rattle.qs_played.specs.Played.{Played}
@@ -11,15 +11,15 @@ use Rattle.qs_script.specs.declared.fault.ReadFault.TheVariants as read
 use Rattle.qs_places.specs.declared.fault.CheckFault.TheVariants as check_fault
 use Rattle.qs_played.specs.declared.fault.PlayFault.TheVariants as play_fault
 use Rattle.qs_program.specs.Program.{ProgramShape}
-use Rattle.qs_orders.specs.NamedOrders.{order_of}
-use Rattle.qs_orders.specs.declared.fault.OrderFault.TheVariants as order_fault
-use Rattle.qs_outcomes.specs.Outcomes.{OutcomesShape}
+use Rattle.qs_serial.specs.NamedOrders.{order_of}
+use Rattle.qs_serial.specs.declared.fault.OrderFault.TheVariants as order_fault
+use Rattle.qs_outcomes.specs.Outcomes.{AreOutcomesAfter, OutcomesShape}
 use Rattle.qs_outcomes.specs.declared.fault.OutcomesFault.{OutcomesFault}
 use Rattle.qs_outcomes.specs.declared.fault.OutcomesFault.TheVariants as outcomes_fault
-use Rattle.qs_report.specs.OutcomesText.{AreOutcomesAfter, IsOutcomesText}
+use Rattle.qs_report.specs.OutcomesText.{IsOutcomesText}
 use Rattle.qs_json.specs.OutcomesJson.{IsOutcomesJson}
-use Rattle.qs_lists.specs.Named.{clients_of}
-use Rattle.qs_lists.specs.declared.parts.Part.{Part}
+use Rattle.qs_line.specs.Named.{clients_of}
+use Rattle.qs_line.specs.declared.parts.Part.{Part}
 use Rattle.qs_line.specs.declared.line.Format.{Format}
 use Rattle.qs_line.specs.declared.line.Format.TheVariants as format
 use Rattle.qs_line.specs.declared.line.GraphFormat.{GraphFormat}

@@ -1,5 +1,6 @@
--- What is due by the answer of reading a line is due by the line: its result or fault, its format, the text that is kept, and that nothing
--- is read where it asks for nothing. The function `due_of` stands on it. It goes by cases on the answer.
+-- What is due by the answer of reading a line is due by the line: its result or fault, its format, the text that is
+-- kept, and that nothing is read where it asks for nothing. The function `due_of` stands on it. It goes by cases on the
+-- answer.
 use Rattle.std.proofs.Common.{◌≡◌, ◌⊎◌, ℕ, List, ◌∙◌, Option, None, Result, Ok, Err, false, sym, ap, subst, inl, inr}
 use Rattle.std.specs.Prelude.{IfErr, IfOk, OnErr, OnOk}
 use Rattle.qs_report.specs.declared.faults.Fault.TheVariants as fault
@@ -8,7 +9,7 @@ use Rattle.qs_line.specs.declared.line.LineFault.{LineFault}
 use Rattle.qs_line.specs.declared.line.LineFault.TheVariants as line_fault
 use Rattle.qs_line.specs.declared.line.Settings.{Settings}
 use Rattle.qs_line.specs.Line.{IsAnswer, Line, asks, format_by, help, refused, request_by, request_of, version}
-use Rattle.qs_serve.specs.Due.{IsDue, IsDueOfFault, IsFormat, IsKept, IsKeptBy, IsRefusedBy, IsTextOfMemory, format_of_answer}
+use Rattle.qs_serve.specs.Due.{IsDue, IsDueOfFault, IsFormat, IsTextKept, IsKeptBy, IsRefusedBy, IsTextOfMemory, format_of_answer}
 use Rattle.qs_serve.specs.Reading.{Reading}
 use Rattle.qs_serve.specs.declared.due.Due.{Due}
 use Rattle.qs_serve.specs.declared.due.Due.TheVariants.{Text, Refused}
@@ -44,13 +45,13 @@ format_by_line line (Err line_fault.Memory) before after due how is fault unread
 
 kept_or_refused : (line : Line) (known : Option (List ℕ)) (due : Due) (kept : List ℕ) → IsRefusedBy fault.Memory due → IsKeptBy line known due kept
 kept_or_refused (asks request) known (Text bytes) kept is = absurd is
-kept_or_refused (asks request) known (Refused f) kept is = subst (λ g. IsKept known (Refused g) kept) (sym is) tt
+kept_or_refused (asks request) known (Refused f) kept is = subst (λ g. IsTextKept known (Refused g) kept) (sym is) tt
 kept_or_refused help known due kept is = tt
 kept_or_refused version known due kept is = tt
 kept_or_refused refused known due kept is = tt
 
 pub kept_by_line : (line : Line) (r : Result Settings LineFault) (known : Option (List ℕ)) (due : Due) (kept : List ℕ) → IsAnswer line r
-    → IfErr r (λ f. IsDueOfFault f due) → OnOk r (IsKept known due kept) → IsKeptBy line known due kept
+    → IfErr r (λ f. IsDueOfFault f due) → OnOk r (IsTextKept known due kept) → IsKeptBy line known due kept
 kept_by_line line (Ok settings) known due kept is fault stays = subst (λ l. IsKeptBy l known due kept) (sym is) stays
 kept_by_line line (Err line_fault.Refused) known due kept is fault stays = subst (λ l. IsKeptBy l known due kept) (sym is) tt
 kept_by_line line (Err (line_fault.Help text)) known due kept is fault stays = subst (λ l. IsKeptBy l known due kept) (sym is) tt

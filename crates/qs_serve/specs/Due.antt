@@ -5,14 +5,14 @@ use Rattle.std.specs.Io.KnownBytes.{Appends}
 use Rattle.qs_script.specs.declared.fault.ReadFault.TheVariants as read
 use Rattle.qs_places.specs.declared.fault.CheckFault.TheVariants as check_fault
 use Rattle.qs_played.specs.declared.fault.PlayFault.TheVariants as play_fault
-use Rattle.qs_orders.specs.NamedOrders.{order_of}
+use Rattle.qs_serial.specs.NamedOrders.{order_of}
 use Rattle.qs_meaning.specs.Serial.{IsLegal}
-use Rattle.qs_orders.specs.declared.fault.OrderFault.{OrderFault}
-use Rattle.qs_orders.specs.declared.fault.OrderFault.TheVariants as order_fault
+use Rattle.qs_serial.specs.declared.fault.OrderFault.{OrderFault}
+use Rattle.qs_serial.specs.declared.fault.OrderFault.TheVariants as order_fault
 use Rattle.qs_outcomes.specs.Outcomes.{HasMoreThanAfter, OutcomesShape}
 use Rattle.qs_outcomes.specs.declared.fault.OutcomesFault.{OutcomesFault}
 use Rattle.qs_outcomes.specs.declared.fault.OutcomesFault.TheVariants as outcomes_fault
-use Rattle.qs_chart.specs.ChartDot.{IsChartDot}
+use Rattle.qs_dot.specs.ChartDot.{IsChartDot}
 use Rattle.qs_report.specs.declared.faults.Fault.{Fault}
 use Rattle.qs_report.specs.declared.faults.Fault.TheVariants as fault
 use Rattle.qs_report.specs.Faults.{fault_text, fault_status}
@@ -25,11 +25,11 @@ use Rattle.qs_json.specs.GraphJson.{IsGraphJson}
 use Rattle.qs_json.specs.OutcomesJson.{IsOutcomesJson, listed_json}
 use Rattle.qs_json.specs.RunJson.{counts_json, run_json}
 use Rattle.qs_report.specs.OutcomesText.{IsOutcomesText, listed_text}
-use Rattle.qs_report.specs.Texts.{AppendsFront}
+use Rattle.qs_text.specs.Texts.{AppendsFront}
 use Rattle.qs_script.specs.Reads.{IsRefused, IsScriptText}
-use Rattle.qs_script.specs.declared.tree.Item.{Item}
+use Rattle.qs_tree.specs.declared.tree.Item.{Item}
 use Rattle.qs_check.specs.Checked.{fault_of}
-use Rattle.qs_check.specs.Resolve.{program_of_items}
+use Rattle.qs_resolution.specs.Resolve.{program_of_items}
 use Rattle.qs_program.specs.Program.{ProgramShape}
 use Rattle.qs_core_laws.specs.Core.{AreCodes}
 use Rattle.qs_core_laws.specs.CoreSchedule.{IsPlayedIn}
@@ -38,6 +38,7 @@ use Rattle.qs_plain_laws.specs.PlainSchedule.{IsPlayed}
 use Rattle.qs_plain_orders.specs.PlainOrders.{IsPlayedInOrder}
 use Rattle.qs_played.specs.declared.fault.PlayFault.{PlayFault}
 use Rattle.qs_played.specs.Played.{Played}
+use Rattle.qs_played.specs.Schedule.{most_rounds}
 use Rattle.qs_syncset.specs.Codes.{ClientCode}
 use Rattle.qs_syncset.specs.declared.mode.Mode.{Mode}
 use Rattle.qs_steps.specs.CoreQueues.{core_queues}
@@ -47,9 +48,9 @@ use Rattle.qs_steps.specs.PlainSteps.{plain_steps}
 use Rattle.qs_svg.specs.RunSvg.{run_svg}
 use Rattle.qs_run_laws.specs.Outcomes.{IsOutcome}
 use Rattle.qs_run.specs.Starts.{IsRefusal, LetAllStart, worker_count}
-use Rattle.qs_lists.specs.Named.{actors_of, clients_of}
-use Rattle.qs_lists.specs.declared.fault.ListFault.{ListFault}
-use Rattle.qs_lists.specs.declared.fault.ListFault.TheVariants as list_fault
+use Rattle.qs_line.specs.Named.{actors_of, clients_of}
+use Rattle.qs_line.specs.declared.fault.ListFault.{ListFault}
+use Rattle.qs_line.specs.declared.fault.ListFault.TheVariants as list_fault
 use Rattle.qs_line.specs.declared.line.Format.{Format}
 use Rattle.qs_line.specs.declared.line.Format.TheVariants as format
 use Rattle.qs_line.specs.declared.line.GraphFormat.{GraphFormat}
@@ -99,11 +100,12 @@ IsTextOf (Ok bytes) due = due ≡ Text bytes
 IsTextOf (Err e) due = due ≡ Refused fault.Memory
 
 -- a program's counts, as text or as JSON
-abbrev pub counts_in : Format → ProgramShape → List ℕ
-counts_in format.Text p = counts_text p
-counts_in format.Json p = counts_json p
+abbrev pub counts_by_format : Format → ProgramShape → List ℕ
+counts_by_format format.Text p = counts_text p
+counts_by_format format.Json p = counts_json p
 
--- the report of what was played, as text or as JSON, with the counts of synchronisations where they are asked for, or as a picture
+-- the report of what was played, as text or as JSON, with the counts of synchronisations where they are asked for, or
+-- as a picture
 abbrev pub report_in : ReportFormat → (counts : Bool) → ProgramShape → Played → List ℕ
 report_in report_format.Text counts p played = run_text counts p played
 report_in report_format.Json counts p played = run_json counts p played
@@ -118,7 +120,8 @@ told_report steps queues report = steps ++ (report ++ queues)
 
 -- this report between these lines; or that an allocation failed
 abbrev pub IsReportBetween : (steps queues : List ℕ) → ReportStyle → ProgramShape → Played → Due → Type 0
-IsReportBetween steps queues style p played (Text bytes) = bytes.items ≡ told_report steps queues (report_by style p played)
+IsReportBetween steps queues style p played (Text bytes) =
+    bytes.items ≡ told_report steps queues (report_by style p played)
 IsReportBetween steps queues style p played (Refused f) = f ≡ fault.Memory
 
 -- this report alone
@@ -136,10 +139,16 @@ abbrev pub IsListOf : Format → ProgramShape → OutcomesShape → Due → Type
 IsListOf how p all (Text bytes) = bytes.items ≡ listed_in how p all
 IsListOf how p all (Refused f) = f ≡ fault.Memory
 
--- what is shown under the plain rules: the state after the picks of the actors that a list names in the program, and the rounds of a
--- schedule; or the blocks that the clients of an order name, in this order, each of them ended
+-- after as many rounds as a line plays by default, 1,000,000, a run has finished, whatever was picked before them
+abbrev pub FinishesByDefault : (rounds : ℕ) → Played → Type 0
+FinishesByDefault rounds played = rounds ≡ most_rounds → played.finished ≡ true
+
+-- what is shown under the plain rules: the state after the picks of the actors that a list names in the program, and
+-- the rounds of a schedule, which is the end where these are as many as by default; or the blocks that the clients of
+-- an order name, in this order, each of them ended
 abbrev pub IsShownByRules : PlanShape → ProgramShape → Played → Type 0
-IsShownByRules (by_schedule rounds picks) p played = IsOkAnd (actors_of p picks) (λ actors. IsPlayed p actors rounds (Ok played))
+IsShownByRules (by_schedule rounds picks) p played =
+    IsOkAnd (actors_of p picks) (λ actors. IsPlayed p actors rounds (Ok played)) × FinishesByDefault rounds played
 IsShownByRules (by_order list) p played =
     IsOkAnd (clients_of p list) (λ clients. IsLegal p (order_of clients) × IsPlayedInOrder p (order_of clients) played)
 
@@ -147,28 +156,35 @@ IsShownByRules (by_order list) p played =
 abbrev pub IsShownByPlay : Mode → ℕ → PlanShape → ProgramShape → Played → Type 0
 IsShownByPlay mode size (by_schedule rounds picks) p played =
     IsOkAnd (actors_of p picks) (λ actors. IsPlayedIn p mode size actors rounds (Ok played))
+    × FinishesByDefault rounds played
 IsShownByPlay mode size (by_order list) p played =
-    IsOkAnd (clients_of p list) (λ clients. IsLegal p (order_of clients) × IsPlayedInOrderOn p mode size (order_of clients) played)
+    IsOkAnd (clients_of p list) (λ clients. IsLegal p (order_of clients)
+    × IsPlayedInOrderOn p mode size (order_of clients) played)
 
--- the lines of the steps of a schedule under the plain rules, by the actors that its picks name in the program; of an order none are told
+-- the lines of the steps of a schedule under the plain rules, by the actors that its picks name in the program; of an
+-- order none are told
 abbrev pub AreStepsOfRules : PlanShape → ProgramShape → List ℕ → Type 0
-AreStepsOfRules (by_schedule rounds picks) p lines = IsOkAnd (actors_of p picks) (λ actors. lines ≡ plain_steps p actors rounds)
+AreStepsOfRules (by_schedule rounds picks) p lines =
+    IsOkAnd (actors_of p picks) (λ actors. lines ≡ plain_steps p actors rounds)
 AreStepsOfRules (by_order list) p lines = lines ≡ []
 
 -- and those of the queues at its end
 abbrev pub AreQueuesOfRules : PlanShape → ProgramShape → List ℕ → Type 0
-AreQueuesOfRules (by_schedule rounds picks) p lines = IsOkAnd (actors_of p picks) (λ actors. lines ≡ plain_queues p actors rounds)
+AreQueuesOfRules (by_schedule rounds picks) p lines =
+    IsOkAnd (actors_of p picks) (λ actors. lines ≡ plain_queues p actors rounds)
 AreQueuesOfRules (by_order list) p lines = lines ≡ []
 
 -- the same in the optimised machine, by the codes of the mode
 abbrev pub AreStepsOfPlay : Mode → ℕ → PlanShape → ProgramShape → List ℕ → Type 0
 AreStepsOfPlay mode size (by_schedule rounds picks) p lines =
-    IsOkAnd (actors_of p picks) (λ actors. (code : ℕ → ClientCode) × AreCodes p mode code × (lines ≡ core_steps p code size actors rounds))
+    IsOkAnd (actors_of p picks) (λ actors. (code : ℕ → ClientCode) × AreCodes p mode code
+    × (lines ≡ core_steps p code size actors rounds))
 AreStepsOfPlay mode size (by_order list) p lines = lines ≡ []
 
 abbrev pub AreQueuesOfPlay : Mode → ℕ → PlanShape → ProgramShape → List ℕ → Type 0
 AreQueuesOfPlay mode size (by_schedule rounds picks) p lines =
-    IsOkAnd (actors_of p picks) (λ actors. (code : ℕ → ClientCode) × AreCodes p mode code × (lines ≡ core_queues p code size actors rounds))
+    IsOkAnd (actors_of p picks) (λ actors. (code : ℕ → ClientCode) × AreCodes p mode code
+    × (lines ≡ core_queues p code size actors rounds))
 AreQueuesOfPlay mode size (by_order list) p lines = lines ≡ []
 
 -- what stands beside a report: lines of this kind where they are asked for, and else nothing
@@ -192,28 +208,35 @@ limit_in graph_format.Text limit = limit
 limit_in graph_format.Json limit = limit
 limit_in graph_format.Dot limit = min limit 200
 
--- all outcomes of a program after the blocks of some clients, as text or as JSON, or the configurations that lead to them as a drawing
+-- all outcomes of a program after the blocks of some clients, as text or as JSON, or the configurations that lead to
+-- them as a drawing
 abbrev pub IsTextOfOutcomes : GraphFormat → ProgramShape → (limit : ℕ) → (clients : List ℕ) → List ℕ → Type 0
 IsTextOfOutcomes graph_format.Text p limit clients text = IsOutcomesText p limit clients text
 IsTextOfOutcomes graph_format.Json p limit clients text = IsOutcomesJson p limit clients text
 IsTextOfOutcomes graph_format.Dot p limit clients text = IsChartDot p (limit_in graph_format.Dot limit) clients text
 
--- what a request makes of a program: its counts; its graphs; the report of its run by the plain rules or in the optimised machine;
--- that of an outcome which its run on threads may have; or all its outcomes after the blocks of some clients, of so many configurations
--- at most. Each is written in the format that is asked for, and a report with the counts of synchronisations where they are asked for, after
--- a line for each step where these are, and before what lies where at the end of a run that has not finished.
+-- what a request makes of a program: its counts; its graphs; the report of its run by the plain rules or in the
+-- optimised machine; that of an outcome which its run on threads may have; or all its outcomes after the blocks of some
+-- clients, of so many configurations at most. Each is written in the format that is asked for, and a report with the
+-- counts of synchronisations where they are asked for, after a line for each step where these are, and before what lies
+-- where at the end of a run that has not finished.
 abbrev pub IsTextBy : Request → Lines → ProgramShape → List ℕ → Type 0
-IsTextBy (check how) lines p text = text ≡ counts_in how p
+IsTextBy (check how) lines p text = text ≡ counts_by_format how p
 IsTextBy (graph how) lines p text = IsTextOfGraphs how lines p text
 IsTextBy (rules style plan) lines p text =
-    (played : Played) × (steps queues : List ℕ) × IsShownByRules plan p played × AreLinesWhere style.steps (AreStepsOfRules plan p) steps
-    × AreLinesWhere style.queues (AreQueuesOfRules plan p) queues × (text ≡ told_report steps queues (report_by style p played))
+    (played : Played) × (steps queues : List ℕ) × IsShownByRules plan p played
+    × AreLinesWhere style.steps (AreStepsOfRules plan p) steps
+    × AreLinesWhere style.queues (AreQueuesOfRules plan p) queues
+    × (text ≡ told_report steps queues (report_by style p played))
 IsTextBy (play style mode size plan) lines p text =
     (played : Played) × (steps queues : List ℕ) × IsShownByPlay mode size plan p played
-    × AreLinesWhere style.steps (AreStepsOfPlay mode size plan p) steps × AreLinesWhere style.queues (AreQueuesOfPlay mode size plan p) queues
+    × AreLinesWhere style.steps (AreStepsOfPlay mode size plan p) steps
+    × AreLinesWhere style.queues (AreQueuesOfPlay mode size plan p) queues
     × (text ≡ told_report steps queues (report_by style p played))
-IsTextBy (run style mode size) lines p text = (outcome : Played) × IsOutcome p mode size outcome × (text ≡ report_by style p outcome)
-IsTextBy (outcomes how limit front) lines p text = IsOkAnd (clients_of p front) (λ clients. IsTextOfOutcomes how p limit clients text)
+IsTextBy (run style mode size) lines p text =
+    (outcome : Played) × IsOutcome p mode size outcome × (text ≡ report_by style p outcome)
+IsTextBy (outcomes how limit front) lines p text =
+    IsOkAnd (clients_of p front) (λ clients. IsTextOfOutcomes how p limit clients text)
 
 -- a list of a plan names nobody in the program: a part of it is at fault
 abbrev pub IsUnnamed : PlanShape → ProgramShape → Type 0
@@ -234,7 +257,8 @@ IsDueOfList (list_fault.Part place why) due = IsRefusedBy fault.CommandLine due
 
 -- why a schedule that a request asks for is not played
 abbrev pub IsUnplayedBy : Request → ProgramShape → PlayFault → Type 0
-IsUnplayedBy (rules style (by_schedule rounds picks)) p f = IsOkAnd (actors_of p picks) (λ actors. IsPlayed p actors rounds (Err f))
+IsUnplayedBy (rules style (by_schedule rounds picks)) p f =
+    IsOkAnd (actors_of p picks) (λ actors. IsPlayed p actors rounds (Err f))
 IsUnplayedBy (play style mode size (by_schedule rounds picks)) p f =
     IsOkAnd (actors_of p picks) (λ actors. IsPlayedIn p mode size actors rounds (Err f))
 IsUnplayedBy _ p f = ⊥
@@ -247,7 +271,8 @@ IsUnordered p clients order_fault.Memory = IsLegal p (order_of clients)
 -- why an order that a request asks for is not played
 abbrev pub IsUnorderedBy : Request → ProgramShape → OrderFault → Type 0
 IsUnorderedBy (rules style (by_order list)) p f = IsOkAnd (clients_of p list) (λ clients. IsUnordered p clients f)
-IsUnorderedBy (play style mode size (by_order list)) p f = IsOkAnd (clients_of p list) (λ clients. IsUnordered p clients f)
+IsUnorderedBy (play style mode size (by_order list)) p f =
+    IsOkAnd (clients_of p list) (λ clients. IsUnordered p clients f)
 IsUnorderedBy _ p f = ⊥
 
 -- a run on threads is asked for; it may want memory or threads on any program
@@ -255,8 +280,8 @@ abbrev pub IsRun : Request → Type 0
 IsRun (run style mode size) = Unit {0}
 IsRun _ = ⊥
 
--- why outcomes after the blocks of some clients are not listed: there are more configurations than the limit, the clients name no legal
--- order, or an allocation failed
+-- why outcomes after the blocks of some clients are not listed: there are more configurations than the limit, the
+-- clients name no legal order, or an allocation failed
 abbrev pub IsUnlisted : ProgramShape → ℕ → List ℕ → OutcomesFault → Type 0
 IsUnlisted p limit clients outcomes_fault.Limit = HasMoreThanAfter p (order_of clients) limit
 IsUnlisted p limit clients outcomes_fault.Order = ¬ IsLegal p (order_of clients)
@@ -264,7 +289,8 @@ IsUnlisted p limit clients outcomes_fault.Memory = Unit {0}
 
 -- why outcomes that a request asks for are not listed
 abbrev pub IsUnlistedBy : Request → ProgramShape → OutcomesFault → Type 0
-IsUnlistedBy (outcomes how limit front) p f = IsOkAnd (clients_of p front) (λ clients. IsUnlisted p (limit_in how limit) clients f)
+IsUnlistedBy (outcomes how limit front) p f =
+    IsOkAnd (clients_of p front) (λ clients. IsUnlisted p (limit_in how limit) clients f)
 IsUnlistedBy _ p f = ⊥
 
 -- the format of a list of outcomes, among those of outcomes
@@ -272,7 +298,8 @@ abbrev pub listed_as : Format → GraphFormat
 listed_as format.Text = graph_format.Text
 listed_as format.Json = graph_format.Json
 
--- what is due of the outcomes after the blocks of some clients: their text, why they are not listed, or that an allocation failed
+-- what is due of the outcomes after the blocks of some clients: their text, why they are not listed, or that an
+-- allocation failed
 abbrev pub IsDueAfter : GraphFormat → ProgramShape → (limit : ℕ) → (clients : List ℕ) → Due → Type 0
 IsDueAfter how p limit clients (Text bytes) = IsTextOfOutcomes how p limit clients bytes.items
 IsDueAfter how p limit clients (Refused fault.Memory) = Unit {0}
@@ -304,11 +331,12 @@ AreLinesFor (play style mode size plan) found lines = ⊤
 AreLinesFor (run style mode size) found lines = ⊤
 AreLinesFor (outcomes how limit front) found lines = ⊤
 
--- what a request makes of a text: the result of its program, or the fault of the text, of its script, of the list whose names are the
--- script's, of its schedule, of its order, of its threads or of its outcomes
+-- what a request makes of a text: the result of its program, or the fault of the text, of its script, of the list whose
+-- names are the script's, of its schedule, of its order, of its threads or of its outcomes
 abbrev pub IsDueOfText : Request → List ℕ → Due → Type 0
 IsDueOfText request text (Text bytes) =
-    (s : List Item) × IsScriptText text s × (fault_of s ≡ None) × IsTextBy request (node_lines text s) (program_of_items s) bytes.items
+    (s : List Item) × IsScriptText text s × (fault_of s ≡ None)
+    × IsTextBy request (node_lines text s) (program_of_items s) bytes.items
 IsDueOfText request text (Refused (fault.Read f)) = IsRefused f text
 IsDueOfText request text (Refused (fault.Check f)) = (s : List Item) × IsScriptText text s × (fault_of s ≡ Some f)
 IsDueOfText request text (Refused fault.CommandLine) =
@@ -317,13 +345,14 @@ IsDueOfText request text (Refused (fault.Play f)) =
     (s : List Item) × IsScriptText text s × (fault_of s ≡ None) × IsUnplayedBy request (program_of_items s) f
 IsDueOfText request text (Refused (fault.Order f)) =
     (s : List Item) × IsScriptText text s × (fault_of s ≡ None) × IsUnorderedBy request (program_of_items s) f
-IsDueOfText request text (Refused (fault.Run f)) = (s : List Item) × IsScriptText text s × (fault_of s ≡ None) × IsRun request
+IsDueOfText request text (Refused (fault.Run f)) =
+    (s : List Item) × IsScriptText text s × (fault_of s ≡ None) × IsRun request
 IsDueOfText request text (Refused (fault.Outcomes f)) =
     (s : List Item) × IsScriptText text s × (fault_of s ≡ None) × IsUnlistedBy request (program_of_items s) f
 IsDueOfText request text (Refused _) = ⊥
 
--- What a run on threads has asked its starter: its report is due, or an allocation failed in writing it, only where all workers were let
--- start; and the run is refused only as a refused run asks.
+-- What a run on threads has asked its starter: its report is due, or an allocation failed in writing it, only where all
+-- workers were let start; and the run is refused only as a refused run asks.
 abbrev pub HasAsked : {S : Type 0} → (S → ℕ → Bool → S → Type 0) → ProgramShape → S → S → Due → Type 0
 HasAsked Answers p before after (Text bytes) = LetAllStart Answers 0 (worker_count p) before after
 HasAsked Answers p before after (Refused (fault.Run f)) = IsRefusal Answers (worker_count p) f before after
@@ -338,7 +367,8 @@ abbrev pub IsSomeText : Due → Type 0
 IsSomeText (Text bytes) = ⊤
 IsSomeText (Refused f) = ⊥
 
--- what is due, by the line, the input's bytes where they are known, and whether a read has failed; the texts of help and of the version are clap's
+-- what is due, by the line, the input's bytes where they are known, and whether a read has failed; the texts of help
+-- and of the version are clap's
 abbrev pub IsDue : Line → Option (List ℕ) → Bool → Due → Type 0
 IsDue refused known failed due = IsRefusedBy fault.Memory due ⊎ IsRefusedBy fault.CommandLine due
 IsDue help known failed due = IsRefusedBy fault.Memory due ⊎ IsSomeText due
@@ -365,21 +395,21 @@ abbrev pub IsTextOfMemory : Due → Format → Type 0
 IsTextOfMemory due format.Text = IsRefusedBy fault.Memory due
 IsTextOfMemory due format.Json = ⊥
 
--- what is due is written in the format that the line asks for; or that memory ran out is said as text, before the line was read, so that
--- nothing of the input was read
+-- what is due is written in the format that the line asks for; or that memory ran out is said as text, before the line
+-- was read, so that nothing of the input was read
 abbrev pub IsFormat : Line → (before after : Reading) → Due → Format → Type 0
 IsFormat line before after due how = (how ≡ format_by line) ⊎ (IsTextOfMemory due how × (after ≡ before))
 
 -- the text that was read is kept, by which a fault is told; unless a read failed, or memory ran out
-abbrev pub IsKept : Option (List ℕ) → Due → List ℕ → Type 0
-IsKept known (Text bytes) kept = IfSome known (λ all. kept ≡ take longest all)
-IsKept known (Refused fault.Input) kept = ⊤
-IsKept known (Refused fault.Memory) kept = ⊤
-IsKept known (Refused _) kept = IfSome known (λ all. kept ≡ take longest all)
+abbrev pub IsTextKept : Option (List ℕ) → Due → List ℕ → Type 0
+IsTextKept known (Text bytes) kept = IfSome known (λ all. kept ≡ take longest all)
+IsTextKept known (Refused fault.Input) kept = ⊤
+IsTextKept known (Refused fault.Memory) kept = ⊤
+IsTextKept known (Refused _) kept = IfSome known (λ all. kept ≡ take longest all)
 
 -- so it is where a line asks for something
 abbrev pub IsKeptBy : Line → Option (List ℕ) → Due → List ℕ → Type 0
-IsKeptBy (asks request) known due kept = IsKept known due kept
+IsKeptBy (asks request) known due kept = IsTextKept known due kept
 IsKeptBy help known due kept = ⊤
 IsKeptBy version known due kept = ⊤
 IsKeptBy refused known due kept = ⊤
@@ -391,5 +421,6 @@ IsDone how old new due status = Appends old new (due_text how due) × (status �
 -- a front of the due text was written; all of it, with its status, exactly where no write and no flush has failed
 abbrev pub Serves : List (List ℕ) → (before after : Reading) → Option (List ℕ) → Option (List ℕ) → Bool → ℕ → Type 0
 Serves words before after old new write_failed status =
-    (due : Due) × (how : Format) × IsDue (line_in words) before.remaining after.has_failed due × IsFormat (line_in words) before after due how
+    (due : Due) × (how : Format) × IsDue (line_in words) before.remaining after.has_failed due
+    × IsFormat (line_in words) before after due how
     × AppendsFront old new (due_text how due) × MatchBool write_failed (status ≡ 4) (IsDone how old new due status)

@@ -1,4 +1,6 @@
+-- What an auditor reads: the promises and the calls of the surface are said with these.
 pub mod Reading
 pub mod Due
+-- What crates promise one another, what proofs use, and worked examples.
 pub mod Input
 pub mod Told

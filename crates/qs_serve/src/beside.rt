@@ -12,7 +12,8 @@ use qs_line::asked_for;
 use std::alloc::Global;
 use std::io::Write;
 
-// Whether a word of the line can ask for what is said beside a result; so clap reads a line once more only where it may.
+// Whether a word of the line can ask for what is said beside a result; so clap reads a line once more only where it
+// may.
 fn may_ask(words: &[&str]) -> bool {
     for word in words {
         if *word == "--warn" || *word == "--verbose" {
@@ -22,9 +23,9 @@ fn may_ask(words: &[&str]) -> bool {
     false
 }
 
-/// Says what was asked for beside a result, where one was due: how much of each limit is left, where the line asks for it, and what is warned
-/// of in the script, where the line asks for it or a terminal shows it. A writer that fails changes nothing else, and neither does memory
-/// that runs out.
+/// Says what was asked for beside a result, where one was due: how much of each limit is left, where the line asks for
+/// it, and what is warned of in the script, where the line asks for it or a terminal shows it. A writer that fails
+/// changes nothing else, and neither does memory that runs out.
 pub(crate) fn tell_beside<'a, W: Write>(
     alloc: Global,
     words: &'a [&'a str],

@@ -4,9 +4,9 @@ ghost use Rattle.std.specs.Prelude.{◌≡◌, ◌+◌, ◌≤◌, ◌⊎◌, []
 ghost use Rattle.qs_report.specs.declared.faults.Fault.TheVariants as fault;
 ghost use Rattle.qs_line.specs.declared.line.GraphFormat.TheVariants as graph_format;
 ghost use Rattle.qs_line.specs.Line.{asks, check, graph, line_in, outcomes, request_by, request_of, run};
-ghost use Rattle.qs_serve.specs.Due.{AreLinesFor, HasAsked, IsDue, IsDueAfter, IsDueOfFault, IsDueOfList, IsDueOfProgram, IsDueOfText, IsFormat, IsKept, IsKeptBy, IsRefusedBy, IsListOf, IsTextOf, IsOutOfMemory, due_status, format_of_answer, listed_as, longest};
+ghost use Rattle.qs_serve.specs.Due.{AreLinesFor, HasAsked, IsDue, IsDueAfter, IsDueOfFault, IsDueOfList, IsDueOfProgram, IsDueOfText, IsFormat, IsTextKept, IsKeptBy, IsRefusedBy, IsListOf, IsTextOf, IsOutOfMemory, due_status, format_of_answer, listed_as, longest};
 ghost use Rattle.qs_node_lines.specs.NodeLines.{node_lines};
-ghost use Rattle.qs_script.specs.Limits.{longest_text};
+ghost use Rattle.qs_tree.specs.Limits.{longest_text};
 ghost use Rattle.qs_script.specs.Reads.{IsReadOf, IsScriptText};
 ghost use Rattle.std.specs.List.{AllByRecursion};
 ghost use Rattle.qs_outcomes.specs.Outcomes.{HasPlaces};
@@ -14,19 +14,20 @@ ghost use Rattle.qs_outcomes.specs.Outcomes.{HasPlaces};
 use crate::input::{Counted, InputFault, gather};
 use crate::plays::{due_of_play, due_of_rules};
 use crate::reports::due_of_outcome;
-use qs_chart::{MOST_PLACES, chart_dot};
 use qs_check::{CheckFault, Program, check};
 use qs_chunk::ChunkSize;
-use qs_dot::dot_text;
+use qs_dot::{MOST_PLACES, chart_dot, dot_text};
 use qs_json::{counts_json, graph_json, outcomes_json};
-use qs_line::{Format, GraphFormat, LineFault, ReportStyle, Settings, read_line};
-use qs_lists::{ListFault, Part, clients_of};
+use qs_line::{
+    Format, GraphFormat, LineFault, ListFault, Part, ReportStyle, Settings, clients_of, read_line,
+};
 use qs_node_lines::{NodeLines, node_lines};
 use qs_outcomes::{AllOutcomes, Watcher, outcomes_watched};
 use qs_report::{Fault, check_text, graph_text, outcomes_text, status};
 use qs_run::{FreeGate, FreeStart, Starter, execute_with};
-use qs_script::{LONGEST_TEXT, ReadFault, Script, read};
+use qs_script::{ReadFault, read};
 use qs_syncset::Mode;
+use qs_tree::{LONGEST_TEXT, Script};
 use std::alloc::{AllocError, Global};
 use std::io::Read;
 use std::mem;
@@ -132,7 +133,8 @@ fn due_of_all(alloc: Global, program: &Program, format: Format, all: AllOutcomes
     due_of_bytes(text)
 }
 
-// All outcomes after the blocks of some clients as a list, found over so many configurations at most; a watcher is told of each.
+// All outcomes after the blocks of some clients as a list, found over so many configurations at most; a watcher is told
+// of each.
 fn due_of_list_after<P: Watcher>(
     alloc: Global,
     program: &Program,
@@ -166,7 +168,8 @@ fn due_of_drawing_after(alloc: Global, program: &Program, limit: u32, clients: &
     }
 }
 
-// All outcomes after the blocks of the clients that a list names, found over so many configurations at most; a watcher is told of each.
+// All outcomes after the blocks of the clients that a list names, found over so many configurations at most; a watcher
+// is told of each.
 fn due_of_outcomes<P: Watcher>(
     alloc: Global,
     program: &Program,
@@ -194,8 +197,8 @@ fn due_of_outcomes<P: Watcher>(
     }
 }
 
-// What settings make of a program: a run by the plain rules, in the optimised machine or on threads, all outcomes, the counts, or the
-// graphs.
+// What settings make of a program: a run by the plain rules, in the optimised machine or on threads, all outcomes, the
+// counts, or the graphs.
 fn due_of_program<T: Threads + Wait + Sync, P: Watcher>(
     rt: &T,
     alloc: Global,
@@ -334,7 +337,7 @@ fn due_of_input<T: Threads + Wait + Sync, R: Read, P: Watcher>(
 ) -> Due
     requires fine { input.old.has_failed ≡ false }
     ensures due { IsDue (asks (request_of settings.now)) input.old.remaining input.new.has_failed result }
-    ensures kept { IsKept input.old.remaining result kept.new.items }
+    ensures kept { IsTextKept input.old.remaining result kept.new.items }
     ensures reads { input.new.reads ≤ input.old.reads + longest }
 {
     match gather(alloc, input, LONGEST) {
@@ -361,7 +364,7 @@ fn due_of_line<T: Threads + Wait + Sync, R: Read, P: Watcher>(
     ensures due { IfOk line (λ settings. IsDue (asks (request_of settings)) input.old.remaining input.new.has_failed result.0) }
     ensures fault { IfErr line (λ f. IsDueOfFault f result.0) }
     ensures format { result.1 ≡ format_of_answer line }
-    ensures kept { OnOk line (IsKept input.old.remaining result.0 kept.new.items) }
+    ensures kept { OnOk line (IsTextKept input.old.remaining result.0 kept.new.items) }
     ensures unread { OnErr line (input.new ≡ input.old) }
     ensures reads { input.new.reads ≤ input.old.reads + longest }
 {
@@ -379,10 +382,11 @@ fn due_of_line<T: Threads + Wait + Sync, R: Read, P: Watcher>(
     }
 }
 
-/// What is due by a command line and an input. The line comes first: where it is refused nothing is read. Else the input is read up to
-/// its end or 65,537 bytes, by at most 65,537 reads, and a read that fails is the input's fault. The text that was read is kept. A watcher is
-/// told how far a search for outcomes is; nothing that it does changes what is due. The format is the one that the line asks for, and text
-/// where it asks for none or where memory ran out before the line was read.
+/// What is due by a command line and an input. The line comes first: where it is refused nothing is read. Else the
+/// input is read up to its end or 65,537 bytes, by at most 65,537 reads, and a read that fails is the input's fault.
+/// The text that was read is kept. A watcher is told how far a search for outcomes is; nothing that it does changes
+/// what is due. The format is the one that the line asks for, and text where it asks for none or where memory ran out
+/// before the line was read.
 pub fn due_of<'a, T: Threads + Wait + Sync, R: Read, P: Watcher>(
     rt: &T,
     alloc: Global,

@@ -8,8 +8,8 @@ use std::alloc::{AllocError, Global};
 use std::io::Read;
 use std::marker::Model;
 
-/// A reader that is reached by its counted reads alone. Contracts see the bytes that are left, how many reads were made, and whether
-/// one has failed.
+/// A reader that is reached by its counted reads alone. Contracts see the bytes that are left, how many reads were
+/// made, and whether one has failed.
 #[derive(Drop)]
 pub struct Counted<R: Read> {
     inner: R,
@@ -134,8 +134,8 @@ fn gather_more<R: Read>(
     }
 }
 
-/// The input up to its end or its first `longest` bytes, by at most `longest` reads. `Read` comes exactly where a read fails, and no
-/// read comes after it; `Memory` where an allocation failed.
+/// The input up to its end or its first `longest` bytes, by at most `longest` reads. `Read` comes exactly where a read
+/// fails, and no read comes after it; `Memory` where an allocation failed.
 pub fn gather<R: Read>(
     alloc: Global,
     input: &mut Counted<R>,

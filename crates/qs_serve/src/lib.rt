@@ -18,5 +18,6 @@ mod telling;
 mod warning_words;
 
 pub use input::Counted;
-pub use qs_report::{Fault, Watch};
+pub use qs_report::Fault;
+pub use qs_text::Watch;
 pub use serving::{refuse, serve};

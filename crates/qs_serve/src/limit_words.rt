@@ -6,8 +6,8 @@ ghost use Rattle.qs_serve.specs.Told.{AreLimitsTold, IsLimitsText};
 
 use qs_check::check;
 use qs_limits::{limits_text, template_use};
-use qs_report::{Watch, write_text};
 use qs_script::read;
+use qs_text::{Watch, write_text};
 use std::alloc::{AllocError, Global};
 use std::io::Write;
 
@@ -25,8 +25,8 @@ fn limits_of(alloc: Global, text: &[u8]) -> Result<Vec<u8>, AllocError>
     limits_text(alloc, text.len(), &templates, &program)
 }
 
-/// Says how much of each limit the script of a text uses and leaves, where that is asked for. A writer that fails changes nothing else, and
-/// neither does memory that runs out: then nothing is said.
+/// Says how much of each limit the script of a text uses and leaves, where that is asked for. A writer that fails
+/// changes nothing else, and neither does memory that runs out: then nothing is said.
 pub(crate) fn tell_limits<W: Write>(alloc: Global, text: &[u8], is_asked: bool, err: &mut W)
     ensures unasked { is_asked ≡ false → Keeps (W.contents err.old) (W.contents err.new) }
     ensures told { AreLimitsTold text.now (W.contents err.old) (W.contents err.new) }

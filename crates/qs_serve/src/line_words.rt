@@ -1,7 +1,6 @@
 // What is said of a command line that is refused.
 
-use qs_line::{refusal, value_after};
-use qs_lists::{MOST_ACTORS, Who, part_of};
+use qs_line::{MOST_ACTORS, Who, part_of, refusal, value_after};
 use qs_played::Actor;
 use qs_told::{put, put_all};
 use std::alloc::{AllocError, Global};
@@ -11,7 +10,8 @@ const SCRIPT: &[u8] = b"\nThe script comes on standard input: qs check < my.scri
 const NO_WORD: &[u8] =
     b"error: no word stands on the line: `check`, `graph`, `rules`, `play`, `run` or `outcomes`\n  = help: `qs --help` says what each of them does\n";
 
-/// Puts what is said of a line at the end: what `clap` says where it refuses the line by an error, and else which value is wrong.
+/// Puts what is said of a line at the end: what `clap` says where it refuses the line by an error, and else which value
+/// is wrong.
 pub(crate) fn put_line<'a>(
     alloc: Global,
     out: &mut Vec<u8>,
@@ -107,7 +107,8 @@ const NO_TIMES: &[u8] = b"has no number from 1 to 1000000 after its `*`\n";
 
 const TOO_MANY: &[u8] = b"brings the list to more than 1000000\n";
 
-// Whether a text is an actor that may stand in a list: a client by its number, a handler where handlers may, or a name after its sign.
+// Whether a text is an actor that may stand in a list: a client by its number, a handler where handlers may, or a name
+// after its sign.
 fn may_stand(actor: &str, may_be_handler: bool) -> bool {
     match part_of(actor.as_bytes()) {
         Some(part) => may_be_handler || !matches!(&part.who, Who::Number(Actor::Handler(_))),
@@ -115,7 +116,8 @@ fn may_stand(actor: &str, may_be_handler: bool) -> bool {
     }
 }
 
-// What is wrong with a part of a list: before its `*` stands no actor that may stand there, or it says by no number how often.
+// What is wrong with a part of a list: before its `*` stands no actor that may stand there, or it says by no number how
+// often.
 fn fault_of_part(part: &str, may_be_handler: bool) -> Option<&'static [u8]> {
     let actor = part.split('*').next().unwrap_or("");
     if !may_stand(actor, may_be_handler) {

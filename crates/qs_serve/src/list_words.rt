@@ -2,8 +2,7 @@
 
 use crate::line_words::put_part;
 use qs_check::{Program, check};
-use qs_line::value_after;
-use qs_lists::{ListFault, Part, Why, actors_of, clients_of, list_in};
+use qs_line::{ListFault, Part, Why, actors_of, clients_of, list_in, value_after};
 use qs_script::read;
 use qs_told::{put, put_all};
 use std::alloc::{AllocError, Global};
@@ -92,7 +91,7 @@ fn put_who_is_there(
     program: &Program,
     with_objects: bool,
 ) -> Result<(), AllocError> {
-    program.is_sound();
+    program.keeps_sound();
     put(out, b"  = help: clients: ")?;
     put_clients(out, program)?;
     if with_objects {
@@ -103,7 +102,7 @@ fn put_who_is_there(
 }
 
 fn put_clients(out: &mut Vec<u8>, program: &Program) -> Result<(), AllocError> {
-    program.is_sound();
+    program.keeps_sound();
     if program.clients() == 0 {
         return put(out, b"none");
     }
@@ -114,7 +113,7 @@ fn put_clients(out: &mut Vec<u8>, program: &Program) -> Result<(), AllocError> {
 }
 
 fn put_objects(out: &mut Vec<u8>, program: &Program) -> Result<(), AllocError> {
-    program.is_sound();
+    program.keeps_sound();
     if program.objects() == 0 {
         return put(out, b"none");
     }

@@ -4,8 +4,7 @@ ghost use Rattle.std.specs.Prelude.{◌<◌, length};
 
 use crate::line_words::put_part;
 use qs_check::{Program, check};
-use qs_line::value_after;
-use qs_lists::{clients_of, list_in};
+use qs_line::{clients_of, list_in, value_after};
 use qs_program::MOST_CLIENTS;
 use qs_script::read;
 use qs_told::{put, put_all};

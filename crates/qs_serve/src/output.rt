@@ -2,13 +2,14 @@
 
 ghost use Rattle.std.specs.Prelude.{◌≡◌, ◌||◌, false, IsTrue, not, MatchBool};
 ghost use Rattle.std.specs.Io.KnownBytes.{Appends};
-ghost use Rattle.qs_report.specs.Texts.{AppendsFront};
+ghost use Rattle.qs_text.specs.Texts.{AppendsFront};
 ghost use Rattle.qs_serve.specs.Due.{IsDone, due_text, refusal_in};
 
 use crate::due::Due;
 use qs_json::fault_json;
 use qs_line::Format;
-use qs_report::{Fault, Watch, fault_line_watched, write_text};
+use qs_report::{Fault, fault_line_watched};
+use qs_text::{Watch, write_text};
 use std::io::Write;
 
 // Writes a refusal, as text or as JSON. False exactly where a write fails; no more is written then.
@@ -35,7 +36,8 @@ fn write_due<W: Write>(out: &mut W, watch: &mut Watch<W>, format: Format, due: &
     }
 }
 
-/// Writes what is due, and then asks for one flush. False exactly where a write or the flush fails; no more is written then.
+/// Writes what is due, and then asks for one flush. False exactly where a write or the flush fails; no more is written
+/// then.
 pub fn write_whole<W: Write>(out: &mut W, watch: &mut Watch<W>, format: Format, due: &Due) -> bool
     ensures front { AppendsFront (W.contents out.old) (W.contents out.new) (due_text format due.now) }
     ensures whole { IsTrue result → Appends (W.contents out.old) (W.contents out.new) (due_text format due.now) }

@@ -2,8 +2,7 @@
 
 use crate::line_words::put_part;
 use qs_causes::actors;
-use qs_line::value_after;
-use qs_lists::{Who, part_of};
+use qs_line::{Who, part_of, value_after};
 use qs_played::Actor;
 use qs_told::put_all;
 use std::alloc::{AllocError, Global};

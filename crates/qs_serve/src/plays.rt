@@ -10,8 +10,7 @@ use crate::reports::{due_of_played, due_of_told};
 use qs_check::Program;
 use qs_chunk::ChunkSize;
 use qs_core::{play, play_in_order, play_plain, play_plain_in_order};
-use qs_line::{Plan, ReportStyle};
-use qs_lists::{Part, actors_of, clients_of};
+use qs_line::{Part, Plan, ReportStyle, actors_of, clients_of};
 use qs_report::Fault;
 use qs_steps::{Wanted, play_told, rules_told};
 use qs_syncset::Mode;
@@ -50,6 +49,7 @@ fn due_of_scheduled_rules(
         Ok(actors) => actors,
         Err(fault) => return due_of_list(fault),
     };
+    program.keeps_sound();
     if is_told(style) {
         let wanted = wanted_by(style);
         return match rules_told(alloc, program, actors.as_slice(), rounds, wanted) {
@@ -108,6 +108,7 @@ fn due_of_scheduled_play(
         Ok(actors) => actors,
         Err(fault) => return due_of_list(fault),
     };
+    program.keeps_sound();
     if is_told(style) {
         let wanted = wanted_by(style);
         return match play_told(

@@ -10,7 +10,7 @@ use crate::input::Counted;
 use itoa::Buffer;
 use qs_line::Format;
 use qs_outcomes::Watcher;
-use qs_report::{Watch, write_text};
+use qs_text::{Watch, write_text};
 use std::alloc::Global;
 use std::io::{Read, Write};
 use std::sync::Wait;
@@ -25,8 +25,8 @@ const BLANK: &[u8] = b"                                   ";
 // Between two lines, in milliseconds.
 const BETWEEN: u64 = 100;
 
-/// Shows on a terminal how many configurations a search has noted: on one line, which is written anew at most ten times a second, and first
-/// once the search has taken that long. A writer or a clock that fails shows nothing.
+/// Shows on a terminal how many configurations a search has noted: on one line, which is written anew at most ten times
+/// a second, and first once the search has taken that long. A writer or a clock that fails shows nothing.
 #[derive(Drop)]
 pub(crate) struct Progress<'a, C: Clock, W: Write> {
     clock: &'a C,
@@ -98,8 +98,9 @@ impl Watcher for Unshown {
     fn noted(&mut self, _configurations: usize) {}
 }
 
-/// What is due by a command line and an input, and in which format, as `due_of` says it. While outcomes are searched for, `err` shows how far the search is, where
-/// it is a terminal; the line is blank again in the end. Where it is none, nothing is written to it.
+/// What is due by a command line and an input, and in which format, as `due_of` says it. While outcomes are searched
+/// for, `err` shows how far the search is, where it is a terminal; the line is blank again in the end. Where it is
+/// none, nothing is written to it.
 pub(crate) fn due_shown<'a, T: Threads + Wait + Clock + Sync, R: Read, W: Write>(
     rt: &T,
     alloc: Global,

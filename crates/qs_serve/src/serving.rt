@@ -5,7 +5,7 @@ ghost use Rattle.std.specs.Io.KnownBytes.{Keeps};
 ghost use Rattle.qs_line.specs.Line.{is_verbose_in, line_in, request_by, warns_in};
 ghost use Rattle.qs_line.specs.declared.line.Format.TheVariants as format;
 ghost use Rattle.qs_report.specs.Faults.{fault_text};
-ghost use Rattle.qs_report.specs.Texts.{AppendsFront};
+ghost use Rattle.qs_text.specs.Texts.{AppendsFront};
 ghost use Rattle.qs_serve.specs.Due.{IsDone, Serves, longest};
 
 use crate::beside::tell_beside;
@@ -15,19 +15,21 @@ use crate::output::finish;
 use crate::progress::due_shown;
 use crate::telling::{tell, tell_unread};
 use qs_line::Format;
-use qs_report::{Fault, Watch};
+use qs_report::Fault;
+use qs_text::Watch;
 use std::alloc::Global;
 use std::io::{Read, Write};
 use std::sync::Wait;
 use std::thread::Threads;
 use std::time::Clock;
 
-/// The whole program, over a reader whose reads are counted and a writer whose failures are watched; its status is the answer. The words
-/// are all the process's arguments, the program's name first. The status is 4 exactly where a read, a write or the flush fails. The word `run`
-/// takes threads, and waits for them. What was refused is told on `err` in words; beside a result, how much of each limit is left where the
-/// line asks for it, and what is warned of in a script where `err` is a terminal or the line asks for it. While outcomes are searched for, a
-/// terminal shows how far the search is. That changes neither output nor status. Where the status is 0, `err` is no terminal and nothing of
-/// it is asked for, nothing is written to `err`.
+/// The whole program, over a reader whose reads are counted and a writer whose failures are watched; its status is the
+/// answer. The words are all the process's arguments, the program's name first. The status is 4 exactly where a read, a
+/// write or the flush fails. The word `run` takes threads, and waits for them. What was refused is told on `err` in
+/// words; beside a result, how much of each limit is left where the line asks for it, and what is warned of in a script
+/// where `err` is a terminal or the line asks for it. While outcomes are searched for, a terminal shows how far the
+/// search is. That changes neither output nor status. Where the status is 0, `err` is no terminal and nothing of it is
+/// asked for, nothing is written to `err`.
 pub fn serve<'a, T: Threads + Wait + Clock + Sync, R: Read, W: Write, E: Write>(
     rt: &T,
     alloc: Global,
@@ -57,8 +59,8 @@ pub fn serve<'a, T: Threads + Wait + Clock + Sync, R: Read, W: Write, E: Write>(
     status
 }
 
-/// Where the words themselves are not there: the line of that fault, and its status, or 4 where a write or the flush fails. `err` is told
-/// why.
+/// Where the words themselves are not there: the line of that fault, and its status, or 4 where a write or the flush
+/// fails. `err` is told why.
 pub fn refuse<W: Write, E: Write>(
     fault: Fault,
     out: &mut W,

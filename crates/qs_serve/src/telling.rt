@@ -11,11 +11,12 @@ use crate::order_words::put_order;
 use crate::pick_words::put_actor;
 use qs_causes::{tell_check, tell_read};
 use qs_check::CheckFault;
-use qs_orders::OrderFault;
 use qs_outcomes::OutcomesFault;
 use qs_played::{PlayFault, RunFault};
-use qs_report::{Fault, Watch, write_text};
+use qs_report::Fault;
 use qs_script::ReadFault;
+use qs_serial::OrderFault;
+use qs_text::{Watch, write_text};
 use qs_told::put;
 use std::alloc::{AllocError, Global};
 use std::io::Write;
@@ -106,8 +107,8 @@ fn tell_fault<'a, W: Write>(
     }
 }
 
-/// Says why a run was refused, or that its output could not be written. Nothing, where neither is so. A writer that fails changes
-/// nothing else.
+/// Says why a run was refused, or that its output could not be written. Nothing, where neither is so. A writer that
+/// fails changes nothing else.
 pub(crate) fn tell<'a, W: Write>(
     alloc: Global,
     words: &'a [&'a str],

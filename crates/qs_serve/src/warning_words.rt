@@ -4,8 +4,8 @@ ghost use Rattle.std.specs.Prelude.{◌≡◌, false};
 ghost use Rattle.std.specs.Io.KnownBytes.{Keeps};
 
 use qs_check::check;
-use qs_report::{Watch, write_text};
 use qs_script::read;
+use qs_text::{Watch, write_text};
 use qs_warnings::warnings_text;
 use std::alloc::{AllocError, Global};
 use std::io::Write;
@@ -21,8 +21,8 @@ fn said_of(alloc: Global, text: &[u8]) -> Result<Vec<u8>, AllocError> {
     warnings_text(alloc, text, &program)
 }
 
-/// Says what is warned of in the script of a text, where that is asked for. A writer that fails changes nothing else, and neither does memory
-/// that runs out.
+/// Says what is warned of in the script of a text, where that is asked for. A writer that fails changes nothing else,
+/// and neither does memory that runs out.
 pub(crate) fn warn<W: Write>(alloc: Global, text: &[u8], is_asked: bool, err: &mut W)
     ensures unasked { is_asked ≡ false → Keeps (W.contents err.old) (W.contents err.new) }
 {

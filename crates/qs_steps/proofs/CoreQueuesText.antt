@@ -1,5 +1,5 @@
--- The text of the optimised machine's queues, part by part: a parcel and its chunk, a lane, the tickets before a handler, what a client
--- waits for, and all of what is told.
+-- The text of the optimised machine's queues, part by part: a parcel and its chunk, a lane, the tickets before a
+-- handler, what a client waits for, and all of what is told.
 use Rattle.std.proofs.Common.{◌≡◌, ◌<◌, ℕ, zero, suc, Bool, true, false, List, [], ◌∷◌, ◌++◌, cond, drop, length, get_or, Option, Some, None, refl, ap, sym, ◌∙◌, nat_lt, nat_eq, arith, codes, flat_map}
 use Rattle.std.specs.Prelude.{is_some}
 use Rattle.std.proofs.Math.Seq.{drop-cons}

@@ -1,5 +1,5 @@
--- The lines of the optimised machine as the code tells them, one actor, one round and one schedule after another. The codes of the clients
--- and the chunks' size stay from one step to the next.
+-- The lines of the optimised machine as the code tells them, one actor, one round and one schedule after another. The
+-- codes of the clients and the chunks' size stay from one step to the next.
 use Rattle.std.proofs.Common.{◌≡◌, ℕ, ◌+◌, Bool, true, false, List, [], ◌∷◌, ◌++◌, map, length, Option, None, refl, ap, sym, subst, ◌∙◌, append_assoc, append-nil}
 use Rattle.std.specs.Bool.{OnTrue}
 use Rattle.std.specs.List.{range_with_len}

@@ -1,5 +1,6 @@
--- The lines of a list of actors, made one by one beside the text: they are the text's, those that tell a step are of the actors that stepped,
--- and each has the number and the actor that was asked. For any machine, by induction on the actors; then for picks and rounds.
+-- The lines of a list of actors, made one by one beside the text: they are the text's, those that tell a step are of
+-- the actors that stepped, and each has the number and the actor that was asked. For any machine, by induction on the
+-- actors; then for picks and rounds.
 use Rattle.std.proofs.Common.{◌≡◌, ◌<◌, ◌≤◌, ℕ, suc, ◌+◌, Bool, true, false, List, [], ◌∷◌, ◌++◌, codes, flat_map, length, get_or, Option, Some, None, refl, ap, sym, ◌∙◌, append_assoc, append-nil, arith, if◌then◌else◌, subst}
 use Rattle.std.specs.List.{AllByRecursion}
 use Rattle.std.proofs.lemmas.List.{get_or_append_left, length-append}

@@ -1,5 +1,5 @@
--- The texts of queues as the code writes them: one part after another, one number more of a range, and one parcel more of a lane; and
--- what the code answers of a client is what the definitions say of it.
+-- The texts of queues as the code writes them: one part after another, one number more of a range, and one parcel more
+-- of a lane; and what the code answers of a client is what the definitions say of it.
 use Rattle.std.proofs.Common.{◌≡◌, ◌<◌, ◌==◌, ℕ, suc, ◌+◌, Bool, true, false, List, [], ◌∷◌, ◌++◌, cond, length, get_or, take, Option, Some, None, refl, ap, sym, ◌∙◌, add-one, append-nil, append_assoc, zero-add, arith, codes, flat_map}
 use Rattle.std.specs.Prelude.{MatchOption, nat_lt}
 use Rattle.std.specs.List.{range_with_len}
@@ -8,7 +8,7 @@ use Rattle.std.proofs.lemmas.List.{flat_map_more, take_more}
 use Rattle.qs_objects.specs.declared.held.Ticket.{Ticket}
 use Rattle.qs_program.specs.Program.{ProgramShape, blocks_of}
 use Rattle.qs_played.proofs.Lists.{range_more}
-use Rattle.qs_plain_laws.specs.Plain.{Client, Stage, out, within, waiting, begun_blocks}
+use Rattle.qs_plain_laws.specs.Plain.{Client, StageOfClient, out, within, waiting, begun_blocks}
 use Rattle.qs_plain.specs.Awaiting.{awaited_by}
 use Rattle.qs_plain.specs.declared.awaited.Awaited.TheVariants.{Nothing, Done}
 use Rattle.qs_steps.specs.PlainQueues.{spaced, wait_text}
@@ -56,7 +56,7 @@ elements_more f xs before between after i d inside first second =
     second ∙ ap (λ ys. ys ++ f (get_or xs i d)) first ∙ flat_map_more f before (take i xs) (get_or xs i d) ∙ ap (λ ys. before ++ flat_map f ys) (sym (take_more xs i d inside))
 
 -- what a client waits for, by the code's answer
-pub wait_is : (p : ProgramShape) (c : ℕ) (it : Client) (stage : Stage) → awaited_text (awaited_by p c it stage) ≡ wait_text p c it stage
+pub wait_is : (p : ProgramShape) (c : ℕ) (it : Client) (stage : StageOfClient) → awaited_text (awaited_by p c it stage) ≡ wait_text p c it stage
 wait_is p c it (out l) = by_test (nat_lt (begun_blocks it) (blocks_of p c))
   where
     by_test : (b : Bool) → awaited_text (cond b Nothing Done) ≡ cond b (codes "waits for nothing") (codes "is done")

@@ -8,9 +8,9 @@ use Rattle.qs_played.specs.declared.schedule.actor.Actor.{Actor}
 use Rattle.qs_played.proofs.Playing.{plays_by-append, row_more}
 use Rattle.qs_plain_laws.specs.Plain.{Plain, begin, step}
 use Rattle.qs_plain_laws.specs.PlainSchedule.{scheduled}
-use Rattle.qs_plain.specs.Deeds.{plain_deed}
+use Rattle.qs_plain_handler.specs.Deeds.{plain_deed}
 use Rattle.qs_plain.specs.Rules.{RulesState, Steps, plain_of}
-use Rattle.qs_plain.specs.declared.deed.Deed.{Deed}
+use Rattle.qs_plain_handler.specs.declared.deed.Deed.{Deed}
 use Rattle.qs_steps.specs.Told.{line_of, lines_by, step_line, stepper, steppers_by}
 use Rattle.qs_steps.specs.PlainSteps.{plain_steps, plain_told, text_or_none}
 use Rattle.qs_steps.specs.Telling.{AreRulesTold, IsScheduled, NoneStep, idle_line, plain_line}

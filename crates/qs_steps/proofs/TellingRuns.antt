@@ -1,5 +1,6 @@
--- The lines of one list of actors after those of another, whatever the step function is. The loops over picks, actors of a round and
--- rounds keep what they have told so far by these; and where nobody of a round steps, further rounds have no lines and change nothing.
+-- The lines of one list of actors after those of another, whatever the step function is. The loops over picks, actors
+-- of a round and rounds keep what they have told so far by these; and where nobody of a round steps, further rounds
+-- have no lines and change nothing.
 use Rattle.std.proofs.Common.{◌≡◌, ℕ, zero, suc, ◌+◌, ◌*◌, Bool, false, List, [], ◌∷◌, ◌++◌, map, length, Option, Some, None, refl, ap, sym, ◌∙◌, append_assoc, append-nil, arith}
 use Rattle.std.specs.Prelude.{Result, Ok, Err, OnOk}
 use Rattle.std.specs.List.{range_with_len}

@@ -1,5 +1,5 @@
--- Where a run of the optimised machine has not finished: which tickets each handler has before it, what lies in the lanes to it, and what
--- each client waits for.
+-- Where a run of the optimised machine has not finished: which tickets each handler has before it, what lies in the
+-- lanes to it, and what each client waits for.
 use Rattle.std.specs.Prelude.{ℕ, zero, suc, if◌then◌else◌, nat_lt, List, [], ◌∷◌, ◌++◌, codes, decimal, flat_map, length, Option, Some, None}
 use Rattle.std.specs.List.{range_with_len}
 use Rattle.qs_objects.specs.Journals.{HeldState}
@@ -9,8 +9,8 @@ use Rattle.qs_syncset.specs.Codes.{ClientCode}
 use Rattle.qs_chunk.specs.Limits.{lane_room}
 use Rattle.qs_chunk.specs.declared.parcel.Parcel.{Parcel}
 use Rattle.qs_chunk.specs.declared.parcel.Parcel.TheVariants.{Work, Sync, Home, End}
-use Rattle.qs_client_run.specs.declared.act.Act.{Act}
-use Rattle.qs_client_run.specs.declared.act.Act.TheVariants as wants
+use Rattle.qs_client_rules.specs.declared.act.Act.{Act}
+use Rattle.qs_client_rules.specs.declared.act.Act.TheVariants as wants
 use Rattle.qs_played.specs.declared.schedule.actor.Actor.{Actor}
 use Rattle.qs_core_laws.specs.Core.{Core}
 use Rattle.qs_core_laws.specs.CoreSchedule.{before_it, core_scheduled, is_finished}
@@ -28,7 +28,8 @@ parcel_text p End = codes "end"
 -- a lane in which nothing lies has no line
 abbrev pub lane_line : ProgramShape → (c : ℕ) → List Parcel → List ℕ
 lane_line p c [] = []
-lane_line p c (x ∷ xs) = codes "lane " ++ (client_at p c).name ++ flat_map (λ y. codes " " ++ parcel_text p y) (x ∷ xs) ++ codes "\n"
+lane_line p c (x ∷ xs) =
+    codes "lane " ++ (client_at p c).name ++ flat_map (λ y. codes " " ++ parcel_text p y) (x ∷ xs) ++ codes "\n"
 
 abbrev pub waiting_line : ProgramShape → Ticket → List ℕ
 waiting_line p t = ticket_text p t ++ codes "\n"
@@ -51,14 +52,17 @@ wait_for_chunk p h (suc n) = codes "waits for nothing"
 -- a client waits for an object, for an empty chunk, or for room in a lane
 abbrev pub wait_text : ProgramShape → Core → (c : ℕ) → Act → List ℕ
 wait_text p s c wants.Reserve = codes "waits for nothing"
-wait_text p s c (wants.Send h parcel) = if nat_lt (length (s.down c h)) lane_room then codes "waits for nothing" else codes "waits for room to " ++ (object_at p h).name
+wait_text p s c (wants.Send h parcel) =
+    if nat_lt (length (s.down c h)) lane_room then codes "waits for nothing" else codes "waits for room to "
+    ++ (object_at p h).name
 wait_text p s c (wants.Await h) = wait_for_object p h (s.up c h)
 wait_text p s c (wants.NeedChunk h) = wait_for_chunk p h (s.spare c h)
 wait_text p s c wants.Finished = codes "is done"
 
 module _ (p : ProgramShape) (code : ℕ → ClientCode) (size : ℕ) where
   abbrev pub client_line : Core → ℕ → List ℕ
-  client_line s c = codes "client " ++ (client_at p c).name ++ codes " " ++ wait_text p s c (act_at code size s c) ++ codes "\n"
+  client_line s c =
+      codes "client " ++ (client_at p c).name ++ codes " " ++ wait_text p s c (act_at code size s c) ++ codes "\n"
 
   -- all handlers and then all clients, in text order
   abbrev pub all_queues : Core → List ℕ

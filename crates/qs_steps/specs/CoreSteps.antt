@@ -10,7 +10,7 @@ use Rattle.qs_core_laws.specs.Core.{Core, core_begin, core_step}
 use Rattle.qs_core.specs.CoreDeeds.{core_deed, core_requests}
 use Rattle.qs_core.specs.declared.core_deed.CoreDeed.{CoreDeed}
 use Rattle.qs_core.specs.declared.core_deed.CoreDeed.TheVariants.{Reserves, TakesChunk, Sends, WaitsFor, Gets, Returns, EndsAt, Serves, Runs, GivesChunk, SeesWaiting, GivesItself, ComesBack, Leaves}
-use Rattle.qs_report.specs.Report.{request_text}
+use Rattle.qs_text.specs.Words.{request_text}
 use Rattle.qs_steps.specs.Told.{reserves_text, steppers_by, steps_by, ticket_text}
 
 abbrev pub requests_text : ProgramShape → List Request → List ℕ

@@ -1,10 +1,12 @@
+-- What an auditor reads: the promises and the calls of the surface are said with these.
 pub mod Told
 pub mod PlainSteps
 pub mod CoreSteps
+pub mod PlainQueues
+pub mod CoreQueues
+-- What crates promise one another, what proofs use, and worked examples.
 pub mod StepReplays
 pub mod StepExamples
 pub mod Telling
-pub mod PlainQueues
-pub mod CoreQueues
 pub mod QueueExamples
 pub mod StepNames

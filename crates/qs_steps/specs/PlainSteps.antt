@@ -4,14 +4,14 @@ use Rattle.qs_program.specs.Program.{ProgramShape}
 use Rattle.qs_played.specs.Schedule.{schedule}
 use Rattle.qs_played.specs.declared.schedule.actor.Actor.{Actor}
 use Rattle.qs_plain_laws.specs.Plain.{Plain, begin, step}
-use Rattle.qs_plain.specs.Deeds.{plain_deed}
-use Rattle.qs_plain.specs.declared.deed.Deed.{Deed}
-use Rattle.qs_plain.specs.declared.deed.Deed.TheVariants.{Reserves, Logs, Asks, Ends, Runs, Answers, Leaves}
-use Rattle.qs_report.specs.Report.{reply_text, request_text}
+use Rattle.qs_plain_handler.specs.Deeds.{plain_deed}
+use Rattle.qs_plain_handler.specs.declared.deed.Deed.{Deed}
+use Rattle.qs_plain_handler.specs.declared.deed.Deed.TheVariants.{Reserves, Logs, Asks, Ends, Runs, Answers, Leaves}
+use Rattle.qs_text.specs.Words.{reply_text, request_text}
 use Rattle.qs_steps.specs.Told.{reserves_text, steppers_by, steps_by, ticket_text}
 
--- a client reserves its next block, logs a command, asks a query, or ends its block; a handler runs a command, answers a query, or leaves a
--- ticket
+-- a client reserves its next block, logs a command, asks a query, or ends its block; a handler runs a command, answers
+-- a query, or leaves a ticket
 abbrev pub deed_text : ProgramShape → Deed → List ℕ
 deed_text p (Reserves t) = reserves_text p t
 deed_text p (Logs r) = codes "logs " ++ request_text p r

@@ -1,5 +1,5 @@
--- The lines of steps name the actors that stepped: the text is a list of lines, each of which has the number and the actor that was asked to
--- step then, and those that tell a step are of the actors that stepped, in their order.
+-- The lines of steps name the actors that stepped: the text is a list of lines, each of which has the number and the
+-- actor that was asked to step then, and those that tell a step are of the actors that stepped, in their order.
 use Rattle.std.specs.Prelude.{◌≡◌, ◌<◌, ◌≤◌, ℕ, ◌+◌, Bool, false, if◌then◌else◌, List, [], ◌∷◌, ◌++◌, codes, flat_map, length, slice_index_or}
 use Rattle.std.specs.List.{AllByRecursion}
 use Rattle.qs_program.specs.Program.{ProgramShape}
@@ -51,6 +51,8 @@ pub record AreLinesOf (p : ProgramShape) (actors those : List Actor) (bytes : Li
 
 -- of every schedule, under the plain rules and on the optimised machine
 pub record StepsAreNamed : Type 0 where
-  pub by_rules : (p : ProgramShape) (picks : List Actor) (rounds : ℕ) → AreLinesOf p (schedule p picks rounds) (plain_steppers p picks rounds) (plain_steps p picks rounds)
+  pub by_rules : (p : ProgramShape) (picks : List Actor) (rounds : ℕ)
+      → AreLinesOf p (schedule p picks rounds) (plain_steppers p picks rounds) (plain_steps p picks rounds)
   pub by_machine : (p : ProgramShape) (code : ℕ → ClientCode) (size : ℕ) (picks : List Actor) (rounds : ℕ)
-      → AreLinesOf p (schedule p picks rounds) (core_steppers p code size picks rounds) (core_steps p code size picks rounds)
+      → AreLinesOf p (schedule p picks rounds) (core_steppers p code size picks rounds)
+      (core_steps p code size picks rounds)

@@ -23,7 +23,8 @@ CoreStepsReplay =
     (p : ProgramShape) (mode : Mode) (code : ℕ → ClientCode) → AreCodes p mode code
     → (size : ℕ) (picks : List Actor) (rounds : ℕ) (played : Played)
     → played ≡ core_played p (core_scheduled p code size picks rounds)
-    → IsPlayedIn p mode size picks rounds (Ok played) → IsPlayedIn p mode size (core_steppers p code size picks rounds) 0 (Ok played)
+    → IsPlayedIn p mode size picks rounds (Ok played)
+    → IsPlayedIn p mode size (core_steppers p code size picks rounds) 0 (Ok played)
 
 pub record StepsReplay : Type 0 where
   pub by_rules : PlainStepsReplay

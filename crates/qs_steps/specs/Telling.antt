@@ -12,7 +12,7 @@ use Rattle.qs_plain_laws.specs.PlainSchedule.{scheduled}
 use Rattle.qs_plain.specs.Rules.{RulesState, plain_of}
 use Rattle.qs_plain.specs.declared.awaited.Awaited.{Awaited}
 use Rattle.qs_plain.specs.declared.awaited.Awaited.TheVariants.{Nothing, Reply, Done}
-use Rattle.qs_plain.specs.declared.deed.Deed.{Deed}
+use Rattle.qs_plain_handler.specs.declared.deed.Deed.{Deed}
 use Rattle.qs_core_laws.specs.Core.{AreCodes, core_step}
 use Rattle.qs_core_laws.specs.CoreSchedule.{core_played, core_scheduled}
 use Rattle.qs_core_state.specs.CoreState.{CoreState, codes_of, core_of}
@@ -44,18 +44,22 @@ abbrev pub plain_line : ProgramShape → (is_pick : Bool) → ℕ → Actor → 
 plain_line p is_pick n a None = idle_line p is_pick n a
 plain_line p is_pick n a (Some deed) = step_line p n a (deed_text p deed)
 
-abbrev pub core_line : ProgramShape → (is_pick : Bool) → ℕ → Actor → (stepped : Bool) → Option CoreDeed → List Request → List ℕ
+abbrev pub core_line : ProgramShape → (is_pick : Bool) → ℕ → Actor → (stepped : Bool) → Option CoreDeed → List Request
+    → List ℕ
 core_line p is_pick n a false deed rs = idle_line p is_pick n a
 core_line p is_pick n a true deed rs = step_line p n a (core_text_or_none p deed rs)
 
--- the text has the lines of these actors more, of which the first is the n-th that was asked, and they lead from one state to the other
+-- the text has the lines of these actors more, of which the first is the n-th that was asked, and they lead from one
+-- state to the other
 module _ {S : Type 0} (step : S → Actor → Option S) (p : ProgramShape) (told : S → Actor → List ℕ) where
-  pub record AreTold (is_pick : Bool) (n : ℕ) (actors : List Actor) (before : List ℕ) (s : S) (after : List ℕ) (t : S) : Type 0 where
+  pub record AreTold (is_pick : Bool) (n : ℕ) (actors : List Actor) (before : List ℕ) (s : S) (after : List ℕ)
+      (t : S) : Type 0 where
     pub text : after ≡ before ++ lines_by step p told is_pick n actors s
     pub state : t ≡ plays_by step actors s
 
 -- under the plain rules of a program
-pub record AreRulesTold (p : ProgramShape) (is_pick : Bool) (n : ℕ) (actors : List Actor) (before : List ℕ) (r : RulesState) (after : List ℕ) (new : RulesState) : Type 0 where
+pub record AreRulesTold (p : ProgramShape) (is_pick : Bool) (n : ℕ) (actors : List Actor) (before : List ℕ)
+    (r : RulesState) (after : List ℕ) (new : RulesState) : Type 0 where
   pub program : new.program ≡ p
   pub told : AreTold (step p) p (plain_told p) is_pick n actors before (plain_of r) after (plain_of new)
 
@@ -70,11 +74,13 @@ pub record IsScheduled (p : ProgramShape) (picks : List Actor) (rounds : ℕ) (r
   pub state : plain_of r ≡ scheduled p picks rounds
 
 -- in the optimised machine of a program
-pub record AreCoreTold (p : ProgramShape) (is_pick : Bool) (n : ℕ) (actors : List Actor) (before : List ℕ) (s : CoreState) (after : List ℕ) (new : CoreState) : Type 0 where
+pub record AreCoreTold (p : ProgramShape) (is_pick : Bool) (n : ℕ) (actors : List Actor) (before : List ℕ)
+    (s : CoreState) (after : List ℕ) (new : CoreState) : Type 0 where
   pub program : new.program ≡ p
   pub size : new.size ≡ s.size
   pub codes : codes_of new ≡ codes_of s
-  pub told : AreTold (core_step (codes_of s) s.size) p (core_told p (codes_of s) s.size) is_pick n actors before (core_of s) after (core_of new)
+  pub told : AreTold (core_step (codes_of s) s.size) p (core_told p (codes_of s) s.size) is_pick n actors before
+      (core_of s) after (core_of new)
 
 pub record NoneStepIn (actors : List Actor) (s new : CoreState) : Type 0 where
   pub none : steppers_by (core_step (codes_of s) s.size) actors (core_of s) ≡ []
@@ -86,8 +92,12 @@ pub record IsScheduledIn (p : ProgramShape) (picks : List Actor) (rounds : ℕ) 
   pub codes : codes_of new ≡ codes_of s
   pub state : core_of new ≡ core_scheduled p (codes_of s) s.size picks rounds
 
--- by the same codes of the program's clients: the texts that are asked for are the lines of the steps and what lies where, and this is shown
-abbrev pub IsToldIn : ProgramShape → Mode → (size : ℕ) → List Actor → (rounds : ℕ) → Wanted → (steps queues : List ℕ) → Played → Type 0
+-- by the same codes of the program's clients: the texts that are asked for are the lines of the steps and what lies
+-- where, and this is shown
+abbrev pub IsToldIn : ProgramShape → Mode → (size : ℕ) → List Actor → (rounds : ℕ) → Wanted → (steps queues : List ℕ)
+    → Played → Type 0
 IsToldIn p mode size picks rounds wanted steps queues played =
-    (code : ℕ → ClientCode) × AreCodes p mode code × (steps ≡ (if wanted.steps then core_steps p code size picks rounds else []))
-    × (queues ≡ (if wanted.queues then core_queues p code size picks rounds else [])) × (played ≡ core_played p (core_scheduled p code size picks rounds))
+    (code : ℕ → ClientCode) × AreCodes p mode code
+    × (steps ≡ (if wanted.steps then core_steps p code size picks rounds else []))
+    × (queues ≡ (if wanted.queues then core_queues p code size picks rounds else []))
+    × (played ≡ core_played p (core_scheduled p code size picks rounds))

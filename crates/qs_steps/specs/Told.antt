@@ -21,7 +21,8 @@ names_text p hs = join_by (λ h. (object_at p h).name) (codes " ") hs
 
 -- a client reserves the objects of a block's list
 abbrev pub reserves_text : ProgramShape → Ticket → List ℕ
-reserves_text p t = codes "reserves " ++ names_text p (text_of p t).reserved ++ codes " (" ++ ticket_text p t ++ codes ")"
+reserves_text p t =
+    codes "reserves " ++ names_text p (text_of p t).reserved ++ codes " (" ++ ticket_text p t ++ codes ")"
 
 -- the line of the n-th actor that was asked to step
 abbrev pub step_line : ProgramShape → ℕ → Actor → List ℕ → List ℕ
@@ -50,9 +51,11 @@ module _ {S : Type 0} (step : S → Actor → Option S) where
     -- the lines of a list of actors, the first of which is the n-th that was asked
     abbrev pub lines_by : (is_pick : Bool) → ℕ → List Actor → S → List ℕ
     lines_by is_pick n [] s = []
-    lines_by is_pick n (a ∷ rest) s = line_of is_pick n s a (step s a) ++ lines_by is_pick (n + 1) rest (or_stay s (step s a))
+    lines_by is_pick n (a ∷ rest) s =
+        line_of is_pick n s a (step s a) ++ lines_by is_pick (n + 1) rest (or_stay s (step s a))
 
     -- the lines of the picks, and then of so many rounds
     abbrev pub steps_by : List Actor → (rounds : ℕ) → S → List ℕ
     steps_by picks rounds s =
-        lines_by true 1 picks s ++ lines_by false (length picks + 1) (rounds_of rounds (actors_of p)) (plays_by step picks s)
+        lines_by true 1 picks s ++ lines_by false (length picks
+        + 1) (rounds_of rounds (actors_of p)) (plays_by step picks s)

@@ -2,7 +2,7 @@
 
 ghost use Rattle.std.specs.Prelude.{◌≡◌, ◌++◌, OnOk, codes, flat_map};
 ghost use Rattle.qs_program.specs.Program.{object_at};
-ghost use Rattle.qs_report.specs.Report.{request_text};
+ghost use Rattle.qs_text.specs.Words.{request_text};
 ghost use Rattle.qs_steps.specs.CoreSteps.{core_deed_text, core_text_or_none, requests_text};
 ghost use Rattle.qs_steps.specs.Telling.{core_line};
 ghost use Rattle.qs_steps.specs.Told.{step_line, ticket_text};
@@ -12,7 +12,7 @@ use qs_core::CoreDeed;
 use qs_objects::{Request, Ticket};
 use qs_played::Actor;
 use qs_program::Program;
-use qs_report::{object_name, put, put_whole_request};
+use qs_text::{object_name, put, put_whole_request};
 use std::alloc::AllocError;
 
 // Further requests, each after a space.

@@ -19,7 +19,7 @@ use qs_core::Core;
 use qs_core_parts::Lane;
 use qs_objects::{Request, Ticket};
 use qs_program::Program;
-use qs_report::put;
+use qs_text::put;
 use std::alloc::{AllocError, Global};
 
 // The lane from a client to a handler.
@@ -139,7 +139,7 @@ fn put_lanes(
     ensures ok { OnOk result (out.new.items ≡ out.old.items ++ flat_map (λ c. lane_line program.now c ((core_of core.old).down c handler)) (range_with_len 0 (length program.now.clients))) }
     ensures same { core.new ≡ core.old }
 {
-    program.is_sound();
+    program.keeps_sound();
     for client in 0..program.clients() as u8 {
         put_lane(alloc, out, program, core, client, handler)?;
     }
@@ -227,7 +227,7 @@ fn put_handlers(
     ensures ok { OnOk result (out.new.items ≡ out.old.items ++ flat_map (handler_lines program.now (core_of core.old)) (range_with_len 0 (length program.now.objects))) }
     ensures same { core.new ≡ core.old }
 {
-    program.is_sound();
+    program.keeps_sound();
     for handler in 0..program.objects() as u8 {
         put_handler(alloc, out, program, core, handler)?;
     }
@@ -301,7 +301,7 @@ fn put_clients(out: &mut Vec<u8>, program: &Program, core: &Core) -> Result<(), 
     requires own { core.now.program ≡ program.now }
     ensures ok { OnOk result (out.new.items ≡ out.old.items ++ flat_map (client_line program.now (codes_of core.now) core.now.size (core_of core.now)) (range_with_len 0 (length program.now.clients))) }
 {
-    program.is_sound();
+    program.keeps_sound();
     for client in 0..program.clients() as u8 {
         put_client_line(out, program, core, client)?;
     }

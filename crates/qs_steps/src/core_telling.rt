@@ -22,7 +22,8 @@ use qs_program::Program;
 use qs_syncset::Mode;
 use std::alloc::{AllocError, Global};
 
-// One actor is asked to step, as the actor of this number: whether it stepped. What it does and with which requests is read before its step.
+// One actor is asked to step, as the actor of this number: whether it stepped. What it does and with which requests is
+// read before its step.
 fn put_step(
     alloc: Global,
     out: &mut Vec<u8>,
@@ -66,7 +67,8 @@ fn put_picks(
     Ok(())
 }
 
-// One step of each client and then of each handler, in text order, after so many actors were asked: whether one of them stepped.
+// One step of each client and then of each handler, in text order, after so many actors were asked: whether one of them
+// stepped.
 fn put_round(
     alloc: Global,
     out: &mut Vec<u8>,
@@ -79,7 +81,7 @@ fn put_round(
     ensures told { OnOk result (AreCoreTold program.now false (asked + 1) (actors_of program.now) out.old.items core.old out.new.items core.new) }
     ensures still { IfOk result (λ stepped. stepped ≡ false → NoneStepIn (actors_of program.now) core.old core.new) }
 {
-    program.is_sound();
+    program.keeps_sound();
     let clients = program.clients() as u64;
     let mut stepped = false;
     for client in 0..program.clients() as u8 {
@@ -95,7 +97,8 @@ fn put_round(
     Ok(stepped)
 }
 
-// So many rounds, after so many picks. They end at the first one that steps nobody, as the further ones would tell nothing either.
+// So many rounds, after so many picks. They end at the first one that steps nobody, as the further ones would tell
+// nothing either.
 fn put_rounds(
     alloc: Global,
     out: &mut Vec<u8>,
@@ -108,7 +111,7 @@ fn put_rounds(
     requires room { picks ≤ 2 ^ 62 }
     ensures told { OnOk result (AreCoreTold program.now false (picks + 1) (rounds_of rounds (actors_of program.now)) out.old.items core.old out.new.items core.new) }
 {
-    program.is_sound();
+    program.keeps_sound();
     let actors = (program.clients() + program.objects()) as u64;
     for round in 0..rounds {
         let asked = picks + u64::from(round) * actors;
@@ -216,10 +219,10 @@ fn tell(
     })
 }
 
-/// What a schedule of the optimised machine shows: first the picks, one step each, then so many rounds; and what is asked for, the lines
-/// of its steps and what lies where after it. The texts are exactly the definitions', by the codes of the program's clients in this
-/// mode; what is shown, and when each fault comes, is as `play` has it. The texts grow as they are written, and `Memory` comes where one
-/// of their allocations or of the run's fails.
+/// What a schedule of the optimised machine shows: first the picks, one step each, then so many rounds; and what is
+/// asked for, the lines of its steps and what lies where after it. The texts are exactly the definitions', by the codes
+/// of the program's clients in this mode; what is shown, and when each fault comes, is as `play` has it. The texts grow
+/// as they are written, and `Memory` comes where one of their allocations or of the run's fails.
 pub fn play_told(
     alloc: Global,
     program: &Program,

@@ -10,8 +10,8 @@ pub fn step_examples()
     ensures examples { StepExamples }
 {}
 
-/// Of every run by picks and rounds, under the plain rules and on the optimised machine: the actors that stepped in it, as picks and
-/// with no round, show the same. It does nothing.
+/// Of every run by picks and rounds, under the plain rules and on the optimised machine: the actors that stepped in it,
+/// as picks and with no round, show the same. It does nothing.
 pub fn steps_replay()
     ensures replay { StepsReplay }
 {}
@@ -21,8 +21,9 @@ pub fn queue_examples()
     ensures examples { QueueExamples }
 {}
 
-/// Of every schedule, under the plain rules and on the optimised machine: the lines of its steps name the actors that stepped, in their
-/// order, and each line has the number and the name of the actor that was asked then. It does nothing.
+/// Of every schedule, under the plain rules and on the optimised machine: the lines of its steps name the actors that
+/// stepped, in their order, and each line has the number and the name of the actor that was asked then. It does
+/// nothing.
 pub fn steps_are_named()
     ensures named { StepsAreNamed }
 {}

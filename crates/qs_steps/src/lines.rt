@@ -9,7 +9,7 @@ use itoa::Buffer;
 use qs_objects::Ticket;
 use qs_played::Actor;
 use qs_program::Program;
-use qs_report::{client_name, object_name, put, put_all};
+use qs_text::{client_name, object_name, put, put_all};
 use std::alloc::AllocError;
 
 // The name of a client, or of a handler's object.

@@ -1,7 +1,7 @@
 //! The line of a step under the plain rules.
 
 ghost use Rattle.std.specs.Prelude.{◌≡◌, ◌++◌, OnOk};
-ghost use Rattle.qs_report.specs.Report.{reply_text, request_text};
+ghost use Rattle.qs_text.specs.Words.{reply_text, request_text};
 ghost use Rattle.qs_steps.specs.PlainSteps.{deed_text};
 ghost use Rattle.qs_steps.specs.Telling.{plain_line};
 ghost use Rattle.qs_steps.specs.Told.{ticket_text};
@@ -11,7 +11,7 @@ use qs_objects::{Request, Ticket};
 use qs_plain::Deed;
 use qs_played::Actor;
 use qs_program::Program;
-use qs_report::{put, put_number, put_whole_request};
+use qs_text::{put, put_number, put_whole_request};
 use std::alloc::AllocError;
 
 // A verb and a request.

@@ -13,7 +13,7 @@ use qs_plain::{Awaited, Rules};
 use qs_plain_client::PrivateQueue;
 use qs_plain_laws::QueueItem;
 use qs_program::Program;
-use qs_report::{put, put_whole_request};
+use qs_text::{put, put_whole_request};
 use std::alloc::AllocError;
 
 // An item of a private queue.
@@ -92,7 +92,7 @@ fn put_handler(
 fn put_handlers(out: &mut Vec<u8>, program: &Program, rules: &Rules) -> Result<(), AllocError>
     ensures ok { OnOk result (out.new.items ≡ out.old.items ++ flat_map (λ h. handler_lines program.now h (handler_at (plain_of rules.now).handlers h)) (range_with_len 0 (length program.now.objects))) }
 {
-    program.is_sound();
+    program.keeps_sound();
     for handler in 0..program.objects() as u8 {
         put_handler(out, program, rules, handler)?;
     }
@@ -139,7 +139,7 @@ fn put_clients(out: &mut Vec<u8>, program: &Program, rules: &Rules) -> Result<()
     requires own { rules.now.program ≡ program.now }
     ensures ok { OnOk result (out.new.items ≡ out.old.items ++ flat_map (λ c. client_line program.now c (client_at (plain_of rules.now) c)) (range_with_len 0 (length program.now.clients))) }
 {
-    program.is_sound();
+    program.keeps_sound();
     for client in 0..program.clients() as u8 {
         put_client_line(out, program, rules, client)?;
     }

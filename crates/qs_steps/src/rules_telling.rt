@@ -60,7 +60,8 @@ fn put_picks(
     Ok(())
 }
 
-// One step of each client and then of each handler, in text order, after so many actors were asked: whether one of them stepped.
+// One step of each client and then of each handler, in text order, after so many actors were asked: whether one of them
+// stepped.
 fn put_round(
     out: &mut Vec<u8>,
     program: &Program,
@@ -72,7 +73,7 @@ fn put_round(
     ensures told { OnOk result (AreRulesTold program.now false (asked + 1) (actors_of program.now) out.old.items rules.old out.new.items rules.new) }
     ensures still { IfOk result (λ stepped. stepped ≡ false → NoneStep program.now (actors_of program.now) rules.old rules.new) }
 {
-    program.is_sound();
+    program.keeps_sound();
     let clients = program.clients() as u64;
     let mut stepped = false;
     for client in 0..program.clients() as u8 {
@@ -86,7 +87,8 @@ fn put_round(
     Ok(stepped)
 }
 
-// So many rounds, after so many picks. They end at the first one that steps nobody, as the further ones would tell nothing either.
+// So many rounds, after so many picks. They end at the first one that steps nobody, as the further ones would tell
+// nothing either.
 fn put_rounds(
     out: &mut Vec<u8>,
     program: &Program,
@@ -98,7 +100,7 @@ fn put_rounds(
     requires room { picks ≤ 2 ^ 62 }
     ensures told { OnOk result (AreRulesTold program.now false (picks + 1) (rounds_of rounds (actors_of program.now)) out.old.items rules.old out.new.items rules.new) }
 {
-    program.is_sound();
+    program.keeps_sound();
     let actors = (program.clients() + program.objects()) as u64;
     for round in 0..rounds {
         if !put_round(out, program, rules, picks + u64::from(round) * actors)? {
@@ -205,9 +207,10 @@ fn tell(
     })
 }
 
-/// What a schedule shows under the plain rules: first the picks, one step each, then so many rounds; and what is asked for, the lines of
-/// its steps and what lies where after it. The texts are exactly the definitions'; what is shown, and when each fault comes, is as
-/// `play_plain` has it. The texts grow as they are written, and `Memory` comes where one of their allocations or of the run's fails.
+/// What a schedule shows under the plain rules: first the picks, one step each, then so many rounds; and what is asked
+/// for, the lines of its steps and what lies where after it. The texts are exactly the definitions'; what is shown, and
+/// when each fault comes, is as `play_plain` has it. The texts grow as they are written, and `Memory` comes where one
+/// of their allocations or of the run's fails.
 pub fn rules_told(
     alloc: Global,
     program: &Program,

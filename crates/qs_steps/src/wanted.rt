@@ -11,7 +11,8 @@ pub struct Wanted {
     pub queues: bool,
 }
 
-/// What a run has told and shown: its steps, what lies where, and what is played. A text that was not asked for is empty.
+/// What a run has told and shown: its steps, what lies where, and what is played. A text that was not asked for is
+/// empty.
 pub struct Told {
     /// The lines of the steps.
     pub steps: Vec<u8>,

@@ -1,5 +1,5 @@
--- No picture has more shapes than it may have: a stretch has its frame, at most as many marks as are drawn, and two texts. Where few stretches are
--- drawn, each has up to 16 marks, and else 4; so both stay below the limit.
+-- No picture has more shapes than it may have: a stretch has its frame, at most as many marks as are drawn, and two
+-- texts. Where few stretches are drawn, each has up to 16 marks, and else 4; so both stay below the limit.
 use Rattle.std.proofs.Common.{◌≡◌, ℕ, zero, suc, ◌+◌, ◌*◌, ◌-◌, ◌≤◌, min, List, [], ◌∷◌, length, refl, arith, Bool, true, false, ◌&&◌, if◌then◌else◌, nat_eq, nat_le, nat_lt, get_or, ◌++◌, length-append}
 use Rattle.std.proofs.lemmas.Bool.Decides.{nat_tests}
 use Rattle.std.proofs.lemmas.Nat.{mul-le}

@@ -1,22 +1,10 @@
--- What is put at the end of a text in parts is put there as one text, and so are shapes. Every function that writes stands on it: it is
--- taken once for each part but the first.
+-- Shapes that are put at the end one after another are put there as one list. Every function that draws stands on it:
+-- it is taken once for each shape but the first.
 use Rattle.std.proofs.Common.{◌≡◌, ℕ, ◌+◌, List, [], ◌∷◌, ◌++◌, ap, sym, ◌∙◌, append_assoc, append-nil, add-one}
 use Rattle.std.specs.List.{concat}
 use Rattle.std.proofs.lemmas.List.Folds.{concat-append}
-use Rattle.qs_report.specs.Texts.{texts_up_to}
-use Rattle.qs_svg.specs.Shapes.{Draws, Puts, Shape, shapes_up_to}
-
--- a part, and one after it
-pub then : {part next first before after : List ℕ} → Puts part first before → Puts next before after → Puts (part ++ next) first after
-then {part} {next} {first} one other = record { is = other.is ∙ ap (λ l. l ++ next) one.is ∙ append_assoc first part next }
-
--- what was put where nothing was
-pub all_that_is : {text first after : List ℕ} → first ≡ [] → Puts text first after → after ≡ text
-all_that_is {text} none puts = puts.is ∙ ap (λ l. l ++ text) none
-
--- a text by another name
-pub named : {text other first after : List ℕ} → text ≡ other → Puts text first after → Puts other first after
-named {first = first} e puts = record { is = puts.is ∙ ap (λ l. first ++ l) e }
+use Rattle.qs_text.specs.Texts.{Puts}
+use Rattle.qs_svg.specs.Shapes.{Draws, Shape, shapes_up_to}
 
 -- one shape
 pub drawn : {shape : Shape} {first after : List ℕ} → Puts shape first after → Draws (shape ∷ []) first after
@@ -39,11 +27,6 @@ also {first = first} e draws = record { is = draws.is ∙ ap (λ l. first ++ con
 pub one_place_more : (shapes : ℕ → List Shape) (n : ℕ) {first before after : List ℕ} → Draws (shapes_up_to n shapes) first before
     → Draws (shapes n) before after → Draws (shapes_up_to (n + 1) shapes) first after
 one_place_more shapes n before last = rw add-one (and_then before last)
-
--- the text of one place more
-pub one_text_more : (text : ℕ → List ℕ) (n : ℕ) {first before after : List ℕ} → Puts (texts_up_to n text) first before → Puts (text n) before after
-    → Puts (texts_up_to (n + 1) text) first after
-one_text_more text n before last = rw add-one (then before last)
 
 -- shapes as the text that they are
 pub as_text : {shapes : List Shape} {first after : List ℕ} → Draws shapes first after → Puts (concat shapes) first after

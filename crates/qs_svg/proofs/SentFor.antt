@@ -1,5 +1,5 @@
--- How many synchronisations were sent for an object, place by place of the list of counts: the loop that looks for the object stands on it.
--- It goes by induction on the place.
+-- How many synchronisations were sent for an object, place by place of the list of counts: the loop that looks for the
+-- object stands on it. It goes by induction on the place.
 use Rattle.std.proofs.Common.{◌≡◌, ℕ, zero, suc, ◌+◌, ◌<◌, ◌≢◌, List, [], ◌∷◌, map, length, drop, get_or, refl, true, false, ◌==◌, arith, ◌∙◌, ap}
 use Rattle.std.proofs.lemmas.Bool.Decides.{nat_tests}
 use Rattle.qs_sync_counts.specs.SyncRows.{count_of, object_of}

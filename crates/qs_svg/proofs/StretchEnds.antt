@@ -1,5 +1,5 @@
--- Where a stretch ends, and what its entries are: the loop over the stretches of a row stands on it. Each is the definition, once the numbers and
--- lists that the code has at hand are those of the run.
+-- Where a stretch ends, and what its entries are: the loop over the stretches of a row stands on it. Each is the
+-- definition, once the numbers and lists that the code has at hand are those of the run.
 use Rattle.std.proofs.Common.{◌≡◌, ℕ, suc, ◌+◌, ◌-◌, min, List, length, slice_range, ap, ap₂, ◌∙◌}
 use Rattle.qs_objects.specs.declared.held.Entry.{Entry}
 use Rattle.qs_objects.specs.declared.held.Ticket.{Ticket}

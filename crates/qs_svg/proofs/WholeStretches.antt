@@ -1,5 +1,6 @@
--- In an isolated run a journal is its tickets' entries one after another, in the order of the reservations. So where the stretches before a
--- ticket's are cut off, what is left begins with all of its entries: by induction on the place of the ticket.
+-- In an isolated run a journal is its tickets' entries one after another, in the order of the reservations. So where
+-- the stretches before a ticket's are cut off, what is left begins with all of its entries: by induction on the place
+-- of the ticket.
 use Rattle.std.proofs.Common.{◌≡◌, ℕ, zero, suc, ◌+◌, ◌-◌, ◌<◌, ◌≤◌, min, Bool, true, false, if◌then◌else◌, List, [], ◌∷◌, ◌++◌, length, take, drop, flat_map, refl, sym, subst, true≢false, ⊎_elim, ap, ap₂, ◌∙◌, arith, length-append}
 use Rattle.std.proofs.lemmas.List.{drop-drop, length-drop}
 use Rattle.std.proofs.lemmas.List.Sums.{length-filter}
@@ -11,7 +12,7 @@ use Rattle.qs_objects.specs.declared.held.Entry.{Entry}
 use Rattle.qs_objects.specs.declared.held.Ticket.{Ticket}
 use Rattle.qs_played.specs.Isolation.{IsIsolated}
 use Rattle.qs_played.specs.Played.{Played}
-use Rattle.qs_report.specs.Report.{first_ticket}
+use Rattle.qs_text.specs.Words.{first_ticket}
 use Rattle.qs_svg.specs.Stretches.{entries_for, journal_of, stretch, stretch_start, ticket_at}
 use Rattle.qs_svg.specs.OneColour.{AreOfColour, AreRowsOfWholeBlocks}
 

@@ -16,7 +16,8 @@ form query = if query then codes "m0,4a4,4 0 1 1 8,0a4,4 0 1 1-8,0z" else codes 
 
 -- a request, in the colour of its ticket's client
 abbrev pub mark : ProgramShape → (x y : ℕ) → Entry → Shape
-mark p x y e = path_start (codes "mark") e.ticket.client x y ++ form (is_query e.request.op) ++ path_end (entry_words p e)
+mark p x y e =
+    path_start (codes "mark") e.ticket.client x y ++ form (is_query e.request.op) ++ path_end (entry_words p e)
 
 -- the frame of a block that is open has no right side
 abbrev pub right_side : Bool → List ℕ
@@ -31,10 +32,12 @@ stretch_frame p t ended i h requests =
 -- the requests of a stretch that are drawn, and how many more there are
 abbrev pub marks : ProgramShape → (most i h : ℕ) → List Entry → List Shape
 marks p most i h entries =
-    shapes_up_to (min (length entries) most) (λ j. mark p (mark_x i j) (mark_y h j) (slice_index_or entries j no_entry) ∷ [])
+    shapes_up_to (min (length entries) most) (λ j. mark p (mark_x i j) (mark_y h j) (slice_index_or entries j no_entry)
+    ∷ [])
 
 abbrev pub more_text : (most i h requests : ℕ) → Shape
-more_text most i h requests = text_at (column_x i + 12) (row_y h + 47) (with_number (codes "+ ") (requests - most) ++ codes " more")
+more_text most i h requests =
+    text_at (column_x i + 12) (row_y h + 47) (with_number (codes "+ ") (requests - most) ++ codes " more")
 
 abbrev pub more_marks : (most i h requests : ℕ) → List Shape
 more_marks most i h requests =
@@ -61,7 +64,8 @@ stretch_shapes p run most i h entries =
 abbrev pub cell : ProgramShape → Played → (most i h : ℕ) → List Entry → List Shape
 cell p run most i h entries = if reserves run i h then stretch_shapes p run most i h entries else []
 
--- the row of an object: its name, the number of its requests, and a stretch for each column; in the further column, what is left
+-- the row of an object: its name, the number of its requests, and a stretch for each column; in the further column,
+-- what is left
 abbrev pub requests_words : ℕ → List ℕ
 requests_words n = with_number (codes "") n ++ codes " requests"
 
@@ -85,22 +89,27 @@ row p run most h =
 -- the frame of a block, over all rows of the objects that it reserves
 abbrev pub block_frame : ProgramShape → Ticket → (ended : Bool) → (i first last : ℕ) → Shape
 block_frame p t ended i first last =
-    path_start (codes "block") t.client (column_x i + 117) (row_y first + 1) ++ with_number (codes "h-114v") (frame_height first last) ++ codes "h114"
+    path_start (codes "block") t.client (column_x i + 117) (row_y first + 1)
+    ++ with_number (codes "h-114v") (frame_height first last) ++ codes "h114"
     ++ right_side ended ++ path_end (block_words p t ended)
 
 -- the column of a ticket: whose it is, the number of its block, and the frame
 abbrev pub column_names : ProgramShape → ℕ → Ticket → List Shape
 column_names p i t =
-    (text_at (column_x i + 8) 96 (client_at p t.client).name ∷ []) ++ (text_at (column_x i + 8) 112 (with_number (codes "block ") t.index) ∷ [])
+    (text_at (column_x i + 8) 96 (client_at p t.client).name ∷ [])
+    ++ (text_at (column_x i + 8) 112 (with_number (codes "block ") t.index) ∷ [])
 
 abbrev pub column : ProgramShape → Played → ℕ → List Shape
 column p run i =
     column_names p i (ticket_at run i)
-    ++ (block_frame p (ticket_at run i) (ended_at run i) i (first_row (objects_at run i)) (last_row (objects_at run i)) ∷ [])
+    ++ (block_frame p (ticket_at run i) (ended_at run i) i (first_row (objects_at run i)) (last_row (objects_at run i))
+    ∷ [])
 
 -- how many blocks more there are
 abbrev pub columns_text : Played → Shape
-columns_text run = text_at (column_x most_columns + 8) 96 (with_number (codes "") (length run.order - most_columns) ++ codes " more blocks")
+columns_text run =
+    text_at (column_x most_columns + 8) 96 (with_number (codes "") (length run.order - most_columns)
+    ++ codes " more blocks")
 
 abbrev pub columns_left : Played → List Shape
 columns_left run =

@@ -1,5 +1,5 @@
--- What a picture shows of a run that is isolated: each stretch is all that its object ran for its ticket, and so of one colour; and with the
--- last ticket no request is left.
+-- What a picture shows of a run that is isolated: each stretch is all that its object ran for its ticket, and so of one
+-- colour; and with the last ticket no request is left.
 use Rattle.std.specs.Prelude.{◌≡◌, ◌<◌, ℕ, List, length}
 use Rattle.std.specs.List.{AllByRecursion}
 use Rattle.qs_objects.specs.Parts.{entries_of}

@@ -35,8 +35,10 @@ run_shapes p run =
 -- the first lines, with the size, the title, the description and the style
 abbrev pub size_text : (width height : ℕ) → List ℕ
 size_text width height =
-    with_number (codes "<svg xmlns='http://www.w3.org/2000/svg' role='img' aria-labelledby='title description' width='") width
-    ++ with_number (codes "' height='") height ++ with_number (codes "' viewBox='0 0 ") width ++ with_number (codes " ") height ++ codes "'>\n"
+    with_number (codes "<svg xmlns='http://www.w3.org/2000/svg' role='img' aria-labelledby='title description' width='")
+    width
+    ++ with_number (codes "' height='") height ++ with_number (codes "' viewBox='0 0 ") width
+    ++ with_number (codes " ") height ++ codes "'>\n"
 
 abbrev pub head_text : ProgramShape → Played → List ℕ
 head_text p run =

@@ -6,7 +6,7 @@ use Rattle.qs_objects.specs.declared.held.Event.{Event}
 use Rattle.qs_objects.specs.declared.held.Ticket.{Ticket}
 use Rattle.qs_played.specs.Played.{Played}
 use Rattle.qs_sync_counts.specs.SyncRows.{sync_count}
-use Rattle.qs_report.specs.Examples.{before, command, deposited_once, deposits, query, three, ticket}
+use Rattle.qs_text.specs.Worked.{before, command, deposited_once, deposits, query, three, ticket}
 use Rattle.qs_svg.specs.Stretches.{most_marks, stretch}
 use Rattle.qs_svg.specs.Blocks.{stretch_shapes}
 use Rattle.qs_svg.specs.RunSvg.{run_svg}
@@ -17,7 +17,9 @@ ran_for t e = record { ticket = t; request = e.request; reply = e.reply }
 
 abbrev pub deposit_run : Played
 deposit_run = record deposited_once {
-  journals = (ran_for (ticket 0 0) (command 0 Deposit (pos 5 ∷ [])) ∷ ran_for (ticket 0 0) (query 0 Balance [] (pos 105)) ∷ []) ∷ [];
+  journals =
+      (ran_for (ticket 0 0) (command 0 Deposit (pos 5 ∷ [])) ∷ ran_for (ticket 0 0) (query 0 Balance [] (pos 105))
+      ∷ []) ∷ [];
 }
 
 abbrev pub no_step : Played

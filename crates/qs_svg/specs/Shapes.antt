@@ -1,4 +1,5 @@
--- What is drawn: a list of shapes, each of them one element of the picture with its text, and what stands at its beginning.
+-- What is drawn: a list of shapes, each of them one element of the picture with its text, and what stands at its
+-- beginning.
 use Rattle.std.specs.Prelude.{◌≡◌, ℕ, zero, suc, List, [], ◌++◌, codes, decimal}
 use Rattle.std.specs.List.{concat}
 
@@ -11,10 +12,6 @@ abbrev pub shapes_up_to : ℕ → (ℕ → List Shape) → List Shape
 shapes_up_to zero shapes = []
 shapes_up_to (suc n) shapes = shapes_up_to n shapes ++ shapes n
 
--- a text is put at the end
-pub record Puts (text old new : List ℕ) : Type 0 where
-  pub is : new ≡ old ++ text
-
 -- shapes are put at the end, one after another
 pub record Draws (shapes : List Shape) (old new : List ℕ) : Type 0 where
   pub is : new ≡ old ++ concat shapes
@@ -26,7 +23,8 @@ with_number word n = word ++ decimal n
 -- a path of some kind in a client's colour, which begins at a point; what it is goes on from there
 abbrev pub path_start : (word : List ℕ) (client x y : ℕ) → List ℕ
 path_start word client x y =
-    codes "<path class='" ++ word ++ with_number (codes " c") client ++ with_number (codes "' d='M") x ++ with_number (codes ",") y
+    codes "<path class='" ++ word ++ with_number (codes " c") client ++ with_number (codes "' d='M") x
+    ++ with_number (codes ",") y
 
 -- its end, with what is said where a pointer rests on it
 abbrev pub path_end : List ℕ → List ℕ

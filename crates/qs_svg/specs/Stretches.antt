@@ -1,6 +1,7 @@
--- What of a run goes where in its picture: a row for each object, a column for each ticket. Each journal is cut from its beginning into
--- stretches, one for each ticket of the order, with as many entries as the journal has of that ticket. A stretch's entries are drawn in the order
--- of the journal, each in the colour of its own ticket's client. So where a block was not alone, two colours stand in one stretch.
+-- What of a run goes where in its picture: a row for each object, a column for each ticket. Each journal is cut from
+-- its beginning into stretches, one for each ticket of the order, with as many entries as the journal has of that
+-- ticket. A stretch's entries are drawn in the order of the journal, each in the colour of its own ticket's client. So
+-- where a block was not alone, two colours stand in one stretch.
 use Rattle.std.specs.Prelude.{ℕ, zero, suc, ◌+◌, ◌-◌, ◌*◌, min, ◌==◌, List, [], ◌∷◌, map, length, slice_index_or, slice_range, None, Bool, false, if◌then◌else◌, nat_le}
 use Rattle.std.specs.List.{count_by}
 use Rattle.qs_objects.specs.Parts.{same}
@@ -12,7 +13,7 @@ use Rattle.qs_program.specs.Sound.{is_in}
 use Rattle.qs_played.specs.Played.{Played}
 use Rattle.qs_sync_counts.specs.SyncRows.{object_of}
 use Rattle.qs_sync_counts.specs.declared.sync_counts.SyncCount.{SyncCount}
-use Rattle.qs_report.specs.Report.{first_ticket}
+use Rattle.qs_text.specs.Words.{first_ticket}
 
 -- so many columns are drawn at most; a further one then says how much more there is
 abbrev pub most_columns : ℕ
@@ -29,7 +30,8 @@ all_columns run = min (length run.order) (most_columns + 1)
 abbrev pub most_marks : (columns rows : ℕ) → ℕ
 most_marks columns rows = if nat_le (columns * rows) 192 then 16 else 4
 
--- the ticket at a place of the order, whether its block has ended, and the objects that it reserves, in the order of its list
+-- the ticket at a place of the order, whether its block has ended, and the objects that it reserves, in the order of
+-- its list
 abbrev pub ticket_at : Played → ℕ → Ticket
 ticket_at run i = slice_index_or run.order i first_ticket
 
@@ -64,7 +66,8 @@ entries_for t journal = count_by (λ (e : Entry). same t e.ticket) journal
 abbrev pub stretch_start : Played → ℕ → ℕ → ℕ
 stretch_start run h zero = 0
 stretch_start run h (suc i) =
-    stretch_start run h i + min (entries_for (ticket_at run i) (journal_of run h)) (length (journal_of run h) - stretch_start run h i)
+    stretch_start run h i + min (entries_for (ticket_at run i) (journal_of run h))
+    (length (journal_of run h) - stretch_start run h i)
 
 abbrev pub stretch : Played → ℕ → ℕ → List Entry
 stretch run h i = slice_range (journal_of run h) (stretch_start run h i) (stretch_start run h (suc i))

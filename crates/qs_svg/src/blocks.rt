@@ -1,19 +1,20 @@
 // The column of a ticket.
 
 ghost use Rattle.std.specs.Prelude.{◌≡◌, ◌<◌, ◌≤◌, OnOk, length};
-ghost use Rattle.qs_svg.specs.Shapes.{Draws, Puts, shapes_up_to};
+ghost use Rattle.qs_svg.specs.Shapes.{Draws, shapes_up_to};
+ghost use Rattle.qs_text.specs.Texts.{Puts};
 ghost use Rattle.qs_svg.specs.Stretches.{columns_of as columns_in};
 ghost use Rattle.qs_svg.specs.Places.{first_row as first_of, frame_height, last_row as last_of};
 ghost use Rattle.qs_svg.specs.Blocks.{block_frame, column as column_shapes, column_names, columns_left};
 
 use crate::facts::{columns_of, has_ended, ticket_at};
-use crate::pieces::{put_count, put_counted, put_name, put_path, put_word};
+use crate::pieces::{put_counted, put_name, put_path};
 use crate::stretches::{column_edge, row_edge, side};
 use crate::words::put_block_words;
 use qs_objects::Ticket;
 use qs_played::Played;
 use qs_program::Program;
-use qs_report::client_name;
+use qs_text::{client_name, put_count, put_word};
 use std::alloc::AllocError;
 
 // The first row of some objects.

@@ -1,8 +1,7 @@
 // The beginning of a picture: its size, its title, its description and its style.
 
 ghost use Rattle.std.specs.Prelude.{◌≡◌, ◌<◌, ◌≤◌, OnOk, length};
-ghost use Rattle.qs_report.specs.Texts.{texts_up_to};
-ghost use Rattle.qs_svg.specs.Shapes.{Puts};
+ghost use Rattle.qs_text.specs.Texts.{texts_up_to, Puts};
 ghost use Rattle.qs_svg.specs.Stretches.{all_columns as columns_in_all};
 ghost use Rattle.qs_svg.specs.Places.{picture_height, picture_width};
 ghost use Rattle.qs_svg.specs.Words.{description, finished_words as words_of_end, object_told, reserved_words, ticket_told, title_words};
@@ -10,10 +9,10 @@ ghost use Rattle.qs_svg.specs.RunSvg.{head_text, size_text};
 
 use crate::facts::{has_ended, journal_of, ticket_at};
 use crate::legend::put_style;
-use crate::pieces::{object_name, put_count, put_word};
 use crate::words::put_block_words;
 use qs_played::Played;
 use qs_program::Program;
+use qs_text::{object_name, put_count, put_word};
 use std::alloc::AllocError;
 
 // How many columns there are, with the one that says how much more there is.
@@ -173,7 +172,7 @@ pub(crate) fn put_head(
 ) -> Result<(), AllocError>
     ensures ok { OnOk result (Puts (head_text program.now played.now) out.old.items out.new.items) }
 {
-    program.is_sound();
+    program.keeps_sound();
     let width = width_of(all_columns(played), program.clients());
     put_size(out, width, height_of(program.objects()))?;
     put_word(out, b"<title id='title'>")?;

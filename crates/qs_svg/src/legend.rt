@@ -1,12 +1,13 @@
 // What a picture says of its colours and signs.
 
 ghost use Rattle.std.specs.Prelude.{OnOk, length};
-ghost use Rattle.qs_svg.specs.Shapes.{Draws, Puts, shapes_up_to};
+ghost use Rattle.qs_svg.specs.Shapes.{Draws, shapes_up_to};
+ghost use Rattle.qs_text.specs.Texts.{Puts};
 ghost use Rattle.qs_svg.specs.Legend.{client_shapes, client_square, sign_shapes, style};
 
-use crate::pieces::{put_name, put_path, put_word};
+use crate::pieces::{put_name, put_path};
 use qs_program::Program;
-use qs_report::{client_name, put_all};
+use qs_text::{client_name, put_all, put_word};
 use std::alloc::AllocError;
 
 /// Puts the style: colours for a light ground, and others for a dark one.
@@ -54,7 +55,7 @@ fn put_client(out: &mut Vec<u8>, program: &Program, client: u8) -> Result<(), Al
 pub(crate) fn put_clients(out: &mut Vec<u8>, program: &Program) -> Result<(), AllocError>
     ensures ok { OnOk result (Draws (shapes_up_to (length program.now.clients) (client_shapes program.now)) out.old.items out.new.items) }
 {
-    program.is_sound();
+    program.keeps_sound();
     for client in 0..program.clients() {
         put_client(out, program, client as u8)?;
     }

@@ -1,39 +1,11 @@
 // Pieces of a picture, put at the end of bytes.
 
-ghost use Rattle.std.specs.Prelude.{◌≡◌, ◌++◌, OnOk};
-ghost use Rattle.qs_program.specs.Program.{object_at};
-ghost use Rattle.qs_svg.specs.Shapes.{Puts, path_start, text_at, text_start, with_number};
+ghost use Rattle.std.specs.Prelude.{◌++◌, OnOk};
+ghost use Rattle.qs_text.specs.Texts.{Puts};
+ghost use Rattle.qs_svg.specs.Shapes.{path_start, text_at, text_start, with_number};
 
-use itoa::Buffer;
-use qs_program::Program;
-use qs_report::{put, put_all};
+use qs_text::{put_count, put_word};
 use std::alloc::AllocError;
-
-pub(crate) fn object_name(program: &Program, object: usize) -> &[u8]
-    ensures name { result.now ≡ (object_at program.now object).name }
-{
-    program.is_sound();
-    if object < program.objects() {
-        program.object_name(object as u8).as_slice()
-    } else {
-        b""
-    }
-}
-
-// A word.
-pub(crate) fn put_word(out: &mut Vec<u8>, word: &[u8]) -> Result<(), AllocError>
-    ensures ok { OnOk result (Puts word.now out.old.items out.new.items) }
-{
-    put(out, word)
-}
-
-// A word and a count.
-pub(crate) fn put_count(out: &mut Vec<u8>, word: &[u8], count: u64) -> Result<(), AllocError>
-    ensures ok { OnOk result (Puts (with_number word.now count) out.old.items out.new.items) }
-{
-    let mut buffer = Buffer::new();
-    put_all(out, &[word, buffer.format(count).as_bytes()])
-}
 
 // The beginning of a path, at a point.
 pub(crate) fn put_path(

@@ -6,11 +6,12 @@ ghost use Rattle.qs_svg.specs.Stretches.{columns_of as columns_in, stretch, stre
 ghost use Rattle.qs_svg.specs.Blocks.{cell, row as row_shapes, row_left, row_names};
 
 use crate::facts::{columns_of, entries_for, journal_of, reserves, ticket_at};
-use crate::pieces::{object_name, put_counted, put_name};
+use crate::pieces::{put_counted, put_name};
 use crate::stretches::{Spot, column_edge, put_stretch, row_edge};
 use qs_objects::Entry;
 use qs_played::Played;
 use qs_program::Program;
+use qs_text::object_name;
 use std::alloc::AllocError;
 
 // What stands of an object in the column of a ticket.

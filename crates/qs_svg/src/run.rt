@@ -1,7 +1,8 @@
 // The picture of a run.
 
 ghost use Rattle.std.specs.Prelude.{◌≡◌, ◌≤◌, IfOk, OnOk};
-ghost use Rattle.qs_svg.specs.Shapes.{Draws, Puts};
+ghost use Rattle.qs_svg.specs.Shapes.{Draws};
+ghost use Rattle.qs_text.specs.Texts.{Puts};
 ghost use Rattle.qs_svg.specs.Stretches.{most_marks as most_of};
 ghost use Rattle.qs_svg.specs.RunSvg as definitions;
 
@@ -9,10 +10,10 @@ use crate::blocks::{put_columns, put_columns_left};
 use crate::facts::columns_of;
 use crate::head::{put_head, put_title};
 use crate::legend::{put_clients, put_signs};
-use crate::pieces::put_word;
 use crate::rows::put_row;
 use qs_played::Played;
 use qs_program::Program;
+use qs_text::put_word;
 use std::alloc::{AllocError, Global};
 
 // The title, once more as a shape.
@@ -48,7 +49,7 @@ fn most_marks(columns: usize, rows: usize) -> usize
 fn put_rows(out: &mut Vec<u8>, program: &Program, played: &Played) -> Result<(), AllocError>
     ensures ok { OnOk result (Draws (definitions.row_shapes program.now played.now) out.old.items out.new.items) }
 {
-    program.is_sound();
+    program.keeps_sound();
     let rows = program.objects();
     let most = most_marks(columns_of(played), rows);
     for row in 0..rows {
@@ -57,8 +58,9 @@ fn put_rows(out: &mut Vec<u8>, program: &Program, played: &Played) -> Result<(),
     Ok(())
 }
 
-/// A run as one picture in SVG: a column for each block, in the order of the reservations, and a row for each object, with the requests that
-/// it ran. A number past the program's objects or clients has no name. An error says that an allocation failed, and nothing is left.
+/// A run as one picture in SVG: a column for each block, in the order of the reservations, and a row for each object,
+/// with the requests that it ran. A number past the program's objects or clients has no name. An error says that an
+/// allocation failed, and nothing is left.
 pub fn run_svg(alloc: Global, program: &Program, played: &Played) -> Result<Vec<u8>, AllocError>
     ensures picture { IfOk result (λ bytes. bytes.items ≡ definitions.run_svg program.now played.now) }
 {

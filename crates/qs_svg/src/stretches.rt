@@ -1,16 +1,18 @@
 // The stretch of a ticket at an object: its frame, its requests and its synchronisations.
 
 ghost use Rattle.std.specs.Prelude.{◌≡◌, ◌<◌, ◌≤◌, OnOk, length};
-ghost use Rattle.qs_svg.specs.Shapes.{Draws, Puts};
+ghost use Rattle.qs_svg.specs.Shapes.{Draws};
+ghost use Rattle.qs_text.specs.Texts.{Puts};
 ghost use Rattle.qs_svg.specs.Places.{column_x, mark_x, mark_y, row_y};
 ghost use Rattle.qs_svg.specs.Blocks.{form, mark, marks, more_marks, right_side, sync_marks, sync_text, stretch_frame, stretch_shapes};
 
 use crate::facts::{has_ended, queries_in, sent_for, ticket_at};
-use crate::pieces::{put_count, put_counted, put_path, put_text, put_word};
+use crate::pieces::{put_counted, put_path, put_text};
 use crate::words::{put_entry, put_stretch_words};
 use qs_objects::{Entry, Ticket};
 use qs_played::Played;
 use qs_program::Program;
+use qs_text::{put_count, put_word};
 use std::alloc::AllocError;
 
 /// Where a stretch stands: its column and its row.

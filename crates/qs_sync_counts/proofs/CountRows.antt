@@ -1,6 +1,6 @@
--- The objects of each block and their counts are stored in two lists of rows, and paired they are what contracts see; the lemmas
--- say what each row is, and what one more object or Sync changes. The functions of `SyncCounts` and those that fill it for a
--- client stand on it. It goes by induction on the rows.
+-- The objects of each block and their counts are stored in two lists of rows, and paired they are what contracts see;
+-- the lemmas say what each row is, and what one more object or Sync changes. The functions of `SyncCounts` and those
+-- that fill it for a client stand on it. It goes by induction on the rows.
 use Rattle.std.proofs.Common.{◌≡◌, ◌<◌, ◌≤◌, ℕ, zero, suc, ◌+◌, ◌==◌, Bool, true, false, if◌then◌else◌, List, [], ◌∷◌, ◌++◌, length, get_or, set, map, take, drop, replicate, refl, sym, ap, ◌∙◌, arith, append_assoc, drop-cons, get_or-set_same, set-set}
 use Rattle.std.proofs.lemmas.List.{drop_all, take_more}
 use Rattle.qs_sync_counts.specs.declared.sync_counts.SyncCount.{SyncCount}

@@ -15,8 +15,8 @@ pub struct SyncCount {
     pub count: u32,
 }
 
-/// For each block of a client, and each object of the block's list in order, how many Syncs were sent for it: the counts of all blocks
-/// lie in one row. Memory is taken in `new` alone.
+/// For each block of a client, and each object of the block's list in order, how many Syncs were sent for it: the
+/// counts of all blocks lie in one row. Memory is taken in `new` alone.
 pub struct SyncCounts {
     objects: Rows<u8>,
     counts: Rows<u32>,
@@ -56,8 +56,8 @@ fn next_count(objects: &[u8], counts: &[u32], place: usize, object: u8) -> u32
 }
 
 impl SyncCounts {
-    /// So many blocks without objects, with room for so many objects together. An error says that this memory was refused: it comes only
-    /// where there is a block or room.
+    /// So many blocks without objects, with room for so many objects together. An error says that this memory was
+    /// refused: it comes only where there is a block or room.
     pub fn new(alloc: Global, blocks: usize, room: usize) -> Result<SyncCounts, AllocError>
         ensures fresh { IfOk result (λ s. s ≡ counts_state (replicate blocks []) room) }
         ensures memory { IsErr result → 0 < blocks + room }

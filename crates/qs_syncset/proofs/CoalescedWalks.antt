@@ -1,6 +1,6 @@
--- A walk through a coalesced graph ends within as many nodes, says the same but for synchronisations, and each query in it is
--- still on an object that is held. The proofs on a client's code stand on `reduced`. It goes by induction on the nodes that the
--- walk may take, and the path behind it shows that a removed synchronisation was not needed.
+-- A walk through a coalesced graph ends within as many nodes, says the same but for synchronisations, and each query in
+-- it is still on an object that is held. The proofs on a client's code stand on `reduced`. It goes by induction on the
+-- nodes that the walk may take, and the path behind it shows that a removed synchronisation was not needed.
 use Rattle.std.proofs.Common.{◌≡◌, inl, inr, ℕ, zero, suc, ◌<◌, true, List, ◌∷◌, length, refl, sym, ap, ◌∙◌, subst}
 use Rattle.std.proofs.Math.Path.{fun_ext}
 use Rattle.std.proofs.lemmas.Bool.{cases_eq}
@@ -17,10 +17,10 @@ use Rattle.qs_graph.proofs.Along.{walks_go_along_paths}
 use Rattle.qs_graph.proofs.Saying.{next_up}
 use Rattle.qs_syncset.specs.Coalesced.{IsRemovedIfHeld}
 use Rattle.qs_syncset.specs.CodeLaws.{CoalescingIsUnique}
-use Rattle.qs_syncset.specs.Flow.{Holding, held_along}
-use Rattle.qs_syncset.specs.Held.{IsHeld}
+use Rattle.qs_held_sets.specs.Flow.{Holding, held_along}
+use Rattle.qs_held_sets.specs.Held.{IsHeld}
 use Rattle.qs_syncset.specs.SoundSynced.{IsSoundSynced}
-use Rattle.qs_syncset.proofs.Paths.{put_same, put_other, synced_along}
+use Rattle.qs_held_sets.proofs.Paths.{put_same, put_other, synced_along}
 use Rattle.qs_syncset.proofs.Removals.{IsSoundRemoval}
 use Rattle.qs_syncset.proofs.Moves.{after_move, after_is, move_same, move_here, next_three, sound_next, sound_said, erased_said}
 

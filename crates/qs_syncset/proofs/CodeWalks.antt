@@ -1,6 +1,6 @@
--- Walks through the graphs of a client's code end within the limit, say the block's tree but for synchronisations, and make each
--- query on an object that is held. The proofs on clients, on their threads and on the optimised machine begin from it. In each
--- mode the graph is the one that was built, or has lost synchronisations with objects that are held.
+-- Walks through the graphs of a client's code end within the limit, say the block's tree but for synchronisations, and
+-- make each query on an object that is held. The proofs on clients, on their threads and on the optimised machine begin
+-- from it. In each mode the graph is the one that was built, or has lost synchronisations with objects that are held.
 use Rattle.std.proofs.Common.{◌≡◌, inl, inr, ℕ, suc, ◌<◌, ◌≤◌, Bool, true, false, List, [], ◌∷◌, length, get_or, refl, sym, ap, ◌∙◌, subst, arith}
 use Rattle.std.specs.List.{AllByRecursion}
 use Rattle.qs_objects.proofs.Elements.{AllByRecursion-get_or}
@@ -24,7 +24,7 @@ use Rattle.qs_graph.proofs.Ranges.{blocks_have_graphs}
 use Rattle.qs_syncset.specs.Codes.{IsBoundGraphOf, code_at}
 use Rattle.qs_syncset.specs.SyncCounts.{Decides}
 use Rattle.qs_syncset.specs.CodeLaws.{WalksAreSound, NodesStaySound}
-use Rattle.qs_syncset.specs.Flow.{nothing}
+use Rattle.qs_held_sets.specs.Flow.{nothing}
 use Rattle.qs_syncset.specs.Modes.{is_static}
 use Rattle.qs_syncset.specs.SoundSynced.{IsSoundSynced}
 use Rattle.qs_syncset.proofs.SoundTrees.{block_sound, walk_reserved}

@@ -1,6 +1,7 @@
--- In each mode, the number of Syncs that a client sends for an object in a block is the one that the trace and the graph say. The
--- proofs that machines and threads count rightly stand on it. It goes by cases on the mode, of which each begins from the block's
--- tree with all its synchronisations; and counts at nodes outside the graph make no difference.
+-- In each mode, the number of Syncs that a client sends for an object in a block is the one that the trace and the
+-- graph say. The proofs that machines and threads count rightly stand on it. It goes by cases on the mode, of which
+-- each begins from the block's tree with all its synchronisations; and counts at nodes outside the graph make no
+-- difference.
 use Rattle.std.proofs.Common.{◌≡◌, ◌⊎◌, inl, inr, ℕ, zero, suc, ◌+◌, ◌<◌, ◌≤◌, Bool, true, false, ◌==◌, ◌&&◌, if◌then◌else◌, List, [], ◌∷◌, length, map, replicate, slice_index_or, slice_set, refl, sym, ap, ◌∙◌, subst, arith}
 use Rattle.std.specs.Prelude.{◌↔◌, nat_lt, not}
 use Rattle.std.specs.List.{range_with_len}
@@ -36,8 +37,8 @@ use Rattle.qs_graph.proofs.Ranges.{blocks_have_graphs}
 use Rattle.qs_syncset.specs.declared.mode.Mode.{Mode}
 use Rattle.qs_syncset.specs.Coalesced.{IsRemovedIfHeld, IsCoalesced}
 use Rattle.qs_syncset.specs.Codes.{ClientCode, IsBoundGraphOf, IsCodeOf, code_at}
-use Rattle.qs_syncset.specs.Flow.{nothing}
-use Rattle.qs_syncset.specs.Held.{IsHeld}
+use Rattle.qs_held_sets.specs.Flow.{nothing}
+use Rattle.qs_held_sets.specs.Held.{IsHeld}
 use Rattle.qs_syncset.specs.Modes.{is_dynamic, is_static}
 use Rattle.qs_syncset.specs.SoundSynced.{IsSoundSynced}
 use Rattle.qs_syncset.specs.SyncCounts.{AreOrdered, Decides, HasTest, SetsDecide, SyncsAreCounted, entry_with, has_synced, kept, kept_along, kept_by, queries, runs, syncs_along}

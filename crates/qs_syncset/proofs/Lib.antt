@@ -1,7 +1,3 @@
-pub mod Paths
-pub mod Bits
-pub mod Transfer
-pub mod Visits
 pub mod Removing
 pub mod Moves
 pub mod SoundTrees
@@ -12,9 +8,10 @@ pub mod CodeWalks
 pub mod SyncTrees
 pub mod SyncWalks
 pub mod CountedSyncs
-pub mod Tables
+pub mod CoalescedPlaces
 pub mod WorkedGraphs
 pub mod WorkedSyncs
 pub mod QueryRuns
 pub mod ShortLists
 pub mod Unaliased
+pub mod ProgramCodes

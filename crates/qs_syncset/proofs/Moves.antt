@@ -1,5 +1,6 @@
--- A move of a walk changes what is held just as its node does, and what is said after it depends only on what is said from the
--- next spots. The proofs on walks through coalesced graphs go one move on by these lemmas. Each goes by cases on the move.
+-- A move of a walk changes what is held just as its node does, and what is said after it depends only on what is said
+-- from the next spots. The proofs on walks through coalesced graphs go one move on by these lemmas. Each goes by cases
+-- on the move.
 use Rattle.std.proofs.Common.{◌≡◌, ℕ, true, false, List, refl, ap}
 use Rattle.std.proofs.Math.Path.{fun_ext}
 use Rattle.qs_meaning.specs.Solo.{put}
@@ -10,7 +11,7 @@ use Rattle.qs_graph.specs.declared.node.Node.TheVariants.{Entry, Local, Branch, 
 use Rattle.qs_graph.specs.Nodes.{GraphNode, over_objects, place_at}
 use Rattle.qs_graph.specs.Synced.{Synced, without_syncs}
 use Rattle.qs_graph.specs.Walk.{Spot, Move, Ends, Goes, Calls, Syncs, Queries, move, move_by, move_at, tree_of_move, EachNext}
-use Rattle.qs_syncset.specs.Flow.{Holding, held_after}
+use Rattle.qs_held_sets.specs.Flow.{Holding, held_after}
 use Rattle.qs_syncset.specs.SoundSynced.{IsSoundSynced}
 
 abbrev pub after_move : Move → Holding → Holding

@@ -1,6 +1,6 @@
--- In a checked program two names of a block that stand for one object have one kind, so a call of the one may be a call of the other
--- for all that the graph says. Coalescing by names is sound by it (see Removals). Where the client is of no template, two names are
--- two objects. It goes by cases on whether the client is of one.
+-- In a checked program two names of a block that stand for one object have one kind, so a call of the one may be a call
+-- of the other for all that the graph says. Coalescing by names is sound by it (see Removals). Where the client is of
+-- no template, two names are two objects. It goes by cases on whether the client is of one.
 use Rattle.std.proofs.Common.{◌≡◌, ℕ, zero, suc, ◌<◌, ◌||◌, ◌&&◌, ◌==◌, Bool, true, false, List, [], ◌∷◌, length, map, Option, Some, None, slice_index_or, refl, sym, ap, ◌∙◌, subst, arith}
 use Rattle.std.specs.List.{AllByRecursion, list_any}
 use Rattle.std.proofs.lemmas.Bool.{eq-eqb}

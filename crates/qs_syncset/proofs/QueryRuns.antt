@@ -1,4 +1,5 @@
--- Of any trace: the queries that come first on an object or directly after a command there are not more than the queries.
+-- Of any trace: the queries that come first on an object or directly after a command there are not more than the
+-- queries.
 use Rattle.std.proofs.Common.{◌≡◌, ◌≤◌, ℕ, suc, ◌+◌, Bool, true, false, if◌then◌else◌, List, [], ◌∷◌, length, refl, arith}
 use Rattle.std.specs.Prelude.{filter}
 use Rattle.qs_objects.specs.Parts.{part}

@@ -1,7 +1,8 @@
--- Coalescing by names, seen on objects: once each name of a coalesced graph is replaced by its object, each place is as it was or
--- has lost a synchronisation with an object that is held there. So a client may rely on it that it holds the object, even where
--- two names stand for it. The proofs on walks through a client's code stand on it. It needs that a call of an object's name may be
--- a call of each other name of the object, so that a call that sends an object home takes all its names out of the held sets.
+-- Coalescing by names, seen on objects: once each name of a coalesced graph is replaced by its object, each place is as
+-- it was or has lost a synchronisation with an object that is held there. So a client may rely on it that it holds the
+-- object, even where two names stand for it. The proofs on walks through a client's code stand on it. It needs that a
+-- call of an object's name may be a call of each other name of the object, so that a call that sends an object home
+-- takes all its names out of the held sets.
 use Rattle.std.proofs.Common.{◌≡◌, ◌⊎◌, inl, inr, ℕ, ◌<◌, Bool, true, false, ◌==◌, List, [], ◌∷◌, length, refl, sym, ap, ◌∙◌, subst, arith}
 use Rattle.std.specs.List.{AllByRecursion}
 use Rattle.std.proofs.lemmas.List.{length-map}
@@ -15,7 +16,7 @@ use Rattle.qs_graph.specs.Names.{may_be_one}
 use Rattle.qs_graph.specs.Nodes.{ControlGraph, GraphNode, made_local, over_objects, place_at}
 use Rattle.qs_graph.proofs.Bindings.{path_back, place_bound}
 use Rattle.qs_syncset.specs.Coalesced.{IsCoalesced, IsRemovedIfHeld}
-use Rattle.qs_syncset.specs.Held.{IsCallOf, IsHeld, IsSynced}
+use Rattle.qs_held_sets.specs.Held.{IsCallOf, IsHeld, IsSynced}
 use Rattle.qs_syncset.specs.SyncCounts.{Decides}
 
 -- a synchronisation that is removed where its object is held

@@ -1,12 +1,12 @@
--- One step of coalescing treats one node: its synchronisation is removed where its handler is held, and every other node stays as
--- it is. The loop of `coalesce` stands on it. Its invariant, `IsDone`, says that the nodes before the current one are done and
--- the others unchanged, so that at the end the whole graph is coalesced.
+-- One step of coalescing treats one node: its synchronisation is removed where its handler is held, and every other
+-- node stays as it is. The loop of `coalesce` stands on it. Its invariant, `IsDone`, says that the nodes before the
+-- current one are done and the others unchanged, so that at the end the whole graph is coalesced.
 use Rattle.std.proofs.Common.{◌≡◌, ℕ, ◌+◌, ◌<◌, ◌≤◌, inl, inr, List, length, set, refl, sym, ap, ◌∙◌, arith, subst, below_more}
 use Rattle.std.proofs.lemmas.List.{length-set, get_or-set_same, get_or-set_other}
 use Rattle.qs_graph.specs.declared.node.Node.{Node}
 use Rattle.qs_graph.specs.declared.node.Node.TheVariants.{Entry, Local, Branch, Sync, Query, Call, Exit}
 use Rattle.qs_graph.specs.Nodes.{ControlGraph, GraphNode, place_at, exit, made_local}
-use Rattle.qs_syncset.specs.Held.{IsHeld}
+use Rattle.qs_held_sets.specs.Held.{IsHeld}
 use Rattle.qs_syncset.specs.Coalesced.{IsRemovedIfHeld, IsCoalesced}
 
 -- what becomes of a node's place

@@ -1,4 +1,5 @@
--- A list of distinct numbers below m is not longer than m: so a block of a sound program reserves at most eight objects.
+-- A list of distinct numbers below m is not longer than m: so a block of a sound program reserves at most eight
+-- objects.
 use Rattle.std.proofs.Common.{◌≡◌, ◌<◌, ◌≤◌, ℕ, ◌==◌, ◌||◌, Bool, true, false, List, [], ◌∷◌, eqb, length, sym, subst, arith, refl}
 use Rattle.std.proofs.lemmas.Map.Steps.{length-le_from_distinct_below}
 use Rattle.std.specs.List.{AllByRecursion, IsDistinct, list_any}

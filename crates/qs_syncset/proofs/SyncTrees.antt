@@ -1,6 +1,7 @@
--- In a block's tree each synchronisation stands directly before a query of its object, so the Syncs sent along a trace are its
--- queries, or its runs of queries where the client tests what it holds. The counts of all modes begin from this. It goes by
--- induction on the statements for the form of the tree, and on the tree along the trace for the counts.
+-- In a block's tree each synchronisation stands directly before a query of its object, so the Syncs sent along a trace
+-- are its queries, or its runs of queries where the client tests what it holds. The counts of all modes begin from
+-- this. It goes by induction on the statements for the form of the tree, and on the tree along the trace for the
+-- counts.
 use Rattle.std.proofs.Common.{◌≡◌, ◌≤◌, ◌+◌, arith, ℕ, zero, suc, ℤ, Bool, true, false, if◌then◌else◌, ◌==◌, ◌&&◌, List, [], ◌∷◌, filter, length, slice_set, refl, sym, ap, ◌∙◌, subst}
 use Rattle.qs_objects.specs.Operations.{is_query}
 use Rattle.qs_objects.specs.Parts.{part}
@@ -12,7 +13,7 @@ use Rattle.qs_meaning.specs.Solo.{put, value_of}
 use Rattle.qs_program.specs.Statements.{Statements, end, command, query, assign, choose, again, leave}
 use Rattle.qs_program.specs.Values.{Locals, expr_value, test_value}
 use Rattle.qs_graph.specs.Synced.{Synced, Done, Call, Sync, Query, Next, turns, meaning, synced_of, without_syncs}
-use Rattle.qs_syncset.specs.Flow.{Holding}
+use Rattle.qs_held_sets.specs.Flow.{Holding}
 use Rattle.qs_syncset.specs.SoundSynced.{IsSoundSynced}
 use Rattle.qs_syncset.specs.SyncCounts.{asks, first_queries, queries, syncs_along}
 

@@ -1,6 +1,6 @@
--- Along a walk through a coalesced graph the synchronisations are those of the graph as it is built, but for those that a test of
--- what is held tells. The count of Syncs in the static mode stands on `kept_is`. It goes by induction on the nodes that the walk may
--- take, with cases on whether the node's synchronisation was removed.
+-- Along a walk through a coalesced graph the synchronisations are those of the graph as it is built, but for those that
+-- a test of what is held tells. The count of Syncs in the static mode stands on `kept_is`. It goes by induction on the
+-- nodes that the walk may take, with cases on whether the node's synchronisation was removed.
 use Rattle.std.proofs.Common.{◌≡◌, inl, inr, ℕ, zero, suc, ◌+◌, ◌<◌, Bool, true, false, ◌==◌, ◌&&◌, if◌then◌else◌, List, [], ◌∷◌, length, refl, sym, ap, ◌∙◌, subst, arith}
 use Rattle.std.specs.Prelude.{not}
 use Rattle.qs_objects.specs.declared.held.Event.{Event}

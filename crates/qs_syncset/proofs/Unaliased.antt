@@ -1,5 +1,6 @@
--- Where no two names stand for one object, the list of names plays no part in what is held: so a graph that was coalesced without
--- its names is coalesced with them. The worked programs take their codes from worked graphs by it. It goes by cases on the nodes.
+-- Where no two names stand for one object, the list of names plays no part in what is held: so a graph that was
+-- coalesced without its names is coalesced with them. The worked programs take their codes from worked graphs by it. It
+-- goes by cases on the nodes.
 use Rattle.std.proofs.Common.{inl, inr, ℕ, Bool, true, false, List, [], ◌∷◌}
 use Rattle.std.specs.List.{AllByRecursion}
 use Rattle.qs_graph.specs.declared.node.Named.{Named}
@@ -8,7 +9,7 @@ use Rattle.qs_graph.specs.declared.node.Node.TheVariants.{Entry, Local, Branch, 
 use Rattle.qs_graph.specs.Nodes.{ControlGraph, GraphNode, over_objects, place_at}
 use Rattle.qs_syncset.specs.Codes.{IsGraphOf}
 use Rattle.qs_syncset.specs.Coalesced.{IsRemovedIfHeld}
-use Rattle.qs_syncset.specs.Held.{IsCallOf, IsHeld, IsSynced}
+use Rattle.qs_held_sets.specs.Held.{IsCallOf, IsHeld, IsSynced}
 
 module _ (g : List GraphNode) (names : List Named) where
   abbrev pub named : ControlGraph

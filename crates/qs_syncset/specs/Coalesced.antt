@@ -3,9 +3,10 @@ use Rattle.std.specs.Prelude.{◌≡◌, ◌⊎◌, ℕ, ◌<◌, List, length}
 use Rattle.qs_graph.specs.declared.node.Node.{Node}
 use Rattle.qs_graph.specs.declared.node.Node.TheVariants.{Sync}
 use Rattle.qs_graph.specs.Nodes.{ControlGraph, GraphNode, place_at, made_local}
-use Rattle.qs_syncset.specs.Held.{IsHeld}
+use Rattle.qs_held_sets.specs.Held.{IsHeld}
 
--- a synchronisation becomes a local node that does nothing exactly where its handler is held, and every other place stays
+-- a synchronisation becomes a local node that does nothing exactly where its handler is held, and every other place
+-- stays
 abbrev pub IsRemovedIfHeld : (held : ℕ → Type 0) → Node → (old new : GraphNode) → Type 0
 IsRemovedIfHeld held (Sync h) old new = (held h × (new ≡ made_local old)) ⊎ ((held h → ⊥) × (new ≡ old))
 IsRemovedIfHeld held _ old new = new ≡ old

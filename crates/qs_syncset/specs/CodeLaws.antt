@@ -12,11 +12,11 @@ use Rattle.qs_graph.specs.Walk.{entry, walk, Within}
 use Rattle.qs_syncset.specs.declared.mode.Mode.{Mode}
 use Rattle.qs_syncset.specs.Coalesced.{IsCoalesced}
 use Rattle.qs_syncset.specs.Codes.{ClientCode, IsCodeOf, code_at}
-use Rattle.qs_syncset.specs.Flow.{nothing}
+use Rattle.qs_held_sets.specs.Flow.{nothing}
 use Rattle.qs_syncset.specs.SoundSynced.{IsSoundSynced, IsOnReserved}
 
--- from Entry, with these variables and any counts: within the limit the walk is at Exit; without its synchronisations it says the
--- block's interaction tree; each query is on an object that is held, and all is asked of the block's list
+-- from Entry, with these variables and any counts: within the limit the walk is at Exit; without its synchronisations
+-- it says the block's interaction tree; each query is on an object that is held, and all is asked of the block's list
 pub record IsSoundWalk (b : BlockShape) (g : List GraphNode) (l : Locals) (counts : List ℕ) : Type 0 where
   pub ends : Within g limit (entry l counts)
   pub tree : without_syncs (walk g limit (entry l counts)) ≡ tree_of b.body l
@@ -38,4 +38,5 @@ NodesStaySound =
 
 -- a graph has one coalesced form
 abbrev pub CoalescingIsUnique : Type 0
-CoalescingIsUnique = (g : ControlGraph) (one other : List GraphNode) → IsCoalesced g one → IsCoalesced g other → one ≡ other
+CoalescingIsUnique =
+    (g : ControlGraph) (one other : List GraphNode) → IsCoalesced g one → IsCoalesced g other → one ≡ other

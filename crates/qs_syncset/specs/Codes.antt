@@ -38,15 +38,18 @@ IsGraphOf true g new = IsCoalesced g new
 
 -- such a graph, once each name stands for its object
 abbrev pub IsBoundGraphOf : (static : Bool) → ControlGraph → (binding : List ℕ) → List GraphNode → Type 0
-IsBoundGraphOf static g binding new = (names : List GraphNode) × IsGraphOf static g names × (new ≡ bound_nodes binding names)
+IsBoundGraphOf static g binding new =
+    (names : List GraphNode) × IsGraphOf static g names × (new ≡ bound_nodes binding names)
 
 -- the code of a block whose graph over names is this
-pub record IsBlockCode (static : Bool) (b : BlockShape) (g : ControlGraph) (binding : List ℕ) (code : BlockCode) : Type 0 where
+pub record IsBlockCode (static : Bool) (b : BlockShape) (g : ControlGraph) (binding : List ℕ)
+    (code : BlockCode) : Type 0 where
   pub reserved : code.reserved ≡ b.reserved
   pub graph : IsBoundGraphOf static g binding code.graph
   pub loads : (h : ℕ) → h < most_handlers → load_at code h ≡ load_of b.body h
 
--- the code of a program's client: its blocks in their order, coalesced in the static modes alone, tested in the dynamic ones alone
+-- the code of a program's client: its blocks in their order, coalesced in the static modes alone, tested in the dynamic
+-- ones alone
 pub record IsCodeOf (p : ProgramShape) (mode : Mode) (client : ℕ) (code : ClientCode) : Type 0 where
   pub dynamic : code.dynamic ≡ is_dynamic mode
   pub count : length code.blocks ≡ blocks_of p client

@@ -16,8 +16,8 @@ use Rattle.qs_graph.specs.GraphExamples.{balance, deposit, query_in_repeat, leav
 use Rattle.qs_graph.specs.Synced as tree
 use Rattle.qs_graph.specs.SyncedExamples.{balance_of_a, deposit_1}
 use Rattle.qs_syncset.specs.Coalesced.{IsCoalesced}
-use Rattle.qs_syncset.specs.Flow.{nothing, held_along}
-use Rattle.qs_syncset.specs.Held.{IsHeld}
+use Rattle.qs_held_sets.specs.Flow.{nothing, held_along}
+use Rattle.qs_held_sets.specs.Held.{IsHeld}
 use Rattle.qs_syncset.specs.SoundSynced.{IsSoundSynced}
 
 -- x = a.balance(); repeat 2 { x = a.balance(); a.deposit(1); }
@@ -65,7 +65,8 @@ deposit_between = query 0 balance (command deposit_to_g (query 1 balance end))
 -- of the queries, the second has lost its synchronisation
 abbrev pub without_second : List GraphNode
 without_second =
-    to Entry 1 ∷ to (Sync 0) 2 ∷ to (Query 0 balance) 3 ∷ to (Call deposit_to_g) 4 ∷ to (Local Nothing) 5 ∷ to (Query 1 balance) 6 ∷ exit ∷ []
+    to Entry 1 ∷ to (Sync 0) 2 ∷ to (Query 0 balance) 3 ∷ to (Call deposit_to_g) 4 ∷ to (Local Nothing) 5
+    ∷ to (Query 1 balance) 6 ∷ exit ∷ []
 
 -- f.deposit(1); g.deposit(1); x = f.balance(); y = g.balance();
 abbrev pub two_deposits : Statements

@@ -1,14 +1,11 @@
-pub mod Held
-pub mod Flow
-pub mod Table
-pub mod Bytes
-pub mod Dataflow
+-- What an auditor reads: the promises and the calls of the surface are said with these.
 pub mod Coalesced
 pub mod Modes
 pub mod Codes
+pub mod SyncCounts
+-- What crates promise one another, what proofs use, and worked examples.
 pub mod Shapes
 pub mod SoundSynced
 pub mod CodeLaws
-pub mod SyncCounts
 pub mod HeldExamples
 pub mod SyncExamples

@@ -6,7 +6,8 @@ use Rattle.qs_graph.specs.Shapes.{place_code}
 use Rattle.qs_syncset.specs.Codes.{BlockCode, ClientCode}
 
 abbrev pub coded_block : Coded BlockCode
-coded_block = code_by (List ℕ × (List GraphNode × List ℕ)) (coded× (coded_list coded_ℕ) (coded× (coded_list place_code) (coded_list coded_ℕ)))
+coded_block = code_by (List ℕ × (List GraphNode × List ℕ))
+    (coded× (coded_list coded_ℕ) (coded× (coded_list place_code) (coded_list coded_ℕ)))
     (λ b. (b.reserved, (b.graph, b.loads))) (λ p. record { reserved = p.0; graph = p.1.0; loads = p.1.1 }) (λ _. refl)
 
 abbrev pub coded_client : Coded ClientCode

@@ -22,9 +22,9 @@ use Rattle.qs_graph.specs.WellFormed.{IsGraph}
 use Rattle.qs_syncset.specs.declared.mode.Mode.{Mode}
 use Rattle.qs_syncset.specs.declared.mode.Mode.TheVariants.{Plain, Static}
 use Rattle.qs_syncset.specs.Codes.{ClientCode, IsCodeOf, code_at}
-use Rattle.qs_syncset.specs.Held.{IsHeld}
+use Rattle.qs_held_sets.specs.Held.{IsHeld}
 use Rattle.qs_syncset.specs.Modes.{is_dynamic, is_static}
-use Rattle.qs_syncset.specs.Table.{AreSetsOf, has}
+use Rattle.qs_held_sets.specs.Table.{AreSetsOf, has}
 
 abbrev pub asks : Event → Bool
 asks e = is_query e.request.op
@@ -36,13 +36,15 @@ queries h es = length (filter asks (part h es))
 -- the queries that come directly after a command, and the first of all unless a query came directly before these events
 abbrev pub first_queries : (asked : Bool) → List Event → ℕ
 first_queries asked [] = 0
-first_queries asked (e ∷ es) = if asks e then (if asked then 0 else 1) + first_queries true es else first_queries false es
+first_queries asked (e ∷ es) =
+    if asks e then (if asked then 0 else 1) + first_queries true es else first_queries false es
 
 -- among the requests of a trace on object h, the queries that come first or directly after a command
 abbrev pub runs : ℕ → List Event → ℕ
 runs h es = first_queries false (part h es)
 
--- A walk through a graph with a trace: its synchronisations with h whose queries are in the trace, but those of the nodes that a test tells.
+-- A walk through a graph with a trace: its synchronisations with h whose queries are in the trace, but those of the
+-- nodes that a test tells.
 module _ (g : List GraphNode) (held : ℕ → Bool) (h : ℕ) where
   -- at node n, where `go` counts from the next spot on
   abbrev pub kept_by : (Spot → List Event → ℕ) → (n : ℕ) → Move → List Event → ℕ
@@ -64,7 +66,8 @@ module _ (g : List GraphNode) (held : ℕ → Bool) (h : ℕ) where
 abbrev pub entry_with : ℕ → Locals → Spot
 entry_with n l = entry l (replicate n 0)
 
--- the queries of a block's trace on object h that come to a synchronisation at which its handler is not held, in the graph as it is built
+-- the queries of a block's trace on object h that come to a synchronisation at which its handler is not held, in the
+-- graph as it is built
 abbrev pub kept : Statements → (ℕ → Bool) → Locals → ℕ → List Event → ℕ
 kept body held l h es = kept_along (block_graph body) held h limit (entry_with (length (block_graph body)) l) es
 
@@ -75,15 +78,17 @@ Decides g held = (n h : ℕ) → (place_at g.nodes n).node ≡ node.Sync h → (
 abbrev pub HasTest : ControlGraph → Type 0
 HasTest g = (held : ℕ → Bool) × Decides g held
 
--- The Syncs for h along a tree with synchronisations whose queries are in the trace. With the dynamic test one is skipped where h is held:
--- a synchronisation gives it, and a call sends it home.
+-- The Syncs for h along a tree with synchronisations whose queries are in the trace. With the dynamic test one is
+-- skipped where h is held: a synchronisation gives it, and a call sends it home.
 abbrev pub syncs_along : (dynamic : Bool) → (h : ℕ) → (held : Bool) → Synced → List Event → ℕ
 syncs_along dynamic h held (Done l) es = 0
 syncs_along dynamic h held (Call r next) [] = 0
-syncs_along dynamic h held (Call r next) (e ∷ es) = syncs_along dynamic h (if r.object == h then false else held) next es
+syncs_along dynamic h held (Call r next) (e ∷ es) =
+    syncs_along dynamic h (if r.object == h then false else held) next es
 syncs_along dynamic h held (Sync g next) [] = 0
 syncs_along dynamic h held (Sync g next) (e ∷ es) =
-    if g == h then (if dynamic && held then 0 else 1) + syncs_along dynamic h true next (e ∷ es) else syncs_along dynamic h held next (e ∷ es)
+    if g == h then (if dynamic && held then 0 else 1) + syncs_along dynamic h true next (e ∷ es)
+    else syncs_along dynamic h held next (e ∷ es)
 syncs_along dynamic h held (Query r next) [] = 0
 syncs_along dynamic h held (Query r next) (e ∷ es) = syncs_along dynamic h held (next (value_of e.reply)) es
 
@@ -92,10 +97,13 @@ pub record AreOrdered (body : Statements) (l : Locals) (es : List Event) (h : �
   pub least : runs h es ≤ kept body held l h es
   pub most : kept body held l h es ≤ queries h es
 
--- what a client that follows a trace of a block sends for h along the tree that this graph says; the block's graph over names is `built`
-pub record IsSentBy (mode : Mode) (built : ControlGraph) (body : Statements) (g : List GraphNode) (n : ℕ) (l : Locals) (es : List Event) (h : ℕ) : Type 0 where
+-- what a client that follows a trace of a block sends for h along the tree that this graph says; the block's graph over
+-- names is `built`
+pub record IsSentBy (mode : Mode) (built : ControlGraph) (body : Statements) (g : List GraphNode) (n : ℕ) (l : Locals)
+    (es : List Event) (h : ℕ) : Type 0 where
   pub plain : mode ≡ Plain → syncs_along (is_dynamic mode) h false (walk g limit (entry_with n l)) es ≡ queries h es
-  pub dynamic : is_dynamic mode ≡ true → syncs_along (is_dynamic mode) h false (walk g limit (entry_with n l)) es ≡ runs h es
+  pub dynamic : is_dynamic mode ≡ true
+      → syncs_along (is_dynamic mode) h false (walk g limit (entry_with n l)) es ≡ runs h es
   pub static : mode ≡ Static → (held : ℕ → Bool) → Decides built held
       → syncs_along (is_dynamic mode) h false (walk g limit (entry_with n l)) es ≡ kept body held l h es
   pub tested : is_static mode ≡ true → HasTest built
@@ -116,6 +124,7 @@ SetsDecide =
 abbrev pub SyncsAreCounted : Type 0
 SyncsAreCounted =
     (p : ProgramShape) (mode : Mode) (c : ℕ) (code : ClientCode) → IsSound p → IsCodeOf p mode c code
-    → (k n : ℕ) (l : Locals) (es : List Event) (rest : Interaction) (h : ℕ) → k < blocks_of p c → length (code_at code k).graph ≤ n
+    → (k n : ℕ) (l : Locals) (es : List Event) (rest : Interaction) (h : ℕ)
+    → k < blocks_of p c → length (code_at code k).graph ≤ n
     → Leads (tree_of (block_at p c k).body l) es rest
     → IsSentBy mode (graph_of p c k) (block_at p c k).body (code_at code k).graph n l es h

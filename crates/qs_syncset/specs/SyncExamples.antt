@@ -3,7 +3,7 @@ use Rattle.std.specs.Prelude.{◌≡◌, ℕ, Bool, true, false, List, [], ◌�
 use Rattle.qs_objects.specs.Act.{account}
 use Rattle.qs_objects.specs.Objects.{fresh}
 use Rattle.qs_objects.specs.declared.held.Event.{Event}
-use Rattle.qs_script.specs.declared.tree.Relation.TheVariants.{Unequal}
+use Rattle.qs_tree.specs.declared.tree.Relation.TheVariants.{Unequal}
 use Rattle.qs_meaning.specs.Solo.{solo}
 use Rattle.qs_program.specs.Binding.{bound_statements}
 use Rattle.qs_program.specs.Statements.{Statements, end, command, query, choose, again}
@@ -22,7 +22,7 @@ use Rattle.qs_graph.specs.declared.node.Action.TheVariants.{Nothing}
 use Rattle.qs_graph.specs.declared.node.Node.TheVariants.{Entry, Local, Query, Sync}
 use Rattle.qs_syncset.specs.Coalesced.{IsCoalesced}
 use Rattle.qs_syncset.specs.HeldExamples.{deposit_between, f_and_g, template_graph, without_inner, without_last, without_second}
-use Rattle.qs_syncset.specs.Flow.{nothing}
+use Rattle.qs_held_sets.specs.Flow.{nothing}
 use Rattle.qs_syncset.specs.SoundSynced.{IsSoundSynced}
 use Rattle.qs_syncset.specs.SyncCounts.{entry_with, kept, queries, runs, syncs_along}
 
@@ -33,8 +33,8 @@ three = query 0 balance (query 0 balance (query 0 balance end))
 -- of the queries, the first alone has kept its synchronisation
 abbrev pub first_alone : List GraphNode
 first_alone =
-    to Entry 1 ∷ to (Sync 0) 2 ∷ to (Query 0 balance) 3 ∷ to (Local Nothing) 4 ∷ to (Query 0 balance) 5 ∷ to (Local Nothing) 6
-    ∷ to (Query 0 balance) 7 ∷ exit ∷ []
+    to Entry 1 ∷ to (Sync 0) 2 ∷ to (Query 0 balance) 3 ∷ to (Local Nothing) 4 ∷ to (Query 0 balance) 5
+    ∷ to (Local Nothing) 6 ∷ to (Query 0 balance) 7 ∷ exit ∷ []
 
 -- repeat 3 { x = a.balance(); }
 abbrev pub repeated_query : Statements
@@ -61,36 +61,47 @@ tree_in g = walk g limit (entry_with (length g) zeros)
 abbrev pub held_at : List Bool → ℕ → Bool
 held_at table n = slice_index_or table n false
 
--- a block with its graph coalesced and a table of the nodes at which a is held: the queries, the runs of them and those at which a is not
--- held; and the Syncs that are sent in the modes Plain, Dynamic, Static and Both
-pub record Counts (b : Statements) (coalesced : List GraphNode) (table : List Bool) (counted sent : List ℕ) : Type 0 where
+-- a block with its graph coalesced and a table of the nodes at which a is held: the queries, the runs of them and those
+-- at which a is not held; and the Syncs that are sent in the modes Plain, Dynamic, Static and Both
+pub record Counts (b : Statements) (coalesced : List GraphNode) (table : List Bool)
+    (counted sent : List ℕ) : Type 0 where
   pub graph : IsCoalesced (over_objects (block_graph b)) coalesced
   pub counts : queries 0 (trace_of b) ∷ runs 0 (trace_of b) ∷ kept b (held_at table) zeros 0 (trace_of b) ∷ [] ≡ counted
-  pub sends : syncs_along false 0 false (tree_in (block_graph b)) (trace_of b) ∷ syncs_along true 0 false (tree_in (block_graph b)) (trace_of b)
-      ∷ syncs_along false 0 false (tree_in coalesced) (trace_of b) ∷ syncs_along true 0 false (tree_in coalesced) (trace_of b) ∷ [] ≡ sent
+  pub sends : syncs_along false 0 false (tree_in (block_graph b)) (trace_of b)
+      ∷ syncs_along true 0 false (tree_in (block_graph b)) (trace_of b)
+      ∷ syncs_along false 0 false (tree_in coalesced) (trace_of b)
+      ∷ syncs_along true 0 false (tree_in coalesced) (trace_of b) ∷ [] ≡ sent
 
--- A template's block `x = f.balance(); g.deposit(1); y = f.balance();` whose names stand for these objects: of the first of its objects the
--- queries, the runs of them and those at which its own name is not held, by a test of the names; and the Syncs that are sent in the modes
--- without and with the dynamic test, whether or not the mode is static
+-- A template's block `x = f.balance(); g.deposit(1); y = f.balance();` whose names stand for these objects: of the
+-- first of its objects the queries, the runs of them and those at which its own name is not held, by a test of the
+-- names; and the Syncs that are sent in the modes without and with the dynamic test, whether or not the mode is static
 pub record TemplateCounts (binding : List ℕ) (counted sent : List ℕ) : Type 0 where
   pub graph : IsCoalesced (template_graph f_and_g deposit_between) (block_graph deposit_between)
-  pub counts : queries 0 (trace_of (bound_statements binding deposit_between)) ∷ runs 0 (trace_of (bound_statements binding deposit_between))
-      ∷ kept (bound_statements binding deposit_between) (held_at []) zeros 0 (trace_of (bound_statements binding deposit_between)) ∷ [] ≡ counted
-  pub sends : syncs_along false 0 false (tree_in (bound_nodes binding (block_graph deposit_between))) (trace_of (bound_statements binding deposit_between))
-      ∷ syncs_along true 0 false (tree_in (bound_nodes binding (block_graph deposit_between))) (trace_of (bound_statements binding deposit_between))
+  pub counts : queries 0 (trace_of (bound_statements binding deposit_between))
+      ∷ runs 0 (trace_of (bound_statements binding deposit_between))
+      ∷ kept (bound_statements binding deposit_between) (held_at []) zeros 0
+      (trace_of (bound_statements binding deposit_between)) ∷ [] ≡ counted
+  pub sends : syncs_along false 0 false (tree_in (bound_nodes binding (block_graph deposit_between)))
+      (trace_of (bound_statements binding deposit_between))
+      ∷ syncs_along true 0 false (tree_in (bound_nodes binding (block_graph deposit_between)))
+      (trace_of (bound_statements binding deposit_between))
       ∷ [] ≡ sent
 
 pub record SyncExamples : Type 0 where
   pub one_after_another : Counts three first_alone (false ∷ false ∷ true ∷ true ∷ true ∷ true ∷ true ∷ true ∷ [])
       (3 ∷ 1 ∷ 1 ∷ []) (3 ∷ 1 ∷ 1 ∷ 1 ∷ [])
   pub in_repeat : Counts repeated_query (block_graph repeated_query) [] (3 ∷ 1 ∷ 3 ∷ []) (3 ∷ 1 ∷ 3 ∷ 1 ∷ [])
-  pub before_repeat : Counts query_in_repeat without_inner (false ∷ false ∷ true ∷ true ∷ true ∷ true ∷ true ∷ true ∷ [])
+  pub before_repeat : Counts query_in_repeat without_inner
+      (false ∷ false ∷ true ∷ true ∷ true ∷ true ∷ true ∷ true ∷ [])
       (4 ∷ 1 ∷ 1 ∷ []) (4 ∷ 1 ∷ 1 ∷ 1 ∷ [])
-  pub where_bodies_meet : Counts either (block_graph either) (false ∷ false ∷ false ∷ false ∷ true ∷ false ∷ true ∷ true ∷ [])
+  pub where_bodies_meet : Counts either (block_graph either)
+      (false ∷ false ∷ false ∷ false ∷ true ∷ false ∷ true ∷ true ∷ [])
       (2 ∷ 1 ∷ 2 ∷ []) (2 ∷ 1 ∷ 2 ∷ 1 ∷ [])
-  pub past_a_leave : Counts leave_first without_last (false ∷ false ∷ true ∷ true ∷ true ∷ true ∷ false ∷ true ∷ true ∷ true ∷ [])
+  pub past_a_leave : Counts leave_first without_last
+      (false ∷ false ∷ true ∷ true ∷ true ∷ true ∷ false ∷ true ∷ true ∷ true ∷ [])
       (2 ∷ 1 ∷ 1 ∷ []) (2 ∷ 1 ∷ 1 ∷ 1 ∷ [])
-  -- both names for one object: the deposit ends the run; for two objects: it does not, and the second synchronisation is left all the same
+  -- both names for one object: the deposit ends the run; for two objects: it does not, and the second synchronisation
+  -- is left all the same
   pub one_object : TemplateCounts (0 ∷ 0 ∷ []) (2 ∷ 2 ∷ 2 ∷ []) (2 ∷ 2 ∷ [])
   pub two_objects : TemplateCounts (0 ∷ 1 ∷ []) (2 ∷ 1 ∷ 2 ∷ []) (2 ∷ 1 ∷ [])
   -- without it, a client with both names for one object would query an object that it does not hold

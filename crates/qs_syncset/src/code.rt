@@ -10,8 +10,8 @@ ghost use Rattle.qs_syncset.specs.Modes.{is_static};
 
 use crate::mode::Mode;
 use crate::removal::coalesce;
-use crate::sets::held_sets;
 use qs_graph::{Graph, Named, graph_in};
+use qs_held_sets::held_sets;
 use qs_program::{MOST_HANDLERS, Program};
 use smallvec::SmallVec;
 use std::alloc::{AllocError, Global};
@@ -62,7 +62,8 @@ impl BlockCode {
     }
 }
 
-/// The code of a client: for each of its blocks the reserved handlers, the graph and the loads, and whether it tests what it holds.
+/// The code of a client: for each of its blocks the reserved handlers, the graph and the loads, and whether it tests
+/// what it holds.
 pub struct Code {
     dynamic: bool,
     blocks: Vec<BlockCode>,
@@ -91,9 +92,9 @@ impl Model for Code {
 }
 
 impl Code {
-    /// What holds of every code: it was compiled for a client of a checked program. It does nothing, and no call of a code
-    /// takes memory.
-    pub fn is_code(&self)
+    /// What holds of every code: it was compiled for a client of a checked program. It does nothing, and no call of a
+    /// code takes memory.
+    pub fn keeps_code(&self)
         ensures code { IsCode self.now }
     {
         let _ = &self.blocks;
@@ -201,14 +202,14 @@ fn block_code(
     })
 }
 
-/// The code of a client, coalesced in the static modes alone, and with the test of what is held in the dynamic modes alone. An error
-/// says that memory was refused: it comes only where the client has a block.
+/// The code of a client, coalesced in the static modes alone, and with the test of what is held in the dynamic modes
+/// alone. An error says that memory was refused: it comes only where the client has a block.
 pub fn compile(alloc: Global, program: &Program, mode: Mode, client: u8) -> Result<Code, AllocError>
     requires client { client < length program.now.clients }
     ensures code { IfOk result (λ code. IsCodeOf program.now mode client code) }
     ensures memory { IsErr result → 0 < blocks_of program.now client }
 {
-    program.is_sound();
+    program.keeps_sound();
     let count = program.blocks_of(client);
     let mut blocks = Vec::with_capacity(alloc, count)?;
     let mut room = Vec::new(alloc);

@@ -4,7 +4,6 @@ ghost use Rattle.qs_syncset.specs.CodeLaws.{CoalescingIsUnique, NodesStaySound, 
 ghost use Rattle.qs_syncset.specs.HeldExamples.{HeldExamples};
 ghost use Rattle.qs_syncset.specs.SyncCounts.{SetsDecide, SyncsAreCounted};
 ghost use Rattle.qs_syncset.specs.SyncExamples.{SyncExamples};
-ghost use Rattle.qs_syncset.specs.Table.{UnreachedNodesHoldAll};
 
 /// Blocks with what is held at the nodes of their graphs, and with these graphs coalesced; it does nothing.
 pub fn held_examples()
@@ -21,21 +20,23 @@ pub fn nodes_stay_sound()
     ensures sound { NodesStaySound }
 {}
 
-/// The walk through each block of a code, whatever the mode: it is at Exit within the limit, without its synchronisations it says
-/// the block's interaction tree, each query is on an object that the client holds then, and all that is asked is of the block's
-/// list; it does nothing.
+/// The walk through each block of a code, whatever the mode: it is at Exit within the limit, without its
+/// synchronisations it says the block's interaction tree, each query is on an object that the client holds then, and
+/// all that is asked is of the block's list; it does nothing.
 pub fn walks_are_sound()
     ensures sound { WalksAreSound }
 {}
 
-/// What a client that follows a trace of a block sends for an object along the block's tree in a code: a Sync for each query in mode
-/// Plain, for each that comes first or directly after a command in the dynamic modes, and for each that comes to a synchronisation
-/// at which the object is not held in mode Static; and these numbers are in order. It does nothing.
+/// What a client that follows a trace of a block sends for an object along the block's tree in a code: a Sync for each
+/// query in mode Plain, for each that comes first or directly after a command in the dynamic modes, and for each that
+/// comes to a synchronisation at which the object is not held in mode Static; and these numbers are in order. It does
+/// nothing.
 pub fn syncs_are_counted()
     ensures counted { SyncsAreCounted }
 {}
 
-/// Blocks with the queries that they make, and the Syncs that they send in each mode, computed by the definitions; it does nothing.
+/// Blocks with the queries that they make, and the Syncs that they send in each mode, computed by the definitions; it
+/// does nothing.
 pub fn sync_count_examples()
     ensures examples { SyncExamples }
 {}
@@ -43,9 +44,4 @@ pub fn sync_count_examples()
 /// The held sets of a graph are a test of where its synchronisations are held; it does nothing.
 pub fn sets_decide()
     ensures decide { SetsDecide }
-{}
-
-/// Where no path leads, the held sets have each of 8 handlers, so every name of the block's list; it does nothing.
-pub fn unreached_nodes_hold_all()
-    ensures all { UnreachedNodesHoldAll }
 {}

@@ -2,10 +2,10 @@
 
 ghost use Rattle.std.specs.Prelude.{◌≡◌};
 ghost use Rattle.qs_syncset.specs.Coalesced.{IsCoalesced};
-ghost use Rattle.qs_syncset.specs.Table.{AreSetsOf};
+ghost use Rattle.qs_held_sets.specs.Table.{AreSetsOf};
 
-use crate::sets::Sets;
 use qs_graph::{Graph, Node};
+use qs_held_sets::Sets;
 
 /// Removes each synchronisation whose own handler, by its name, is held as it is reached; takes no memory.
 pub fn coalesce(mut graph: Graph, sets: &Sets) -> Graph
@@ -14,7 +14,7 @@ pub fn coalesce(mut graph: Graph, sets: &Sets) -> Graph
     ensures same_names { result.names ≡ graph.names }
     ensures same_aliases { result.aliases ≡ graph.aliases }
 {
-    graph.is_graph();
+    graph.keeps_graph();
     for n in 0..graph.len() {
         if let Node::Sync(handler) = graph.node(n) {
             if sets.holds(n, *handler) {

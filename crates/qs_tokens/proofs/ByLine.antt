@@ -1,9 +1,9 @@
--- A line feed ends what has begun, so the tokens of a text are those of its lines. The line of a fault stands on it. It goes by
--- induction on the bytes before the line feed.
+-- A line feed ends what has begun, so the tokens of a text are those of its lines. The line of a fault stands on it. It
+-- goes by induction on the bytes before the line feed.
 use Rattle.std.proofs.Common.{◌≡◌, ℕ, List, [], ◌∷◌, ◌++◌, refl, ap, ◌∙◌, append-nil, Result, Ok, Err}
 use Rattle.qs_tokens.specs.declared.token.Token.{Token}
 use Rattle.qs_tokens.specs.declared.lex.TokenFault.{TokenFault}
-use Rattle.qs_tokens.specs.Tokens.{Pending, nothing, word, digits, comment, sign, Step, over, step, ends, going_on, after, tokens_from, tokens_of}
+use Rattle.qs_tokens.specs.Tokens.{Pending, nothing, word, digits, comment, sign, Step, over, byte_step, ends, going_on, after, tokens_from, tokens_of}
 use Rattle.qs_tokens.proofs.Lexemes.{then_tokens, after-after}
 
 line_feed : (r : Result (List Token) TokenFault) (ys : List ℕ) → going_on (ends r 10) (λ q. tokens_from q ys) ≡ then_tokens r ys
@@ -28,7 +28,7 @@ stepped (Err e) xs ys h = refl
 
 from_line : (p : Pending) (xs ys : List ℕ) → tokens_from p (xs ++ 10 ∷ ys) ≡ then_tokens (tokens_from p xs) ys
 from_line p [] ys = over_at_feed p ys
-from_line p (b ∷ xs) ys = stepped (step p b) xs ys (λ q. from_line q xs ys)
+from_line p (b ∷ xs) ys = stepped (byte_step p b) xs ys (λ q. from_line q xs ys)
 
 pub by_line : (xs ys : List ℕ) → tokens_of (xs ++ 10 ∷ ys) ≡ then_tokens (tokens_of xs) ys
 by_line xs ys = from_line nothing xs ys

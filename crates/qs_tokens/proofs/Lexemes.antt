@@ -1,6 +1,6 @@
--- The first token of a text is what stands at its front, a name, digits, a comment or a sign, and the other tokens are those of
--- the rest of the text. The functions that cut off one token, such as `front_word` and `front_number`, stand on it. The
--- definition goes byte by byte, so the proof goes by induction on the bytes that belong to the token.
+-- The first token of a text is what stands at its front, a name, digits, a comment or a sign, and the other tokens are
+-- those of the rest of the text. The functions that cut off one token, such as `front_word` and `front_number`, stand
+-- on it. The definition goes byte by byte, so the proof goes by induction on the bytes that belong to the token.
 use Rattle.std.proofs.Common.{◌≡◌, ◌≢◌, ℕ, ◌+◌, ◌<◌, get_or, ◌||◌, nat_eq, not, ◌≤◌, min, zero, suc, Bool, true, false, if◌then◌else◌, List, [], ◌∷◌, ◌++◌, length, take, drop, refl, ap, sym, ◌∙◌, append_assoc, append-nil, one-add, All, IsTrue, Option, Some, None, Result, Ok, Err, arith}
 use Rattle.std.proofs.lemmas.List.{length-take-le}
 use Rattle.std.proofs.lemmas.List.Elements.{All-cons, All-nil}
@@ -8,7 +8,7 @@ use Rattle.qs_tokens.specs.declared.token.Token.{Token}
 use Rattle.qs_tokens.specs.declared.lex.TokenFault.{TokenFault}
 use Rattle.qs_tokens.specs.declared.lex.TokenFault.TheVariants.{Number, Name}
 use Rattle.std.proofs.Math.Dec.{ltb}
-use Rattle.qs_tokens.specs.Tokens.{Pending, nothing, word, digits, comment, sign, is_name_byte, is_letter, is_digit, is_space, word_token, value_of, Step, over, tokens_from, tokens_of, after, ends, first_byte, before, step, going_on, any_sign, single_sign, at, equals_signs}
+use Rattle.qs_tokens.specs.Tokens.{Pending, nothing, word, digits, comment, sign, is_name_byte, is_letter, is_digit, is_space, word_token, value_of, Step, over, tokens_from, tokens_of, after, ends, first_byte, before, byte_step, going_on, any_sign, single_sign, at, equals_signs}
 use Rattle.qs_tokens.specs.declared.token.Token.TheVariants as t
 use Rattle.qs_tokens.specs.Cutting.{run_of, alone, with_equals as with_equals_of}
 use Rattle.qs_tokens.specs.Limits.{longest_name}
@@ -43,7 +43,7 @@ then_nil (Err e) = refl
 
 -- a run of bytes that pass the test: a name or digits
 module _ (test : ℕ → Bool) (run : List ℕ → Pending)
-    (steps : (w : List ℕ) (b : ℕ) → step (run w) b ≡ (if test b then Ok ([], run (w ++ b ∷ [])) else ends (over (run w)) b)) where
+    (steps : (w : List ℕ) (b : ℕ) → byte_step (run w) b ≡ (if test b then Ok ([], run (w ++ b ∷ [])) else ends (over (run w)) b)) where
   -- one byte after a run: the test's answer decides
   run_step : (passes : Bool) (w : List ℕ) (b : ℕ) (bs : List ℕ) → tokens_from (run (w ++ b ∷ [])) bs ≡ then_tokens (over (run ((w ++ b ∷ []) ++ take (run_of test bs) bs))) (drop (run_of test bs) bs)
       → going_on (if passes then Ok ([], run (w ++ b ∷ [])) else ends (over (run w)) b) (λ q. tokens_from q bs)

@@ -1,5 +1,5 @@
--- The list of a text's tokens grows by what stands at the front, so the tokens of the text are those of the list and those of the
--- rest. The functions that add one token, such as `add_word`, stand on it.
+-- The list of a text's tokens grows by what stands at the front, so the tokens of the text are those of the list and
+-- those of the rest. The functions that add one token, such as `add_word`, stand on it.
 use Rattle.std.proofs.Common.{◌≡◌, ◌<◌, ◌≤◌, ◌∙◌, ℕ, List, [], ◌∷◌, ◌++◌, length, take, drop, get_or, min, true, false, ap, sym, refl, Result, Ok}
 use Rattle.qs_tokens.specs.declared.token.Token.{Token}
 use Rattle.qs_tokens.specs.declared.lex.TokenFault.{TokenFault}

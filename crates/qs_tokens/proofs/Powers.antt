@@ -1,5 +1,5 @@
--- A power of ten is at most any power of ten with a larger exponent. The loop of `number_of`, which makes a number of at most 18
--- digits, needs this to show that nothing overflows. It goes by induction on both exponents.
+-- A power of ten is at most any power of ten with a larger exponent. The loop of `number_of`, which makes a number of
+-- at most 18 digits, needs this to show that nothing overflows. It goes by induction on both exponents.
 use Rattle.std.proofs.Common.{ℕ, zero, suc, ◌^◌, ◌≤◌, ◌<◌, arith}
 use Rattle.std.proofs.Math.Nat.{pow-succ'}
 

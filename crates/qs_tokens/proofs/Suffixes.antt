@@ -1,4 +1,5 @@
--- What is left of the rest of a text is what is left of the text. Cutting off a sign stands on it: the rest begins after one byte.
+-- What is left of the rest of a text is what is left of the text. Cutting off a sign stands on it: the rest begins
+-- after one byte.
 use Rattle.std.proofs.Common.{◌≡◌, ℕ, suc, ◌<◌, ◌≤◌, ◌-◌, List, [], ◌∷◌, length, drop, Result, Ok, Err, IfOk, arith}
 use Rattle.std.specs.Borrow.{Bor}
 use Rattle.qs_tokens.specs.declared.lex.TokenFault.{TokenFault}

@@ -1,12 +1,12 @@
--- A text has at least a byte for each of its tokens. The law of `qs_script` that bounds the statements of a script stands on it. It
--- goes by induction on the bytes, each of which adds at most one token, where a token that has begun and is not over is counted
--- already.
+-- A text has at least a byte for each of its tokens. The law of `qs_script` that bounds the statements of a script
+-- stands on it. It goes by induction on the bytes, each of which adds at most one token, where a token that has begun
+-- and is not over is counted already.
 use Rattle.std.proofs.Common.{◌≡◌, ℕ, ◌≤◌, ◌+◌, Bool, true, false, if◌then◌else◌, List, [], ◌∷◌, ◌++◌, length, ap, arith, Option, Some, None, Result, Ok, Err, length-append, nat_eq, nat_lt}
 use Rattle.qs_tokens.specs.declared.token.Token.{Token}
 use Rattle.qs_tokens.specs.declared.lex.TokenFault.{TokenFault}
 use Rattle.qs_tokens.specs.declared.lex.TokenFault.TheVariants.{Number, Name}
 use Rattle.qs_tokens.specs.declared.token.Token.TheVariants as t
-use Rattle.qs_tokens.specs.Tokens.{is_letter, is_digit, is_space, is_name_byte, word_token, value_of, Pending, nothing, word, digits, comment, sign, Step, over, tokens_from, tokens_of, after, ends, first_byte, before, step, going_on, any_sign, single_sign, at, signs, equals_signs}
+use Rattle.qs_tokens.specs.Tokens.{is_letter, is_digit, is_space, is_name_byte, word_token, value_of, Pending, nothing, word, digits, comment, sign, Step, over, tokens_from, tokens_of, after, ends, first_byte, before, byte_step, going_on, any_sign, single_sign, at, signs, equals_signs}
 use Rattle.qs_tokens.specs.Limits.{longest_name}
 
 -- how many tokens what has begun may still make
@@ -74,7 +74,7 @@ few_ends : (n : ℕ) (r : Result (List Token) TokenFault) (b : ℕ) → Few n r 
 few_ends n (Ok ts) b h = few_before n ts (first_byte b) h (few_begun b)
 few_ends n (Err e) b h = tt
 
-few_step : (p : Pending) (b : ℕ) → FewAfter (weight p + 1) (step p b)
+few_step : (p : Pending) (b : ℕ) → FewAfter (weight p + 1) (byte_step p b)
 few_step nothing b = few_begun b
 few_step (word w) b =
     few_if (is_name_byte b) 2 (Ok ([], word (w ++ b ∷ []))) (ends (over (word w)) b) (omega arith) (few_ends 1 (over (word w)) b (few_over (word w)))
@@ -100,7 +100,7 @@ few_from : (bs : List ℕ) (p : Pending) → Few (weight p + length bs) (tokens_
 few_from [] p = few_same (weight p) (weight p + 0) (over p) (omega arith) (few_over p)
 few_from (b ∷ bs) p =
     few_same (weight p + 1 + length bs) (weight p + length (b ∷ bs)) (tokens_from p (b ∷ bs)) (omega arith)
-    (few_next (weight p + 1) (length bs) (step p b) bs (few_step p b) (few_from bs))
+    (few_next (weight p + 1) (length bs) (byte_step p b) bs (few_step p b) (few_from bs))
 
 tokens_few : (text : List ℕ) (r : Result (List Token) TokenFault) (ts : List Token) → Few (length text) r → r ≡ Ok ts → length ts ≤ length text
 tokens_few text (Ok us) ts h e = let same : us ≡ ts = cc in omega (arith, ap length same)

@@ -33,8 +33,8 @@ abbrev pub Cuts : Result (Piece × Bor (List ℕ)) TokenFault → Result (List T
 Cuts (Ok x) all = all ≡ after (tokens_in x.0) (tokens_of x.1.now)
 Cuts (Err e) all = all ≡ Err e
 
--- what goes on after the tokens of a list, where so many bytes are passed over: those that were added come first, then those of the
--- bytes after these; or the first fault
+-- what goes on after the tokens of a list, where so many bytes are passed over: those that were added come first, then
+-- those of the bytes after these; or the first fault
 abbrev pub Adds : List Token → List Token → Result ℕ TokenFault → List ℕ → Type 0
 Adds old new (Ok n) text = after old (tokens_of text) ≡ after new (tokens_of (drop n text))
 Adds old new (Err e) text = tokens_of text ≡ Err e
@@ -61,7 +61,8 @@ or_name word (Some token) = token
 
 -- the word is the only reserved one with this first byte
 abbrev pub IsOnlyWith : ℕ → List ℕ → Token → Type 0
-IsOnlyWith first word token = (bs : List ℕ) → word_token (first ∷ bs) ≡ (if same (first ∷ bs) word then token else t.Name (first ∷ bs))
+IsOnlyWith first word token =
+    (bs : List ℕ) → word_token (first ∷ bs) ≡ (if same (first ∷ bs) word then token else t.Name (first ∷ bs))
 
 -- no reserved word has this first byte
 abbrev pub BeginsNone : ℕ → Type 0

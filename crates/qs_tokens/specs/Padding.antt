@@ -5,5 +5,5 @@ use Rattle.qs_tokens.specs.declared.name.Name.TheInside.{Inside}
 abbrev pub text_of : Inside → List ℕ
 text_of n = take n.len n.bytes
 
-abbrev pub IsShort : Inside → Type 0
-IsShort n = n.len ≤ length n.bytes
+abbrev pub IsWithinBytes : Inside → Type 0
+IsWithinBytes n = n.len ≤ length n.bytes

@@ -1,5 +1,5 @@
--- The tokens of a text, or its first fault. The text is gone through byte by byte; each byte ends what has begun, goes on with
--- it, or begins something.
+-- The tokens of a text, or its first fault. The text is gone through byte by byte; each byte ends what has begun, goes
+-- on with it, or begins something.
 use Rattle.std.specs.Prelude.{ℕ, ◌+◌, ◌*◌, ◌-◌, Bool, ◌||◌, ◌&&◌, nat_lt, nat_le, nat_eq, if◌then◌else◌, List, [], ◌∷◌, ◌++◌, length, fold, Option, Some, None, Result, Ok, Err, codes}
 use Rattle.std.specs.Cmp.Lexicographic.{pointwise}
 use Rattle.qs_tokens.specs.declared.token.Token.{Token}
@@ -115,12 +115,12 @@ ends (Ok ts) b = before ts (first_byte b)
 ends (Err e) b = Err e
 
 -- one byte
-abbrev pub step : Pending → ℕ → Step
-step nothing b = first_byte b
-step (word w) b = if is_name_byte b then Ok ([], word (w ++ b ∷ [])) else ends (over (word w)) b
-step (digits ds) b = if is_digit b then Ok ([], digits (ds ++ b ∷ [])) else ends (over (digits ds)) b
-step comment b = if nat_eq b 10 then Ok ([], nothing) else Ok ([], comment)
-step (sign alone with_equals) b =
+abbrev pub byte_step : Pending → ℕ → Step
+byte_step nothing b = first_byte b
+byte_step (word w) b = if is_name_byte b then Ok ([], word (w ++ b ∷ [])) else ends (over (word w)) b
+byte_step (digits ds) b = if is_digit b then Ok ([], digits (ds ++ b ∷ [])) else ends (over (digits ds)) b
+byte_step comment b = if nat_eq b 10 then Ok ([], nothing) else Ok ([], comment)
+byte_step (sign alone with_equals) b =
     if nat_eq b 61 then Ok (with_equals ∷ [], nothing) else ends (over (sign alone with_equals)) b
 
 abbrev pub after : List Token → Result (List Token) TokenFault → Result (List Token) TokenFault
@@ -135,7 +135,7 @@ going_on (Err e) next = Err e
 -- the tokens of what has begun and the bytes after it
 abbrev pub tokens_from : Pending → List ℕ → Result (List Token) TokenFault
 tokens_from p [] = over p
-tokens_from p (b ∷ bs) = going_on (step p b) (λ q. tokens_from q bs)
+tokens_from p (b ∷ bs) = going_on (byte_step p b) (λ q. tokens_from q bs)
 
 -- the tokens of a text
 abbrev pub tokens_of : List ℕ → Result (List Token) TokenFault

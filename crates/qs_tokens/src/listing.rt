@@ -139,8 +139,8 @@ fn put_unequal(tokens: &mut Vec<Token>, text: &[u8]) -> Result<usize, TokenFault
     }
 }
 
-// Adds the token at the front, where one stands there, and gives how many bytes that took. Bytes with neighbours stand in two arms,
-// since neighbours in one arm are told apart by their range, which is slower than a jump.
+// Adds the token at the front, where one stands there, and gives how many bytes that took. Bytes with neighbours stand
+// in two arms, since neighbours in one arm are told apart by their range, which is slower than a jump.
 #[inline(always)]
 fn add_front(tokens: &mut Vec<Token>, text: &[u8]) -> Result<usize, TokenFault>
     requires room { vec_len tokens.old < vec_capacity tokens.old }

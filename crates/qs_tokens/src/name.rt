@@ -27,11 +27,11 @@ impl Model for Name {
 
     ghost Value = { List ℕ };
 
-    ghost use Rattle.qs_tokens.specs.Padding.{text_of, IsShort};
+    ghost use Rattle.qs_tokens.specs.Padding.{text_of, IsWithinBytes};
 
     ghost view = { text_of };
 
-    ghost invariant = { IsShort };
+    ghost invariant = { IsWithinBytes };
 }
 
 impl Name {

@@ -11,7 +11,8 @@ most_before = 60
 
 -- from the first byte that is shown
 abbrev pub window_from : (from end : ℕ) → Window
-window_from from end = record { from = from; to = if nat_le (end - from) longest_line then end else from + longest_line }
+window_from from end =
+    record { from = from; to = if nat_le (end - from) longest_line then end else from + longest_line }
 
 -- the whole line, or what stands around a place of it
 abbrev pub window_of : (start end place : ℕ) → Window

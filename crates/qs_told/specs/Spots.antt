@@ -8,7 +8,8 @@ begin = record { line = 1; column = 1 }
 
 -- after a byte: a LF begins the next line
 abbrev pub moved : Spot → ℕ → Spot
-moved s b = if nat_eq b 10 then record { line = s.line + 1; column = 1 } else record { line = s.line; column = s.column + 1 }
+moved s b =
+    if nat_eq b 10 then record { line = s.line + 1; column = 1 } else record { line = s.line; column = s.column + 1 }
 
 -- the place of the byte after so many
 abbrev pub spot_at : List ℕ → ℕ → Spot

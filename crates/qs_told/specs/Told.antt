@@ -29,7 +29,8 @@ place_text spot =
 -- the source line, or the part of it that is shown
 abbrev pub source_text : ℕ → Bool → List ℕ → Bool → Bool → List ℕ
 source_text line is_text bytes is_cut_before is_cut_after =
-    decimal line ++ codes " | " ++ dots_if is_cut_before ++ flat_map (shown is_text) bytes ++ dots_if is_cut_after ++ codes "\n"
+    decimal line ++ codes " | " ++ dots_if is_cut_before ++ flat_map (shown is_text) bytes ++ dots_if is_cut_after
+    ++ codes "\n"
 
 abbrev pub one_at_least : List ℕ → List ℕ
 one_at_least marks = if nat_eq (length marks) 0 then codes "^" else marks
@@ -45,7 +46,8 @@ label_text label = if nat_eq (length label) 0 then codes "\n" else codes " " ++ 
 -- the line below the source line: marks below the token
 abbrev pub under_text : List ℕ → Bool → List ℕ → List ℕ → Bool → List ℕ → List ℕ
 under_text gutter is_text before token is_cut_before label =
-    (gutter ++ codes " | " ++ blanks_of (dots_if is_cut_before) ++ flat_map (below is_text 32) before ++ marks_text is_text token)
+    (gutter ++ codes " | " ++ blanks_of (dots_if is_cut_before) ++ flat_map (below is_text 32) before
+    ++ marks_text is_text token)
     ++ label_text label
 
 -- the bytes from one place up to another
@@ -61,7 +63,8 @@ abbrev pub windowed_text : Bool → List ℕ → Span → List ℕ → Spot → 
 windowed_text is_text text span label spot start end w =
     place_text spot
     ++ source_text spot.line is_text (between text w.from w.to) (nat_lt start w.from) (nat_lt w.to end)
-    ++ under_text (blank spot.line) is_text (between text w.from span.start) (token_of text w span) (nat_lt start w.from) label
+    ++ under_text (blank spot.line) is_text (between text w.from span.start) (token_of text w span)
+    (nat_lt start w.from) label
 
 abbrev pub excerpt_in : Bool → List ℕ → Span → List ℕ → Spot → ℕ → ℕ → List ℕ
 excerpt_in is_text text span label spot start end =
@@ -88,7 +91,8 @@ help_text line help = if nat_eq (length help) 0 then [] else blank line ++ codes
 -- the lines of a diagnosis: its cause after a head, its place with the source line, and its help
 abbrev pub diagnosis_text : List ℕ → Bool → List ℕ → Diagnosis → List ℕ
 diagnosis_text head is_text text d =
-    cause_text head d.cause.now ++ excerpt_text is_text text d.span d.label.now ++ help_text (spot_at text d.span.start).line d.help.now
+    cause_text head d.cause.now ++ excerpt_text is_text text d.span d.label.now
+    ++ help_text (spot_at text d.span.start).line d.help.now
 
 -- they were put at the end, after a head
 abbrev pub IsPut : List ℕ → List ℕ → Diagnosis → List ℕ → List ℕ → Type 0

@@ -74,8 +74,8 @@ fn put_mark(out: &mut Vec<u8>, is_text: bool, mark: u8, byte: u8) -> Result<(), 
     put(out, &[mark, mark, mark, mark])
 }
 
-/// Bytes as they are shown: printable ones and tabs as they are, a CR not at all, and any other as `\x` and two digits; in a text,
-/// the bytes of longer characters too as they are.
+/// Bytes as they are shown: printable ones and tabs as they are, a CR not at all, and any other as `\x` and two digits;
+/// in a text, the bytes of longer characters too as they are.
 pub(crate) fn shown_bytes(alloc: Global, is_text: bool, bytes: &[u8]) -> Result<Vec<u8>, AllocError>
     ensures shown { IfOk result (λ v. v.items ≡ flat_map (shown is_text) bytes.now) }
 {

@@ -1,4 +1,5 @@
-//! Why a text was refused, or what is warned of in it, in words: the place, the source line with the token underlined, the cause, and what helps.
+//! Why a text was refused, or what is warned of in it, in words: the place, the source line with the token underlined,
+//! the cause, and what helps.
 #![tactic(auto)]
 
 mod bytes;

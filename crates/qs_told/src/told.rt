@@ -258,8 +258,8 @@ fn put_headed(
     put_help(alloc, out, line, diagnosis.help)
 }
 
-/// Puts a diagnosis at the end: the cause, the place with its line and column, the source line with the token underlined, and help
-/// where there is some.
+/// Puts a diagnosis at the end: the cause, the place with its line and column, the source line with the token
+/// underlined, and help where there is some.
 pub fn put_diagnosis(
     alloc: Global,
     out: &mut Vec<u8>,

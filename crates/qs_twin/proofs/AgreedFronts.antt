@@ -1,5 +1,6 @@
--- Blocks that agree, of isolated runs, have equal traces as far as the shorter one goes: the first replies that differ would be of a query that
--- both blocks made, on an object on which both have an entry, and which both found in the same state.
+-- Blocks that agree, of isolated runs, have equal traces as far as the shorter one goes: the first replies that differ
+-- would be of a query that both blocks made, on an object on which both have an entry, and which both found in the same
+-- state.
 use Rattle.std.proofs.Common.{◌≡◌, ◌<◌, ◌≤◌, ◌⊎◌, inl, inr, ⊎_elim, ℕ, zero, suc, Bool, true, false, true≢false, ◌==◌, if◌then◌else◌, List, [], ◌∷◌, ◌++◌, length, get_or, take, refl, sym, ap, subst, ◌∙◌, arith}
 use Rattle.std.specs.List.{AllByRecursion}
 use Rattle.qs_objects.specs.Journals.{without_tickets}

@@ -1,6 +1,6 @@
--- A journal that is read entry by entry tells which state stands before a ticket's first entry, or that the ticket has none. The
--- loop of `state_before` replays a journal in this way, and `twin` compares blocks by these states. At each place the entry is
--- the ticket's own, and the state is found, or the search goes on from the state after it.
+-- A journal that is read entry by entry tells which state stands before a ticket's first entry, or that the ticket has
+-- none. The loop of `state_before` replays a journal in this way, and `twin` compares blocks by these states. At each
+-- place the entry is the ticket's own, and the state is found, or the search goes on from the state after it.
 use Rattle.std.proofs.Common.{◌≡◌, ◌<◌, ◌≤◌, ◌⊎◌, ◌+◌, ℕ, zero, suc, nat_lt, List, [], ◌∷◌, length, get_or, drop, drop-cons, Option, Some, None, Bool, true, false, true≢false, ⊎_elim, inl, inr, refl, sym, ap, subst, ◌∙◌, arith}
 use Rattle.std.proofs.lemmas.List.{drop_all, get_or_past}
 use Rattle.qs_objects.specs.Act.{State}

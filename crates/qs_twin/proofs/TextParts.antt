@@ -1,7 +1,7 @@
--- The comparison of two blocks' texts that looks at names and at the variables' values at once is a comparison of the names and
--- one of the values. The contract of `are_same_texts` needs both ways, since the code goes over the texts once, while the
--- definition states the two apart. Statements that are related in two ways at each place are related in both ways at once, and
--- the other way round.
+-- The comparison of two blocks' texts that looks at names and at the variables' values at once is a comparison of the
+-- names and one of the values. The contract of `are_same_texts` needs both ways, since the code goes over the texts
+-- once, while the definition states the two apart. Statements that are related in two ways at each place are related in
+-- both ways at once, and the other way round.
 use Rattle.std.proofs.Common.{◌≡◌, ℕ, Bool, List, map, subst}
 use Rattle.std.specs.Bool.{Decides}
 use Rattle.qs_objects.specs.declared.held.Ticket.{Ticket}

@@ -1,7 +1,7 @@
 -- Two lists are related place by place from some place on where they are so at that place and after it; and two blocks'
--- statements are the same where each two at one place are. The code's comparisons (`are_same_lists`, `are_same_values`, and of
--- two texts) go over two lists at once and use this. The lists are taken apart at the place, and the statements by cases on their
--- form.
+-- statements are the same where each two at one place are. The code's comparisons (`are_same_lists`, `are_same_values`,
+-- and of two texts) go over two lists at once and use this. The lists are taken apart at the place, and the statements
+-- by cases on their form.
 use Rattle.std.proofs.Common.{◌≡◌, ◌<◌, ◌≤◌, ◌+◌, ℕ, suc, List, [], ◌∷◌, length, get_or, drop, drop-cons, map, slice_get, unwrap_or, sym, subst, ap, ap₂, ◌∙◌, arith}
 use Rattle.std.proofs.lemmas.List.{drop_all, get_or-map}
 use Rattle.std.proofs.lemmas.List.Elements.{AllZip-get_or}

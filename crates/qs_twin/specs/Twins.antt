@@ -49,17 +49,19 @@ pub record IsReserved (p : ProgramShape) (r : Played) (i : ℕ) : Type 0 where
 
 -- the i-th reservation of a run r of program p, and the j-th of a run s of program q
 module _ (p : ProgramShape) (r : Played) (i : ℕ) (q : ProgramShape) (s : Played) (j : ℕ) where
-  -- an object of the one program and one of the other: if they have one name, and both reservations have an entry, then both found one state
+  -- an object of the one program and one of the other: if they have one name, and both reservations have an entry, then
+  -- both found one state
   abbrev pub StartsAlike : ℕ → ℕ → Type 0
   StartsAlike h g = SameObjects p q h g → HasEntryOn r i h → HasEntryOn s j g → start_of p r i h ≡ start_of q s j g
 
   -- the blocks' texts are equal, with equal values at entry
   abbrev pub TextsAlike : Type 0
   TextsAlike =
-      SameText p q (ticket_at r i) (ticket_at s j) × SameValues p q (ticket_at r i) (ticket_at s j) (entry_of r i) (entry_of s j)
+      SameText p q (ticket_at r i) (ticket_at s j)
+      × SameValues p q (ticket_at r i) (ticket_at s j) (entry_of r i) (entry_of s j)
 
-  -- The blocks' texts are equal; each variable that they name had the same value at entry; and each object on which both journals have an entry
-  -- was found in the same state by both.
+  -- The blocks' texts are equal; each variable that they name had the same value at entry; and each object on which
+  -- both journals have an entry was found in the same state by both.
   pub record Agreement : Type 0 where
     pub text : SameText p q (ticket_at r i) (ticket_at s j)
     pub values : SameValues p q (ticket_at r i) (ticket_at s j) (entry_of r i) (entry_of s j)

@@ -1,4 +1,5 @@
-//! Two blocks of two runs, of one program or of two, compared by their texts, by their values at entry and by the states that they found.
+//! Two blocks of two runs, of one program or of two, compared by their texts, by their values at entry and by the
+//! states that they found.
 #![tactic(auto)]
 
 mod answer;

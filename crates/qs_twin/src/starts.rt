@@ -18,7 +18,7 @@ fn declared_object(alloc: Global, program: &Program, object: u8) -> Result<Objec
     requires { object < length program.now.objects }
     ensures value { IfOk result (λ state. state ≡ declared_states program.now object) }
 {
-    program.is_sound();
+    program.keeps_sound();
     match Object::new(alloc, program.kind(object)) {
         Ok(state) => Ok(state),
         Err(ObjectFault::Memory) => Err(AllocError),
@@ -70,8 +70,8 @@ fn are_same_values(here: &Object, there: &Object) -> bool
 fn is_same_state(here: &Object, there: &Object) -> bool
     ensures same { Decides result (here.now ≡ there.now) }
 {
-    here.is_in_range();
-    there.is_in_range();
+    here.keeps_range();
+    there.keeps_range();
     here.kind() == there.kind() && here.refused() == there.refused() && are_same_values(here, there)
 }
 
@@ -115,7 +115,7 @@ fn is_alike_to_each(
     ensures alike { IfOk result (λ alike. Decides alike ((g : ℕ) → StartsAlike here.now.program.now here.now.played.now here.now.place
         there.now.program.now there.now.played.now there.now.place object g)) }
 {
-    there.program.is_sound();
+    there.program.keeps_sound();
     for other in 0..there.program.objects() as u8 {
         if !is_found_alike(alloc, here, object, there, other)? {
             return Ok(false);
@@ -124,8 +124,8 @@ fn is_alike_to_each(
     Ok(true)
 }
 
-/// Whether each two objects of one name, on which both blocks have an entry, were found in the same state. An error means that memory for
-/// an object was refused.
+/// Whether each two objects of one name, on which both blocks have an entry, were found in the same state. An error
+/// means that memory for an object was refused.
 pub(crate) fn are_starts_alike(
     alloc: Global,
     here: &Reservation<'_>,
@@ -136,7 +136,7 @@ pub(crate) fn are_starts_alike(
     ensures alike { IfOk result (λ alike. Decides alike ((h g : ℕ) → StartsAlike here.now.program.now here.now.played.now here.now.place
         there.now.program.now there.now.played.now there.now.place h g)) }
 {
-    here.program.is_sound();
+    here.program.keeps_sound();
     for object in 0..here.program.objects() as u8 {
         if !is_alike_to_each(alloc, here, object, there)? {
             return Ok(false);

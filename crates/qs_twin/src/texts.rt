@@ -8,7 +8,7 @@ ghost use Rattle.qs_meaning.specs.Alike.{SameAtom, SameCall, SameExpr, SameState
 ghost use Rattle.qs_twin.specs.Twins.{SameObjects, SameVariables};
 
 use qs_program::{Atom, Body, Call, Expr, Locals, Names, Program, Stmt, Test};
-use qs_script::{Operator, Relation};
+use qs_tree::{Operator, Relation};
 
 /// Two texts side by side: their programs, their clients' variables, and the values of these at entry.
 #[derive(Clone, Copy)]

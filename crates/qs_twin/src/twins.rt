@@ -55,12 +55,13 @@ fn are_same_texts(here: &Reservation<'_>, there: &Reservation<'_>) -> bool
     ) && is_same_body(&sides, block.body(), other.body())
 }
 
-/// Compares the blocks of a place of the one run and of a place of the other, of one program or of two. They agree if their texts are
-/// equal, name by name; if each variable that they name had the same value at entry; and if each object, matched by name, on which both
-/// journals have an entry of the block's ticket was found in the same state by both. `Different` comes exactly where they do not agree; else
-/// `Agree` with the length of the shorter trace: of isolated runs the first events of both traces, as many, are equal, name by name. An error
-/// means that memory for an object, on which its journal is replayed, was refused: it comes only where the texts are equal, with equal
-/// values at entry; nothing is changed.
+/// Compares the blocks of a place of the one run and of a place of the other, of one program or of two. They agree if
+/// their texts are equal, name by name; if each variable that they name had the same value at entry; and if each
+/// object, matched by name, on which both journals have an entry of the block's ticket was found in the same state by
+/// both. `Different` comes exactly where they do not agree; else `Agree` with the length of the shorter trace: of
+/// isolated runs the first events of both traces, as many, are equal, name by name. An error means that memory for an
+/// object, on which its journal is replayed, was refused: it comes only where the texts are equal, with equal values at
+/// entry; nothing is changed.
 pub fn twin(
     alloc: Global,
     program: &Program,
@@ -95,8 +96,8 @@ pub fn twin(
     if !are_starts_alike(alloc, &here, &there)? {
         return Ok(Twin::Different);
     }
-    program.is_sound();
-    other.is_sound();
+    program.keeps_sound();
+    other.keeps_sound();
     let count = played.trace(place).len();
     Ok(Twin::Agree(count.min(other_played.trace(other_place).len())))
 }

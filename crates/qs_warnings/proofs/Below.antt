@@ -1,5 +1,5 @@
--- What is made of the numbers below n + 1 is what is made of those below n, and of n. The loops over objects, clients, variables and
--- blocks by number stand on it.
+-- What is made of the numbers below n + 1 is what is made of those below n, and of n. The loops over objects, clients,
+-- variables and blocks by number stand on it.
 use Rattle.std.proofs.Common.{◌≡◌, ℕ, ◌+◌, List, [], ◌∷◌, ◌++◌, map, flat_map, sym, ap, ◌∙◌, zero-add, append_assoc, append-nil}
 use Rattle.std.proofs.lemmas.List.Concat.{flat_map-append}
 use Rattle.std.proofs.lemmas.List.Folds.{flat_map-map}

@@ -1,8 +1,8 @@
--- Statements do something where the first of them does or the others do. The walk over a list of statements, which ends with the first
--- one that does it, stands on this; it goes by cases of the statement.
+-- Statements do something where the first of them does or the others do. The walk over a list of statements, which ends
+-- with the first one that does it, stands on this; it goes by cases of the statement.
 use Rattle.std.proofs.Common.{◌≡◌, ℕ, suc, ◌+◌, ◌<◌, ◌≤◌, Bool, true, false, ◌||◌, List, ◌∷◌, length, get_or, drop, refl, sym, ap, ◌∙◌, add-one}
 use Rattle.std.proofs.Math.Seq.{drop-cons}
-use Rattle.qs_script.proofs.Sizes.{drop_past}
+use Rattle.qs_tree.proofs.Sizes.{drop_past}
 use Rattle.qs_program.specs.declared.code.Stmt.{Stmt}
 use Rattle.qs_program.specs.declared.code.Stmt.TheVariants.{Command, Query, Assign, If, Repeat, Leave}
 use Rattle.qs_program.specs.Views.{single, statements_of}

@@ -1,3 +1,4 @@
+-- What crates promise one another, what proofs use, and worked examples.
 pub mod Doings
 pub mod Warnings
 pub mod WarningPlaces

@@ -2,7 +2,7 @@
 use Rattle.std.specs.Prelude.{◌≡◌, ℕ, false, List, [], ◌∷◌, Some, None, codes, pos}
 use Rattle.qs_objects.specs.declared.Op.TheVariants.{Deposit, Balance}
 use Rattle.qs_objects.specs.declared.object.Kind.TheVariants.{Account}
-use Rattle.qs_script.specs.declared.tree.Relation.TheVariants.{Less}
+use Rattle.qs_tree.specs.declared.tree.Relation.TheVariants.{Less}
 use Rattle.qs_program.specs.declared.code.Atom.{Atom}
 use Rattle.qs_program.specs.declared.code.Atom.TheVariants.{Variable, Number}
 use Rattle.qs_program.specs.declared.code.Call.{Call}
@@ -63,23 +63,34 @@ pub record WarningExamples : Type 0 where
   pub no_client : warnings_of (program_of (account (codes "a") ∷ []) []) ≡ Empty ∷ Unreserved 0 ∷ []
   pub no_block : warnings_of (one_client []) ≡ Empty ∷ Unreserved 0 ∷ Unreserved 1 ∷ []
   -- x is set by a query and read by a command, in one block or in two
-  pub in_order : warnings_of (one_client (block (0 ∷ 1 ∷ []) (query 0 (balance 0) (command (deposit 1 x) end)) ∷ [])) ≡ []
-  pub two_blocks : warnings_of (one_client (block (0 ∷ []) (command (deposit 0 x) end) ∷ block (1 ∷ []) (query 0 (balance 1) end) ∷ [])) ≡ []
-  pub never_set : warnings_of (one_client (block (0 ∷ 1 ∷ []) (command (deposit 0 one) (command (deposit 1 x) end)) ∷ [])) ≡ NeverSet 0 0 ∷ []
+  pub in_order : warnings_of (one_client (block (0 ∷ 1 ∷ []) (query 0 (balance 0) (command (deposit 1 x) end)) ∷ []))
+      ≡ []
+  pub two_blocks : warnings_of (one_client (block (0 ∷ []) (command (deposit 0 x) end)
+      ∷ block (1 ∷ []) (query 0 (balance 1) end) ∷ [])) ≡ []
+  pub never_set : warnings_of (one_client (block (0 ∷ 1 ∷ []) (command (deposit 0 one) (command (deposit 1 x) end))
+      ∷ [])) ≡ NeverSet 0 0 ∷ []
   -- the reply of a query is shown, whether or not its variable is read
-  pub only_asked : warnings_of (one_client (block (0 ∷ 1 ∷ []) (command (deposit 0 one) (query 0 (balance 1) end)) ∷ [])) ≡ []
-  pub only_assigned : warnings_of (one_client (block (0 ∷ 1 ∷ []) (assign 0 (Plain one) (command (deposit 0 one) (command (deposit 1 one) end))) ∷ []))
+  pub only_asked : warnings_of (one_client (block (0 ∷ 1 ∷ []) (command (deposit 0 one) (query 0 (balance 1) end))
+      ∷ [])) ≡ []
+  pub only_assigned : warnings_of (one_client (block (0 ∷ 1
+      ∷ []) (assign 0 (Plain one) (command (deposit 0 one) (command (deposit 1 one) end))) ∷ []))
       ≡ NeverRead 0 0 ∷ []
   -- what sets itself is read
-  pub itself : warnings_of (one_client (block (0 ∷ 1 ∷ []) (assign 0 (Plain x) (command (deposit 0 one) (command (deposit 1 one) end))) ∷ [])) ≡ []
-  pub unreserved : warnings_of (one_client (block (0 ∷ []) (query 0 (balance 0) (command (deposit 0 x) end)) ∷ [])) ≡ Unreserved 1 ∷ []
-  pub unused : warnings_of (one_client (block (1 ∷ 0 ∷ []) (query 0 (balance 0) (command (deposit 0 x) end)) ∷ [])) ≡ Unused 0 0 1 ∷ []
+  pub itself : warnings_of (one_client (block (0 ∷ 1 ∷ [])
+      (assign 0 (Plain x) (command (deposit 0 one) (command (deposit 1 one) end))) ∷ [])) ≡ []
+  pub unreserved : warnings_of (one_client (block (0 ∷ []) (query 0 (balance 0) (command (deposit 0 x) end)) ∷ []))
+      ≡ Unreserved 1 ∷ []
+  pub unused : warnings_of (one_client (block (1 ∷ 0 ∷ []) (query 0 (balance 0) (command (deposit 0 x) end)) ∷ []))
+      ≡ Unused 0 0 1 ∷ []
   -- reserved in one block and used in another alone
   pub used_elsewhere :
-      warnings_of (one_client (block (0 ∷ 1 ∷ []) (query 0 (balance 0) end) ∷ block (1 ∷ []) (command (deposit 1 x) end) ∷ [])) ≡ Unused 0 0 1 ∷ []
+      warnings_of (one_client (block (0 ∷ 1 ∷ []) (query 0 (balance 0) end)
+      ∷ block (1 ∷ []) (command (deposit 1 x) end) ∷ [])) ≡ Unused 0 0 1 ∷ []
   -- inner statements count, whether or not they are run
   pub inner : warnings_of (one_client (block (0 ∷ 1 ∷ [])
       (again 0 (query 0 (balance 0) end) (choose x_below_one false (command (deposit 1 one) end) end end)) ∷ [])) ≡ []
-  -- two formals for one object: a list may name a formal that the block does not use, and the object is used all the same
-  pub formal_unused : warnings_of (started (0 ∷ 1 ∷ []) (command (deposit 0 one) end) (command (deposit 0 one) end)) ≡ Unused 0 0 1 ∷ []
+  -- two formals for one object: a list may name a formal that the block does not use, and the object is used all the
+  -- same
+  pub formal_unused : warnings_of (started (0 ∷ 1 ∷ []) (command (deposit 0 one) end) (command (deposit 0 one) end))
+      ≡ Unused 0 0 1 ∷ []
   pub formals_used : warnings_of (started (1 ∷ []) (command (deposit 1 one) end) (command (deposit 0 one) end)) ≡ []

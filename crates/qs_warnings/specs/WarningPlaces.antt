@@ -6,33 +6,18 @@ use Rattle.qs_tokens.specs.declared.token.Token.TheVariants as t
 use Rattle.qs_tokens.specs.Tokens.{same}
 use Rattle.qs_causes.specs.declared.spans.PlacedToken.{PlacedToken}
 use Rattle.qs_causes.specs.Sources.{token_in, word_in}
-use Rattle.qs_warnings.specs.declared.places.Opening.{Opening}
-use Rattle.qs_warnings.specs.declared.places.Opening.TheVariants.{Object, Client}
+use Rattle.qs_warnings.specs.declared.places.Mark.{Mark}
+use Rattle.qs_warnings.specs.declared.places.Mark.TheVariants.{Object, Client, Template, Separate, Brace, Assign, Dot}
 
-abbrev pub is_opening : Opening → Option Token → Bool
-is_opening Object (Some t.Object) = true
-is_opening Client (Some t.Client) = true
-is_opening _ _ = false
-
-abbrev pub is_template : Option Token → Bool
-is_template (Some t.Template) = true
-is_template _ = false
-
-abbrev pub is_brace : Option Token → Bool
-is_brace (Some t.OpenBrace) = true
-is_brace _ = false
-
-abbrev pub is_separate : Option Token → Bool
-is_separate (Some t.Separate) = true
-is_separate _ = false
-
-abbrev pub is_assign : Option Token → Bool
-is_assign (Some t.Assign) = true
-is_assign _ = false
-
-abbrev pub is_dot : Option Token → Bool
-is_dot (Some t.Dot) = true
-is_dot _ = false
+abbrev pub is_mark : Mark → Option Token → Bool
+is_mark Object (Some t.Object) = true
+is_mark Client (Some t.Client) = true
+is_mark Template (Some t.Template) = true
+is_mark Separate (Some t.Separate) = true
+is_mark Brace (Some t.OpenBrace) = true
+is_mark Assign (Some t.Assign) = true
+is_mark Dot (Some t.Dot) = true
+is_mark _ _ = false
 
 abbrev pub is_name : Option Token → Bool
 is_name (Some (t.Name n)) = true
@@ -40,7 +25,7 @@ is_name _ = false
 
 -- the list of a block is open after a token, by whether it was before
 abbrev pub listed_past : Option Token → Bool → Bool
-listed_past token listed = is_separate token || (not (is_brace token) && listed)
+listed_past token listed = is_mark Separate token || (not (is_mark Brace token) && listed)
 
 -- the places from one up to another
 abbrev pub places : ℕ → ℕ → List ℕ
@@ -62,16 +47,13 @@ numbered holds from count number = slice_get (filter holds (places from count)) 
 abbrev pub after : Option ℕ → ℕ → ℕ
 after place count = unwrap_or (option_map next place) count
 
-abbrev pub is_opening_at : List PlacedToken → Opening → ℕ → Bool
-is_opening_at tokens opening place = is_opening opening (token_in tokens place)
-
-abbrev pub is_separate_at : List PlacedToken → ℕ → Bool
-is_separate_at tokens place = is_separate (token_in tokens place)
+abbrev pub is_mark_at : List PlacedToken → Mark → ℕ → Bool
+is_mark_at tokens mark place = is_mark mark (token_in tokens place)
 
 module _ (text : List ℕ) (tokens : List PlacedToken) where
   -- the name after the word `object`, or `client`, of that number
-  abbrev pub opened_at : Opening → ℕ → ℕ
-  opened_at opening number = after (numbered (is_opening_at tokens opening) 0 (length tokens) number) (length tokens)
+  abbrev pub opened_at : Mark → ℕ → ℕ
+  opened_at opening number = after (numbered (is_mark_at tokens opening) 0 (length tokens) number) (length tokens)
 
   abbrev pub object_at : ℕ → ℕ
   object_at number = opened_at Object number
@@ -81,25 +63,26 @@ module _ (text : List ℕ) (tokens : List PlacedToken) where
 
   -- the name of the template that a word names
   abbrev pub is_template_of : List ℕ → ℕ → Bool
-  is_template_of word p = is_template (token_in tokens p) && same (word_in text tokens (next p)) word
+  is_template_of word p = is_mark_at tokens Template p && same (word_in text tokens (next p)) word
 
   abbrev pub template_at : List ℕ → ℕ
   template_at word = after (find (is_template_of word) (places 0 (length tokens))) (length tokens)
 
   -- the first brace from a place on
   abbrev pub brace_at : ℕ → ℕ
-  brace_at from = first_from (λ p. is_brace (token_in tokens p)) from (length tokens)
+  brace_at from = first_from (is_mark_at tokens Brace) from (length tokens)
 
   -- the name before the blocks of a client: its own, or that of its template
   abbrev pub blocks_name : ℕ → ℕ
   blocks_name name =
-      if is_assign (token_in tokens (next name)) then template_at (word_in text tokens (next (next name))) else name
+      if is_mark_at tokens Assign (next name) then template_at (word_in text tokens (next (next name))) else name
 
   -- the brace with which the blocks of a client begin
   abbrev pub blocks_at : ℕ → ℕ
   blocks_at client = brace_at (blocks_name (client_at client))
 
-  -- whether the names after so many tokens from a place on stand in the list of a block: a `separate` begins it, and a `{` ends it
+  -- whether the names after so many tokens from a place on stand in the list of a block: a `separate` begins it, and a
+  -- `{` ends it
   abbrev pub is_listed_after : ℕ → ℕ → Bool
   is_listed_after from zero = false
   is_listed_after from (suc n) = listed_past (token_in tokens (from + n)) (is_listed_after from n)
@@ -110,12 +93,13 @@ module _ (text : List ℕ) (tokens : List PlacedToken) where
 
   -- the token stands beside a dot, as the object and the operation of a request do
   abbrev pub is_beside_dot : ℕ → Bool
-  is_beside_dot place = (nat_lt 0 place && is_dot (token_in tokens (place - 1))) || is_dot (token_in tokens (next place))
+  is_beside_dot place = (nat_lt 0 place && is_mark_at tokens Dot (place - 1)) || is_mark_at tokens Dot (next place)
 
   -- a variable of that name stands there, in blocks that begin at a place
   abbrev pub is_variable : ℕ → List ℕ → ℕ → Bool
   is_variable from word place =
-      is_name (token_in tokens place) && same (word_in text tokens place) word && not (is_beside_dot place) && not (is_listed from place)
+      is_name (token_in tokens place) && same (word_in text tokens place) word && not (is_beside_dot place)
+      && not (is_listed from place)
 
   -- the first place at which a client's blocks have a variable of that name
   abbrev pub variable_at : ℕ → List ℕ → ℕ
@@ -123,8 +107,10 @@ module _ (text : List ℕ) (tokens : List PlacedToken) where
 
   -- the first name of the list of a client's block
   abbrev pub list_at : ℕ → ℕ → ℕ
-  list_at client block = after (numbered (is_separate_at tokens) (blocks_at client) (length tokens) block) (length tokens)
+  list_at client block =
+      after (numbered (is_mark_at tokens Separate) (blocks_at client) (length tokens) block) (length tokens)
 
   -- a name in the list of a client's block
   abbrev pub listed_at : ℕ → ℕ → List ℕ → ℕ
-  listed_at client block word = first_from (λ p. same (word_in text tokens p) word) (list_at client block) (length tokens)
+  listed_at client block word =
+      first_from (λ p. same (word_in text tokens p) word) (list_at client block) (length tokens)

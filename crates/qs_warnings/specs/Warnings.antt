@@ -36,10 +36,12 @@ is_empty p = sum_by (λ (c : ClientShape). length c.blocks) p.clients == 0
 abbrev pub object_warnings : ProgramShape → ℕ → List Warning
 object_warnings p h = if_so (not (is_reserved p h)) (Unreserved h)
 
--- it is read and never set, so it is 0; or it is assigned and never read: a reply that is not read is shown all the same
+-- it is read and never set, so it is 0; or it is assigned and never read: a reply that is not read is shown all the
+-- same
 abbrev pub variable_warnings : ProgramShape → ℕ → ℕ → List Warning
 variable_warnings p c v =
-    if_so (some_block_does p c (Reads v) && not (some_block_does p c (Assigns v) || some_block_does p c (Asks v))) (NeverSet c v)
+    if_so (some_block_does p c (Reads v) && not (some_block_does p c (Assigns v)
+    || some_block_does p c (Asks v))) (NeverSet c v)
     ++ if_so (some_block_does p c (Assigns v) && not (some_block_does p c (Reads v))) (NeverRead c v)
 
 -- the block makes no request on it

@@ -7,7 +7,8 @@ ghost use Rattle.qs_warnings.specs.Doings.{call_does, does, expr_does, is_asking
 
 use qs_program::{Atom, Body, Call, Expr, Stmt, Test};
 
-/// What statements may do: assign a variable, set one by a query, read one, or make a request on an object. Each is named by its number.
+/// What statements may do: assign a variable, set one by a query, read one, or make a request on an object. Each is
+/// named by its number.
 #[derive(Clone, Copy)]
 pub enum Doing {
     Assigns(u8),

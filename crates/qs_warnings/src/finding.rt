@@ -23,7 +23,7 @@ fn some_block_does(program: &Program, client: u8, doing: Doing) -> bool
     requires client { client < length program.now.clients }
     ensures exact { result ≡ some_block_does program.now client doing }
 {
-    program.is_sound();
+    program.keeps_sound();
     for block in 0..program.blocks_of(client) as u8 {
         if body_does(doing, program.block(client, block).body()) {
             return true;
@@ -37,7 +37,7 @@ fn client_reserves(program: &Program, client: u8, object: u8) -> bool
     requires client { client < length program.now.clients }
     ensures exact { result ≡ client_reserves object (client_at program.now client) }
 {
-    program.is_sound();
+    program.keeps_sound();
     for block in 0..program.blocks_of(client) as u8 {
         if program.block(client, block).reserved().contains(&object) {
             return true;
@@ -50,7 +50,7 @@ fn client_reserves(program: &Program, client: u8, object: u8) -> bool
 fn is_reserved(program: &Program, object: u8) -> bool
     ensures exact { result ≡ is_reserved program.now object }
 {
-    program.is_sound();
+    program.keeps_sound();
     for client in 0..program.clients() as u8 {
         if client_reserves(program, client, object) {
             return true;
@@ -62,7 +62,7 @@ fn is_reserved(program: &Program, object: u8) -> bool
 fn add_objects(out: &mut Vec<Warning>, program: &Program) -> Result<(), AllocError>
     ensures added { OnOk result (out.new.items ≡ out.old.items ++ flat_map (object_warnings program.now) (below (length program.now.objects))) }
 {
-    program.is_sound();
+    program.keeps_sound();
     for object in 0..program.objects() as u8 {
         let is_so = !is_reserved(program, object);
         add_if(out, is_so, Warning::Unreserved { object })?;
@@ -100,7 +100,7 @@ fn add_variables(out: &mut Vec<Warning>, program: &Program, client: u8) -> Resul
     ensures added { OnOk result (out.new.items
         ≡ out.old.items ++ flat_map (variable_warnings program.now client) (below (length (client_at program.now client).variables))) }
 {
-    program.is_sound();
+    program.keeps_sound();
     for variable in 0..program.variables(client).len() as u8 {
         add_variable(out, program, client, variable)?;
     }
@@ -135,7 +135,7 @@ fn add_lists(out: &mut Vec<Warning>, program: &Program, client: u8) -> Result<()
     ensures added { OnOk result (out.new.items
         ≡ out.old.items ++ flat_map (block_warnings program.now client) (below (blocks_of program.now client))) }
 {
-    program.is_sound();
+    program.keeps_sound();
     for block in 0..program.blocks_of(client) as u8 {
         add_names(out, client, block, program.own_block(client, block))?;
     }
@@ -153,15 +153,16 @@ fn add_client(out: &mut Vec<Warning>, program: &Program, client: u8) -> Result<(
 fn add_clients(out: &mut Vec<Warning>, program: &Program) -> Result<(), AllocError>
     ensures added { OnOk result (out.new.items ≡ out.old.items ++ flat_map (client_warnings program.now) (below (length program.now.clients))) }
 {
-    program.is_sound();
+    program.keeps_sound();
     for client in 0..program.clients() as u8 {
         add_client(out, program, client)?;
     }
     Ok(())
 }
 
-/// What is warned of in a program: that nothing is done; objects that no block reserves; variables that are read and never set, or assigned
-/// and never read; and names of a block's list on which it makes no request. An error says that memory ran out.
+/// What is warned of in a program: that nothing is done; objects that no block reserves; variables that are read and
+/// never set, or assigned and never read; and names of a block's list on which it makes no request. An error says that
+/// memory ran out.
 pub fn warnings(alloc: Global, program: &Program) -> Result<Vec<Warning>, AllocError>
     ensures exact { IfOk result (λ found. found.items ≡ warnings_of program.now) }
 {

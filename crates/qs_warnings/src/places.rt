@@ -1,57 +1,37 @@
 // Where the names of a checked script stand, by the numbers that a program has for them.
 
 ghost use Rattle.std.specs.Prelude.{◌≡◌, length, option_map};
-ghost use Rattle.qs_warnings.specs.WarningPlaces.{after, blocks_at, blocks_name, brace_at, client_at, is_assign, is_beside_dot, is_brace, is_dot, is_listed, is_name, is_opening, is_opening_at, is_separate, is_separate_at, is_template, is_variable, list_at, listed_at, listed_past, next, numbered, object_at, opened_at, template_at, variable_at};
+ghost use Rattle.qs_warnings.specs.WarningPlaces.{after, blocks_at, blocks_name, brace_at, client_at, is_beside_dot, is_listed, is_mark, is_mark_at, is_name, is_variable, list_at, listed_at, listed_past, next, numbered, object_at, opened_at, template_at, variable_at};
 
 use qs_causes::Source;
 use qs_tokens::Token;
 
-// A word that begins an item.
+// A word or a sign by which places are found.
 #[derive(Clone, Copy)]
-enum Opening {
+enum Mark {
     Object,
     Client,
+    Template,
+    Separate,
+    Brace,
+    Assign,
+    Dot,
 }
 
-impl Opening {
+impl Mark {
     fn is(self, token: Option<&Token>) -> bool
-        ensures exact { result ≡ is_opening self (option_map (λ token. token.now) token.entry) }
+        ensures exact { result ≡ is_mark self (option_map (λ token. token.now) token.entry) }
     {
         match self {
-            Opening::Object => matches!(token, Some(Token::Object)),
-            Opening::Client => matches!(token, Some(Token::Client)),
+            Mark::Object => matches!(token, Some(Token::Object)),
+            Mark::Client => matches!(token, Some(Token::Client)),
+            Mark::Template => matches!(token, Some(Token::Template)),
+            Mark::Separate => matches!(token, Some(Token::Separate)),
+            Mark::Brace => matches!(token, Some(Token::OpenBrace)),
+            Mark::Assign => matches!(token, Some(Token::Assign)),
+            Mark::Dot => matches!(token, Some(Token::Dot)),
         }
     }
-}
-
-fn is_template(token: Option<&Token>) -> bool
-    ensures exact { result ≡ is_template (option_map (λ token. token.now) token.entry) }
-{
-    matches!(token, Some(Token::Template))
-}
-
-fn is_brace(token: Option<&Token>) -> bool
-    ensures exact { result ≡ is_brace (option_map (λ token. token.now) token.entry) }
-{
-    matches!(token, Some(Token::OpenBrace))
-}
-
-fn is_separate(token: Option<&Token>) -> bool
-    ensures exact { result ≡ is_separate (option_map (λ token. token.now) token.entry) }
-{
-    matches!(token, Some(Token::Separate))
-}
-
-fn is_assign(token: Option<&Token>) -> bool
-    ensures exact { result ≡ is_assign (option_map (λ token. token.now) token.entry) }
-{
-    matches!(token, Some(Token::Assign))
-}
-
-fn is_dot(token: Option<&Token>) -> bool
-    ensures exact { result ≡ is_dot (option_map (λ token. token.now) token.entry) }
-{
-    matches!(token, Some(Token::Dot))
 }
 
 fn is_name(token: Option<&Token>) -> bool
@@ -77,41 +57,41 @@ fn after(place: Option<usize>, count: usize) -> usize
     }
 }
 
-// The place of the opening word of that number.
-fn opening_place(source: Source<'_>, opening: Opening, number: u8) -> Option<usize>
-    ensures exact { result ≡ numbered (is_opening_at source.entry.tokens.now opening) 0 (length source.entry.tokens.now) number }
+// The place of the mark of that number, from a place on.
+fn numbered_place(source: Source<'_>, mark: Mark, from: usize, number: u8) -> Option<usize>
+    ensures exact { result ≡ numbered (is_mark_at source.entry.tokens.now mark) from (length source.entry.tokens.now) number }
 {
-    (0..source.len())
-        .filter(|place| opening.is(source.token(*place)))
+    (from..source.len())
+        .filter(|place| mark.is(source.token(*place)))
         .nth(usize::from(number))
 }
 
 // The place after the opening word of that number; past the last token, where there are not so many.
-fn after_opening(source: Source<'_>, opening: Opening, number: u8) -> usize
+fn after_opening(source: Source<'_>, opening: Mark, number: u8) -> usize
     ensures exact { result ≡ opened_at source.entry.text.now source.entry.tokens.now opening number }
 {
-    after(opening_place(source, opening, number), source.len())
+    after(numbered_place(source, opening, 0, number), source.len())
 }
 
 /// The place of an object's name, where it is declared.
 pub(crate) fn object_place(source: Source<'_>, object: u8) -> usize
     ensures exact { result ≡ object_at source.entry.text.now source.entry.tokens.now object }
 {
-    after_opening(source, Opening::Object, object)
+    after_opening(source, Mark::Object, object)
 }
 
 /// The place of a client's name.
 pub(crate) fn client_place(source: Source<'_>, client: u8) -> usize
     ensures exact { result ≡ client_at source.entry.text.now source.entry.tokens.now client }
 {
-    after_opening(source, Opening::Client, client)
+    after_opening(source, Mark::Client, client)
 }
 
 // The place of the name of the template that a word names.
 fn template_place(source: Source<'_>, word: &[u8]) -> usize
     ensures exact { result ≡ template_at source.entry.text.now source.entry.tokens.now word.now }
 {
-    let found = (0..source.len()).find(|place| is_template(source.token(*place))
+    let found = (0..source.len()).find(|place| Mark::Template.is(source.token(*place))
         && source.word(next(*place)) == word);
     after(found, source.len())
 }
@@ -121,7 +101,7 @@ fn brace_from(source: Source<'_>, from: usize) -> usize
     ensures exact { result ≡ brace_at source.entry.text.now source.entry.tokens.now from }
 {
     (from..source.len())
-        .find(|place| is_brace(source.token(*place)))
+        .find(|place| Mark::Brace.is(source.token(*place)))
         .unwrap_or(source.len())
 }
 
@@ -130,7 +110,7 @@ fn blocks_name(source: Source<'_>, name: usize) -> usize
     ensures exact { result ≡ blocks_name source.entry.text.now source.entry.tokens.now name }
 {
     let after = next(name);
-    if is_assign(source.token(after)) {
+    if Mark::Assign.is(source.token(after)) {
         template_place(source, source.word(next(after)))
     } else {
         name
@@ -148,14 +128,14 @@ fn blocks_of(source: Source<'_>, client: u8) -> usize
 fn is_beside_dot(source: Source<'_>, place: usize) -> bool
     ensures exact { result ≡ is_beside_dot source.entry.text.now source.entry.tokens.now place }
 {
-    (place > 0 && is_dot(source.token(place - 1))) || is_dot(source.token(next(place)))
+    (place > 0 && Mark::Dot.is(source.token(place - 1))) || Mark::Dot.is(source.token(next(place)))
 }
 
 // Whether the list of a block is open after a token, by whether it was before.
 fn listed_past(token: Option<&Token>, listed: bool) -> bool
     ensures exact { result ≡ listed_past (option_map (λ token. token.now) token.entry) listed }
 {
-    is_separate(token) || (!is_brace(token) && listed)
+    Mark::Separate.is(token) || (!Mark::Brace.is(token) && listed)
 }
 
 // Whether a place stands in the list of a block, of blocks that begin at a place.
@@ -189,21 +169,15 @@ pub(crate) fn variable_place(source: Source<'_>, client: u8, word: &[u8]) -> usi
         .unwrap_or(source.len())
 }
 
-// The place of the word `separate` of that number, from a place on.
-fn separate_place(source: Source<'_>, from: usize, number: u8) -> Option<usize>
-    ensures exact { result ≡ numbered (is_separate_at source.entry.tokens.now) from (length source.entry.tokens.now) number }
-{
-    (from..source.len())
-        .filter(|place| is_separate(source.token(*place)))
-        .nth(usize::from(number))
-}
-
 // The place after the word `separate` of a client's block.
 fn list_of(source: Source<'_>, client: u8, block: u8) -> usize
     ensures exact { result ≡ list_at source.entry.text.now source.entry.tokens.now client block }
 {
     let from = blocks_of(source, client);
-    after(separate_place(source, from, block), source.len())
+    after(
+        numbered_place(source, Mark::Separate, from, block),
+        source.len(),
+    )
 }
 
 /// The place of a name in the list of a client's block.

@@ -1,6 +1,7 @@
 // A warning.
 
-/// Something of a program that may be meant otherwise. Clients, objects, variables and blocks are named by their numbers.
+/// Something of a program that may be meant otherwise. Clients, objects, variables and blocks are named by their
+/// numbers.
 #[derive(Clone, Copy, Debug)]
 pub enum Warning {
     /// There is no client, or no client has a block.
@@ -11,6 +12,7 @@ pub enum Warning {
     NeverSet { client: u8, variable: u8 },
     /// A client assigns the variable and never reads it.
     NeverRead { client: u8, variable: u8 },
-    /// A client's block makes no request on a name of its list, which is an object's or, in a template's text, a formal's.
+    /// A client's block makes no request on a name of its list, which is an object's or, in a template's text, a
+    /// formal's.
     Unused { client: u8, block: u8, name: u8 },
 }

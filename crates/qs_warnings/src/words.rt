@@ -42,7 +42,8 @@ fn near_variable<'a>(alloc: Global, names: &'a Names, word: &[u8]) -> Result<&'a
 }
 
 impl Telling<'_> {
-    // Says it of the token at a place, unless something was said of that place: two clients of a template have one text.
+    // Says it of the token at a place, unless something was said of that place: two clients of a template have one
+    // text.
     fn say(&mut self, place: usize, cause: &[&[u8]], help: &[&[u8]]) -> Result<(), AllocError> {
         if self.places.contains(&place) {
             return Ok(());
@@ -169,7 +170,8 @@ fn said_of(
     Ok(out)
 }
 
-/// What is said of all that is warned of in the program of a text; nothing, where nothing is. An error says that memory ran out.
+/// What is said of all that is warned of in the program of a text; nothing, where nothing is. An error says that memory
+/// ran out.
 pub fn warnings_text(alloc: Global, text: &[u8], program: &Program) -> Result<Vec<u8>, AllocError>
     ensures silent { warnings_of program.now ≡ [] → IfOk result (λ said. said.items ≡ []) }
 {

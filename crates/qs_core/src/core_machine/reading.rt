@@ -3,7 +3,7 @@
 ghost use Rattle.std.specs.Prelude.{◌≡◌, ◌<◌, IfOk, drop, length, vec_len};
 ghost use Rattle.qs_core_parts.specs.CarriedRequests.{first_requests};
 ghost use Rattle.qs_core_parts.specs.LaneStates.{lane_at};
-ghost use Rattle.qs_core_state.specs.CoreState.{core_of, side_at};
+ghost use Rattle.qs_core_state.specs.CoreState.{core_of, client_part_at};
 
 use super::CoreMachine;
 use qs_core_parts::{CoreClient, CoreHandler};
@@ -19,8 +19,8 @@ fn requests_at(
     place: usize,
 ) -> Result<Vec<Request>, AllocError>
     requires client { client < length clients.old.items }
-    requires lane { handler < length (side_at clients.old.items client).lanes }
-    ensures value { IfOk result (λ requests. requests.items ≡ first_requests (drop place (lane_at (side_at clients.old.items client).lanes handler).down)) }
+    requires lane { handler < length (client_part_at clients.old.items client).lanes }
+    ensures value { IfOk result (λ requests. requests.items ≡ first_requests (drop place (lane_at (client_part_at clients.old.items client).lanes handler).down)) }
     ensures same { clients.new.items ≡ clients.old.items }
     ensures len { vec_len clients.new ≡ vec_len clients.old }
 {
@@ -43,8 +43,8 @@ impl CoreMachine<'_> {
         self.handlers.as_slice()
     }
 
-    /// The requests of the parcel at a place in the lane from a client to a handler; nothing changes. An error says that their memory was
-    /// refused.
+    /// The requests of the parcel at a place in the lane from a client to a handler; nothing changes. An error says
+    /// that their memory was refused.
     pub(crate) fn lane_requests(
         &mut self,
         alloc: Global,
@@ -57,7 +57,7 @@ impl CoreMachine<'_> {
         ensures value { IfOk result (λ requests. requests.items ≡ first_requests (drop place ((core_of self.old).down client handler))) }
         ensures same { self.new ≡ self.old }
     {
-        self.is_machine();
+        self.keeps_machine();
         requests_at(alloc, &mut self.clients, client, handler, place)
     }
 }

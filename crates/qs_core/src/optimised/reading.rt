@@ -4,13 +4,13 @@ ghost use Rattle.std.specs.Prelude.{◌≡◌, ◌<◌, ℕ, IfOk, Some, drop, l
 ghost use Rattle.qs_core_laws.specs.CoreSchedule.{is_finished};
 ghost use Rattle.qs_core_parts.specs.CarriedRequests.{first_requests};
 ghost use Rattle.qs_core_parts.specs.CoreClients.{turns_to};
-ghost use Rattle.qs_core_parts.specs.CoreHandlers.{handler_of};
+ghost use Rattle.qs_core_parts.specs.CoreHandlers.{handler_with_act};
 ghost use Rattle.qs_core_state.specs.CoreState.{codes_of, core_of};
 ghost use Rattle.qs_core.specs.CoreDeeds.{AreLanesOf, act_at};
 
 use super::Core;
-use crate::core_showing::{are_finished, client_at, handler_at};
 use qs_core_parts::{CoreClient, CoreHandler};
+use qs_core_shown::{are_finished, client_at, handler_at};
 use qs_objects::Request;
 use std::alloc::{AllocError, Global};
 
@@ -19,21 +19,22 @@ impl Core<'_> {
     pub fn is_finished(&self) -> bool
         ensures value { result ≡ is_finished self.now.program (core_of self.now) }
     {
-        self.machine.is_machine();
+        self.machine.keeps_machine();
         are_finished(self.machine.clients(), self.machine.handlers())
     }
 
     /// A handler of the program, with the ticket that it serves and those of its queue.
     pub fn handler(&self, handler: u8) -> &CoreHandler
         requires { handler < length self.now.program.objects }
-        ensures mind { handler_of result.now ≡ (core_of self.now).handler handler }
+        ensures mind { handler_with_act result.now ≡ (core_of self.now).handler handler }
         ensures tickets { result.now.tickets ≡ (core_of self.now).tickets handler }
     {
-        self.machine.is_machine();
+        self.machine.keeps_machine();
         handler_at(self.machine.handlers(), handler)
     }
 
-    /// A client of the program, with what it wants next and its lanes. It turns to the lane to a handler of the program.
+    /// A client of the program, with what it wants next and its lanes. It turns to the lane to a handler of the
+    /// program.
     pub fn client(&self, client: u8) -> &CoreClient
         requires { client < length self.now.program.clients }
         ensures act { result.now.act ≡ act_at (codes_of self.now) self.now.size (core_of self.now) client }
@@ -41,15 +42,15 @@ impl Core<'_> {
         ensures many { length result.now.lanes ≡ length self.now.program.objects }
         ensures lanes { AreLanesOf (core_of self.now) client result.now.lanes }
     {
-        self.machine.program().is_sound();
-        self.machine.is_machine();
+        self.machine.program().keeps_sound();
+        self.machine.keeps_machine();
         let client = client_at(self.machine.clients(), usize::from(client));
         client.has_next_act();
         client
     }
 
-    /// The requests of the parcel at a place in the lane from a client to a handler; nothing changes. An error says that their memory was
-    /// refused.
+    /// The requests of the parcel at a place in the lane from a client to a handler; nothing changes. An error says
+    /// that their memory was refused.
     pub fn lane_requests(
         &mut self,
         alloc: Global,

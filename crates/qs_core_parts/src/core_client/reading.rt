@@ -9,7 +9,8 @@ use qs_objects::Request;
 use std::alloc::{AllocError, Global};
 
 impl CoreClient {
-    /// The requests of the parcel at a place in the lane to a handler; nothing changes. An error says that their memory was refused.
+    /// The requests of the parcel at a place in the lane to a handler; nothing changes. An error says that their memory
+    /// was refused.
     pub fn requests_at(
         &mut self,
         alloc: Global,

@@ -25,7 +25,8 @@ impl Lane {
         &self.down[place]
     }
 
-    /// The requests of the parcel at a place, where one lies there; the lane stays the same. An error says that their memory was refused.
+    /// The requests of the parcel at a place, where one lies there; the lane stays the same. An error says that their
+    /// memory was refused.
     pub fn requests_at(&mut self, alloc: Global, place: usize) -> Result<Vec<Request>, AllocError>
         ensures value { IfOk result (λ requests. requests.items ≡ first_requests (drop place self.old.down)) }
         ensures same { self.new ≡ self.old }

@@ -11,8 +11,8 @@ use qs_program::Locals;
 use qs_sync_counts::SyncCounts;
 use std::marker::Model;
 
-/// A client's blocks: for each of them its trace, its client's variables at entry, and how many Syncs it has sent for each object of its
-/// list.
+/// A client's blocks: for each of them its trace, its client's variables at entry, and how many Syncs it has sent for
+/// each object of its list.
 pub struct ClientRows {
     traces: Traces,
     entries: Vec<Locals>,
@@ -51,10 +51,10 @@ impl ClientRows {
     }
 }
 
-/// What a run has shown: the tickets in the order of reservations, and for each whether its block has ended, its client's variables
-/// at entry, its trace, and how many Syncs it has sent for each object of its list; for each object its journal and state; how many
-/// Syncs there were, and whether the run is finished. A ticket's trace is found by its client and number: the clients' rows are taken
-/// as they are, and no trace is copied.
+/// What a run has shown: the tickets in the order of reservations, and for each whether its block has ended, its
+/// client's variables at entry, its trace, and how many Syncs it has sent for each object of its list; for each object
+/// its journal and state; how many Syncs there were, and whether the run is finished. A ticket's trace is found by its
+/// client and number: the clients' rows are taken as they are, and no trace is copied.
 pub struct Played {
     order: Row<Ticket>,
     ended: Row<bool>,
@@ -90,8 +90,8 @@ impl Model for Played {
     ghost invariant = { λ p. HaveRows p.clients.items p.order };
 }
 
-/// What a run shows beside the clients' rows: whether each block has ended, the objects' journals and states, how many Syncs there
-/// were, and whether the run is finished.
+/// What a run shows beside the clients' rows: whether each block has ended, the objects' journals and states, how many
+/// Syncs there were, and whether the run is finished.
 #[derive(Drop)]
 pub struct Endings {
     pub ended: Row<bool>,

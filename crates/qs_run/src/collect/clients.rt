@@ -11,8 +11,8 @@ use qs_desk::laws::booked;
 use qs_desk::{Desk, DeskName};
 use qs_played::ClientRows;
 
-// Collects one client: its share is compared with the desk's order, its ends of lanes are joined with the handlers' ends, and its rows are
-// moved out.
+// Collects one client: its share is compared with the desk's order, its ends of lanes are joined with the handlers'
+// ends, and its rows are moved out.
 fn collect_client<D: DeskName>(
     desk: &mut Desk<D>,
     handlers: &mut [HandlerWorker<D>],

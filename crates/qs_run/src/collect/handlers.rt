@@ -9,8 +9,8 @@ use qs_desk::laws::follows;
 use qs_desk::{Desk, DeskName};
 use qs_objects::{Journal, Object};
 
-// Collects one handler: the tickets that it took are compared with those that the desk pushed to it, and its object and journal are moved
-// out.
+// Collects one handler: the tickets that it took are compared with those that the desk pushed to it, and its object and
+// journal are moved out.
 fn collect_handler<D: DeskName>(desk: &mut Desk<D>, handler: HandlerWorker<D>) -> (Object, Journal)
     requires closed { desk.old.closed ≡ true }
     ensures desk { desk.new ≡ desk.old }

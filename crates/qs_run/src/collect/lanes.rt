@@ -32,8 +32,8 @@ fn join_lane<D: DeskName>(
 )
     requires client { client < most_clients }
     requires handler { handler < most_handlers }
-    requires lane { AreOneLane (running.lane_at lanes.old handler) (handling.lane_at worker.old.lanes client) }
-    ensures joined { AreEndsJoined (running.lane_at lanes.old handler) (handling.lane_at worker.old.lanes client) }
+    requires lane { AreOneLane (running.out_lane_at lanes.old handler) (handling.in_lane_at worker.old.lanes client) }
+    ensures joined { AreEndsJoined (running.out_lane_at lanes.old handler) (handling.in_lane_at worker.old.lanes client) }
     ensures lanes { lanes.new ≡ slice_set lanes.old handler None }
     ensures worker { worker.new ≡ without_lane_of client worker.old }
 {

@@ -1,4 +1,5 @@
-//! Collecting the outcome of a run: lanes are joined, clients and handlers are collected, and what they have is shown. No thread is left here.
+//! Collecting the outcome of a run: lanes are joined, clients and handlers are collected, and what they have is shown.
+//! No thread is left here.
 
 mod clients;
 mod handlers;

@@ -15,9 +15,9 @@ use qs_desk::DeskName;
 use qs_played::Outcome;
 use qs_syncset::Mode;
 
-/// The outcome of a program's run in a mode and with chunks of a size, by what the workers and the desk gave back. Whatever the threads did at
-/// once, it is what the blocks do alone, one after another along the order of reservations. Nothing is allocated. The mode and the size
-/// are named for the contract alone.
+/// The outcome of a program's run in a mode and with chunks of a size, by what the workers and the desk gave back.
+/// Whatever the threads did at once, it is what the blocks do alone, one after another along the order of reservations.
+/// Nothing is allocated. The mode and the size are named for the contract alone.
 pub(crate) fn collect_outcome<D: DeskName>(
     results: RunResults<D>,
     room: OutcomeRoom,

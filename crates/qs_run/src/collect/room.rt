@@ -8,8 +8,8 @@ use qs_played::ClientRows;
 use qs_program::{MOST_CLIENTS, MOST_OBJECTS, MOST_TICKETS};
 use std::alloc::{AllocError, Global};
 
-/// Empty vectors with room for the outcome of any program's run: for each of 512 tickets whether its block has ended, for each of 8 clients
-/// its rows, and for each of 8 objects its journal and its state.
+/// Empty vectors with room for the outcome of any program's run: for each of 512 tickets whether its block has ended,
+/// for each of 8 clients its rows, and for each of 8 objects its journal and its state.
 #[derive(Drop)]
 pub(crate) struct OutcomeRoom {
     pub(crate) ended: Vec<bool>,

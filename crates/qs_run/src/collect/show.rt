@@ -49,7 +49,8 @@ fn all_syncs(played: &Played) -> u64
     syncs
 }
 
-/// What is shown of a run along this order, by its clients' rows and by its objects with their journals. Nothing is allocated.
+/// What is shown of a run along this order, by its clients' rows and by its objects with their journals. Nothing is
+/// allocated.
 pub(crate) fn shown_outcome(
     order: Vec<Ticket>,
     rows: Vec<ClientRows>,

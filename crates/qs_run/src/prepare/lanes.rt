@@ -17,7 +17,7 @@ fn ever_reserves(program: &Program, client: u8, handler: u8) -> bool
     requires client { client < length program.now.clients }
     ensures value { result ≡ ever_reserves program.now client handler }
 {
-    program.is_sound();
+    program.keeps_sound();
     for block in 0..program.blocks_of(client) as u8 {
         if program.block(client, block).reserved().contains(&handler) {
             return true;
@@ -110,7 +110,7 @@ fn add_client_lanes<R: Wait>(
     ensures others { (c h : ℕ) → (c ≡ client → ⊥)
         → (out_at outs.new.items c h ≡ out_at outs.old.items c h) × (in_at ins.new.items c h ≡ in_at ins.old.items c h) }
 {
-    program.is_sound();
+    program.keeps_sound();
     for handler in 0..program.objects() as u8 {
         let events = &events[usize::from(handler)];
         let (out, inside) = new_ends(rt, alloc, program, size, client, handler, events)?;
@@ -139,15 +139,15 @@ fn add_lanes<R: Wait>(
     ensures lanes { IfOk result (λ _. (c h : ℕ)
         → AreNewEnds size (ever_reserves program.now c h) (out_at outs.new.items c h) (in_at ins.new.items c h)) }
 {
-    program.is_sound();
+    program.keeps_sound();
     for client in 0..program.clients() as u8 {
         add_client_lanes(rt, alloc, program, size, client, events, outs, ins)?;
     }
     Ok(())
 }
 
-/// Makes a lane for each client and each handler that some block of the client reserves; all lanes of a handler share an event count. It gives the
-/// ends of each client, by handler, and those of each handler, by client.
+/// Makes a lane for each client and each handler that some block of the client reserves; all lanes of a handler share
+/// an event count. It gives the ends of each client, by handler, and those of each handler, by client.
 pub(crate) fn make_lanes<R: Wait>(
     rt: &R,
     alloc: Global,

@@ -16,8 +16,9 @@ use qs_syncset::{Mode, compile};
 use std::alloc::{AllocError, Global};
 use std::sync::Wait;
 
-/// What a run begins with, beside the desk: a mind for each client, an object with its journal for each handler, and both ends of a lane
-/// for each client and each handler that some block of the client reserves. `outs` has a row for each client, `ins` one for each handler.
+/// What a run begins with, beside the desk: a mind for each client, an object with its journal for each handler, and
+/// both ends of a lane for each client and each handler that some block of the client reserves. `outs` has a row for
+/// each client, `ins` one for each handler.
 #[derive(Drop)]
 pub(crate) struct RunParts {
     pub(crate) minds: Vec<Mind>,
@@ -50,7 +51,7 @@ fn make_minds(
 ) -> Result<Vec<Mind>, AllocError>
     ensures minds { IfOk result (λ minds. IsListOf (length program.now.clients) (IsMindAtStart program.now mode size) minds.items) }
 {
-    program.is_sound();
+    program.keeps_sound();
     let count = program.clients();
     let mut minds = Vec::with_capacity(alloc, count)?;
     for client in 0..count as u8 {
@@ -63,7 +64,7 @@ fn make_minds(
 fn make_helds(alloc: Global, program: &Program) -> Result<Vec<Held>, AllocError>
     ensures helds { IfOk result (λ helds. IsListOf (length program.now.objects) (IsObjectAtStart program.now) helds.items) }
 {
-    program.is_sound();
+    program.keeps_sound();
     let count = program.objects();
     let mut helds = Vec::with_capacity(alloc, count)?;
     for object in 0..count as u8 {
@@ -72,8 +73,8 @@ fn make_helds(alloc: Global, program: &Program) -> Result<Vec<Held>, AllocError>
     Ok(helds)
 }
 
-/// Makes the parts of a program's run: the clients' blocks are compiled in this mode, and the chunks of the lanes have this size. An error
-/// says that an allocation failed; then all that was made has been dropped again.
+/// Makes the parts of a program's run: the clients' blocks are compiled in this mode, and the chunks of the lanes have
+/// this size. An error says that an allocation failed; then all that was made has been dropped again.
 pub(crate) fn make_parts<R: Wait>(
     rt: &R,
     alloc: Global,

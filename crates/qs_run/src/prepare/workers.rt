@@ -70,7 +70,8 @@ fn add_handlers<D: DeskName>(
     }
 }
 
-// Adds the worker of each client: its mind, its share of the desk, and its ends of lanes. The mode and the size are named for the contract.
+// Adds the worker of each client: its mind, its share of the desk, and its ends of lanes. The mode and the size are
+// named for the contract.
 fn add_clients<D: DeskName>(
     workers: &mut Vec<ReadyClient<D>>,
     minds: Vec<Mind>,
@@ -107,8 +108,9 @@ fn add_clients<D: DeskName>(
     }
 }
 
-/// Makes all workers of a run, of its parts and of what the desk has for each client and each handler: one for each handler and one for
-/// each client, in their order, all of them ready. An error says that an allocation failed; then all is dropped.
+/// Makes all workers of a run, of its parts and of what the desk has for each client and each handler: one for each
+/// handler and one for each client, in their order, all of them ready. An error says that an allocation failed; then
+/// all is dropped.
 pub(crate) fn make_workers<D: DeskName>(
     alloc: Global,
     parts: RunParts,

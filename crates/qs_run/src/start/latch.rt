@@ -6,7 +6,8 @@ use std::marker::Model;
 use std::snapshot::Snapshot;
 use std::sync::{OnceLock, OnceToken, Wait};
 
-/// Holds the workers until it is decided whether they go: they go once all of them are started, and end if one could not be.
+/// Holds the workers until it is decided whether they go: they go once all of them are started, and end if one could
+/// not be.
 #[derive(Drop)]
 pub(crate) struct Latch {
     go: OnceLock<bool>,
@@ -49,8 +50,8 @@ impl Latch {
         (go, Deciding { latch })
     }
 
-    /// Decides whether the workers go, by the right that was made with this latch. It is the first decision, as there is one right to it, so
-    /// the latch takes it at the first try.
+    /// Decides whether the workers go, by the right that was made with this latch. It is the first decision, as there
+    /// is one right to it, so the latch takes it at the first try.
     pub(crate) fn decide<R: Wait>(&self, rt: &R, deciding: Deciding, go: bool) -> Decision<'_>
         requires own { deciding ≡ self.now }
         ensures latch { result.of ≡ self.now }

@@ -106,7 +106,8 @@ fn client_work<'l, D: DeskName, R: Wait>(
     (Ok(ClientWorker { mind, share, lanes }), decision)
 }
 
-// The start of a worker was refused: all workers are told to end, and this one is put back to those that were not started yet.
+// The start of a worker was refused: all workers are told to end, and this one is put back to those that were not
+// started yet.
 fn refuse<'l, S, W, R: Wait>(
     rt: &R,
     latch: &'l Latch,
@@ -131,8 +132,8 @@ fn refuse<'l, S, W, R: Wait>(
     }
 }
 
-// Runs each client on a thread of its own, the last of the list first. When all are started, all workers are let go. If the start of one is
-// refused, all workers are told to end.
+// Runs each client on a thread of its own, the last of the list first. When all are started, all workers are let go. If
+// the start of one is refused, all workers are told to end.
 fn run_clients<'l, D: DeskName + Send + Sync, S: Starter + Drop, R: Threads + Wait + Sync>(
     rt: &R,
     latch: &'l Latch,
@@ -232,8 +233,8 @@ fn run_clients<'l, D: DeskName + Send + Sync, S: Starter + Drop, R: Threads + Wa
     )
 }
 
-// Runs each handler on a thread of its own, the last of the list first, and inside of that the clients. When the clients have ended, the desk
-// is closed.
+// Runs each handler on a thread of its own, the last of the list first, and inside of that the clients. When the
+// clients have ended, the desk is closed.
 fn run_handlers<
     'l,
     D: DeskName + Send + Sync,
@@ -381,11 +382,12 @@ fn run_handlers<
     )
 }
 
-/// Runs all workers, each on a thread of its own, once the starter has let it start: the handlers are started first, and then the clients,
-/// in their order. No worker does anything before all are started. The clients reserve at the front of the desk; when they have ended, the
-/// desk is closed, and then the handlers end too. An error says that the start of a worker was refused, by the starter or by the system;
-/// then the threads that were started have ended, and all workers come back as they were. The two rooms take what is given back, so nothing
-/// else is allocated. Waits for all threads.
+/// Runs all workers, each on a thread of its own, once the starter has let it start: the handlers are started first,
+/// and then the clients, in their order. No worker does anything before all are started. The clients reserve at the
+/// front of the desk; when they have ended, the desk is closed, and then the handlers end too. An error says that the
+/// start of a worker was refused, by the starter or by the system; then the threads that were started have ended, and
+/// all workers come back as they were. The two rooms take what is given back, so nothing else is allocated. Waits for
+/// all threads.
 pub(crate) fn run_workers<
     D: DeskName + Send + Sync,
     G: Gate,

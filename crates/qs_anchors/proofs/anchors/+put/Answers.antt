@@ -1,6 +1,6 @@
 use Rattle.std.proofs.Common.{ap, arith}
-use Rattle.qs_script.specs.Views.{single, size_of}
-use Rattle.qs_script.proofs.Sizes.{size_at}
+use Rattle.qs_tree.specs.Views.{single, size_of}
+use Rattle.qs_tree.proofs.Sizes.{size_at}
 use Rattle.qs_anchors.proofs.Statements.{goes_on}
 use Rattle.qs_anchors.proofs.anchors.+put.Goals as goal
 

@@ -1,6 +1,7 @@
--- With the anchors of the statements that are left, all anchors are there. A statement is at most as large as the list that it stands in.
+-- With the anchors of the statements that are left, all anchors are there. A statement is at most as large as the list
+-- that it stands in.
 use Rattle.std.proofs.Common.{◌≡◌, ◌+◌, ◌*◌, ◌++◌, drop}
-use Rattle.qs_script.specs.Views.{single, size_of, stmts_of}
+use Rattle.qs_tree.specs.Views.{single, size_of, stmts_of}
 use Rattle.qs_anchors.specs.Anchors.{anchors}
 use Rattle.qs_anchors.proofs.anchors.+put.Given as goal
 

@@ -1,7 +1,7 @@
 use Rattle.std.proofs.Common.{◌∙◌, map, ap, sym}
 use Rattle.qs_program.specs.Binding.{bound}
 use Rattle.qs_binding.proofs.Binds.{first_more, firsts_are, with_firsts}
-use Rattle.qs_script.proofs.Sizes.{drop_past}
+use Rattle.qs_tree.proofs.Sizes.{drop_past}
 use Rattle.qs_binding.proofs.bind.bind_list.Goals as goal
 
 pub loop-name-preserved : goal.loop-name-preserved

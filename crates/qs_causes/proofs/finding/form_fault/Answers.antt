@@ -1,5 +1,5 @@
 use Rattle.std.proofs.Common.{Some, None, subst}
-use Rattle.qs_script.specs.Reads.{IsFormPlaceOf}
+use Rattle.qs_grammar.specs.FormPlaces.{IsFormPlaceOf}
 use Rattle.qs_causes.proofs.finding.form_fault.Goals as goal
 
 pub returns-in_ok-ends-in-Some : goal.returns-in_ok-ends-in-Some

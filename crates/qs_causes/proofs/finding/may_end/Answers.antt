@@ -1,6 +1,6 @@
 use Rattle.std.proofs.Common.{◌≡◌, ◌↔◌, [], ◌∷◌, ◌++◌, take, refl, subst, IfOk, IsTrue}
 use Rattle.qs_tokens.specs.declared.token.Token.TheVariants as t
-use Rattle.qs_script.specs.Reads.{BeginsScript}
+use Rattle.qs_grammar.specs.FormPlaces.{BeginsScript}
 use Rattle.qs_causes.proofs.finding.may_end.Goals as goal
 
 pub returns : goal.returns

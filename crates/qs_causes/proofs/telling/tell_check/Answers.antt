@@ -1,6 +1,6 @@
 use Rattle.std.proofs.Common.{List, subst, sym}
 use Rattle.std.proofs.lemmas.Result.{on_ok_weaker}
-use Rattle.qs_script.specs.declared.tree.Item.{Item}
+use Rattle.qs_tree.specs.declared.tree.Item.{Item}
 use Rattle.qs_script.proofs.ReadTexts.{one_script}
 use Rattle.qs_causes.specs.CheckTold.{IsRefusalTold}
 use Rattle.qs_causes.proofs.telling.tell_check.Goals as goal

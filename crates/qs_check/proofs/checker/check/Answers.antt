@@ -5,4 +5,4 @@ use Rattle.qs_check.proofs.checker.check.Goals as goal
 pub returns : goal.returns
 returns c =
     let checked : IsCheckOf c.args.script c.check_formed.result = rw (← c.as_slice.ensures.same) c.check_formed.ensures.check in
-    record { check = checked; well_formed = accepts_well_formed c.args.script c.check_formed.result c.is_formed.ensures.form checked }
+    record { check = checked; well_formed = accepts_well_formed c.args.script c.check_formed.result c.keeps_form.ensures.form checked }

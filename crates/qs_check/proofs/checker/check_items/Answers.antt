@@ -2,7 +2,7 @@ use Rattle.std.proofs.Common.{◌≡◌, ap, ◌∙◌, drop, ◌+◌, ◌∷◌
 use Rattle.std.proofs.lemmas.Result.{err_from_is_err_and}
 use Rattle.qs_places.specs.Places.{scope_or_fault, over, without_variables, item_places, script_places, Fails}
 use Rattle.qs_places.specs.Variables.{variables_of}
-use Rattle.qs_check.specs.Resolve.{lists_of}
+use Rattle.qs_resolution.specs.Resolve.{variable_lists}
 use Rattle.qs_places.proofs.Walks.{parts_at, meets_err}
 use Rattle.qs_check.proofs.Items.{over_fails, over_goes_on, forget, lists_at, list_added, list_kept}
 use Rattle.qs_check.proofs.checker.check_items.Goals as goal
@@ -41,34 +41,34 @@ loop-item-preserved c =
     elim c.match-item.branch [
       | in-Object+in_ok-check_object-in-Object w ↦
           let h : scope_or_fault c.loop-item.scope (item_places item) ≡ Ok w.check_object.new.scope = rw w.in-Object.is w.in_ok-check_object-in-Object.ensures.meets in
-          let here : lists_of (item ∷ rest) ≡ lists_of rest = ap (λ x. lists_of (x ∷ rest)) w.in-Object.is in
+          let here : variable_lists (item ∷ rest) ≡ variable_lists rest = ap (λ x. variable_lists (x ∷ rest)) w.in-Object.is in
           record {
             walk = rw w.scope-is (over_goes_on c.args.scope.now c.loop-item.scope (script_places xs) (script_places (drop i xs)) (item_places item) later so_far.walk parts w.check_object.new.scope h);
-            lists = list_kept c.args.variables.now.items (lists_of xs) c.loop-item.variables.items (lists_of (drop i xs)) (lists_of rest) c.match-item.variables.items so_far.lists (lists ∙ here) (ap (λ v. v.items) w.variables-is);
+            lists = list_kept c.args.variables.now.items (variable_lists xs) c.loop-item.variables.items (variable_lists (drop i xs)) (variable_lists rest) c.match-item.variables.items so_far.lists (lists ∙ here) (ap (λ v. v.items) w.variables-is);
           }
       | in-Client+in_ok-check_client-in-Client+in_ok-add_variables-in-Client w ↦
           let u = w.check_client.new.scope in
           let h : scope_or_fault c.loop-item.scope (item_places item) ≡ Ok u = rw w.in-Client.is w.in_ok-check_client-in-Client.ensures.meets in
-          let here : lists_of (item ∷ rest) ≡ variables_of w.in-Client.client ∷ lists_of rest = ap (λ x. lists_of (x ∷ rest)) w.in-Client.is in
+          let here : variable_lists (item ∷ rest) ≡ variables_of w.in-Client.client ∷ variable_lists rest = ap (λ x. variable_lists (x ∷ rest)) w.in-Client.is in
           let name_is : w.end_client.result ≡ variables_of w.in-Client.client = w.end_client.ensures.variables ∙ w.in_ok-check_client-in-Client.ensures.variables in
           let added : c.match-item.variables.items ≡ c.loop-item.variables.items ++ variables_of w.in-Client.client ∷ [] =
           ap (λ v. v.items) w.variables-is ∙ w.in_ok-add_variables-in-Client.ensures.added ∙ ap (λ v. c.loop-item.variables.items ++ v ∷ []) name_is in
           record {
             walk = rw (w.scope-is, w.end_client.ensures.rest) (over_goes_on c.args.scope.now c.loop-item.scope (script_places xs) (script_places (drop i xs)) (item_places item) later so_far.walk parts u h ∙ forget rest u);
-            lists = list_added c.args.variables.now.items (lists_of xs) c.loop-item.variables.items (lists_of (drop i xs)) (lists_of rest) c.match-item.variables.items (variables_of w.in-Client.client) so_far.lists (lists ∙ here) added;
+            lists = list_added c.args.variables.now.items (variable_lists xs) c.loop-item.variables.items (variable_lists (drop i xs)) (variable_lists rest) c.match-item.variables.items (variables_of w.in-Client.client) so_far.lists (lists ∙ here) added;
           }
       | in-Template+in_ok-check_template-in-Template w ↦
           let h : scope_or_fault c.loop-item.scope (item_places item) ≡ Ok w.check_template.new.scope = rw w.in-Template.is w.in_ok-check_template-in-Template.ensures.meets in
-          let here : lists_of (item ∷ rest) ≡ lists_of rest = ap (λ x. lists_of (x ∷ rest)) w.in-Template.is in
+          let here : variable_lists (item ∷ rest) ≡ variable_lists rest = ap (λ x. variable_lists (x ∷ rest)) w.in-Template.is in
           record {
             walk = rw w.scope-is (over_goes_on c.args.scope.now c.loop-item.scope (script_places xs) (script_places (drop i xs)) (item_places item) later so_far.walk parts w.check_template.new.scope h);
-            lists = list_kept c.args.variables.now.items (lists_of xs) c.loop-item.variables.items (lists_of (drop i xs)) (lists_of rest) c.match-item.variables.items so_far.lists (lists ∙ here) (ap (λ v. v.items) w.variables-is);
+            lists = list_kept c.args.variables.now.items (variable_lists xs) c.loop-item.variables.items (variable_lists (drop i xs)) (variable_lists rest) c.match-item.variables.items so_far.lists (lists ∙ here) (ap (λ v. v.items) w.variables-is);
           }
       | in-Started+in_ok-check_started-in-Started w ↦
           let h : scope_or_fault c.loop-item.scope (item_places item) ≡ Ok w.check_started.new.scope = rw w.in-Started.is w.in_ok-check_started-in-Started.ensures.meets in
-          let here : lists_of (item ∷ rest) ≡ lists_of rest = ap (λ x. lists_of (x ∷ rest)) w.in-Started.is in
+          let here : variable_lists (item ∷ rest) ≡ variable_lists rest = ap (λ x. variable_lists (x ∷ rest)) w.in-Started.is in
           record {
             walk = rw w.scope-is (over_goes_on c.args.scope.now c.loop-item.scope (script_places xs) (script_places (drop i xs)) (item_places item) later so_far.walk parts w.check_started.new.scope h);
-            lists = list_kept c.args.variables.now.items (lists_of xs) c.loop-item.variables.items (lists_of (drop i xs)) (lists_of rest) c.match-item.variables.items so_far.lists (lists ∙ here) (ap (λ v. v.items) w.variables-is);
+            lists = list_kept c.args.variables.now.items (variable_lists xs) c.loop-item.variables.items (variable_lists (drop i xs)) (variable_lists rest) c.match-item.variables.items so_far.lists (lists ∙ here) (ap (λ v. v.items) w.variables-is);
           }
     ]

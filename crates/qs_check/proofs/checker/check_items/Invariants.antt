@@ -1,10 +1,10 @@
 use Rattle.std.proofs.Common.{◌≡◌, ◌++◌, drop}
 use Rattle.qs_places.specs.Places.{scope_or_fault, over, script_places}
-use Rattle.qs_check.specs.Resolve.{lists_of}
+use Rattle.qs_resolution.specs.Resolve.{variable_lists}
 use Rattle.qs_check.proofs.checker.check_items.Given as goal
 
 abbrev pub invariant-loop-item : goal.invariant-loop-item
 invariant-loop-item l = record {
   walk : over (scope_or_fault l.initial.scope (script_places l.items)) ≡ over (scope_or_fault l.scope (script_places (drop l.item-index l.items)));
-  lists : l.initial.variables.items ++ lists_of l.items ≡ l.variables.items ++ lists_of (drop l.item-index l.items);
+  lists : l.initial.variables.items ++ variable_lists l.items ≡ l.variables.items ++ variable_lists (drop l.item-index l.items);
 }

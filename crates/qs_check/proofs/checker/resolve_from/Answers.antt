@@ -4,7 +4,7 @@ use Rattle.qs_objects.specs.declared.object.Kind.{Kind}
 use Rattle.qs_program.specs.Numbering.{Name}
 use Rattle.qs_program.specs.Limits.{most_variables}
 use Rattle.qs_places.specs.Places.{scope_or_fault, start, script_places}
-use Rattle.qs_check.specs.Resolve.{clients_of, lists_of, names_of, templates_in}
+use Rattle.qs_resolution.specs.Resolve.{clients_of, variable_lists, names_of, templates_in}
 use Rattle.qs_check.specs.Checked.{first_fault}
 use Rattle.qs_check.proofs.Scripts.{texts_faultless}
 use Rattle.qs_check.proofs.Soundness.{walked}
@@ -22,13 +22,13 @@ numbered-requires-clause-texts c =
 
 pub numbered-requires-clause-variables : goal.numbered-requires-clause-variables
 numbered-requires-clause-variables c =
-    c.in_ok-check_items.ensures.variables ∙ ap (λ (ls : List (List Name)). ls ++ lists_of c.args.items.now) c.requires.none
+    c.in_ok-check_items.ensures.variables ∙ ap (λ (ls : List (List Name)). ls ++ variable_lists c.args.items.now) c.requires.none
 
 pub numbered-requires-clause-limit : goal.numbered-requires-clause-limit
 numbered-requires-clause-limit c =
     let w = walked c.args.items.now c.check_items.new.scope (rw c.requires.start at c.in_ok-check_items.ensures.meets) in
-    let lists : c.check_items.new.variables.items ≡ lists_of c.args.items.now =
-    c.in_ok-check_items.ensures.variables ∙ ap (λ (ls : List (List Name)). ls ++ lists_of c.args.items.now) c.requires.none in
+    let lists : c.check_items.new.variables.items ≡ variable_lists c.args.items.now =
+    c.in_ok-check_items.ensures.variables ∙ ap (λ (ls : List (List Name)). ls ++ variable_lists c.args.items.now) c.requires.none in
     let P : List (List Name) → Type 0 = λ ls. AllByRecursion (λ v. length v ≤ most_variables) ls in
     subst P (sym lists) w.few_variables
 

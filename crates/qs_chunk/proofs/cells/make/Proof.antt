@@ -1,4 +1,5 @@
--- `make` lays empty places out in the block that the allocator gives, and keeps the right to give it back. Assumes `Logic`.
+-- `make` lays empty places out in the block that the allocator gives, and keeps the right to give it back. Assumes
+-- `Logic`.
 use Rattle.std.proofs.Common.{ℕ, ◌*◌, ◌^◌, ◌<◌, [], ◌∷◌, replicate, None, Ok, Err, refl, sym, ap, subst, arith, w64, lit<, true, false}
 use base.Logic.{SProp, emp}
 use base.Fml.{Fml, ftrue, fsep, froom, flft, Incl-trans}

@@ -6,31 +6,31 @@ use Rattle.qs_sync_counts.specs.declared.sync_counts.SyncCount.{SyncCount}
 use Rattle.qs_sync_counts.proofs.CountRows.{begun_all, begun_beyond, begun_next, begun_none, length_begun, objects_end, objects_next}
 use Rattle.qs_client.proofs.ReservedLists.{few_objects}
 use Rattle.qs_client_run.proofs.CodeBounds.{few_blocks}
-use Rattle.qs_client.specs.ClientModel.{lists_of}
+use Rattle.qs_client.specs.ClientModel.{lists_of_code}
 use Rattle.qs_client.proofs.mind.fresh_counts.Goals as goal
 
 -- a block's list is the one of that number
-listed : (blocks : List BlockCode) (n : ℕ) → n < length blocks → get_or (lists_of blocks) n [] ≡ (get_or blocks n no_code).reserved
+listed : (blocks : List BlockCode) (n : ℕ) → n < length blocks → get_or (lists_of_code blocks) n [] ≡ (get_or blocks n no_code).reserved
 listed blocks n inside = get_or-map (λ (b : BlockCode). b.reserved) blocks n no_code [] inside
 
-many : (blocks : List BlockCode) → length (lists_of blocks) ≡ length blocks
+many : (blocks : List BlockCode) → length (lists_of_code blocks) ≡ length blocks
 many blocks = length-map blocks (λ (b : BlockCode). b.reserved)
 
 pub overflow_add-room : goal.overflow_add-room
 overflow_add-room c =
     let n = c.loop-block.block in
     let inside : n < length c.args.code.now.blocks = omega (arith, c.loop-block-test.true, c.blocks-blocks.ensures.value) in
-    let few = few_objects c.args.code.now n c.is_code.ensures.code inside in
+    let few = few_objects c.args.code.now n c.keeps_code.ensures.code inside in
     let same = ap (λ (hs : List ℕ). length hs) c.reserved.ensures.value in
-    let blocks = few_blocks c.args.code.now c.is_code.ensures.code in
+    let blocks = few_blocks c.args.code.now c.keeps_code.ensures.code in
     omega (arith, c.loop-block.invariant.few, few, same, inside, blocks)
 
 pub loop-block-preserved : goal.loop-block-preserved
 loop-block-preserved c =
     let n = c.loop-block.block in
-    let lists = lists_of c.args.code.now.blocks in
+    let lists = lists_of_code c.args.code.now.blocks in
     let inside : n < length c.args.code.now.blocks = omega (arith, c.loop-block-test.true, c.blocks-blocks.ensures.value) in
-    let few = few_objects c.args.code.now n c.is_code.ensures.code inside in
+    let few = few_objects c.args.code.now n c.keeps_code.ensures.code inside in
     let same = ap (λ (hs : List ℕ). length hs) c.reserved.ensures.value in
     let long = many c.args.code.now.blocks in
     let next = objects_next lists n (omega (arith, inside, long)) in
@@ -45,7 +45,7 @@ loop-block-init c = record { sum = omega arith; few = omega arith }
 
 pub loop-block-2-init : goal.loop-block-2-init
 loop-block-2-init c =
-    let lists = lists_of c.args.code.now.blocks in
+    let lists = lists_of_code c.args.code.now.blocks in
     let long = many c.args.code.now.blocks in
     let end = objects_end lists c.loop-block.block (omega (arith, c.loop-block-test.false, c.blocks-blocks.ensures.value, long)) in
     let room = ap (λ (s : CountsState). s.room) c.in_ok-counts.ensures.fresh in
@@ -58,7 +58,7 @@ loop-block-2-init c =
 pub push_list-requires : goal.push_list-requires
 push_list-requires c =
     let n = c.loop-block-2.block in
-    let lists = lists_of c.args.code.now.blocks in
+    let lists = lists_of_code c.args.code.now.blocks in
     let inside : n < length c.args.code.now.blocks = omega (arith, c.loop-block-2-test.true, c.blocks-blocks.ensures.value) in
     let rows = ap (λ (rs : List (List SyncCount)). length rs) c.loop-block-2.invariant.rows in
     let begun = length_begun n lists in
@@ -75,7 +75,7 @@ push_list-requires c =
 pub loop-block-2-preserved : goal.loop-block-2-preserved
 loop-block-2-preserved c =
     let n = c.loop-block-2.block in
-    let lists = lists_of c.args.code.now.blocks in
+    let lists = lists_of_code c.args.code.now.blocks in
     let inside : n < length c.args.code.now.blocks = omega (arith, c.loop-block-2-test.true, c.blocks-blocks.ensures.value) in
     let long = many c.args.code.now.blocks in
     let next = objects_next lists n (omega (arith, inside, long)) in
@@ -92,7 +92,7 @@ loop-block-2-preserved c =
 
 pub returns-clause-fresh : goal.returns-clause-fresh
 returns-clause-fresh c =
-    let lists = lists_of c.args.code.now.blocks in
+    let lists = lists_of_code c.args.code.now.blocks in
     let long = many c.args.code.now.blocks in
     let whole : c.loop-block-2.block ≡ length lists =
     omega (arith, c.loop-block-2-test.false, c.loop-block-2.auto.block-end, c.blocks-blocks.ensures.value, long) in

@@ -1,7 +1,7 @@
 use Rattle.std.proofs.Common.{◌∙◌, refl, sym, ap}
 use Rattle.qs_objects.specs.declared.held.Ticket.{Ticket}
 use Rattle.qs_client.specs.MindState.{mind_of}
-use Rattle.qs_client_run.specs.declared.act.Act.TheVariants as acts
+use Rattle.qs_client_rules.specs.declared.act.Act.TheVariants as acts
 use Rattle.qs_client_thread.proofs.ThreadActs.{begins, count_is, has_left, is_empty, kept_by_chunk, kept_by_object, kept_by_parcel, kept_by_ticket}
 use Rattle.qs_client_thread.proofs.ThreadActs.{may_follow, reaches}
 use Rattle.qs_client_thread.proofs.running.run.Goals as goal

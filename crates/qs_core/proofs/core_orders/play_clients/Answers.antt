@@ -1,7 +1,7 @@
 use Rattle.std.proofs.Common.{◌+◌, ◌∙◌, ◌∷◌, [], add-one, ap, drop, get_or, subst, sym}
 use Rattle.std.proofs.Math.Seq.{drop-cons}
 use Rattle.std.proofs.lemmas.List.{drop_all}
-use Rattle.qs_orders.specs.NamedOrders.{order_of}
+use Rattle.qs_serial.specs.NamedOrders.{order_of}
 use Rattle.qs_played.proofs.ShownRuns.{if_shown}
 use Rattle.qs_core_laws.specs.CoreSchedule.{core_played}
 use Rattle.qs_core_orders.specs.CoreOrders.{IsPlayedInOrderOn}
@@ -49,5 +49,5 @@ returns c =
     subst (λ rest. ArePlayed p c.args.mode c.args.size cs rest s) (drop_all c.loop-client.client-index cs c.loop-client-test.false) c.loop-client.invariant in
     record {
       played = if_shown (IsPlayedInOrderOn p c.args.mode c.args.size (order_of cs)) c.into_played.result (core_played s.program (core_of s)) c.into_played.ensures.shown
-          (λ played is. subst (IsPlayedInOrderOn p c.args.mode c.args.size (order_of cs)) (sym is) (all_played p c.is_sound.ensures.sound c.args.mode c.args.size cs c.requires.legal s all));
+          (λ played is. subst (IsPlayedInOrderOn p c.args.mode c.args.size (order_of cs)) (sym is) (all_played p c.keeps_sound.ensures.sound c.args.mode c.args.size cs c.requires.legal s all));
     }

@@ -19,7 +19,7 @@ loop-handler-preserved c =
     let names = map queue_name l.senders.items in
     let more : map queue_name c.push.new.self.items ≡ names ++ name ∷ [] = ap (map queue_name) items ∙ map-append queue_name l.senders.items (sender ∷ []) ∙ ap (λ (x : QueueView). names ++ x.name ∷ []) is_line in
     let at : length names ≡ l.handler = names_len l.senders.items ∙ l.invariant.len in
-    let small : l.handler < most_handlers = omega (arith, c.loop-handler-test.true, c.objects-handler-end.ensures.value, c.is_sound.ensures.sound.objects) in
+    let small : l.handler < most_handlers = omega (arith, c.loop-handler-test.true, c.objects-handler-end.ensures.value, c.keeps_sound.ensures.sound.objects) in
     let room : length names < most_handlers = omega (arith, at, small) in
     let new : IsNewQueue p (length l.senders.items) sender = subst (λ (n : ℕ). sender ≡ new_queue p sender.name n) (sym l.invariant.len) (is_line ∙ ap (λ (x : QueueView). new_queue p x.name l.handler) (sym is_line)) in
     record {

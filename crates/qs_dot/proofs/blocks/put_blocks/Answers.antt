@@ -1,4 +1,4 @@
-use Rattle.qs_report.proofs.Added.{one_added_more}
+use Rattle.qs_text.proofs.Added.{one_added_more}
 use Rattle.qs_dot.specs.DotText.{IsBlockDrawn}
 use Rattle.qs_dot.proofs.blocks.put_blocks.Goals as goal
 

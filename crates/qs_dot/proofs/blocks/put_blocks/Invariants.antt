@@ -1,5 +1,5 @@
 -- The blocks before this number are there.
-use Rattle.qs_report.specs.GraphText.{AreTextsUpTo, IsAdded}
+use Rattle.qs_text.specs.Texts.{AreTextsUpTo, IsAdded}
 use Rattle.qs_dot.specs.DotText.{IsBlockDrawn}
 use Rattle.qs_dot.proofs.blocks.put_blocks.Given as goal
 

@@ -1,6 +1,6 @@
 -- The nodes before this number are there.
 use Rattle.std.proofs.Common.{◌≡◌, ◌++◌}
-use Rattle.qs_report.specs.Texts.{texts_up_to}
+use Rattle.qs_text.specs.Texts.{texts_up_to}
 use Rattle.qs_dot.specs.DotText.{node_text}
 use Rattle.qs_dot.proofs.nodes.put_nodes.Given as goal
 

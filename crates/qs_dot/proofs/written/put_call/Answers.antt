@@ -1,6 +1,6 @@
 use Rattle.std.proofs.Common.{◌++◌, codes}
 use Rattle.std.proofs.lemmas.Result.{on_ok_weaker}
-use Rattle.qs_report.specs.GraphText.{name_of}
+use Rattle.qs_text.specs.Words.{name_of}
 use Rattle.qs_dot.specs.Written.{atoms_text, names_of_variables, opened_text}
 use Rattle.qs_dot.proofs.Parts.{then}
 use Rattle.qs_dot.proofs.written.put_call.Goals as goal

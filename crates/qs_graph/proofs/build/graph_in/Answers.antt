@@ -11,7 +11,7 @@ pub of-requires : goal.of-requires
 of-requires c =
     let program = c.args.program.now in
     let same = c.in-Ok.ensures.ok ∙ ap block_graph (c.body.ensures.value ∙ ap (λ (b : BlockShape). b.body) c.own_block.ensures.value) in
-    record { graph = subst IsGraph (sym same) (blocks_have_graphs program c.args.client c.args.block c.is_sound.ensures.sound).own }
+    record { graph = subst IsGraph (sym same) (blocks_have_graphs program c.args.client c.args.block c.keeps_sound.ensures.sound).own }
 
 pub returns-in-Ok-clause-drawn : goal.returns-in-Ok-clause-drawn
 returns-in-Ok-clause-drawn c =

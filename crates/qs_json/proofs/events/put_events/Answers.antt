@@ -2,7 +2,7 @@ use Rattle.std.proofs.Common.{◌∙◌, arith, ap, get_or}
 use Rattle.std.proofs.lemmas.List.{get_or_default}
 use Rattle.qs_json.specs.RunJson.{event_json}
 use Rattle.qs_json.proofs.Nothing.{no_event}
-use Rattle.qs_json.proofs.Parts.{named}
+use Rattle.qs_text.proofs.Parts.{named}
 use Rattle.qs_json.proofs.Elements.{all_elements, one_element_more}
 use Rattle.qs_json.proofs.events.put_events.Goals as goal
 

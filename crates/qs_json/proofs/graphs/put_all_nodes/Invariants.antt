@@ -1,6 +1,6 @@
 -- The nodes before this number are there.
-use Rattle.qs_report.specs.Texts.{texts_up_to}
-use Rattle.qs_json.specs.Pieces.{Puts, element}
+use Rattle.qs_text.specs.Texts.{texts_up_to, Puts}
+use Rattle.qs_json.specs.Pieces.{element}
 use Rattle.qs_json.specs.GraphJson.{node_json}
 use Rattle.qs_json.proofs.graphs.put_all_nodes.Given as goal
 

@@ -1,4 +1,4 @@
-use Rattle.qs_report.proofs.Added.{one_added_more}
+use Rattle.qs_text.proofs.Added.{one_added_more}
 use Rattle.qs_json.specs.GraphJson.{IsBlockJson}
 use Rattle.qs_json.proofs.graphs.put_blocks.Goals as goal
 

@@ -2,7 +2,7 @@ use Rattle.std.proofs.Common.{◌∙◌, List, ap, codes, ℕ}
 use Rattle.std.specs.List.{join_by}
 use Rattle.std.proofs.lemmas.Result.{on_ok_weaker}
 use Rattle.qs_json.specs.GraphJson.{name_json}
-use Rattle.qs_json.proofs.Parts.{named, then}
+use Rattle.qs_text.proofs.Parts.{named, then}
 use Rattle.qs_json.proofs.graphs.put_held.Goals as goal
 
 pub returns : goal.returns

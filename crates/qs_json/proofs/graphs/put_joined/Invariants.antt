@@ -1,7 +1,7 @@
 -- The names before this place are there.
 use Rattle.std.proofs.Common.{get_or}
-use Rattle.qs_report.specs.Texts.{texts_up_to}
-use Rattle.qs_json.specs.Pieces.{Puts, element}
+use Rattle.qs_text.specs.Texts.{texts_up_to, Puts}
+use Rattle.qs_json.specs.Pieces.{element}
 use Rattle.qs_json.specs.GraphJson.{name_json}
 use Rattle.qs_json.proofs.graphs.put_joined.Given as goal
 

@@ -1,10 +1,10 @@
 use Rattle.std.proofs.Common.{◌∙◌, Bool, ap, codes, sym}
 use Rattle.std.proofs.lemmas.Result.{on_ok_weaker}
 use Rattle.qs_graph.specs.declared.node.Node.{Node}
-use Rattle.qs_syncset.specs.Table.{has}
+use Rattle.qs_held_sets.specs.Table.{has}
 use Rattle.qs_json.specs.Pieces.{field, truth}
 use Rattle.qs_json.specs.GraphJson.{label_json}
-use Rattle.qs_json.proofs.Parts.{named, then}
+use Rattle.qs_text.proofs.Parts.{named, then}
 use Rattle.qs_json.proofs.graphs.put_label.Goals as goal
 
 pub returns-in_ok-put_name-in-Sync : goal.returns-in_ok-put_name-in-Sync

@@ -1,9 +1,9 @@
 use Rattle.std.proofs.Common.{List, ap, codes, decimal, length}
-use Rattle.qs_outcomes.specs.Standings.{StandingShape}
-use Rattle.qs_report.specs.Texts.{texts_up_to}
+use Rattle.qs_standings.specs.Standings.{StandingShape}
+use Rattle.qs_text.specs.Texts.{texts_up_to}
 use Rattle.qs_json.specs.Pieces.{field, first_field}
 use Rattle.qs_json.specs.OutcomesJson.{outcome_json_at}
-use Rattle.qs_json.proofs.Parts.{all_that_is, named, then}
+use Rattle.qs_text.proofs.Parts.{all_that_is, named, then}
 use Rattle.qs_json.proofs.outcomes.outcomes_json.Goals as goal
 
 pub returns : goal.returns

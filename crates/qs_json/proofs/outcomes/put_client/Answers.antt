@@ -3,7 +3,7 @@ use Rattle.std.proofs.lemmas.Result.{on_ok_weaker}
 use Rattle.qs_program.specs.Numbering.{Name}
 use Rattle.qs_program.specs.Values.{Locals}
 use Rattle.qs_json.specs.OutcomesJson.{variables_json}
-use Rattle.qs_json.proofs.Parts.{named, then}
+use Rattle.qs_text.proofs.Parts.{named, then}
 use Rattle.qs_json.proofs.outcomes.put_client.Goals as goal
 
 pub returns : goal.returns

@@ -1,9 +1,9 @@
 use Rattle.std.proofs.Common.{◌≡◌, ap, arith, length}
-use Rattle.qs_report.specs.Texts.{texts_up_to}
+use Rattle.qs_text.specs.Texts.{texts_up_to}
 use Rattle.qs_json.specs.Pieces.{comma_at, element}
 use Rattle.qs_json.specs.OutcomesJson.{client_json}
 use Rattle.qs_json.proofs.Elements.{one_element_more}
-use Rattle.qs_json.proofs.Parts.{named}
+use Rattle.qs_text.proofs.Parts.{named}
 use Rattle.qs_json.proofs.outcomes.put_clients.Goals as goal
 
 pub loop-client-preserved : goal.loop-client-preserved

@@ -1,8 +1,7 @@
 use Rattle.std.proofs.Common.{◌+◌, ap}
-use Rattle.qs_outcomes.specs.Standings.{StandingShape}
+use Rattle.qs_standings.specs.Standings.{StandingShape}
 use Rattle.qs_json.specs.OutcomesJson.{outcome_json, outcome_json_at}
-use Rattle.qs_json.proofs.Elements.{one_text_more}
-use Rattle.qs_json.proofs.Parts.{named}
+use Rattle.qs_text.proofs.Parts.{one_text_more, named}
 use Rattle.qs_json.proofs.outcomes.put_found.Goals as goal
 
 pub loop-place-preserved : goal.loop-place-preserved

@@ -1,6 +1,5 @@
 -- The outcomes before this place are there.
-use Rattle.qs_report.specs.Texts.{texts_up_to}
-use Rattle.qs_json.specs.Pieces.{Puts}
+use Rattle.qs_text.specs.Texts.{texts_up_to, Puts}
 use Rattle.qs_json.specs.OutcomesJson.{outcome_json_at}
 use Rattle.qs_json.proofs.outcomes.put_found.Given as goal
 

@@ -1,9 +1,9 @@
 -- The clients before this place are there.
 use Rattle.std.proofs.Common.{get_or}
-use Rattle.qs_report.specs.Texts.{texts_up_to}
-use Rattle.qs_json.specs.Pieces.{Puts, element}
+use Rattle.qs_text.specs.Texts.{texts_up_to, Puts}
+use Rattle.qs_json.specs.Pieces.{element}
 use Rattle.qs_json.specs.OutcomesJson.{next_client_json}
-use Rattle.qs_report.specs.Report.{first_ticket}
+use Rattle.qs_text.specs.Words.{first_ticket}
 use Rattle.qs_json.proofs.outcomes.put_joined.Given as goal
 
 abbrev pub invariant-loop-place : goal.invariant-loop-place

@@ -1,5 +1,5 @@
 use Rattle.std.proofs.lemmas.Result.{on_ok_weaker}
-use Rattle.qs_json.proofs.Parts.{then}
+use Rattle.qs_text.proofs.Parts.{then}
 use Rattle.qs_json.proofs.outcomes.put_outcome_head.Goals as goal
 
 pub returns : goal.returns

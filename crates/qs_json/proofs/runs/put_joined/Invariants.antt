@@ -1,8 +1,8 @@
 -- The synchronisations before this number are there.
 use Rattle.std.proofs.Common.{[], get_or, slice_index_or}
 use Rattle.qs_sync_counts.specs.SyncRows.{sync_count}
-use Rattle.qs_report.specs.Texts.{texts_up_to}
-use Rattle.qs_json.specs.Pieces.{Puts, element}
+use Rattle.qs_text.specs.Texts.{texts_up_to, Puts}
+use Rattle.qs_json.specs.Pieces.{element}
 use Rattle.qs_json.specs.RunJson.{sync_json}
 use Rattle.qs_json.proofs.runs.put_joined.Given as goal
 

@@ -1,6 +1,6 @@
 -- The objects before this place are there.
-use Rattle.qs_report.specs.Texts.{texts_up_to}
-use Rattle.qs_json.specs.Pieces.{Puts, element}
+use Rattle.qs_text.specs.Texts.{texts_up_to, Puts}
+use Rattle.qs_json.specs.Pieces.{element}
 use Rattle.qs_json.specs.RunJson.{object_json}
 use Rattle.qs_json.proofs.runs.put_objects.Given as goal
 

@@ -4,7 +4,7 @@ use Rattle.qs_objects.specs.declared.held.Event.{Event}
 use Rattle.qs_objects.specs.declared.held.Ticket.{Ticket}
 use Rattle.qs_json.specs.Pieces.{array, field}
 use Rattle.qs_json.specs.RunJson.{block_json, event_json}
-use Rattle.qs_json.proofs.Parts.{named, then}
+use Rattle.qs_text.proofs.Parts.{named, then}
 use Rattle.qs_json.proofs.runs.put_ticket.Goals as goal
 
 pub returns : goal.returns

@@ -6,7 +6,7 @@ use Rattle.qs_objects.specs.Objects.{values_of}
 use Rattle.qs_objects.specs.declared.object.Kind.{Kind}
 use Rattle.qs_json.specs.Pieces.{field}
 use Rattle.qs_json.specs.RunJson.{content_json, kind_json}
-use Rattle.qs_json.proofs.Parts.{named, then}
+use Rattle.qs_text.proofs.Parts.{named, then}
 use Rattle.qs_json.proofs.states.put_content.Goals as goal
 
 pub returns-in_ok-put_integer-in-Buffer : goal.returns-in_ok-put_integer-in-Buffer

@@ -15,6 +15,6 @@ returns-in-Nesting c = record {
         c.body_levels.ensures.capped,
         ap levels_of c.body-body.ensures.value,
         ap (λ (b : BlockShape). levels_of b.body) c.block.ensures.value,
-        levels_small c.args.program.now c.args.client c.args.block c.is_sound.ensures.sound,
+        levels_small c.args.program.now c.args.client c.args.block c.keeps_sound.ensures.sound,
       ));
 }

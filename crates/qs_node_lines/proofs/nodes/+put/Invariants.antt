@@ -1,7 +1,7 @@
--- With the nodes of the statements that are left, all nodes are there; and after the statements that are left comes what comes after
--- all of them. A statement is at most as large as the list that it stands in.
+-- With the nodes of the statements that are left, all nodes are there; and after the statements that are left comes
+-- what comes after all of them. A statement is at most as large as the list that it stands in.
 use Rattle.std.proofs.Common.{◌≡◌, ◌+◌, ◌*◌, ◌++◌, drop}
-use Rattle.qs_script.specs.Views.{single, size_of, stmts_of}
+use Rattle.qs_tree.specs.Views.{single, size_of, stmts_of}
 use Rattle.qs_node_lines.specs.NodeLines.{anchor_count, statement_nodes}
 use Rattle.qs_node_lines.proofs.nodes.+put.Given as goal
 

@@ -1,6 +1,6 @@
 use Rattle.std.proofs.Common.{◌∙◌, ap, arith, drop, sym}
-use Rattle.qs_script.specs.Views.{single, size_of}
-use Rattle.qs_script.proofs.Sizes.{size_at}
+use Rattle.qs_tree.specs.Views.{single, size_of}
+use Rattle.qs_tree.proofs.Sizes.{size_at}
 use Rattle.qs_node_lines.specs.NodeLines.{anchor_count}
 use Rattle.qs_node_lines.proofs.Counts.{after_repeat}
 use Rattle.qs_node_lines.proofs.skipping.+skipped.Goals as goal

@@ -1,5 +1,5 @@
 use Rattle.std.proofs.Common.{◌-◌, ◌+◌, ◌∙◌, ap, arith, subst}
-use Rattle.qs_outcomes.specs.Rows.{drafted, rows_in}
+use Rattle.qs_standings.specs.Rows.{drafted, rows_in}
 use Rattle.qs_outcomes.specs.Search.{IsLonger, IsPushed}
 use Rattle.qs_outcomes.proofs.Exploring.{none_pushed, pushed_on}
 use Rattle.qs_outcomes.proofs.search.push_next.Goals as goal

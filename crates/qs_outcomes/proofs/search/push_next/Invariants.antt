@@ -1,7 +1,7 @@
 use Rattle.std.proofs.Common.{◌≡◌, ◌-◌}
-use Rattle.qs_outcomes.specs.Rows.{drafted, rows_in}
+use Rattle.qs_standings.specs.Rows.{drafted, rows_in}
 use Rattle.qs_outcomes.specs.Search.{IsLonger}
-use Rattle.qs_outcomes.specs.Standings.{row_of}
+use Rattle.qs_standings.specs.Standings.{row_of}
 use Rattle.qs_outcomes.proofs.search.push_next.Given as goal
 
 abbrev pub invariant-loop-back : goal.invariant-loop-back

@@ -1,9 +1,9 @@
 use Rattle.std.proofs.Common.{◌≡◌, ◌++◌, ◌∷◌, [], ap, inl, inr, sym, ◌∙◌, true≢false, refl}
-use Rattle.qs_outcomes.specs.Rows.{drafted, rows_in}
-use Rattle.qs_outcomes.specs.Standings.{GoesOn, HasNext, IsNext, row_of, with_block}
-use Rattle.qs_outcomes.proofs.GoingSets.{in_set, out_of_set}
-use Rattle.qs_outcomes.proofs.Lists.{has_map}
-use Rattle.qs_outcomes.proofs.Stands.{block_next, goes_left}
+use Rattle.qs_standings.specs.Rows.{drafted, rows_in}
+use Rattle.qs_standings.specs.Standings.{GoesOn, HasNext, IsNext, row_of, standing_with_block}
+use Rattle.qs_standings.proofs.GoingSets.{in_set, out_of_set}
+use Rattle.qs_standings.proofs.Lists.{has_map}
+use Rattle.qs_standings.proofs.Stands.{block_next, goes_left}
 use Rattle.qs_outcomes.proofs.search.push_one.Goals as goal
 use Rattle.qs_outcomes.proofs.search.push_one.Goals.{Then-goes-client-eq1, In_ok-run_next}
 
@@ -13,7 +13,7 @@ on c = (λ i. sym c.requires.goes i c.args.client) ∙ in_set c.args.goes c.args
 left : (c : Then-goes-client-eq1) → HasNext c.args.program.now c.args.standing.now c.args.client
 left c = goes_left c.args.program.now c.args.standing.now c.args.client (on c)
 
-is_next : (c : In_ok-run_next) → IsNext c.args.program.now c.args.front.now c.args.standing.now c.args.client (with_block c.args.standing.now c.args.client c.run_next.new.values c.run_next.new.left.items)
+is_next : (c : In_ok-run_next) → IsNext c.args.program.now c.args.front.now c.args.standing.now c.args.client (standing_with_block c.args.standing.now c.args.client c.run_next.new.values c.run_next.new.left.items)
 is_next c =
     block_next c.args.program.now c.args.front.now c.args.standing.now c.args.client _ _ c.requires.standing c.requires.client
     ((λ i. sym c.requires.goes i c.args.client) ∙ in_set c.args.goes c.args.client c.if-goes-client-eq1.true) c.in_ok-run_next.ensures.ran
@@ -40,7 +40,7 @@ returns-in_ok-push-clause-pushed c =
 pub returns-then-was_seen-clause-pushed : goal.returns-then-was_seen-clause-pushed
 returns-then-was_seen-clause-pushed c =
     inr (
-      inl (has_map (λ r (e : drafted c.write_next_row.new.row ≡ r). (_, is_next (goal.at.returns-then-was_seen-clause-pushed c).In_ok-run_next, sym (c.in_ok-write_next_row.ensures.row ∙ ap (λ left. row_of c.args.program.now (with_block c.args.standing.now c.args.client c.run_next.new.values left)) c.as_slice-left.ensures.value) ∙ e)) (rows_in c.args.seen.now.keys) (c.was_seen.ensures.seen c.if-was_seen.true)),
+      inl (has_map (λ r (e : drafted c.write_next_row.new.row ≡ r). (_, is_next (goal.at.returns-then-was_seen-clause-pushed c).In_ok-run_next, sym (c.in_ok-write_next_row.ensures.row ∙ ap (λ left. row_of c.args.program.now (standing_with_block c.args.standing.now c.args.client c.run_next.new.values left)) c.as_slice-left.ensures.value) ∙ e)) (rows_in c.args.seen.now.keys) (c.was_seen.ensures.seen c.if-was_seen.true)),
       refl,
     )
 

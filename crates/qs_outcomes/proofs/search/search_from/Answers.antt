@@ -2,10 +2,11 @@ use Rattle.std.proofs.Common.{◌≡◌, [], subst, sym, length, List, ◌∙◌
 use Rattle.std.proofs.lemmas.List.{length-map}
 use Rattle.qs_objects.specs.declared.held.Ticket.{Ticket}
 use Rattle.qs_program.specs.Program.{ProgramShape}
+use Rattle.qs_meaning.specs.Serial.{IsLegal}
 use Rattle.qs_outcomes.specs.Outcomes.{HasConfigurationsAfter}
-use Rattle.qs_outcomes.specs.Rows.{rows_in, shape_of}
+use Rattle.qs_standings.specs.Rows.{rows_in, shape_of}
 use Rattle.qs_outcomes.specs.Search.{IsExplored}
-use Rattle.qs_outcomes.specs.Standings.{RowShape, StandingShape}
+use Rattle.qs_standings.specs.Standings.{RowShape, StandingShape}
 use Rattle.qs_outcomes.proofs.Explored.{all_apart, all_least, all_listed, all_outcomes, has_configurations}
 use Rattle.qs_outcomes.proofs.search.search_from.Goals as goal
 
@@ -17,36 +18,22 @@ over : (p : ProgramShape) (front : List Ticket) (rows : List RowShape) (stack fo
     → IsExplored p front rows [] found
 over p front rows stack found none explored = subst (λ ts. IsExplored p front rows ts found) (none_left stack none) explored
 
-pub returns-clause-sound : goal.returns-clause-sound
-returns-clause-sound g c =
-    all_listed c.args.program.now c.args.front.now c.is_sound.ensures.sound (rows_in c.loop-standing.seen.keys) c.loop-standing.found.items
-    (over c.args.program.now c.args.front.now (rows_in c.loop-standing.seen.keys) c.loop-standing.stack.items c.loop-standing.found.items
-    (let e = c.in_default.ensures.cases.0 in let k = c.loop-standing.stack.ok.0 in omega (arith, e, k)) c.loop-standing.invariant.explored)
-
-pub returns-clause-complete : goal.returns-clause-complete
-returns-clause-complete g c =
-    all_outcomes c.args.program.now c.args.front.now c.is_sound.ensures.sound (rows_in c.loop-standing.seen.keys) c.loop-standing.found.items
-    (over c.args.program.now c.args.front.now (rows_in c.loop-standing.seen.keys) c.loop-standing.stack.items c.loop-standing.found.items
-    (let e = c.in_default.ensures.cases.0 in let k = c.loop-standing.stack.ok.0 in omega (arith, e, k)) c.loop-standing.invariant.explored)
-
-pub returns-clause-least : goal.returns-clause-least
-returns-clause-least g c =
-    all_least c.args.program.now c.args.front.now c.is_sound.ensures.sound (rows_in c.loop-standing.seen.keys) c.loop-standing.found.items
-    (over c.args.program.now c.args.front.now (rows_in c.loop-standing.seen.keys) c.loop-standing.stack.items c.loop-standing.found.items
-    (let e = c.in_default.ensures.cases.0 in let k = c.loop-standing.stack.ok.0 in omega (arith, e, k)) c.loop-standing.invariant.explored)
-
-pub returns-clause-sorted : goal.returns-clause-sorted
-returns-clause-sorted g c = c.loop-standing.invariant.explored.least.sorted
-
-pub returns-clause-once : goal.returns-clause-once
-returns-clause-once g c =
-    all_apart c.args.program.now c.args.front.now c.is_sound.ensures.sound (rows_in c.loop-standing.seen.keys) c.loop-standing.found.items
-    (over c.args.program.now c.args.front.now (rows_in c.loop-standing.seen.keys) c.loop-standing.stack.items c.loop-standing.found.items
-    (let e = c.in_default.ensures.cases.0 in let k = c.loop-standing.stack.ok.0 in omega (arith, e, k)) c.loop-standing.invariant.explored)
-
-pub returns-clause-counted : goal.returns-clause-counted
-returns-clause-counted g c =
-    subst (HasConfigurationsAfter c.args.program.now c.args.front.now) (sym (c.len.ensures.len ∙ sym (length-map c.loop-standing.seen.keys shape_of)))
-    (has_configurations c.args.program.now c.args.front.now c.is_sound.ensures.sound (rows_in c.loop-standing.seen.keys) c.loop-standing.found.items
-    (over c.args.program.now c.args.front.now (rows_in c.loop-standing.seen.keys) c.loop-standing.stack.items c.loop-standing.found.items
-    (let e = c.in_default.ensures.cases.0 in let k = c.loop-standing.stack.ok.0 in omega (arith, e, k)) c.loop-standing.invariant.explored))
+pub returns-clause-outcomes : goal.returns-clause-outcomes
+returns-clause-outcomes g c =
+    let p = c.args.program.now in
+    let front = c.args.front.now in
+    let sound = c.keeps_sound.ensures.sound in
+    let rows = rows_in c.loop-standing.seen.keys in
+    let found = c.loop-standing.found.items in
+    let explored : IsExplored p front rows [] found = over p front rows c.loop-standing.stack.items found
+    (let e = c.in_default.ensures.cases.0 in let k = c.loop-standing.stack.ok.0 in omega (arith, e, k)) c.loop-standing.invariant.explored in
+    record {
+      legal = subst (IsLegal p) c.requires.first.order c.requires.first.standing.legal;
+      sound = all_listed p front sound rows found explored;
+      complete = all_outcomes p front sound rows found explored;
+      least = all_least p front sound rows found explored;
+      sorted = c.loop-standing.invariant.explored.least.sorted;
+      once = all_apart p front sound rows found explored;
+      counted = subst (HasConfigurationsAfter p front) (sym (c.len.ensures.len ∙ sym (length-map c.loop-standing.seen.keys shape_of)))
+          (has_configurations p front sound rows found explored);
+    }

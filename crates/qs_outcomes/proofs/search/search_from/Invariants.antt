@@ -1,5 +1,5 @@
 use Rattle.std.proofs.Common.{◌≤◌, length}
-use Rattle.qs_outcomes.specs.Rows.{rows_in}
+use Rattle.qs_standings.specs.Rows.{rows_in}
 use Rattle.qs_outcomes.specs.Search.{IsExplored, work_left}
 use Rattle.qs_outcomes.proofs.search.search_from.Given as goal
 

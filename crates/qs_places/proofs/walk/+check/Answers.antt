@@ -1,7 +1,7 @@
 use Rattle.std.proofs.Common.{◌≡◌, ap, arith, drop, sym, ◌+◌, ◌∙◌, ◌++◌, true}
 use Rattle.std.proofs.lemmas.Result.{err_from_is_err_and}
-use Rattle.qs_script.specs.Views.{single, size_of, stmts_of}
-use Rattle.qs_script.proofs.Sizes.{size_at}
+use Rattle.qs_tree.specs.Views.{single, size_of, stmts_of}
+use Rattle.qs_tree.proofs.Sizes.{size_at}
 use Rattle.qs_places.specs.Places.{places, call_places, test_places, scope_or_fault, variable}
 use Rattle.qs_places.proofs.Walks.{places-drop, walk_fails, walk_goes_on, meets_err, first_fails, other_meets, one_then}
 use Rattle.qs_places.proofs.walk.+check.Goals as goal

@@ -1,5 +1,5 @@
 use Rattle.std.proofs.Common.{◌≡◌, ◌+◌, ◌*◌, drop}
-use Rattle.qs_script.specs.Views.{single, size_of, stmts_of}
+use Rattle.qs_tree.specs.Views.{single, size_of, stmts_of}
 use Rattle.qs_places.specs.Places.{scope_or_fault, places}
 use Rattle.qs_places.proofs.walk.+check.Given as goal
 

@@ -1,13 +1,13 @@
 use Rattle.std.proofs.Common.{◌<◌, ◌+◌, ◌∙◌, ◌∷◌, [], add-one, ap, arith, drop, get_or, subst, sym}
 use Rattle.std.proofs.Math.Seq.{drop-cons}
 use Rattle.std.proofs.lemmas.List.{drop_all, length-map}
-use Rattle.qs_orders.specs.NamedOrders.{order_of}
+use Rattle.qs_serial.specs.NamedOrders.{order_of}
 use Rattle.qs_played.proofs.ShownRuns.{if_shown}
 use Rattle.qs_plain_laws.specs.Plain.{begin, begun_blocks}
 use Rattle.qs_plain_laws.specs.PlainSchedule.{played_of}
 use Rattle.qs_plain_laws.proofs.Ordering.{IsOrdered, ordered_begin, ordered_plays, tickets_begun}
 use Rattle.qs_plain_orders.specs.PlainOrders.{IsPlayedInOrder}
-use Rattle.qs_plain_client.specs.Clients.{client_of}
+use Rattle.qs_plain_client.specs.Clients.{client_of_state}
 use Rattle.qs_plain.specs.Rules.{plain_of}
 use Rattle.qs_plain.proofs.Blocks.{ArePlayed, all_played, next_left, one_more, played_first}
 use Rattle.qs_plain.proofs.ReadingOff.{at_client}
@@ -46,7 +46,7 @@ into_played-requires c = λ i d less.
     let leads = c.loop-client.invariant.leads in
     let all = subst (IsOrdered p) (sym leads.2) (ordered_plays p (begin p) leads.0 (ordered_begin p)) in
     let found = tickets_begun p (plain_of s) all i d less in (
-      omega (arith, found.0, length-map s.clients client_of),
+      omega (arith, found.0, length-map s.clients client_of_state),
       subst (λ it. t.index < begun_blocks it) (sym (at_client s.clients t.client)) found.1,
     )
 
@@ -59,5 +59,5 @@ returns c =
     subst (λ rest. ArePlayed p cs rest s) (drop_all c.loop-client.client-index cs c.loop-client-test.false) c.loop-client.invariant in
     record {
       played = if_shown (IsPlayedInOrder p (order_of cs)) c.into_played.result (played_of s.program (plain_of s)) c.into_played.ensures.shown
-          (λ played is. subst (IsPlayedInOrder p (order_of cs)) (sym is) (all_played p c.is_sound.ensures.sound cs c.requires.legal s all));
+          (λ played is. subst (IsPlayedInOrder p (order_of cs)) (sym is) (all_played p c.keeps_sound.ensures.sound cs c.requires.legal s all));
     }

@@ -13,7 +13,7 @@ use Rattle.qs_plain_laws.proofs.Ordering.{IsOrdered, ordered_begin, ordered_play
 use Rattle.qs_plain_laws.specs.PlainSyncSums.{AreQueriesCounted}
 use Rattle.qs_plain_laws.proofs.Isolating.{runs_isolated}
 use Rattle.qs_plain_laws.proofs.PlainSyncs.{plain_syncs_counted}
-use Rattle.qs_plain_client.specs.Clients.{client_of}
+use Rattle.qs_plain_client.specs.Clients.{client_of_state}
 use Rattle.qs_plain.specs.Rules.{plain_of}
 use Rattle.qs_plain.proofs.Playing.{plays-schedule, shown-as}
 use Rattle.qs_plain.proofs.ReadingOff.{at_client}
@@ -28,7 +28,7 @@ into_played-requires c = λ i d less.
     let there = plays-schedule p c.args.picks.now old.pick-index c.args.rounds old.rules s (begin p) c.loop-pick-test.false old.invariant.program old.invariant.value c.play_rounds.ensures.rounds in
     let all = subst (IsOrdered p) (sym there) (ordered_plays p (begin p) (schedule p c.args.picks.now c.args.rounds) (ordered_begin p)) in
     let found = tickets_begun p (plain_of s) all i d less in (
-      omega (arith, found.0, length-map s.clients client_of),
+      omega (arith, found.0, length-map s.clients client_of_state),
       subst (λ it. t.index < begun_blocks it) (sym (at_client s.clients t.client)) found.1,
     )
 
@@ -48,6 +48,6 @@ returns c =
     record {
       played = shown;
       legal = of_shown (λ (played : Played). IsLegal p played.order) c.into_played.result (played_of p last) shown (ordered_plays p (begin p) actors (ordered_begin p)).legal;
-      isolated = of_shown (λ (played : Played). IsIsolated p played (commands_in_queue last)) c.into_played.result (played_of p last) shown (runs_isolated p c.is_sound.ensures.sound actors);
-      counted = of_shown (AreQueriesCounted p last) c.into_played.result (played_of p last) shown (plain_syncs_counted p c.is_sound.ensures.sound actors);
+      isolated = of_shown (λ (played : Played). IsIsolated p played (commands_in_queue last)) c.into_played.result (played_of p last) shown (runs_isolated p c.keeps_sound.ensures.sound actors);
+      counted = of_shown (AreQueriesCounted p last) c.into_played.result (played_of p last) shown (plain_syncs_counted p c.keeps_sound.ensures.sound actors);
     }

@@ -1,9 +1,9 @@
 use Rattle.std.proofs.Common.{◌≡◌, ◌&&◌, map, drop}
 use Rattle.qs_program.specs.Program.{ProgramShape}
 use Rattle.qs_plain_laws.specs.PlainSchedule.{all_done}
-use Rattle.qs_plain_client.specs.Clients.{client_of}
+use Rattle.qs_plain_client.specs.Clients.{client_of_state}
 use Rattle.qs_plain.specs.BegunBlocks.{AreOwn}
 use Rattle.qs_plain.proofs.showing.are_done.Given as goal
 
 abbrev pub invariant-loop-client : goal.invariant-loop-client
-invariant-loop-client l = (p : ProgramShape) → AreOwn p l.clients → (l.done && all_done p l.client-index (map client_of (drop l.client-index l.clients))) ≡ all_done p 0 (map client_of l.clients)
+invariant-loop-client l = (p : ProgramShape) → AreOwn p l.clients → (l.done && all_done p l.client-index (map client_of_state (drop l.client-index l.clients))) ≡ all_done p 0 (map client_of_state l.clients)

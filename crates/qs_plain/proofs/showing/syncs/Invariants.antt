@@ -1,11 +1,11 @@
 use Rattle.std.proofs.Common.{◌≡◌, ◌≤◌, ◌*◌, suc, take, sum_by}
 use Rattle.qs_program.specs.Limits.{most_blocks, most_requests}
 use Rattle.qs_plain_laws.specs.PlainSchedule.{syncs_of}
-use Rattle.qs_plain_client.specs.Clients.{ClientState, client_of}
+use Rattle.qs_plain_client.specs.Clients.{ClientState, client_of_state}
 use Rattle.qs_plain.proofs.showing.syncs.Given as goal
 
 abbrev pub invariant-loop-client : goal.invariant-loop-client
 invariant-loop-client l = record {
-  value : l.syncs ≡ sum_by (λ (d : ClientState). syncs_of (client_of d)) (take l.client-index l.clients);
+  value : l.syncs ≡ sum_by (λ (d : ClientState). syncs_of (client_of_state d)) (take l.client-index l.clients);
   limit : l.syncs ≤ l.client-index * suc (most_blocks * most_requests);
 }

@@ -14,7 +14,7 @@ overflow_add-room c =
       sum_by-taken load c.reserved-object-items.result.now c.loop-object.object-index 0 c.loop-object-test.true,
       ap (sum_by load) (c.reserved-object-items.ensures.value ∙ ap (λ (b : BlockShape). b.reserved) c.block.ensures.value),
       block_load-whole c.args.program.now c.args.number c.args.index c.requires.client c.requires.block,
-      c.is_sound.ensures.sound.load,
+      c.keeps_sound.ensures.sound.load,
     )
 
 pub returns-clause-few : goal.returns-clause-few
@@ -26,5 +26,5 @@ returns-clause-few c =
       ap (sum_by load) (take_all c.loop-object.object-index c.reserved-object-items.result.now (omega (arith, c.loop-object-test.false))),
       ap (sum_by load) (c.reserved-object-items.ensures.value ∙ ap (λ (b : BlockShape). b.reserved) c.block.ensures.value),
       block_load-whole c.args.program.now c.args.number c.args.index c.requires.client c.requires.block,
-      c.is_sound.ensures.sound.load,
+      c.keeps_sound.ensures.sound.load,
     )

@@ -1,4 +1,4 @@
-use Rattle.qs_report.proofs.Added.{one_added_more}
+use Rattle.qs_text.proofs.Added.{one_added_more}
 use Rattle.qs_report.specs.GraphText.{IsBlockText}
 use Rattle.qs_report.proofs.graphs.put_blocks.Goals as goal
 

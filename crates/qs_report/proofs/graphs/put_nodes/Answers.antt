@@ -1,4 +1,4 @@
-use Rattle.qs_report.proofs.Joined.{one_place_more}
+use Rattle.qs_text.proofs.Joined.{one_place_more}
 use Rattle.qs_report.specs.GraphText.{node_line}
 use Rattle.qs_report.proofs.graphs.put_nodes.Goals as goal
 

@@ -1,7 +1,7 @@
 use Rattle.std.proofs.Common.{◌++◌, ◌∷◌, [], ap, ◌∙◌, ◌+◌, arith, w64}
 use Rattle.std.proofs.lemmas.Int.{to_z-of_z, ints}
 use Rattle.std.specs.Int.RustNames.{unsigned_abs}
-use Rattle.qs_report.proofs.Digits.{digit_text}
+use Rattle.qs_text.proofs.Digits.{digit_text}
 use Rattle.qs_report.proofs.lines.put_number.Goals as goal
 
 pub returns-then-number-lt10-clause-items : goal.returns-then-number-lt10-clause-items

@@ -1,7 +1,7 @@
 use Rattle.std.proofs.Common.{◌≡◌, ◌++◌, ◌∙◌, ap, arith, length}
-use Rattle.qs_report.proofs.Joined.{one_place_more}
+use Rattle.qs_text.proofs.Joined.{one_place_more}
 use Rattle.qs_report.specs.OutcomesText.{client_line}
-use Rattle.qs_report.specs.Texts.{texts_up_to}
+use Rattle.qs_text.specs.Texts.{texts_up_to}
 use Rattle.qs_report.proofs.outcomes.put_clients.Goals as goal
 
 pub loop-client-preserved : goal.loop-client-preserved

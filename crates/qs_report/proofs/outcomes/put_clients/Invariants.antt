@@ -1,7 +1,7 @@
 -- The clients before this number are there.
 use Rattle.std.proofs.Common.{◌≡◌, ◌++◌}
 use Rattle.qs_report.specs.OutcomesText.{client_line}
-use Rattle.qs_report.specs.Texts.{texts_up_to}
+use Rattle.qs_text.specs.Texts.{texts_up_to}
 use Rattle.qs_report.proofs.outcomes.put_clients.Given as goal
 
 abbrev pub invariant-loop-client : goal.invariant-loop-client

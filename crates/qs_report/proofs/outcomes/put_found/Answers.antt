@@ -1,5 +1,5 @@
 use Rattle.std.proofs.Common.{◌++◌, ◌+◌, ◌∙◌, ap}
-use Rattle.qs_report.proofs.Joined.{one_place_more}
+use Rattle.qs_text.proofs.Joined.{one_place_more}
 use Rattle.qs_report.specs.OutcomesText.{outcome_text, outcome_text_at}
 use Rattle.qs_report.proofs.outcomes.put_found.Goals as goal
 

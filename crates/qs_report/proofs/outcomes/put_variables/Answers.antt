@@ -1,4 +1,4 @@
-use Rattle.qs_report.proofs.Joined.{one_place_more}
+use Rattle.qs_text.proofs.Joined.{one_place_more}
 use Rattle.qs_report.specs.OutcomesText.{variable_text}
 use Rattle.qs_report.proofs.outcomes.put_variables.Goals as goal
 

@@ -1,7 +1,7 @@
 -- The variables before this number are there.
 use Rattle.std.proofs.Common.{◌≡◌, ◌++◌}
 use Rattle.qs_report.specs.OutcomesText.{variable_text}
-use Rattle.qs_report.specs.Texts.{texts_up_to}
+use Rattle.qs_text.specs.Texts.{texts_up_to}
 use Rattle.qs_report.proofs.outcomes.put_variables.Given as goal
 
 abbrev pub invariant-loop-number : goal.invariant-loop-number

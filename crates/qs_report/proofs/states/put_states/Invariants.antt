@@ -1,6 +1,6 @@
 -- The objects before this place are there.
 use Rattle.std.proofs.Common.{◌≡◌, ◌++◌}
-use Rattle.qs_report.specs.Texts.{texts_up_to}
+use Rattle.qs_text.specs.Texts.{texts_up_to}
 use Rattle.qs_report.specs.Report.{object_text}
 use Rattle.qs_report.proofs.states.put_states.Given as goal
 

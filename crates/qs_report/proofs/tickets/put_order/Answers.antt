@@ -1,4 +1,4 @@
-use Rattle.qs_report.proofs.Joined.{one_place_more}
+use Rattle.qs_text.proofs.Joined.{one_place_more}
 use Rattle.qs_report.specs.Report.{shown_ticket}
 use Rattle.qs_report.proofs.tickets.put_order.Goals as goal
 

@@ -1,6 +1,6 @@
 -- The tickets before this place are there.
 use Rattle.std.proofs.Common.{◌≡◌, ◌++◌}
-use Rattle.qs_report.specs.Texts.{texts_up_to}
+use Rattle.qs_text.specs.Texts.{texts_up_to}
 use Rattle.qs_report.specs.Report.{shown_ticket}
 use Rattle.qs_report.proofs.tickets.put_order.Given as goal
 

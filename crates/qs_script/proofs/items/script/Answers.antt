@@ -1,8 +1,8 @@
 use Rattle.std.proofs.Common.{◌≡◌, ◌<◌, length, arith, [], Ok}
 use Rattle.std.proofs.lemmas.Result.{err_from_is_err_and}
-use Rattle.qs_script.specs.Reading.{run, end_at, item_at, items_loop}
-use Rattle.qs_script.proofs.Form.{formed}
-use Rattle.qs_script.proofs.ReadTexts.{is_script}
+use Rattle.qs_grammar.specs.Reading.{run, end_at, item_at, items_loop}
+use Rattle.qs_grammar.proofs.Form.{formed}
+use Rattle.qs_grammar.proofs.Readings.{is_script}
 use Rattle.qs_script.proofs.Loops.{list_begins, list_goes_on, whole_list_closes, whole_list_fails, at_end, before_end}
 use Rattle.qs_script.proofs.items.script.Goals as goal
 
@@ -31,17 +31,18 @@ each-preserved c =
     }
 
 -- what was read is in the grammar, which has scripts of this form alone
-pub invariant_of-result : goal.invariant_of-result
-invariant_of-result c =
+pub of-requires : goal.of-requires
+of-requires c =
     let none : length c.each.rest.now ≡ 0 = grind arith in
     let ts = c.args.tokens.now in
     let all : run items_loop ts ≡ Ok (c.each.items.items, []) =
     whole_list_closes end_at item_at ts c.each.rest.now [] c.each.items.items c.each.invariant.whole (at_end c.each.rest.now none) in
-    formed c.each.items.items ts [] (is_script ts c.each.items.items all)
+    record { form = formed c.each.items.items ts [] (is_script ts c.each.items.items all) }
 
 pub returns : goal.returns
 returns c =
     let none : length c.each.rest.now ≡ 0 = grind arith in
     record {
-      exact = whole_list_closes end_at item_at c.args.tokens.now c.each.rest.now [] c.each.items.items c.each.invariant.whole (at_end c.each.rest.now none);
+      exact = rw c.of.ensures.same
+          (whole_list_closes end_at item_at c.args.tokens.now c.each.rest.now [] c.each.items.items c.each.invariant.whole (at_end c.each.rest.now none));
     }

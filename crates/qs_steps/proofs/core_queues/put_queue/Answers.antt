@@ -2,7 +2,7 @@ use Rattle.std.proofs.Common.{◌≡◌, ◌++◌, ap, arith, codes, decimal, fl
 use Rattle.qs_handler.specs.Handler.{serving}
 use Rattle.qs_program.specs.Program.{object_at}
 use Rattle.qs_core_laws.specs.CoreSchedule.{before_it}
-use Rattle.qs_core_parts.specs.CoreHandlers.{handler_of}
+use Rattle.qs_core_parts.specs.CoreHandlers.{handler_with_act}
 use Rattle.qs_core_state.specs.CoreState.{core_of}
 use Rattle.qs_steps.specs.CoreQueues.{waiting_line}
 use Rattle.qs_steps.proofs.Queues.{joined, one_of}
@@ -17,7 +17,7 @@ returns c =
     let served = c.as_slice-serving.result.now in
     let first = c.tickets.result.0.now in
     let second = c.tickets.result.1.now in
-    let one = one_of c.serving-ticket.result (serving (handler_of c.handler-queue.result.now)) served c.serving-ticket.ensures.value c.as_slice-serving.ensures ∙ ap serving c.handler-queue.ensures.mind in
+    let one = one_of c.serving-ticket.result (serving (handler_with_act c.handler-queue.result.now)) served c.serving-ticket.ensures.value c.as_slice-serving.ensures ∙ ap serving c.handler-queue.ensures.mind in
     let others = c.tickets.ensures.tickets ∙ c.handler-queue.ensures.tickets in
     let all : served ++ (first ++ second) ≡ before_it s c.args.handler = λ k. one k ++ others k in
     let many : c.count_of.result ≡ length (before_it s c.args.handler) =

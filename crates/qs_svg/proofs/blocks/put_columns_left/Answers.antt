@@ -2,7 +2,8 @@ use Rattle.std.proofs.Common.{◌≡◌, ◌<◌, ◌+◌, ◌-◌, ◌++◌, ap
 use Rattle.std.proofs.lemmas.Bool.Decides.{nat_tests}
 use Rattle.std.proofs.lemmas.Result.{on_ok_weaker}
 use Rattle.qs_svg.specs.Shapes.{text_at, with_number}
-use Rattle.qs_svg.proofs.Parts.{drawn, named}
+use Rattle.qs_svg.proofs.Parts.{drawn}
+use Rattle.qs_text.proofs.Parts.{named}
 use Rattle.qs_svg.proofs.blocks.put_columns_left.Goals as goal
 
 pub returns-then-count-gt64 : goal.returns-then-count-gt64

@@ -1,6 +1,5 @@
 -- The objects before this one are there.
-use Rattle.qs_report.specs.Texts.{texts_up_to}
-use Rattle.qs_svg.specs.Shapes.{Puts}
+use Rattle.qs_text.specs.Texts.{texts_up_to, Puts}
 use Rattle.qs_svg.specs.Words.{object_told}
 use Rattle.qs_svg.proofs.head.put_objects_told.Given as goal
 

@@ -1,6 +1,6 @@
 -- The names before this place are there.
 use Rattle.std.proofs.Common.{take}
-use Rattle.qs_svg.specs.Shapes.{Puts}
+use Rattle.qs_text.specs.Texts.{Puts}
 use Rattle.qs_svg.specs.Words.{reserved_words}
 use Rattle.qs_svg.proofs.head.put_reserved.Given as goal
 

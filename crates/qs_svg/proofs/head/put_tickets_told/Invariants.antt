@@ -1,6 +1,5 @@
 -- The tickets before this place are there.
-use Rattle.qs_report.specs.Texts.{texts_up_to}
-use Rattle.qs_svg.specs.Shapes.{Puts}
+use Rattle.qs_text.specs.Texts.{texts_up_to, Puts}
 use Rattle.qs_svg.specs.Words.{ticket_told}
 use Rattle.qs_svg.proofs.head.put_tickets_told.Given as goal
 

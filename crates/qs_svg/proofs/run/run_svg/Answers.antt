@@ -1,4 +1,5 @@
-use Rattle.qs_svg.proofs.Parts.{all_that_is, and_then, as_text, then}
+use Rattle.qs_text.proofs.Parts.{all_that_is, then}
+use Rattle.qs_svg.proofs.Parts.{and_then, as_text}
 use Rattle.qs_svg.proofs.run.run_svg.Goals as goal
 
 pub returns : goal.returns

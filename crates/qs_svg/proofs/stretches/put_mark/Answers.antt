@@ -1,7 +1,7 @@
 use Rattle.std.proofs.Common.{ap, ◌∙◌}
 use Rattle.std.proofs.lemmas.Result.{on_ok_weaker}
 use Rattle.qs_svg.specs.Blocks.{form}
-use Rattle.qs_svg.proofs.Parts.{named, then}
+use Rattle.qs_text.proofs.Parts.{named, then}
 use Rattle.qs_svg.proofs.stretches.put_mark.Goals as goal
 
 pub returns : goal.returns

@@ -4,7 +4,8 @@ use Rattle.qs_objects.specs.declared.held.Entry.{Entry}
 use Rattle.qs_svg.specs.Stretches.{no_entry}
 use Rattle.qs_svg.specs.Places.{mark_x, mark_y}
 use Rattle.qs_svg.specs.Blocks.{mark}
-use Rattle.qs_svg.proofs.Parts.{drawn, named, one_place_more}
+use Rattle.qs_svg.proofs.Parts.{drawn, one_place_more}
+use Rattle.qs_text.proofs.Parts.{named}
 use Rattle.qs_svg.proofs.stretches.put_marks.Goals as goal
 
 pub loop-number-preserved : goal.loop-number-preserved

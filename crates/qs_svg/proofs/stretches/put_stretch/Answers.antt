@@ -2,7 +2,8 @@ use Rattle.std.proofs.Common.{Bool, ap₂, length}
 use Rattle.std.proofs.lemmas.Result.{on_ok_weaker}
 use Rattle.qs_objects.specs.declared.held.Ticket.{Ticket}
 use Rattle.qs_svg.specs.Blocks.{sync_marks, stretch_frame}
-use Rattle.qs_svg.proofs.Parts.{also, and_then, drawn, named}
+use Rattle.qs_svg.proofs.Parts.{also, and_then, drawn}
+use Rattle.qs_text.proofs.Parts.{named}
 use Rattle.qs_svg.proofs.stretches.put_stretch.Goals as goal
 
 pub returns : goal.returns

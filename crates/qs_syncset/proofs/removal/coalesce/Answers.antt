@@ -6,8 +6,8 @@ use Rattle.qs_graph.specs.Nodes.{ControlGraph, GraphNode, place_at}
 use Rattle.qs_graph.specs.WellFormed.{IsInRange, IsGraphNode}
 use Rattle.qs_graph.specs.Nodes.{exit}
 use Rattle.qs_program.specs.Limits.{most_handlers}
-use Rattle.qs_syncset.specs.Held.{IsHeld}
-use Rattle.qs_syncset.specs.Table.{has}
+use Rattle.qs_held_sets.specs.Held.{IsHeld}
+use Rattle.qs_held_sets.specs.Table.{has}
 use Rattle.qs_syncset.proofs.Removing.{IsDone, done_kept, done_set, removed, not_held, no_sync}
 use Rattle.qs_syncset.proofs.removal.coalesce.Goals as goal
 use Rattle.qs_syncset.proofs.removal.coalesce.Goals.{in-Sync+then-holds, in-Sync+else-holds, in_default}
@@ -22,7 +22,7 @@ inside c = omega (arith, c.loop-n-test.true, c.len-n-end.ensures.value)
 handler_known : (c : goal.Joined-node) (h : ℕ) → (place_at c.args.graph.nodes c.loop-n.n).node ≡ Sync h → h < most_handlers
 handler_known c h e =
     let here : IsGraphNode (length c.args.graph.nodes) (place_at c.args.graph.nodes c.loop-n.n) =
-    AllByRecursion-get_or (IsGraphNode (length c.args.graph.nodes)) c.args.graph.nodes c.loop-n.n exit c.is_graph.ensures.graph.places (inside c) in
+    AllByRecursion-get_or (IsGraphNode (length c.args.graph.nodes)) c.args.graph.nodes c.loop-n.n exit c.keeps_graph.ensures.graph.places (inside c) in
     subst IsInRange e here.in_range
 
 exact : (c : goal.Joined-node) (h : ℕ) → (place_at c.args.graph.nodes c.loop-n.n).node ≡ Sync h

@@ -37,7 +37,7 @@ returns c =
         count,
         λ waits later iso iso'.
             subst (λ n. SameTrace p q (take n (trace_of r c.args.place)) (take n (trace_of s c.args.other_place))) (sym count)
-            (agreed_fronts p q c.is_sound.ensures.sound c.is_sound-2.ensures.sound r s c.args.place c.args.other_place c.requires.place
+            (agreed_fronts p q c.keeps_sound.ensures.sound c.keeps_sound-2.ensures.sound r s c.args.place c.args.other_place c.requires.place
             c.requires.other_place agree waits later iso iso'),
       );
       memory = λ _. texts;

@@ -1,4 +1,5 @@
--- A room goes to another thread where its values and its allocator may, and any thread may give the allocator's blocks back.
+-- A room goes to another thread where its values and its allocator may, and any thread may give the allocator's blocks
+-- back.
 use Rattle.std.specs.Prelude.{ℕ, ◌+◌, List, [], ◌∷◌, Option, Some, None}
 use Rattle.std.specs.Mem.{type_size}
 use base.Fraction.{full_share}

@@ -62,7 +62,8 @@ read_spec 𝓤 𝓛 𝓜 𝓡 wired X U LX LU g d dd _ _ =
     let kept : length new.places * s < 2 ^ 63 = subst (λ (k : ℕ). k * s < 2 ^ 63) (sym (length-set h.places i None)) small in
     use1 𝓛 (‵ (One E 𝓛 b at (Some x)) ⊛ raw (Rest E 𝓛 b h.places i o within)) (place_out E 𝓛 b h.places i o within (Some x) full.1) $ split ! $
     use1 𝓛 (some (λ (v : Val). given (Good E v) (‵ (fat full_share (elτ E) b at v) ⊛ ‵ (X.own_val x (v ∷ []))))) (el_out E 𝓛 b x at) $ pick ! (λ v. learn ! (λ good. split ! $
-    -- [the value's cell; what it owns; the other places; the right; the fields; their cell; the open borrow, in three entries; the other tokens]
+    -- [the value's cell; what it owns; the other places; the right; the fields; their cell; the open borrow, in three
+    -- entries; the other tokens]
     first ! $ blocks ! $ sets ! (of_opd ! (load ! (through ! refl (fld ! refl (stop !))) (look_in ! 5 (sub ! 0 refl (whole !))))) refl (tt, tt) $
     sets ! (bin ! (get ! refl) (size_lit ! (record { fits = tiny })) (record { fits = far })) refl (tt, record { fits = far }) $ sets ! (bin ! (get ! refl) (get ! refl) tt) refl (tt, tt) $
     sets_last ! (of_opd ! (load ! (through ! refl (stop !)) (look ! 0 refl))) refl good $ exec ! 𝓣.C 𝓣.Λ Ev (after 1 fn.body) (at_ret Ev Post) $ sets ! (of_opd ! (get ! refl)) refl good $

@@ -62,7 +62,8 @@ write_spec 𝓤 𝓛 𝓜 𝓡 wired X U LX LU g d dd _ _ =
     let kept : length new.places * s < 2 ^ 63 = subst (λ (k : ℕ). k * s < 2 ^ 63) (sym (length-set h.places i (Some x))) small in
     use1 𝓛 (‵ (One E 𝓛 b at None) ⊛ raw (Rest E 𝓛 b h.places i o within)) (place_out E 𝓛 b h.places i o within None empty) $ split ! $
     use1 𝓛 (‵ (froom (elτ E) b at)) (𝓛.laws.raw-room (elτ E) b at) $
-    -- [room for the value; the other places; the right; the fields; their cell; the open borrow, in three entries; what the value owns; the other tokens]
+    -- [room for the value; the other places; the right; the fields; their cell; the open borrow, in three entries; what
+    -- the value owns; the other tokens]
     first ! $ blocks ! $ sets ! (of_opd ! (load ! (through ! refl (fld ! refl (stop !))) (look_in ! 4 (sub ! 0 refl (whole !))))) refl (tt, tt) $
     sets ! (bin ! (get ! refl) (size_lit ! (record { fits = tiny })) (record { fits = far })) refl (tt, record { fits = far }) $ sets ! (bin ! (get ! refl) (get ! refl) tt) refl (tt, tt) $
     sets ! (of_opd ! (get ! refl)) refl good $ assigns_last ! (of_opd ! (get ! refl)) (through ! refl (stop !)) (init ! 0 refl good) $

@@ -14,7 +14,7 @@ invariant_of-result c =
     let none = c.in_ok-entries.ensures.items in (
       omega (arith, c.in_ok-entries.ensures.capacity, c.blocks-2.ensures.value),
       subst IsSoundMind (λ i. fresh_with c.args.code c.args.size (sym run i) (sym none i) (counts_state (sym c.in_ok-counts.ensures.fresh i) c.in_ok-counts.counts.room))
-          (fresh_sound c.args.code c.args.size c.in_ok-counts.counts.room c.is_code.ensures.code sized),
+          (fresh_sound c.args.code c.args.size c.in_ok-counts.counts.room c.keeps_code.ensures.code sized),
     )
 
 pub returns-clause-fresh : goal.returns-clause-fresh

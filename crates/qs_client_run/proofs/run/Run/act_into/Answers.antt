@@ -7,8 +7,8 @@ use Rattle.qs_chunk.specs.declared.parcel.Parcel.TheVariants as parcels
 use Rattle.qs_client_run.specs.NextActs.{HasActed, IsInside, act_by, clear, holdings_by, with_holdings, without}
 use Rattle.qs_client_run.specs.Holdings.{HoldingsState}
 use Rattle.qs_client_run.specs.BetweenActs.{IsStanding}
-use Rattle.qs_client_run.specs.declared.act.Act.{Act}
-use Rattle.qs_client_run.specs.declared.act.Act.TheVariants.{Send}
+use Rattle.qs_client_rules.specs.declared.act.Act.{Act}
+use Rattle.qs_client_rules.specs.declared.act.Act.TheVariants.{Send}
 use Rattle.qs_client_run.specs.RunState.{RunState}
 use Rattle.qs_client_run.specs.contracts.run.Run.{the_view}
 use Rattle.qs_client_run.proofs.ActRefinement.{acts_at_node, acts_leaving}
@@ -31,7 +31,7 @@ returns-in-Runs c =
           subst (λ (a : Act). HasActed b settings (length c.args.code.now.blocks) k c.args.begun most a s c.act_at_node.new.self) (sym given)
           (
           subst (λ (t : RunState). HasActed b settings (length c.args.code.now.blocks) k c.args.begun most (act_by s.holdings (move b.graph s.position)) s t) (sym new)
-          (acts_at_node b settings (length c.args.code.now.blocks) k c.args.begun most w.0 s (subst IsGraph graph c.is_graph.ensures.graph) w.1 (ap (λ (x : RunState). x.stage) (sym c.self.view_is) ∙ c.in-Runs.is) w.3 w.2)
+          (acts_at_node b settings (length c.args.code.now.blocks) k c.args.begun most w.0 s (subst IsGraph graph c.keeps_graph.ensures.graph) w.1 (ap (λ (x : RunState). x.stage) (sym c.self.view_is) ∙ c.in-Runs.is) w.3 w.2)
           );
     }
 
@@ -59,7 +59,7 @@ returns-in-Leaves c =
           subst (λ (a : Act). HasActed b settings blocks k c.args.begun most a s (with_holdings s c.clear_or_end.new.self)) (sym given)
           (
           subst (λ (x : HoldingsState). HasActed b settings blocks k c.args.begun most (clear s.holdings (get_or b.reserved i 0) (end b.reserved)) s (with_holdings s x)) (sym new)
-          (acts_leaving b settings blocks k c.args.begun most i s c.in-Leaves.is w.1 (below_eight code k i c.is_code.ensures.code inside w.1) w.0)
+          (acts_leaving b settings blocks k c.args.begun most i s c.in-Leaves.is w.1 (below_eight code k i c.keeps_code.ensures.code inside w.1) w.0)
           )
           );
     }

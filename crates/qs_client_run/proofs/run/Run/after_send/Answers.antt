@@ -10,7 +10,7 @@ use Rattle.qs_client_run.proofs.ArrivalRefinement.{node_inside}
 use Rattle.qs_client_run.specs.Running.{IsRunning}
 use Rattle.qs_client_run.specs.declared.run.BlockContext.{BlockContext}
 use Rattle.qs_client_run.proofs.AfterSyncAndEnd.{awaits_sent, end_sent}
-use Rattle.qs_client_run.specs.declared.stage.Outgoing.TheVariants as outgoings
+use Rattle.qs_client_rules.specs.declared.outgoing.Outgoing.TheVariants as outgoings
 use Rattle.qs_client_run.specs.declared.stage.Stage.TheVariants as stages
 use Rattle.qs_client_run.proofs.run.Run.after_send.Goals as goal
 
@@ -39,7 +39,7 @@ returns-then-rests c =
           let p = stage_of b.graph b.reserved s in
           let settled : HasSettled b.graph settings u b.reserved begun p w.0 s s =
           subst (λ q. HasSettled q settings u b.reserved begun p w.0 s s) graph
-          (stops g settings context b.reserved begun p w.0 s s c.is_graph.ensures.graph (dynamic ∙ sym c.is_dynamic.ensures.value) runs
+          (stops g settings context b.reserved begun p w.0 s s c.keeps_graph.ensures.graph (dynamic ∙ sym c.is_dynamic.ensures.value) runs
           (subst (λ (q : List places.GraphNode). IsRunning q settings.size u.index w.0 s) (sym graph) w.2)
           (sym (ap (λ (q : RunState × Bool). q.0) still)) (ap (λ (q : RunState × Bool). q.1) still)) in
           subst (λ h. HasSent b settings u begun most h s s) (sym c.in-Value.is)
@@ -86,7 +86,7 @@ returns-in-Runs-stage c =
           subst (λ x. HasSent b settings c.args.ticket begun most x s c.await_object.new.self) (sym c.in-Sync.is)
           (
           subst (λ t. HasSent b settings c.args.ticket begun most (outgoings.Sync c.in-Sync.field-0) s t) (sym new)
-          (awaits_sent b settings c.args.ticket begun c.in-Sync.field-0 w.0 most s w.1 (subst IsGraph graph c.is_graph.ensures.graph) (ap (λ (x : RunState). x.stage) (sym c.self-in-Sync.view_is) ∙ c.in-Runs-stage.is) w.2 gone)
+          (awaits_sent b settings c.args.ticket begun c.in-Sync.field-0 w.0 most s w.1 (subst IsGraph graph c.keeps_graph.ensures.graph) (ap (λ (x : RunState). x.stage) (sym c.self-in-Sync.view_is) ∙ c.in-Runs-stage.is) w.2 gone)
           );
     }
 

@@ -6,7 +6,7 @@ use Rattle.qs_objects.specs.Journals.{HeldState, run_one}
 use Rattle.qs_program.specs.Values.{request_of}
 use Rattle.qs_meaning.specs.Solo.{event, value_of}
 use Rattle.qs_graph.specs.Walk.{Spot, at_node, with_value}
-use Rattle.qs_client_run.specs.Holdings.{held_at, with_held}
+use Rattle.qs_client_run.specs.Holdings.{holding_at, with_held}
 use Rattle.qs_objects.specs.Traces.{noted_at}
 use Rattle.qs_client_run.specs.RunState.{RunState}
 use Rattle.qs_client_run.specs.contracts.run.Run.{the_view}
@@ -32,7 +32,7 @@ returns c =
     let u = c.args.ticket in
     let r : Request = request_of s.position.locals c.args.call.now in
     let same : c.request-request.result ≡ r = c.request-request.ensures.value in
-    let there = here (held_at s.holdings h) (rw (← c.self.view_is) at c.requires.held) in
+    let there = here (holding_at s.holdings h) (rw (← c.self.view_is) at c.requires.held) in
     let ran = c.run-reply.ensures.ran there.0 there.1 in
     let asked : c.copied.result ≡ r = c.copied.ensures.same ∙ same in
     let holdings : c.run-reply.new.self ≡ with_held s.holdings h (Some (run_one there.0 u r).0) =

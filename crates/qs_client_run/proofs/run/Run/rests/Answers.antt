@@ -3,7 +3,7 @@ use Rattle.qs_program.specs.Values.{request_of}
 use Rattle.qs_graph.specs.Nodes.{place_at, first_target}
 use Rattle.qs_graph.specs.Walk.{Move, at_node}
 use Rattle.qs_graph.specs.declared.node.Node.TheVariants as v
-use Rattle.qs_client_run.specs.Holdings.{held_at, chunk_at}
+use Rattle.qs_client_run.specs.Holdings.{holding_at, chunk_at}
 use Rattle.qs_client_run.specs.Running.{step_by, sync}
 use Rattle.qs_client_run.specs.RunState.{RunState}
 use Rattle.qs_client_run.specs.contracts.run.Run.{the_view}
@@ -23,7 +23,7 @@ returns-in-Call c =
       still = λ stays context reserved dynamic.
           ap (λ (m : Move). step_by context reserved m s) (moves g s.position (v.Call c.in-Call.call) is)
           ∙ still_call context.ticket.index (request_of s.position.locals c.in-Call.call) (at_node s.position (first_target (place_at g s.position.node))) s
-          (held_at s.holdings h) (chunk_at s.holdings h) (sym c.takes_requests.ensures.value ∙ untrue c.takes_requests.result stays);
+          (holding_at s.holdings h) (chunk_at s.holdings h) (sym c.takes_requests.ensures.value ∙ untrue c.takes_requests.result stays);
     }
     )
 

@@ -1,6 +1,6 @@
 use Rattle.std.proofs.Common.{◌≡◌, ℕ}
 use Rattle.qs_graph.specs.Steps.{limit}
-use Rattle.qs_client_run.specs.Client.{Settings, ClientStage}
+use Rattle.qs_client_rules.specs.Client.{Settings, ClientStage}
 use Rattle.qs_client_run.specs.Running.{IsRunning}
 use Rattle.qs_client_run.proofs.StepRefinement.{HasGoneOn, moves_left}
 use Rattle.qs_client_run.specs.declared.stage.Stage.TheVariants as stages

@@ -48,7 +48,7 @@ resume-requires c =
     let node : c.node-2.result.now ≡ (places.place_at b.graph s.position.node).node =
     c.node-2.ensures.value ∙ (λ i. (places.place_at (graph i) (c.node.ensures.value i)).node) in
     let at = subst (IsStanding b w.0.size k w.3 s) (at_call b w.0 c.args.ticket w.1 w.2 w.3 s w.4 w.6).stands w.6.standing in
-    let eight : h < most_handlers = eight_here b.graph at.0 s c.in-Call.call (subst IsGraph graph c.is_graph.ensures.graph) at.2.within (sym node ∙ c.in-Call.is) in
+    let eight : h < most_handlers = eight_here b.graph at.0 s c.in-Call.call (subst IsGraph graph c.keeps_graph.ensures.graph) at.2.within (sym node ∙ c.in-Call.is) in
     let holdings : c.put_chunk.new.self ≡ with_chunk s.holdings h (Some (batch [] w.0.size)) =
     c.put_chunk.ensures.value ∙ ap (λ x. with_chunk s.holdings h (Some x)) w.5 in
     let some : 0 < w.0.size = omega (arith, c.requires.room, ap (λ (x : Batch Request). x.capacity) w.5) in
@@ -77,7 +77,7 @@ returns c =
       come = λ settings blocks begun most g dynamic chunk w.
           let call = at_call b settings u blocks begun most s g w in
           let at = subst (IsStanding b settings.size u.index most s) call.stands w.standing in
-          let eight : h < most_handlers = eight_here b.graph at.0 s c.in-Call.call (subst IsGraph graph c.is_graph.ensures.graph) at.2.within (sym node ∙ c.in-Call.is) in
+          let eight : h < most_handlers = eight_here b.graph at.0 s c.in-Call.call (subst IsGraph graph c.keeps_graph.ensures.graph) at.2.within (sym node ∙ c.in-Call.is) in
           let holdings : c.put_chunk.new.self ≡ with_chunk s.holdings h (Some (batch [] settings.size)) =
           c.put_chunk.ensures.value ∙ ap (λ x. with_chunk s.holdings h (Some x)) chunk in
           let some : 0 < settings.size = omega (arith, c.requires.room, ap (λ (x : Batch Request). x.capacity) chunk) in

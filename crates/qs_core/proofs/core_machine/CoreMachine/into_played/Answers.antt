@@ -4,9 +4,9 @@ use Rattle.qs_program.specs.Sound.{IsSound}
 use Rattle.qs_played.specs.Played.{Played}
 use Rattle.qs_core_parts.specs.CoreClients.{CoreClientState}
 use Rattle.qs_core_parts.specs.CoreHandlers.{CoreHandlerState}
-use Rattle.qs_core.specs.CoreShown.{AreShowable, shown_by}
+use Rattle.qs_core_shown.specs.CoreShown.{AreShowable, shown_by}
 use Rattle.qs_core_state.specs.CoreState.{CoreState, IsCoreState}
-use Rattle.qs_core.proofs.CoreReadings.{shown_is, showable}
+use Rattle.qs_core_shown.proofs.CoreReadings.{shown_is, showable}
 use Rattle.qs_core.proofs.core_machine.CoreMachine.into_played.Goals as goal
 
 pub shown-requires : goal.shown-requires
@@ -15,7 +15,7 @@ shown-requires c =
     let order = ap (λ (r : CoreState). r.order) c.self.view_is in
     let clients = ap (λ (r : CoreState). r.clients) c.self.view_is in
     let handlers = ap (λ (r : CoreState). r.handlers) c.self.view_is in
-    let sound = subst IsSound (ap (λ (r : CoreState). r.program) c.self.view_is) c.is_sound.ensures.sound in
+    let sound = subst IsSound (ap (λ (r : CoreState). r.program) c.self.view_is) c.keeps_sound.ensures.sound in
     let whole = showable s (subst IsCoreState c.self.view_is c.self.invariant.0) c.requires.keeps sound in
     let of_order = subst (λ (ts : List Ticket). AreShowable ts s.clients s.handlers) (sym order) whole in
     let of_clients = subst (λ (cs : List CoreClientState). AreShowable c.self.inside.order.items cs s.handlers) (sym clients) of_order in

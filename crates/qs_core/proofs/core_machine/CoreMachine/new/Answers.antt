@@ -10,7 +10,7 @@ invariant_of-result c =
     let none : c.in_ok-order.order.items ≡ [] = c.in_ok-order.ensures.items in
     let made : List Ticket → CoreState = λ order. record { program = c.args.program.now; size = c.args.size; order = order; clients = c.in_ok-clients.clients.items; handlers = c.in_ok-handlers.handlers.items } in (
       subst (λ ts. IsCoreState (made ts)) (sym none) (kept c.args.program.now c.args.mode c.args.size c.blocks-blocks.result c.in_ok-clients.clients.items c.in_ok-handlers.handlers.items
-          c.in_ok-clients.ensures.fresh c.in_ok-handlers.ensures.fresh c.is_sound.ensures.sound blocks),
+          c.in_ok-clients.ensures.fresh c.in_ok-handlers.ensures.fresh c.keeps_sound.ensures.sound blocks),
       omega (arith, blocks, c.in_ok-order.ensures.capacity),
     )
 
@@ -22,7 +22,7 @@ returns c =
       fresh = subst (λ ts. IsFreshCore c.args.program.now c.args.mode c.args.size (made ts)) (sym none) (record {
         program = refl;
         size = refl;
-        begins = begins c.args.program.now c.args.mode c.args.size c.blocks-blocks.result c.in_ok-clients.clients.items c.in_ok-handlers.handlers.items c.in_ok-clients.ensures.fresh c.in_ok-handlers.ensures.fresh c.is_sound.ensures.sound;
-        codes = codes_are c.args.program.now c.args.mode c.args.size c.blocks-blocks.result c.in_ok-clients.clients.items c.in_ok-handlers.handlers.items c.in_ok-clients.ensures.fresh c.in_ok-handlers.ensures.fresh c.is_sound.ensures.sound;
+        begins = begins c.args.program.now c.args.mode c.args.size c.blocks-blocks.result c.in_ok-clients.clients.items c.in_ok-handlers.handlers.items c.in_ok-clients.ensures.fresh c.in_ok-handlers.ensures.fresh c.keeps_sound.ensures.sound;
+        codes = codes_are c.args.program.now c.args.mode c.args.size c.blocks-blocks.result c.in_ok-clients.clients.items c.in_ok-handlers.handlers.items c.in_ok-clients.ensures.fresh c.in_ok-handlers.ensures.fresh c.keeps_sound.ensures.sound;
       });
     }

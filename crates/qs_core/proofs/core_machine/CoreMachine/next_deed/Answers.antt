@@ -1,12 +1,12 @@
 use Rattle.std.proofs.Common.{◌<◌, ◌≤◌, ap, length, sym, subst, ◌∙◌, arith}
 use Rattle.qs_client.specs.ClientModel.{act_due}
-use Rattle.qs_core_parts.specs.CoreHandlers.{core_handler_at, handler_of}
+use Rattle.qs_core_parts.specs.CoreHandlers.{core_handler_at, handler_with_act}
 use Rattle.qs_core_parts.specs.LaneStates.{lane_at}
-use Rattle.qs_core_state.specs.CoreState.{CoreState, codes_of, core_of, side_at}
+use Rattle.qs_core_state.specs.CoreState.{CoreState, codes_of, core_of, client_part_at}
 use Rattle.qs_core.specs.CoreDeeds.{core_deed, deed_of_client, deed_of_handler}
-use Rattle.qs_core.specs.CoreShown.{TurnsTo}
+use Rattle.qs_core_shown.specs.CoreShown.{TurnsTo}
 use Rattle.qs_core.proofs.CoreDeeds.{client_does, handler_does, no_client_does, no_handler_does}
-use Rattle.qs_core.proofs.CoreReadings.{turns_in}
+use Rattle.qs_core_shown.proofs.CoreReadings.{turns_in}
 use Rattle.qs_core.proofs.core_machine.CoreMachine.next_deed.Goals as goal
 
 pub handler_deed-requires-clause-turns : goal.handler_deed-requires-clause-turns
@@ -17,7 +17,7 @@ handler_deed-requires-clause-turns c =
     let handlers = c.deref-then-from-len-2-2.ensures.value ∙ ap (λ (x : CoreState). x.handlers) c.self.view_is in
     let inside : h < length s.handlers = grind (arith, c.if-from-len-2.true, c.from-in-Handler.ensures, c.len-in-Handler.ensures, c.self.inside.handlers.ok, ap (λ (x : CoreState). length x.handlers) c.self.view_is) in
     subst (λ cs. TurnsTo cs (core_handler_at c.deref-then-from-len-2-2.result.now h)) (sym clients)
-    (subst (λ hs. TurnsTo s.clients (core_handler_at hs h)) (sym handlers) (turns_in s c.is_machine.ensures.state c.requires.keeps h inside))
+    (subst (λ hs. TurnsTo s.clients (core_handler_at hs h)) (sym handlers) (turns_in s c.keeps_machine.ensures.state c.requires.keeps h inside))
 
 pub returns-then-from-len : goal.returns-then-from-len
 returns-then-from-len c =
@@ -27,8 +27,8 @@ returns-then-from-len c =
     let inside : n < length s.clients = grind (arith, c.if-from-len.true, c.from.ensures, c.len.ensures, c.self.inside.clients.ok, ap (λ (x : CoreState). length x.clients) c.self.view_is) in
     record {
       value = c.client_deed.ensures.value
-          ∙ ap (λ cs. deed_of_client n (side_at cs n).mind.client.begun (act_due (side_at cs n).mind)) clients
-          ∙ sym (client_does s c.is_machine.ensures.state n inside)
+          ∙ ap (λ cs. deed_of_client n (client_part_at cs n).mind.client.begun (act_due (client_part_at cs n).mind)) clients
+          ∙ sym (client_does s c.keeps_machine.ensures.state n inside)
           ∙ ap (core_deed (codes_of s) s.size (core_of s)) (sym c.in-Client.is);
     }
 
@@ -37,7 +37,7 @@ returns-else-from-len c =
     let s = c.args.self.now in
     let n = c.in-Client.client in
     let out : length s.clients ≤ n = grind (arith, c.if-from-len.false, c.from.ensures, c.len.ensures, c.self.inside.clients.ok, ap (λ (x : CoreState). length x.clients) c.self.view_is) in
-    record { value = no_client_does s c.is_machine.ensures.state c.requires.keeps n out ∙ ap (core_deed (codes_of s) s.size (core_of s)) (sym c.in-Client.is) }
+    record { value = no_client_does s c.keeps_machine.ensures.state c.requires.keeps n out ∙ ap (core_deed (codes_of s) s.size (core_of s)) (sym c.in-Client.is) }
 
 pub returns-then-from-len-2 : goal.returns-then-from-len-2
 returns-then-from-len-2 c =
@@ -48,8 +48,8 @@ returns-then-from-len-2 c =
     let inside : h < length s.handlers = grind (arith, c.if-from-len-2.true, c.from-in-Handler.ensures, c.len-in-Handler.ensures, c.self.inside.handlers.ok, ap (λ (x : CoreState). length x.handlers) c.self.view_is) in
     record {
       value = c.handler_deed.ensures.value
-          ∙ (λ k. deed_of_handler (core_handler_at (handlers k) h).tickets (λ n. (lane_at (side_at (clients k) n).lanes h).down) (handler_of (core_handler_at (handlers k) h)))
-          ∙ sym (handler_does s c.is_machine.ensures.state h inside)
+          ∙ (λ k. deed_of_handler (core_handler_at (handlers k) h).tickets (λ n. (lane_at (client_part_at (clients k) n).lanes h).down) (handler_with_act (core_handler_at (handlers k) h)))
+          ∙ sym (handler_does s c.keeps_machine.ensures.state h inside)
           ∙ ap (core_deed (codes_of s) s.size (core_of s)) (sym c.in-Handler.is);
     }
 
@@ -58,4 +58,4 @@ returns-else-from-len-2 c =
     let s = c.args.self.now in
     let h = c.in-Handler.handler in
     let out : length s.handlers ≤ h = grind (arith, c.if-from-len-2.false, c.from-in-Handler.ensures, c.len-in-Handler.ensures, c.self.inside.handlers.ok, ap (λ (x : CoreState). length x.handlers) c.self.view_is) in
-    record { value = no_handler_does s c.is_machine.ensures.state c.requires.keeps h out ∙ ap (core_deed (codes_of s) s.size (core_of s)) (sym c.in-Handler.is) }
+    record { value = no_handler_does s c.keeps_machine.ensures.state c.requires.keeps h out ∙ ap (core_deed (codes_of s) s.size (core_of s)) (sym c.in-Handler.is) }

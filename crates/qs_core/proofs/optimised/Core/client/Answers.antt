@@ -1,6 +1,6 @@
 use Rattle.std.proofs.Common.{◌<◌, ap, arith, length, sym, subst, ◌∙◌}
 use Rattle.qs_program.specs.Sound.{IsSound}
-use Rattle.qs_core_state.specs.CoreState.{CoreState, codes_of, core_of, side_at}
+use Rattle.qs_core_state.specs.CoreState.{CoreState, codes_of, core_of, client_part_at}
 use Rattle.qs_core_state.proofs.CoreReaching.{core_keeps}
 use Rattle.qs_core.specs.CoreDeeds.{AreLanesOf, act_at}
 use Rattle.qs_core.proofs.CorePlaces.{lanes_are, turned_is, wanted_is}
@@ -8,19 +8,19 @@ use Rattle.qs_core.proofs.optimised.Core.client.Goals as goal
 
 pub client_at-client-requires : goal.client_at-client-requires
 client_at-client-requires c =
-    record { number = omega (arith, c.from.ensures, c.requires, c.is_machine.ensures.state.clients, ap length c.clients.ensures.value, ap (λ (x : CoreState). length x.program.clients) c.self.view_is) }
+    record { number = omega (arith, c.from.ensures, c.requires, c.keeps_machine.ensures.state.clients, ap length c.clients.ensures.value, ap (λ (x : CoreState). length x.program.clients) c.self.view_is) }
 
 pub returns : goal.returns
 returns c =
     let s = c.self.inside.machine in
     let n = c.args.client in
-    let kept = c.is_machine.ensures.state in
+    let kept = c.keeps_machine.ensures.state in
     let inside : n < length s.clients = omega (arith, c.requires, kept.clients, ap (λ (x : CoreState). length x.program.clients) c.self.view_is) in
     let d = c.client_at-client.result.now in
-    let mind = c.client_at-client.ensures.mind ∙ (λ k. (side_at (c.clients.ensures.value k) (c.from.ensures k)).mind) in
-    let lanes = c.client_at-client.ensures.lanes ∙ (λ k. (side_at (c.clients.ensures.value k) (c.from.ensures k)).lanes) in
+    let mind = c.client_at-client.ensures.mind ∙ (λ k. (client_part_at (c.clients.ensures.value k) (c.from.ensures k)).mind) in
+    let lanes = c.client_at-client.ensures.lanes ∙ (λ k. (client_part_at (c.clients.ensures.value k) (c.from.ensures k)).lanes) in
     let seat = c.has_next_act.ensures.seat in
-    let keeps = core_keeps s (subst IsSound c.program.ensures.value c.is_sound.ensures.sound) kept c.self.invariant.0 in
+    let keeps = core_keeps s (subst IsSound c.program.ensures.value c.keeps_sound.ensures.sound) kept c.self.invariant.0 in
     record {
       act = wanted_is s kept n inside d seat mind ∙ ap (λ (x : CoreState). act_at (codes_of x) x.size (core_of x) n) c.self.view_is;
       turned = λ h turned. subst (λ (x : CoreState). h < length x.program.objects) c.self.view_is (turned_is s kept n inside d seat mind keeps h turned);

@@ -6,10 +6,10 @@ use Rattle.qs_core_state.proofs.CoreReaching.{core_is_isolated, core_keeps}
 use Rattle.qs_core.proofs.optimised.Core.into_played.Goals as goal
 
 pub into_played-requires : goal.into_played-requires
-into_played-requires c = record { keeps = core_keeps c.self.inside.machine (subst IsSound c.program.ensures.value c.is_sound.ensures.sound) c.is_machine.ensures.state c.self.invariant.0 }
+into_played-requires c = record { keeps = core_keeps c.self.inside.machine (subst IsSound c.program.ensures.value c.keeps_sound.ensures.sound) c.keeps_machine.ensures.state c.self.invariant.0 }
 
 pub returns-clause-isolated : goal.returns-clause-isolated
-returns-clause-isolated c = subst CoreIsIsolated c.self.view_is (core_is_isolated c.self.inside.machine (subst IsSound c.program.ensures.value c.is_sound.ensures.sound) c.is_machine.ensures.state c.self.invariant.0)
+returns-clause-isolated c = subst CoreIsIsolated c.self.view_is (core_is_isolated c.self.inside.machine (subst IsSound c.program.ensures.value c.keeps_sound.ensures.sound) c.keeps_machine.ensures.state c.self.invariant.0)
 
 pub returns-clause-counted : goal.returns-clause-counted
-returns-clause-counted c = subst CoreIsCounted c.self.view_is (core_is_counted c.self.inside.machine (subst IsSound c.program.ensures.value c.is_sound.ensures.sound) c.self.invariant.0)
+returns-clause-counted c = subst CoreIsCounted c.self.view_is (core_is_counted c.self.inside.machine (subst IsSound c.program.ensures.value c.keeps_sound.ensures.sound) c.self.invariant.0)

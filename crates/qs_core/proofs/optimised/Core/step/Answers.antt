@@ -11,8 +11,8 @@ pub returns-clause-none : goal.returns-clause-none
 returns-clause-none c = λ none.
     let r = c.self.inside.machine in
     let s = c.args.self.now in
-    let kept = c.is_machine.ensures.state in
-    let keeps = subst CoreKeeps c.self.view_is (core_keeps r (subst IsSound c.program.ensures.value c.is_sound.ensures.sound) kept c.self.invariant.0) in
+    let kept = c.keeps_machine.ensures.state in
+    let keeps = subst CoreKeeps c.self.view_is (core_keeps r (subst IsSound c.program.ensures.value c.keeps_sound.ensures.sound) kept c.self.invariant.0) in
     elim c.match-actor.branch [
       | in-Client+then-from-clients w ↦ ap (core_step (codes_of s) s.size (core_of s)) w.in-Client.is ∙ w.step_client.ensures.none (sym w.stepped-is ∙ none)
       | in-Client+else-from-clients w ↦ (

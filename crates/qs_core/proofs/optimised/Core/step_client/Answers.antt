@@ -8,19 +8,19 @@ use Rattle.qs_core_state.proofs.StuckActors.{client_rests, client_stepped}
 use Rattle.qs_core.proofs.optimised.Core.step_client.Goals as goal
 
 pub step_client-requires-clause-keeps : goal.step_client-requires-clause-keeps
-step_client-requires-clause-keeps c = core_keeps c.self.inside.machine (subst IsSound c.program.ensures.value c.is_sound.ensures.sound) c.is_machine.ensures.state c.self.invariant.0
+step_client-requires-clause-keeps c = core_keeps c.self.inside.machine (subst IsSound c.program.ensures.value c.keeps_sound.ensures.sound) c.keeps_machine.ensures.state c.self.invariant.0
 
 pub step_client-requires-clause-on : goal.step_client-requires-clause-on
-step_client-requires-clause-on c = core_goes_on c.self.inside.machine (subst IsSound c.program.ensures.value c.is_sound.ensures.sound) c.is_machine.ensures.state c.self.invariant.0
+step_client-requires-clause-on c = core_goes_on c.self.inside.machine (subst IsSound c.program.ensures.value c.keeps_sound.ensures.sound) c.keeps_machine.ensures.state c.self.invariant.0
 
 pub put_handler-requires : goal.put_handler-requires
 put_handler-requires c =
     let s = c.self.inside.machine in
-    let sound = subst IsSound c.program.ensures.value c.is_sound.ensures.sound in
-    let inside : c.args.client < length s.clients = omega (arith, c.requires, c.is_machine.ensures.state.clients, ap (λ (x : CoreState). length x.program.clients) c.self.view_is) in
-    let keeps = core_keeps s sound c.is_machine.ensures.state c.self.invariant.0 in
+    let sound = subst IsSound c.program.ensures.value c.keeps_sound.ensures.sound in
+    let inside : c.args.client < length s.clients = omega (arith, c.requires, c.keeps_machine.ensures.state.clients, ap (λ (x : CoreState). length x.program.clients) c.self.view_is) in
+    let keeps = core_keeps s sound c.keeps_machine.ensures.state c.self.invariant.0 in
     let turned = sym c.lane_of-lane.ensures.value ∙ c.in-Some.is in
-    omega (arith, wanted_inside s c.is_machine.ensures.state c.args.client inside keeps c.in-Some.handler turned, sound.objects)
+    omega (arith, wanted_inside s c.keeps_machine.ensures.state c.args.client inside keeps c.in-Some.handler turned, sound.objects)
 
 pub invariant_of-self : goal.invariant_of-self
 invariant_of-self c =

@@ -2,18 +2,18 @@ use Rattle.std.proofs.Common.{arith, refl, sym, subst, ◌∙◌, Some, None}
 use Rattle.qs_program.specs.Sound.{IsSound}
 use Rattle.qs_played.specs.declared.schedule.actor.Actor.TheVariants as actors
 use Rattle.qs_core_state.proofs.CoreReaching.{core_keeps, core_next}
-use Rattle.qs_core.proofs.CoreReadings.{turned_inside}
+use Rattle.qs_core_shown.proofs.CoreReadings.{turned_inside}
 use Rattle.qs_core_state.proofs.StuckActors.{handler_rests, handler_stepped}
 use Rattle.qs_core.proofs.optimised.Core.step_handler.Goals as goal
 
 pub step_handler-requires-clause-keeps : goal.step_handler-requires-clause-keeps
-step_handler-requires-clause-keeps c = core_keeps c.self.inside.machine (subst IsSound c.program.ensures.value c.is_sound.ensures.sound) c.is_machine.ensures.state c.self.invariant.0
+step_handler-requires-clause-keeps c = core_keeps c.self.inside.machine (subst IsSound c.program.ensures.value c.keeps_sound.ensures.sound) c.keeps_machine.ensures.state c.self.invariant.0
 
 pub put_client-requires : goal.put_client-requires
 put_client-requires c =
     let s = c.self.inside.machine in
-    let sound = subst IsSound c.program.ensures.value c.is_sound.ensures.sound in
-    let keeps = core_keeps s sound c.is_machine.ensures.state c.self.invariant.0 in
+    let sound = subst IsSound c.program.ensures.value c.keeps_sound.ensures.sound in
+    let keeps = core_keeps s sound c.keeps_machine.ensures.state c.self.invariant.0 in
     let turned = sym c.client_of-lane.ensures.value ∙ c.in-Some.is in
     omega (arith, turned_inside s keeps c.args.handler c.in-Some.woken turned, sound.clients)
 

@@ -2,7 +2,7 @@ use Rattle.std.proofs.Common.{◌≡◌, None, Some, Option, rules, ap, sym, ◌
 use Rattle.qs_objects.specs.Journals.{HeldState}
 use Rattle.qs_handler.specs.Handler.{act_of, gave}
 use Rattle.qs_handler.specs.declared.mind.Act.{Act}
-use Rattle.qs_core_parts.specs.CoreHandlers.{CoreHandlerState, gives_up, handler_of, lane_step}
+use Rattle.qs_core_parts.specs.CoreHandlers.{CoreHandlerState, gives_up, handler_with_act, lane_step_of_handler}
 use Rattle.qs_core_parts.specs.LaneStates.{LaneState}
 use Rattle.qs_core_parts.specs.contracts.core_handler.CoreHandler.{the_view}
 use Rattle.qs_core_parts.proofs.HandlerGifts.{given_next, given_rests}
@@ -20,10 +20,10 @@ returns-clause-steps c =
     let (client, asked, next) = c.replace_with-held.ensures in
     let mind = given_rests s.mind s.act client x asked kept.act kept.mind ∙ ap gave kept.mind in
     let act = next ∙ given_next s.mind s.act client x asked kept.act kept.mind ∙ ap act_of kept.mind in (
-      gave (handler_of s),
-      ap (λ (a : Act). lane_step (handler_of s) a l) asked
-          ∙ ap (λ (o : Option HeldState). gives_up (handler_of s) x l o) none
-          ∙ ap (λ (k : LaneState). Some (gave (handler_of s), k)) (sym c.put_object.ensures.put),
+      gave (handler_with_act s),
+      ap (λ (a : Act). lane_step_of_handler (handler_with_act s) a l) asked
+          ∙ ap (λ (o : Option HeldState). gives_up (handler_with_act s) x l o) none
+          ∙ ap (λ (k : LaneState). Some (gave (handler_with_act s), k)) (sym c.put_object.ensures.put),
       λ i. record { mind = mind i; act = act i; tickets = s.tickets; room = s.room },
     )
     )

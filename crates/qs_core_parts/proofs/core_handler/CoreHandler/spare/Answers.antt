@@ -1,7 +1,7 @@
 use Rattle.std.proofs.Common.{◌≡◌, ◌∷◌, ◌++◌, [], Bool, true, if◌then◌else◌, nat_lt, length, None, Some, rules, ap, sym, ◌∙◌}
 use Rattle.qs_handler.specs.Handler.{act_of, gave}
 use Rattle.qs_handler.specs.declared.mind.Act.{Act}
-use Rattle.qs_core_parts.specs.CoreHandlers.{CoreHandlerState, handler_of, lane_step}
+use Rattle.qs_core_parts.specs.CoreHandlers.{CoreHandlerState, handler_with_act, lane_step_of_handler}
 use Rattle.qs_core_parts.specs.LaneStates.{LaneState, with_spare}
 use Rattle.qs_core_parts.specs.contracts.core_handler.CoreHandler.{the_view}
 use Rattle.qs_core_parts.proofs.HandlerGifts.{spared_next, spared_rests}
@@ -19,10 +19,10 @@ returns-clause-steps c =
     let (client, asked, next) = c.replace_with-chunk.ensures in
     let mind = spared_rests s.mind s.act client x asked kept.act kept.mind ∙ ap gave kept.mind in
     let act = next ∙ spared_next s.mind s.act client x asked kept.act kept.mind ∙ ap act_of kept.mind in (
-      gave (handler_of s),
-      ap (λ (a : Act). lane_step (handler_of s) a l) asked
-          ∙ ap (λ (b : Bool). if b then Some (gave (handler_of s), with_spare l (l.spare ++ x ∷ [])) else None) room
-          ∙ ap (λ (k : LaneState). Some (gave (handler_of s), k)) (sym c.put_chunk.ensures.put),
+      gave (handler_with_act s),
+      ap (λ (a : Act). lane_step_of_handler (handler_with_act s) a l) asked
+          ∙ ap (λ (b : Bool). if b then Some (gave (handler_with_act s), with_spare l (l.spare ++ x ∷ [])) else None) room
+          ∙ ap (λ (k : LaneState). Some (gave (handler_with_act s), k)) (sym c.put_chunk.ensures.put),
       λ i. record { mind = mind i; act = act i; tickets = s.tickets; room = s.room },
     )
     )

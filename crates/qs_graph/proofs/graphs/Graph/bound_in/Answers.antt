@@ -17,4 +17,4 @@ invariant_of-result c =
     let whole : take c.self.inside.places.len (new ++ drop (length new) old) ≡ new =
     take_at new (drop (length new) old) c.self.inside.places.len (omega (arith, long, ap length c.deref_mut.ensures.value, c.deref_mut.ensures.len)) in
     rw whole (subst IsGraph (sym is)
-    (bound_is_graph binding (small_binding c.args.program.now c.args.client c.is_sound.ensures.sound c.requires.client) old c.self.invariant))
+    (bound_is_graph binding (small_binding c.args.program.now c.args.client c.keeps_sound.ensures.sound c.requires.client) old c.self.invariant))

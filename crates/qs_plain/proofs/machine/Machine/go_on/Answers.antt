@@ -8,14 +8,14 @@ use Rattle.qs_played.specs.Played.{ticket}
 use Rattle.qs_played.specs.declared.schedule.actor.Actor.TheVariants as actor
 use Rattle.qs_plain_laws.specs.declared.item.QueueItem.TheVariants as item
 use Rattle.qs_plain_client.specs.ClientMoves.{AsksNext}
-use Rattle.qs_plain_client.specs.Clients.{ClientState, IsClient, client_at, current_block}
+use Rattle.qs_plain_client.specs.Clients.{ClientState, IsClient, client_state_at, current_block}
 use Rattle.qs_plain_client.specs.Frames.{load_left}
 use Rattle.qs_plain_client.specs.declared.client.Asked.TheVariants as asked
 use Rattle.qs_plain_client.specs.declared.stage.Stage.TheVariants as stage
-use Rattle.qs_plain.specs.Deeds.{plain_deed}
-use Rattle.qs_plain.specs.declared.deed.Deed.TheVariants as deeds
-use Rattle.qs_plain.specs.declared.deed.Did.TheVariants as dids
-use Rattle.qs_plain.specs.Handlers.{CanLog, logged_at}
+use Rattle.qs_plain_handler.specs.Deeds.{plain_deed}
+use Rattle.qs_plain_handler.specs.declared.deed.Deed.TheVariants as deeds
+use Rattle.qs_plain.specs.declared.did.Did.TheVariants as dids
+use Rattle.qs_plain_handler.specs.Handlers.{CanLog, logged_at}
 use Rattle.qs_plain.specs.Rules.{IsRules, RulesState, plain_of, to_come}
 use Rattle.qs_plain.specs.Told.{last_ticket}
 use Rattle.qs_plain.proofs.RulesDeeds.{deed_within, told_by}
@@ -28,24 +28,25 @@ use Rattle.qs_plain.proofs.machine.Machine.go_on.Goals as goal
 abbrev state_of : After-begun → RulesState
 state_of c = record { program = c.self.inside.program.now; order = c.self.inside.order.items; clients = c.self.inside.clients.items; handlers = c.self.inside.handlers.items }
 
--- What is known of the client that goes on, once it has been read: it stands in a block, and its number of begun blocks says which.
+-- What is known of the client that goes on, once it has been read: it stands in a block, and its number of begun blocks
+-- says which.
 record Known (c : After-begun) : Type 0 where
   pub kept : IsRules (state_of c)
   pub sound : IsSound (state_of c).program
   pub less : c.args.number < length (state_of c).clients
-  pub here : c.index_mut-client.result.now ≡ client_at (state_of c).clients c.args.number
-  pub isc : IsClient (client_at (state_of c).clients c.args.number)
-  pub stays : (client_at (state_of c).clients c.args.number).stage ≡ stage.Within
-  pub now : ticket c.args.number (c.begun.result - 1) ≡ ticket c.args.number (length (client_at (state_of c).clients c.args.number).entries - 1)
+  pub here : c.index_mut-client.result.now ≡ client_state_at (state_of c).clients c.args.number
+  pub isc : IsClient (client_state_at (state_of c).clients c.args.number)
+  pub stays : (client_state_at (state_of c).clients c.args.number).stage ≡ stage.Within
+  pub now : ticket c.args.number (c.begun.result - 1) ≡ ticket c.args.number (length (client_state_at (state_of c).clients c.args.number).entries - 1)
 
 known : (c : After-begun) → Known c
 known c =
     let less : c.args.number < length (state_of c).clients = within_of _ _ c.args.number c.self.view_is c.requires.number in
-    let here : c.index_mut-client.result.now ≡ client_at (state_of c).clients c.args.number =
+    let here : c.index_mut-client.result.now ≡ client_state_at (state_of c).clients c.args.number =
     here_of _ c.args.number _ _ c.from.ensures less c.index_mut-client.ensures.value in
     record {
       kept = c.self.invariant.0;
-      sound = c.is_sound.ensures.sound;
+      sound = c.keeps_sound.ensures.sound;
       less = less;
       here = here;
       isc = subst IsClient here c.begun.ensures.kept;

@@ -1,12 +1,12 @@
 use Rattle.std.proofs.Common.{◌≡◌, ◌∙◌, ◌&&◌, ap, sym, subst, map, get_or, sum_by, [], Bool, true, false}
 use Rattle.qs_objects.specs.declared.held.Ticket.{Ticket}
 use Rattle.qs_plain_laws.specs.PlainSchedule.{all_done, all_idle, has_ended, syncs_of}
-use Rattle.qs_plain_client.specs.Clients.{ClientState, client_of, client_at}
-use Rattle.qs_played.specs.Played.{HaveRows, counts_in, entry_in, trace_in}
+use Rattle.qs_plain_client.specs.Clients.{ClientState, client_of_state, client_state_at}
+use Rattle.qs_played.specs.Played.{HaveRows, counts_of_ticket, entry_in, trace_in}
 use Rattle.qs_plain.specs.BegunBlocks.{AreBegun, AreOwn, AreRows}
 use Rattle.qs_plain.proofs.ReadRows.{counts_are, entries_are, have_rows, traces_are}
 use Rattle.qs_plain.specs.Rules.{RulesState, IsRules}
-use Rattle.qs_plain.specs.Served.{HandlerState, handler_of}
+use Rattle.qs_plain_handler.specs.Served.{HandlerState, handler_of_state}
 use Rattle.qs_plain.proofs.ReadingOff.{at_client, all_syncs, all_journals, all_states}
 use Rattle.qs_plain.proofs.machine.Machine.into_played.Goals.{then-are_done, else-are_done}
 use Rattle.qs_plain.proofs.machine.Machine.into_played.Goals as goal
@@ -37,33 +37,33 @@ returns c =
     let begun : AreBegun own_clients own_order = subst (λ (r : RulesState). AreBegun r.clients r.order) (sym c.self.view_is) c.requires in
     let ended =
     c.in_ok-ended.ensures.value
-    ∙ (λ k. map (λ (t : Ticket). has_ended (client_of (client_at ((c.deref.ensures.value ∙ clients) k) t.client)) t.index) ((c.deref-2.ensures.value ∙ order) k))
+    ∙ (λ k. map (λ (t : Ticket). has_ended (client_of_state (client_state_at ((c.deref.ensures.value ∙ clients) k) t.client)) t.index) ((c.deref-2.ensures.value ∙ order) k))
     ∙ (λ k. map (λ (t : Ticket). has_ended (at_client c.args.self.clients t.client k) t.index) c.args.self.order) in
     let tickets : c.from_vec.result ≡ own_order = c.from_vec.ensures.value in
     let entries =
     ap (map (entry_in rows)) tickets ∙ entries_are rows own_clients own_order are begun
-    ∙ (λ k. map (λ (t : Ticket). get_or (client_of (client_at (clients k) t.client)).entries t.index []) (order k))
+    ∙ (λ k. map (λ (t : Ticket). get_or (client_of_state (client_state_at (clients k) t.client)).entries t.index []) (order k))
     ∙ (λ k. map (λ (t : Ticket). get_or (at_client c.args.self.clients t.client k).entries t.index []) c.args.self.order) in
     let traces =
     ap (map (trace_in rows)) tickets ∙ traces_are rows own_clients own_order are begun
-    ∙ (λ k. map (λ (t : Ticket). get_or (client_of (client_at (clients k) t.client)).traces t.index []) (order k))
+    ∙ (λ k. map (λ (t : Ticket). get_or (client_of_state (client_state_at (clients k) t.client)).traces t.index []) (order k))
     ∙ (λ k. map (λ (t : Ticket). get_or (at_client c.args.self.clients t.client k).traces t.index []) c.args.self.order) in
     let counts =
-    ap (map (counts_in rows)) tickets ∙ counts_are rows own_clients own_order are begun
-    ∙ (λ k. map (λ (t : Ticket). get_or (client_of (client_at (clients k) t.client)).counts t.index []) (order k))
+    ap (map (counts_of_ticket rows)) tickets ∙ counts_are rows own_clients own_order are begun
+    ∙ (λ k. map (λ (t : Ticket). get_or (client_of_state (client_state_at (clients k) t.client)).counts t.index []) (order k))
     ∙ (λ k. map (λ (t : Ticket). get_or (at_client c.args.self.clients t.client k).counts t.index []) c.args.self.order) in
     let syncs =
     c.syncs-syncs.ensures.value
-    ∙ ap (sum_by (λ (d : ClientState). syncs_of (client_of d))) (c.deref-3.ensures.value ∙ clients)
+    ∙ ap (sum_by (λ (d : ClientState). syncs_of (client_of_state d))) (c.deref-3.ensures.value ∙ clients)
     ∙ all_syncs c.args.self.clients in
     let journals = c.in_ok-journals.ensures.journals ∙ ap (map (λ (h : HandlerState). h.held.journal)) handlers ∙ all_journals c.args.self.handlers in
     let states = c.in_ok-journals.ensures.states ∙ ap (map (λ (h : HandlerState). h.held.object)) handlers ∙ all_states c.args.self.handlers in
     let now = c.deref-4.ensures.value ∙ clients in
-    let done = c.are_done.ensures.value p (subst (AreOwn p) (sym now) kept.own) ∙ ap (λ cs. all_done p 0 (map client_of cs)) now in
-    let idle = all_idle (map handler_of c.args.self.handlers) in
-    let every = all_done p 0 (map client_of c.args.self.clients) in
+    let done = c.are_done.ensures.value p (subst (AreOwn p) (sym now) kept.own) ∙ ap (λ cs. all_done p 0 (map client_of_state cs)) now in
+    let idle = all_idle (map handler_of_state c.args.self.handlers) in
+    let every = all_done p 0 (map client_of_state c.args.self.clients) in
     let finished : c.if-are_done.finished ≡ (every && idle) = elim c.if-are_done.branch [
-      | then-are_done w ↦ w.finished-is ∙ w.are_idle-finished.ensures.value ∙ ap (λ hs. all_idle (map handler_of hs)) (w.deref-then-are_done.ensures.value ∙ handlers)
+      | then-are_done w ↦ w.finished-is ∙ w.are_idle-finished.ensures.value ∙ ap (λ hs. all_idle (map handler_of_state hs)) (w.deref-then-are_done.ensures.value ∙ handlers)
           ∙ sym (both_are every idle (sym done ∙ w.if-are_done.true))
       | else-are_done w ↦ w.finished-is ∙ w.if-are_done.false ∙ sym (one_is_not every idle (sym done ∙ w.if-are_done.false))
     ] in

@@ -17,7 +17,7 @@ abbrev ticket_in : After-turn → Ticket
 ticket_in c = record { client = c.args.client; index = blocks_begun c.args.self.now c.args.client }
 
 sound_in : (c : After-turn) → IsSound c.args.self.now.program
-sound_in c = subst (λ (r : RulesState). IsSound r.program) c.self.view_is c.is_sound.ensures.sound
+sound_in c = subst (λ (r : RulesState). IsSound r.program) c.self.view_is c.keeps_sound.ensures.sound
 
 out_false : (c : After-turn) → is_out (client_at (plain_of c.turns.self) c.args.client).stage ≡ false
 out_false c = sym c.is_out.ensures.value ∙ c.turns-test.true
@@ -39,7 +39,7 @@ turns-init c =
     let next = stepped self (actors.Client c.args.client) it.result it.new.self it.ensures.steps it.ensures.none it.ensures.unchanged in
     record {
       program = next.1;
-      stands = stands_first self.program (subst (λ (r : RulesState). IsSound r.program) c.self.view_is c.is_sound.ensures.sound) self.order (blocks_begun self)
+      stands = stands_first self.program (subst (λ (r : RulesState). IsSound r.program) c.self.view_is c.keeps_sound.ensures.sound) self.order (blocks_begun self)
           (record { client = c.args.client; index = blocks_begun self c.args.client }) refl c.requires.left (plain_of self) (plain_of it.new.self) c.requires.quiet next.0;
     }
 

@@ -8,7 +8,7 @@ use Rattle.qs_played.proofs.ShownRuns.{if_shown}
 use Rattle.qs_plain_laws.specs.Plain.{begin, begun_blocks}
 use Rattle.qs_plain_laws.specs.PlainSchedule.{played_of}
 use Rattle.qs_plain_laws.proofs.Ordering.{IsOrdered, ordered_begin, ordered_plays, tickets_begun}
-use Rattle.qs_plain_client.specs.Clients.{client_of}
+use Rattle.qs_plain_client.specs.Clients.{client_of_state}
 use Rattle.qs_plain.specs.Rules.{AreIsolated, AreRulesCounted, RulesState, plain_of}
 use Rattle.qs_plain.proofs.Reaching.{reached_counted, reached_isolated}
 use Rattle.qs_plain.proofs.ReadingOff.{at_client}
@@ -21,7 +21,7 @@ into_played-requires c = λ i d less.
     let t = get_or s.order i d in
     let all = subst (IsOrdered p) (sym c.self.invariant.1) (ordered_plays p (begin p) c.self.invariant.0 (ordered_begin p)) in
     let found = tickets_begun p (plain_of s) all i d less in (
-      omega (arith, found.0, length-map s.clients client_of),
+      omega (arith, found.0, length-map s.clients client_of_state),
       subst (λ it. t.index < begun_blocks it) (sym (at_client s.clients t.client)) found.1,
     )
 
@@ -34,7 +34,7 @@ returns-clause-legal c =
     (if_shown (λ (played : Played). IsLegal p played.order) c.into_played.result (played_of p (plain_of s)) c.into_played.ensures.shown (λ played same. subst (λ (x : Played). IsLegal p x.order) (sym same) all.legal))
 
 pub returns-clause-isolated : goal.returns-clause-isolated
-returns-clause-isolated c = subst AreIsolated c.self.view_is (reached_isolated c.self.inside.machine (subst IsSound c.program.ensures.value c.is_sound.ensures.sound) c.self.invariant)
+returns-clause-isolated c = subst AreIsolated c.self.view_is (reached_isolated c.self.inside.machine (subst IsSound c.program.ensures.value c.keeps_sound.ensures.sound) c.self.invariant)
 
 pub returns-clause-counted : goal.returns-clause-counted
-returns-clause-counted c = subst AreRulesCounted c.self.view_is (reached_counted c.self.inside.machine (subst IsSound c.program.ensures.value c.is_sound.ensures.sound) c.self.invariant)
+returns-clause-counted c = subst AreRulesCounted c.self.view_is (reached_counted c.self.inside.machine (subst IsSound c.program.ensures.value c.keeps_sound.ensures.sound) c.self.invariant)

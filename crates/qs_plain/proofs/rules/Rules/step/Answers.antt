@@ -9,10 +9,10 @@ invariant_of-self c =
 
 pub returns-clause-isolated : goal.returns-clause-isolated
 returns-clause-isolated c =
-    reached_isolated c.step-stepped.new.self (subst IsSound c.program.ensures.value c.is_sound.ensures.sound)
+    reached_isolated c.step-stepped.new.self (subst IsSound c.program.ensures.value c.keeps_sound.ensures.sound)
     (reached_next c.self.inside.machine c.step-stepped.new.self c.args.actor c.step-stepped.result c.self.invariant c.step-stepped.ensures.steps c.step-stepped.ensures.unchanged)
 
 pub returns-clause-counted : goal.returns-clause-counted
 returns-clause-counted c =
-    reached_counted c.step-stepped.new.self (subst IsSound c.program.ensures.value c.is_sound.ensures.sound)
+    reached_counted c.step-stepped.new.self (subst IsSound c.program.ensures.value c.keeps_sound.ensures.sound)
     (reached_next c.self.inside.machine c.step-stepped.new.self c.args.actor c.step-stepped.result c.self.invariant c.step-stepped.ensures.steps c.step-stepped.ensures.unchanged)

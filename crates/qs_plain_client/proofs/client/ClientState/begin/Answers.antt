@@ -26,7 +26,7 @@ invariant_of-self c =
     let moved = moved_begun s.program.now s.number s.stage s.locals s.frames.frames s.frames.room s.entries.items s.traces s.counts.rows _ s.prepared.items c.pop_front.new.self.items first stored
     c.enter.new.self.frames c.enter.new.self.room c.push_reserved.new.self.items room frames c.push_reserved.ensures.items in
     let next = begun_first s.program.now s.number s.stage s.locals s.frames.frames s.frames.room s.entries.items s.traces s.counts.rows _ s.prepared.items c.pop_front.new.self.items first stored in (
-      subst IsClient (sym moved) (begun_kept kept c.is_sound.ensures.sound _ _ out next s.locals _ s.frames.room _ _ _ refl refl refl refl refl),
+      subst IsClient (sym moved) (begun_kept kept c.keeps_sound.ensures.sound _ _ out next s.locals _ s.frames.room _ _ _ refl refl refl refl refl),
       stored_begun (length s.entries.items) (length c.push_reserved.new.self.items) (length c.pop_front.new.self.items) s.traces s.counts.rows
           (subst (AreStored (length s.entries.items) s.traces s.counts.rows) more stored) (ap length c.push_reserved.ensures.items ∙ length-append s.entries.items (s.locals ∷ [])),
       omega (arith, c.self.invariant.2, c.push_reserved.ensures.len, c.push_reserved.ensures.capacity, c.in-Some.ensures.len),

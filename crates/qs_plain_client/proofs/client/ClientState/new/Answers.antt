@@ -4,7 +4,7 @@ use Rattle.qs_program.specs.Program.{BlockShape, block_at, blocks_of}
 use Rattle.qs_program.specs.Statements.{Statements}
 use Rattle.qs_played.proofs.Lists.{each_more}
 use Rattle.qs_plain_client.specs.Frames.{rest, places_of}
-use Rattle.qs_plain_client.specs.PreparedBlock.{AreQueues, lists_of, prepared_of, rooms_of}
+use Rattle.qs_plain_client.specs.PreparedBlock.{AreQueues, reserved_lists, prepared_of, rooms_of}
 use Rattle.qs_plain_client.specs.Clients.{AreStored, IsClient, client_from}
 use Rattle.qs_plain_client.specs.FrameViews.{Stack}
 use Rattle.qs_plain_client.specs.Queues.{QueueState}
@@ -34,7 +34,7 @@ pub invariant_of-result : goal.invariant_of-result
 invariant_of-result c =
     let p = c.args.program.now in
     let number = c.args.number in
-    let sound = c.is_sound.ensures.sound in
+    let sound = c.keeps_sound.ensures.sound in
     let queues = c.loop-index.prepared.items in
     let none : c.in_ok-with_capacity.field-0.items ≡ [] = c.in_ok-with_capacity.ensures.items in
     let empty : c.over.result.frames ≡ [] = ap (λ (s : Stack). s.frames) c.over.ensures.empty in
@@ -63,10 +63,10 @@ returns-clause-fresh c =
     let none : c.in_ok-with_capacity.field-0.items ≡ [] = c.in_ok-with_capacity.ensures.items in
     let whole : c.loop-index.index ≡ blocks_of p number = omega (arith, c.loop-index-test.false, c.loop-index.auto.index-end, c.blocks_of-count.ensures.value) in
     let many : length queues ≡ blocks_of p number = c.loop-index.invariant.many ∙ whole in
-    let stored = stored_fresh p number c.is_sound.ensures.sound c.requires queues many in
+    let stored = stored_fresh p number c.keeps_sound.ensures.sound c.requires queues many in
     let traces = c.in_ok-fresh_traces.ensures.fresh in
     let counts = c.in_ok-fresh_counts.ensures.fresh in
-    let prepared = (λ i. length (prepared_of (drop (length (none i)) (traces i)) (drop (length (none i)) (counts i)) queues)) ∙ (many_prepared 0 (map empty_trace (rooms_of p number)) (fresh_rows (lists_of p number)) queues stored ∙ many) in
+    let prepared = (λ i. length (prepared_of (drop (length (none i)) (traces i)) (drop (length (none i)) (counts i)) queues)) ∙ (many_prepared 0 (map empty_trace (rooms_of p number)) (fresh_rows (reserved_lists p number)) queues stored ∙ many) in
     record {
       program = refl;
       number = refl;

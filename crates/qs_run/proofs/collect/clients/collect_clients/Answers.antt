@@ -1,5 +1,5 @@
--- Each turn of the loop collects the next client. The handlers' ends of its lanes are still there, so its lanes can be joined, and what is known
--- of them holds of the handlers as they were before the loop.
+-- Each turn of the loop collects the next client. The handlers' ends of its lanes are still there, so its lanes can be
+-- joined, and what is known of them holds of the handlers as they were before the loop.
 use Rattle.std.proofs.Common.{◌≡◌, ◌++◌, ◌∷◌, List, [], length, map, refl, sym, ap, ◌∙◌, subst, arith, rules}
 use Rattle.std.proofs.lemmas.Iterator.Adapters.{YieldsList-from_vec}
 use Rattle.std.proofs.lemmas.Iterator.Consumers.{YieldsList-turn}

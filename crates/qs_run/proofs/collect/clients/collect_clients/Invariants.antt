@@ -1,4 +1,5 @@
--- What is known of the clients that were collected so far. The handlers have lost their ends of the lanes to them, and nothing else.
+-- What is known of the clients that were collected so far. The handlers have lost their ends of the lanes to them, and
+-- nothing else.
 use Rattle.std.proofs.Common.{◌≡◌, length, map, vec_capacity}
 use Rattle.std.specs.List.{AllByRecursion}
 use Rattle.qs_run.specs.Collected.{AreAllJoined, IsBooked, worker_rows, without_lanes_below}

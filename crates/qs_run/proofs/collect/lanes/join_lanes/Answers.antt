@@ -1,4 +1,5 @@
--- Each turn of the loop joins the lane to one handler and leaves the later ones as they were, so in the end all lanes of the client are joined.
+-- Each turn of the loop joins the lane to one handler and leaves the later ones as they were, so in the end all lanes
+-- of the client are joined.
 use Rattle.std.proofs.Common.{◌≡◌, ◌≢◌, ◌<◌, None, Some, length, slice_get, ap, ◌∙◌, arith, below_more}
 use Rattle.std.proofs.lemmas.List.{get_or-set_other}
 use Rattle.std.proofs.lemmas.Option.{slice_get_within}
@@ -28,10 +29,10 @@ loop-handler-preserved g c =
       handlers = taken_here c.args.client n c.args.lanes c.loop-handler.lanes c.args.handlers.now c.loop-handler.handlers x inv.handlers still lt
           c.index-handlers-handler.is c.join_lane.new.worker c.join_lane.ensures.worker;
       lanes = λ h le.
-          ap (λ zs. running.lane_at zs h) c.join_lane.ensures.lanes
+          ap (λ zs. running.out_lane_at zs h) c.join_lane.ensures.lanes
           ∙ (get_or-set_other c.loop-handler.lanes n h None None (let apart : h ≢ n = omega (arith, le) in apart) ∙ inv.lanes h (omega (arith, le)));
       joined = λ h r e less.
-          below_more (λ k. (r : HandlerWorker _) → slice_get c.args.handlers.now k ≡ Some r → AreEndsJoined (running.lane_at c.args.lanes k) (handling.lane_at r.lanes c.args.client))
+          below_more (λ k. (r : HandlerWorker _) → slice_get c.args.handlers.now k ≡ Some r → AreEndsJoined (running.out_lane_at c.args.lanes k) (handling.in_lane_at r.lanes c.args.client))
           n (λ k few r e. inv.joined k r e few)
           (joined_here c.args.client n c.args.lanes c.loop-handler.lanes c.args.handlers.now c.loop-handler.handlers x inv.handlers still lt
           c.index-handlers-handler.is c.join_lane.ensures.joined) h less r e;

@@ -10,7 +10,7 @@ use Rattle.qs_run.proofs.collect.lanes.join_lanes.Given as goal
 abbrev pub invariant-loop-handler : goal.invariant-loop-handler
 invariant-loop-handler g l = record {
   handlers : l.handlers ≡ map_front (without_lane_of l.client) l.handler l.initial.handlers;
-  lanes : (h : ℕ) → l.handler ≤ h → running.lane_at l.lanes h ≡ running.lane_at l.initial.lanes h;
+  lanes : (h : ℕ) → l.handler ≤ h → running.out_lane_at l.lanes h ≡ running.out_lane_at l.initial.lanes h;
   joined : (h : ℕ) (r : HandlerWorker _) → slice_get l.initial.handlers h ≡ Some r → h < l.handler
-      → AreEndsJoined (running.lane_at l.initial.lanes h) (handling.lane_at r.lanes l.client);
+      → AreEndsJoined (running.out_lane_at l.initial.lanes h) (handling.in_lane_at r.lanes l.client);
 }

@@ -1,4 +1,5 @@
--- The calls of `collect_outcome` can be made, and what it shows is an outcome: `CollectedOutcome` says so of what the calls gave back.
+-- The calls of `collect_outcome` can be made, and what it shows is an outcome: `CollectedOutcome` says so of what the
+-- calls gave back.
 use Rattle.std.proofs.Common.{◌≡◌, length, map, sym, ap, ◌∙◌, subst, arith}
 use Rattle.std.proofs.lemmas.List.{length-map, with_items_is}
 use Rattle.std.specs.Vec.{with_items}

@@ -1,5 +1,5 @@
--- With the client of a scope: the clients before it have run, and so has it; or all of them are as they were. The starter was asked for it first, and
--- then for the others.
+-- With the client of a scope: the clients before it have run, and so has it; or all of them are as they were. The
+-- starter was asked for it first, and then for the others.
 use Rattle.std.proofs.Common.{◌∙◌, ◌+◌, vec_len, subst, sym, arith, rules}
 use Rattle.std.proofs.lemmas.List.Elements.{AllZip-push}
 use Rattle.qs_run.specs.Starts.{IsRefusedAStart}

@@ -1,2 +1,0 @@
-pub mod Charting
-pub mod Ends

@@ -1,5 +1,0 @@
-use Rattle.qs_chart.proofs.Ends.{ends_are_outcomes}
-use Rattle.qs_chart.proofs.laws.ends_are_outcomes.Goals as goal
-
-pub returns : goal.returns
-returns c = record { ends = ends_are_outcomes }

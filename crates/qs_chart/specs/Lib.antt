@@ -1,3 +1,0 @@
-pub mod Charts
-pub mod ChartDot
-pub mod Laws

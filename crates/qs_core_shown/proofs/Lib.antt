@@ -1,0 +1,3 @@
+pub mod CoreReadings
+pub mod CoreShowing
+pub mod CoreRows

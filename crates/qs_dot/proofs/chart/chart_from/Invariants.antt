@@ -1,0 +1,16 @@
+use Rattle.std.proofs.Common.{◌≤◌, ◌-◌, length}
+use Rattle.qs_meaning.specs.Configurations.{configuration_after}
+use Rattle.qs_dot.specs.Charts.{AreCharted, AreLeadsUpTo, HasPlaceFor}
+use Rattle.qs_standings.specs.Rows.{rows_in}
+use Rattle.qs_dot.proofs.chart.chart_from.Given as goal
+
+abbrev pub invariant-loop-at : goal.invariant-loop-at
+invariant-loop-at l = record {
+  charted : AreCharted l.program l.front l.limit (rows_in l.rows.keys) l.places.items;
+  first : HasPlaceFor l.places.items 0 (configuration_after l.program l.front);
+  leads : AreLeadsUpTo l.program l.places.items l.leads.items l.at 0;
+  within : l.at ≤ length l.places.items;
+}
+
+abbrev pub decreases-loop-at : goal.decreases-loop-at
+decreases-loop-at l = l.limit - l.at

@@ -1,0 +1,7 @@
+-- The leads before this one are there.
+use Rattle.std.proofs.Common.{◌≡◌, ◌++◌, flat_map, take}
+use Rattle.qs_dot.specs.ChartDot.{lead_line}
+use Rattle.qs_dot.proofs.chart_text.put_leads.Given as goal
+
+abbrev pub invariant-loop-lead : goal.invariant-loop-lead
+invariant-loop-lead l = l.out.items ≡ l.initial.out.items ++ flat_map (lead_line l.program) (take l.lead-index l.leads)

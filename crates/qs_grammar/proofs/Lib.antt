@@ -1,0 +1,9 @@
+pub mod Loops
+pub mod Counts
+pub mod Complete
+pub mod Sound
+pub mod Readings
+pub mod Form
+pub mod Prefixes
+pub mod Readers
+pub mod Places

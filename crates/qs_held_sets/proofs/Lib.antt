@@ -1,0 +1,6 @@
+pub mod Paths
+pub mod Bits
+pub mod Transfer
+pub mod Visits
+pub mod Tables
+pub mod HeldOrNot

@@ -1,6 +1,0 @@
-use Rattle.qs_report.proofs.Fronts.{front_of_parts}
-use Rattle.qs_json.proofs.faults.write_texts.Goals as goal
-
-pub returns-then-not-write_text-clause-front : goal.returns-then-not-write_text-clause-front
-returns-then-not-write_text-clause-front g c =
-    front_of_parts (λ text. text.now) _ _ _ c.args.texts.now c.loop-text.text-index _ c.loop-text-test.true c.loop-text.invariant.written c.write_text.ensures.front

@@ -1,2 +1,0 @@
-pub mod PartLists
-pub mod Numbers

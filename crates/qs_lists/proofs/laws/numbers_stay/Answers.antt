@@ -1,5 +1,0 @@
-use Rattle.qs_lists.proofs.Numbers.{client_numbers_stay_proof, numbers_stay_proof}
-use Rattle.qs_lists.proofs.laws.numbers_stay.Goals as goal
-
-pub returns : goal.returns
-returns c = record { stay = numbers_stay_proof; clients = client_numbers_stay_proof }

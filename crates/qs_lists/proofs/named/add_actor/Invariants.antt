@@ -1,6 +1,0 @@
--- It is there so many times.
-use Rattle.std.proofs.Common.{◌≡◌, ◌++◌, replicate}
-use Rattle.qs_lists.proofs.named.add_actor.Given as goal
-
-abbrev pub invariant-loop-turn : goal.invariant-loop-turn
-invariant-loop-turn l = l.out.items ≡ l.initial.out.items ++ replicate l._turn l.actor

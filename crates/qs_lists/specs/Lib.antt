@@ -1,4 +1,0 @@
-pub mod Limits
-pub mod Parts
-pub mod Named
-pub mod Numbers

@@ -1,6 +1,0 @@
-use Rattle.std.proofs.Common.{◌≡◌, ◌++◌, take}
-use Rattle.qs_objects.specs.Objects.{values_of}
-use Rattle.qs_outcomes.proofs.rows.add_object_values.Given as goal
-
-abbrev pub invariant-loop-place : goal.invariant-loop-place
-invariant-loop-place l = l.row.items ≡ l.initial.row.items ++ take l.place (values_of l.object.content)

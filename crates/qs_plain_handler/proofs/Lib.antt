@@ -1,0 +1,3 @@
+pub mod HandlersPreserved
+pub mod HandlersSteps
+pub mod Logged

@@ -1,0 +1,15 @@
+//! What lies before a handler, read without taking it.
+
+ghost use Rattle.std.specs.Prelude.{◌≡◌};
+
+use super::HandlerState;
+use qs_plain_client::PrivateQueue;
+
+impl HandlerState {
+    /// Its private queues, the first of which it serves.
+    pub fn queues(&self) -> &[PrivateQueue]
+        ensures value { result.now ≡ self.now.queues }
+    {
+        &self.queues[self.left..]
+    }
+}

@@ -1,8 +1,0 @@
--- The values before this place are there.
-use Rattle.std.proofs.Common.{◌≡◌, ◌++◌}
-use Rattle.qs_objects.specs.Objects.{values_of}
-use Rattle.qs_report.specs.Texts.{texts_up_to, spaced_value}
-use Rattle.qs_report.proofs.states.put_joined.Given as goal
-
-abbrev pub invariant-loop-place : goal.invariant-loop-place
-invariant-loop-place l = l.out.items ≡ l.initial.out.items ++ texts_up_to l.place (spaced_value (values_of l.object.content))

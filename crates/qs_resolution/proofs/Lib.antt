@@ -1,0 +1,5 @@
+pub mod Resolving
+pub mod Scopes
+pub mod FreshNames
+pub mod TemplateSearch
+pub mod TemplateFormals

@@ -1,7 +1,0 @@
-//! The limits of a text.
-
-/// Bytes of a script.
-pub const LONGEST_TEXT: usize = 65_536;
-
-/// Statements one inside another: each inside at most eight others.
-pub(crate) const MOST_LEVELS: u8 = 9;

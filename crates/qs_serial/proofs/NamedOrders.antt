@@ -1,0 +1,64 @@
+-- A list of clients is read from its beginning, with a count of the blocks that each client has begun: the order that
+-- the whole list names is legal exactly where the rest of the list names a legal rest from these counts. The loop of
+-- `names_order` has this as its invariant. It goes by cases on whether the next client has a block left.
+use Rattle.std.proofs.Common.{◌≡◌, ◌<◌, ℕ, suc, Bool, true, false, nat_lt, List, [], ◌∷◌, get_or, replicate, length, refl, sym, ap, ◌∙◌, subst, arith, length-set}
+use Rattle.std.specs.Prelude.{slice_set}
+use Rattle.std.specs.List.{AllByRecursion}
+use Rattle.std.proofs.lemmas.List.{get_or_past}
+use Rattle.qs_program.specs.Program.{ClientShape, ProgramShape, blocks_of, no_client}
+use Rattle.qs_meaning.specs.Reduced.{Counts}
+use Rattle.qs_meaning.specs.Serial.{IsLegal, LegalFrom}
+use Rattle.qs_meaning.specs.Solo.{put}
+use Rattle.qs_serial.specs.NamedOrders.{order_from, order_of}
+use Rattle.qs_serial.proofs.Lookups.{lookup-replicate, lookup-set}
+
+abbrev pub counts : List ℕ → Counts
+counts begun c = get_or begun c 0
+
+-- the rest of a list, from counts of begun blocks
+abbrev pub RestIsLegal : ProgramShape → Counts → List ℕ → Type 0
+RestIsLegal p begun rest = LegalFrom p begun (order_from begun rest)
+
+pub record IsReadSoFar (p : ProgramShape) (clients rest begun : List ℕ) : Type 0 where
+  pub long : length begun ≡ 8
+  pub forth : IsLegal p (order_of clients) → RestIsLegal p (counts begun) rest
+  pub back : RestIsLegal p (counts begun) rest → IsLegal p (order_of clients)
+
+pub read_none : (p : ProgramShape) (clients begun : List ℕ) → begun ≡ replicate 8 0 → IsReadSoFar p clients clients begun
+read_none p clients begun fresh = record {
+  long = ap length fresh;
+  forth = subst (λ b. RestIsLegal p b clients) (sym none);
+  back = subst (λ b. RestIsLegal p b clients) none;
+}
+  where
+    none : ◌≡◌ {A = Counts} (counts begun) (λ _. 0)
+    none = λ i c. (ap (λ xs. get_or xs c 0) fresh ∙ lookup-replicate 8 c 0) i
+
+module _ (p : ProgramShape) (clients : List ℕ) (c : ℕ) (rest begun : List ℕ) (now : IsReadSoFar p clients (c ∷ rest) begun) where
+  pub next_left : IsLegal p (order_of clients) → counts begun c < blocks_of p c
+  next_left legal = (now.forth legal).1
+
+  pub read_on : c < 8 → counts begun c < blocks_of p c → (later : List ℕ) → later ≡ slice_set begun c (suc (counts begun c)) → IsReadSoFar p clients rest later
+  read_on within left later set = record {
+    long = ap length set ∙ length-set begun c (suc (counts begun c)) ∙ now.long;
+    forth = λ legal. subst (λ b. RestIsLegal p b rest) (sym same) (now.forth legal).2;
+    back = λ legal. now.back (refl, left, subst (λ b. RestIsLegal p b rest) same legal);
+  }
+    where
+      same : ◌≡◌ {A = Counts} (counts later) (put (counts begun) c (suc (counts begun c)))
+      same = ap counts set ∙ lookup-set begun c (suc (counts begun c)) 0 (let long = now.long in omega (arith, within, long))
+
+-- a client that has a block is one of the program's
+has_client : (p : ProgramShape) (c k : ℕ) → k < blocks_of p c → c < length p.clients
+has_client p c k left = by_test (nat_lt c (length p.clients)) refl
+  where
+    by_test : (b : Bool) → nat_lt c (length p.clients) ≡ b → c < length p.clients
+    by_test true e = grind (arith, e)
+    by_test false e =
+        let none : blocks_of p c ≡ 0 = ap (λ (x : ClientShape). length x.blocks) (get_or_past p.clients c no_client (grind (arith, e))) in
+        omega (arith, left, none)
+
+-- a list that names a legal order names clients of the program
+pub named_clients : (p : ProgramShape) (begun : Counts) (cs : List ℕ) → RestIsLegal p begun cs → AllByRecursion (λ c. c < length p.clients) cs
+named_clients p begun [] legal = tt
+named_clients p begun (c ∷ cs) legal = (has_client p c (begun c) legal.1, named_clients p (put begun c (suc (begun c))) cs legal.2)

@@ -1,0 +1,19 @@
+//! Configurations as code has them: where a program stands between blocks, who goes on there, and the row by which it
+//! is found again.
+#![tactic(auto)]
+
+mod copies;
+mod front;
+mod going;
+mod hints;
+mod rows;
+mod standing;
+mod table;
+
+pub use copies::copied;
+pub use front::placed;
+pub use going::{Last, last_blocks};
+pub use hints::Hints;
+pub use rows::{Draft, Row, row_starts};
+pub use standing::Standing;
+pub use table::{insert, was_seen};

@@ -1,0 +1,65 @@
+-- The head of a block and then its nodes are the text of that block, by any name of its list and its graph; and a sound
+-- program has just one text of its blocks, although the definition lets the held sets be any that fit. The functions
+-- that write graphs, and the laws that there is one such text, stand on it. What is held at a node is fixed by the
+-- graph; then it goes by induction on the blocks and the clients.
+use Rattle.std.proofs.Common.{◌≡◌, ℕ, ◌<◌, Bool, List, ◌++◌, length, refl, sym, ap, subst, ◌∙◌, append_assoc, arith}
+use Rattle.std.specs.List.{filter}
+use Rattle.qs_objects.proofs.Elements.{AllByRecursion-get_or}
+use Rattle.qs_program.specs.Program.{ProgramShape, blocks_of, own_block}
+use Rattle.qs_program.specs.Sound.{IsSound}
+use Rattle.qs_meaning.proofs.Each.{each_map}
+use Rattle.qs_graph.specs.Names.{graph_of}
+use Rattle.qs_graph.specs.Nodes.{ControlGraph, place_at, exit}
+use Rattle.qs_graph.specs.WellFormed.{IsGraphNode, IsInRange}
+use Rattle.qs_graph.proofs.Ranges.{blocks_have_graphs, sound_own}
+use Rattle.qs_held_sets.specs.Table.{AreSetsOf, has}
+use Rattle.qs_text.specs.Blocks.{AreBlocks, AreBlocksOf, AreNodes, IsBlock, NodesText}
+use Rattle.qs_text.specs.Texts.{IsAdded}
+use Rattle.qs_text.proofs.SameTexts.{one_up_to, same_filter, same_sets}
+
+pub block_added : (p : ProgramShape) (c k : ℕ) (head : List ℕ) (nodes : NodesText) (reserved : List ℕ) (g : ControlGraph) (first line all : List ℕ)
+    → reserved ≡ (own_block p c k).reserved → g ≡ graph_of p c k
+    → line ≡ first ++ head → IsAdded (AreNodes nodes reserved g) line all → IsAdded (IsBlock p c k head nodes) first all
+block_added p c k head nodes reserved g first line all r e f (text, (sets, held, t), h) =
+    let own = (own_block p c k).reserved in
+    let built = graph_of p c k in
+    let same : text ≡ nodes own built sets = t ∙ ap (λ rs. nodes rs g sets) r ∙ ap (λ (q : ControlGraph). nodes own q sets) e in (
+      head ++ nodes own built sets,
+      record { sets = sets; held = subst (λ q. AreSetsOf q sets) e held; is = refl },
+      h ∙ ap (λ l. l ++ text) f ∙ append_assoc first head text ∙ ap (λ l. first ++ (head ++ l)) same,
+    )
+
+-- the node of a number, with what is said of it
+pub record IsAlike (p : ProgramShape) (c k : ℕ) (one other : List (List Bool)) (n : ℕ) : Type 0 where
+  pub in_range : IsInRange (place_at (graph_of p c k).nodes n).node
+  pub held : (h : ℕ) → h < 8 → has one n h ≡ has other n h
+  pub names : filter (has one n) (own_block p c k).reserved ≡ filter (has other n) (own_block p c k).reserved
+
+-- whichever sets fit, they say the same of a node
+pub alike : (p : ProgramShape) (c k : ℕ) → IsSound p → (one other : List (List Bool)) → AreSetsOf (graph_of p c k) one → AreSetsOf (graph_of p c k) other
+    → (n : ℕ) → n < length (graph_of p c k).nodes → IsAlike p c k one other n
+alike p c k sound one other a b n inside =
+    let g = graph_of p c k in
+    let own = own_block p c k in
+    let text = sound_own p c k sound in
+    let same = same_sets g one other a b n inside in
+    let place : IsGraphNode (length g.nodes) (place_at g.nodes n) =
+    AllByRecursion-get_or (IsGraphNode (length g.nodes)) g.nodes n exit (blocks_have_graphs p c k sound).own.places inside in
+    record {
+      in_range = place.in_range;
+      held = same;
+      names = same_filter (has one n) (has other n) own.reserved (each_map (λ h l. same h (omega (arith, l, text.few))) own.reserved text.text.known);
+    }
+
+-- a block has one text, where its nodes have
+pub one_block : (p : ProgramShape) (c k : ℕ) (head : List ℕ) (nodes : NodesText)
+    → ((one other : List (List Bool)) → AreSetsOf (graph_of p c k) one → AreSetsOf (graph_of p c k) other
+    → nodes (own_block p c k).reserved (graph_of p c k) one ≡ nodes (own_block p c k).reserved (graph_of p c k) other)
+    → (one other : List ℕ) → IsBlock p c k head nodes one → IsBlock p c k head nodes other → one ≡ other
+one_block p c k head nodes same one other a b = a.is ∙ ap (λ l. head ++ l) (same a.sets b.sets a.held b.held) ∙ sym b.is
+
+-- a program has one text of its blocks, where each has
+pub one_of_blocks : (p : ProgramShape) (IsOne : (c k : ℕ) → List ℕ → Type 0) → ((c k : ℕ) (one other : List ℕ) → IsOne c k one → IsOne c k other → one ≡ other)
+    → (one other : List ℕ) → AreBlocks p IsOne one → AreBlocks p IsOne other → one ≡ other
+one_of_blocks p IsOne each =
+    one_up_to (AreBlocksOf p IsOne) (length p.clients) (λ c client. one_up_to (IsOne c) (blocks_of p c) (λ k block. each c k))

@@ -1,0 +1,9 @@
+pub mod Fronts
+pub mod Joined
+pub mod Parts
+pub mod Digits
+pub mod Added
+pub mod SameTexts
+pub mod BlockTexts
+pub mod CheckedSets
+pub mod WorkedSets

@@ -1,0 +1,29 @@
+-- Texts of a program's graphs, block by block: a head, and the nodes with what is held at each.
+use Rattle.std.specs.Prelude.{◌≡◌, ℕ, List, ◌++◌, length, Bool}
+use Rattle.qs_program.specs.Program.{ProgramShape, blocks_of, own_block}
+use Rattle.qs_graph.specs.Names.{graph_of}
+use Rattle.qs_graph.specs.Nodes.{ControlGraph}
+use Rattle.qs_held_sets.specs.Table.{AreSetsOf}
+use Rattle.qs_text.specs.Texts.{AreTextsUpTo}
+
+-- the text of a graph's nodes, by the names of the block's list and by what is held at each node
+abbrev pub NodesText : Type 0
+NodesText = (reserved : List ℕ) → ControlGraph → (sets : List (List Bool)) → List ℕ
+
+-- the nodes of a graph, with what is held at each on every path
+abbrev pub AreNodes : NodesText → (reserved : List ℕ) → ControlGraph → List ℕ → Type 0
+AreNodes nodes reserved g text = (sets : List (List Bool)) × AreSetsOf g sets × (text ≡ nodes reserved g sets)
+
+-- block k of client c: its head, and the nodes of its graph as it is built, with what is held at each on every path
+pub record IsBlock (p : ProgramShape) (c k : ℕ) (head : List ℕ) (nodes : NodesText) (text : List ℕ) : Type 0 where
+  pub sets : List (List Bool)
+  pub held : AreSetsOf (graph_of p c k) sets
+  pub is : text ≡ head ++ nodes (own_block p c k).reserved (graph_of p c k) sets
+
+-- the blocks of client c, where each has a text of some kind
+abbrev pub AreBlocksOf : ProgramShape → (IsOne : (c k : ℕ) → List ℕ → Type 0) → (c : ℕ) → List ℕ → Type 0
+AreBlocksOf p IsOne c text = AreTextsUpTo (blocks_of p c) (IsOne c) text
+
+-- the blocks of all clients
+abbrev pub AreBlocks : ProgramShape → (IsOne : (c k : ℕ) → List ℕ → Type 0) → List ℕ → Type 0
+AreBlocks p IsOne text = AreTextsUpTo (length p.clients) (AreBlocksOf p IsOne) text

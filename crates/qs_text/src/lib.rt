@@ -1,0 +1,21 @@
+//! What texts of a program are made of: bytes, numbers, names, requests, states and the names that are held, and
+//! writing with an eye on failures.
+#![tactic(auto)]
+
+mod bytes;
+mod held;
+mod names;
+mod requests;
+mod states;
+mod watching;
+
+pub use bytes::{
+    put, put_all, put_count, put_count_line, put_digits, put_number, put_short, put_word,
+};
+pub use held::{held_at, reserved_by};
+pub use names::{
+    client_name, declared_name, object_name, put_named, put_names, short_name, variable_name,
+};
+pub use requests::{ended_word, put_reply, put_request, put_whole_request};
+pub use states::put_state;
+pub use watching::{Watch, write_text, write_texts};
