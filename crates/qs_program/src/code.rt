@@ -285,15 +285,10 @@ impl Body {
     }
 
     /// The most steps that it can take, counted to one past their limit.
-    #[cycle(weight)]
     pub fn weight(&self) -> u64
         ensures capped { result ≡ min (weight_of self.now) (most_steps + 1) }
     {
-        let mut weight = 0;
-        for stmt in &self.stmts {
-            weight = (weight + stmt.weight()).min(PAST_STEPS);
-        }
-        weight
+        self.loads().1
     }
 }
 
@@ -338,21 +333,6 @@ impl Stmt {
                 (weight.max(1).saturating_mul(*count).min(PAST_STEPS) + 1).min(PAST_STEPS)
             }
             Stmt::Assign(_, _) | Stmt::Leave => 1,
-        }
-    }
-
-    #[cycle(weight)]
-    fn weight(&self) -> u64
-        ensures capped { result ≡ min (weight_of (single self.now)) (most_steps + 1) }
-    {
-        match self {
-            Stmt::If { first, other, .. } => (first.weight().max(other.weight()) + 1).min(
-                PAST_STEPS,
-            ),
-            Stmt::Repeat(count, body) => {
-                (body.weight().max(1).saturating_mul(*count).min(PAST_STEPS) + 1).min(PAST_STEPS)
-            }
-            Stmt::Command(_) | Stmt::Query(_, _) | Stmt::Assign(_, _) | Stmt::Leave => 1,
         }
     }
 }
