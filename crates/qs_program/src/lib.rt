@@ -20,4 +20,4 @@ pub use limits::{
 pub use names::Names;
 pub use program::{Block, Client, Declared, Program, Start};
 pub use totals::{all_load, all_weight, block_load};
-pub use values::Locals;
+pub use values::{Locals, set_variable};

@@ -1,6 +1,6 @@
 //! What expressions, tests and requests are worth, by a client's variables.
 
-ghost use Rattle.std.specs.Prelude.{◌≡◌, ◌≤◌, length, map, pos, slice_index_or};
+ghost use Rattle.std.specs.Prelude.{◌≡◌, ◌≤◌, length, map, pos, slice_index_or, slice_set};
 ghost use Rattle.qs_program.specs.Values.{atom_value, exact, expr_value, relates as holds, test_value, request_of};
 ghost use Rattle.qs_objects.specs.Act.{clamp_to_word};
 
@@ -12,6 +12,17 @@ use std::alloc::Global;
 
 /// The values of a client's variables by their numbers, 0 where a number is not used.
 pub type Locals = [i64; MOST_VARIABLES];
+
+/// Sets a variable. Where the number is none of a variable, nothing happens.
+#[inline(always)]
+pub fn set_variable(locals: &mut Locals, variable: u8, value: i64)
+    ensures set { locals.new ≡ slice_set locals.old variable value }
+{
+    let place = usize::from(variable);
+    if place < locals.len() {
+        locals[place] = value;
+    }
+}
 
 impl Atom {
     /// Its value.

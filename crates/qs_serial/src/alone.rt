@@ -1,6 +1,6 @@
 //! Blocks alone: each request is done at once.
 
-ghost use Rattle.std.specs.Prelude.{◌≡◌, length, false, slice_set};
+ghost use Rattle.std.specs.Prelude.{◌≡◌, length, false};
 ghost use Rattle.qs_meaning.specs.Solo.{exec, states_after, turns_run};
 ghost use Rattle.qs_objects.specs.Journals.{answer};
 ghost use Rattle.qs_serial.specs.Alone.{AreCallsWithin, EndsWith, IsCallWithin, states_in};
@@ -8,7 +8,7 @@ ghost use Rattle.qs_program.specs.Values.{request_of};
 ghost use Rattle.qs_program.specs.Views.{single};
 
 use qs_objects::Object;
-use qs_program::{Body, Call, Locals, Stmt};
+use qs_program::{Body, Call, Locals, Stmt, set_variable};
 use std::alloc::Global;
 
 // Serves a request at once.
@@ -20,16 +20,6 @@ fn serve(alloc: Global, call: &Call, locals: &Locals, objects: &mut [Object]) ->
     let request = call.request(alloc, locals);
     let object = &mut objects[usize::from(call.object)];
     object.apply(&request)
-}
-
-// Sets a variable.
-fn assign(locals: &mut Locals, variable: u8, value: i64)
-    ensures value { locals.new ≡ slice_set locals.old variable value }
-{
-    let place = usize::from(variable);
-    if place < locals.len() {
-        locals[place] = value;
-    }
 }
 
 /// Runs statements alone, each request at once, to their end or to a `leave`: whether a `leave` ended them. It takes no
@@ -73,12 +63,12 @@ fn run_stmt(alloc: Global, stmt: &Stmt, locals: &mut Locals, objects: &mut [Obje
         }
         Stmt::Query(variable, call) => {
             let reply = serve(alloc, call, locals, objects);
-            assign(locals, *variable, reply.unwrap_or(0));
+            set_variable(locals, *variable, reply.unwrap_or(0));
             false
         }
         Stmt::Assign(variable, expr) => {
             let value = expr.value(locals);
-            assign(locals, *variable, value);
+            set_variable(locals, *variable, value);
             false
         }
         Stmt::If {
