@@ -3,7 +3,7 @@
 ghost use Rattle.std.specs.Prelude.{◌≡◌, ◌<◌, ◌≤◌, IfOk, length};
 ghost use Rattle.qs_played.specs.JournalRooms.{fresh_held, room_in, room_of};
 
-use qs_objects::{Held, Object, ObjectFault};
+use qs_objects::Held;
 use qs_program::Program;
 use std::alloc::{AllocError, Global};
 
@@ -14,12 +14,8 @@ pub fn declared_held(alloc: Global, program: &Program, object: u8) -> Result<Hel
     requires { object < length program.now.objects }
     ensures held { IfOk result (λ held. held ≡ fresh_held program.now object) }
 {
-    program.keeps_sound();
-    match Object::new(alloc, program.kind(object)) {
-        Ok(state) => Held::new(alloc, state, journal_room(program, object)),
-        Err(ObjectFault::Memory) => Err(AllocError),
-        Err(ObjectFault::Range) => unreachable!(),
-    }
+    let state = program.declared_object(alloc, object)?;
+    Held::new(alloc, state, journal_room(program, object))
 }
 
 /// How many requests there can be on an object, over all blocks.

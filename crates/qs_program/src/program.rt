@@ -1,6 +1,7 @@
 //! Checked programs.
 
-ghost use Rattle.std.specs.Prelude.{◌≡◌, ◌<◌, ◌≤◌, ◌+◌, length, min, slice_index_or, sum_by};
+ghost use Rattle.std.specs.Prelude.{◌≡◌, ◌<◌, ◌≤◌, ◌+◌, IfOk, length, min, slice_index_or, sum_by};
+ghost use Rattle.qs_objects.specs.Objects.{starts};
 ghost use Rattle.qs_program.specs.Limits.{most_requests, most_steps};
 ghost use Rattle.qs_program.specs.Loads.{load_of, weight_of};
 ghost use Rattle.std.specs.Prelude.{Some, None};
@@ -12,8 +13,9 @@ ghost use Rattle.qs_program.specs.Sound.{IsSound};
 use crate::code::{Body, Loads};
 use crate::limits::MOST_OBJECTS;
 use crate::names::Names;
-use qs_objects::Kind;
+use qs_objects::{Kind, Object, ObjectFault};
 use qs_tree::Name;
+use std::alloc::{AllocError, Global};
 use std::marker::Model;
 
 /// An object as it is declared.
@@ -388,6 +390,19 @@ impl Program {
         ensures value { result ≡ (object_at self.now object).kind }
     {
         self.objects[usize::from(object)].kind
+    }
+
+    /// An object as it is declared, with all the memory that it will need. An error says that this memory was refused.
+    pub fn declared_object(&self, alloc: Global, object: u8) -> Result<Object, AllocError>
+        requires { object < length self.now.objects }
+        ensures declared { IfOk result (λ state. starts (object_at self.now object).kind ≡ Some state) }
+    {
+        self.keeps_sound();
+        match Object::new(alloc, self.kind(object)) {
+            Ok(state) => Ok(state),
+            Err(ObjectFault::Memory) => Err(AllocError),
+            Err(ObjectFault::Range) => unreachable!(),
+        }
     }
 
     /// A client's name.

@@ -8,7 +8,7 @@ ghost use Rattle.qs_program.specs.Program.{blocks_of};
 
 use crate::going::{Last, goes_on};
 use crate::rows::{Draft, Row, add_locals, add_objects, padded, put_stem};
-use qs_objects::{Object, ObjectFault, Ticket};
+use qs_objects::{Object, Ticket};
 use qs_program::{Block, Locals, MOST_VARIABLES, Program};
 use qs_serial::run_body;
 use std::alloc::{AllocError, Global};
@@ -43,19 +43,6 @@ impl Model for Standing {
     ghost view = { λ s. record { order = s.order.items; begun = s.begun.items; locals = s.locals.items; states = s.objects.items } };
 }
 
-// An object as declared.
-fn declared_object(alloc: Global, program: &Program, object: u8) -> Result<Object, AllocError>
-    requires { object < length program.now.objects }
-    ensures value { IfOk result (λ state. state ≡ declared_states program.now object) }
-{
-    program.keeps_sound();
-    match Object::new(alloc, program.kind(object)) {
-        Ok(state) => Ok(state),
-        Err(ObjectFault::Memory) => Err(AllocError),
-        Err(ObjectFault::Range) => unreachable!(),
-    }
-}
-
 // All objects as declared.
 fn declared_objects(alloc: Global, program: &Program) -> Result<Vec<Object>, AllocError>
     ensures count { IfOk result (λ objects. length objects.items ≡ length program.now.objects) }
@@ -65,7 +52,7 @@ fn declared_objects(alloc: Global, program: &Program) -> Result<Vec<Object>, All
     program.keeps_sound();
     let mut objects = Vec::with_capacity(alloc, program.objects())?;
     for object in 0..program.objects() as u8 {
-        objects.push(declared_object(alloc, program, object)?)?;
+        objects.push(program.declared_object(alloc, object)?)?;
     }
     Ok(objects)
 }

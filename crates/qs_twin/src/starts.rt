@@ -9,22 +9,8 @@ ghost use Rattle.qs_twin.specs.Twins.{IsReserved, IsStart, StartsAlike};
 
 use crate::runs::{Reservation, ticket};
 use crate::texts::is_same_object;
-use qs_objects::{Entry, Object, ObjectFault, Ticket};
-use qs_program::Program;
+use qs_objects::{Entry, Object, Ticket};
 use std::alloc::{AllocError, Global};
-
-// An object as declared. An error means that its memory was refused.
-fn declared_object(alloc: Global, program: &Program, object: u8) -> Result<Object, AllocError>
-    requires { object < length program.now.objects }
-    ensures value { IfOk result (λ state. state ≡ declared_states program.now object) }
-{
-    program.keeps_sound();
-    match Object::new(alloc, program.kind(object)) {
-        Ok(state) => Ok(state),
-        Err(ObjectFault::Memory) => Err(AllocError),
-        Err(ObjectFault::Range) => unreachable!(),
-    }
-}
 
 // The state of an object before a ticket's first entry in its journal; None where it has none.
 fn state_before(mut state: Object, journal: &[Entry], ticket: Ticket) -> Option<Object>
@@ -48,7 +34,7 @@ fn start(alloc: Global, run: &Reservation<'_>, object: u8) -> Result<Option<Obje
 {
     let ticket = ticket(run);
     let journal = &run.played.journals()[usize::from(object)];
-    let state = declared_object(alloc, run.program, object)?;
+    let state = run.program.declared_object(alloc, object)?;
     Ok(state_before(state, journal.as_slice(), ticket))
 }
 
