@@ -12,29 +12,29 @@ const PLACES: usize = 1024;
 /// counted from 1.
 #[derive(Drop)]
 pub struct Hints {
-    weights: [u64; MOST_CLIENTS],
+    strides: [u64; MOST_CLIENTS],
     places: Vec<u32>,
 }
 
 // What one more block of a client counts for: one more than all blocks of the clients behind it.
-fn weights(program: &Program) -> [u64; MOST_CLIENTS] {
+fn strides(program: &Program) -> [u64; MOST_CLIENTS] {
     program.keeps_sound();
-    let mut weights = [0; MOST_CLIENTS];
-    let mut weight: u64 = 1;
+    let mut strides = [0; MOST_CLIENTS];
+    let mut stride: u64 = 1;
     let clients = program.clients() as u8;
     for back in 0..clients {
         let client = clients - 1 - back;
-        weights[usize::from(client)] = weight;
-        weight = weight.wrapping_mul(program.blocks_of(client) as u64 + 1);
+        strides[usize::from(client)] = stride;
+        stride = stride.wrapping_mul(program.blocks_of(client) as u64 + 1);
     }
-    weights
+    strides
 }
 
 impl Hints {
     /// No guesses. An error says that memory was refused.
     pub fn new(alloc: Global, program: &Program) -> Result<Hints, AllocError> {
         Ok(Hints {
-            weights: weights(program),
+            strides: strides(program),
             places: vec![in alloc; 0; PLACES]?,
         })
     }
@@ -44,7 +44,7 @@ impl Hints {
         let mut number: u64 = 0;
         for client in 0..MOST_CLIENTS {
             number = number.wrapping_add(u64::from(begun[client]).wrapping_mul(
-                self.weights[client],
+                self.strides[client],
             ));
         }
         number as usize & self.places.len().saturating_sub(1)

@@ -127,24 +127,6 @@ fn put_locals(
     Ok(())
 }
 
-// No block was begun.
-fn fresh_counts(alloc: Global, clients: usize) -> Result<Vec<u8>, AllocError>
-    ensures fresh { IfOk result (λ counts. counts.items ≡ replicate clients 0) }
-{
-    Ok(vec![in alloc; 0; clients]?)
-}
-
-// No variable has another value than 0.
-fn fresh_locals(alloc: Global, clients: usize) -> Result<Vec<Locals>, AllocError>
-    ensures fresh { IfOk result (λ locals. locals.items ≡ replicate clients zeros) }
-{
-    let mut locals = Vec::with_capacity(alloc, clients)?;
-    for _client in 0..clients {
-        locals.push([0; MOST_VARIABLES])?;
-    }
-    Ok(locals)
-}
-
 impl Standing {
     ghost use Rattle.qs_meaning.specs.Reduced.{goes_on};
     ghost use Rattle.qs_standings.specs.Going.{AreLast, in_byte};
@@ -182,8 +164,8 @@ impl Standing {
         let clients = program.clients();
         Ok(Standing {
             order: Vec::new(alloc),
-            begun: fresh_counts(alloc, clients)?,
-            locals: fresh_locals(alloc, clients)?,
+            begun: vec![in alloc; 0; clients]?,
+            locals: vec![in alloc; [0; MOST_VARIABLES]; clients]?,
             objects: declared_objects(alloc, program)?,
         })
     }

@@ -1,4 +1,5 @@
 use Rattle.std.proofs.Common.{◌≡◌, subst, replicate}
+use Rattle.std.specs.List.{each_same}
 use Rattle.qs_meaning.specs.Serial.{zeros}
 use Rattle.qs_standings.proofs.Stands.{stands_first}
 use Rattle.qs_standings.proofs.standing.Standing.first.Goals as goal
@@ -6,7 +7,7 @@ use Rattle.qs_standings.proofs.standing.Standing.first.Goals as goal
 pub returns : goal.returns
 returns c = record {
   first = stands_first c.args.program.now _ c.new.ensures.items
-      (subst (λ n. c.in_ok-fresh_counts.field-0.items ≡ replicate n 0) c.clients-clients.ensures.value c.in_ok-fresh_counts.ensures.fresh)
-      (subst (λ n. c.in_ok-fresh_locals.field-0.items ≡ replicate n zeros) c.clients-clients.ensures.value c.in_ok-fresh_locals.ensures.fresh)
+      (subst (λ n. c.in_ok-vec.field-0.items ≡ replicate n 0) c.clients-clients.ensures.value (c.in_ok-vec.ensures.items_if_clones_equal (λ y same. same)))
+      (subst (λ n. c.in_ok-vec-2.field-0.items ≡ replicate n zeros) c.clients-clients.ensures.value (c.in_ok-vec-2.ensures.items_if_clones_equal (λ y clone. each_same zeros y clone.whole)))
       c.in_ok-declared_objects.ensures.count c.in_ok-declared_objects.ensures.values;
 }
