@@ -1,7 +1,7 @@
 -- Holdings are lists of eight places in the data, and functions of the handlers' numbers in the model. That writing
 -- into the list is `put` into the function is needed wherever the data are shown to be the model's. The idea: two
 -- functions are equal where their values are, and a handler is the one that was written to or another.
-use Rattle.std.proofs.Common.{◌≡◌, ℕ, ◌<◌, true, false, ◌==◌, Option, None, is_some, length, sym, ap, ◌∙◌, subst, ⊎_elim}
+use Rattle.std.proofs.Common.{◌≡◌, ℕ, ◌<◌, false, ◌==◌, Option, None, is_some, length, sym, ap, ◌∙◌, subst, ⊎_elim}
 use Rattle.std.proofs.Math.Path.{fun_ext}
 use Rattle.qs_objects.specs.Journals.{HeldState}
 use Rattle.qs_objects.specs.declared.Request.{Request}

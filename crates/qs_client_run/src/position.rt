@@ -7,7 +7,7 @@ ghost use Rattle.qs_client_run.specs.Beginning.{restart};
 
 use qs_graph::{Action, Choice};
 use qs_objects::Request;
-use qs_program::{Call, Locals};
+use qs_program::{Call, Locals, set_variable};
 use std::marker::Model;
 
 /// A node, the client's variables, and for each node the count of the repeat whose branch it is.
@@ -79,10 +79,7 @@ impl Position {
     pub fn assign(&mut self, variable: u8, value: i64)
         ensures value { self.new ≡ with_value self.old variable value }
     {
-        let place = usize::from(variable);
-        if place < self.locals.len() {
-            self.locals[place] = value;
-        }
+        set_variable(&mut self.locals, variable, value);
     }
 
     /// What a local node does, and on to the next.
