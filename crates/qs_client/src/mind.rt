@@ -14,7 +14,7 @@ use qs_chunk::{Chunk, ChunkSize};
 use qs_client_rules::{Act, Outgoing};
 use qs_client_run::{Run, Stage};
 use qs_objects::{Event, Held, Request, Ticket, Traces};
-use qs_program::Locals;
+use qs_program::{Locals, MOST_HANDLERS};
 use qs_sync_counts::SyncCounts;
 use qs_syncset::Code;
 use std::alloc::{AllocError, Global};
@@ -84,11 +84,7 @@ fn fresh_counts(alloc: Global, code: &Code) -> Result<SyncCounts, AllocError>
 {
     code.keeps_code();
     let blocks = code.blocks();
-    let mut room = 0;
-    for block in 0..blocks {
-        room += code.reserved(block).len();
-    }
-    let mut counts = SyncCounts::new(alloc, blocks, room)?;
+    let mut counts = SyncCounts::new(alloc, blocks, blocks * MOST_HANDLERS)?;
     for block in 0..blocks {
         counts.push_list(block, code.reserved(block));
     }
