@@ -1,14 +1,14 @@
 //! Clients under the plain rules.
 
 ghost use Rattle.qs_program.specs.Limits.{most_blocks, most_requests};
-ghost use Rattle.qs_program.specs.Program.{block_at, block_load, blocks_of};
+ghost use Rattle.qs_program.specs.Program.{block_at, blocks_of};
 ghost use Rattle.qs_plain_client.specs.PreparedBlock.{AreQueues, reserved_lists, rooms_of};
 ghost use Rattle.qs_objects.specs.Traces.{empty_trace};
 ghost use Rattle.qs_sync_counts.specs.SyncRows.{fresh_rows};
 ghost use Rattle.qs_played.specs.Schedule.{queries_in};
 ghost use Rattle.qs_plain_client.specs.ReplyDelivery.{Hears};
 ghost use Rattle.qs_plain_client.specs.FreshClients.{AreFresh};
-ghost use Rattle.std.specs.Prelude.{◌≡◌, ◌+◌, ◌*◌, ◌<◌, ◌≤◌, ℕ, IfOk, IsErr, length, map, nat_lt, slice_set, suc};
+ghost use Rattle.std.specs.Prelude.{◌≡◌, ◌+◌, ◌*◌, ◌<◌, ◌≤◌, ℕ, IfOk, IsErr, length, map, nat_lt, suc};
 ghost use Rattle.qs_program.specs.Values.{request_of};
 ghost use Rattle.qs_plain_client.specs.Frames.{load_left};
 ghost use Rattle.qs_plain_client.specs.declared.stage.Stage.TheVariants as stages;
@@ -18,7 +18,7 @@ use crate::private_queue::PrivateQueue;
 use crate::stage::Stage;
 use qs_objects::{Event, Request, Ticket, Traces};
 use qs_played::ClientRows;
-use qs_program::{Call, Locals, MOST_VARIABLES, Program};
+use qs_program::{Call, Locals, MOST_OBJECTS, MOST_VARIABLES, Program, block_load, set_variable};
 use qs_sync_counts::SyncCounts;
 use std::alloc::{AllocError, Global};
 use std::collections::VecDeque;
@@ -282,7 +282,7 @@ impl<'p> ClientState<'p> {
         ensures was { IsClient self.old }
     {
         if let Stage::Waiting(variable) = self.stage {
-            store(&mut self.locals, variable, reply.unwrap_or(0));
+            set_variable(&mut self.locals, variable, reply.unwrap_or(0));
             self.traces
                 .note(self.entries.len() - 1, Event { request, reply });
             self.stage = Stage::Within;
@@ -337,21 +337,6 @@ fn prepare(alloc: Global, program: &Program, number: u8, index: u8) -> Result<Pr
     Ok(Prepared { queues })
 }
 
-// How many requests a block can make.
-fn room_of(program: &Program, number: u8, index: u8) -> usize
-    requires client { number < length program.now.clients }
-    requires block { index < blocks_of program.now number }
-    ensures value { result ≡ block_load (block_at program.now number index) }
-    ensures few { result ≤ most_requests }
-{
-    program.keeps_sound();
-    let mut room = 0;
-    for object in program.block(number, index).reserved() {
-        room += program.load_of(number, index, *object) as usize;
-    }
-    room
-}
-
 // The empty traces of all blocks of a client, each with room for its block's load. An error comes only where there is a
 // block.
 fn fresh_traces(alloc: Global, program: &Program, number: u8) -> Result<Traces, AllocError>
@@ -364,7 +349,7 @@ fn fresh_traces(alloc: Global, program: &Program, number: u8) -> Result<Traces, 
     let mut rooms = Vec::with_capacity(alloc, count)?;
     let mut room = 0;
     for index in 0..count as u8 {
-        let requests = room_of(program, number, index);
+        let requests = block_load(program.block(number, index)) as usize;
         rooms.push_reserved(requests);
         room += requests;
     }
@@ -379,11 +364,7 @@ fn fresh_counts(alloc: Global, program: &Program, number: u8) -> Result<SyncCoun
 {
     program.keeps_sound();
     let count = program.blocks_of(number);
-    let mut room = 0;
-    for index in 0..count as u8 {
-        room += program.block(number, index).reserved().len();
-    }
-    let mut counts = SyncCounts::new(alloc, count, room)?;
+    let mut counts = SyncCounts::new(alloc, count, count * MOST_OBJECTS)?;
     for index in 0..count as u8 {
         let block = program.block(number, index);
         counts.push_list(usize::from(index), block.reserved());
@@ -404,14 +385,4 @@ fn queries(events: &[Event]) -> u64
         }
     }
     queries
-}
-
-/// Sets a variable.
-fn store(locals: &mut Locals, variable: u8, value: i64)
-    ensures stored { locals.new ≡ slice_set locals.old variable value }
-{
-    let place = usize::from(variable);
-    if place < locals.len() {
-        locals[place] = value;
-    }
 }

@@ -1,7 +1,6 @@
 //! What is left of a block on its way, and a client's quiet moves.
 
-ghost use Rattle.std.specs.Prelude.{◌≡◌, ◌<◌, ◌≤◌, ℕ, ◌+◌, [], ◌∷◌, ◌++◌, length, List, IfNone, IfSome, OnOk, MatchOption, slice_set, vec_capacity};
-ghost use Rattle.qs_program.specs.Values.{expr_value};
+ghost use Rattle.std.specs.Prelude.{◌≡◌, ◌<◌, ◌≤◌, ℕ, ◌+◌, [], ◌∷◌, ◌++◌, length, List, IfNone, IfSome, OnOk, MatchOption, vec_capacity};
 ghost use Rattle.qs_program.specs.Views.{single, statements_of};
 ghost use Rattle.qs_plain_client.specs.Frames.{rest as the_rest, above, ahead_of, next_of, places_of, work, load_left};
 ghost use Rattle.qs_plain_client.specs.Growing.{Grows};
@@ -9,8 +8,8 @@ ghost use Rattle.qs_plain_client.specs.Opening.{Assigns, IsAside, Opens};
 ghost use Rattle.qs_plain_client.specs.Asking.{Asks, Moves, asked_by, asked_of, AreSound, IsSoundAsk, IsSoundMove};
 ghost use Rattle.qs_program.specs.declared.program.Declared.{Declared};
 
-use qs_program::{Body, Call, Expr, Locals, Stmt};
-use std::alloc::{AllocError, Global};
+use qs_program::{Body, Call, Locals, Stmt, set_variable};
+use std::alloc::AllocError;
 use std::marker::Model;
 
 /// What is left of a list of statements, or the turns that are left of a repeat.
@@ -189,7 +188,8 @@ impl<'p> Frames<'p> {
                 Some(Ask::Query(*variable, call))
             }
             Stmt::Assign(variable, expr) => {
-                assign(locals, *variable, expr);
+                let value = expr.value(locals);
+                set_variable(locals, *variable, value);
                 self.set_aside(assign_all(rest, locals));
                 None
             }
@@ -217,24 +217,14 @@ impl<'p> Frames<'p> {
     }
 }
 
-/// Sets a variable to what the expression is worth.
-fn assign(locals: &mut Locals, variable: u8, expr: &Expr)
-    ensures value { locals.new ≡ slice_set locals.old variable (expr_value locals.old expr.now) }
-{
-    let value = expr.value(locals);
-    let place = usize::from(variable);
-    if place < locals.len() {
-        locals[place] = value;
-    }
-}
-
 /// Does the assignments at the head of a list, and answers what is left of it.
 fn assign_all<'p>(stmts: &'p [Stmt], locals: &mut Locals) -> &'p [Stmt]
     ensures assigned { Assigns (statements_of stmts.now) locals.old (statements_of result.now) locals.new }
 {
     let mut rest = stmts;
     'assignments: while let Some((Stmt::Assign(variable, expr), later)) = rest.split_first() {
-        assign(locals, *variable, expr);
+        let value = expr.value(locals);
+        set_variable(locals, *variable, value);
         rest = later;
     }
     rest

@@ -42,8 +42,8 @@ invariant_of-self c =
     let last = ap (λ (t : TraceState). t.room) (get_or-take n s.traces (n - 1) no_trace (omega (arith, some))) in
     let room : 0 < (trace_at s.traces (n - 1)).room = let left = within.room in omega (arith, left, last) in (
       subst IsClient
-          (sym (moved_noted s.program.now s.number s.stage s.locals s.frames.frames s.frames.room s.entries.items s.traces s.counts.rows s.prepared.items stored some stages.Within c.store.new.locals s.frames.frames s.frames.room c.note.new.self e refl noted))
-          (answered kept c.in-Waiting.variable c.store.new.locals _ e c.in-Waiting.is refl),
+          (sym (moved_noted s.program.now s.number s.stage s.locals s.frames.frames s.frames.room s.entries.items s.traces s.counts.rows s.prepared.items stored some stages.Within c.set_variable.new.locals s.frames.frames s.frames.room c.note.new.self e refl noted))
+          (answered kept c.in-Waiting.variable c.set_variable.new.locals _ e c.in-Waiting.is refl),
       subst (λ ts. AreStored n ts s.counts.rows (length s.prepared.items)) (sym noted) (stored_noted n s.traces s.counts.rows (length s.prepared.items) e stored some room),
       c.self.invariant.2,
     )
@@ -56,10 +56,10 @@ returns-in-Waiting-clause-replies c =
     let within = waiting_of c.self.invariant.0 c.in-Waiting.variable c.in-Waiting.is in
     let noted : c.note.new.self ≡ noted_at s.traces (n - 1) e = c.note.ensures.noted ∙ ap (λ m. noted_at s.traces (m - 1) e) (c.len.ensures ∙ s.entries.ok.0) in
     let kept_value : to_z w64 (of_z w64 c.unwrap_or.result) ≡ unwrap_or c.args.reply (pos 0) = search (arith, ints, to_z-of_z, c.unwrap_or.ensures) in
-    let stored : c.store.new.locals ≡ slice_set s.locals c.in-Waiting.variable (value_of c.args.reply) = c.store.ensures.stored ∙ ap (set s.locals c.in-Waiting.variable) (kept_value ∙ unwrapped c.args.reply) in
+    let stored : c.set_variable.new.locals ≡ slice_set s.locals c.in-Waiting.variable (value_of c.args.reply) = c.set_variable.ensures.set ∙ ap (set s.locals c.in-Waiting.variable) (kept_value ∙ unwrapped c.args.reply) in
     let old = client_from s.program.now s.number s.stage s.locals s.frames.frames s.frames.room s.entries.items s.traces s.counts.rows s.prepared.items in
-    let new = client_from s.program.now s.number stages.Within c.store.new.locals s.frames.frames s.frames.room s.entries.items c.note.new.self s.counts.rows s.prepared.items in
+    let new = client_from s.program.now s.number stages.Within c.set_variable.new.locals s.frames.frames s.frames.room s.entries.items c.note.new.self s.counts.rows s.prepared.items in
     let moves = moved_noted s.program.now s.number s.stage s.locals s.frames.frames s.frames.room s.entries.items s.traces s.counts.rows s.prepared.items c.self.invariant.1 within.some stages.Within
-    c.store.new.locals s.frames.frames s.frames.room c.note.new.self e refl noted in
+    c.set_variable.new.locals s.frames.frames s.frames.room c.note.new.self e refl noted in
     subst (λ (d : ClientState). Replies d c.args.request c.args.reply new) c.self.view_is
     (subst (λ (st : Stage). RepliesAt st old c.args.request c.args.reply new) (sym c.in-Waiting.is) (moves ∙ ap (λ l. after_moves old stages.Within l s.frames.frames (noted_in old.traces e) old.counts) stored))

@@ -25,7 +25,7 @@ returns-in-Query-clause-sound c = λ objects reserved sound.
 
 pub returns-in-Assign-clause-sound : goal.returns-in-Assign-clause-sound
 returns-in-Assign-clause-sound c = λ objects reserved sound. (
-  assigns_all_sound objects reserved c.args.self.now.frames c.set_aside-in-Assign.new.self.frames c.in-Assign.variable c.in-Assign.expr (statements_of c.args.rest.now) (statements_of c.assign_all.result.now) c.assign.new.locals c.assign_all.new.locals
+  assigns_all_sound objects reserved c.args.self.now.frames c.set_aside-in-Assign.new.self.frames c.in-Assign.variable c.in-Assign.expr (statements_of c.args.rest.now) (statements_of c.assign_all.result.now) c.set_variable.new.locals c.assign_all.new.locals
       c.set_aside-in-Assign.ensures.aside c.assign_all.ensures.assigned (rw c.in-Assign.is at sound),
   tt,
 )
