@@ -3,16 +3,16 @@
 ghost use Rattle.std.specs.Prelude.{◌≡◌, ◌<◌, [], ℕ, length};
 ghost use Rattle.qs_chunk.specs.Batch.{batch};
 ghost use Rattle.qs_syncset.specs.Codes.{code_at};
-ghost use Rattle.qs_client_run.specs.NextActs.{HasActed, IsInside, Wants};
+ghost use Rattle.qs_client_run.specs.NextActs.{Wants};
 ghost use Rattle.qs_client_rules.specs.Client.{Settings};
-ghost use Rattle.qs_client_run.specs.BetweenActs.{HasGot, HasTaken, IsStanding};
+ghost use Rattle.qs_client_run.specs.BetweenActs.{HasGot, HasTaken};
 
 use crate::holdings::Holdings;
 use crate::run::Run;
 use crate::stage::Stage;
 use qs_chunk::Chunk;
 use qs_client_rules::Act;
-use qs_graph::{Graph, Node};
+use qs_graph::Node;
 use qs_objects::{Held, Request, Ticket};
 use qs_syncset::Code;
 

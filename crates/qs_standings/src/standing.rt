@@ -1,6 +1,6 @@
 //! Configurations with the orders that lead there.
 
-ghost use Rattle.std.specs.Prelude.{◌≡◌, ◌<◌, ◌↔◌, true, false, ℕ, IfOk, OnOk, [], ◌∷◌, ◌++◌, length, replicate, slice_index_or, slice_set};
+ghost use Rattle.std.specs.Prelude.{◌≡◌, ◌<◌, ◌↔◌, true, false, ℕ, IfOk, OnOk, [], ◌∷◌, ◌++◌, length, slice_index_or, slice_set};
 ghost use Rattle.qs_meaning.specs.Serial.{declared_states, no_state, zeros};
 ghost use Rattle.qs_meaning.specs.Solo.{solo};
 ghost use Rattle.qs_serial.specs.Alone.{AreCallsWithin, states_in};
