@@ -1,7 +1,21 @@
 //! The anchors of a script.
 
+ghost use Rattle.std.specs.Prelude.{◌≡◌};
+ghost use Rattle.qs_anchors.specs.Anchors.{is_anchor};
+
 use qs_objects::Kind;
+use qs_tokens::Token;
 use qs_tree::{Name, Number};
+
+/// Whether a token is an anchor: a name, a number, `separate` or `leave`.
+pub fn is_anchor(token: &Token) -> bool
+    ensures value { result ≡ is_anchor token.now }
+{
+    matches!(
+        token,
+        Token::Name(_) | Token::Number(_) | Token::Separate | Token::Leave
+    )
+}
 
 /// A token of a script that is a name, a number, `separate` or `leave`, by what stands there.
 #[derive(Drop)]

@@ -7,5 +7,6 @@ mod blocks;
 mod finding;
 pub mod laws;
 
+pub use anchor::is_anchor;
 pub use blocks::block_anchor;
 pub use finding::{Anchored, first_fault};

@@ -1,9 +1,10 @@
 // Where the tokens of a text stand.
 
 ghost use Rattle.std.specs.Prelude.{◌≡◌, ◌≤◌, ◌++◌, OnOk, IfOk, IfErr, MatchOption, length};
-ghost use Rattle.qs_anchors.specs.Anchors.{IsAnchorAt, is_anchor, anchors_in};
+ghost use Rattle.qs_anchors.specs.Anchors.{IsAnchorAt, anchors_in};
 ghost use Rattle.qs_causes.specs.Spans.{ArePlaced, IsFaultAt, placed_in, tokens_in};
 
+use qs_anchors::is_anchor;
 use qs_tokens::{Piece, Token, TokenFault, front};
 use std::alloc::{AllocError, Global};
 
@@ -71,16 +72,6 @@ pub fn placed_tokens(alloc: Global, text: &[u8]) -> Result<Vec<PlacedToken>, Spa
         }
     }
     Ok(tokens)
-}
-
-// Whether a token is a name, a number, `separate` or `leave`.
-fn is_anchor(token: &Token) -> bool
-    ensures value { result ≡ is_anchor token.now }
-{
-    matches!(
-        token,
-        Token::Name(_) | Token::Number(_) | Token::Separate | Token::Leave
-    )
 }
 
 /// The place of the anchor of a number among some tokens, where there is one.

@@ -2,22 +2,13 @@
 
 ghost use Rattle.std.specs.Prelude.{◌≡◌, ◌≤◌, ◌++◌, IfOk, OnOk, length};
 ghost use Rattle.qs_tree.specs.Limits.{longest_text};
-ghost use Rattle.qs_anchors.specs.Anchors.{anchors_in, is_anchor as is_anchor_of};
+ghost use Rattle.qs_anchors.specs.Anchors.{anchors_in};
 ghost use Rattle.qs_tokens.specs.Cutting.{tokens_in};
 ghost use Rattle.qs_node_lines.specs.AnchorLines.{anchor_lines, line_anchors, lines_in};
 
-use qs_tokens::{Piece, Token, front};
+use qs_anchors::is_anchor;
+use qs_tokens::{Piece, front};
 use std::alloc::{AllocError, Global};
-
-// Whether a token is a name, a number, `separate` or `leave`.
-fn is_anchor(token: &Token) -> bool
-    ensures value { result ≡ is_anchor_of token.now }
-{
-    matches!(
-        token,
-        Token::Name(_) | Token::Number(_) | Token::Separate | Token::Leave
-    )
-}
 
 // How many anchors a piece is.
 fn count_in(piece: &Piece) -> usize
