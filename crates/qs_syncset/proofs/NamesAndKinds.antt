@@ -23,31 +23,19 @@ use Rattle.qs_syncset.proofs.Removals.{AreNamesTold}
 
 same_back : (x y z : Kind) → same_kind x z ≡ true → same_kind y z ≡ true → same_kind x y ≡ true
 same_back (Account x) (Account y) (Account z) e f = refl
-same_back (Account x) (Account y) (Buffer z) e f = refl
-same_back (Account x) (Account y) (Grid z z2) e f = refl
 same_back (Account x) (Buffer y) (Account z) e f = f
-same_back (Account x) (Buffer y) (Buffer z) e f = e
-same_back (Account x) (Buffer y) (Grid z z2) e f = e
 same_back (Account x) (Grid y y2) (Account z) e f = f
-same_back (Account x) (Grid y y2) (Buffer z) e f = e
-same_back (Account x) (Grid y y2) (Grid z z2) e f = e
-same_back (Buffer x) (Account y) (Account z) e f = e
+same_back (Account x) y (Buffer z) e f = cc
+same_back (Account x) y (Grid z z2) e f = cc
+same_back (Buffer x) y (Account z) e f = cc
 same_back (Buffer x) (Account y) (Buffer z) e f = f
-same_back (Buffer x) (Account y) (Grid z z2) e f = e
-same_back (Buffer x) (Buffer y) (Account z) e f = refl
 same_back (Buffer x) (Buffer y) (Buffer z) e f = refl
-same_back (Buffer x) (Buffer y) (Grid z z2) e f = refl
-same_back (Buffer x) (Grid y y2) (Account z) e f = e
 same_back (Buffer x) (Grid y y2) (Buffer z) e f = f
-same_back (Buffer x) (Grid y y2) (Grid z z2) e f = e
-same_back (Grid x x2) (Account y) (Account z) e f = e
-same_back (Grid x x2) (Account y) (Buffer z) e f = e
+same_back (Buffer x) y (Grid z z2) e f = cc
+same_back (Grid x x2) y (Account z) e f = cc
+same_back (Grid x x2) y (Buffer z) e f = cc
 same_back (Grid x x2) (Account y) (Grid z z2) e f = f
-same_back (Grid x x2) (Buffer y) (Account z) e f = e
-same_back (Grid x x2) (Buffer y) (Buffer z) e f = e
 same_back (Grid x x2) (Buffer y) (Grid z z2) e f = f
-same_back (Grid x x2) (Grid y y2) (Account z) e f = refl
-same_back (Grid x x2) (Grid y y2) (Buffer z) e f = refl
 same_back (Grid x x2) (Grid y y2) (Grid z z2) e f = refl
 
 -- what is so of a name of the list is so of an element of the named list
