@@ -162,18 +162,7 @@ module _ (p : ProgramShape) (c : ℕ) (s : Stage) (l : List ℤ) (fs : List Fram
       let long : length es ≤ length ts = omega (arith, all) in
       let begun : take (length es) ts' ≡ noted_in (take (length es) ts) e = ap (take (length es)) with_last_event ∙ noted_begun (length es) ts some long e in
       let later : drop (length es) ts' ≡ drop (length es) ts = ap (drop (length es)) with_last_event ∙ noted_later (length es) ts some long e in
-      λ i. record {
-        program = p;
-        number = c;
-        stage = now;
-        locals = l';
-        frames = fs';
-        depth = same i;
-        entries = es;
-        traces = begun i;
-        counts = take (length es) cs;
-        prepared = prepared_of (later i) (drop (length es) cs) qs;
-      }
+      λ i. record (client_from p c now l' fs' (same i) es ts cs qs) { traces = begun i; prepared = prepared_of (later i) (drop (length es) cs) qs }
 
   pub moved_counted : (qs : List Queues) → AreStored (length es) ts cs (length qs) → 0 < length es → (now : Stage) (l' : List ℤ) (fs' : List Frame) (depth' : ℕ) (cs' : List (List SyncCount)) (h : ℕ)
       → depth' ≡ depth → cs' ≡ set cs (length es - 1) (with_sync h (get_or cs (length es - 1) []))
@@ -184,18 +173,7 @@ module _ (p : ProgramShape) (c : ℕ) (s : Stage) (l : List ℤ) (fs : List Fram
       let long : length es ≤ length cs = omega (arith, all) in
       let begun : take (length es) cs' ≡ counted_in (take (length es) cs) h = ap (take (length es)) counted ∙ counted_begun (length es) cs some long h in
       let later : drop (length es) cs' ≡ drop (length es) cs = ap (drop (length es)) counted ∙ counted_later (length es) cs some long h in
-      λ i. record {
-        program = p;
-        number = c;
-        stage = now;
-        locals = l';
-        frames = fs';
-        depth = same i;
-        entries = es;
-        traces = take (length es) ts;
-        counts = begun i;
-        prepared = prepared_of (drop (length es) ts) (later i) qs;
-      }
+      λ i. record (client_from p c now l' fs' (same i) es ts cs qs) { counts = begun i; prepared = prepared_of (drop (length es) ts) (later i) qs }
 
   abbrev pub first_prepared : Queues → PreparedState
   first_prepared q = record { trace = get_or ts (length es) no_trace; counts = get_or cs (length es) []; queues = q }
@@ -224,14 +202,7 @@ module _ (p : ProgramShape) (c : ℕ) (s : Stage) (l : List ℤ) (fs : List Fram
       ap (λ m. take m ts) many ∙ take_more ts (length es) no_trace (omega (arith, all_traces, more)) in
       let counts : take (length es') cs ≡ take (length es) cs ++ get_or cs (length es) [] ∷ [] =
       ap (λ m. take m cs) many ∙ take_more cs (length es) [] (omega (arith, all_counts, more)) in
-      λ i. record {
-        program = p;
-        number = c;
-        stage = stage.Within;
-        locals = l;
-        frames = frames i;
-        depth = same i;
-        entries = entries i;
+      λ i. record (client_from p c stage.Within l (frames i) (same i) (entries i) ts cs qs') {
         traces = traces i;
         counts = counts i;
         prepared = prepared_of (drop (many i) ts) (drop (many i) cs) qs';
