@@ -1,5 +1,4 @@
 pub mod Parts
-pub mod BlocksAdded
 pub mod OneDrawing
 pub mod WorkedDrawings
 pub mod Charting

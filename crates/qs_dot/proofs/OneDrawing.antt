@@ -16,7 +16,7 @@ use Rattle.qs_text.specs.Texts.{texts_up_to}
 use Rattle.qs_text.proofs.BlockTexts.{IsAlike, alike, one_block, one_of_blocks}
 use Rattle.qs_text.proofs.SameTexts.{same_texts}
 use Rattle.qs_dot.specs.Written.{written}
-use Rattle.qs_dot.specs.DotText.{outline_text, line_text, node_name, held_text, place_text, edge_line, node_text, nodes_text, frame_text, graph_nodes_drawn, IsBlockDrawn, IsDotText, DotTextsAreUnique}
+use Rattle.qs_dot.specs.DotText.{outline_text, line_text, node_name, held_text, place_text, edge_line, node_text, frame_text, graph_nodes_drawn, IsBlockDrawn, IsDotText, DotTextsAreUnique}
 
 same_outline : (f g : Holding) (v : Node) → IsInRange v → ((h : ℕ) → h < 8 → f h ≡ g h) → line_text f v ≡ line_text g v
 same_outline f g Entry range same = refl

@@ -1,8 +1,7 @@
 // The nodes of a block in the drawing, each with its edges.
 
 ghost use Rattle.std.specs.Prelude.{◌≡◌, ◌<◌, ◌++◌, length, slice_get, OnOk};
-ghost use Rattle.std.specs.List.{AllByRecursion, filter};
-ghost use Rattle.qs_program.specs.Limits.{most_handlers};
+ghost use Rattle.std.specs.List.{filter};
 ghost use Rattle.qs_graph.specs.Nodes.{place_at};
 ghost use Rattle.qs_text.specs.Texts.{texts_up_to};
 ghost use Rattle.qs_held_sets.specs.Table.{has};
@@ -10,11 +9,10 @@ ghost use Rattle.qs_dot.specs.DotText.{edge_line, edge_text, head_text, held_tex
 
 use crate::written::put_written;
 use itoa::Buffer;
-use qs_graph::{Choice, Graph, Node};
+use qs_graph::{Choice, Node};
 use qs_objects::Ticket;
 use qs_program::Program;
-use qs_syncset::Sets;
-use qs_text::{held_at, put, put_all, put_names};
+use qs_text::{Block, held_at, put, put_all, put_names};
 use std::alloc::{AllocError, Global};
 
 fn outline_word(node: &Node) -> &'static [u8]
@@ -32,15 +30,14 @@ fn outline_word(node: &Node) -> &'static [u8]
 }
 
 // How the outline of a node is drawn.
-fn line_word(graph: &Graph, sets: &Sets, n: usize) -> &'static [u8]
-    requires node { n < length graph.now.nodes }
-    requires sets { length sets.now ≡ length graph.now.nodes }
-    ensures word { result.now ≡ line_text (has sets.now n) (place_at graph.now.nodes n).node }
+fn line_word(block: &Block, n: usize) -> &'static [u8]
+    requires node { n < length block.now.graph.now.nodes }
+    ensures word { result.now ≡ line_text (has block.now.sets.now n) (place_at block.now.graph.now.nodes n).node }
 {
-    graph.keeps_graph();
-    match graph.node(n) {
+    block.graph.keeps_graph();
+    match block.graph.node(n) {
         Node::Sync(handler) => {
-            if sets.holds(n, *handler) {
+            if block.sets.holds(n, *handler) {
                 b", style=dashed"
             } else {
                 b""
@@ -119,44 +116,27 @@ fn put_held(out: &mut Vec<u8>, program: &Program, client: u8, held: &[u8]) -> Re
 }
 
 // The names of a block's list that are held at a node.
-fn put_held_at(
-    alloc: Global,
-    out: &mut Vec<u8>,
-    program: &Program,
-    client: u8,
-    reserved: &[u8],
-    sets: &Sets,
-    n: usize,
-) -> Result<(), AllocError>
-    requires client { client < length program.now.clients }
-    requires node { n < length sets.now }
-    requires handlers { AllByRecursion (λ h. h < most_handlers) reserved.now }
-    ensures ok { OnOk result (out.new.items ≡ out.old.items ++ held_text program.now client (filter (has sets.now n) reserved.now)) }
+fn put_held_at(alloc: Global, out: &mut Vec<u8>, block: &Block, n: usize) -> Result<(), AllocError>
+    requires node { n < length block.now.sets.now }
+    ensures ok { OnOk result (out.new.items
+        ≡ out.old.items ++ held_text block.now.program.now block.now.ticket.client (filter (has block.now.sets.now n) block.now.reserved.now)) }
 {
-    let held = held_at(alloc, reserved, sets, n)?;
-    let put = put_held(out, program, client, held.as_slice());
-    drop(held);
-    put
+    let held = held_at(alloc, block.reserved, block.sets, n)?;
+    put_held(out, block.program, block.ticket.client, held.as_slice())
 }
 
 // The beginning of a node's line, up to the number in its label.
-fn put_head(
-    out: &mut Vec<u8>,
-    ticket: Ticket,
-    graph: &Graph,
-    sets: &Sets,
-    n: usize,
-) -> Result<(), AllocError>
-    requires node { n < length graph.now.nodes }
-    requires sets { length sets.now ≡ length graph.now.nodes }
-    ensures ok { OnOk result (out.new.items ≡ out.old.items ++ head_text ticket.client ticket.index graph.now.nodes sets.now n) }
+fn put_node_head(out: &mut Vec<u8>, block: &Block, n: usize) -> Result<(), AllocError>
+    requires node { n < length block.now.graph.now.nodes }
+    ensures ok { OnOk result (out.new.items
+        ≡ out.old.items ++ head_text block.now.ticket.client block.now.ticket.index block.now.graph.now.nodes block.now.sets.now n) }
 {
-    let outline = outline_word(graph.node(n));
-    let line = line_word(graph, sets, n);
+    let outline = outline_word(block.graph.node(n));
+    let line = line_word(block, n);
     let mut buffer = Buffer::new();
     let number = buffer.format(n).as_bytes();
     put(out, b"    ")?;
-    put_name(out, ticket, n)?;
+    put_name(out, block.ticket, n)?;
     put_all(
         out,
         &[b" [shape=", outline, line, b", label=\"", number, b" "],
@@ -166,99 +146,59 @@ fn put_head(
 fn put_line(
     alloc: Global,
     out: &mut Vec<u8>,
-    program: &Program,
-    ticket: Ticket,
+    block: &Block,
     lines: &[u32],
-    reserved: &[u8],
-    graph: &Graph,
-    sets: &Sets,
     n: usize,
 ) -> Result<(), AllocError>
-    requires client { ticket.client < length program.now.clients }
-    requires node { n < length graph.now.nodes }
-    requires sets { length sets.now ≡ length graph.now.nodes }
-    requires handlers { AllByRecursion (λ h. h < most_handlers) reserved.now }
+    requires node { n < length block.now.graph.now.nodes }
     ensures ok { OnOk result (out.new.items
-        ≡ out.old.items ++ node_line program.now ticket.client ticket.index lines.now reserved.now graph.now.nodes sets.now n) }
+        ≡ out.old.items ++ node_line block.now.program.now block.now.ticket.client block.now.ticket.index lines.now block.now.reserved.now block.now.graph.now.nodes block.now.sets.now n) }
 {
-    put_head(out, ticket, graph, sets, n)?;
-    put_written(out, program, ticket.client, graph.node(n))?;
+    put_node_head(out, block, n)?;
+    put_written(out, block.program, block.ticket.client, block.graph.node(n))?;
     put_place(out, lines, n)?;
-    put_held_at(alloc, out, program, ticket.client, reserved, sets, n)?;
+    put_held_at(alloc, out, block, n)?;
     put(out, b"\"];\n")
 }
 
 // The edge of a place among those of a node.
-fn put_edge(
-    out: &mut Vec<u8>,
-    ticket: Ticket,
-    graph: &Graph,
-    n: usize,
-    place: usize,
-) -> Result<(), AllocError>
-    requires node { n < length graph.now.nodes }
-    requires place { place < length (place_at graph.now.nodes n).edges }
-    ensures ok { OnOk result (out.new.items ≡ out.old.items ++ edge_line ticket.client ticket.index graph.now.nodes n place) }
+fn put_edge(out: &mut Vec<u8>, block: &Block, n: usize, place: usize) -> Result<(), AllocError>
+    requires node { n < length block.now.graph.now.nodes }
+    requires place { place < length (place_at block.now.graph.now.nodes n).edges }
+    ensures ok { OnOk result (out.new.items
+        ≡ out.old.items ++ edge_line block.now.ticket.client block.now.ticket.index block.now.graph.now.nodes n place) }
 {
     put(out, b"    ")?;
-    put_name(out, ticket, n)?;
+    put_name(out, block.ticket, n)?;
     put(out, b" -> ")?;
-    put_name(out, ticket, graph.edges(n)[place])?;
-    put_all(out, &[edge_word(graph.node(n), place), b";\n"])
+    put_name(out, block.ticket, block.graph.edges(n)[place])?;
+    put_all(out, &[edge_word(block.graph.node(n), place), b";\n"])
 }
 
-fn put_edges(out: &mut Vec<u8>, ticket: Ticket, graph: &Graph, n: usize) -> Result<(), AllocError>
-    requires node { n < length graph.now.nodes }
+fn put_edges(out: &mut Vec<u8>, block: &Block, n: usize) -> Result<(), AllocError>
+    requires node { n < length block.now.graph.now.nodes }
     ensures ok { OnOk result (out.new.items
-        ≡ out.old.items ++ texts_up_to (length (place_at graph.now.nodes n).edges) (edge_line ticket.client ticket.index graph.now.nodes n)) }
+        ≡ out.old.items ++ texts_up_to (length (place_at block.now.graph.now.nodes n).edges) (edge_line block.now.ticket.client block.now.ticket.index block.now.graph.now.nodes n)) }
 {
-    for place in 0..graph.edges(n).len() {
-        put_edge(out, ticket, graph, n, place)?;
+    for place in 0..block.graph.edges(n).len() {
+        put_edge(out, block, n, place)?;
     }
     Ok(())
 }
 
-fn put_node(
-    alloc: Global,
-    out: &mut Vec<u8>,
-    program: &Program,
-    ticket: Ticket,
-    lines: &[u32],
-    reserved: &[u8],
-    graph: &Graph,
-    sets: &Sets,
-    n: usize,
-) -> Result<(), AllocError>
-    requires client { ticket.client < length program.now.clients }
-    requires node { n < length graph.now.nodes }
-    requires sets { length sets.now ≡ length graph.now.nodes }
-    requires handlers { AllByRecursion (λ h. h < most_handlers) reserved.now }
-    ensures ok { OnOk result (out.new.items
-        ≡ out.old.items ++ node_text program.now ticket.client ticket.index lines.now reserved.now graph.now.nodes sets.now n) }
-{
-    put_line(alloc, out, program, ticket, lines, reserved, graph, sets, n)?;
-    put_edges(out, ticket, graph, n)
-}
-
 /// Puts the nodes of a block at the end, each with its edges.
-pub(crate) fn put_nodes(
+pub(crate) fn put_all_nodes(
     alloc: Global,
     out: &mut Vec<u8>,
-    program: &Program,
-    ticket: Ticket,
+    block: &Block,
     lines: &[u32],
-    reserved: &[u8],
-    graph: &Graph,
-    sets: &Sets,
 ) -> Result<(), AllocError>
-    requires client { ticket.client < length program.now.clients }
-    requires sets { length sets.now ≡ length graph.now.nodes }
-    requires handlers { AllByRecursion (λ h. h < most_handlers) reserved.now }
     ensures ok { OnOk result (out.new.items
-        ≡ out.old.items ++ nodes_text program.now ticket.client ticket.index lines.now reserved.now graph.now.nodes sets.now) }
+        ≡ out.old.items ++ nodes_text block.now.program.now block.now.ticket.client block.now.ticket.index lines.now block.now.reserved.now block.now.graph.now.nodes block.now.sets.now) }
 {
-    for n in 0..graph.len() {
-        put_node(alloc, out, program, ticket, lines, reserved, graph, sets, n)?;
+    for n in 0..block.graph.len() {
+        put_line(alloc, out, block, lines, n)?;
+        put_edges(out, block, n)?;
     }
     Ok(())
 }

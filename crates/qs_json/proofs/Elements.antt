@@ -1,7 +1,7 @@
 -- After one more element of an array, the text has the elements up to there; and the elements at all places of a list
 -- are the list's texts, joined by commas. Every loop that writes an array stands on it. It goes by induction on the
 -- number of elements.
-use Rattle.std.proofs.Common.{◌≡◌, ℕ, zero, suc, ◌+◌, ◌≤◌, List, [], ◌∷◌, ◌++◌, codes, length, take, get_or, flat_map, refl, sym, ap, ◌∙◌, append-nil, add-one, arith, false, nat_eq}
+use Rattle.std.proofs.Common.{◌≡◌, ℕ, zero, suc, ◌+◌, ◌≤◌, List, [], ◌∷◌, ◌++◌, codes, length, take, get_or, flat_map, refl, sym, ap, ◌∙◌, append-nil, arith, false, nat_eq}
 use Rattle.std.proofs.lemmas.Bool.Decides.{nat_tests}
 use Rattle.std.specs.List.{join_by}
 use Rattle.std.proofs.Math.Seq.{take-suc}

@@ -1,7 +1,7 @@
 -- When one more text is added at the end, the whole is the texts before it and this one. The functions that write the
 -- graphs of a program, block by block and client by client, stand on it. It takes the definition of the texts up to a
 -- number one number further, and joins what each step has added.
-use Rattle.std.proofs.Common.{◌≡◌, ℕ, ◌+◌, ◌<◌, List, [], ◌∷◌, ◌++◌, codes, length, flat_map, refl, ap, ◌∙◌, append_assoc, add-one, arith}
+use Rattle.std.proofs.Common.{◌≡◌, ℕ, ◌+◌, ◌<◌, List, [], ◌∷◌, ◌++◌, codes, length, flat_map, refl, ap, sym, subst, ◌∙◌, append_assoc, add-one, arith}
 use Rattle.qs_text.specs.Texts.{list_text, AreTextsUpTo, IsAdded}
 
 pub listed_some : {X : Type 0} (text : X → List ℕ) (xs : List X) → 0 < length xs → list_text text xs ≡ flat_map (λ y. codes " " ++ text y) xs
@@ -18,3 +18,7 @@ pub one_added_more : (IsText : ℕ → List ℕ → Type 0) (n : ℕ) (first bef
     → IsAdded (IsText n) before all → IsAdded (AreTextsUpTo (n + 1) IsText) first all
 one_added_more IsText n first before all (texts, are, e) (last, is, f) =
     (texts ++ last, one_text_more IsText n texts (texts ++ last) are (last, is, refl), f ∙ ap (λ l. l ++ last) e ∙ append_assoc first texts last)
+
+-- what was added where nothing was
+pub added_first : (IsText : List ℕ → Type 0) (first all : List ℕ) → first ≡ [] → IsAdded IsText first all → IsText all
+added_first IsText first all none (text, is, e) = subst IsText (sym (e ∙ ap (λ l. l ++ text) none)) is

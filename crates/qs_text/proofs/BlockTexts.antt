@@ -13,20 +13,20 @@ use Rattle.qs_graph.specs.Nodes.{ControlGraph, place_at, exit}
 use Rattle.qs_graph.specs.WellFormed.{IsGraphNode, IsInRange}
 use Rattle.qs_graph.proofs.Ranges.{blocks_have_graphs, sound_own}
 use Rattle.qs_held_sets.specs.Table.{AreSetsOf, has}
-use Rattle.qs_text.specs.Blocks.{AreBlocks, AreBlocksOf, AreNodes, IsBlock, NodesText}
+use Rattle.qs_text.specs.Blocks.{AreBlocks, AreBlocksOf, IsBlock, NodesText}
 use Rattle.qs_text.specs.Texts.{IsAdded}
 use Rattle.qs_text.proofs.SameTexts.{one_up_to, same_filter, same_sets}
 
-pub block_added : (p : ProgramShape) (c k : ℕ) (head : List ℕ) (nodes : NodesText) (reserved : List ℕ) (g : ControlGraph) (first line all : List ℕ)
-    → reserved ≡ (own_block p c k).reserved → g ≡ graph_of p c k
-    → line ≡ first ++ head → IsAdded (AreNodes nodes reserved g) line all → IsAdded (IsBlock p c k head nodes) first all
-block_added p c k head nodes reserved g first line all r e f (text, (sets, held, t), h) =
+pub block_added : (p : ProgramShape) (c k : ℕ) (head : List ℕ) (nodes : NodesText) (reserved : List ℕ) (g : ControlGraph) (sets : List (List Bool)) (first line all : List ℕ)
+    → reserved ≡ (own_block p c k).reserved → g ≡ graph_of p c k → AreSetsOf g sets
+    → line ≡ first ++ head → all ≡ line ++ nodes reserved g sets → IsAdded (IsBlock p c k head nodes) first all
+block_added p c k head nodes reserved g sets first line all r e held f h =
     let own = (own_block p c k).reserved in
     let built = graph_of p c k in
-    let same : text ≡ nodes own built sets = t ∙ ap (λ rs. nodes rs g sets) r ∙ ap (λ (q : ControlGraph). nodes own q sets) e in (
+    let same : nodes reserved g sets ≡ nodes own built sets = ap (λ rs. nodes rs g sets) r ∙ ap (λ (q : ControlGraph). nodes own q sets) e in (
       head ++ nodes own built sets,
       record { sets = sets; held = subst (λ q. AreSetsOf q sets) e held; is = refl },
-      h ∙ ap (λ l. l ++ text) f ∙ append_assoc first head text ∙ ap (λ l. first ++ (head ++ l)) same,
+      h ∙ ap (λ l. l ++ nodes reserved g sets) f ∙ append_assoc first head (nodes reserved g sets) ∙ ap (λ l. first ++ (head ++ l)) same,
     )
 
 -- the node of a number, with what is said of it

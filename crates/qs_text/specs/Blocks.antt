@@ -10,15 +10,16 @@ use Rattle.qs_text.specs.Texts.{AreTextsUpTo}
 abbrev pub NodesText : Type 0
 NodesText = (reserved : List ℕ) → ControlGraph → (sets : List (List Bool)) → List ℕ
 
--- the nodes of a graph, with what is held at each on every path
-abbrev pub AreNodes : NodesText → (reserved : List ℕ) → ControlGraph → List ℕ → Type 0
-AreNodes nodes reserved g text = (sets : List (List Bool)) × AreSetsOf g sets × (text ≡ nodes reserved g sets)
-
 -- block k of client c: its head, and the nodes of its graph as it is built, with what is held at each on every path
 pub record IsBlock (p : ProgramShape) (c k : ℕ) (head : List ℕ) (nodes : NodesText) (text : List ℕ) : Type 0 where
   pub sets : List (List Bool)
   pub held : AreSetsOf (graph_of p c k) sets
   pub is : text ≡ head ++ nodes (own_block p c k).reserved (graph_of p c k) sets
+
+-- the same, by the heads and the nodes of all blocks
+abbrev pub IsBlockBy : ProgramShape → (head : (c k : ℕ) → List ℕ) → (nodes : (c k : ℕ) → NodesText) → (c k : ℕ)
+    → List ℕ → Type 0
+IsBlockBy p head nodes c k text = IsBlock p c k (head c k) (nodes c k) text
 
 -- the blocks of client c, where each has a text of some kind
 abbrev pub AreBlocksOf : ProgramShape → (IsOne : (c k : ℕ) → List ℕ → Type 0) → (c : ℕ) → List ℕ → Type 0

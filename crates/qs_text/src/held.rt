@@ -11,7 +11,7 @@ use qs_syncset::Sets;
 use std::alloc::{AllocError, Global};
 
 /// The names of a block's list, each one of 8.
-pub fn reserved_by(program: &Program, client: u8, block: u8) -> &[u8]
+pub(crate) fn reserved_by(program: &Program, client: u8, block: u8) -> &[u8]
     requires client { client < length program.now.clients }
     requires block { block < blocks_of program.now client }
     ensures value { result.now ≡ (own_block program.now client block).reserved }

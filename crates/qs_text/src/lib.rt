@@ -1,7 +1,8 @@
-//! What texts of a program are made of: bytes, numbers, names, requests, states and the names that are held, and
-//! writing with an eye on failures.
+//! What texts of a program are made of: bytes, numbers, names, requests, states, blocks and the names that are held,
+//! and writing with an eye on failures.
 #![tactic(auto)]
 
+mod blocks;
 mod bytes;
 mod held;
 mod names;
@@ -9,10 +10,11 @@ mod requests;
 mod states;
 mod watching;
 
+pub use blocks::{Block, BlockWriter, put_blocks};
 pub use bytes::{
     put, put_all, put_count, put_count_line, put_digits, put_number, put_short, put_word,
 };
-pub use held::{held_at, reserved_by};
+pub use held::held_at;
 pub use names::{
     client_name, declared_name, object_name, put_named, put_names, short_name, variable_name,
 };

@@ -4,5 +4,5 @@ use Rattle.qs_dot.proofs.nodes.put_edges.Goals as goal
 
 pub loop-place-preserved : goal.loop-place-preserved
 loop-place-preserved c =
-    one_place_more (edge_line c.args.ticket.client c.args.ticket.index c.args.graph.now.nodes c.args.n) c.loop-place.place _ _ _
+    one_place_more (edge_line c.args.block.now.ticket.client c.args.block.now.ticket.index c.args.block.now.graph.now.nodes c.args.n) c.loop-place.place _ _ _
     c.loop-place.invariant c.in_ok-put_edge.ensures.ok

@@ -5,4 +5,4 @@ use Rattle.qs_dot.specs.DotText.{edge_line}
 use Rattle.qs_dot.proofs.nodes.put_edges.Given as goal
 
 abbrev pub invariant-loop-place : goal.invariant-loop-place
-invariant-loop-place l = l.out.items ≡ l.initial.out.items ++ texts_up_to l.place (edge_line l.ticket.client l.ticket.index l.graph.nodes l.n)
+invariant-loop-place l = l.out.items ≡ l.initial.out.items ++ texts_up_to l.place (edge_line l.block.ticket.client l.block.ticket.index l.block.graph.now.nodes l.n)

@@ -4,5 +4,6 @@ use Rattle.qs_json.proofs.graphs.put_all_nodes.Goals as goal
 
 pub loop-n-preserved : goal.loop-n-preserved
 loop-n-preserved c =
-    one_element_more (node_json c.args.program.now c.args.client c.args.reserved.now c.args.graph.now.nodes c.args.sets.now) c.loop-n.n c.loop-n.invariant c.in_ok-put_comma.ensures.ok
+    let b = c.args.block.now in
+    one_element_more (node_json b.program.now b.ticket.client b.reserved.now b.graph.now.nodes b.sets.now) c.loop-n.n c.loop-n.invariant c.in_ok-put_comma.ensures.ok
     c.in_ok-put_node.ensures.ok

@@ -8,5 +8,5 @@ use Rattle.qs_json.proofs.graphs.put_held.Goals as goal
 pub returns : goal.returns
 returns c =
     let is = c.as_slice.ensures.value ∙ c.in_ok-held.ensures.held in
-    let names = named (ap (λ (l : List ℕ). join_by (name_json c.args.program.now c.args.client) (codes ",") l) is) c.in_ok-put_joined.ensures.ok in
+    let names = named (ap (λ (l : List ℕ). join_by (name_json c.args.block.now.program.now c.args.block.now.ticket.client) (codes ",") l) is) c.in_ok-put_joined.ensures.ok in
     record { ok = on_ok_weaker c.put_word-2.result (λ e. then (then c.in_ok-put_word.ensures.ok names) e) c.put_word-2.ensures.ok }

@@ -1,16 +1,10 @@
-use Rattle.std.proofs.Common.{◌≡◌, arith, length, subst}
-use Rattle.qs_text.proofs.Added.{one_text_more}
-use Rattle.qs_text.specs.Blocks.{AreBlocksOf}
-use Rattle.qs_text.specs.Texts.{AreTextsUpTo}
+use Rattle.qs_text.proofs.Added.{added_first}
+use Rattle.qs_text.specs.Blocks.{AreBlocks}
 use Rattle.qs_report.specs.GraphText.{IsBlockText, IsGraphText}
 use Rattle.qs_report.proofs.graphs.graph_text.Goals as goal
-
-pub loop-client-preserved : goal.loop-client-preserved
-loop-client-preserved c =
-    one_text_more (AreBlocksOf c.args.program.now (IsBlockText c.args.program.now)) c.loop-client.client _ _ c.loop-client.invariant c.in_ok-put_blocks.ensures.ok
 
 pub returns : goal.returns
 unfolding IsGraphText
 returns c =
-    let all : c.loop-client.client ≡ length c.args.program.now.clients = omega arith in
-    record { text = subst (λ n. AreTextsUpTo n (AreBlocksOf c.args.program.now (IsBlockText c.args.program.now)) c.loop-client.out.items) all c.loop-client.invariant }
+    let p = c.args.program.now in
+    record { text = added_first (AreBlocks p (IsBlockText p)) _ _ c.new-out.ensures.items c.in_ok-put_blocks.ensures.ok }

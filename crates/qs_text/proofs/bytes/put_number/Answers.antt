@@ -1,4 +1,4 @@
-use Rattle.std.proofs.Common.{◌++◌, ℤ, pos, arith, ap, ◌∙◌, ◌+◌, ◌∷◌, [], ◌<ℤ◌, ◌≤ℤ◌, w64}
+use Rattle.std.proofs.Common.{◌++◌, pos, arith, ap, ◌∙◌, ◌+◌, ◌∷◌, [], ◌<ℤ◌, ◌≤ℤ◌, w64}
 use Rattle.std.proofs.lemmas.Int.{to_z-of_z, ints}
 use Rattle.std.specs.Int.RustNames.{unsigned_abs}
 use Rattle.qs_text.proofs.Digits.{digit_text}
