@@ -1,15 +1,12 @@
 -- The control-flow graphs of a program as a drawing in the DOT language, as bytes.
 use Rattle.std.specs.Prelude.{◌≡◌, ℕ, List, [], ◌∷◌, ◌++◌, codes, decimal, length, Bool, if◌then◌else◌, nat_eq, slice_get, slice_index_or, Option, Some, None}
-use Rattle.std.specs.List.{filter}
 use Rattle.qs_program.specs.Program.{ProgramShape, client_at}
 use Rattle.qs_program.specs.Sound.{IsSound}
 use Rattle.qs_graph.specs.declared.node.Choice.TheVariants.{If, Repeat}
 use Rattle.qs_graph.specs.declared.node.Node.{Node}
 use Rattle.qs_graph.specs.declared.node.Node.TheVariants.{Entry, Local, Branch, Sync, Query, Call, Exit}
-use Rattle.qs_graph.specs.Nodes.{GraphNode, place_at}
-use Rattle.qs_held_sets.specs.Flow.{Holding}
-use Rattle.qs_held_sets.specs.Table.{has}
-use Rattle.qs_text.specs.Blocks.{AreBlocks, IsBlock, NodesText}
+use Rattle.qs_graph.specs.Nodes.{GraphNode}
+use Rattle.qs_text.specs.Blocks.{AreBlocks, IsBlock, NodeText, NodesText, node_at}
 use Rattle.qs_text.specs.Texts.{list_text, texts_up_to}
 use Rattle.qs_text.specs.Words.{name_of}
 use Rattle.qs_node_lines.specs.NodeLines.{lines_of_block}
@@ -26,10 +23,9 @@ outline_text (Query x q) = codes "parallelogram"
 outline_text (Call q) = codes "note"
 outline_text Exit = codes "oval"
 
--- a synchronisation is dashed exactly where its own name is held, as it is removed there
-abbrev pub line_text : Holding → Node → List ℕ
-line_text held (Sync h) = if held h then codes ", style=dashed" else []
-line_text held _ = []
+-- a synchronisation is dashed where it is removed
+abbrev pub line_text : (removed : Bool) → List ℕ
+line_text removed = if removed then codes ", style=dashed" else []
 
 -- the name of node n of block k of client c
 abbrev pub node_name : (c k n : ℕ) → List ℕ
@@ -46,19 +42,17 @@ held_text p c [] = []
 held_text p c (h ∷ hs) = codes "\\nheld" ++ list_text (name_of p c) (h ∷ hs)
 
 -- the beginning of a node's line, up to the number in its label: its name, its outline and how that is drawn
-abbrev pub head_text : (c k : ℕ) → List GraphNode → (sets : List (List Bool)) → ℕ → List ℕ
-head_text c k g sets n =
-    codes "    " ++ node_name c k n ++ codes " [shape=" ++ outline_text (place_at g n).node
-    ++ line_text (has sets n) (place_at g n).node
+abbrev pub head_text : (c k : ℕ) → ℕ → GraphNode → (removed : Bool) → List ℕ
+head_text c k n place removed =
+    codes "    " ++ node_name c k n ++ codes " [shape=" ++ outline_text place.node ++ line_text removed
     ++ codes ", label=\"" ++ decimal n ++ codes " "
 
 -- a node with its outline, its number, what it does, the line on which that stands, and which names of the block's list
--- are held there, in the list's order; `lines` are those of the block's nodes
-abbrev pub node_line : ProgramShape → (c k : ℕ) → (lines reserved : List ℕ) → List GraphNode → (sets : List (List Bool))
-    → ℕ → List ℕ
-node_line p c k lines reserved g sets n =
-    head_text c k g sets n ++ written p c (place_at g n).node ++ place_text (slice_get lines n)
-    ++ held_text p c (filter (has sets n) reserved) ++ codes "\"];\n"
+-- are held there; `lines` are those of the block's nodes
+abbrev pub node_line : ProgramShape → (c k : ℕ) → (lines : List ℕ) → NodeText
+node_line p c k lines n place removed names =
+    head_text c k n place removed ++ written p c place.node ++ place_text (slice_get lines n) ++ held_text p c names
+    ++ codes "\"];\n"
 
 -- what stands at the edge of a place among a node's edges: which of the two it is at a branch, and nothing elsewhere
 abbrev pub edge_text : Node → ℕ → List ℕ
@@ -67,20 +61,19 @@ edge_text (Branch Repeat) i = if nat_eq i 0 then codes " [label=\"once more\"]" 
 edge_text _ i = []
 
 -- the edge of a place among those of node n
-abbrev pub edge_line : (c k : ℕ) → List GraphNode → (n i : ℕ) → List ℕ
-edge_line c k g n i =
-    codes "    " ++ node_name c k n ++ codes " -> " ++ node_name c k (slice_index_or (place_at g n).edges i 0)
-    ++ edge_text (place_at g n).node i ++ codes ";\n"
+abbrev pub edge_line : (c k n : ℕ) → GraphNode → (i : ℕ) → List ℕ
+edge_line c k n place i =
+    codes "    " ++ node_name c k n ++ codes " -> " ++ node_name c k (slice_index_or place.edges i 0)
+    ++ edge_text place.node i ++ codes ";\n"
 
 -- a node, and the edges that it has
-abbrev pub node_text : ProgramShape → (c k : ℕ) → (lines reserved : List ℕ) → List GraphNode → (sets : List (List Bool))
-    → ℕ → List ℕ
-node_text p c k lines reserved g sets n =
-    node_line p c k lines reserved g sets n ++ texts_up_to (length (place_at g n).edges) (edge_line c k g n)
+abbrev pub node_text : ProgramShape → (c k : ℕ) → (lines : List ℕ) → NodeText
+node_text p c k lines n place removed names =
+    node_line p c k lines n place removed names ++ texts_up_to (length place.edges) (edge_line c k n place)
 
 abbrev pub nodes_text : ProgramShape → (c k : ℕ) → (lines reserved : List ℕ) → List GraphNode
     → (sets : List (List Bool)) → List ℕ
-nodes_text p c k lines reserved g sets = texts_up_to (length g) (node_text p c k lines reserved g sets)
+nodes_text p c k lines reserved g sets = texts_up_to (length g) (node_at (node_text p c k lines) reserved g sets)
 
 -- block k of client c by numbers
 abbrev pub block_name : (c k : ℕ) → List ℕ

@@ -3,6 +3,7 @@
 ghost use Rattle.std.specs.Prelude.{◌≡◌, ◌<◌, ◌++◌, length, slice_get, OnOk};
 ghost use Rattle.std.specs.List.{filter};
 ghost use Rattle.qs_graph.specs.Nodes.{place_at};
+ghost use Rattle.qs_text.specs.Blocks.{node_at, removed_at};
 ghost use Rattle.qs_text.specs.Texts.{texts_up_to};
 ghost use Rattle.qs_held_sets.specs.Table.{has};
 ghost use Rattle.qs_dot.specs.DotText.{edge_line, edge_text, head_text, held_text, line_text, node_line, node_name, node_text, nodes_text, outline_text, place_text};
@@ -32,7 +33,7 @@ fn outline_word(node: &Node) -> &'static [u8]
 // How the outline of a node is drawn.
 fn line_word(block: &Block, n: usize) -> &'static [u8]
     requires node { n < length block.now.graph.now.nodes }
-    ensures word { result.now ≡ line_text (has block.now.sets.now n) (place_at block.now.graph.now.nodes n).node }
+    ensures word { result.now ≡ line_text (removed_at block.now.graph.now.nodes block.now.sets.now n) }
 {
     block.graph.keeps_graph();
     match block.graph.node(n) {
@@ -129,7 +130,7 @@ fn put_held_at(alloc: Global, out: &mut Vec<u8>, block: &Block, n: usize) -> Res
 fn put_node_head(out: &mut Vec<u8>, block: &Block, n: usize) -> Result<(), AllocError>
     requires node { n < length block.now.graph.now.nodes }
     ensures ok { OnOk result (out.new.items
-        ≡ out.old.items ++ head_text block.now.ticket.client block.now.ticket.index block.now.graph.now.nodes block.now.sets.now n) }
+        ≡ out.old.items ++ head_text block.now.ticket.client block.now.ticket.index n (place_at block.now.graph.now.nodes n) (removed_at block.now.graph.now.nodes block.now.sets.now n)) }
 {
     let outline = outline_word(block.graph.node(n));
     let line = line_word(block, n);
@@ -152,7 +153,7 @@ fn put_line(
 ) -> Result<(), AllocError>
     requires node { n < length block.now.graph.now.nodes }
     ensures ok { OnOk result (out.new.items
-        ≡ out.old.items ++ node_line block.now.program.now block.now.ticket.client block.now.ticket.index lines.now block.now.reserved.now block.now.graph.now.nodes block.now.sets.now n) }
+        ≡ out.old.items ++ node_at (node_line block.now.program.now block.now.ticket.client block.now.ticket.index lines.now) block.now.reserved.now block.now.graph.now.nodes block.now.sets.now n) }
 {
     put_node_head(out, block, n)?;
     put_written(out, block.program, block.ticket.client, block.graph.node(n))?;
@@ -166,7 +167,7 @@ fn put_edge(out: &mut Vec<u8>, block: &Block, n: usize, place: usize) -> Result<
     requires node { n < length block.now.graph.now.nodes }
     requires place { place < length (place_at block.now.graph.now.nodes n).edges }
     ensures ok { OnOk result (out.new.items
-        ≡ out.old.items ++ edge_line block.now.ticket.client block.now.ticket.index block.now.graph.now.nodes n place) }
+        ≡ out.old.items ++ edge_line block.now.ticket.client block.now.ticket.index n (place_at block.now.graph.now.nodes n) place) }
 {
     put(out, b"    ")?;
     put_name(out, block.ticket, n)?;
@@ -178,7 +179,7 @@ fn put_edge(out: &mut Vec<u8>, block: &Block, n: usize, place: usize) -> Result<
 fn put_edges(out: &mut Vec<u8>, block: &Block, n: usize) -> Result<(), AllocError>
     requires node { n < length block.now.graph.now.nodes }
     ensures ok { OnOk result (out.new.items
-        ≡ out.old.items ++ texts_up_to (length (place_at block.now.graph.now.nodes n).edges) (edge_line block.now.ticket.client block.now.ticket.index block.now.graph.now.nodes n)) }
+        ≡ out.old.items ++ texts_up_to (length (place_at block.now.graph.now.nodes n).edges) (edge_line block.now.ticket.client block.now.ticket.index n (place_at block.now.graph.now.nodes n))) }
 {
     for place in 0..block.graph.edges(n).len() {
         put_edge(out, block, n, place)?;

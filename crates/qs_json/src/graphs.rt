@@ -3,6 +3,7 @@
 ghost use Rattle.std.specs.Prelude.{◌≡◌, ◌<◌, ◌++◌, IfOk, OnOk, codes, decimal, length};
 ghost use Rattle.std.specs.List.{filter, join_by};
 ghost use Rattle.qs_graph.specs.Nodes.{place_at};
+ghost use Rattle.qs_text.specs.Blocks.{node_at, removed_at};
 ghost use Rattle.qs_text.specs.Texts.{texts_up_to, Puts};
 ghost use Rattle.qs_held_sets.specs.Table.{has};
 ghost use Rattle.qs_json.specs.Pieces.{array, element};
@@ -32,7 +33,7 @@ fn put_name(
 // What a node does.
 fn put_label(out: &mut Vec<u8>, block: &Block, n: usize) -> Result<(), AllocError>
     requires node { n < length block.now.graph.now.nodes }
-    ensures ok { OnOk result (Puts (label_json block.now.program.now block.now.ticket.client (has block.now.sets.now n) (place_at block.now.graph.now.nodes n).node) out.old.items out.new.items) }
+    ensures ok { OnOk result (Puts (label_json block.now.program.now block.now.ticket.client (removed_at block.now.graph.now.nodes block.now.sets.now n) (place_at block.now.graph.now.nodes n).node) out.old.items out.new.items) }
 {
     let (program, client) = (block.program, block.ticket.client);
     block.graph.keeps_graph();
@@ -88,7 +89,7 @@ fn put_joined(
 // The number of a node, what it does, and the numbers of the nodes that it leads to.
 fn put_step(out: &mut Vec<u8>, block: &Block, n: usize) -> Result<(), AllocError>
     requires node { n < length block.now.graph.now.nodes }
-    ensures ok { OnOk result (Puts (step_json block.now.program.now block.now.ticket.client block.now.graph.now.nodes block.now.sets.now n) out.old.items out.new.items) }
+    ensures ok { OnOk result (Puts (step_json block.now.program.now block.now.ticket.client n (place_at block.now.graph.now.nodes n) (removed_at block.now.graph.now.nodes block.now.sets.now n)) out.old.items out.new.items) }
 {
     put_count(out, b"{\"node\":", n as u64)?;
     put_label(out, block, n)?;
@@ -110,7 +111,7 @@ fn put_held(alloc: Global, out: &mut Vec<u8>, block: &Block, n: usize) -> Result
 
 fn put_node(alloc: Global, out: &mut Vec<u8>, block: &Block, n: usize) -> Result<(), AllocError>
     requires node { n < length block.now.graph.now.nodes }
-    ensures ok { OnOk result (Puts (node_json block.now.program.now block.now.ticket.client block.now.reserved.now block.now.graph.now.nodes block.now.sets.now n) out.old.items out.new.items) }
+    ensures ok { OnOk result (Puts (node_at (node_json block.now.program.now block.now.ticket.client) block.now.reserved.now block.now.graph.now.nodes block.now.sets.now n) out.old.items out.new.items) }
 {
     put_step(out, block, n)?;
     put_held(alloc, out, block, n)?;
@@ -119,7 +120,7 @@ fn put_node(alloc: Global, out: &mut Vec<u8>, block: &Block, n: usize) -> Result
 
 // All nodes of a graph, with a comma between each two.
 fn put_all_nodes(alloc: Global, out: &mut Vec<u8>, block: &Block) -> Result<(), AllocError>
-    ensures ok { OnOk result (Puts (texts_up_to (length block.now.graph.now.nodes) (element (node_json block.now.program.now block.now.ticket.client block.now.reserved.now block.now.graph.now.nodes block.now.sets.now))) out.old.items out.new.items) }
+    ensures ok { OnOk result (Puts (texts_up_to (length block.now.graph.now.nodes) (element (node_at (node_json block.now.program.now block.now.ticket.client) block.now.reserved.now block.now.graph.now.nodes block.now.sets.now))) out.old.items out.new.items) }
 {
     for n in 0..block.graph.len() {
         put_comma(out, n)?;

@@ -4,6 +4,7 @@ ghost use Rattle.std.specs.Prelude.{◌≡◌, ◌<◌, ◌++◌, decimal, lengt
 ghost use Rattle.std.specs.List.{filter};
 ghost use Rattle.qs_graph.specs.Nodes.{place_at};
 ghost use Rattle.qs_held_sets.specs.Table.{has};
+ghost use Rattle.qs_text.specs.Blocks.{node_at, removed_at};
 ghost use Rattle.qs_text.specs.Texts.{list_text};
 ghost use Rattle.qs_text.specs.Words.{name_of};
 ghost use Rattle.qs_report.specs.GraphText.{removed_text, label_text, node_line, block_line, graph_nodes_text, step_text, IsGraphText};
@@ -17,17 +18,17 @@ use qs_text::{
 };
 use std::alloc::{AllocError, Global};
 
-fn removed_word(is_held: bool) -> &'static [u8]
-    ensures word { result.now ≡ removed_text is_held }
+fn removed_word(is_removed: bool) -> &'static [u8]
+    ensures word { result.now ≡ removed_text is_removed }
 {
-    if is_held { b" removed" } else { b" kept" }
+    if is_removed { b" removed" } else { b" kept" }
 }
 
 // What a node does.
 fn put_label(out: &mut Vec<u8>, block: &Block, n: usize) -> Result<(), AllocError>
     requires node { n < length block.now.graph.now.nodes }
     ensures ok { OnOk result (out.new.items
-        ≡ out.old.items ++ label_text block.now.program.now block.now.ticket.client (has block.now.sets.now n) (place_at block.now.graph.now.nodes n).node) }
+        ≡ out.old.items ++ label_text block.now.program.now block.now.ticket.client (removed_at block.now.graph.now.nodes block.now.sets.now n) (place_at block.now.graph.now.nodes n).node) }
 {
     let client = block.ticket.client;
     block.graph.keeps_graph();
@@ -63,7 +64,7 @@ fn put_targets(out: &mut Vec<u8>, targets: &[usize]) -> Result<(), AllocError>
 fn put_step(out: &mut Vec<u8>, block: &Block, n: usize) -> Result<(), AllocError>
     requires node { n < length block.now.graph.now.nodes }
     ensures ok { OnOk result (out.new.items
-        ≡ out.old.items ++ step_text block.now.program.now block.now.ticket.client block.now.graph.now.nodes block.now.sets.now n) }
+        ≡ out.old.items ++ step_text block.now.program.now block.now.ticket.client n (place_at block.now.graph.now.nodes n) (removed_at block.now.graph.now.nodes block.now.sets.now n)) }
 {
     let mut buffer = Buffer::new();
     put_all(out, &[buffer.format(n).as_bytes(), b" "])?;
@@ -85,7 +86,7 @@ fn put_held(alloc: Global, out: &mut Vec<u8>, block: &Block, n: usize) -> Result
 fn put_node(alloc: Global, out: &mut Vec<u8>, block: &Block, n: usize) -> Result<(), AllocError>
     requires node { n < length block.now.graph.now.nodes }
     ensures ok { OnOk result (out.new.items
-        ≡ out.old.items ++ node_line block.now.program.now block.now.ticket.client block.now.reserved.now block.now.graph.now.nodes block.now.sets.now n) }
+        ≡ out.old.items ++ node_at (node_line block.now.program.now block.now.ticket.client) block.now.reserved.now block.now.graph.now.nodes block.now.sets.now n) }
 {
     put_step(out, block, n)?;
     put(out, b" held")?;

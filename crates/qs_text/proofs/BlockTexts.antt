@@ -2,20 +2,22 @@
 -- program has just one text of its blocks, although the definition lets the held sets be any that fit. The functions
 -- that write graphs, and the laws that there is one such text, stand on it. What is held at a node is fixed by the
 -- graph; then it goes by induction on the blocks and the clients.
-use Rattle.std.proofs.Common.{◌≡◌, ℕ, ◌<◌, Bool, List, ◌++◌, length, refl, sym, ap, subst, ◌∙◌, append_assoc, arith}
-use Rattle.std.specs.List.{filter}
+use Rattle.std.proofs.Common.{◌≡◌, ℕ, ◌<◌, Bool, List, ◌++◌, length, refl, sym, ap, ap₂, subst, ◌∙◌, append_assoc, arith}
 use Rattle.qs_objects.proofs.Elements.{AllByRecursion-get_or}
 use Rattle.qs_program.specs.Program.{ProgramShape, blocks_of, own_block}
 use Rattle.qs_program.specs.Sound.{IsSound}
 use Rattle.qs_meaning.proofs.Each.{each_map}
+use Rattle.qs_graph.specs.declared.node.Node.{Node}
+use Rattle.qs_graph.specs.declared.node.Node.TheVariants.{Entry, Local, Branch, Sync, Query, Call, Exit}
 use Rattle.qs_graph.specs.Names.{graph_of}
 use Rattle.qs_graph.specs.Nodes.{ControlGraph, place_at, exit}
 use Rattle.qs_graph.specs.WellFormed.{IsGraphNode, IsInRange}
 use Rattle.qs_graph.proofs.Ranges.{blocks_have_graphs, sound_own}
+use Rattle.qs_held_sets.specs.Flow.{Holding}
 use Rattle.qs_held_sets.specs.Table.{AreSetsOf, has}
-use Rattle.qs_text.specs.Blocks.{AreBlocks, AreBlocksOf, IsBlock, NodesText}
-use Rattle.qs_text.specs.Texts.{IsAdded}
-use Rattle.qs_text.proofs.SameTexts.{one_up_to, same_filter, same_sets}
+use Rattle.qs_text.specs.Blocks.{AreBlocks, AreBlocksOf, IsBlock, NodeText, NodesText, is_removed, node_at}
+use Rattle.qs_text.specs.Texts.{IsAdded, texts_up_to}
+use Rattle.qs_text.proofs.SameTexts.{one_up_to, same_filter, same_sets, same_texts}
 
 pub block_added : (p : ProgramShape) (c k : ℕ) (head : List ℕ) (nodes : NodesText) (reserved : List ℕ) (g : ControlGraph) (sets : List (List Bool)) (first line all : List ℕ)
     → reserved ≡ (own_block p c k).reserved → g ≡ graph_of p c k → AreSetsOf g sets
@@ -29,27 +31,30 @@ block_added p c k head nodes reserved g sets first line all r e held f h =
       h ∙ ap (λ l. l ++ nodes reserved g sets) f ∙ append_assoc first head (nodes reserved g sets) ∙ ap (λ l. first ++ (head ++ l)) same,
     )
 
--- the node of a number, with what is said of it
-pub record IsAlike (p : ProgramShape) (c k : ℕ) (one other : List (List Bool)) (n : ℕ) : Type 0 where
-  pub in_range : IsInRange (place_at (graph_of p c k).nodes n).node
-  pub held : (h : ℕ) → h < 8 → has one n h ≡ has other n h
-  pub names : filter (has one n) (own_block p c k).reserved ≡ filter (has other n) (own_block p c k).reserved
+same_removed : (f g : Holding) (v : Node) → IsInRange v → ((h : ℕ) → h < 8 → f h ≡ g h) → is_removed f v ≡ is_removed g v
+same_removed f g Entry range same = refl
+same_removed f g (Local a) range same = refl
+same_removed f g (Branch b) range same = refl
+same_removed f g (Sync h) range same = same h range
+same_removed f g (Query x q) range same = refl
+same_removed f g (Call q) range same = refl
+same_removed f g Exit range same = refl
 
--- whichever sets fit, they say the same of a node
-pub alike : (p : ProgramShape) (c k : ℕ) → IsSound p → (one other : List (List Bool)) → AreSetsOf (graph_of p c k) one → AreSetsOf (graph_of p c k) other
-    → (n : ℕ) → n < length (graph_of p c k).nodes → IsAlike p c k one other n
-alike p c k sound one other a b n inside =
+-- whichever sets fit, the texts of the nodes are the same
+pub same_nodes : (p : ProgramShape) (c k : ℕ) → IsSound p → (node : NodeText) (one other : List (List Bool)) → AreSetsOf (graph_of p c k) one → AreSetsOf (graph_of p c k) other
+    → texts_up_to (length (graph_of p c k).nodes) (node_at node (own_block p c k).reserved (graph_of p c k).nodes one)
+    ≡ texts_up_to (length (graph_of p c k).nodes) (node_at node (own_block p c k).reserved (graph_of p c k).nodes other)
+same_nodes p c k sound node one other a b =
     let g = graph_of p c k in
     let own = own_block p c k in
     let text = sound_own p c k sound in
+    same_texts (node_at node own.reserved g.nodes one) (node_at node own.reserved g.nodes other) (length g.nodes) (λ n inside.
     let same = same_sets g one other a b n inside in
     let place : IsGraphNode (length g.nodes) (place_at g.nodes n) =
     AllByRecursion-get_or (IsGraphNode (length g.nodes)) g.nodes n exit (blocks_have_graphs p c k sound).own.places inside in
-    record {
-      in_range = place.in_range;
-      held = same;
-      names = same_filter (has one n) (has other n) own.reserved (each_map (λ h l. same h (omega (arith, l, text.few))) own.reserved text.text.known);
-    }
+    ap₂ (λ removed names. node n (place_at g.nodes n) removed names)
+    (same_removed (has one n) (has other n) (place_at g.nodes n).node place.in_range same)
+    (same_filter (has one n) (has other n) own.reserved (each_map (λ h l. same h (omega (arith, l, text.few))) own.reserved text.text.known)))
 
 -- a block has one text, where its nodes have
 pub one_block : (p : ProgramShape) (c k : ℕ) (head : List ℕ) (nodes : NodesText)

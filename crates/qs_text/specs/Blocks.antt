@@ -1,10 +1,31 @@
 -- Texts of a program's graphs, block by block: a head, and the nodes with what is held at each.
-use Rattle.std.specs.Prelude.{◌≡◌, ℕ, List, ◌++◌, length, Bool}
+use Rattle.std.specs.Prelude.{◌≡◌, ℕ, List, ◌++◌, length, Bool, false}
+use Rattle.std.specs.List.{filter}
 use Rattle.qs_program.specs.Program.{ProgramShape, blocks_of, own_block}
+use Rattle.qs_graph.specs.declared.node.Node.{Node}
+use Rattle.qs_graph.specs.declared.node.Node.TheVariants.{Sync}
 use Rattle.qs_graph.specs.Names.{graph_of}
-use Rattle.qs_graph.specs.Nodes.{ControlGraph}
-use Rattle.qs_held_sets.specs.Table.{AreSetsOf}
+use Rattle.qs_graph.specs.Nodes.{ControlGraph, GraphNode, place_at}
+use Rattle.qs_held_sets.specs.Flow.{Holding}
+use Rattle.qs_held_sets.specs.Table.{AreSetsOf, has}
 use Rattle.qs_text.specs.Texts.{AreTextsUpTo}
+
+-- a synchronisation is removed exactly where its own name is held
+abbrev pub is_removed : Holding → Node → Bool
+is_removed held (Sync h) = held h
+is_removed held _ = false
+
+abbrev pub removed_at : List GraphNode → (sets : List (List Bool)) → ℕ → Bool
+removed_at g sets n = is_removed (has sets n) (place_at g n).node
+
+-- the text of a node, by its number, what it does and where it leads, whether it is removed, and which names are held
+-- there
+abbrev pub NodeText : Type 0
+NodeText = (n : ℕ) → GraphNode → (removed : Bool) → (names : List ℕ) → List ℕ
+
+-- node n of a graph, with the names of the block's list that are held there, in the list's order
+abbrev pub node_at : NodeText → (reserved : List ℕ) → List GraphNode → (sets : List (List Bool)) → ℕ → List ℕ
+node_at node reserved g sets n = node n (place_at g n) (removed_at g sets n) (filter (has sets n) reserved)
 
 -- the text of a graph's nodes, by the names of the block's list and by what is held at each node
 abbrev pub NodesText : Type 0

@@ -1,5 +1,6 @@
 -- The nodes before this number are there.
 use Rattle.std.proofs.Common.{◌≡◌, ◌++◌}
+use Rattle.qs_text.specs.Blocks.{node_at}
 use Rattle.qs_text.specs.Texts.{texts_up_to}
 use Rattle.qs_dot.specs.DotText.{node_text}
 use Rattle.qs_dot.proofs.nodes.put_all_nodes.Given as goal
@@ -8,4 +9,4 @@ abbrev pub invariant-loop-n : goal.invariant-loop-n
 invariant-loop-n l =
     l.out.items
     ≡ l.initial.out.items
-    ++ texts_up_to l.n (node_text l.block.program.now l.block.ticket.client l.block.ticket.index l.lines l.block.reserved.now l.block.graph.now.nodes l.block.sets.now)
+    ++ texts_up_to l.n (node_at (node_text l.block.program.now l.block.ticket.client l.block.ticket.index l.lines) l.block.reserved.now l.block.graph.now.nodes l.block.sets.now)

@@ -3,6 +3,7 @@ use Rattle.std.specs.Prelude.{slice_get}
 use Rattle.std.proofs.lemmas.Result.{on_ok_weaker}
 use Rattle.qs_graph.specs.Nodes.{place_at}
 use Rattle.qs_held_sets.specs.Table.{has}
+use Rattle.qs_text.specs.Blocks.{removed_at}
 use Rattle.qs_dot.specs.DotText.{head_text, held_text, place_text}
 use Rattle.qs_dot.specs.Written.{written}
 use Rattle.qs_dot.proofs.Parts.{then}
@@ -14,7 +15,7 @@ returns c =
     let p = b.program.now in
     let g = b.graph.now.nodes in
     let client = b.ticket.client in
-    let head = head_text client b.ticket.index g b.sets.now c.args.n in
+    let head = head_text client b.ticket.index c.args.n (place_at g c.args.n) (removed_at g b.sets.now c.args.n) in
     let said = written p client (place_at g c.args.n).node in
     let place = place_text (slice_get c.args.lines.now c.args.n) in
     let held = held_text p client (filter (has b.sets.now c.args.n) b.reserved.now) in
