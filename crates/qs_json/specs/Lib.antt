@@ -3,8 +3,10 @@ pub mod Pieces
 pub mod RunJson
 pub mod FaultJson
 pub mod OutcomesJson
+pub mod EndsJson
 pub mod GraphJson
 -- What crates promise one another, what proofs use, and worked examples.
 pub mod RunJsonExamples
 pub mod OutcomesJsonExamples
+pub mod EndsJsonExamples
 pub mod GraphJsonExamples

@@ -1,5 +1,7 @@
 //! Worked examples of texts for machines, and what holds of them.
 
+ghost use Rattle.qs_json.specs.EndsJson.{EndsJsonIsUnique};
+ghost use Rattle.qs_json.specs.EndsJsonExamples.{EndsJsonExamples};
 ghost use Rattle.qs_json.specs.GraphJson.{GraphJsonIsUnique};
 ghost use Rattle.qs_json.specs.GraphJsonExamples.{GraphJsonExamples};
 ghost use Rattle.qs_json.specs.OutcomesJson.{OutcomesJsonIsUnique};
@@ -30,4 +32,14 @@ pub fn graph_json_examples()
 /// A sound program has one text of its graphs; it does nothing.
 pub fn graph_json_is_unique()
     ensures unique { GraphJsonIsUnique }
+{}
+
+/// The texts of two ends, worked out by hand; it does nothing.
+pub fn ends_json_examples()
+    ensures examples { EndsJsonExamples }
+{}
+
+/// A program has one text of its ends after a front, also where the limit is another one; it does nothing.
+pub fn ends_json_is_unique()
+    ensures unique { EndsJsonIsUnique }
 {}

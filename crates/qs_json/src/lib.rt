@@ -2,6 +2,7 @@
 #![tactic(auto)]
 
 mod counts;
+mod ends;
 mod events;
 mod faults;
 mod graphs;
@@ -12,6 +13,7 @@ mod runs;
 mod states;
 
 pub use counts::counts_json;
+pub use ends::ends_json;
 pub use faults::fault_json;
 pub use graphs::graph_json;
 pub use outcomes::outcomes_json;

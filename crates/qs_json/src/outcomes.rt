@@ -130,7 +130,11 @@ fn put_object(
 }
 
 // All clients at the end, with a comma between each two.
-fn put_clients(out: &mut Vec<u8>, program: &Program, standing: &Standing) -> Result<(), AllocError>
+pub(crate) fn put_clients(
+    out: &mut Vec<u8>,
+    program: &Program,
+    standing: &Standing,
+) -> Result<(), AllocError>
     requires places { HasPlaces program.now standing.now }
     ensures ok { OnOk result (Puts (texts_up_to (length program.now.clients) (element (client_json program.now standing.now))) out.old.items out.new.items) }
 {
@@ -143,7 +147,11 @@ fn put_clients(out: &mut Vec<u8>, program: &Program, standing: &Standing) -> Res
 }
 
 // All objects at the end, with a comma between each two.
-fn put_objects(out: &mut Vec<u8>, program: &Program, standing: &Standing) -> Result<(), AllocError>
+pub(crate) fn put_objects(
+    out: &mut Vec<u8>,
+    program: &Program,
+    standing: &Standing,
+) -> Result<(), AllocError>
     requires places { HasPlaces program.now standing.now }
     ensures ok { OnOk result (Puts (texts_up_to (length program.now.objects) (element (object_json program.now standing.now))) out.old.items out.new.items) }
 {

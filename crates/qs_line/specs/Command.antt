@@ -66,9 +66,11 @@ play_app = shared_app (planned_app (machine_app (codes "play")))
 abbrev pub run_app : App
 run_app = shared_app (with_rule (machine_app (codes "run")) (flag_rule (codes "counts")))
 
--- `outcomes [--limit N] [--after LIST] [--format F] [--warn]`
+-- `outcomes [--limit N] [--after LIST] [--ends] [--format F] [--warn]`
 abbrev pub outcomes_app : App
-outcomes_app = shared_app (with_rule (with_rule (new_app (codes "outcomes")) limit_rule) (option_rule (codes "after")))
+outcomes_app =
+    shared_app (with_rule (with_rule (with_rule (new_app (codes "outcomes")) limit_rule) (option_rule (codes "after")))
+    (flag_rule (codes "ends")))
 
 -- the program's name and its version, with no word `help`
 abbrev pub named_app : App

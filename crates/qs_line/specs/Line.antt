@@ -19,6 +19,8 @@ use Rattle.qs_line.specs.declared.line.Format.{Format}
 use Rattle.qs_line.specs.declared.line.Format.TheVariants as format
 use Rattle.qs_line.specs.declared.line.GraphFormat.{GraphFormat}
 use Rattle.qs_line.specs.declared.line.GraphFormat.TheVariants as graph_format
+use Rattle.qs_line.specs.declared.line.OutcomesFormat.{OutcomesFormat}
+use Rattle.qs_line.specs.declared.line.OutcomesFormat.TheVariants as outcomes_format
 use Rattle.qs_line.specs.declared.line.LineFault.{LineFault}
 use Rattle.qs_line.specs.declared.line.LineFault.TheVariants as fault
 use Rattle.qs_line.specs.declared.line.ReportFormat.{ReportFormat}
@@ -36,8 +38,8 @@ pub data PlanShape : Type 0 where
   by_order : (clients : List Part) → PlanShape
 
 -- what is asked for: the counts; the graphs; a run by the plain rules; one in the optimised machine, in a mode and by
--- chunks of a size; one on threads; or all outcomes after the blocks of some clients, with so many configurations at
--- most. Each is asked for in a format, and of a run the counts of synchronisations may be asked for as well, and of a
+-- chunks of a size; one on threads; or all outcomes after the blocks of some clients, or their ends alone, with so many
+-- configurations at most. Each is asked for in a format, and of a run the counts of synchronisations may be asked for as well, and of a
 -- schedule a line for each step, and what lies where at its end.
 pub data Request : Type 0 where
   check : Format → Request
@@ -45,13 +47,19 @@ pub data Request : Type 0 where
   rules : ReportStyle → PlanShape → Request
   play : ReportStyle → Mode → (chunk : ℕ) → PlanShape → Request
   run : ReportStyle → Mode → ℕ → Request
-  outcomes : GraphFormat → (limit : ℕ) → (front : List Part) → Request
+  outcomes : OutcomesFormat → (limit : ℕ) → (front : List Part) → Request
 
--- the format of a refusal where graphs or outcomes are asked for: beside a drawing it is text
+-- the format of a refusal where graphs are asked for: beside a drawing it is text
 abbrev pub format_beside : GraphFormat → Format
 format_beside graph_format.Text = format.Text
 format_beside graph_format.Json = format.Json
 format_beside graph_format.Dot = format.Text
+
+-- where outcomes are asked for
+abbrev pub format_beside_outcomes : OutcomesFormat → Format
+format_beside_outcomes (outcomes_format.List how) = how
+format_beside_outcomes (outcomes_format.Ends how) = how
+format_beside_outcomes outcomes_format.Dot = format.Text
 
 -- and where a report is asked for: beside a picture it is text
 abbrev pub format_beside_report : ReportFormat → Format
@@ -66,7 +74,7 @@ format_of_request (graph how) = format_beside how
 format_of_request (rules style plan) = format_beside_report style.format
 format_of_request (play style mode chunk plan) = format_beside_report style.format
 format_of_request (run style mode chunk) = format_beside_report style.format
-format_of_request (outcomes how limit front) = format_beside how
+format_of_request (outcomes how limit front) = format_beside_outcomes how
 
 abbrev pub plan_of : Plan → PlanShape
 plan_of (plan.Schedule rounds picks) = by_schedule rounds picks.items
@@ -128,6 +136,18 @@ format_at rows = option_and_then format_in (first_of (codes "format") rows)
 
 abbrev pub graph_format_at : List Row → Option GraphFormat
 graph_format_at rows = option_and_then graph_format_in (first_of (codes "format") rows)
+
+-- outcomes in a format of graphs
+abbrev pub listed_as_graphs : GraphFormat → OutcomesFormat
+listed_as_graphs graph_format.Text = outcomes_format.List format.Text
+listed_as_graphs graph_format.Json = outcomes_format.List format.Json
+listed_as_graphs graph_format.Dot = outcomes_format.Dot
+
+-- the ends alone where the line asks for them, which are no drawing
+abbrev pub outcomes_format_at : List Row → Option OutcomesFormat
+outcomes_format_at rows =
+    if flag_at (codes "ends") rows then option_map outcomes_format.Ends (format_at rows)
+    else option_map listed_as_graphs (graph_format_at rows)
 
 abbrev pub report_format_at : List Row → Option ReportFormat
 report_format_at rows = option_and_then report_format_in (first_of (codes "format") rows)
@@ -214,7 +234,7 @@ run_at rows =
 abbrev pub outcomes_at : List Row → Option Request
 outcomes_at rows =
     option_and_then (λ how. option_and_then (λ limit. option_map (outcomes how limit) (front_at rows)) (limit_at rows))
-    (graph_format_at rows)
+    (outcomes_format_at rows)
 
 -- what a word asks for, with the entries that clap finds after it
 abbrev pub request_at : Text → List Row → Option Request

@@ -9,6 +9,7 @@ use Rattle.qs_line.specs.Parts.{times}
 use Rattle.qs_syncset.specs.declared.mode.Mode.TheVariants.{Plain, Dynamic, Static, Both}
 use Rattle.qs_line.specs.declared.line.Format.TheVariants as format
 use Rattle.qs_line.specs.declared.line.GraphFormat.TheVariants as graph_format
+use Rattle.qs_line.specs.declared.line.OutcomesFormat.TheVariants as outcomes_format
 use Rattle.qs_line.specs.declared.line.ReportFormat.TheVariants as report_format
 use Rattle.qs_line.specs.declared.line.ReportStyle.{ReportStyle}
 use Rattle.qs_line.specs.Line.{Line, asks, by_order, by_schedule, check, graph, help, is_verbose_in, line_in, outcomes, play, refused, rules, run, version, warns_in}
@@ -47,7 +48,7 @@ pub record DefaultLines : Type 0 where
   pub rules_alone : line (codes "rules" ∷ []) ≡ asks (rules plain (by_schedule 1000000 []))
   pub play_alone : line (codes "play" ∷ []) ≡ asks (play plain Both 8 (by_schedule 1000000 []))
   pub run_alone : line (codes "run" ∷ []) ≡ asks (run plain Both 8)
-  pub outcomes_alone : line (codes "outcomes" ∷ []) ≡ asks (outcomes graph_format.Text 1000000 [])
+  pub outcomes_alone : line (codes "outcomes" ∷ []) ≡ asks (outcomes (outcomes_format.List format.Text) 1000000 [])
 
 pub record SetLines : Type 0 where
   pub mode : line (codes "play" ∷ codes "--mode" ∷ codes "static" ∷ [])
@@ -63,8 +64,8 @@ pub record SetLines : Type 0 where
   pub runs : line (codes "run" ∷ codes "--chunk" ∷ codes "4" ∷ codes "--mode=static" ∷ []) ≡ asks (run plain Static 4)
 
 pub record LimitLines : Type 0 where
-  pub least : line (codes "outcomes" ∷ codes "--limit" ∷ codes "1" ∷ []) ≡ asks (outcomes graph_format.Text 1 [])
-  pub most : line (codes "outcomes" ∷ codes "--limit=4294967295" ∷ []) ≡ asks (outcomes graph_format.Text 4294967295 [])
+  pub least : line (codes "outcomes" ∷ codes "--limit" ∷ codes "1" ∷ []) ≡ asks (outcomes (outcomes_format.List format.Text) 1 [])
+  pub most : line (codes "outcomes" ∷ codes "--limit=4294967295" ∷ []) ≡ asks (outcomes (outcomes_format.List format.Text) 4294967295 [])
   pub none : line (codes "outcomes" ∷ codes "--limit" ∷ codes "0" ∷ []) ≡ refused
   pub one_more : line (codes "outcomes" ∷ codes "--limit" ∷ codes "4294967296" ∷ []) ≡ refused
   pub negative : line (codes "outcomes" ∷ codes "--limit=-1" ∷ []) ≡ refused
@@ -76,15 +77,15 @@ pub record LimitLines : Type 0 where
 
 pub record FrontLines : Type 0 where
   pub one : line (codes "outcomes" ∷ codes "--after" ∷ codes "c1" ∷ [])
-      ≡ asks (outcomes graph_format.Text 1000000 (once (Client 1) ∷ []))
+      ≡ asks (outcomes (outcomes_format.List format.Text) 1000000 (once (Client 1) ∷ []))
   pub more : line (codes "outcomes" ∷ codes "--after=c0,c9,c0" ∷ codes "--limit=7" ∷ [])
-      ≡ asks (outcomes graph_format.Text 7 (once (Client 0) ∷ once (Client 9) ∷ once (Client 0) ∷ []))
+      ≡ asks (outcomes (outcomes_format.List format.Text) 7 (once (Client 0) ∷ once (Client 9) ∷ once (Client 0) ∷ []))
   pub a_handler : line (codes "outcomes" ∷ codes "--after" ∷ codes "c0,h0" ∷ []) ≡ refused
   pub nobody : line (codes "outcomes" ∷ codes "--after" ∷ [] ∷ []) ≡ refused
   pub a_bare_name : line (codes "outcomes" ∷ codes "--after" ∷ codes "ann" ∷ []) ≡ refused
   pub two_digits : line (codes "outcomes" ∷ codes "--after" ∷ codes "c10" ∷ []) ≡ refused
   pub repeated : line (codes "outcomes" ∷ codes "--after=@ann*2,c1" ∷ [])
-      ≡ asks (outcomes graph_format.Text 1000000 (times 2 (Name (codes "ann")) ∷ once (Client 1) ∷ []))
+      ≡ asks (outcomes (outcomes_format.List format.Text) 1000000 (times 2 (Name (codes "ann")) ∷ once (Client 1) ∷ []))
   pub twice : line (codes "outcomes" ∷ codes "--after=c0" ∷ codes "--after=c0" ∷ []) ≡ refused
   pub of_play : line (codes "play" ∷ codes "--after" ∷ codes "c0" ∷ []) ≡ refused
 
@@ -128,7 +129,7 @@ pub record FormatLines : Type 0 where
       ≡ asks (play (record as_json { counts = true }) Both 8 (by_schedule 1000000 []))
   pub runs : line (codes "run" ∷ codes "--format=json" ∷ []) ≡ asks (run as_json Both 8)
   pub lists : line (codes "outcomes" ∷ codes "--format=json" ∷ codes "--limit=7" ∷ [])
-      ≡ asks (outcomes graph_format.Json 7 [])
+      ≡ asks (outcomes (outcomes_format.List format.Json) 7 [])
   pub play_as_text : line (codes "play" ∷ codes "--format=text" ∷ [])
       ≡ asks (play plain Both 8 (by_schedule 1000000 []))
   pub rules_as_picture : line (codes "rules" ∷ codes "--format=svg" ∷ codes "--order=c0" ∷ [])
@@ -143,7 +144,13 @@ pub record FormatLines : Type 0 where
   pub of_play : line (codes "play" ∷ codes "--format=dot" ∷ []) ≡ refused
   pub of_run : line (codes "run" ∷ codes "--format" ∷ codes "xml" ∷ []) ≡ refused
   pub outcomes_as_drawing : line (codes "outcomes" ∷ codes "--format=dot" ∷ codes "--after=c1" ∷ [])
-      ≡ asks (outcomes graph_format.Dot 1000000 (once (Client 1) ∷ []))
+      ≡ asks (outcomes outcomes_format.Dot 1000000 (once (Client 1) ∷ []))
+  pub ends : line (codes "outcomes" ∷ codes "--ends" ∷ [])
+      ≡ asks (outcomes (outcomes_format.Ends format.Text) 1000000 [])
+  pub ends_as_json : line (codes "outcomes" ∷ codes "--format=json" ∷ codes "--ends" ∷ codes "--limit=7" ∷ [])
+      ≡ asks (outcomes (outcomes_format.Ends format.Json) 7 [])
+  pub ends_as_drawing : line (codes "outcomes" ∷ codes "--ends" ∷ codes "--format=dot" ∷ []) ≡ refused
+  pub ends_of_a_run : line (codes "play" ∷ codes "--ends" ∷ []) ≡ refused
   pub before_word : line (codes "--format=dot" ∷ codes "graph" ∷ []) ≡ refused
 
 -- the steps of a schedule are told before a report as text alone
@@ -236,7 +243,7 @@ pub record WarnedLines : Type 0 where
   pub checks : line (codes "check" ∷ codes "--warn" ∷ []) ≡ asks (check format.Text)
   pub runs : line (codes "run" ∷ codes "--warn" ∷ codes "--counts" ∷ []) ≡ asks (run counted Both 8)
   pub lists : line (codes "outcomes" ∷ codes "--limit" ∷ codes "7" ∷ codes "--warn" ∷ [])
-      ≡ asks (outcomes graph_format.Text 7 [])
+      ≡ asks (outcomes (outcomes_format.List format.Text) 7 [])
   pub asked : warns_in (codes "qs" ∷ codes "graph" ∷ codes "--warn" ∷ []) ≡ true
   pub unasked : warns_in (codes "qs" ∷ codes "graph" ∷ []) ≡ false
   pub twice : line (codes "check" ∷ codes "--warn" ∷ codes "--warn" ∷ []) ≡ refused

@@ -177,7 +177,8 @@ fn outcomes_command<'a>(alloc: Global) -> Result<Command<'a>, AllocError>
 {
     let outcomes = word(alloc, "outcomes", help::OUTCOMES, help::OUTCOMES_EXAMPLE)
         .arg(limit_option(alloc))?
-        .arg(option(alloc, "after", "LIST", help::AFTER))?;
+        .arg(option(alloc, "after", "LIST", help::AFTER))?
+        .arg(flag(alloc, "ends", help::ENDS))?;
     shared(alloc, outcomes, help::OUTCOMES_FORMAT)
 }
 

@@ -105,9 +105,12 @@ pub const OUTCOMES_EXAMPLE: &str = with_limits!(
 Example:
   qs outcomes --limit 5000 < my.script
   qs outcomes --after @bob,@ann < my.script
+  qs outcomes --ends < my.script
   qs outcomes --format dot < my.script | dot -Tsvg > my.svg
 
-The third draws how blocks lead from one configuration to the next, with a second outline for each outcome. The second lists only what comes after a block of bob and then one of ann. A line `outcome 2 c1,c0` begins the second
+The second lists only what comes after a block of bob and then one of ann. The third lists the ends alone, so that `diff`
+compares two scripts. The fourth draws how blocks lead from one configuration to the next, with a second outline for
+each outcome. A line `outcome 2 c1,c0` begins the second
 result: the block of client 1, bob, first, then that of client 0, ann. Below it stand the objects at the end, and each
 client with its variables. Configurations, which the last line counts, are where the script can stand between two blocks."
 );
@@ -134,6 +137,9 @@ pub const ROUNDS: &str =
 
 pub const LIMIT: &str =
     "How many configurations are looked at, at most: 1 to 4294967295; where there are more, nothing is listed";
+
+pub const ENDS: &str =
+    "The ends alone, each once, without orders and numbers, in the order of their texts";
 
 pub const AFTER: &str =
     "Whose blocks were run before, joined by commas, each client's in turn: c0 is the first client, @bob the one called bob; @bob*2 is @bob,@bob";

@@ -17,8 +17,8 @@ mod told;
 pub use fault::{ListFault, Why};
 pub use limits::MOST_ACTORS;
 pub use line::{
-    Asked, Format, GraphFormat, LineFault, ReportFormat, ReportStyle, Settings, asked_for,
-    read_line,
+    Asked, Format, GraphFormat, LineFault, OutcomesFormat, ReportFormat, ReportStyle, Settings,
+    asked_for, read_line,
 };
 pub use named::{actors_of, clients_of};
 pub use parts::{Part, Who};

@@ -4,7 +4,7 @@ ghost use Rattle.std.specs.Prelude.{◌≡◌, [], IfOk, IfErr, map, option_and_
 ghost use Rattle.clap.specs.Words.{found_of, kind_of, rows_of, subcommand_of, subcommand_rows_of};
 ghost use Rattle.clap.specs.Faults.{fault_of};
 ghost use Rattle.qs_line.specs.Command.{qs_app};
-ghost use Rattle.qs_line.specs.Line.{IsAnswer, IsFault, IsFaultAmong, check_at, chunk_at, flag_at, format_at, front_at, graph_at, graph_format_at, is_verbose_in, is_verbose_met, limit_at, line_in, mode_at, outcomes_at, plan_of, play_at, report_format_at, request_at, request_met, request_of, rules_at, run_at, style_at, styled_plan, can_tell, warns_in, warns_met};
+ghost use Rattle.qs_line.specs.Line.{IsAnswer, IsFault, IsFaultAmong, check_at, chunk_at, flag_at, format_at, front_at, graph_at, graph_format_at, is_verbose_in, is_verbose_met, limit_at, line_in, mode_at, outcomes_at, outcomes_format_at, plan_of, play_at, report_format_at, request_at, request_met, request_of, rules_at, run_at, style_at, styled_plan, can_tell, warns_in, warns_met};
 
 use crate::command::command;
 use crate::found::text_at;
@@ -26,15 +26,14 @@ pub enum Format {
     Json,
 }
 
-/// How graphs and outcomes are written.
+/// How graphs are written.
 #[derive(Clone, Copy, Debug)]
 pub enum GraphFormat {
     /// As lines of words.
     Text,
     /// As JSON, for programs.
     Json,
-    /// As a drawing in the DOT language, which graphviz draws: the graphs, or the configurations that lead to the
-    /// outcomes.
+    /// As a drawing in the DOT language, which graphviz draws.
     Dot,
 }
 
@@ -48,6 +47,31 @@ impl GraphFormat {
         match self {
             GraphFormat::Text | GraphFormat::Dot => Format::Text,
             GraphFormat::Json => Format::Json,
+        }
+    }
+}
+
+/// What is written of outcomes, and how.
+#[derive(Clone, Copy, Debug)]
+pub enum OutcomesFormat {
+    /// Each outcome with its number and an order that comes to it.
+    List(Format),
+    /// The ends alone, in the order of their texts.
+    Ends(Format),
+    /// The configurations that lead to them, as a drawing in the DOT language, which graphviz draws.
+    Dot,
+}
+
+impl OutcomesFormat {
+    ghost use Rattle.qs_line.specs.Line.{format_beside_outcomes};
+
+    // In which format a refusal is written where this one is asked for: beside a drawing it is text.
+    fn refusals(self) -> Format
+        ensures format { result ≡ format_beside_outcomes self }
+    {
+        match self {
+            OutcomesFormat::List(format) | OutcomesFormat::Ends(format) => format,
+            OutcomesFormat::Dot => Format::Text,
         }
     }
 }
@@ -119,8 +143,8 @@ pub enum Settings {
     },
     /// Check it, and list all outcomes.
     Outcomes {
-        /// How they are written.
-        format: GraphFormat,
+        /// What is written of them, and how.
+        format: OutcomesFormat,
         /// How many configurations are looked at, at most.
         limit: u32,
         /// Whose blocks were run before.
@@ -207,6 +231,20 @@ fn graph_format_of(found: &ArgMatches<'_>) -> Option<GraphFormat>
         "json" => Some(GraphFormat::Json),
         "dot" => Some(GraphFormat::Dot),
         _ => None,
+    }
+}
+
+// What is written of outcomes, and how: the ends are no drawing.
+fn outcomes_format_of(found: &ArgMatches<'_>) -> Option<OutcomesFormat>
+    ensures format { result ≡ outcomes_format_at (rows_of (found_of found.now)) }
+{
+    if has_flag(found, "ends") {
+        return Some(OutcomesFormat::Ends(format_of(found)?));
+    }
+    match graph_format_of(found)? {
+        GraphFormat::Text => Some(OutcomesFormat::List(Format::Text)),
+        GraphFormat::Json => Some(OutcomesFormat::List(Format::Json)),
+        GraphFormat::Dot => Some(OutcomesFormat::Dot),
     }
 }
 
@@ -347,7 +385,7 @@ fn outcomes_settings(alloc: Global, found: &ArgMatches<'_>) -> Result<Option<Set
     ensures settings { IfOk result (λ settings. option_map request_of settings ≡ outcomes_at (rows_of (found_of found.now))) }
 {
     let (Some(format), Some(limit), Some(front)) = (
-        graph_format_of(found),
+        outcomes_format_of(found),
         limit_of(found),
         given_front(alloc, found)?,
     ) else {

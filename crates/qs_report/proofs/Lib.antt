@@ -3,4 +3,5 @@ pub mod Quick
 pub mod SyncLines
 pub mod UniqueTexts
 pub mod UniqueOutcomes
+pub mod UniqueEnds
 pub mod WorkedTexts

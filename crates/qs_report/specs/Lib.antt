@@ -2,9 +2,11 @@
 pub mod Report
 pub mod GraphText
 pub mod OutcomesText
+pub mod EndsText
 pub mod Faults
 -- What crates promise one another, what proofs use, and worked examples.
 pub mod Lines
 pub mod Examples
 pub mod GraphTextExamples
 pub mod OutcomesTextExamples
+pub mod EndsTextExamples

@@ -1,5 +1,7 @@
 //! Worked examples of the texts, and what holds of the texts of graphs and of outcomes.
 
+ghost use Rattle.qs_report.specs.EndsText.{EndsTextsAreUnique};
+ghost use Rattle.qs_report.specs.EndsTextExamples.{EndsTextExamples};
 ghost use Rattle.qs_report.specs.Examples.{Examples};
 ghost use Rattle.qs_report.specs.GraphText.{GraphTextsAreUnique};
 ghost use Rattle.qs_report.specs.GraphTextExamples.{GraphTextExamples};
@@ -29,4 +31,14 @@ pub fn outcomes_text_examples()
 /// A program has one text of its outcomes after a front, also where the limit is another one; it does nothing.
 pub fn outcomes_texts_are_unique()
     ensures unique { OutcomesTextsAreUnique }
+{}
+
+/// The texts of two ends, worked out by hand; it does nothing.
+pub fn ends_text_examples()
+    ensures examples { EndsTextExamples }
+{}
+
+/// A program has one text of its ends after a front, also where the limit is another one; it does nothing.
+pub fn ends_texts_are_unique()
+    ensures unique { EndsTextsAreUnique }
 {}

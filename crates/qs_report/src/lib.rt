@@ -2,6 +2,7 @@
 #![tactic(auto)]
 
 mod counts;
+mod ends;
 mod faults;
 mod graphs;
 pub mod laws;
@@ -12,6 +13,7 @@ mod states;
 mod tickets;
 
 pub use counts::check_text;
+pub use ends::ends_text;
 pub use faults::{Fault, fault_line, fault_line_watched, place_of, status, words_of};
 pub use graphs::graph_text;
 pub use outcomes::{outcome_at, outcomes_text};

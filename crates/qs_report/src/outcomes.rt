@@ -111,7 +111,11 @@ fn put_object(
 }
 
 // All clients at the end.
-fn put_clients(out: &mut Vec<u8>, program: &Program, standing: &Standing) -> Result<(), AllocError>
+pub(crate) fn put_clients(
+    out: &mut Vec<u8>,
+    program: &Program,
+    standing: &Standing,
+) -> Result<(), AllocError>
     requires places { HasPlaces program.now standing.now }
     ensures ok { OnOk result (out.new.items ≡ out.old.items ++ texts_up_to (length program.now.clients) (client_line program.now standing.now)) }
 {
@@ -123,7 +127,11 @@ fn put_clients(out: &mut Vec<u8>, program: &Program, standing: &Standing) -> Res
 }
 
 // All objects at the end.
-fn put_objects(out: &mut Vec<u8>, program: &Program, standing: &Standing) -> Result<(), AllocError>
+pub(crate) fn put_objects(
+    out: &mut Vec<u8>,
+    program: &Program,
+    standing: &Standing,
+) -> Result<(), AllocError>
     requires places { HasPlaces program.now standing.now }
     ensures ok { OnOk result (out.new.items ≡ out.old.items ++ texts_up_to (length program.now.objects) (object_line program.now standing.now)) }
 {

@@ -16,17 +16,19 @@ use Rattle.qs_serial.specs.declared.fault.OrderFault.TheVariants as order_fault
 use Rattle.qs_outcomes.specs.Outcomes.{AreOutcomesAfter, OutcomesShape}
 use Rattle.qs_outcomes.specs.declared.fault.OutcomesFault.{OutcomesFault}
 use Rattle.qs_outcomes.specs.declared.fault.OutcomesFault.TheVariants as outcomes_fault
+use Rattle.qs_report.specs.EndsText.{IsEndsText}
 use Rattle.qs_report.specs.OutcomesText.{IsOutcomesText}
+use Rattle.qs_json.specs.EndsJson.{IsEndsJson}
 use Rattle.qs_json.specs.OutcomesJson.{IsOutcomesJson}
 use Rattle.qs_line.specs.Named.{clients_of}
 use Rattle.qs_line.specs.declared.parts.Part.{Part}
 use Rattle.qs_line.specs.declared.line.Format.{Format}
 use Rattle.qs_line.specs.declared.line.Format.TheVariants as format
-use Rattle.qs_line.specs.declared.line.GraphFormat.{GraphFormat}
+use Rattle.qs_line.specs.declared.line.OutcomesFormat.{OutcomesFormat}
 use Rattle.qs_line.specs.declared.line.GraphFormat.TheVariants as graph_format
 use Rattle.qs_line.specs.declared.line.ReportStyle.{ReportStyle}
 use Rattle.qs_line.specs.Line.{Line, Request, asks, check, graph, help, outcomes, play, refused, rules, run, version}
-use Rattle.qs_serve.specs.Due.{AreLinesFor, AreLinesWhere, IsDue, IsDueAfter, IsDueOfProgram, IsListOf, IsOutOfMemory, IsRefusedBy, IsReportBetween, IsReportOf, IsSomeText, IsTextBy, IsTextOfOutcomes, Lines, IsUnlisted, due_status, limit_in, listed_as, listed_in, report_by, told_report}
+use Rattle.qs_serve.specs.Due.{AreLinesFor, AreLinesWhere, IsDue, IsDueAfter, IsDueOfProgram, IsListOf, IsOutOfMemory, IsRefusedBy, IsReportBetween, IsReportOf, IsSomeText, IsTextBy, IsTextOfOutcomes, Lines, IsUnlisted, due_status, limit_in, listed_as, IsTextOfList, report_by, told_report}
 use Rattle.qs_serve.specs.declared.due.Due.{Due}
 use Rattle.qs_serve.specs.declared.due.Due.TheVariants.{Text, Refused}
 
@@ -143,27 +145,31 @@ pub lines_are_no_input : (steps queues : List ℕ) (style : ReportStyle) (p : Pr
 lines_are_no_input steps queues style p played (Text bytes) is = λ none. none
 lines_are_no_input steps queues style p played (Refused f) is = λ e. absurd (cc (is, e))
 
--- a list of outcomes that is due by what was asked for, in either format
-due_by_list : (how : Format) (p : ProgramShape) (limit : ℕ) (clients : List ℕ) (all : OutcomesShape) (text : List ℕ)
-    → AreOutcomesAfter p (order_of clients) all → all.configurations ≤ limit → text ≡ listed_in how p all
-    → IsTextOfOutcomes (listed_as how) p limit clients text
-unfolding IsOutcomesText IsOutcomesJson
-due_by_list format.Text p limit clients all text are within is = (all, are, within, is)
-due_by_list format.Json p limit clients all text are within is = (all, are, within, is)
+-- a list of outcomes, or of their ends, that is due by what was asked for, in either format
+due_by_list : (ends : Bool) (how : Format) (p : ProgramShape) (limit : ℕ) (clients : List ℕ) (all : OutcomesShape) (text : List ℕ)
+    → AreOutcomesAfter p (order_of clients) all → all.configurations ≤ limit → IsTextOfList ends how p all text
+    → IsTextOfOutcomes (listed_as ends how) p limit clients text
+unfolding IsOutcomesText IsOutcomesJson IsEndsText IsEndsJson
+due_by_list false format.Text p limit clients all text are within is = (all, are, within, is)
+due_by_list false format.Json p limit clients all text are within is = (all, are, within, is)
+due_by_list true format.Text p limit clients all text are within is = (all, are, within, is)
+due_by_list true format.Json p limit clients all text are within is = (all, are, within, is)
 
-pub due_after_list : (how : Format) (p : ProgramShape) (limit : ℕ) (clients : List ℕ) (all : OutcomesShape) (due : Due)
-    → AreOutcomesAfter p (order_of clients) all → all.configurations ≤ limit → IsListOf how p all due → IsDueAfter (listed_as how) p limit clients due
-due_after_list how p limit clients all (Text bytes) are within is = due_by_list how p limit clients all bytes.items are within is
-due_after_list how p limit clients all (Refused f) are within is = subst (λ g. IsDueAfter (listed_as how) p limit clients (Refused g)) (sym is) tt
+pub due_after_list : (ends : Bool) (how : Format) (p : ProgramShape) (limit : ℕ) (clients : List ℕ) (all : OutcomesShape) (due : Due)
+    → AreOutcomesAfter p (order_of clients) all → all.configurations ≤ limit → IsListOf ends how p all due
+    → IsDueAfter (listed_as ends how) p limit clients due
+due_after_list ends how p limit clients all (Text bytes) are within is = due_by_list ends how p limit clients all bytes.items are within is
+due_after_list ends how p limit clients all (Refused f) are within is =
+    subst (λ g. IsDueAfter (listed_as ends how) p limit clients (Refused g)) (sym is) tt
 
 -- a list has as many configurations as were asked for
-pub unlisted_in : (how : Format) (p : ProgramShape) (limit : ℕ) (clients : List ℕ) (f : OutcomesFault) → IsUnlisted p limit clients f
-    → IsDueAfter (listed_as how) p limit clients (Refused (fault.Outcomes f))
-unlisted_in format.Text p limit clients f is = is
-unlisted_in format.Json p limit clients f is = is
+pub unlisted_in : (ends : Bool) (how : Format) (p : ProgramShape) (limit : ℕ) (clients : List ℕ) (f : OutcomesFault)
+    → IsUnlisted p limit clients f → IsDueAfter (listed_as ends how) p limit clients (Refused (fault.Outcomes f))
+unlisted_in false how p limit clients f is = is
+unlisted_in true how p limit clients f is = is
 
 -- what is due after the blocks of the clients that a list names is due by what was asked for
-pub due_by_outcomes : (how : GraphFormat) (p : ProgramShape) (limit : ℕ) (front : List Part) (clients : List ℕ) (due : Due)
+pub due_by_outcomes : (how : OutcomesFormat) (p : ProgramShape) (limit : ℕ) (front : List Part) (clients : List ℕ) (due : Due)
     → clients_of p front ≡ Ok clients → IsDueAfter how p limit clients due → IsOutOfMemory due ⊎ IsDueOfProgram (outcomes how limit front) [] p due
 due_by_outcomes how p limit front clients (Text bytes) named is =
     inr (of_named (λ xs. IsTextOfOutcomes how p limit xs bytes.items) (clients_of p front) clients named is)

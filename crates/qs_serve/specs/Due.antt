@@ -22,9 +22,12 @@ use Rattle.qs_dot.specs.DotText.{IsDotText}
 use Rattle.qs_node_lines.specs.NodeLines.{node_lines}
 use Rattle.qs_json.specs.FaultJson.{fault_json}
 use Rattle.qs_json.specs.GraphJson.{IsGraphJson}
+use Rattle.qs_json.specs.EndsJson.{IsEndsJson, ends_json}
 use Rattle.qs_json.specs.OutcomesJson.{IsOutcomesJson, listed_json}
 use Rattle.qs_json.specs.RunJson.{counts_json, run_json}
+use Rattle.qs_report.specs.EndsText.{IsEndsText, end_texts}
 use Rattle.qs_report.specs.OutcomesText.{IsOutcomesText, listed_text}
+use Rattle.qs_text.specs.SortedTexts.{IsInOrder}
 use Rattle.qs_text.specs.Texts.{AppendsFront}
 use Rattle.qs_script.specs.Reads.{IsRefused, IsScriptText}
 use Rattle.qs_tree.specs.declared.tree.Item.{Item}
@@ -55,6 +58,8 @@ use Rattle.qs_line.specs.declared.line.Format.{Format}
 use Rattle.qs_line.specs.declared.line.Format.TheVariants as format
 use Rattle.qs_line.specs.declared.line.GraphFormat.{GraphFormat}
 use Rattle.qs_line.specs.declared.line.GraphFormat.TheVariants as graph_format
+use Rattle.qs_line.specs.declared.line.OutcomesFormat.{OutcomesFormat}
+use Rattle.qs_line.specs.declared.line.OutcomesFormat.TheVariants as outcomes_format
 use Rattle.qs_line.specs.declared.line.ReportFormat.{ReportFormat}
 use Rattle.qs_line.specs.declared.line.ReportFormat.TheVariants as report_format
 use Rattle.qs_line.specs.declared.line.LineFault.{LineFault}
@@ -134,10 +139,20 @@ abbrev pub listed_in : Format → ProgramShape → OutcomesShape → List ℕ
 listed_in format.Text p all = listed_text p all
 listed_in format.Json p all = listed_json p all
 
--- this list; or that an allocation failed
-abbrev pub IsListOf : Format → ProgramShape → OutcomesShape → Due → Type 0
-IsListOf how p all (Text bytes) = bytes.items ≡ listed_in how p all
-IsListOf how p all (Refused f) = f ≡ fault.Memory
+-- the texts of the ends of these outcomes
+abbrev pub ends_in : Format → ProgramShape → OutcomesShape → List (List ℕ)
+ends_in format.Text p all = end_texts p all.found
+ends_in format.Json p all = ends_json p all.found
+
+-- this list, or the ends alone in the order of their texts
+abbrev pub IsTextOfList : (ends : Bool) → Format → ProgramShape → OutcomesShape → List ℕ → Type 0
+IsTextOfList false how p all text = text ≡ listed_in how p all
+IsTextOfList true how p all text = IsInOrder (ends_in how p all) text
+
+-- such a text; or that an allocation failed
+abbrev pub IsListOf : (ends : Bool) → Format → ProgramShape → OutcomesShape → Due → Type 0
+IsListOf ends how p all (Text bytes) = IsTextOfList ends how p all bytes.items
+IsListOf ends how p all (Refused f) = f ≡ fault.Memory
 
 -- after as many rounds as a line plays by default, 1,000,000, a run has finished, whatever was picked before them
 abbrev pub FinishesByDefault : (rounds : ℕ) → Played → Type 0
@@ -203,17 +218,19 @@ IsTextOfGraphs graph_format.Json lines p text = IsGraphJson p text
 IsTextOfGraphs graph_format.Dot lines p text = IsDotText p lines text
 
 -- so many configurations there may be where outcomes are asked for: a drawing has no more than 200
-abbrev pub limit_in : GraphFormat → (limit : ℕ) → ℕ
-limit_in graph_format.Text limit = limit
-limit_in graph_format.Json limit = limit
-limit_in graph_format.Dot limit = min limit 200
+abbrev pub limit_in : OutcomesFormat → (limit : ℕ) → ℕ
+limit_in (outcomes_format.List how) limit = limit
+limit_in (outcomes_format.Ends how) limit = limit
+limit_in outcomes_format.Dot limit = min limit 200
 
--- all outcomes of a program after the blocks of some clients, as text or as JSON, or the configurations that lead to
--- them as a drawing
-abbrev pub IsTextOfOutcomes : GraphFormat → ProgramShape → (limit : ℕ) → (clients : List ℕ) → List ℕ → Type 0
-IsTextOfOutcomes graph_format.Text p limit clients text = IsOutcomesText p limit clients text
-IsTextOfOutcomes graph_format.Json p limit clients text = IsOutcomesJson p limit clients text
-IsTextOfOutcomes graph_format.Dot p limit clients text = IsChartDot p (limit_in graph_format.Dot limit) clients text
+-- all outcomes of a program after the blocks of some clients, or their ends alone, as text or as JSON, or the
+-- configurations that lead to them as a drawing
+abbrev pub IsTextOfOutcomes : OutcomesFormat → ProgramShape → (limit : ℕ) → (clients : List ℕ) → List ℕ → Type 0
+IsTextOfOutcomes (outcomes_format.List format.Text) p limit clients text = IsOutcomesText p limit clients text
+IsTextOfOutcomes (outcomes_format.List format.Json) p limit clients text = IsOutcomesJson p limit clients text
+IsTextOfOutcomes (outcomes_format.Ends format.Text) p limit clients text = IsEndsText p limit clients text
+IsTextOfOutcomes (outcomes_format.Ends format.Json) p limit clients text = IsEndsJson p limit clients text
+IsTextOfOutcomes outcomes_format.Dot p limit clients text = IsChartDot p (limit_in outcomes_format.Dot limit) clients text
 
 -- what a request makes of a program: its counts; its graphs; the report of its run by the plain rules or in the
 -- optimised machine; that of an outcome which its run on threads may have; or all its outcomes after the blocks of some
@@ -293,14 +310,13 @@ IsUnlistedBy (outcomes how limit front) p f =
     IsOkAnd (clients_of p front) (λ clients. IsUnlisted p (limit_in how limit) clients f)
 IsUnlistedBy _ p f = ⊥
 
--- the format of a list of outcomes, among those of outcomes
-abbrev pub listed_as : Format → GraphFormat
-listed_as format.Text = graph_format.Text
-listed_as format.Json = graph_format.Json
+-- a list of outcomes in a format, or of their ends alone
+abbrev pub listed_as : (ends : Bool) → Format → OutcomesFormat
+listed_as ends how = if ends then outcomes_format.Ends how else outcomes_format.List how
 
 -- what is due of the outcomes after the blocks of some clients: their text, why they are not listed, or that an
 -- allocation failed
-abbrev pub IsDueAfter : GraphFormat → ProgramShape → (limit : ℕ) → (clients : List ℕ) → Due → Type 0
+abbrev pub IsDueAfter : OutcomesFormat → ProgramShape → (limit : ℕ) → (clients : List ℕ) → Due → Type 0
 IsDueAfter how p limit clients (Text bytes) = IsTextOfOutcomes how p limit clients bytes.items
 IsDueAfter how p limit clients (Refused fault.Memory) = Unit {0}
 IsDueAfter how p limit clients (Refused (fault.Outcomes f)) = IsUnlisted p (limit_in how limit) clients f

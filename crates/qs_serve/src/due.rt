@@ -2,7 +2,7 @@
 
 ghost use Rattle.std.specs.Prelude.{◌≡◌, ◌+◌, ◌≤◌, ◌⊎◌, [], false, length, IfErr, IfOk, OnErr, OnOk, None, map};
 ghost use Rattle.qs_report.specs.declared.faults.Fault.TheVariants as fault;
-ghost use Rattle.qs_line.specs.declared.line.GraphFormat.TheVariants as graph_format;
+ghost use Rattle.qs_line.specs.declared.line.OutcomesFormat.TheVariants as outcomes_format;
 ghost use Rattle.qs_line.specs.Line.{asks, check, graph, line_in, outcomes, request_by, request_of, run};
 ghost use Rattle.qs_serve.specs.Due.{AreLinesFor, HasAsked, IsDue, IsDueAfter, IsDueOfFault, IsDueOfList, IsDueOfProgram, IsDueOfText, IsFormat, IsTextKept, IsKeptBy, IsRefusedBy, IsListOf, IsTextOf, IsOutOfMemory, due_status, format_of_answer, listed_as, longest};
 ghost use Rattle.qs_node_lines.specs.NodeLines.{node_lines};
@@ -17,13 +17,14 @@ use crate::reports::due_of_outcome;
 use qs_check::{CheckFault, Program, check};
 use qs_chunk::ChunkSize;
 use qs_dot::{MOST_PLACES, chart_dot, dot_text};
-use qs_json::{counts_json, graph_json, outcomes_json};
+use qs_json::{counts_json, ends_json, graph_json, outcomes_json};
 use qs_line::{
-    Format, GraphFormat, LineFault, ListFault, Part, ReportStyle, Settings, clients_of, read_line,
+    Format, GraphFormat, LineFault, ListFault, OutcomesFormat, Part, ReportStyle, Settings,
+    clients_of, read_line,
 };
 use qs_node_lines::{NodeLines, node_lines};
 use qs_outcomes::{AllOutcomes, Watcher, outcomes_watched};
-use qs_report::{Fault, check_text, graph_text, outcomes_text, status};
+use qs_report::{Fault, check_text, ends_text, graph_text, outcomes_text, status};
 use qs_run::{FreeGate, FreeStart, Starter, execute_with};
 use qs_script::{ReadFault, read};
 use qs_syncset::Mode;
@@ -120,34 +121,43 @@ fn due_of_run<S: Starter, T: Threads + Wait + Sync>(
     }
 }
 
-// The list of all outcomes, in a format.
-fn due_of_all(alloc: Global, program: &Program, format: Format, all: AllOutcomes) -> Due
+// The list of all outcomes, or of their ends alone, in a format.
+fn due_of_all(
+    alloc: Global,
+    program: &Program,
+    ends: bool,
+    format: Format,
+    all: AllOutcomes,
+) -> Due
     requires places { AllByRecursion (HasPlaces program.now) all.found }
-    ensures due { IsListOf format program.now all result }
+    ensures due { IsListOf ends format program.now all result }
 {
-    let text = match format {
-        Format::Text => outcomes_text(alloc, program, &all),
-        Format::Json => outcomes_json(alloc, program, &all),
+    let text = match (ends, format) {
+        (false, Format::Text) => outcomes_text(alloc, program, &all),
+        (false, Format::Json) => outcomes_json(alloc, program, &all),
+        (true, Format::Text) => ends_text(alloc, program, &all),
+        (true, Format::Json) => ends_json(alloc, program, &all),
     };
     drop(all);
     due_of_bytes(text)
 }
 
-// All outcomes after the blocks of some clients as a list, found over so many configurations at most; a watcher is told
-// of each.
+// All outcomes after the blocks of some clients as a list, or their ends alone, found over so many configurations at
+// most; a watcher is told of each.
 fn due_of_list_after<P: Watcher>(
     alloc: Global,
     program: &Program,
+    ends: bool,
     format: Format,
     limit: u32,
     clients: &[u8],
     watcher: &mut P,
 ) -> Due
     ensures not_input { ¬ IsRefusedBy fault.Input result }
-    ensures due { IsDueAfter (listed_as format) program.now limit clients.now result }
+    ensures due { IsDueAfter (listed_as ends format) program.now limit clients.now result }
 {
     match outcomes_watched(alloc, program, clients, limit, watcher) {
-        Ok(all) => due_of_all(alloc, program, format, all),
+        Ok(all) => due_of_all(alloc, program, ends, format, all),
         Err(fault) => Due::Refused(Fault::Outcomes(fault)),
     }
 }
@@ -155,7 +165,7 @@ fn due_of_list_after<P: Watcher>(
 // The configurations after the blocks of some clients as a drawing.
 fn due_of_drawing_after(alloc: Global, program: &Program, limit: u32, clients: &[u8]) -> Due
     ensures not_input { ¬ IsRefusedBy fault.Input result }
-    ensures due { IsDueAfter graph_format.Dot program.now limit clients.now result }
+    ensures due { IsDueAfter outcomes_format.Dot program.now limit clients.now result }
 {
     let limit = if limit < MOST_PLACES {
         limit
@@ -173,7 +183,7 @@ fn due_of_drawing_after(alloc: Global, program: &Program, limit: u32, clients: &
 fn due_of_outcomes<P: Watcher>(
     alloc: Global,
     program: &Program,
-    format: GraphFormat,
+    format: OutcomesFormat,
     limit: u32,
     front: &[Part],
     watcher: &mut P,
@@ -187,13 +197,13 @@ fn due_of_outcomes<P: Watcher>(
     };
     let clients = clients.as_slice();
     match format {
-        GraphFormat::Text => {
-            due_of_list_after(alloc, program, Format::Text, limit, clients, watcher)
+        OutcomesFormat::List(format) => {
+            due_of_list_after(alloc, program, false, format, limit, clients, watcher)
         }
-        GraphFormat::Json => {
-            due_of_list_after(alloc, program, Format::Json, limit, clients, watcher)
+        OutcomesFormat::Ends(format) => {
+            due_of_list_after(alloc, program, true, format, limit, clients, watcher)
         }
-        GraphFormat::Dot => due_of_drawing_after(alloc, program, limit, clients),
+        OutcomesFormat::Dot => due_of_drawing_after(alloc, program, limit, clients),
     }
 }
 

@@ -7,3 +7,4 @@ pub mod SameTexts
 pub mod BlockTexts
 pub mod CheckedSets
 pub mod WorkedSets
+pub mod SameOrders

@@ -5,8 +5,10 @@
 mod blocks;
 mod bytes;
 mod held;
+pub mod laws;
 mod names;
 mod requests;
+mod sorted;
 mod states;
 mod watching;
 
@@ -19,5 +21,6 @@ pub use names::{
     client_name, declared_name, object_name, put_named, put_names, short_name, variable_name,
 };
 pub use requests::{ended_word, put_reply, put_request, put_whole_request};
+pub use sorted::sorted_text;
 pub use states::put_state;
 pub use watching::{Watch, write_text, write_texts};

@@ -74,6 +74,10 @@ returns c = record {
       of_play = refl;
       of_run = refl;
       outcomes_as_drawing = refl;
+      ends = refl;
+      ends_as_json = refl;
+      ends_as_drawing = refl;
+      ends_of_a_run = refl;
       before_word = refl;
     };
     steps = record {

@@ -6,4 +6,4 @@ returns-in-Ok-clause-due g c =
     let p = c.args.program.now in
     let clients = c.args.clients.now in
     let all = c.in-Ok.all in
-    due_after_list c.args.format p c.args.limit clients all _ c.in-Ok.ensures.outcomes c.in-Ok.ensures.within c.due_of_all.ensures.due
+    due_after_list c.args.ends c.args.format p c.args.limit clients all _ c.in-Ok.ensures.outcomes c.in-Ok.ensures.within c.due_of_all.ensures.due

@@ -1,0 +1,7 @@
+-- The ends before this one are there.
+use Rattle.std.proofs.Common.{◌≡◌, map, take}
+use Rattle.qs_report.specs.EndsText.{end_texts}
+use Rattle.qs_report.proofs.ends.texts_of_ends.Given as goal
+
+abbrev pub invariant-loop-standing : goal.invariant-loop-standing
+invariant-loop-standing l = map (λ text. text.items) l.texts.items ≡ end_texts l.program (take l.standing-index l.found)

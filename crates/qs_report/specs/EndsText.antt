@@ -1,0 +1,32 @@
+-- The ends that a program can come to, each once, as bytes: neither orders nor numbers are told, and the order is that
+-- of the texts, so two programs that come to the same ends have the same text.
+use Rattle.std.specs.Prelude.{◌≡◌, ◌≤◌, ℕ, List, ◌++◌, codes, length, map}
+use Rattle.qs_program.specs.Program.{ProgramShape}
+use Rattle.qs_serial.specs.NamedOrders.{order_of}
+use Rattle.qs_outcomes.specs.Outcomes.{AreOutcomesAfter, OutcomesShape}
+use Rattle.qs_standings.specs.Standings.{StandingShape}
+use Rattle.qs_text.specs.SortedTexts.{IsInOrder}
+use Rattle.qs_text.specs.Texts.{texts_up_to}
+use Rattle.qs_report.specs.OutcomesText.{client_line, object_line}
+
+-- an end: a line that begins it, the objects and the clients with their variables
+abbrev pub end_text : ProgramShape → StandingShape → List ℕ
+end_text p s =
+    codes "end\n" ++ texts_up_to (length p.objects) (object_line p s)
+    ++ texts_up_to (length p.clients) (client_line p s)
+
+abbrev pub end_texts : ProgramShape → List StandingShape → List (List ℕ)
+end_texts p found = map (end_text p) found
+
+-- There is a list of all outcomes of the program after the blocks that a list of clients names, found over no more
+-- configurations than the limit, whose ends have this text.
+unfoldable pub IsEndsText : ProgramShape → (limit : ℕ) → (front : List ℕ) → List ℕ → Type 0
+IsEndsText p limit front text =
+    (all : OutcomesShape) × AreOutcomesAfter p (order_of front) all × (all.configurations ≤ limit)
+    × IsInOrder (end_texts p all.found) text
+
+-- a program has one such text
+abbrev pub EndsTextsAreUnique : Type 0
+EndsTextsAreUnique =
+    (p : ProgramShape) (limit bound : ℕ) (front one other : List ℕ) → IsEndsText p limit front one
+    → IsEndsText p bound front other → one ≡ other
