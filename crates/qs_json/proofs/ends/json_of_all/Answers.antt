@@ -1,0 +1,17 @@
+use Rattle.std.proofs.Common.{◌∙◌, ◌++◌, ℕ, List, [], ◌∷◌, Vec, Global, map, take, get_or, sym, ap, ap₂}
+use Rattle.std.proofs.lemmas.List.{map_push, take_more}
+use Rattle.qs_json.specs.EndsJson.{end_json}
+use Rattle.qs_json.proofs.ends.json_of_all.Goals as goal
+
+pub loop-standing-preserved : goal.loop-standing-preserved
+loop-standing-preserved c =
+    let bytes : Vec ℕ Global → List ℕ = λ text. text.items in
+    let end = end_json c.args.program.now in
+    let found = c.args.found.now in
+    let place = c.loop-standing.standing-index in
+    let made = c.in_ok-json_of_end.field-0 in
+    ap (map bytes) c.in_ok-push.ensures.items
+    ∙ map_push bytes c.loop-standing.texts.items made
+    ∙ ap₂ (λ (texts : List (List ℕ)) text. texts ++ text ∷ []) c.loop-standing.invariant (c.in_ok-json_of_end.ensures.text ∙ ap end c.standing-item.is)
+    ∙ sym (map_push end (take place found) (get_or found place c.standing-item.result))
+    ∙ ap (map end) (sym (take_more found place c.standing-item.result c.loop-standing-test.true))
