@@ -10,4 +10,5 @@ pub mod CollectedRun
 pub mod ShownOutcome
 pub mod CollectedOutcome
 pub mod StartAnswers
+pub mod StartedGroups
 pub mod ReversedPairs

@@ -3,3 +3,4 @@ pub mod Workers
 pub mod Prepared
 pub mod Collected
 pub mod Starts
+pub mod Groups

@@ -11,7 +11,7 @@ use crate::collect::{OutcomeRoom, collect_outcome};
 use crate::prepare::{RunParts, make_parts, make_workers};
 use crate::start::run_workers;
 use crate::starter::{FreeStart, LentStarter, Starter};
-use crate::worker::{ReadyClient, ReadyHandler};
+use crate::worker::{ClientWorker, HandlerWorker, Ready};
 use qs_chunk::ChunkSize;
 use qs_desk::{Desk, DeskName, DeskParts, Front, RawDesk};
 use qs_handler_thread::Gate;
@@ -37,8 +37,8 @@ fn run_ready_workers<
     mode: Mode,
     size: ChunkSize,
     desk: Desk<D>,
-    handlers: Vec<ReadyHandler<D>>,
-    clients: Vec<ReadyClient<D>>,
+    handlers: Vec<Ready<HandlerWorker<D>>>,
+    clients: Vec<Ready<ClientWorker<D>>>,
 ) -> (S, Result<Outcome, RunFault>)
     requires sound { IsSound D.program }
     requires unclosed { desk.closed ≡ false }

@@ -1,7 +1,6 @@
 //! Workers: a client or a handler with all that its thread needs.
 
 ghost use Rattle.std.specs.Prelude.{◌≡◌};
-ghost use Rattle.qs_run.specs.Workers.{IsClientReady, IsHandlerReady};
 
 use qs_client::Mind;
 use qs_client_thread::Lanes as ClientLanes;
@@ -9,6 +8,15 @@ use qs_desk::{DeskName, Share, Tickets};
 use qs_handler_thread::Lanes as HandlerLanes;
 use qs_objects::Held;
 use std::marker::Model;
+
+/// What has a thread of its own in a run: a client or a handler with all that its thread needs.
+pub(crate) trait Worker: Drop {
+    /// Its thread may start.
+    ghost is_ready: { Self → Type 0 };
+
+    /// Its thread has done its work, from the worker before to the worker after.
+    ghost has_worked: { Self → Self → Type 0 };
+}
 
 /// A handler with its object and journal, its queue of tickets, and its end of the lane from each client that has a
 /// lane to it.
@@ -27,86 +35,56 @@ pub(crate) struct ClientWorker<D: DeskName> {
     pub(crate) lanes: ClientLanes,
 }
 
-/// A handler's worker before the run: it has taken no ticket, nothing has passed in its lanes, and it has a lane from
-/// each client that may reserve it.
-pub(crate) struct ReadyHandler<D: DeskName> {
-    worker: HandlerWorker<D>,
+impl<D: DeskName> Worker for HandlerWorker<D> {
+    ghost use Rattle.qs_run.specs.Workers.{HandlerHasServed, IsHandlerReady};
+
+    ghost is_ready = { IsHandlerReady D.program };
+
+    ghost has_worked = { HandlerHasServed D.program };
 }
 
-impl<D: DeskName> Drop for ReadyHandler<D> {
+impl<D: DeskName> Worker for ClientWorker<D> {
+    ghost use Rattle.qs_run.specs.Workers.{ClientHasRun, IsClientReady};
+
+    ghost is_ready = { IsClientReady D.program };
+
+    ghost has_worked = { ClientHasRun };
+}
+
+/// A worker before the run, which is ready.
+pub(crate) struct Ready<W: Worker> {
+    worker: W,
+}
+
+impl<W: Worker> Drop for Ready<W> {
     fn drop(self) {
-        let ReadyHandler { worker: _ } = self;
+        let Ready { worker: _ } = self;
     }
 }
 
-impl<D: DeskName> Model for ReadyHandler<D> {
-    ghost use Rattle.qs_run.specs.Workers.{IsHandlerReady};
-    ghost use Rattle.qs_run.specs.declared.worker.HandlerWorker.{HandlerWorker};
-
-    ghost Value = { HandlerWorker D };
+impl<W: Worker> Model for Ready<W> {
+    ghost Value = { W };
 
     ghost view = { λ r. r.worker };
 
-    ghost invariant = { λ r. IsHandlerReady D.program r.worker };
+    ghost invariant = { λ r. W.is_ready r.worker };
 }
 
-impl<D: DeskName> ReadyHandler<D> {
+impl<W: Worker> Ready<W> {
     /// Takes a worker that is ready.
-    pub(crate) fn new(worker: HandlerWorker<D>) -> ReadyHandler<D>
-        requires ready { IsHandlerReady D.program worker }
+    pub(crate) fn new(worker: W) -> Ready<W>
+        requires ready { W.is_ready worker }
         ensures worker { result ≡ worker }
     {
-        ReadyHandler { worker }
+        Ready { worker }
     }
 
     /// The worker, which is ready.
-    pub(crate) fn into_worker(self) -> HandlerWorker<D>
+    pub(crate) fn into_worker(self) -> W
         ensures worker { result ≡ self }
-        ensures ready { IsHandlerReady D.program result }
+        ensures ready { W.is_ready result }
     {
-        let ReadyHandler { worker } = self;
-        worker
-    }
-}
-
-/// A client's worker before the run: it has booked no block, nothing has passed in its lanes, and it has a lane to each
-/// handler that one of its blocks reserves.
-pub(crate) struct ReadyClient<D: DeskName> {
-    worker: ClientWorker<D>,
-}
-
-impl<D: DeskName> Drop for ReadyClient<D> {
-    fn drop(self) {
-        let ReadyClient { worker: _ } = self;
-    }
-}
-
-impl<D: DeskName> Model for ReadyClient<D> {
-    ghost use Rattle.qs_run.specs.Workers.{IsClientReady};
-    ghost use Rattle.qs_run.specs.declared.worker.ClientWorker.{ClientWorker};
-
-    ghost Value = { ClientWorker D };
-
-    ghost view = { λ r. r.worker };
-
-    ghost invariant = { λ r. IsClientReady D.program r.worker };
-}
-
-impl<D: DeskName> ReadyClient<D> {
-    /// Takes a worker that is ready.
-    pub(crate) fn new(worker: ClientWorker<D>) -> ReadyClient<D>
-        requires ready { IsClientReady D.program worker }
-        ensures worker { result ≡ worker }
-    {
-        ReadyClient { worker }
-    }
-
-    /// The worker, which is ready.
-    pub(crate) fn into_worker(self) -> ClientWorker<D>
-        ensures worker { result ≡ self }
-        ensures ready { IsClientReady D.program result }
-    {
-        let ReadyClient { worker } = self;
+        let Ready { worker } = self;
         worker
     }
 }

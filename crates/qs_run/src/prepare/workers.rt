@@ -8,7 +8,7 @@ ghost use Rattle.qs_run.specs.Prepared.{AreRunParts, IsClientOf, IsHandlerOf, Is
 ghost use Rattle.qs_run.specs.Workers.{AreReady, IsListOf, IsMindAtStart, IsObjectAtStart};
 
 use crate::prepare::RunParts;
-use crate::worker::{ClientWorker, HandlerWorker, ReadyClient, ReadyHandler};
+use crate::worker::{ClientWorker, HandlerWorker, Ready};
 use qs_chunk::ChunkSize;
 use qs_client::Mind;
 use qs_client_thread::Lanes as ClientLanes;
@@ -24,7 +24,7 @@ fn empty_workers<D: DeskName>(
     alloc: Global,
     handlers: usize,
     clients: usize,
-) -> Result<(Vec<ReadyHandler<D>>, Vec<ReadyClient<D>>), AllocError>
+) -> Result<(Vec<Ready<HandlerWorker<D>>>, Vec<Ready<ClientWorker<D>>>), AllocError>
     ensures empty { IfOk result (λ workers. (workers.0.items ≡ []) × (workers.1.items ≡ [])) }
     ensures room { IfOk result (λ workers. (handlers ≤ vec_capacity workers.0) × (clients ≤ vec_capacity workers.1)) }
 {
@@ -35,7 +35,7 @@ fn empty_workers<D: DeskName>(
 
 // Adds the worker of each handler: its object, its queue of tickets, and its ends of lanes.
 fn add_handlers<D: DeskName>(
-    workers: &mut Vec<ReadyHandler<D>>,
+    workers: &mut Vec<Ready<HandlerWorker<D>>>,
     helds: Vec<Held>,
     ins: Vec<HandlerLanes>,
     tickets: [Option<Tickets<D>>; MOST_HANDLERS],
@@ -62,7 +62,7 @@ fn add_handlers<D: DeskName>(
         let Some(tickets) = tickets_left[handler].take() else {
             unreachable!()
         };
-        workers.push_reserved(ReadyHandler::new(HandlerWorker {
+        workers.push_reserved(Ready::new(HandlerWorker {
             held,
             tickets,
             lanes,
@@ -73,7 +73,7 @@ fn add_handlers<D: DeskName>(
 // Adds the worker of each client: its mind, its share of the desk, and its ends of lanes. The mode and the size are
 // named for the contract.
 fn add_clients<D: DeskName>(
-    workers: &mut Vec<ReadyClient<D>>,
+    workers: &mut Vec<Ready<ClientWorker<D>>>,
     minds: Vec<Mind>,
     outs: Vec<ClientLanes>,
     shares: [Option<Share<D>>; MOST_CLIENTS],
@@ -104,7 +104,7 @@ fn add_clients<D: DeskName>(
         let Some(share) = shares_left[client].take() else {
             unreachable!()
         };
-        workers.push_reserved(ReadyClient::new(ClientWorker { mind, share, lanes }));
+        workers.push_reserved(Ready::new(ClientWorker { mind, share, lanes }));
     }
 }
 
@@ -118,7 +118,7 @@ pub(crate) fn make_workers<D: DeskName>(
     tickets: [Option<Tickets<D>>; MOST_HANDLERS],
     mode: Mode,
     size: ChunkSize,
-) -> Result<(Vec<ReadyHandler<D>>, Vec<ReadyClient<D>>), AllocError>
+) -> Result<(Vec<Ready<HandlerWorker<D>>>, Vec<Ready<ClientWorker<D>>>), AllocError>
     requires sound { IsSound D.program }
     requires parts { AreRunParts D.program mode size parts }
     requires shares { shares ≡ map (share_at D.program) places }

@@ -87,3 +87,29 @@ impl Latch {
         *self.go.value(decision)
     }
 }
+
+/// What was decided at a latch. Two decisions of one latch are the same.
+pub(crate) trait Decided: Drop {
+    ghost use Rattle.std.specs.Prelude.{◌≡◌, Bool, ℕ};
+
+    /// The latch.
+    ghost at: { Self → ℕ };
+
+    /// Whether the workers go.
+    ghost go: { Self → Bool };
+
+    /// Two decisions of one latch are the same.
+    fn agrees_with(&self, other: &Self)
+        requires latch { at self.now ≡ at other.now }
+        ensures same { go self.now ≡ go other.now };
+}
+
+impl<'l> Decided for Decision<'l> {
+    ghost at = { λ d. d.of };
+
+    ghost go = { λ d. d.value };
+
+    fn agrees_with(&self, other: &Decision<'l>) {
+        self.agrees(other);
+    }
+}

@@ -1,7 +1,7 @@
 //! Starting a run: all workers on threads of their own, none of which does anything before all are started.
 
+mod group;
 mod latch;
-mod promises;
 mod threads;
 
 pub(crate) use threads::{RunResults, run_workers};
