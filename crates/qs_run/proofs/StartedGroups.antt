@@ -1,27 +1,34 @@
 -- With one more worker that ended as the rest of its group did: all have worked, or all are as they were.
-use Rattle.std.proofs.Common.{◌≡◌, ◌+◌, ℕ, Bool, true, false, List, [], ◌∷◌, ◌++◌, Result, Ok, Err, vec_len, vec_capacity, refl, ap, ◌∙◌, arith}
-use Rattle.std.specs.Prelude.{IfErr, IfOk}
+use Rattle.std.proofs.Common.{◌≡◌, ◌+◌, ℕ, Bool, true, true≢false, false, List, [], ◌∷◌, ◌++◌, Result, Ok, Err, vec_len, vec_capacity, refl, sym, ap, ◌∙◌, arith}
+use Rattle.std.specs.Prelude.{IfErr, IfOk, IsErr}
 use Rattle.std.specs.List.{AllZip}
-use Rattle.std.proofs.lemmas.List.Elements.{AllZip-push}
 use Rattle.qs_run.specs.Groups.{IsDecided, IsWith, inside_of}
 use Rattle.qs_run.specs.Workers.{HasFollowed}
 use Rattle.qs_run.specs.declared.start.group.Group.{Group}
 
-module _ {S W A B T : Type 0} (HasWorked : W → W → Type 0) where
+module _ {V W : Type 0} (HasWorked : V → W → Type 0) where
+  pushed : (ready : List V) (workers : List W) (before : V) (after : W) → AllZip HasWorked ready workers → HasWorked before after
+      → AllZip HasWorked (ready ++ before ∷ []) (workers ++ after ∷ [])
+  pushed [] [] before after all worked = (worked, tt)
+  pushed [] (w ∷ ws) before after all worked = absurd all
+  pushed (v ∷ vs) [] before after all worked = absurd all
+  pushed (v ∷ vs) (w ∷ ws) before after all worked = (all.0, pushed vs ws before after all.1 worked)
+
+module _ {S V W A B T : Type 0} (HasWorked : V → W → Type 0) where
   -- all of the group have worked
-  abbrev pub HaveWorked : List W → ℕ → ℕ → Result (Group S W A T) (Group S W B T) → Type 0
+  abbrev pub HaveWorked : List V → ℕ → ℕ → Result (Group S W A T) (Group S V B T) → Type 0
   HaveWorked ready many room group = IfOk group (λ r. AllZip HasWorked ready r.workers.items × (vec_len r.workers ≡ many) × (vec_capacity r.workers ≡ room))
 
   -- all of the group are as they were
-  abbrev pub AreKept : List W → ℕ → Result (Group S W A T) (Group S W B T) → Type 0
+  abbrev pub AreKept : List V → ℕ → Result (Group S W A T) (Group S V B T) → Type 0
   AreKept ready room group = IfErr group (λ r. (r.workers.items ≡ ready) × (vec_capacity r.workers ≡ room))
 
-  pub one_more : (ready : List W) (worker : W) (go : Bool) (many room kept : ℕ) (rest : Result (Group S W A T) (Group S W B T)) (mine : Result W W)
-      (group : Result (Group S W A T) (Group S W B T)) → IsWith rest mine group → HasFollowed HasWorked go worker mine
+  pub one_more : (ready : List V) (worker : V) (go : Bool) (many room kept : ℕ) (rest : Result (Group S W A T) (Group S V B T)) (mine : Result W V)
+      (group : Result (Group S W A T) (Group S V B T)) → IsWith rest mine group → HasFollowed HasWorked go worker mine
       → HaveWorked ready many room rest → AreKept ready kept rest
       → HaveWorked (ready ++ worker ∷ []) (many + 1) room group × AreKept (ready ++ worker ∷ []) kept group × (inside_of group ≡ inside_of rest)
   one_more ready worker go many room kept (Ok rest) (Ok mine) (Ok group) more followed worked held =
-      let all = AllZip-push HasWorked _ _ _ _ worked.0 followed.1 in
+      let all = pushed HasWorked _ _ _ _ worked.0 followed.1 in
       ((rw more.workers all, omega (arith, more.many, worked.1), more.capacity ∙ worked.2), tt, ap Ok more.inside)
   one_more ready worker go many room kept (Err rest) (Err mine) (Err group) more followed worked held =
       (tt, (more.workers ∙ (rw held.0 rw followed.1 refl), more.capacity ∙ held.1), ap Err more.inside)
@@ -29,3 +36,12 @@ module _ {S W A B T : Type 0} (HasWorked : W → W → Type 0) where
   one_more ready worker go many room kept (Ok rest) (Err mine) group more followed worked held = absurd more
   one_more ready worker go many room kept (Err rest) (Ok mine) group more followed worked held = absurd more
   one_more ready worker go many room kept (Err rest) (Err mine) (Ok group) more followed worked held = absurd more
+
+  -- where the start of the worker was refused, all are as they were
+  pub one_refused : (ready : List V) (worker : V) (go : Bool) (many room kept : ℕ) (rest : Result (Group S W A T) (Group S V B T)) (mine : Result W V)
+      (group : Result (Group S W A T) (Group S V B T)) → IsWith rest mine group → HasFollowed HasWorked go worker mine
+      → IsErr (inside_of rest) → AreKept ready kept rest
+      → HaveWorked (ready ++ worker ∷ []) (many + 1) room group × AreKept (ready ++ worker ∷ []) kept group × (inside_of group ≡ inside_of rest)
+  one_refused ready worker go many room kept (Ok rest) mine group more followed held same = absurd (true≢false (sym held))
+  one_refused ready worker go many room kept (Err rest) mine group more followed held same =
+      one_more ready worker go many room kept (Err rest) mine group more followed tt same

@@ -23,9 +23,9 @@ module _ {S A B T : Type 0} where
   IsDecided at go latch (Ok ran) = (at ran.decision ≡ latch) × (go ran.decision ≡ true)
   IsDecided at go latch (Err held) = (at held.decision ≡ latch) × (go held.decision ≡ false)
 
-module _ {S W A B T : Type 0} where
+module _ {S V W A B T : Type 0} where
   -- The worker ended as the rest of its group did, and the group has it behind the others.
-  abbrev pub IsWith : Result (Group S W A T) (Group S W B T) → Result W W → Result (Group S W A T) (Group S W B T) → Type 0
+  abbrev pub IsWith : Result (Group S W A T) (Group S V B T) → Result W V → Result (Group S W A T) (Group S V B T) → Type 0
   IsWith (Ok rest) (Ok last) (Ok group) = HasOneMore last rest group
   IsWith (Err rest) (Err last) (Err group) = HasOneMore last rest group
   IsWith _ _ _ = ⊥

@@ -25,7 +25,7 @@ use Rattle.qs_run.specs.declared.worker.ClientWorker.{ClientWorker}
 use Rattle.qs_run.specs.declared.worker.HandlerWorker.{HandlerWorker}
 
 -- A worker's thread that was let go has done its work, and one that was not gives its worker back as it was.
-abbrev pub HasFollowed : {W : Type 0} → (W → W → Type 0) → (go : Bool) → W → Result W W → Type 0
+abbrev pub HasFollowed : {V W : Type 0} → (V → W → Type 0) → (go : Bool) → V → Result W V → Type 0
 HasFollowed HasWorked go before (Ok after) = (go ≡ true) × HasWorked before after
 HasFollowed HasWorked go before (Err after) = (go ≡ false) × (after ≡ before)
 

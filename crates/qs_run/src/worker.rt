@@ -18,6 +18,12 @@ pub(crate) trait Worker: Drop {
     ghost has_worked: { Self → Self → Type 0 };
 }
 
+/// What a thread takes and what it makes of it.
+pub(crate) trait Becomes<W>: Drop {
+    /// The one has become the other.
+    ghost becomes: { Self → W → Type 0 };
+}
+
 /// A handler with its object and journal, its queue of tickets, and its end of the lane from each client that has a
 /// lane to it.
 #[derive(Drop)]
@@ -87,4 +93,8 @@ impl<W: Worker> Ready<W> {
         let Ready { worker } = self;
         worker
     }
+}
+
+impl<W: Worker> Becomes<W> for Ready<W> {
+    ghost becomes = { W.has_worked };
 }

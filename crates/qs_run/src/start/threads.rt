@@ -2,10 +2,9 @@
 
 ghost use Rattle.std.specs.Prelude.{◌≡◌, ◌+◌, ◌^◌, ◌<◌, ◌≤◌, [], IfErr, IfOk, IfSome, reverse, true, vec_len, vec_capacity};
 ghost use Rattle.std.specs.List.{AllZip};
-ghost use Rattle.std.specs.Thread.{IsSync};
 ghost use Rattle.qs_run.specs.Groups.{IsDecided, WasAskedFrom};
 ghost use Rattle.qs_run.specs.Starts.{IsRefusedAStart, LetAllStart};
-ghost use Rattle.qs_run.specs.Workers.{ClientHasRun, HandlerHasServed, HasFollowed, IsClientReady, IsHandlerReady};
+ghost use Rattle.qs_run.specs.Workers.{ClientHasRun, HandlerHasServed, HasFollowed};
 
 use crate::start::group::{Ended, Group, WorkerEnd, start_group};
 use crate::start::latch::{Deciding, Decision, Latch};
@@ -37,21 +36,20 @@ fn handler_work<'l, D: DeskName, G: Gate, R: Wait>(
     rt: &R,
     gate: &G,
     latch: &'l Latch,
-    worker: HandlerWorker<D>,
-) -> WorkerEnd<HandlerWorker<D>, Decision<'l>>
-    requires ready { IsHandlerReady D.program worker }
+    ready: Ready<HandlerWorker<D>>,
+) -> WorkerEnd<Ready<HandlerWorker<D>>, HandlerWorker<D>, Decision<'l>>
     ensures latch { result.1.of ≡ latch.entry.now }
-    ensures followed { HasFollowed (HandlerHasServed D.program) result.1.value worker result.0 }
+    ensures followed { HasFollowed (HandlerHasServed D.program) result.1.value ready result.0 }
 {
     let decision = latch.wait(rt);
     if !latch.lets_go(&decision) {
-        return (Err(worker), decision);
+        return (Err(ready), decision);
     }
     let HandlerWorker {
         held,
         tickets,
         lanes,
-    } = worker;
+    } = ready.into_worker();
     let (held, tickets, lanes) = serve(rt, gate, &mut (), held, tickets, lanes);
     let served = HandlerWorker {
         held,
@@ -66,17 +64,16 @@ fn client_work<'l, D: DeskName, R: Wait>(
     rt: &R,
     latch: &'l Latch,
     front: &Front<D>,
-    worker: ClientWorker<D>,
-) -> WorkerEnd<ClientWorker<D>, Decision<'l>>
-    requires ready { IsClientReady D.program worker }
+    ready: Ready<ClientWorker<D>>,
+) -> WorkerEnd<Ready<ClientWorker<D>>, ClientWorker<D>, Decision<'l>>
     ensures latch { result.1.of ≡ latch.entry.now }
-    ensures followed { HasFollowed ClientHasRun result.1.value worker result.0 }
+    ensures followed { HasFollowed ClientHasRun result.1.value ready result.0 }
 {
     let decision = latch.wait(rt);
     if !latch.lets_go(&decision) {
-        return (Err(worker), decision);
+        return (Err(ready), decision);
     }
-    let ClientWorker { mind, share, lanes } = worker;
+    let ClientWorker { mind, share, lanes } = ready.into_worker();
     let (mind, share, lanes) = run(rt, mind, front, share, lanes);
     (Ok(ClientWorker { mind, share, lanes }), decision)
 }
@@ -132,7 +129,7 @@ fn run_clients<'l, D: DeskName + Send + Sync, S: Starter + Drop, R: Threads + Wa
     };
     let ended = start_group(
         rt,
-        &|worker| client_work(rt, latch, &front, worker),
+        &|ready| client_work(rt, latch, &front, ready),
         latch,
         starter,
         number,
@@ -183,36 +180,24 @@ pub(crate) fn run_workers<
     let (latch, deciding) = Latch::new();
     let latch = &latch;
     let clients = turned(clients);
+    let room = clients_room;
     let ended = start_group(
         rt,
-        &move |worker: HandlerWorker<D>| -> WorkerEnd<HandlerWorker<D>, Decision<'_>>
-            requires ready { IsHandlerReady D.program worker }
-        { handler_work(rt, gate, latch, worker) },
+        &move |ready| handler_work(rt, gate, latch, ready),
         latch,
         starter,
         0,
         turned(handlers),
         handlers_room,
         move |starter: S, from: Option<u32>| -> ClientsEnd<'_, D, S>
-            requires room { (vec_len clients ≤ vec_capacity clients_room) × (clients_room.items ≡ []) }
+            requires room { (vec_len clients ≤ vec_capacity room) × (room.items ≡ []) }
             requires latch { deciding ≡ latch.now }
             requires few { IfSome from (λ number. number + vec_len clients < 2 ^ 32) }
             ensures ran { IfOk result (λ r. AllZip ClientHasRun clients.items r.back.0.items × (r.back.1.closed ≡ true)) }
             ensures kept { IfErr result (λ r. r.back.items ≡ clients.items) }
             ensures asked { WasAskedFrom S.answers from (vec_len clients) starter result }
             ensures decided { IsDecided (λ d. d.of) (λ d. d.value) latch.entry.now result }
-        {
-            run_clients(
-                rt,
-                latch,
-                deciding,
-                front,
-                starter,
-                from,
-                clients,
-                clients_room,
-            )
-        },
+        { run_clients(rt, latch, deciding, front, starter, from, clients, room) },
     );
     match ended {
         Ok(Group { workers, inside }) => {
