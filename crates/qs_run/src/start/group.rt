@@ -23,7 +23,7 @@ pub(crate) struct Ended<S, X, T> {
 }
 
 impl<S, X: Drop, T> Ended<S, X, T> {
-    /// The same, but with this given back.
+    /// What came of a start, with this given back in place of what was.
     pub(crate) fn giving<Y>(self, back: Y) -> Ended<S, Y, T>
         ensures same { result ≡ record { starter = self.starter; back = back; decision = self.decision } }
     {
