@@ -33,6 +33,37 @@ module _ {S : Type 0} (Answers : S → ℕ → Bool → S → Type 0) where
       subst (λ m. AreAnswers Answers m (replicate rest.0 true ++ rest.1 ∷ []) next after) later rest.3 in
       (suc rest.0, rest.1, omega (arith, count, rest.2), (next, subst (λ it. Answers before n it next) granted answer, answers))
 
+  -- the next worker may start, and so the starter was asked for the others as it was after that
+  pub asked_one_more : (n many all : ℕ) (b : Bool) (before next after : S) (from : Option ℕ) → all ≡ many + 1 → b ≡ true → Answers before n b next
+      → WasAsked Answers (n + 1) many next from after → WasAsked Answers n all before from after
+  asked_one_more n many all b before next after None count granted answer rest = refused_later n many all b before next after count granted answer rest
+  asked_one_more n many all b before next after (Some at) count granted answer rest =
+      (omega (arith, count, rest.0), one_more_starts n many all b before next after count granted answer rest.1)
+
+  -- the workers of a group were let start, and then the others inside of them were or were not, as P says
+  inside_too : (P : ℕ → ℕ → S → S → Type 0) → ((n many all : ℕ) (b : Bool) (before next after : S) → all ≡ many + 1 → b ≡ true → Answers before n b next → P (n + 1) many next after → P n all before after)
+      → (many more all n at : ℕ) (before asked after : S) → all ≡ many + more → at ≡ n + many → LetAllStart Answers n many before asked
+      → P at more asked after → P n all before after
+  inside_too P one_more zero more all n at before asked after count from same rest =
+      let here : at ≡ n = omega (arith, from) in
+      let whole : more ≡ all = omega (arith, count) in
+      subst (λ m. P n m before after) whole (subst (λ m. P m more before after) here (subst (λ it. P at more it after) same rest))
+  inside_too P one_more (suc k) more all n at before asked after count from (next, answer, others) rest =
+      let later : suc n ≡ n + 1 = omega arith in
+      one_more n (k + more) all true before next after (omega (arith, count)) refl answer
+      (subst (λ m. P m (k + more) next after) later (inside_too P one_more k more (k + more) (suc n) at next asked after refl (omega (arith, from)) others rest))
+
+  -- what a group's starter was asked, and then for the workers inside
+  pub asked_inside : {A B T : Type 0} (n many more all : ℕ) (before asked : S) (from : Option ℕ) (r : Result (Ended S A T) (Ended S B T)) → all ≡ many + more
+      → WasAsked Answers n many before from asked → WasAskedFrom Answers from more asked r → WasAskedFrom Answers (Some n) all before r
+  asked_inside n many more all before asked (Some at) (Ok ran) count group inside =
+      inside_too (LetAllStart Answers) one_more_starts many more all n at before asked ran.starter count group.0 group.1 inside
+  asked_inside n many more all before asked (Some at) (Err held) count group inside =
+      inside_too (IsRefusedAStart Answers) refused_later many more all n at before asked held.starter count group.0 group.1 inside
+  asked_inside n many more all before asked None (Ok ran) count group inside = absurd inside
+  asked_inside n many more all before asked None (Err held) count (k, last, less, answers) inside =
+      (k, last, omega (arith, count, less), subst (λ it. AreAnswers Answers n (replicate k true ++ last ∷ []) before it) (sym inside) answers)
+
 -- What is lent has the starter as it is now, and the answers are those of the starter; N is some name that stays.
 module _ {S L N : Type 0} (Answers : S → ℕ → Bool → S → Type 0) (now : L → S) (name : L → N) where
   -- what a lent starter answers
@@ -65,35 +96,3 @@ module _ {S L N : Type 0} (Answers : S → ℕ → Bool → S → Type 0) (now :
       → (name after ≡ name before) × IfOk r (λ _. LetAllStart Answers 0 many (now before) (now after)) × IfErr r (λ fault. IsRefusal Answers many fault (now before) (now after))
   lent_run many (Ok x) before after all none = let it = lent_all many before after all in (it.0, it.1, tt)
   lent_run many (Err fault) before after none refused = let it = lent_refusal many fault before after refused in (it.0, tt, it.1)
-
-module _ {S : Type 0} (Answers : S → ℕ → Bool → S → Type 0) where
-  -- the next worker may start, and so the starter was asked for the others as it was after that
-  pub asked_one_more : (n many all : ℕ) (b : Bool) (before next after : S) (from : Option ℕ) → all ≡ many + 1 → b ≡ true → Answers before n b next
-      → WasAsked Answers (n + 1) many next from after → WasAsked Answers n all before from after
-  asked_one_more n many all b before next after None count granted answer rest = refused_later Answers n many all b before next after count granted answer rest
-  asked_one_more n many all b before next after (Some at) count granted answer rest =
-      (omega (arith, count, rest.0), one_more_starts Answers n many all b before next after count granted answer rest.1)
-
-  -- the workers of a group were let start, and then the others inside of them were or were not, as P says
-  inside_too : (P : ℕ → ℕ → S → S → Type 0) → ((n many all : ℕ) (b : Bool) (before next after : S) → all ≡ many + 1 → b ≡ true → Answers before n b next → P (n + 1) many next after → P n all before after)
-      → (many more all n at : ℕ) (before asked after : S) → all ≡ many + more → at ≡ n + many → LetAllStart Answers n many before asked
-      → P at more asked after → P n all before after
-  inside_too P one_more zero more all n at before asked after count from same rest =
-      let here : at ≡ n = omega (arith, from) in
-      let whole : more ≡ all = omega (arith, count) in
-      subst (λ m. P n m before after) whole (subst (λ m. P m more before after) here (subst (λ it. P at more it after) same rest))
-  inside_too P one_more (suc k) more all n at before asked after count from (next, answer, others) rest =
-      let later : suc n ≡ n + 1 = omega arith in
-      one_more n (k + more) all true before next after (omega (arith, count)) refl answer
-      (subst (λ m. P m (k + more) next after) later (inside_too P one_more k more (k + more) (suc n) at next asked after refl (omega (arith, from)) others rest))
-
-  -- what a group's starter was asked, and then for the workers inside
-  pub asked_inside : {A B T : Type 0} (n many more all : ℕ) (before asked : S) (from : Option ℕ) (r : Result (Ended S A T) (Ended S B T)) → all ≡ many + more
-      → WasAsked Answers n many before from asked → WasAskedFrom Answers from more asked r → WasAskedFrom Answers (Some n) all before r
-  asked_inside n many more all before asked (Some at) (Ok ran) count group inside =
-      inside_too (LetAllStart Answers) (one_more_starts Answers) many more all n at before asked ran.starter count group.0 group.1 inside
-  asked_inside n many more all before asked (Some at) (Err held) count group inside =
-      inside_too (IsRefusedAStart Answers) (refused_later Answers) many more all n at before asked held.starter count group.0 group.1 inside
-  asked_inside n many more all before asked None (Ok ran) count group inside = absurd inside
-  asked_inside n many more all before asked None (Err held) count (k, last, less, answers) inside =
-      (k, last, omega (arith, count, less), subst (λ it. AreAnswers Answers n (replicate k true ++ last ∷ []) before it) (sym inside) answers)

@@ -2,7 +2,7 @@
 use Rattle.std.proofs.Common.{◌≡◌, ◌+◌, ℕ, Bool, true, true≢false, false, List, [], ◌∷◌, ◌++◌, Result, Ok, Err, vec_len, vec_capacity, refl, sym, ap, ◌∙◌, arith}
 use Rattle.std.specs.Prelude.{IfErr, IfOk, IsErr}
 use Rattle.std.specs.List.{AllZip}
-use Rattle.qs_run.specs.Groups.{IsDecided, IsWith, inside_of}
+use Rattle.qs_run.specs.Groups.{IsWith, inside_of}
 use Rattle.qs_run.specs.Workers.{HasFollowed}
 use Rattle.qs_run.specs.declared.start.group.Group.{Group}
 
@@ -37,11 +37,8 @@ module _ {S V W A B T : Type 0} (HasWorked : V → W → Type 0) where
   one_more ready worker go many room kept (Err rest) (Ok mine) group more followed worked held = absurd more
   one_more ready worker go many room kept (Err rest) (Err mine) (Ok group) more followed worked held = absurd more
 
-  -- where the start of the worker was refused, all are as they were
-  pub one_refused : (ready : List V) (worker : V) (go : Bool) (many room kept : ℕ) (rest : Result (Group S W A T) (Group S V B T)) (mine : Result W V)
-      (group : Result (Group S W A T) (Group S V B T)) → IsWith rest mine group → HasFollowed HasWorked go worker mine
-      → IsErr (inside_of rest) → AreKept ready kept rest
-      → HaveWorked (ready ++ worker ∷ []) (many + 1) room group × AreKept (ready ++ worker ∷ []) kept group × (inside_of group ≡ inside_of rest)
-  one_refused ready worker go many room kept (Ok rest) mine group more followed held same = absurd (true≢false (sym held))
-  one_refused ready worker go many room kept (Err rest) mine group more followed held same =
-      one_more ready worker go many room kept (Err rest) mine group more followed tt same
+module _ {S V W A B T : Type 0} where
+  -- where the start of a worker was refused, none has run
+  pub none_ran : (P : Group S W A T → Type 0) (rest : Result (Group S W A T) (Group S V B T)) → IsErr (inside_of rest) → IfOk rest P
+  none_ran P (Ok rest) held = absurd (true≢false (sym held))
+  none_ran P (Err rest) held = tt

@@ -29,8 +29,8 @@ impl<S, X: Drop, T> Ended<S, X, T> {
     {
         let Ended {
             starter,
-            back: _,
             decision,
+            ..
         } = self;
         Ended {
             starter,

@@ -210,11 +210,9 @@ pub(crate) fn run_workers<
             (inside.starter, Ok(results))
         }
         Err(Group { workers, inside }) => {
-            let held = HeldWorkers {
-                handlers: turned(workers),
-                clients: turned(inside.back),
-            };
-            (inside.starter, Err(held))
+            let handlers = turned(workers);
+            let clients = turned(inside.back);
+            (inside.starter, Err(HeldWorkers { handlers, clients }))
         }
     }
 }

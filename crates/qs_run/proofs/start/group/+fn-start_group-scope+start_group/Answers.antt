@@ -5,7 +5,7 @@ use Rattle.std.specs.Prelude.{IfErr, IsErr}
 use Rattle.qs_run.specs.Groups.{inside_of}
 use Rattle.qs_run.specs.Workers.{HasFollowed}
 use Rattle.qs_run.proofs.StartAnswers.{asked_one_more, refused_here}
-use Rattle.qs_run.proofs.StartedGroups.{one_more, one_refused}
+use Rattle.qs_run.proofs.StartedGroups.{none_ran, one_more}
 use Rattle.qs_run.proofs.start.group.+fn-start_group-scope+start_group.Goals as goal
 
 pub scope-returns-in-Ok : goal.scope-returns-in-Ok
@@ -26,6 +26,6 @@ scope-returns-in-Err-spawn_with g t c =
     let rest = c.group_of-in-Err-spawn_with in
     let none : IsErr (inside_of rest.result) = search rules in
     let same : IfErr rest.result (λ r. (r.workers.items ≡ ready.items) × (vec_capacity r.workers ≡ vec_capacity ready)) = search rules in
-    let more = one_refused g.V.Becomes.becomes ready.items c.captures.worker _ (vec_len ready) (vec_capacity c.captures.room) (vec_capacity ready) rest.result end.0 c.with_worker-in-Err-spawn_with.result c.with_worker-in-Err-spawn_with.ensures.with followed none same in
+    let more = one_more g.V.Becomes.becomes ready.items c.captures.worker _ (vec_len ready) (vec_capacity c.captures.room) (vec_capacity ready) rest.result end.0 c.with_worker-in-Err-spawn_with.result c.with_worker-in-Err-spawn_with.ensures.with followed (none_ran _ rest.result none) same in
     let refused = refused_here g.S.Starter.answers c.captures.number (vec_len ready + 1) _ _ _ c.may_start.ensures.answered (omega arith) in
     record { worked = more.0; kept = more.1; inside = (_, None, refused, rw more.2 rw rest.ensures.inside c.inside-in-Err-spawn_with.ensures) }
