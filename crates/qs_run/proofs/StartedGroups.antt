@@ -1,5 +1,5 @@
 -- With one more worker that ended as the rest of its group did: all have worked, or all are as they were.
-use Rattle.std.proofs.Common.{◌≡◌, ◌+◌, ℕ, Bool, true, true≢false, false, List, [], ◌∷◌, ◌++◌, Result, Ok, Err, vec_len, vec_capacity, refl, sym, ap, ◌∙◌, arith}
+use Rattle.std.proofs.Common.{◌≡◌, ◌+◌, ℕ, Bool, true≢false, List, [], ◌∷◌, ◌++◌, Result, Ok, Err, vec_len, vec_capacity, refl, sym, ap, ◌∙◌, arith}
 use Rattle.std.specs.Prelude.{IfErr, IfOk, IsErr}
 use Rattle.std.specs.List.{AllZip}
 use Rattle.qs_run.specs.Groups.{IsWith, inside_of}

@@ -1,5 +1,5 @@
 -- Groups of workers that were started together, and what came of a start inside of theirs.
-use Rattle.std.specs.Prelude.{◌≡◌, ◌+◌, ℕ, Bool, true, false, List, [], ◌∷◌, ◌++◌, Option, Some, None, Result, Ok, Err, vec_len, vec_capacity}
+use Rattle.std.specs.Prelude.{◌≡◌, ◌+◌, ℕ, Bool, true, false, [], ◌∷◌, ◌++◌, Option, Some, None, Result, Ok, Err, vec_len, vec_capacity}
 use Rattle.qs_run.specs.Starts.{IsRefusedAStart, LetAllStart}
 use Rattle.qs_run.specs.declared.start.group.Ended.{Ended}
 use Rattle.qs_run.specs.declared.start.group.Group.{Group}

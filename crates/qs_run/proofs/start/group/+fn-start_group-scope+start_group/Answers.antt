@@ -1,6 +1,6 @@
 -- With the worker of a scope: the workers before it have worked, and so has it; or all of them are as they were. The
 -- starter was asked for it first, and then for the others.
-use Rattle.std.proofs.Common.{◌≡◌, ◌∙◌, ◌+◌, None, vec_len, vec_capacity, arith, rules}
+use Rattle.std.proofs.Common.{◌≡◌, ◌+◌, None, vec_len, vec_capacity, arith, rules}
 use Rattle.std.specs.Prelude.{IfErr, IsErr}
 use Rattle.qs_run.specs.Groups.{inside_of}
 use Rattle.qs_run.specs.Workers.{HasFollowed}
