@@ -1,7 +1,7 @@
--- The lines of one list of actors after those of another, whatever the step function is. The loops over picks, actors
--- of a round and rounds keep what they have told so far by these; and where nobody of a round steps, further rounds
--- have no lines and change nothing.
-use Rattle.std.proofs.Common.{◌≡◌, ℕ, zero, suc, ◌+◌, ◌*◌, Bool, false, List, [], ◌∷◌, ◌++◌, map, length, Option, Some, None, refl, ap, sym, ◌∙◌, append_assoc, append-nil, arith}
+-- The lines of one list of actors after those of another, whatever the machine is. The loops over picks, actors of a
+-- round and rounds keep what they have told so far by these; and where nobody of a round steps, further rounds have no
+-- lines and change nothing.
+use Rattle.std.proofs.Common.{◌≡◌, ℕ, zero, suc, ◌+◌, ◌*◌, Bool, false, true, List, [], ◌∷◌, ◌++◌, map, length, Option, Some, None, refl, ap, sym, subst, ◌∙◌, append_assoc, append-nil, arith}
 use Rattle.std.specs.Prelude.{Result, Ok, Err, OnOk}
 use Rattle.std.specs.List.{range_with_len}
 use Rattle.std.proofs.lemmas.List.{length-append, length-map}
@@ -9,9 +9,9 @@ use Rattle.qs_program.specs.Program.{ProgramShape}
 use Rattle.qs_played.specs.Schedule.{actors_of, or_stay, plays_by, rounds_of}
 use Rattle.qs_played.specs.declared.schedule.actor.Actor.{Actor}
 use Rattle.qs_played.specs.declared.schedule.actor.Actor.TheVariants as actor
-use Rattle.qs_played.proofs.Playing.{plays_by-append}
+use Rattle.qs_played.proofs.Playing.{plays_by-append, row_more}
 use Rattle.qs_steps.specs.Told.{line_of, lines_by, stepper, steppers_by}
-use Rattle.qs_steps.specs.Telling.{AreTold}
+use Rattle.qs_steps.specs.Telling.{AreTold, IsAsked, IsScheduleTold, LeadTo, NoneStep, View, asked_line}
 
 pub length-range : (a n : ℕ) → length (range_with_len a n) ≡ n
 length-range a zero = refl
@@ -53,16 +53,13 @@ module _ {S : Type 0} (step : S → Actor → Option S) where
       ap (λ zs. stepper step a (step s a) ++ zs) (steppers_append xs ys (or_stay s (step s a)))
       ∙ sym (append_assoc (stepper step a (step s a)) (steppers_by step xs (or_stay s (step s a))) (steppers_by step ys (plays_by step xs (or_stay s (step s a)))))
 
-  pub none_of_both : (xs ys : List Actor) (s t : S) → steppers_by step xs s ≡ [] → t ≡ plays_by step xs s → steppers_by step ys t ≡ [] → steppers_by step (xs ++ ys) s ≡ []
-  none_of_both xs ys s t none there later = steppers_append xs ys s ∙ (λ k. none k ++ steppers_by step ys (sym there k)) ∙ later
-
   -- where nobody steps, the state stays
   still_step : (a : Actor) (xs : List Actor) (s : S) (o : Option S) → stepper step a o ++ steppers_by step xs (or_stay s o) ≡ [] → (steppers_by step xs s ≡ [] → plays_by step xs s ≡ s)
       → plays_by step xs (or_stay s o) ≡ s
   still_step a xs s None later others = others later
   still_step a xs s (Some t) later others = cc
 
-  still_state : (xs : List Actor) (s : S) → steppers_by step xs s ≡ [] → plays_by step xs s ≡ s
+  pub still_state : (xs : List Actor) (s : S) → steppers_by step xs s ≡ [] → plays_by step xs s ≡ s
   still_state [] s none = refl
   still_state (a ∷ xs) s none = still_step a xs s (step s a) none (still_state xs s)
 
@@ -74,7 +71,7 @@ module _ {S : Type 0} (step : S → Actor → Option S) where
     abbrev lines : Bool → ℕ → List Actor → S → List ℕ
     lines = lines_by step p told
 
-    lines_append : (b : Bool) (n : ℕ) (xs ys : List Actor) (s : S) → lines b n (xs ++ ys) s ≡ lines b n xs s ++ lines b (n + length xs) ys (plays_by step xs s)
+    pub lines_append : (b : Bool) (n : ℕ) (xs ys : List Actor) (s : S) → lines b n (xs ++ ys) s ≡ lines b n xs s ++ lines b (n + length xs) ys (plays_by step xs s)
     lines_append b n [] ys s = let none : n ≡ n + 0 = omega arith in ap (λ m. lines b m ys s) none
     lines_append b n (a ∷ xs) ys s =
         let t = or_stay s (step s a) in
@@ -89,7 +86,7 @@ module _ {S : Type 0} (step : S → Actor → Option S) where
     still_line n a xs s None later others = others later
     still_line n a xs s (Some t) later others = cc
 
-    still_lines : (n : ℕ) (xs : List Actor) (s : S) → steppers_by step xs s ≡ [] → lines false n xs s ≡ []
+    pub still_lines : (n : ℕ) (xs : List Actor) (s : S) → steppers_by step xs s ≡ [] → lines false n xs s ≡ []
     still_lines n [] s none = refl
     still_lines n (a ∷ xs) s none = still_line n a xs s (step s a) none (still_lines (n + 1) xs s)
 
@@ -100,22 +97,113 @@ module _ {S : Type 0} (step : S → Actor → Option S) where
         ∙ (λ i. still_rounds n turn k s none i ++ lines false (n + length (rounds_of k turn)) turn (still_states turn k s none i))
         ∙ still_lines (n + length (rounds_of k turn)) turn s none
 
-    pub told_none : (b : Bool) (n : ℕ) (text : List ℕ) (s : S) → AreTold step p told b n [] text s text s
-    told_none b n text s = record { text = sym (append-nil text); state = refl }
+-- by any machine's view
+module _ {M : Type 0} (v : View M) where
+  abbrev step_at : M → v.State → Actor → Option v.State
+  step_at s = v.step (v.kept s)
 
-    -- further actors
-    pub told_more : (b : Bool) (n m : ℕ) (xs ys : List Actor) (before between after : List ℕ) (s t u : S) → AreTold step p told b n xs before s between t → AreTold step p told b m ys between t after u
-        → m ≡ n + length xs → AreTold step p told b n (xs ++ ys) before s after u
-    told_more b n m xs ys before between after s t u first second number = record {
-      text = second.text ∙ (λ k. first.text k ++ lines b (number k) ys (first.state k)) ∙ append_assoc before (lines b n xs s) (lines b (n + length xs) ys (plays_by step xs s))
-          ∙ ap (λ zs. before ++ zs) (sym (lines_append b n xs ys s));
-      state = second.state ∙ ap (plays_by step ys) first.state ∙ sym (plays_by-append step xs ys s);
+  -- an actor that was asked to step
+  one_leads : (a : Actor) (stepped : Bool) (s new : M) → IsAsked v a stepped s new → LeadTo v (a ∷ []) s new
+  one_leads a true s new asked = record { kept = asked.kept; state = sym (ap (or_stay (v.state s)) asked.steps) }
+  one_leads a false s new asked = record { kept = asked.kept; state = ap v.state (asked.same refl) ∙ sym (ap (or_stay (v.state s)) (asked.none refl)) }
+
+  one_still : (a : Actor) (stepped : Bool) (s new : M) → IsAsked v a stepped s new → stepped ≡ false → NoneStep v (a ∷ []) s new
+  one_still a stepped s new asked idle = record { none = ap (λ o. stepper (step_at s) a o ++ []) (asked.none idle); same = asked.same idle }
+
+  -- before the first
+  pub none_lead : (s : M) → LeadTo v [] s s
+  none_lead s = record { kept = refl; state = refl }
+
+  -- further actors
+  pub more_lead : (xs ys : List Actor) (s mid new : M) → LeadTo v xs s mid → LeadTo v ys mid new → LeadTo v (xs ++ ys) s new
+  more_lead xs ys s mid new first second = record {
+    kept = second.kept ∙ first.kept;
+    state = second.state ∙ (λ k. plays_by (v.step (first.kept k)) ys (first.state k)) ∙ sym (plays_by-append (step_at s) xs ys (v.state s));
+  }
+
+  pub one_lead_more : (xs : List Actor) (a : Actor) (stepped : Bool) (s mid new : M) → LeadTo v xs s mid → IsAsked v a stepped mid new → LeadTo v (xs ++ a ∷ []) s new
+  one_lead_more xs a stepped s mid new first asked = more_lead xs (a ∷ []) s mid new first (one_leads a stepped mid new asked)
+
+  more_still : (xs ys : List Actor) (s mid new : M) → NoneStep v xs s mid → NoneStep v ys mid new → NoneStep v (xs ++ ys) s new
+  more_still xs ys s mid new first second = record {
+    none = steppers_append (step_at s) xs ys (v.state s)
+        ∙ (λ k. first.none k ++ steppers_by (step_at s) ys (still_state (step_at s) xs (v.state s) first.none k))
+        ∙ subst (λ m. steppers_by (step_at m) ys (v.state m) ≡ []) first.same second.none;
+    same = second.same ∙ first.same;
+  }
+
+  pub row_still : (xs : List Actor) (f : ℕ → Actor) (i : ℕ) (stepped : Bool) (s mid new : M) → NoneStep v (xs ++ map f (range_with_len 0 i)) s mid → IsAsked v (f i) stepped mid new → stepped ≡ false
+      → NoneStep v (xs ++ map f (range_with_len 0 (i + 1))) s new
+  row_still xs f i stepped s mid new first asked idle =
+      subst (λ zs. NoneStep v zs s new) (sym (row_more xs f i)) (more_still (xs ++ map f (range_with_len 0 i)) (f i ∷ []) s mid new first (one_still (f i) stepped mid new asked idle))
+
+  module _ (p : ProgramShape) where
+    abbrev lines_at : M → Bool → ℕ → List Actor → v.State → List ℕ
+    lines_at s = lines_by (step_at s) p (v.told (v.kept s))
+
+    line_is : (b : Bool) (n : ℕ) (a : Actor) (stepped : Bool) (s new : M) → IsAsked v a stepped s new
+        → asked_line v p b n a stepped s ≡ line_of (step_at s) p (v.told (v.kept s)) b n (v.state s) a (step_at s (v.state s) a)
+    line_is b n a true s new asked = ap (line_of (step_at s) p (v.told (v.kept s)) b n (v.state s) a) (sym asked.steps)
+    line_is true n a false s new asked = ap (line_of (step_at s) p (v.told (v.kept s)) true n (v.state s) a) (sym (asked.none refl))
+    line_is false n a false s new asked = ap (line_of (step_at s) p (v.told (v.kept s)) false n (v.state s) a) (sym (asked.none refl))
+
+    one_told : (b : Bool) (n : ℕ) (a : Actor) (stepped : Bool) (before after : List ℕ) (s new : M) → IsAsked v a stepped s new → after ≡ before ++ asked_line v p b n a stepped s
+        → AreTold v p b n (a ∷ []) before s after new
+    one_told b n a stepped before after s new asked text = record {
+      lead = one_leads a stepped s new asked;
+      text = text ∙ ap (λ l. before ++ l) (line_is b n a stepped s new asked ∙ sym (append-nil (line_of (step_at s) p (v.told (v.kept s)) b n (v.state s) a (step_at s (v.state s) a))));
     }
+
+    pub more_told : (b : Bool) (n m : ℕ) (xs ys : List Actor) (before between after : List ℕ) (s mid new : M) → AreTold v p b n xs before s between mid → AreTold v p b m ys between mid after new
+        → m ≡ n + length xs → AreTold v p b n (xs ++ ys) before s after new
+    more_told b n m xs ys before between after s mid new first second number = record {
+      lead = more_lead xs ys s mid new first.lead second.lead;
+      text = second.text ∙ (λ k. first.text k ++ lines_by (v.step (first.lead.kept k)) p (v.told (first.lead.kept k)) b (number k) ys (first.lead.state k))
+          ∙ append_assoc before (lines_at s b n xs (v.state s)) (lines_at s b (n + length xs) ys (plays_by (step_at s) xs (v.state s)))
+          ∙ ap (λ zs. before ++ zs) (sym (lines_append (step_at s) p (v.told (v.kept s)) b n xs ys (v.state s)));
+    }
+
+    pub one_more_told : (b : Bool) (n m : ℕ) (xs : List Actor) (a : Actor) (stepped : Bool) (before between after : List ℕ) (s mid new : M) → AreTold v p b n xs before s between mid
+        → IsAsked v a stepped mid new → after ≡ between ++ asked_line v p b m a stepped mid → m ≡ n + length xs → AreTold v p b n (xs ++ a ∷ []) before s after new
+    one_more_told b n m xs a stepped before between after s mid new first asked text number =
+        more_told b n m xs (a ∷ []) before between after s mid new first (one_told b m a stepped between after mid new asked text) number
+
+    -- one actor more of a row, behind these
+    pub row_told : (b : Bool) (n m : ℕ) (xs : List Actor) (f : ℕ → Actor) (i : ℕ) (stepped : Bool) (before between after : List ℕ) (s mid new : M)
+        → AreTold v p b n (xs ++ map f (range_with_len 0 i)) before s between mid → IsAsked v (f i) stepped mid new → after ≡ between ++ asked_line v p b m (f i) stepped mid
+        → m ≡ n + length (xs ++ map f (range_with_len 0 i)) → AreTold v p b n (xs ++ map f (range_with_len 0 (i + 1))) before s after new
+    row_told b n m xs f i stepped before between after s mid new first asked text number =
+        subst (λ zs. AreTold v p b n zs before s after new) (sym (row_more xs f i))
+        (one_more_told b n m (xs ++ map f (range_with_len 0 i)) (f i) stepped before between after s mid new first asked text number)
 
     -- rounds after one in which nobody stepped
-    pub told_still : (n : ℕ) (turn : List Actor) (k : ℕ) (before after : List ℕ) (s t : S) → steppers_by step turn s ≡ [] → AreTold step p told false n turn before s after t
-        → AreTold step p told false n (rounds_of k turn) before s after t
-    told_still n turn k before after s t none one = record {
-      text = one.text ∙ ap (λ zs. before ++ zs) (still_lines n turn s none ∙ sym (still_rounds n turn k s none));
-      state = one.state ∙ still_state turn s none ∙ sym (still_states turn k s none);
+    still_told : (n : ℕ) (turn : List Actor) (k : ℕ) (before after : List ℕ) (s new : M) → NoneStep v turn s new → AreTold v p false n turn before s after new
+        → AreTold v p false n (rounds_of k turn) before s after new
+    still_told n turn k before after s new still one = record {
+      lead = record {
+        kept = one.lead.kept;
+        state = one.lead.state ∙ still_state (step_at s) turn (v.state s) still.none ∙ sym (still_states (step_at s) turn k (v.state s) still.none);
+      };
+      text = one.text
+          ∙ ap (λ zs. before ++ zs) (still_lines (step_at s) p (v.told (v.kept s)) n turn (v.state s) still.none ∙ sym (still_rounds (step_at s) p (v.told (v.kept s)) n turn k (v.state s) still.none));
     }
+
+    -- all further rounds, where nobody steps in one
+    pub rest_told : (n m i k : ℕ) (before between after : List ℕ) (s mid new : M) → AreTold v p false n (rounds_of i (actors_of p)) before s between mid
+        → AreTold v p false m (actors_of p) between mid after new → NoneStep v (actors_of p) mid new → m ≡ n + length (rounds_of i (actors_of p))
+        → AreTold v p false n (rounds_of (i + k) (actors_of p)) before s after new
+    rest_told n m i k before between after s mid new first one still number =
+        subst (λ zs. AreTold v p false n zs before s after new) (sym (rounds_on (actors_of p) i k))
+        (more_told false n m (rounds_of i (actors_of p)) (rounds_of k (actors_of p)) before between after s mid new first
+        (still_told m (actors_of p) k between after mid new still one) number)
+
+    -- the picks and the rounds
+    pub whole_told : (picks : List Actor) (rounds : ℕ) (before between after : List ℕ) (s mid new : M) → AreTold v p true 1 picks before s between mid
+        → AreTold v p false (length picks + 1) (rounds_of rounds (actors_of p)) between mid after new → IsScheduleTold v p picks rounds before s after new
+    whole_told picks rounds before between after s mid new first second =
+        let turns = rounds_of rounds (actors_of p) in
+        record {
+          lead = more_lead picks turns s mid new first.lead second.lead;
+          text = second.text ∙ (λ k. first.text k ++ lines_by (v.step (first.lead.kept k)) p (v.told (first.lead.kept k)) false (length picks + 1) turns (first.lead.state k))
+              ∙ append_assoc before (lines_at s true 1 picks (v.state s)) (lines_at s false (length picks + 1) turns (plays_by (step_at s) picks (v.state s)));
+        }

@@ -1,27 +1,29 @@
 -- What the code that tells steps promises, call by call.
 use Rattle.std.specs.Prelude.{◌≡◌, ℕ, Bool, true, false, if◌then◌else◌, List, [], ◌++◌, codes, Option, Some, None, Result, Ok, Err}
+use Rattle.std.specs.Bool.{OnTrue}
 use Rattle.qs_objects.specs.declared.Request.{Request}
 use Rattle.qs_program.specs.Program.{ProgramShape}
 use Rattle.qs_syncset.specs.Codes.{ClientCode}
 use Rattle.qs_syncset.specs.declared.mode.Mode.{Mode}
 use Rattle.qs_played.specs.Played.{Played}
-use Rattle.qs_played.specs.Schedule.{plays_by}
+use Rattle.qs_played.specs.Schedule.{plays_by, schedule}
 use Rattle.qs_played.specs.declared.schedule.actor.Actor.{Actor}
-use Rattle.qs_plain_laws.specs.Plain.{step}
-use Rattle.qs_plain_laws.specs.PlainSchedule.{scheduled}
+use Rattle.qs_plain_laws.specs.Plain.{Plain, step}
 use Rattle.qs_plain.specs.Rules.{RulesState, plain_of}
 use Rattle.qs_plain.specs.declared.awaited.Awaited.{Awaited}
 use Rattle.qs_plain.specs.declared.awaited.Awaited.TheVariants.{Nothing, Reply, Done}
 use Rattle.qs_plain_handler.specs.declared.deed.Deed.{Deed}
-use Rattle.qs_core_laws.specs.Core.{AreCodes, core_step}
+use Rattle.qs_core_laws.specs.Core.{AreCodes, Core, core_step}
 use Rattle.qs_core_laws.specs.CoreSchedule.{core_played, core_scheduled}
 use Rattle.qs_core_state.specs.CoreState.{CoreState, codes_of, core_of}
 use Rattle.qs_core.specs.declared.core_deed.CoreDeed.{CoreDeed}
 use Rattle.qs_steps.specs.declared.wanted.Wanted.{Wanted}
 use Rattle.qs_steps.specs.declared.wanted.Told.{Told}
-use Rattle.qs_steps.specs.Told.{lines_by, step_line, steppers_by}
+use Rattle.qs_steps.specs.Told.{lines_by, step_line, steppers_by, steps_by}
 use Rattle.qs_steps.specs.PlainSteps.{deed_text, plain_told}
+use Rattle.qs_steps.specs.PlainQueues as plain
 use Rattle.qs_steps.specs.CoreQueues.{core_queues}
+use Rattle.qs_steps.specs.CoreQueues as core
 use Rattle.qs_steps.specs.CoreSteps.{core_steps, core_told, core_text_or_none}
 
 -- the run of what was told with it
@@ -49,48 +51,88 @@ abbrev pub core_line : ProgramShape → (is_pick : Bool) → ℕ → Actor → (
 core_line p is_pick n a false deed rs = idle_line p is_pick n a
 core_line p is_pick n a true deed rs = step_line p n a (core_text_or_none p deed rs)
 
--- the text has the lines of these actors more, of which the first is the n-th that was asked, and they lead from one
--- state to the other
-module _ {S : Type 0} (step : S → Actor → Option S) (p : ProgramShape) (told : S → Actor → List ℕ) where
-  pub record AreTold (is_pick : Bool) (n : ℕ) (actors : List Actor) (before : List ℕ) (s : S) (after : List ℕ)
-      (t : S) : Type 0 where
-    pub text : after ≡ before ++ lines_by step p told is_pick n actors s
-    pub state : t ≡ plays_by step actors s
+-- a machine as it is told: what stays the same of it in a run, its state, and by both its steps, what is told of them,
+-- and what lies where
+pub record View (M : Type 0) : Type 1 where
+  pub Kept : Type 0
+  pub State : Type 0
+  pub kept : M → Kept
+  pub state : M → State
+  pub program : Kept → ProgramShape
+  pub step : Kept → State → Actor → Option State
+  pub told : Kept → State → Actor → List ℕ
+  pub queues : Kept → State → List ℕ
 
--- under the plain rules of a program
-pub record AreRulesTold (p : ProgramShape) (is_pick : Bool) (n : ℕ) (actors : List Actor) (before : List ℕ)
-    (r : RulesState) (after : List ℕ) (new : RulesState) : Type 0 where
-  pub program : new.program ≡ p
-  pub told : AreTold (step p) p (plain_told p) is_pick n actors before (plain_of r) after (plain_of new)
+module _ {M : Type 0} (v : View M) where
+  abbrev pub own_program : M → ProgramShape
+  own_program s = v.program (v.kept s)
 
--- where nobody has stepped, nobody could, and the code's state is the same
-pub record NoneStep (p : ProgramShape) (actors : List Actor) (r new : RulesState) : Type 0 where
-  pub none : steppers_by (step p) actors (plain_of r) ≡ []
-  pub same : new ≡ r
+  -- an actor was asked to step, and where it has not stepped, it could not, and the machine is the same
+  pub record IsAsked (a : Actor) (stepped : Bool) (s new : M) : Type 0 where
+    pub kept : v.kept new ≡ v.kept s
+    pub steps : OnTrue stepped (v.step (v.kept s) (v.state s) a ≡ Some (v.state new))
+    pub none : stepped ≡ false → v.step (v.kept s) (v.state s) a ≡ None
+    pub same : stepped ≡ false → new ≡ s
 
--- the state after a schedule
-pub record IsScheduled (p : ProgramShape) (picks : List Actor) (rounds : ℕ) (r : RulesState) : Type 0 where
-  pub program : r.program ≡ p
-  pub state : plain_of r ≡ scheduled p picks rounds
+  abbrev pub asked_line : ProgramShape → (is_pick : Bool) → ℕ → Actor → (stepped : Bool) → M → List ℕ
+  asked_line p is_pick n a true s = step_line p n a (v.told (v.kept s) (v.state s) a)
+  asked_line p is_pick n a false s = idle_line p is_pick n a
 
--- in the optimised machine of a program
-pub record AreCoreTold (p : ProgramShape) (is_pick : Bool) (n : ℕ) (actors : List Actor) (before : List ℕ)
-    (s : CoreState) (after : List ℕ) (new : CoreState) : Type 0 where
-  pub program : new.program ≡ p
-  pub size : new.size ≡ s.size
-  pub codes : codes_of new ≡ codes_of s
-  pub told : AreTold (core_step (codes_of s) s.size) p (core_told p (codes_of s) s.size) is_pick n actors before
-      (core_of s) after (core_of new)
+  -- these actors lead from one to the other
+  pub record LeadTo (actors : List Actor) (s new : M) : Type 0 where
+    pub kept : v.kept new ≡ v.kept s
+    pub state : v.state new ≡ plays_by (v.step (v.kept s)) actors (v.state s)
 
-pub record NoneStepIn (actors : List Actor) (s new : CoreState) : Type 0 where
-  pub none : steppers_by (core_step (codes_of s) s.size) actors (core_of s) ≡ []
-  pub same : new ≡ s
+  -- and the text has their lines more, of which the first is that of the n-th that was asked
+  pub record AreTold (p : ProgramShape) (is_pick : Bool) (n : ℕ) (actors : List Actor) (before : List ℕ) (s : M)
+      (after : List ℕ) (new : M) : Type 0 where
+    pub lead : LeadTo actors s new
+    pub text : after ≡ before ++ lines_by (v.step (v.kept s)) p (v.told (v.kept s)) is_pick n actors (v.state s)
 
-pub record IsScheduledIn (p : ProgramShape) (picks : List Actor) (rounds : ℕ) (s new : CoreState) : Type 0 where
-  pub program : new.program ≡ p
-  pub size : new.size ≡ s.size
-  pub codes : codes_of new ≡ codes_of s
-  pub state : core_of new ≡ core_scheduled p (codes_of s) s.size picks rounds
+  -- nobody of them could step, and the machine is the same
+  pub record NoneStep (actors : List Actor) (s new : M) : Type 0 where
+    pub none : steppers_by (v.step (v.kept s)) actors (v.state s) ≡ []
+    pub same : new ≡ s
+
+  -- the lines of a whole schedule
+  abbrev pub steps_from : ProgramShape → List Actor → (rounds : ℕ) → M → List ℕ
+  steps_from p picks rounds s = steps_by (v.step (v.kept s)) p (v.told (v.kept s)) picks rounds (v.state s)
+
+  pub record IsScheduleTold (p : ProgramShape) (picks : List Actor) (rounds : ℕ) (before : List ℕ) (s : M)
+      (after : List ℕ) (new : M) : Type 0 where
+    pub lead : LeadTo (schedule p picks rounds) s new
+    pub text : after ≡ before ++ steps_from p picks rounds s
+
+-- the plain rules of a program
+abbrev pub rules_view : View RulesState
+rules_view = record {
+  Kept = ProgramShape;
+  State = Plain;
+  kept = λ r. r.program;
+  state = plain_of;
+  program = λ p. p;
+  step = step;
+  told = plain_told;
+  queues = plain.queues_text;
+}
+
+-- the optimised machine of a program
+pub record CoreKept : Type 0 where
+  pub program : ProgramShape
+  pub code : ℕ → ClientCode
+  pub size : ℕ
+
+abbrev pub core_view : View CoreState
+core_view = record {
+  Kept = CoreKept;
+  State = Core;
+  kept = λ s. record { program = s.program; code = codes_of s; size = s.size };
+  state = core_of;
+  program = λ k. k.program;
+  step = λ k. core_step k.code k.size;
+  told = λ k. core_told k.program k.code k.size;
+  queues = λ k. core.queues_text k.program k.code k.size;
+}
 
 -- by the same codes of the program's clients: the texts that are asked for are the lines of the steps and what lies
 -- where, and this is shown

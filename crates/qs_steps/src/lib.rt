@@ -9,6 +9,7 @@ mod lines;
 mod plain_lines;
 mod plain_queues;
 mod rules_telling;
+mod telling;
 mod wanted;
 
 pub use core_telling::play_told;

@@ -1,183 +1,61 @@
-//! The steps of a schedule under the plain rules, told as they are made.
+//! What a schedule shows under the plain rules, and what is told of it.
 
-ghost use Rattle.std.specs.Prelude.{◌≡◌, ◌≤◌, ◌+◌, ◌^◌, ◌++◌, ◌∷◌, [], false, if◌then◌else◌, true, IfOk, OnOk};
+ghost use Rattle.std.specs.Prelude.{◌≡◌, [], if◌then◌else◌, IfOk};
 ghost use Rattle.qs_meaning.specs.Serial.{IsLegal};
 ghost use Rattle.qs_played.specs.Isolation.{IsIsolated};
-ghost use Rattle.qs_played.specs.Schedule.{actors_of, rounds_of, schedule};
 ghost use Rattle.qs_plain_laws.specs.PlainIsolation.{commands_in_queue};
-ghost use Rattle.qs_plain_laws.specs.PlainSchedule.{IsPlayed, played_of, plays, scheduled};
+ghost use Rattle.qs_plain_laws.specs.PlainSchedule.{IsPlayed, played_of, scheduled};
 ghost use Rattle.qs_plain_laws.specs.PlainSyncSums.{AreQueriesCounted};
-ghost use Rattle.qs_plain_laws.specs.Plain.{begin};
-ghost use Rattle.qs_plain.specs.Rules.{plain_of};
-ghost use Rattle.qs_steps.specs.PlainQueues.{plain_queues, queues_text};
+ghost use Rattle.qs_steps.specs.PlainQueues.{plain_queues};
 ghost use Rattle.qs_steps.specs.PlainSteps.{plain_steps};
-ghost use Rattle.qs_steps.specs.Telling.{AreRulesTold, IsScheduled, NoneStep, played_in};
+ghost use Rattle.qs_steps.specs.Telling.{played_in};
 
 use crate::plain_lines::put_line;
 use crate::plain_queues::put_plain_queues;
+use crate::telling::{Machine, play_steps, queues_of};
 use crate::wanted::{Told, Wanted};
 use qs_plain::Rules;
 use qs_played::{Actor, MOST_ROUNDS, PlayFault, are_named};
 use qs_program::Program;
 use std::alloc::{AllocError, Global};
 
-// One actor is asked to step, as the actor of this number: whether it stepped.
-fn put_step(
-    out: &mut Vec<u8>,
-    program: &Program,
-    rules: &mut Rules,
-    is_pick: bool,
-    number: u64,
-    actor: Actor,
-) -> Result<bool, AllocError>
-    requires own { rules.old.program ≡ program.now }
-    ensures told { OnOk result (AreRulesTold program.now is_pick number (actor ∷ []) out.old.items rules.old out.new.items rules.new) }
-    ensures still { IfOk result (λ stepped. stepped ≡ false → NoneStep program.now (actor ∷ []) rules.old rules.new) }
-{
-    let deed = rules.step_told(actor);
-    let put = put_line(out, program, is_pick, number, actor, &deed);
-    let stepped = deed.is_some();
-    drop(deed);
-    put?;
-    Ok(stepped)
-}
+impl Machine for Rules<'_> {
+    ghost use Rattle.qs_steps.specs.Telling.{rules_view};
 
-// The picks, one step each.
-fn put_picks(
-    out: &mut Vec<u8>,
-    program: &Program,
-    rules: &mut Rules,
-    picks: &[Actor],
-) -> Result<(), AllocError>
-    requires own { rules.old.program ≡ program.now }
-    ensures told { OnOk result (AreRulesTold program.now true 1 picks.now out.old.items rules.old out.new.items rules.new) }
-{
-    let mut number = 0;
-    for pick in picks {
-        number += 1;
-        let _stepped = put_step(out, program, rules, true, number, *pick)?;
+    ghost view = { rules_view };
+
+    fn put_step(
+        &mut self,
+        _alloc: Global,
+        out: &mut Vec<u8>,
+        program: &Program,
+        is_pick: bool,
+        number: u64,
+        actor: Actor,
+    ) -> Result<bool, AllocError> {
+        let deed = self.step_told(actor);
+        let put = put_line(out, program, is_pick, number, actor, &deed);
+        let stepped = deed.is_some();
+        drop(deed);
+        put?;
+        Ok(stepped)
     }
-    Ok(())
-}
 
-// One step of each client and then of each handler, in text order, after so many actors were asked: whether one of them
-// stepped.
-fn put_round(
-    out: &mut Vec<u8>,
-    program: &Program,
-    rules: &mut Rules,
-    asked: u64,
-) -> Result<bool, AllocError>
-    requires own { rules.old.program ≡ program.now }
-    requires room { asked ≤ 2 ^ 63 }
-    ensures told { OnOk result (AreRulesTold program.now false (asked + 1) (actors_of program.now) out.old.items rules.old out.new.items rules.new) }
-    ensures still { IfOk result (λ stepped. stepped ≡ false → NoneStep program.now (actors_of program.now) rules.old rules.new) }
-{
-    program.keeps_sound();
-    let clients = program.clients() as u64;
-    let mut stepped = false;
-    for client in 0..program.clients() as u8 {
-        let number = asked + 1 + u64::from(client);
-        stepped |= put_step(out, program, rules, false, number, Actor::Client(client))?;
+    fn ask(&mut self, actor: Actor) -> bool {
+        self.step(actor)
     }
-    for handler in 0..program.objects() as u8 {
-        let number = asked + 1 + clients + u64::from(handler);
-        stepped |= put_step(out, program, rules, false, number, Actor::Handler(handler))?;
+
+    fn ask_rounds(&mut self, rounds: u32) {
+        self.play_rounds(rounds);
     }
-    Ok(stepped)
-}
 
-// So many rounds, after so many picks. They end at the first one that steps nobody, as the further ones would tell
-// nothing either.
-fn put_rounds(
-    out: &mut Vec<u8>,
-    program: &Program,
-    rules: &mut Rules,
-    picks: u64,
-    rounds: u32,
-) -> Result<(), AllocError>
-    requires own { rules.old.program ≡ program.now }
-    requires room { picks ≤ 2 ^ 62 }
-    ensures told { OnOk result (AreRulesTold program.now false (picks + 1) (rounds_of rounds (actors_of program.now)) out.old.items rules.old out.new.items rules.new) }
-{
-    program.keeps_sound();
-    let actors = (program.clients() + program.objects()) as u64;
-    for round in 0..rounds {
-        if !put_round(out, program, rules, picks + u64::from(round) * actors)? {
-            return Ok(());
-        }
-    }
-    Ok(())
-}
-
-// The whole schedule.
-fn put_schedule(
-    out: &mut Vec<u8>,
-    program: &Program,
-    rules: &mut Rules,
-    picks: &[Actor],
-    rounds: u32,
-) -> Result<(), AllocError>
-    requires own { rules.old.program ≡ program.now }
-    requires begins { plain_of rules.old ≡ begin program.now }
-    ensures text { OnOk result (out.new.items ≡ out.old.items ++ plain_steps program.now picks.now rounds) }
-    ensures state { OnOk result (IsScheduled program.now picks.now rounds rules.new) }
-{
-    put_picks(out, program, rules, picks)?;
-    put_rounds(out, program, rules, picks.len() as u64, rounds)
-}
-
-// The whole schedule, and no text.
-fn play(rules: &mut Rules, picks: &[Actor], rounds: u32)
-    ensures state { plain_of rules.new ≡ plays rules.old.program (schedule rules.old.program picks.now rounds) (plain_of rules.old) }
-    ensures program { rules.new.program ≡ rules.old.program }
-{
-    for pick in picks {
-        let _stepped = rules.step(*pick);
-    }
-    rules.play_rounds(rounds);
-}
-
-// Plays the whole schedule: the lines of its steps, where they are asked for, and else no text.
-fn play_steps(
-    alloc: Global,
-    program: &Program,
-    rules: &mut Rules,
-    picks: &[Actor],
-    rounds: u32,
-    tells: bool,
-) -> Result<Vec<u8>, AllocError>
-    requires own { rules.old.program ≡ program.now }
-    requires begins { plain_of rules.old ≡ begin program.now }
-    ensures text { IfOk result (λ out. out.items ≡ (if tells then plain_steps program.now picks.now rounds else [])) }
-    ensures state { OnOk result (IsScheduled program.now picks.now rounds rules.new) }
-{
-    if tells {
-        let mut out = Vec::new(alloc);
-        put_schedule(&mut out, program, rules, picks, rounds)?;
-        Ok(out)
-    } else {
-        play(rules, picks, rounds);
-        Ok(Vec::new(alloc))
-    }
-}
-
-// What lies where, where it is asked for, and else no text.
-fn queues_of(
-    alloc: Global,
-    program: &Program,
-    rules: &Rules,
-    tells: bool,
-) -> Result<Vec<u8>, AllocError>
-    requires own { rules.now.program ≡ program.now }
-    ensures text { IfOk result (λ out. out.items ≡ (if tells then queues_text program.now (plain_of rules.now) else [])) }
-{
-    if tells {
-        let mut out = Vec::new(alloc);
-        put_plain_queues(&mut out, program, rules)?;
-        Ok(out)
-    } else {
-        Ok(Vec::new(alloc))
+    fn put_queues(
+        &mut self,
+        _alloc: Global,
+        out: &mut Vec<u8>,
+        program: &Program,
+    ) -> Result<(), AllocError> {
+        put_plain_queues(out, program, self)
     }
 }
 
@@ -198,7 +76,7 @@ fn tell(
 {
     let mut rules = Rules::new(alloc, program)?;
     let steps = play_steps(alloc, program, &mut rules, picks, rounds, wanted.steps)?;
-    let queues = queues_of(alloc, program, &rules, wanted.queues)?;
+    let queues = queues_of(alloc, program, &mut rules, wanted.queues)?;
     let played = rules.into_played(alloc)?;
     Ok(Told {
         steps,

@@ -1,14 +1,13 @@
-use Rattle.std.proofs.Common.{ap, subst, sym, ◌∙◌}
+use Rattle.std.proofs.Common.{[], ap, cond, subst, sym, ◌∙◌}
 use Rattle.qs_played.specs.Schedule.{schedule}
 use Rattle.qs_core_laws.specs.CoreSchedule.{core_played}
-use Rattle.qs_core_state.specs.CoreState.{CoreState, IsPlayedOn, core_of}
+use Rattle.qs_core_state.specs.CoreState.{CoreState, IsPlayedOn, codes_of, core_of}
 use Rattle.qs_core.proofs.CoreCounted.{schedule_counted}
 use Rattle.qs_core.proofs.CorePlaying.{schedule_isolated}
+use Rattle.qs_steps.specs.CoreQueues.{queues_text}
 use Rattle.qs_steps.proofs.CoreQueuesText.{told_in}
+use Rattle.qs_steps.proofs.CoreTelling.{core_steps_on, scheduled_on}
 use Rattle.qs_steps.proofs.core_telling.tell.Goals as goal
-
-pub queues_of-requires : goal.queues_of-requires
-queues_of-requires c = record { own = (c.in_ok-steps.ensures.played c.args.mode c.args.size c.in_ok-core.ensures.fresh).program }
 
 pub returns : goal.returns
 returns c =
@@ -17,14 +16,19 @@ returns c =
     let size = c.args.size in
     let picks = c.args.picks.now in
     let rounds = c.args.rounds in
-    let s = c.play_steps.new.core in
-    let t = c.queues_of.new.core in
+    let wanted = c.args.wanted in
+    let s = c.play_steps.new.machine in
+    let t = c.queues_of.new.machine in
     let same = c.in_ok-queues.ensures.same in
-    let on = c.in_ok-steps.ensures.played mode size c.in_ok-core.ensures.fresh in
+    let fresh = c.in_ok-core.ensures.fresh in
+    let lead = c.in_ok-steps.ensures.lead in
+    let on = scheduled_on p mode size picks rounds _ s fresh lead in
     let later = subst (IsPlayedOn p mode size (schedule p picks rounds)) (sym same) on in
     let it = c.in_ok-played in
     record {
-      told = told_in p mode size picks rounds c.args.wanted s c.in_ok-steps.steps.items c.in_ok-queues.queues.items it.played on c.in_ok-steps.ensures.text c.in_ok-queues.ensures.text
+      told = told_in p mode size picks rounds wanted s c.in_ok-steps.steps.items c.in_ok-queues.queues.items it.played on
+          (c.in_ok-steps.ensures.text ∙ ap (λ l. cond wanted.steps l []) (core_steps_on p mode size picks rounds _ s fresh lead))
+          (c.in_ok-queues.ensures.text ∙ ap (λ q. cond wanted.queues (queues_text q (codes_of s) s.size (core_of s)) []) on.program)
           (it.ensures.shown ∙ ap (λ (x : CoreState). core_played x.program (core_of x)) same);
       isolated = schedule_isolated p mode size picks rounds t it.played later it.ensures.shown it.ensures.isolated;
       counted = schedule_counted p mode size picks rounds t it.played later it.ensures.shown it.ensures.counted;

@@ -3,25 +3,26 @@ use Rattle.std.specs.List.{range_with_len}
 use Rattle.std.proofs.lemmas.Bool.{or_parts}
 use Rattle.std.proofs.lemmas.List.{length-append}
 use Rattle.qs_played.specs.declared.schedule.actor.Actor.TheVariants as actor
-use Rattle.qs_steps.proofs.RulesTelling.{row_still, row_told}
-use Rattle.qs_steps.proofs.TellingRuns.{length-row}
-use Rattle.qs_steps.proofs.rules_telling.put_round.Goals as goal
+use Rattle.qs_steps.proofs.TellingRuns.{length-row, row_still, row_told}
+use Rattle.qs_steps.proofs.telling.put_round.Goals as goal
 
 pub loop-client-preserved : goal.loop-client-preserved
-loop-client-preserved c =
+loop-client-preserved g c =
+    let v = g.M.Machine.view in
     let p = c.args.program.now in
     let i = c.loop-client.client in
     let it = c.in_ok-stepped in
     let number : (c.args.asked + 1) + c.from.result ≡ (c.args.asked + 1) + length (map actor.Client (range_with_len 0 i)) = omega (arith, c.from.ensures, length-row actor.Client i) in
     record {
-      told = row_told p false (c.args.asked + 1) _ [] actor.Client i _ _ _ _ _ _ c.loop-client.invariant.told it.ensures.told number;
+      told = row_told v p false (c.args.asked + 1) _ [] actor.Client i _ _ _ _ _ _ _ c.loop-client.invariant.told it.ensures.asked it.ensures.line number;
       still = λ none.
           let both = or_parts c.loop-client.stepped it.field-0 none in
-          row_still p false (c.args.asked + 1) [] actor.Client i _ _ _ _ _ c.loop-client.invariant.told (c.loop-client.invariant.still both.0) (it.ensures.still both.1);
+          row_still v [] actor.Client i _ _ _ _ (c.loop-client.invariant.still both.0) it.ensures.asked both.1;
     }
 
 pub loop-handler-preserved : goal.loop-handler-preserved
-loop-handler-preserved c =
+loop-handler-preserved g c =
+    let v = g.M.Machine.view in
     let p = c.args.program.now in
     let h = c.loop-handler.handler in
     let it = c.in_ok-stepped-2 in
@@ -29,8 +30,8 @@ loop-handler-preserved c =
     let number : ((c.args.asked + 1) + c.clients-clients.result) + c.from-in-loop-handler.result ≡ (c.args.asked + 1) + length (clients ++ map actor.Handler (range_with_len 0 h)) =
     omega (arith, c.clients-clients.ensures.value, c.from-in-loop-handler.ensures, length-append clients (map actor.Handler (range_with_len 0 h)), length-row actor.Client (length p.clients), length-row actor.Handler h) in
     record {
-      told = row_told p false (c.args.asked + 1) _ clients actor.Handler h _ _ _ _ _ _ c.loop-handler.invariant.told it.ensures.told number;
+      told = row_told v p false (c.args.asked + 1) _ clients actor.Handler h _ _ _ _ _ _ _ c.loop-handler.invariant.told it.ensures.asked it.ensures.line number;
       still = λ none.
           let both = or_parts c.loop-handler.stepped it.field-0 none in
-          row_still p false (c.args.asked + 1) clients actor.Handler h _ _ _ _ _ c.loop-handler.invariant.told (c.loop-handler.invariant.still both.0) (it.ensures.still both.1);
+          row_still v clients actor.Handler h _ _ _ _ (c.loop-handler.invariant.still both.0) it.ensures.asked both.1;
     }

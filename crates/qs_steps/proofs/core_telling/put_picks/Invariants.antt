@@ -1,9 +1,0 @@
-use Rattle.std.proofs.Common.{◌≡◌, take, true}
-use Rattle.qs_steps.specs.Telling.{AreCoreTold}
-use Rattle.qs_steps.proofs.core_telling.put_picks.Given as goal
-
-abbrev pub invariant-loop-pick : goal.invariant-loop-pick
-invariant-loop-pick l = record {
-  number : l.number ≡ l.pick-index;
-  told : AreCoreTold l.program true 1 (take l.pick-index l.picks) l.initial.out.items l.initial.core l.out.items l.core;
-}

@@ -1,7 +1,0 @@
-use Rattle.std.proofs.Common.{◌+◌, false}
-use Rattle.qs_played.specs.Schedule.{actors_of, rounds_of}
-use Rattle.qs_steps.specs.Telling.{AreRulesTold}
-use Rattle.qs_steps.proofs.rules_telling.put_rounds.Given as goal
-
-abbrev pub invariant-loop-round : goal.invariant-loop-round
-invariant-loop-round l = AreRulesTold l.program false (l.picks + 1) (rounds_of l.round (actors_of l.program)) l.fn.out.items l.fn.rules l.out.items l.rules
