@@ -15,8 +15,8 @@ use Rattle.qs_tree.specs.declared.tree.Item.{Item}
 use Rattle.qs_tree.specs.declared.tree.Item.TheVariants.{Object, Client, Template, Started}
 use Rattle.qs_tree.specs.Tree.{Stmts, end, command, query, assign, choose, choose_else, again, leave}
 use Rattle.qs_program.specs.Limits.{most_turns}
-use Rattle.qs_places.specs.Places.{Scope, TextPlace, ScopeOrFault, object, number, client, separate, listed, target, operation, arguments, variable, leaves, template, text, starts, given, pass_place, scope_or_fault, then_at, at_each, atom_places, atoms_places, expr_places, call_places, places, listed_places, block_places, blocks_places, kind_places, formals_places, formal_kinds, kind_of, text_places, start, fault_in, fault_of_text, given_places, item_places, script_places}
-use Rattle.qs_places.proofs.Walks.{met-append}
+use Rattle.qs_fault_places.specs.Places.{Scope, TextPlace, ScopeOrFault, object, number, client, separate, listed, target, operation, arguments, variable, leaves, template, text, starts, given, pass_place, scope_or_fault, then_at, at_each, atom_places, atoms_places, expr_places, call_places, places, listed_places, block_places, blocks_places, kind_places, formals_places, formal_kinds, kind_of, text_places, start, fault_in, fault_of_text, given_places, item_places, script_places}
+use Rattle.qs_fault_places.proofs.Walks.{met-append}
 use Rattle.qs_anchors.specs.declared.anchor.Anchor.{Anchor}
 use Rattle.qs_anchors.specs.declared.anchor.Anchor.TheVariants as m
 use Rattle.qs_anchors.specs.Anchors.{anchor_places, atom_anchor, expr_anchors, test_anchors, call_anchors, anchors, block_anchors, blocks_anchors, kind_anchors, formal_anchor, text_anchors, given_anchors, item_anchors}

@@ -2,7 +2,7 @@
 use Rattle.std.proofs.Common.{◌≡◌, ℕ, ◌+◌, ◌<◌, List, [], ◌∷◌, length, ap, arith, length-append, Some, Ok, Err}
 use Rattle.qs_tree.specs.declared.tree.Item.{Item}
 use Rattle.qs_tree.specs.declared.tree.Item.TheVariants.{Object, Client, Template, Started}
-use Rattle.qs_places.specs.Places.{Scope, ScopeOrFault, scope_or_fault, start, pass_place, template, formal_kinds}
+use Rattle.qs_fault_places.specs.Places.{Scope, ScopeOrFault, scope_or_fault, start, pass_place, template, formal_kinds}
 use Rattle.qs_anchors.specs.declared.anchor.Anchor.{Anchor}
 use Rattle.qs_anchors.specs.declared.finding.Anchored.{Anchored}
 use Rattle.qs_anchors.specs.Anchors.{anchor_places, text_anchors, item_anchors, script_anchors}

@@ -3,8 +3,8 @@ use Rattle.std.specs.Prelude.{◌≡◌, ◌≢◌, ℕ, ◌+◌, List, [], ◌�
 use Rattle.qs_tree.specs.declared.tree.TemplateItem.{TemplateItem}
 use Rattle.qs_tree.specs.declared.tree.Item.{Item}
 use Rattle.qs_tree.specs.declared.tree.Item.TheVariants.{Object, Client, Template, Started}
-use Rattle.qs_places.specs.declared.fault.CheckFault.TheVariants as f
-use Rattle.qs_places.specs.Places.{Scope, ScopeOrFault, template, scope_or_fault, start, pass_place, formal_kinds}
+use Rattle.qs_fault_places.specs.declared.fault.CheckFault.TheVariants as f
+use Rattle.qs_fault_places.specs.Places.{Scope, ScopeOrFault, template, scope_or_fault, start, pass_place, formal_kinds}
 use Rattle.qs_anchors.specs.declared.anchor.Anchor.{Anchor}
 use Rattle.qs_anchors.specs.declared.finding.Anchored.{Anchored}
 use Rattle.qs_anchors.specs.Anchors.{anchor_places, item_anchors, text_anchors}

@@ -21,7 +21,7 @@ use Rattle.qs_tree.specs.Tree.{Stmts, end, command, query, assign, choose, choos
 use Rattle.qs_objects.specs.Limits.{greatest_balance, most_lines, most_values}
 use Rattle.qs_program.specs.Limits.{most_turns}
 use Rattle.qs_program.specs.Numbering.{Name}
-use Rattle.qs_places.specs.Places.{TextPlace, object, number, client, separate, listed, target, operation_places, variable, leaves, starts, given, formal_kind, kind_of}
+use Rattle.qs_fault_places.specs.Places.{TextPlace, object, number, client, separate, listed, target, operation_places, variable, leaves, starts, given, formal_kind, kind_of}
 use Rattle.qs_anchors.specs.declared.anchor.Anchor.{Anchor}
 use Rattle.qs_anchors.specs.declared.anchor.Anchor.TheVariants as m
 

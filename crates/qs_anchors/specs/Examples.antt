@@ -9,7 +9,7 @@ use Rattle.qs_tree.specs.declared.tree.KindWord.TheVariants as kind
 use Rattle.qs_tree.specs.declared.tree.Item.{Item}
 use Rattle.qs_tree.specs.declared.tree.Item.TheVariants.{Object, Client, Template, Started}
 use Rattle.qs_program.specs.Numbering.{Name}
-use Rattle.qs_places.specs.declared.fault.CheckFault.TheVariants as f
+use Rattle.qs_fault_places.specs.declared.fault.CheckFault.TheVariants as f
 use Rattle.qs_anchors.specs.Anchored.{first_anchored}
 
 abbrev pub a : Name

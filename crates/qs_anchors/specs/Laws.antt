@@ -3,7 +3,7 @@ use Rattle.std.specs.Prelude.{◌≡◌, ◌<◌, ℕ, List, length, map, Some, 
 use Rattle.qs_tokens.specs.declared.token.Token.{Token}
 use Rattle.qs_tree.specs.declared.tree.Item.{Item}
 use Rattle.qs_grammar.specs.Grammar.{IsScript}
-use Rattle.qs_places.specs.Places.{fault_in, scope_or_fault, script_places, start}
+use Rattle.qs_fault_places.specs.Places.{fault_in, scope_or_fault, script_places, start}
 use Rattle.qs_anchors.specs.declared.finding.Anchored.{Anchored}
 use Rattle.qs_anchors.specs.Anchors.{anchor_token, anchors_in, script_anchors}
 use Rattle.qs_anchors.specs.Anchored.{first_anchored}

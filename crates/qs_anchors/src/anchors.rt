@@ -5,8 +5,8 @@ ghost use Rattle.qs_tree.specs.Views.{single};
 ghost use Rattle.qs_anchors.specs.Anchors.{anchors, atom_anchor, expr_anchors, test_anchors, call_anchors, block_anchors, blocks_anchors, kind_anchors, formal_anchor, given_anchors, item_anchors};
 
 use crate::anchor::Anchor;
+use qs_fault_places::{formal_value, kind_value};
 use qs_objects::{GREATEST_BALANCE, MOST_LINES, MOST_VALUES};
-use qs_places::{formal_value, kind_value};
 use qs_program::MOST_TURNS;
 use qs_tree::{
     Atom, Block, Body, Call, ClientItem, Expr, Formal, Item, KindText, Name, Number, ObjectItem,

@@ -25,7 +25,7 @@ pub fn block_anchor(
     number
 }
 
-// The same, where no anchor is there yet.
+// The number of a client's block among the anchors, where none is there yet.
 fn number_in(
     anchors: &mut Vec<Anchor>,
     items: &[Item],

@@ -1,13 +1,13 @@
 //! The first anchor of a script with a fault.
 
 ghost use Rattle.std.specs.Prelude.{◌≡◌, ◌≢◌, ◌≤◌, ◌<◌, ◌+◌, ◌++◌, [], length, drop, IfOk, IfErr, OnOk, Some, None};
-ghost use Rattle.qs_places.specs.Places.{Scope as Known, Meets, scope_or_fault, start, pass_place, leaves};
+ghost use Rattle.qs_fault_places.specs.Places.{Scope as Known, Meets, scope_or_fault, start, pass_place, leaves};
 ghost use Rattle.qs_anchors.specs.Anchors.{anchor_places, item_anchors, text_anchors};
 ghost use Rattle.qs_anchors.specs.Anchored.{Finds, outside, scope_or_anchored, template_anchored, item_anchored, items_anchored, first_anchored};
 
 use crate::anchor::Anchor;
 use crate::anchors::put_item;
-use qs_places::{CheckFault, Scope, check_number};
+use qs_fault_places::{CheckFault, Scope, check_number};
 use qs_tree::{Item, Script, TemplateItem};
 use std::alloc::{AllocError, Global};
 
@@ -23,7 +23,7 @@ pub struct Anchored {
 
 impl From<AllocError> for Anchored {
     ghost use Rattle.std.specs.Prelude.{◌≡◌};
-    ghost use Rattle.qs_places.specs.declared.fault.CheckFault.TheVariants.{Memory};
+    ghost use Rattle.qs_fault_places.specs.declared.fault.CheckFault.TheVariants.{Memory};
 
     ghost from_gives = { λ _ e. e.fault ≡ Memory };
 
@@ -150,7 +150,7 @@ fn walk_items(
     Ok(())
 }
 
-// The same, where nothing is known and no anchor is there.
+// Walks a script's items, with nothing known and no anchor before them.
 fn walk_script(alloc: Global, items: &[Item]) -> Result<(), Anchored>
     ensures ok { OnOk result (first_anchored items.now ≡ None) }
     ensures found { IfErr result (λ anchored. anchored.fault ≢ CheckFault.Memory → first_anchored items.now ≡ Some anchored) }

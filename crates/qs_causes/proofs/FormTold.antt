@@ -3,7 +3,7 @@
 use Rattle.std.proofs.Common.{ℕ, zero, suc, ◌-◌, ◌≤◌, List, [], ◌∷◌, length, arith, inl, inr, Result, Ok}
 use Rattle.qs_tokens.specs.declared.token.Token.{Token}
 use Rattle.qs_tokens.specs.declared.lex.TokenFault.{TokenFault}
-use Rattle.qs_told.specs.declared.told.Span.{Span}
+use Rattle.qs_diagnosis.specs.declared.told.Span.{Span}
 use Rattle.qs_causes.specs.declared.spans.PlacedToken.{PlacedToken}
 use Rattle.qs_causes.specs.ReadTold.{IsSpot}
 use Rattle.qs_causes.specs.Sources.{end_in, span_in}

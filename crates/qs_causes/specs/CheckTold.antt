@@ -4,9 +4,9 @@ use Rattle.std.specs.Prelude.{◌≡◌, ℕ, ◌-◌, List, get_or, Option, Som
 use Rattle.qs_tokens.specs.declared.token.Token.TheVariants as t
 use Rattle.qs_tree.specs.declared.tree.Item.{Item}
 use Rattle.qs_script.specs.Reads.{IsScriptText}
-use Rattle.qs_told.specs.declared.told.Span.{Span}
-use Rattle.qs_told.specs.declared.told.Diagnosis.{Diagnosis}
-use Rattle.qs_told.specs.Told.{IsTold}
+use Rattle.qs_diagnosis.specs.declared.told.Span.{Span}
+use Rattle.qs_diagnosis.specs.declared.told.Diagnosis.{Diagnosis}
+use Rattle.qs_diagnosis.specs.Diagnoses.{IsTold}
 use Rattle.qs_anchors.specs.declared.finding.Anchored.{Anchored}
 use Rattle.qs_anchors.specs.Anchors.{IsAnchorAt}
 use Rattle.qs_anchors.specs.Anchored.{first_anchored}

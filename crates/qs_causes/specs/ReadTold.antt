@@ -8,7 +8,7 @@ use Rattle.qs_tokens.specs.declared.lex.TokenFault.{TokenFault}
 use Rattle.qs_tree.specs.declared.tree.Item.{Item}
 use Rattle.qs_grammar.specs.Grammar.{IsScript}
 use Rattle.qs_grammar.specs.FormPlaces.{BeginsScript, IsFormPlace}
-use Rattle.qs_told.specs.declared.told.Span.{Span}
+use Rattle.qs_diagnosis.specs.declared.told.Span.{Span}
 use Rattle.qs_causes.specs.declared.finding.FormFault.{FormFault}
 use Rattle.qs_causes.specs.declared.spans.PlacedToken.{PlacedToken}
 use Rattle.qs_causes.specs.declared.spans.SpanFault.TheVariants as f

@@ -1,7 +1,7 @@
 -- A text with its tokens, by their places.
 use Rattle.std.specs.Prelude.{ℕ, ◌-◌, ◌&&◌, nat_le, if◌then◌else◌, List, [], length, take, drop, slice_get, Option, Some, None, option_map}
 use Rattle.qs_tokens.specs.declared.token.Token.{Token}
-use Rattle.qs_told.specs.declared.told.Span.{Span}
+use Rattle.qs_diagnosis.specs.declared.told.Span.{Span}
 use Rattle.qs_causes.specs.declared.spans.PlacedToken.{PlacedToken}
 
 -- the token at a place, where there is one

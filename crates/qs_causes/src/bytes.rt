@@ -3,8 +3,8 @@
 ghost use Rattle.std.specs.Prelude.{◌≡◌, IfOk};
 
 use crate::said::{Said, digits, say};
+use qs_diagnosis::Span;
 use qs_tokens::TokenFault;
-use qs_told::Span;
 use std::alloc::{AllocError, Global};
 
 // How many bytes at the front of a text belong to a name, or are digits.

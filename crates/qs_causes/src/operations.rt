@@ -1,8 +1,8 @@
 // The kinds of objects and their operations, in words for a reader.
 
 use crate::said::joined;
+use qs_diagnosis::put_all;
 use qs_objects::Op;
-use qs_told::put_all;
 use std::alloc::{AllocError, Global};
 
 /// A kind of object.

@@ -10,7 +10,7 @@ use crate::source::Source;
 use crate::words::say_cause;
 use qs_anchors::{block_anchor, first_fault};
 use qs_check::{Excess, first_excess};
-use qs_places::CheckFault;
+use qs_fault_places::CheckFault;
 use qs_tree::Script;
 use std::alloc::{AllocError, Global};
 

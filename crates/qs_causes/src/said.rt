@@ -4,7 +4,7 @@ ghost use Rattle.std.specs.Prelude.{◌≡◌, IfOk, decimal, flat_map};
 
 use crate::source::Source;
 use itoa::Buffer;
-use qs_told::{Span, put, put_all, spot_of};
+use qs_diagnosis::{Span, put, put_all, spot_of};
 use std::alloc::{AllocError, Global};
 
 /// What is said of a place of a text: the cause, what stands beside the marks, and help.

@@ -29,7 +29,7 @@ pub(crate) fn say_form(
     say_at(alloc, source, stage, is_deep, fault)
 }
 
-// The same, by what may stand at the place in words.
+// Says what is wrong at a place, by what may stand there in words.
 fn say_at(
     alloc: Global,
     source: Source<'_>,

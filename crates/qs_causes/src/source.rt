@@ -4,8 +4,8 @@ ghost use Rattle.std.specs.Prelude.{◌≡◌, length, option_map};
 ghost use Rattle.qs_causes.specs.Sources.{end_in, span_in, token_in, word_in};
 
 use crate::spans::PlacedToken;
+use qs_diagnosis::Span;
 use qs_tokens::Token;
-use qs_told::Span;
 
 /// A text with its tokens in order.
 #[derive(Clone, Copy)]

@@ -20,9 +20,9 @@ use crate::said::Said;
 use crate::shape::say_form;
 use crate::source::Source;
 use crate::spans::{PlacedToken, SpanFault, place_of_anchor, placed_tokens};
+use qs_diagnosis::{Diagnosis, Span, put_diagnosis};
 use qs_script::{ReadFault, read};
 use qs_tokens::{ListFault, Token, TokenFault, list_tokens};
-use qs_told::{Diagnosis, Span, put_diagnosis};
 use qs_tree::Script;
 use std::alloc::{AllocError, Global};
 

@@ -7,13 +7,13 @@ use Rattle.qs_tree.specs.declared.tree.KindText.{KindText}
 use Rattle.qs_tree.specs.declared.tree.KindText.TheVariants.{Account, Buffer, Grid}
 use Rattle.qs_tree.specs.declared.tree.Item.{Item}
 use Rattle.qs_tree.specs.declared.tree.Item.TheVariants.{Object, Client, Template, Started}
-use Rattle.qs_places.specs.declared.fault.CheckFault.{CheckFault}
-use Rattle.qs_places.specs.declared.fault.CheckFault.TheVariants as f
+use Rattle.qs_fault_places.specs.declared.fault.CheckFault.{CheckFault}
+use Rattle.qs_fault_places.specs.declared.fault.CheckFault.TheVariants as f
 use Rattle.qs_program.specs.Numbering.{Name, is_among}
 use Rattle.qs_program.specs.Limits.{most_objects}
-use Rattle.qs_places.specs.Places.{Scope, TextPlace, ScopeOrFault, number, text, fault_of_text, formal_kinds, most_templates, unless_fault, with_template, scope_or_fault, then_at, over, without_variables, with_object, kind_of, kind_places, script_places, Fails}
+use Rattle.qs_fault_places.specs.Places.{Scope, TextPlace, ScopeOrFault, number, text, fault_of_text, formal_kinds, most_templates, unless_fault, with_template, scope_or_fault, then_at, over, without_variables, with_object, kind_of, kind_places, script_places, Fails}
 use Rattle.qs_resolution.specs.Resolve.{variable_lists}
-use Rattle.qs_places.proofs.Walks.{met-then, fails_first}
+use Rattle.qs_fault_places.proofs.Walks.{met-then, fails_first}
 
 -- a walk that has come from s to t, but for the variables of the clients that are over
 module _ (s t : Scope) (all left here later : List TextPlace) (so_far : over (scope_or_fault s all) ≡ over (scope_or_fault t left)) (parts : left ≡ here ++ later) where

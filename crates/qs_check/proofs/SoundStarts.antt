@@ -18,8 +18,8 @@ use Rattle.qs_program.specs.Numbering.{Name, same_name, found_at}
 use Rattle.qs_program.specs.Program.{no_object}
 use Rattle.qs_program.specs.Sound.{IsSoundBlock, IsSoundClient}
 use Rattle.qs_program.proofs.Found.{found_within}
-use Rattle.qs_places.specs.Places.{formal_kind, kind_of}
-use Rattle.qs_places.specs.Variables.{variables_of}
+use Rattle.qs_fault_places.specs.Places.{formal_kind, kind_of}
+use Rattle.qs_fault_places.specs.Variables.{variables_of}
 use Rattle.qs_resolution.specs.Resolve.{as_client, binding_of, block_shape, declared_formals, objects_of, own_client, started_of, template_called, templates_in}
 use Rattle.qs_check.specs.WellFormed.{AreGiven, AreItems, IsWellFormedTemplate}
 use Rattle.qs_binding.proofs.BoundTexts.{sound_bounds}

@@ -18,9 +18,9 @@ use Rattle.qs_tree.specs.Tree as tree
 use Rattle.qs_program.specs.declared.program.Declared.{Declared}
 use Rattle.qs_check.specs.Checked.{first_fault, text_fault, fault_of, excess_of}
 use Rattle.qs_program.specs.Numbering.{Name, same_name, is_among, found_at}
-use Rattle.qs_places.specs.Places.{Scope, ScopeOrFault, scope_or_fault, start, script_places}
+use Rattle.qs_fault_places.specs.Places.{Scope, ScopeOrFault, scope_or_fault, start, script_places}
 use Rattle.qs_program.specs.Program.{ClientShape, ProgramShape, whole_load, whole_weight}
-use Rattle.qs_places.specs.Variables.{variables_of}
+use Rattle.qs_fault_places.specs.Variables.{variables_of}
 use Rattle.qs_resolution.specs.Resolve.{as_client, atom_of, binding_of, expr_of, body_of, block_shape, clients_of, declared_formals, names_of, kinds_of, objects_of, own_client, started_of, template_called, templates_in, program_of_items}
 use Rattle.qs_program.specs.Sound.{IsAtomBelow, IsExprBelow, AreVariablesBelow, AreLeavesInside, IsFormedBlock, IsFormedClient, AreNamesApart, IsFormedProgram, IsSound}
 use Rattle.qs_check.specs.WellFormed.{atom_names, atoms_names, expr_names, test_names, variables_in, variables_in_all, AreStatements, AreItems, IsWellFormedBlock, IsWellFormedTemplate, client_names, IsWellFormed}

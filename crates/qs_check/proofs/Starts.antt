@@ -14,11 +14,11 @@ use Rattle.qs_program.specs.declared.program.Declared.{Declared}
 use Rattle.qs_program.specs.Kinds.{same_kind}
 use Rattle.qs_program.specs.Numbering.{Name, same_name, is_among, found_at}
 use Rattle.qs_program.proofs.Found.{found_is, found_within, name_at}
-use Rattle.qs_places.specs.declared.fault.CheckFault.TheVariants as f
-use Rattle.qs_places.specs.Places.{Scope, TextPlace, scope_or_fault, given, starts, formal_kind, formal_kinds, formals_at, given_places, is_given, kind_in}
+use Rattle.qs_fault_places.specs.declared.fault.CheckFault.TheVariants as f
+use Rattle.qs_fault_places.specs.Places.{Scope, TextPlace, scope_or_fault, given, starts, formal_kind, formal_kinds, formals_at, given_places, is_given, kind_in}
 use Rattle.qs_resolution.specs.Resolve.{template_called}
 use Rattle.qs_check.specs.WellFormed.{AreGiven, IsGiven, IsWellFormedStart}
-use Rattle.qs_places.proofs.FinePlaces.{then_step, leads}
+use Rattle.qs_fault_places.proofs.FinePlaces.{then_step, leads}
 use Rattle.qs_check.proofs.Scripts.{AllMatch}
 use Rattle.qs_resolution.proofs.Scopes.{names, kinds, scope, template_names, template_formals}
 use Rattle.qs_check.proofs.TextRequests.{among_at, at_number, found_only, place_here, place_later}

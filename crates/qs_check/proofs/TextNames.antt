@@ -19,8 +19,8 @@ use Rattle.qs_tree.specs.declared.tree.Block.{Block}
 use Rattle.qs_tree.specs.declared.tree.ClientItem.{ClientItem}
 use Rattle.qs_tree.specs.Tree as tree
 use Rattle.qs_program.specs.Numbering.{Name, same_name, is_among, with_name}
-use Rattle.qs_places.specs.Places.{TextPlace, object, number, client, separate, listed, target, operation, arguments, variable, leaves, template, text, starts, given, places, atom_places, atoms_places, expr_places, test_places, call_places, listed_places, block_places, blocks_places}
-use Rattle.qs_places.specs.Variables.{variables_at, variables_of}
+use Rattle.qs_fault_places.specs.Places.{TextPlace, object, number, client, separate, listed, target, operation, arguments, variable, leaves, template, text, starts, given, places, atom_places, atoms_places, expr_places, test_places, call_places, listed_places, block_places, blocks_places}
+use Rattle.qs_fault_places.specs.Variables.{variables_at, variables_of}
 use Rattle.qs_check.specs.WellFormed.{atom_names, atoms_names, expr_names, test_names, variables_in, variables_in_all}
 use Rattle.qs_resolution.proofs.FreshNames.{or_false, or_false_first, or_false_later}
 

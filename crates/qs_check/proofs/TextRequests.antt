@@ -23,11 +23,11 @@ use Rattle.qs_tree.specs.declared.tree.Call.{Call}
 use Rattle.qs_tree.specs.Tree as tree
 use Rattle.qs_program.specs.declared.program.Declared.{Declared}
 use Rattle.qs_program.specs.Numbering.{Name, same_name, is_among, found_at}
-use Rattle.qs_places.specs.Operators.{op_of}
-use Rattle.qs_places.specs.Places.{TextPlace, places, atom_places, atoms_places, expr_places, test_places, request_places, call_places, op_at, is_known, takes}
+use Rattle.qs_fault_places.specs.Operators.{op_of}
+use Rattle.qs_fault_places.specs.Places.{TextPlace, places, atom_places, atoms_places, expr_places, test_places, request_places, call_places, op_at, is_known, takes}
 use Rattle.qs_check.specs.WellFormed.{IsRequest, AreStatements}
 use Rattle.qs_program.proofs.Found.{name_at, found_is, found_within, or_true, same_name-refl}
-use Rattle.qs_places.proofs.FinePlaces.{IsFine}
+use Rattle.qs_fault_places.proofs.FinePlaces.{IsFine}
 use Rattle.qs_resolution.proofs.Scopes.{names, kinds}
 
 pub same_decides : (a b : Name) → Decides (same_name a b) (a ≡ b)

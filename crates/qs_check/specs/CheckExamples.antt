@@ -12,7 +12,7 @@ use Rattle.qs_tree.specs.declared.tree.KindWord.TheVariants as kind
 use Rattle.qs_tree.specs.declared.tree.Formal.{Formal}
 use Rattle.qs_tree.specs.declared.tree.Item.{Item}
 use Rattle.qs_tree.specs.declared.tree.Item.TheVariants.{Object, Client, Template, Started}
-use Rattle.qs_places.specs.declared.fault.CheckFault.TheVariants as f
+use Rattle.qs_fault_places.specs.declared.fault.CheckFault.TheVariants as f
 use Rattle.qs_program.specs.Numbering.{Name}
 use Rattle.qs_program.specs.Program.{whole_load, whole_weight}
 use Rattle.qs_resolution.specs.Resolve.{program_of_items}

@@ -2,10 +2,10 @@
 use Rattle.std.specs.Prelude.{◌≡◌, ◌≢◌, nat_lt, if◌then◌else◌, List, Option, Some, None, Result, Ok, Err}
 use Rattle.qs_tree.specs.declared.tree.Item.{Item}
 use Rattle.qs_program.specs.Limits.{most_requests, most_steps}
-use Rattle.qs_places.specs.declared.fault.CheckFault.{CheckFault}
-use Rattle.qs_places.specs.declared.fault.CheckFault.TheVariants as f
+use Rattle.qs_fault_places.specs.declared.fault.CheckFault.{CheckFault}
+use Rattle.qs_fault_places.specs.declared.fault.CheckFault.TheVariants as f
 use Rattle.qs_check.specs.declared.checker.Resolved.{Resolved}
-use Rattle.qs_places.specs.Places.{ScopeOrFault, scope_or_fault, start, script_places}
+use Rattle.qs_fault_places.specs.Places.{ScopeOrFault, scope_or_fault, start, script_places}
 use Rattle.qs_program.specs.Program.{ProgramShape, whole_load, whole_weight}
 use Rattle.qs_resolution.specs.Resolve.{program_of_items}
 

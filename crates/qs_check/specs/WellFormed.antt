@@ -25,13 +25,13 @@ use Rattle.qs_tree.specs.Form.{levels_of, HasForm}
 use Rattle.qs_objects.specs.Limits.{greatest_balance, most_lines, most_values}
 use Rattle.qs_tree.specs.Limits.{most_levels}
 use Rattle.qs_program.specs.Limits.{most_blocks, most_clients, most_formals, most_objects, most_requests, most_steps, most_turns, most_variables}
-use Rattle.qs_places.specs.declared.fault.CheckFault.{CheckFault}
-use Rattle.qs_places.specs.declared.fault.CheckFault.TheVariants as f
+use Rattle.qs_fault_places.specs.declared.fault.CheckFault.{CheckFault}
+use Rattle.qs_fault_places.specs.declared.fault.CheckFault.TheVariants as f
 use Rattle.qs_program.specs.declared.program.Declared.{Declared}
 use Rattle.qs_program.specs.Kinds.{same_kind}
 use Rattle.qs_program.specs.Numbering.{Name, same_name}
-use Rattle.qs_places.specs.Operators.{op_of}
-use Rattle.qs_places.specs.Places.{formal_kind, kind_of, most_templates}
+use Rattle.qs_fault_places.specs.Operators.{op_of}
+use Rattle.qs_fault_places.specs.Places.{formal_kind, kind_of, most_templates}
 use Rattle.qs_program.specs.Program.{ProgramShape}
 use Rattle.qs_resolution.specs.Resolve.{as_client, declared_formals, names_of, objects_of, template_called, templates_in}
 use Rattle.qs_check.specs.TextLoads.{text_load, text_weight}

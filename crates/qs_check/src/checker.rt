@@ -5,13 +5,15 @@ ghost use Rattle.std.specs.Prelude.{◌≡◌, ◌≢◌, ◌≤◌, [], ◌∷�
 ghost use Rattle.qs_tree.specs.Form.{HasForm};
 ghost use Rattle.qs_program.specs.Limits.{most_objects, most_requests, most_steps, most_variables};
 ghost use Rattle.qs_check.specs.Checked.{IsCheckOf, text_fault, excess_of, shape_of};
-ghost use Rattle.qs_places.specs.Places.{Meets, scope_or_fault, over, start, without_variables, script_places};
+ghost use Rattle.qs_fault_places.specs.Places.{Meets, scope_or_fault, over, start, without_variables, script_places};
 ghost use Rattle.qs_resolution.specs.Resolve.{AreFaultless, program_of_items as resolved_of, clients_of, variable_lists, objects_of, templates_in};
 ghost use Rattle.qs_program.specs.Program.{whole_load, whole_weight};
 ghost use Rattle.qs_program.specs.Sound.{IsSound};
 ghost use Rattle.qs_check.specs.WellFormed.{AcceptsWellFormed};
 
-use qs_places::{CheckFault, Scope, check_client, check_object, check_started, check_template};
+use qs_fault_places::{
+    CheckFault, Scope, check_client, check_object, check_started, check_template,
+};
 use qs_program::{
     Client, Declared, MOST_REQUESTS, MOST_STEPS, Names, Program, all_load, all_weight,
 };
@@ -38,7 +40,7 @@ pub fn check(alloc: Global, script: Script) -> Result<Program, CheckFault>
     check_formed(alloc, script.as_slice())
 }
 
-// The same, of items in the form of a script.
+// Checks items in the form of a script.
 fn check_formed(alloc: Global, items: &[Item]) -> Result<Program, CheckFault>
     requires form { HasForm items.now }
     ensures check { IsCheckOf items.now result }
@@ -62,8 +64,8 @@ pub(crate) fn resolve(alloc: Global, items: &[Item]) -> Result<Resolved, CheckFa
     resolved
 }
 
-// The same, from a scope in which nothing is known. The caller keeps what is large: its drop at each `?` would be long
-// to prove.
+// Resolves items from a scope in which nothing is known. The caller keeps what is large: its drop at each `?` would be
+// long to prove.
 fn resolve_from(
     alloc: Global,
     scope: &mut Scope,

@@ -7,7 +7,7 @@ ghost use Rattle.qs_check.specs.Checked.{shape_of};
 ghost use Rattle.qs_check.specs.Excess.{counted_by, counted_in, limit_by, IsPassedIn, IsPassedBy, IsFirstExcess, IsExcessOf};
 
 use crate::checker::{Resolved, resolve};
-use qs_places::CheckFault;
+use qs_fault_places::CheckFault;
 use qs_program::{Block, Client, MOST_REQUESTS, MOST_STEPS, block_load};
 use qs_tree::{Item, Script};
 use std::alloc::{AllocError, Global};
@@ -121,7 +121,7 @@ pub fn first_excess(alloc: Global, script: &Script) -> Result<Option<Excess>, Al
     excess_in(alloc, script.as_slice())
 }
 
-// The same, of items in the form of a script.
+// The first excess of items in the form of a script.
 fn excess_in(alloc: Global, items: &[Item]) -> Result<Option<Excess>, AllocError>
     requires form { HasForm items.now }
     ensures excess { IfOk result (IsExcessOf items.now) }

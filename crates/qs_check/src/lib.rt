@@ -7,7 +7,7 @@ pub mod laws;
 
 pub use checker::check;
 pub use excess::{Excess, Measure, first_excess};
-pub use qs_places::CheckFault;
+pub use qs_fault_places::CheckFault;
 pub use qs_program::{
     Atom, Atoms, Block, Body, Call, Client, Declared, Expr, Locals, Names, Program, Start, Stmt,
     Test,

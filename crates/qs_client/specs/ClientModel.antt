@@ -26,6 +26,10 @@ use Rattle.qs_client_rules.specs.declared.outgoing.Outgoing.TheVariants as outgo
 abbrev pub tree_at : ClientCode → ℕ → Locals → Synced
 tree_at code k l = walk (code_at code k).graph limit (entry l (replicate (longest code.blocks) 0))
 
+-- a ticket's block as such a tree
+abbrev pub synced_block : (ℕ → ClientCode) → Ticket → Locals → Synced
+synced_block code t l = tree_at (code t.client) t.index l
+
 -- the lists of objects that the blocks reserve
 abbrev pub lists_of_code : List BlockCode → List (List ℕ)
 lists_of_code blocks = map (λ (b : BlockCode). b.reserved) blocks

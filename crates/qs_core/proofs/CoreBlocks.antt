@@ -21,24 +21,23 @@ use Rattle.qs_graph.specs.Steps.{limit}
 use Rattle.qs_syncset.specs.declared.mode.Mode.{Mode}
 use Rattle.qs_syncset.proofs.ShortLists.{few_reserved}
 use Rattle.qs_client.specs.ClientModel.{has_ended, is_between}
-use Rattle.qs_played.specs.Schedule.{all_named, or_stay}
+use Rattle.qs_played.specs.Schedule.{all_named}
 use Rattle.qs_played.specs.declared.schedule.actor.Actor.{Actor}
 use Rattle.qs_played.specs.declared.schedule.actor.Actor.TheVariants as actor
 use Rattle.qs_played.proofs.JournalRooms.{no_block_beyond}
-use Rattle.qs_played.proofs.Playing.{plays_by-append}
-use Rattle.qs_core_laws.specs.Core.{AreCodes, Core, core_begin, core_step}
+use Rattle.qs_core_laws.specs.Core.{Core}
+use Rattle.qs_syncset.specs.Codes.{AreCodes}
 use Rattle.qs_core_laws.specs.CoreSchedule.{core_played, core_plays}
 use Rattle.qs_core_laws.proofs.CoreSteps.{HasInvariant, plays_kept, run_kept}
 use Rattle.qs_core_orders.specs.CoreOrders.{IsPlayedInOrderOn}
-use Rattle.qs_core_orders.specs.CoreQuiet.{IsCoreQuiet, turn_of, two_of_each}
+use Rattle.qs_core_orders.specs.CoreQuiet.{IsCoreQuiet, turn_of}
 use Rattle.qs_core_orders.proofs.BlocksPlayed.{begin_quiet, has_begun, named_append, shown_in_order, turn_in, turn_named, turn_on}
 use Rattle.qs_core_orders.proofs.Entering.{block_over, most_turns}
 use Rattle.qs_core_orders.proofs.Turns.{IsWithin}
 use Rattle.qs_core.specs.CoreOrders.{CoreGoes, IsOneBlockOn, IsQuietNow, blocks_begun}
-use Rattle.qs_core_state.specs.CoreState.{CoreState, CoreSteps, IsCoreState, IsFreshCore, IsPlayedOn, IsReachedCore, codes_of, core_of, client_part_at}
+use Rattle.qs_core_state.specs.CoreState.{CoreState, IsCoreState, IsFreshCore, IsPlayedOn, IsReachedCore, codes_of, core_of, client_part_at}
 use Rattle.qs_core.proofs.CoreGoing.{goes_join, goes_played}
 use Rattle.qs_core.proofs.CorePlaying.{fresh_played}
-use Rattle.qs_core_state.proofs.CoreReaching.{core_plays_more}
 
 -- what holds of the machine in each state that the code comes to
 pub record IsFit (s : CoreState) : Type 0 where

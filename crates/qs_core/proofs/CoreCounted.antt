@@ -11,7 +11,7 @@ use Rattle.qs_played.specs.Schedule.{schedule}
 use Rattle.qs_played.specs.SyncSums.{AreSyncsCounted}
 use Rattle.qs_played.specs.declared.schedule.actor.Actor.{Actor}
 use Rattle.qs_played.specs.Played.{Played}
-use Rattle.qs_core_laws.specs.Core.{AreCodes}
+use Rattle.qs_syncset.specs.Codes.{AreCodes}
 use Rattle.qs_core_laws.specs.CoreSchedule.{core_played}
 use Rattle.qs_core_laws.proofs.CoreSyncs.{core_syncs_counted}
 use Rattle.qs_core_state.specs.CoreState.{CoreState, CoreSteps, IsPlayedOn, IsReachedCore, codes_of, core_of, CoreIsCounted}

@@ -18,11 +18,12 @@ use Rattle.qs_client_rules.specs.declared.act.Act.TheVariants as wants
 use Rattle.qs_played.specs.Played.{ticket}
 use Rattle.qs_played.proofs.Lists.{get_or-any}
 use Rattle.qs_played.specs.declared.schedule.actor.Actor.TheVariants as actor
-use Rattle.qs_core_laws.specs.Core.{blocks, core_step, settings_of}
+use Rattle.qs_core_laws.specs.Core.{core_step, settings_of}
+use Rattle.qs_syncset.specs.Codes.{blocks_in}
 use Rattle.qs_core_laws.specs.CoreReached.{ReachedCore}
 use Rattle.qs_core_parts.specs.CoreClients.{AreStocked, CoreClientState, HasLane, IsCoreClient, LaneStays, LaneSteps, turns_to, whole_of}
 use Rattle.qs_core_parts.specs.CoreHandlers.{CanEnterAll, CoreHandlerState, with_ticket_at_all}
-use Rattle.qs_core_parts.proofs.ClientModels.{IsSeatOf}
+use Rattle.qs_core_parts.proofs.ClientModels.{IsFormedOf}
 use Rattle.qs_core_state.specs.CoreState.{CoreKeeps, CoreState, CoreSteps, StepsAreReached, IsCoreState, ClientPart, all_blocks, codes_of, core_of, no_client_part, client_part_at, client_part}
 use Rattle.qs_core_state.proofs.CoreLists.{map_here}
 use Rattle.qs_core_state.proofs.CoreMoves.{client_kept, client_rests, client_steps, with_clients}
@@ -32,7 +33,7 @@ pub client_here : (cs : List CoreClientState) (c n : ℕ) (d : CoreClientState) 
 client_here cs c n d number less value = map_here client_part cs c d no_client_part less ∙ ap client_part (sym (value ∙ ap (λ m. get_or cs m d) number))
 
 module _ (r s : CoreState) (view : r ≡ s) (kept : IsCoreState r) (keeps : CoreKeeps s) (c n : ℕ) (number : n ≡ c) (less : c < length s.clients)
-    (d : CoreClientState) (value : d ≡ get_or r.clients n d) (seat : IsCoreClient d) (ok : IsMind (mind_of d.mind)) where
+    (d : CoreClientState) (value : d ≡ get_or r.clients n d) (formed : IsCoreClient d) (ok : IsMind (mind_of d.mind)) where
   inside : c < length r.clients
   inside = subst (λ (x : CoreState). c < length x.clients) (sym view) less
 
@@ -45,12 +46,12 @@ module _ (r s : CoreState) (view : r ≡ s) (kept : IsCoreState r) (keeps : Core
   keeps_here : CoreKeeps r
   keeps_here = subst CoreKeeps (sym view) keeps
 
-  machine_act : client_act (settings_of (codes_of r) r.size c) (blocks (codes_of r) r.size c) ((core_of r).client c) ≡ d.act
+  machine_act : client_act (settings_of (codes_of r) r.size c) (blocks_in (codes_of r) c) ((core_of r).client c) ≡ d.act
   unfolding core_of
   machine_act =
       (λ k. client_act (record { dynamic = (client_part_at r.clients c).mind.code.dynamic; size = sym (kept.sides c inside).size k }) (length (client_part_at r.clients c).mind.code.blocks) (client_part_at r.clients c).mind.client)
       ∙ ap (λ (x : ClientPart). act_due x.mind) here
-      ∙ sym seat.act
+      ∙ sym formed.act
 
   lanes_are : length d.lanes ≡ length r.program.objects
   lanes_are = ap (λ (x : ClientPart). length x.lanes) (sym here) ∙ (kept.sides c inside).lanes
@@ -82,22 +83,22 @@ module _ (r s : CoreState) (view : r ≡ s) (kept : IsCoreState r) (keeps : Core
     go_kept = by_case b refl steps
       where
         by_case : (x : Bool) → b ≡ x → OnTrue x (LaneSteps d new) → IsCoreState after
-        by_case true e moves = at_number IsCoreState (client_kept r kept c inside d here seat stocked ok has_lane new moves)
+        by_case true e moves = at_number IsCoreState (client_kept r kept c inside d here formed stocked ok has_lane new moves)
         by_case false e moves = subst (λ cs. IsCoreState (with_clients r cs)) (sym (ap (set r.clients n) (unchanged e ∙ value) ∙ set-get_or r.clients n d)) kept
 
     pub go_steps : OnTrue b (CoreSteps s (actor.Client c) after)
     go_steps = by_case b steps
       where
         by_case : (x : Bool) → OnTrue x (LaneSteps d new) → OnTrue x (CoreSteps s (actor.Client c) after)
-        by_case true moves = subst (λ y. CoreSteps y (actor.Client c) after) view (at_number (CoreSteps r (actor.Client c)) (client_steps r kept c inside d here seat stocked ok has_lane new moves))
+        by_case true moves = subst (λ y. CoreSteps y (actor.Client c) after) view (at_number (CoreSteps r (actor.Client c)) (client_steps r kept c inside d here formed stocked ok has_lane new moves))
         by_case false moves = tt
 
     pub go_none : (d.act ≡ wants.Reserve → ⊥) → b ≡ false → core_step (codes_of s) s.size (core_of s) (actor.Client c) ≡ None
-    go_none other e = subst (λ y. core_step (codes_of y) y.size (core_of y) (actor.Client c) ≡ None) view (client_rests r kept c inside d here seat ok has_lane (stays e) other)
+    go_none other e = subst (λ y. core_step (codes_of y) y.size (core_of y) (actor.Client c) ≡ None) view (client_rests r kept c inside d here formed ok has_lane (stays e) other)
 
-  -- the seat is the one in the list
-  pub seat_is : get_or s.clients c d ≡ d
-  seat_is = ap (λ (x : CoreState). get_or x.clients c d) (sym view) ∙ sym (value ∙ ap (λ m. get_or r.clients m d) number)
+  -- the formed is the one in the list
+  pub formed_is : get_or s.clients c d ≡ d
+  formed_is = ap (λ (x : CoreState). get_or x.clients c d) (sym view) ∙ sym (value ∙ ap (λ m. get_or r.clients m d) number)
 
   -- where it reserves its next block
   module _ (sound : IsSound r.program) (on : StepsAreReached s) (asked : d.act ≡ wants.Reserve) where
@@ -105,10 +106,10 @@ module _ (r s : CoreState) (view : r ≡ s) (kept : IsCoreState r) (keeps : Core
     on_here = subst StepsAreReached (sym view) on
 
     pub order_roomy : length r.order < all_blocks r.program
-    order_roomy = booking.order_room r kept sound keeps_here on_here c inside d here seat stocked ok asked
+    order_roomy = booking.order_room r kept sound keeps_here on_here c inside d here formed stocked ok asked
 
     pub in_blocks : (whole_of d).client.begun < blocks_of r.program c
-    in_blocks = booking.in_blocks r kept sound keeps_here on_here c inside d here seat stocked ok asked
+    in_blocks = booking.in_blocks r kept sound keeps_here on_here c inside d here formed stocked ok asked
 
     abbrev pub list : List ℕ
     list = (block_at r.program c (whole_of d).client.begun).reserved
@@ -117,39 +118,39 @@ module _ (r s : CoreState) (view : r ≡ s) (kept : IsCoreState r) (keeps : Core
     now = ticket c (whole_of d).client.begun
 
     pub enters : CanEnterAll now r.handlers list
-    enters = booking.can_enter_all r kept sound keeps_here on_here c inside d here seat stocked ok asked
+    enters = booking.can_enter_all r kept sound keeps_here on_here c inside d here formed stocked ok asked
 
     -- once it did
-    module _ (new : CoreClientState) (booked : whole_of new ≡ mind_after_begin (whole_of d) now) (seated : IsCoreClient new) (lanes : new.lanes ≡ d.lanes) where
-      came : IsSeatOf (mind_after_begin (whole_of d) now) new
-      came = record { whole_is = booked; seat = seated }
+    module _ (new : CoreClientState) (booked : whole_of new ≡ mind_after_begin (whole_of d) now) (are_formed : IsCoreClient new) (lanes : new.lanes ≡ d.lanes) where
+      came : IsFormedOf (mind_after_begin (whole_of d) now) new
+      came = record { whole_is = booked; formed = are_formed }
 
       abbrev pub booked_state : CoreState
       booked_state = record { program = r.program; size = r.size; order = r.order ++ now ∷ []; clients = set r.clients c new; handlers = with_ticket_at_all now r.handlers list }
 
       pub booked_kept : IsCoreState booked_state
-      booked_kept = booking.reserve_kept r kept sound keeps_here on_here c inside d here seat stocked ok asked new came lanes
+      booked_kept = booking.reserve_kept r kept sound keeps_here on_here c inside d here formed stocked ok asked new came lanes
 
       pub booked_steps : CoreSteps s (actor.Client c) booked_state
-      booked_steps = subst (λ y. CoreSteps y (actor.Client c) booked_state) view (booking.reserve_steps r kept sound keeps_here on_here c inside d here seat stocked ok asked new came lanes)
+      booked_steps = subst (λ y. CoreSteps y (actor.Client c) booked_state) view (booking.reserve_steps r kept sound keeps_here on_here c inside d here formed stocked ok asked new came lanes)
 
     -- as the code says it
     module _ (n' : ℕ) (number' : n' ≡ c) (d' : CoreClientState) (value' : d' ≡ get_or r.clients n' d') (u : Ticket) (u_is : u ≡ now) (xs : List ℕ) (xs_are : xs ≡ list)
-        (new : CoreClientState) (booked : whole_of new ≡ mind_after_begin (whole_of d') u) (seated : IsCoreClient new) (lanes : new.lanes ≡ d'.lanes)
+        (new : CoreClientState) (booked : whole_of new ≡ mind_after_begin (whole_of d') u) (are_formed : IsCoreClient new) (lanes : new.lanes ≡ d'.lanes)
         (order : List Ticket) (longer : order ≡ r.order ++ u ∷ []) (hs : List CoreHandlerState) (entered : hs ≡ with_ticket_at_all u r.handlers xs) where
-      same_seat : d' ≡ d
-      same_seat = value' ∙ ap (λ m. get_or r.clients m d') number' ∙ get_or-any r.clients c d' d inside ∙ sym (value ∙ ap (λ m. get_or r.clients m d) number)
+      same_formed : d' ≡ d
+      same_formed = value' ∙ ap (λ m. get_or r.clients m d') number' ∙ get_or-any r.clients c d' d inside ∙ sym (value ∙ ap (λ m. get_or r.clients m d) number)
 
       booked_here : whole_of new ≡ mind_after_begin (whole_of d) now
-      booked_here = booked ∙ (λ k. mind_after_begin (whole_of (same_seat k)) (u_is k))
+      booked_here = booked ∙ (λ k. mind_after_begin (whole_of (same_formed k)) (u_is k))
 
       lanes_here : new.lanes ≡ d.lanes
-      lanes_here = lanes ∙ ap (λ (x : CoreClientState). x.lanes) same_seat
+      lanes_here = lanes ∙ ap (λ (x : CoreClientState). x.lanes) same_formed
 
       abbrev pub new_state : CoreState
       new_state = record { program = r.program; size = r.size; order = order; clients = set r.clients n' new; handlers = hs }
 
-      made_is : booked_state new booked_here seated lanes_here ≡ new_state
+      made_is : booked_state new booked_here are_formed lanes_here ≡ new_state
       made_is = sym (λ k. record {
         program = r.program;
         size = r.size;
@@ -159,7 +160,7 @@ module _ (r s : CoreState) (view : r ≡ s) (kept : IsCoreState r) (keeps : Core
       })
 
       pub made_kept : IsCoreState new_state
-      made_kept = subst IsCoreState made_is (booked_kept new booked_here seated lanes_here)
+      made_kept = subst IsCoreState made_is (booked_kept new booked_here are_formed lanes_here)
 
       pub made_steps : CoreSteps s (actor.Client c) new_state
-      made_steps = subst (CoreSteps s (actor.Client c)) made_is (booked_steps new booked_here seated lanes_here)
+      made_steps = subst (CoreSteps s (actor.Client c)) made_is (booked_steps new booked_here are_formed lanes_here)

@@ -10,7 +10,8 @@ use Rattle.qs_played.specs.Schedule.{HasStep, actors_of, or_stay, rounds_of, sch
 use Rattle.qs_played.specs.declared.schedule.actor.Actor.{Actor}
 use Rattle.qs_played.specs.declared.schedule.actor.Actor.TheVariants as actor
 use Rattle.qs_played.proofs.Playing.{plays_by-append, step_at_end}
-use Rattle.qs_core_laws.specs.Core.{AreCodes, core_begin, core_step}
+use Rattle.qs_core_laws.specs.Core.{core_begin, core_step}
+use Rattle.qs_syncset.specs.Codes.{AreCodes}
 use Rattle.qs_core_laws.specs.CoreSchedule.{core_plays}
 use Rattle.qs_core_orders.specs.CoreQuiet.{two_of_each}
 use Rattle.qs_core.specs.CoreOrders.{CoreGoes}

@@ -9,19 +9,19 @@ use Rattle.qs_core_laws.specs.CoreReached.{ReachedCore}
 use Rattle.qs_core_parts.specs.CoreClients.{CoreClientState, IsCoreClient, turns_to, whole_of}
 use Rattle.qs_core_parts.specs.CoreHandlers.{CoreHandlerState, core_handler_at, handler_with_act}
 use Rattle.qs_core_state.specs.CoreState.{CoreKeeps, CoreState, IsCoreState, codes_of, core_of, client_part_at}
-use Rattle.qs_core.specs.CoreDeeds.{AreLanesOf, act_at}
-use Rattle.qs_core.proofs.CoreDeeds.{act_is}
+use Rattle.qs_core.specs.CoreEffects.{AreLanesOf, act_at}
+use Rattle.qs_core.proofs.CoreEffects.{act_is}
 use Rattle.qs_core_shown.proofs.CoreReadings.{handler_is, tickets_are}
 
 module _ (s : CoreState) (kept : IsCoreState s) where
-  module _ (h : ℕ) (inside : h < length s.handlers) (d : CoreHandlerState) (seat : d ≡ core_handler_at s.handlers h) where
+  module _ (h : ℕ) (inside : h < length s.handlers) (d : CoreHandlerState) (formed : d ≡ core_handler_at s.handlers h) where
     pub mind_is : handler_with_act d ≡ (core_of s).handler h
     unfolding core_of
-    mind_is = ap handler_with_act seat ∙ sym (handler_is s h inside)
+    mind_is = ap handler_with_act formed ∙ sym (handler_is s h inside)
 
     pub queue_is : d.tickets ≡ (core_of s).tickets h
     unfolding core_of
-    queue_is = ap (λ (x : CoreHandlerState). x.tickets) seat ∙ sym (tickets_are s h inside)
+    queue_is = ap (λ (x : CoreHandlerState). x.tickets) formed ∙ sym (tickets_are s h inside)
 
   module _ (c : ℕ) (inside : c < length s.clients) where
     pub lanes_are : AreLanesOf (core_of s) c (client_part_at s.clients c).lanes
@@ -41,9 +41,9 @@ module _ (s : CoreState) (kept : IsCoreState s) where
     wanted_inside keeps = turns_inside keeps (act_at (codes_of s) s.size (core_of s) c) refl
 
     -- what a client wants next
-    module _ (d : CoreClientState) (seat : IsCoreClient d) (mind : whole_of d ≡ (client_part_at s.clients c).mind) where
+    module _ (d : CoreClientState) (formed : IsCoreClient d) (mind : whole_of d ≡ (client_part_at s.clients c).mind) where
       pub wanted_is : d.act ≡ act_at (codes_of s) s.size (core_of s) c
-      wanted_is = seat.act ∙ ap act_due mind ∙ sym (act_is s kept c inside)
+      wanted_is = formed.act ∙ ap act_due mind ∙ sym (act_is s kept c inside)
 
       pub turned_is : CoreKeeps s → (h : ℕ) → turns_to d.act ≡ Some h → h < length s.program.objects
       turned_is keeps = turns_inside keeps d.act (sym wanted_is)

@@ -6,12 +6,12 @@ use Rattle.std.specs.Bool.{OnTrue}
 use Rattle.qs_program.specs.Program.{ProgramShape}
 use Rattle.qs_syncset.specs.declared.mode.Mode.{Mode}
 use Rattle.qs_played.specs.Isolation.{IsIsolated}
-use Rattle.qs_played.specs.Schedule.{schedule}
+use Rattle.qs_played.specs.Schedule.{schedule, or_stay}
 use Rattle.qs_played.specs.Played.{Played}
 use Rattle.qs_played.specs.declared.schedule.actor.Actor.{Actor}
-use Rattle.qs_core_laws.specs.Core.{AreCodes, core_begin, core_step}
+use Rattle.qs_core_laws.specs.Core.{core_begin, core_step}
+use Rattle.qs_syncset.specs.Codes.{AreCodes}
 use Rattle.qs_core_laws.specs.CoreSchedule.{IsShown, core_played, core_plays, core_scheduled, on_way}
-use Rattle.qs_played.specs.Schedule.{or_stay}
 use Rattle.qs_core_state.specs.CoreState.{CoreIsIsolated, CoreState, CoreSteps, IsFreshCore, IsPlayedOn, IsShownIsolated, codes_of, core_of}
 use Rattle.qs_core_state.proofs.CoreReaching.{core_plays_more}
 

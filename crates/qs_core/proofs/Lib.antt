@@ -4,5 +4,5 @@ pub mod CorePlaying
 pub mod ServiceFieldLemmas
 pub mod CoreFieldLemmas
 pub mod CoreBlocks
-pub mod CoreDeeds
+pub mod CoreEffects
 pub mod CorePlaces

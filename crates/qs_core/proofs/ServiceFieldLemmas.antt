@@ -27,15 +27,15 @@ use Rattle.qs_core_state.proofs.CoreMoves.{handler_kept, handler_rests, handler_
 use Rattle.qs_core.proofs.CoreFieldLemmas.{client_here}
 
 module _ (r s : CoreState) (view : r ≡ s) (kept : IsCoreState r) (keeps : CoreKeeps s) (h n : ℕ) (number : n ≡ h) (less : h < length s.handlers)
-    (d : CoreHandlerState) (value : d ≡ get_or r.handlers n d) (seat : IsCoreHandler d) where
+    (d : CoreHandlerState) (value : d ≡ get_or r.handlers n d) (formed : IsCoreHandler d) where
   pub inside : h < length r.handlers
   inside = subst (λ (x : CoreState). h < length x.handlers) (sym view) less
 
   in_list : get_or r.handlers h d ≡ d
   in_list = sym (value ∙ ap (λ m. get_or r.handlers m d) number)
 
-  pub seat_is : get_or s.handlers h d ≡ d
-  seat_is = ap (λ (x : CoreState). get_or x.handlers h d) (sym view) ∙ in_list
+  pub formed_is : get_or s.handlers h d ≡ d
+  formed_is = ap (λ (x : CoreState). get_or x.handlers h d) (sym view) ∙ in_list
 
   here : core_handler_of r.program r.handlers h ≡ handler_with_act d
   here = map_here handler_with_act r.handlers h d _ inside ∙ ap handler_with_act in_list
@@ -51,7 +51,7 @@ module _ (r s : CoreState) (view : r ≡ s) (kept : IsCoreState r) (keeps : Core
 
   -- its act is the machine's
   machine_act : act_of (core_handler_of r.program r.handlers h) ≡ d.act
-  machine_act = ap act_of here ∙ sym seat.act
+  machine_act = ap act_of here ∙ sym formed.act
 
   -- where it turns to no lane it wants a ticket
   pub wants_ticket : turns_to d.act ≡ None → d.act ≡ acts.TakeTicket
@@ -59,7 +59,7 @@ module _ (r s : CoreState) (view : r ≡ s) (kept : IsCoreState r) (keeps : Core
   wants_ticket none = by_handler (handler_with_act d) refl
     where
       act_is : (x : Handler) → handler_with_act d ≡ x → d.act ≡ act_of x
-      act_is x is = seat.act ∙ ap act_of is
+      act_is x is = formed.act ∙ ap act_of is
 
       by_handler : (x : Handler) → handler_with_act d ≡ x → d.act ≡ acts.TakeTicket
       by_handler (free y) is = act_is (free y) is
@@ -78,7 +78,7 @@ module _ (r s : CoreState) (view : r ≡ s) (kept : IsCoreState r) (keeps : Core
     take_kept = by_case b refl takes
       where
         by_case : (x : Bool) → b ≡ x → OnTrue x (TakesTicket d new) → IsCoreState state_after_ticket
-        by_case true e took = subst (λ m. IsCoreState (with_handlers r (set r.handlers m new))) (sym number) (ticket_kept r kept h inside d here queue seat roomy asked new took)
+        by_case true e took = subst (λ m. IsCoreState (with_handlers r (set r.handlers m new))) (sym number) (ticket_kept r kept h inside d here queue formed roomy asked new took)
         by_case false e took = subst (λ hs. IsCoreState (with_handlers r hs)) (sym (ap (set r.handlers n) (unchanged e ∙ value) ∙ set-get_or r.handlers n d)) kept
 
     pub take_steps : OnTrue b (CoreSteps s (actor.Handler h) state_after_ticket)
@@ -87,11 +87,11 @@ module _ (r s : CoreState) (view : r ≡ s) (kept : IsCoreState r) (keeps : Core
         by_case : (x : Bool) → OnTrue x (TakesTicket d new) → OnTrue x (CoreSteps s (actor.Handler h) state_after_ticket)
         by_case true took =
             subst (λ y. CoreSteps y (actor.Handler h) state_after_ticket) view
-            (subst (λ m. CoreSteps r (actor.Handler h) (with_handlers r (set r.handlers m new))) (sym number) (ticket_steps r kept h inside d here queue seat roomy asked new took))
+            (subst (λ m. CoreSteps r (actor.Handler h) (with_handlers r (set r.handlers m new))) (sym number) (ticket_steps r kept h inside d here queue formed roomy asked new took))
         by_case false took = tt
 
     pub take_none : b ≡ false → core_step (codes_of s) s.size (core_of s) (actor.Handler h) ≡ None
-    take_none e = subst (λ y. core_step (codes_of y) y.size (core_of y) (actor.Handler h) ≡ None) view (ticket_rests r kept h inside d here queue seat roomy asked (none e))
+    take_none e = subst (λ y. core_step (codes_of y) y.size (core_of y) (actor.Handler h) ≡ None) view (ticket_rests r kept h inside d here queue formed roomy asked (none e))
 
   -- it turns to the lane of client c
   module _ (c : ℕ) (turned : turns_to d.act ≡ Some c) where
@@ -151,11 +151,11 @@ module _ (r s : CoreState) (view : r ≡ s) (kept : IsCoreState r) (keeps : Core
       unfolding core_of ReachedCore
       fits k e =
           let sized : k.capacity ≡ r.size = (keeps_here.handlers.spares h c k (machine_act ∙ e)).1 in
-          λ i. record { items = spare_empty (handler_with_act d) k (sym seat.act ∙ e) i; capacity = (sized ∙ sym size_is) i }
+          λ i. record { items = spare_empty (handler_with_act d) k (sym formed.act ∙ e) i; capacity = (sized ∙ sym size_is) i }
 
       -- after a step at that lane, or without one
       module _ (later : CoreHandlerState) (new : CoreClientState) (b : Bool) (meets : OnTrue b (Meets h g d new later))
-          (none : b ≡ false → lane_step_of_handler (handler_with_act d) d.act (lane_at g.lanes h) ≡ None) (same_seat : b ≡ false → new ≡ g) (same_handler : b ≡ false → later ≡ d) where
+          (none : b ≡ false → lane_step_of_handler (handler_with_act d) d.act (lane_at g.lanes h) ≡ None) (same_formed : b ≡ false → new ≡ g) (same_handler : b ≡ false → later ≡ d) where
         abbrev state_after_visit : CoreState
         state_after_visit = record { program = r.program; size = r.size; order = r.order; clients = set r.clients n' new; handlers = set r.handlers n later }
 
@@ -169,13 +169,13 @@ module _ (r s : CoreState) (view : r ≡ s) (kept : IsCoreState r) (keeps : Core
         meet_kept = by_case b refl meets
           where
             by_case : (x : Bool) → b ≡ x → OnTrue x (Meets h g d new later) → IsCoreState state_after_visit
-            by_case true e m = subst IsCoreState (met_is _ m.seat) (handler_kept r kept h inside d here queue seat roomy c turned there g found stocked fits later m.lane m.steps)
+            by_case true e m = subst IsCoreState (met_is _ m.formed) (handler_kept r kept h inside d here queue formed roomy c turned there g found stocked fits later m.lane m.steps)
             by_case false e m =
                 subst IsCoreState (λ i. record {
                   program = r.program;
                   size = r.size;
                   order = r.order;
-                  clients = sym (ap (set r.clients n') (same_seat e ∙ value') ∙ set-get_or r.clients n' g) i;
+                  clients = sym (ap (set r.clients n') (same_formed e ∙ value') ∙ set-get_or r.clients n' g) i;
                   handlers = sym (ap (set r.handlers n) (same_handler e ∙ value) ∙ set-get_or r.handlers n d) i;
                 }) kept
 
@@ -185,10 +185,10 @@ module _ (r s : CoreState) (view : r ≡ s) (kept : IsCoreState r) (keeps : Core
             by_case : (x : Bool) → OnTrue x (Meets h g d new later) → OnTrue x (CoreSteps s (actor.Handler h) state_after_visit)
             by_case true m =
                 subst (λ y. CoreSteps y (actor.Handler h) state_after_visit) view
-                (subst (CoreSteps r (actor.Handler h)) (met_is _ m.seat) (handler_steps r kept h inside d here queue seat roomy c turned there g found stocked fits later m.lane m.steps))
+                (subst (CoreSteps r (actor.Handler h)) (met_is _ m.formed) (handler_steps r kept h inside d here queue formed roomy c turned there g found stocked fits later m.lane m.steps))
             by_case false m = tt
 
         pub meet_none : b ≡ false → core_step (codes_of s) s.size (core_of s) (actor.Handler h) ≡ None
         meet_none e =
             subst (λ y. core_step (codes_of y) y.size (core_of y) (actor.Handler h) ≡ None) view
-            (handler_rests r kept h inside d here queue seat roomy c turned there g found stocked (none e))
+            (handler_rests r kept h inside d here queue formed roomy c turned there g found stocked (none e))

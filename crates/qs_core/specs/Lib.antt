@@ -1,4 +1,4 @@
 -- What an auditor reads: the promises and the calls of the surface are said with these.
-pub mod CoreDeeds
+pub mod CoreEffects
 -- What crates promise one another, what proofs use, and worked examples.
 pub mod CoreOrders

@@ -9,15 +9,15 @@ ghost use Rattle.qs_core_state.specs.CoreState.{AreFreshClients, AreFreshHandler
 ghost use Rattle.qs_core_parts.specs.CoreClients.{CoreClientState};
 ghost use Rattle.qs_core_parts.specs.CoreHandlers.{CanEnterAll, CoreHandlerState, with_ticket_at_all, with_ticket_at, core_handler_at, turns_to};
 ghost use Rattle.qs_client_rules.specs.declared.act.Act.TheVariants as wants;
-ghost use Rattle.qs_core.specs.CoreDeeds.{act_at, core_deed, core_requests};
+ghost use Rattle.qs_core.specs.CoreEffects.{act_at, core_effect, core_requests};
 ghost use Rattle.qs_core_parts.specs.CoreClients.{turns_to as lane_wanted};
 ghost use Rattle.qs_handler.specs.Handler.{act_of};
 ghost use Rattle.qs_played.specs.declared.schedule.actor.Actor.TheVariants as actors;
 
 mod reading;
 
-use crate::core_deed::CoreDeed;
-use crate::core_deeds::{client_deed, client_requests, handler_deed, handler_requests};
+use crate::core_effect::CoreEffect;
+use crate::core_effects::{client_effect, client_requests, handler_effect, handler_requests};
 use qs_chunk::ChunkSize;
 use qs_core_parts::{CoreClient, CoreHandler};
 use qs_core_shown::shown;
@@ -298,22 +298,22 @@ impl<'p> CoreMachine<'p> {
     }
 
     /// What an actor does next, if it steps; none for an actor that is not there.
-    pub(crate) fn next_deed(&self, actor: Actor) -> Option<CoreDeed>
+    pub(crate) fn next_effect(&self, actor: Actor) -> Option<CoreEffect>
         requires keeps { CoreKeeps self.now }
-        ensures value { result ≡ core_deed (codes_of self.now) self.now.size (core_of self.now) actor }
+        ensures value { result ≡ core_effect (codes_of self.now) self.now.size (core_of self.now) actor }
     {
         self.keeps_machine();
         match actor {
             Actor::Client(client) => {
                 if usize::from(client) < self.clients.len() {
-                    client_deed(&self.clients, client)
+                    client_effect(&self.clients, client)
                 } else {
                     None
                 }
             }
             Actor::Handler(handler) => {
                 if usize::from(handler) < self.handlers.len() {
-                    handler_deed(&self.clients, &self.handlers, handler)
+                    handler_effect(&self.clients, &self.handlers, handler)
                 } else {
                     None
                 }

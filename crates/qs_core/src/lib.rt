@@ -2,8 +2,8 @@
 //! offer.
 #![tactic(auto)]
 
-mod core_deed;
-mod core_deeds;
+mod core_effect;
+mod core_effects;
 mod core_machine;
 mod core_orders;
 mod core_schedules;
@@ -11,12 +11,12 @@ pub mod laws;
 mod optimised;
 mod stuck;
 
-pub use core_deed::CoreDeed;
+pub use core_effect::CoreEffect;
 pub use core_orders::play_in_order;
 pub use core_schedules::play;
 pub use optimised::Core;
 pub use qs_objects::Traces;
-pub use qs_plain::{Awaited, Deed, Rules, play_plain, play_plain_in_order};
+pub use qs_plain::{Awaited, Effect, Rules, play_plain, play_plain_in_order};
 pub use qs_plain_laws::QueueItem;
 pub use qs_played::{Actor, PlayFault, Played, Row};
 pub use qs_twin::{Twin, twin};

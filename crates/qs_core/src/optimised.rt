@@ -6,7 +6,7 @@ ghost use Rattle.qs_played.specs.Schedule.{HasStep, actors_of, rounds_of};
 ghost use Rattle.qs_played.specs.declared.schedule.actor.Actor.TheVariants as actors;
 ghost use Rattle.std.specs.Bool.{OnTrue};
 ghost use Rattle.qs_core_laws.specs.Core.{core_step};
-ghost use Rattle.qs_core.specs.CoreDeeds.{core_deed, core_requests};
+ghost use Rattle.qs_core.specs.CoreEffects.{core_effect, core_requests};
 ghost use Rattle.qs_program.specs.Program.{blocks_of};
 ghost use Rattle.qs_core_orders.specs.CoreQuiet.{turn_of};
 ghost use Rattle.qs_core.specs.CoreOrders.{CoreGoes, IsOneBlockOn, IsQuietNow, blocks_begun};
@@ -15,7 +15,7 @@ ghost use Rattle.qs_core_state.specs.CoreState.{CoreIsIsolated, CoreSteps, IsFre
 
 mod reading;
 
-use crate::core_deed::CoreDeed;
+use crate::core_effect::CoreEffect;
 use crate::core_machine::CoreMachine;
 use crate::stuck::Stuck;
 use qs_chunk::ChunkSize;
@@ -148,12 +148,12 @@ impl<'p> Core<'p> {
     }
 
     /// What an actor does next, if it steps; none for an actor that is not there.
-    pub fn next_deed(&self, actor: Actor) -> Option<CoreDeed>
-        ensures value { result ≡ core_deed (codes_of self.now) self.now.size (core_of self.now) actor }
+    pub fn next_effect(&self, actor: Actor) -> Option<CoreEffect>
+        ensures value { result ≡ core_effect (codes_of self.now) self.now.size (core_of self.now) actor }
     {
         self.machine.program().keeps_sound();
         self.machine.keeps_machine();
-        self.machine.next_deed(actor)
+        self.machine.next_effect(actor)
     }
 
     /// The requests of the chunk that an actor sends or runs next, if it does; nothing changes. An error says that

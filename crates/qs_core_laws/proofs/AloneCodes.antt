@@ -11,12 +11,11 @@ use Rattle.qs_graph.specs.Graphs.{block_graph}
 use Rattle.qs_graph.specs.Names.{graph_of}
 use Rattle.qs_graph.specs.Nodes.{GraphNode, over_objects}
 use Rattle.qs_syncset.specs.declared.mode.Mode.{Mode}
-use Rattle.qs_syncset.specs.Codes.{IsBlockCode, IsCodeOf, IsGraphOf, code_at}
+use Rattle.qs_syncset.specs.Codes.{IsBlockCode, IsCodeOf, IsGraphOf, code_at, AreCodes}
 use Rattle.qs_syncset.specs.Modes.{is_dynamic, is_static}
 use Rattle.qs_graph.proofs.Bindings.{unbound}
 use Rattle.qs_syncset.proofs.Unaliased.{graph_named}
 use Rattle.qs_core_laws.specs.CoalescedExamples.{alone, codes_with}
-use Rattle.qs_core_laws.specs.Core.{AreCodes}
 
 module _ (mode : Mode) (body : Statements) (g : List GraphNode) (is : IsGraphOf (is_static mode) (over_objects (block_graph body)) g) where
   only_block : (k : ℕ) → k < 1 → IsBlockCode (is_static mode) (block_at (alone body) 0 k) (graph_of (alone body) 0 k) (binding_of (alone body) 0) (code_at (codes_with (is_dynamic mode) body g 0) k)

@@ -33,7 +33,7 @@ use Rattle.qs_played.specs.JournalRooms.{fresh_held}
 use Rattle.qs_core_laws.specs.Core.{Core}
 use Rattle.qs_core_laws.proofs.CoreInvariant.{LaneHistory, post, deeds, TicketOk, CoreInvariant}
 use Rattle.qs_core_laws.proofs.HandlerSteps.{of_ahead}
-use Rattle.qs_core_laws.proofs.ClientSteps.{place_page, place_lane, place_gone}
+use Rattle.qs_core_laws.proofs.ClientSteps.{place_record, place_lane, place_gone}
 use Rattle.qs_core_laws.proofs.SendingPreserved.{object_deeds, grown_there}
 use Rattle.qs_core_laws.proofs.LaneHistoryMoves.{begins_kept, none_after, told_here, told_there}
 
@@ -53,13 +53,13 @@ module _ (program : ProgramShape) (fine : (t : Ticket) (l : Locals) → AsksOnly
   pub nothing : (n : ℕ) → (s.client c).begun ≡ n → (h : ℕ) → ((s.client c).held h ≡ None) × ((s.client c).chunk h ≡ None)
   nothing zero b h = (k.idle c b).1 h
   nothing (suc j) b h =
-      let ok : Leaving program (ticket c j) (y.sent (ticket c j)) (y.got (ticket c j)) (s.client c) (y.page (ticket c j)) [] l = subst (PlaceOk program (ticket c j) (y.sent (ticket c j)) (y.got (ticket c j)) (s.client c) (y.page (ticket c j))) place (k.places c j b) in
+      let ok : Leaving program (ticket c j) (y.sent (ticket c j)) (y.got (ticket c j)) (s.client c) (y.block_record (ticket c j)) [] l = subst (PlaceOk program (ticket c j) (y.sent (ticket c j)) (y.got (ticket c j)) (s.client c) (y.block_record (ticket c j))) place (k.places c j b) in
       ok.empty h refl
 
-  before_it : (n : ℕ) → (s.client c).begun ≡ n → Begins y.page c n l
+  before_it : (n : ℕ) → (s.client c).begun ≡ n → Begins y.block_record c n l
   before_it zero b = cc (sym place ∙ (k.idle c b).0)
   before_it (suc j) b =
-      let ok : Leaving program (ticket c j) (y.sent (ticket c j)) (y.got (ticket c j)) (s.client c) (y.page (ticket c j)) [] l = subst (PlaceOk program (ticket c j) (y.sent (ticket c j)) (y.got (ticket c j)) (s.client c) (y.page (ticket c j))) place (k.places c j b) in
+      let ok : Leaving program (ticket c j) (y.sent (ticket c j)) (y.got (ticket c j)) (s.client c) (y.block_record (ticket c j)) [] l = subst (PlaceOk program (ticket c j) (y.sent (ticket c j)) (y.got (ticket c j)) (s.client c) (y.block_record (ticket c j))) place (k.places c j b) in
       ok.rest
 
   abbrev ends : (pg' : BlockRecord) × (pg'.entry ≡ l) × (pg'.trace ≡ r.events) × PlaceOk program t (λ h. []) (λ h. []) r.client pg' r.client.stage
@@ -70,7 +70,7 @@ module _ (program : ProgramShape) (fine : (t : Ticket) (l : Locals) → AsksOnly
   pg = ends.0
 
   abbrev Y : LaneHistory
-  Y = record { page = put_at y.page t pg; sent = put_at y.sent t (λ h. []); got = put_at y.got t (λ h. []); stands = put_at y.stands t (standing_at program t r.client r.client.stage) }
+  Y = record { block_record = put_at y.block_record t pg; sent = put_at y.sent t (λ h. []); got = put_at y.got t (λ h. []); stands = put_at y.stands t (standing_at program t r.client r.client.stage) }
 
   abbrev G : ℕ → HandlerLog
   G h = if reserves program t h then record (g h) { received = put_at (g h).received t []; way = put_at (g h).way t [] } else g h
@@ -104,12 +104,12 @@ module _ (program : ProgramShape) (fine : (t : Ticket) (l : Locals) → AsksOnly
       (λ (other : (c == d) ≡ false). subst (λ (m : Client). (s.client d).begun ≤ m.begun) (sym (put_there s.client c r.client d other)) (omega arith))
       (num_cases c d)
 
-  old_page : (u : Ticket) → same t u ≡ false → Y.page u ≡ y.page u
-  old_page u e = put_at_there y.page t pg u e
+  old_record : (u : Ticket) → same t u ≡ false → Y.block_record u ≡ y.block_record u
+  old_record u e = put_at_there y.block_record t pg u e
 
   told_new : TicketOk program Y t
   told_new =
-      told_here program y t pg (λ h. []) (λ h. []) (standing_at program t r.client r.client.stage) (place_page program t (λ h. []) (λ h. []) r.client pg r.client.stage ends.3)
+      told_here program y t pg (λ h. []) (λ h. []) (standing_at program t r.client r.client.stage) (place_record program t (λ h. []) (λ h. []) r.client pg r.client.stage ends.3)
       (begins_kept program y t pg (λ h. []) (λ h. []) (standing_at program t r.client r.client.stage) c n l pg.entry (sym ends.1) own_index (before_it n begun))
       (place_lane program t (λ h. []) (λ h. []) r.client pg r.client.stage ends.3) (place_gone program t (λ h. []) (λ h. []) r.client pg r.client.stage ends.3)
     where
@@ -178,19 +178,19 @@ module _ (program : ProgramShape) (fine : (t : Ticket) (l : Locals) → AsksOnly
         (each_both (λ u (n : same t u ≡ false) (h : (suc u.index ≤ (s.client u.client).begun) × TicketOk program y u). told_old u n h.0 h.1) s.order fresh
         (each_both (λ u a b. (a, b)) s.order k.below k.told))
         told_new;
-    entry = put_at_field (λ (p : BlockRecord). p.entry) y.page s.entry t pg l k.entry ends.1;
-    trace = put_at_field (λ (p : BlockRecord). p.trace) y.page s.trace t pg r.events k.trace ends.2;
+    entry = put_at_field (λ (p : BlockRecord). p.entry) y.block_record s.entry t pg l k.entry ends.1;
+    trace = put_at_field (λ (p : BlockRecord). p.trace) y.block_record s.trace t pg r.events k.trace ends.2;
     idle = put_all (λ d (m : Client). m.begun ≡ 0 → (m.stage ≡ between zeros) × ((h : ℕ) → (m.held h ≡ None) × (m.chunk h ≡ None))) s.client c r.client (λ e. let b = new_begun in absurd (omega (arith, b, e))) (λ d other e. k.idle d e);
-    places = λ d j. put_all (λ d (m : Client). (j : ℕ) → m.begun ≡ suc j → PlaceOk program (ticket d j) (Y.sent (ticket d j)) (Y.got (ticket d j)) m (Y.page (ticket d j)) m.stage) s.client c r.client
-        (λ j e. let b = new_begun in let i : n ≡ j = omega (arith, b, e) in subst (λ j. PlaceOk program (ticket c j) (Y.sent (ticket c j)) (Y.got (ticket c j)) r.client (Y.page (ticket c j)) r.client.stage) i
-        (subst (λ (f : ℕ → List Parcel). PlaceOk program t f (Y.got t) r.client (Y.page t) r.client.stage) (sym (put_at_here y.sent t (λ h. [])))
-        (subst (λ (f : ℕ → List HeldState). PlaceOk program t (λ h. []) f r.client (Y.page t) r.client.stage) (sym (put_at_here y.got t (λ h. [])))
-        (subst (λ (p : BlockRecord). PlaceOk program t (λ h. []) (λ h. []) r.client p r.client.stage) (sym (put_at_here y.page t pg)) ends.3))))
+    places = λ d j. put_all (λ d (m : Client). (j : ℕ) → m.begun ≡ suc j → PlaceOk program (ticket d j) (Y.sent (ticket d j)) (Y.got (ticket d j)) m (Y.block_record (ticket d j)) m.stage) s.client c r.client
+        (λ j e. let b = new_begun in let i : n ≡ j = omega (arith, b, e) in subst (λ j. PlaceOk program (ticket c j) (Y.sent (ticket c j)) (Y.got (ticket c j)) r.client (Y.block_record (ticket c j)) r.client.stage) i
+        (subst (λ (f : ℕ → List Parcel). PlaceOk program t f (Y.got t) r.client (Y.block_record t) r.client.stage) (sym (put_at_here y.sent t (λ h. [])))
+        (subst (λ (f : ℕ → List HeldState). PlaceOk program t (λ h. []) f r.client (Y.block_record t) r.client.stage) (sym (put_at_here y.got t (λ h. [])))
+        (subst (λ (p : BlockRecord). PlaceOk program t (λ h. []) (λ h. []) r.client p r.client.stage) (sym (put_at_here y.block_record t pg)) ends.3))))
         (λ d other j e.
         let n = not_this d j other in
-        subst (λ (f : ℕ → List Parcel). PlaceOk program (ticket d j) f (Y.got (ticket d j)) (s.client d) (Y.page (ticket d j)) (s.client d).stage) (sym (put_at_there y.sent t (λ h. []) (ticket d j) n))
-        (subst (λ (f : ℕ → List HeldState). PlaceOk program (ticket d j) (y.sent (ticket d j)) f (s.client d) (Y.page (ticket d j)) (s.client d).stage) (sym (put_at_there y.got t (λ h. []) (ticket d j) n))
-        (subst (λ (p : BlockRecord). PlaceOk program (ticket d j) (y.sent (ticket d j)) (y.got (ticket d j)) (s.client d) p (s.client d).stage) (sym (old_page (ticket d j) n)) (k.places d j e)))) d j;
+        subst (λ (f : ℕ → List Parcel). PlaceOk program (ticket d j) f (Y.got (ticket d j)) (s.client d) (Y.block_record (ticket d j)) (s.client d).stage) (sym (put_at_there y.sent t (λ h. []) (ticket d j) n))
+        (subst (λ (f : ℕ → List HeldState). PlaceOk program (ticket d j) (y.sent (ticket d j)) f (s.client d) (Y.block_record (ticket d j)) (s.client d).stage) (sym (put_at_there y.got t (λ h. []) (ticket d j) n))
+        (subst (λ (p : BlockRecord). PlaceOk program (ticket d j) (y.sent (ticket d j)) (y.got (ticket d j)) (s.client d) p (s.client d).stage) (sym (old_record (ticket d j) n)) (k.places d j e)))) d j;
     stands = λ d j. put_all (λ d (m : Client). (j : ℕ) → m.begun ≡ suc j → (h : ℕ) → Y.stands (ticket d j) h ≡ standing_at program (ticket d j) m m.stage h) s.client c r.client
         (λ j e h. let b = new_begun in let i : n ≡ j = omega (arith, b, e) in subst (λ j. Y.stands (ticket c j) h ≡ standing_at program (ticket c j) r.client r.client.stage h) i (ap (λ (f : ℕ → ObjectStance). f h) (put_at_here y.stands t (standing_at program t r.client r.client.stage))))
         (λ d other j e h. ap (λ (f : ℕ → ObjectStance). f h) (put_at_there y.stands t (standing_at program t r.client r.client.stage) (ticket d j) (not_this d j other)) ∙ k.stands d j e h) d j;

@@ -1,6 +1,6 @@
 -- An act of a client in its block keeps the invariant of the optimised machine, once it is known what the act does to
 -- the objects. The three kinds of such acts (`send_kept`, `get_kept`, `chunk_kept`) stand on `client_moves`. Only the
--- page and the lanes of the client's current ticket change, so each ticket is either this one or stays as it was.
+-- block_record and the lanes of the client's current ticket change, so each ticket is either this one or stays as it was.
 use Rattle.std.proofs.Common.{◌≡◌, ◌<◌, ◌≤◌, arith, ℕ, suc, Bool, true, false, if◌then◌else◌, ◌==◌, List, [], ◌++◌, filter, sym, ap, ◌∙◌, subst, ⊎_elim, Option, None}
 use Rattle.qs_sync_counts.specs.declared.sync_counts.SyncCount.{SyncCount}
 use Rattle.qs_objects.specs.Journals.{HeldState}
@@ -30,12 +30,12 @@ use Rattle.qs_core_laws.proofs.CoreInvariant.{LaneHistory, post, deeds, TicketOk
 use Rattle.qs_core_laws.proofs.LaneHistoryMoves.{begins_kept, none_after, told_here, told_there}
 
 module _ (program : ProgramShape) (t : Ticket) (snt : ℕ → List Parcel) (got : ℕ → List HeldState) where
-  pub place_page : (m : Client) (pg : BlockRecord) (pl : ClientStage) → PlaceOk program t snt got m pg pl → IsOpenRecord program t pg
-  place_page m pg (between l) k = k.page
-  place_page m pg (runs code) k = k.0.page
-  place_page m pg (full h code) k = k.page
-  place_page m pg (awaits h code) k = k.page
-  place_page m pg (leaves h hs l) k = k.page
+  pub place_record : (m : Client) (pg : BlockRecord) (pl : ClientStage) → PlaceOk program t snt got m pg pl → IsOpenRecord program t pg
+  place_record m pg (between l) k = k.block_record
+  place_record m pg (runs code) k = k.0.block_record
+  place_record m pg (full h code) k = k.block_record
+  place_record m pg (awaits h code) k = k.block_record
+  place_record m pg (leaves h hs l) k = k.block_record
 
   pub place_lane : (m : Client) (pg : BlockRecord) (pl : ClientStage) → PlaceOk program t snt got m pg pl → (h : ℕ) → ClientLane t false (snt h) (got h) (part h pg.trace) (standing_at program t m pl h)
   place_lane m pg (between l) k h = k.lanes h
@@ -57,13 +57,13 @@ module _ (program : ProgramShape) (t : Ticket) (snt : ℕ → List Parcel) (got 
 
 module _ (program : ProgramShape) (s : Core) (y : LaneHistory) (g : ℕ → HandlerLog) (kept : CoreInvariant program s y g)
     (c k : ℕ) (begun : (s.client c).begun ≡ suc k) (m : Client) (same_begun : m.begun ≡ (s.client c).begun) (events : List Event)
-    (snt : ℕ → List Parcel) (got : ℕ → List HeldState) (pg : BlockRecord) (entry : pg.entry ≡ (y.page (ticket c k)).entry) (trace : pg.trace ≡ (y.page (ticket c k)).trace ++ events)
+    (snt : ℕ → List Parcel) (got : ℕ → List HeldState) (pg : BlockRecord) (entry : pg.entry ≡ (y.block_record (ticket c k)).entry) (trace : pg.trace ≡ (y.block_record (ticket c k)).trace ++ events)
     (ok : PlaceOk program (ticket c k) snt got m pg m.stage) (out : (h : ℕ) → reserves program (ticket c k) h ≡ false → (snt h ≡ []) × (got h ≡ [])) where
   abbrev pub t : Ticket
   t = ticket c k
 
   abbrev pub story : LaneHistory
-  story = record { page = put_at y.page t pg; sent = put_at y.sent t snt; got = put_at y.got t got; stands = put_at y.stands t (standing_at program t m m.stage) }
+  story = record { block_record = put_at y.block_record t pg; sent = put_at y.sent t snt; got = put_at y.got t got; stands = put_at y.stands t (standing_at program t m m.stage) }
 
   abbrev pub state_after : (ℕ → ℕ → List Parcel) → (ℕ → ℕ → Option HeldState) → (ℕ → ℕ → ℕ) → (ℕ → ℕ) → (Ticket → List SyncCount) → Core
   state_after down up spare syncs tallies = record s { client = put s.client c m; trace = put_at s.trace t (s.trace t ++ events); down = down; up = up; spare = spare; syncs = syncs; sync_counts = tallies }
@@ -71,8 +71,8 @@ module _ (program : ProgramShape) (s : Core) (y : LaneHistory) (g : ℕ → Hand
   begun_kept : (d : ℕ) → (put s.client c m d).begun ≡ (s.client d).begun
   begun_kept d = put_kept (λ (m : Client). m.begun) s.client c m same_begun d
 
-  old_page : (u : Ticket) → same t u ≡ false → story.page u ≡ y.page u
-  old_page u n = put_at_there y.page t pg u n
+  old_record : (u : Ticket) → same t u ≡ false → story.block_record u ≡ y.block_record u
+  old_record u n = put_at_there y.block_record t pg u n
 
   -- no later ticket of the client is there
   apart_from_this : (u : Ticket) → suc u.index ≤ (s.client u.client).begun → (i : ℕ) → u.index ≡ suc i → t ≡ ticket u.client i → ⊥
@@ -80,8 +80,8 @@ module _ (program : ProgramShape) (s : Core) (y : LaneHistory) (g : ℕ → Hand
 
   told_new : TicketOk program y t → suc k ≤ (s.client c).begun → TicketOk program story t
   told_new old low =
-      told_here program y t pg snt got (standing_at program t m m.stage) (place_page program t snt got m pg m.stage ok)
-      (begins_kept program y t pg snt got (standing_at program t m m.stage) c k (y.page t).entry pg.entry (sym entry) (apart_from_this t low) old.begins)
+      told_here program y t pg snt got (standing_at program t m m.stage) (place_record program t snt got m pg m.stage ok)
+      (begins_kept program y t pg snt got (standing_at program t m m.stage) c k (y.block_record t).entry pg.entry (sym entry) (apart_from_this t low) old.begins)
       (place_lane program t snt got m pg m.stage ok) (place_gone program t snt got m pg m.stage ok)
 
   told_old : (u : Ticket) → same t u ≡ false → suc u.index ≤ (s.client u.client).begun → TicketOk program y u → TicketOk program story u
@@ -102,19 +102,19 @@ module _ (program : ProgramShape) (s : Core) (y : LaneHistory) (g : ℕ → Hand
         (λ (is : t ≡ u). subst (TicketOk program story) is (told_new (subst (TicketOk program y) (sym is) old) (omega arith)))
         (λ (other : same t u ≡ false). told_old u other lt old)
         (ticket_cases t u)) s.order kept.below kept.told;
-    entry = λ u. put_at_kept (λ (p : BlockRecord). p.entry) y.page t pg entry u ∙ kept.entry u;
-    trace = put_at_field (λ (p : BlockRecord). p.trace) y.page s.trace t pg (s.trace t ++ events) kept.trace (trace ∙ ap (λ es. es ++ events) (kept.trace t));
+    entry = λ u. put_at_kept (λ (p : BlockRecord). p.entry) y.block_record t pg entry u ∙ kept.entry u;
+    trace = put_at_field (λ (p : BlockRecord). p.trace) y.block_record s.trace t pg (s.trace t ++ events) kept.trace (trace ∙ ap (λ es. es ++ events) (kept.trace t));
     idle = put_all (λ d (m : Client). m.begun ≡ 0 → (m.stage ≡ between zeros) × ((h : ℕ) → (m.held h ≡ None) × (m.chunk h ≡ None))) s.client c m (λ e. absurd (omega arith)) (λ d other e. kept.idle d e);
-    places = λ d j. put_all (λ d (m : Client). (j : ℕ) → m.begun ≡ suc j → PlaceOk program (ticket d j) (story.sent (ticket d j)) (story.got (ticket d j)) m (story.page (ticket d j)) m.stage) s.client c m
-        (λ j e. let i : k ≡ j = omega arith in subst (λ j. PlaceOk program (ticket c j) (story.sent (ticket c j)) (story.got (ticket c j)) m (story.page (ticket c j)) m.stage) i
-        (subst (λ (f : ℕ → List Parcel). PlaceOk program t f (story.got t) m (story.page t) m.stage) (sym (put_at_here y.sent t snt))
-        (subst (λ (f : ℕ → List HeldState). PlaceOk program t snt f m (story.page t) m.stage) (sym (put_at_here y.got t got))
-        (subst (λ (p : BlockRecord). PlaceOk program t snt got m p m.stage) (sym (put_at_here y.page t pg)) ok))))
+    places = λ d j. put_all (λ d (m : Client). (j : ℕ) → m.begun ≡ suc j → PlaceOk program (ticket d j) (story.sent (ticket d j)) (story.got (ticket d j)) m (story.block_record (ticket d j)) m.stage) s.client c m
+        (λ j e. let i : k ≡ j = omega arith in subst (λ j. PlaceOk program (ticket c j) (story.sent (ticket c j)) (story.got (ticket c j)) m (story.block_record (ticket c j)) m.stage) i
+        (subst (λ (f : ℕ → List Parcel). PlaceOk program t f (story.got t) m (story.block_record t) m.stage) (sym (put_at_here y.sent t snt))
+        (subst (λ (f : ℕ → List HeldState). PlaceOk program t snt f m (story.block_record t) m.stage) (sym (put_at_here y.got t got))
+        (subst (λ (p : BlockRecord). PlaceOk program t snt got m p m.stage) (sym (put_at_here y.block_record t pg)) ok))))
         (λ d other j e.
         let n = not_this d j other in
-        subst (λ (f : ℕ → List Parcel). PlaceOk program (ticket d j) f (story.got (ticket d j)) (s.client d) (story.page (ticket d j)) (s.client d).stage) (sym (put_at_there y.sent t snt (ticket d j) n))
-        (subst (λ (f : ℕ → List HeldState). PlaceOk program (ticket d j) (y.sent (ticket d j)) f (s.client d) (story.page (ticket d j)) (s.client d).stage) (sym (put_at_there y.got t got (ticket d j) n))
-        (subst (λ (p : BlockRecord). PlaceOk program (ticket d j) (y.sent (ticket d j)) (y.got (ticket d j)) (s.client d) p (s.client d).stage) (sym (old_page (ticket d j) n)) (kept.places d j e)))) d j;
+        subst (λ (f : ℕ → List Parcel). PlaceOk program (ticket d j) f (story.got (ticket d j)) (s.client d) (story.block_record (ticket d j)) (s.client d).stage) (sym (put_at_there y.sent t snt (ticket d j) n))
+        (subst (λ (f : ℕ → List HeldState). PlaceOk program (ticket d j) (y.sent (ticket d j)) f (s.client d) (story.block_record (ticket d j)) (s.client d).stage) (sym (put_at_there y.got t got (ticket d j) n))
+        (subst (λ (p : BlockRecord). PlaceOk program (ticket d j) (y.sent (ticket d j)) (y.got (ticket d j)) (s.client d) p (s.client d).stage) (sym (old_record (ticket d j) n)) (kept.places d j e)))) d j;
     stands = λ d j. put_all (λ d (m : Client). (j : ℕ) → m.begun ≡ suc j → (h : ℕ) → story.stands (ticket d j) h ≡ standing_at program (ticket d j) m m.stage h) s.client c m
         (λ j e h. let i : k ≡ j = omega arith in subst (λ j. story.stands (ticket c j) h ≡ standing_at program (ticket c j) m m.stage h) i (ap (λ (f : ℕ → ObjectStance). f h) (put_at_here y.stands t (standing_at program t m m.stage))))
         (λ d other j e h. ap (λ (f : ℕ → ObjectStance). f h) (put_at_there y.stands t (standing_at program t m m.stage) (ticket d j) (not_this d j other)) ∙ kept.stands d j e h) d j;

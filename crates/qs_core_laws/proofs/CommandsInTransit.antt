@@ -123,13 +123,13 @@ module _ (program : ProgramShape) (sound : IsSound program) (s : Core) (y : Lane
   -- who was served has left
   pub past_left : AllByRecursion (λ t. y.stands t h ≡ gone) (g h).past
   past_left =
-      past_gone (λ u. y.sent u h) (λ u. y.got u h) (λ u. part h (y.page u).trace) (λ u. y.stands u h) (g h).past (fresh_held program h) (g h).found (k.objects h).served
+      past_gone (λ u. y.sent u h) (λ u. y.got u h) (λ u. part h (y.block_record u).trace) (λ u. y.stands u h) (g h).past (fresh_held program h) (g h).found (k.objects h).served
       (each_map (λ u (m : IsMine u). m.2.lane h) (g h).past mine_past)
 
   chunk_last : (t : Ticket) → (s.client t.client).begun ≡ suc t.index → chunk_of (y.stands t h) ≡ in_chunk (s.client t.client) t.index h
   chunk_last t is =
       ap chunk_of (k.stands t.client t.index is h)
-      ∙ (open_chunk program t (y.sent t) (y.got t) (s.client t.client) (y.page t) (s.client t.client).stage (k.places t.client t.index is) h
+      ∙ (open_chunk program t (y.sent t) (y.got t) (s.client t.client) (y.block_record t) (s.client t.client).stage (k.places t.client t.index is) h
       ∙ ap (λ b. if b then or_none ((s.client t.client).chunk h) else []) (sym (eqb_self (suc t.index)) ∙ ap (λ n. n == suc t.index) (sym is)))
 
   chunk_none : (t : Ticket) → ((s.client t.client).begun == suc t.index) ≡ false → in_chunk (s.client t.client) t.index h ≡ []
@@ -144,9 +144,9 @@ module _ (program : ProgramShape) (sound : IsSound program) (s : Core) (y : Lane
       ap chunk_of (k.older t.client t.index (omega (arith, ne, lt)) h m.0) ∙ sym (chunk_none t other))
       (num_cases (s.client t.client).begun (suc t.index))
 
-  -- what an object's part of a page is where the block doesn't reserve it
-  pub part_out : (t : Ticket) → TicketOk program y t → reserves program t h ≡ false → parts_of y.page h t ≡ []
-  part_out t told out = unnamed (reserves program t) (block_tree program t (y.page t).entry) (y.page t).trace (y.page t).rest h (blocks_ask_only program sound t (y.page t).entry) told.page.path out
+  -- what an object's part of a block_record is where the block doesn't reserve it
+  pub part_out : (t : Ticket) → TicketOk program y t → reserves program t h ≡ false → parts_of y.block_record h t ≡ []
+  part_out t told out = unnamed (reserves program t) (block_tree program t (y.block_record t).entry) (y.block_record t).trace (y.block_record t).rest h (blocks_ask_only program sound t (y.block_record t).entry) told.block_record.path out
 
   empty_chunk : (t : Ticket) (events : List Event) (c : ObjectStance) → ClientLane t false [] [] events c → events ≡ [] → chunk_of c ≡ []
   empty_chunk t events c lane none = ap chunk_of lane.1 ∙ no_events lane.0 (sym lane.3 ∙ none)
@@ -159,8 +159,8 @@ module _ (program : ProgramShape) (sound : IsSound program) (s : Core) (y : Lane
   chunk_out t told out =
       let o = k.outside t h out in
       let none : chunk_of (y.stands t h) ≡ [] =
-      empty_chunk t (part h (y.page t).trace) (y.stands t h)
-      (subst (λ ps. ClientLane t false ps [] (part h (y.page t).trace) (y.stands t h)) o.0 (subst (λ gs. ClientLane t false (y.sent t h) gs (part h (y.page t).trace) (y.stands t h)) o.1 (told.lane h)))
+      empty_chunk t (part h (y.block_record t).trace) (y.stands t h)
+      (subst (λ ps. ClientLane t false ps [] (part h (y.block_record t).trace) (y.stands t h)) o.0 (subst (λ gs. ClientLane t false (y.sent t h) gs (part h (y.block_record t).trace) (y.stands t h)) o.1 (told.lane h)))
       (part_out t told out) in
       ⊎_elim
       (λ (is : (s.client t.client).begun ≡ suc t.index). sym (chunk_last t is) ∙ none)
@@ -179,14 +179,14 @@ module _ (program : ProgramShape) (sound : IsSound program) (s : Core) (y : Lane
       let m = (subst (AllByRecursion IsMine) here mine_ahead).0 in
       let sent = (subst (AllByRecursion (λ t. y.sent t h ≡ (g h).received t ++ way t)) here o.sent).0 in
       let lane = (subst (AllByRecursion (λ t. HandlerLane t false (g h).found ((g h).received t) ((g h).gave t) (stance (s.handler h) (g h).lent))) one o.lane).0 in (
-        cut_back ((g h).received t) (way t) (subst IsCut sent (sent_cut t false (y.sent t h) (y.got t h) (part h (y.page t).trace) (y.stands t h) (m.2.lane h))),
+        cut_back ((g h).received t) (way t) (subst IsCut sent (sent_cut t false (y.sent t h) (y.got t h) (part h (y.block_record t).trace) (y.stands t h) (m.2.lane h))),
         λ left.
-            let client : ClientLane t false (y.sent t h) (y.got t h) (part h (y.page t).trace) gone = subst (ClientLane t false (y.sent t h) (y.got t h) (part h (y.page t).trace)) left (m.2.lane h) in
-            ended_back ((g h).received t) (way t) (subst IsEnded sent (gone_ended t false (y.sent t h) (y.got t h) (part h (y.page t).trace) client))
+            let client : ClientLane t false (y.sent t h) (y.got t h) (part h (y.block_record t).trace) gone = subst (ClientLane t false (y.sent t h) (y.got t h) (part h (y.block_record t).trace)) left (m.2.lane h) in
+            ended_back ((g h).received t) (way t) (subst IsEnded sent (gone_ended t false (y.sent t h) (y.got t h) (part h (y.block_record t).trace) client))
             (λ none.
             let all : y.sent t h ≡ (g h).received t = sent ∙ (ap (λ w. (g h).received t ++ w) none ∙ append-nil ((g h).received t)) in
-            let over = gone_over t (g h).found ((g h).received t) (y.got t h) ((g h).gave t) (part h (y.page t).trace) (stance (s.handler h) (g h).lent)
-            (subst (λ ps. ClientLane t false ps (y.got t h) (part h (y.page t).trace) gone) all client) lane in
+            let over = gone_over t (g h).found ((g h).received t) (y.got t h) ((g h).gave t) (part h (y.block_record t).trace) (stance (s.handler h) (g h).lent)
+            (subst (λ ps. ClientLane t false ps (y.got t h) (part h (y.block_record t).trace) gone) all client) lane in
             stance_not_over (s.handler h) (g h).lent over.0 t one over.1),
       )
 
@@ -203,10 +203,10 @@ module _ (program : ProgramShape) (sound : IsSound program) (s : Core) (y : Lane
 
   cut_later : (u : Ticket) → IsLater u → IsCutTo u
   cut_later u l = (
-    subst IsCut l.2 (sent_cut u false (y.sent u h) (y.got u h) (part h (y.page u).trace) (y.stands u h) (l.0.2.lane h)),
+    subst IsCut l.2 (sent_cut u false (y.sent u h) (y.got u h) (part h (y.block_record u).trace) (y.stands u h) (l.0.2.lane h)),
     λ left.
         subst IsEnded l.2
-        (gone_ended u false (y.sent u h) (y.got u h) (part h (y.page u).trace) (subst (ClientLane u false (y.sent u h) (y.got u h) (part h (y.page u).trace)) left (l.0.2.lane h))),
+        (gone_ended u false (y.sent u h) (y.got u h) (part h (y.block_record u).trace) (subst (ClientLane u false (y.sent u h) (y.got u h) (part h (y.block_record u).trace)) left (l.0.2.lane h))),
   )
 
   cut_ahead : AllByRecursion IsCutTo (ahead (post s h))

@@ -21,7 +21,7 @@ use Rattle.qs_meaning.proofs.Each.{each_snoc}
 use Rattle.qs_meaning.proofs.TreeWalks.{put_here, put_there}
 use Rattle.qs_graph.specs.Synced.{Done, Call, Sync, Query}
 use Rattle.qs_syncset.specs.declared.mode.Mode.{Mode}
-use Rattle.qs_syncset.specs.Codes.{ClientCode}
+use Rattle.qs_syncset.specs.Codes.{ClientCode, AreCodes, blocks_in, reserved_of}
 use Rattle.qs_chunk.specs.Lanes.{HasSize}
 use Rattle.qs_chunk.specs.declared.parcel.Parcel.{Parcel}
 use Rattle.qs_chunk.specs.declared.parcel.Parcel.TheVariants as parcels
@@ -38,10 +38,11 @@ use Rattle.qs_played.specs.declared.schedule.actor.Actor.TheVariants as actor
 use Rattle.qs_protocol.proofs.ActKinds.{outside_not_send}
 use Rattle.qs_protocol.proofs.ActObjects.{sent_begun, got_begun, chunk_begun, settle_begun, not_send, not_await, not_need}
 use Rattle.qs_chunk.specs.Limits.{lane_room, spare_room}
-use Rattle.qs_core_laws.specs.Core.{Core, AreCodes, blocks, client_step, core_begin, core_step, gets, gives_chunk, after_handler, handler_step, put_lane, reserved_of, reserves_from, settings_of, takes_chunk, takes_parcel, takes_ticket, tree_of, with_down, with_tickets}
+use Rattle.qs_core_laws.specs.Core.{Core, client_step, core_begin, core_step, gets, gives_chunk, after_handler, handler_step, put_lane, reserves_from, settings_of, takes_chunk, takes_parcel, takes_ticket, with_down, with_tickets}
+use Rattle.qs_client.specs.ClientModel.{synced_block}
 use Rattle.qs_core_laws.specs.CoreSchedule.{core_plays}
 use Rattle.qs_played.specs.Schedule.{or_stay}
-use Rattle.qs_core_laws.proofs.CoreCodes.{blocks_are}
+use Rattle.qs_protocol.proofs.ProgramTrees.{blocks_are}
 use Rattle.qs_core_laws.proofs.HandlerSteps.{some_is}
 use Rattle.qs_core_laws.proofs.CoreSteps.{HasInvariant, begin_kept, begun_by, is_between, step_kept}
 use Rattle.qs_core_laws.specs.Core as core
@@ -125,7 +126,7 @@ module _ (program : ProgramShape) (sound : IsSound program) (mode : Mode) (code 
 
   module _ (s : Core) (k : KeptOf s) (b : CoreBounded s) where
     abbrev asks_for : ℕ → Act
-    asks_for c = act_of (settings_of code size c) (blocks code size c) (s.client c)
+    asks_for c = act_of (settings_of code size c) (blocks_in code c) (s.client c)
 
     one_of : (test : Bool) (a s' : Core) → (if test then Some a else None) ≡ Some s' → CoreBounded a → CoreBounded s'
     one_of true a s' e h = subst CoreBounded (some_is a s' e) h
@@ -177,39 +178,39 @@ module _ (program : ProgramShape) (sound : IsSound program) (mode : Mode) (code 
     send_bounded : (c h : ℕ) (parcel : Parcel) (s' : Core) → asks_for c ≡ Send h parcel → core.sends code size s c h parcel ≡ Some s' → CoreBounded s'
     send_bounded c h parcel s' act e =
         one_of (nat_lt (length (s.down c h)) lane_room) _ s' e
-        (client_bounded c ((s.client c).begun - 1) (after_parcel (settings_of code size c) (now c) (reserved_of code size (now c)) (s.client c) h parcel).client
-        (after_parcel (settings_of code size c) (now c) (reserved_of code size (now c)) (s.client c) h parcel).events
+        (client_bounded c ((s.client c).begun - 1) (after_parcel (settings_of code size c) (now c) (reserved_of code (now c)) (s.client c) h parcel).client
+        (after_parcel (settings_of code size c) (now c) (reserved_of code (now c)) (s.client c) h parcel).events
         (put_lane s.down c h (s.down c h ++ parcel ∷ [])) s.up s.spare (core.syncs_after code size s.syncs c parcel) (core.sync_counts_after code size s.sync_counts (now c) h parcel)
-        (begun_of c (Send h parcel) act (λ l i a. not_send (settings_of code size c) (blocks code size c) (s.client c) l h parcel i a))
-        (sent_begun (settings_of code size c) (now c) (reserved_of code size (now c)) (s.client c) h parcel)
+        (begun_of c (Send h parcel) act (λ l i a. not_send (settings_of code size c) (blocks_in code c) (s.client c) l h parcel i a))
+        (sent_begun (settings_of code size c) (now c) (reserved_of code (now c)) (s.client c) h parcel)
         (lane_holds (AllByRecursion (HasSize size)) s.down c h (s.down c h ++ parcel ∷ [])
-        (each_snoc (HasSize size) (s.down c h) parcel (b.sizes c h) (sends_sizes (settings_of code size c) (blocks code size c) (s.client c) (s.client c).stage h parcel act)) b.sizes))
+        (each_snoc (HasSize size) (s.down c h) parcel (b.sizes c h) (sends_sizes (settings_of code size c) (blocks_in code c) (s.client c) (s.client c).stage h parcel act)) b.sizes))
 
     get_bounded : (c h : ℕ) (o : Option HeldState) (s' : Core) → asks_for c ≡ Await h → gets code size s c h o ≡ Some s' → CoreBounded s'
     get_bounded c h None s' act e = absurd (cc)
     get_bounded c h (Some x) s' act e =
         subst CoreBounded (some_is _ s' e)
-        (client_bounded c ((s.client c).begun - 1) (take_object (settings_of code size c) (now c) (reserved_of code size (now c)) (s.client c) x (s.client c).stage).client
-        (take_object (settings_of code size c) (now c) (reserved_of code size (now c)) (s.client c) x (s.client c).stage).events
+        (client_bounded c ((s.client c).begun - 1) (take_object (settings_of code size c) (now c) (reserved_of code (now c)) (s.client c) x (s.client c).stage).client
+        (take_object (settings_of code size c) (now c) (reserved_of code (now c)) (s.client c) x (s.client c).stage).events
         s.down (put_lane s.up c h None) s.spare s.syncs s.sync_counts
-        (begun_of c (Await h) act (λ l i a. not_await (settings_of code size c) (blocks code size c) (s.client c) l h i a))
-        (got_begun (settings_of code size c) (now c) (reserved_of code size (now c)) (s.client c) h x (s.client c).stage) b.sizes)
+        (begun_of c (Await h) act (λ l i a. not_await (settings_of code size c) (blocks_in code c) (s.client c) l h i a))
+        (got_begun (settings_of code size c) (now c) (reserved_of code (now c)) (s.client c) h x (s.client c).stage) b.sizes)
 
     chunk_bounded : (c h n : ℕ) (s' : Core) → asks_for c ≡ NeedChunk h → takes_chunk code size s c h n ≡ Some s' → CoreBounded s'
     chunk_bounded c h zero s' act e = absurd (cc)
     chunk_bounded c h (suc n) s' act e =
         subst CoreBounded (some_is _ s' e)
-        (client_bounded c ((s.client c).begun - 1) (take_chunk (settings_of code size c) (now c) (reserved_of code size (now c)) (s.client c) h (s.client c).stage).client
-        (take_chunk (settings_of code size c) (now c) (reserved_of code size (now c)) (s.client c) h (s.client c).stage).events
+        (client_bounded c ((s.client c).begun - 1) (take_chunk (settings_of code size c) (now c) (reserved_of code (now c)) (s.client c) h (s.client c).stage).client
+        (take_chunk (settings_of code size c) (now c) (reserved_of code (now c)) (s.client c) h (s.client c).stage).events
         s.down s.up (put_lane s.spare c h n) s.syncs s.sync_counts
-        (begun_of c (NeedChunk h) act (λ l i a. not_need (settings_of code size c) (blocks code size c) (s.client c) l h i a))
-        (chunk_begun (settings_of code size c) (now c) (reserved_of code size (now c)) (s.client c) h (s.client c).stage) b.sizes)
+        (begun_of c (NeedChunk h) act (λ l i a. not_need (settings_of code size c) (blocks_in code c) (s.client c) l h i a))
+        (chunk_begun (settings_of code size c) (now c) (reserved_of code (now c)) (s.client c) h (s.client c).stage) b.sizes)
 
     -- a client beyond the program has ended
     pub beyond_acts : (c : ℕ) → length program.clients ≤ c → asks_for c ≡ Finished
     beyond_acts c out =
-        let none : blocks code size c ≡ 0 = blocks_are program sound mode code codes size c ∙ none_beyond program sound c out in
-        ap (λ (m : Client). act_of (settings_of code size c) (blocks code size c) m) (b.idle c out) ∙ ap (λ n. if nat_lt 0 n then Reserve else Finished) none
+        let none : blocks_in code c ≡ 0 = blocks_are program sound mode code codes c ∙ none_beyond program sound c out in
+        ap (λ (m : Client). act_of (settings_of code size c) (blocks_in code c) m) (b.idle c out) ∙ ap (λ n. if nat_lt 0 n then Reserve else Finished) none
 
     not_reserve : Finished ≡ Reserve → ⊥
     not_reserve e = cc
@@ -217,9 +218,9 @@ module _ (program : ProgramShape) (sound : IsSound program) (mode : Mode) (code 
     reserve_bounded : (c : ℕ) (l : Locals) (s' : Core) → asks_for c ≡ Reserve → reserves_from code size s c (between l) ≡ Some s' → CoreBounded s'
     reserve_bounded c l s' act e =
         let t : Ticket = ticket c (s.client c).begun in
-        let r : Settlement = begin (settings_of code size c) t (reserved_of code size t) (s.client c) (tree_of code size t l) in
+        let r : Settlement = begin (settings_of code size c) t (reserved_of code t) (s.client c) (synced_block code t l) in
         let more : r.client.begun ≡ suc (s.client c).begun =
-        settle_begun (settings_of code size c) t (reserved_of code size t) (tree_of code size t l) (record (s.client c) { begun = suc (s.client c).begun }) in
+        settle_begun (settings_of code size c) t (reserved_of code t) (synced_block code t l) (record (s.client c) { begun = suc (s.client c).begun }) in
         subst CoreBounded (some_is _ s' e) (record {
           sizes = b.sizes;
           back = b.back;

@@ -20,7 +20,7 @@ use Rattle.qs_program.specs.Values.{Locals}
 use Rattle.qs_meaning.proofs.Histories.{Among}
 use Rattle.qs_meaning.proofs.SerialRuns.{legal_apart}
 use Rattle.qs_syncset.specs.declared.mode.Mode.{Mode}
-use Rattle.qs_syncset.specs.Codes.{ClientCode}
+use Rattle.qs_syncset.specs.Codes.{ClientCode, AreCodes, blocks_in, reserved_of}
 use Rattle.qs_syncset.specs.SyncCounts.{syncs_along}
 use Rattle.qs_sync_counts.specs.SyncRows.{object_of, syncs_for, with_sync}
 use Rattle.qs_sync_counts.specs.declared.sync_counts.SyncCount.{SyncCount}
@@ -50,7 +50,8 @@ use Rattle.qs_protocol.proofs.ClientCounts.{CountAt, Counts, Even, Over, chunk_c
 use Rattle.qs_protocol.proofs.ClientInvariants.{PlaceOk, Leaving}
 use Rattle.qs_protocol.proofs.ObjectViews.{HandlerLog}
 use Rattle.qs_chunk.specs.Limits.{lane_room, spare_room}
-use Rattle.qs_core_laws.specs.Core.{Core, AreCodes, blocks, client_step, core_begin, core_step, gets, gives, gives_chunk, after_handler, handler_step, handles, lies, put_ticket, after_reserve, reserved_of, reserves_from, sends, settings_of, after_act, takes_chunk, takes_parcel, takes_ticket, tree_of, with_down, with_spare, with_tickets, with_up}
+use Rattle.qs_core_laws.specs.Core.{Core, client_step, core_begin, core_step, gets, gives, gives_chunk, after_handler, handler_step, handles, lies, put_ticket, after_reserve, reserves_from, sends, settings_of, after_act, takes_chunk, takes_parcel, takes_ticket, with_down, with_spare, with_tickets, with_up}
+use Rattle.qs_client.specs.ClientModel.{synced_block}
 use Rattle.qs_core_laws.specs.CoreSchedule.{core_plays}
 use Rattle.qs_played.specs.Schedule.{or_stay}
 use Rattle.qs_client_run.proofs.CodeBounds.{longest_covers}
@@ -61,11 +62,11 @@ use Rattle.qs_core_laws.proofs.HandlerSteps.{some_is}
 module _ (program : ProgramShape) (sound : IsSound program) (mode : Mode) (code : ℕ → ClientCode) (codes : AreCodes program mode code) (size : ℕ) where
   -- what a client sent in its block so far
   abbrev pub At : Ticket → Locals → List Event → (ℕ → ℕ) → Client → Type 0
-  At t l tr n m = CountAt (settings_of code size t.client) t (reserved_of code size t) (tree_of code size t l) tr n m m.stage
+  At t l tr n m = CountAt (settings_of code size t.client) t (reserved_of code t) (synced_block code t l) tr n m m.stage
 
   -- and in a block that has ended
   abbrev pub Past : Ticket → Locals → List Event → (ℕ → ℕ) → Type 0
-  Past t l tr n = Over (settings_of code size t.client) t (reserved_of code size t) (tree_of code size t l) tr n
+  Past t l tr n = Over (settings_of code size t.client) t (reserved_of code t) (synced_block code t l) tr n
 
   -- `n` says how many Syncs each ticket has sent for each object
   pub record Counted (order : List Ticket) (client : ℕ → Client) (syncs : ℕ → ℕ) (entry : Ticket → Locals) (trace : Ticket → List Event)
@@ -77,7 +78,7 @@ module _ (program : ProgramShape) (sound : IsSound program) (mode : Mode) (code 
 
   -- what a client has come to in its block, by these numbers
   abbrev CountsOf : Core → Ticket → (ℕ → ℕ) → Settlement → Type 0
-  CountsOf s t f r = Counts (settings_of code size t.client) t (reserved_of code size t) (tree_of code size t (s.entry t)) (s.trace t) f r
+  CountsOf s t f r = Counts (settings_of code size t.client) t (reserved_of code t) (synced_block code t (s.entry t)) (s.trace t) f r
 
   abbrev pub CountedBy : Core → (Ticket → ℕ → ℕ) → Type 0
   CountedBy s n = Counted s.order s.client s.syncs s.entry s.trace n
@@ -186,14 +187,14 @@ module _ (program : ProgramShape) (sound : IsSound program) (mode : Mode) (code 
 
       -- what the client did once it sent this
       abbrev after_sent : ℕ → ℕ → Parcel → Settlement
-      after_sent c h parcel = after_parcel (settings_of code size c) (now c) (reserved_of code size (now c)) (s.client c) h parcel
+      after_sent c h parcel = after_parcel (settings_of code size c) (now c) (reserved_of code (now c)) (s.client c) h parcel
 
       sent_counts : (c h : ℕ) (parcel : Parcel) → asks_for c ≡ Send h parcel → (s.client c).begun ≡ suc ((s.client c).begun - 1)
-          → CountsOf s (now c) (count_up (settings_of code size c) (now c) (reserved_of code size (now c)) (tree_of code size (now c) (s.entry (now c)))
+          → CountsOf s (now c) (count_up (settings_of code size c) (now c) (reserved_of code (now c)) (synced_block code (now c) (s.entry (now c)))
           (n (now c)) h parcel)
           (after_sent c h parcel)
       sent_counts c h parcel act b =
-          send_counts (settings_of code size c) (now c) (reserved_of code size (now c)) (tree_of code size (now c) (s.entry (now c))) (blocks code size c)
+          send_counts (settings_of code size c) (now c) (reserved_of code (now c)) (synced_block code (now c) (s.entry (now c))) (blocks_in code c)
           (s.trace (now c)) (n (now c)) (s.client c)
           (k.newest c ((s.client c).begun - 1) b) h parcel act
 
@@ -201,7 +202,7 @@ module _ (program : ProgramShape) (sound : IsSound program) (mode : Mode) (code 
           → reserves program (now c) h ≡ true
       asked_of c h parcel act b =
           let t = now c in
-          (send_at program t (y.sent t) (y.got t) (settings_of code size c) (blocks code size c) (s.client c) (y.page t) (s.client c).stage
+          (send_at program t (y.sent t) (y.got t) (settings_of code size c) (blocks_in code c) (s.client c) (y.block_record t) (s.client c).stage
           (kept.places c ((s.client c).begun - 1) b) h parcel act).0
 
       -- the count that is kept is one more for h
@@ -232,7 +233,7 @@ module _ (program : ProgramShape) (sound : IsSound program) (mode : Mode) (code 
           reserved_inside program sound (now c) h (asked_of c h parcel act b)
 
       begun_still : (c h : ℕ) (parcel : Parcel) → (after_sent c h parcel).client.begun ≡ (s.client c).begun
-      begun_still c h parcel = sent_begun (settings_of code size c) (now c) (reserved_of code size (now c)) (s.client c) h parcel
+      begun_still c h parcel = sent_begun (settings_of code size c) (now c) (reserved_of code (now c)) (s.client c) h parcel
 
       sent_by : (c h : ℕ) (parcel : Parcel) → asks_for c ≡ Send h parcel → (s.client c).begun ≡ suc ((s.client c).begun - 1)
           → AreCounted (after_act code size (lies code size s c h parcel) c (now c) (after_sent c h parcel))
@@ -257,7 +258,7 @@ module _ (program : ProgramShape) (sound : IsSound program) (mode : Mode) (code 
 
       send_does : (c h : ℕ) (parcel : Parcel) (s' : Core) → asks_for c ≡ Send h parcel → sends code size s c h parcel ≡ Some s' → AreCounted s'
       send_does c h parcel s' act e =
-          let b = begun_at c (Send h parcel) act (λ l i a. not_send (settings_of code size c) (blocks code size c) (s.client c) l h parcel i a) in
+          let b = begun_at c (Send h parcel) act (λ l i a. not_send (settings_of code size c) (blocks_in code c) (s.client c) l h parcel i a) in
           one_of (nat_lt (length (s.down c h)) lane_room) (after_act code size (lies code size s c h parcel) c (now c) (after_sent c h parcel)) s' e
           (sent_by c h parcel act b)
 
@@ -266,12 +267,12 @@ module _ (program : ProgramShape) (sound : IsSound program) (mode : Mode) (code 
       get_does c h (Some x) s' act e =
           let t = now c in
           let j = (s.client c).begun - 1 in
-          let b = begun_at c (Await h) act (λ l i a. not_await (settings_of code size c) (blocks code size c) (s.client c) l h i a) in
-          let r : Settlement = take_object (settings_of code size c) t (reserved_of code size t) (s.client c) x (s.client c).stage in
+          let b = begun_at c (Await h) act (λ l i a. not_await (settings_of code size c) (blocks_in code c) (s.client c) l h i a) in
+          let r : Settlement = take_object (settings_of code size c) t (reserved_of code t) (s.client c) x (s.client c).stage in
           subst AreCounted (some_is (after_act code size (with_up code size s c h None) c t r) s' e) (
             n,
-            without_sync c j b r (got_begun (settings_of code size c) t (reserved_of code size t) (s.client c) h x (s.client c).stage)
-                (got_counts (settings_of code size c) t (reserved_of code size t) (tree_of code size t (s.entry t)) (s.trace t) (n t) (s.client c) x
+            without_sync c j b r (got_begun (settings_of code size c) t (reserved_of code t) (s.client c) h x (s.client c).stage)
+                (got_counts (settings_of code size c) t (reserved_of code t) (synced_block code t (s.entry t)) (s.trace t) (n t) (s.client c) x
                 (s.client c).stage (k.newest c j b)),
             given,
           )
@@ -281,12 +282,12 @@ module _ (program : ProgramShape) (sound : IsSound program) (mode : Mode) (code 
       chunk_does c h (suc m) s' act e =
           let t = now c in
           let j = (s.client c).begun - 1 in
-          let b = begun_at c (NeedChunk h) act (λ l i a. not_need (settings_of code size c) (blocks code size c) (s.client c) l h i a) in
-          let r : Settlement = take_chunk (settings_of code size c) t (reserved_of code size t) (s.client c) h (s.client c).stage in
+          let b = begun_at c (NeedChunk h) act (λ l i a. not_need (settings_of code size c) (blocks_in code c) (s.client c) l h i a) in
+          let r : Settlement = take_chunk (settings_of code size c) t (reserved_of code t) (s.client c) h (s.client c).stage in
           subst AreCounted (some_is (after_act code size (with_spare code size s c h m) c t r) s' e) (
             n,
-            without_sync c j b r (chunk_begun (settings_of code size c) t (reserved_of code size t) (s.client c) h (s.client c).stage)
-                (chunk_counts (settings_of code size c) t (reserved_of code size t) (tree_of code size t (s.entry t)) (s.trace t) (n t) (s.client c) h
+            without_sync c j b r (chunk_begun (settings_of code size c) t (reserved_of code t) (s.client c) h (s.client c).stage)
+                (chunk_counts (settings_of code size c) t (reserved_of code t) (synced_block code t (s.entry t)) (s.trace t) (n t) (s.client c) h
                 (s.client c).stage (k.newest c j b)),
             given,
           )
@@ -296,8 +297,8 @@ module _ (program : ProgramShape) (sound : IsSound program) (mode : Mode) (code 
       none_held c zero l b at h = ((kept.idle c b).1 h).0
       none_held c (suc j) l b at h =
           let t = ticket c j in
-          let ok : Leaving program t (y.sent t) (y.got t) (s.client c) (y.page t) [] l =
-          subst (PlaceOk program t (y.sent t) (y.got t) (s.client c) (y.page t)) at (kept.places c j b) in
+          let ok : Leaving program t (y.sent t) (y.got t) (s.client c) (y.block_record t) [] l =
+          subst (PlaceOk program t (y.sent t) (y.got t) (s.client c) (y.block_record t)) at (kept.places c j b) in
           (ok.empty h refl).0
 
       -- and all its blocks have ended
@@ -306,24 +307,24 @@ module _ (program : ProgramShape) (sound : IsSound program) (mode : Mode) (code 
       all_past c m i l b at less = ⊎_elim
           (λ (is : m ≡ suc i).
           let t = ticket c i in
-          subst (CountAt (settings_of code size c) t (reserved_of code size t) (tree_of code size t (s.entry t)) (s.trace t) (n t) (s.client c)) at
+          subst (CountAt (settings_of code size c) t (reserved_of code t) (synced_block code t (s.entry t)) (s.trace t) (n t) (s.client c)) at
           (k.newest c i (b ∙ is)))
           (λ (other : (m == suc i) ≡ false). let apart = apart_eqb m (suc i) other in k.older c i (omega (arith, apart, b, less)))
           (num_cases m (suc i))
 
       -- the block that the client reserves next
       abbrev after_booked : ℕ → ℕ → Locals → Settlement
-      after_booked c m l = begin (settings_of code size c) (ticket c m) (reserved_of code size (ticket c m)) (s.client c) (tree_of code size (ticket c m) l)
+      after_booked c m l = begin (settings_of code size c) (ticket c m) (reserved_of code (ticket c m)) (s.client c) (synced_block code (ticket c m) l)
 
-      reserved_counts : (c m : ℕ) (l : Locals) → (s.client c).begun ≡ m → (s.client c).stage ≡ between l → IsAsking (tree_of code size (ticket c m) l)
+      reserved_counts : (c m : ℕ) (l : Locals) → (s.client c).begun ≡ m → (s.client c).stage ≡ between l → IsAsking (synced_block code (ticket c m) l)
           → Counted (s.order ++ ticket c m ∷ []) (put s.client c (after_booked c m l).client) s.syncs (put_ticket s.entry (ticket c m) l)
           (put_ticket s.trace (ticket c m) (after_booked c m l).events) n
       reserved_counts c m l b at asking =
           let t : Ticket = ticket c m in
           let r : Settlement = after_booked c m l in
-          let tree = tree_of code size t l in
+          let tree = synced_block code t l in
           let settings = settings_of code size c in
-          let names = reserved_of code size t in
+          let names = reserved_of code t in
           let began : Client = record (s.client c) { begun = suc (s.client c).begun } in
           let rb : r.client.begun ≡ suc m = settle_begun settings t names tree began ∙ ap suc b in
           let en : Ticket → Locals = put_ticket s.entry t l in
@@ -364,7 +365,7 @@ module _ (program : ProgramShape) (sound : IsSound program) (mode : Mode) (code 
               subst (λ e. Past u e (put_ticket s.trace (ticket c m) (after_booked c m l).events u) (n u)) (sym (put_at_there s.entry (ticket c m) l u apart))
               (subst (λ es. Past u (s.entry u) es (n u)) (sym (put_at_there s.trace (ticket c m) (after_booked c m l).events u apart)) past)
 
-      tree_asks : (c m : ℕ) (l : Locals) → m < blocks_of program c → IsAsking (tree_of code size (ticket c m) l)
+      tree_asks : (c m : ℕ) (l : Locals) → m < blocks_of program c → IsAsking (synced_block code (ticket c m) l)
       tree_asks c m l inside =
           let own = no_block_beyond program c (omega (arith, inside)) in
           code_asks program mode c (code c) sound (codes.own c own) m (longest (code c).blocks) l inside (longest_covers (code c).blocks m)

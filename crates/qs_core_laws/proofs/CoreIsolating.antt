@@ -74,7 +74,7 @@ module _ (program : ProgramShape) (sound : IsSound program) (s : Core) (y : Lane
   Busy h = ahead (post s h) ≡ [] → ⊥
 
   abbrev x : ℕ → ObjectCourse
-  x = line program sound y.page (on_way s) (λ h. (shown h).object) Busy (λ h. (shown h).journal)
+  x = line program sound y.block_record (on_way s) (λ h. (shown h).object) Busy (λ h. (shown h).journal)
 
   flows : (h : ℕ) → Flow (x h) (declared_states program h) (shown h).journal s.order × IsHonest (declared_states program h) (without_tickets (shown h).journal) × (replay (declared_states program h) (without_tickets (shown h).journal) ≡ (shown h).object)
   flows h =
@@ -82,7 +82,7 @@ module _ (program : ProgramShape) (sound : IsSound program) (s : Core) (y : Lane
       let whole : (shown h).journal ≡ f.0 = ap (λ (o : HeldState). o.journal) (shown_is h) ∙ f.1 in
       let object : (shown h).object ≡ (now program (lined program sound) s y g k h).object = ap (λ (o : HeldState). o.object) (shown_is h) in (
         subst (λ j. Flow (x h) (declared_states program h) j s.order) (sym whole)
-            (subst (λ o. Flow (record { may = λ t. reserves program t h; parts = parts_of y.page h; done = done_of y.page; waits = on_way s h; busy = Busy h; present = o }) (declared_states program h) f.0 s.order) (sym object) f.2),
+            (subst (λ o. Flow (record { may = λ t. reserves program t h; parts = parts_of y.block_record h; done = done_of y.block_record; waits = on_way s h; busy = Busy h; present = o }) (declared_states program h) f.0 s.order) (sym object) f.2),
         subst (λ j. IsHonest (declared_states program h) (without_tickets j)) (sym whole) f.3,
         ap (λ j. replay (declared_states program h) (without_tickets j)) whole ∙ (f.4 ∙ sym object),
       )
@@ -100,28 +100,28 @@ module _ (program : ProgramShape) (sound : IsSound program) (s : Core) (y : Lane
       length-map (range_with_len 0 (length program.objects)) (λ h. (shown h).journal) ∙ length-range_with_len 0 (length program.objects) in
       get_or_past (map (λ h. (shown h).journal) (range_with_len 0 (length program.objects))) h [] (omega (arith, long, out))
 
-  trace_is : (i : ℕ) → i < length s.order → trace_of r i ≡ (y.page (ticket_at r i)).trace
+  trace_is : (i : ℕ) → i < length s.order → trace_of r i ≡ (y.block_record (ticket_at r i)).trace
   trace_is i inside = get_or-map s.trace s.order i (ticket 0 0) [] inside ∙ sym (k.trace (ticket_at r i))
 
   -- an ended block has nothing left
-  ended_done : (t : Ticket) → has_ended (s.client t.client) t.index ≡ true → IsDone (y.page t).rest
+  ended_done : (t : Ticket) → has_ended (s.client t.client) t.index ≡ true → IsDone (y.block_record t).rest
   ended_done t e = by_test (nat_lt (suc t.index) (s.client t.client).begun) refl e
     where
-      by_place : (pl : ClientStage) → PlaceOk program t (y.sent t) (y.got t) (s.client t.client) (y.page t) pl → is_between pl ≡ true → IsDone (y.page t).rest
+      by_place : (pl : ClientStage) → PlaceOk program t (y.sent t) (y.got t) (s.client t.client) (y.block_record t) pl → is_between pl ≡ true → IsDone (y.block_record t).rest
       by_place (between l) ok b = subst IsDone (sym ok.rest) tt
       by_place (runs code) ok b = absurd (cc)
       by_place (full h code) ok b = absurd (cc)
       by_place (awaits h code) ok b = absurd (cc)
       by_place (leaves h hs l) ok b = absurd (cc)
 
-      by_test : (b : Bool) → nat_lt (suc t.index) (s.client t.client).begun ≡ b → (b || (nat_eq (suc t.index) (s.client t.client).begun && is_between (s.client t.client).stage)) ≡ true → IsDone (y.page t).rest
+      by_test : (b : Bool) → nat_lt (suc t.index) (s.client t.client).begun ≡ b → (b || (nat_eq (suc t.index) (s.client t.client).begun && is_between (s.client t.client).stage)) ≡ true → IsDone (y.block_record t).rest
       by_test true less e =
           let lt : suc t.index < (s.client t.client).begun = grind (arith, less) in
           let many = k.counts t.client in
           let next : TicketOk program y (ticket t.client (suc t.index)) =
           each_among (TicketOk program y) (ticket t.client (suc t.index)) s.order k.told
           (legal_among program (λ _. 0) s.order t.client (suc t.index) k.legal (omega arith) (omega (arith, lt, many))) in
-          let b : (y.page t).rest ≡ tree.Done (y.page (ticket t.client (suc t.index))).entry = next.begins in
+          let b : (y.block_record t).rest ≡ tree.Done (y.block_record (ticket t.client (suc t.index))).entry = next.begins in
           subst IsDone (sym b) tt
       by_test false less e =
           let both = and_cases (nat_eq (suc t.index) (s.client t.client).begun) (is_between (s.client t.client).stage) e in
@@ -154,7 +154,7 @@ module _ (program : ProgramShape) (sound : IsSound program) (s : Core) (y : Lane
       let second = and_cases (is_free (s.handler h)) (nat_eq (length (s.tickets h)) 0) first.0 in
       ap₂ (λ a b. a ++ b) (free_serves_none (s.handler h) second.0) (none_of_length (s.tickets h) second.1)
 
-  run : IsRun program sound r y.page (on_way s) (λ h. (shown h).object) Busy (λ h. (shown h).journal)
+  run : IsRun program sound r y.block_record (on_way s) (λ h. (shown h).object) Busy (λ h. (shown h).journal)
   run = record {
     fits = record {
       ended = length-map s.order (λ (t : Ticket). has_ended (s.client t.client) t.index);
@@ -165,7 +165,7 @@ module _ (program : ProgramShape) (sound : IsSound program) (s : Core) (y : Lane
       states = length-map (range_with_len 0 (length program.objects)) (λ h. (shown h).object) ∙ length-range_with_len 0 (length program.objects);
     };
     legal = k.legal;
-    pages = each_map (λ t (ok : TicketOk program y t). ok.page.path) s.order k.told;
+    block_records = each_map (λ t (ok : TicketOk program y t). ok.block_record.path) s.order k.told;
     begins = each_map (λ t (ok : TicketOk program y t). ok.begins) s.order k.told;
     flows = λ h. (flows h).0;
     honest = λ h own. (flows h).1;
@@ -181,7 +181,7 @@ module _ (program : ProgramShape) (sound : IsSound program) (s : Core) (y : Lane
   }
 
   pub isolated : IsIsolated program r (on_way s)
-  isolated = run_isolated program sound r y.page (on_way s) (λ h. (shown h).object) Busy (λ h. (shown h).journal) run
+  isolated = run_isolated program sound r y.block_record (on_way s) (λ h. (shown h).object) Busy (λ h. (shown h).journal) run
 
 -- after every list of actors
 pub core_isolated : CoreRunsAreIsolated

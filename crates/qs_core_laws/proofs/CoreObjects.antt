@@ -128,13 +128,13 @@ module _ (program : ProgramShape) (lined : (t : Ticket) → Lined (reserves prog
       let lane = (subst (AllByRecursion (λ t. HandlerLane t false (g h).found ((g h).received t) ((g h).gave t) (stance (s.handler h) (g h).lent))) one o.lane).0 in
       let lane' = subst (λ v. HandlerLane t false (g h).found ((g h).received t) ((g h).gave t) (stance v (g h).lent)) v lane in
       let gots = (subst (AllByRecursion (λ (t : Ticket). (g h).gave t ≡ y.got t h ++ as_list (s.up t.client h))) one o.gots).0 in
-      let client = (subst (AllByRecursion (λ t. ClientLane t false (y.sent t h) (y.got t h) (part h (y.page t).trace) (y.stands t h))) here (deeds_ok program s y g k h).lane).0 in
+      let client = (subst (AllByRecursion (λ t. ClientLane t false (y.sent t h) (y.got t h) (part h (y.block_record t).trace) (y.stands t h))) here (deeds_ok program s y g k h).lane).0 in
       let m = (subst (AllByRecursion (λ u. reserves program u h ≡ true)) here (may_ahead program s y g k h)).0 in
       let lt = (subst (AllByRecursion (λ (u : Ticket). suc u.index ≤ (s.client u.client).begun)) here (of_ahead program s y g k (λ (u : Ticket). suc u.index ≤ (s.client u.client).begun) h k.below)).0 in
       let down : s.down t.client h ≡ (g h).way t ++ flat_map (g h).way (filter (λ (u : Ticket). u.client == t.client) (s.tickets h)) = o.down t.client ∙ (ap (λ q. flat_map (g h).way (filter (λ (u : Ticket). u.client == t.client) q)) here ∙ first) in
       by_case t m lt down (λ b e. subst (LastOf t) here (newest program lined (record { dynamic = false; size = 0 }) 0 s y g k t.client t.index h b m e))
-      (lent_where t (g h).found (g h).lent ((g h).received t) ((g h).way t) (y.got t h) ((g h).gave t) (as_list (s.up t.client h)) (part h (y.page t).trace) (y.stands t h)
-      (subst (λ ps. ClientLane t false ps (y.got t h) (part h (y.page t).trace) (y.stands t h)) sent client) lane' gots)
+      (lent_where t (g h).found (g h).lent ((g h).received t) ((g h).way t) (y.got t h) ((g h).gave t) (as_list (s.up t.client h)) (part h (y.block_record t).trace) (y.stands t h)
+      (subst (λ ps. ClientLane t false ps (y.got t h) (part h (y.block_record t).trace) (y.stands t h)) sent client) lane' gots)
     where
       first : flat_map (g h).way (filter (λ (u : Ticket). u.client == t.client) (t ∷ s.tickets h)) ≡ (g h).way t ++ flat_map (g h).way (filter (λ (u : Ticket). u.client == t.client) (s.tickets h))
       first = rw (eqb_self t.client) refl

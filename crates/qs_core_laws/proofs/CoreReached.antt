@@ -21,7 +21,7 @@ use Rattle.qs_meaning.proofs.Histories.{Apart}
 use Rattle.qs_meaning.proofs.SerialRuns.{legal_apart}
 use Rattle.qs_meaning.proofs.TreeWalks.{put_here, put_there}
 use Rattle.qs_syncset.specs.declared.mode.Mode.{Mode}
-use Rattle.qs_syncset.specs.Codes.{ClientCode}
+use Rattle.qs_syncset.specs.Codes.{ClientCode, AreCodes, blocks_in}
 use Rattle.qs_chunk.specs.Batch.{Batch}
 use Rattle.qs_chunk.specs.Lanes.{may_stand}
 use Rattle.qs_chunk.specs.declared.parcel.Parcel.{Parcel}
@@ -42,7 +42,7 @@ use Rattle.qs_protocol.proofs.ActObjects.{await_at, need_at, not_await, not_need
 use Rattle.qs_protocol.proofs.LaneWays.{MayCome}
 use Rattle.qs_protocol.proofs.ObjectViews.{HandlerLog, PastOf}
 use Rattle.qs_played.specs.JournalRooms.{fresh_held}
-use Rattle.qs_core_laws.specs.Core.{Core, AreCodes, blocks, client_step, core_begin, settings_of}
+use Rattle.qs_core_laws.specs.Core.{Core, client_step, core_begin, settings_of}
 use Rattle.qs_core_laws.specs.CoreSchedule.{before_it, core_plays, found_by}
 use Rattle.qs_core_laws.specs.CoreReached.{NextStands, IsBegun, HandlersServe, ClientsAsk, TicketsStand, OthersRest, CoreStands, ReachedCore}
 use Rattle.qs_core_laws.proofs.CoreBounds.{CoreBounded, run_both}
@@ -247,7 +247,7 @@ module _ (program : ProgramShape) (sound : IsSound program) (mode : Mode) (code 
   n_of c = (s.client c).begun - 1
 
   abbrev asks_for : ℕ → Act
-  asks_for c = act_of (settings_of code size c) (blocks code size c) (s.client c)
+  asks_for c = act_of (settings_of code size c) (blocks_in code c) (s.client c)
 
   begun_of : (c : ℕ) (act : Act) → asks_for c ≡ act → ((l : Locals) → (s.client c).stage ≡ between l → asks_for c ≡ act → ⊥) → (s.client c).begun ≡ suc (n_of c)
   begun_of c act e non = begun_by program sound mode code codes size s y g k c act e non
@@ -256,16 +256,16 @@ module _ (program : ProgramShape) (sound : IsSound program) (mode : Mode) (code 
   clients_ask = record {
     sends = λ c h parcel a.
         reserved_inside program sound (ticket c (n_of c)) h
-        (send_at program (ticket c (n_of c)) (y.sent (ticket c (n_of c))) (y.got (ticket c (n_of c))) (settings_of code size c) (blocks code size c) (s.client c) (y.page (ticket c (n_of c))) (s.client c).stage
-        (k.places c (n_of c) (begun_of c (wants.Send h parcel) a (λ l i a. not_send (settings_of code size c) (blocks code size c) (s.client c) l h parcel i a))) h parcel a).0;
+        (send_at program (ticket c (n_of c)) (y.sent (ticket c (n_of c))) (y.got (ticket c (n_of c))) (settings_of code size c) (blocks_in code c) (s.client c) (y.block_record (ticket c (n_of c))) (s.client c).stage
+        (k.places c (n_of c) (begun_of c (wants.Send h parcel) a (λ l i a. not_send (settings_of code size c) (blocks_in code c) (s.client c) l h parcel i a))) h parcel a).0;
     awaits = λ c h a.
         reserved_inside program sound (ticket c (n_of c)) h
-        (await_at program (ticket c (n_of c)) (y.sent (ticket c (n_of c))) (y.got (ticket c (n_of c))) (settings_of code size c) (blocks code size c) (s.client c) (y.page (ticket c (n_of c))) (s.client c).stage
-        (k.places c (n_of c) (begun_of c (wants.Await h) a (λ l i a. not_await (settings_of code size c) (blocks code size c) (s.client c) l h i a))) h a).0;
+        (await_at program (ticket c (n_of c)) (y.sent (ticket c (n_of c))) (y.got (ticket c (n_of c))) (settings_of code size c) (blocks_in code c) (s.client c) (y.block_record (ticket c (n_of c))) (s.client c).stage
+        (k.places c (n_of c) (begun_of c (wants.Await h) a (λ l i a. not_await (settings_of code size c) (blocks_in code c) (s.client c) l h i a))) h a).0;
     needs = λ c h a.
         reserved_inside program sound (ticket c (n_of c)) h
-        (need_at program (ticket c (n_of c)) (y.sent (ticket c (n_of c))) (y.got (ticket c (n_of c))) (settings_of code size c) (blocks code size c) (s.client c) (y.page (ticket c (n_of c))) (s.client c).stage
-        (k.places c (n_of c) (begun_of c (wants.NeedChunk h) a (λ l i a. not_need (settings_of code size c) (blocks code size c) (s.client c) l h i a))) h a);
+        (need_at program (ticket c (n_of c)) (y.sent (ticket c (n_of c))) (y.got (ticket c (n_of c))) (settings_of code size c) (blocks_in code c) (s.client c) (y.block_record (ticket c (n_of c))) (s.client c).stage
+        (k.places c (n_of c) (begun_of c (wants.NeedChunk h) a (λ l i a. not_need (settings_of code size c) (blocks_in code c) (s.client c) l h i a))) h a);
   }
 
   -- beyond the program

@@ -14,7 +14,7 @@ use Rattle.qs_program.specs.Sound.{IsSound, is_in}
 use Rattle.qs_program.specs.Values.{Locals}
 use Rattle.qs_meaning.proofs.SoundTrees.{blocks_ask_only}
 use Rattle.qs_syncset.specs.declared.mode.Mode.{Mode}
-use Rattle.qs_syncset.specs.Codes.{ClientCode}
+use Rattle.qs_syncset.specs.Codes.{ClientCode, AreCodes, blocks_in}
 use Rattle.qs_chunk.specs.LaneViews.{sends}
 use Rattle.qs_chunk.specs.declared.parcel.Parcel.{Parcel}
 use Rattle.qs_handler.specs.Handler.{Handler, free, serves, spares, gives, away, closed, accept_next, accept_parcel, gave}
@@ -29,12 +29,13 @@ use Rattle.qs_protocol.proofs.ObjectViews.{HandlerLog}
 use Rattle.qs_protocol.proofs.ActObjects.{not_send, not_await, not_need, reserve_at}
 use Rattle.qs_played.specs.JournalRooms.{fresh_held}
 use Rattle.qs_chunk.specs.Limits.{lane_room, spare_room}
-use Rattle.qs_core_laws.specs.Core.{Core, AreCodes, blocks, client_step, core_begin, core_step, gets, gives_chunk, after_handler, handler_step, handles, lies, put_lane, reserves_from, settings_of, after_act, syncs_after, takes_chunk, takes_parcel, takes_ticket, tree_of, with_down, with_spare, with_tickets, with_up}
+use Rattle.qs_core_laws.specs.Core.{Core, client_step, core_begin, core_step, gets, gives_chunk, after_handler, handler_step, handles, lies, put_lane, reserves_from, settings_of, after_act, syncs_after, takes_chunk, takes_parcel, takes_ticket, with_down, with_spare, with_tickets, with_up}
+use Rattle.qs_client.specs.ClientModel.{synced_block}
 use Rattle.qs_core_laws.specs.CoreSchedule.{core_plays}
 use Rattle.qs_played.specs.Schedule.{or_stay}
 use Rattle.qs_core_laws.proofs.CoreInvariant.{LaneHistory, CoreInvariant}
 use Rattle.qs_protocol.proofs.ReservedLists.{lined}
-use Rattle.qs_core_laws.proofs.CoreCodes.{blocks_are, reserved_is, block_walk}
+use Rattle.qs_protocol.proofs.ProgramTrees.{blocks_are, reserved_is, block_walk}
 use Rattle.qs_core_laws.proofs.HandlerSteps.{some_is, take_kept, serves_kept, away_kept, give_kept, spare_kept}
 use Rattle.qs_core_laws.proofs.SendingPreserved.{send_kept, get_kept, chunk_kept}
 use Rattle.qs_core_laws.proofs.BookingPreserved.{reserve_kept}
@@ -60,7 +61,7 @@ module _ (program : ProgramShape) (sound : IsSound program) (mode : Mode) (code 
 
     -- what the client does next
     abbrev pub next_of : ℕ → Act
-    next_of c = act_of (settings_of code size c) (blocks code size c) (s.client c)
+    next_of c = act_of (settings_of code size c) (blocks_in code c) (s.client c)
 
     pub begun_by : (c : ℕ) (act : Act) → next_of c ≡ act → ((l : Locals) → (s.client c).stage ≡ between l → next_of c ≡ act → ⊥) → (s.client c).begun ≡ suc ((s.client c).begun - 1)
     begun_by c act e non = positive (s.client c).begun (λ z. non zeros (k.idle c z).0 e)
@@ -71,43 +72,43 @@ module _ (program : ProgramShape) (sound : IsSound program) (mode : Mode) (code 
     send_does : (c h : ℕ) (parcel : Parcel) (s' : Core) → next_of c ≡ Send h parcel → core.sends code size s c h parcel ≡ Some s' → HasInvariant s'
     send_does c h parcel s' act e =
         one_of (nat_lt (length (s.down c h)) lane_room) _ s' e
-        (subst (λ names. HasInvariant (after_act code size (lies code size s c h parcel) c (now c) (after_parcel (settings_of code size c) (now c) names (s.client c) h parcel))) (sym (reserved_is program sound mode code codes size (now c)))
-        (send_kept program (lined program sound) (settings_of code size c) (blocks code size c) s y g k c ((s.client c).begun - 1) h parcel (syncs_after code size s.syncs c parcel)
+        (subst (λ names. HasInvariant (after_act code size (lies code size s c h parcel) c (now c) (after_parcel (settings_of code size c) (now c) names (s.client c) h parcel))) (sym (reserved_is program sound mode code codes (now c)))
+        (send_kept program (lined program sound) (settings_of code size c) (blocks_in code c) s y g k c ((s.client c).begun - 1) h parcel (syncs_after code size s.syncs c parcel)
         (core.sync_counts_after code size s.sync_counts (now c) h parcel)
-        (begun_by c (Send h parcel) act (λ l i a. not_send (settings_of code size c) (blocks code size c) (s.client c) l h parcel i a)) act))
+        (begun_by c (Send h parcel) act (λ l i a. not_send (settings_of code size c) (blocks_in code c) (s.client c) l h parcel i a)) act))
 
     get_does : (c h : ℕ) (o : Option HeldState) (s' : Core) → s.up c h ≡ o → next_of c ≡ Await h → gets code size s c h o ≡ Some s' → HasInvariant s'
     get_does c h None s' up act e = absurd (cc)
     get_does c h (Some x) s' up act e =
         subst HasInvariant (some_is _ s' e)
-        (subst (λ names. HasInvariant (after_act code size (with_up code size s c h None) c (now c) (take_object (settings_of code size c) (now c) names (s.client c) x (s.client c).stage))) (sym (reserved_is program sound mode code codes size (now c)))
-        (get_kept program (lined program sound) (settings_of code size c) (blocks code size c) s y g k c ((s.client c).begun - 1) h x
-        (begun_by c (Await h) act (λ l i a. not_await (settings_of code size c) (blocks code size c) (s.client c) l h i a)) act up))
+        (subst (λ names. HasInvariant (after_act code size (with_up code size s c h None) c (now c) (take_object (settings_of code size c) (now c) names (s.client c) x (s.client c).stage))) (sym (reserved_is program sound mode code codes (now c)))
+        (get_kept program (lined program sound) (settings_of code size c) (blocks_in code c) s y g k c ((s.client c).begun - 1) h x
+        (begun_by c (Await h) act (λ l i a. not_await (settings_of code size c) (blocks_in code c) (s.client c) l h i a)) act up))
 
     chunk_does : (c h n : ℕ) (s' : Core) → next_of c ≡ NeedChunk h → takes_chunk code size s c h n ≡ Some s' → HasInvariant s'
     chunk_does c h zero s' act e = absurd (cc)
     chunk_does c h (suc n) s' act e =
         subst HasInvariant (some_is _ s' e)
-        (subst (λ names. HasInvariant (after_act code size (with_spare code size s c h n) c (now c) (take_chunk (settings_of code size c) (now c) names (s.client c) h (s.client c).stage))) (sym (reserved_is program sound mode code codes size (now c)))
-        (chunk_kept program (lined program sound) (settings_of code size c) (blocks code size c) s y g k c ((s.client c).begun - 1) h (put_lane s.spare c h n)
-        (begun_by c (NeedChunk h) act (λ l i a. not_need (settings_of code size c) (blocks code size c) (s.client c) l h i a)) act))
+        (subst (λ names. HasInvariant (after_act code size (with_spare code size s c h n) c (now c) (take_chunk (settings_of code size c) (now c) names (s.client c) h (s.client c).stage))) (sym (reserved_is program sound mode code codes (now c)))
+        (chunk_kept program (lined program sound) (settings_of code size c) (blocks_in code c) s y g k c ((s.client c).begun - 1) h (put_lane s.spare c h n)
+        (begun_by c (NeedChunk h) act (λ l i a. not_need (settings_of code size c) (blocks_in code c) (s.client c) l h i a)) act))
 
     pub is_between : (c n : ℕ) → (s.client c).begun ≡ n → next_of c ≡ Reserve → (l : Locals) × ((s.client c).stage ≡ between l)
     is_between c zero b act = (zeros, (k.idle c b).0)
     is_between c (suc n) b act =
-        reserve_at program (ticket c n) (y.sent (ticket c n)) (y.got (ticket c n)) (settings_of code size c) (blocks code size c) (s.client c) (y.page (ticket c n)) (s.client c).stage (k.places c n b) act
+        reserve_at program (ticket c n) (y.sent (ticket c n)) (y.got (ticket c n)) (settings_of code size c) (blocks_in code c) (s.client c) (y.block_record (ticket c n)) (s.client c).stage (k.places c n b) act
 
     pub has_more : (c : ℕ) (l : Locals) → (s.client c).stage ≡ between l → next_of c ≡ Reserve → (s.client c).begun < blocks_of program c
     has_more c l at act =
-        let b = reserves_more (nat_lt (s.client c).begun (blocks code size c)) (sym (ap (act_at (settings_of code size c) (blocks code size c) (s.client c)) at) ∙ act) in
-        let long = blocks_are program sound mode code codes size c in
-        let less : (s.client c).begun < blocks code size c = grind (arith, b) in
+        let b = reserves_more (nat_lt (s.client c).begun (blocks_in code c)) (sym (ap (act_at (settings_of code size c) (blocks_in code c) (s.client c)) at) ∙ act) in
+        let long = blocks_are program sound mode code codes c in
+        let less : (s.client c).begun < blocks_in code c = grind (arith, b) in
         omega (arith, less, long)
 
     -- the machine's own reservation, by the list that the program's text has
     abbrev booked_core : ℕ → Ticket → Locals → List ℕ → Core
     booked_core c t l names =
-        let r : Settlement = begin (settings_of code size c) t names (s.client c) (tree_of code size t l) in
+        let r : Settlement = begin (settings_of code size c) t names (s.client c) (synced_block code t l) in
         record {
           order = s.order ++ t ∷ [];
           client = put s.client c r.client;
@@ -127,10 +128,10 @@ module _ (program : ProgramShape) (sound : IsSound program) (mode : Mode) (code 
         let at = is_between c (s.client c).begun refl act in
         let t : Ticket = ticket c (s.client c).begun in
         let some = has_more c at.0 at.1 act in
-        let w = block_walk program sound mode code codes size t at.0 some in
+        let w = block_walk program sound mode code codes t at.0 some in
         subst HasInvariant (some_is _ s' (sym (ap (reserves_from code size s c) at.1) ∙ e))
-        (subst (λ names. HasInvariant (booked_core c t at.0 names)) (sym (reserved_is program sound mode code codes size t))
-        (reserve_kept program (blocks_ask_only program sound) (lined program sound) s y g k (settings_of code size c) c (s.client c).begun refl some at.0 at.1 (tree_of code size t at.0) w.0 w.1 w.2))
+        (subst (λ names. HasInvariant (booked_core c t at.0 names)) (sym (reserved_is program sound mode code codes t))
+        (reserve_kept program (blocks_ask_only program sound) (lined program sound) s y g k (settings_of code size c) c (s.client c).begun refl some at.0 at.1 (synced_block code t at.0) w.0 w.1 w.2))
 
     client_does : (c : ℕ) (act : Act) (s' : Core) → next_of c ≡ act → client_step code size s c act ≡ Some s' → HasInvariant s'
     client_does c Reserve s' act e = reserve_does c s' act e
@@ -199,7 +200,7 @@ module _ (program : ProgramShape) (sound : IsSound program) (mode : Mode) (code 
   pub begin_kept : HasInvariant (core_begin program)
   begin_kept = (
     record {
-      page = λ t. record { entry = []; trace = []; rest = block_tree program (ticket 0 0) [] };
+      block_record = λ t. record { entry = []; trace = []; rest = block_tree program (ticket 0 0) [] };
       sent = λ t h. [];
       got = λ t h. [];
       stands = λ t h. sends [];

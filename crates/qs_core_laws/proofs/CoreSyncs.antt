@@ -13,25 +13,24 @@ use Rattle.qs_meaning.specs.Following.{Leads, block_tree}
 use Rattle.qs_program.specs.Program.{ProgramShape, blocks_of}
 use Rattle.qs_program.specs.Sound.{IsSound}
 use Rattle.qs_syncset.specs.declared.mode.Mode.{Mode}
-use Rattle.qs_syncset.specs.Codes.{ClientCode}
+use Rattle.qs_syncset.specs.Codes.{ClientCode, AreCodes, reserved_of}
 use Rattle.qs_syncset.specs.SyncCounts.{syncs_along}
 use Rattle.qs_sync_counts.specs.SyncRows.{object_of, syncs_for, syncs_of}
 use Rattle.qs_client_rules.specs.Client.{Client, ClientStage, between, runs, full, awaits, leaves}
-use Rattle.qs_client.specs.ClientModel.{is_between, has_ended}
+use Rattle.qs_client.specs.ClientModel.{is_between, has_ended, synced_block}
 use Rattle.qs_played.specs.Isolation.{ended_of, entry_of, ticket_at, trace_of}
-use Rattle.qs_played.specs.Played.{ticket}
+use Rattle.qs_played.specs.Played.{ticket, Played}
 use Rattle.qs_played.specs.SyncSums.{AreSent, AreSyncsCounted, IsCounted, counts_at, syncs_at}
-use Rattle.qs_played.specs.Played.{Played}
 use Rattle.qs_played.proofs.ReservedObjects.{listed_inside}
 use Rattle.qs_played.proofs.SyncLists.{legal_blocks, sum_inside, sum_of, total_of}
 use Rattle.qs_played.proofs.SyncTallies.{sent_of, total_for}
 use Rattle.qs_protocol.proofs.ClientCounts.{CountAt, even_now}
 use Rattle.qs_protocol.proofs.ClientInvariants.{holding}
 use Rattle.qs_protocol.proofs.ObjectViews.{HandlerLog}
-use Rattle.qs_core_laws.specs.Core.{AreCodes, Core, core_begin, reserved_of, settings_of, tree_of}
+use Rattle.qs_core_laws.specs.Core.{Core, core_begin, settings_of}
 use Rattle.qs_core_laws.specs.CoreSchedule.{core_played, core_plays}
 use Rattle.qs_core_laws.specs.CoreSyncSums.{CoreSyncsAreCounted}
-use Rattle.qs_core_laws.proofs.CountedTraces.{sent_as, trace_counted, tree_count}
+use Rattle.qs_protocol.proofs.CountedTraces.{sent_as, trace_counted, tree_count}
 use Rattle.qs_core_laws.proofs.CoreCounting.{AreTold, CountedBy, run_counted}
 use Rattle.qs_core_laws.proofs.CoreInvariant.{LaneHistory, CoreInvariant, TicketOk}
 
@@ -41,7 +40,7 @@ module _ (program : ProgramShape) (sound : IsSound program) (mode : Mode) (code 
     (told : AreTold program sound mode code codes size n s.sync_counts) where
   -- what a block's tree says of a trace so far
   abbrev by_tree : Ticket → ℕ → ℕ
-  by_tree t h = syncs_along (code t.client).dynamic h false (tree_of code size t (s.entry t)) (s.trace t)
+  by_tree t h = syncs_along (code t.client).dynamic h false (synced_block code t (s.entry t)) (s.trace t)
 
   -- the block that a client is in, or was in last
   newest_sent : (t : Ticket) → (s.client t.client).begun ≡ suc t.index → AreSent (has_ended (s.client t.client) t.index) (n t) (by_tree t)
@@ -59,13 +58,13 @@ module _ (program : ProgramShape) (sound : IsSound program) (mode : Mode) (code 
           both true z e = e
           both false z e = refl
 
-      by_place : (pl : ClientStage) → m.stage ≡ pl → CountAt (settings_of code size t.client) t (reserved_of code size t) (tree_of code size t (s.entry t))
+      by_place : (pl : ClientStage) → m.stage ≡ pl → CountAt (settings_of code size t.client) t (reserved_of code t) (synced_block code t (s.entry t))
           (s.trace t) (n t) m pl
           → AreSent (has_ended m t.index) (n t) (by_tree t)
       by_place (between l) at k = inl k
-      by_place (runs tree) at k = inl (even_now (settings_of code size t.client) t (reserved_of code size t) (tree_of code size t (s.entry t)) (s.trace t)
+      by_place (runs tree) at k = inl (even_now (settings_of code size t.client) t (reserved_of code t) (synced_block code t (s.entry t)) (s.trace t)
           (n t) (holding m) tree k.0)
-      by_place (full h tree) at k = inl (even_now (settings_of code size t.client) t (reserved_of code size t) (tree_of code size t (s.entry t)) (s.trace t)
+      by_place (full h tree) at k = inl (even_now (settings_of code size t.client) t (reserved_of code t) (synced_block code t (s.entry t)) (s.trace t)
           (n t) (holding m) tree k.0)
       by_place (awaits h tree) at k = inr (open_yet (awaits h tree) at refl, h, k.now)
       by_place (leaves h hs l) at k = inl k
@@ -110,21 +109,21 @@ module _ (program : ProgramShape) (sound : IsSound program) (mode : Mode) (code 
     numbers : (h : ℕ) → syncs_at r i h ≡ n t h
     numbers h = ap (λ xs. syncs_for xs h) counts_are ∙ (told t).numbers h
 
-    leads : Leads (block_tree program t (entry_of r i)) (trace_of r i) (y.page t).rest
-    leads = subst (λ l. Leads (block_tree program t l) (trace_of r i) (y.page t).rest) (kept.entry t ∙ sym entry_is)
-        (subst (λ es. Leads (block_tree program t (y.page t).entry) es (y.page t).rest) (kept.trace t ∙ sym trace_is) ok.page.path)
+    leads : Leads (block_tree program t (entry_of r i)) (trace_of r i) (y.block_record t).rest
+    leads = subst (λ l. Leads (block_tree program t l) (trace_of r i) (y.block_record t).rest) (kept.entry t ∙ sym entry_is)
+        (subst (λ es. Leads (block_tree program t (y.block_record t).entry) es (y.block_record t).rest) (kept.trace t ∙ sym trace_is) ok.block_record.path)
 
-    tree_is : (h : ℕ) → by_tree t h ≡ tree_count program sound mode code codes size r i h
-    tree_is h = sym (ap₂ (λ l es. syncs_along (code t.client).dynamic h false (tree_of code size t l) es) entry_is trace_is)
+    tree_is : (h : ℕ) → by_tree t h ≡ tree_count program sound mode code codes r i h
+    tree_is h = sym (ap₂ (λ l es. syncs_along (code t.client).dynamic h false (synced_block code t l) es) entry_is trace_is)
 
-    counts_sent : AreSent (ended_of r i) (syncs_at r i) (tree_count program sound mode code codes size r i)
-    counts_sent = sent_of (ended_of r i) (n t) (syncs_at r i) (tree_count program sound mode code codes size r i) (λ h. sym (numbers h))
-        (sent_as (ended_of r i) (n t) (by_tree t) (tree_count program sound mode code codes size r i) tree_is
+    counts_sent : AreSent (ended_of r i) (syncs_at r i) (tree_count program sound mode code codes r i)
+    counts_sent = sent_of (ended_of r i) (n t) (syncs_at r i) (tree_count program sound mode code codes r i) (λ h. sym (numbers h))
+        (sent_as (ended_of r i) (n t) (by_tree t) (tree_count program sound mode code codes r i) tree_is
         (subst (λ b. AreSent b (n t) (by_tree t)) (sym ended_is) (ticket_sent t below)))
 
     keeps_counted : IsCounted program mode r i
     keeps_counted =
-        trace_counted program sound mode code codes size r i own_block (y.page t).rest leads counts_sent (ap (map object_of) counts_are ∙ (told t).objects)
+        trace_counted program sound mode code codes r i own_block (y.block_record t).rest leads counts_sent (ap (map object_of) counts_are ∙ (told t).objects)
 
   -- all counts together
   all_syncs : (ts : List Ticket) → sum_by syncs_of (map s.sync_counts ts) ≡ total_of program n ts

@@ -5,8 +5,7 @@
 use Rattle.std.proofs.Common.{◌≡◌, ◌+◌, ◌≤◌, arith, ℕ, suc, Bool, true, false, true≢false, if◌then◌else◌, List, [], ◌∷◌, ◌++◌, map, filter, length, refl, sym, ap, ◌∙◌, subst, inl, inr, append_assoc, append-nil, None}
 use Rattle.std.specs.List.{AllByRecursion}
 use Rattle.std.proofs.lemmas.List.{length-append, length-map, map-append}
-use Rattle.qs_objects.specs.Act.{act}
-use Rattle.qs_objects.specs.Journals.{HeldState, after, answer, has_room, with_entry, replay, unstamp, without_tickets, IsHonest}
+use Rattle.qs_objects.specs.Journals.{HeldState, replay, unstamp, without_tickets, IsHonest}
 use Rattle.qs_objects.specs.Laws.{IsCommand}
 use Rattle.qs_objects.specs.Parts.{command_event, stamp}
 use Rattle.qs_objects.specs.declared.held.Entry.{Entry}
@@ -14,7 +13,6 @@ use Rattle.qs_objects.specs.declared.held.Event.{Event}
 use Rattle.qs_objects.specs.declared.held.Ticket.{Ticket}
 use Rattle.qs_objects.specs.declared.Request.{Request}
 use Rattle.qs_objects.proofs.ObjectLaws.{command_is}
-use Rattle.qs_objects.proofs.Replays.{replay-append, IsHonest-append}
 use Rattle.qs_meaning.specs.Following.{reserves, block_tree}
 use Rattle.qs_program.specs.Program.{ProgramShape, text_of}
 use Rattle.qs_program.specs.Sound.{IsSound}
@@ -28,6 +26,7 @@ use Rattle.qs_played.specs.JournalRooms.{fresh_held, room_of}
 use Rattle.qs_played.proofs.JournalRooms.{all_left, cost, leads_within, order_fits, total, total_less}
 use Rattle.qs_protocol.proofs.LaneWholes.{chunk_of, match_over, match_whole, waits_are}
 use Rattle.qs_protocol.proofs.ObjectViews.{stance, as_list, HandlerLog, PastOf, ahead}
+use Rattle.qs_protocol.proofs.GrownJournals.{grown, grown_room, stamped_honest, stamped_replay}
 use Rattle.qs_core_laws.specs.Core.{Core}
 use Rattle.qs_core_laws.specs.CoreSchedule.{on_way}
 use Rattle.qs_core_laws.proofs.CoreInvariant.{LaneHistory, post, TicketOk, CoreInvariant}
@@ -36,62 +35,6 @@ use Rattle.qs_core_laws.proofs.CommandsInTransit.{IsMine, IsLater, later, mine_a
 
 pub no_queries : (rs : List Request) → AllCommands rs → AllByRecursion NoQuery rs
 no_queries rs c = each_map {Q = NoQuery} (λ (r : Request) (k : IsCommand r.op). command_is r.op k) rs c
-
--- y is x after these events under this ticket, where the journal has room for them
-pub record Grown (t : Ticket) (x : HeldState) (es : List Event) (y : HeldState) : Type 0 where
-  pub honest : IsHonest x.object es
-  pub state : y.object ≡ replay x.object es
-  pub journal : y.journal ≡ x.journal ++ map (stamp t) es
-  pub room : y.room ≡ x.room
-
--- the entry of a request that is run, and the object after it
-abbrev answered : Ticket → HeldState → Request → Entry
-answered t x r = record { ticket = t; request = r; reply = answer x.object r }
-
-abbrev once_run : Ticket → HeldState → Request → HeldState
-once_run t x r = record { object = after x.object r; journal = x.journal ++ answered t x r ∷ []; room = x.room }
-
-pub grown : (t : Ticket) (x : HeldState) (es : List Event) (y : HeldState) → Extends t x es y → length x.journal + length es ≤ x.room → Grown t x es y
-grown t x [] y k le = record {
-  honest = tt;
-  state = ap (λ (o : HeldState). o.object) (sym k);
-  journal = ap (λ (o : HeldState). o.journal) (sym k) ∙ sym (append-nil x.journal);
-  room = ap (λ (o : HeldState). o.room) (sym k);
-}
-grown t x (e ∷ es) y k le = by_case (has_room x) refl (λ x k le. grown t x es y k le) k
-  where
-    by_case : (b : Bool) → has_room x ≡ b → ((x : HeldState) → Extends t x es y → length x.journal + length es ≤ x.room → Grown t x es y)
-        → (e.reply ≡ (if b then with_entry x t e.request (act x.object e.request.op e.request.args) else (x, None)).1)
-        × Extends t (if b then with_entry x t e.request (act x.object e.request.op e.request.args) else (x, None)).0 es y
-        → Grown t x (e ∷ es) y
-    by_case false h ih k = absurd (let le' : length x.journal + suc (length es) ≤ x.room = le in let full : x.room ≤ length x.journal = grind (arith, h) in omega (arith, le', full))
-    by_case true h ih k =
-        let more : length (x.journal ++ answered t x e.request ∷ []) ≡ length x.journal + 1 = length-append x.journal (answered t x e.request ∷ []) in
-        let m = ih (once_run t x e.request) k.1 (omega (arith, le, more)) in
-        record {
-          honest = (k.0, m.honest);
-          state = m.state;
-          journal = m.journal ∙ (append_assoc x.journal (answered t x e.request ∷ []) (map (stamp t) es)
-              ∙ ap (λ v. x.journal ++ (record { ticket = t; request = e.request; reply = v } ∷ map (stamp t) es)) (sym k.0));
-          room = m.room;
-        }
-
--- an honest journal after these events
-pub stamped_honest : (t : Ticket) (x z : HeldState) (es : List Event) (j : List Entry) → Grown t x es z → IsHonest z.object (without_tickets j) → IsHonest x.object (without_tickets (map (stamp t) es ++ j))
-stamped_honest t x z es j e k =
-    let is : without_tickets (map (stamp t) es ++ j) ≡ es ++ without_tickets j = map-append unstamp (map (stamp t) es) j ∙ ap (λ es. es ++ without_tickets j) (unstamp_all t es) in
-    subst (IsHonest x.object) (sym is) (IsHonest-append x.object es (without_tickets j) e.honest (subst (λ s. IsHonest s (without_tickets j)) e.state k))
-
-pub stamped_replay : (t : Ticket) (x z : HeldState) (es : List Event) (j : List Entry) → Grown t x es z → replay x.object (without_tickets (map (stamp t) es ++ j)) ≡ replay z.object (without_tickets j)
-stamped_replay t x z es j e =
-    let is : without_tickets (map (stamp t) es ++ j) ≡ es ++ without_tickets j = map-append unstamp (map (stamp t) es) j ∙ ap (λ es. es ++ without_tickets j) (unstamp_all t es) in
-    ap (replay x.object) is ∙ (replay-append x.object es (without_tickets j) ∙ ap (λ s. replay s (without_tickets j)) (sym e.state))
-
-pub grown_room : (t : Ticket) (x z : HeldState) (es : List Event) (n : ℕ) → Grown t x es z → length x.journal + (length es + n) ≤ x.room → length z.journal + n ≤ z.room
-grown_room t x z es n e le =
-    let a : length z.journal ≡ length x.journal + length es = ap length e.journal ∙ (length-append x.journal (map (stamp t) es) ∙ ap (λ m. length x.journal + m) (length-map es (stamp t))) in
-    let b = e.room in
-    omega (arith, a, b, le)
 
 -- of the first ticket that is to be served: what was run, from the object that it found, and the commands that wait
 pub record FirstPart (t : Ticket) (found : HeldState) (es : List Event) (ws : List Request) (now : HeldState) : Type 0 where
@@ -102,7 +45,7 @@ pub record FirstPart (t : Ticket) (found : HeldState) (es : List Event) (ws : Li
 
 module _ (program : ProgramShape) (sound : IsSound program) (s : Core) (y : LaneHistory) (g : ℕ → HandlerLog) (k : CoreInvariant program s y g) (h : ℕ) where
   abbrev parts : Ticket → List Event
-  parts = parts_of y.page h
+  parts = parts_of y.block_record h
 
   abbrev waits : Ticket → List Request
   waits = on_way s h
@@ -114,7 +57,7 @@ module _ (program : ProgramShape) (sound : IsSound program) (s : Core) (y : Lane
   now = object_now y h (s.handler h) (g h).lent (g h).way
 
   abbrev pub line_of : ObjectCourse
-  line_of = record { may = λ t. reserves program t h; parts = parts; done = done_of y.page; waits = waits; busy = Busy; present = now.object }
+  line_of = record { may = λ t. reserves program t h; parts = parts; done = done_of y.block_record; waits = waits; busy = Busy; present = now.object }
 
   -- the tickets that are to be served
   abbrev Tail : List Ticket → HeldState → Type 0
@@ -290,7 +233,7 @@ module _ (program : ProgramShape) (sound : IsSound program) (s : Core) (y : Lane
           (ih past q z more (p.0.4, p.1.1, p.2.1) tail)
 
   within_load : (t : Ticket) → TicketOk program y t → length (parts t) ≤ cost program h t
-  within_load t told = leads_within h (block_tree program t (y.page t).entry) (y.page t).trace (y.page t).rest (cost program h t) told.page.path (requests_within (text_of program t).body (y.page t).entry h)
+  within_load t told = leads_within h (block_tree program t (y.block_record t).entry) (y.block_record t).trace (y.block_record t).rest (cost program h t) told.block_record.path (requests_within (text_of program t).body (y.block_record t).entry h)
 
   -- the room of the journal is never used up
   pub parts_fit : size_of s.order ≤ room_of program h

@@ -1,4 +1,4 @@
--- Where the page and the lanes of one ticket are replaced in a history of lanes, what has to hold of each ticket
+-- Where the block_record and the lanes of one ticket are replaced in a history of lanes, what has to hold of each ticket
 -- (`TicketOk`) holds of that one, and still of every other. The lemmas on a client's act and on a reservation use this
 -- for the client's last ticket. A ticket is either this one or stays as it was; none begins with what this one left, as
 -- it is its client's last.
@@ -27,39 +27,39 @@ none_after begun t last d j low i next is =
 
 module _ (program : ProgramShape) (y : LaneHistory) (t : Ticket) (pg : BlockRecord) (snt : ℕ → List Parcel) (got : ℕ → List HeldState) (stood : ℕ → ObjectStance) where
   abbrev pub story_at : LaneHistory
-  story_at = record { page = put_at y.page t pg; sent = put_at y.sent t snt; got = put_at y.got t got; stands = put_at y.stands t stood }
+  story_at = record { block_record = put_at y.block_record t pg; sent = put_at y.sent t snt; got = put_at y.got t got; stands = put_at y.stands t stood }
 
-  pub old_page : (u : Ticket) → same t u ≡ false → story_at.page u ≡ y.page u
-  old_page u n = put_at_there y.page t pg u n
+  pub old_record : (u : Ticket) → same t u ≡ false → story_at.block_record u ≡ y.block_record u
+  old_record u n = put_at_there y.block_record t pg u n
 
   -- what a block begins with stays, where the ticket isn't the one before it
-  pub begins_kept : (d j : ℕ) (a b : Locals) → a ≡ b → ((i : ℕ) → j ≡ suc i → t ≡ ticket d i → ⊥) → Begins y.page d j a → Begins story_at.page d j b
+  pub begins_kept : (d j : ℕ) (a b : Locals) → a ≡ b → ((i : ℕ) → j ≡ suc i → t ≡ ticket d i → ⊥) → Begins y.block_record d j a → Begins story_at.block_record d j b
   begins_kept d zero a b e apart h = sym e ∙ h
   begins_kept d (suc i) a b e apart h =
       ⊎_elim
       (λ (is : t ≡ ticket d i). absurd (apart i refl is))
-      (λ (other : same t (ticket d i) ≡ false). ap (λ (p : BlockRecord). p.rest) (old_page (ticket d i) other) ∙ (h ∙ ap tree.Done e))
+      (λ (other : same t (ticket d i) ≡ false). ap (λ (p : BlockRecord). p.rest) (old_record (ticket d i) other) ∙ (h ∙ ap tree.Done e))
       (ticket_cases t (ticket d i))
 
-  pub told_here : IsOpenRecord program t pg → Begins story_at.page t.client t.index pg.entry → ((h : ℕ) → ClientLane t false (snt h) (got h) (part h pg.trace) (stood h)) → ((h : ℕ) → stood h ≡ gone → IsDone pg.rest)
+  pub told_here : IsOpenRecord program t pg → Begins story_at.block_record t.client t.index pg.entry → ((h : ℕ) → ClientLane t false (snt h) (got h) (part h pg.trace) (stood h)) → ((h : ℕ) → stood h ≡ gone → IsDone pg.rest)
       → TicketOk program story_at t
-  told_here page begins lanes over = record {
-    page = subst (IsOpenRecord program t) (sym (put_at_here y.page t pg)) page;
-    begins = subst (λ (p : BlockRecord). Begins story_at.page t.client t.index p.entry) (sym (put_at_here y.page t pg)) begins;
-    lane = λ h. subst (λ (p : BlockRecord). ClientLane t false (story_at.sent t h) (story_at.got t h) (part h p.trace) (story_at.stands t h)) (sym (put_at_here y.page t pg))
+  told_here block_record begins lanes over = record {
+    block_record = subst (IsOpenRecord program t) (sym (put_at_here y.block_record t pg)) block_record;
+    begins = subst (λ (p : BlockRecord). Begins story_at.block_record t.client t.index p.entry) (sym (put_at_here y.block_record t pg)) begins;
+    lane = λ h. subst (λ (p : BlockRecord). ClientLane t false (story_at.sent t h) (story_at.got t h) (part h p.trace) (story_at.stands t h)) (sym (put_at_here y.block_record t pg))
         (subst (λ (f : ℕ → List Parcel). ClientLane t false (f h) (story_at.got t h) (part h pg.trace) (story_at.stands t h)) (sym (put_at_here y.sent t snt))
         (subst (λ (f : ℕ → List HeldState). ClientLane t false (snt h) (f h) (part h pg.trace) (story_at.stands t h)) (sym (put_at_here y.got t got))
         (subst (λ (f : ℕ → ObjectStance). ClientLane t false (snt h) (got h) (part h pg.trace) (f h)) (sym (put_at_here y.stands t stood)) (lanes h))));
-    gone = λ h e. subst (λ (p : BlockRecord). IsDone p.rest) (sym (put_at_here y.page t pg)) (over h (ap (λ (f : ℕ → ObjectStance). f h) (sym (put_at_here y.stands t stood)) ∙ e));
+    gone = λ h e. subst (λ (p : BlockRecord). IsDone p.rest) (sym (put_at_here y.block_record t pg)) (over h (ap (λ (f : ℕ → ObjectStance). f h) (sym (put_at_here y.stands t stood)) ∙ e));
   }
 
   pub told_there : (u : Ticket) → same t u ≡ false → ((i : ℕ) → u.index ≡ suc i → t ≡ ticket u.client i → ⊥) → TicketOk program y u → TicketOk program story_at u
   told_there u n apart old = record {
-    page = subst (IsOpenRecord program u) (sym (old_page u n)) old.page;
-    begins = begins_kept u.client u.index (y.page u).entry (story_at.page u).entry (sym (ap (λ (p : BlockRecord). p.entry) (old_page u n))) apart old.begins;
-    lane = λ h. subst (λ (p : BlockRecord). ClientLane u false (story_at.sent u h) (story_at.got u h) (part h p.trace) (story_at.stands u h)) (sym (old_page u n))
-        (subst (λ (f : ℕ → List Parcel). ClientLane u false (f h) (story_at.got u h) (part h (y.page u).trace) (story_at.stands u h)) (sym (put_at_there y.sent t snt u n))
-        (subst (λ (f : ℕ → List HeldState). ClientLane u false (y.sent u h) (f h) (part h (y.page u).trace) (story_at.stands u h)) (sym (put_at_there y.got t got u n))
-        (subst (λ (f : ℕ → ObjectStance). ClientLane u false (y.sent u h) (y.got u h) (part h (y.page u).trace) (f h)) (sym (put_at_there y.stands t stood u n)) (old.lane h))));
-    gone = λ h e. subst (λ (p : BlockRecord). IsDone p.rest) (sym (old_page u n)) (old.gone h (ap (λ (f : ℕ → ObjectStance). f h) (sym (put_at_there y.stands t stood u n)) ∙ e));
+    block_record = subst (IsOpenRecord program u) (sym (old_record u n)) old.block_record;
+    begins = begins_kept u.client u.index (y.block_record u).entry (story_at.block_record u).entry (sym (ap (λ (p : BlockRecord). p.entry) (old_record u n))) apart old.begins;
+    lane = λ h. subst (λ (p : BlockRecord). ClientLane u false (story_at.sent u h) (story_at.got u h) (part h p.trace) (story_at.stands u h)) (sym (old_record u n))
+        (subst (λ (f : ℕ → List Parcel). ClientLane u false (f h) (story_at.got u h) (part h (y.block_record u).trace) (story_at.stands u h)) (sym (put_at_there y.sent t snt u n))
+        (subst (λ (f : ℕ → List HeldState). ClientLane u false (y.sent u h) (f h) (part h (y.block_record u).trace) (story_at.stands u h)) (sym (put_at_there y.got t got u n))
+        (subst (λ (f : ℕ → ObjectStance). ClientLane u false (y.sent u h) (y.got u h) (part h (y.block_record u).trace) (f h)) (sym (put_at_there y.stands t stood u n)) (old.lane h))));
+    gone = λ h e. subst (λ (p : BlockRecord). IsDone p.rest) (sym (old_record u n)) (old.gone h (ap (λ (f : ℕ → ObjectStance). f h) (sym (put_at_there y.stands t stood u n)) ∙ e));
   }

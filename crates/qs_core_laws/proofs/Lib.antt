@@ -1,10 +1,8 @@
 pub mod AloneCodes
 pub mod BookingPreserved
-pub mod BuiltCodes
 pub mod ProgramCodes
 pub mod ClientSteps
 pub mod CoreBounds
-pub mod CoreCodes
 pub mod CoreCounting
 pub mod JournalOrder
 pub mod CoreIsolating
@@ -13,7 +11,6 @@ pub mod CoreObjects
 pub mod CoreReached
 pub mod CoreSteps
 pub mod CoreSyncs
-pub mod CountedTraces
 pub mod CommandsInTransit
 pub mod HandlerSteps
 pub mod SendingPreserved

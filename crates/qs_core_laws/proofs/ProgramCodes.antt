@@ -4,10 +4,9 @@ use Rattle.std.proofs.Common.{◌≡◌, ◌∙◌, ℕ, zero, suc, ◌≤◌, a
 use Rattle.qs_program.specs.Program.{ProgramShape, blocks_of}
 use Rattle.qs_program.specs.Sound.{IsSound}
 use Rattle.qs_syncset.specs.declared.mode.Mode.{Mode}
-use Rattle.qs_syncset.specs.Codes.{BlockCode, ClientCode}
+use Rattle.qs_syncset.specs.Codes.{BlockCode, ClientCode, AreCodes}
 use Rattle.qs_syncset.proofs.ProgramCodes.{client_code, own_code}
 use Rattle.qs_played.proofs.JournalRooms.{no_block_beyond}
-use Rattle.qs_core_laws.specs.Core.{AreCodes}
 
 module _ (p : ProgramShape) (sound : IsSound p) (mode : Mode) where
   pub program_codes : (code : ℕ → ClientCode) × AreCodes p mode code

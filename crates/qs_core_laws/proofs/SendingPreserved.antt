@@ -93,7 +93,7 @@ module _ (program : ProgramShape) (lined : (t : Ticket) → Lined (reserves prog
   past_apart t h n =
       let told = each_front (TicketOk program y) (g h).past (ahead (post s h)) (subst (AllByRecursion (TicketOk program y)) (k.objects h).split (each_kept (TicketOk program y) (λ t. reserves program t h) s.order k.told)) in
       each_map (λ u (gone : y.stands u h ≡ gone). ⊎_elim (λ (is : t ≡ u). absurd (n (ap (λ u. y.stands u h) is ∙ gone))) (λ (other : same t u ≡ false). other) (ticket_cases t u)) (g h).past
-      (past_gone (λ u. y.sent u h) (λ u. y.got u h) (λ u. part h (y.page u).trace) (λ u. y.stands u h) (g h).past (fresh_held program h) (g h).found (k.objects h).served
+      (past_gone (λ u. y.sent u h) (λ u. y.got u h) (λ u. part h (y.block_record u).trace) (λ u. y.stands u h) (g h).past (fresh_held program h) (g h).found (k.objects h).served
       (each_map (λ u (told : TicketOk program y u). told.lane h) (g h).past told))
 
   -- the block that a client is in
@@ -117,7 +117,7 @@ module _ (program : ProgramShape) (lined : (t : Ticket) → Lined (reserves prog
       by_order u e le = ⊎_elim (λ (lt : u.index < n). inl lt) (λ (is : u.index ≡ n). inr (ticket_path e (sym is))) (below_cases u.index n le)
 
   module _ (c n : ℕ) (begun : (s.client c).begun ≡ suc n) (m : Client) (same_begun : m.begun ≡ (s.client c).begun) (events : List Event)
-      (snt : ℕ → List Parcel) (got : ℕ → List HeldState) (pg : BlockRecord) (entry : pg.entry ≡ (y.page (ticket c n)).entry) (trace : pg.trace ≡ (y.page (ticket c n)).trace ++ events)
+      (snt : ℕ → List Parcel) (got : ℕ → List HeldState) (pg : BlockRecord) (entry : pg.entry ≡ (y.block_record (ticket c n)).entry) (trace : pg.trace ≡ (y.block_record (ticket c n)).trace ++ events)
       (ok : PlaceOk program (ticket c n) snt got m pg m.stage) (out : (h : ℕ) → reserves program (ticket c n) h ≡ false → (snt h ≡ []) × (got h ≡ [])) where
     abbrev Y : LaneHistory
     Y = story program s y g k c n begun m same_begun events snt got pg entry trace ok out
@@ -166,9 +166,9 @@ module _ (program : ProgramShape) (lined : (t : Ticket) → Lined (reserves prog
       let m : Client = s.client c in
       let r : Settlement = after_parcel settings t (objects_of_block program t) m h p in
       let ok = k.places c n begun in
-      let at = send_at program t (y.sent t) (y.got t) settings blocks m (y.page t) m.stage ok h p act in
+      let at = send_at program t (y.sent t) (y.got t) settings blocks m (y.block_record t) m.stage ok h p act in
       let here = λ (e : y.stands t h ≡ gone). at.1 (sym (k.stands c n begun h) ∙ e) in
-      let ends = sends_ok program t (y.sent t) (y.got t) settings (lined t) blocks m (y.page t) h p ok act in
+      let ends = sends_ok program t (y.sent t) (y.got t) settings (lined t) blocks m (y.block_record t) h p ok act in
       let snt = put (y.sent t) h (y.sent t h ++ p ∷ []) in
       let new : HandlerLog = record (g h) { way = put_at (g h).way t ((g h).way t ++ p ∷ []) } in
       let out : (j : ℕ) → reserves program t j ≡ false → (put (y.sent t) h (y.sent t h ++ p ∷ []) j ≡ []) × (y.got t j ≡ []) = λ j no. (
@@ -199,9 +199,9 @@ module _ (program : ProgramShape) (lined : (t : Ticket) → Lined (reserves prog
       let m : Client = s.client c in
       let r : Settlement = clients.take_object settings t (objects_of_block program t) m x m.stage in
       let ok = k.places c n begun in
-      let at = await_at program t (y.sent t) (y.got t) settings blocks m (y.page t) m.stage ok h act in
+      let at = await_at program t (y.sent t) (y.got t) settings blocks m (y.block_record t) m.stage ok h act in
       let here = λ (e : y.stands t h ≡ gone). asks_gone (sym at.1 ∙ (sym (k.stands c n begun h) ∙ e)) in
-      let ends = gets_ok program t (y.sent t) (y.got t) settings (lined t) blocks m (y.page t) h x ok act in
+      let ends = gets_ok program t (y.sent t) (y.got t) settings (lined t) blocks m (y.block_record t) h x ok act in
       let got = put (y.got t) h (y.got t h ++ x ∷ []) in
       let out : (j : ℕ) → reserves program t j ≡ false → (y.sent t j ≡ []) × (put (y.got t) h (y.got t h ++ x ∷ []) j ≡ []) = λ j no. (
         (k.outside t j no).0,
@@ -249,7 +249,7 @@ module _ (program : ProgramShape) (lined : (t : Ticket) → Lined (reserves prog
       let m : Client = s.client c in
       let r : Settlement = take_chunk settings t (objects_of_block program t) m h m.stage in
       let ok = k.places c n begun in
-      let ends = chunks_ok program t (y.sent t) (y.got t) settings (lined t) blocks m (y.page t) h ok act in
+      let ends = chunks_ok program t (y.sent t) (y.got t) settings (lined t) blocks m (y.block_record t) h ok act in
       let out = λ (j : ℕ) (no : reserves program t j ≡ false). k.outside t j no in (
         story program s y g k c n begun r.client (chunk_begun settings t (objects_of_block program t) m h m.stage) r.events (y.sent t) (y.got t) ends.0 ends.1 ends.2 ends.3 out,
         g,

@@ -10,13 +10,12 @@ use Rattle.qs_graph.specs.Graphs.{block_graph}
 use Rattle.qs_graph.specs.Nodes.{GraphNode}
 use Rattle.qs_syncset.specs.declared.mode.Mode.{Mode}
 use Rattle.qs_syncset.specs.declared.mode.Mode.TheVariants.{Plain, Dynamic, Static, Both}
-use Rattle.qs_syncset.specs.Codes.{ClientCode}
+use Rattle.qs_syncset.specs.Codes.{ClientCode, AreCodes}
 use Rattle.qs_syncset.specs.HeldExamples.{call_in_repeat, without_inner, without_last}
 use Rattle.qs_syncset.specs.Modes.{is_dynamic}
 use Rattle.qs_played.specs.ExampleRuns.{answers}
 use Rattle.qs_played.specs.Played.{Played}
-use Rattle.qs_core_laws.specs.Core.{AreCodes}
-use Rattle.qs_core_laws.specs.CoreExamples.{sync_count}
+use Rattle.qs_sync_counts.specs.SyncRows.{sync_count}
 use Rattle.qs_core_laws.specs.CoreSchedule.{core_played, core_scheduled}
 
 -- an account of 100, and a client whose one block is this

@@ -10,11 +10,9 @@ use Rattle.qs_meaning.specs.Serial.{zeros}
 use Rattle.qs_meaning.specs.Solo.{put}
 use Rattle.qs_program.specs.Sound.{is_in}
 use Rattle.qs_program.specs.Values.{Locals}
-use Rattle.qs_graph.specs.Synced.{Synced}
-use Rattle.qs_syncset.specs.declared.mode.Mode.{Mode}
 use Rattle.qs_sync_counts.specs.SyncRows.{no_syncs, with_sync}
 use Rattle.qs_sync_counts.specs.declared.sync_counts.SyncCount.{SyncCount}
-use Rattle.qs_syncset.specs.Codes.{ClientCode, IsCodeOf, code_at}
+use Rattle.qs_syncset.specs.Codes.{ClientCode, blocks_in, reserved_of}
 use Rattle.qs_chunk.specs.declared.parcel.Parcel.{Parcel}
 use Rattle.qs_chunk.specs.declared.parcel.Parcel.TheVariants.{Work, Sync, Home, End}
 use Rattle.qs_chunk.specs.Limits.{lane_room, spare_room}
@@ -23,7 +21,7 @@ use Rattle.qs_handler.specs.Handler as handlers
 use Rattle.qs_handler.specs.declared.mind.Act as handler_acts
 use Rattle.qs_handler.specs.declared.mind.Act.TheVariants as acts
 use Rattle.qs_client_rules.specs.Client.{Client, ClientStage, Settings, Settlement, act_of, between, runs, full, awaits, leaves, begin, first_client, take_object, after_parcel, take_chunk}
-use Rattle.qs_client.specs.ClientModel.{tree_at}
+use Rattle.qs_client.specs.ClientModel.{synced_block}
 use Rattle.qs_client_rules.specs.declared.act.Act as client_acts
 use Rattle.qs_client_rules.specs.declared.act.Act.TheVariants as wants
 use Rattle.qs_played.specs.JournalRooms.{fresh_held}
@@ -56,28 +54,13 @@ put_lane f c h a = put f c (put (f c) h a)
 abbrev pub put_ticket : {A : Type 0} → (Ticket → A) → Ticket → A → Ticket → A
 put_ticket f t a u = if same t u then a else f u
 
--- the codes of a program's clients; no other client has blocks
-pub record AreCodes (p : ProgramShape) (mode : Mode) (code : ℕ → ClientCode) : Type 0 where
-  pub own : (c : ℕ) → c < length p.clients → IsCodeOf p mode c (code c)
-  pub none : (c : ℕ) → length p.clients ≤ c → (code c).blocks ≡ []
-
 module _ (code : ℕ → ClientCode) (size : ℕ) where
   abbrev pub settings_of : ℕ → Settings
   settings_of c = record { dynamic = (code c).dynamic; size = size }
 
-  abbrev pub blocks : ℕ → ℕ
-  blocks c = length (code c).blocks
-
-  -- the handlers that a ticket's block reserves, and whether one is among them
-  abbrev pub reserved_of : Ticket → List ℕ
-  reserved_of t = (code_at (code t.client) t.index).reserved
-
+  -- whether a ticket's block reserves this handler
   abbrev pub may : Ticket → ℕ → Bool
-  may t h = is_in (reserved_of t) h
-
-  -- a ticket's block as a tree with the synchronisations that are left in it
-  abbrev pub tree_of : Ticket → Locals → Synced
-  tree_of t l = tree_at (code t.client) t.index l
+  may t h = is_in (reserved_of code t) h
 
   -- the ticket of the block that a client is in
   abbrev pub current : ℕ → Client → Ticket
@@ -103,7 +86,7 @@ module _ (code : ℕ → ClientCode) (size : ℕ) where
   abbrev pub reserves_from : Core → ℕ → ClientStage → Option Core
   reserves_from s c (between l) =
       let t = ticket c (s.client c).begun in
-      Some (after_reserve s c t l (begin (settings_of c) t (reserved_of t) (s.client c) (tree_of t l)))
+      Some (after_reserve s c t l (begin (settings_of c) t (reserved_of code t) (s.client c) (synced_block code t l)))
   reserves_from s c (runs rest) = None
   reserves_from s c (full h rest) = None
   reserves_from s c (awaits h rest) = None
@@ -136,7 +119,7 @@ module _ (code : ℕ → ClientCode) (size : ℕ) where
       let m = s.client c in
       let t = current c m in
       if nat_lt (length (s.down c h)) lane_room
-      then Some (after_act (lies s c h parcel) c t (after_parcel (settings_of c) t (reserved_of t) m h parcel))
+      then Some (after_act (lies s c h parcel) c t (after_parcel (settings_of c) t (reserved_of code t) m h parcel))
       else None
 
   abbrev pub with_up : Core → ℕ → ℕ → Option HeldState → Core
@@ -151,7 +134,7 @@ module _ (code : ℕ → ClientCode) (size : ℕ) where
   gets s c h (Some x) =
       let m = s.client c in
       let t = current c m in
-      Some (after_act (with_up s c h None) c t (take_object (settings_of c) t (reserved_of t) m x m.stage))
+      Some (after_act (with_up s c h None) c t (take_object (settings_of c) t (reserved_of code t) m x m.stage))
 
   -- an empty chunk is taken
   abbrev pub takes_chunk : Core → ℕ → ℕ → ℕ → Option Core
@@ -159,7 +142,7 @@ module _ (code : ℕ → ClientCode) (size : ℕ) where
   takes_chunk s c h (suc n) =
       let m = s.client c in
       let t = current c m in
-      Some (after_act (with_spare s c h n) c t (take_chunk (settings_of c) t (reserved_of t) m h m.stage))
+      Some (after_act (with_spare s c h n) c t (take_chunk (settings_of c) t (reserved_of code t) m h m.stage))
 
   abbrev pub client_step : Core → ℕ → client_acts.Act → Option Core
   client_step s c wants.Reserve = reserves_from s c (s.client c).stage
@@ -212,7 +195,7 @@ module _ (code : ℕ → ClientCode) (size : ℕ) where
 
   -- an actor's one step, where it has one
   abbrev pub core_step : Core → Actor → Option Core
-  core_step s (actor.Client c) = client_step s c (act_of (settings_of c) (blocks c) (s.client c))
+  core_step s (actor.Client c) = client_step s c (act_of (settings_of c) (blocks_in code c) (s.client c))
   core_step s (actor.Handler h) = handler_step s h (handlers.act_of (s.handler h))
 
 -- each client has its variables at 0, each handler its object, and in each lane lie four empty chunks

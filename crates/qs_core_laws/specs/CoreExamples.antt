@@ -1,39 +1,21 @@
 -- Runs of the optimised machine in the modes that remove no synchronisations, computed by the definitions.
 use Rattle.std.specs.Prelude.{◌≡◌, ℕ, List, [], ◌∷◌, map, replicate, Bool, true, false, Option, None, ℤ, pos}
-use Rattle.std.specs.List.{range_with_len}
 use Rattle.qs_objects.specs.Act.{State, account, buffer}
 use Rattle.qs_objects.specs.declared.Op.TheVariants.{Deposit}
 use Rattle.qs_objects.specs.declared.held.Ticket.{Ticket}
 use Rattle.qs_objects.specs.declared.Request.{Request}
-use Rattle.qs_program.specs.Loads.{load_of}
 use Rattle.qs_meaning.specs.MeaningExamples.{block, call, client, deposit_of_5, full_buffer, hundred, left_at_once, left_with, n, only, program, some, ticket, transfer, withdrawals}
-use Rattle.qs_program.specs.Program.{ProgramShape, binding_of, block_at, blocks_of}
+use Rattle.qs_program.specs.Program.{ProgramShape}
 use Rattle.qs_program.specs.Statements.{end, command}
-use Rattle.qs_graph.specs.Bound.{bound_nodes}
-use Rattle.qs_graph.specs.Names.{graph_of}
-use Rattle.qs_syncset.specs.Codes.{BlockCode, ClientCode}
-use Rattle.qs_sync_counts.specs.declared.sync_counts.SyncCount.{SyncCount}
+use Rattle.qs_syncset.specs.Codes.{AreCodes}
+use Rattle.qs_syncset.specs.CodeExamples.{example_code}
+use Rattle.qs_sync_counts.specs.SyncRows.{sync_count}
 use Rattle.qs_syncset.specs.declared.mode.Mode.TheVariants as modes
 use Rattle.qs_played.specs.ExampleRuns.{answers, holding, in_transfer}
 use Rattle.qs_played.specs.declared.schedule.actor.Actor.{Actor}
 use Rattle.qs_played.specs.Played.{Played}
 use Rattle.qs_played.specs.declared.schedule.actor.Actor.TheVariants as actor
-use Rattle.qs_core_laws.specs.Core.{AreCodes}
 use Rattle.qs_core_laws.specs.CoreSchedule.{core_played, core_scheduled, on_way}
-
--- the codes with all synchronisations, tested or not
-abbrev pub built_block : ProgramShape → ℕ → ℕ → BlockCode
-built_block p c k =
-    let b = block_at p c k in
-    record {
-      reserved = b.reserved;
-      graph = bound_nodes (binding_of p c) (graph_of p c k).nodes;
-      loads = map (load_of b.body) (range_with_len 0 8);
-    }
-
-abbrev pub example_code : Bool → ProgramShape → ℕ → ClientCode
-example_code dynamic p c =
-    record { dynamic = dynamic; blocks = map (built_block p c) (range_with_len 0 (blocks_of p c)) }
 
 abbrev pub core_shown : Bool → ProgramShape → List Actor → ℕ → Played
 core_shown dynamic p picks rounds = core_played p (core_scheduled p (example_code dynamic p) 8 picks rounds)
@@ -60,10 +42,6 @@ abbrev pub waiting : ProgramShape → ℕ → Ticket → List (List ℤ)
 waiting p steps t =
     map (λ (r : Request). r.args) (on_way (core_scheduled p (example_code false p) 8 (replicate steps (actor.Client 0))
     0) 0 t)
-
--- so many Syncs for an object of a block's list
-abbrev pub sync_count : ℕ → ℕ → SyncCount
-sync_count object count = record { object = object; count = count }
 
 pub record CoreExamples : Type 0 where
   -- these are the codes of every program

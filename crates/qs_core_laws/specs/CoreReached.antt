@@ -7,7 +7,7 @@ use Rattle.qs_objects.specs.declared.held.Ticket.{Ticket}
 use Rattle.qs_objects.specs.declared.Request.{Request}
 use Rattle.qs_program.specs.Program.{ProgramShape, blocks_of}
 use Rattle.qs_meaning.specs.Serial.{zeros}
-use Rattle.qs_syncset.specs.Codes.{ClientCode}
+use Rattle.qs_syncset.specs.Codes.{ClientCode, blocks_in}
 use Rattle.qs_chunk.specs.Batch.{Batch}
 use Rattle.qs_chunk.specs.Lanes.{HasSize, may_stand}
 use Rattle.qs_chunk.specs.declared.parcel.Parcel.{Parcel}
@@ -18,7 +18,7 @@ use Rattle.qs_client_rules.specs.Client.{act_of, first_client}
 use Rattle.qs_client_rules.specs.declared.act.Act.TheVariants as wants
 use Rattle.qs_played.specs.declared.schedule.actor.Actor.TheVariants as actor
 use Rattle.qs_played.specs.JournalRooms.{fresh_held}
-use Rattle.qs_core_laws.specs.Core.{Core, blocks, core_step, settings_of}
+use Rattle.qs_core_laws.specs.Core.{Core, core_step, settings_of}
 use Rattle.qs_core_laws.specs.CoreSchedule.{before_it, found_by}
 
 -- what comes next in the lane that a handler takes from may stand there
@@ -43,10 +43,10 @@ pub record HandlersServe (p : ProgramShape) (size : ℕ) (s : Core) : Type 0 whe
 -- what a client does next is for an object of the program
 pub record ClientsAsk (p : ProgramShape) (code : ℕ → ClientCode) (size : ℕ) (s : Core) : Type 0 where
   pub sends : (c h : ℕ) (parcel : Parcel)
-      → act_of (settings_of code size c) (blocks code size c) (s.client c) ≡ wants.Send h parcel → h < length p.objects
-  pub awaits : (c h : ℕ) → act_of (settings_of code size c) (blocks code size c) (s.client c) ≡ wants.Await h
+      → act_of (settings_of code size c) (blocks_in code c) (s.client c) ≡ wants.Send h parcel → h < length p.objects
+  pub awaits : (c h : ℕ) → act_of (settings_of code size c) (blocks_in code c) (s.client c) ≡ wants.Await h
       → h < length p.objects
-  pub needs : (c h : ℕ) → act_of (settings_of code size c) (blocks code size c) (s.client c) ≡ wants.NeedChunk h
+  pub needs : (c h : ℕ) → act_of (settings_of code size c) (blocks_in code c) (s.client c) ≡ wants.NeedChunk h
       → h < length p.objects
 
 -- the blocks that were begun, and their tickets

@@ -8,7 +8,7 @@ use Rattle.qs_program.specs.Program.{ProgramShape, blocks_of}
 use Rattle.qs_meaning.specs.Serial.{no_state}
 use Rattle.qs_program.specs.Sound.{IsSound}
 use Rattle.qs_syncset.specs.declared.mode.Mode.{Mode}
-use Rattle.qs_syncset.specs.Codes.{ClientCode}
+use Rattle.qs_syncset.specs.Codes.{ClientCode, AreCodes}
 use Rattle.qs_chunk.specs.LaneParts.{away_at, commands_in, lane_of}
 use Rattle.qs_handler.specs.Handler.{Handler, free, serves, spares, gives, away, closed, serving, is_free}
 use Rattle.qs_client_rules.specs.Client.{Client}
@@ -18,7 +18,7 @@ use Rattle.qs_played.specs.Schedule.{schedule, plays_by, IsPlayedAs}
 use Rattle.qs_played.specs.declared.schedule.actor.Actor.{Actor}
 use Rattle.qs_played.specs.declared.fault.PlayFault.{PlayFault}
 use Rattle.qs_played.specs.Played.{Played}
-use Rattle.qs_core_laws.specs.Core.{Core, AreCodes, core_begin, core_step}
+use Rattle.qs_core_laws.specs.Core.{Core, core_begin, core_step}
 
 -- one step of each actor of a list, in this order
 abbrev pub core_plays : (ℕ → ClientCode) → ℕ → List Actor → Core → Core

@@ -17,7 +17,7 @@ use Rattle.qs_meaning.specs.Solo.{put}
 use Rattle.qs_meaning.proofs.Orders.{complete_orders_leave_none, legal_on}
 use Rattle.qs_meaning.proofs.TreeWalks.{put_here, put_there}
 use Rattle.qs_syncset.specs.declared.mode.Mode.{Mode}
-use Rattle.qs_syncset.specs.Codes.{ClientCode}
+use Rattle.qs_syncset.specs.Codes.{ClientCode, AreCodes}
 use Rattle.qs_handler.specs.Handler.{is_free}
 use Rattle.qs_client.specs.ClientModel.{has_ended, is_between}
 use Rattle.qs_played.specs.Isolation.{IsIsolated}
@@ -28,7 +28,7 @@ use Rattle.qs_played.specs.declared.schedule.actor.Actor.{Actor}
 use Rattle.qs_played.specs.declared.schedule.actor.Actor.TheVariants as actor
 use Rattle.qs_played.proofs.JournalRooms.{no_block_beyond}
 use Rattle.qs_played.proofs.Playing.{plays_by-append}
-use Rattle.qs_core_laws.specs.Core.{AreCodes, Core, core_begin, core_step}
+use Rattle.qs_core_laws.specs.Core.{Core, core_begin, core_step}
 use Rattle.qs_core_laws.specs.CoreSchedule.{all_of, core_played, core_plays, core_scheduled, is_done, is_finished, is_idle, on_way}
 use Rattle.qs_core_laws.proofs.CoreIsolating.{core_isolated}
 use Rattle.qs_core_laws.proofs.CoreSteps.{HasInvariant, begin_kept, plays_kept}

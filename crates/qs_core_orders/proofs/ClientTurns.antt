@@ -16,7 +16,7 @@ use Rattle.qs_meaning.specs.Solo.{put}
 use Rattle.qs_meaning.proofs.TreeWalks.{put_here, put_there}
 use Rattle.qs_graph.specs.Synced.{Synced, Done, Call, Sync, Query}
 use Rattle.qs_syncset.specs.declared.mode.Mode.{Mode}
-use Rattle.qs_syncset.specs.Codes.{ClientCode}
+use Rattle.qs_syncset.specs.Codes.{ClientCode, AreCodes, reserved_of, blocks_in}
 use Rattle.qs_chunk.specs.Batch.{Batch, batch}
 use Rattle.qs_chunk.specs.Limits.{spare_room}
 use Rattle.qs_chunk.specs.declared.parcel.Parcel.{Parcel}
@@ -29,9 +29,9 @@ use Rattle.qs_played.specs.Schedule.{or_stay}
 use Rattle.qs_played.specs.declared.schedule.actor.Actor.TheVariants as actor
 use Rattle.qs_played.proofs.ReservedObjects.{reserved_inside}
 use Rattle.qs_protocol.proofs.ClientInvariants.{NotBoth, PlaceOk, objects_of_block}
-use Rattle.qs_core_laws.specs.Core.{AreCodes, Core, after_act, client_step, core_step, gets, lies, reserved_of, sends, settings_of, takes_chunk, with_spare, with_up}
+use Rattle.qs_core_laws.specs.Core.{Core, after_act, client_step, core_step, gets, lies, sends, settings_of, takes_chunk, with_spare, with_up}
 use Rattle.qs_core_laws.specs.Core as core
-use Rattle.qs_core_laws.proofs.CoreCodes.{reserved_is}
+use Rattle.qs_protocol.proofs.ProgramTrees.{reserved_is}
 use Rattle.qs_core_laws.proofs.CoreSteps.{HasInvariant}
 use Rattle.qs_core_orders.proofs.Settling.{Asks, Gone, Holds, IsLeft, IsSettled, Sends, busy, busy_few, called, hand, settled, stance_at}
 use Rattle.qs_core_orders.proofs.Corners.{Away, Booked, ComesHome, Corner, Due, Ends, Free, Giving, IsChangedAt, Lent, Serves, Sparing, Syncs, Waits, Works, corner, corner_of, lane_elsewhere, lane_here, lane_of_others, spare_of, stance_of}
@@ -143,13 +143,13 @@ module _ (p : ProgramShape) (sound : IsSound p) (mode : Mode) (code : ℕ → Cl
   u = core.current code size t.client (s.client t.client)
 
   abbrev next_act : Act
-  next_act = act_of (settings_of code size t.client) (core.blocks code size t.client) (s.client t.client)
+  next_act = act_of (settings_of code size t.client) (blocks_in code t.client) (s.client t.client)
 
-  names_are : reserved_of code size u ≡ objects_of_block p t
+  names_are : reserved_of code u ≡ objects_of_block p t
   names_are =
       let index : m.begun - 1 ≡ t.index = (let b = now.begun t.client ∙ latest in omega (arith, b)) in
       let same : u ≡ t = ticket_path refl index in
-      reserved_is p sound mode code codes size u ∙ ap (objects_of_block p) same
+      reserved_is p sound mode code codes u ∙ ap (objects_of_block p) same
 
   -- the client's step leads to a state in which fewer steps are left
   abbrev Goes : Type 0
@@ -176,7 +176,7 @@ module _ (p : ProgramShape) (sound : IsSound p) (mode : Mode) (code : ℕ → Cl
       ap (client_step code size s t.client) act
       ∙ (room ∙ ap (λ x. Some (sent h parcel x)) (ap (λ ns. after_parcel settings u ns m h parcel) names_are ∙ is))
     where
-      room : sends code size s t.client h parcel ≡ Some (sent h parcel (after_parcel settings u (reserved_of code size u) m h parcel))
+      room : sends code size s t.client h parcel ≡ Some (sent h parcel (after_parcel settings u (reserved_of code u) m h parcel))
       room = rw empty refl
 
   get_step : (h : ℕ) (x : HeldState) (r : Settlement) → next_act ≡ Await h → s.up t.client h ≡ Some x
@@ -355,7 +355,7 @@ module _ (p : ProgramShape) (sound : IsSound p) (mode : Mode) (code : ℕ → Cl
     at_call r next at (ready, stops) (d, (k, fewer, deep), low) = by_hand (m.held r.object) (m.chunk r.object) refl refl
       where
         due_act : next_act ≡ call_act settings r.object (m.held r.object) (m.chunk r.object)
-        due_act = ap (act_at settings (core.blocks code size t.client) m) at
+        due_act = ap (act_at settings (blocks_in code t.client) m) at
 
         by_hand : (x : Option HeldState) (o : Option (List Request)) → m.held r.object ≡ x → m.chunk r.object ≡ o → Goes
         by_hand (Some x) o held opened =
@@ -397,7 +397,7 @@ module _ (p : ProgramShape) (sound : IsSound p) (mode : Mode) (code : ℕ → Cl
     at_sync h next at (ready, stops) (d, (k, fewer, deep), low) = by_hand (m.held h) (m.chunk h) refl refl
       where
         due_act : next_act ≡ clear settings h (m.held h) (m.chunk h) (Send h parcels.Sync)
-        due_act = ap (act_at settings (core.blocks code size t.client) m) at
+        due_act = ap (act_at settings (blocks_in code t.client) m) at
 
         by_hand : (x : Option HeldState) (o : Option (List Request)) → m.held h ≡ x → m.chunk h ≡ o → Goes
         by_hand (Some x) o held opened =
@@ -447,7 +447,7 @@ module _ (p : ProgramShape) (sound : IsSound p) (mode : Mode) (code : ℕ → Cl
             let parcel = parcels.Work (batch rs settings.size) in
             let empty : s.down t.client h ≡ [] = ap (λ (q : Corner). q.down) had.2 in
             goes h (3 * d + 2 * length names + 2) (Works had.0 (batch rs settings.size)) rr.client (sent h parcel rr) (omega (arith, low))
-            (send_step h parcel rr (ap (act_at settings (core.blocks code size t.client) m) at ∙ ap (λ o. clear settings h None o Finished) opened) empty
+            (send_step h parcel rr (ap (act_at settings (blocks_in code t.client) m) at ∙ ap (λ o. clear settings h None o Finished) opened) empty
             (ap (after_work settings u names m h) at))
             (settled_act h (3 * d + 2 * length names + 2) (Works had.0 (batch rs settings.size)) (sent h parcel rr) other rr.client listed (settled settings u names d rest deep other) refl refl
             (sent_at h parcel rr (corner_of t (Serves had.0 3)) here refl) refl
@@ -468,7 +468,7 @@ module _ (p : ProgramShape) (sound : IsSound p) (mode : Mode) (code : ℕ → Cl
         let now_held = put_here m.held h (Some x) in
         let rr = settle settings u names rest other in
         goes h (3 * d + 2 * length names + 2) (Away had.1) rr.client (got h rr) (omega (arith, low))
-        (get_step h x rr (ap (act_at settings (core.blocks code size t.client) m) at) up (ap (take_object settings u names m x) at))
+        (get_step h x rr (ap (act_at settings (blocks_in code t.client) m) at) up (ap (take_object settings u names m x) at))
         (settled_act h (3 * d + 2 * length names + 2) (Away had.1) (got h rr) other rr.client waiting.at (settled settings u names d rest deep other) refl refl
         (got_at h rr (corner_of t (Lent x had.1)) had.2) refl
         (sym (ap (λ z. hand (is_some z)) now_held)) had.3
@@ -486,7 +486,7 @@ module _ (p : ProgramShape) (sound : IsSound p) (mode : Mode) (code : ℕ → Cl
         first = rw (eqb_self h) refl
 
         due_act : (gs : List ℕ) → m.stage ≡ leaves h gs l → next_act ≡ Send h parcels.End
-        due_act gs is = ap (act_at settings (core.blocks code size t.client) m) is ∙ (λ i. clear settings h (held i) (opened i) (Send h parcels.End))
+        due_act gs is = ap (act_at settings (blocks_in code t.client) m) is ∙ (λ i. clear settings h (held i) (opened i) (Send h parcels.End))
 
         by_rest : (gs : List ℕ) → m.stage ≡ leaves h gs l → is_in gs h ≡ false → IsLeft (length names) n m (leaves h gs l)
             → (x : HeldState) × (k : ℕ) × (corner s t.client h ≡ corner_of t (Serves x k)) × (k + chunks_open m h ≡ spare_room) → Goes
@@ -530,7 +530,7 @@ module _ (p : ProgramShape) (sound : IsSound p) (mode : Mode) (code : ℕ → Cl
         own a = ap (λ b. if b then hand (is_some (a.held h)) else Gone) first
 
         due_act : next_act ≡ clear settings h (m.held h) (m.chunk h) (Send h parcels.End)
-        due_act = ap (act_at settings (core.blocks code size t.client) m) at
+        due_act = ap (act_at settings (blocks_in code t.client) m) at
 
         by_hand : (x : Option HeldState) (o : Option (List Request)) → m.held h ≡ x → m.chunk h ≡ o → Goes
         by_hand (Some x) o held opened =
@@ -562,7 +562,7 @@ module _ (p : ProgramShape) (sound : IsSound p) (mode : Mode) (code : ℕ → Cl
   pub client_turns : HasInvariant p sound mode code codes size s → is_between m.stage ≡ false → Goes
   client_turns kept inside =
       let place = kept.2.places t.client t.index (now.begun t.client ∙ latest) in
-      by_stage (kept.0.sent t) (kept.0.got t) (kept.0.page t) m.stage refl inside place now.left
+      by_stage (kept.0.sent t) (kept.0.got t) (kept.0.block_record t) m.stage refl inside place now.left
 
   -- a client that is between two blocks has nothing in hand
   pub nothing_open : HasInvariant p sound mode code codes size s → is_between m.stage ≡ true → (h : ℕ) → m.chunk h ≡ None
@@ -570,7 +570,7 @@ module _ (p : ProgramShape) (sound : IsSound p) (mode : Mode) (code : ℕ → Cl
       let place = kept.2.places t.client t.index (now.begun t.client ∙ latest) in
       by_stage_out m.stage outside place
     where
-      by_stage_out : (g : ClientStage) → is_between g ≡ true → PlaceOk p t (kept.0.sent t) (kept.0.got t) m (kept.0.page t) g → m.chunk h ≡ None
+      by_stage_out : (g : ClientStage) → is_between g ≡ true → PlaceOk p t (kept.0.sent t) (kept.0.got t) m (kept.0.block_record t) g → m.chunk h ≡ None
       by_stage_out (between l) out leaving = (leaving.empty h refl).1
       by_stage_out (runs rest) out place = absurd (true≢false (sym out))
       by_stage_out (full g rest) out place = absurd (true≢false (sym out))

@@ -15,20 +15,20 @@ use Rattle.qs_meaning.proofs.TreeWalks.{put_here, put_there}
 use Rattle.qs_graph.specs.Steps.{limit}
 use Rattle.qs_graph.specs.Walk.{entry}
 use Rattle.qs_syncset.specs.declared.mode.Mode.{Mode}
-use Rattle.qs_syncset.specs.Codes.{ClientCode, code_at}
+use Rattle.qs_syncset.specs.Codes.{ClientCode, code_at, AreCodes, reserved_of, blocks_in}
 use Rattle.qs_client_run.specs.BlockSizes.{longest}
 use Rattle.qs_client_rules.specs.Client.{Client, ClientStage, Settlement, act_at, act_of, awaits, begin, between, full, leaves, runs}
 use Rattle.qs_client_rules.specs.declared.act.Act.TheVariants.{Finished, Reserve}
-use Rattle.qs_client.specs.ClientModel.{is_between}
+use Rattle.qs_client.specs.ClientModel.{is_between, synced_block}
 use Rattle.qs_played.specs.Played.{ticket}
 use Rattle.qs_played.specs.Schedule.{or_stay}
 use Rattle.qs_played.specs.declared.schedule.actor.Actor.TheVariants as actor
 use Rattle.qs_played.proofs.ReservedObjects.{reserved_inside}
 use Rattle.qs_protocol.specs.ClientHistories.{HasNone}
 use Rattle.qs_protocol.proofs.ClientInvariants.{PlaceOk, objects_of_block}
-use Rattle.qs_core_laws.specs.Core.{AreCodes, Core, after_reserve, client_step, core_step, put_ticket, reserved_of, reserves_from, settings_of, tree_of}
+use Rattle.qs_core_laws.specs.Core.{Core, after_reserve, client_step, core_step, put_ticket, reserves_from, settings_of}
 use Rattle.qs_core_laws.specs.Core as core
-use Rattle.qs_core_laws.proofs.CoreCodes.{blocks_are, reserved_is}
+use Rattle.qs_protocol.proofs.ProgramTrees.{blocks_are, reserved_is}
 use Rattle.qs_core_laws.proofs.CoreSteps.{HasInvariant}
 use Rattle.qs_core_orders.specs.CoreQuiet.{IsCoreQuiet, IsLaneClear}
 use Rattle.qs_core_orders.proofs.TreeDepths.{walk_depth}
@@ -58,7 +58,7 @@ module _ (p : ProgramShape) (sound : IsSound p) (mode : Mode) (code : ℕ → Cl
 
   -- the state once the client has reserved these objects
   abbrev comes_to : Locals → List ℕ → Settlement
-  comes_to l ns = begin (settings_of code size t.client) t ns m (tree_of code size t l)
+  comes_to l ns = begin (settings_of code size t.client) t ns m (synced_block code t l)
 
   abbrev booked : Locals → List ℕ → Core
   booked l ns = record {
@@ -82,15 +82,15 @@ module _ (p : ProgramShape) (sound : IsSound p) (mode : Mode) (code : ℕ → Cl
   reserve_step l at =
       ap (client_step code size s t.client) act
       ∙ (ap (reserves_from code size s t.client) at
-      ∙ (ap (λ (u : Ticket). Some (after_reserve code size s t.client u l (begin (settings_of code size t.client) u (reserved_of code size u) m (tree_of code size u l)))) same_ticket
-      ∙ ap (λ ns. Some (booked l ns)) (reserved_is p sound mode code codes size t)))
+      ∙ (ap (λ (u : Ticket). Some (after_reserve code size s t.client u l (begin (settings_of code size t.client) u (reserved_of code u) m (synced_block code u l)))) same_ticket
+      ∙ ap (λ ns. Some (booked l ns)) (reserved_is p sound mode code codes t)))
     where
-      act : act_of (settings_of code size t.client) (core.blocks code size t.client) m ≡ Reserve
+      act : act_of (settings_of code size t.client) (blocks_in code t.client) m ≡ Reserve
       act =
-          let long = blocks_are p sound mode code codes size t.client in
+          let long = blocks_are p sound mode code codes t.client in
           let b = quiet.begun t.client in
-          let more : nat_lt m.begun (core.blocks code size t.client) ≡ true = lt-ltb m.begun (core.blocks code size t.client) (omega (arith, long, b, index, some)) in
-          ap (act_at (settings_of code size t.client) (core.blocks code size t.client) m) at
+          let more : nat_lt m.begun (blocks_in code t.client) ≡ true = lt-ltb m.begun (blocks_in code t.client) (omega (arith, long, b, index, some)) in
+          ap (act_at (settings_of code size t.client) (blocks_in code t.client) m) at
           ∙ ap (λ x. if x then Reserve else Finished) more
 
   -- a client that is between two blocks has nothing in hand
@@ -101,7 +101,7 @@ module _ (p : ProgramShape) (sound : IsSound p) (mode : Mode) (code : ℕ → Cl
       by_begun zero e = (kept.2.idle t.client e).1 h
       by_begun (suc k) e =
           let u = ticket t.client k in
-          (subst (PlaceOk p u (kept.0.sent u) (kept.0.got u) m (kept.0.page u)) at (kept.2.places t.client k e)).empty h refl
+          (subst (PlaceOk p u (kept.0.sent u) (kept.0.got u) m (kept.0.block_record u)) at (kept.2.places t.client k e)).empty h refl
 
   entered : (l : Locals) → m.stage ≡ between l → IsWithin p (so_far ++ t ∷ []) (put counts t.client (suc (counts t.client))) t 0 (most_turns p t) (booked l names)
   entered l at = record {
@@ -127,7 +127,7 @@ module _ (p : ProgramShape) (sound : IsSound p) (mode : Mode) (code : ℕ → Cl
       r = (comes_to l names).client
 
       done : IsSettled names (most_turns p t) (record { begun = suc m.begun; stage = m.stage; held = m.held; chunk = m.chunk }) r
-      done = settled (settings_of code size t.client) t names limit (tree_of code size t l) (walk_depth (code_at (code t.client) t.index).graph limit (entry l (replicate (longest (code t.client).blocks) 0))) (record { begun = suc m.begun; stage = m.stage; held = m.held; chunk = m.chunk })
+      done = settled (settings_of code size t.client) t names limit (synced_block code t l) (walk_depth (code_at (code t.client) t.index).graph limit (entry l (replicate (longest (code t.client).blocks) 0))) (record { begun = suc m.begun; stage = m.stage; held = m.held; chunk = m.chunk })
 
       mine : later.client t.client ≡ r
       mine = put_here s.client t.client r

@@ -6,13 +6,12 @@ use Rattle.qs_program.specs.Program.{ProgramShape}
 use Rattle.qs_program.specs.Sound.{IsSound}
 use Rattle.qs_meaning.specs.Configurations.{IsComplete}
 use Rattle.qs_meaning.specs.Serial.{IsLegal}
-use Rattle.qs_syncset.specs.Codes.{ClientCode}
+use Rattle.qs_syncset.specs.Codes.{ClientCode, AreCodes}
 use Rattle.qs_syncset.specs.declared.mode.Mode.{Mode}
 use Rattle.qs_played.specs.Isolation.{IsIsolated}
 use Rattle.qs_played.specs.Played.{Played}
 use Rattle.qs_played.specs.SyncSums.{AreSyncsCounted}
 use Rattle.qs_played.specs.declared.schedule.actor.Actor.{Actor}
-use Rattle.qs_core_laws.specs.Core.{AreCodes}
 use Rattle.qs_core_laws.specs.CoreSchedule.{IsPlayedIn, core_played, core_scheduled, on_way}
 
 -- What is shown after some picks, without a round after them, are exactly these tickets, in this order, and each of

@@ -52,34 +52,34 @@ whole_again m r = λ k. record {
   outgoing = (comes_to m r).outgoing;
 }
 
--- a seat with the next act of a mind that has come to it
-pub record IsSeatOf (n : ClientModel) (s : CoreClientState) : Type 0 where
+-- a formed with the next act of a mind that has come to it
+pub record IsFormedOf (n : ClientModel) (s : CoreClientState) : Type 0 where
   pub whole_is : whole_of s ≡ n
-  pub seat : IsCoreClient s
+  pub formed : IsCoreClient s
 
 module _ (m : ClientModel) (r : Settlement) (s : CoreClientState) (handed : mind_of s.mind ≡ hands_out (comes_to m r) (act_due (comes_to m r))) (act : s.act ≡ act_due (comes_to m r)) where
   whole_is : whole_of s ≡ comes_to m r
   unfolding whole_of
   whole_is = (λ k. with_act_again (handed k) (act k)) ∙ whole_again m r
 
-  pub seat_of : IsSeatOf (comes_to m r) s
-  seat_of = record {
+  pub formed_of : IsFormedOf (comes_to m r) s
+  formed_of = record {
     whole_is = whole_is;
-    seat = record {
+    formed = record {
       act = act ∙ ap act_due (sym whole_is);
       mind = handed ∙ (λ k. hands_out (sym whole_is k) (sym act k));
     };
   }
 
 -- where the mind that was asked last has come to its next act already
-pub seat_after : (m : ClientModel) (r : Settlement) (old : MindState) (s : CoreClientState) → mind_of old ≡ comes_to m r → s.act ≡ next_act (mind_of old) → mind_of s.mind ≡ next_mind (mind_of old) → IsSeatOf (comes_to m r) s
-seat_after m r old s come act handed =
+pub formed_after : (m : ClientModel) (r : Settlement) (old : MindState) (s : CoreClientState) → mind_of old ≡ comes_to m r → s.act ≡ next_act (mind_of old) → mind_of s.mind ≡ next_mind (mind_of old) → IsFormedOf (comes_to m r) s
+formed_after m r old s come act handed =
     let stays : finish (mind_of old) ≡ comes_to m r = ap finish come ∙ come_stays m r in
-    seat_of m r s (handed ∙ ap (λ (n : ClientModel). hands_out n (act_due n)) stays) (act ∙ ap act_due stays)
+    formed_of m r s (handed ∙ ap (λ (n : ClientModel). hands_out n (act_due n)) stays) (act ∙ ap act_due stays)
 
 -- where something was left to be done for the last act
-pub seat_done : (old : MindState) (s : CoreClientState) → s.act ≡ next_act (mind_of old) → mind_of s.mind ≡ next_mind (mind_of old) → IsSeatOf (finish (mind_of old)) s
-seat_done old s act handed = seat_of (count_syncs (mind_of old)) _ s handed act
+pub formed_done : (old : MindState) (s : CoreClientState) → s.act ≡ next_act (mind_of old) → mind_of s.mind ≡ next_mind (mind_of old) → IsFormedOf (finish (mind_of old)) s
+formed_done old s act handed = formed_of (count_syncs (mind_of old)) _ s handed act
 
 -- an act that carries nothing leaves the mind as it is
 same_handed : (s : CoreClientState) → hands_out (whole_of s) acts.Reserve ≡ whole_of s
@@ -102,7 +102,7 @@ module _ (s : CoreClientState) (kept : IsCoreClient s) where
   pub mind_is : (act : Act) → s.act ≡ act → hands_out own act ≡ own → mind_of s.mind ≡ own
   mind_is act is same = kept.mind ∙ ap (hands_out own) is ∙ same
 
--- what a client did at its lane to handler h, by its seat before and after it
+-- what a client did at its lane to handler h, by its formed before and after it
 module _ (s : CoreClientState) (kept : IsCoreClient s) (t : CoreClientState) (h : ℕ) where
   abbrev pub lane : LaneState
   lane = lane_at s.lanes h
@@ -112,7 +112,7 @@ module _ (s : CoreClientState) (kept : IsCoreClient s) (t : CoreClientState) (h 
       → t.act ≡ next_act (mind_of s.mind) → mind_of t.mind ≡ next_mind (mind_of s.mind) → t.lanes ≡ set s.lanes h (with_down lane (lane.down ++ p ∷ []))
       → LaneSteps s t
   sent_steps p is room act handed lanes_are =
-      let sent : whole_of t ≡ finish (hands_out (whole_of s) (acts.Send h p)) = (seat_done s.mind t act handed).whole_is ∙ ap finish (kept.mind ∙ ap (hands_out (whole_of s)) is) in
+      let sent : whole_of t ≡ finish (hands_out (whole_of s) (acts.Send h p)) = (formed_done s.mind t act handed).whole_is ∙ ap finish (kept.mind ∙ ap (hands_out (whole_of s)) is) in
       record {
         handler = h;
         turned = ap turns_to is;
@@ -128,7 +128,7 @@ module _ (s : CoreClientState) (kept : IsCoreClient s) (t : CoreClientState) (h 
   got_steps x m is there came act handed lanes_are =
       let own_is : mind_of s.mind ≡ whole_of s = mind_is s kept (acts.Await h) is (same_handed s) in
       let got_is : mind_of m ≡ mind_after_object (whole_of s) x = came ∙ ap (λ (n : ClientModel). mind_after_object n x) own_is in
-      let after : whole_of t ≡ mind_after_object (whole_of s) x = (seat_after (whole_of s) _ m t got_is act handed).whole_is in
+      let after : whole_of t ≡ mind_after_object (whole_of s) x = (formed_after (whole_of s) _ m t got_is act handed).whole_is in
       record {
         handler = h;
         turned = ap turns_to is;
@@ -144,7 +144,7 @@ module _ (s : CoreClientState) (kept : IsCoreClient s) (t : CoreClientState) (h 
   chunk_steps b bs m is there came act handed lanes_are =
       let own_is : mind_of s.mind ≡ whole_of s = mind_is s kept (acts.NeedChunk h) is (same_handed s) in
       let got_is : mind_of m ≡ mind_after_chunk (whole_of s) h = came ∙ ap (λ (n : ClientModel). mind_after_chunk n h) own_is in
-      let after : whole_of t ≡ mind_after_chunk (whole_of s) h = (seat_after (whole_of s) _ m t got_is act handed).whole_is in
+      let after : whole_of t ≡ mind_after_chunk (whole_of s) h = (formed_after (whole_of s) _ m t got_is act handed).whole_is in
       record {
         handler = h;
         turned = ap turns_to is;
@@ -154,11 +154,11 @@ module _ (s : CoreClientState) (kept : IsCoreClient s) (t : CoreClientState) (h 
       }
 
 -- its next block was reserved
-pub booked_seat : (s : CoreClientState) → IsCoreClient s → (t : CoreClientState) (u : Ticket) (m : MindState) → s.act ≡ acts.Reserve → mind_of m ≡ mind_after_begin (mind_of s.mind) u
-    → t.act ≡ next_act (mind_of m) → mind_of t.mind ≡ next_mind (mind_of m) → IsSeatOf (mind_after_begin (whole_of s) u) t
-booked_seat s kept t u m is came act handed =
+pub booked_formed : (s : CoreClientState) → IsCoreClient s → (t : CoreClientState) (u : Ticket) (m : MindState) → s.act ≡ acts.Reserve → mind_of m ≡ mind_after_begin (mind_of s.mind) u
+    → t.act ≡ next_act (mind_of m) → mind_of t.mind ≡ next_mind (mind_of m) → IsFormedOf (mind_after_begin (whole_of s) u) t
+booked_formed s kept t u m is came act handed =
     let own_is : mind_of s.mind ≡ whole_of s = mind_is s kept acts.Reserve is (same_handed s) in
-    seat_after (enters (whole_of s) u (locals_at (whole_of s).client.stage)) _ m t (came ∙ ap (λ (n : ClientModel). mind_after_begin n u) own_is) act handed
+    formed_after (enters (whole_of s) u (locals_at (whole_of s).client.stage)) _ m t (came ∙ ap (λ (n : ClientModel). mind_after_begin n u) own_is) act handed
 
 -- an act that sends to one handler sends what it sends
 send_same : (a : Act) (h g : ℕ) (p q : Parcel) → a ≡ acts.Send h p → a ≡ acts.Send g q → a ≡ acts.Send h q
@@ -173,7 +173,7 @@ send_same a h g p q one other =
     handler_in (acts.NeedChunk n) = 0
     handler_in acts.Finished = 0
 
--- the same, as the code says it: `now` is the seat, n the handler's number, and l its lane
+-- the same, as the code says it: `now` is the formed, n the handler's number, and l its lane
 module _ (s now : CoreClientState) (kept : IsCoreClient s) (same : s ≡ now) (h n : ℕ) (number : n ≡ h) (there : h < length now.lanes) (l : LaneState) (l_is : l ≡ get_or s.lanes n l) where
   inside : h < length s.lanes
   inside = subst (λ (x : CoreClientState). h < length x.lanes) (sym same) there
@@ -191,7 +191,7 @@ module _ (s now : CoreClientState) (kept : IsCoreClient s) (same : s ≡ now) (h
       → (k : LaneState) → k ≡ with_down l (l.down ++ q ∷ []) → t.lanes ≡ set_to k → IsCoreClient t × LaneSteps now t
   code_sent p q g asked is room t act handed k pushed lanes =
       let sends : s.act ≡ acts.Send h q = send_same s.act h g p q (ap (λ (x : CoreClientState). x.act) same ∙ asked) is in (
-        (seat_done s.mind t act handed).seat,
+        (formed_done s.mind t act handed).formed,
         subst (λ (x : CoreClientState). LaneSteps x t) same
             (sent_steps s kept t h q sends (subst (λ (x : LaneState). nat_lt (length x.down) lane_room ≡ true) lane_is room) act handed
             (lanes ∙ lanes_are k _ (pushed ∙ ap (λ (x : LaneState). with_down x (x.down ++ q ∷ [])) lane_is))),
@@ -202,7 +202,7 @@ module _ (s now : CoreClientState) (kept : IsCoreClient s) (same : s ≡ now) (h
   code_got x m asked lies came t act handed k taken lanes =
       let waits : s.act ≡ acts.Await h = ap (λ (y : CoreClientState). y.act) same ∙ asked in
       let own_is : mind_of s.mind ≡ whole_of s = mind_is s kept (acts.Await h) waits (same_handed s) in (
-        (seat_after (whole_of s) _ m t (came ∙ ap (λ (y : ClientModel). mind_after_object y x) own_is) act handed).seat,
+        (formed_after (whole_of s) _ m t (came ∙ ap (λ (y : ClientModel). mind_after_object y x) own_is) act handed).formed,
         subst (λ (y : CoreClientState). LaneSteps y t) same
             (got_steps s kept t h x m waits (ap (λ (y : LaneState). y.up) (sym lane_is) ∙ lies) came act handed
             (lanes ∙ lanes_are k _ (taken ∙ ap (λ (y : LaneState). with_up y None) lane_is))),
@@ -214,7 +214,7 @@ module _ (s now : CoreClientState) (kept : IsCoreClient s) (same : s ≡ now) (h
       let needs : s.act ≡ acts.NeedChunk h = ap (λ (y : CoreClientState). y.act) same ∙ asked in
       let own_is : mind_of s.mind ≡ whole_of s = mind_is s kept (acts.NeedChunk h) needs (same_handed s) in
       let rest : k ≡ with_spare (lane_at s.lanes h) k.spare = (λ i. with_spare (sym taken i) k.spare) ∙ ap (λ (y : LaneState). with_spare y k.spare) lane_is in (
-        (seat_after (whole_of s) _ m t (came ∙ ap (λ (y : ClientModel). mind_after_chunk y h) own_is) act handed).seat,
+        (formed_after (whole_of s) _ m t (came ∙ ap (λ (y : ClientModel). mind_after_chunk y h) own_is) act handed).formed,
         subst (λ (y : CoreClientState). LaneSteps y t) same
             (chunk_steps s kept t h b k.spare m needs (ap (λ (y : LaneState). y.spare) (sym lane_is ∙ taken)) came act handed
             (lanes ∙ lanes_are k _ rest)),
@@ -271,10 +271,10 @@ module _ (code : ClientCode) (size : ℕ) where
     unfolding whole_of
     first_whole = (λ k. with_act_again (handed_is k) (act_is k)) ∙ first_again
 
-    pub fresh_seat : IsSeatOf first s
-    fresh_seat = record {
+    pub fresh_formed : IsFormedOf first s
+    fresh_formed = record {
       whole_is = first_whole;
-      seat = record {
+      formed = record {
         act = act_is ∙ ap act_due (sym first_whole);
         mind = handed_is ∙ (λ k. hands_out (sym first_whole k) (sym act_is k));
       };

@@ -5,6 +5,7 @@ use Rattle.qs_objects.specs.declared.held.Ticket.{Ticket}
 use Rattle.qs_objects.specs.declared.held.Next.TheVariants as nexts
 use Rattle.qs_meaning.specs.Serial.{no_state}
 use Rattle.qs_chunk.specs.Lanes.{may_stand}
+use Rattle.qs_chunk.specs.Limits.{spare_room}
 use Rattle.qs_chunk.specs.declared.parcel.Parcel.{Parcel}
 use Rattle.qs_handler.specs.declared.mind.Act.{Act}
 use Rattle.qs_handler.specs.Handler.{is_free, Handler, act_of, free, gave, is_away, accept_parcel, accept_next, with_act}
@@ -72,7 +73,7 @@ lane_step_of_handler h acts.TakeTicket l = None
 lane_step_of_handler h (acts.TakeParcel c) l = takes_first h l l.down
 lane_step_of_handler h (acts.Give c x) l = gives_up h x l l.up
 lane_step_of_handler h (acts.Spare c chunk) l =
-    if nat_lt (length l.spare) 4 then Some (gave h, with_spare l (l.spare ++ chunk ∷ [])) else None
+    if nat_lt (length l.spare) spare_room then Some (gave h, with_spare l (l.spare ++ chunk ∷ [])) else None
 lane_step_of_handler h acts.Closed l = None
 
 -- it came to this by a step at a lane

@@ -4,6 +4,7 @@ use Rattle.std.specs.List.{AllByRecursion}
 use Rattle.qs_objects.specs.Journals.{HeldState}
 use Rattle.qs_objects.specs.declared.Request.{Request}
 use Rattle.qs_chunk.specs.Batch.{Batch, batch}
+use Rattle.qs_chunk.specs.Limits.{spare_room}
 use Rattle.qs_chunk.specs.declared.parcel.Parcel.{Parcel}
 
 -- the parcels that lie there, the object on its way up, and the empty chunks
@@ -23,7 +24,7 @@ with_spare l bs = record { down = l.down; up = l.up; spare = bs }
 
 -- nothing is on its way, and four empty chunks lie ready
 abbrev pub fresh_lane : ℕ → LaneState
-fresh_lane size = record { down = []; up = None; spare = replicate 4 (batch [] size) }
+fresh_lane size = record { down = []; up = None; spare = replicate spare_room (batch [] size) }
 
 abbrev pub lane_at : List LaneState → ℕ → LaneState
 lane_at ls h = slice_index_or ls h (fresh_lane 0)

@@ -78,7 +78,7 @@ impl CoreClient {
 
     /// What holds of every client: its act is the next one of its mind. It does nothing.
     pub fn has_next_act(&self)
-        ensures seat { IsCoreClient self.now }
+        ensures formed { IsCoreClient self.now }
         ensures mind { IsMind (mind_of self.now.mind) }
     {
         self.mind.keeps_mind();
@@ -135,7 +135,7 @@ impl CoreClient {
         requires asked { self.old.act ≡ acts.Reserve }
         requires next { ticket.index ≡ (whole_of self.old).client.begun }
         ensures booked { whole_of self.new ≡ mind_after_begin (whole_of self.old) ticket }
-        ensures seat { IsCoreClient self.new }
+        ensures formed { IsCoreClient self.new }
         ensures lanes { self.new.lanes ≡ self.old.lanes }
     {
         self.mind.booked(ticket);

@@ -103,7 +103,7 @@ impl CoreHandler {
 
     /// What holds of every handler: its act is the next one of its mind. It does nothing.
     pub fn has_next_act(&self)
-        ensures seat { IsCoreHandler self.now }
+        ensures formed { IsCoreHandler self.now }
     {
         let _ = &self.mind;
     }

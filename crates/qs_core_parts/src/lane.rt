@@ -142,14 +142,14 @@ impl Lane {
 
     /// Whether one more empty chunk finds room.
     pub fn has_chunk_room(&self) -> bool
-        ensures value { result ≡ nat_lt (length self.now.spare) 4 }
+        ensures value { result ≡ nat_lt (length self.now.spare) spare_room }
     {
         self.spare.len() < SPARE_ROOM
     }
 
     /// Gives an empty chunk back.
     pub fn put_chunk(&mut self, chunk: Chunk<Request>)
-        requires room { length self.old.spare < 4 }
+        requires room { length self.old.spare < spare_room }
         ensures put { self.new ≡ with_spare self.old (self.old.spare ++ chunk ∷ []) }
     {
         self.spare.push_back_reserved(chunk);

@@ -17,7 +17,7 @@ use Rattle.qs_meaning.specs.Solo.{put}
 use Rattle.qs_meaning.proofs.TreeWalks.{put_here, put_there}
 use Rattle.qs_graph.specs.Synced.{Synced, without_syncs}
 use Rattle.qs_syncset.specs.declared.mode.Mode.{Mode}
-use Rattle.qs_syncset.specs.Codes.{ClientCode}
+use Rattle.qs_syncset.specs.Codes.{ClientCode, AreCodes, blocks_in, reserved_of}
 use Rattle.qs_syncset.proofs.CountedSyncs.{code_asks}
 use Rattle.qs_syncset.proofs.SyncTrees.{IsAsking}
 use Rattle.qs_chunk.specs.Limits.{lane_room, spare_room}
@@ -41,11 +41,12 @@ use Rattle.qs_protocol.proofs.ActObjects.{await_at, chunk_begun, got_begun, need
 use Rattle.qs_protocol.proofs.ClientInvariants.{Lined, PlaceOk, Stops}
 use Rattle.qs_protocol.proofs.ObjectViews.{HandlerLog}
 use Rattle.qs_protocol.proofs.ReservedLists.{lined}
-use Rattle.qs_core_laws.specs.Core.{Core, AreCodes, after_handler, blocks, client_step, core_begin, core_step, gets, gives_chunk, handler_step, put_lane, reserved_of, reserves_from, settings_of, takes_chunk, takes_parcel, takes_ticket, tree_of, with_down, with_tickets}
+use Rattle.qs_core_laws.specs.Core.{Core, after_handler, client_step, core_begin, core_step, gets, gives_chunk, handler_step, put_lane, reserves_from, settings_of, takes_chunk, takes_parcel, takes_ticket, with_down, with_tickets}
+use Rattle.qs_client.specs.ClientModel.{synced_block}
 use Rattle.qs_core_laws.specs.CoreReached.{CoreStands}
 use Rattle.qs_core_laws.specs.Core as core
 use Rattle.qs_core_laws.proofs.CoreBounds.{CoreBounded, run_both, step_bounded}
-use Rattle.qs_core_laws.proofs.CoreCodes.{block_walk, reserved_is}
+use Rattle.qs_protocol.proofs.ProgramTrees.{block_walk, reserved_is}
 use Rattle.qs_core_laws.proofs.CoreInvariant.{CoreInvariant, LaneHistory}
 use Rattle.qs_core_laws.proofs.CoreReached.{stands_reached}
 use Rattle.qs_core_laws.proofs.CoreSteps.{HasInvariant, begun_by, has_more, is_between, step_kept}
@@ -184,7 +185,7 @@ module _ (p : ProgramShape) where
 
 module _ (p : ProgramShape) (sound : IsSound p) (mode : Mode) (code : ℕ → ClientCode) (codes : AreCodes p mode code) (size : ℕ) where
   abbrev names_at : ℕ → ℕ → List ℕ
-  names_at c begun = reserved_of code size (ticket c (begun - 1))
+  names_at c begun = reserved_of code (ticket c (begun - 1))
 
   -- what is left of a client's block and of those to come, with so many requests
   abbrev cost_with : ℕ → Client → ℕ → ℕ → ℕ
@@ -210,13 +211,13 @@ module _ (p : ProgramShape) (sound : IsSound p) (mode : Mode) (code : ℕ → Cl
 
   module _ (s : Core) (y : LaneHistory) (g : ℕ → HandlerLog) (k : CoreInvariant p s y g) (st : CoreStands p code size s) (n : ℕ) (left : StepsLeft s n) where
     abbrev asks_for : ℕ → Act
-    asks_for c = act_of (settings_of code size c) (blocks code size c) (s.client c)
+    asks_for c = act_of (settings_of code size c) (blocks_in code c) (s.client c)
 
     abbrev now : ℕ → Ticket
     now c = ticket c ((s.client c).begun - 1)
 
     abbrev names_of : ℕ → List ℕ
-    names_of c = reserved_of code size (now c)
+    names_of c = reserved_of code (now c)
 
     abbrev in_transit : ℕ
     in_transit = transit p s.tickets s.handler s.down
@@ -263,7 +264,7 @@ module _ (p : ProgramShape) (sound : IsSound p) (mode : Mode) (code : ℕ → Cl
         client_moves c less r.client f.need tickets down e f.needs (omega (arith, same, fits)) few
 
     names_are : (c : ℕ) → names_of c ≡ (text_of p (now c)).reserved
-    names_are c = reserved_is p sound mode code codes size (now c)
+    names_are c = reserved_is p sound mode code codes (now c)
 
     in_line : (c : ℕ) → Lined (reserves p (now c)) (names_of c)
     in_line c = subst (Lined (reserves p (now c))) (sym (names_are c)) (lined p sound (now c))
@@ -277,38 +278,38 @@ module _ (p : ProgramShape) (sound : IsSound p) (mode : Mode) (code : ℕ → Cl
     begun_of c act e non = begun_by p sound mode code codes size s y g k c act e non
 
     place : (c : ℕ) → (s.client c).begun ≡ suc ((s.client c).begun - 1)
-        → PlaceOk p (now c) (y.sent (now c)) (y.got (now c)) (s.client c) (y.page (now c)) (s.client c).stage
+        → PlaceOk p (now c) (y.sent (now c)) (y.got (now c)) (s.client c) (y.block_record (now c)) (s.client c).stage
     place c begun = k.places c ((s.client c).begun - 1) begun
 
     module _ (c : ℕ) (less : c < length p.clients) where
       send_less : (h : ℕ) (parcel : Parcel) (s' : Core) → asks_for c ≡ Send h parcel
           → core.sends code size s c h parcel ≡ Some s' → Less s' n
       send_less h parcel s' act e =
-          let begun = begun_of c (Send h parcel) act (λ l i a. not_send (settings_of code size c) (blocks code size c) (s.client c) l h parcel i a) in
-          let at = send_at p (now c) (y.sent (now c)) (y.got (now c)) (settings_of code size c) (blocks code size c) (s.client c) (y.page (now c)) (s.client c).stage (place c begun) h parcel act in
+          let begun = begun_of c (Send h parcel) act (λ l i a. not_send (settings_of code size c) (blocks_in code c) (s.client c) l h parcel i a) in
+          let at = send_at p (now c) (y.sent (now c)) (y.got (now c)) (settings_of code size c) (blocks_in code c) (s.client c) (y.block_record (now c)) (s.client c).stage (place c begun) h parcel act in
           let r : Settlement = after_parcel (settings_of code size c) (now c) (names_of c) (s.client c) h parcel in
           let way = lane_changed p s.tickets s.handler s.down h (st.clients.sends c h parcel act) c (s.down c h ++ parcel ∷ []) less in
           let longer = lane_more (s.down c h) parcel in
           one_of (nat_lt (length (s.down c h)) lane_room) _ s' e
           (acts_in_block c less r (sent_begun (settings_of code size c) (now c) (names_of c) (s.client c) h parcel) s.tickets (put_lane s.down c h (s.down c h ++ parcel ∷ [])) (parcel_cost parcel)
-          (sent_falls (names_of c) (settings_of code size c) (now c) (reserves p (now c)) (in_line c) (blocks code size c) (s.client c) h (named c h at.0) (left.need c) parcel (left.needs c) act)
+          (sent_falls (names_of c) (settings_of code size c) (now c) (reserves p (now c)) (in_line c) (blocks_in code c) (s.client c) h (named c h at.0) (left.need c) parcel (left.needs c) act)
           (omega (arith, way, longer)))
 
-      stops : PlaceOk p (now c) (y.sent (now c)) (y.got (now c)) (s.client c) (y.page (now c)) (s.client c).stage
+      stops : PlaceOk p (now c) (y.sent (now c)) (y.got (now c)) (s.client c) (y.block_record (now c)) (s.client c).stage
           → (rest : Synced) → (s.client c).stage ≡ runs rest → Stops rest
       stops ok rest is =
-          (subst (PlaceOk p (now c) (y.sent (now c)) (y.got (now c)) (s.client c) (y.page (now c))) is ok).1
+          (subst (PlaceOk p (now c) (y.sent (now c)) (y.got (now c)) (s.client c) (y.block_record (now c))) is ok).1
 
       get_less : (h : ℕ) (o : Option HeldState) (s' : Core) → asks_for c ≡ Await h → gets code size s c h o ≡ Some s'
           → Less s' n
       get_less h None s' act e = absurd (cc)
       get_less h (Some x) s' act e =
-          let begun = begun_of c (Await h) act (λ l i a. not_await (settings_of code size c) (blocks code size c) (s.client c) l h i a) in
-          let at = await_at p (now c) (y.sent (now c)) (y.got (now c)) (settings_of code size c) (blocks code size c) (s.client c) (y.page (now c)) (s.client c).stage (place c begun) h act in
+          let begun = begun_of c (Await h) act (λ l i a. not_await (settings_of code size c) (blocks_in code c) (s.client c) l h i a) in
+          let at = await_at p (now c) (y.sent (now c)) (y.got (now c)) (settings_of code size c) (blocks_in code c) (s.client c) (y.block_record (now c)) (s.client c).stage (place c begun) h act in
           let r : Settlement = take_object (settings_of code size c) (now c) (names_of c) (s.client c) x (s.client c).stage in
           subst (λ s. Less s n) (some_is _ s' e)
           (acts_in_block c less r (got_begun (settings_of code size c) (now c) (names_of c) (s.client c) h x (s.client c).stage) s.tickets s.down 0
-          (got_falls (names_of c) (settings_of code size c) (now c) (reserves p (now c)) (in_line c) (blocks code size c) (s.client c) h (named c h at.0) (s.client c).stage (left.need c) x
+          (got_falls (names_of c) (settings_of code size c) (now c) (reserves p (now c)) (in_line c) (blocks_in code c) (s.client c) h (named c h at.0) (s.client c).stage (left.need c) x
           (stops (place c begun)) (left.needs c) act)
           (omega arith))
 
@@ -316,12 +317,12 @@ module _ (p : ProgramShape) (sound : IsSound p) (mode : Mode) (code : ℕ → Cl
           → Less s' n
       chunk_less h zero s' act e = absurd (cc)
       chunk_less h (suc m) s' act e =
-          let begun = begun_of c (NeedChunk h) act (λ l i a. not_need (settings_of code size c) (blocks code size c) (s.client c) l h i a) in
-          let mine = need_at p (now c) (y.sent (now c)) (y.got (now c)) (settings_of code size c) (blocks code size c) (s.client c) (y.page (now c)) (s.client c).stage (place c begun) h act in
+          let begun = begun_of c (NeedChunk h) act (λ l i a. not_need (settings_of code size c) (blocks_in code c) (s.client c) l h i a) in
+          let mine = need_at p (now c) (y.sent (now c)) (y.got (now c)) (settings_of code size c) (blocks_in code c) (s.client c) (y.block_record (now c)) (s.client c).stage (place c begun) h act in
           let r : Settlement = take_chunk (settings_of code size c) (now c) (names_of c) (s.client c) h (s.client c).stage in
           subst (λ s. Less s n) (some_is _ s' e)
           (acts_in_block c less r (chunk_begun (settings_of code size c) (now c) (names_of c) (s.client c) h (s.client c).stage) s.tickets s.down 0
-          (need_falls (names_of c) (settings_of code size c) (now c) (reserves p (now c)) (in_line c) (blocks code size c) (s.client c) h (named c h mine) (s.client c).stage (left.need c) (left.needs c) act)
+          (need_falls (names_of c) (settings_of code size c) (now c) (reserves p (now c)) (in_line c) (blocks_in code c) (s.client c) h (named c h mine) (s.client c).stage (left.need c) (left.needs c) act)
           (omega arith))
 
       -- between blocks it has nothing in hand
@@ -330,7 +331,7 @@ module _ (p : ProgramShape) (sound : IsSound p) (mode : Mode) (code : ℕ → Cl
       empty_hands zero l b at names =
           total_none _ names (λ h. let none = (k.idle c b).1 h in hand_none (s.client c) h none.0 none.1)
       empty_hands (suc j) l b at names =
-          let ok = subst (PlaceOk p (ticket c j) (y.sent (ticket c j)) (y.got (ticket c j)) (s.client c) (y.page (ticket c j))) at (k.places c j b) in
+          let ok = subst (PlaceOk p (ticket c j) (y.sent (ticket c j)) (y.got (ticket c j)) (s.client c) (y.block_record (ticket c j))) at (k.places c j b) in
           total_none _ names (λ h. let none = ok.empty h refl in hand_none (s.client c) h none.0 none.1)
 
       -- it reserves
@@ -342,27 +343,27 @@ module _ (p : ProgramShape) (sound : IsSound p) (mode : Mode) (code : ℕ → Cl
         t = ticket c b
 
         abbrev names : List ℕ
-        names = reserved_of code size t
+        names = reserved_of code t
 
         abbrev r : Settlement
-        r = begin (settings_of code size c) t names (s.client c) (tree_of code size t l)
+        r = begin (settings_of code size c) t names (s.client c) (synced_block code t l)
 
-        most : AtMost (without_syncs (tree_of code size t l)) (block_load (text_of p t))
+        most : AtMost (without_syncs (synced_block code t l)) (block_load (text_of p t))
         most =
-            subst (λ i. AtMost i (block_load (text_of p t))) (sym (block_walk p sound mode code codes size t l some).0)
+            subst (λ i. AtMost i (block_load (text_of p t))) (sym (block_walk p sound mode code codes t l some).0)
             (tree_within p.objects (text_of p t) l (sound_block p c b sound less some).body)
 
-        asking : IsAsking (tree_of code size t l)
+        asking : IsAsking (synced_block code t l)
         asking =
             code_asks p mode c (code c) sound (codes.own c less) b (longest (code c).blocks) l some (longest_covers (code c).blocks b)
 
         begun_falls : Falls names r.client 0 (in_block names (block_load (text_of p t)) (record (s.client c) { begun = suc b }))
         begun_falls =
-            settle_falls names (settings_of code size c) t (tree_of code size t l) (record (s.client c) { begun = suc b }) (block_load (text_of p t)) most asking
+            settle_falls names (settings_of code size c) t (synced_block code t l) (record (s.client c) { begun = suc b }) (block_load (text_of p t)) most asking
 
         longer : r.client.begun ≡ suc b
         longer =
-            settle_begun (settings_of code size c) t names (tree_of code size t l) (record (s.client c) { begun = suc b })
+            settle_begun (settings_of code size c) t names (synced_block code t l) (record (s.client c) { begun = suc b })
 
         last : suc b - 1 ≡ b
         last = omega arith
@@ -378,14 +379,14 @@ module _ (p : ProgramShape) (sound : IsSound p) (mode : Mode) (code : ℕ → Cl
             → cost_of c r.client need ≡ place_cost names r.client need r.client.stage + left_from (client_at p c).blocks (suc b)
         after need =
             ap (λ b. cost_with c r.client need b) longer
-            ∙ ap (λ i. place_cost (reserved_of code size (ticket c i)) r.client need r.client.stage + left_from (client_at p c).blocks (suc b)) last
+            ∙ ap (λ i. place_cost (reserved_of code (ticket c i)) r.client need r.client.stage + left_from (client_at p c).blocks (suc b)) last
 
         reserved_less : Less (core.after_reserve code size s c t l r) n
         reserved_less =
             client_moves c less r.client begun_falls.need _ s.down (length names) begun_falls.needs
             (let fits = begun_falls.fits in
             let one = left_one core_steps_of_block (client_at p c).blocks b some in
-            let long : length names ≡ length (text_of p t).reserved = ap length (reserved_is p sound mode code codes size t) in
+            let long : length names ≡ length (text_of p t).reserved = ap length (reserved_is p sound mode code codes t) in
             let none : hands names (s.client c) ≡ 0 = empty_hands b l refl at names in
             let old = before in
             let new = after begun_falls.need in

@@ -13,7 +13,7 @@ use Rattle.qs_program.specs.Values.{Locals}
 use Rattle.qs_meaning.specs.Solo.{put, value_of}
 use Rattle.qs_meaning.proofs.TreeWalks.{put_here, put_there}
 use Rattle.qs_graph.specs.Synced.{Synced, Done, Call, Sync, Query}
-use Rattle.qs_syncset.specs.Codes.{ClientCode}
+use Rattle.qs_syncset.specs.Codes.{ClientCode, blocks_in, reserved_of}
 use Rattle.qs_chunk.specs.declared.parcel.Parcel.{Parcel}
 use Rattle.qs_chunk.specs.declared.parcel.Parcel.TheVariants as parcels
 use Rattle.qs_chunk.specs.Limits.{lane_room, spare_room}
@@ -28,7 +28,8 @@ use Rattle.qs_played.specs.declared.schedule.actor.Actor.{Actor}
 use Rattle.qs_played.specs.declared.schedule.actor.Actor.TheVariants as actor
 use Rattle.qs_played.proofs.FunctionUpdate.{put_kept}
 use Rattle.qs_protocol.proofs.ActKinds.{outside_not_send, outside_not_need, clears_not_need, full_not_need}
-use Rattle.qs_core_laws.specs.Core.{Core, blocks, client_step, core_begin, core_step, gets, gives_chunk, after_handler, handler_step, put_lane, reserved_of, reserves_from, settings_of, takes_chunk, takes_parcel, takes_ticket, tree_of, with_down, with_tickets}
+use Rattle.qs_core_laws.specs.Core.{Core, client_step, core_begin, core_step, gets, gives_chunk, after_handler, handler_step, put_lane, reserves_from, settings_of, takes_chunk, takes_parcel, takes_ticket, with_down, with_tickets}
+use Rattle.qs_client.specs.ClientModel.{synced_block}
 use Rattle.qs_core_laws.specs.CoreSchedule.{core_plays}
 use Rattle.qs_core_laws.specs.Core as core
 use Rattle.qs_core_laws.proofs.HandlerSteps.{put_lane_at, put_lane_there, some_is}
@@ -350,7 +351,7 @@ kept_by_ticket (closed x) w t e d = absurd (cc (e))
 module _ (code : ℕ → ClientCode) (size : ℕ) where
   module _ (s : Core) (k : FourChunks s) where
     abbrev asks_for : ℕ → Act
-    asks_for c = act_of (settings_of code size c) (blocks code size c) (s.client c)
+    asks_for c = act_of (settings_of code size c) (blocks_in code c) (s.client c)
 
     one_of : (test : Bool) (a s' : Core) → (if test then Some a else None) ≡ Some s' → FourChunks a → FourChunks s'
     one_of true a s' e h = subst FourChunks (some_is a s' e) h
@@ -431,31 +432,31 @@ module _ (code : ℕ → ClientCode) (size : ℕ) where
         → FourChunks s'
     send_keeps c h p s' act e =
         one_of (nat_lt (length (s.down c h)) lane_room) _ s' e
-        (sent_four c h p (after_parcel (settings_of code size c) (now c) (reserved_of code size (now c)) (s.client c) h p).client
-        (λ g. sent_opened (settings_of code size c) (blocks code size c) (now c) (reserved_of code size (now c)) (s.client c) h g p act))
+        (sent_four c h p (after_parcel (settings_of code size c) (now c) (reserved_of code (now c)) (s.client c) h p).client
+        (λ g. sent_opened (settings_of code size c) (blocks_in code c) (now c) (reserved_of code (now c)) (s.client c) h g p act))
 
     get_keeps : (c h : ℕ) (o : Option HeldState) (s' : Core) → gets code size s c h o ≡ Some s' → FourChunks s'
     get_keeps c h None s' e = absurd (cc)
     get_keeps c h (Some x) s' e =
         subst FourChunks (some_is _ s' e)
-        (client_kept c (take_object (settings_of code size c) (now c) (reserved_of code size (now c)) (s.client c) x (s.client c).stage).client
-        (λ g. got_opened (settings_of code size c) (now c) (reserved_of code size (now c)) g (s.client c) x (s.client c).stage))
+        (client_kept c (take_object (settings_of code size c) (now c) (reserved_of code (now c)) (s.client c) x (s.client c).stage).client
+        (λ g. got_opened (settings_of code size c) (now c) (reserved_of code (now c)) g (s.client c) x (s.client c).stage))
 
     chunk_keeps : (c h n : ℕ) (s' : Core) → s.spare c h ≡ n → asks_for c ≡ NeedChunk h
         → takes_chunk code size s c h n ≡ Some s' → FourChunks s'
     chunk_keeps c h zero s' some act e = absurd (cc)
     chunk_keeps c h (suc n) s' some act e =
         subst FourChunks (some_is _ s' e)
-        (taken_four c h n (take_chunk (settings_of code size c) (now c) (reserved_of code size (now c)) (s.client c) h (s.client c).stage).client some
-        (λ g. need_opened (settings_of code size c) (blocks code size c) (now c) (reserved_of code size (now c)) (s.client c) h g (s.client c).stage act))
+        (taken_four c h n (take_chunk (settings_of code size c) (now c) (reserved_of code (now c)) (s.client c) h (s.client c).stage).client some
+        (λ g. need_opened (settings_of code size c) (blocks_in code c) (now c) (reserved_of code (now c)) (s.client c) h g (s.client c).stage act))
 
     reserve_keeps : (c : ℕ) (pl : ClientStage) (s' : Core) → reserves_from code size s c pl ≡ Some s' → FourChunks s'
     reserve_keeps c (between l) s' e =
         let t : Ticket = ticket c (s.client c).begun in
-        let r : Settlement = begin (settings_of code size c) t (reserved_of code size t) (s.client c) (tree_of code size t l) in
+        let r : Settlement = begin (settings_of code size c) t (reserved_of code t) (s.client c) (synced_block code t l) in
         subst FourChunks (some_is _ s' e)
         (client_kept c r.client
-        (λ g. settle_opened (settings_of code size c) t (reserved_of code size t) g (tree_of code size t l) (record (s.client c) { begun = suc (s.client c).begun })))
+        (λ g. settle_opened (settings_of code size c) t (reserved_of code t) g (synced_block code t l) (record (s.client c) { begun = suc (s.client c).begun })))
     reserve_keeps c (runs rest) s' e = absurd (cc)
     reserve_keeps c (full h rest) s' e = absurd (cc)
     reserve_keeps c (awaits h rest) s' e = absurd (cc)

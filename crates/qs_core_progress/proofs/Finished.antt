@@ -8,7 +8,7 @@ use Rattle.qs_objects.proofs.Choices.{and_cases, apart_eqb, num_cases}
 use Rattle.qs_program.specs.Program.{ProgramShape, blocks_of}
 use Rattle.qs_program.specs.Sound.{IsSound}
 use Rattle.qs_syncset.specs.declared.mode.Mode.{Mode}
-use Rattle.qs_syncset.specs.Codes.{ClientCode}
+use Rattle.qs_syncset.specs.Codes.{ClientCode, AreCodes, blocks_in}
 use Rattle.qs_handler.specs.Handler.{Handler, free, serves, spares, gives, away, closed, is_free}
 use Rattle.qs_handler.specs.Handler as handlers
 use Rattle.qs_client.specs.ClientModel.{is_between}
@@ -21,10 +21,10 @@ use Rattle.qs_played.specs.declared.schedule.actor.Actor.{Actor}
 use Rattle.qs_played.specs.declared.schedule.actor.Actor.TheVariants as actor
 use Rattle.qs_plain_progress.proofs.Rounds.{enough_rounds}
 use Rattle.qs_protocol.proofs.ActObjects.{between_acts}
-use Rattle.qs_core_laws.specs.Core.{Core, AreCodes, blocks, client_step, core_begin, core_step, handler_step, settings_of, takes_ticket}
+use Rattle.qs_core_laws.specs.Core.{Core, client_step, core_begin, core_step, handler_step, settings_of, takes_ticket}
 use Rattle.qs_core_laws.specs.CoreReached.{CoreStands}
 use Rattle.qs_core_laws.specs.CoreSchedule.{IsPlayedIn, all_of, core_plays, core_scheduled, is_done, is_finished, is_idle}
-use Rattle.qs_core_laws.proofs.CoreCodes.{blocks_are}
+use Rattle.qs_protocol.proofs.ProgramTrees.{blocks_are}
 use Rattle.qs_core_laws.proofs.CoreReached.{reached_keeps}
 use Rattle.qs_core_progress.specs.CoreFinishing.{CoreEnoughRoundsFinish, CoreFinishedRunsStay}
 use Rattle.qs_core_progress.specs.CoreSteps.{most_core_steps_of}
@@ -54,14 +54,14 @@ module _ (p : ProgramShape) (sound : IsSound p) (mode : Mode) (code : ℕ → Cl
         and_cases (all_of (is_done p s) (range_with_len 0 (length p.clients))) (all_of (is_idle p s) (range_with_len 0 (length p.objects))) finished
 
     abbrev asks_for : ℕ → Act
-    asks_for c = act_of (settings_of code size c) (blocks code size c) (s.client c)
+    asks_for c = act_of (settings_of code size c) (blocks_in code c) (s.client c)
 
     done_asks : (c : ℕ) (pl : ClientStage) → (s.client c).stage ≡ pl → is_between pl ≡ true
         → (s.client c).begun ≡ blocks_of p c → asks_for c ≡ Finished
     done_asks c (between l) at out all =
-        let long = blocks_are p sound mode code codes size c in
-        let over : nat_lt (s.client c).begun (blocks code size c) ≡ false = rw (all, long) (grind arith) in
-        between_acts (settings_of code size c) (blocks code size c) (s.client c) l at ∙ ap (λ b. if b then Reserve else Finished) over
+        let long = blocks_are p sound mode code codes c in
+        let over : nat_lt (s.client c).begun (blocks_in code c) ≡ false = rw (all, long) (grind arith) in
+        between_acts (settings_of code size c) (blocks_in code c) (s.client c) l at ∙ ap (λ b. if b then Reserve else Finished) over
     done_asks c (runs rest) at out all = absurd (true≢false (sym out))
     done_asks c (full h rest) at out all = absurd (true≢false (sym out))
     done_asks c (awaits h rest) at out all = absurd (true≢false (sym out))

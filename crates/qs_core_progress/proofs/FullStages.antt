@@ -7,7 +7,7 @@ use Rattle.qs_objects.specs.declared.held.Ticket.{Ticket}
 use Rattle.qs_objects.specs.declared.held.Next.TheVariants as nexts
 use Rattle.qs_program.specs.Program.{ProgramShape}
 use Rattle.qs_meaning.specs.Solo.{put}
-use Rattle.qs_syncset.specs.Codes.{ClientCode}
+use Rattle.qs_syncset.specs.Codes.{ClientCode, blocks_in, reserved_of}
 use Rattle.qs_chunk.specs.Limits.{lane_room, spare_room}
 use Rattle.qs_chunk.specs.declared.parcel.Parcel.{Parcel}
 use Rattle.qs_handler.specs.Handler.{Handler, accept_next, accept_parcel}
@@ -23,7 +23,8 @@ use Rattle.qs_played.specs.declared.schedule.actor.Actor.{Actor}
 use Rattle.qs_played.specs.declared.schedule.actor.Actor.TheVariants as actor
 use Rattle.qs_played.proofs.FunctionUpdate.{put_all}
 use Rattle.qs_protocol.proofs.FullChunks.{HasFull, chunk_full, got_full, sent_full, settle_full}
-use Rattle.qs_core_laws.specs.Core.{Core, blocks, client_step, core_begin, core_step, gets, gives_chunk, after_handler, handler_step, reserved_of, reserves_from, settings_of, takes_chunk, takes_parcel, takes_ticket, tree_of, with_down, with_tickets}
+use Rattle.qs_core_laws.specs.Core.{Core, client_step, core_begin, core_step, gets, after_handler, handler_step, reserves_from, settings_of, takes_chunk, takes_parcel, takes_ticket, with_down, with_tickets}
+use Rattle.qs_client.specs.ClientModel.{synced_block}
 use Rattle.qs_core_laws.specs.CoreSchedule.{core_plays}
 use Rattle.qs_core_laws.specs.Core as core
 use Rattle.qs_core_laws.proofs.HandlerSteps.{some_is}
@@ -49,23 +50,23 @@ module _ (code : ℕ → ClientCode) (size : ℕ) where
     send_keeps : (c h : ℕ) (p : Parcel) (s' : Core) → core.sends code size s c h p ≡ Some s' → IsFull s'
     send_keeps c h p s' e =
         one_of (nat_lt (length (s.down c h)) lane_room) _ s' e
-        (comes c _ (sent_full (settings_of code size c) (now c) (reserved_of code size (now c)) (s.client c) h p (k c)))
+        (comes c _ (sent_full (settings_of code size c) (now c) (reserved_of code (now c)) (s.client c) h p (k c)))
 
     get_keeps : (c h : ℕ) (o : Option HeldState) (s' : Core) → gets code size s c h o ≡ Some s' → IsFull s'
     get_keeps c h None s' e = absurd (cc)
     get_keeps c h (Some x) s' e =
-        subst IsFull (some_is _ s' e) (comes c _ (got_full (settings_of code size c) (now c) (reserved_of code size (now c)) (s.client c) x (s.client c).stage (k c)))
+        subst IsFull (some_is _ s' e) (comes c _ (got_full (settings_of code size c) (now c) (reserved_of code (now c)) (s.client c) x (s.client c).stage (k c)))
 
     chunk_keeps : (c h n : ℕ) (s' : Core) → takes_chunk code size s c h n ≡ Some s' → IsFull s'
     chunk_keeps c h zero s' e = absurd (cc)
     chunk_keeps c h (suc n) s' e =
-        subst IsFull (some_is _ s' e) (comes c _ (chunk_full (settings_of code size c) (now c) (reserved_of code size (now c)) (s.client c) h (s.client c).stage (k c)))
+        subst IsFull (some_is _ s' e) (comes c _ (chunk_full (settings_of code size c) (now c) (reserved_of code (now c)) (s.client c) h (s.client c).stage (k c)))
 
     reserve_keeps : (c : ℕ) (pl : ClientStage) (s' : Core) → reserves_from code size s c pl ≡ Some s' → IsFull s'
     reserve_keeps c (between l) s' e =
         let t : Ticket = ticket c (s.client c).begun in
         subst IsFull (some_is _ s' e)
-        (comes c _ (settle_full (settings_of code size c) t (reserved_of code size t) (tree_of code size t l) (record (s.client c) { begun = suc (s.client c).begun })))
+        (comes c _ (settle_full (settings_of code size c) t (reserved_of code t) (synced_block code t l) (record (s.client c) { begun = suc (s.client c).begun })))
     reserve_keeps c (runs rest) s' e = absurd (cc)
     reserve_keeps c (full h rest) s' e = absurd (cc)
     reserve_keeps c (awaits h rest) s' e = absurd (cc)
@@ -106,7 +107,7 @@ module _ (code : ℕ → ClientCode) (size : ℕ) where
 
     step_full : (a : Actor) (s' : Core) → core_step code size s a ≡ Some s' → IsFull s'
     step_full (actor.Client c) s' e =
-        client_acts c (act_of (settings_of code size c) (blocks code size c) (s.client c)) s' e
+        client_acts c (act_of (settings_of code size c) (blocks_in code c) (s.client c)) s' e
     step_full (actor.Handler h) s' e = handler_keeps h (handlers.act_of (s.handler h)) s' e
 
   stays_full : (s : Core) (o : Option Core) → ((s' : Core) → o ≡ Some s' → AllFull s'.client) → AllFull s.client

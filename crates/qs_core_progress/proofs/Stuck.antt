@@ -18,7 +18,7 @@ use Rattle.qs_program.specs.Values.{Locals}
 use Rattle.qs_meaning.specs.Following.{reserves}
 use Rattle.qs_meaning.proofs.Histories.{Among}
 use Rattle.qs_syncset.specs.declared.mode.Mode.{Mode}
-use Rattle.qs_syncset.specs.Codes.{ClientCode}
+use Rattle.qs_syncset.specs.Codes.{ClientCode, AreCodes, blocks_in}
 use Rattle.qs_chunk.specs.LaneViews.{asks, gone, ClientLane, HandlerLane}
 use Rattle.qs_chunk.specs.LaneViews as views
 use Rattle.qs_chunk.specs.Lanes.{may_stand}
@@ -42,13 +42,13 @@ use Rattle.qs_protocol.proofs.ClientInvariants.{PlaceOk, standing_at}
 use Rattle.qs_protocol.proofs.FullChunks.{finished_at}
 use Rattle.qs_protocol.proofs.LaneWays.{gone_over}
 use Rattle.qs_protocol.proofs.ObjectViews.{HandlerLog, as_list, ahead, stance}
-use Rattle.qs_core_laws.specs.Core.{Core, AreCodes, after_handler, blocks, client_step, core_begin, core_step, gives_chunk, handler_step, settings_of, takes_chunk, takes_parcel, takes_ticket, with_down, with_tickets}
+use Rattle.qs_core_laws.specs.Core.{Core, after_handler, client_step, core_begin, handler_step, settings_of, takes_chunk, takes_parcel, takes_ticket, with_down, with_tickets}
 use Rattle.qs_core_laws.specs.CoreReached.{CoreStands, ReachedCore}
 use Rattle.qs_core_laws.specs.CoreSchedule.{all_of, before_it, core_plays, is_done, is_finished, is_idle}
 use Rattle.qs_core_laws.specs.Core as core
 use Rattle.qs_core_laws.proofs.CommandsInTransit.{past_left}
 use Rattle.qs_core_laws.proofs.CoreBounds.{run_both}
-use Rattle.qs_core_laws.proofs.CoreCodes.{blocks_are}
+use Rattle.qs_protocol.proofs.ProgramTrees.{blocks_are}
 use Rattle.qs_core_laws.proofs.CoreInvariant.{CoreInvariant, LaneHistory, post}
 use Rattle.qs_core_laws.proofs.CoreObjects.{Where, lent_where}
 use Rattle.qs_core_laws.proofs.CoreReached.{reached_keeps}
@@ -134,7 +134,7 @@ module _ (p : ProgramShape) (sound : IsSound p) (mode : Mode) (code : ℕ → Cl
   Goes = CanGoOn p code size s
 
   abbrev asks_for : ℕ → Act
-  asks_for c = act_of (settings_of code size c) (blocks code size c) (s.client c)
+  asks_for c = act_of (settings_of code size c) (blocks_in code c) (s.client c)
 
   inside : (t : Ticket) (h : ℕ) → reserves p t h ≡ true → h < length p.objects
   inside t h e = reserved_inside p sound t h e
@@ -156,7 +156,7 @@ module _ (p : ProgramShape) (sound : IsSound p) (mode : Mode) (code : ℕ → Cl
   record Meets (h : ℕ) (t : Ticket) : Type 0 where
     pub handler : HandlerLane t false (g h).found ((g h).received t) ((g h).gave t) (stance (s.handler h) (g h).lent)
     pub gots : (g h).gave t ≡ y.got t h ++ as_list (s.up t.client h)
-    pub client : ClientLane t false ((g h).received t ++ (g h).way t) (y.got t h) (part h (y.page t).trace) (y.stands t h)
+    pub client : ClientLane t false ((g h).received t ++ (g h).way t) (y.got t h) (part h (y.block_record t).trace) (y.stands t h)
     pub down : s.down t.client h ≡ (g h).way t ++ flat_map (g h).way (filter (λ (u : Ticket). u.client == t.client) (s.tickets h))
 
   meets : (h : ℕ) (t : Ticket) → serving (s.handler h) ≡ t ∷ [] → Meets h t
@@ -164,13 +164,13 @@ module _ (p : ProgramShape) (sound : IsSound p) (mode : Mode) (code : ℕ → Cl
       let o = k.objects h in
       let here : ahead (post s h) ≡ t ∷ s.tickets h = ap (λ q. q ++ s.tickets h) one in
       let sent = (subst (AllByRecursion (λ t. y.sent t h ≡ (g h).received t ++ (g h).way t)) here o.sent).0 in
-      let client = (subst (AllByRecursion (λ t. ClientLane t false (y.sent t h) (y.got t h) (part h (y.page t).trace) (y.stands t h))) here (deeds_ok p s y g k h).lane).0 in
+      let client = (subst (AllByRecursion (λ t. ClientLane t false (y.sent t h) (y.got t h) (part h (y.block_record t).trace) (y.stands t h))) here (deeds_ok p s y g k h).lane).0 in
       record {
         handler =
             (subst (AllByRecursion (λ t. HandlerLane t false (g h).found ((g h).received t) ((g h).gave t) (stance (s.handler h) (g h).lent))) one o.lane).0;
         gots =
             (subst (AllByRecursion (λ (t : Ticket). (g h).gave t ≡ y.got t h ++ as_list (s.up t.client h))) one o.gots).0;
-        client = subst (λ ps. ClientLane t false ps (y.got t h) (part h (y.page t).trace) (y.stands t h)) sent client;
+        client = subst (λ ps. ClientLane t false ps (y.got t h) (part h (y.block_record t).trace) (y.stands t h)) sent client;
         down =
             o.down t.client ∙ (ap (λ q. flat_map (g h).way (filter (λ (u : Ticket). u.client == t.client) q)) here ∙ first);
       }
@@ -223,7 +223,7 @@ module _ (p : ProgramShape) (sound : IsSound p) (mode : Mode) (code : ℕ → Cl
       let m = meets h u (ap serving is) in
       let gave = subst (λ v. HandlerLane u false (g h).found ((g h).received u) ((g h).gave u) (stance v (g h).lent)) is m.handler in
       let none : s.up u.client h ≡ None =
-      as_list_none (s.up u.client h) (gives_up u (g h).found x ((g h).received u) ((g h).way u) (y.got u h) ((g h).gave u) (as_list (s.up u.client h)) (part h (y.page u).trace) (y.stands u h) m.client gave m.gots) in
+      as_list_none (s.up u.client h) (gives_up u (g h).found x ((g h).received u) ((g h).way u) (y.got u h) ((g h).gave u) (as_list (s.up u.client h)) (part h (y.block_record u).trace) (y.stands u h) m.client gave m.gots) in
       inl (handler_goes t h mine (subst (λ v. IsSome (handler_step code size s h (handlers.act_of v))) (sym is) (subst (λ o. IsSome (core.gives code size s h u.client x o)) (sym none) refl)))
   by_handler t us h mine (closed x) is first = absurd ((k.objects h).opened x is)
 
@@ -233,17 +233,17 @@ module _ (p : ProgramShape) (sound : IsSound p) (mode : Mode) (code : ℕ → Cl
 
   -- the client for which a handler waits has not sent its end
   taken_all : (h : ℕ) (t : Ticket) → Waits h t
-      → ClientLane t false ((g h).received t) (y.got t h) (part h (y.page t).trace) (y.stands t h)
+      → ClientLane t false ((g h).received t) (y.got t h) (part h (y.block_record t).trace) (y.stands t h)
   taken_all h t w =
       let m = meets h t (waits_serves t (s.handler h) w.1) in
       let none : (g h).way t ≡ [] = front_none ((g h).way t) (flat_map (g h).way (filter (λ (u : Ticket). u.client == t.client) (s.tickets h))) (sym m.down ∙ w.0) in
-      subst (λ ps. ClientLane t false ps (y.got t h) (part h (y.page t).trace) (y.stands t h)) (ap (λ way. (g h).received t ++ way) none ∙ append-nil ((g h).received t)) m.client
+      subst (λ ps. ClientLane t false ps (y.got t h) (part h (y.block_record t).trace) (y.stands t h)) (ap (λ way. (g h).received t ++ way) none ∙ append-nil ((g h).received t)) m.client
 
   waits_stays : (h : ℕ) (t : Ticket) → Waits h t → y.stands t h ≡ gone → ⊥
   waits_stays h t w left =
       let m = meets h t (waits_serves t (s.handler h) w.1) in
-      let all = subst (ClientLane t false ((g h).received t) (y.got t h) (part h (y.page t).trace)) left (taken_all h t w) in
-      let over = gone_over t (g h).found ((g h).received t) (y.got t h) ((g h).gave t) (part h (y.page t).trace) (stance (s.handler h) (g h).lent) all m.handler in
+      let all = subst (ClientLane t false ((g h).received t) (y.got t h) (part h (y.block_record t).trace)) left (taken_all h t w) in
+      let over = gone_over t (g h).found ((g h).received t) (y.got t h) ((g h).gave t) (part h (y.block_record t).trace) (stance (s.handler h) (g h).lent) all m.handler in
       waits_not_over t (s.handler h) (g h).lent over.0 w.1 over.1
 
   -- so it is in this block
@@ -269,7 +269,7 @@ module _ (p : ProgramShape) (sound : IsSound p) (mode : Mode) (code : ℕ → Cl
       m : Meets h t
       m = meets h t (waits_serves t (s.handler h) w.1)
 
-      all : ClientLane t false ((g h).received t) (y.got t h) (part h (y.page t).trace) (y.stands t h)
+      all : ClientLane t false ((g h).received t) (y.got t h) (part h (y.block_record t).trace) (y.stands t h)
       all = taken_all h t w
 
       by_where : Where [] (as_list (s.up t.client h)) (y.stands t h) (g h).lent
@@ -280,12 +280,12 @@ module _ (p : ProgramShape) (sound : IsSound p) (mode : Mode) (code : ℕ → Cl
 
       by_waits : WaitsFor t (s.handler h) → (x : HeldState) × (s.up t.client h ≡ Some x)
       by_waits (inl is) =
-          absurd (asks_not_served t (g h).found is.0 ((g h).received t) (y.got t h) ((g h).gave t) (part h (y.page t).trace)
-          (subst (ClientLane t false ((g h).received t) (y.got t h) (part h (y.page t).trace)) stands all)
+          absurd (asks_not_served t (g h).found is.0 ((g h).received t) (y.got t h) ((g h).gave t) (part h (y.block_record t).trace)
+          (subst (ClientLane t false ((g h).received t) (y.got t h) (part h (y.block_record t).trace)) stands all)
           (subst (λ v. HandlerLane t false (g h).found ((g h).received t) ((g h).gave t) (stance v (g h).lent)) is.1 m.handler))
       by_waits (inr is) =
-          by_where (lent_where t (g h).found (g h).lent ((g h).received t) [] (y.got t h) ((g h).gave t) (as_list (s.up t.client h)) (part h (y.page t).trace) (y.stands t h)
-          (subst (λ ps. ClientLane t false ps (y.got t h) (part h (y.page t).trace) (y.stands t h)) (sym (append-nil ((g h).received t))) all)
+          by_where (lent_where t (g h).found (g h).lent ((g h).received t) [] (y.got t h) ((g h).gave t) (as_list (s.up t.client h)) (part h (y.block_record t).trace) (y.stands t h)
+          (subst (λ ps. ClientLane t false ps (y.got t h) (part h (y.block_record t).trace) (y.stands t h)) (sym (append-nil ((g h).received t))) all)
           (subst (λ v. HandlerLane t false (g h).found ((g h).received t) ((g h).gave t) (stance v (g h).lent)) is m.handler) m.gots)
 
   -- what a client in a block does next is at a handler that it has not left
@@ -306,28 +306,28 @@ module _ (p : ProgramShape) (sound : IsSound p) (mode : Mode) (code : ℕ → Cl
   due : (c n : ℕ) → (s.client c).begun ≡ suc n → ((l : Locals) × ((s.client c).stage ≡ between l)) ⊎ Due c (ticket c n)
   due c n begun = by_act (asks_for c) refl
     where
-      place : PlaceOk p (ticket c n) (y.sent (ticket c n)) (y.got (ticket c n)) (s.client c) (y.page (ticket c n)) (s.client c).stage
+      place : PlaceOk p (ticket c n) (y.sent (ticket c n)) (y.got (ticket c n)) (s.client c) (y.block_record (ticket c n)) (s.client c).stage
       place = k.places c n begun
 
       by_act : (act : Act) → asks_for c ≡ act → ((l : Locals) × ((s.client c).stage ≡ between l)) ⊎ Due c (ticket c n)
       by_act Reserve e =
-          inl (reserve_at p (ticket c n) (y.sent (ticket c n)) (y.got (ticket c n)) (settings_of code size c) (blocks code size c) (s.client c) (y.page (ticket c n)) (s.client c).stage place e)
+          inl (reserve_at p (ticket c n) (y.sent (ticket c n)) (y.got (ticket c n)) (settings_of code size c) (blocks_in code c) (s.client c) (y.block_record (ticket c n)) (s.client c).stage place e)
       by_act Finished e =
-          inl (finished_at p (ticket c n) (y.sent (ticket c n)) (y.got (ticket c n)) (settings_of code size c) (blocks code size c) (s.client c) (y.page (ticket c n)) (s.client c).stage place (fulls c) e)
+          inl (finished_at p (ticket c n) (y.sent (ticket c n)) (y.got (ticket c n)) (settings_of code size c) (blocks_in code c) (s.client c) (y.block_record (ticket c n)) (s.client c).stage place (fulls c) e)
       by_act (Send h parcel) e =
-          let at = send_at p (ticket c n) (y.sent (ticket c n)) (y.got (ticket c n)) (settings_of code size c) (blocks code size c) (s.client c) (y.page (ticket c n)) (s.client c).stage place h parcel e in
+          let at = send_at p (ticket c n) (y.sent (ticket c n)) (y.got (ticket c n)) (settings_of code size c) (blocks_in code c) (s.client c) (y.block_record (ticket c n)) (s.client c).stage place h parcel e in
           inr (record { object = h; mine = at.0; stays = λ left. at.1 (sym (k.stands c n begun h) ∙ left); deed = sending parcel e })
       by_act (Await h) e =
-          let at = await_at p (ticket c n) (y.sent (ticket c n)) (y.got (ticket c n)) (settings_of code size c) (blocks code size c) (s.client c) (y.page (ticket c n)) (s.client c).stage place h e in
+          let at = await_at p (ticket c n) (y.sent (ticket c n)) (y.got (ticket c n)) (settings_of code size c) (blocks_in code c) (s.client c) (y.block_record (ticket c n)) (s.client c).stage place h e in
           let stands : y.stands (ticket c n) h ≡ asks = k.stands c n begun h ∙ at.1 in
           inr (record { object = h; mine = at.0; stays = λ left. asks_not_gone (sym stands ∙ left); deed = awaiting e stands })
       by_act (NeedChunk h) e =
-          let mine = need_at p (ticket c n) (y.sent (ticket c n)) (y.got (ticket c n)) (settings_of code size c) (blocks code size c) (s.client c) (y.page (ticket c n)) (s.client c).stage place h e in
+          let mine = need_at p (ticket c n) (y.sent (ticket c n)) (y.got (ticket c n)) (settings_of code size c) (blocks_in code c) (s.client c) (y.block_record (ticket c n)) (s.client c).stage place h e in
           inr (record {
             object = h;
             mine = mine;
             stays =
-                λ left. need_stays p (ticket c n) (settings_of code size c) (blocks code size c) (s.client c) (s.client c).stage h e (sym (k.stands c n begun h) ∙ left);
+                λ left. need_stays p (ticket c n) (settings_of code size c) (blocks_in code c) (s.client c) (s.client c).stage h e (sym (k.stands c n begun h) ∙ left);
             deed = needing e;
           })
 
@@ -344,7 +344,7 @@ module _ (p : ProgramShape) (sound : IsSound p) (mode : Mode) (code : ℕ → Cl
       by_spare : (n : ℕ) → s.spare t.client h ≡ n → Goes
       by_spare zero none =
           let all = four t.client h in
-          let hand : opened ((s.client t.client).chunk h) ≡ 0 = ap opened (needs_none (settings_of code size t.client) (blocks code size t.client) (s.client t.client) (s.client t.client).stage h e) in
+          let hand : opened ((s.client t.client).chunk h) ≡ 0 = ap opened (needs_none (settings_of code size t.client) (blocks_in code t.client) (s.client t.client) (s.client t.client).stage h e) in
           let way : chunks_in (s.down t.client h) ≡ 0 = ap chunks_in w.0 in
           let back : to_give_back (s.handler h) t.client ≡ 0 = waits_gives_none t (s.handler h) t.client w.1 in
           absurd (omega (arith, all, hand, way, back, none))
@@ -401,17 +401,17 @@ module _ (p : ProgramShape) (sound : IsSound p) (mode : Mode) (code : ℕ → Cl
     is_out c (suc n) begun = elim (due c n begun) [ inl out ↦ out | inr d ↦ absurd (no_due c n begun d) ]
 
     fate : (c : ℕ) → c < length p.clients → (is_done p s c ≡ true) ⊎ Goes
-    fate c less = by_number (nat_lt (s.client c).begun (blocks code size c)) refl
+    fate c less = by_number (nat_lt (s.client c).begun (blocks_in code c)) refl
       where
         out : (l : Locals) × ((s.client c).stage ≡ between l)
         out = is_out c (s.client c).begun refl
 
-        by_number : (b : Bool) → nat_lt (s.client c).begun (blocks code size c) ≡ b → (is_done p s c ≡ true) ⊎ Goes
+        by_number : (b : Bool) → nat_lt (s.client c).begun (blocks_in code c) ≡ b → (is_done p s c ≡ true) ⊎ Goes
         by_number true e =
-            let act : asks_for c ≡ Reserve = between_acts (settings_of code size c) (blocks code size c) (s.client c) out.0 out.1 ∙ ap (λ b. if b then Reserve else Finished) e in
+            let act : asks_for c ≡ Reserve = between_acts (settings_of code size c) (blocks_in code c) (s.client c) out.0 out.1 ∙ ap (λ b. if b then Reserve else Finished) e in
             inr (client_goes c Reserve less act (subst (λ pl. IsSome (core.reserves_from code size s c pl)) (sym out.1) refl))
         by_number false e =
-            let long = blocks_are p sound mode code codes size c in
+            let long = blocks_are p sound mode code codes c in
             let most = st.tickets.begun c in
             let all : (s.client c).begun ≡ blocks_of p c = grind (arith, e, most, long) in
             inl (rw (out.1, all) (eqb_self (blocks_of p c)))

@@ -3,10 +3,10 @@ use Rattle.std.specs.Prelude.{◌≡◌, ◌≤◌, ℕ, true, None, List, Ok}
 use Rattle.qs_program.specs.Program.{ProgramShape}
 use Rattle.qs_program.specs.Sound.{IsSound}
 use Rattle.qs_syncset.specs.declared.mode.Mode.{Mode}
-use Rattle.qs_syncset.specs.Codes.{ClientCode}
+use Rattle.qs_syncset.specs.Codes.{ClientCode, AreCodes}
 use Rattle.qs_played.specs.Played.{Played}
 use Rattle.qs_played.specs.declared.schedule.actor.Actor.{Actor}
-use Rattle.qs_core_laws.specs.Core.{AreCodes, core_begin, core_step}
+use Rattle.qs_core_laws.specs.Core.{core_begin, core_step}
 use Rattle.qs_core_laws.specs.CoreSchedule.{IsPlayedIn, core_plays, is_finished}
 use Rattle.qs_core_progress.specs.CoreSteps.{most_core_steps_of}
 

@@ -3,10 +3,10 @@ use Rattle.std.specs.Prelude.{◌≡◌, ◌⊎◌, ℕ, true, IsSome, List}
 use Rattle.qs_program.specs.Program.{ProgramShape}
 use Rattle.qs_program.specs.Sound.{IsSound}
 use Rattle.qs_syncset.specs.declared.mode.Mode.{Mode}
-use Rattle.qs_syncset.specs.Codes.{ClientCode}
+use Rattle.qs_syncset.specs.Codes.{ClientCode, AreCodes}
 use Rattle.qs_played.specs.Schedule.{names_actor}
 use Rattle.qs_played.specs.declared.schedule.actor.Actor.{Actor}
-use Rattle.qs_core_laws.specs.Core.{Core, AreCodes, core_begin, core_step}
+use Rattle.qs_core_laws.specs.Core.{Core, core_begin, core_step}
 use Rattle.qs_core_laws.specs.CoreSchedule.{core_plays, is_finished}
 
 -- some client or some handler of the program has a step

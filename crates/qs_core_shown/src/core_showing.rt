@@ -124,7 +124,7 @@ pub fn are_finished(clients: &[CoreClient], handlers: &[CoreHandler]) -> bool
 /// A handler by its number.
 pub fn handler_at(handlers: &[CoreHandler], number: u8) -> &CoreHandler
     requires number { number < length handlers.now }
-    ensures seat { result.now ≡ core_handler_at handlers.now number }
+    ensures formed { result.now ≡ core_handler_at handlers.now number }
     ensures kept { IsCoreHandler result.now }
 {
     let handler = &handlers[usize::from(number)];

@@ -18,7 +18,7 @@ use Rattle.qs_program.specs.Sound.{IsSound, IsSoundBlock, is_in}
 use Rattle.qs_program.specs.Values.{Locals}
 use Rattle.qs_program.proofs.Bounds.{sound_block}
 use Rattle.qs_graph.specs.Synced.{Done, Call, Sync, Query}
-use Rattle.qs_syncset.specs.Codes.{ClientCode, IsCodeOf, code_at}
+use Rattle.qs_syncset.specs.Codes.{ClientCode, IsCodeOf, code_at, AreCodes}
 use Rattle.qs_chunk.specs.declared.parcel.Parcel.TheVariants as parcels
 use Rattle.qs_handler.specs.Handler.{Handler, act_of, accept_next, serving}
 use Rattle.qs_handler.proofs.HandlerActs.{acts_lose_nothing}
@@ -31,14 +31,14 @@ use Rattle.qs_client_rules.specs.declared.act.Act.TheVariants as wants
 use Rattle.qs_played.specs.Played.{ticket}
 use Rattle.qs_played.specs.declared.schedule.actor.Actor.{Actor}
 use Rattle.qs_played.specs.declared.schedule.actor.Actor.TheVariants as actor
-use Rattle.qs_core_laws.specs.Core.{AreCodes, Core, core_step}
+use Rattle.qs_core_laws.specs.Core.{Core, core_step}
 use Rattle.qs_core_laws.specs.CoreReached.{CoreStands, IsBegun, ReachedCore}
 use Rattle.qs_core_laws.specs.CoreSchedule.{before_it}
 use Rattle.qs_core_parts.specs.CoreClients.{AreStocked, CoreClientState, IsCoreClient, whole_of}
 use Rattle.qs_core_parts.specs.CoreHandlers.{CanEnterAll, CoreHandlerState, IsCoreHandler, TakesTicket, with_ticket_at_all, handler_with_act, no_core_handler, core_handler_at}
 use Rattle.qs_core_parts.specs.LaneStates.{IsStocked}
 use Rattle.qs_core_parts.proofs.CoreMinds.{whole_mind}
-use Rattle.qs_core_parts.proofs.ClientModels.{IsSeatOf}
+use Rattle.qs_core_parts.proofs.ClientModels.{IsFormedOf}
 use Rattle.qs_core_state.specs.CoreState.{CoreKeeps, CoreState, CoreSteps, IsCoreState, IsSide, ClientPart, all_blocks, codes_of, core_from, core_of, core_handler_of, client_part_at, client_part, tickets_at}
 use Rattle.qs_core_state.proofs.CoreEntering.{can_enter, handlers_entered, length_entered, order_few, rooms_entered, tickets_entered}
 use Rattle.qs_core_state.proofs.CoreFields.{each, field_kept}
@@ -98,7 +98,7 @@ reserving_at n asked = by_place n.client.stage refl asked
 module _ (s : CoreState) (kept : IsCoreState s) (sound : IsSound s.program) (keeps : CoreKeeps s)
     (keeps_on : (a : Actor) (x : Core) → core_step (codes_of s) s.size (core_of s) a ≡ Some x → ReachedCore s.program (codes_of s) s.size x)
     (c : ℕ) (inside : c < length s.clients) (old : CoreClientState) (here : client_part_at s.clients c ≡ client_part old)
-    (seat : IsCoreClient old) (stocked : AreStocked old) (ok : IsMind (mind_of old.mind)) (asked : old.act ≡ wants.Reserve) where
+    (formed : IsCoreClient old) (stocked : AreStocked old) (ok : IsMind (mind_of old.mind)) (asked : old.act ≡ wants.Reserve) where
   abbrev own : ClientModel
   own = whole_of old
 
@@ -106,7 +106,7 @@ module _ (s : CoreState) (kept : IsCoreState s) (sound : IsSound s.program) (kee
   host = (client_part_at s.clients c).mind
 
   own_ok : IsMind own
-  own_ok = whole_mind old seat ok
+  own_ok = whole_mind old formed ok
 
   host_is : host ≡ own
   host_is = ap (λ (x : ClientPart). x.mind) here
@@ -118,7 +118,7 @@ module _ (s : CoreState) (kept : IsCoreState s) (sound : IsSound s.program) (kee
   list = (block_at s.program c own.client.begun).reserved
 
   wants_it : act_due host ≡ wants.Reserve
-  wants_it = ap act_due host_is ∙ sym seat.act ∙ asked
+  wants_it = ap act_due host_is ∙ sym formed.act ∙ asked
 
   room : (l : Locals) × (host.client.stage ≡ between l) × (host.client.begun < length host.code.blocks)
   room = reserving_at host wants_it
@@ -211,7 +211,7 @@ module _ (s : CoreState) (kept : IsCoreState s) (sound : IsSound s.program) (kee
           let roomy : all_blocks s.program ≤ (core_handler_at s.handlers h).room = AllByRecursion-get_or (λ (x : CoreHandlerState). all_blocks s.program ≤ x.room) s.handlers h no_core_handler kept.rooms less in
           omega (arith, longer h member, ap length queue, roomy)
 
-  module _ (new : CoreClientState) (came : IsSeatOf (mind_after_begin own now) new) (lanes_stay : new.lanes ≡ old.lanes) where
+  module _ (new : CoreClientState) (came : IsFormedOf (mind_after_begin own now) new) (lanes_stay : new.lanes ≡ old.lanes) where
     abbrev pub booked_after : CoreState
     booked_after = record { program = s.program; size = s.size; order = s.order ++ now ∷ []; clients = set s.clients c new; handlers = with_ticket_at_all now s.handlers list }
 
@@ -278,9 +278,9 @@ module _ (s : CoreState) (kept : IsCoreState s) (sound : IsSound s.program) (kee
 
 -- a handler takes the first ticket of its queue
 module _ (s : CoreState) (kept : IsCoreState s) (h : ℕ) (inside : h < length s.handlers) (old : CoreHandlerState) (here : core_handler_of s.program s.handlers h ≡ handler_with_act old)
-    (queue : tickets_at s.handlers h ≡ old.tickets) (seat : IsCoreHandler old) (roomy : all_blocks s.program ≤ old.room) (asked : old.act ≡ acts.TakeTicket) where
+    (queue : tickets_at s.handlers h ≡ old.tickets) (formed : IsCoreHandler old) (roomy : all_blocks s.program ≤ old.room) (asked : old.act ≡ acts.TakeTicket) where
   abbrev wants_ticket : act_of (core_handler_of s.program s.handlers h) ≡ acts.TakeTicket
-  wants_ticket = ap act_of here ∙ sym seat.act ∙ asked
+  wants_ticket = ap act_of here ∙ sym formed.act ∙ asked
 
   pub ticket_rests : old.tickets ≡ [] → core_step (codes_of s) s.size (core_of s) (actor.Handler h) ≡ None
   unfolding core_of

@@ -11,13 +11,13 @@ use Rattle.qs_objects.specs.declared.held.Ticket.{Ticket}
 use Rattle.qs_program.specs.Program.{ClientShape, ProgramShape, blocks_of, no_client, text_of}
 use Rattle.qs_program.specs.Sound.{IsSound}
 use Rattle.qs_syncset.specs.declared.mode.Mode.{Mode}
-use Rattle.qs_syncset.specs.Codes.{BlockCode, ClientCode, IsCodeOf, code_at, no_code}
+use Rattle.qs_syncset.specs.Codes.{BlockCode, ClientCode, IsCodeOf, code_at, no_code, AreCodes}
 use Rattle.qs_sync_counts.specs.SyncRows.{fresh_rows, no_syncs}
 use Rattle.qs_handler.specs.Handler.{free}
 use Rattle.qs_client.specs.ClientModel.{ClientModel, fresh_mind, lists_of_code}
 use Rattle.qs_played.specs.JournalRooms.{fresh_held}
-use Rattle.qs_core_laws.specs.Core.{AreCodes, core_begin}
-use Rattle.qs_core_laws.proofs.CoreCodes.{reserved_is}
+use Rattle.qs_core_laws.specs.Core.{core_begin}
+use Rattle.qs_protocol.proofs.ProgramTrees.{reserved_is}
 use Rattle.qs_core_parts.specs.CoreClients.{AreStocked, CoreClientState, whole_of}
 use Rattle.qs_core_parts.specs.CoreHandlers.{CoreHandlerState, handler_with_act, no_core_handler}
 use Rattle.qs_core_parts.specs.LaneStates.{IsStocked, LaneState, fresh_lane, lane_at}
@@ -85,13 +85,13 @@ module _ (p : ProgramShape) (mode : Mode) (chunk room : ℕ) (cs : List CoreClie
   in_list c d less = map_here client_part cs c d no_client_part (subst (λ n. c < n) (sym clients.many) less)
 
   -- the client of this number
-  seat_of : (c : ℕ) → c < length p.clients → CoreClientState
-  seat_of c less = pick cs c (subst (λ n. c < n) (sym clients.many) less)
+  formed_of : (c : ℕ) → c < length p.clients → CoreClientState
+  formed_of c less = pick cs c (subst (λ n. c < n) (sym clients.many) less)
 
   fresh_inside : (c : ℕ) → c < length p.clients → IsFreshSide (client_part_at cs c)
   fresh_inside c less =
-      let f = clients.each c (seat_of c less) less in
-      subst IsFreshSide (sym (in_list c (seat_of c less) less)) (record { code = f.code; chunk = chunk; lanes_of = length p.objects; mind = f.mind; lanes = f.lanes })
+      let f = clients.each c (formed_of c less) less in
+      subst IsFreshSide (sym (in_list c (formed_of c less) less)) (record { code = f.code; chunk = chunk; lanes_of = length p.objects; mind = f.mind; lanes = f.lanes })
 
   out_of : {A : Type 0} (xs : List A) (c : ℕ) (d : A) → length xs ≤ c → get_or xs c d ≡ d
   out_of [] c d out = refl
@@ -110,8 +110,8 @@ module _ (p : ProgramShape) (mode : Mode) (chunk room : ℕ) (cs : List CoreClie
 
   codes_inside : (c : ℕ) → c < length p.clients → IsCodeOf p mode c (codes_of fresh_state c)
   codes_inside c less =
-      let f = clients.each c (seat_of c less) less in
-      subst (IsCodeOf p mode c) (sym (ap (λ (x : ClientPart). x.mind.code) (in_list c (seat_of c less) less) ∙ ap (λ (m : ClientModel). m.code) f.mind)) f.of
+      let f = clients.each c (formed_of c less) less in
+      subst (IsCodeOf p mode c) (sym (ap (λ (x : ClientPart). x.mind.code) (in_list c (formed_of c less) less) ∙ ap (λ (m : ClientModel). m.code) f.mind)) f.of
 
   pub codes_are : AreCodes p mode (codes_of fresh_state)
   codes_are = record { own = codes_inside; none = λ c out. ap (λ (x : ClientPart). x.mind.code.blocks) (beyond c out) }
@@ -145,7 +145,7 @@ module _ (p : ProgramShape) (mode : Mode) (chunk room : ℕ) (cs : List CoreClie
   counts_are t =
       ap (λ (m : ClientModel). get_or m.counts t.index []) (fresh_side t.client).mind
       ∙ (none_counted (fresh_side t.client).code.blocks t.index
-      ∙ ap no_syncs (ap (λ (m : ClientModel). (code_at m.code t.index).reserved) (sym (fresh_side t.client).mind) ∙ reserved_is p sound mode (codes_of fresh_state) codes_are chunk t))
+      ∙ ap no_syncs (ap (λ (m : ClientModel). (code_at m.code t.index).reserved) (sym (fresh_side t.client).mind) ∙ reserved_is p sound mode (codes_of fresh_state) codes_are t))
 
   pub begins : core_of fresh_state ≡ core_begin p
   unfolding core_of
@@ -181,7 +181,7 @@ module _ (p : ProgramShape) (mode : Mode) (chunk room : ℕ) (cs : List CoreClie
     handlers = handlers.many;
     sides = λ c less.
         let inside : c < length p.clients = omega (arith, less, clients.many) in
-        let d = seat_of c inside in
+        let d = formed_of c inside in
         let f = clients.each c d inside in
         subst (IsSide p chunk c) (sym (in_list c d inside)) (record {
           lanes = ap length f.lanes ∙ length_replicate (length p.objects) (fresh_lane chunk);

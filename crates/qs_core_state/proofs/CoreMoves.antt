@@ -21,13 +21,14 @@ use Rattle.qs_client_rules.proofs.CarriedValues.{sends_are_parted}
 use Rattle.qs_client_rules.specs.declared.act.Act.TheVariants as wants
 use Rattle.qs_played.specs.Played.{ticket}
 use Rattle.qs_played.specs.declared.schedule.actor.Actor.TheVariants as actor
-use Rattle.qs_core_laws.specs.Core.{AreCodes, Core, client_step, core_step}
+use Rattle.qs_core_laws.specs.Core.{Core, client_step, core_step}
+use Rattle.qs_syncset.specs.Codes.{AreCodes}
 use Rattle.qs_core_parts.specs.CoreClients.{AreStocked, CoreClientState, HasLane, IsCoreClient, LaneStays, LaneSteps, lane_step_of_client, turns_to, whole_of}
 use Rattle.qs_core_parts.specs.CoreHandlers.{CoreHandlerState, IsCoreHandler, handler_with_act}
 use Rattle.qs_core_parts.specs.LaneStates.{IsStocked, LaneState, lane_at}
 use Rattle.qs_core_parts.proofs.LaneStock.{handler_stocked}
 use Rattle.qs_core_parts.proofs.CoreMinds.{KeepsMind, lane_begun, step_keeps, whole_mind}
-use Rattle.qs_core_parts.specs.CoreHandlers as seats
+use Rattle.qs_core_parts.specs.CoreHandlers as forms
 use Rattle.qs_core_state.specs.CoreState.{CoreState, CoreSteps, IsCoreState, IsSide, ClientPart, all_blocks, codes_of, core_from, core_of, core_handler_of, client_part_at, client_part, tickets_at}
 use Rattle.qs_core_state.proofs.CoreFields.{field_kept, each}
 use Rattle.qs_core_state.proofs.CoreLists.{all_set, handler_put, side_put, tickets_keep}
@@ -50,7 +51,7 @@ all_put P n g c a here others m less = by_test (c == m) refl
     by_test false e = others m less
 
 module _ (s : CoreState) (kept : IsCoreState s) (c : ℕ) (inside : c < length s.clients) (old : CoreClientState) (here : client_part_at s.clients c ≡ client_part old)
-    (seat : IsCoreClient old) (stocked : AreStocked old) (ok : IsMind (mind_of old.mind)) (has_lane : HasLane old) (new : CoreClientState) (moves : LaneSteps old new) where
+    (formed : IsCoreClient old) (stocked : AreStocked old) (ok : IsMind (mind_of old.mind)) (has_lane : HasLane old) (new : CoreClientState) (moves : LaneSteps old new) where
   abbrev own : ClientModel
   own = whole_of old
 
@@ -58,7 +59,7 @@ module _ (s : CoreState) (kept : IsCoreState s) (c : ℕ) (inside : c < length s
   after = with_clients s (set s.clients c new)
 
   own_ok : IsMind own
-  own_ok = whole_mind old seat ok
+  own_ok = whole_mind old formed ok
 
   own_here : (client_part_at s.clients c).mind ≡ own
   own_here = ap (λ (x : ClientPart). x.mind) here
@@ -70,7 +71,7 @@ module _ (s : CoreState) (kept : IsCoreState s) (c : ℕ) (inside : c < length s
   is_side = subst (IsSide s.program s.size c) here (kept.sides c inside)
 
   some : 0 < own.client.begun
-  some = lane_begun own moves.handler own_ok (ap turns_to (sym seat.act) ∙ moves.turned)
+  some = lane_begun own moves.handler own_ok (ap turns_to (sym formed.act) ∙ moves.turned)
 
   own_ticket : own.ticket ≡ ticket c (own.client.begun - 1)
   own_ticket =
@@ -99,7 +100,7 @@ module _ (s : CoreState) (kept : IsCoreState s) (c : ℕ) (inside : c < length s
       ≡ result_of (lane_step_of_client (sides c).mind old.act (lane_at (sides c).lanes moves.handler))
   stepped =
       clients.at_lane s.order sides (core_handler_of s.program s.handlers) (tickets_at s.handlers) c owned traced counted moves.handler lane_here sends_are_parted old.act
-      (ap act_due own_here ∙ sym seat.act) moves.turned
+      (ap act_due own_here ∙ sym formed.act) moves.turned
 
   sides_are : put sides c (record { mind = whole_of new; lanes = set (sides c).lanes moves.handler moves.lane }) ≡ client_part_at (set s.clients c new)
   sides_are =
@@ -150,12 +151,12 @@ module _ (s : CoreState) (kept : IsCoreState s) (c : ℕ) (inside : c < length s
 
 -- where a client can't step at a lane, and does not reserve, it has no step
 module _ (s : CoreState) (kept : IsCoreState s) (c : ℕ) (inside : c < length s.clients) (old : CoreClientState) (here : client_part_at s.clients c ≡ client_part old)
-    (seat : IsCoreClient old) (ok : IsMind (mind_of old.mind)) (has_lane : HasLane old) (stays : LaneStays old) where
+    (formed : IsCoreClient old) (ok : IsMind (mind_of old.mind)) (has_lane : HasLane old) (stays : LaneStays old) where
   abbrev at_rest : Type 0
   at_rest = core_step (codes_of s) s.size (core_of s) (actor.Client c) ≡ None
 
   asked : act_due (client_part_at s.clients c).mind ≡ old.act
-  asked = ap (λ (x : ClientPart). act_due x.mind) here ∙ sym seat.act
+  asked = ap (λ (x : ClientPart). act_due x.mind) here ∙ sym formed.act
 
   size_is : (client_part_at s.clients c).mind.size ≡ s.size
   size_is = (kept.sides c inside).size
@@ -169,8 +170,8 @@ module _ (s : CoreState) (kept : IsCoreState s) (c : ℕ) (inside : c < length s
   waits : (h : ℕ) → turns_to old.act ≡ Some h → at_rest
   unfolding core_of
   waits h turned =
-      let ok' = whole_mind old seat ok in
-      let some : 0 < (whole_of old).client.begun = lane_begun (whole_of old) h ok' (ap turns_to (sym seat.act) ∙ turned) in
+      let ok' = whole_mind old formed ok in
+      let some : 0 < (whole_of old).client.begun = lane_begun (whole_of old) h ok' (ap turns_to (sym formed.act) ∙ turned) in
       let index : (whole_of old).ticket.index ≡ (whole_of old).client.begun - 1 = omega (arith, ok'.ticket some) in
       let owner : (whole_of old).ticket.client ≡ c = subst (λ (x : ClientPart). 0 < x.mind.client.begun → x.mind.ticket.client ≡ c) here (kept.sides c inside).owner some in
       let owned : (client_part_at s.clients c).mind.ticket ≡ ticket c ((client_part_at s.clients c).mind.client.begun - 1) =
@@ -196,10 +197,10 @@ module _ (s : CoreState) (kept : IsCoreState s) (c : ℕ) (inside : c < length s
       by_act (wants.NeedChunk h) e = waits h (ap turns_to e)
       by_act wants.Finished e = ends e
 
--- a handler's step at the lane of client c, whose seat is `guest`
+-- a handler's step at the lane of client c, whose formed is `guest`
 module _ (s : CoreState) (kept : IsCoreState s) (h : ℕ) (inside : h < length s.handlers) (old : CoreHandlerState) (here : core_handler_of s.program s.handlers h ≡ handler_with_act old)
-    (queue : tickets_at s.handlers h ≡ old.tickets) (seat : IsCoreHandler old) (roomy : all_blocks s.program ≤ old.room)
-    (c : ℕ) (turned : seats.turns_to old.act ≡ Some c) (there : c < length s.clients) (guest : CoreClientState) (found : client_part_at s.clients c ≡ client_part guest) (stocked : AreStocked guest) where
+    (queue : tickets_at s.handlers h ≡ old.tickets) (formed : IsCoreHandler old) (roomy : all_blocks s.program ≤ old.room)
+    (c : ℕ) (turned : forms.turns_to old.act ≡ Some c) (there : c < length s.clients) (guest : CoreClientState) (found : client_part_at s.clients c ≡ client_part guest) (stocked : AreStocked guest) where
   abbrev host : Handler
   host = core_handler_of s.program s.handlers h
 
@@ -209,22 +210,22 @@ module _ (s : CoreState) (kept : IsCoreState s) (h : ℕ) (inside : h < length s
   abbrev handler_result : Option (Handler × LaneState) → Option Core
   handler_result = handlers.result_of (codes_of s) s.size s.order (client_part_at s.clients) (core_handler_of s.program s.handlers) (tickets_at s.handlers) h c lane_of_guest
 
-  met : core_step (codes_of s) s.size (core_of s) (actor.Handler h) ≡ handler_result (seats.lane_step_of_handler (handler_with_act old) old.act (lane_at guest.lanes h))
+  met : core_step (codes_of s) s.size (core_of s) (actor.Handler h) ≡ handler_result (forms.lane_step_of_handler (handler_with_act old) old.act (lane_at guest.lanes h))
   unfolding core_of
   met =
       handlers.at_lane (codes_of s) s.size s.order (client_part_at s.clients) (core_handler_of s.program s.handlers) (tickets_at s.handlers) h c lane_of_guest old.act
-      (ap act_of here ∙ sym seat.act) turned
-      ∙ (λ k. handler_result (seats.lane_step_of_handler (here k) old.act (lane_at (found k).lanes h)))
+      (ap act_of here ∙ sym formed.act) turned
+      ∙ (λ k. handler_result (forms.lane_step_of_handler (here k) old.act (lane_at (found k).lanes h)))
 
-  pub handler_rests : seats.lane_step_of_handler (handler_with_act old) old.act (lane_at guest.lanes h) ≡ None → core_step (codes_of s) s.size (core_of s) (actor.Handler h) ≡ None
+  pub handler_rests : forms.lane_step_of_handler (handler_with_act old) old.act (lane_at guest.lanes h) ≡ None → core_step (codes_of s) s.size (core_of s) (actor.Handler h) ≡ None
   handler_rests none = met ∙ ap handler_result none
 
   module _ (fits : (b : Batch Request) → old.act ≡ acts.Spare c b → b ≡ batch [] (whole_of guest).size) (new : CoreHandlerState) (k : LaneState)
-      (moves : seats.LaneSteps old (lane_at guest.lanes h) new k) where
+      (moves : forms.LaneSteps old (lane_at guest.lanes h) new k) where
     abbrev next : Handler
     next = moves.0
 
-    -- the client's seat with the lane as it is then
+    -- the client's formed with the lane as it is then
     abbrev pub client_after_visit : CoreClientState
     client_after_visit = record { mind = guest.mind; act = guest.act; lanes = set guest.lanes h k }
 

@@ -10,7 +10,7 @@ use Rattle.qs_objects.specs.declared.held.Ticket.{Ticket}
 use Rattle.qs_objects.specs.declared.held.Next.TheVariants as nexts
 use Rattle.qs_objects.proofs.Choices.{apart_eqb, num_cases}
 use Rattle.qs_meaning.proofs.TreeWalks.{put_there}
-use Rattle.qs_syncset.specs.Codes.{ClientCode}
+use Rattle.qs_syncset.specs.Codes.{ClientCode, blocks_in}
 use Rattle.qs_chunk.specs.declared.parcel.Parcel.{Parcel}
 use Rattle.qs_chunk.specs.Limits.{lane_room, spare_room}
 use Rattle.qs_handler.specs.Handler.{Handler, accept_next, accept_parcel}
@@ -22,7 +22,7 @@ use Rattle.qs_client_rules.specs.declared.act.Act.{Act}
 use Rattle.qs_client_rules.specs.declared.act.Act.TheVariants as wants
 use Rattle.qs_played.specs.declared.schedule.actor.Actor.{Actor}
 use Rattle.qs_played.specs.declared.schedule.actor.Actor.TheVariants as actor
-use Rattle.qs_core_laws.specs.Core.{Core, after_handler, blocks, client_step, core_step, gets, gives, handler_step, reserves_from, settings_of, takes_chunk, takes_parcel, takes_ticket, with_down, with_tickets}
+use Rattle.qs_core_laws.specs.Core.{Core, after_handler, client_step, core_step, gets, gives, handler_step, reserves_from, settings_of, takes_chunk, takes_parcel, takes_ticket, with_down, with_tickets}
 use Rattle.qs_core_laws.proofs.HandlerSteps.{put_lane_there}
 use Rattle.qs_core_parts.specs.CoreClients.{turns_to}
 use Rattle.qs_core_parts.specs.CoreHandlers.{turns_to as client_turned_to}
@@ -86,8 +86,8 @@ module _ (code : ℕ → ClientCode) (size : ℕ) where
 
     client_stays : core_step code size s (actor.Client d) ≡ None → core_step code size x (actor.Client d) ≡ None
     client_stays e =
-        subst (λ (m : Client). client_step code size x d (act_of (settings_of code size d) (blocks code size d) m) ≡ None) (sym same.client)
-        (no_act (act_of (settings_of code size d) (blocks code size d) (s.client d)) e)
+        subst (λ (m : Client). client_step code size x d (act_of (settings_of code size d) (blocks_in code d) m) ≡ None) (sym same.client)
+        (no_act (act_of (settings_of code size d) (blocks_in code d) (s.client d)) e)
 
   module _ (s x : Core) (g : ℕ) (same : SameHandler s x g) where
     no_handler : (y z : Core) (o : Option Handler) → after_handler code size y g o ≡ None → after_handler code size z g o ≡ None
@@ -280,7 +280,7 @@ module _ (f g : StuckFlags) (s x : CoreState) (stuck : AreStuck f s) where
 
   module _ (c : ℕ) (steps : CoreSteps s (actor.Client c) x) (free : get_or f.clients c false ≡ false) where
     abbrev act : Act
-    act = act_of (settings_of (codes_of s) s.size c) (blocks (codes_of s) s.size c) ((core_of s).client c)
+    act = act_of (settings_of (codes_of s) s.size c) (blocks_in (codes_of s) c) ((core_of s).client c)
 
     other_client : (d : ℕ) → get_or f.clients d false ≡ true → IsStuck x (actor.Client d)
     other_client d e =

@@ -6,16 +6,16 @@ use Rattle.qs_objects.specs.declared.held.Ticket.{Ticket}
 use Rattle.qs_program.specs.Shapes.{program_code}
 use Rattle.qs_program.specs.Program.{ProgramShape, blocks_of}
 use Rattle.qs_syncset.specs.declared.mode.Mode.{Mode}
-use Rattle.qs_syncset.specs.Codes.{ClientCode, IsCodeOf}
+use Rattle.qs_syncset.specs.Codes.{ClientCode, IsCodeOf, AreCodes}
 use Rattle.qs_handler.specs.Handler.{Handler, free}
 use Rattle.qs_client.specs.ClientModel.{ClientModel, fresh_mind}
 use Rattle.qs_played.specs.Isolation.{IsIsolated}
 use Rattle.qs_played.specs.declared.schedule.actor.Actor.{Actor}
 use Rattle.qs_played.specs.Played.{Played}
 use Rattle.qs_played.specs.SyncSums.{AreSyncsCounted}
-use Rattle.qs_plain.specs.Rules.{ticket_code}
+use Rattle.qs_objects.specs.Journals.{ticket_code}
 use Rattle.qs_played.specs.JournalRooms.{fresh_held}
-use Rattle.qs_core_laws.specs.Core.{AreCodes, Core, core_begin, core_step}
+use Rattle.qs_core_laws.specs.Core.{Core, core_begin, core_step}
 use Rattle.qs_core_laws.specs.CoreReached.{ReachedCore}
 use Rattle.qs_core_laws.specs.CoreSchedule.{core_played, core_plays, core_scheduled, on_way}
 use Rattle.qs_core_parts.specs.CoreClients.{AreStocked, CoreClientState, whole_of}

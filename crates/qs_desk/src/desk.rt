@@ -101,7 +101,7 @@ impl<D: DeskName> Desk<D> {
         self.book_and_tell(rt, share).0
     }
 
-    /// The same, which tells which handlers were reserved.
+    /// Books a client's next block, and says which handlers were reserved.
     pub(crate) fn book_and_tell<R: Wait>(
         &mut self,
         rt: &R,

@@ -64,7 +64,8 @@ impl<D: DeskName> Front<D> {
         self.book(rt, share).0
     }
 
-    /// The same. Once the lock is given back it wakes each handler that was reserved and sleeps until it gets a ticket.
+    /// Reserves for a client's next block, like `reserve`. Once the lock is given back it wakes each handler that was
+    /// reserved and sleeps until it gets a ticket.
     pub fn reserve_and_wake_handlers<R: Wait>(&self, rt: &R, share: &mut Share<D>) -> Ticket
         requires left { share.old.count < blocks_of D.program share.old.client }
         ensures ticket { result ≡ ticket share.old.client share.old.count }

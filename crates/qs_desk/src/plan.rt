@@ -30,7 +30,7 @@ impl Model for Reserved {
     ghost view = { λ r. r.objects.items };
 }
 
-/// The same for each block of a client.
+/// What each block of a client reserves.
 pub struct Blocks {
     blocks: Vec<Reserved>,
 }
@@ -49,7 +49,7 @@ impl Model for Blocks {
     ghost view = { λ b. b.blocks.items };
 }
 
-/// The same for each client.
+/// What each block of each client reserves.
 pub struct Plan {
     clients: Vec<Blocks>,
 }

@@ -162,7 +162,7 @@ fn take_all<D: DeskName, R: Wait>(
     Ok(())
 }
 
-// The same; none where memory is refused.
+// All that is taken from a queue of tickets; none where memory is refused.
 fn taken_at<D: DeskName, R: Wait>(
     rt: &R,
     alloc: Global,
@@ -346,7 +346,7 @@ fn take_at_desk<D: DeskName + Send + Sync, R: Threads + Wait + Sync>(
     Some(taken_at_once(rt, opened))
 }
 
-// The same at a new desk; none where memory is refused.
+// Two clients that reserve at once at a new desk; none where memory is refused.
 fn taken_at_desk<R: Threads + Wait + Sync>(rt: &R, alloc: Global, program: &Program) -> Option<u8> {
     let raw = RawDesk::new(alloc, program).ok()?;
     take_at_desk::<Brand, R>(rt, raw)

@@ -4,7 +4,11 @@ use Rattle.std.specs.Int.{bit_at}
 use Rattle.qs_objects.specs.ByteSets.{in_byte}
 use Rattle.qs_program.specs.Limits.{most_handlers}
 
--- for each of 8 handlers whether a set has it
+-- the set of all handlers
+abbrev pub every_handler : ℕ
+every_handler = 255
+
+-- for each handler whether a set has it
 abbrev pub truths : ℕ → List Bool
 truths set =
     in_byte set 0 ∷ in_byte set 1 ∷ in_byte set 2 ∷ in_byte set 3 ∷ in_byte set 4 ∷ in_byte set 5 ∷ in_byte set 6

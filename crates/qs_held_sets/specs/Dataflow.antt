@@ -4,7 +4,7 @@ use Rattle.std.specs.List.{sum_by}
 use Rattle.qs_program.specs.Limits.{most_handlers}
 use Rattle.qs_graph.specs.Nodes.{ControlGraph}
 use Rattle.qs_objects.specs.ByteSets.{in_byte}
-use Rattle.qs_held_sets.specs.Bytes.{size}
+use Rattle.qs_held_sets.specs.Bytes.{every_handler, size}
 use Rattle.qs_held_sets.specs.Flow.{Holding, AreWitnessed, IsAtEntry, IsPassedOn}
 
 -- for each node whether it is reached, and the handlers that no path yet shows to be missing; and the worklist
@@ -20,7 +20,7 @@ abbrev pub reached_at : State → ℕ → Bool
 reached_at s n = slice_index_or s.reached n false
 
 abbrev pub set_at : State → ℕ → ℕ
-set_at s n = slice_index_or s.sets n 255
+set_at s n = slice_index_or s.sets n every_handler
 
 abbrev pub holding_of_node : State → ℕ → Holding
 holding_of_node s n = in_byte (set_at s n)

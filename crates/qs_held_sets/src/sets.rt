@@ -2,7 +2,7 @@
 
 ghost use Rattle.std.specs.Prelude.{◌≡◌, ◌+◌, ◌*◌, ◌<◌, ◌≤◌, false, length, replicate, suc, IfOk, OnOk};
 ghost use Rattle.qs_program.specs.Limits.{most_handlers};
-ghost use Rattle.qs_held_sets.specs.Bytes.{truths_of};
+ghost use Rattle.qs_held_sets.specs.Bytes.{every_handler, truths_of};
 ghost use Rattle.qs_held_sets.specs.Table.{AreSetsOf, has};
 
 use crate::dataflow::run;
@@ -56,7 +56,7 @@ fn run_from_entry<L: Ledger>(
     turns: &mut VisitCount<L>,
 ) -> Result<(), AllocError>
     requires reached { reached.old ≡ replicate (length graph.now.nodes) false }
-    requires bytes { bytes.old ≡ replicate (length graph.now.nodes) 255 }
+    requires bytes { bytes.old ≡ replicate (length graph.now.nodes) every_handler }
     ensures sets { OnOk result (AreSetsOf graph.now (truths_of bytes.new)) }
     ensures long { OnOk result (length bytes.new ≡ length graph.now.nodes) }
     ensures counted { OnOk result (turns.old < turns.new) }

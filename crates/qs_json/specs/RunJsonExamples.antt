@@ -1,7 +1,7 @@
 -- Runs, counts and refusals with their texts, worked out by hand.
 use Rattle.std.specs.Prelude.{◌≡◌, codes, true, false}
 use Rattle.qs_script.specs.declared.fault.ReadFault.TheVariants as read
-use Rattle.qs_places.specs.declared.fault.CheckFault.TheVariants as check
+use Rattle.qs_fault_places.specs.declared.fault.CheckFault.TheVariants as check
 use Rattle.qs_serial.specs.declared.fault.OrderFault.TheVariants as order_fault
 use Rattle.qs_outcomes.specs.declared.fault.OutcomesFault.TheVariants as outcomes
 use Rattle.qs_text.specs.Worked.{after_deposit, before, counted_syncs, deposited_once, deposits, three, two_clients_played}

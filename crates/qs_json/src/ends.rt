@@ -13,11 +13,7 @@ use qs_text::{put_word, sorted_text};
 use std::alloc::{AllocError, Global};
 
 // An end by itself.
-fn json_of_end(
-    alloc: Global,
-    program: &Program,
-    standing: &Standing,
-) -> Result<Vec<u8>, AllocError>
+fn json_of_end(alloc: Global, program: &Program, standing: &Standing) -> Result<Vec<u8>, AllocError>
     requires places { HasPlaces program.now standing.now }
     ensures text { IfOk result (λ text. text.items ≡ end_json program.now standing.now) }
 {
@@ -50,11 +46,7 @@ fn json_of_all(
 
 /// The ends that a program can come to, each once: an object on a line for each, with the objects and the clients with
 /// their variables, in the order of these lines. An error says that an allocation failed, and nothing is left.
-pub fn ends_json(
-    alloc: Global,
-    program: &Program,
-    all: &AllOutcomes,
-) -> Result<Vec<u8>, AllocError>
+pub fn ends_json(alloc: Global, program: &Program, all: &AllOutcomes) -> Result<Vec<u8>, AllocError>
     requires places { AllByRecursion (HasPlaces program.now) all.now.found }
     ensures text { IfOk result (λ bytes. IsInOrder (json_of_ends program.now all.now.found) bytes.items) }
 {

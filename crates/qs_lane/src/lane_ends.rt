@@ -6,10 +6,10 @@ ghost use Rattle.qs_chunk.specs.Batch.{batch};
 ghost use Rattle.qs_chunk.specs.LaneRun.{AreServed, IsLaneRun, homes, syncs};
 ghost use Rattle.qs_chunk.specs.Lanes.{IsLane, MayFollow, is_asked};
 ghost use Rattle.qs_chunk.specs.declared.parcel.Parcel.{Parcel};
-ghost use Rattle.qs_chunk.specs.Limits.{lane_room};
+ghost use Rattle.qs_chunk.specs.Limits.{lane_room, spare_room};
 
 use crate::protocols::{AnyObjects, EmptyChunks, InLane, Keyless, KnownSize, SizeKey};
-use qs_chunk::{Chunk, ChunkSize, LANE_ROOM, Parcel};
+use qs_chunk::{Chunk, ChunkSize, LANE_ROOM, Parcel, SPARE_ROOM};
 use qs_objects::{Held, Request};
 use qs_queue::{Events, Sender, Taker, make_ends};
 use std::alloc::{AllocError, Global};
@@ -33,7 +33,7 @@ pub struct LaneOut {
 impl Model for LaneOut {
     ghost use Rattle.std.specs.Prelude.{◌≡◌, length};
     ghost use Rattle.qs_chunk.specs.Lanes.{IsLane};
-    ghost use Rattle.qs_chunk.specs.Limits.{lane_room};
+    ghost use Rattle.qs_chunk.specs.Limits.{lane_room, spare_room};
     ghost use Rattle.qs_lane.specs.Views.{OutView};
 
     ghost Value = { OutView };
@@ -62,6 +62,7 @@ impl Model for LaneIn {
     ghost use Rattle.std.specs.Prelude.{◌≡◌, ◌≤◌, length};
     ghost use Rattle.qs_lane.specs.Spares.{AllEmpty};
     ghost use Rattle.qs_chunk.specs.LaneRun.{syncs};
+    ghost use Rattle.qs_chunk.specs.Limits.{spare_room};
     ghost use Rattle.qs_lane.specs.Views.{InView};
 
     ghost Value = { InView };
@@ -76,7 +77,7 @@ impl Model for LaneIn {
 
     ghost invariant = { λ s.
         (s.spare.key ≡ s.down.key) × AllEmpty s.spare.key s.spare.sent × (length s.up.sent ≤ syncs s.down.received)
-        × (s.up.room ≡ 1) × (s.spare.room ≡ 4) };
+        × (s.up.room ≡ 1) × (s.spare.room ≡ spare_room) };
 }
 
 // Puts four empty chunks into their queue.
@@ -86,10 +87,10 @@ fn fill<R: Wait>(
     size: ChunkSize,
     spare: &mut SpareSender,
 ) -> Result<(), AllocError>
-    requires fresh { (spare.old.room ≡ 4) × (spare.old.key ≡ size) × (spare.old.sent ≡ []) }
-    ensures filled { IfOk result (λ _. spare.new ≡ record spare.old { sent = replicate 4 (batch [] size) }) }
+    requires fresh { (spare.old.room ≡ spare_room) × (spare.old.key ≡ size) × (spare.old.sent ≡ []) }
+    ensures filled { IfOk result (λ _. spare.new ≡ record spare.old { sent = replicate spare_room (batch [] size) }) }
 {
-    for _chunk in 0..4u8 {
+    for _chunk in 0..SPARE_ROOM {
         spare.push(rt, Chunk::with_capacity(alloc, size)?);
     }
     Ok(())
@@ -102,11 +103,11 @@ fn make_spares<N: KnownSize, R: Wait>(
     size: ChunkSize,
 ) -> Result<(SpareSender, SpareTaker), AllocError>
     requires { N.size ≡ size }
-    ensures sender { IfOk result (λ ends. ends.0 ≡ record { name = ends.1.name; room = 4; key = size; sent = replicate 4 (batch [] size) }) }
+    ensures sender { IfOk result (λ ends. ends.0 ≡ record { name = ends.1.name; room = spare_room; key = size; sent = replicate spare_room (batch [] size) }) }
     ensures taker { IfOk result (λ ends. ends.1 ≡ record { name = ends.1.name; key = size; received = [] }) }
 {
     let (mut sender, taker) = make_ends::<Chunk<Request>, ChunkSize, EmptyChunks, SizeKey<N>>(
-        alloc, 4,
+        alloc, SPARE_ROOM,
     )?;
     if fill(rt, alloc, size, &mut sender).is_err() {
         drop(sender);
@@ -124,7 +125,7 @@ fn lane_of<N: KnownSize, R: Wait>(
 ) -> Result<(LaneOut, LaneIn), AllocError>
     requires { N.size ≡ size }
     ensures out { IfOk result (λ ends. ends.0 ≡ record { name = ends.1.name; size = size; sent = []; got = []; taken = 0 }) }
-    ensures inside { IfOk result (λ ends. ends.1 ≡ record { name = ends.1.name; size = size; received = []; given = []; spared = 4 }) }
+    ensures inside { IfOk result (λ ends. ends.1 ≡ record { name = ends.1.name; size = size; received = []; given = []; spared = spare_room }) }
 {
     let clients_events = Arc::try_clone(events)?;
     let handlers_events = Arc::try_clone(events)?;
@@ -174,13 +175,13 @@ pub fn lane<R: Wait>(
     size: ChunkSize,
 ) -> Result<(LaneOut, LaneIn), AllocError>
     ensures out { IfOk result (λ ends. ends.0 ≡ record { name = ends.1.name; size = size; sent = []; got = []; taken = 0 }) }
-    ensures inside { IfOk result (λ ends. ends.1 ≡ record { name = ends.1.name; size = size; received = []; given = []; spared = 4 }) }
+    ensures inside { IfOk result (λ ends. ends.1 ≡ record { name = ends.1.name; size = size; received = []; given = []; spared = spare_room }) }
 {
     let events = make_events(alloc)?;
     lane_at(rt, alloc, size, &events)
 }
 
-/// The same for a handler whose lanes share this event count: it sleeps there, whichever of them it takes from.
+/// Makes a lane for a handler whose lanes share this event count: it sleeps there, whichever of them it takes from.
 pub fn lane_at<R: Wait>(
     rt: &R,
     alloc: Global,
@@ -188,7 +189,7 @@ pub fn lane_at<R: Wait>(
     events: &Arc<Events, Global>,
 ) -> Result<(LaneOut, LaneIn), AllocError>
     ensures out { IfOk result (λ ends. ends.0 ≡ record { name = ends.1.name; size = size; sent = []; got = []; taken = 0 }) }
-    ensures inside { IfOk result (λ ends. ends.1 ≡ record { name = ends.1.name; size = size; received = []; given = []; spared = 4 }) }
+    ensures inside { IfOk result (λ ends. ends.1 ≡ record { name = ends.1.name; size = size; received = []; given = []; spared = spare_room }) }
 {
     lane_of::<Brand, R>(rt, alloc, size, events)
 }
@@ -229,7 +230,7 @@ impl LaneOut {
         }
     }
 
-    // The same, which wakes the handler only where it waits for room.
+    // Sends a parcel, and wakes the handler only where it waits for room.
     fn send_as_waiter<R: Wait>(&mut self, rt: &R, parcel: Parcel)
         requires follows { MayFollow self.old.size (is_asked false self.old.sent) parcel }
         ensures sent { self.new ≡ record self.old { sent = self.old.sent ++ parcel ∷ [] } }

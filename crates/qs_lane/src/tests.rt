@@ -434,7 +434,7 @@ fn join_turns<R: Threads + Wait + Sync>(
     )
 }
 
-// The same of a new lane; none where memory is refused.
+// What both ends of a new lane had, at once on two threads; none where memory is refused.
 fn turns_at_once<R: Threads + Wait + Sync>(
     rt: &R,
     alloc: Global,

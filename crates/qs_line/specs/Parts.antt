@@ -33,10 +33,14 @@ is_name (b ∷ bs) =
 abbrev pub name_in : List ℕ → Option Who
 name_in text = if is_name text then Some (Name text) else None
 
+-- an `@`
+abbrev at_sign : ℕ
+at_sign = 64
+
 -- a name after an `@`, or else an actor by its number
 abbrev pub who_in : List ℕ → Option Who
 who_in [] = None
-who_in (b ∷ bs) = if b == 64 then name_in bs else option_map Number (actor_in (b ∷ bs))
+who_in (b ∷ bs) = if b == at_sign then name_in bs else option_map Number (actor_in (b ∷ bs))
 
 -- decimal digits that write a number from 1 to the limit
 abbrev pub is_count : List ℕ → Bool

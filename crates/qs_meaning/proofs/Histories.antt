@@ -20,10 +20,10 @@ use Rattle.qs_meaning.specs.Interaction.{Interaction}
 use Rattle.qs_meaning.proofs.Each.{each_map, each_join, flat_map_same, flat_map_none}
 
 abbrev pub parts_of : (Ticket → BlockRecord) → ℕ → Ticket → List Event
-parts_of page h t = part h (page t).trace
+parts_of block_record h t = part h (block_record t).trace
 
 abbrev pub done_of : (Ticket → BlockRecord) → Ticket → Type 0
-done_of page t = IsDone (page t).rest
+done_of block_record t = IsDone (block_record t).rest
 
 abbrev pub Among : Ticket → List Ticket → Type 0
 Among t [] = ⊥
@@ -233,6 +233,6 @@ told x s j (t ∷ ts) apart (p, inr g) =
     waiting_parts [] e k = tt
     waiting_parts (u ∷ us) e k = (k.0.0 ∙ ap (λ (xs : List Entry). without_tickets xs ++ map command_event (x.waits u)) (sym e.0), waiting_parts us e.1 k.1)
 
--- a page with one event more, and what is left then
+-- a block_record with one event more, and what is left then
 abbrev pub advance : BlockRecord → Event → Interaction → BlockRecord
 advance pg e next = record { entry = pg.entry; trace = pg.trace ++ e ∷ []; rest = next }

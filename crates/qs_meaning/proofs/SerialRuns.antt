@@ -1,4 +1,4 @@
--- Where the pages of blocks and the journals of objects go on along a legal order, they agree with the serial run of
+-- Where the block_records of blocks and the journals of objects go on along a legal order, they agree with the serial run of
 -- that order. The isolation of every machine and of the threads stands on `runs_serially`. It goes by induction on the
 -- order; the invariant is that each client has the variables, and each object the state, that the blocks before left to
 -- them.
@@ -76,26 +76,26 @@ before_clear : (t : Ticket) (k j : List Entry) → ClearOf t k → before t (k +
 before_clear t [] j c = refl
 before_clear t (x ∷ k) j c = rw c.0 (ap (λ xs. x ∷ xs) (before_clear t k j c.1))
 
--- a ticket's page and its place in the serial run
-pub record Agrees (p : ProgramShape) (journal : ℕ → List Entry) (page : Ticket → BlockRecord) (t : Ticket) (q : SerialBlock) : Type 0 where
+-- a ticket's block_record and its place in the serial run
+pub record Agrees (p : ProgramShape) (journal : ℕ → List Entry) (block_record : Ticket → BlockRecord) (t : Ticket) (q : SerialBlock) : Type 0 where
   pub ticket : q.ticket ≡ t
-  pub entry : (page t).entry ≡ q.entry
+  pub entry : (block_record t).entry ≡ q.entry
   pub starts : (h : ℕ) → HasEntry t (journal h) → replay (declared_states p h) (without_tickets (before t (journal h))) ≡ q.starts h
-  pub front : IsFront (page t).trace q.trace
-  pub whole : IsDone (page t).rest → (page t).trace ≡ q.trace
-  pub through : (h : ℕ) → (reserves p t h ≡ true → IsDone (page t).rest) → part h q.trace ≡ part h (page t).trace
+  pub front : IsFront (block_record t).trace q.trace
+  pub whole : IsDone (block_record t).rest → (block_record t).trace ≡ q.trace
+  pub through : (h : ℕ) → (reserves p t h ≡ true → IsDone (block_record t).rest) → part h q.trace ≡ part h (block_record t).trace
 
-module _ (p : ProgramShape) (sound : IsSound p) (page : Ticket → BlockRecord) (waits : ℕ → Ticket → List Request) (present : ℕ → State) (busy : ℕ → Type 0) (journal : ℕ → List Entry) where
+module _ (p : ProgramShape) (sound : IsSound p) (block_record : Ticket → BlockRecord) (waits : ℕ → Ticket → List Request) (present : ℕ → State) (busy : ℕ → Type 0) (journal : ℕ → List Entry) where
   -- an object along the order
   abbrev pub line : ℕ → ObjectCourse
-  line h = record { may = λ t. reserves p t h; parts = parts_of page h; done = done_of page; waits = waits h; busy = busy h; present = present h }
+  line h = record { may = λ t. reserves p t h; parts = parts_of block_record h; done = done_of block_record; waits = waits h; busy = busy h; present = present h }
 
   -- what the serial run knows of a client between blocks
   abbrev Known : ℕ → ℕ → Locals → Type 0
   Known c zero l = l ≡ zeros
-  Known c (suc k) l = (m : Locals) → (page (record { client = c; index = k })).rest ≡ Done m → l ≡ m
+  Known c (suc k) l = (m : Locals) → (block_record (record { client = c; index = k })).rest ≡ Done m → l ≡ m
 
-  begins_known : (c k : ℕ) (l e : Locals) → Known c k l → Begins page c k e → e ≡ l
+  begins_known : (c k : ℕ) (l e : Locals) → Known c k l → Begins block_record c k e → e ≡ l
   begins_known c zero l e k b = b ∙ sym k
   begins_known c (suc j) l e k b = sym (k e b)
 
@@ -103,18 +103,18 @@ module _ (p : ProgramShape) (sound : IsSound p) (page : Ticket → BlockRecord) 
   abbrev Ahead : ℕ → State → List Ticket → Type 0
   Ahead h s ts =
       ((j : List Entry) × (k : List Entry) × (journal h ≡ k ++ j) × (replay (declared_states p h) (without_tickets k) ≡ s) × Clear k ts × Flow (line h) s j ts)
-      ⊎ (busy h × AllByRecursion (λ u. OnlyCommands (parts_of page h u) (waits h u)) ts × Clear (journal h) ts)
+      ⊎ (busy h × AllByRecursion (λ u. OnlyCommands (parts_of block_record h u) (waits h u)) ts × Clear (journal h) ts)
 
-  part_honest : (h : ℕ) (s : State) (t : Ticket) (ts : List Ticket) → Ahead h s (t ∷ ts) → IsHonest s (parts_of page h t)
+  part_honest : (h : ℕ) (s : State) (t : Ticket) (ts : List Ticket) → Ahead h s (t ∷ ts) → IsHonest s (parts_of block_record h t)
   part_honest h s t ts (inl f) =
       let q = f.5.0 in
       subst (IsHonest s) (sym q.part_is) (IsHonest-append s q.ran (map command_event (waits h t)) q.honest (commands_honest (replay s q.ran) (waits h t) q.commands))
   part_honest h s t ts (inr f) = subst (IsHonest s) (sym f.1.0.0) (commands_honest s (waits h t) f.1.0.1)
 
   -- one ticket
-  module _ (t : Ticket) (ts : List Ticket) (ls : ℕ → Locals) (st : States) (ok : IsBlockRecord p t (page t)) (entry : (page t).entry ≡ ls t.client) (apart : AllByRecursion (λ u. t ≢ u) ts) (ahead : (h : ℕ) → Ahead h (st h) (t ∷ ts)) where
+  module _ (t : Ticket) (ts : List Ticket) (ls : ℕ → Locals) (st : States) (ok : IsBlockRecord p t (block_record t)) (entry : (block_record t).entry ≡ ls t.client) (apart : AllByRecursion (λ u. t ≢ u) ts) (ahead : (h : ℕ) → Ahead h (st h) (t ∷ ts)) where
     abbrev pg : BlockRecord
-    pg = page t
+    pg = block_record t
 
     abbrev o : BlockResult
     o = solo (text_of p t).body (ls t.client) st
@@ -139,7 +139,7 @@ module _ (p : ProgramShape) (sound : IsSound p) (page : Ticket → BlockRecord) 
     starts_case h (inr f) i = absurd (has_clear t (journal h) f.2.0 i)
     starts_case h (inl f) i = by_ran q.ran (is ∙ ap (λ j. f.1 ++ j) q.journal_is)
       where
-        q : Piece (st h) t (parts_of page h t) (waits h t) f.0
+        q : Piece (st h) t (parts_of block_record h t) (waits h t) f.0
         q = f.5.0
 
         is : journal h ≡ f.1 ++ f.0
@@ -163,7 +163,7 @@ module _ (p : ProgramShape) (sound : IsSound p) (page : Ticket → BlockRecord) 
         ∙ (unnamed (reserves p t) (block_tree p t (ls t.client)) (run (block_tree p t (ls t.client)) st).trace _ h (asks (ls t.client)) (run_leads (block_tree p t (ls t.client)) st) e
         ∙ sym (unnamed (reserves p t) (block_tree p t pg.entry) pg.trace pg.rest h (asks pg.entry) ok e))
 
-    agrees : Agrees p journal page t (record { ticket = t; entry = ls t.client; starts = st; trace = o.trace })
+    agrees : Agrees p journal block_record t (record { ticket = t; entry = ls t.client; starts = st; trace = o.trace })
     agrees = record {
       ticket = refl;
       entry = entry;
@@ -177,17 +177,17 @@ module _ (p : ProgramShape) (sound : IsSound p) (page : Ticket → BlockRecord) 
     locals_after m e = ap (λ o. o.locals) (at_end m e)
 
     -- the object's state after an ended block, or one that may not touch it
-    state_after : (h : ℕ) (es : List Event) → parts_of page h t ≡ es → (reserves p t h ≡ true → done_of page t) → o.states h ≡ replay (st h) es
+    state_after : (h : ℕ) (es : List Event) → parts_of block_record h t ≡ es → (reserves p t h ≡ true → done_of block_record t) → o.states h ≡ replay (st h) es
     state_after h es e d = by_case (reserves p t h) refl
       where
         by_case : (b : Bool) → reserves p t h ≡ b → (solo (text_of p t).body (ls t.client) st).states h ≡ replay (st h) es
         by_case true b =
-            let l = done_is (page t).rest (d b) in
-            ap (λ o. o.states h) (at_end l.0 l.1) ∙ (changed_all_at st (page t).trace h ∙ ap (replay (st h)) e)
+            let l = done_is (block_record t).rest (d b) in
+            ap (λ o. o.states h) (at_end l.0 l.1) ∙ (changed_all_at st (block_record t).trace h ∙ ap (replay (st h)) e)
         by_case false b =
             ap (λ o. o.states h) as_tree
             ∙ (untouched (reserves p t) (block_tree p t (ls t.client)) st h (asks (ls t.client)) b
-            ∙ ap (replay (st h)) (sym (unnamed (reserves p t) (block_tree p t (page t).entry) (page t).trace (page t).rest h (asks (page t).entry) ok b) ∙ e))
+            ∙ ap (replay (st h)) (sym (unnamed (reserves p t) (block_tree p t (block_record t).entry) (block_record t).trace (block_record t).rest h (asks (block_record t).entry) ok b) ∙ e))
 
     ahead_after : (h : ℕ) → Ahead h (o.states h) ts
     ahead_after h = by_case (ahead h)
@@ -196,14 +196,14 @@ module _ (p : ProgramShape) (sound : IsSound p) (page : Ticket → BlockRecord) 
         by_case (inr f) = inr (f.0, f.1.1, f.2.1)
         by_case (inl f) = next f.5.0 f.5.1
           where
-            replayed : (q : Piece (st h) t (parts_of page h t) (waits h t) f.0) → replay (declared_states p h) (without_tickets (f.1 ++ map (stamp t) q.ran)) ≡ replay (st h) q.ran
+            replayed : (q : Piece (st h) t (parts_of block_record h t) (waits h t) f.0) → replay (declared_states p h) (without_tickets (f.1 ++ map (stamp t) q.ran)) ≡ replay (st h) q.ran
             replayed q =
                 ap (replay (declared_states p h)) (map-append _ f.1 (map (stamp t) q.ran) ∙ ap (λ es. without_tickets f.1 ++ es) (unstamp_all t q.ran))
                 ∙ (replay-append (declared_states p h) (without_tickets f.1) q.ran ∙ ap (λ s. replay s q.ran) f.3)
 
-            next : (q : Piece (st h) t (parts_of page h t) (waits h t) f.0)
-                → (((reserves p t h ≡ true → done_of page t) × (waits h t ≡ []) × Flow (line h) (replay (st h) q.ran) q.later ts)
-                ⊎ (busy h × (q.later ≡ []) × AllByRecursion (λ u. OnlyCommands (parts_of page h u) (waits h u)) ts))
+            next : (q : Piece (st h) t (parts_of block_record h t) (waits h t) f.0)
+                → (((reserves p t h ≡ true → done_of block_record t) × (waits h t ≡ []) × Flow (line h) (replay (st h) q.ran) q.later ts)
+                ⊎ (busy h × (q.later ≡ []) × AllByRecursion (λ u. OnlyCommands (parts_of block_record h u) (waits h u)) ts))
                 → Ahead h ((solo (text_of p t).body (ls t.client) st).states h) ts
             next q (inl g) =
                 let is = state_after h q.ran (q.part_is ∙ (ap (λ rs. q.ran ++ map command_event rs) g.1 ∙ append-nil q.ran)) g.0 in
@@ -224,7 +224,7 @@ module _ (p : ProgramShape) (sound : IsSound p) (page : Ticket → BlockRecord) 
                       (clear_more t ts f.1 q.ran f.4.1 apart),
                 )
 
-  known_after : (n : ℕ → ℕ) (ls : ℕ → Locals) (t : Ticket) (l : Locals) → ((c : ℕ) → Known c (n c) (ls c)) → ((m : Locals) → (page t).rest ≡ Done m → l ≡ m) → (c : ℕ) → Known c (put n t.client (suc t.index) c) (put ls t.client l c)
+  known_after : (n : ℕ → ℕ) (ls : ℕ → Locals) (t : Ticket) (l : Locals) → ((c : ℕ) → Known c (n c) (ls c)) → ((m : Locals) → (block_record t).rest ≡ Done m → l ≡ m) → (c : ℕ) → Known c (put n t.client (suc t.index) c) (put ls t.client l c)
   known_after n ls t l k new c =
       ⊎_elim
       (λ (is : t.client ≡ c). subst (λ c. Known c (put n t.client (suc t.index) c) (put ls t.client l c)) is
@@ -233,22 +233,22 @@ module _ (p : ProgramShape) (sound : IsSound p) (page : Ticket → BlockRecord) 
       subst (λ k. Known c k (put ls t.client l c)) (sym (put_there n t.client (suc t.index) c other)) (subst (λ a. Known c (n c) a) (sym (put_there ls t.client l c other)) (k c)))
       (num_cases t.client c)
 
-  pub along : (ts : List Ticket) (n : ℕ → ℕ) (ls : ℕ → Locals) (st : States) → LegalFrom p n ts → AllByRecursion (λ t. IsBlockRecord p t (page t)) ts → AllByRecursion (λ t. Begins page t.client t.index (page t).entry) ts
+  pub along : (ts : List Ticket) (n : ℕ → ℕ) (ls : ℕ → Locals) (st : States) → LegalFrom p n ts → AllByRecursion (λ t. IsBlockRecord p t (block_record t)) ts → AllByRecursion (λ t. Begins block_record t.client t.index (block_record t).entry) ts
       → ((c : ℕ) → Known c (n c) (ls c)) → ((h : ℕ) → Ahead h (st h) ts)
-      → AllZip (Agrees p journal page) ts (serial_from p ls st ts).places × ((h : ℕ) → (busy h → ⊥) → (serial_from p ls st ts).states h ≡ present h)
-  along [] n ls st legal pages begins known ahead = (tt, λ h b. elim (ahead h) [ inl f ↦ f.5.1 | inr f ↦ absurd (b f.0) ])
-  along (t ∷ ts) n ls st legal pages begins known ahead =
-      let entry : (page t).entry ≡ ls t.client = begins_known t.client (n t.client) (ls t.client) (page t).entry (known t.client) (subst (λ k. Begins page t.client k (page t).entry) legal.0 begins.0) in
+      → AllZip (Agrees p journal block_record) ts (serial_from p ls st ts).places × ((h : ℕ) → (busy h → ⊥) → (serial_from p ls st ts).states h ≡ present h)
+  along [] n ls st legal block_records begins known ahead = (tt, λ h b. elim (ahead h) [ inl f ↦ f.5.1 | inr f ↦ absurd (b f.0) ])
+  along (t ∷ ts) n ls st legal block_records begins known ahead =
+      let entry : (block_record t).entry ≡ ls t.client = begins_known t.client (n t.client) (ls t.client) (block_record t).entry (known t.client) (subst (λ k. Begins block_record t.client k (block_record t).entry) legal.0 begins.0) in
       let o = solo (text_of p t).body (ls t.client) st in
       let apart = legal_first p n t ts legal in
-      let rest = along ts (put n t.client (suc t.index)) (put ls t.client o.locals) o.states legal.2 pages.1 begins.1
-      (known_after n ls t o.locals known (locals_after t ts ls st pages.0 entry apart ahead)) (ahead_after t ts ls st pages.0 entry apart ahead) in
-      ((agrees t ts ls st pages.0 entry apart ahead, rest.0), rest.1)
+      let rest = along ts (put n t.client (suc t.index)) (put ls t.client o.locals) o.states legal.2 block_records.1 begins.1
+      (known_after n ls t o.locals known (locals_after t ts ls st block_records.0 entry apart ahead)) (ahead_after t ts ls st block_records.0 entry apart ahead) in
+      ((agrees t ts ls st block_records.0 entry apart ahead, rest.0), rest.1)
 
-  -- pages of a legal order, and journals that flow along it
-  pub runs_serially : (order : List Ticket) → LegalFrom p (λ _. 0) order → AllByRecursion (λ t. IsBlockRecord p t (page t)) order → AllByRecursion (λ t. Begins page t.client t.index (page t).entry) order
+  -- block_records of a legal order, and journals that flow along it
+  pub runs_serially : (order : List Ticket) → LegalFrom p (λ _. 0) order → AllByRecursion (λ t. IsBlockRecord p t (block_record t)) order → AllByRecursion (λ t. Begins block_record t.client t.index (block_record t).entry) order
       → ((h : ℕ) → Flow (line h) (declared_states p h) (journal h) order)
-      → AllZip (Agrees p journal page) order (serial_from p (λ _. zeros) (declared_states p) order).places
+      → AllZip (Agrees p journal block_record) order (serial_from p (λ _. zeros) (declared_states p) order).places
       × ((h : ℕ) → (busy h → ⊥) → (serial_from p (λ _. zeros) (declared_states p) order).states h ≡ present h)
-  runs_serially order legal pages begins flows =
-      along order (λ _. 0) (λ _. zeros) (declared_states p) legal pages begins (λ c. refl) (λ h. inl (journal h, [], refl, refl, clear_nil order, flows h))
+  runs_serially order legal block_records begins flows =
+      along order (λ _. 0) (λ _. zeros) (declared_states p) legal block_records begins (λ c. refl) (λ h. inl (journal h, [], refl, refl, clear_nil order, flows h))

@@ -25,5 +25,5 @@ IsBlockRecord p t pg = Leads (block_tree p t pg.entry) pg.trace pg.rest
 
 -- a block begins with what the client's block before it left
 abbrev pub Begins : (Ticket → BlockRecord) → ℕ → ℕ → Locals → Type 0
-Begins page c zero l = l ≡ zeros
-Begins page c (suc k) l = (page (record { client = c; index = k })).rest ≡ Done l
+Begins block_record c zero l = l ≡ zeros
+Begins block_record c (suc k) l = (block_record (record { client = c; index = k })).rest ≡ Done l

@@ -1,5 +1,6 @@
 -- Objects with their journals.
 use Rattle.std.specs.Prelude.{◌≡◌, ℕ, Bool, nat_lt, List, [], ◌∷◌, ◌++◌, length, map, Option, None, ℤ, if◌then◌else◌}
+use Rattle.std.specs.Coded.{Coded, codes}
 use Rattle.qs_objects.specs.Act.{State, act, ActResult}
 use Rattle.qs_objects.specs.declared.held.Entry.{Entry}
 use Rattle.qs_objects.specs.declared.held.Event.{Event}
@@ -56,3 +57,7 @@ run_one h t r = if has_room h then with_entry h t r (act h.object r.op r.args) e
 pub record IsFaithful (start : State) (h : HeldState) : Type 0 where
   pub honest : IsHonest start (without_tickets h.journal)
   pub object : replay start (without_tickets h.journal) ≡ h.object
+
+-- tickets as codes
+pub ticket_code : Coded Ticket
+ticket_code = hlevel codes

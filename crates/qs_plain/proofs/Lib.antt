@@ -10,5 +10,5 @@ pub mod RulesServe
 pub mod RulesSteps
 pub mod RulesFieldLemmas
 pub mod Blocks
-pub mod RulesDeeds
+pub mod RulesEffects
 pub mod ReachedPlays

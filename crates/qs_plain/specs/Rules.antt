@@ -2,6 +2,7 @@
 use Rattle.std.specs.Prelude.{◌≡◌, ◌<◌, ◌≤◌, ℕ, ◌+◌, ◌-◌, Bool, true, false, List, map, length, sum_by, Some, refl}
 use Rattle.std.specs.List.{AllByRecursion}
 use Rattle.std.specs.Coded.{Coded, codes, code_by, coded×, coded_list}
+use Rattle.qs_objects.specs.Journals.{ticket_code}
 use Rattle.qs_objects.specs.declared.held.Ticket.{Ticket}
 use Rattle.qs_objects.specs.Parts.{same}
 use Rattle.qs_program.specs.Program.{ProgramShape}
@@ -71,9 +72,6 @@ pub record IsRules (r : RulesState) : Type 0 where
   pub queues : (h : ℕ) → h < length r.handlers
       → AllByRecursion (IsOpen r.clients h) (handler_state_at r.handlers h).queues
   pub apart : (h : ℕ) → h < length r.handlers → AreApart (handler_state_at r.handlers h).queues
-
-pub ticket_code : Coded Ticket
-ticket_code = hlevel codes
 
 pub handler_code : Coded HandlerState
 handler_code = hlevel codes

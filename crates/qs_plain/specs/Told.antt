@@ -6,10 +6,10 @@ use Rattle.qs_played.specs.Played.{ticket}
 use Rattle.qs_played.specs.declared.schedule.actor.Actor.TheVariants as actor
 use Rattle.qs_plain_laws.specs.Plain.{Plain}
 use Rattle.qs_plain_client.specs.Clients.{ClientState, client_state_at}
-use Rattle.qs_plain_handler.specs.Deeds.{plain_deed}
+use Rattle.qs_plain_handler.specs.Effects.{plain_effect}
 use Rattle.qs_plain.specs.Rules.{RulesState}
-use Rattle.qs_plain_handler.specs.declared.deed.Deed.{Deed}
-use Rattle.qs_plain_handler.specs.declared.deed.Deed.TheVariants.{Reserves, Logs, Asks, Ends}
+use Rattle.qs_plain_handler.specs.declared.effect.Effect.{Effect}
+use Rattle.qs_plain_handler.specs.declared.effect.Effect.TheVariants.{Reserves, Logs, Asks, Ends}
 use Rattle.qs_plain.specs.declared.did.Did.{Did}
 use Rattle.qs_plain.specs.declared.did.Did.TheVariants as did
 
@@ -25,12 +25,12 @@ abbrev pub last_ticket : ℕ → ClientState → Ticket
 last_ticket c d = ticket c (length d.entries - 1)
 
 -- what was done, with the variables after it
-abbrev pub deed_of_did : Did → Locals → Ticket → Option Deed
-deed_of_did did.Nothing l t = None
-deed_of_did did.Reserved l t = Some (Reserves t)
-deed_of_did (did.Logged c) l t = Some (Logs (request_of l c.now))
-deed_of_did (did.Asked c) l t = Some (Asks (request_of l c.now))
-deed_of_did did.Ended l t = Some (Ends t)
+abbrev pub effect_of_did : Did → Locals → Ticket → Option Effect
+effect_of_did did.Nothing l t = None
+effect_of_did did.Reserved l t = Some (Reserves t)
+effect_of_did (did.Logged c) l t = Some (Logs (request_of l c.now))
+effect_of_did (did.Asked c) l t = Some (Asks (request_of l c.now))
+effect_of_did did.Ended l t = Some (Ends t)
 
 -- a request has at most three arguments
 abbrev pub IsShortStep : Did → Type 0
@@ -44,5 +44,5 @@ IsShortStep did.Ended = Unit {0}
 pub record IsTold (it : Did) (before : Plain) (c : ℕ) (new : RulesState) : Type 0 where
   pub there : c < length new.clients
   pub short : IsShortStep it
-  pub deed : plain_deed before (actor.Client c) ≡ deed_of_did it (client_state_at new.clients c).locals
+  pub effect : plain_effect before (actor.Client c) ≡ effect_of_did it (client_state_at new.clients c).locals
       (last_ticket c (client_state_at new.clients c))

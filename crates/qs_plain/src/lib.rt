@@ -12,6 +12,6 @@ mod showing;
 
 pub use awaited::Awaited;
 pub use orders::play_plain_in_order;
-pub use qs_plain_handler::Deed;
+pub use qs_plain_handler::Effect;
 pub use rules::Rules;
 pub use schedules::play_plain;

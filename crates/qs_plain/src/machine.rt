@@ -5,9 +5,9 @@ ghost use Rattle.std.specs.Bool.{OnTrue};
 ghost use Rattle.qs_plain_laws.specs.Plain.{begin, step as the_step};
 ghost use Rattle.qs_played.specs.declared.schedule.actor.Actor.TheVariants as actors;
 ghost use Rattle.qs_plain_client.specs.declared.stage.Stage.TheVariants as stages;
-ghost use Rattle.qs_plain_handler.specs.Deeds.{plain_deed, reply_in};
+ghost use Rattle.qs_plain_handler.specs.Effects.{plain_effect, reply_in};
 ghost use Rattle.qs_plain.specs.declared.did.Did.TheVariants as dids;
-ghost use Rattle.qs_plain.specs.Told.{IsShortStep, IsTold, deed_of_did, has_stepped, last_ticket};
+ghost use Rattle.qs_plain.specs.Told.{IsShortStep, IsTold, effect_of_did, has_stepped, last_ticket};
 ghost use Rattle.qs_plain_handler.specs.Handlers.{handler_state_at};
 
 mod reading;
@@ -17,7 +17,7 @@ use crate::showing;
 use qs_objects::Ticket;
 use qs_plain_client::{Asked, ClientState, Stage, answer, fresh_clients};
 use qs_plain_handler::{
-    Deed, HandlerState, Served, enter_all, fresh_handlers, log_all, log_command, log_query,
+    Effect, HandlerState, Served, enter_all, fresh_handlers, log_all, log_command, log_query,
 };
 use qs_plain_laws::QueueItem;
 use qs_played::{Actor, Endings, Played, Row};
@@ -104,10 +104,10 @@ impl<'p> Machine<'p> {
         }
     }
 
-    /// The same step, and what it does: None where the actor has none.
-    pub(crate) fn step_told(&mut self, actor: Actor) -> Option<Deed>
+    /// Makes one step of an actor and says what it does: None where the actor has none.
+    pub(crate) fn step_told(&mut self, actor: Actor) -> Option<Effect>
         ensures steps { IfSome result (λ _. Steps self.old actor self.new) }
-        ensures deed { IfSome result (λ deed. plain_deed (plain_of self.old) actor ≡ Some deed) }
+        ensures effect { IfSome result (λ effect. plain_effect (plain_of self.old) actor ≡ Some effect) }
         ensures none { IfNone result (the_step self.old.program (plain_of self.old) actor ≡ None) }
         ensures unchanged { IfNone result (self.new ≡ self.old) }
     {
@@ -151,10 +151,10 @@ impl<'p> Machine<'p> {
         }
     }
 
-    fn step_client_told(&mut self, number: u8) -> Option<Deed>
+    fn step_client_told(&mut self, number: u8) -> Option<Effect>
         requires { number < length self.old.clients }
         ensures steps { IfSome result (λ _. Steps self.old (actors.Client number) self.new) }
-        ensures deed { IfSome result (λ deed. plain_deed (plain_of self.old) (actors.Client number) ≡ Some deed) }
+        ensures effect { IfSome result (λ effect. plain_effect (plain_of self.old) (actors.Client number) ≡ Some effect) }
         ensures none { IfNone result (the_step self.old.program (plain_of self.old) (actors.Client number) ≡ None) }
         ensures unchanged { IfNone result (self.new ≡ self.old) }
     {
@@ -166,11 +166,11 @@ impl<'p> Machine<'p> {
     }
 
     // What a client has just done.
-    fn told(&self, number: u8, did: Did) -> Deed
+    fn told(&self, number: u8, did: Did) -> Effect
         requires stepped { has_stepped did ≡ true }
         requires number { number < length self.now.clients }
         requires short { IsShortStep did }
-        ensures value { deed_of_did did.entry (client_state_at self.now.clients number).locals (last_ticket number (client_state_at self.now.clients number)) ≡ Some result }
+        ensures value { effect_of_did did.entry (client_state_at self.now.clients number).locals (last_ticket number (client_state_at self.now.clients number)) ≡ Some result }
     {
         let client = &self.clients[usize::from(number)];
         let ticket = Ticket {
@@ -179,10 +179,10 @@ impl<'p> Machine<'p> {
         };
         match did {
             Did::Nothing => unreachable!(),
-            Did::Reserved => Deed::Reserves(ticket),
-            Did::Logged(call) => Deed::Logs(client.request(self.alloc, call)),
-            Did::Asked(call) => Deed::Asks(client.request(self.alloc, call)),
-            Did::Ended => Deed::Ends(ticket),
+            Did::Reserved => Effect::Reserves(ticket),
+            Did::Logged(call) => Effect::Logs(client.request(self.alloc, call)),
+            Did::Asked(call) => Effect::Asks(client.request(self.alloc, call)),
+            Did::Ended => Effect::Ends(ticket),
         }
     }
 
@@ -278,21 +278,21 @@ impl<'p> Machine<'p> {
         }
     }
 
-    fn step_handler_told(&mut self, number: u8) -> Option<Deed>
+    fn step_handler_told(&mut self, number: u8) -> Option<Effect>
         requires { number < length self.old.handlers }
         ensures steps { IfSome result (λ _. Steps self.old (actors.Handler number) self.new) }
-        ensures deed { IfSome result (λ deed. plain_deed (plain_of self.old) (actors.Handler number) ≡ Some deed) }
+        ensures effect { IfSome result (λ effect. plain_effect (plain_of self.old) (actors.Handler number) ≡ Some effect) }
         ensures none { IfNone result (the_step self.old.program (plain_of self.old) (actors.Handler number) ≡ None) }
         ensures unchanged { IfNone result (self.new ≡ self.old) }
     {
         let handler = &self.handlers[usize::from(number)];
         let before = handler.served();
-        let deed = handler.next_deed()?;
+        let effect = handler.next_effect()?;
         if !self.step_handler(number) {
             return None;
         }
         let reply = self.reply_after(number, before);
-        Some(deed.answered(reply))
+        Some(effect.answered(reply))
     }
 
     // The reply of the request that a handler's object served after so many.

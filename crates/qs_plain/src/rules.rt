@@ -5,7 +5,7 @@ ghost use Rattle.std.specs.Bool.{OnTrue};
 ghost use Rattle.qs_plain_laws.specs.Plain.{begin, step as the_step};
 ghost use Rattle.qs_plain.specs.Rules.{AreIsolated, Steps, plain_of};
 ghost use Rattle.qs_plain.specs.Rules.{AreRulesCounted};
-ghost use Rattle.qs_plain_handler.specs.Deeds.{plain_deed};
+ghost use Rattle.qs_plain_handler.specs.Effects.{plain_effect};
 ghost use Rattle.qs_meaning.specs.Serial.{IsLegal};
 ghost use Rattle.qs_plain_laws.specs.PlainSchedule.{played_of};
 
@@ -13,7 +13,7 @@ mod playing;
 mod reading;
 
 use crate::machine::Machine;
-use qs_plain_handler::Deed;
+use qs_plain_handler::Effect;
 use qs_played::{Actor, Played};
 use qs_program::Program;
 use std::alloc::{AllocError, Global};
@@ -67,11 +67,11 @@ impl<'p> Rules<'p> {
         stepped
     }
 
-    /// The same step, and what it does: None where the actor has none, with nothing changed; also where there is no
-    /// such actor.
-    pub fn step_told(&mut self, actor: Actor) -> Option<Deed>
+    /// Makes one step of an actor and says what it does: None where the actor has none or is not there, with nothing
+    /// changed.
+    pub fn step_told(&mut self, actor: Actor) -> Option<Effect>
         ensures steps { IfSome result (λ _. Steps self.old actor self.new) }
-        ensures deed { IfSome result (λ deed. plain_deed (plain_of self.old) actor ≡ Some deed) }
+        ensures effect { IfSome result (λ effect. plain_effect (plain_of self.old) actor ≡ Some effect) }
         ensures none { IfNone result (the_step self.old.program (plain_of self.old) actor ≡ None) }
         ensures unchanged { IfNone result (self.new ≡ self.old) }
     {

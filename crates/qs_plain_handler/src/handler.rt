@@ -3,14 +3,14 @@
 ghost use Rattle.std.specs.Prelude.{◌≡◌, ◌-◌, ◌<◌, [], ◌∷◌, ◌++◌, IfOk, map, nat_eq, length};
 ghost use Rattle.std.specs.Bool.{OnTrue};
 ghost use Rattle.qs_plain_handler.specs.Served.{HandlerState as State, ServesFirst, IsLoggable};
-ghost use Rattle.qs_plain_handler.specs.Deeds.{deed_of_queues, reply_in, unanswered};
+ghost use Rattle.qs_plain_handler.specs.Effects.{effect_of_queues, reply_in, unanswered};
 ghost use Rattle.qs_plain_handler.specs.declared.handler.Served.TheVariants as services;
 ghost use Rattle.qs_plain_client.specs.Queues.{IsPlace, QueueState, after_put};
 ghost use Rattle.qs_plain_laws.specs.declared.item.QueueItem.TheVariants as items;
 
 mod reading;
 
-use crate::deed::Deed;
+use crate::effect::Effect;
 use qs_objects::{Held, Request, Ticket};
 use qs_plain_client::{PrivateQueue, last_place};
 use qs_plain_laws::QueueItem;
@@ -142,8 +142,8 @@ impl HandlerState {
     }
 
     /// What it does next, if anything; the reply of a query is left open.
-    pub fn next_deed(&self) -> Option<Deed>
-        ensures value { result ≡ unanswered (deed_of_queues self.now.held (map (λ (q : QueueState). q.queue) self.now.queues)) }
+    pub fn next_effect(&self) -> Option<Effect>
+        ensures value { result ≡ unanswered (effect_of_queues self.now.held (map (λ (q : QueueState). q.queue) self.now.queues)) }
     {
         let queue = match self.queues().first() {
             None => return None,
@@ -151,11 +151,14 @@ impl HandlerState {
         };
         match queue.first() {
             None => None,
-            Some(QueueItem::Command(request)) => Some(Deed::Runs(queue.ticket(), request.copied())),
+            Some(QueueItem::Command(request)) => Some(Effect::Runs(
+                queue.ticket(),
+                request.copied(),
+            )),
             Some(QueueItem::Query(request)) => {
-                Some(Deed::Answers(queue.ticket(), request.copied(), None))
+                Some(Effect::Answers(queue.ticket(), request.copied(), None))
             }
-            Some(QueueItem::EndMark) => Some(Deed::Leaves(queue.ticket())),
+            Some(QueueItem::EndMark) => Some(Effect::Leaves(queue.ticket())),
         }
     }
 

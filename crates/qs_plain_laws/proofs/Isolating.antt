@@ -76,7 +76,7 @@ module _ (p : ProgramShape) (sound : IsSound p) (s : Plain) (k : RunInvariant p 
   waits_are h t = ap (flat_map (commands_of t)) (sim.queues h)
 
   abbrev x : ℕ → ObjectCourse
-  x = line p sound w.page waits (λ h. (w.service h).state) (λ h. (w.service h).queue ≡ [] → ⊥) (λ h. (w.service h).journal)
+  x = line p sound w.block_record waits (λ h. (w.service h).state) (λ h. (w.service h).queue ≡ [] → ⊥) (λ h. (w.service h).journal)
 
   found_commands : (h : ℕ) (q : List Ticket) (t : Ticket) → AllByRecursion NoQuery (commands_found v.client h (w.service h).wait q t)
   found_commands h [] t = tt
@@ -90,15 +90,15 @@ module _ (p : ProgramShape) (sound : IsSound p) (s : Plain) (k : RunInvariant p 
   flows h =
       let l = good.services h in
       let each = found_each v.client h (w.service h).wait (w.service h).queue l.apart in
-      flow p h (parts_of w.page h) (done_of w.page) (w.service h) (waits h) w.order (w.service h).past (w.service h).queue (declared_states p h) (w.service h).journal refl l.mine l.over
+      flow p h (parts_of w.block_record h) (done_of w.block_record) (w.service h) (waits h) w.order (w.service h).past (w.service h).queue (declared_states p h) (w.service h).journal refl l.mine l.over
       (each_map (λ t far. found_none v.client h (w.service h).wait (w.service h).queue t far) (w.service h).past
       (apart_both (w.service h).past (w.service h).queue (subst Apart l.mine (apart_kept (λ t. reserves p t h) w.order (legal_apart p (λ _. 0) w.order good.legal)))))
       (front (w.service h).queue each l.front)
       (each_map (λ u e. found_commands h (w.service h).queue u) (w.service h).queue each)
       l.entries l.honest l.state
-      (each_map (λ u path. idle u path) w.order good.pages)
+      (each_map (λ u path. idle u path) w.order good.block_records)
     where
-      front : (q : List Ticket) → AllByRecursion (λ u. waits h u ≡ (w.service h).wait u) q → Front (parts_of w.page h) (w.service h).now (w.service h).wait q → Front (parts_of w.page h) (w.service h).now (waits h) q
+      front : (q : List Ticket) → AllByRecursion (λ u. waits h u ≡ (w.service h).wait u) q → Front (parts_of w.block_record h) (w.service h).now (w.service h).wait q → Front (parts_of w.block_record h) (w.service h).now (waits h) q
       front [] e f = f
       front (t ∷ ts) e f = (
         f.0 ∙ ap (λ ws. (w.service h).now ++ map command_event ws) (sym e.0),
@@ -108,9 +108,9 @@ module _ (p : ProgramShape) (sound : IsSound p) (s : Plain) (k : RunInvariant p 
       own_queue : AllByRecursion (λ u. reserves p u h ≡ true) (w.service h).queue
       own_queue = queue_may p sound w h good
 
-      idle : (u : Ticket) → IsBlockRecord p u (w.page u) → reserves p u h ≡ false → (parts_of w.page h u ≡ []) × (waits h u ≡ [])
+      idle : (u : Ticket) → IsBlockRecord p u (w.block_record u) → reserves p u h ≡ false → (parts_of w.block_record h u ≡ []) × (waits h u ≡ [])
       idle u path e = (
-        unnamed (reserves p u) (block_tree p u (w.page u).entry) (w.page u).trace (w.page u).rest h (blocks_ask_only p sound u (w.page u).entry) path e,
+        unnamed (reserves p u) (block_tree p u (w.block_record u).entry) (w.block_record u).trace (w.block_record u).rest h (blocks_ask_only p sound u (w.block_record u).entry) path e,
         found_none v.client h (w.service h).wait (w.service h).queue u
             (each_map (λ q m. not_same u q (λ is. true≢false (sym m ∙ (ap (λ t. reserves p t h) (sym is) ∙ e)))) (w.service h).queue own_queue),
       )
@@ -124,24 +124,24 @@ module _ (p : ProgramShape) (sound : IsSound p) (s : Plain) (k : RunInvariant p 
   state_is : (h : ℕ) → state_of r h ≡ (w.service h).state
   state_is h = get_or-map-any (λ (x : Handler). x.held.object) s.handlers h no_handler ∙ sym (sim.state h)
 
-  trace_is : (i : ℕ) → i < length s.order → trace_of r i ≡ (w.page (ticket_at r i)).trace
+  trace_is : (i : ℕ) → i < length s.order → trace_of r i ≡ (w.block_record (ticket_at r i)).trace
   trace_is i inside = get_or-map (trace_at s) s.order i (ticket 0 0) [] inside ∙ sym (sim.trace (ticket_at r i))
 
   -- an ended block has nothing left
-  ended_done : (t : Ticket) → t.client < length p.clients → has_ended (client_at s t.client) t.index ≡ true → IsDone (w.page t).rest
+  ended_done : (t : Ticket) → t.client < length p.clients → has_ended (client_at s t.client) t.index ≡ true → IsDone (w.block_record t).rest
   ended_done t inside e = by_test (nat_lt (suc t.index) (begun_blocks (client_at s t.client))) refl e
     where
       by_test : (b : Bool) → nat_lt (suc t.index) (begun_blocks (client_at s t.client)) ≡ b
-          → (b || (nat_eq (suc t.index) (begun_blocks (client_at s t.client)) && is_out (client_at s t.client).stage)) ≡ true → IsDone (w.page t).rest
+          → (b || (nat_eq (suc t.index) (begun_blocks (client_at s t.client)) && is_out (client_at s t.client).stage)) ≡ true → IsDone (w.block_record t).rest
       by_test true less e = sim.older t.client t.index (grind (arith, less))
       by_test false less e =
           let both = and_cases (nat_eq (suc t.index) (begun_blocks (client_at s t.client))) (is_out (client_at s t.client).stage) e in
           let last : suc t.index ≡ begun_blocks (client_at s t.client) = let b = both.0 in grind (arith, b) in
           standing (k.stance t.client) refl (subst (λ g. is_out g ≡ true) (k.stages t.client inside) both.1) last
         where
-          standing : (g : PlainStage) → k.stance t.client ≡ g → is_out (stage_of (k.stance t.client)) ≡ true → suc t.index ≡ begun_blocks (client_at s t.client) → IsDone (w.page t).rest
+          standing : (g : PlainStage) → k.stance t.client ≡ g → is_out (stage_of (k.stance t.client)) ≡ true → suc t.index ≡ begun_blocks (client_at s t.client) → IsDone (w.block_record t).rest
           standing (Stands l) g o last =
-              let b : (w.page t).rest ≡ Done l = subst (λ n. StandsAt w.page t.client (Stands l) n) (sym last) (subst (λ x. StandsAt w.page t.client x (begun_blocks (client_at s t.client))) g (sim.stands t.client)) in
+              let b : (w.block_record t).rest ≡ Done l = subst (λ n. StandsAt w.block_record t.client (Stands l) n) (sym last) (subst (λ x. StandsAt w.block_record t.client x (begun_blocks (client_at s t.client))) g (sim.stands t.client)) in
               subst IsDone (sym b) tt
           standing (Runs rest) g o last = absurd (let f : is_out (stage_of (Runs rest)) ≡ true = subst (λ g. is_out (stage_of g) ≡ true) g o in cc)
           standing (Awaits q next) g o last = absurd (let f : is_out (stage_of (Awaits q next)) ≡ true = subst (λ g. is_out (stage_of g) ≡ true) g o in cc)
@@ -179,7 +179,7 @@ module _ (p : ProgramShape) (sound : IsSound p) (s : Plain) (k : RunInvariant p 
       no_queue f [] e = refl
       no_queue f (y ∷ ys) e = absurd (cc)
 
-  run : IsRun p sound r w.page waits (λ h. (w.service h).state) (λ h. (w.service h).queue ≡ [] → ⊥) (λ h. (w.service h).journal)
+  run : IsRun p sound r w.block_record waits (λ h. (w.service h).state) (λ h. (w.service h).queue ≡ [] → ⊥) (λ h. (w.service h).journal)
   run = record {
     fits = record {
       ended = length-map s.order (ended_at s);
@@ -190,8 +190,8 @@ module _ (p : ProgramShape) (sound : IsSound p) (s : Plain) (k : RunInvariant p 
       states = length-map s.handlers (λ (h : Handler). h.held.object) ∙ handlers_long p sound s k;
     };
     legal = legal;
-    pages = subst (AllByRecursion (λ t. IsBlockRecord p t (w.page t))) sim.order good.pages;
-    begins = subst (AllByRecursion (λ t. Begins w.page t.client t.index (w.page t).entry)) sim.order good.begins;
+    block_records = subst (AllByRecursion (λ t. IsBlockRecord p t (w.block_record t))) sim.order good.block_records;
+    begins = subst (AllByRecursion (λ t. Begins w.block_record t.client t.index (w.block_record t).entry)) sim.order good.begins;
     flows = λ h. subst (Flow (x h) (declared_states p h) (w.service h).journal) sim.order (flows h);
     honest = λ h own. (good.services h).honest;
     replayed = λ h own. (good.services h).state;
@@ -206,7 +206,7 @@ module _ (p : ProgramShape) (sound : IsSound p) (s : Plain) (k : RunInvariant p 
   }
 
   pub isolated : IsIsolated p r (commands_in_queue s)
-  isolated = subst (IsIsolated p r) (λ i h t. sym (waits_are h t) i) (run_isolated p sound r w.page waits (λ h. (w.service h).state) (λ h. (w.service h).queue ≡ [] → ⊥) (λ h. (w.service h).journal) run)
+  isolated = subst (IsIsolated p r) (λ i h t. sym (waits_are h t) i) (run_isolated p sound r w.block_record waits (λ h. (w.service h).state) (λ h. (w.service h).queue ≡ [] → ⊥) (λ h. (w.service h).journal) run)
 
 -- after every list of actors
 pub runs_isolated : PlainRunsAreIsolated

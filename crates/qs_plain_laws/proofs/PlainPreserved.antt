@@ -605,7 +605,7 @@ module _ (p : ProgramShape) (sound : IsSound p) where
   begin_course = record {
     order = [];
     booked = λ c. 0;
-    page = λ t. record { entry = []; trace = []; rest = Done [] };
+    block_record = λ t. record { entry = []; trace = []; rest = Done [] };
     service = λ h. record { past = []; queue = []; now = []; wait = λ t. []; journal = []; state = declared_states p h };
   }
 
@@ -623,7 +623,7 @@ module _ (p : ProgramShape) (sound : IsSound p) where
         legal = tt;
         counts = λ c. refl;
         below = tt;
-        pages = tt;
+        block_records = tt;
         begins = tt;
         services = λ h. record { mine = refl; apart = tt; over = tt; front = refl; entries = refl; commands = λ t. tt; honest = tt; state = refl };
       },
@@ -632,7 +632,7 @@ module _ (p : ProgramShape) (sound : IsSound p) where
         booked = λ c. sym (none_begun c);
         entry = λ t. sym (fresh_at (λ x. get_or x.entries t.index [] ≡ []) (λ n. refl) refl t.client);
         trace = λ t. sym (fresh_at (λ x. get_or x.traces t.index [] ≡ []) (λ n. refl) refl t.client);
-        stands = λ c. subst (λ n. Begins begin_course.page c n zeros) (sym (none_begun c)) refl;
+        stands = λ c. subst (λ n. Begins begin_course.block_record c n zeros) (sym (none_begun c)) refl;
         older = λ c n lt. absurd (let z = none_begun c in omega (arith, z, lt));
         queues = λ h. idle_at (λ x. x.queues ≡ []) (λ n. refl) refl h;
         journal = λ h. sym (idle_at (λ x. x.held.journal ≡ []) (λ n. refl) refl h);

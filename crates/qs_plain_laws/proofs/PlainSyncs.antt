@@ -121,29 +121,29 @@ module _ (p : ProgramShape) (sound : IsSound p) (s : Plain) (k : RunInvariant p 
       legal_among p (λ _. 0) w.order c i good.legal (omega arith)
       (let many : counts_after (λ _. 0) w.order c ≡ begun_blocks (client_at s c) = good.counts c ∙ sim.booked c in omega (arith, less, many))
 
-  page_ok : (c i : ℕ) → i < begun_blocks (client_at s c) → IsBlockRecord p (ticket c i) (w.page (ticket c i))
-  page_ok c i less = each_among (λ t. IsBlockRecord p t (w.page t)) (ticket c i) w.order good.pages (in_order c i less)
+  record_ok : (c i : ℕ) → i < begun_blocks (client_at s c) → IsBlockRecord p (ticket c i) (w.block_record (ticket c i))
+  record_ok c i less = each_among (λ t. IsBlockRecord p t (w.block_record t)) (ticket c i) w.order good.block_records (in_order c i less)
 
   -- what a block asks is of objects of the program
   objects_inside : (c i : ℕ) → i < begun_blocks (client_at s c) → AllByRecursion (λ (e : Event). e.request.object < length p.objects) (trace_at s (ticket c i))
   objects_inside c i less =
       let t = ticket c i in
       subst (λ es. AllByRecursion (λ (e : Event). e.request.object < length p.objects) es) (sim.trace t)
-      (each_map (λ (e : Event) m. reserved_inside p sound t e.request.object m) (w.page t).trace
-      (objects_among (reserves p t) (block_tree p t (w.page t).entry) (w.page t).trace (w.page t).rest (blocks_ask_only p sound t (w.page t).entry)
-      (page_ok c i less)))
+      (each_map (λ (e : Event) m. reserved_inside p sound t e.request.object m) (w.block_record t).trace
+      (objects_among (reserves p t) (block_tree p t (w.block_record t).entry) (w.block_record t).trace (w.block_record t).rest (blocks_ask_only p sound t (w.block_record t).entry)
+      (record_ok c i less)))
 
   -- and so is what its client waits for
   asked_inside : (c n : ℕ) → begun_blocks (client_at s c) ≡ n → (g : PlainStage) → k.stance c ≡ g → sum_of p (asked_of g) ≡ waits (stage_of g)
   asked_inside c n b (Stands l) at = sum_zero (λ h. 0) (λ h. refl) (range_with_len 0 (length p.objects))
   asked_inside c n b (Runs rest) at = sum_zero (λ h. 0) (λ h. refl) (range_with_len 0 (length p.objects))
   asked_inside c zero b (Awaits q next) at =
-      absurd (subst (λ n. StandsAt w.page c (Awaits q next) n) b (subst (λ g. StandsAt w.page c g (begun_blocks (client_at s c))) at (sim.stands c)))
+      absurd (subst (λ n. StandsAt w.block_record c (Awaits q next) n) b (subst (λ g. StandsAt w.block_record c g (begun_blocks (client_at s c))) at (sim.stands c)))
   asked_inside c (suc i) b (Awaits q next) at =
       let t = ticket c i in
-      let rest : (w.page t).rest ≡ Query q next =
-      subst (λ n. StandsAt w.page c (Awaits q next) n) b (subst (λ g. StandsAt w.page c g (begun_blocks (client_at s c))) at (sim.stands c)) in
-      let asking : AsksOnly (reserves p t) (Query q next) = subst (AsksOnly (reserves p t)) rest (asks_left p sound w t (page_ok c i (omega (arith, b)))) in
+      let rest : (w.block_record t).rest ≡ Query q next =
+      subst (λ n. StandsAt w.block_record c (Awaits q next) n) b (subst (λ g. StandsAt w.block_record c g (begun_blocks (client_at s c))) at (sim.stands c)) in
+      let asking : AsksOnly (reserves p t) (Query q next) = subst (AsksOnly (reserves p t)) rest (asks_left p sound w t (record_ok c i (omega (arith, b)))) in
       one_of_range q.object (length p.objects) (reserved_inside p sound t q.object asking.1)
 
   -- a client between blocks waits for nothing
@@ -151,7 +151,7 @@ module _ (p : ProgramShape) (sound : IsSound p) (s : Plain) (k : RunInvariant p 
   none_before c b (Stands l) at = refl
   none_before c b (Runs rest) at = refl
   none_before c b (Awaits q next) at =
-      absurd (subst (λ n. StandsAt w.page c (Awaits q next) n) b (subst (λ g. StandsAt w.page c g (begun_blocks (client_at s c))) at (sim.stands c)))
+      absurd (subst (λ n. StandsAt w.block_record c (Awaits q next) n) b (subst (λ g. StandsAt w.block_record c g (begun_blocks (client_at s c))) at (sim.stands c)))
 
   -- what a block has asked
   block_sent : (c i : ℕ) → i < begun_blocks (client_at s c)

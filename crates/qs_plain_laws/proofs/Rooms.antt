@@ -24,14 +24,14 @@ module _ (p : ProgramShape) (h : ℕ) (w : ServedRun) (ok : IsServedRun p w) whe
   l = w.service h
 
   abbrev parts : Ticket → List Event
-  parts = parts_of w.page h
+  parts = parts_of w.block_record h
 
-  within_load : (t : Ticket) → IsBlockRecord p t (w.page t) → length (parts t) ≤ cost p h t
-  within_load t path = leads_within h (block_tree p t (w.page t).entry) (w.page t).trace (w.page t).rest (cost p h t) path (requests_within (text_of p t).body (w.page t).entry h)
+  within_load : (t : Ticket) → IsBlockRecord p t (w.block_record t) → length (parts t) ≤ cost p h t
+  within_load t path = leads_within h (block_tree p t (w.block_record t).entry) (w.block_record t).trace (w.block_record t).rest (cost p h t) path (requests_within (text_of p t).body (w.block_record t).entry h)
 
   all_within : AllByRecursion (λ t. length (parts t) ≤ cost p h t) (l.past ++ l.queue)
   all_within = subst (AllByRecursion (λ t. length (parts t) ≤ cost p h t)) (ok.services h).mine
-      (each_kept (λ t. length (parts t) ≤ cost p h t) (λ t. reserves p t h) w.order (each_map within_load w.order ok.pages))
+      (each_kept (λ t. length (parts t) ≤ cost p h t) (λ t. reserves p t h) w.order (each_map within_load w.order ok.block_records))
 
   stamped_length : (ts : List Ticket) → length (flat_map (λ t. map (stamp t) (parts t)) ts) ≡ total (λ t. length (parts t)) ts
   stamped_length [] = refl
@@ -69,12 +69,12 @@ module _ (p : ProgramShape) (h : ℕ) (w : ServedRun) (ok : IsServedRun p w) whe
       room_for t ts q (omega (arith, long, le))
 
   -- for a query whose client waits
-  pub room_to_ask : (t : Ticket) (ts : List Ticket) (r : Request) (next : ℤ → Interaction) → l.queue ≡ t ∷ ts → l.wait t ≡ [] → IsBlockRecord p t (w.page t) → (w.page t).rest ≡ Query r next → r.object ≡ h
+  pub room_to_ask : (t : Ticket) (ts : List Ticket) (r : Request) (next : ℤ → Interaction) → l.queue ≡ t ∷ ts → l.wait t ≡ [] → IsBlockRecord p t (w.block_record t) → (w.block_record t).rest ≡ Query r next → r.object ≡ h
       → length l.journal < room_of p h
   room_to_ask t ts r next q none path is at =
       let e = event r None in
-      let longer = leads_query (block_tree p t (w.page t).entry) (w.page t).trace e next (subst (Leads (block_tree p t (w.page t).entry) (w.page t).trace) is path) in
-      let le = leads_within h (block_tree p t (w.page t).entry) ((w.page t).trace ++ e ∷ []) (next (value_of e.reply)) (cost p h t) longer (requests_within (text_of p t).body (w.page t).entry h) in
-      let one : length (part h ((w.page t).trace ++ e ∷ [])) ≡ length (parts t) + 1 = ap length (part_snoc_here h (w.page t).trace e at) ∙ length-append (parts t) (e ∷ []) in
+      let longer = leads_query (block_tree p t (w.block_record t).entry) (w.block_record t).trace e next (subst (Leads (block_tree p t (w.block_record t).entry) (w.block_record t).trace) is path) in
+      let le = leads_within h (block_tree p t (w.block_record t).entry) ((w.block_record t).trace ++ e ∷ []) (next (value_of e.reply)) (cost p h t) longer (requests_within (text_of p t).body (w.block_record t).entry h) in
+      let one : length (part h ((w.block_record t).trace ++ e ∷ [])) ≡ length (parts t) + 1 = ap length (part_snoc_here h (w.block_record t).trace e at) ∙ length-append (parts t) (e ∷ []) in
       let now : length (parts t) ≡ length l.now + 0 = ap length (first_part t ts q ∙ ap (λ ws. l.now ++ map command_event ws) none) ∙ length-append l.now [] in
       room_for t ts q (omega (arith, le, one, now))

@@ -1,6 +1,6 @@
 -- Each move of a served run keeps it sound: a command is logged, a query is answered, a command that waits is run, a
 -- ticket leaves, or a new one comes. Each step of the plain rules is shown to be such a move (`Simulation`). A move
--- changes one ticket's page or one object's service, or adds a ticket; all other pages and services stay, and what is
+-- changes one ticket's block_record or one object's service, or adds a ticket; all other block_records and services stay, and what is
 -- known of the service has its own lemmas.
 use Rattle.std.proofs.Common.{◌≡◌, ℕ, zero, suc, ◌<◌, ◌≤◌, arith, Bool, true, false, if◌then◌else◌, ◌==◌, List, [], ◌∷◌, ◌++◌, refl, sym, ap, ◌∙◌, subst, ⊎_elim, ℤ}
 use Rattle.std.specs.List.{AllByRecursion}
@@ -29,63 +29,63 @@ use Rattle.qs_plain_laws.proofs.Services.{service_same, service_log_ok, service_
 
 module _ (p : ProgramShape) (sound : IsSound p) where
   -- what is left of a block makes requests on the objects of its list alone
-  pub asks_left : (w : ServedRun) (t : Ticket) → IsBlockRecord p t (w.page t) → AsksOnly (reserves p t) (w.page t).rest
-  asks_left w t path = asks_rest (reserves p t) (block_tree p t (w.page t).entry) (w.page t).trace (w.page t).rest (blocks_ask_only p sound t (w.page t).entry) path
+  pub asks_left : (w : ServedRun) (t : Ticket) → IsBlockRecord p t (w.block_record t) → AsksOnly (reserves p t) (w.block_record t).rest
+  asks_left w t path = asks_rest (reserves p t) (block_tree p t (w.block_record t).entry) (w.block_record t).trace (w.block_record t).rest (blocks_ask_only p sound t (w.block_record t).entry) path
 
-  -- one page goes on by one event
-  module _ (w : ServedRun) (t : Ticket) (e : Event) (next : Interaction) (busy : IsDone (w.page t).rest → ⊥) where
-    abbrev pub page' : Ticket → BlockRecord
-    page' = put_at w.page t (advance (w.page t) e next)
+  -- one block_record goes on by one event
+  module _ (w : ServedRun) (t : Ticket) (e : Event) (next : Interaction) (busy : IsDone (w.block_record t).rest → ⊥) where
+    abbrev pub block_record' : Ticket → BlockRecord
+    block_record' = put_at w.block_record t (advance (w.block_record t) e next)
 
-    entry_same : (u : Ticket) → (page' u).entry ≡ (w.page u).entry
+    entry_same : (u : Ticket) → (block_record' u).entry ≡ (w.block_record u).entry
     entry_same u =
         ⊎_elim
-        (λ (is : t ≡ u). subst (λ u. (page' u).entry ≡ (w.page u).entry) is (ap (λ (g : BlockRecord). g.entry) (put_at_here w.page t (advance (w.page t) e next))))
-        (λ (other : same t u ≡ false). ap (λ (g : BlockRecord). g.entry) (put_at_there w.page t (advance (w.page t) e next) u other))
+        (λ (is : t ≡ u). subst (λ u. (block_record' u).entry ≡ (w.block_record u).entry) is (ap (λ (g : BlockRecord). g.entry) (put_at_here w.block_record t (advance (w.block_record t) e next))))
+        (λ (other : same t u ≡ false). ap (λ (g : BlockRecord). g.entry) (put_at_there w.block_record t (advance (w.block_record t) e next) u other))
         (ticket_cases t u)
 
-    done_kept : (u : Ticket) (l : Locals) → (w.page u).rest ≡ Done l → (page' u).rest ≡ Done l
+    done_kept : (u : Ticket) (l : Locals) → (w.block_record u).rest ≡ Done l → (block_record' u).rest ≡ Done l
     done_kept u l d =
         ⊎_elim
-        (λ (is : t ≡ u). absurd (busy (subst IsDone (sym (ap (λ u. (w.page u).rest) is ∙ d)) tt)))
-        (λ (other : same t u ≡ false). ap (λ (g : BlockRecord). g.rest) (put_at_there w.page t (advance (w.page t) e next) u other) ∙ d)
+        (λ (is : t ≡ u). absurd (busy (subst IsDone (sym (ap (λ u. (w.block_record u).rest) is ∙ d)) tt)))
+        (λ (other : same t u ≡ false). ap (λ (g : BlockRecord). g.rest) (put_at_there w.block_record t (advance (w.block_record t) e next) u other) ∙ d)
         (ticket_cases t u)
 
-    pub is_done_kept : (u : Ticket) → done_of w.page u → done_of page' u
+    pub is_done_kept : (u : Ticket) → done_of w.block_record u → done_of block_record' u
     is_done_kept u d =
         ⊎_elim
-        (λ (is : t ≡ u). absurd (busy (subst (done_of w.page) (sym is) d)))
-        (λ (other : same t u ≡ false). subst (λ (g : BlockRecord). IsDone g.rest) (sym (put_at_there w.page t (advance (w.page t) e next) u other)) d)
+        (λ (is : t ≡ u). absurd (busy (subst (done_of w.block_record) (sym is) d)))
+        (λ (other : same t u ≡ false). subst (λ (g : BlockRecord). IsDone g.rest) (sym (put_at_there w.block_record t (advance (w.block_record t) e next) u other)) d)
         (ticket_cases t u)
 
-    begins_one : (c k : ℕ) (a b : Locals) → a ≡ b → Begins w.page c k a → Begins page' c k b
+    begins_one : (c k : ℕ) (a b : Locals) → a ≡ b → Begins w.block_record c k a → Begins block_record' c k b
     begins_one c zero a b is h = sym is ∙ h
     begins_one c (suc k) a b is h = done_kept (record { client = c; index = k }) b (h ∙ ap Done is)
 
-    begins_kept : AllByRecursion (λ t. Begins w.page t.client t.index (w.page t).entry) w.order → AllByRecursion (λ t. Begins page' t.client t.index (page' t).entry) w.order
-    begins_kept = each_map (λ u h. begins_one u.client u.index (w.page u).entry (page' u).entry (sym (entry_same u)) h) w.order
+    begins_kept : AllByRecursion (λ t. Begins w.block_record t.client t.index (w.block_record t).entry) w.order → AllByRecursion (λ t. Begins block_record' t.client t.index (block_record' t).entry) w.order
+    begins_kept = each_map (λ u h. begins_one u.client u.index (w.block_record u).entry (block_record' u).entry (sym (entry_same u)) h) w.order
 
-    pages_kept : (IsBlockRecord p t (w.page t) → IsBlockRecord p t (advance (w.page t) e next)) → AllByRecursion (λ t. IsBlockRecord p t (w.page t)) w.order → AllByRecursion (λ t. IsBlockRecord p t (page' t)) w.order
-    pages_kept f = each_map (λ u h.
+    records_kept : (IsBlockRecord p t (w.block_record t) → IsBlockRecord p t (advance (w.block_record t) e next)) → AllByRecursion (λ t. IsBlockRecord p t (w.block_record t)) w.order → AllByRecursion (λ t. IsBlockRecord p t (block_record' t)) w.order
+    records_kept f = each_map (λ u h.
         ⊎_elim
-        (λ (is : t ≡ u). subst (λ u. IsBlockRecord p u (page' u)) is (subst (IsBlockRecord p t) (sym (put_at_here w.page t (advance (w.page t) e next))) (f (subst (λ u. IsBlockRecord p u (w.page u)) (sym is) h))))
-        (λ (other : same t u ≡ false). subst (IsBlockRecord p u) (sym (put_at_there w.page t (advance (w.page t) e next) u other)) h)
+        (λ (is : t ≡ u). subst (λ u. IsBlockRecord p u (block_record' u)) is (subst (IsBlockRecord p t) (sym (put_at_here w.block_record t (advance (w.block_record t) e next))) (f (subst (λ u. IsBlockRecord p u (w.block_record u)) (sym is) h))))
+        (λ (other : same t u ≡ false). subst (IsBlockRecord p u) (sym (put_at_there w.block_record t (advance (w.block_record t) e next) u other)) h)
         (ticket_cases t u)) w.order
 
-    parts_here : (h : ℕ) → e.request.object ≡ h → (u : Ticket) → put_at (parts_of w.page h) t (parts_of w.page h t ++ e ∷ []) u ≡ parts_of page' h u
+    parts_here : (h : ℕ) → e.request.object ≡ h → (u : Ticket) → put_at (parts_of w.block_record h) t (parts_of w.block_record h t ++ e ∷ []) u ≡ parts_of block_record' h u
     parts_here h at u =
         ⊎_elim
-        (λ (is : t ≡ u). subst (λ u. put_at (parts_of w.page h) t (parts_of w.page h t ++ e ∷ []) u ≡ parts_of page' h u) is
-        (put_at_here (parts_of w.page h) t _ ∙ (sym (part_snoc_here h (w.page t).trace e at) ∙ ap (λ (g : BlockRecord). part h g.trace) (sym (put_at_here w.page t (advance (w.page t) e next))))))
-        (λ (other : same t u ≡ false). put_at_there (parts_of w.page h) t _ u other ∙ ap (λ (g : BlockRecord). part h g.trace) (sym (put_at_there w.page t (advance (w.page t) e next) u other)))
+        (λ (is : t ≡ u). subst (λ u. put_at (parts_of w.block_record h) t (parts_of w.block_record h t ++ e ∷ []) u ≡ parts_of block_record' h u) is
+        (put_at_here (parts_of w.block_record h) t _ ∙ (sym (part_snoc_here h (w.block_record t).trace e at) ∙ ap (λ (g : BlockRecord). part h g.trace) (sym (put_at_here w.block_record t (advance (w.block_record t) e next))))))
+        (λ (other : same t u ≡ false). put_at_there (parts_of w.block_record h) t _ u other ∙ ap (λ (g : BlockRecord). part h g.trace) (sym (put_at_there w.block_record t (advance (w.block_record t) e next) u other)))
         (ticket_cases t u)
 
-    parts_there : (h : ℕ) → (e.request.object == h) ≡ false → (u : Ticket) → parts_of w.page h u ≡ parts_of page' h u
+    parts_there : (h : ℕ) → (e.request.object == h) ≡ false → (u : Ticket) → parts_of w.block_record h u ≡ parts_of block_record' h u
     parts_there h at u =
         ⊎_elim
-        (λ (is : t ≡ u). subst (λ u. parts_of w.page h u ≡ parts_of page' h u) is
-        (sym (part_snoc_there h (w.page t).trace e at) ∙ ap (λ (g : BlockRecord). part h g.trace) (sym (put_at_here w.page t (advance (w.page t) e next)))))
-        (λ (other : same t u ≡ false). ap (λ (g : BlockRecord). part h g.trace) (sym (put_at_there w.page t (advance (w.page t) e next) u other)))
+        (λ (is : t ≡ u). subst (λ u. parts_of w.block_record h u ≡ parts_of block_record' h u) is
+        (sym (part_snoc_there h (w.block_record t).trace e at) ∙ ap (λ (g : BlockRecord). part h g.trace) (sym (put_at_here w.block_record t (advance (w.block_record t) e next)))))
+        (λ (other : same t u ≡ false). ap (λ (g : BlockRecord). part h g.trace) (sym (put_at_there w.block_record t (advance (w.block_record t) e next) u other)))
         (ticket_cases t u)
 
   not_done_call : (t r : _) (next : Interaction) → t ≡ Call r next → IsDone t → ⊥
@@ -94,85 +94,85 @@ module _ (p : ProgramShape) (sound : IsSound p) where
   not_done_query : (t r : _) (next : ℤ → Interaction) → t ≡ Query r next → IsDone t → ⊥
   not_done_query t r next e d = subst IsDone e d
 
-  pub log_ok : (w : ServedRun) (t : Ticket) (r : Request) (next : Interaction) → Among t w.order → (w.page t).rest ≡ Call r next → IsServedRun p w → IsServedRun p (log w t r next)
+  pub log_ok : (w : ServedRun) (t : Ticket) (r : Request) (next : Interaction) → Among t w.order → (w.block_record t).rest ≡ Call r next → IsServedRun p w → IsServedRun p (log w t r next)
   log_ok w t r next a is ok =
-      let busy = not_done_call (w.page t).rest r next is in
-      let fine = subst (AsksOnly (reserves p t)) is (asks_left w t (each_among (λ t. IsBlockRecord p t (w.page t)) t w.order ok.pages a)) in
+      let busy = not_done_call (w.block_record t).rest r next is in
+      let fine = subst (AsksOnly (reserves p t)) is (asks_left w t (each_among (λ t. IsBlockRecord p t (w.block_record t)) t w.order ok.block_records a)) in
       record {
         legal = ok.legal;
         counts = ok.counts;
         below = ok.below;
-        pages = pages_kept w t (command_event r) next busy (λ leads. leads_call (block_tree p t (w.page t).entry) (w.page t).trace r next (subst (Leads (block_tree p t (w.page t).entry) (w.page t).trace) is leads)) ok.pages;
+        block_records = records_kept w t (command_event r) next busy (λ leads. leads_call (block_tree p t (w.block_record t).entry) (w.block_record t).trace r next (subst (Leads (block_tree p t (w.block_record t).entry) (w.block_record t).trace) is leads)) ok.block_records;
         begins = begins_kept w t (command_event r) next busy ok.begins;
         services = λ h. ⊎_elim
-            (λ (at : r.object ≡ h). subst (λ h. IsService p (declared_states p h) w.order h (parts_of (page' w t (command_event r) next busy) h) (done_of (page' w t (command_event r) next busy)) (put w.service r.object (service_log (w.service r.object) t r) h)) at
-            (subst (IsService p (declared_states p r.object) w.order r.object (parts_of (page' w t (command_event r) next busy) r.object) (done_of (page' w t (command_event r) next busy))) (sym (put_here w.service r.object (service_log (w.service r.object) t r)))
+            (λ (at : r.object ≡ h). subst (λ h. IsService p (declared_states p h) w.order h (parts_of (block_record' w t (command_event r) next busy) h) (done_of (block_record' w t (command_event r) next busy)) (put w.service r.object (service_log (w.service r.object) t r) h)) at
+            (subst (IsService p (declared_states p r.object) w.order r.object (parts_of (block_record' w t (command_event r) next busy) r.object) (done_of (block_record' w t (command_event r) next busy))) (sym (put_here w.service r.object (service_log (w.service r.object) t r)))
             (service_same p (declared_states p r.object) w.order r.object _ _ _ _ _ (parts_here w t (command_event r) next busy r.object refl) (λ u d. d)
-            (service_log_ok p (declared_states p r.object) w.order r.object (parts_of w.page r.object) (done_of w.page) (done_of (page' w t (command_event r) next busy)) (w.service r.object) t r (is_done_kept w t (command_event r) next busy) busy fine.0 (ok.services r.object)))))
+            (service_log_ok p (declared_states p r.object) w.order r.object (parts_of w.block_record r.object) (done_of w.block_record) (done_of (block_record' w t (command_event r) next busy)) (w.service r.object) t r (is_done_kept w t (command_event r) next busy) busy fine.0 (ok.services r.object)))))
             (λ (at : (r.object == h) ≡ false).
-            subst (IsService p (declared_states p h) w.order h (parts_of (page' w t (command_event r) next busy) h) (done_of (page' w t (command_event r) next busy))) (sym (put_there w.service r.object (service_log (w.service r.object) t r) h at))
+            subst (IsService p (declared_states p h) w.order h (parts_of (block_record' w t (command_event r) next busy) h) (done_of (block_record' w t (command_event r) next busy))) (sym (put_there w.service r.object (service_log (w.service r.object) t r) h at))
             (service_same p (declared_states p h) w.order h _ _ _ _ _ (parts_there w t (command_event r) next busy h at) (is_done_kept w t (command_event r) next busy) (ok.services h)))
             (num_cases r.object h);
       }
 
-  pub reply_ok : (w : ServedRun) (t : Ticket) (r : Request) (next : ℤ → Interaction) (ts : List Ticket) → Among t w.order → (w.page t).rest ≡ Query r next
+  pub reply_ok : (w : ServedRun) (t : Ticket) (r : Request) (next : ℤ → Interaction) (ts : List Ticket) → Among t w.order → (w.block_record t).rest ≡ Query r next
       → (w.service r.object).queue ≡ t ∷ ts → (w.service r.object).wait t ≡ [] → IsServedRun p w → IsServedRun p (reply w t r next)
   reply_ok w t r next ts a is q free ok =
-      let busy = not_done_query (w.page t).rest r next is in
+      let busy = not_done_query (w.block_record t).rest r next is in
       let v = answer (w.service r.object).state r in
       let e = event r v in
       let after' = next (value_of v) in
-      let fine = subst (AsksOnly (reserves p t)) is (asks_left w t (each_among (λ t. IsBlockRecord p t (w.page t)) t w.order ok.pages a)) in
+      let fine = subst (AsksOnly (reserves p t)) is (asks_left w t (each_among (λ t. IsBlockRecord p t (w.block_record t)) t w.order ok.block_records a)) in
       let new = service_answer (w.service r.object) t r in
       record {
         legal = ok.legal;
         counts = ok.counts;
         below = ok.below;
-        pages = pages_kept w t e after' busy (λ leads. leads_query (block_tree p t (w.page t).entry) (w.page t).trace e next (subst (Leads (block_tree p t (w.page t).entry) (w.page t).trace) is leads)) ok.pages;
+        block_records = records_kept w t e after' busy (λ leads. leads_query (block_tree p t (w.block_record t).entry) (w.block_record t).trace e next (subst (Leads (block_tree p t (w.block_record t).entry) (w.block_record t).trace) is leads)) ok.block_records;
         begins = begins_kept w t e after' busy ok.begins;
         services = λ h. ⊎_elim
-            (λ (at : r.object ≡ h). subst (λ h. IsService p (declared_states p h) w.order h (parts_of (page' w t e after' busy) h) (done_of (page' w t e after' busy)) (put w.service r.object new h)) at
-            (subst (IsService p (declared_states p r.object) w.order r.object (parts_of (page' w t e after' busy) r.object) (done_of (page' w t e after' busy))) (sym (put_here w.service r.object new))
+            (λ (at : r.object ≡ h). subst (λ h. IsService p (declared_states p h) w.order h (parts_of (block_record' w t e after' busy) h) (done_of (block_record' w t e after' busy)) (put w.service r.object new h)) at
+            (subst (IsService p (declared_states p r.object) w.order r.object (parts_of (block_record' w t e after' busy) r.object) (done_of (block_record' w t e after' busy))) (sym (put_here w.service r.object new))
             (service_same p (declared_states p r.object) w.order r.object _ _ _ _ _ (parts_here w t e after' busy r.object refl) (λ u d. d)
-            (service_answer_ok p (declared_states p r.object) w.order r.object (parts_of w.page r.object) (done_of w.page) (done_of (page' w t e after' busy)) (w.service r.object) t ts r (is_done_kept w t e after' busy) busy q free (ok.services r.object)))))
+            (service_answer_ok p (declared_states p r.object) w.order r.object (parts_of w.block_record r.object) (done_of w.block_record) (done_of (block_record' w t e after' busy)) (w.service r.object) t ts r (is_done_kept w t e after' busy) busy q free (ok.services r.object)))))
             (λ (at : (r.object == h) ≡ false).
-            subst (IsService p (declared_states p h) w.order h (parts_of (page' w t e after' busy) h) (done_of (page' w t e after' busy))) (sym (put_there w.service r.object new h at))
+            subst (IsService p (declared_states p h) w.order h (parts_of (block_record' w t e after' busy) h) (done_of (block_record' w t e after' busy))) (sym (put_there w.service r.object new h at))
             (service_same p (declared_states p h) w.order h _ _ _ _ _ (parts_there w t e after' busy h at) (is_done_kept w t e after' busy) (ok.services h)))
             (num_cases r.object h);
       }
 
   -- one service changes and nothing else
   one_service : (w : ServedRun) (h : ℕ) (l : Service) → IsServedRun p w
-      → (IsService p (declared_states p h) w.order h (parts_of w.page h) (done_of w.page) (w.service h) → IsService p (declared_states p h) w.order h (parts_of w.page h) (done_of w.page) l)
-      → IsServedRun p (record { order = w.order; booked = w.booked; page = w.page; service = put w.service h l })
+      → (IsService p (declared_states p h) w.order h (parts_of w.block_record h) (done_of w.block_record) (w.service h) → IsService p (declared_states p h) w.order h (parts_of w.block_record h) (done_of w.block_record) l)
+      → IsServedRun p (record { order = w.order; booked = w.booked; block_record = w.block_record; service = put w.service h l })
   one_service w h l ok f = record {
     legal = ok.legal;
     counts = ok.counts;
     below = ok.below;
-    pages = ok.pages;
+    block_records = ok.block_records;
     begins = ok.begins;
     services = λ g. ⊎_elim
-        (λ (at : h ≡ g). subst (λ g. IsService p (declared_states p g) w.order g (parts_of w.page g) (done_of w.page) (put w.service h l g)) at
-        (subst (IsService p (declared_states p h) w.order h (parts_of w.page h) (done_of w.page)) (sym (put_here w.service h l)) (f (ok.services h))))
-        (λ (at : (h == g) ≡ false). subst (IsService p (declared_states p g) w.order g (parts_of w.page g) (done_of w.page)) (sym (put_there w.service h l g at)) (ok.services g))
+        (λ (at : h ≡ g). subst (λ g. IsService p (declared_states p g) w.order g (parts_of w.block_record g) (done_of w.block_record) (put w.service h l g)) at
+        (subst (IsService p (declared_states p h) w.order h (parts_of w.block_record h) (done_of w.block_record)) (sym (put_here w.service h l)) (f (ok.services h))))
+        (λ (at : (h == g) ≡ false). subst (IsService p (declared_states p g) w.order g (parts_of w.block_record g) (done_of w.block_record)) (sym (put_there w.service h l g at)) (ok.services g))
         (num_cases h g);
   }
 
   pub run_ok : (w : ServedRun) (h : ℕ) (t : Ticket) (ts : List Ticket) (r : Request) (rs : List Request) → (w.service h).queue ≡ t ∷ ts → (w.service h).wait t ≡ r ∷ rs
       → IsServedRun p w → IsServedRun p (run_first w h t r rs)
-  run_ok w h t ts r rs q some ok = one_service w h (service_run (w.service h) t r rs) ok (service_run_ok p (declared_states p h) w.order h (parts_of w.page h) (done_of w.page) (w.service h) t ts r rs q some)
+  run_ok w h t ts r rs q some ok = one_service w h (service_run (w.service h) t r rs) ok (service_run_ok p (declared_states p h) w.order h (parts_of w.block_record h) (done_of w.block_record) (w.service h) t ts r rs q some)
 
-  pub leave_ok : (w : ServedRun) (h : ℕ) (t : Ticket) (ts : List Ticket) → (w.service h).queue ≡ t ∷ ts → (w.service h).wait t ≡ [] → IsDone (w.page t).rest
+  pub leave_ok : (w : ServedRun) (h : ℕ) (t : Ticket) (ts : List Ticket) → (w.service h).queue ≡ t ∷ ts → (w.service h).wait t ≡ [] → IsDone (w.block_record t).rest
       → IsServedRun p w → IsServedRun p (end_block w h t ts)
-  leave_ok w h t ts q none d ok = one_service w h (service_leave (w.service h) t ts) ok (service_leave_ok p (declared_states p h) w.order h (parts_of w.page h) (done_of w.page) (w.service h) t ts q none d)
+  leave_ok w h t ts q none d ok = one_service w h (service_leave (w.service h) t ts) ok (service_leave_ok p (declared_states p h) w.order h (parts_of w.block_record h) (done_of w.block_record) (w.service h) t ts q none d)
 
   -- a ticket that comes
   module _ (w : ServedRun) (t : Ticket) (l : Locals) (is : t.index ≡ w.booked t.client) (ok : IsServedRun p w) where
-    abbrev fresh_page : BlockRecord
-    fresh_page = record { entry = l; trace = []; rest = block_tree p t l }
+    abbrev fresh_record : BlockRecord
+    fresh_record = record { entry = l; trace = []; rest = block_tree p t l }
 
     abbrev pub page2 : Ticket → BlockRecord
-    page2 = put_at w.page t fresh_page
+    page2 = put_at w.block_record t fresh_record
 
     pub fresh : AllByRecursion (λ u. same t u ≡ false) w.order
     fresh = each_map (λ u b.
@@ -181,8 +181,8 @@ module _ (p : ProgramShape) (sound : IsSound p) where
         (λ (other : same t u ≡ false). other)
         (ticket_cases t u)) w.order ok.below
 
-    page2_there : (u : Ticket) → same t u ≡ false → page2 u ≡ w.page u
-    page2_there u e = put_at_there w.page t fresh_page u e
+    page2_there : (u : Ticket) → same t u ≡ false → page2 u ≡ w.block_record u
+    page2_there u e = put_at_there w.block_record t fresh_record u e
 
     below2 : (u : Ticket) → suc u.index ≤ w.booked u.client → suc u.index ≤ put w.booked t.client (suc t.index) u.client
     below2 u b =
@@ -194,7 +194,7 @@ module _ (p : ProgramShape) (sound : IsSound p) where
         (num_cases t.client u.client)
 
     -- what stood before another ticket still stands there
-    begins_old : (c k : ℕ) (a b : Locals) → a ≡ b → suc k ≤ w.booked c → Begins w.page c k a → Begins page2 c k b
+    begins_old : (c k : ℕ) (a b : Locals) → a ≡ b → suc k ≤ w.booked c → Begins w.block_record c k a → Begins page2 c k b
     begins_old c zero a b e h k = sym e ∙ k
     begins_old c (suc j) a b e h k =
         let u : Ticket = record { client = c; index = j } in
@@ -206,7 +206,7 @@ module _ (p : ProgramShape) (sound : IsSound p) where
         (λ (other : same t u ≡ false). ap (λ (g : BlockRecord). g.rest) (page2_there u other) ∙ (k ∙ ap Done e))
         (ticket_cases t u)
 
-    begins_new : (c k : ℕ) → c ≡ t.client → k ≡ t.index → Begins w.page c k l → Begins page2 c k l
+    begins_new : (c k : ℕ) → c ≡ t.client → k ≡ t.index → Begins w.block_record c k l → Begins page2 c k l
     begins_new c zero ec ek k = k
     begins_new c (suc j) ec ek k =
         let u : Ticket = record { client = c; index = j } in
@@ -215,27 +215,27 @@ module _ (p : ProgramShape) (sound : IsSound p) where
         (λ (other : same t u ≡ false). ap (λ (g : BlockRecord). g.rest) (page2_there u other) ∙ k)
         (ticket_cases t u)
 
-    service2 : (h : ℕ) (b : Bool) → reserves p t h ≡ b → IsService p (declared_states p h) (w.order ++ t ∷ []) h (put_at (parts_of w.page h) t []) (done_of page2) ((if b then service_reserve (w.service h) t else w.service h))
-    service2 h true e = service_reserve_ok p (declared_states p h) w.order h (parts_of w.page h) (done_of w.page) (done_of page2) (w.service h) t (λ u n d. subst (λ (g : BlockRecord). IsDone g.rest) (sym (page2_there u n)) d) fresh (ok.services h) e
-    service2 h false e = service_pass_ok p (declared_states p h) w.order h (parts_of w.page h) (done_of w.page) (done_of page2) (w.service h) t (λ u n d. subst (λ (g : BlockRecord). IsDone g.rest) (sym (page2_there u n)) d) fresh (ok.services h) e
+    service2 : (h : ℕ) (b : Bool) → reserves p t h ≡ b → IsService p (declared_states p h) (w.order ++ t ∷ []) h (put_at (parts_of w.block_record h) t []) (done_of page2) ((if b then service_reserve (w.service h) t else w.service h))
+    service2 h true e = service_reserve_ok p (declared_states p h) w.order h (parts_of w.block_record h) (done_of w.block_record) (done_of page2) (w.service h) t (λ u n d. subst (λ (g : BlockRecord). IsDone g.rest) (sym (page2_there u n)) d) fresh (ok.services h) e
+    service2 h false e = service_pass_ok p (declared_states p h) w.order h (parts_of w.block_record h) (done_of w.block_record) (done_of page2) (w.service h) t (λ u n d. subst (λ (g : BlockRecord). IsDone g.rest) (sym (page2_there u n)) d) fresh (ok.services h) e
 
-    parts2 : (h : ℕ) (u : Ticket) → put_at (parts_of w.page h) t [] u ≡ parts_of page2 h u
+    parts2 : (h : ℕ) (u : Ticket) → put_at (parts_of w.block_record h) t [] u ≡ parts_of page2 h u
     parts2 h u = by_case (same t u)
       where
-        by_case : (b : Bool) → (if b then [] else parts_of w.page h u) ≡ part h ((if b then record { entry = l; trace = []; rest = block_tree p t l } else w.page u)).trace
+        by_case : (b : Bool) → (if b then [] else parts_of w.block_record h u) ≡ part h ((if b then record { entry = l; trace = []; rest = block_tree p t l } else w.block_record u)).trace
         by_case true = refl
         by_case false = refl
 
-    pub reserve_ok : t.index < blocks_of p t.client → Begins w.page t.client t.index l → IsServedRun p (reserve p w t l)
+    pub reserve_ok : t.index < blocks_of p t.client → Begins w.block_record t.client t.index l → IsServedRun p (reserve p w t l)
     reserve_ok some begins = record {
       legal = legal-more p (λ _. 0) w.order t ok.legal (is ∙ sym (ok.counts t.client)) some;
       counts = λ c. ap (λ (f : ℕ → ℕ). f c) (counts-more (λ _. 0) w.order t) ∙ ap (λ (f : ℕ → ℕ). put f t.client (suc t.index) c) (λ i n. ok.counts n i);
       below = each_snoc (λ u. suc u.index ≤ put w.booked t.client (suc t.index) u.client) w.order t (each_map below2 w.order ok.below) (subst (λ n. suc t.index ≤ n) (sym (put_here w.booked t.client (suc t.index))) (omega arith));
-      pages = each_snoc (λ u. IsBlockRecord p u (page2 u)) w.order t (each_both (λ u n k. subst (IsBlockRecord p u) (sym (page2_there u n)) k) w.order fresh ok.pages)
-          (subst (IsBlockRecord p t) (sym (put_at_here w.page t fresh_page)) refl);
+      block_records = each_snoc (λ u. IsBlockRecord p u (page2 u)) w.order t (each_both (λ u n k. subst (IsBlockRecord p u) (sym (page2_there u n)) k) w.order fresh ok.block_records)
+          (subst (IsBlockRecord p t) (sym (put_at_here w.block_record t fresh_record)) refl);
       begins = each_snoc (λ u. Begins page2 u.client u.index (page2 u).entry) w.order t
-          (each_both (λ (u : Ticket) (n : same t u ≡ false) (k : (suc u.index ≤ w.booked u.client) × Begins w.page u.client u.index (w.page u).entry).
-          begins_old u.client u.index (w.page u).entry (page2 u).entry (sym (ap (λ (g : BlockRecord). g.entry) (page2_there u n))) k.0 k.1) w.order fresh (each_both (λ u b k. (b, k)) w.order ok.below ok.begins))
-          (subst (λ a. Begins page2 t.client t.index a) (sym (ap (λ (g : BlockRecord). g.entry) (put_at_here w.page t fresh_page))) (begins_new t.client t.index refl refl begins));
+          (each_both (λ (u : Ticket) (n : same t u ≡ false) (k : (suc u.index ≤ w.booked u.client) × Begins w.block_record u.client u.index (w.block_record u).entry).
+          begins_old u.client u.index (w.block_record u).entry (page2 u).entry (sym (ap (λ (g : BlockRecord). g.entry) (page2_there u n))) k.0 k.1) w.order fresh (each_both (λ u b k. (b, k)) w.order ok.below ok.begins))
+          (subst (λ a. Begins page2 t.client t.index a) (sym (ap (λ (g : BlockRecord). g.entry) (put_at_here w.block_record t fresh_record))) (begins_new t.client t.index refl refl begins));
       services = λ h. service_same p (declared_states p h) (w.order ++ t ∷ []) h _ _ _ _ _ (parts2 h) (λ u d. d) (service2 h (reserves p t h) refl);
     }

@@ -1,4 +1,4 @@
--- This file defines a served run: the reservations in their order, a page for each, how far each object was served, the
+-- This file defines a served run: the reservations in their order, a block_record for each, how far each object was served, the
 -- moves of such a run, and when it is sound (`IsServedRun`). The proof of isolation under the plain rules keeps one
 -- beside the machine's state. A journal is said by tickets: first the parts of those that are over, and then what was
 -- run of the first in the queue.
@@ -35,7 +35,7 @@ pub record Service : Type 0 where
 pub record ServedRun : Type 0 where
   pub order : List Ticket
   pub booked : ℕ → ℕ
-  pub page : Ticket → BlockRecord
+  pub block_record : Ticket → BlockRecord
   pub service : ℕ → Service
 
 -- a command is logged
@@ -46,7 +46,7 @@ abbrev pub log : ServedRun → Ticket → Request → Interaction → ServedRun
 log w t r next = record {
   order = w.order;
   booked = w.booked;
-  page = put_at w.page t (advance (w.page t) (command_event r) next);
+  block_record = put_at w.block_record t (advance (w.block_record t) (command_event r) next);
   service = put w.service r.object (service_log (w.service r.object) t r);
 }
 
@@ -67,7 +67,7 @@ reply w t r next =
     record {
       order = w.order;
       booked = w.booked;
-      page = put_at w.page t (advance (w.page t) (event r v) (next (value_of v)));
+      block_record = put_at w.block_record t (advance (w.block_record t) (event r v) (next (value_of v)));
       service = put w.service r.object (service_answer (w.service r.object) t r);
     }
 
@@ -83,14 +83,14 @@ service_run l t r rs = record {
 }
 
 abbrev pub run_first : ServedRun → ℕ → Ticket → Request → List Request → ServedRun
-run_first w h t r rs = record { order = w.order; booked = w.booked; page = w.page; service = put w.service h (service_run (w.service h) t r rs) }
+run_first w h t r rs = record { order = w.order; booked = w.booked; block_record = w.block_record; service = put w.service h (service_run (w.service h) t r rs) }
 
 -- the first ticket is over
 abbrev pub service_leave : Service → Ticket → List Ticket → Service
 service_leave l t ts = record { past = l.past ++ t ∷ []; queue = ts; now = []; wait = l.wait; journal = l.journal; state = l.state }
 
 abbrev pub end_block : ServedRun → ℕ → Ticket → List Ticket → ServedRun
-end_block w h t ts = record { order = w.order; booked = w.booked; page = w.page; service = put w.service h (service_leave (w.service h) t ts) }
+end_block w h t ts = record { order = w.order; booked = w.booked; block_record = w.block_record; service = put w.service h (service_leave (w.service h) t ts) }
 
 -- a ticket comes
 abbrev pub service_reserve : Service → Ticket → Service
@@ -100,7 +100,7 @@ abbrev pub reserve : ProgramShape → ServedRun → Ticket → Locals → Served
 reserve p w t l = record {
   order = w.order ++ t ∷ [];
   booked = put w.booked t.client (suc t.index);
-  page = put_at w.page t (record { entry = l; trace = []; rest = block_tree p t l });
+  block_record = put_at w.block_record t (record { entry = l; trace = []; rest = block_tree p t l });
   service = λ h. if reserves p t h then service_reserve (w.service h) t else w.service h;
 }
 
@@ -127,6 +127,6 @@ pub record IsServedRun (p : ProgramShape) (w : ServedRun) : Type 0 where
   pub legal : IsLegal p w.order
   pub counts : (c : ℕ) → counts_after (λ _. 0) w.order c ≡ w.booked c
   pub below : AllByRecursion (λ t. suc t.index ≤ w.booked t.client) w.order
-  pub pages : AllByRecursion (λ t. IsBlockRecord p t (w.page t)) w.order
-  pub begins : AllByRecursion (λ t. Begins w.page t.client t.index (w.page t).entry) w.order
-  pub services : (h : ℕ) → IsService p (declared_states p h) w.order h (parts_of w.page h) (done_of w.page) (w.service h)
+  pub block_records : AllByRecursion (λ t. IsBlockRecord p t (w.block_record t)) w.order
+  pub begins : AllByRecursion (λ t. Begins w.block_record t.client t.index (w.block_record t).entry) w.order
+  pub services : (h : ℕ) → IsService p (declared_states p h) w.order h (parts_of w.block_record h) (done_of w.block_record) (w.service h)

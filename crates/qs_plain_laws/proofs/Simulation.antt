@@ -32,7 +32,7 @@ use Rattle.qs_played.proofs.FunctionUpdate.{put_at, put_at_here, put_at_there, p
 use Rattle.qs_plain_laws.specs.Plain.{Private, Handler, put_item, log_in, enter}
 use Rattle.qs_plain_laws.specs.declared.item.QueueItem.{QueueItem}
 use Rattle.qs_plain_laws.proofs.ServedRuns.{Service, ServedRun, log, reply, end_block, run_first, reserve, service_reserve, IsServedRun}
-use Rattle.qs_plain_laws.proofs.ServedRunMoves.{asks_left, log_ok, reply_ok, run_ok, leave_ok, reserve_ok, fresh, page', is_done_kept}
+use Rattle.qs_plain_laws.proofs.ServedRunMoves.{asks_left, log_ok, reply_ok, run_ok, leave_ok, reserve_ok, fresh, block_record', is_done_kept}
 use Rattle.qs_plain_laws.proofs.Rooms.{room_to_run, room_to_ask}
 use Rattle.qs_plain_laws.proofs.RunViews.{PlainStage, Stands, Runs, Awaits, ClientView, RunView, current, stand, after_answer, separate, call, query, end, do_step, ask_step, end_step}
 use Rattle.qs_plain_laws.specs.declared.item.QueueItem.TheVariants as item
@@ -50,19 +50,19 @@ abbrev pub private : (ℕ → ClientView) → ℕ → (Ticket → List Request) 
 private client h wait u = record { ticket = u; items = map item.Command (wait u) ++ tail client h u }
 
 abbrev pub StandsAt : (Ticket → BlockRecord) → ℕ → PlainStage → ℕ → Type 0
-StandsAt page c (Stands l) n = Begins page c n l
-StandsAt page c (Runs t) zero = ⊥
-StandsAt page c (Runs t) (suc k) = (page (ticket c k)).rest ≡ t
-StandsAt page c (Awaits r next) zero = ⊥
-StandsAt page c (Awaits r next) (suc k) = (page (ticket c k)).rest ≡ Query r next
+StandsAt block_record c (Stands l) n = Begins block_record c n l
+StandsAt block_record c (Runs t) zero = ⊥
+StandsAt block_record c (Runs t) (suc k) = (block_record (ticket c k)).rest ≡ t
+StandsAt block_record c (Awaits r next) zero = ⊥
+StandsAt block_record c (Awaits r next) (suc k) = (block_record (ticket c k)).rest ≡ Query r next
 
 pub record Simulates (s : RunView) (w : ServedRun) : Type 0 where
   pub order : w.order ≡ s.order
   pub booked : (c : ℕ) → w.booked c ≡ (s.client c).begun
-  pub entry : (t : Ticket) → (w.page t).entry ≡ s.entry t
-  pub trace : (t : Ticket) → (w.page t).trace ≡ s.trace t
-  pub stands : (c : ℕ) → StandsAt w.page c (s.client c).stage (s.client c).begun
-  pub older : (c k : ℕ) → suc k < (s.client c).begun → IsDone (w.page (ticket c k)).rest
+  pub entry : (t : Ticket) → (w.block_record t).entry ≡ s.entry t
+  pub trace : (t : Ticket) → (w.block_record t).trace ≡ s.trace t
+  pub stands : (c : ℕ) → StandsAt w.block_record c (s.client c).stage (s.client c).begun
+  pub older : (c k : ℕ) → suc k < (s.client c).begun → IsDone (w.block_record (ticket c k)).rest
   pub queues : (h : ℕ) → (s.handler h).queues ≡ map (private s.client h (w.service h).wait) (w.service h).queue
   pub journal : (h : ℕ) → (w.service h).journal ≡ (s.handler h).held.journal
   pub state : (h : ℕ) → (w.service h).state ≡ (s.handler h).held.object
@@ -131,45 +131,45 @@ module _ (p : ProgramShape) (sound : IsSound p) where
   abbrev pub IsSimulated : RunView → Type 0
   IsSimulated s = (w : ServedRun) × IsServedRun p w × Simulates s w
 
-  stands_moved : (page page' : Ticket → BlockRecord) (c : ℕ) (stage : PlainStage) (n : ℕ) → ((k : ℕ) → (page' (ticket c k)).rest ≡ (page (ticket c k)).rest) → StandsAt page c stage n → StandsAt page' c stage n
-  stands_moved page page' c (Stands l) zero e h = h
-  stands_moved page page' c (Stands l) (suc k) e h = e k ∙ h
-  stands_moved page page' c (Runs t) zero e h = h
-  stands_moved page page' c (Runs t) (suc k) e h = e k ∙ h
-  stands_moved page page' c (Awaits r next) zero e h = h
-  stands_moved page page' c (Awaits r next) (suc k) e h = e k ∙ h
+  stands_moved : (block_record block_record' : Ticket → BlockRecord) (c : ℕ) (stage : PlainStage) (n : ℕ) → ((k : ℕ) → (block_record' (ticket c k)).rest ≡ (block_record (ticket c k)).rest) → StandsAt block_record c stage n → StandsAt block_record' c stage n
+  stands_moved block_record block_record' c (Stands l) zero e h = h
+  stands_moved block_record block_record' c (Stands l) (suc k) e h = e k ∙ h
+  stands_moved block_record block_record' c (Runs t) zero e h = h
+  stands_moved block_record block_record' c (Runs t) (suc k) e h = e k ∙ h
+  stands_moved block_record block_record' c (Awaits r next) zero e h = h
+  stands_moved block_record block_record' c (Awaits r next) (suc k) e h = e k ∙ h
 
-  stands_after : (s : RunView) (page page' : Ticket → BlockRecord) (c : ℕ) (stage : PlainStage) → ((u : Ticket) → (c == u.client) ≡ false → (page' u).rest ≡ (page u).rest)
-      → StandsAt page' c stage (s.client c).begun → ((d : ℕ) → StandsAt page d (s.client d).stage (s.client d).begun) → (d : ℕ) → StandsAt page' d (stand s c stage d).stage (stand s c stage d).begun
-  stands_after s page page' c stage e here there =
-      put_all (λ d (x : ClientView). StandsAt page' d x.stage x.begun) s.client c (record { begun = (s.client c).begun; stage = stage }) here
-      (λ d other. stands_moved page page' d (s.client d).stage (s.client d).begun (λ k. e (ticket d k) other) (there d))
+  stands_after : (s : RunView) (block_record block_record' : Ticket → BlockRecord) (c : ℕ) (stage : PlainStage) → ((u : Ticket) → (c == u.client) ≡ false → (block_record' u).rest ≡ (block_record u).rest)
+      → StandsAt block_record' c stage (s.client c).begun → ((d : ℕ) → StandsAt block_record d (s.client d).stage (s.client d).begun) → (d : ℕ) → StandsAt block_record' d (stand s c stage d).stage (stand s c stage d).begun
+  stands_after s block_record block_record' c stage e here there =
+      put_all (λ d (x : ClientView). StandsAt block_record' d x.stage x.begun) s.client c (record { begun = (s.client c).begun; stage = stage }) here
+      (λ d other. stands_moved block_record block_record' d (s.client d).stage (s.client d).begun (λ k. e (ticket d k) other) (there d))
 
   begun_same : (s : RunView) (c : ℕ) (stage : PlainStage) (d : ℕ) → (stand s c stage d).begun ≡ (s.client d).begun
   begun_same s c stage d = put_kept (λ x. x.begun) s.client c (record { begun = (s.client c).begun; stage = stage }) refl d
 
   -- the current block of a client, what is left of it, and that it is in the order
   abbrev Here : RunView → ServedRun → ℕ → Interaction → Type 0
-  Here s w c t = (suc (((s.client c).begun - 1)) ≡ (s.client c).begun) × ((w.page (current s c)).rest ≡ t) × Among (current s c) w.order
+  Here s w c t = (suc (((s.client c).begun - 1)) ≡ (s.client c).begun) × ((w.block_record (current s c)).rest ≡ t) × Among (current s c) w.order
 
-  here_some : (s : RunView) (w : ServedRun) (c : ℕ) (t : Interaction) (n : ℕ) → (s.client c).begun ≡ suc n → IsServedRun p w → Simulates s w → (w.page (ticket c n)).rest ≡ t → Here s w c t
+  here_some : (s : RunView) (w : ServedRun) (c : ℕ) (t : Interaction) (n : ℕ) → (s.client c).begun ≡ suc n → IsServedRun p w → Simulates s w → (w.block_record (ticket c n)).rest ≡ t → Here s w c t
   here_some s w c t n e ok sim at =
       let last : n ≡ (s.client c).begun - 1 = omega (arith, e) in
       let b = sim.booked c in
-      (omega (arith, e), subst (λ k. (w.page (ticket c k)).rest ≡ t) last at, legal_among p (λ _. 0) w.order c (((s.client c).begun - 1)) ok.legal (omega arith) (let n = ok.counts c in omega (arith, b, n, e)))
+      (omega (arith, e), subst (λ k. (w.block_record (ticket c k)).rest ≡ t) last at, legal_among p (λ _. 0) w.order c (((s.client c).begun - 1)) ok.legal (omega arith) (let n = ok.counts c in omega (arith, b, n, e)))
 
   here_in : (s : RunView) (w : ServedRun) (c : ℕ) (t : Interaction) → (s.client c).stage ≡ Runs t → (n : ℕ) → (s.client c).begun ≡ n → IsServedRun p w → Simulates s w → Here s w c t
-  here_in s w c t is zero e ok sim = absurd (subst (λ n. StandsAt w.page c (Runs t) n) e (subst (λ x. StandsAt w.page c x (s.client c).begun) is (sim.stands c)))
-  here_in s w c t is (suc n) e ok sim = here_some s w c t n e ok sim (subst (λ n. StandsAt w.page c (Runs t) n) e (subst (λ x. StandsAt w.page c x (s.client c).begun) is (sim.stands c)))
+  here_in s w c t is zero e ok sim = absurd (subst (λ n. StandsAt w.block_record c (Runs t) n) e (subst (λ x. StandsAt w.block_record c x (s.client c).begun) is (sim.stands c)))
+  here_in s w c t is (suc n) e ok sim = here_some s w c t n e ok sim (subst (λ n. StandsAt w.block_record c (Runs t) n) e (subst (λ x. StandsAt w.block_record c x (s.client c).begun) is (sim.stands c)))
 
   here_waits : (s : RunView) (w : ServedRun) (c : ℕ) (r : Request) (next : ℤ → Interaction) → (s.client c).stage ≡ Awaits r next → (n : ℕ) → (s.client c).begun ≡ n → IsServedRun p w → Simulates s w → Here s w c (Query r next)
-  here_waits s w c r next is zero e ok sim = absurd (subst (λ n. StandsAt w.page c (Awaits r next) n) e (subst (λ x. StandsAt w.page c x (s.client c).begun) is (sim.stands c)))
-  here_waits s w c r next is (suc n) e ok sim = here_some s w c (Query r next) n e ok sim (subst (λ n. StandsAt w.page c (Awaits r next) n) e (subst (λ x. StandsAt w.page c x (s.client c).begun) is (sim.stands c)))
+  here_waits s w c r next is zero e ok sim = absurd (subst (λ n. StandsAt w.block_record c (Awaits r next) n) e (subst (λ x. StandsAt w.block_record c x (s.client c).begun) is (sim.stands c)))
+  here_waits s w c r next is (suc n) e ok sim = here_some s w c (Query r next) n e ok sim (subst (λ n. StandsAt w.block_record c (Awaits r next) n) e (subst (λ x. StandsAt w.block_record c x (s.client c).begun) is (sim.stands c)))
 
   -- a stage that stands at what is left of the current block
-  stands_here : (page : Ticket → BlockRecord) (c n : ℕ) (t : Interaction) → suc ((n - 1)) ≡ n → (page (ticket c ((n - 1)))).rest ≡ t → StandsAt page c (Runs t) n
-  stands_here page c zero t e h = absurd (omega arith)
-  stands_here page c (suc k) t e h = subst (λ k. (page (ticket c k)).rest ≡ t) (let p : suc k - 1 ≡ k = omega arith in p) h
+  stands_here : (block_record : Ticket → BlockRecord) (c n : ℕ) (t : Interaction) → suc ((n - 1)) ≡ n → (block_record (ticket c ((n - 1)))).rest ≡ t → StandsAt block_record c (Runs t) n
+  stands_here block_record c zero t e h = absurd (omega arith)
+  stands_here block_record c (suc k) t e h = subst (λ k. (block_record (ticket c k)).rest ≡ t) (let p : suc k - 1 ≡ k = omega arith in p) h
 
   -- a client in a block has begun one
   pub begun_some : (s : RunView) (c : ℕ) (t : Interaction) → (s.client c).stage ≡ Runs t → IsSimulated s → 0 < (s.client c).begun
@@ -180,7 +180,7 @@ module _ (p : ProgramShape) (sound : IsSound p) where
       let w = kept.0 in
       let here = here_in s w c t is (s.client c).begun refl kept.1 kept.2 in
       subst (AsksOnly (reserves p (current s c))) here.1
-      (asks_left p sound w (current s c) (each_among (λ t. IsBlockRecord p t (w.page t)) (current s c) w.order kept.1.pages here.2))
+      (asks_left p sound w (current s c) (each_among (λ t. IsBlockRecord p t (w.block_record t)) (current s c) w.order kept.1.block_records here.2))
 
   -- what a client asks it has reserved
   pub call_within : (s : RunView) (c : ℕ) (r : Request) (next : Interaction) → (s.client c).stage ≡ Runs (Call r next) → IsSimulated s → reserves p (current s c) r.object ≡ true
@@ -196,16 +196,16 @@ module _ (p : ProgramShape) (sound : IsSound p) where
   pub waits_for_query : (s : RunView) (c : ℕ) (r : Request) (next : ℤ → Interaction) (n : ℕ) → (s.client c).stage ≡ Awaits r next → (s.client c).begun ≡ n
       → IsSimulated s → is_query r.op ≡ true
   waits_for_query s c r next zero is b kept =
-      absurd (subst (λ n. StandsAt (kept.0).page c (Awaits r next) n) b (subst (λ g. StandsAt (kept.0).page c g (s.client c).begun) is (kept.2.stands c)))
+      absurd (subst (λ n. StandsAt (kept.0).block_record c (Awaits r next) n) b (subst (λ g. StandsAt (kept.0).block_record c g (s.client c).begun) is (kept.2.stands c)))
   waits_for_query s c r next (suc i) is b kept =
       let w = kept.0 in
       let t = ticket c i in
-      let rest : (w.page t).rest ≡ Query r next =
-      subst (λ n. StandsAt w.page c (Awaits r next) n) b (subst (λ g. StandsAt w.page c g (s.client c).begun) is (kept.2.stands c)) in
+      let rest : (w.block_record t).rest ≡ Query r next =
+      subst (λ n. StandsAt w.block_record c (Awaits r next) n) b (subst (λ g. StandsAt w.block_record c g (s.client c).begun) is (kept.2.stands c)) in
       let many : counts_after (λ _. 0) w.order c ≡ suc i = kept.1.counts c ∙ (kept.2.booked c ∙ b) in
       let member = legal_among p (λ _. 0) w.order c i kept.1.legal (omega arith) (omega (arith, many)) in
-      let page = each_among (λ t. IsBlockRecord p t (w.page t)) t w.order kept.1.pages member in
-      let asking : AsksOnly (reserves p t) (Query r next) = subst (AsksOnly (reserves p t)) rest (asks_left p sound w t page) in
+      let block_record = each_among (λ t. IsBlockRecord p t (w.block_record t)) t w.order kept.1.block_records member in
+      let asking : AsksOnly (reserves p t) (Query r next) = subst (AsksOnly (reserves p t)) rest (asks_left p sound w t block_record) in
       asking.0
 
   pub call_kept : (s : RunView) (c : ℕ) (r : Request) (next : Interaction) → (s.client c).stage ≡ Runs (Call r next) → IsSimulated s → IsSimulated (call s c r next)
@@ -213,18 +213,18 @@ module _ (p : ProgramShape) (sound : IsSound p) where
       let w = kept.0 in let sim = kept.2 in
       let t = current s c in
       let here = here_in s w c (Call r next) is (s.client c).begun refl kept.1 sim in
-      let adv = advance (w.page t) (command_event r) next in
-      let busy : IsDone (w.page t).rest → ⊥ = λ d. subst IsDone here.1 d in (
+      let adv = advance (w.block_record t) (command_event r) next in
+      let busy : IsDone (w.block_record t).rest → ⊥ = λ d. subst IsDone here.1 d in (
         log w t r next,
         log_ok p sound w t r next here.2 here.1 kept.1,
         record {
           order = sim.order;
           booked = λ d. sim.booked d ∙ sym (begun_same s c (Runs next) d);
-          entry = λ u. put_at_kept (λ p. p.entry) w.page t adv refl u ∙ sim.entry u;
-          trace = put_at_field (λ p. p.trace) w.page s.trace t adv (s.trace t ++ command_event r ∷ []) sim.trace (ap (λ es. es ++ command_event r ∷ []) (sim.trace t));
-          stands = stands_after s w.page (put_at w.page t adv) c (Runs next)
-              (λ u other. ap (λ p. p.rest) (put_at_there w.page t adv u (rw other)))
-              (stands_here (put_at w.page t adv) c (s.client c).begun next here.0 (ap (λ p. p.rest) (put_at_here w.page t adv)))
+          entry = λ u. put_at_kept (λ p. p.entry) w.block_record t adv refl u ∙ sim.entry u;
+          trace = put_at_field (λ p. p.trace) w.block_record s.trace t adv (s.trace t ++ command_event r ∷ []) sim.trace (ap (λ es. es ++ command_event r ∷ []) (sim.trace t));
+          stands = stands_after s w.block_record (put_at w.block_record t adv) c (Runs next)
+              (λ u other. ap (λ p. p.rest) (put_at_there w.block_record t adv u (rw other)))
+              (stands_here (put_at w.block_record t adv) c (s.client c).begun next here.0 (ap (λ p. p.rest) (put_at_here w.block_record t adv)))
               sim.stands;
           older = λ d k lt. is_done_kept p sound w t (command_event r) next busy (ticket d k) (sim.older d k (subst (λ n. suc k < n) (begun_same s c (Runs next) d) lt));
           queues = put_both (λ h (x : Handler) (l : Service). x.queues ≡ map (private (stand s c (Runs next)) h l.wait) l.queue) s.handler w.service r.object _ _
@@ -254,7 +254,7 @@ module _ (p : ProgramShape) (sound : IsSound p) where
           booked = λ d. sim.booked d ∙ sym (begun_same s c (Awaits r next) d);
           entry = sim.entry;
           trace = sim.trace;
-          stands = stands_after s w.page w.page c (Awaits r next) (λ u other. refl) (waits_here w.page c (s.client c).begun r next here.0 here.1) sim.stands;
+          stands = stands_after s w.block_record w.block_record c (Awaits r next) (λ u other. refl) (waits_here w.block_record c (s.client c).begun r next here.0 here.1) sim.stands;
           older = λ d k lt. sim.older d k (subst (λ n. suc k < n) (begun_same s c (Awaits r next) d) lt);
           queues = put_all (λ h (x : Handler). x.queues ≡ map (private (stand s c (Awaits r next)) h (w.service h).wait) (w.service h).queue) s.handler r.object _
               (ap (map (put_item t (item.Query r))) (sim.queues r.object) ∙ (map-map (put_item t (item.Query r)) _ (w.service r.object).queue ∙ map_same _ _ (w.service r.object).queue (every
@@ -270,9 +270,9 @@ module _ (p : ProgramShape) (sound : IsSound p) where
         },
       )
     where
-      waits_here : (page : Ticket → BlockRecord) (c n : ℕ) (r : Request) (next : ℤ → Interaction) → suc ((n - 1)) ≡ n → (page (ticket c ((n - 1)))).rest ≡ Query r next → StandsAt page c (Awaits r next) n
-      waits_here page c zero r next e h = absurd (omega arith)
-      waits_here page c (suc k) r next e h = subst (λ k. (page (ticket c k)).rest ≡ Query r next) (let p : suc k - 1 ≡ k = omega arith in p) h
+      waits_here : (block_record : Ticket → BlockRecord) (c n : ℕ) (r : Request) (next : ℤ → Interaction) → suc ((n - 1)) ≡ n → (block_record (ticket c ((n - 1)))).rest ≡ Query r next → StandsAt block_record c (Awaits r next) n
+      waits_here block_record c zero r next e h = absurd (omega arith)
+      waits_here block_record c (suc k) r next e h = subst (λ k. (block_record (ticket c k)).rest ≡ Query r next) (let p : suc k - 1 ≡ k = omega arith in p) h
 
   -- the tickets in an object's queue reserve it
   pub queue_may : (w : ServedRun) (h : ℕ) → IsServedRun p w → AllByRecursion (λ u. reserves p u h ≡ true) (w.service h).queue
@@ -293,7 +293,7 @@ module _ (p : ProgramShape) (sound : IsSound p) where
           booked = λ d. sim.booked d ∙ sym (begun_same s c (Stands l) d);
           entry = sim.entry;
           trace = sim.trace;
-          stands = stands_after s w.page w.page c (Stands l) (λ u other. refl) (out_here w.page c (s.client c).begun l here.0 here.1) sim.stands;
+          stands = stands_after s w.block_record w.block_record c (Stands l) (λ u other. refl) (out_here w.block_record c (s.client c).begun l here.0 here.1) sim.stands;
           older = λ d k lt. sim.older d k (subst (λ n. suc k < n) (begun_same s c (Stands l) d) lt);
           queues = λ h. marks h (reserves p t h) refl;
           journal = λ h. sim.journal h ∙ journals h (reserves p t h);
@@ -301,9 +301,9 @@ module _ (p : ProgramShape) (sound : IsSound p) where
         },
       )
     where
-      out_here : (page : Ticket → BlockRecord) (c n : ℕ) (l : Locals) → suc ((n - 1)) ≡ n → (page (ticket c ((n - 1)))).rest ≡ Done l → StandsAt page c (Stands l) n
-      out_here page c zero l e h = absurd (omega arith)
-      out_here page c (suc k) l e h = subst (λ k. (page (ticket c k)).rest ≡ Done l) (let p : suc k - 1 ≡ k = omega arith in p) h
+      out_here : (block_record : Ticket → BlockRecord) (c n : ℕ) (l : Locals) → suc ((n - 1)) ≡ n → (block_record (ticket c ((n - 1)))).rest ≡ Done l → StandsAt block_record c (Stands l) n
+      out_here block_record c zero l e h = absurd (omega arith)
+      out_here block_record c (suc k) l e h = subst (λ k. (block_record (ticket c k)).rest ≡ Done l) (let p : suc k - 1 ≡ k = omega arith in p) h
 
       journals : (h : ℕ) (b : Bool) → (s.handler h).held.journal ≡ (if b then log_in (current s c) item.EndMark (s.handler h) else s.handler h).held.journal
       journals h true = refl
@@ -359,19 +359,19 @@ module _ (p : ProgramShape) (sound : IsSound p) where
       let x : ClientView = record { begun = suc n; stage = Runs (block_tree p t l) } in
       let pg : BlockRecord = record { entry = l; trace = []; rest = block_tree p t l } in
       let ib : n ≡ w.booked c = sym (sim.booked c) in
-      let begins : Begins w.page c n l = subst (λ x. StandsAt w.page c x n) is (sim.stands c) in (
+      let begins : Begins w.block_record c n l = subst (λ x. StandsAt w.block_record c x n) is (sim.stands c) in (
         reserve p w t l,
         reserve_ok p sound w t l ib kept.1 some begins,
         record {
           order = ap (λ ts. ts ++ t ∷ []) sim.order;
           booked = λ d. sym (put_field (λ (x : ClientView). x.begun) s.client w.booked c x (suc n) (λ d. sym (sim.booked d)) refl d);
-          entry = put_at_field (λ (p : BlockRecord). p.entry) w.page s.entry t pg l sim.entry refl;
-          trace = put_at_field (λ (p : BlockRecord). p.trace) w.page s.trace t pg [] sim.trace refl;
-          stands = put_all (λ d (x : ClientView). StandsAt (put_at w.page t pg) d x.stage x.begun) s.client c x (ap (λ (p : BlockRecord). p.rest) (put_at_here w.page t pg))
-              (λ d other. stands_moved w.page (put_at w.page t pg) d (s.client d).stage (s.client d).begun (λ k. ap (λ (p : BlockRecord). p.rest) (put_at_there w.page t pg (ticket d k) (rw other))) (sim.stands d));
-          older = put_all (λ d (x : ClientView). (k : ℕ) → suc k < x.begun → IsDone (put_at w.page t pg (ticket d k)).rest) s.client c x
-              (λ k lt. subst (λ (p : BlockRecord). IsDone p.rest) (sym (put_at_there w.page t pg (ticket c k) (not_new k n lt))) (old_here w n k lt begins (λ k lt. sim.older c k lt)))
-              (λ d other k lt. subst (λ (p : BlockRecord). IsDone p.rest) (sym (put_at_there w.page t pg (ticket d k) (rw other))) (sim.older d k lt));
+          entry = put_at_field (λ (p : BlockRecord). p.entry) w.block_record s.entry t pg l sim.entry refl;
+          trace = put_at_field (λ (p : BlockRecord). p.trace) w.block_record s.trace t pg [] sim.trace refl;
+          stands = put_all (λ d (x : ClientView). StandsAt (put_at w.block_record t pg) d x.stage x.begun) s.client c x (ap (λ (p : BlockRecord). p.rest) (put_at_here w.block_record t pg))
+              (λ d other. stands_moved w.block_record (put_at w.block_record t pg) d (s.client d).stage (s.client d).begun (λ k. ap (λ (p : BlockRecord). p.rest) (put_at_there w.block_record t pg (ticket d k) (rw other))) (sim.stands d));
+          older = put_all (λ d (x : ClientView). (k : ℕ) → suc k < x.begun → IsDone (put_at w.block_record t pg (ticket d k)).rest) s.client c x
+              (λ k lt. subst (λ (p : BlockRecord). IsDone p.rest) (sym (put_at_there w.block_record t pg (ticket c k) (not_new k n lt))) (old_here w n k lt begins (λ k lt. sim.older c k lt)))
+              (λ d other k lt. subst (λ (p : BlockRecord). IsDone p.rest) (sym (put_at_there w.block_record t pg (ticket d k) (rw other))) (sim.older d k lt));
           queues = λ h. lists h (reserves p t h) refl;
           journal = λ h. journals h (reserves p t h);
           state = λ h. states h (reserves p t h);
@@ -381,10 +381,10 @@ module _ (p : ProgramShape) (sound : IsSound p) where
       not_new : (k n : ℕ) → suc k < suc n → same (ticket c n) (ticket c k) ≡ false
       not_new k n lt = ⊎_elim (λ (e : ticket c n ≡ ticket c k). let i : n ≡ k = ap (λ t. t.index) e in absurd (omega arith)) (λ (other : same (ticket c n) (ticket c k) ≡ false). other) (ticket_cases (ticket c n) (ticket c k))
 
-      old_here : (w : ServedRun) (n k : ℕ) → suc k < suc n → Begins w.page c n l → ((k : ℕ) → suc k < n → IsDone (w.page (ticket c k)).rest) → IsDone (w.page (ticket c k)).rest
+      old_here : (w : ServedRun) (n k : ℕ) → suc k < suc n → Begins w.block_record c n l → ((k : ℕ) → suc k < n → IsDone (w.block_record (ticket c k)).rest) → IsDone (w.block_record (ticket c k)).rest
       old_here w n k lt b old =
           ⊎_elim
-          (λ (e : suc k ≡ n). let b' : Begins w.page c (suc k) l = subst (λ n. Begins w.page c n l) (sym e) b in subst IsDone (sym b') tt)
+          (λ (e : suc k ≡ n). let b' : Begins w.block_record c (suc k) l = subst (λ n. Begins w.block_record c n l) (sym e) b in subst IsDone (sym b') tt)
           (λ (other : (suc k == n) ≡ false). let ne : suc k ≢ n = apart_eqb (suc k) n other in old k (omega arith))
           (num_cases (suc k) n)
 
@@ -541,15 +541,15 @@ module _ (p : ProgramShape) (sound : IsSound p) where
       let h = r.object in
       let here = here_waits s w c r next is (s.client c).begun refl kept.1 sim in
       let k : current s c ≡ t = ticket_path refl (let i : ((s.client c).begun - 1) ≡ t.index = omega arith in i) in
-      let rest : (w.page t).rest ≡ Query r next = subst (λ u. (w.page u).rest ≡ Query r next) k here.1 in
+      let rest : (w.block_record t).rest ≡ Query r next = subst (λ u. (w.block_record u).rest ≡ Query r next) k here.1 in
       let among = subst (λ u. Among u w.order) k here.2 in
       let v = answer (s.handler h).held.object r in
       let vw = answer (w.service h).state r in
       let v_is : vw ≡ v = ap (λ a. answer a r) (sim.state h) in
       let stage' = after_answer (value_of v) (s.client c).stage in
       let stage_is : Runs (next (value_of vw)) ≡ stage' = ap (λ v. Runs (next (value_of v))) v_is ∙ sym (ap (after_answer (value_of v)) is) in
-      let adv = advance (w.page t) (event r vw) (next (value_of vw)) in
-      let busy : IsDone (w.page t).rest → ⊥ = λ d. subst IsDone rest d in
+      let adv = advance (w.block_record t) (event r vw) (next (value_of vw)) in
+      let busy : IsDone (w.block_record t).rest → ⊥ = λ d. subst IsDone rest d in
       let apart = subst Apart f ok.apart in
       let tail_is = λ (g : ℕ) (out : (r.object == g) ≡ false) (u : Ticket). tail_stays s g c t.index stage' at (sym (ap (λ x. tail_now x g) stage_is) ∙ sym (ap (λ x. tail_now x g) is ∙ ap (λ b. (if b then item.Query r ∷ [] else [])) out)) u in (
         reply w t r next,
@@ -557,12 +557,12 @@ module _ (p : ProgramShape) (sound : IsSound p) where
         record {
           order = sim.order;
           booked = λ d. sim.booked d ∙ sym (begun_same s c stage' d);
-          entry = λ u. put_at_kept (λ (p : BlockRecord). p.entry) w.page t adv refl u ∙ sim.entry u;
-          trace = put_at_field (λ (p : BlockRecord). p.trace) w.page s.trace t adv (s.trace t ++ event r v ∷ []) sim.trace (ap₂ (λ (es : List Event) (v : Option ℤ). es ++ event r v ∷ []) (sim.trace t) v_is);
-          stands = stands_after s w.page (put_at w.page t adv) c stage'
-              (λ u other. ap (λ (p : BlockRecord). p.rest) (put_at_there w.page t adv u (rw other)))
-              (subst (λ x. StandsAt (put_at w.page t adv) c x (s.client c).begun) stage_is
-              (stands_here (put_at w.page t adv) c (s.client c).begun (next (value_of vw)) here.0 (subst (λ u. (put_at w.page t adv u).rest ≡ next (value_of vw)) (sym k) (ap (λ (p : BlockRecord). p.rest) (put_at_here w.page t adv)))))
+          entry = λ u. put_at_kept (λ (p : BlockRecord). p.entry) w.block_record t adv refl u ∙ sim.entry u;
+          trace = put_at_field (λ (p : BlockRecord). p.trace) w.block_record s.trace t adv (s.trace t ++ event r v ∷ []) sim.trace (ap₂ (λ (es : List Event) (v : Option ℤ). es ++ event r v ∷ []) (sim.trace t) v_is);
+          stands = stands_after s w.block_record (put_at w.block_record t adv) c stage'
+              (λ u other. ap (λ (p : BlockRecord). p.rest) (put_at_there w.block_record t adv u (rw other)))
+              (subst (λ x. StandsAt (put_at w.block_record t adv) c x (s.client c).begun) stage_is
+              (stands_here (put_at w.block_record t adv) c (s.client c).begun (next (value_of vw)) here.0 (subst (λ u. (put_at w.block_record t adv u).rest ≡ next (value_of vw)) (sym k) (ap (λ (p : BlockRecord). p.rest) (put_at_here w.block_record t adv)))))
               sim.stands;
           older = λ d k lt. is_done_kept p sound w t (event r vw) (next (value_of vw)) busy (ticket d k) (sim.older d k (subst (λ n. suc k < n) (begun_same s c stage' d) lt));
           queues = put_both (λ h (x : Handler) (l : Service). x.queues ≡ map (private (stand s c stage') h l.wait) l.queue) s.handler w.service h _ _
@@ -604,8 +604,8 @@ module _ (p : ProgramShape) (sound : IsSound p) where
       let a = tail_ask t (s.client t.client).begun (s.client t.client).stage h r items (suc t.index == (s.client t.client).begun) refl d.1 in
       let here = here_waits s w t.client r a.1.0 a.1.1 (s.client t.client).begun refl kept.1 kept.2 in
       let k : current s t.client ≡ t = ticket_path refl (let begun = a.0 in let i : (s.client t.client).begun - 1 ≡ t.index = omega (arith, begun) in i) in
-      let path = each_among (λ t. IsBlockRecord p t (w.page t)) t w.order kept.1.pages (subst (λ u. Among u w.order) k here.2) in
-      let fits = room_to_ask p h w kept.1 t f.1 r a.1.0 f.2 d.0 path (subst (λ u. (w.page u).rest ≡ Query r a.1.0) k here.1) a.1.2 in
+      let path = each_among (λ t. IsBlockRecord p t (w.block_record t)) t w.order kept.1.block_records (subst (λ u. Among u w.order) k here.2) in
+      let fits = room_to_ask p h w kept.1 t f.1 r a.1.0 f.2 d.0 path (subst (λ u. (w.block_record u).rest ≡ Query r a.1.0) k here.1) a.1.2 in
       subst (λ q. Asking s h q r items) (sym f.3) (record {
         next = a.1.0;
         stage = a.1.1;
@@ -619,11 +619,11 @@ module _ (p : ProgramShape) (sound : IsSound p) where
 
   -- behind an end mark nothing is left
   ended_done : (s : RunView) (t : Ticket) (h : ℕ) (items : List QueueItem) (kept : IsSimulated s) → suc t.index ≤ kept.0.booked t.client → (b : Bool) → (suc t.index == (s.client t.client).begun) ≡ b
-      → (if b then tail_now (s.client t.client).stage h else item.EndMark ∷ []) ≡ item.EndMark ∷ items → IsDone (kept.0.page t).rest
+      → (if b then tail_now (s.client t.client).stage h else item.EndMark ∷ []) ≡ item.EndMark ∷ items → IsDone (kept.0.block_record t).rest
   ended_done s t h items kept below true e is =
       let n : suc t.index ≡ (s.client t.client).begun = eqb_true (suc t.index) (s.client t.client).begun e in
       let l = now_end (s.client t.client).stage h items is in
-      let b : Begins kept.0.page t.client (suc t.index) l.0 = subst (λ n. Begins kept.0.page t.client n l.0) (sym n) (subst (λ x. StandsAt kept.0.page t.client x (s.client t.client).begun) l.1 (kept.2.stands t.client)) in
+      let b : Begins kept.0.block_record t.client (suc t.index) l.0 = subst (λ n. Begins kept.0.block_record t.client n l.0) (sym n) (subst (λ x. StandsAt kept.0.block_record t.client x (s.client t.client).begun) l.1 (kept.2.stands t.client)) in
       subst IsDone (sym b) tt
   ended_done s t h items kept below false e is =
       let n : suc t.index ≢ (s.client t.client).begun = apart_eqb (suc t.index) (s.client t.client).begun e in

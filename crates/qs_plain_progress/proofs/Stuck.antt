@@ -82,7 +82,7 @@ module _ (p : ProgramShape) (sound : IsSound p) (s : Plain) (k : RunInvariant p 
   line h = (w.service h).queue
 
   abbrev IsOver : ℕ → Ticket → Type 0
-  IsOver h t = done_of w.page t
+  IsOver h t = done_of w.block_record t
 
   inside : (t : Ticket) (h : ℕ) → reserves p t h ≡ true → h < length p.objects
   inside t h e = in_list p (text_of p t).reserved h (reserved_list p sound t).within e
@@ -111,20 +111,20 @@ module _ (p : ProgramShape) (sound : IsSound p) (s : Plain) (k : RunInvariant p 
   begun_within c (suc i) e = legal_within (λ _. 0) w.order (ticket c i) ok.legal (last_among c i e)
 
   -- a query that a client waits for is one of its block's list
-  waits_at : (t : Ticket) (r : Request) (next : ℤ → Interaction) → Among t w.order → (w.page t).rest ≡ Query r next
+  waits_at : (t : Ticket) (r : Request) (next : ℤ → Interaction) → Among t w.order → (w.block_record t).rest ≡ Query r next
       → reserves p t r.object ≡ true
   waits_at t r next a e =
       (subst (AsksOnly (reserves p t)) e
-      (asks_left p sound w t (each_among (λ t. IsBlockRecord p t (w.page t)) t w.order ok.pages a))).1
+      (asks_left p sound w t (each_among (λ t. IsBlockRecord p t (w.block_record t)) t w.order ok.block_records a))).1
 
   waits_still : (t : Ticket) (r : Request) (next : ℤ → Interaction) → suc t.index ≡ begun_blocks (client_at s t.client)
       → k.stance t.client ≡ Awaits r next
-      → (w.page t).rest ≡ Query r next
+      → (w.block_record t).rest ≡ Query r next
   waits_still t r next last is =
-      subst (λ g. StandsAt w.page t.client g (suc t.index)) is
-      (subst (StandsAt w.page t.client (k.stance t.client)) (sym last) (sim.stands t.client))
+      subst (λ g. StandsAt w.block_record t.client g (suc t.index)) is
+      (subst (StandsAt w.block_record t.client (k.stance t.client)) (sym last) (sim.stands t.client))
 
-  not_over : (t : Ticket) (r : Request) (next : ℤ → Interaction) → (w.page t).rest ≡ Query r next → done_of w.page t → ⊥
+  not_over : (t : Ticket) (r : Request) (next : ℤ → Interaction) → (w.block_record t).rest ≡ Query r next → done_of w.block_record t → ⊥
   not_over t r next e d = subst IsDone e d
 
   -- what lies in a private queue
@@ -206,7 +206,7 @@ module _ (p : ProgramShape) (sound : IsSound p) (s : Plain) (k : RunInvariant p 
           (λ (older : (suc t.index == begun_blocks (client_at s t.client)) ≡ false). mark_steps (rw older refl))
           (num_cases (suc t.index) (begun_blocks (client_at s t.client)))
 
-  served_all : (h : ℕ) (t : Ticket) → line h ≡ [] → Among t w.order → reserves p t h ≡ true → done_of w.page t
+  served_all : (h : ℕ) (t : Ticket) → line h ≡ [] → Among t w.order → reserves p t h ≡ true → done_of w.block_record t
   served_all h t none a mine =
       all_over p line IsOver w.order (λ h. (w.service h).past)
       (λ h. (ok.services h).over) (λ h. (ok.services h).mine) h t none a mine
@@ -216,8 +216,8 @@ module _ (p : ProgramShape) (sound : IsSound p) (s : Plain) (k : RunInvariant p 
     waits_for_none : (c : ℕ) (r : Request) (next : ℤ → Interaction) (n : ℕ) → begun_blocks (client_at s c) ≡ n
         → k.stance c ≡ Awaits r next → ⊥
     waits_for_none c r next zero e is =
-        subst (λ n. StandsAt w.page c (Awaits r next) n) e
-        (subst (λ g. StandsAt w.page c g (begun_blocks (client_at s c))) is (sim.stands c))
+        subst (λ n. StandsAt w.block_record c (Awaits r next) n) e
+        (subst (λ g. StandsAt w.block_record c g (begun_blocks (client_at s c))) is (sim.stands c))
     waits_for_none c r next (suc i) e is =
         let t = ticket c i in
         let among = last_among c i e in

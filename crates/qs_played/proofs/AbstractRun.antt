@@ -1,4 +1,4 @@
--- One proof of isolation for every machine. A machine hands over an abstract run: what it shows, and beside that a page
+-- One proof of isolation for every machine. A machine hands over an abstract run: what it shows, and beside that a block_record
 -- for each ticket (its entry, its trace and what is left of its block), each object's journal and state, and the
 -- commands on their way. Where each journal flows through the order of reservations, ticket by ticket, the serial run
 -- along that order has the same entries, traces and states; so the run that is shown is isolated. Nothing here knows of
@@ -44,21 +44,21 @@ commands_have_no_reply [] n = refl
 commands_have_no_reply (r ∷ ws) n = rw n.0 (commands_have_no_reply ws n.1)
 
 -- The abstract run behind what is shown. An object is busy while a reservation on it is still being served.
-pub record IsRun (p : ProgramShape) (sound : IsSound p) (r : Played) (page : Ticket → BlockRecord) (waits : ℕ → Ticket → List Request) (state : ℕ → State) (busy : ℕ → Type 0) (journal : ℕ → List Entry) : Type 0 where
+pub record IsRun (p : ProgramShape) (sound : IsSound p) (r : Played) (block_record : Ticket → BlockRecord) (waits : ℕ → Ticket → List Request) (state : ℕ → State) (busy : ℕ → Type 0) (journal : ℕ → List Entry) : Type 0 where
   -- what is shown is as long as the order and the program
   pub fits : IsFitting p r
-  -- the order is legal, each page is one of its ticket's block, begins where the client's block before it has ended,
+  -- the order is legal, each block_record is one of its ticket's block, begins where the client's block before it has ended,
   -- and flows
   pub legal : IsLegal p r.order
-  pub pages : AllByRecursion (λ t. IsBlockRecord p t (page t)) r.order
-  pub begins : AllByRecursion (λ t. Begins page t.client t.index (page t).entry) r.order
-  pub flows : (h : ℕ) → Flow (line p sound page waits state busy journal h) (declared_states p h) (journal h) r.order
+  pub block_records : AllByRecursion (λ t. IsBlockRecord p t (block_record t)) r.order
+  pub begins : AllByRecursion (λ t. Begins block_record t.client t.index (block_record t).entry) r.order
+  pub flows : (h : ℕ) → Flow (line p sound block_record waits state busy journal h) (declared_states p h) (journal h) r.order
   pub honest : (h : ℕ) → h < length p.objects → IsHonest (declared_states p h) (without_tickets (journal h))
   pub replayed : (h : ℕ) → h < length p.objects → replay (declared_states p h) (without_tickets (journal h)) ≡ state h
   -- what is shown of each reservation and of each object
-  pub entry : (i : ℕ) → i < length r.order → entry_of r i ≡ (page (ticket_at r i)).entry
-  pub trace : (i : ℕ) → i < length r.order → trace_of r i ≡ (page (ticket_at r i)).trace
-  pub ended : (i : ℕ) → i < length r.order → ended_of r i ≡ true → IsDone (page (ticket_at r i)).rest
+  pub entry : (i : ℕ) → i < length r.order → entry_of r i ≡ (block_record (ticket_at r i)).entry
+  pub trace : (i : ℕ) → i < length r.order → trace_of r i ≡ (block_record (ticket_at r i)).trace
+  pub ended : (i : ℕ) → i < length r.order → ended_of r i ≡ true → IsDone (block_record (ticket_at r i)).rest
   pub journals : (h : ℕ) → h < length p.objects → journal_of r h ≡ journal h
   pub written : (h : ℕ) (t : Ticket) → HasEntry t (journal_of r h) → journal_of r h ≡ journal h
   pub states : (h : ℕ) → h < length p.objects → state_of r h ≡ state h
@@ -66,13 +66,13 @@ pub record IsRun (p : ProgramShape) (sound : IsSound p) (r : Played) (page : Tic
   pub all : r.finished ≡ true → (t : Ticket) → t.index < blocks_of p t.client → Among t r.order
   pub idle : r.finished ≡ true → (h : ℕ) → h < length p.objects → busy h → ⊥
 
-module _ (p : ProgramShape) (sound : IsSound p) (r : Played) (page : Ticket → BlockRecord) (waits : ℕ → Ticket → List Request) (state : ℕ → State) (busy : ℕ → Type 0) (journal : ℕ → List Entry)
-    (run : IsRun p sound r page waits state busy journal) where
+module _ (p : ProgramShape) (sound : IsSound p) (r : Played) (block_record : Ticket → BlockRecord) (waits : ℕ → Ticket → List Request) (state : ℕ → State) (busy : ℕ → Type 0) (journal : ℕ → List Entry)
+    (run : IsRun p sound r block_record waits state busy journal) where
   abbrev x : ℕ → ObjectCourse
-  x = line p sound page waits state busy journal
+  x = line p sound block_record waits state busy journal
 
-  serially : AllZip (Agrees p journal page) r.order (serial p r.order).places × ((h : ℕ) → (busy h → ⊥) → (serial p r.order).states h ≡ state h)
-  serially = runs_serially p sound page waits state busy journal r.order run.legal run.pages run.begins run.flows
+  serially : AllZip (Agrees p journal block_record) r.order (serial p r.order).places × ((h : ℕ) → (busy h → ⊥) → (serial p r.order).states h ≡ state h)
+  serially = runs_serially p sound block_record waits state busy journal r.order run.legal run.block_records run.begins run.flows
 
   told_at : (h : ℕ) → IsTicketByTicket (x h) (journal h) r.order
   told_at h = told (x h) (declared_states p h) (journal h) r.order (legal_apart p (λ _. 0) r.order run.legal) (run.flows h)
@@ -81,8 +81,8 @@ module _ (p : ProgramShape) (sound : IsSound p) (r : Played) (page : Ticket → 
     abbrev t : Ticket
     t = ticket_at r i
 
-    agrees : Agrees p journal page t (serial_block p r i)
-    agrees = zip_at (Agrees p journal page) r.order (serial p r.order).places i (ticket 0 0) no_block serially.0 inside
+    agrees : Agrees p journal block_record t (serial_block p r i)
+    agrees = zip_at (Agrees p journal block_record) r.order (serial p r.order).places i (ticket 0 0) no_block serially.0 inside
 
     starts : (h : ℕ) → HasEntry t (journal_of r h) → replay (declared_states p h) (without_tickets (before t (journal_of r h))) ≡ (serial_block p r i).starts h
     starts h has =
@@ -116,7 +116,7 @@ module _ (p : ProgramShape) (sound : IsSound p) (r : Played) (page : Ticket → 
       through : (m : ℕ) → i < m → m < length r.order → HasEntry (ticket_at r m) (journal_of r h) → without_tickets (entries_of t (journal_of r h)) ≡ part h (serial_block p r i).trace
       through m less long has =
           let over = turns_at (x h) (journal h) r.order i m (ticket 0 0) (told_at h).turns less long (subst (HasEntry (ticket_at r m)) (run.journals h own) has) in
-          let whole : parts_of page h t ≡ without_tickets (entries_of t (journal h)) =
+          let whole : parts_of block_record h t ≡ without_tickets (entries_of t (journal h)) =
           part_is h ∙ (ap (λ ws. without_tickets (entries_of t (journal h)) ++ map command_event ws) over.1 ∙ append-nil (without_tickets (entries_of t (journal h)))) in
           ap (λ j. without_tickets (entries_of t j)) (run.journals h own) ∙ (sym whole ∙ sym (agrees.through h over.0))
 
@@ -124,7 +124,7 @@ module _ (p : ProgramShape) (sound : IsSound p) (r : Played) (page : Ticket → 
   waiting_commands : (h : ℕ) (j : List Entry) (o : State) (ts : List Ticket) → Flow (x h) o j ts → AllByRecursion (λ t. AllByRecursion NoQuery (waits h t)) ts
   waiting_commands h j o [] f = tt
   waiting_commands h j o (t ∷ ts) (q, inl f) = (q.commands, waiting_commands h q.later (replay o q.ran) ts f.2)
-  waiting_commands h j o (t ∷ ts) (q, inr f) = (q.commands, each_map (λ u (c : OnlyCommands (parts_of page h u) (waits h u)). c.1) ts f.2)
+  waiting_commands h j o (t ∷ ts) (q, inr f) = (q.commands, each_map (λ u (c : OnlyCommands (parts_of block_record h u) (waits h u)). c.1) ts f.2)
 
   is_line : (h : ℕ) → h < length p.objects → IsIsolatedObject p r waits h
   is_line h own = record {

@@ -234,7 +234,7 @@ impl Body {
         self.push_more(stmt)
     }
 
-    // The same, where more memory is taken.
+    // Pushes a statement for which more memory is taken.
     #[inline(never)]
     fn push_more(&mut self, stmt: Stmt) -> Result<(), AllocError>
         requires shallow { levels_of (single stmt) ≤ most_levels }

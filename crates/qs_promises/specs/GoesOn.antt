@@ -3,14 +3,14 @@
 use Rattle.std.specs.Prelude.{◌≡◌, ◌⊎◌, ℕ, Bool, true, IsSome, List, Option, None}
 use Rattle.qs_program.specs.Program.{ProgramShape}
 use Rattle.qs_program.specs.Sound.{IsSound}
-use Rattle.qs_syncset.specs.Codes.{ClientCode}
+use Rattle.qs_syncset.specs.Codes.{ClientCode, AreCodes}
 use Rattle.qs_syncset.specs.declared.mode.Mode.{Mode}
 use Rattle.qs_played.specs.Played.{Played}
 use Rattle.qs_played.specs.Schedule.{names_actor, schedule}
 use Rattle.qs_played.specs.declared.schedule.actor.Actor.{Actor}
 use Rattle.qs_plain_laws.specs.Plain.{begin, step}
 use Rattle.qs_plain_laws.specs.PlainSchedule.{is_finished, plays}
-use Rattle.qs_core_laws.specs.Core.{AreCodes, core_begin, core_step}
+use Rattle.qs_core_laws.specs.Core.{core_begin, core_step}
 use Rattle.qs_core_laws.specs.CoreSchedule.{core_played, core_plays}
 use Rattle.qs_core_laws.specs.CoreSchedule as machine
 use Rattle.qs_promises.specs.Runs.{IsRun, Way, by_rules, on_machine, on_threads}
@@ -44,8 +44,8 @@ RunGoesOn p (on_threads mode size) r = r.finished ≡ true
 abbrev pub RunsGoOn : Type 0
 RunsGoOn = (p : ProgramShape) → IsSound p → (way : Way) (r : Played) → IsRun p way r → RunGoesOn p way r
 
--- The same for whoever asks for one step after another, and sees for each whether it was made: for every checked
--- program and every list of actors, by the plain rules.
+-- That runs go on, for whoever asks for one step after another and sees for each whether it was made: for every
+-- checked program and every list of actors, by the plain rules.
 abbrev pub RulesGoOn : Type 0
 RulesGoOn =
     (p : ProgramShape) → IsSound p → (actors : List Actor)

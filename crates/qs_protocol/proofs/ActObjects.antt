@@ -48,7 +48,7 @@ module _ (program : ProgramShape) (t : Ticket) (snt : ℕ → List Parcel) (got 
   send_at m pg (runs (Done l)) k h parcel e = absurd k.1
   send_at m pg (runs (Call r next)) k h parcel e =
       let is = call_object settings r.object (m.held r.object) (m.chunk r.object) h parcel e in
-      let fine = subst (AsksOnly (reserves program t)) k.0.rest k.0.page.fine in
+      let fine = subst (AsksOnly (reserves program t)) k.0.rest k.0.block_record.fine in
       (subst (λ h. reserves program t h ≡ true) is fine.1, in_hand_gone (m.held h) (m.chunk h))
   send_at m pg (runs (Sync g next)) k h parcel e =
       let is = clears_object settings g (m.held g) (m.chunk g) parcels.Sync h parcel e in

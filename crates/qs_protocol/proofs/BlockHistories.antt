@@ -1,4 +1,4 @@
--- What one client did so far, block by block: for each block its page, what it sent to each object and what it got from
+-- What one client did so far, block by block: for each block its block_record, what it sent to each object and what it got from
 -- it, and what each act adds to that. The last block is where the client stands; those before it are over.
 use Rattle.std.proofs.Common.{◌≡◌, ◌<◌, ◌≤◌, arith, ℕ, zero, suc, true, false, true≢false, if◌then◌else◌, ◌==◌, List, [], ◌∷◌, ◌++◌, refl, sym, ap, ap₂, ◌∙◌}
 use Rattle.std.proofs.Common.{subst, ⊎_elim, append-nil}
@@ -17,7 +17,6 @@ use Rattle.qs_meaning.specs.BlockRecords.{BlockRecord, Begins, IsDone}
 use Rattle.qs_meaning.proofs.TreeWalks.{put_here, put_there}
 use Rattle.qs_graph.specs.Synced.{Synced, without_syncs}
 use Rattle.qs_syncset.specs.SoundSynced.{IsSoundSynced, IsOnReserved}
-use Rattle.qs_chunk.specs.LaneViews.{ClientLane}
 use Rattle.qs_chunk.specs.declared.parcel.Parcel.{Parcel}
 use Rattle.qs_client_rules.specs.Client.{Client, Settings, Settlement, act_of, between, begin, after_parcel, take_chunk}
 use Rattle.qs_client_rules.specs.Client as clients
@@ -28,18 +27,18 @@ use Rattle.qs_protocol.proofs.ActObjects.{await_at, chunk_begun, got_begun, send
 use Rattle.qs_protocol.proofs.BlockLists.{after_not, before_not, upto_more, upto_new}
 use Rattle.qs_protocol.specs.ClientHistories.{upto}
 use Rattle.qs_protocol.proofs.ClientInvariants.{Leaving, Lined, PlaceOk, objects_of_block}
-use Rattle.qs_protocol.specs.ClientHistories.{IsBlockHistory, HasNone, IsOpenRecord, apart_from}
+use Rattle.qs_protocol.specs.ClientHistories.{IsBlockHistory, HasNone}
 use Rattle.qs_protocol.proofs.ClientLogs.{books_ok, chunks_ok, gets_ok, sends_ok}
 use Rattle.qs_protocol.proofs.SilentSteps.{Ends}
 
--- what is known of a block: its page, what was sent to each object and what was got from it
+-- what is known of a block: its block_record, what was sent to each object and what was got from it
 pub record Block : Type 0 where
-  pub page : BlockRecord
+  pub block_record : BlockRecord
   pub sent : ℕ → List Parcel
   pub got : ℕ → List HeldState
 
 abbrev pub block_with : BlockRecord → (ℕ → List Parcel) → (ℕ → List HeldState) → Block
-block_with page sent got = record { page = page; sent = sent; got = got }
+block_with block_record sent got = record { block_record = block_record; sent = sent; got = got }
 
 -- a client with so many blocks, in the midst of its run: the variables at entry and the trace of each block that it
 -- began, and all that it sent and got
@@ -48,12 +47,12 @@ pub record BlockHistories (program : ProgramShape) (c blocks : ℕ) (m : Client)
   pub block : ℕ → Block
   pub within : m.begun ≤ blocks
   pub idle : m.begun ≡ 0 → (m.stage ≡ between zeros) × ((h : ℕ) → HasNone m h)
-  pub last : (k : ℕ) → m.begun ≡ suc k → PlaceOk program (ticket c k) (block k).sent (block k).got m (block k).page m.stage
-  pub older : (k : ℕ) → suc k < m.begun → IsBlockHistory program c k (block k).page (block k).sent (block k).got
-  pub begins : (k : ℕ) → k < m.begun → Begins (λ (t : Ticket). (block t.index).page) c k (block k).page.entry
+  pub last : (k : ℕ) → m.begun ≡ suc k → PlaceOk program (ticket c k) (block k).sent (block k).got m (block k).block_record m.stage
+  pub older : (k : ℕ) → suc k < m.begun → IsBlockHistory program c k (block k).block_record (block k).sent (block k).got
+  pub begins : (k : ℕ) → k < m.begun → Begins (λ (t : Ticket). (block t.index).block_record) c k (block k).block_record.entry
   pub outside : (k : ℕ) → k < m.begun → (h : ℕ) → reserves program (ticket c k) h ≡ false → ((block k).sent h ≡ []) × ((block k).got h ≡ [])
-  pub entries : (k : ℕ) → k < m.begun → entry k ≡ (block k).page.entry
-  pub traces : (k : ℕ) → k < m.begun → trace k ≡ (block k).page.trace
+  pub entries : (k : ℕ) → k < m.begun → entry k ≡ (block k).block_record.entry
+  pub traces : (k : ℕ) → k < m.begun → trace k ≡ (block k).block_record.trace
   pub fresh : (k : ℕ) → m.begun ≤ k → trace k ≡ []
   pub sent_is : (h : ℕ) → sent h ≡ upto (λ k. (block k).sent h) m.begun
   pub got_is : (h : ℕ) → got h ≡ upto (λ k. (block k).got h) m.begun
@@ -96,19 +95,19 @@ nothing_told program c blocks m entry trace none at hands empty = record {
   got_is = λ h. sym (ap (upto (λ k. [])) none);
 }
 
--- a block begins with what the one before it left, whatever becomes of that block's own page
+-- a block begins with what the one before it left, whatever becomes of that block's own block_record
 begins_still : (block : ℕ → Block) (c k : ℕ) (new : Block) (j : ℕ) (l : Locals) → j ≤ k
-    → Begins (λ (t : Ticket). (block t.index).page) c j l → Begins (λ (t : Ticket). (put block k new t.index).page) c j l
+    → Begins (λ (t : Ticket). (block t.index).block_record) c j l → Begins (λ (t : Ticket). (put block k new t.index).block_record) c j l
 begins_still block c k new zero l low b = b
-begins_still block c k new (suc j) l low b = ap (λ (b : Block). b.page.rest) (put_there block k new j (after_not k j (omega (arith, low)))) ∙ b
+begins_still block c k new (suc j) l low b = ap (λ (b : Block). b.block_record.rest) (put_there block k new j (after_not k j (omega (arith, low)))) ∙ b
 
 module _ (program : ProgramShape) (c blocks : ℕ) (settings : Settings) (m : Client) (entry : ℕ → Locals) (trace : ℕ → List Event)
     (snt : ℕ → List Parcel) (got : ℕ → List HeldState) (o : BlockHistories program c blocks m entry trace snt got) where
   -- between blocks all that were begun are over, the next begins with these variables, and nothing is in hand
   pub record Rests (l : Locals) (n : ℕ) : Type 0 where
-    pub next : Begins (λ (t : Ticket). (o.block t.index).page) c n l
+    pub next : Begins (λ (t : Ticket). (o.block t.index).block_record) c n l
     pub hands : (h : ℕ) → HasNone m h
-    pub over : (k : ℕ) → k < n → IsBlockHistory program c k (o.block k).page (o.block k).sent (o.block k).got
+    pub over : (k : ℕ) → k < n → IsBlockHistory program c k (o.block k).block_record (o.block k).sent (o.block k).got
 
   pub rests : (l : Locals) → m.stage ≡ between l → (n : ℕ) → m.begun ≡ n → Rests l n
   rests l at zero e =
@@ -116,13 +115,13 @@ module _ (program : ProgramShape) (c blocks : ℕ) (settings : Settings) (m : Cl
       record { next = cc (sym at ∙ i.0); hands = i.1; over = λ k lt. absurd (omega (arith, lt)) }
   rests l at (suc k) e =
       let b = o.block k in
-      let ok : Leaving program (ticket c k) b.sent b.got m b.page [] l = subst (PlaceOk program (ticket c k) b.sent b.got m b.page) at (o.last k e) in
+      let ok : Leaving program (ticket c k) b.sent b.got m b.block_record [] l = subst (PlaceOk program (ticket c k) b.sent b.got m b.block_record) at (o.last k e) in
       record {
         next = ok.rest;
         hands = λ h. ok.empty h refl;
         over = λ j lt. ⊎_elim
-            (λ (is : k ≡ j). subst (λ j. IsBlockHistory program c j (o.block j).page (o.block j).sent (o.block j).got) is (record {
-              page = ok.page;
+            (λ (is : k ≡ j). subst (λ j. IsBlockHistory program c j (o.block j).block_record (o.block j).sent (o.block j).got) is (record {
+              block_record = ok.block_record;
               done = subst IsDone (sym ok.rest) tt;
               lanes = ok.lanes;
               outside = o.outside k (omega (arith, e));
@@ -134,8 +133,8 @@ module _ (program : ProgramShape) (c blocks : ℕ) (settings : Settings) (m : Cl
   -- it did something in the block that it is in
   module _ (k : ℕ) (e : m.begun ≡ suc k) (r : Settlement) (still : r.client.begun ≡ m.begun) (new : Block)
       (more : ℕ → List Parcel) (came : ℕ → List HeldState) where
-    pub told_within : new.page.entry ≡ (o.block k).page.entry → new.page.trace ≡ (o.block k).page.trace ++ r.events
-        → PlaceOk program (ticket c k) new.sent new.got r.client new.page r.client.stage
+    pub told_within : new.block_record.entry ≡ (o.block k).block_record.entry → new.block_record.trace ≡ (o.block k).block_record.trace ++ r.events
+        → PlaceOk program (ticket c k) new.sent new.got r.client new.block_record r.client.stage
         → ((h : ℕ) → new.sent h ≡ (o.block k).sent h ++ more h) → ((h : ℕ) → new.got h ≡ (o.block k).got h ++ came h)
         → ((h : ℕ) → reserves program (ticket c k) h ≡ false → (more h ≡ []) × (came h ≡ []))
         → BlockHistories program c blocks r.client entry (put trace k (trace k ++ r.events)) (λ h. snt h ++ more h) (λ h. got h ++ came h)
@@ -147,14 +146,14 @@ module _ (program : ProgramShape) (c blocks : ℕ) (settings : Settings) (m : Cl
           idle = λ z. absurd (omega (arith, n, z));
           last = λ j i.
               let is : k ≡ j = omega (arith, n, i) in
-              subst (λ j. let b = put o.block k new j in PlaceOk program (ticket c j) b.sent b.got r.client b.page r.client.stage) is
-              (subst (λ (b : Block). PlaceOk program (ticket c k) b.sent b.got r.client b.page r.client.stage) (sym (put_here o.block k new)) ok);
+              subst (λ j. let b = put o.block k new j in PlaceOk program (ticket c j) b.sent b.got r.client b.block_record r.client.stage) is
+              (subst (λ (b : Block). PlaceOk program (ticket c k) b.sent b.got r.client b.block_record r.client.stage) (sym (put_here o.block k new)) ok);
           older = λ j lt.
-              subst (λ (b : Block). IsBlockHistory program c j b.page b.sent b.got) (sym (put_there o.block k new j (after_not k j (omega (arith, n, lt)))))
+              subst (λ (b : Block). IsBlockHistory program c j b.block_record b.sent b.got) (sym (put_there o.block k new j (after_not k j (omega (arith, n, lt)))))
               (o.older j (omega (arith, still, lt)));
           begins = λ j lt.
-              subst (Begins (λ (t : Ticket). (put o.block k new t.index).page) c j) (sym (put_kept (λ (b : Block). b.page.entry) o.block k new same_entry j))
-              (begins_still o.block c k new j (o.block j).page.entry (omega (arith, n, lt)) (o.begins j (omega (arith, still, lt))));
+              subst (Begins (λ (t : Ticket). (put o.block k new t.index).block_record) c j) (sym (put_kept (λ (b : Block). b.block_record.entry) o.block k new same_entry j))
+              (begins_still o.block c k new j (o.block j).block_record.entry (omega (arith, n, lt)) (o.begins j (omega (arith, still, lt))));
           outside = λ j lt. put_all (λ j (b : Block). j < suc k → (h : ℕ) → reserves program (ticket c j) h ≡ false → (b.sent h ≡ []) × (b.got h ≡ []))
               o.block k new
               (λ lt h no.
@@ -162,8 +161,8 @@ module _ (program : ProgramShape) (c blocks : ℕ) (settings : Settings) (m : Cl
               let here = none h no in
               (sent_more h ∙ ap₂ (λ a b. a ++ b) old.0 here.0, got_more h ∙ ap₂ (λ a b. a ++ b) old.1 here.1))
               (λ j other lt. o.outside j (omega (arith, e, lt))) j (omega (arith, n, lt));
-          entries = λ j lt. o.entries j (omega (arith, still, lt)) ∙ sym (put_kept (λ (b : Block). b.page.entry) o.block k new same_entry j);
-          traces = λ j lt. put_both (λ j es (b : Block). j < suc k → es ≡ b.page.trace) trace o.block k (trace k ++ r.events) new
+          entries = λ j lt. o.entries j (omega (arith, still, lt)) ∙ sym (put_kept (λ (b : Block). b.block_record.entry) o.block k new same_entry j);
+          traces = λ j lt. put_both (λ j es (b : Block). j < suc k → es ≡ b.block_record.trace) trace o.block k (trace k ++ r.events) new
               (λ lt. ap (λ es. es ++ r.events) (o.traces k (omega (arith, e))) ∙ sym trace_is)
               (λ j other lt. o.traces j (omega (arith, e, lt))) j (omega (arith, n, lt));
           fresh = λ j low.
@@ -178,7 +177,7 @@ module _ (program : ProgramShape) (c blocks : ℕ) (settings : Settings) (m : Cl
 
   -- its next block begins
   pub told_begun : (l : Locals) → m.stage ≡ between l → m.begun < blocks → (r : Settlement) (new : Block) → r.client.begun ≡ suc m.begun
-      → new.page.entry ≡ l → new.page.trace ≡ r.events → PlaceOk program (ticket c m.begun) new.sent new.got r.client new.page r.client.stage
+      → new.block_record.entry ≡ l → new.block_record.trace ≡ r.events → PlaceOk program (ticket c m.begun) new.sent new.got r.client new.block_record r.client.stage
       → ((h : ℕ) → new.sent h ≡ []) → ((h : ℕ) → new.got h ≡ [])
       → BlockHistories program c blocks r.client (put entry m.begun l) (put trace m.begun (trace m.begun ++ r.events)) snt got
   told_begun l at less r new n entry_is trace_is ok none_sent none_got =
@@ -190,25 +189,25 @@ module _ (program : ProgramShape) (c blocks : ℕ) (settings : Settings) (m : Cl
         idle = λ z. absurd (omega (arith, n, z));
         last = λ j i.
             let is : k ≡ j = omega (arith, n, i) in
-            subst (λ j. let b = put o.block k new j in PlaceOk program (ticket c j) b.sent b.got r.client b.page r.client.stage) is
-            (subst (λ (b : Block). PlaceOk program (ticket c k) b.sent b.got r.client b.page r.client.stage) (sym (put_here o.block k new)) ok);
+            subst (λ j. let b = put o.block k new j in PlaceOk program (ticket c j) b.sent b.got r.client b.block_record r.client.stage) is
+            (subst (λ (b : Block). PlaceOk program (ticket c k) b.sent b.got r.client b.block_record r.client.stage) (sym (put_here o.block k new)) ok);
         older = λ j lt.
             let low : j < k = omega (arith, n, lt) in
-            subst (λ (b : Block). IsBlockHistory program c j b.page b.sent b.got) (sym (put_there o.block k new j (after_not k j low))) (before.over j low);
-        begins = λ j lt. put_all (λ j (b : Block). j < suc k → Begins (λ (t : Ticket). (put o.block k new t.index).page) c j b.page.entry) o.block k new
-            (λ lt. begins_still o.block c k new k new.page.entry (omega arith)
-            (subst (Begins (λ (t : Ticket). (o.block t.index).page) c k) (sym entry_is) before.next))
+            subst (λ (b : Block). IsBlockHistory program c j b.block_record b.sent b.got) (sym (put_there o.block k new j (after_not k j low))) (before.over j low);
+        begins = λ j lt. put_all (λ j (b : Block). j < suc k → Begins (λ (t : Ticket). (put o.block k new t.index).block_record) c j b.block_record.entry) o.block k new
+            (λ lt. begins_still o.block c k new k new.block_record.entry (omega arith)
+            (subst (Begins (λ (t : Ticket). (o.block t.index).block_record) c k) (sym entry_is) before.next))
             (λ j other lt.
             let apart = apart_eqb k j other in
-            begins_still o.block c k new j (o.block j).page.entry (omega (arith, lt)) (o.begins j (omega (arith, lt, apart)))) j (omega (arith, n, lt));
+            begins_still o.block c k new j (o.block j).block_record.entry (omega (arith, lt)) (o.begins j (omega (arith, lt, apart)))) j (omega (arith, n, lt));
         outside = λ j lt. put_all (λ j (b : Block). j < suc k → (h : ℕ) → reserves program (ticket c j) h ≡ false → (b.sent h ≡ []) × (b.got h ≡ []))
             o.block k new
             (λ lt h no. (none_sent h, none_got h))
             (λ j other lt h no. let apart = apart_eqb k j other in o.outside j (omega (arith, lt, apart)) h no) j (omega (arith, n, lt));
-        entries = λ j lt. put_both (λ j x (b : Block). j < suc k → x ≡ b.page.entry) entry o.block k l new
+        entries = λ j lt. put_both (λ j x (b : Block). j < suc k → x ≡ b.block_record.entry) entry o.block k l new
             (λ lt. sym entry_is)
             (λ j other lt. let apart = apart_eqb k j other in o.entries j (omega (arith, lt, apart))) j (omega (arith, n, lt));
-        traces = λ j lt. put_both (λ j es (b : Block). j < suc k → es ≡ b.page.trace) trace o.block k (trace k ++ r.events) new
+        traces = λ j lt. put_both (λ j es (b : Block). j < suc k → es ≡ b.block_record.trace) trace o.block k (trace k ++ r.events) new
             (λ lt. ap (λ es. es ++ r.events) (o.fresh k (omega arith)) ∙ sym trace_is)
             (λ j other lt. let apart = apart_eqb k j other in o.traces j (omega (arith, lt, apart))) j (omega (arith, n, lt));
         fresh = λ j low.
@@ -258,7 +257,7 @@ module _ (program : ProgramShape) (fine : (t : Ticket) (l : Locals) → AsksOnly
       (more : ℕ → List Parcel) (came : ℕ → List HeldState)
       → ((h : ℕ) → S h ≡ (o.block k).sent h ++ more h) → ((h : ℕ) → G h ≡ (o.block k).got h ++ came h)
       → ((h : ℕ) → reserves program (ticket c k) h ≡ false → (more h ≡ []) × (came h ≡ []))
-      → Ends program (ticket c k) S G settings (lined (ticket c k)) (o.block k).page r → Comes k r more came
+      → Ends program (ticket c k) S G settings (lined (ticket c k)) (o.block k).block_record r → Comes k r more came
   within_ends k e r still S G more came sent_more got_more none ends =
       told_within program c blocks settings m entry trace snt got o k e r still (block_with ends.0 S G) more came ends.1 ends.2 ends.3 sent_more got_more none
 
@@ -268,11 +267,11 @@ module _ (program : ProgramShape) (fine : (t : Ticket) (l : Locals) → AsksOnly
       let t = ticket c k in
       let b = o.block k in
       let ok = o.last k e in
-      let mine = (send_at program t b.sent b.got settings blocks m b.page m.stage ok a p act).0 in
+      let mine = (send_at program t b.sent b.got settings blocks m b.block_record m.stage ok a p act).0 in
       within_ends k e (after_parcel settings t (objects_of_block program t) m a p) (sent_begun settings t (objects_of_block program t) m a p)
       (put b.sent a (b.sent a ++ p ∷ [])) b.got (λ h. if a == h then p ∷ [] else []) (λ h. [])
       (one_more b.sent a p) (λ h. sym (append-nil (b.got h))) (λ h no. (only_reserved program t a h (p ∷ []) mine no, refl))
-      (sends_ok program t b.sent b.got settings (lined t) blocks m b.page a p ok act)
+      (sends_ok program t b.sent b.got settings (lined t) blocks m b.block_record a p ok act)
 
   pub get_told : (k : ℕ) → m.begun ≡ suc k → (a : ℕ) (x : HeldState) → act_of settings blocks m ≡ Await a
       → Comes k (clients.take_object settings (ticket c k) (objects_of_block program (ticket c k)) m x m.stage) (λ h. []) (λ h. if a == h then x ∷ [] else [])
@@ -280,11 +279,11 @@ module _ (program : ProgramShape) (fine : (t : Ticket) (l : Locals) → AsksOnly
       let t = ticket c k in
       let b = o.block k in
       let ok = o.last k e in
-      let mine = (await_at program t b.sent b.got settings blocks m b.page m.stage ok a act).0 in
+      let mine = (await_at program t b.sent b.got settings blocks m b.block_record m.stage ok a act).0 in
       within_ends k e (clients.take_object settings t (objects_of_block program t) m x m.stage) (got_begun settings t (objects_of_block program t) m a x m.stage)
       b.sent (put b.got a (b.got a ++ x ∷ [])) (λ h. []) (λ h. if a == h then x ∷ [] else [])
       (λ h. sym (append-nil (b.sent h))) (one_more b.got a x) (λ h no. (refl, only_reserved program t a h (x ∷ []) mine no))
-      (gets_ok program t b.sent b.got settings (lined t) blocks m b.page a x ok act)
+      (gets_ok program t b.sent b.got settings (lined t) blocks m b.block_record a x ok act)
 
   pub chunk_told : (k : ℕ) → m.begun ≡ suc k → (a : ℕ) → act_of settings blocks m ≡ NeedChunk a
       → Comes k (take_chunk settings (ticket c k) (objects_of_block program (ticket c k)) m a m.stage) (λ h. []) (λ h. [])
@@ -294,7 +293,7 @@ module _ (program : ProgramShape) (fine : (t : Ticket) (l : Locals) → AsksOnly
       let ok = o.last k e in
       within_ends k e (take_chunk settings t (objects_of_block program t) m a m.stage) (chunk_begun settings t (objects_of_block program t) m a m.stage)
       b.sent b.got (λ h. []) (λ h. []) (λ h. sym (append-nil (b.sent h))) (λ h. sym (append-nil (b.got h))) (λ h no. (refl, refl))
-      (chunks_ok program t b.sent b.got settings (lined t) blocks m b.page a ok act)
+      (chunks_ok program t b.sent b.got settings (lined t) blocks m b.block_record a ok act)
 
   -- the next block, whose code is this
   pub reserve_told : (l : Locals) → m.stage ≡ between l → m.begun < blocks → (code : Synced)

@@ -53,7 +53,7 @@ module _ (program : ProgramShape) (t : Ticket) (sent : ℕ → List Parcel) (got
       let c = no_chunk m h x (k.not_both h) e in
       let old = subst (ClientLane t false (sent h) (got h) (part h pg.trace)) (ap (λ o. in_hand o (m.chunk h)) e) (k.lanes h) in
       record {
-        page = k.page;
+        block_record = k.block_record;
         rest = k.rest;
         lanes = put_both (λ g (ps : List Parcel) (o : Option HeldState). ClientLane t false ps (got g) (part g pg.trace) (in_hand o (m.chunk g))) sent m.held h (sent h ++ parcels.Home x ∷ []) None
             (subst (λ c. ClientLane t false (sent h ++ parcels.Home x ∷ []) (got h) (part h pg.trace) (in_hand None c)) (sym c) (lane_act t (sent h) (got h) (part h pg.trace) (holds x) (parcels.Home x ∷ []) (sends []) old (goes_home t x)))
@@ -97,7 +97,7 @@ module _ (program : ProgramShape) (t : Ticket) (sent : ℕ → List Parcel) (got
       let n = no_held m h rs (k.not_both h) e in
       let old = subst (ClientLane t false (sent h) (got h) (part h pg.trace)) (ap₂ in_hand n e) (k.lanes h) in
       record {
-        page = k.page;
+        block_record = k.block_record;
         rest = k.rest;
         lanes = put_both (λ g (ps : List Parcel) (c : Option (List Request)). ClientLane t false ps (got g) (part g pg.trace) (in_hand (m.held g) c)) sent m.chunk h (sent h ++ work settings rs ∷ []) None
             (subst (λ o. ClientLane t false (sent h ++ work settings rs ∷ []) (got h) (part h pg.trace) (in_hand o None)) (sym n) (lane_act t (sent h) (got h) (part h pg.trace) (sends rs) (work settings rs ∷ []) (sends []) old (goes_work t (batch rs settings.size))))
@@ -113,7 +113,7 @@ module _ (program : ProgramShape) (t : Ticket) (sent : ℕ → List Parcel) (got
   sync_waits m pg h next n c k =
       let old = subst (ClientLane t false (sent h) (got h) (part h pg.trace)) (ap₂ in_hand n c) (k.lanes h) in
       record {
-        page = k.page;
+        block_record = k.block_record;
         rest = k.rest;
         lanes = put_all (λ g (ps : List Parcel). ClientLane t false ps (got g) (part g pg.trace) (if h == g then asks else in_hand (m.held g) (m.chunk g))) sent h (sent h ++ parcels.Sync ∷ [])
             (rw (eqb_self h) (lane_act t (sent h) (got h) (part h pg.trace) (sends []) (parcels.Sync ∷ []) asks old (goes_sync t)))
@@ -132,7 +132,7 @@ module _ (program : ProgramShape) (t : Ticket) (sent : ℕ → List Parcel) (got
   got_ready m pg h code x k =
       let old : ClientLane t false (sent h) (got h) (part h pg.trace) asks = rw (eqb_self h) at (k.lanes h) in
       record {
-        page = k.page;
+        block_record = k.block_record;
         rest = k.rest;
         lanes = put_both (λ g (gs : List HeldState) (o : Option HeldState). ClientLane t false (sent g) gs (part g pg.trace) (in_hand o (m.chunk g))) got m.held h (got h ++ x ∷ []) (Some x)
             (lane_got t (sent h) (got h) (part h pg.trace) x old)
@@ -153,7 +153,7 @@ module _ (program : ProgramShape) (t : Ticket) (sent : ℕ → List Parcel) (got
   pub chunk_ready : (m : Client) (pg : BlockRecord) (code : Synced) (h : ℕ) → m.held h ≡ None → m.chunk h ≡ None → reserves program t h ≡ true → Ready program t sent got m pg code
       → Ready program t sent got (record m { chunk = put m.chunk h (Some []) }) pg code
   chunk_ready m pg code h n c mh k = record {
-    page = k.page;
+    block_record = k.block_record;
     rest = k.rest;
     lanes = put_all (λ g (c : Option (List Request)). ClientLane t false (sent g) (got g) (part g pg.trace) (in_hand (m.held g) c)) m.chunk h (Some [])
         (subst (λ o. ClientLane t false (sent h) (got h) (part h pg.trace) (in_hand o (Some []))) (sym n) (subst (ClientLane t false (sent h) (got h) (part h pg.trace)) (ap₂ in_hand n c) (k.lanes h)))
@@ -172,7 +172,7 @@ module _ (program : ProgramShape) (t : Ticket) (sent : ℕ → List Parcel) (got
       let old : ClientLane t false (sent h) (got h) (part h pg.trace) (in_hand (m.held h) (m.chunk h)) = rw (eqb_self h) at (k.lanes h) in
       let old' = subst (ClientLane t false (sent h) (got h) (part h pg.trace)) (ap₂ in_hand n c) old in
       record {
-        page = k.page;
+        block_record = k.block_record;
         rest = k.rest;
         not_both = k.not_both;
         lined = k.lined.2;
@@ -192,7 +192,7 @@ module _ (program : ProgramShape) (t : Ticket) (sent : ℕ → List Parcel) (got
       let old : ClientLane t false (sent h) (got h) (part h pg.trace) (in_hand (m.held h) (m.chunk h)) = rw (eqb_self h) at (k.lanes h) in
       let old' = subst (ClientLane t false (sent h) (got h) (part h pg.trace)) (ap (λ o. in_hand o (m.chunk h)) e) old in
       record {
-        page = k.page;
+        block_record = k.block_record;
         rest = k.rest;
         lined = k.lined;
         not_both = put_all (λ g (o : Option HeldState). (o ≡ None) ⊎ (m.chunk g ≡ None)) m.held h None (inl refl) (λ g other. k.not_both g);
@@ -209,7 +209,7 @@ module _ (program : ProgramShape) (t : Ticket) (sent : ℕ → List Parcel) (got
       let old : ClientLane t false (sent h) (got h) (part h pg.trace) (in_hand (m.held h) (m.chunk h)) = rw (eqb_self h) at (k.lanes h) in
       let old' = subst (ClientLane t false (sent h) (got h) (part h pg.trace)) (ap₂ in_hand n e) old in
       record {
-        page = k.page;
+        block_record = k.block_record;
         rest = k.rest;
         lined = k.lined;
         not_both = put_all (λ g (c : Option (List Request)). (m.held g ≡ None) ⊎ (c ≡ None)) m.chunk h None (inr refl) (λ g other. k.not_both g);

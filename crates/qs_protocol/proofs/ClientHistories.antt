@@ -1,4 +1,4 @@
--- What one client's whole run says, block by block: all its blocks are over, each with its page, what it sent to each
+-- What one client's whole run says, block by block: all its blocks are over, each with its block_record, what it sent to each
 -- object and what it got from it, and these joined are all that it sent and got. The objects that it got are arbitrary;
 -- nothing of threads, queues or other clients is in it. The run is read where nothing is left to be done for the last
 -- act, since each act begins with that.
@@ -13,13 +13,12 @@ use Rattle.qs_program.specs.Values.{Locals}
 use Rattle.qs_meaning.specs.Following.{AsksOnly, reserves, block_tree}
 use Rattle.qs_meaning.specs.Serial.{zeros}
 use Rattle.qs_meaning.specs.Solo.{put}
-use Rattle.qs_meaning.specs.BlockRecords.{BlockRecord, Begins}
 use Rattle.qs_graph.specs.Synced.{without_syncs}
 use Rattle.qs_syncset.specs.Codes.{ClientCode, code_at}
 use Rattle.qs_syncset.specs.SoundSynced.{IsSoundSynced, IsOnReserved}
 use Rattle.qs_sync_counts.specs.declared.sync_counts.SyncCount.{SyncCount}
 use Rattle.qs_chunk.specs.declared.parcel.Parcel.{Parcel}
-use Rattle.qs_client_rules.specs.Client.{Client, ClientStage, Settings, Settlement, act_at, act_of, between, begin, after_parcel, take_chunk}
+use Rattle.qs_client_rules.specs.Client.{Client, Settings, Settlement, act_of, between, begin, after_parcel, take_chunk}
 use Rattle.qs_client_rules.specs.Client as clients
 use Rattle.qs_client_rules.specs.Outgoings.{count_sync, outgoing_of}
 use Rattle.qs_client_rules.specs.declared.act.Act.TheVariants as acts
@@ -31,9 +30,8 @@ use Rattle.qs_protocol.proofs.ActObjects.{chunk_begun, got_begun, not_await, not
 use Rattle.qs_protocol.proofs.BlockLists.{row_push, row_set}
 use Rattle.qs_protocol.specs.ClientHistories.{upto}
 use Rattle.qs_protocol.proofs.BlockHistories.{BlockHistories, chunk_told, get_told, in_block, nothing_told, reserve_told, rests, retold, send_told}
-use Rattle.qs_protocol.specs.ClientHistories.{IsBlockHistory, ClientHistory}
+use Rattle.qs_protocol.specs.ClientHistories.{ClientHistory}
 use Rattle.qs_protocol.proofs.ClientInvariants.{Lined, objects_of_block}
-use Rattle.qs_protocol.specs.ClientHistories.{HasNone}
 use Rattle.qs_protocol.proofs.DeedJoins.{got_join, reservations_join, sent_join}
 use Rattle.qs_protocol.proofs.FullChunks.{ComesFull, HasFull, chunk_full, finished_all, finished_at, got_full, reserves_more, sent_full, settle_full}
 use Rattle.qs_protocol.proofs.MindSteps.{came, chunk_does, deeds_keep, done_still, get_does, reserve_does, send_does}
@@ -190,7 +188,7 @@ module _ (program : ProgramShape) (fine : (t : Ticket) (l : Locals) → AsksOnly
         place_of zero e act = (zeros, (o.telling.idle e).0)
         place_of (suc k) e act =
             let b = o.telling.block k in
-            reserve_at program (ticket c k) b.sent b.got settings (length code.blocks) m.client b.page m.client.stage (o.telling.last k e) act
+            reserve_at program (ticket c k) b.sent b.got settings (length code.blocks) m.client b.block_record m.client.stage (o.telling.last k e) act
 
     pub reserving : act_due m ≡ acts.Reserve
         → InClientHistory (before ++ deeds.reserves ∷ []) (finish (mind_after_begin (hands_out m acts.Reserve) (next_ticket c (hands_out m acts.Reserve))))
@@ -270,7 +268,7 @@ module _ (program : ProgramShape) (fine : (t : Ticket) (l : Locals) → AsksOnly
       let all : m.client.begun ≡ length code.blocks =
       (let within = w.within in let none = finished_all settings (length code.blocks) m.client at.0 at.1 act in omega (arith, within, none)) in
       record {
-        page = λ k. (w.block k).page;
+        block_record = λ k. (w.block k).block_record;
         sent = λ k. (w.block k).sent;
         got = λ k. (w.block k).got;
         begun = all;
@@ -291,7 +289,7 @@ module _ (program : ProgramShape) (fine : (t : Ticket) (l : Locals) → AsksOnly
       place_of zero e act = (zeros, (o.telling.idle e).0)
       place_of (suc k) e act =
           let b = o.telling.block k in
-          finished_at program (ticket c k) b.sent b.got settings (length code.blocks) m.client b.page m.client.stage (o.telling.last k e) o.full act
+          finished_at program (ticket c k) b.sent b.got settings (length code.blocks) m.client b.block_record m.client.stage (o.telling.last k e) o.full act
 
   -- what a client's whole run says
   pub told : (deeds : List Deed) (end : ClientModel) → RunsTo c (fresh_mind code size) deeds end → ClientHistory program c code deeds end
@@ -302,7 +300,7 @@ module _ (program : ProgramShape) (fine : (t : Ticket) (l : Locals) → AsksOnly
       -- an act that carries nothing changes nothing of it
       ended : ClientHistory program c code deeds (finish run.last) → ClientHistory program c code deeds (hands_out (finish run.last) acts.Finished)
       ended w = record {
-        page = w.page;
+        block_record = w.block_record;
         sent = w.sent;
         got = w.got;
         begun = w.begun;

@@ -7,17 +7,17 @@ use Rattle.qs_objects.specs.Journals.{HeldState}
 use Rattle.qs_objects.specs.Parts.{part}
 use Rattle.qs_objects.specs.declared.held.Ticket.{Ticket}
 use Rattle.qs_objects.specs.declared.Request.{Request}
-use Rattle.qs_meaning.specs.Following.{AsksOnly, reserves}
+use Rattle.qs_meaning.specs.Following.{reserves}
 use Rattle.qs_program.specs.Program.{ProgramShape, text_of}
 use Rattle.qs_meaning.specs.Solo.{put}
 use Rattle.qs_program.specs.Sound.{is_in}
 use Rattle.qs_program.specs.Values.{Locals}
-use Rattle.qs_meaning.specs.BlockRecords.{BlockRecord, IsBlockRecord}
+use Rattle.qs_meaning.specs.BlockRecords.{BlockRecord}
 use Rattle.qs_meaning.specs.Interaction as tree
 use Rattle.qs_graph.specs.Synced.{Synced, Done, Call, Sync, Query, without_syncs}
 use Rattle.qs_syncset.specs.SoundSynced.{IsSoundSynced, IsOnReserved}
 use Rattle.qs_protocol.specs.ClientHistories.{HasNone, IsOpenRecord, apart_from}
-use Rattle.qs_chunk.specs.LaneViews.{ObjectStance, sends, asks, holds, gone, ClientLane}
+use Rattle.qs_chunk.specs.LaneViews.{ObjectStance, sends, asks, holds, ClientLane}
 use Rattle.qs_chunk.specs.declared.parcel.Parcel.{Parcel}
 use Rattle.qs_client_rules.specs.Client.{Client, ClientStage, between, runs, full, awaits, leaves}
 
@@ -55,7 +55,7 @@ module _ (p : ProgramShape) (t : Ticket) (sent : ℕ → List Parcel) (got : ℕ
 
   -- about to go on with this rest
   pub record Ready (m : Client) (pg : BlockRecord) (code : Synced) : Type 0 where
-    pub page : IsOpenRecord p t pg
+    pub block_record : IsOpenRecord p t pg
     pub rest : pg.rest ≡ without_syncs code
     pub lanes : Lanes pg (λ h. in_hand (m.held h) (m.chunk h))
     pub not_both : (h : ℕ) → NotBoth m h
@@ -65,7 +65,7 @@ module _ (p : ProgramShape) (t : Ticket) (sent : ℕ → List Parcel) (got : ℕ
 
   -- waiting for h
   pub record Waiting (m : Client) (pg : BlockRecord) (h : ℕ) (code : Synced) : Type 0 where
-    pub page : IsOpenRecord p t pg
+    pub block_record : IsOpenRecord p t pg
     pub rest : pg.rest ≡ without_syncs code
     pub lanes : Lanes pg (λ g. if h == g then asks else in_hand (m.held g) (m.chunk g))
     pub not_both : (g : ℕ) → NotBoth m g
@@ -78,7 +78,7 @@ module _ (p : ProgramShape) (t : Ticket) (sent : ℕ → List Parcel) (got : ℕ
 
   -- leaving these objects
   pub record Leaving (m : Client) (pg : BlockRecord) (names : List ℕ) (l : Locals) : Type 0 where
-    pub page : IsOpenRecord p t pg
+    pub block_record : IsOpenRecord p t pg
     pub rest : pg.rest ≡ tree.Done l
     pub lanes : Lanes pg (λ g. if is_in names g then in_hand (m.held g) (m.chunk g) else apart_from p t g)
     pub not_both : (g : ℕ) → NotBoth m g

@@ -68,7 +68,7 @@ module _ (program : ProgramShape) (t : Ticket) (snt : ℕ → List Parcel) (got 
       moved_to (After pg m (runs (Sync g next))) g parcels.Sync h parcel e
       (ends_stays program t (put snt g (snt g ++ parcels.Sync ∷ [])) got settings lined pg m (awaits g next)
       (let w = sync_waits program t snt got m pg g next a b k in
-      record { page = w.page; rest = w.rest; lanes = w.lanes; not_both = w.not_both; held = w.held; chunk = w.chunk; own = w.own; at = w.at; sound = w.sound; on = w.on }))
+      record { block_record = w.block_record; rest = w.rest; lanes = w.lanes; not_both = w.not_both; held = w.held; chunk = w.chunk; own = w.own; at = w.at; sound = w.sound; on = w.on }))
 
   full_sends : (m : Client) (pg : BlockRecord) (g : ℕ) (code : Synced) (ck : Option (List Request)) → m.chunk g ≡ ck → Ready program t snt got m pg code
       → (h : ℕ) (parcel : Parcel) → clear settings g None ck Finished ≡ Send h parcel → After pg m (full g code) h parcel
@@ -84,12 +84,12 @@ module _ (program : ProgramShape) (t : Ticket) (snt : ℕ → List Parcel) (got 
       moved_to (After pg m (leaves g hs l)) g (parcels.Home x) h parcel e
       (ends_stays program t (put snt g (snt g ++ parcels.Home x ∷ [])) got settings lined pg (record m { held = put m.held g None }) (leaves g hs l)
       (let w = home_leaves program t snt got m pg g hs l x a k in
-      record { page = w.page; rest = w.rest; lanes = w.lanes; not_both = w.not_both; lined = w.lined; empty = w.empty }))
+      record { block_record = w.block_record; rest = w.rest; lanes = w.lanes; not_both = w.not_both; lined = w.lined; empty = w.empty }))
   leaves_sends m pg g hs l None (Some rs) a b k h parcel e =
       moved_to (After pg m (leaves g hs l)) g (work settings rs) h parcel e
       (ends_stays program t (put snt g (snt g ++ work settings rs ∷ [])) got settings lined pg (record m { chunk = put m.chunk g None }) (leaves g hs l)
       (let w = work_leaves program t snt got settings m pg g hs l rs b k in
-      record { page = w.page; rest = w.rest; lanes = w.lanes; not_both = w.not_both; lined = w.lined; empty = w.empty }))
+      record { block_record = w.block_record; rest = w.rest; lanes = w.lanes; not_both = w.not_both; lined = w.lined; empty = w.empty }))
   leaves_sends m pg g hs l None None a b k h parcel e =
       moved_to (After pg m (leaves g hs l)) g parcels.End h parcel e
       (leaving_ends program t (put snt g (snt g ++ parcels.End ∷ [])) got settings lined m pg l hs (end_leaves program t snt got m pg g hs l a b k))
@@ -139,7 +139,7 @@ module _ (program : ProgramShape) (t : Ticket) (snt : ℕ → List Parcel) (got 
   chunk_order m pg r next None (Some rs) a b k h e = absurd (cc)
   chunk_order m pg r next None None a b k h e =
       let is : r.object ≡ h = cc in
-      let fine = subst (AsksOnly (reserves program t)) k.rest k.page.fine in
+      let fine = subst (AsksOnly (reserves program t)) k.rest k.block_record.fine in
       subst (λ h. Ends program t snt got settings lined pg (settle settings t (objects_of_block program t) (Call r next) (record m { chunk = put m.chunk h (Some []) }))) is
       (settle_ends program t snt got settings lined (Call r next) (record m { chunk = put m.chunk r.object (Some []) }) pg (chunk_ready program t snt got m pg (Call r next) r.object a b fine.1 k))
 
@@ -165,7 +165,7 @@ module _ (program : ProgramShape) (t : Ticket) (snt : ℕ → List Parcel) (got 
   books_ok m l code nh nc ns ng e fine sound on =
       settle_ends program t snt got settings lined code (record m { begun = suc m.begun }) (record { entry = l; trace = []; rest = block_tree program t l })
       (record {
-        page = record { path = refl; fine = fine };
+        block_record = record { path = refl; fine = fine };
         rest = sym e;
         lanes = λ h. subst (λ ps. ClientLane t false ps (got h) [] (in_hand (m.held h) (m.chunk h))) (sym (ns h)) (subst (λ gs. ClientLane t false [] gs [] (in_hand (m.held h) (m.chunk h))) (sym (ng h))
             (subst (ClientLane t false [] [] []) (sym (ap₂ in_hand (nh h) (nc h))) ([], refl, refl, refl, tt)));

@@ -58,8 +58,8 @@ pub record HistoryCounts (program : ProgramShape) (c : ℕ) (code : ClientCode) 
     : Type 0 where
   pub syncs : ℕ → ℕ → ℕ
   pub counted : (k : ℕ) → k < length code.blocks
-      → Over (record { dynamic = code.dynamic; size = size }) (ticket c k) (objects_of_block program (ticket c k)) (tree_at code k (tale.page k).entry)
-      (tale.page k).trace (syncs k)
+      → Over (record { dynamic = code.dynamic; size = size }) (ticket c k) (objects_of_block program (ticket c k)) (tree_at code k (tale.block_record k).entry)
+      (tale.block_record k).trace (syncs k)
   pub tallied : (k : ℕ) → k < length code.blocks → IsTallied (objects_of_block program (ticket c k)) (slice_index_or end.counts k []) (syncs k)
 
 -- an object that is not in a list differs from each of it
@@ -219,7 +219,7 @@ module _ (program : ProgramShape) (fine : (t : Ticket) (l : Locals) → AsksOnly
         by_parcel k e parcels.Sync act total =
             let t = ticket c k in
             let b = o.telling.block k in
-            let mine = (send_at program t b.sent b.got set_by (length code.blocks) m.client b.page m.client.stage (o.telling.last k e) h parcels.Sync act).0 in
+            let mine = (send_at program t b.sent b.got set_by (length code.blocks) m.client b.block_record m.client.stage (o.telling.last k e) h parcels.Sync act).0 in
             comes_synced k e h mine (after_parcel set_by t (objects_of_block program t) m.client h parcels.Sync)
             (sent_begun set_by t (objects_of_block program t) m.client h parcels.Sync) total
             (send_counts set_by t (objects_of_block program t) (tree_at code k (entry_rows m k)) (length code.blocks) (trace_rows m k) (w.syncs k) m.client
@@ -374,7 +374,7 @@ module _ (program : ProgramShape) (fine : (t : Ticket) (l : Locals) → AsksOnly
             syncs = w.syncs;
             counted = λ k lt.
                 let all = tale.begun in
-                subst (λ l. Past k l (tale.page k).trace (w.syncs k)) (tale.entries k lt)
+                subst (λ l. Past k l (tale.block_record k).trace (w.syncs k)) (tale.entries k lt)
                 (subst (λ es. Past k (entry_rows m k) es (w.syncs k)) (tale.traces k lt)
                 (all_past deeds m both.0 w at.0 at.1 k (omega (arith, all, lt))));
             tallied = λ k lt. w.rows k lt;

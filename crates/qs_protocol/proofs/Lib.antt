@@ -22,3 +22,6 @@ pub mod ReservedActs
 pub mod ReservedLists
 pub mod SilentSteps
 pub mod HistoryCounts
+pub mod ProgramTrees
+pub mod CountedTraces
+pub mod GrownJournals

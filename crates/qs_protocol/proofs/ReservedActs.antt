@@ -41,7 +41,7 @@ module _ (program : ProgramShape) (fine : (t : Ticket) (l : Locals) → AsksOnly
       let at = in_tale_block program fine lined c code size reserved_is walk_is before m o (λ l e. not_send by (length code.blocks) m.client l h p e act) in
       let k = at.0 in
       let b = o.telling.block k in
-      let own = send_at program (ticket c k) b.sent b.got by (length code.blocks) m.client b.page m.client.stage (o.telling.last k at.1) h p act in
+      let own = send_at program (ticket c k) b.sent b.got by (length code.blocks) m.client b.block_record m.client.stage (o.telling.last k at.1) h p act in
       (k, inside program fine lined c code size reserved_is walk_is before m o k at.1, own.0)
 
   pub await_reserved : (h : ℕ) → act_due m ≡ acts.Await h → IsReservedObject h
@@ -50,7 +50,7 @@ module _ (program : ProgramShape) (fine : (t : Ticket) (l : Locals) → AsksOnly
       let at = in_tale_block program fine lined c code size reserved_is walk_is before m o (λ l e. not_await by (length code.blocks) m.client l h e act) in
       let k = at.0 in
       let b = o.telling.block k in
-      let own = await_at program (ticket c k) b.sent b.got by (length code.blocks) m.client b.page m.client.stage (o.telling.last k at.1) h act in
+      let own = await_at program (ticket c k) b.sent b.got by (length code.blocks) m.client b.block_record m.client.stage (o.telling.last k at.1) h act in
       (k, inside program fine lined c code size reserved_is walk_is before m o k at.1, own.0)
 
   pub need_reserved : (h : ℕ) → act_due m ≡ acts.NeedChunk h → IsReservedObject h
@@ -59,5 +59,5 @@ module _ (program : ProgramShape) (fine : (t : Ticket) (l : Locals) → AsksOnly
       let at = in_tale_block program fine lined c code size reserved_is walk_is before m o (λ l e. not_need by (length code.blocks) m.client l h e act) in
       let k = at.0 in
       let b = o.telling.block k in
-      let own = need_at program (ticket c k) b.sent b.got by (length code.blocks) m.client b.page m.client.stage (o.telling.last k at.1) h act in
+      let own = need_at program (ticket c k) b.sent b.got by (length code.blocks) m.client b.block_record m.client.stage (o.telling.last k at.1) h act in
       (k, inside program fine lined c code size reserved_is walk_is before m o k at.1, own)

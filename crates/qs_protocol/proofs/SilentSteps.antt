@@ -45,7 +45,7 @@ sound_more s s' (Sync h next) e k = sound_more (put s h true) (put s' h true) ne
 sound_more s s' (Query r next) e k = (e r.object k.0, λ v. sound_more s s' (next v) e (k.1 v))
 
 module _ (program : ProgramShape) (t : Ticket) (sent : ℕ → List Parcel) (got : ℕ → List HeldState) (settings : Settings) (lined : Lined (reserves program t) (objects_of_block program t)) where
-  -- after these events the page, and the client at its place
+  -- after these events the block_record, and the client at its place
   abbrev pub Ends : BlockRecord → Settlement → Type 0
   Ends pg r = (pg' : BlockRecord) × (pg'.entry ≡ pg.entry) × (pg'.trace ≡ pg.trace ++ r.events) × PlaceOk program t sent got r.client pg' r.client.stage
 
@@ -57,15 +57,15 @@ module _ (program : ProgramShape) (t : Ticket) (sent : ℕ → List Parcel) (got
 
   -- its place says nothing of what it has
   ready_at : (m : Client) (p : ClientStage) (pg : BlockRecord) (code : Synced) → Ready program t sent got m pg code → Ready program t sent got (record m { stage = p }) pg code
-  ready_at m p pg code k = record { page = k.page; rest = k.rest; lanes = k.lanes; not_both = k.not_both; own = k.own; sound = k.sound; on = k.on }
+  ready_at m p pg code k = record { block_record = k.block_record; rest = k.rest; lanes = k.lanes; not_both = k.not_both; own = k.own; sound = k.sound; on = k.on }
 
   -- a command goes into the chunk in hand
   put_ready : (m : Client) (pg : BlockRecord) (r : Request) (next : Synced) (rs : List Request) → m.held r.object ≡ None → m.chunk r.object ≡ Some rs → Ready program t sent got m pg (Call r next)
       → Ready program t sent got (record m { chunk = put m.chunk r.object (Some (rs ++ r ∷ [])) }) (advance pg (command_event r) (without_syncs next)) next
   put_ready m pg r next rs none some k =
-      let fine = subst (AsksOnly (reserves program t)) k.rest k.page.fine in
+      let fine = subst (AsksOnly (reserves program t)) k.rest k.block_record.fine in
       record {
-        page = record { path = leads_call (block_tree program t pg.entry) pg.trace r (without_syncs next) (subst (Leads (block_tree program t pg.entry) pg.trace) k.rest k.page.path); fine = fine.2 };
+        block_record = record { path = leads_call (block_tree program t pg.entry) pg.trace r (without_syncs next) (subst (Leads (block_tree program t pg.entry) pg.trace) k.rest k.block_record.path); fine = fine.2 };
         rest = refl;
         lanes = put_all (λ h (c : Option (List Request)). ClientLane t false (sent h) (got h) (part h (pg.trace ++ command_event r ∷ [])) (in_hand (m.held h) c)) m.chunk r.object (Some (rs ++ r ∷ []))
             (here (never_answers r.op fine.0))
@@ -97,9 +97,9 @@ module _ (program : ProgramShape) (t : Ticket) (sent : ℕ → List Parcel) (got
       → Ready program t sent got (record m { held = put m.held r.object (Some (run_one x t r).0) }) (advance pg (event r (run_one x t r).1) (without_syncs (next (value_of (run_one x t r).1)))) (next (value_of (run_one x t r).1))
   ask_ready m pg r next x some k =
       let e = event r (run_one x t r).1 in
-      let fine = subst (AsksOnly (reserves program t)) k.rest k.page.fine in
+      let fine = subst (AsksOnly (reserves program t)) k.rest k.block_record.fine in
       record {
-        page = record { path = leads_query (block_tree program t pg.entry) pg.trace e (λ v. without_syncs (next v)) (subst (Leads (block_tree program t pg.entry) pg.trace) k.rest k.page.path); fine = fine.2 (value_of (run_one x t r).1) };
+        block_record = record { path = leads_query (block_tree program t pg.entry) pg.trace e (λ v. without_syncs (next v)) (subst (Leads (block_tree program t pg.entry) pg.trace) k.rest k.block_record.path); fine = fine.2 (value_of (run_one x t r).1) };
         rest = refl;
         lanes = put_all (λ h (o : Option HeldState). ClientLane t false (sent h) (got h) (part h (pg.trace ++ e ∷ [])) (in_hand o (m.chunk h))) m.held r.object (Some (run_one x t r).0)
             here
@@ -147,7 +147,7 @@ module _ (program : ProgramShape) (t : Ticket) (sent : ℕ → List Parcel) (got
 
   sync_ends : (m : Client) (pg : BlockRecord) (h : ℕ) (next : Synced) → Ready program t sent got m pg (Sync h next) → (b : Bool) → (settings.dynamic && is_some (m.held h)) ≡ b
       → (Ready program t sent got m pg next → Ends pg (settle settings t (objects_of_block program t) next m)) → Ends pg (if b then settle settings t (objects_of_block program t) next m else stop_at m (runs (Sync h next)))
-  sync_ends m pg h next k true e ih = ih (record { page = k.page; rest = k.rest; lanes = k.lanes; not_both = k.not_both; own = k.own; sound = sound_more (put (holding m) h true) (holding m) next less k.sound; on = k.on.1 })
+  sync_ends m pg h next k true e ih = ih (record { block_record = k.block_record; rest = k.rest; lanes = k.lanes; not_both = k.not_both; own = k.own; sound = sound_more (put (holding m) h true) (holding m) next less k.sound; on = k.on.1 })
     where
       less : (g : ℕ) → put (holding m) h true g ≡ true → holding m g ≡ true
       less g i =
@@ -158,12 +158,12 @@ module _ (program : ProgramShape) (t : Ticket) (sent : ℕ → List Parcel) (got
   sync_ends m pg h next k false e ih = ends_stays pg m (runs (Sync h next)) (ready_at m (runs (Sync h next)) pg (Sync h next) k, tt)
 
   pub leaving_ends : (m : Client) (pg : BlockRecord) (l : Locals) (hs : List ℕ) → Leaving program t sent got m pg hs l → Ends pg (end_block settings t (objects_of_block program t) m hs l)
-  leaving_ends m pg l [] k = ends_stays pg m (between l) (record { page = k.page; rest = k.rest; lanes = k.lanes; not_both = k.not_both; lined = k.lined; empty = k.empty })
-  leaving_ends m pg l (h ∷ hs) k = ends_stays pg m (leaves h hs l) (record { page = k.page; rest = k.rest; lanes = k.lanes; not_both = k.not_both; lined = k.lined; empty = k.empty })
+  leaving_ends m pg l [] k = ends_stays pg m (between l) (record { block_record = k.block_record; rest = k.rest; lanes = k.lanes; not_both = k.not_both; lined = k.lined; empty = k.empty })
+  leaving_ends m pg l (h ∷ hs) k = ends_stays pg m (leaves h hs l) (record { block_record = k.block_record; rest = k.rest; lanes = k.lanes; not_both = k.not_both; lined = k.lined; empty = k.empty })
 
   pub settle_ends : (code : Synced) (m : Client) (pg : BlockRecord) → Ready program t sent got m pg code → Ends pg (settle settings t (objects_of_block program t) code m)
   settle_ends (Done l) m pg k = leaving_ends m pg l (objects_of_block program t) (record {
-    page = k.page;
+    block_record = k.block_record;
     rest = k.rest;
     lanes = λ g. by_case g (reserves program t g) refl (k.lanes g);
     not_both = k.not_both;

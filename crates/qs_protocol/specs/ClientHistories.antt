@@ -22,7 +22,7 @@ use Rattle.qs_played.specs.Played.{ticket}
 abbrev pub HasNone : Client → ℕ → Type 0
 HasNone m h = (m.held h ≡ None) × (m.chunk h ≡ None)
 
--- a page whose rest asks within the block's list
+-- a block_record whose rest asks within the block's list
 pub record IsOpenRecord (p : ProgramShape) (t : Ticket) (pg : BlockRecord) : Type 0 where
   pub path : IsBlockRecord p t pg
   pub fine : AsksOnly (reserves p t) pg.rest
@@ -37,10 +37,10 @@ upto f zero = []
 upto f (suc n) = upto f n ++ f n
 
 module _ (program : ProgramShape) (c : ℕ) where
-  -- a block that is over: its page, and for each object what was sent and got
+  -- a block that is over: its block_record, and for each object what was sent and got
   pub record IsBlockHistory (k : ℕ) (pg : BlockRecord) (sent : ℕ → List Parcel)
       (got : ℕ → List HeldState) : Type 0 where
-    pub page : IsOpenRecord program (ticket c k) pg
+    pub block_record : IsOpenRecord program (ticket c k) pg
     pub done : IsDone pg.rest
     pub lanes : (h : ℕ) → ClientLane (ticket c k) false (sent h) (got h) (part h pg.trace)
         (apart_from program (ticket c k) h)
@@ -49,7 +49,7 @@ module _ (program : ProgramShape) (c : ℕ) where
 -- what one client's whole run says
 pub record ClientHistory (program : ProgramShape) (c : ℕ) (code : ClientCode) (deeds : List Deed)
     (end : ClientModel) : Type 0 where
-  pub page : ℕ → BlockRecord
+  pub block_record : ℕ → BlockRecord
   pub sent : ℕ → ℕ → List Parcel
   pub got : ℕ → ℕ → List HeldState
   pub begun : end.client.begun ≡ length code.blocks
@@ -57,9 +57,9 @@ pub record ClientHistory (program : ProgramShape) (c : ℕ) (code : ClientCode) 
   pub between : is_between end.client.stage ≡ true
   pub hands : (h : ℕ) → HasNone end.client h
   pub first : length code.blocks ≡ 0 → end.client.stage ≡ clients.between zeros
-  pub blocks : (k : ℕ) → k < length code.blocks → IsBlockHistory program c k (page k) (sent k) (got k)
-  pub begins : (k : ℕ) → k < length code.blocks → Begins (λ (t : Ticket). page t.index) c k (page k).entry
-  pub entries : (k : ℕ) → k < length code.blocks → slice_index_or end.entries k [] ≡ (page k).entry
-  pub traces : (k : ℕ) → k < length code.blocks → slice_index_or end.traces k [] ≡ (page k).trace
+  pub blocks : (k : ℕ) → k < length code.blocks → IsBlockHistory program c k (block_record k) (sent k) (got k)
+  pub begins : (k : ℕ) → k < length code.blocks → Begins (λ (t : Ticket). block_record t.index) c k (block_record k).entry
+  pub entries : (k : ℕ) → k < length code.blocks → slice_index_or end.entries k [] ≡ (block_record k).entry
+  pub traces : (k : ℕ) → k < length code.blocks → slice_index_or end.traces k [] ≡ (block_record k).trace
   pub sent_is : (h : ℕ) → sent_to h deeds ≡ upto (λ k. sent k h) (length code.blocks)
   pub got_is : (h : ℕ) → got_from h deeds ≡ upto (λ k. got k h) (length code.blocks)

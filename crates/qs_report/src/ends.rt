@@ -13,11 +13,7 @@ use qs_text::{put, sorted_text};
 use std::alloc::{AllocError, Global};
 
 // An end by itself.
-fn text_of_end(
-    alloc: Global,
-    program: &Program,
-    standing: &Standing,
-) -> Result<Vec<u8>, AllocError>
+fn text_of_end(alloc: Global, program: &Program, standing: &Standing) -> Result<Vec<u8>, AllocError>
     requires places { HasPlaces program.now standing.now }
     ensures text { IfOk result (λ text. text.items ≡ end_text program.now standing.now) }
 {
@@ -46,11 +42,7 @@ fn texts_of_ends(
 
 /// The text of the ends that a program can come to, each once: the objects' lines and the clients' lines below a line
 /// `end`, in the order of their texts. An error says that an allocation failed, and nothing is left.
-pub fn ends_text(
-    alloc: Global,
-    program: &Program,
-    all: &AllOutcomes,
-) -> Result<Vec<u8>, AllocError>
+pub fn ends_text(alloc: Global, program: &Program, all: &AllOutcomes) -> Result<Vec<u8>, AllocError>
     requires places { AllByRecursion (HasPlaces program.now) all.now.found }
     ensures text { IfOk result (λ bytes. IsInOrder (end_texts program.now all.now.found) bytes.items) }
 {

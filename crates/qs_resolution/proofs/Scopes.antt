@@ -5,7 +5,7 @@ use Rattle.qs_objects.specs.declared.object.Kind.{Kind}
 use Rattle.qs_tree.specs.declared.tree.TemplateItem.{TemplateItem}
 use Rattle.qs_program.specs.declared.program.Declared.{Declared}
 use Rattle.qs_program.specs.Numbering.{Name}
-use Rattle.qs_places.specs.Places.{Scope, formal_kinds, with_object}
+use Rattle.qs_fault_places.specs.Places.{Scope, formal_kinds, with_object}
 
 abbrev pub names : List Declared → List Name
 names D = map (λ (o : Declared). o.name) D

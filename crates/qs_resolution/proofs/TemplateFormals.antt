@@ -7,12 +7,12 @@ use Rattle.qs_tree.specs.declared.tree.TemplateItem.{TemplateItem}
 use Rattle.qs_program.specs.declared.program.Declared.{Declared}
 use Rattle.qs_program.specs.Limits.{most_objects, most_variables}
 use Rattle.qs_program.specs.Numbering.{Name}
-use Rattle.qs_places.specs.Places.{Scope, object, scope_or_fault, start, formal_kind, formals_places, blocks_places, text_places}
-use Rattle.qs_places.specs.Variables.{variables_of}
-use Rattle.qs_places.proofs.FinePlaces.{again}
-use Rattle.qs_places.proofs.Inner.{parted}
-use Rattle.qs_places.proofs.ScopesInBlocks.{blocks_stay}
-use Rattle.qs_places.proofs.Steps.{split, ok_same, variables_met}
+use Rattle.qs_fault_places.specs.Places.{Scope, object, scope_or_fault, start, formal_kind, formals_places, blocks_places, text_places}
+use Rattle.qs_fault_places.specs.Variables.{variables_of}
+use Rattle.qs_fault_places.proofs.FinePlaces.{again}
+use Rattle.qs_fault_places.proofs.Inner.{parted}
+use Rattle.qs_fault_places.proofs.ScopesInBlocks.{blocks_stay}
+use Rattle.qs_fault_places.proofs.Steps.{split, ok_same, variables_met}
 use Rattle.qs_resolution.specs.Resolve.{as_client, declared_formals}
 use Rattle.qs_resolution.proofs.Scopes.{names, kinds, scope, names_with, grown}
 use Rattle.qs_resolution.proofs.FreshNames.{Fresh, fresh_more, no_fresh}

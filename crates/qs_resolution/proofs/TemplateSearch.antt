@@ -13,7 +13,7 @@ use Rattle.qs_tree.specs.declared.tree.Item.TheVariants.{Object, Client, Templat
 use Rattle.qs_program.specs.Numbering.{Name, same_name}
 use Rattle.qs_program.specs.Program.{BlockShape}
 use Rattle.qs_program.specs.Sound.{levels_of}
-use Rattle.qs_places.specs.Places.{fault_of_text}
+use Rattle.qs_fault_places.specs.Places.{fault_of_text}
 use Rattle.qs_resolution.specs.Resolve.{AreFaultless, block_shape, template_called, templates_in}
 use Rattle.qs_resolution.proofs.Resolving.{levels_same}
 

@@ -25,11 +25,11 @@ use Rattle.qs_program.specs.declared.code.Call.{Call}
 use Rattle.qs_program.specs.declared.program.Declared.{Declared}
 use Rattle.qs_program.specs.Binding.{bound_block}
 use Rattle.qs_program.specs.Numbering.{Name, same_name, found_at}
-use Rattle.qs_places.specs.Operators.{op_or_refused}
+use Rattle.qs_fault_places.specs.Operators.{op_or_refused}
 use Rattle.qs_program.specs.Statements.{Statements, end, command, query, assign, choose, again, leave}
 use Rattle.qs_program.specs.Program.{BlockShape, ClientShape, ProgramShape}
-use Rattle.qs_places.specs.Places.{op_at, fault_of_text, formal_kind, kind_of}
-use Rattle.qs_places.specs.Variables.{variables_of}
+use Rattle.qs_fault_places.specs.Places.{op_at, fault_of_text, formal_kind, kind_of}
+use Rattle.qs_fault_places.specs.Variables.{variables_of}
 
 -- variables by the list of the client's
 module _ (variables : List Name) where

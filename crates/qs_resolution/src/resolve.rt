@@ -12,8 +12,8 @@ ghost use Rattle.qs_program.specs.Sound.{levels_of as nested_in};
 ghost use Rattle.qs_program.specs.Statements.{end, command, query, assign, choose, again, leave, join_statements};
 
 use crate::start::resolve_started;
+use qs_fault_places::{find_op, kind_at, kind_value};
 use qs_objects::{Kind, Op};
-use qs_places::{find_op, kind_at, kind_value};
 use qs_program::{Atom, Atoms, Block, Body, Call, Client, Declared, Expr, Names, Stmt, Test};
 use qs_tree::{ClientItem, Item, Name, Number};
 use std::alloc::{AllocError, Global};
@@ -287,7 +287,7 @@ fn add_command(
     code.push(Stmt::Command(call))
 }
 
-// The same, with any number of arguments.
+// Adds a command with any number of arguments.
 #[inline(never)]
 fn add_long_command(
     alloc: Global,
@@ -326,7 +326,7 @@ fn add_query(
     code.push(Stmt::Query(variables.number_of(variable) as u8, call))
 }
 
-// The same, with any number of arguments.
+// Adds a query with any number of arguments.
 #[inline(never)]
 fn add_long_query(
     alloc: Global,

@@ -4,12 +4,12 @@ ghost use Rattle.std.specs.Prelude.{◌≡◌, ◌≤◌, IfOk, length, option_c
 ghost use Rattle.std.specs.List.{AllByRecursion};
 ghost use Rattle.qs_tree.specs.Form.{HasForm, IsFormed};
 ghost use Rattle.qs_program.specs.Limits.{most_objects};
-ghost use Rattle.qs_places.specs.Places.{fault_of_text, scope_or_fault, start as nothing_known, text_places};
+ghost use Rattle.qs_fault_places.specs.Places.{fault_of_text, scope_or_fault, start as nothing_known, text_places};
 ghost use Rattle.qs_resolution.specs.Resolve.{AreFaultless, declared_formals, started_of, template_called, templates_in};
 
 use crate::resolve::{resolve_blocks, resolve_list};
 use qs_binding::bind_blocks;
-use qs_places::{CheckFault, Scope, check_text, formal_value};
+use qs_fault_places::{CheckFault, Scope, check_text, formal_value};
 use qs_program::{Block, Client, Declared, Names, Start};
 use qs_tree::{Formal, Item, Name, StartedItem, TemplateItem};
 use std::alloc::{AllocError, Global};
@@ -85,7 +85,7 @@ fn start_in(
     }
 }
 
-// The same, after that walk.
+// Starts the client, once its template's text was walked.
 fn start_walked(
     alloc: Global,
     objects: &Names,

@@ -18,7 +18,7 @@ use Rattle.qs_played.proofs.JournalRooms.{total}
 use Rattle.qs_protocol.specs.ClientHistories.{apart_from}
 use Rattle.qs_protocol.proofs.LaneWholes.{match_over}
 use Rattle.qs_protocol.proofs.ObjectViews.{PastOf}
-use Rattle.qs_core_laws.proofs.JournalOrder.{Grown, grown, grown_room, stamped_honest, stamped_replay}
+use Rattle.qs_protocol.proofs.GrownJournals.{Grown, grown, grown_room, stamped_honest, stamped_replay}
 
 -- nothing passes between a block and an object that it does not reserve
 no_requests : (t : Ticket) (sent : List Parcel) (got : List HeldState) (es : List Event) → sent ≡ [] → got ≡ [] → ClientLane t false sent got es (sends []) → es ≡ []
@@ -27,19 +27,19 @@ no_requests t sent got es none_sent none_got lane = only (subst (λ ps. ClientLa
     only : ClientLane t false [] got es (sends []) → es ≡ []
     only k = let none : k.0 ≡ [] = cc (k.1) in k.3 ∙ ap (λ rs. map command_event rs) none
 
-module _ (p : ProgramShape) (page : Ticket → BlockRecord) (h : ℕ) (sent : Ticket → List Parcel) (got : Ticket → List HeldState) (end : HeldState) where
+module _ (p : ProgramShape) (block_record : Ticket → BlockRecord) (h : ℕ) (sent : Ticket → List Parcel) (got : Ticket → List HeldState) (end : HeldState) where
   abbrev parts : Ticket → List Event
-  parts = parts_of page h
+  parts = parts_of block_record h
 
   -- a block that is over, at the object
   pub record IsOver (t : Ticket) : Type 0 where
-    pub done : IsDone (page t).rest
+    pub done : IsDone (block_record t).rest
     pub lane : ClientLane t false (sent t) (got t) (parts t) (apart_from p t h)
     pub outside : reserves p t h ≡ false → (sent t ≡ []) × (got t ≡ [])
 
   -- nothing is on its way, and the object is served by nobody
   abbrev pub over_line : ObjectCourse
-  over_line = record { may = λ t. reserves p t h; parts = parts; done = done_of page; waits = λ t. []; busy = ⊥; present = end.object }
+  over_line = record { may = λ t. reserves p t h; parts = parts; done = done_of block_record; waits = λ t. []; busy = ⊥; present = end.object }
 
   -- what the journal got from here on, and where it leads
   pub record JournalGrowth (x : HeldState) (ts : List Ticket) : Type 0 where

@@ -12,7 +12,7 @@ use Rattle.qs_program.specs.Program.{ProgramShape, blocks_of}
 use Rattle.qs_program.specs.Sound.{IsSound}
 use Rattle.qs_meaning.specs.Following.{reserves}
 use Rattle.qs_meaning.proofs.Each.{each_both, each_kept, each_map, each_passes}
-use Rattle.qs_syncset.specs.Codes.{ClientCode}
+use Rattle.qs_syncset.specs.Codes.{ClientCode, AreCodes}
 use Rattle.qs_syncset.specs.declared.mode.Mode.{Mode}
 use Rattle.qs_chunk.specs.LaneRun.{IsLaneRun}
 use Rattle.qs_chunk.specs.LaneViews.{ClientLane, HandlerLane, gone, over, sends}
@@ -26,7 +26,6 @@ use Rattle.qs_played.proofs.ReservedObjects.{reserved_inside}
 use Rattle.qs_protocol.specs.ClientHistories.{upto}
 use Rattle.qs_protocol.proofs.ObjectViews.{PastOf}
 use Rattle.qs_played.specs.JournalRooms.{fresh_held}
-use Rattle.qs_core_laws.specs.Core.{AreCodes}
 use Rattle.qs_desk.specs.Tickets.{of_client, of_handler}
 use Rattle.qs_run_laws.specs.ThreadRuns.{IsThreadRun, ThreadRun}
 use Rattle.qs_run_laws.proofs.ClientTickets.{along_turns, legal_tickets, upto_tickets, without_others}
@@ -81,7 +80,7 @@ module _ (p : ProgramShape) (sound : IsSound p) (mode : Mode) (code : ℕ → Cl
       let t = u.ticket in
       let told = tale p sound mode code codes size r run t.client in
       let block = told.blocks t.index (block_told p sound mode code codes size r run t is.few) in
-      let events = part h (told.page t.index).trace in
+      let events = part h (told.block_record t.index).trace in
       block_whole t (sent_for h t) (got_for h t) events
       (subst (λ b. ClientLane t false (sent_for h t) (got_for h t) events (if b then gone else sends [])) is.own (block.lanes h)))
       (turned p sound mode code codes size r run h).turns (own_turns h)

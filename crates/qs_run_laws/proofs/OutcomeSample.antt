@@ -23,9 +23,9 @@ use Rattle.qs_client.specs.ClientModel.{fresh_mind}
 use Rattle.qs_played.specs.JournalRooms.{fresh_held}
 use Rattle.qs_played.specs.Played.{ticket}
 use Rattle.qs_played.proofs.ReservedObjects.{reserved_inside}
-use Rattle.qs_core_laws.specs.Core.{AreCodes}
-use Rattle.qs_core_laws.specs.CoreExamples.{example_code}
-use Rattle.qs_core_laws.proofs.BuiltCodes.{built_codes}
+use Rattle.qs_syncset.specs.Codes.{AreCodes}
+use Rattle.qs_syncset.specs.CodeExamples.{example_code}
+use Rattle.qs_syncset.proofs.BuiltCodes.{built_codes}
 use Rattle.qs_desk.specs.Tickets.{of_client, pushed_to}
 use Rattle.qs_run_laws.specs.OutcomeExamples.{OutcomeExamples, bank, bank_deeds, bank_held, bank_run, bank_tasks, after_deposit, deposits_and_asks, depositor_deeds, mind_after, mover_deeds, moves_30, taker_more, withdrawn}
 use Rattle.qs_run_laws.specs.Outcomes.{IsOutcome}

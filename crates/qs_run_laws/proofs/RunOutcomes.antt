@@ -13,11 +13,11 @@ use Rattle.qs_program.specs.Sound.{IsSound}
 use Rattle.qs_meaning.specs.Following.{Leads, block_tree}
 use Rattle.qs_meaning.specs.Serial.{SerialBlock, serial}
 use Rattle.qs_meaning.proofs.SerialRuns.{Agrees, legal_apart, runs_serially}
-use Rattle.qs_syncset.specs.Codes.{ClientCode}
+use Rattle.qs_syncset.specs.Codes.{ClientCode, AreCodes}
 use Rattle.qs_syncset.specs.SyncCounts.{syncs_along}
 use Rattle.qs_sync_counts.specs.SyncRows.{object_of, syncs_for}
 use Rattle.qs_syncset.specs.declared.mode.Mode.{Mode}
-use Rattle.qs_client.specs.ClientModel.{ClientModel}
+use Rattle.qs_client.specs.ClientModel.{ClientModel, synced_block}
 use Rattle.qs_played.specs.Isolation.{ended_of, entry_of, ticket_at, trace_of}
 use Rattle.qs_played.specs.Played.{ticket}
 use Rattle.qs_played.specs.SyncSums.{AreSent, AreSyncsCounted, IsCounted, counts_at, syncs_at}
@@ -25,12 +25,11 @@ use Rattle.qs_played.proofs.JournalRooms.{no_block_beyond}
 use Rattle.qs_played.proofs.Orders.{among_once}
 use Rattle.qs_protocol.proofs.ClientInvariants.{objects_of_block}
 use Rattle.qs_protocol.proofs.HistoryCounts.{IsTallied}
-use Rattle.qs_core_laws.specs.Core.{AreCodes, tree_of}
-use Rattle.qs_core_laws.proofs.CountedTraces.{trace_counted, tree_count}
+use Rattle.qs_protocol.proofs.CountedTraces.{trace_counted, tree_count}
 use Rattle.qs_run_laws.specs.Outcomes.{IsOutcome, ThreadRunsHaveOutcomes, part_at}
 use Rattle.qs_run_laws.specs.ThreadRuns.{IsThreadRun, ThreadRun, counts_by, entry_by, shown_by, trace_by}
 use Rattle.qs_run_laws.proofs.ThreadHistories.{block_told, inside, tale, tale_counts}
-use Rattle.qs_run_laws.proofs.ThreadsIsolated.{abstract_run, end, end_is, entry_is, every, isolated, mind_is, journal_of_object, page, shown, ticket_inside, trace_is}
+use Rattle.qs_run_laws.proofs.ThreadsIsolated.{abstract_run, end, end_is, entry_is, every, isolated, mind_is, journal_of_object, block_record, shown, ticket_inside, trace_is}
 
 -- the same for each number of a range
 same_range : {A : Type 0} (f g : ℕ → A) (a n : ℕ) → ((i : ℕ) → a ≤ i → i < a + n → f i ≡ g i) → map f (range_with_len a n) ≡ map g (range_with_len a n)
@@ -61,28 +60,28 @@ zip_flat f g (x ∷ xs) (y ∷ ys) zip = ap₂ (λ z zs. z ++ zs) zip.0 (zip_fla
 
 module _ (p : ProgramShape) (sound : IsSound p) (mode : Mode) (code : ℕ → ClientCode) (codes : AreCodes p mode code) (size : ℕ) (r : ThreadRun)
     (run : IsThreadRun p code size r) where
-  -- each ticket's page is its place of the serial run
+  -- each ticket's block_record is its place of the serial run
   record IsAt (t : Ticket) (q : SerialBlock) : Type 0 where
     pub ticket : q.ticket ≡ t
     pub entry : entry_by r t ≡ q.entry
     pub trace : trace_by r t ≡ q.trace
-    pub page : (page p sound mode code codes size r run t).trace ≡ q.trace
+    pub block_record : (block_record p sound mode code codes size r run t).trace ≡ q.trace
 
-  serially : AllZip (Agrees p (λ h. (end p sound mode code codes size r run h).journal) (page p sound mode code codes size r run)) r.order (serial p r.order).places
+  serially : AllZip (Agrees p (λ h. (end p sound mode code codes size r run h).journal) (block_record p sound mode code codes size r run)) r.order (serial p r.order).places
       × ((h : ℕ) → (⊥ → ⊥) → (serial p r.order).states h ≡ (end p sound mode code codes size r run h).object)
   serially =
       let a = abstract_run p sound mode code codes size r run in
-      runs_serially p sound (page p sound mode code codes size r run) (λ h t. []) (λ h. (end p sound mode code codes size r run h).object) (λ h. ⊥)
-      (λ h. (end p sound mode code codes size r run h).journal) r.order a.legal a.pages a.begins a.flows
+      runs_serially p sound (block_record p sound mode code codes size r run) (λ h t. []) (λ h. (end p sound mode code codes size r run h).object) (λ h. ⊥)
+      (λ h. (end p sound mode code codes size r run h).journal) r.order a.legal a.block_records a.begins a.flows
 
   places : AllZip IsAt r.order (serial p r.order).places
-  places = zip_both (λ (t : Ticket) (q : SerialBlock) (few : t.index < blocks_of p t.client) (a : Agrees p (λ h. (end p sound mode code codes size r run h).journal) (page p sound mode code codes size r run) t q).
+  places = zip_both (λ (t : Ticket) (q : SerialBlock) (few : t.index < blocks_of p t.client) (a : Agrees p (λ h. (end p sound mode code codes size r run h).journal) (block_record p sound mode code codes size r run) t q).
       let done = ((tale p sound mode code codes size r run t.client).blocks t.index (block_told p sound mode code codes size r run t few)).done in
       record {
         ticket = a.ticket;
         entry = entry_is p sound mode code codes size r run t few ∙ a.entry;
         trace = trace_is p sound mode code codes size r run t few ∙ a.whole done;
-        page = a.whole done;
+        block_record = a.whole done;
       }) r.order (serial p r.order).places (inside p sound mode code codes size r run) serially.0
 
   always : AllByRecursion (λ (t : Ticket). Unit {0}) r.order
@@ -102,7 +101,7 @@ module _ (p : ProgramShape) (sound : IsSound p) (mode : Mode) (code : ℕ → Cl
 
   -- what a ticket enters into an object's journal
   abbrev entries_of_ticket : ℕ → Ticket → List Entry
-  entries_of_ticket h t = map (stamp t) (part h (page p sound mode code codes size r run t).trace)
+  entries_of_ticket h t = map (stamp t) (part h (block_record p sound mode code codes size r run t).trace)
 
   journals : (h : ℕ) → h < length p.objects → (r.held h).journal ≡ flat_map (part_at h) (serial p r.order).places
   journals h own =
@@ -110,7 +109,7 @@ module _ (p : ProgramShape) (sound : IsSound p) (mode : Mode) (code : ℕ → Cl
       ap (λ (o : HeldState). o.journal) (end_is p sound mode code codes size r run h own)
       ∙ (g.journal ∙ (g.by_tickets
       ∙ zip_flat (entries_of_ticket h) (part_at h) r.order (serial p r.order).places
-      (zip_both (λ (t : Ticket) (q : SerialBlock) (k : Unit {0}) (is : IsAt t q). ap₂ (λ (u : Ticket) es. map (stamp u) (part h es)) (sym is.ticket) is.page)
+      (zip_both (λ (t : Ticket) (q : SerialBlock) (k : Unit {0}) (is : IsAt t q). ap₂ (λ (u : Ticket) es. map (stamp u) (part h es)) (sym is.ticket) is.block_record)
       r.order (serial p r.order).places always places)))
 
   states : (h : ℕ) → h < length p.objects → (r.held h).object ≡ (serial p r.order).states h
@@ -124,10 +123,10 @@ module _ (p : ProgramShape) (sound : IsSound p) (mode : Mode) (code : ℕ → Cl
     own : t.index < blocks_of p t.client
     own = ticket_inside p sound mode code codes size r run i few
 
-    entry_at : entry_of (shown p sound mode code codes size r run) i ≡ (page p sound mode code codes size r run t).entry
+    entry_at : entry_of (shown p sound mode code codes size r run) i ≡ (block_record p sound mode code codes size r run t).entry
     entry_at = get_or-map (entry_by r) r.order i (ticket 0 0) [] few ∙ entry_is p sound mode code codes size r run t own
 
-    trace_at : trace_of (shown p sound mode code codes size r run) i ≡ (page p sound mode code codes size r run t).trace
+    trace_at : trace_of (shown p sound mode code codes size r run) i ≡ (block_record p sound mode code codes size r run t).trace
     trace_at = get_or-map (trace_by r) r.order i (ticket 0 0) [] few ∙ trace_is p sound mode code codes size r run t own
 
     counts_are : counts_at (shown p sound mode code codes size r run) i ≡ counts_by r t
@@ -140,23 +139,23 @@ module _ (p : ProgramShape) (sound : IsSound p) (mode : Mode) (code : ℕ → Cl
         (sym (mind_is p sound mode code codes size r run t.client client))
         ((tale_counts p sound mode code codes size r run t.client).tallied t.index (block_told p sound mode code codes size r run t own))
 
-    leads : Leads (block_tree p t (entry_of (shown p sound mode code codes size r run) i)) (trace_of (shown p sound mode code codes size r run) i) (page p sound mode code codes size r run t).rest
+    leads : Leads (block_tree p t (entry_of (shown p sound mode code codes size r run) i)) (trace_of (shown p sound mode code codes size r run) i) (block_record p sound mode code codes size r run t).rest
     leads =
-        let path = ((tale p sound mode code codes size r run t.client).blocks t.index (block_told p sound mode code codes size r run t own)).page.path in
-        subst (λ l. Leads (block_tree p t l) (trace_of (shown p sound mode code codes size r run) i) (page p sound mode code codes size r run t).rest) (sym entry_at)
-        (subst (λ es. Leads (block_tree p t (page p sound mode code codes size r run t).entry) es (page p sound mode code codes size r run t).rest) (sym trace_at) path)
+        let path = ((tale p sound mode code codes size r run t.client).blocks t.index (block_told p sound mode code codes size r run t own)).block_record.path in
+        subst (λ l. Leads (block_tree p t l) (trace_of (shown p sound mode code codes size r run) i) (block_record p sound mode code codes size r run t).rest) (sym entry_at)
+        (subst (λ es. Leads (block_tree p t (block_record p sound mode code codes size r run t).entry) es (block_record p sound mode code codes size r run t).rest) (sym trace_at) path)
 
     sent : AreSent (ended_of (shown p sound mode code codes size r run) i) (syncs_at (shown p sound mode code codes size r run) i)
-        (tree_count p sound mode code codes size (shown p sound mode code codes size r run) i)
+        (tree_count p sound mode code codes (shown p sound mode code codes size r run) i)
     sent = inl (λ h.
         ap (λ xs. syncs_for xs h) counts_are
         ∙ (tallied.numbers h
         ∙ ((tale_counts p sound mode code codes size r run t.client).counted t.index (block_told p sound mode code codes size r run t own) h
-        ∙ sym (ap₂ (λ l es. syncs_along (code t.client).dynamic h false (tree_of code size t l) es) entry_at trace_at))))
+        ∙ sym (ap₂ (λ l es. syncs_along (code t.client).dynamic h false (synced_block code t l) es) entry_at trace_at))))
 
     reservation_counted : IsCounted p mode (shown p sound mode code codes size r run) i
     reservation_counted =
-        trace_counted p sound mode code codes size (shown p sound mode code codes size r run) i own (page p sound mode code codes size r run t).rest leads sent
+        trace_counted p sound mode code codes (shown p sound mode code codes size r run) i own (block_record p sound mode code codes size r run t).rest leads sent
         (ap (map object_of) counts_are ∙ tallied.objects_are)
 
   counted : AreSyncsCounted p mode (shown p sound mode code codes size r run)

@@ -12,7 +12,7 @@ use Rattle.qs_program.specs.Values.{Locals}
 use Rattle.qs_meaning.specs.Following.{reserves, block_tree}
 use Rattle.qs_meaning.proofs.SoundTrees.{blocks_ask_only}
 use Rattle.qs_graph.specs.Synced.{without_syncs}
-use Rattle.qs_syncset.specs.Codes.{BlockCode, ClientCode, code_at}
+use Rattle.qs_syncset.specs.Codes.{BlockCode, ClientCode, code_at, AreCodes}
 use Rattle.qs_syncset.specs.SoundSynced.{IsSoundSynced, IsOnReserved}
 use Rattle.qs_syncset.specs.declared.mode.Mode.{Mode}
 use Rattle.qs_syncset.proofs.CountedSyncs.{code_asks}
@@ -34,10 +34,9 @@ use Rattle.qs_protocol.proofs.ClientHistories.{told}
 use Rattle.qs_protocol.specs.ClientHistories.{ClientHistory}
 use Rattle.qs_protocol.proofs.HistoryCounts.{HistoryCounts, in_counts, told_counts}
 use Rattle.qs_played.specs.JournalRooms.{fresh_held}
-use Rattle.qs_core_laws.specs.Core.{AreCodes}
 use Rattle.qs_protocol.proofs.ReservedLists.{lined}
 use Rattle.qs_client_run.proofs.CodeBounds.{longest_covers}
-use Rattle.qs_core_laws.proofs.CoreCodes.{block_walk, blocks_are, reserved_is}
+use Rattle.qs_protocol.proofs.ProgramTrees.{block_walk, blocks_are, reserved_is}
 use Rattle.qs_desk.specs.Tickets.{of_handler}
 use Rattle.qs_run_laws.specs.ThreadRuns.{IsThreadRun, ThreadRun}
 
@@ -86,14 +85,14 @@ module _ (p : ProgramShape) (sound : IsSound p) (mode : Mode) (code : ℕ → Cl
   count_of c = length (code c).blocks
 
   pub count_is : (c : ℕ) → count_of c ≡ blocks_of p c
-  count_is c = blocks_are p sound mode code codes size c
+  count_is c = blocks_are p sound mode code codes c
 
   own_list : (c k : ℕ) → k < count_of c → (code_at (code c) k).reserved ≡ objects_of_block p (ticket c k)
-  own_list c k few = reserved_is p sound mode code codes size (ticket c k)
+  own_list c k few = reserved_is p sound mode code codes (ticket c k)
 
   own_walk : (c k : ℕ) (l : Locals) → k < count_of c
       → (without_syncs (tree_at (code c) k l) ≡ block_tree p (ticket c k) l) × IsSoundSynced (λ h. false) (tree_at (code c) k l) × IsOnReserved (objects_of_block p (ticket c k)) (tree_at (code c) k l)
-  own_walk c k l few = block_walk p sound mode code codes size (ticket c k) l (let n = count_is c in omega (arith, few, n))
+  own_walk c k l few = block_walk p sound mode code codes (ticket c k) l (let n = count_is c in omega (arith, few, n))
 
   own_asks : (c k : ℕ) (l : Locals) → k < count_of c → IsAsking (tree_at (code c) k l)
   own_asks c k l few =

@@ -19,7 +19,7 @@ use Rattle.qs_meaning.proofs.Histories.{Among, Flow}
 use Rattle.qs_meaning.specs.BlockRecords.{Begins, IsBlockRecord, BlockRecord}
 use Rattle.qs_meaning.proofs.RequestPaths.{requests_within}
 use Rattle.qs_meaning.proofs.SerialRuns.{line}
-use Rattle.qs_syncset.specs.Codes.{ClientCode}
+use Rattle.qs_syncset.specs.Codes.{ClientCode, AreCodes}
 use Rattle.qs_syncset.specs.declared.mode.Mode.{Mode}
 use Rattle.qs_client.specs.ClientModel.{ClientModel}
 use Rattle.qs_played.specs.Isolation.{IsIsolated, journal_of, state_of, ticket_at}
@@ -28,7 +28,6 @@ use Rattle.qs_played.specs.Played.{Played, ticket}
 use Rattle.qs_played.proofs.AbstractRun.{IsRun, run_isolated}
 use Rattle.qs_played.proofs.JournalRooms.{all_left, cost, leads_within, no_block_beyond, order_fits, total_less}
 use Rattle.qs_played.proofs.Orders.{legal_among}
-use Rattle.qs_core_laws.specs.Core.{AreCodes}
 use Rattle.qs_run_laws.specs.ThreadRuns.{IsThreadRun, ThreadRun, counts_by, entry_by, shown_by, trace_by}
 use Rattle.qs_run_laws.proofs.ClientTickets.{legal_counts}
 use Rattle.qs_run_laws.proofs.JournalFlows.{JournalGrowth, IsOver, grows, size_of}
@@ -40,50 +39,50 @@ module _ (p : ProgramShape) (sound : IsSound p) (mode : Mode) (code : ℕ → Cl
   abbrev pub shown : Played
   shown = shown_by p r
 
-  -- of each ticket its page, and of each object what its handler ended with
-  abbrev pub page : Ticket → BlockRecord
-  page t = (tale p sound mode code codes size r run t.client).page t.index
+  -- of each ticket its block_record, and of each object what its handler ended with
+  abbrev pub block_record : Ticket → BlockRecord
+  block_record t = (tale p sound mode code codes size r run t.client).block_record t.index
 
   abbrev pub end : ℕ → HeldState
   end h = held_of p sound mode code codes size r run h
 
-  pub all_over : (h : ℕ) → AllByRecursion (IsOver p page h (sent_for p sound mode code codes size r run h) (got_for p sound mode code codes size r run h) (end h)) r.order
+  pub all_over : (h : ℕ) → AllByRecursion (IsOver p block_record h (sent_for p sound mode code codes size r run h) (got_for p sound mode code codes size r run h) (end h)) r.order
   all_over h =
       each_map (λ (t : Ticket) (few : t.index < blocks_of p t.client).
       let block = (tale p sound mode code codes size r run t.client).blocks t.index (block_told p sound mode code codes size r run t few) in
       record { done = block.done; lane = block.lanes h; outside = block.outside h }) r.order (inside p sound mode code codes size r run)
 
-  pages : AllByRecursion (λ t. IsBlockRecord p t (page t)) r.order
-  pages =
+  block_records : AllByRecursion (λ t. IsBlockRecord p t (block_record t)) r.order
+  block_records =
       each_map (λ (t : Ticket) (few : t.index < blocks_of p t.client).
-      ((tale p sound mode code codes size r run t.client).blocks t.index (block_told p sound mode code codes size r run t few)).page.path)
+      ((tale p sound mode code codes size r run t.client).blocks t.index (block_told p sound mode code codes size r run t few)).block_record.path)
       r.order (inside p sound mode code codes size r run)
 
-  begins_same : (c k : ℕ) (l : Locals) → Begins (λ (t : Ticket). (tale p sound mode code codes size r run c).page t.index) c k l → Begins page c k l
+  begins_same : (c k : ℕ) (l : Locals) → Begins (λ (t : Ticket). (tale p sound mode code codes size r run c).block_record t.index) c k l → Begins block_record c k l
   begins_same c zero l e = e
   begins_same c (suc k) l e = e
 
-  begins : AllByRecursion (λ t. Begins page t.client t.index (page t).entry) r.order
+  begins : AllByRecursion (λ t. Begins block_record t.client t.index (block_record t).entry) r.order
   begins =
       each_map (λ (t : Ticket) (few : t.index < blocks_of p t.client).
-      begins_same t.client t.index (page t).entry
+      begins_same t.client t.index (block_record t).entry
       ((tale p sound mode code codes size r run t.client).begins t.index (block_told p sound mode code codes size r run t few)))
       r.order (inside p sound mode code codes size r run)
 
   -- the room of a journal is never used up
-  within_load : (h : ℕ) (t : Ticket) → IsBlockRecord p t (page t) → length (part h (page t).trace) ≤ cost p h t
-  within_load h t path = leads_within h (block_tree p t (page t).entry) (page t).trace (page t).rest (cost p h t) path (requests_within (text_of p t).body (page t).entry h)
+  within_load : (h : ℕ) (t : Ticket) → IsBlockRecord p t (block_record t) → length (part h (block_record t).trace) ≤ cost p h t
+  within_load h t path = leads_within h (block_tree p t (block_record t).entry) (block_record t).trace (block_record t).rest (cost p h t) path (requests_within (text_of p t).body (block_record t).entry h)
 
-  parts_fit : (h : ℕ) → size_of p page h (sent_for p sound mode code codes size r run h) (got_for p sound mode code codes size r run h) (end h) r.order ≤ room_of p h
+  parts_fit : (h : ℕ) → size_of p block_record h (sent_for p sound mode code codes size r run h) (got_for p sound mode code codes size r run h) (end h) r.order ≤ room_of p h
   parts_fit h =
-      let short = total_less (λ t. length (part h (page t).trace)) (cost p h) r.order (each_map (within_load h) r.order pages) in
+      let short = total_less (λ t. length (part h (block_record t).trace)) (cost p h) r.order (each_map (within_load h) r.order block_records) in
       let whole = order_fits p h (λ _. 0) r.order run.legal in
       let room = all_left p h in
       omega (arith, short, whole, room)
 
-  pub journal_of_object : (h : ℕ) → JournalGrowth p page h (sent_for p sound mode code codes size r run h) (got_for p sound mode code codes size r run h) (end h) (fresh_held p h) r.order
+  pub journal_of_object : (h : ℕ) → JournalGrowth p block_record h (sent_for p sound mode code codes size r run h) (got_for p sound mode code codes size r run h) (end h) (fresh_held p h) r.order
   journal_of_object h =
-      grows p page h (sent_for p sound mode code codes size r run h) (got_for p sound mode code codes size r run h) (end h) r.order (fresh_held p h)
+      grows p block_record h (sent_for p sound mode code codes size r run h) (got_for p sound mode code codes size r run h) (end h) r.order (fresh_held p h)
       (all_over h) (served_whole p sound mode code codes size r run h) (let fit = parts_fit h in omega (arith, fit))
 
   pub end_is : (h : ℕ) → h < length p.objects → r.held h ≡ end h
@@ -97,12 +96,12 @@ module _ (p : ProgramShape) (sound : IsSound p) (mode : Mode) (code : ℕ → Cl
       AllByRecursion-get_or (λ (t : Ticket). t.index < blocks_of p t.client) r.order i (ticket 0 0) (inside p sound mode code codes size r run) few
 
   -- what a client's rows say of a ticket
-  pub entry_is : (t : Ticket) → t.index < blocks_of p t.client → entry_by r t ≡ (page t).entry
+  pub entry_is : (t : Ticket) → t.index < blocks_of p t.client → entry_by r t ≡ (block_record t).entry
   entry_is t few =
       ap (λ (m : ClientModel). get_or m.entries t.index []) (mind_is t.client (no_block_beyond p t.client (omega (arith, few))))
       ∙ (tale p sound mode code codes size r run t.client).entries t.index (block_told p sound mode code codes size r run t few)
 
-  pub trace_is : (t : Ticket) → t.index < blocks_of p t.client → trace_by r t ≡ (page t).trace
+  pub trace_is : (t : Ticket) → t.index < blocks_of p t.client → trace_by r t ≡ (block_record t).trace
   trace_is t few =
       ap (λ (m : ClientModel). get_or m.traces t.index []) (mind_is t.client (no_block_beyond p t.client (omega (arith, few))))
       ∙ (tale p sound mode code codes size r run t.client).traces t.index (block_told p sound mode code codes size r run t few)
@@ -134,12 +133,12 @@ module _ (p : ProgramShape) (sound : IsSound p) (mode : Mode) (code : ℕ → Cl
       let all = all_counted p sound mode code codes size r run t.client own in
       legal_among p (λ _. 0) r.order t.client t.index run.legal (omega arith) (omega (arith, few, count, all))
 
-  pub flows : (h : ℕ) → Flow (line p sound page (λ h t. []) (λ h. (end h).object) (λ h. ⊥) (λ h. (end h).journal) h) (declared_states p h) (end h).journal r.order
+  pub flows : (h : ℕ) → Flow (line p sound block_record (λ h t. []) (λ h. (end h).object) (λ h. ⊥) (λ h. (end h).journal) h) (declared_states p h) (end h).journal r.order
   flows h =
       let g = journal_of_object h in
-      subst (λ j. Flow (line p sound page (λ h t. []) (λ h. (end h).object) (λ h. ⊥) (λ h. (end h).journal) h) (declared_states p h) j r.order) (sym g.journal) g.flow
+      subst (λ j. Flow (line p sound block_record (λ h t. []) (λ h. (end h).object) (λ h. ⊥) (λ h. (end h).journal) h) (declared_states p h) j r.order) (sym g.journal) g.flow
 
-  pub abstract_run : IsRun p sound shown page (λ h t. []) (λ h. (end h).object) (λ h. ⊥) (λ h. (end h).journal)
+  pub abstract_run : IsRun p sound shown block_record (λ h t. []) (λ h. (end h).object) (λ h. ⊥) (λ h. (end h).journal)
   abstract_run = record {
     fits = record {
       ended = length-map r.order (λ (t : Ticket). true);
@@ -150,7 +149,7 @@ module _ (p : ProgramShape) (sound : IsSound p) (mode : Mode) (code : ℕ → Cl
       states = length-map (range_with_len 0 (length p.objects)) (λ h. (r.held h).object) ∙ length-range_with_len 0 (length p.objects);
     };
     legal = run.legal;
-    pages = pages;
+    block_records = block_records;
     begins = begins;
     flows = flows;
     honest = λ h own. let g = journal_of_object h in subst (λ j. IsHonest (declared_states p h) (without_tickets j)) (sym g.journal) g.honest;
@@ -168,4 +167,4 @@ module _ (p : ProgramShape) (sound : IsSound p) (mode : Mode) (code : ℕ → Cl
   }
 
   pub isolated : IsIsolated p shown (λ h t. [])
-  isolated = run_isolated p sound shown page (λ h t. []) (λ h. (end h).object) (λ h. ⊥) (λ h. (end h).journal) abstract_run
+  isolated = run_isolated p sound shown block_record (λ h t. []) (λ h. (end h).object) (λ h. ⊥) (λ h. (end h).journal) abstract_run

@@ -23,8 +23,9 @@ use Rattle.qs_handler.specs.HandlerRuns.{Task, takes, receives, gives, spares}
 use Rattle.qs_client.specs.ClientRuns.{Deed, next_ticket, reserves, sends, gets, takes_chunk}
 use Rattle.qs_client.specs.ClientModel.{ClientModel, mind_after_begin, mind_after_chunk, fresh_mind, mind_after_object, next_mind}
 use Rattle.qs_played.specs.Played.{ticket}
-use Rattle.qs_core_laws.specs.Core.{AreCodes}
-use Rattle.qs_core_laws.specs.CoreExamples.{example_code, sync_count}
+use Rattle.qs_syncset.specs.Codes.{AreCodes}
+use Rattle.qs_syncset.specs.CodeExamples.{example_code}
+use Rattle.qs_sync_counts.specs.SyncRows.{sync_count}
 use Rattle.qs_run_laws.specs.Outcomes.{IsOutcome}
 use Rattle.qs_run_laws.specs.ThreadRuns.{IsThreadRun, ThreadRun, counts_by, shown_by, trace_by}
 

@@ -8,12 +8,11 @@ use Rattle.qs_objects.specs.declared.held.Ticket.{Ticket}
 use Rattle.qs_program.specs.Program.{ProgramShape, blocks_of}
 use Rattle.qs_program.specs.Sound.{IsSound}
 use Rattle.qs_meaning.specs.Serial.{IsLegal, SerialBlock, serial}
-use Rattle.qs_syncset.specs.Codes.{ClientCode}
+use Rattle.qs_syncset.specs.Codes.{ClientCode, AreCodes}
 use Rattle.qs_syncset.specs.declared.mode.Mode.{Mode}
 use Rattle.qs_played.specs.Isolation.{IsIsolated}
 use Rattle.qs_played.specs.Played.{Played}
 use Rattle.qs_played.specs.SyncSums.{AreSyncsCounted}
-use Rattle.qs_core_laws.specs.Core.{AreCodes}
 use Rattle.qs_run_laws.specs.ThreadRuns.{IsThreadRun, ThreadRun, shown_by}
 
 -- a ticket's part on an object, as it stands in the object's journal

@@ -1,7 +1,7 @@
 -- The line of a fault. No token goes beyond its line, so the tokens of a text are those of its lines, one after
 -- another.
 use Rattle.std.specs.Prelude.{◌≡◌, ℕ, ◌+◌, ◌<◌, ◌≤◌, List, length, take, drop, Ok, Err}
-use Rattle.qs_told.specs.Spots.{line_end_at, spot_at}
+use Rattle.qs_diagnosis.specs.Spots.{line_end_at, spot_at}
 use Rattle.qs_tokens.specs.declared.token.Token.{Token}
 use Rattle.qs_tokens.specs.declared.lex.TokenFault.{TokenFault}
 use Rattle.qs_tokens.specs.Tokens.{tokens_of}

@@ -50,7 +50,7 @@ fn more(alloc: Global, first: Atom, tokens: &[Token]) -> Result<(ArgumentList, &
     several(alloc, first, tokens)
 }
 
-// The same, where more than one may come.
+// The arguments from a first one on, of which more may come.
 #[inline(never)]
 pub(crate) fn several(
     alloc: Global,

@@ -8,7 +8,7 @@ use Rattle.qs_report.specs.declared.faults.Fault.{Fault}
 use Rattle.qs_report.specs.declared.faults.Fault.TheVariants as fault
 use Rattle.qs_report.specs.Faults.{fault_status}
 use Rattle.qs_script.specs.declared.fault.ReadFault.TheVariants as read
-use Rattle.qs_places.specs.declared.fault.CheckFault.TheVariants as check_fault
+use Rattle.qs_fault_places.specs.declared.fault.CheckFault.TheVariants as check_fault
 use Rattle.qs_played.specs.declared.fault.PlayFault.TheVariants as play_fault
 use Rattle.qs_program.specs.Program.{ProgramShape}
 use Rattle.qs_serial.specs.NamedOrders.{order_of}

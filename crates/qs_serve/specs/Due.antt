@@ -1,9 +1,9 @@
 -- What a run has to write, and its status.
-use Rattle.std.specs.Prelude.{◌≡◌, ℕ, ◌⊎◌, List, [], ◌++◌, min, take, Bool, true, false, Option, Some, None, Ok, Err, Result, Vec, ⊤, IfSome, IsErr, IsOkAnd, MatchBool}
+use Rattle.std.specs.Prelude.{◌≡◌, ℕ, ◌⊎◌, List, [], ◌++◌, min, take, Bool, true, false, if◌then◌else◌, Option, Some, None, Ok, Err, Result, Vec, ⊤, IfSome, IsErr, IsOkAnd, MatchBool}
 use Rattle.std.specs.Global.{Global}
 use Rattle.std.specs.Io.KnownBytes.{Appends}
 use Rattle.qs_script.specs.declared.fault.ReadFault.TheVariants as read
-use Rattle.qs_places.specs.declared.fault.CheckFault.TheVariants as check_fault
+use Rattle.qs_fault_places.specs.declared.fault.CheckFault.TheVariants as check_fault
 use Rattle.qs_played.specs.declared.fault.PlayFault.TheVariants as play_fault
 use Rattle.qs_serial.specs.NamedOrders.{order_of}
 use Rattle.qs_meaning.specs.Serial.{IsLegal}
@@ -34,7 +34,7 @@ use Rattle.qs_tree.specs.declared.tree.Item.{Item}
 use Rattle.qs_check.specs.Checked.{fault_of}
 use Rattle.qs_resolution.specs.Resolve.{program_of_items}
 use Rattle.qs_program.specs.Program.{ProgramShape}
-use Rattle.qs_core_laws.specs.Core.{AreCodes}
+use Rattle.qs_syncset.specs.Codes.{AreCodes, ClientCode}
 use Rattle.qs_core_laws.specs.CoreSchedule.{IsPlayedIn}
 use Rattle.qs_core_orders.specs.CoreOrders.{IsPlayedInOrderOn}
 use Rattle.qs_plain_laws.specs.PlainSchedule.{IsPlayed}
@@ -42,7 +42,6 @@ use Rattle.qs_plain_orders.specs.PlainOrders.{IsPlayedInOrder}
 use Rattle.qs_played.specs.declared.fault.PlayFault.{PlayFault}
 use Rattle.qs_played.specs.Played.{Played}
 use Rattle.qs_played.specs.Schedule.{most_rounds}
-use Rattle.qs_syncset.specs.Codes.{ClientCode}
 use Rattle.qs_syncset.specs.declared.mode.Mode.{Mode}
 use Rattle.qs_steps.specs.CoreQueues.{core_queues}
 use Rattle.qs_steps.specs.CoreSteps.{core_steps}

@@ -5,8 +5,8 @@ use Rattle.qs_script.specs.Reads.{IsScriptText}
 use Rattle.qs_tree.specs.declared.tree.Item.{Item}
 use Rattle.qs_check.specs.Checked.{fault_of}
 use Rattle.qs_resolution.specs.Resolve.{program_of_items}
-use Rattle.qs_limits.specs.LimitsText.{limits_text}
-use Rattle.qs_limits.specs.Templates.{template_use}
+use Rattle.qs_limit_use.specs.LimitsText.{limits_text}
+use Rattle.qs_limit_use.specs.Templates.{template_use}
 use Rattle.qs_text.specs.Texts.{AppendsFront}
 
 -- the lines of what the script of a text uses and leaves of each limit

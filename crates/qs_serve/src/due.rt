@@ -122,13 +122,7 @@ fn due_of_run<S: Starter, T: Threads + Wait + Sync>(
 }
 
 // The list of all outcomes, or of their ends alone, in a format.
-fn due_of_all(
-    alloc: Global,
-    program: &Program,
-    ends: bool,
-    format: Format,
-    all: AllOutcomes,
-) -> Due
+fn due_of_all(alloc: Global, program: &Program, ends: bool, format: Format, all: AllOutcomes) -> Due
     requires places { AllByRecursion (HasPlaces program.now) all.found }
     ensures due { IsListOf ends format program.now all result }
 {

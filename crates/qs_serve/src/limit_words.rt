@@ -5,7 +5,7 @@ ghost use Rattle.std.specs.Io.KnownBytes.{Keeps};
 ghost use Rattle.qs_serve.specs.Told.{AreLimitsTold, IsLimitsText};
 
 use qs_check::check;
-use qs_limits::{limits_text, template_use};
+use qs_limit_use::{limits_text, template_use};
 use qs_script::read;
 use qs_text::{Watch, write_text};
 use std::alloc::{AllocError, Global};

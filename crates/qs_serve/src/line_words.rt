@@ -1,8 +1,8 @@
 // What is said of a command line that is refused.
 
+use qs_diagnosis::{put, put_all};
 use qs_line::{MOST_ACTORS, Who, part_of, refusal, value_after};
 use qs_played::Actor;
-use qs_told::{put, put_all};
 use std::alloc::{AllocError, Global};
 
 const SCRIPT: &[u8] = b"\nThe script comes on standard input: qs check < my.script\n";

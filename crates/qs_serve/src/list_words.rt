@@ -2,9 +2,9 @@
 
 use crate::line_words::put_part;
 use qs_check::{Program, check};
+use qs_diagnosis::{put, put_all};
 use qs_line::{ListFault, Part, Why, actors_of, clients_of, list_in, value_after};
 use qs_script::read;
-use qs_told::{put, put_all};
 use std::alloc::{AllocError, Global};
 
 /// Puts which part of the list of the line names nobody of the script or two at once, and who is there.

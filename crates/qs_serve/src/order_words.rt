@@ -4,10 +4,10 @@ ghost use Rattle.std.specs.Prelude.{◌<◌, length};
 
 use crate::line_words::put_part;
 use qs_check::{Program, check};
+use qs_diagnosis::{put, put_all};
 use qs_line::{clients_of, list_in, value_after};
 use qs_program::MOST_CLIENTS;
 use qs_script::read;
-use qs_told::{put, put_all};
 use std::alloc::{AllocError, Global};
 
 /// Puts which part of the list after a setting names no block of the script, and what is there.

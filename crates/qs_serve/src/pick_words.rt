@@ -2,9 +2,9 @@
 
 use crate::line_words::put_part;
 use qs_causes::actors;
+use qs_diagnosis::put_all;
 use qs_line::{Who, part_of, value_after};
 use qs_played::Actor;
-use qs_told::put_all;
 use std::alloc::{AllocError, Global};
 
 // Whether a part of a list of picks is a name, or the number of a client or a handler that is there.

@@ -133,7 +133,7 @@ fn report_between(
     joined(steps, report.as_slice(), queues.as_slice())
 }
 
-/// The same, where both were written.
+/// What is due for a run whose steps and queues were written: its report between them.
 pub(crate) fn due_of_told(alloc: Global, program: &Program, style: ReportStyle, told: Told) -> Due
     ensures due { IsReportBetween told.steps.items told.queues.items style program.now told.played result }
 {

@@ -11,13 +11,13 @@ use crate::order_words::put_order;
 use crate::pick_words::put_actor;
 use qs_causes::{tell_check, tell_read};
 use qs_check::CheckFault;
+use qs_diagnosis::put;
 use qs_outcomes::OutcomesFault;
 use qs_played::{PlayFault, RunFault};
 use qs_report::Fault;
 use qs_script::ReadFault;
 use qs_serial::OrderFault;
 use qs_text::{Watch, write_text};
-use qs_told::put;
 use std::alloc::{AllocError, Global};
 use std::io::Write;
 

@@ -71,7 +71,7 @@ fn holders(program: &Program, last: &[Last], begun: &[u8], object: usize) -> u8
     set
 }
 
-// The same for each object.
+// For each object, which clients still have a block that reserves it.
 fn all_holders(program: &Program, last: &[Last], begun: &[u8]) -> [u8; MOST_OBJECTS]
     requires last { AreLast program.now last.now }
     requires begun { length begun.now ≡ length program.now.clients }

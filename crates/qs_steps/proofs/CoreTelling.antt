@@ -4,7 +4,8 @@ use Rattle.qs_program.specs.Program.{ProgramShape}
 use Rattle.qs_syncset.specs.declared.mode.Mode.{Mode}
 use Rattle.qs_played.specs.Schedule.{schedule}
 use Rattle.qs_played.specs.declared.schedule.actor.Actor.{Actor}
-use Rattle.qs_core_laws.specs.Core.{AreCodes, core_step}
+use Rattle.qs_core_laws.specs.Core.{core_step}
+use Rattle.qs_syncset.specs.Codes.{AreCodes}
 use Rattle.qs_core_laws.specs.CoreSchedule.{core_plays}
 use Rattle.qs_core_state.specs.CoreState.{CoreState, IsFreshCore, IsPlayedOn, codes_of}
 use Rattle.qs_steps.specs.Told.{steps_by}

@@ -14,7 +14,7 @@ use Rattle.qs_client_rules.specs.declared.act.Act.TheVariants as wants
 use Rattle.qs_played.specs.declared.schedule.actor.Actor.{Actor}
 use Rattle.qs_core_laws.specs.Core.{Core}
 use Rattle.qs_core_laws.specs.CoreSchedule.{before_it, core_scheduled, is_finished}
-use Rattle.qs_core.specs.CoreDeeds.{act_at}
+use Rattle.qs_core.specs.CoreEffects.{act_at}
 use Rattle.qs_steps.specs.CoreSteps.{requests_text}
 use Rattle.qs_steps.specs.Told.{ticket_text}
 

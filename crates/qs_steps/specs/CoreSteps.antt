@@ -7,9 +7,9 @@ use Rattle.qs_syncset.specs.Codes.{ClientCode}
 use Rattle.qs_played.specs.Schedule.{schedule}
 use Rattle.qs_played.specs.declared.schedule.actor.Actor.{Actor}
 use Rattle.qs_core_laws.specs.Core.{Core, core_begin, core_step}
-use Rattle.qs_core.specs.CoreDeeds.{core_deed, core_requests}
-use Rattle.qs_core.specs.declared.core_deed.CoreDeed.{CoreDeed}
-use Rattle.qs_core.specs.declared.core_deed.CoreDeed.TheVariants.{Reserves, TakesChunk, Sends, WaitsFor, Gets, Returns, EndsAt, Serves, Runs, GivesChunk, SeesWaiting, GivesItself, ComesBack, Leaves}
+use Rattle.qs_core.specs.CoreEffects.{core_effect, core_requests}
+use Rattle.qs_core.specs.declared.core_effect.CoreEffect.{CoreEffect}
+use Rattle.qs_core.specs.declared.core_effect.CoreEffect.TheVariants.{Reserves, TakesChunk, Sends, WaitsFor, Gets, Returns, EndsAt, Serves, Runs, GivesChunk, SeesWaiting, GivesItself, ComesBack, Leaves}
 use Rattle.qs_text.specs.Words.{request_text}
 use Rattle.qs_steps.specs.Told.{reserves_text, steppers_by, steps_by, ticket_text}
 
@@ -17,30 +17,30 @@ abbrev pub requests_text : ProgramShape → List Request → List ℕ
 requests_text p rs = join_by (request_text p) (codes " ") rs
 
 -- What a client does, and what a handler does. The requests are those of the chunk that is sent or run.
-abbrev pub core_deed_text : ProgramShape → CoreDeed → List Request → List ℕ
-core_deed_text p (Reserves t) rs = reserves_text p t
-core_deed_text p (TakesChunk h) rs = codes "takes an empty chunk of " ++ (object_at p h).name
-core_deed_text p Sends rs = codes "sends " ++ requests_text p rs
-core_deed_text p (WaitsFor h) rs = codes "waits for " ++ (object_at p h).name
-core_deed_text p (Gets h) rs = codes "gets " ++ (object_at p h).name
-core_deed_text p (Returns h) rs = codes "returns " ++ (object_at p h).name
-core_deed_text p (EndsAt t h) rs = codes "ends " ++ ticket_text p t ++ codes " at " ++ (object_at p h).name
-core_deed_text p (Serves t) rs = codes "serves " ++ ticket_text p t
-core_deed_text p (Runs t) rs = codes "runs " ++ requests_text p rs ++ codes " of " ++ ticket_text p t
-core_deed_text p (GivesChunk c) rs = codes "gives an empty chunk to " ++ (client_at p c).name
-core_deed_text p (SeesWaiting c) rs = codes "sees that " ++ (client_at p c).name ++ codes " waits"
-core_deed_text p (GivesItself c) rs = codes "gives itself to " ++ (client_at p c).name
-core_deed_text p (ComesBack c) rs = codes "comes back from " ++ (client_at p c).name
-core_deed_text p (Leaves t) rs = codes "leaves " ++ ticket_text p t
+abbrev pub core_effect_text : ProgramShape → CoreEffect → List Request → List ℕ
+core_effect_text p (Reserves t) rs = reserves_text p t
+core_effect_text p (TakesChunk h) rs = codes "takes an empty chunk of " ++ (object_at p h).name
+core_effect_text p Sends rs = codes "sends " ++ requests_text p rs
+core_effect_text p (WaitsFor h) rs = codes "waits for " ++ (object_at p h).name
+core_effect_text p (Gets h) rs = codes "gets " ++ (object_at p h).name
+core_effect_text p (Returns h) rs = codes "returns " ++ (object_at p h).name
+core_effect_text p (EndsAt t h) rs = codes "ends " ++ ticket_text p t ++ codes " at " ++ (object_at p h).name
+core_effect_text p (Serves t) rs = codes "serves " ++ ticket_text p t
+core_effect_text p (Runs t) rs = codes "runs " ++ requests_text p rs ++ codes " of " ++ ticket_text p t
+core_effect_text p (GivesChunk c) rs = codes "gives an empty chunk to " ++ (client_at p c).name
+core_effect_text p (SeesWaiting c) rs = codes "sees that " ++ (client_at p c).name ++ codes " waits"
+core_effect_text p (GivesItself c) rs = codes "gives itself to " ++ (client_at p c).name
+core_effect_text p (ComesBack c) rs = codes "comes back from " ++ (client_at p c).name
+core_effect_text p (Leaves t) rs = codes "leaves " ++ ticket_text p t
 
-abbrev pub core_text_or_none : ProgramShape → Option CoreDeed → List Request → List ℕ
+abbrev pub core_text_or_none : ProgramShape → Option CoreEffect → List Request → List ℕ
 core_text_or_none p None rs = []
-core_text_or_none p (Some deed) rs = core_deed_text p deed rs
+core_text_or_none p (Some effect) rs = core_effect_text p effect rs
 
 module _ (p : ProgramShape) (code : ℕ → ClientCode) (size : ℕ) where
   -- what is told of the step that an actor makes from a state
   abbrev pub core_told : Core → Actor → List ℕ
-  core_told s a = core_text_or_none p (core_deed code size s a) (core_requests code size s a)
+  core_told s a = core_text_or_none p (core_effect code size s a) (core_requests code size s a)
 
   -- the lines of the picks and of so many rounds; the actors are numbered from 1 as they are asked
   unfoldable pub core_steps : List Actor → (rounds : ℕ) → List ℕ

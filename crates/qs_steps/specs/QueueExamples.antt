@@ -1,7 +1,7 @@
 -- What is told of queues after some runs, worked out by hand.
 use Rattle.std.specs.Prelude.{◌≡◌, [], ◌∷◌, codes, false}
 use Rattle.qs_played.specs.declared.schedule.actor.Actor.TheVariants as actor
-use Rattle.qs_core_laws.specs.CoreExamples.{example_code}
+use Rattle.qs_syncset.specs.CodeExamples.{example_code}
 use Rattle.qs_steps.specs.PlainQueues.{plain_queues}
 use Rattle.qs_steps.specs.CoreQueues.{core_queues}
 use Rattle.qs_steps.specs.StepExamples.{by_ann, by_both}

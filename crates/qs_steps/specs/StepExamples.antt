@@ -5,7 +5,7 @@ use Rattle.qs_program.specs.Program.{BlockShape, ProgramShape}
 use Rattle.qs_program.specs.Statements.{end, command, query}
 use Rattle.qs_graph.specs.GraphExamples.{balance, deposit}
 use Rattle.qs_played.specs.declared.schedule.actor.Actor.TheVariants as actor
-use Rattle.qs_core_laws.specs.CoreExamples.{example_code}
+use Rattle.qs_syncset.specs.CodeExamples.{example_code}
 use Rattle.qs_text.specs.Worked.{client, declaration}
 use Rattle.qs_steps.specs.PlainSteps.{plain_steppers, plain_steps}
 use Rattle.qs_steps.specs.CoreSteps.{core_steps}

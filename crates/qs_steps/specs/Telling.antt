@@ -3,7 +3,7 @@ use Rattle.std.specs.Prelude.{◌≡◌, ℕ, Bool, true, false, if◌then◌els
 use Rattle.std.specs.Bool.{OnTrue}
 use Rattle.qs_objects.specs.declared.Request.{Request}
 use Rattle.qs_program.specs.Program.{ProgramShape}
-use Rattle.qs_syncset.specs.Codes.{ClientCode}
+use Rattle.qs_syncset.specs.Codes.{ClientCode, AreCodes}
 use Rattle.qs_syncset.specs.declared.mode.Mode.{Mode}
 use Rattle.qs_played.specs.Played.{Played}
 use Rattle.qs_played.specs.Schedule.{plays_by, schedule}
@@ -12,15 +12,15 @@ use Rattle.qs_plain_laws.specs.Plain.{Plain, step}
 use Rattle.qs_plain.specs.Rules.{RulesState, plain_of}
 use Rattle.qs_plain.specs.declared.awaited.Awaited.{Awaited}
 use Rattle.qs_plain.specs.declared.awaited.Awaited.TheVariants.{Nothing, Reply, Done}
-use Rattle.qs_plain_handler.specs.declared.deed.Deed.{Deed}
-use Rattle.qs_core_laws.specs.Core.{AreCodes, Core, core_step}
+use Rattle.qs_plain_handler.specs.declared.effect.Effect.{Effect}
+use Rattle.qs_core_laws.specs.Core.{Core, core_step}
 use Rattle.qs_core_laws.specs.CoreSchedule.{core_played, core_scheduled}
 use Rattle.qs_core_state.specs.CoreState.{CoreState, codes_of, core_of}
-use Rattle.qs_core.specs.declared.core_deed.CoreDeed.{CoreDeed}
+use Rattle.qs_core.specs.declared.core_effect.CoreEffect.{CoreEffect}
 use Rattle.qs_steps.specs.declared.wanted.Wanted.{Wanted}
 use Rattle.qs_steps.specs.declared.wanted.Told.{Told}
 use Rattle.qs_steps.specs.Told.{lines_by, step_line, steppers_by, steps_by}
-use Rattle.qs_steps.specs.PlainSteps.{deed_text, plain_told}
+use Rattle.qs_steps.specs.PlainSteps.{effect_text, plain_told}
 use Rattle.qs_steps.specs.PlainQueues as plain
 use Rattle.qs_steps.specs.CoreQueues.{core_queues}
 use Rattle.qs_steps.specs.CoreQueues as core
@@ -42,14 +42,14 @@ abbrev pub idle_line : ProgramShape → (is_pick : Bool) → ℕ → Actor → L
 idle_line p true n a = step_line p n a (codes "does nothing")
 idle_line p false n a = []
 
-abbrev pub plain_line : ProgramShape → (is_pick : Bool) → ℕ → Actor → Option Deed → List ℕ
+abbrev pub plain_line : ProgramShape → (is_pick : Bool) → ℕ → Actor → Option Effect → List ℕ
 plain_line p is_pick n a None = idle_line p is_pick n a
-plain_line p is_pick n a (Some deed) = step_line p n a (deed_text p deed)
+plain_line p is_pick n a (Some effect) = step_line p n a (effect_text p effect)
 
-abbrev pub core_line : ProgramShape → (is_pick : Bool) → ℕ → Actor → (stepped : Bool) → Option CoreDeed → List Request
+abbrev pub core_line : ProgramShape → (is_pick : Bool) → ℕ → Actor → (stepped : Bool) → Option CoreEffect → List Request
     → List ℕ
-core_line p is_pick n a false deed rs = idle_line p is_pick n a
-core_line p is_pick n a true deed rs = step_line p n a (core_text_or_none p deed rs)
+core_line p is_pick n a false effect rs = idle_line p is_pick n a
+core_line p is_pick n a true effect rs = step_line p n a (core_text_or_none p effect rs)
 
 -- a machine as it is told: what stays the same of it in a run, its state, and by both its steps, what is told of them,
 -- and what lies where

@@ -3,12 +3,12 @@
 ghost use Rattle.std.specs.Prelude.{◌≡◌, ◌++◌, OnOk, codes, flat_map};
 ghost use Rattle.qs_program.specs.Program.{object_at};
 ghost use Rattle.qs_text.specs.Words.{request_text};
-ghost use Rattle.qs_steps.specs.CoreSteps.{core_deed_text, core_text_or_none, requests_text};
+ghost use Rattle.qs_steps.specs.CoreSteps.{core_effect_text, core_text_or_none, requests_text};
 ghost use Rattle.qs_steps.specs.Telling.{core_line};
 ghost use Rattle.qs_steps.specs.Told.{step_line, ticket_text};
 
 use crate::lines::{put_client, put_idle, put_reserves, put_ticket, put_who};
-use qs_core::CoreDeed;
+use qs_core::CoreEffect;
 use qs_objects::{Request, Ticket};
 use qs_played::Actor;
 use qs_program::Program;
@@ -74,46 +74,46 @@ fn put_block(
 }
 
 // What a step does, with the requests of its chunk.
-fn put_core_deed(
+fn put_core_effect(
     out: &mut Vec<u8>,
     program: &Program,
-    deed: CoreDeed,
+    effect: CoreEffect,
     requests: &[Request],
 ) -> Result<(), AllocError>
-    ensures ok { OnOk result (out.new.items ≡ out.old.items ++ core_deed_text program.now deed requests.now) }
+    ensures ok { OnOk result (out.new.items ≡ out.old.items ++ core_effect_text program.now effect requests.now) }
 {
-    match deed {
-        CoreDeed::Reserves(ticket) => put_reserves(out, program, ticket),
-        CoreDeed::TakesChunk(object) => {
+    match effect {
+        CoreEffect::Reserves(ticket) => put_reserves(out, program, ticket),
+        CoreEffect::TakesChunk(object) => {
             put_object(out, program, b"takes an empty chunk of ", object)
         }
-        CoreDeed::Sends => {
+        CoreEffect::Sends => {
             put(out, b"sends ")?;
             put_requests(out, program, requests)
         }
-        CoreDeed::WaitsFor(object) => put_object(out, program, b"waits for ", object),
-        CoreDeed::Gets(object) => put_object(out, program, b"gets ", object),
-        CoreDeed::Returns(object) => put_object(out, program, b"returns ", object),
-        CoreDeed::EndsAt(ticket, object) => {
+        CoreEffect::WaitsFor(object) => put_object(out, program, b"waits for ", object),
+        CoreEffect::Gets(object) => put_object(out, program, b"gets ", object),
+        CoreEffect::Returns(object) => put_object(out, program, b"returns ", object),
+        CoreEffect::EndsAt(ticket, object) => {
             put_block(out, program, b"ends ", ticket)?;
             put_object(out, program, b" at ", object)
         }
-        CoreDeed::Serves(ticket) => put_block(out, program, b"serves ", ticket),
-        CoreDeed::Runs(ticket) => {
+        CoreEffect::Serves(ticket) => put_block(out, program, b"serves ", ticket),
+        CoreEffect::Runs(ticket) => {
             put(out, b"runs ")?;
             put_requests(out, program, requests)?;
             put_block(out, program, b" of ", ticket)
         }
-        CoreDeed::GivesChunk(client) => {
+        CoreEffect::GivesChunk(client) => {
             put_client(out, program, b"gives an empty chunk to ", client)
         }
-        CoreDeed::SeesWaiting(client) => {
+        CoreEffect::SeesWaiting(client) => {
             put_client(out, program, b"sees that ", client)?;
             put(out, b" waits")
         }
-        CoreDeed::GivesItself(client) => put_client(out, program, b"gives itself to ", client),
-        CoreDeed::ComesBack(client) => put_client(out, program, b"comes back from ", client),
-        CoreDeed::Leaves(ticket) => put_block(out, program, b"leaves ", ticket),
+        CoreEffect::GivesItself(client) => put_client(out, program, b"gives itself to ", client),
+        CoreEffect::ComesBack(client) => put_client(out, program, b"comes back from ", client),
+        CoreEffect::Leaves(ticket) => put_block(out, program, b"leaves ", ticket),
     }
 }
 
@@ -123,14 +123,14 @@ fn put_stepped(
     program: &Program,
     number: u64,
     actor: Actor,
-    deed: Option<CoreDeed>,
+    effect: Option<CoreEffect>,
     requests: &[Request],
 ) -> Result<(), AllocError>
-    ensures ok { OnOk result (out.new.items ≡ out.old.items ++ step_line program.now number actor (core_text_or_none program.now deed requests.now)) }
+    ensures ok { OnOk result (out.new.items ≡ out.old.items ++ step_line program.now number actor (core_text_or_none program.now effect requests.now)) }
 {
     put_who(out, program, number, actor)?;
-    if let Some(deed) = deed {
-        put_core_deed(out, program, deed, requests)?;
+    if let Some(effect) = effect {
+        put_core_effect(out, program, effect, requests)?;
     }
     put(out, b"\n")
 }
@@ -143,13 +143,13 @@ pub(crate) fn put_core_line(
     number: u64,
     actor: Actor,
     stepped: bool,
-    deed: Option<CoreDeed>,
+    effect: Option<CoreEffect>,
     requests: &[Request],
 ) -> Result<(), AllocError>
-    ensures ok { OnOk result (out.new.items ≡ out.old.items ++ core_line program.now is_pick number actor stepped deed requests.now) }
+    ensures ok { OnOk result (out.new.items ≡ out.old.items ++ core_line program.now is_pick number actor stepped effect requests.now) }
 {
     if stepped {
-        put_stepped(out, program, number, actor, deed, requests)
+        put_stepped(out, program, number, actor, effect, requests)
     } else {
         put_idle(out, program, is_pick, number, actor)
     }

@@ -7,7 +7,7 @@ ghost use Rattle.qs_chunk.specs.declared.parcel.Parcel.{Parcel as ParcelShape};
 ghost use Rattle.qs_core_laws.specs.CoreSchedule.{before_it};
 ghost use Rattle.qs_core_parts.specs.CarriedRequests.{first_requests};
 ghost use Rattle.qs_core_state.specs.CoreState.{codes_of, core_of};
-ghost use Rattle.qs_core.specs.CoreDeeds.{IsLaneOf, act_at};
+ghost use Rattle.qs_core.specs.CoreEffects.{IsLaneOf, act_at};
 ghost use Rattle.qs_steps.specs.CoreQueues.{client_line, handler_lines, lane_line, parcel_text, queues_text, wait_text, waiting_line};
 ghost use Rattle.qs_steps.specs.CoreSteps.{requests_text};
 

@@ -32,11 +32,11 @@ impl Machine for Core<'_> {
         number: u64,
         actor: Actor,
     ) -> Result<bool, AllocError> {
-        let deed = self.next_deed(actor);
+        let effect = self.next_effect(actor);
         let requests = self.requests(alloc, actor)?;
         let stepped = self.step(actor);
         let put = put_core_line(
-            out, program, is_pick, number, actor, stepped, deed, &requests,
+            out, program, is_pick, number, actor, stepped, effect, &requests,
         );
         drop(requests);
         put?;

@@ -2,13 +2,13 @@
 
 ghost use Rattle.std.specs.Prelude.{◌≡◌, ◌++◌, OnOk};
 ghost use Rattle.qs_text.specs.Words.{reply_text, request_text};
-ghost use Rattle.qs_steps.specs.PlainSteps.{deed_text};
+ghost use Rattle.qs_steps.specs.PlainSteps.{effect_text};
 ghost use Rattle.qs_steps.specs.Telling.{plain_line};
 ghost use Rattle.qs_steps.specs.Told.{ticket_text};
 
 use crate::lines::{put_idle, put_reserves, put_ticket, put_who};
 use qs_objects::{Request, Ticket};
-use qs_plain::Deed;
+use qs_plain::Effect;
 use qs_played::Actor;
 use qs_program::Program;
 use qs_text::{put, put_number, put_whole_request};
@@ -54,24 +54,24 @@ fn put_reply(out: &mut Vec<u8>, reply: Option<i64>) -> Result<(), AllocError>
 }
 
 // What a step does.
-fn put_deed(out: &mut Vec<u8>, program: &Program, deed: &Deed) -> Result<(), AllocError>
-    ensures ok { OnOk result (out.new.items ≡ out.old.items ++ deed_text program.now deed.now) }
+fn put_effect(out: &mut Vec<u8>, program: &Program, effect: &Effect) -> Result<(), AllocError>
+    ensures ok { OnOk result (out.new.items ≡ out.old.items ++ effect_text program.now effect.now) }
 {
-    match deed {
-        Deed::Reserves(ticket) => put_reserves(out, program, *ticket),
-        Deed::Logs(request) => put_asked(out, program, b"logs ", request),
-        Deed::Asks(request) => put_asked(out, program, b"asks ", request),
-        Deed::Ends(ticket) => put_verb(out, program, b"ends ", *ticket),
-        Deed::Runs(ticket, request) => {
+    match effect {
+        Effect::Reserves(ticket) => put_reserves(out, program, *ticket),
+        Effect::Logs(request) => put_asked(out, program, b"logs ", request),
+        Effect::Asks(request) => put_asked(out, program, b"asks ", request),
+        Effect::Ends(ticket) => put_verb(out, program, b"ends ", *ticket),
+        Effect::Runs(ticket, request) => {
             put_asked(out, program, b"runs ", request)?;
             put_verb(out, program, b" of ", *ticket)
         }
-        Deed::Answers(ticket, request, reply) => {
+        Effect::Answers(ticket, request, reply) => {
             put_asked(out, program, b"answers ", request)?;
             put_reply(out, *reply)?;
             put_verb(out, program, b" of ", *ticket)
         }
-        Deed::Leaves(ticket) => put_verb(out, program, b"leaves ", *ticket),
+        Effect::Leaves(ticket) => put_verb(out, program, b"leaves ", *ticket),
     }
 }
 
@@ -82,15 +82,15 @@ pub(crate) fn put_line(
     is_pick: bool,
     number: u64,
     actor: Actor,
-    deed: &Option<Deed>,
+    effect: &Option<Effect>,
 ) -> Result<(), AllocError>
-    ensures ok { OnOk result (out.new.items ≡ out.old.items ++ plain_line program.now is_pick number actor deed.now) }
+    ensures ok { OnOk result (out.new.items ≡ out.old.items ++ plain_line program.now is_pick number actor effect.now) }
 {
-    match deed {
+    match effect {
         None => put_idle(out, program, is_pick, number, actor),
-        Some(deed) => {
+        Some(effect) => {
             put_who(out, program, number, actor)?;
-            put_deed(out, program, deed)?;
+            put_effect(out, program, effect)?;
             put(out, b"\n")
         }
     }

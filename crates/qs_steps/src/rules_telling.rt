@@ -33,10 +33,10 @@ impl Machine for Rules<'_> {
         number: u64,
         actor: Actor,
     ) -> Result<bool, AllocError> {
-        let deed = self.step_told(actor);
-        let put = put_line(out, program, is_pick, number, actor, &deed);
-        let stepped = deed.is_some();
-        drop(deed);
+        let effect = self.step_told(actor);
+        let put = put_line(out, program, is_pick, number, actor, &effect);
+        let stepped = effect.is_some();
+        drop(effect);
         put?;
         Ok(stepped)
     }

@@ -26,9 +26,18 @@ columns_of run = min (length run.order) most_columns
 abbrev pub all_columns : Played → ℕ
 all_columns run = min (length run.order) (most_columns + 1)
 
--- so many requests of a stretch are drawn at most; the others are counted
+-- so many requests of a stretch are drawn at most, in a picture of few cells and of many; the others are counted
+abbrev pub most_marks_of_few : ℕ
+most_marks_of_few = 16
+
+abbrev pub most_marks_of_many : ℕ
+most_marks_of_many = 4
+
+abbrev pub most_few_cells : ℕ
+most_few_cells = 192
+
 abbrev pub most_marks : (columns rows : ℕ) → ℕ
-most_marks columns rows = if nat_le (columns * rows) 192 then 16 else 4
+most_marks columns rows = if nat_le (columns * rows) most_few_cells then most_marks_of_few else most_marks_of_many
 
 -- the ticket at a place of the order, whether its block has ended, and the objects that it reserves, in the order of
 -- its list

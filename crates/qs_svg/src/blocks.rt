@@ -3,11 +3,11 @@
 ghost use Rattle.std.specs.Prelude.{◌≡◌, ◌<◌, ◌≤◌, OnOk, length};
 ghost use Rattle.qs_svg.specs.Shapes.{Draws, shapes_up_to};
 ghost use Rattle.qs_text.specs.Texts.{Puts};
-ghost use Rattle.qs_svg.specs.Stretches.{columns_of as columns_in};
+ghost use Rattle.qs_svg.specs.Stretches.{columns_of as columns_in, most_columns};
 ghost use Rattle.qs_svg.specs.Places.{first_row as first_of, frame_height, last_row as last_of};
 ghost use Rattle.qs_svg.specs.Blocks.{block_frame, column as column_shapes, column_names, columns_left};
 
-use crate::facts::{columns_of, has_ended, ticket_at};
+use crate::facts::{MOST_COLUMNS, columns_of, has_ended, ticket_at};
 use crate::pieces::{put_counted, put_name, put_path};
 use crate::stretches::{column_edge, row_edge, side};
 use crate::words::put_block_words;
@@ -55,7 +55,7 @@ fn put_frame(
     ended: bool,
     rows: (u8, u8),
 ) -> Result<(), AllocError>
-    requires column { column ≤ 64 }
+    requires column { column ≤ most_columns }
     ensures ok { OnOk result (Puts (block_frame program.now ticket ended column rows.0 rows.1) out.old.items out.new.items) }
 {
     let (first, last) = rows;
@@ -77,7 +77,7 @@ fn put_names(
     column: usize,
     ticket: Ticket,
 ) -> Result<(), AllocError>
-    requires column { column ≤ 64 }
+    requires column { column ≤ most_columns }
     ensures ok { OnOk result (Draws (column_names program.now column ticket) out.old.items out.new.items) }
 {
     let x = column_edge(column) + 8;
@@ -92,7 +92,7 @@ fn put_column(
     played: &Played,
     column: usize,
 ) -> Result<(), AllocError>
-    requires column { column ≤ 64 }
+    requires column { column ≤ most_columns }
     requires place { column < length played.now.order }
     ensures ok { OnOk result (Draws (column_shapes program.now played.now column) out.old.items out.new.items) }
 {
@@ -123,13 +123,13 @@ pub(crate) fn put_columns_left(out: &mut Vec<u8>, played: &Played) -> Result<(),
     ensures ok { OnOk result (Draws (columns_left played.now) out.old.items out.new.items) }
 {
     let count = played.order().len();
-    if 64 < count {
+    if MOST_COLUMNS < count {
         put_counted(
             out,
-            column_edge(64) + 8,
+            column_edge(MOST_COLUMNS) + 8,
             96,
             b"",
-            count - 64,
+            count - MOST_COLUMNS,
             b" more blocks",
         )
     } else {

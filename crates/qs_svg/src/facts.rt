@@ -1,18 +1,22 @@
 // What is read off a run: its tickets, and how many entries and synchronisations there are.
 
 ghost use Rattle.std.specs.Prelude.{◌≡◌, ◌<◌, ◌≤◌, [], length, slice_index_or};
+ghost use Rattle.qs_svg.specs.Stretches.{most_columns};
 ghost use Rattle.qs_svg.specs.Stretches as stretches;
 
 use qs_objects::{Entry, Ticket};
 use qs_played::Played;
 
+/// So many columns are drawn at most.
+pub(crate) const MOST_COLUMNS: usize = 64;
+
 /// How many columns are drawn.
 pub(crate) fn columns_of(played: &Played) -> usize
     ensures columns { result ≡ stretches.columns_of played.now }
-    ensures few { result ≤ 64 }
+    ensures few { result ≤ most_columns }
     ensures places { result ≤ length played.now.order }
 {
-    played.order().len().min(64)
+    played.order().len().min(MOST_COLUMNS)
 }
 
 /// The ticket at a place of the order.

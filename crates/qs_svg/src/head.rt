@@ -1,13 +1,14 @@
 // The beginning of a picture: its size, its title, its description and its style.
 
-ghost use Rattle.std.specs.Prelude.{◌≡◌, ◌<◌, ◌≤◌, OnOk, length};
+ghost use Rattle.std.specs.Prelude.{◌≡◌, ◌+◌, ◌<◌, ◌≤◌, OnOk, length};
+ghost use Rattle.qs_program.specs.Limits.{most_objects, most_clients};
 ghost use Rattle.qs_text.specs.Texts.{texts_up_to, Puts};
-ghost use Rattle.qs_svg.specs.Stretches.{all_columns as columns_in_all};
+ghost use Rattle.qs_svg.specs.Stretches.{all_columns as columns_in_all, most_columns};
 ghost use Rattle.qs_svg.specs.Places.{picture_height, picture_width};
 ghost use Rattle.qs_svg.specs.Words.{description, finished_words as words_of_end, object_told, reserved_words, ticket_told, title_words};
 ghost use Rattle.qs_svg.specs.RunSvg.{head_text, size_text};
 
-use crate::facts::{has_ended, journal_of, ticket_at};
+use crate::facts::{MOST_COLUMNS, has_ended, journal_of, ticket_at};
 use crate::legend::put_style;
 use crate::words::put_block_words;
 use qs_played::Played;
@@ -18,14 +19,14 @@ use std::alloc::AllocError;
 // How many columns there are, with the one that says how much more there is.
 fn all_columns(played: &Played) -> usize
     ensures columns { result ≡ columns_in_all played.now }
-    ensures few { result ≤ 65 }
+    ensures few { result ≤ most_columns + 1 }
 {
-    played.order().len().min(65)
+    played.order().len().min(MOST_COLUMNS + 1)
 }
 
 fn width_of(columns: usize, clients: usize) -> u64
-    requires columns { columns ≤ 65 }
-    requires clients { clients ≤ 8 }
+    requires columns { columns ≤ most_columns + 1 }
+    requires clients { clients ≤ most_clients }
     ensures width { result ≡ picture_width columns clients }
 {
     let names = 24 + 130 * clients as u64;
@@ -34,7 +35,7 @@ fn width_of(columns: usize, clients: usize) -> u64
 }
 
 fn height_of(rows: usize) -> u64
-    requires rows { rows ≤ 8 }
+    requires rows { rows ≤ most_objects }
     ensures height { result ≡ picture_height rows }
 {
     140 + 72 * rows as u64

@@ -1,11 +1,11 @@
 // The row of an object.
 
-ghost use Rattle.std.specs.Prelude.{◌≡◌, ◌<◌, ◌≤◌, IfOk, OnOk, length};
+ghost use Rattle.std.specs.Prelude.{◌≡◌, ◌^◌, ◌<◌, ◌≤◌, IfOk, OnOk, length};
 ghost use Rattle.qs_svg.specs.Shapes.{Draws, shapes_up_to};
-ghost use Rattle.qs_svg.specs.Stretches.{columns_of as columns_in, stretch, stretch_start};
+ghost use Rattle.qs_svg.specs.Stretches.{columns_of as columns_in, stretch, stretch_start, most_columns, most_marks_of_few};
 ghost use Rattle.qs_svg.specs.Blocks.{cell, row as row_shapes, row_left, row_names};
 
-use crate::facts::{columns_of, entries_for, journal_of, reserves, ticket_at};
+use crate::facts::{MOST_COLUMNS, columns_of, entries_for, journal_of, reserves, ticket_at};
 use crate::pieces::{put_counted, put_name};
 use crate::stretches::{Spot, column_edge, put_stretch, row_edge};
 use qs_objects::Entry;
@@ -23,9 +23,9 @@ fn put_cell(
     entries: &[Entry],
     most: usize,
 ) -> Result<(), AllocError>
-    requires column { spot.column ≤ 64 }
-    requires row { spot.row < 256 }
-    requires most { most ≤ 16 }
+    requires column { spot.column ≤ most_columns }
+    requires row { spot.row < 2 ^ 8 }
+    requires most { most ≤ most_marks_of_few }
     requires place { spot.column < length played.now.order }
     ensures ok { OnOk result (Draws (cell program.now played.now most spot.column spot.row entries.now) out.old.items out.new.items) }
 {
@@ -44,8 +44,8 @@ fn put_cells(
     row: usize,
     most: usize,
 ) -> Result<usize, AllocError>
-    requires row { row < 256 }
-    requires most { most ≤ 16 }
+    requires row { row < 2 ^ 8 }
+    requires most { most ≤ most_marks_of_few }
     ensures ok { IfOk result (λ start. Draws
         (shapes_up_to (columns_in played.now) (λ i. cell program.now played.now most i row (stretch played.now row i))) out.old.items out.new.items) }
     ensures start { IfOk result (λ start. start ≡ stretch_start played.now row (columns_in played.now)) }
@@ -69,7 +69,7 @@ fn put_names(
     row: usize,
     requests: usize,
 ) -> Result<(), AllocError>
-    requires row { row < 256 }
+    requires row { row < 2 ^ 8 }
     ensures ok { OnOk result (Draws (row_names program.now row requests) out.old.items out.new.items) }
 {
     let y = row_edge(row);
@@ -84,11 +84,11 @@ fn put_left(
     row: usize,
     requests: usize,
 ) -> Result<(), AllocError>
-    requires row { row < 256 }
+    requires row { row < 2 ^ 8 }
     ensures ok { OnOk result (Draws (row_left played.now row requests) out.old.items out.new.items) }
 {
-    if 64 < played.order().len() {
-        let x = column_edge(64) + 12;
+    if MOST_COLUMNS < played.order().len() {
+        let x = column_edge(MOST_COLUMNS) + 12;
         let y = row_edge(row) + 40;
         put_counted(out, x, y, b"", requests, b" requests")
     } else {
@@ -104,8 +104,8 @@ pub(crate) fn put_row(
     row: usize,
     most: usize,
 ) -> Result<(), AllocError>
-    requires row { row < 256 }
-    requires most { most ≤ 16 }
+    requires row { row < 2 ^ 8 }
+    requires most { most ≤ most_marks_of_few }
     ensures ok { OnOk result (Draws (row_shapes program.now played.now most row) out.old.items out.new.items) }
 {
     let requests = journal_of(played, row).len();

@@ -1,9 +1,10 @@
 // The picture of a run.
 
 ghost use Rattle.std.specs.Prelude.{◌≡◌, ◌≤◌, IfOk, OnOk};
+ghost use Rattle.qs_program.specs.Limits.{most_objects};
 ghost use Rattle.qs_svg.specs.Shapes.{Draws};
 ghost use Rattle.qs_text.specs.Texts.{Puts};
-ghost use Rattle.qs_svg.specs.Stretches.{most_marks as most_of};
+ghost use Rattle.qs_svg.specs.Stretches.{most_marks as most_of, most_columns, most_marks_of_few};
 ghost use Rattle.qs_svg.specs.RunSvg as definitions;
 
 use crate::blocks::{put_columns, put_columns_left};
@@ -35,14 +36,25 @@ fn put_legend(out: &mut Vec<u8>, program: &Program, played: &Played) -> Result<(
     put_signs(out)
 }
 
+// So many requests of a stretch are drawn, in a picture of few cells and of many.
+const MOST_MARKS_OF_FEW: usize = 16;
+
+const MOST_MARKS_OF_MANY: usize = 4;
+
+const MOST_FEW_CELLS: usize = 192;
+
 // How many requests of a stretch are drawn.
 fn most_marks(columns: usize, rows: usize) -> usize
-    requires columns { columns ≤ 64 }
-    requires rows { rows ≤ 8 }
+    requires columns { columns ≤ most_columns }
+    requires rows { rows ≤ most_objects }
     ensures most { result ≡ most_of columns rows }
-    ensures few { result ≤ 16 }
+    ensures few { result ≤ most_marks_of_few }
 {
-    if columns * rows <= 192 { 16 } else { 4 }
+    if columns * rows <= MOST_FEW_CELLS {
+        MOST_MARKS_OF_FEW
+    } else {
+        MOST_MARKS_OF_MANY
+    }
 }
 
 // All rows.

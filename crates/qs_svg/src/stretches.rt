@@ -1,6 +1,7 @@
 // The stretch of a ticket at an object: its frame, its requests and its synchronisations.
 
-ghost use Rattle.std.specs.Prelude.{◌≡◌, ◌<◌, ◌≤◌, OnOk, length};
+ghost use Rattle.std.specs.Prelude.{◌≡◌, ◌^◌, ◌<◌, ◌≤◌, OnOk, length};
+ghost use Rattle.qs_svg.specs.Stretches.{most_columns, most_marks_of_few};
 ghost use Rattle.qs_svg.specs.Shapes.{Draws};
 ghost use Rattle.qs_text.specs.Texts.{Puts};
 ghost use Rattle.qs_svg.specs.Places.{column_x, mark_x, mark_y, row_y};
@@ -24,7 +25,7 @@ pub(crate) struct Spot {
 
 // The left edge of a column.
 pub(crate) fn column_edge(column: usize) -> u32
-    requires few { column ≤ 64 }
+    requires few { column ≤ most_columns }
     ensures edge { result ≡ column_x column }
 {
     140 + 120 * column as u32
@@ -32,7 +33,7 @@ pub(crate) fn column_edge(column: usize) -> u32
 
 // The upper edge of a row.
 pub(crate) fn row_edge(row: usize) -> u32
-    requires few { row < 256 }
+    requires few { row < 2 ^ 8 }
     ensures edge { result ≡ row_y row }
 {
     124 + 72 * row as u32
@@ -75,15 +76,15 @@ fn put_mark(
 
 // The corner of the mark of a number.
 fn mark_left(column: usize, number: usize) -> u32
-    requires few { column ≤ 64 }
+    requires few { column ≤ most_columns }
     ensures left { result ≡ mark_x column number }
 {
     column_edge(column) + 12 + 12 * (number % 8) as u32
 }
 
 fn mark_top(row: usize, number: usize) -> u32
-    requires few { row < 256 }
-    requires marks { number < 16 }
+    requires few { row < 2 ^ 8 }
+    requires marks { number < most_marks_of_few }
     ensures top { result ≡ mark_y row number }
 {
     row_edge(row) + 12 + 13 * (number / 8) as u32
@@ -97,9 +98,9 @@ fn put_marks(
     entries: &[Entry],
     most: usize,
 ) -> Result<(), AllocError>
-    requires column { spot.column ≤ 64 }
-    requires row { spot.row < 256 }
-    requires most { most ≤ 16 }
+    requires column { spot.column ≤ most_columns }
+    requires row { spot.row < 2 ^ 8 }
+    requires most { most ≤ most_marks_of_few }
     ensures ok { OnOk result (Draws (marks program.now most spot.column spot.row entries.now) out.old.items out.new.items) }
 {
     let count = entries.len().min(most);
@@ -113,8 +114,8 @@ fn put_marks(
 
 // How many more there are.
 fn put_more(out: &mut Vec<u8>, spot: Spot, requests: usize, most: usize) -> Result<(), AllocError>
-    requires column { spot.column ≤ 64 }
-    requires row { spot.row < 256 }
+    requires column { spot.column ≤ most_columns }
+    requires row { spot.row < 2 ^ 8 }
     ensures ok { OnOk result (Draws (more_marks most spot.column spot.row requests) out.old.items out.new.items) }
 {
     if most < requests {
@@ -128,8 +129,8 @@ fn put_more(out: &mut Vec<u8>, spot: Spot, requests: usize, most: usize) -> Resu
 
 // The synchronisations that were sent and those that were skipped.
 fn put_signs(out: &mut Vec<u8>, spot: Spot, sent: u32, queries: usize) -> Result<(), AllocError>
-    requires column { spot.column ≤ 64 }
-    requires row { spot.row < 256 }
+    requires column { spot.column ≤ most_columns }
+    requires row { spot.row < 2 ^ 8 }
     ensures ok { OnOk result (Puts (sync_text spot.column spot.row sent queries) out.old.items out.new.items) }
 {
     let sent = u64::from(sent);
@@ -143,8 +144,8 @@ fn put_signs(out: &mut Vec<u8>, spot: Spot, sent: u32, queries: usize) -> Result
 }
 
 fn put_syncs(out: &mut Vec<u8>, spot: Spot, sent: u32, queries: usize) -> Result<(), AllocError>
-    requires column { spot.column ≤ 64 }
-    requires row { spot.row < 256 }
+    requires column { spot.column ≤ most_columns }
+    requires row { spot.row < 2 ^ 8 }
     ensures ok { OnOk result (Draws (sync_marks spot.column spot.row sent queries) out.old.items out.new.items) }
 {
     if sent == 0 && queries == 0 {
@@ -163,8 +164,8 @@ fn put_frame(
     ended: bool,
     requests: usize,
 ) -> Result<(), AllocError>
-    requires column { spot.column ≤ 64 }
-    requires row { spot.row < 256 }
+    requires column { spot.column ≤ most_columns }
+    requires row { spot.row < 2 ^ 8 }
     ensures ok { OnOk result (Puts (stretch_frame program.now ticket ended spot.column spot.row requests) out.old.items out.new.items) }
 {
     let x = column_edge(spot.column) + 112;
@@ -186,9 +187,9 @@ pub(crate) fn put_stretch(
     entries: &[Entry],
     most: usize,
 ) -> Result<(), AllocError>
-    requires column { spot.column ≤ 64 }
-    requires row { spot.row < 256 }
-    requires most { most ≤ 16 }
+    requires column { spot.column ≤ most_columns }
+    requires row { spot.row < 2 ^ 8 }
+    requires most { most ≤ most_marks_of_few }
     requires place { spot.column < length played.now.order }
     ensures ok { OnOk result (Draws (stretch_shapes program.now played.now most spot.column spot.row entries.now) out.old.items out.new.items) }
 {

@@ -15,3 +15,4 @@ pub mod QueryRuns
 pub mod ShortLists
 pub mod Unaliased
 pub mod ProgramCodes
+pub mod BuiltCodes

@@ -1,5 +1,6 @@
 -- What a client runs: its blocks' lists, graphs and loads.
-use Rattle.std.specs.Prelude.{◌≡◌, ℕ, ◌<◌, Bool, true, false, List, [], length, slice_index_or}
+use Rattle.std.specs.Prelude.{◌≡◌, ℕ, ◌<◌, ◌≤◌, Bool, true, false, List, [], length, slice_index_or}
+use Rattle.qs_objects.specs.declared.held.Ticket.{Ticket}
 use Rattle.qs_program.specs.Loads.{load_of}
 use Rattle.qs_program.specs.Program.{BlockShape, ProgramShape, binding_of, block_at, blocks_of}
 use Rattle.qs_program.specs.Sound.{IsSound}
@@ -63,3 +64,15 @@ pub record IsCode (code : ClientCode) : Type 0 where
   pub client : ℕ
   pub sound : IsSound program
   pub of : IsCodeOf program mode client code
+
+-- the codes of a program's clients; no other client has blocks
+pub record AreCodes (p : ProgramShape) (mode : Mode) (code : ℕ → ClientCode) : Type 0 where
+  pub own : (c : ℕ) → c < length p.clients → IsCodeOf p mode c (code c)
+  pub none : (c : ℕ) → length p.clients ≤ c → (code c).blocks ≡ []
+
+-- how many blocks a client has, and the handlers that a ticket's block reserves
+abbrev pub blocks_in : (ℕ → ClientCode) → ℕ → ℕ
+blocks_in code c = length (code c).blocks
+
+abbrev pub reserved_of : (ℕ → ClientCode) → Ticket → List ℕ
+reserved_of code t = (code_at (code t.client) t.index).reserved

@@ -7,5 +7,6 @@ pub mod SyncCounts
 pub mod Shapes
 pub mod SoundSynced
 pub mod CodeLaws
+pub mod CodeExamples
 pub mod HeldExamples
 pub mod SyncExamples

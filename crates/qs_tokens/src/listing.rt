@@ -81,7 +81,7 @@ fn put_plain(tokens: &mut Vec<Token>, token: Token, text: &[u8]) -> Result<usize
     put(tokens, token, 1)
 }
 
-// The same, where often a space follows.
+// Puts a token of one byte after which a space often comes, and passes that, too.
 #[inline(always)]
 fn put_spaced(tokens: &mut Vec<Token>, token: Token, text: &[u8]) -> Result<usize, TokenFault>
     requires plain { first_byte (slice_index text.now 0) ≡ Ok (token ∷ [], nothing) }

@@ -26,7 +26,7 @@ pub(crate) fn make_room<T>(list: &mut Vec<T>) -> Result<(), AllocError>
     Ok(())
 }
 
-// The same, where there is none.
+// Makes room in a list that has none.
 #[inline(never)]
 fn grow<T>(list: &mut Vec<T>) -> Result<(), AllocError>
     ensures same { list.new.items ≡ list.old.items }

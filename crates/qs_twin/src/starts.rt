@@ -88,7 +88,7 @@ fn is_found_alike(
     Ok(is_same_state(&one, &two))
 }
 
-// The same of one object and each of the other program.
+// Whether one object begins in the state of each object of the other program that stands for it.
 fn is_alike_to_each(
     alloc: Global,
     here: &Reservation<'_>,

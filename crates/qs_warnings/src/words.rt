@@ -7,8 +7,8 @@ use crate::finding::warnings;
 use crate::places::{client_place, listed_place, object_place, variable_place};
 use crate::warning::Warning;
 use qs_causes::{Source, is_near, placed_tokens};
+use qs_diagnosis::{Diagnosis, Span, put_all, put_warning};
 use qs_program::{Names, Program};
-use qs_told::{Diagnosis, Span, put_all, put_warning};
 use std::alloc::{AllocError, Global};
 
 // A text with its tokens and its program, and what was told of it.

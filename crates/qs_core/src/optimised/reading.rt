@@ -6,7 +6,7 @@ ghost use Rattle.qs_core_parts.specs.CarriedRequests.{first_requests};
 ghost use Rattle.qs_core_parts.specs.CoreClients.{turns_to};
 ghost use Rattle.qs_core_parts.specs.CoreHandlers.{handler_with_act};
 ghost use Rattle.qs_core_state.specs.CoreState.{codes_of, core_of};
-ghost use Rattle.qs_core.specs.CoreDeeds.{AreLanesOf, act_at};
+ghost use Rattle.qs_core.specs.CoreEffects.{AreLanesOf, act_at};
 
 use super::Core;
 use qs_core_parts::{CoreClient, CoreHandler};

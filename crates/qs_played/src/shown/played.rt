@@ -125,7 +125,7 @@ impl Played {
         }
     }
 
-    /// The same with this number of Syncs; takes no memory.
+    /// This run, shown with this number of Syncs; takes no memory.
     pub fn with_syncs(self, syncs: u64) -> Played
         ensures value { result ≡ record self { syncs = syncs } }
     {

@@ -1,7 +1,7 @@
 use Rattle.std.proofs.Common.{refl}
 use Rattle.std.proofs.lemmas.Result.{on_ok_weaker}
-use Rattle.qs_told.specs.declared.told.Diagnosis.{Diagnosis}
-use Rattle.qs_told.specs.Told.{IsTold}
+use Rattle.qs_diagnosis.specs.declared.told.Diagnosis.{Diagnosis}
+use Rattle.qs_diagnosis.specs.Diagnoses.{IsTold}
 use Rattle.qs_causes.proofs.telling.put_said.Goals as goal
 
 pub returns : goal.returns

@@ -1,5 +1,5 @@
 use Rattle.std.proofs.Common.{◌≡◌, ◌++◌, drop}
-use Rattle.qs_places.specs.Places.{scope_or_fault, over, script_places}
+use Rattle.qs_fault_places.specs.Places.{scope_or_fault, over, script_places}
 use Rattle.qs_resolution.specs.Resolve.{variable_lists}
 use Rattle.qs_check.proofs.checker.check_items.Given as goal
 

@@ -12,7 +12,7 @@ use Rattle.qs_syncset.specs.HeldExamples.{call_in_repeat, without_inner, without
 use Rattle.qs_syncset.proofs.WorkedGraphs.{held_examples}
 use Rattle.qs_played.specs.ExampleRuns.{answers}
 use Rattle.qs_core_laws.specs.CoalescedExamples.{PlaysAlone, alone, codes_with, shown_alone}
-use Rattle.qs_core_laws.specs.Core.{AreCodes}
+use Rattle.qs_syncset.specs.Codes.{AreCodes}
 use Rattle.qs_core_laws.specs.CoreSchedule.{core_scheduled}
 use Rattle.qs_core_laws.proofs.AloneCodes.{alone_codes}
 use Rattle.qs_core_laws.proofs.laws.coalesced_examples.Goals as goal

@@ -3,7 +3,7 @@ use Rattle.qs_graph.specs.Steps.{limit}
 use Rattle.qs_graph.specs.Walk.{move}
 use Rattle.qs_syncset.specs.declared.mode.Mode.TheVariants as modes
 use Rattle.qs_core_laws.specs.CoreSchedule.{core_scheduled}
-use Rattle.qs_core_laws.proofs.BuiltCodes.{built_codes}
+use Rattle.qs_syncset.proofs.BuiltCodes.{built_codes}
 use Rattle.qs_core_laws.proofs.laws.core_examples.Goals as goal
 
 pub returns : goal.returns

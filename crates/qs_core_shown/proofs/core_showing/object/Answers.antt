@@ -14,7 +14,7 @@ pub returns-in-Some-client : goal.returns-in-Some-client
 returns-in-Some-client c =
     let h = c.args.number in
     let cs = c.args.clients.now in
-    let there = object_away c.args.clients.now h c.args.handler.now c.has_next_act.ensures.seat c.in-None.ensures.value c.in-Some-client.client c.in-Some-client.ensures.value in
+    let there = object_away c.args.clients.now h c.args.handler.now c.has_next_act.ensures.formed c.in-None.ensures.value c.in-Some-client.client c.in-Some-client.ensures.value in
     record {
       value = c.away.ensures.value
           ∙ (λ k. away_at (lane_at (c.client_at.ensures.lanes k) h).up (lane_at (c.client_at.ensures.lanes k) h).down ((c.client_at.ensures.mind k).client.held h))
@@ -24,8 +24,8 @@ returns-in-Some-client c =
 
 pub client_at-requires : goal.client_at-requires
 client_at-requires c =
-    let inside = turned_inside c.args.clients.now c.args.number c.args.handler.now c.has_next_act.ensures.seat c.requires.turns c.in-Some-client.client c.in-Some-client.ensures.value in
+    let inside = turned_inside c.args.clients.now c.args.number c.args.handler.now c.has_next_act.ensures.formed c.requires.turns c.in-Some-client.client c.in-Some-client.ensures.value in
     record { number = subst (λ n. n < length c.args.clients.now) (sym c.from.ensures) inside }
 
 pub returns-in-None-client : goal.returns-in-None-client
-returns-in-None-client c = absurd (object_never_lost c.args.clients.now c.args.number c.args.handler.now c.has_next_act.ensures.seat c.in-None.ensures.value c.in-None-client.ensures.value)
+returns-in-None-client c = absurd (object_never_lost c.args.clients.now c.args.number c.args.handler.now c.has_next_act.ensures.formed c.in-None.ensures.value c.in-None-client.ensures.value)

@@ -1,6 +1,5 @@
 use Rattle.std.proofs.Common.{◌≡◌, ◌⊎◌, inr, ℕ, [], refl, ap, sym, subst, ◌∙◌, Ok, Err, if◌then◌else◌}
-use Rattle.qs_syncset.specs.Codes.{ClientCode}
-use Rattle.qs_core_laws.specs.Core.{AreCodes}
+use Rattle.qs_syncset.specs.Codes.{ClientCode, AreCodes}
 use Rattle.qs_core_laws.specs.CoreSchedule.{IsPlayedIn}
 use Rattle.qs_core_progress.proofs.Finished.{core_default_rounds_finish}
 use Rattle.qs_steps.specs.CoreQueues.{core_queues}

@@ -22,6 +22,6 @@ returns c =
               ∙ c.sort_unstable.ensures.sorted k c.new-out.result low (let n = length-map texts bytes in omega (arith, less, n)),
         ),
         c.in_ok-put_texts.ensures.ok
-        ∙ ap₂ (λ (l : List ℕ) (vs : List (Vec ℕ Global)). l ++ joined (map bytes vs)) c.new-out.ensures.items c.as_slice.ensures.value,
+            ∙ ap₂ (λ (l : List ℕ) (vs : List (Vec ℕ Global)). l ++ joined (map bytes vs)) c.new-out.ensures.items c.as_slice.ensures.value,
       );
     }

@@ -12,9 +12,9 @@ returns c =
     let n = c.args.number in
     let d = c.index-handler.result.now in
     let inside : n < length r.handlers = subst (λ (x : CoreState). n < length x.handlers) (sym c.self.view_is) c.requires in
-    let seat = c.index-handler.ensures ∙ ap (λ m. get_or r.handlers m d) c.from.ensures ∙ get_or-any r.handlers n d no_core_handler inside in
+    let formed = c.index-handler.ensures ∙ ap (λ m. get_or r.handlers m d) c.from.ensures ∙ get_or-any r.handlers n d no_core_handler inside in
     record {
       value = c.client.ensures.value
-          ∙ ap turns_to (c.has_next_act.ensures.seat.act ∙ ap act_of (mind_is r c.self.invariant.0 n inside d seat))
+          ∙ ap turns_to (c.has_next_act.ensures.formed.act ∙ ap act_of (mind_is r c.self.invariant.0 n inside d formed))
           ∙ ap (λ (x : CoreState). turns_to (act_of ((core_of x).handler n))) c.self.view_is;
     }

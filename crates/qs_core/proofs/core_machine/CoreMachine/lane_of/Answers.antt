@@ -1,7 +1,7 @@
 use Rattle.std.proofs.Common.{◌<◌, length, ap, sym, subst, ◌∙◌}
 use Rattle.qs_core_parts.specs.CoreClients.{turns_to}
 use Rattle.qs_core_state.specs.CoreState.{CoreState, ClientPart, codes_of, core_of}
-use Rattle.qs_core.specs.CoreDeeds.{act_at}
+use Rattle.qs_core.specs.CoreEffects.{act_at}
 use Rattle.qs_core.proofs.CoreFieldLemmas.{client_here}
 use Rattle.qs_core.proofs.CorePlaces.{wanted_is}
 use Rattle.qs_core.proofs.core_machine.CoreMachine.lane_of.Goals as goal
@@ -15,6 +15,6 @@ returns c =
     let here = client_here r.clients n c.from.result d c.from.ensures inside c.index-client.ensures in
     record {
       value = c.handler.ensures.value
-          ∙ ap turns_to (wanted_is r c.self.invariant.0 n inside d c.has_next_act.ensures.seat (sym (ap (λ (x : ClientPart). x.mind) here)))
+          ∙ ap turns_to (wanted_is r c.self.invariant.0 n inside d c.has_next_act.ensures.formed (sym (ap (λ (x : ClientPart). x.mind) here)))
           ∙ ap (λ (x : CoreState). turns_to (act_at (codes_of x) x.size (core_of x) n)) c.self.view_is;
     }

@@ -5,9 +5,9 @@ use Rattle.qs_core_parts.specs.CarriedRequests.{sent_requests}
 use Rattle.qs_core_parts.specs.CoreHandlers.{core_handler_at, handler_with_act}
 use Rattle.qs_core_parts.specs.LaneStates.{lane_at}
 use Rattle.qs_core_state.specs.CoreState.{CoreState, codes_of, core_of, client_part_at}
-use Rattle.qs_core.specs.CoreDeeds.{core_requests, requests_of_handler}
+use Rattle.qs_core.specs.CoreEffects.{core_requests, requests_of_handler}
 use Rattle.qs_core_shown.specs.CoreShown.{TurnsTo}
-use Rattle.qs_core.proofs.CoreDeeds.{client_sends, handler_takes, no_client_sends, no_handler_takes}
+use Rattle.qs_core.proofs.CoreEffects.{client_sends, handler_takes, no_client_sends, no_handler_takes}
 use Rattle.qs_core_shown.proofs.CoreReadings.{turns_in}
 use Rattle.qs_core.proofs.core_machine.CoreMachine.requests.Goals as goal
 

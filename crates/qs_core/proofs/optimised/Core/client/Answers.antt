@@ -2,7 +2,7 @@ use Rattle.std.proofs.Common.{◌<◌, ap, arith, length, sym, subst, ◌∙◌}
 use Rattle.qs_program.specs.Sound.{IsSound}
 use Rattle.qs_core_state.specs.CoreState.{CoreState, codes_of, core_of, client_part_at}
 use Rattle.qs_core_state.proofs.CoreReaching.{core_keeps}
-use Rattle.qs_core.specs.CoreDeeds.{AreLanesOf, act_at}
+use Rattle.qs_core.specs.CoreEffects.{AreLanesOf, act_at}
 use Rattle.qs_core.proofs.CorePlaces.{lanes_are, turned_is, wanted_is}
 use Rattle.qs_core.proofs.optimised.Core.client.Goals as goal
 
@@ -19,11 +19,11 @@ returns c =
     let d = c.client_at-client.result.now in
     let mind = c.client_at-client.ensures.mind ∙ (λ k. (client_part_at (c.clients.ensures.value k) (c.from.ensures k)).mind) in
     let lanes = c.client_at-client.ensures.lanes ∙ (λ k. (client_part_at (c.clients.ensures.value k) (c.from.ensures k)).lanes) in
-    let seat = c.has_next_act.ensures.seat in
+    let formed = c.has_next_act.ensures.formed in
     let keeps = core_keeps s (subst IsSound c.program.ensures.value c.keeps_sound.ensures.sound) kept c.self.invariant.0 in
     record {
-      act = wanted_is s kept n inside d seat mind ∙ ap (λ (x : CoreState). act_at (codes_of x) x.size (core_of x) n) c.self.view_is;
-      turned = λ h turned. subst (λ (x : CoreState). h < length x.program.objects) c.self.view_is (turned_is s kept n inside d seat mind keeps h turned);
+      act = wanted_is s kept n inside d formed mind ∙ ap (λ (x : CoreState). act_at (codes_of x) x.size (core_of x) n) c.self.view_is;
+      turned = λ h turned. subst (λ (x : CoreState). h < length x.program.objects) c.self.view_is (turned_is s kept n inside d formed mind keeps h turned);
       many = ap length lanes ∙ (kept.sides n inside).lanes ∙ ap (λ (x : CoreState). length x.program.objects) c.self.view_is;
       lanes = subst (λ (x : CoreState). AreLanesOf (core_of x) n d.lanes) c.self.view_is (subst (AreLanesOf (core_of s) n) (sym lanes) (lanes_are s kept n inside));
     }

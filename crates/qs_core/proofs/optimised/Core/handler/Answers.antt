@@ -13,8 +13,8 @@ returns c =
     let s = c.self.inside.machine in
     let h = c.args.handler in
     let inside : h < length s.handlers = omega (arith, c.requires, c.keeps_machine.ensures.state.handlers, ap (λ (x : CoreState). length x.program.objects) c.self.view_is) in
-    let seat = c.handler_at.ensures.seat ∙ ap (λ hs. core_handler_at hs h) c.handlers.ensures.value in
+    let formed = c.handler_at.ensures.formed ∙ ap (λ hs. core_handler_at hs h) c.handlers.ensures.value in
     record {
-      mind = mind_is s c.keeps_machine.ensures.state h inside c.handler_at.result.now seat ∙ ap (λ (x : CoreState). (core_of x).handler h) c.self.view_is;
-      tickets = queue_is s c.keeps_machine.ensures.state h inside c.handler_at.result.now seat ∙ ap (λ (x : CoreState). (core_of x).tickets h) c.self.view_is;
+      mind = mind_is s c.keeps_machine.ensures.state h inside c.handler_at.result.now formed ∙ ap (λ (x : CoreState). (core_of x).handler h) c.self.view_is;
+      tickets = queue_is s c.keeps_machine.ensures.state h inside c.handler_at.result.now formed ∙ ap (λ (x : CoreState). (core_of x).tickets h) c.self.view_is;
     }

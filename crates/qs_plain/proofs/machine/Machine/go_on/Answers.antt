@@ -12,13 +12,13 @@ use Rattle.qs_plain_client.specs.Clients.{ClientState, IsClient, client_state_at
 use Rattle.qs_plain_client.specs.Frames.{load_left}
 use Rattle.qs_plain_client.specs.declared.client.Asked.TheVariants as asked
 use Rattle.qs_plain_client.specs.declared.stage.Stage.TheVariants as stage
-use Rattle.qs_plain_handler.specs.Deeds.{plain_deed}
-use Rattle.qs_plain_handler.specs.declared.deed.Deed.TheVariants as deeds
+use Rattle.qs_plain_handler.specs.Effects.{plain_effect}
+use Rattle.qs_plain_handler.specs.declared.effect.Effect.TheVariants as effects
 use Rattle.qs_plain.specs.declared.did.Did.TheVariants as dids
 use Rattle.qs_plain_handler.specs.Handlers.{CanLog, logged_at}
 use Rattle.qs_plain.specs.Rules.{IsRules, RulesState, plain_of, to_come}
 use Rattle.qs_plain.specs.Told.{last_ticket}
-use Rattle.qs_plain.proofs.RulesDeeds.{deed_within, told_by}
+use Rattle.qs_plain.proofs.RulesEffects.{effect_within, told_by}
 use Rattle.qs_plain.proofs.RulesGo.{can_log, can_log_all, moved_to_come, asked_kept, ended_kept, command_steps, query_steps, end_steps}
 use Rattle.qs_plain.proofs.RulesFieldLemmas.{within_of, stage_of, here_of, made_kept, made_steps, can_log_all_of, logged_all_of}
 use Rattle.qs_plain.proofs.machine.Machine.go_on.Goals.{After-begun}
@@ -127,14 +127,14 @@ returns-in-Command c =
     let request = request_of new.locals call.now in
     let goes = subst (λ d. AsksNext (asked.Command call) d new) k.here c.in-Command.ensures.goes in
     let same = c.log_command.ensures.logged ∙ (λ i. logged_at (k.now i) (item.Command (c.request-request.ensures.value i)) c.self.inside.handlers.items call.now.object) in
-    let deed = subst (λ (x : RulesState). plain_deed (plain_of x) (actor.Client c.args.number) ≡ Some (deeds.Logs request)) c.self.view_is (deed_within r c.args.number _ k.stays goes.0) in
+    let effect = subst (λ (x : RulesState). plain_effect (plain_of x) (actor.Client c.args.number) ≡ Some (effects.Logs request)) c.self.view_is (effect_within r c.args.number _ k.stays goes.0) in
     record {
       steps = (
         made_steps r _ (actor.Client c.args.number) _ _ c.args.number c.from.result new _ c.log_command.new.handlers.items c.self.view_is c.from.ensures same refl (command_steps r k.kept k.sound c.args.number k.less k.isc k.stays request new.locals new.frames new goes.0 goes.1),
         ap (λ (x : RulesState). x.program) c.self.view_is,
       );
       stepped = refl;
-      told = told_by (dids.Logged call) _ r c.self.inside.order.items c.args.number c.from.result new c.log_command.new.handlers.items c.from.ensures k.less c.in-Command.ensures.short deed;
+      told = told_by (dids.Logged call) _ r c.self.inside.order.items c.args.number c.from.result new c.log_command.new.handlers.items c.from.ensures k.less c.in-Command.ensures.short effect;
     }
 
 pub returns-in-Query : goal.returns-in-Query
@@ -146,14 +146,14 @@ returns-in-Query c =
     let request = request_of new.locals call.now in
     let goes = subst (λ d. AsksNext (asked.Query call) d new) k.here c.in-Query.ensures.goes in
     let same = c.log_query.ensures.logged ∙ (λ i. logged_at (k.now i) (item.Query (c.request-request-in-Query.ensures.value i)) c.self.inside.handlers.items call.now.object) in
-    let deed = subst (λ (x : RulesState). plain_deed (plain_of x) (actor.Client c.args.number) ≡ Some (deeds.Asks request)) c.self.view_is (deed_within r c.args.number _ k.stays goes.1) in
+    let effect = subst (λ (x : RulesState). plain_effect (plain_of x) (actor.Client c.args.number) ≡ Some (effects.Asks request)) c.self.view_is (effect_within r c.args.number _ k.stays goes.1) in
     record {
       steps = (
         made_steps r _ (actor.Client c.args.number) _ _ c.args.number c.from.result new _ c.log_query.new.handlers.items c.self.view_is c.from.ensures same refl (query_steps r k.kept k.sound c.args.number k.less k.isc k.stays request goes.0 new.locals new.frames new goes.1 goes.2),
         ap (λ (x : RulesState). x.program) c.self.view_is,
       );
       stepped = refl;
-      told = told_by (dids.Asked call) _ r c.self.inside.order.items c.args.number c.from.result new c.log_query.new.handlers.items c.from.ensures k.less c.in-Query.ensures.short deed;
+      told = told_by (dids.Asked call) _ r c.self.inside.order.items c.args.number c.from.result new c.log_query.new.handlers.items c.from.ensures k.less c.in-Query.ensures.short effect;
     }
 
 pub returns-in-End : goal.returns-in-End
@@ -164,13 +164,13 @@ returns-in-End c =
     let new = c.ask.new.self in
     let goes = subst (λ d. AsksNext asked.End d new) k.here c.in-End.ensures.goes in
     let same = logged_all_of _ _ item.EndMark c.self.inside.handlers.items c.log_all.new.handlers.items _ _ k.now block c.log_all.ensures.logged in
-    let deed = subst (λ (x : RulesState). plain_deed (plain_of x) (actor.Client c.args.number) ≡ Some (deeds.Ends (last_ticket c.args.number new))) c.self.view_is
-    (deed_within r c.args.number _ k.stays goes.0 ∙ ap (λ (d : ClientState). Some (deeds.Ends (last_ticket c.args.number d))) (sym goes.1)) in
+    let effect = subst (λ (x : RulesState). plain_effect (plain_of x) (actor.Client c.args.number) ≡ Some (effects.Ends (last_ticket c.args.number new))) c.self.view_is
+    (effect_within r c.args.number _ k.stays goes.0 ∙ ap (λ (d : ClientState). Some (effects.Ends (last_ticket c.args.number d))) (sym goes.1)) in
     record {
       steps = (
         made_steps r _ (actor.Client c.args.number) _ _ c.args.number c.from.result new _ c.log_all.new.handlers.items c.self.view_is c.from.ensures same refl (end_steps r k.kept k.sound c.args.number k.less k.isc k.stays new.locals new goes.0 goes.1),
         ap (λ (x : RulesState). x.program) c.self.view_is,
       );
       stepped = refl;
-      told = told_by dids.Ended _ r c.self.inside.order.items c.args.number c.from.result new c.log_all.new.handlers.items c.from.ensures k.less tt deed;
+      told = told_by dids.Ended _ r c.self.inside.order.items c.args.number c.from.result new c.log_all.new.handlers.items c.from.ensures k.less tt effect;
     }

@@ -6,12 +6,12 @@ use Rattle.qs_plain_client.specs.ClientMoves.{Begins}
 use Rattle.qs_played.specs.Played.{ticket}
 use Rattle.qs_plain_client.specs.Clients.{ClientState, IsClient, client_state_at}
 use Rattle.qs_plain_client.specs.declared.stage.Stage.TheVariants as stage
-use Rattle.qs_plain_handler.specs.Deeds.{plain_deed}
+use Rattle.qs_plain_handler.specs.Effects.{plain_effect}
 use Rattle.qs_plain.specs.Rules.{to_come, RulesState, plain_of}
 use Rattle.qs_plain.specs.Told.{last_ticket}
-use Rattle.qs_plain_handler.specs.declared.deed.Deed.TheVariants as deeds
+use Rattle.qs_plain_handler.specs.declared.effect.Effect.TheVariants as effects
 use Rattle.qs_plain.specs.declared.did.Did.TheVariants as dids
-use Rattle.qs_plain.proofs.RulesDeeds.{deed_out, told_by}
+use Rattle.qs_plain.proofs.RulesEffects.{effect_out, told_by}
 use Rattle.qs_plain.proofs.RulesBegin.{can_enter, begun_rules, fewer, separate_steps}
 use Rattle.qs_plain.proofs.RulesFieldLemmas.{within_of, stage_of, here_of, made_kept, made_steps, longer_order}
 use Rattle.qs_plain.proofs.machine.Machine.separate.Goals as goal
@@ -50,8 +50,8 @@ returns c =
     let before = client_state_at r.clients c.args.number in
     let more : length c.begin-queues.new.self.entries ≡ length before.entries + 1 = ap (λ (d : ClientState). length d.entries) begins.client ∙ length-append before.entries (before.locals ∷ []) in
     let last : length before.entries ≡ length c.begin-queues.new.self.entries - 1 = omega (arith, more) in
-    let deed = subst (λ (x : RulesState). plain_deed (plain_of x) (actor.Client c.args.number) ≡ Some (deeds.Reserves (last_ticket c.args.number c.begin-queues.new.self))) c.self.view_is
-    (deed_out r c.args.number out ∙ ap (λ n. Some (deeds.Reserves (ticket c.args.number n))) last) in
+    let effect = subst (λ (x : RulesState). plain_effect (plain_of x) (actor.Client c.args.number) ≡ Some (effects.Reserves (last_ticket c.args.number c.begin-queues.new.self))) c.self.view_is
+    (effect_out r c.args.number out ∙ ap (λ n. Some (effects.Reserves (ticket c.args.number n))) last) in
     record {
       steps = (
         made_steps _ _ (actor.Client c.args.number) _ c.push_reserved.new.self.items c.args.number c.from.result c.begin-queues.new.self _ c.enter_all.new.handlers.items c.self.view_is c.from.ensures c.enter_all.ensures.entered
@@ -59,5 +59,5 @@ returns c =
             (separate_steps _ c.self.invariant.0 c.keeps_sound.ensures.sound c.args.number less isc out c.begin-queues.result.items c.begin-queues.new.self begins),
         ap (λ (r : RulesState). r.program) c.self.view_is,
       );
-      told = told_by dids.Reserved _ r c.push_reserved.new.self.items c.args.number c.from.result c.begin-queues.new.self c.enter_all.new.handlers.items c.from.ensures less tt deed;
+      told = told_by dids.Reserved _ r c.push_reserved.new.self.items c.args.number c.from.result c.begin-queues.new.self c.enter_all.new.handlers.items c.from.ensures less tt effect;
     }

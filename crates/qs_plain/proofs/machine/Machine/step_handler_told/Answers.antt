@@ -1,21 +1,21 @@
 use Rattle.std.proofs.Common.{ap, sym, ◌∙◌, Some, length, map}
-use Rattle.qs_plain_handler.specs.Deeds.{deed_of_queues, unanswered}
+use Rattle.qs_plain_handler.specs.Effects.{effect_of_queues, unanswered}
 use Rattle.qs_plain_handler.specs.Handlers.{handler_state_at}
 use Rattle.qs_plain.specs.Rules.{RulesState}
 use Rattle.qs_plain_handler.specs.Served.{HandlerState}
-use Rattle.qs_plain.proofs.RulesDeeds.{deed_served}
+use Rattle.qs_plain.proofs.RulesEffects.{effect_served}
 use Rattle.qs_plain.proofs.RulesFieldLemmas.{handlers_within, handler_here}
 use Rattle.qs_plain.proofs.machine.Machine.step_handler_told.Goals as goal
 
-pub returns-clause-deed : goal.returns-clause-deed
-returns-clause-deed c =
+pub returns-clause-effect : goal.returns-clause-effect
+returns-clause-effect c =
     let number = c.args.number in
     let old = c.args.self.now in
     let r : RulesState = record { program = c.self.inside.program.now; order = c.self.inside.order.items; clients = c.self.inside.clients.items; handlers = c.self.inside.handlers.items } in
     let less = handlers_within _ _ number c.self.view_is c.requires in
     let here = handler_here r.handlers number _ c.index-handler.result.now c.from.ensures less c.index-handler.ensures ∙ ap (λ (x : RulesState). handler_state_at x.handlers number) c.self.view_is in
-    deed_served old c.step_handler.new.self number c.in_ok-deed.deed c.reply_after-reply.result c.served-before.result c.requires c.if-not-step_handler.ensures.steps
-    (c.in_ok-deed.ensures.value ∙ ap (λ (x : HandlerState). unanswered (deed_of_queues x.held (map (λ q. q.queue) x.queues))) here)
+    effect_served old c.step_handler.new.self number c.in_ok-effect.effect c.reply_after-reply.result c.served-before.result c.requires c.if-not-step_handler.ensures.steps
+    (c.in_ok-effect.ensures.value ∙ ap (λ (x : HandlerState). unanswered (effect_of_queues x.held (map (λ q. q.queue) x.queues))) here)
     (c.served-before.ensures.value ∙ ap (λ (x : HandlerState). length x.held.journal) here)
     c.reply_after-reply.ensures.value
     ∙ ap Some (sym c.answered.ensures.value)

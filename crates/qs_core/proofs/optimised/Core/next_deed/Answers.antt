@@ -1,7 +1,0 @@
-use Rattle.std.proofs.Common.{subst}
-use Rattle.qs_program.specs.Sound.{IsSound}
-use Rattle.qs_core_state.proofs.CoreReaching.{core_keeps}
-use Rattle.qs_core.proofs.optimised.Core.next_deed.Goals as goal
-
-pub next_deed-requires : goal.next_deed-requires
-next_deed-requires c = record { keeps = core_keeps c.self.inside.machine (subst IsSound c.program.ensures.value c.keeps_sound.ensures.sound) c.keeps_machine.ensures.state c.self.invariant.0 }

@@ -1,0 +1,125 @@
+-- What a step did is what the plain rules' definition says of it. The contracts of `go_on`, `separate` and
+-- `step_handler_told` promise this. A client's effect follows from what its frames ask. A handler's effect is read before
+-- its step, but for a query's reply: that is read after the step, from the entry that the journal has more.
+use Rattle.std.proofs.Common.{◌≡◌, ◌<◌, ℕ, ◌-◌, Bool, true, false, if◌then◌else◌, List, [], ◌∷◌, ◌++◌, map, length, drop, refl, ap, sym, subst, ◌∙◌, Option, Some, None, ℤ, get_or-set_same, length-set}
+use Rattle.std.proofs.Math.ListN.{set}
+use Rattle.std.proofs.lemmas.List.{length-map}
+use Rattle.qs_objects.specs.Act.{act}
+use Rattle.qs_objects.specs.Journals.{HeldState, has_room, run_one, with_entry}
+use Rattle.qs_objects.specs.declared.held.Entry.{Entry}
+use Rattle.qs_objects.specs.declared.held.Ticket.{Ticket}
+use Rattle.qs_objects.specs.declared.Request.{Request}
+use Rattle.qs_meaning.specs.Interaction.{Interaction}
+use Rattle.qs_played.specs.Played.{ticket}
+use Rattle.qs_played.specs.Schedule.{or_stay}
+use Rattle.qs_played.specs.declared.schedule.actor.Actor.TheVariants as actor
+use Rattle.qs_plain_laws.specs.Plain.{Client, Handler, Plain, Private, item_step, no_handler, queue_step, step}
+use Rattle.qs_plain_laws.specs.Plain as plain
+use Rattle.qs_plain_laws.specs.declared.item.QueueItem.{QueueItem}
+use Rattle.qs_plain_laws.specs.declared.item.QueueItem.TheVariants as item
+use Rattle.qs_plain_client.specs.Clients.{ClientState, absent, client_state_at, client_of_state, stage_of}
+use Rattle.qs_plain_client.specs.Frames.{next_of}
+use Rattle.qs_plain_client.specs.declared.stage.Stage.TheVariants as stage
+use Rattle.qs_plain_handler.specs.Effects.{answered, effect_of_client, effect_of_queue, effect_of_queues, effect_of_rest, plain_effect, reply_in, reply_of, unanswered}
+use Rattle.qs_plain_handler.specs.Handlers.{handler_state_at}
+use Rattle.qs_plain.specs.Rules.{RulesState, Steps, plain_of}
+use Rattle.qs_plain_handler.specs.declared.effect.Effect.{Effect}
+use Rattle.qs_plain_handler.specs.declared.effect.Effect.TheVariants as effect
+use Rattle.qs_plain_handler.specs.Served.{HandlerState}
+use Rattle.qs_plain.specs.Told.{IsShortStep, IsTold, effect_of_did, last_ticket}
+use Rattle.qs_plain.specs.declared.did.Did.{Did}
+use Rattle.qs_plain.proofs.RulesFieldLemmas.{new_rules}
+use Rattle.qs_plain.proofs.RulesSteps.{plain_client, plain_handler}
+
+-- a client in a block, by what its frames ask
+pub effect_within : (r : RulesState) (c : ℕ) (rest : Interaction) → (client_state_at r.clients c).stage ≡ stage.Within → next_of (client_state_at r.clients c).frames (client_state_at r.clients c).locals ≡ rest
+    → plain_effect (plain_of r) (actor.Client c) ≡ Some (effect_of_rest (ticket c (length (client_state_at r.clients c).entries - 1)) rest)
+effect_within r c rest stays is =
+    let d = client_state_at r.clients c in
+    ap (λ (it : Client). effect_of_client c it it.stage) (plain_client r.clients c)
+    ∙ ap (λ s. effect_of_client c (client_of_state d) (stage_of s d.frames d.locals)) stays
+    ∙ ap (λ tree. Some (effect_of_rest (ticket c (length d.entries - 1)) tree)) is
+
+-- and between two blocks
+pub effect_out : (r : RulesState) (c : ℕ) → (client_state_at r.clients c).stage ≡ stage.Out
+    → plain_effect (plain_of r) (actor.Client c) ≡ Some (effect.Reserves (ticket c (length (client_state_at r.clients c).entries)))
+effect_out r c stays =
+    let d = client_state_at r.clients c in
+    ap (λ (it : Client). effect_of_client c it it.stage) (plain_client r.clients c)
+    ∙ ap (λ s. effect_of_client c (client_of_state d) (stage_of s d.frames d.locals)) stays
+
+-- the client that has moved
+moved_here : (cs : List ClientState) (c n : ℕ) (new : ClientState) → n ≡ c → c < length cs → client_state_at (set cs n new) c ≡ new
+moved_here cs c n new is less = ap (λ m. client_state_at (set cs m new) c) is ∙ get_or-set_same cs c new absent less
+
+-- and what it did is told by it
+pub told_by : (it : Did) (before : Plain) (r : RulesState) (order : List Ticket) (c n : ℕ) (new : ClientState) (hs : List HandlerState) → n ≡ c → c < length r.clients → IsShortStep it
+    → plain_effect before (actor.Client c) ≡ effect_of_did it new.locals (last_ticket c new) → IsTold it before c (new_rules r order n new hs)
+told_by it before r order c n new hs is less short effect = record {
+  there = subst (λ k. c < k) (sym (length-set r.clients n new)) less;
+  short = short;
+  effect = effect ∙ ap (λ (d : ClientState). effect_of_did it d.locals (last_ticket c d)) (sym (moved_here r.clients c n new is less));
+}
+
+-- the effect with its reply
+answer : Option ℤ → Option Effect → Option Effect
+answer reply None = None
+answer reply (Some d) = Some (answered reply d)
+
+past : (xs : List Entry) (e : Entry) → reply_of (drop (length xs) (xs ++ e ∷ [])) ≡ e.reply
+past [] e = refl
+past (x ∷ xs) e = past xs e
+
+none_past : (xs : List Entry) → reply_of (drop (length xs) xs) ≡ None
+none_past [] = refl
+none_past (x ∷ xs) = none_past xs
+
+-- what has run has its reply in the journal's next entry
+replied : (x : HeldState) (t : Ticket) (r : Request) → reply_in (run_one x t r).0.journal (length x.journal) ≡ (run_one x t r).1
+replied x t r = by_room (has_room x)
+  where
+    by_room : (b : Bool) → reply_in (if b then with_entry x t r (act x.object r.op r.args) else (x, None)).0.journal (length x.journal) ≡ (if b then with_entry x t r (act x.object r.op r.args) else (x, None)).1
+    by_room true = past x.journal (record { ticket = t; request = r; reply = (act x.object r.op r.args).1 })
+    by_room false = none_past x.journal
+
+module _ (s t : Plain) (h : ℕ) (less : h < length s.handlers) where
+  abbrev it : Handler
+  it = plain.handler_at s.handlers h
+
+  abbrev reply : Option ℤ
+  reply = reply_in (plain.handler_at t.handlers h).held.journal (length it.held.journal)
+
+  by_items : (q : Private) (qs : List Private) (items : List QueueItem) (first : Effect) → item_step s h it q qs items ≡ Some t → unanswered (effect_of_queue q.ticket it.held items) ≡ Some first
+      → effect_of_queue q.ticket it.held items ≡ answer reply (Some first)
+  unfolding answer
+  by_items q qs [] first e is = cc
+  by_items q qs (item.Command r ∷ items) first e is = ap (answer reply) is
+  by_items q qs (item.Query r ∷ items) first e is = ap (λ v. Some (effect.Answers q.ticket r v)) (sym there) ∙ ap (answer reply) is
+    where
+      held_then : HeldState
+      held_then = (run_one it.held q.ticket r).0
+
+      there : reply ≡ (run_one it.held q.ticket r).1
+      there =
+          ap (λ (x : Plain). reply_in (plain.handler_at x.handlers h).held.journal (length it.held.journal)) (sym (ap (or_stay s) e))
+          ∙ ap (λ (x : Handler). reply_in x.held.journal (length it.held.journal)) (get_or-set_same s.handlers h _ no_handler less)
+          ∙ replied it.held q.ticket r
+  by_items q qs (item.EndMark ∷ items) first e is = ap (answer reply) is
+
+  by_queues : (qs : List Private) (first : Effect) → queue_step s h it qs ≡ Some t → unanswered (effect_of_queues it.held qs) ≡ Some first → effect_of_queues it.held qs ≡ answer reply (Some first)
+  by_queues [] first e is = cc
+  by_queues (q ∷ qs) first e is = by_items q qs q.items first e is
+
+-- a handler's effect, read before its step but for the reply
+pub effect_served : (r new : RulesState) (h : ℕ) (first : Effect) (value : Option ℤ) (before : ℕ) → h < length r.handlers → Steps r (actor.Handler h) new
+    → Some first ≡ unanswered (effect_of_queues (handler_state_at r.handlers h).held (map (λ q. q.queue) (handler_state_at r.handlers h).queues))
+    → before ≡ length (handler_state_at r.handlers h).held.journal → value ≡ reply_in (handler_state_at new.handlers h).held.journal before
+    → plain_effect (plain_of r) (actor.Handler h) ≡ Some (answered value first)
+unfolding answer
+effect_served r new h first value before less steps is many replies =
+    let here = plain_handler r.handlers h in
+    let there = plain_handler new.handlers h in
+    by_queues (plain_of r) (plain_of new) h (subst (λ n. h < n) (sym (length-map r.handlers _)) less) _ first steps.0
+    (ap (λ (x : Handler). unanswered (effect_of_queues x.held x.queues)) here ∙ sym is)
+    ∙ ap (λ v. Some (answered v first))
+    (sym (replies ∙ (λ k. reply_in (sym there k).held.journal (many k)) ∙ (λ k. reply_in (plain.handler_at (plain_of new).handlers h).held.journal (length (sym here k).held.journal))))

@@ -1,7 +1,0 @@
--- None of the bytes before this one is a LF.
-use Rattle.std.proofs.Common.{◌≡◌, ◌+◌, drop}
-use Rattle.qs_told.specs.Spots.{line_length}
-use Rattle.qs_told.proofs.spot.line_end.Given as goal
-
-abbrev pub invariant-loop-i : goal.invariant-loop-i
-invariant-loop-i l = line_length (drop l.fn.from l.fn.text) ≡ l.i + line_length (drop l.i (drop l.fn.from l.fn.text))

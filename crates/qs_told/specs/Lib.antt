@@ -1,5 +1,0 @@
--- What an auditor reads: the promises and the calls of the surface are said with these.
-pub mod Spots
--- What crates promise one another, what proofs use, and worked examples.
-pub mod Excerpts
-pub mod Told
