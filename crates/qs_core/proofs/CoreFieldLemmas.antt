@@ -96,7 +96,7 @@ module _ (r s : CoreState) (view : r ≡ s) (kept : IsCoreState r) (keeps : Core
     pub go_none : (d.act ≡ wants.Reserve → ⊥) → b ≡ false → core_step (codes_of s) s.size (core_of s) (actor.Client c) ≡ None
     go_none other e = subst (λ y. core_step (codes_of y) y.size (core_of y) (actor.Client c) ≡ None) view (client_rests r kept c inside d here formed ok has_lane (stays e) other)
 
-  -- the formed is the one in the list
+  -- the part is the one in the list
   pub formed_is : get_or s.clients c d ≡ d
   formed_is = ap (λ (x : CoreState). get_or x.clients c d) (sym view) ∙ sym (value ∙ ap (λ m. get_or r.clients m d) number)
 

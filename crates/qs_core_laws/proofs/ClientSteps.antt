@@ -1,6 +1,7 @@
 -- An act of a client in its block keeps the invariant of the optimised machine, once it is known what the act does to
 -- the objects. The three kinds of such acts (`send_kept`, `get_kept`, `chunk_kept`) stand on `client_moves`. Only the
--- block_record and the lanes of the client's current ticket change, so each ticket is either this one or stays as it was.
+-- block record and the lanes of the client's current ticket change, so each ticket is either this one or stays as it
+-- was.
 use Rattle.std.proofs.Common.{◌≡◌, ◌<◌, ◌≤◌, arith, ℕ, suc, Bool, true, false, if◌then◌else◌, ◌==◌, List, [], ◌++◌, filter, sym, ap, ◌∙◌, subst, ⊎_elim, Option, None}
 use Rattle.qs_sync_counts.specs.declared.sync_counts.SyncCount.{SyncCount}
 use Rattle.qs_objects.specs.Journals.{HeldState}

@@ -144,7 +144,7 @@ module _ (program : ProgramShape) (sound : IsSound program) (s : Core) (y : Lane
       ap chunk_of (k.older t.client t.index (omega (arith, ne, lt)) h m.0) ∙ sym (chunk_none t other))
       (num_cases (s.client t.client).begun (suc t.index))
 
-  -- what an object's part of a block_record is where the block doesn't reserve it
+  -- what an object's part of a block record is where the block doesn't reserve it
   pub part_out : (t : Ticket) → TicketOk program y t → reserves program t h ≡ false → parts_of y.block_record h t ≡ []
   part_out t told out = unnamed (reserves program t) (block_tree program t (y.block_record t).entry) (y.block_record t).trace (y.block_record t).rest h (blocks_ask_only program sound t (y.block_record t).entry) told.block_record.path out
 

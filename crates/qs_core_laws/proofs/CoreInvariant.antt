@@ -1,7 +1,7 @@
--- This file defines the invariant of the optimised machine: for each ticket its block_record, for each ticket and object what
--- was sent and got, and how the machine's state goes on with this history. The proof of isolation keeps it through each
--- step and reads the journals off it. A client's history and an object's are kept apart, each by its own records, and
--- meet in what lies in the lanes.
+-- This file defines the invariant of the optimised machine: for each ticket its block record, for each ticket and
+-- object what was sent and got, and how the machine's state goes on with this history. The proof of isolation keeps it
+-- through each step and reads the journals off it. A client's history and an object's are kept apart, each by its own
+-- records, and meet in what lies in the lanes.
 use Rattle.std.proofs.Common.{◌≡◌, ◌<◌, ◌≤◌, ℕ, suc, true, false, List, [], filter}
 use Rattle.std.specs.List.{AllByRecursion}
 use Rattle.qs_objects.specs.Journals.{HeldState}
@@ -22,7 +22,7 @@ use Rattle.qs_protocol.proofs.ObjectViews.{as_list, ObjectView, ClientLog, Handl
 use Rattle.qs_played.specs.JournalRooms.{fresh_held}
 use Rattle.qs_core_laws.specs.Core.{Core}
 
--- of each ticket its block_record, and for each object what its client sent and got, and how it stands
+-- of each ticket its block record, and for each object what its client sent and got, and how it stands
 pub record LaneHistory : Type 0 where
   pub block_record : Ticket → BlockRecord
   pub sent : Ticket → ℕ → List Parcel
@@ -35,7 +35,7 @@ post s h = record { handler = s.handler h; tickets = s.tickets h; down = λ c. s
 abbrev pub deeds : LaneHistory → ℕ → ClientLog
 deeds y h = record { sent = λ t. y.sent t h; got = λ t. y.got t h; events = λ t. part h (y.block_record t).trace; stands = λ t. y.stands t h }
 
--- a ticket's block_record and lanes; where it has left an object, the block is over
+-- a ticket's block record and lanes; where it has left an object, the block is over
 pub record TicketOk (program : ProgramShape) (y : LaneHistory) (t : Ticket) : Type 0 where
   pub block_record : IsOpenRecord program t (y.block_record t)
   pub begins : Begins y.block_record t.client t.index (y.block_record t).entry

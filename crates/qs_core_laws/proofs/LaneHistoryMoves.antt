@@ -1,7 +1,7 @@
--- Where the block_record and the lanes of one ticket are replaced in a history of lanes, what has to hold of each ticket
--- (`TicketOk`) holds of that one, and still of every other. The lemmas on a client's act and on a reservation use this
--- for the client's last ticket. A ticket is either this one or stays as it was; none begins with what this one left, as
--- it is its client's last.
+-- Where the block record and the lanes of one ticket are replaced in a history of lanes, what has to hold of each
+-- ticket (`TicketOk`) holds of that one, and still of every other. The lemmas on a client's act and on a reservation
+-- use this for the client's last ticket. A ticket is either this one or stays as it was; none begins with what this one
+-- left, as it is its client's last.
 use Rattle.std.proofs.Common.{◌≡◌, ◌≤◌, ℕ, zero, suc, false, List, arith, refl, sym, ap, ◌∙◌, subst, ⊎_elim}
 use Rattle.qs_objects.specs.Journals.{HeldState}
 use Rattle.qs_objects.specs.Parts.{part, same}

@@ -52,7 +52,7 @@ whole_again m r = λ k. record {
   outgoing = (comes_to m r).outgoing;
 }
 
--- a formed with the next act of a mind that has come to it
+-- a part with the next act of a mind that has come to it
 pub record IsFormedOf (n : ClientModel) (s : CoreClientState) : Type 0 where
   pub whole_is : whole_of s ≡ n
   pub formed : IsCoreClient s
@@ -102,7 +102,7 @@ module _ (s : CoreClientState) (kept : IsCoreClient s) where
   pub mind_is : (act : Act) → s.act ≡ act → hands_out own act ≡ own → mind_of s.mind ≡ own
   mind_is act is same = kept.mind ∙ ap (hands_out own) is ∙ same
 
--- what a client did at its lane to handler h, by its formed before and after it
+-- what a client did at its lane to handler h, by its part before and after it
 module _ (s : CoreClientState) (kept : IsCoreClient s) (t : CoreClientState) (h : ℕ) where
   abbrev pub lane : LaneState
   lane = lane_at s.lanes h
@@ -173,7 +173,7 @@ send_same a h g p q one other =
     handler_in (acts.NeedChunk n) = 0
     handler_in acts.Finished = 0
 
--- the same, as the code says it: `now` is the formed, n the handler's number, and l its lane
+-- the same, as the code says it: `now` is the part, n the handler's number, and l its lane
 module _ (s now : CoreClientState) (kept : IsCoreClient s) (same : s ≡ now) (h n : ℕ) (number : n ≡ h) (there : h < length now.lanes) (l : LaneState) (l_is : l ≡ get_or s.lanes n l) where
   inside : h < length s.lanes
   inside = subst (λ (x : CoreClientState). h < length x.lanes) (sym same) there

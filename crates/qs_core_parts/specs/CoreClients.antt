@@ -87,7 +87,7 @@ is_reserve (acts.Await h) = false
 is_reserve (acts.NeedChunk h) = false
 is_reserve acts.Finished = false
 
--- a handler came to this by a step at the client's lane to it, and the client's formed to this with the lane as it is
+-- a handler came to this by a step at the client's lane to it, and the client's part to this with the lane as it is
 -- then
 pub record Meets (h : ℕ) (old : CoreClientState) (handler : CoreHandlerState) (new : CoreClientState)
     (later : CoreHandlerState) : Type 0 where

@@ -197,7 +197,7 @@ module _ (s : CoreState) (kept : IsCoreState s) (c : ℕ) (inside : c < length s
       by_act (wants.NeedChunk h) e = waits h (ap turns_to e)
       by_act wants.Finished e = ends e
 
--- a handler's step at the lane of client c, whose formed is `guest`
+-- a handler's step at the lane of client c, whose part is `guest`
 module _ (s : CoreState) (kept : IsCoreState s) (h : ℕ) (inside : h < length s.handlers) (old : CoreHandlerState) (here : core_handler_of s.program s.handlers h ≡ handler_with_act old)
     (queue : tickets_at s.handlers h ≡ old.tickets) (formed : IsCoreHandler old) (roomy : all_blocks s.program ≤ old.room)
     (c : ℕ) (turned : forms.turns_to old.act ≡ Some c) (there : c < length s.clients) (guest : CoreClientState) (found : client_part_at s.clients c ≡ client_part guest) (stocked : AreStocked guest) where
@@ -225,7 +225,7 @@ module _ (s : CoreState) (kept : IsCoreState s) (h : ℕ) (inside : h < length s
     abbrev next : Handler
     next = moves.0
 
-    -- the client's formed with the lane as it is then
+    -- the client's part with the lane as it is then
     abbrev pub client_after_visit : CoreClientState
     client_after_visit = record { mind = guest.mind; act = guest.act; lanes = set guest.lanes h k }
 

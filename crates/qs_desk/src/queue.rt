@@ -157,8 +157,8 @@ impl<D: DeskName> Tickets<D> {
         self.end.take(rt)
     }
 
-    /// Takes the next ticket, like `take`, but sleeps until there is one and somebody who reserved the handler, or closed
-    /// the desk, wakes it.
+    /// Takes the next ticket, like `take`, but sleeps until there is one and somebody who reserved the handler, or
+    /// closed the desk, wakes it.
     pub fn take_or_sleep<R: Wait>(&mut self, rt: &R) -> Next
         ensures taken { self.new ≡ record self.old { taken = self.old.taken ++ result ∷ [] } }
         ensures reserved { IsFor D.program self.old.handler result }

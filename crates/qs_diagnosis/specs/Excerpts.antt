@@ -24,8 +24,8 @@ window_of start end place =
 abbrev pub hex : ℕ → ℕ
 hex n = if nat_lt n 10 then 48 + n else 97 + (n - 10)
 
--- a tab and a carriage return; the printable bytes of ASCII, from the first to the last; the bytes of a longer character,
--- of which those from the second on are below the first byte of any
+-- a tab and a carriage return; the printable bytes of ASCII, from the first to the last; the bytes of a longer
+-- character, of which those from the second on are below the first byte of any
 abbrev pub tab : ℕ
 tab = 9
 

@@ -39,8 +39,8 @@ pub data PlanShape : Type 0 where
 
 -- what is asked for: the counts; the graphs; a run by the plain rules; one in the optimised machine, in a mode and by
 -- chunks of a size; one on threads; or all outcomes after the blocks of some clients, or their ends alone, with so many
--- configurations at most. Each is asked for in a format, and of a run the counts of synchronisations may be asked for as well, and of a
--- schedule a line for each step, and what lies where at its end.
+-- configurations at most. Each is asked for in a format, and of a run the counts of synchronisations may be asked for
+-- as well, and of a schedule a line for each step, and what lies where at its end.
 pub data Request : Type 0 where
   check : Format → Request
   graph : GraphFormat → Request

@@ -233,6 +233,6 @@ told x s j (t ∷ ts) apart (p, inr g) =
     waiting_parts [] e k = tt
     waiting_parts (u ∷ us) e k = (k.0.0 ∙ ap (λ (xs : List Entry). without_tickets xs ++ map command_event (x.waits u)) (sym e.0), waiting_parts us e.1 k.1)
 
--- a block_record with one event more, and what is left then
+-- a block record with one event more, and what is left then
 abbrev pub advance : BlockRecord → Event → Interaction → BlockRecord
 advance pg e next = record { entry = pg.entry; trace = pg.trace ++ e ∷ []; rest = next }

@@ -1,7 +1,7 @@
--- Where the block_records of blocks and the journals of objects go on along a legal order, they agree with the serial run of
--- that order. The isolation of every machine and of the threads stands on `runs_serially`. It goes by induction on the
--- order; the invariant is that each client has the variables, and each object the state, that the blocks before left to
--- them.
+-- Where the block records of blocks and the journals of objects go on along a legal order, they agree with the serial
+-- run of that order. The isolation of every machine and of the threads stands on `runs_serially`. It goes by induction
+-- on the order; the invariant is that each client has the variables, and each object the state, that the blocks before
+-- left to them.
 use Rattle.std.proofs.Common.{◌≡◌, ◌≢◌, ℕ, zero, suc, ◌≤◌, arith, Bool, true, false, ◌==◌, List, [], ◌∷◌, ◌++◌, map, refl, sym, ap, ◌∙◌, subst, ◌⊎◌, inl, inr, ⊎_elim, append_assoc, append-nil}
 use Rattle.std.proofs.lemmas.List.{map-append}
 use Rattle.std.specs.List.{AllByRecursion, AllZip}
@@ -76,7 +76,7 @@ before_clear : (t : Ticket) (k j : List Entry) → ClearOf t k → before t (k +
 before_clear t [] j c = refl
 before_clear t (x ∷ k) j c = rw c.0 (ap (λ xs. x ∷ xs) (before_clear t k j c.1))
 
--- a ticket's block_record and its place in the serial run
+-- a ticket's block record and its place in the serial run
 pub record Agrees (p : ProgramShape) (journal : ℕ → List Entry) (block_record : Ticket → BlockRecord) (t : Ticket) (q : SerialBlock) : Type 0 where
   pub ticket : q.ticket ≡ t
   pub entry : (block_record t).entry ≡ q.entry
@@ -245,7 +245,7 @@ module _ (p : ProgramShape) (sound : IsSound p) (block_record : Ticket → Block
       (known_after n ls t o.locals known (locals_after t ts ls st block_records.0 entry apart ahead)) (ahead_after t ts ls st block_records.0 entry apart ahead) in
       ((agrees t ts ls st block_records.0 entry apart ahead, rest.0), rest.1)
 
-  -- block_records of a legal order, and journals that flow along it
+  -- block records of a legal order, and journals that flow along it
   pub runs_serially : (order : List Ticket) → LegalFrom p (λ _. 0) order → AllByRecursion (λ t. IsBlockRecord p t (block_record t)) order → AllByRecursion (λ t. Begins block_record t.client t.index (block_record t).entry) order
       → ((h : ℕ) → Flow (line h) (declared_states p h) (journal h) order)
       → AllZip (Agrees p journal block_record) order (serial_from p (λ _. zeros) (declared_states p) order).places

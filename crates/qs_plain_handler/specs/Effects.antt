@@ -55,7 +55,7 @@ answered reply (Ends t) = Ends t
 answered reply (Runs t r) = Runs t r
 answered reply (Leaves t) = Leaves t
 
--- a effect before its reply is known
+-- an effect before its reply is known
 abbrev pub unanswered : Option Effect → Option Effect
 unanswered None = None
 unanswered (Some effect) = Some (answered None effect)

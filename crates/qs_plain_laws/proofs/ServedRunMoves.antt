@@ -1,7 +1,7 @@
 -- Each move of a served run keeps it sound: a command is logged, a query is answered, a command that waits is run, a
 -- ticket leaves, or a new one comes. Each step of the plain rules is shown to be such a move (`Simulation`). A move
--- changes one ticket's block_record or one object's service, or adds a ticket; all other block_records and services stay, and what is
--- known of the service has its own lemmas.
+-- changes one ticket's block record or one object's service, or adds a ticket; all other block records and services
+-- stay, and what is known of the service has its own lemmas.
 use Rattle.std.proofs.Common.{◌≡◌, ℕ, zero, suc, ◌<◌, ◌≤◌, arith, Bool, true, false, if◌then◌else◌, ◌==◌, List, [], ◌∷◌, ◌++◌, refl, sym, ap, ◌∙◌, subst, ⊎_elim, ℤ}
 use Rattle.std.specs.List.{AllByRecursion}
 use Rattle.qs_objects.specs.Journals.{answer}
@@ -32,7 +32,7 @@ module _ (p : ProgramShape) (sound : IsSound p) where
   pub asks_left : (w : ServedRun) (t : Ticket) → IsBlockRecord p t (w.block_record t) → AsksOnly (reserves p t) (w.block_record t).rest
   asks_left w t path = asks_rest (reserves p t) (block_tree p t (w.block_record t).entry) (w.block_record t).trace (w.block_record t).rest (blocks_ask_only p sound t (w.block_record t).entry) path
 
-  -- one block_record goes on by one event
+  -- one block record goes on by one event
   module _ (w : ServedRun) (t : Ticket) (e : Event) (next : Interaction) (busy : IsDone (w.block_record t).rest → ⊥) where
     abbrev pub block_record' : Ticket → BlockRecord
     block_record' = put_at w.block_record t (advance (w.block_record t) e next)

@@ -1,7 +1,7 @@
--- This file defines a served run: the reservations in their order, a block_record for each, how far each object was served, the
--- moves of such a run, and when it is sound (`IsServedRun`). The proof of isolation under the plain rules keeps one
--- beside the machine's state. A journal is said by tickets: first the parts of those that are over, and then what was
--- run of the first in the queue.
+-- This file defines a served run: the reservations in their order, a block record for each, how far each object was
+-- served, the moves of such a run, and when it is sound (`IsServedRun`). The proof of isolation under the plain rules
+-- keeps one beside the machine's state. A journal is said by tickets: first the parts of those that are over, and then
+-- what was run of the first in the queue.
 use Rattle.std.proofs.Common.{◌≡◌, ℕ, suc, ◌≤◌, ℤ, if◌then◌else◌, List, [], ◌∷◌, ◌++◌, map, filter, flat_map}
 use Rattle.std.specs.List.{AllByRecursion}
 use Rattle.qs_objects.specs.Act.{State}

@@ -1,8 +1,8 @@
--- One proof of isolation for every machine. A machine hands over an abstract run: what it shows, and beside that a block_record
--- for each ticket (its entry, its trace and what is left of its block), each object's journal and state, and the
--- commands on their way. Where each journal flows through the order of reservations, ticket by ticket, the serial run
--- along that order has the same entries, traces and states; so the run that is shown is isolated. Nothing here knows of
--- queues, lanes or threads.
+-- One proof of isolation for every machine. A machine hands over an abstract run: what it shows, and beside that a
+-- block record for each ticket (its entry, its trace and what is left of its block), each object's journal and state,
+-- and the commands on their way. Where each journal flows through the order of reservations, ticket by ticket, the
+-- serial run along that order has the same entries, traces and states; so the run that is shown is isolated. Nothing
+-- here knows of queues, lanes or threads.
 use Rattle.std.proofs.Common.{◌≡◌, ◌<◌, ℕ, zero, suc, true, List, [], ◌∷◌, ◌++◌, map, flat_map, length, get_or, refl, ap, sym, subst, ◌∙◌, inl, inr, arith, append-nil}
 use Rattle.std.proofs.lemmas.List.Elements.{filter-append}
 use Rattle.std.specs.List.{AllByRecursion, AllZip}
@@ -47,8 +47,8 @@ commands_have_no_reply (r ∷ ws) n = rw n.0 (commands_have_no_reply ws n.1)
 pub record IsRun (p : ProgramShape) (sound : IsSound p) (r : Played) (block_record : Ticket → BlockRecord) (waits : ℕ → Ticket → List Request) (state : ℕ → State) (busy : ℕ → Type 0) (journal : ℕ → List Entry) : Type 0 where
   -- what is shown is as long as the order and the program
   pub fits : IsFitting p r
-  -- the order is legal, each block_record is one of its ticket's block, begins where the client's block before it has ended,
-  -- and flows
+  -- the order is legal, each block record is one of its ticket's block, begins where the client's block before it has
+  -- ended, and flows
   pub legal : IsLegal p r.order
   pub block_records : AllByRecursion (λ t. IsBlockRecord p t (block_record t)) r.order
   pub begins : AllByRecursion (λ t. Begins block_record t.client t.index (block_record t).entry) r.order

@@ -1,5 +1,5 @@
--- What one client did so far, block by block: for each block its block_record, what it sent to each object and what it got from
--- it, and what each act adds to that. The last block is where the client stands; those before it are over.
+-- What one client did so far, block by block: for each block its block record, what it sent to each object and what it
+-- got from it, and what each act adds to that. The last block is where the client stands; those before it are over.
 use Rattle.std.proofs.Common.{◌≡◌, ◌<◌, ◌≤◌, arith, ℕ, zero, suc, true, false, true≢false, if◌then◌else◌, ◌==◌, List, [], ◌∷◌, ◌++◌, refl, sym, ap, ap₂, ◌∙◌}
 use Rattle.std.proofs.Common.{subst, ⊎_elim, append-nil}
 use Rattle.qs_objects.specs.Journals.{HeldState}
@@ -31,7 +31,7 @@ use Rattle.qs_protocol.specs.ClientHistories.{IsBlockHistory, HasNone}
 use Rattle.qs_protocol.proofs.ClientLogs.{books_ok, chunks_ok, gets_ok, sends_ok}
 use Rattle.qs_protocol.proofs.SilentSteps.{Ends}
 
--- what is known of a block: its block_record, what was sent to each object and what was got from it
+-- what is known of a block: its block record, what was sent to each object and what was got from it
 pub record Block : Type 0 where
   pub block_record : BlockRecord
   pub sent : ℕ → List Parcel
@@ -95,7 +95,7 @@ nothing_told program c blocks m entry trace none at hands empty = record {
   got_is = λ h. sym (ap (upto (λ k. [])) none);
 }
 
--- a block begins with what the one before it left, whatever becomes of that block's own block_record
+-- a block begins with what the one before it left, whatever becomes of that block's own block record
 begins_still : (block : ℕ → Block) (c k : ℕ) (new : Block) (j : ℕ) (l : Locals) → j ≤ k
     → Begins (λ (t : Ticket). (block t.index).block_record) c j l → Begins (λ (t : Ticket). (put block k new t.index).block_record) c j l
 begins_still block c k new zero l low b = b

@@ -1,7 +1,7 @@
--- What one client's whole run says, block by block: all its blocks are over, each with its block_record, what it sent to each
--- object and what it got from it, and these joined are all that it sent and got. The objects that it got are arbitrary;
--- nothing of threads, queues or other clients is in it. The run is read where nothing is left to be done for the last
--- act, since each act begins with that.
+-- What one client's whole run says, block by block: all its blocks are over, each with its block record, what it sent
+-- to each object and what it got from it, and these joined are all that it sent and got. The objects that it got are
+-- arbitrary; nothing of threads, queues or other clients is in it. The run is read where nothing is left to be done for
+-- the last act, since each act begins with that.
 use Rattle.std.proofs.Common.{◌≡◌, ◌<◌, arith, ℕ, zero, suc, true, false, List, [], ◌∷◌, ◌++◌, length, replicate, slice_index_or}
 use Rattle.std.proofs.Common.{refl, sym, ap, ap₂, ◌∙◌, subst, append-nil, ◌+◌, length-append, length-set}
 use Rattle.std.proofs.lemmas.List.{length-replicate}

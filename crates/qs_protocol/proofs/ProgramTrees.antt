@@ -1,7 +1,7 @@
 -- The codes of a program's clients have as many blocks as the program, with the same lists of objects, and the walk
--- through a block's graph says the block's interaction tree. The machine and the threads go along these walks, while what
--- is said of them speaks of the program's blocks. It is the law on sound walks where client and
--- block are in range, and elsewhere there is no block.
+-- through a block's graph says the block's interaction tree. The machine and the threads go along these walks, while
+-- what is said of them speaks of the program's blocks. It is the law on sound walks where client and block are in
+-- range, and elsewhere there is no block.
 use Rattle.std.proofs.Common.{◌≡◌, ◌<◌, ◌≤◌, ℕ, nat_lt, Bool, true, false, List, length, replicate, refl, sym, ap, ◌∙◌, arith}
 use Rattle.std.proofs.lemmas.List.{get_or_past, length-replicate}
 use Rattle.qs_objects.specs.declared.held.Ticket.{Ticket}

@@ -45,7 +45,7 @@ sound_more s s' (Sync h next) e k = sound_more (put s h true) (put s' h true) ne
 sound_more s s' (Query r next) e k = (e r.object k.0, λ v. sound_more s s' (next v) e (k.1 v))
 
 module _ (program : ProgramShape) (t : Ticket) (sent : ℕ → List Parcel) (got : ℕ → List HeldState) (settings : Settings) (lined : Lined (reserves program t) (objects_of_block program t)) where
-  -- after these events the block_record, and the client at its place
+  -- after these events the block record, and the client at its place
   abbrev pub Ends : BlockRecord → Settlement → Type 0
   Ends pg r = (pg' : BlockRecord) × (pg'.entry ≡ pg.entry) × (pg'.trace ≡ pg.trace ++ r.events) × PlaceOk program t sent got r.client pg' r.client.stage
 

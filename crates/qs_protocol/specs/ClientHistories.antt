@@ -22,7 +22,7 @@ use Rattle.qs_played.specs.Played.{ticket}
 abbrev pub HasNone : Client → ℕ → Type 0
 HasNone m h = (m.held h ≡ None) × (m.chunk h ≡ None)
 
--- a block_record whose rest asks within the block's list
+-- a block record whose rest asks within the block's list
 pub record IsOpenRecord (p : ProgramShape) (t : Ticket) (pg : BlockRecord) : Type 0 where
   pub path : IsBlockRecord p t pg
   pub fine : AsksOnly (reserves p t) pg.rest
@@ -37,7 +37,7 @@ upto f zero = []
 upto f (suc n) = upto f n ++ f n
 
 module _ (program : ProgramShape) (c : ℕ) where
-  -- a block that is over: its block_record, and for each object what was sent and got
+  -- a block that is over: its block record, and for each object what was sent and got
   pub record IsBlockHistory (k : ℕ) (pg : BlockRecord) (sent : ℕ → List Parcel)
       (got : ℕ → List HeldState) : Type 0 where
     pub block_record : IsOpenRecord program (ticket c k) pg

@@ -60,7 +60,7 @@ zip_flat f g (x ∷ xs) (y ∷ ys) zip = ap₂ (λ z zs. z ++ zs) zip.0 (zip_fla
 
 module _ (p : ProgramShape) (sound : IsSound p) (mode : Mode) (code : ℕ → ClientCode) (codes : AreCodes p mode code) (size : ℕ) (r : ThreadRun)
     (run : IsThreadRun p code size r) where
-  -- each ticket's block_record is its place of the serial run
+  -- each ticket's block record is its place of the serial run
   record IsAt (t : Ticket) (q : SerialBlock) : Type 0 where
     pub ticket : q.ticket ≡ t
     pub entry : entry_by r t ≡ q.entry

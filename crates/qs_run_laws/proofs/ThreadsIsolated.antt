@@ -39,7 +39,7 @@ module _ (p : ProgramShape) (sound : IsSound p) (mode : Mode) (code : ℕ → Cl
   abbrev pub shown : Played
   shown = shown_by p r
 
-  -- of each ticket its block_record, and of each object what its handler ended with
+  -- of each ticket its block record, and of each object what its handler ended with
   abbrev pub block_record : Ticket → BlockRecord
   block_record t = (tale p sound mode code codes size r run t.client).block_record t.index
 
