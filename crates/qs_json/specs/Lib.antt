@@ -4,9 +4,11 @@ pub mod RunJson
 pub mod FaultJson
 pub mod OutcomesJson
 pub mod EndsJson
+pub mod AnswerJson
 pub mod GraphJson
 -- What crates promise one another, what proofs use, and worked examples.
 pub mod RunJsonExamples
 pub mod OutcomesJsonExamples
 pub mod EndsJsonExamples
+pub mod AnswerJsonExamples
 pub mod GraphJsonExamples

@@ -1,5 +1,6 @@
 //! Worked examples of texts for machines, and what holds of them.
 
+ghost use Rattle.qs_json.specs.AnswerJsonExamples.{AnswerJsonExamples};
 ghost use Rattle.qs_json.specs.EndsJson.{EndsJsonIsUnique};
 ghost use Rattle.qs_json.specs.EndsJsonExamples.{EndsJsonExamples};
 ghost use Rattle.qs_json.specs.GraphJson.{GraphJsonIsUnique};
@@ -42,4 +43,9 @@ pub fn ends_json_examples()
 /// A program has one text of its ends after a front, also where the limit is another one; it does nothing.
 pub fn ends_json_is_unique()
     ensures unique { EndsJsonIsUnique }
+{}
+
+/// The texts of two answers, worked out by hand; it does nothing.
+pub fn answer_json_examples()
+    ensures examples { AnswerJsonExamples }
 {}

@@ -1,6 +1,7 @@
 //! The texts of results and refusals for machines: objects of named fields, one on a line.
 #![tactic(auto)]
 
+mod answers;
 mod counts;
 mod ends;
 mod events;
@@ -12,6 +13,7 @@ mod pieces;
 mod runs;
 mod states;
 
+pub use answers::answer_json;
 pub use counts::counts_json;
 pub use ends::ends_json;
 pub use faults::fault_json;

@@ -30,7 +30,7 @@ fn put_next_client(out: &mut Vec<u8>, ticket: Ticket) -> Result<(), AllocError>
 }
 
 // The clients of an order, with a comma between each two.
-fn put_joined(out: &mut Vec<u8>, order: &[Ticket]) -> Result<(), AllocError>
+pub(crate) fn put_joined(out: &mut Vec<u8>, order: &[Ticket]) -> Result<(), AllocError>
     ensures ok { OnOk result (Puts (join_by next_client_json (codes ",") order.now) out.old.items out.new.items) }
 {
     for place in 0..order.len() {

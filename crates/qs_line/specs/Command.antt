@@ -66,11 +66,17 @@ play_app = shared_app (planned_app (machine_app (codes "play")))
 abbrev pub run_app : App
 run_app = shared_app (with_rule (machine_app (codes "run")) (flag_rule (codes "counts")))
 
--- `outcomes [--limit N] [--after LIST] [--ends] [--format F] [--warn]`
+-- `WORD [--always COND] [--some COND] [--throughout COND]`
+abbrev pub claimed_app : App → App
+claimed_app app =
+    with_rule (with_rule (with_rule app (option_rule (codes "always"))) (option_rule (codes "some")))
+    (option_rule (codes "throughout"))
+
+-- `outcomes [--limit N] [--after LIST] [--ends] [--always COND] [--some COND] [--throughout COND] [--format F] [--warn]`
 abbrev pub outcomes_app : App
 outcomes_app =
-    shared_app (with_rule (with_rule (with_rule (new_app (codes "outcomes")) limit_rule) (option_rule (codes "after")))
-    (flag_rule (codes "ends")))
+    shared_app (claimed_app (with_rule (with_rule (with_rule (new_app (codes "outcomes")) limit_rule)
+    (option_rule (codes "after"))) (flag_rule (codes "ends"))))
 
 -- the program's name and its version, with no word `help`
 abbrev pub named_app : App

@@ -12,6 +12,10 @@ use Rattle.clap.specs.declared.error.kind.ErrorKind.{ErrorKind}
 use Rattle.qs_played.specs.Schedule.{most_rounds}
 use Rattle.qs_syncset.specs.declared.mode.Mode.{Mode}
 use Rattle.qs_syncset.specs.declared.mode.Mode.TheVariants.{Plain, Dynamic, Static, Both}
+use Rattle.qs_conditions.specs.Reads.{condition_in}
+use Rattle.qs_conditions.specs.declared.claim.Claim.{Claim}
+use Rattle.qs_conditions.specs.declared.claim.Quantifier.{Quantifier}
+use Rattle.qs_conditions.specs.declared.claim.Quantifier.TheVariants as quantifier
 use Rattle.qs_line.specs.Parts.{clients_in, list_in}
 use Rattle.qs_line.specs.declared.parts.Part.{Part}
 use Rattle.qs_line.specs.Command.{qs_app}
@@ -38,8 +42,8 @@ pub data PlanShape : Type 0 where
   by_order : (clients : List Part) → PlanShape
 
 -- what is asked for: the counts; the graphs; a run by the plain rules; one in the optimised machine, in a mode and by
--- chunks of a size; one on threads; or all outcomes after the blocks of some clients, or their ends alone, with so many
--- configurations at most. Each is asked for in a format, and of a run the counts of synchronisations may be asked for
+-- chunks of a size; one on threads; or, after the blocks of some clients and with so many configurations at most,
+-- whether a condition holds of all ends, of some or throughout, or all outcomes, or their ends alone. Each is asked for in a format, and of a run the counts of synchronisations may be asked for
 -- as well, and of a schedule a line for each step, and what lies where at its end.
 pub data Request : Type 0 where
   check : Format → Request
@@ -47,6 +51,7 @@ pub data Request : Type 0 where
   rules : ReportStyle → PlanShape → Request
   play : ReportStyle → Mode → (chunk : ℕ) → PlanShape → Request
   run : ReportStyle → Mode → ℕ → Request
+  ask : Claim → Format → (limit : ℕ) → (front : List Part) → Request
   outcomes : OutcomesFormat → (limit : ℕ) → (front : List Part) → Request
 
 -- the format of a refusal where graphs are asked for: beside a drawing it is text
@@ -74,6 +79,7 @@ format_of_request (graph how) = format_beside how
 format_of_request (rules style plan) = format_beside_report style.format
 format_of_request (play style mode chunk plan) = format_beside_report style.format
 format_of_request (run style mode chunk) = format_beside_report style.format
+format_of_request (ask claim how limit front) = how
 format_of_request (outcomes how limit front) = format_beside_outcomes how
 
 abbrev pub plan_of : Plan → PlanShape
@@ -86,6 +92,7 @@ request_of (word.Graph how) = graph how
 request_of (word.Rules style plan) = rules style (plan_of plan)
 request_of (word.Play style mode chunk plan) = play style mode chunk (plan_of plan)
 request_of (word.Run style mode chunk) = run style mode chunk
+request_of (word.Ask claim how limit front) = ask claim how limit front.items
 request_of (word.Outcomes how limit front) = outcomes how limit front.items
 
 abbrev pub format_in : Text → Option Format
@@ -231,10 +238,42 @@ run_at rows =
     option_and_then (λ style. option_and_then (λ mode. option_map (run style mode) (chunk_at rows)) (mode_at rows))
     (style_at rows)
 
-abbrev pub outcomes_at : List Row → Option Request
-outcomes_at rows =
+-- the claim of a text, where the text is a condition
+abbrev pub claim_in : Quantifier → Text → Option Claim
+claim_in q text = option_map (λ steps. record { quantifier = q; condition = steps }) (condition_in text)
+
+-- a condition stands on the line
+abbrev pub has_claim : List Row → Bool
+has_claim rows =
+    is_some (first_of (codes "always") rows) || is_some (first_of (codes "some") rows)
+    || is_some (first_of (codes "throughout") rows)
+
+-- a condition of all ends, one of some, or one throughout; and no two
+abbrev pub one_claim : (always some throughout : Option Text) → Option Claim
+one_claim (Some text) None None = claim_in quantifier.Always text
+one_claim None (Some text) None = claim_in quantifier.Some text
+one_claim None None (Some text) = claim_in quantifier.Throughout text
+one_claim _ _ _ = None
+
+abbrev pub claim_at : List Row → Option Claim
+claim_at rows =
+    one_claim (first_of (codes "always") rows) (first_of (codes "some") rows) (first_of (codes "throughout") rows)
+
+-- an answer, as text or as JSON; it lists no ends
+abbrev pub ask_at : List Row → Option Request
+ask_at rows =
+    if flag_at (codes "ends") rows then None
+    else option_and_then (λ claim. option_and_then (λ how. option_and_then (λ limit. option_map (ask claim how limit)
+    (front_at rows)) (limit_at rows)) (format_at rows)) (claim_at rows)
+
+abbrev pub list_at : List Row → Option Request
+list_at rows =
     option_and_then (λ how. option_and_then (λ limit. option_map (outcomes how limit) (front_at rows)) (limit_at rows))
     (outcomes_format_at rows)
+
+-- all outcomes, or the answer to a condition where the line has one
+abbrev pub outcomes_at : List Row → Option Request
+outcomes_at rows = if has_claim rows then ask_at rows else list_at rows
 
 -- what a word asks for, with the entries that clap finds after it
 abbrev pub request_at : Text → List Row → Option Request

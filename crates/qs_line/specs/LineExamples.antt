@@ -1,18 +1,26 @@
 -- Lines, and what they come to.
-use Rattle.std.specs.Prelude.{◌≡◌, List, [], ◌∷◌, codes, true, false}
+use Rattle.std.specs.Prelude.{◌≡◌, ℕ, List, [], ◌∷◌, codes, true, false, pos}
 use Rattle.clap.specs.Words.{Text}
 use Rattle.qs_played.specs.declared.schedule.actor.Actor.TheVariants.{Client, Handler}
 use Rattle.qs_line.specs.declared.parts.Part.{Part}
 use Rattle.qs_line.specs.declared.parts.Who.TheVariants.{Name, Number}
 use Rattle.qs_line.specs.Numbers.{once}
 use Rattle.qs_line.specs.Parts.{times}
+use Rattle.qs_tree.specs.declared.tree.Relation.TheVariants as relation
+use Rattle.qs_conditions.specs.declared.claim.Claim.{Claim}
+use Rattle.qs_conditions.specs.declared.claim.Quantifier.{Quantifier}
+use Rattle.qs_conditions.specs.declared.claim.Quantifier.TheVariants as quantifier
+use Rattle.qs_conditions.specs.declared.condition.Step.{Step}
+use Rattle.qs_conditions.specs.declared.condition.Step.TheVariants as steps
+use Rattle.qs_conditions.specs.declared.condition.Summand.{Summand}
+use Rattle.qs_conditions.specs.declared.condition.Value.TheVariants as value
 use Rattle.qs_syncset.specs.declared.mode.Mode.TheVariants.{Plain, Dynamic, Static, Both}
 use Rattle.qs_line.specs.declared.line.Format.TheVariants as format
 use Rattle.qs_line.specs.declared.line.GraphFormat.TheVariants as graph_format
 use Rattle.qs_line.specs.declared.line.OutcomesFormat.TheVariants as outcomes_format
 use Rattle.qs_line.specs.declared.line.ReportFormat.TheVariants as report_format
 use Rattle.qs_line.specs.declared.line.ReportStyle.{ReportStyle}
-use Rattle.qs_line.specs.Line.{Line, asks, by_order, by_schedule, check, graph, help, is_verbose_in, line_in, outcomes, play, refused, rules, run, version, warns_in}
+use Rattle.qs_line.specs.Line.{Line, ask, asks, by_order, by_schedule, check, graph, help, is_verbose_in, line_in, outcomes, play, refused, rules, run, version, warns_in}
 
 -- the line of the words after the program's name
 abbrev pub line : List Text → Line
@@ -153,6 +161,33 @@ pub record FormatLines : Type 0 where
   pub ends_of_a_run : line (codes "play" ∷ codes "--ends" ∷ []) ≡ refused
   pub before_word : line (codes "--format=dot" ∷ codes "graph" ∷ []) ≡ refused
 
+abbrev pub number : ℕ → ℕ → Summand
+number place n = record { place = place; negative = false; value = value.Number (pos n) }
+
+-- that one is less than two
+abbrev pub is_less : List Step
+is_less = steps.Compare (number 0 1 ∷ []) relation.Less (number 2 2 ∷ []) ∷ []
+
+abbrev pub claim : Quantifier → Claim
+claim q = record { quantifier = q; condition = is_less }
+
+pub record ClaimLines : Type 0 where
+  pub always : line (codes "outcomes" ∷ codes "--always" ∷ codes "1<2" ∷ [])
+      ≡ asks (ask (claim quantifier.Always) format.Text 1000000 [])
+  pub some : line (codes "outcomes" ∷ codes "--format=json" ∷ codes "--some=1<2" ∷ codes "--limit=7" ∷ codes "--after=c1" ∷ [])
+      ≡ asks (ask (claim quantifier.Some) format.Json 7 (once (Client 1) ∷ []))
+  pub throughout : line (codes "outcomes" ∷ codes "--throughout=1<2" ∷ [])
+      ≡ asks (ask (claim quantifier.Throughout) format.Text 1000000 [])
+  pub no_condition : line (codes "outcomes" ∷ codes "--always" ∷ codes "1<" ∷ []) ≡ refused
+  pub empty : line (codes "outcomes" ∷ codes "--some" ∷ [] ∷ []) ≡ refused
+  pub both : line (codes "outcomes" ∷ codes "--some=1<2" ∷ codes "--always=1<2" ∷ []) ≡ refused
+  pub all_three : line (codes "outcomes" ∷ codes "--some=1<2" ∷ codes "--throughout=1<2" ∷ codes "--always=1<2" ∷ []) ≡ refused
+  pub twice : line (codes "outcomes" ∷ codes "--some=1<2" ∷ codes "--some=1<2" ∷ []) ≡ refused
+  pub beside_ends : line (codes "outcomes" ∷ codes "--some=1<2" ∷ codes "--ends" ∷ []) ≡ refused
+  pub as_drawing : line (codes "outcomes" ∷ codes "--always=1<2" ∷ codes "--format=dot" ∷ []) ≡ refused
+  pub without_value : line (codes "outcomes" ∷ codes "--always" ∷ []) ≡ refused
+  pub of_play : line (codes "play" ∷ codes "--always=1<2" ∷ []) ≡ refused
+
 -- the steps of a schedule are told before a report as text alone
 pub record StepLines : Type 0 where
   pub by_rules : line (codes "rules" ∷ codes "--steps" ∷ []) ≡ asks (rules stepped (by_schedule 1000000 []))
@@ -284,6 +319,7 @@ pub record LineExamples : Type 0 where
   pub limits : LimitLines
   pub fronts : FrontLines
   pub orders : OrderLines
+  pub claims : ClaimLines
   pub formats : FormatLines
   pub steps : StepLines
   pub queues : QueueLines

@@ -1,9 +1,9 @@
 // The command as `clap` has it.
 
 ghost use Rattle.std.specs.Prelude.{◌≡◌, IfOk, codes, false};
-ghost use Rattle.clap.specs.Words.{app_of, new_app, rule_of, with_subcommand};
+ghost use Rattle.clap.specs.Words.{app_of, new_app, rule_of, with_rule, with_subcommand};
 ghost use Rattle.clap.specs.declared.Command.TheViews.{out-Command as fields_of};
-ghost use Rattle.qs_line.specs.Command.{check_app, chunk_rule, defaulted_rule, flag_rule, graph_app, limit_rule, machine_app, named_app, option_rule, outcomes_app, planned_app, play_app, qs_app, rules_app, run_app, scheduled_app, shared_app, texts_app};
+ghost use Rattle.qs_line.specs.Command.{check_app, chunk_rule, claimed_app, defaulted_rule, flag_rule, graph_app, limit_rule, machine_app, named_app, option_rule, outcomes_app, planned_app, play_app, qs_app, rules_app, run_app, scheduled_app, shared_app, texts_app};
 
 use crate::help;
 use clap::{Arg, ArgAction, Command, value_parser};
@@ -171,6 +171,27 @@ fn run_command<'a>(alloc: Global) -> Result<Command<'a>, AllocError>
     shared(alloc, run, help::REPORT_FORMAT)
 }
 
+// With the condition that is asked between blocks, too.
+fn with_throughout<'a>(alloc: Global, command: Command<'a>) -> Result<Command<'a>, AllocError>
+    requires local { (fields_of command).has_globals ≡ false }
+    ensures app { IfOk result (λ whole. app_of whole ≡ with_rule (app_of command.entry) (option_rule (codes "throughout"))) }
+    ensures local { IfOk result (λ whole. (fields_of whole).has_globals ≡ false) }
+{
+    command.arg(option(alloc, "throughout", "COND", help::THROUGHOUT))
+}
+
+// With the settings that take a condition.
+fn claimed<'a>(alloc: Global, command: Command<'a>) -> Result<Command<'a>, AllocError>
+    requires local { (fields_of command).has_globals ≡ false }
+    ensures app { IfOk result (λ whole. app_of whole ≡ claimed_app (app_of command.entry)) }
+    ensures local { IfOk result (λ whole. (fields_of whole).has_globals ≡ false) }
+{
+    let ends = command
+        .arg(option(alloc, "always", "COND", help::ALWAYS))?
+        .arg(option(alloc, "some", "COND", help::SOME))?;
+    with_throughout(alloc, ends)
+}
+
 fn outcomes_command<'a>(alloc: Global) -> Result<Command<'a>, AllocError>
     ensures app { IfOk result (λ command. app_of command ≡ outcomes_app) }
     ensures local { IfOk result (λ command. (fields_of command).has_globals ≡ false) }
@@ -179,7 +200,7 @@ fn outcomes_command<'a>(alloc: Global) -> Result<Command<'a>, AllocError>
         .arg(limit_option(alloc))?
         .arg(option(alloc, "after", "LIST", help::AFTER))?
         .arg(flag(alloc, "ends", help::ENDS))?;
-    shared(alloc, outcomes, help::OUTCOMES_FORMAT)
+    shared(alloc, claimed(alloc, outcomes)?, help::OUTCOMES_FORMAT)
 }
 
 // The program, before its words.

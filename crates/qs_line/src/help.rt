@@ -106,13 +106,17 @@ Example:
   qs outcomes --limit 5000 < my.script
   qs outcomes --after @bob,@ann < my.script
   qs outcomes --ends < my.script
+  qs outcomes --always 'a.balance() + b.balance() == 200' < my.script
+  qs outcomes --some '!(bob.x < 3) && a.refused() > 0' < my.script
+  qs outcomes --throughout 'a.balance() >= 0' < my.script
   qs outcomes --format dot < my.script | dot -Tsvg > my.svg
 
 The second lists only what comes after a block of bob and then one of ann. The third lists the ends alone, so that `diff`
-compares two scripts. The fourth draws how blocks lead from one configuration to the next, with a second outline for
-each outcome. A line `outcome 2 c1,c0` begins the second
-result: the block of client 1, bob, first, then that of client 0, ann. Below it stand the objects at the end, and each
-client with its variables. Configurations, which the last line counts, are where the script can stand between two blocks."
+compares two scripts. The next three answer yes, with status 0, or no, with status 1: whether a condition
+holds of all ends, of some, or between blocks too, with an order that shows it. The last draws how blocks lead from one configuration to
+the next, with a second outline for each outcome. A line `outcome 2 c1,c0` begins the second result: the block of client
+1, bob, first, then that of client 0, ann. Below it stand the objects at the end, and each client with its variables.
+Configurations, which the last line counts, are where the script can stand between two blocks."
 );
 
 pub const FORMAT: &str =
@@ -140,6 +144,15 @@ pub const LIMIT: &str =
 
 pub const ENDS: &str =
     "The ends alone, each once, without orders and numbers, in the order of their texts";
+
+pub const ALWAYS: &str =
+    "Answers whether a condition holds of all ends, and stops at the first where it does not: sums of numbers, of variables as bob.x, and of queries as a.balance(), that are compared by ==, !=, <, <=, > or >=, joined by &&, || and !, with parentheses";
+
+pub const SOME: &str =
+    "Answers whether a condition holds of some end, and stops at the first where it does; conditions are as those of --always";
+
+pub const THROUGHOUT: &str =
+    "Answers whether a condition holds at the beginning and after each block of each order, and stops where it does not; conditions are as those of --always";
 
 pub const AFTER: &str =
     "Whose blocks were run before, joined by commas, each client's in turn: c0 is the first client, @bob the one called bob; @bob*2 is @bob,@bob";

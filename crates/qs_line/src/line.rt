@@ -4,7 +4,7 @@ ghost use Rattle.std.specs.Prelude.{◌≡◌, [], IfOk, IfErr, map, option_and_
 ghost use Rattle.clap.specs.Words.{found_of, kind_of, rows_of, subcommand_of, subcommand_rows_of};
 ghost use Rattle.clap.specs.Faults.{fault_of};
 ghost use Rattle.qs_line.specs.Command.{qs_app};
-ghost use Rattle.qs_line.specs.Line.{IsAnswer, IsFault, IsFaultAmong, check_at, chunk_at, flag_at, format_at, front_at, graph_at, graph_format_at, is_verbose_in, is_verbose_met, limit_at, line_in, mode_at, outcomes_at, outcomes_format_at, plan_of, play_at, report_format_at, request_at, request_met, request_of, rules_at, run_at, style_at, styled_plan, can_tell, warns_in, warns_met};
+ghost use Rattle.qs_line.specs.Line.{IsAnswer, IsFault, IsFaultAmong, ask_at, check_at, chunk_at, claim_at, claim_in, has_claim, list_at, flag_at, format_at, front_at, graph_at, graph_format_at, is_verbose_in, is_verbose_met, limit_at, line_in, mode_at, outcomes_at, outcomes_format_at, plan_of, play_at, report_format_at, request_at, request_met, request_of, rules_at, run_at, style_at, styled_plan, can_tell, warns_in, warns_met};
 
 use crate::command::command;
 use crate::found::text_at;
@@ -14,6 +14,7 @@ use crate::reading::clients_in;
 use clap::error::ErrorKind;
 use clap::{ArgMatches, Error};
 use qs_chunk::ChunkSize;
+use qs_conditions::{Claim, ConditionFault, Quantifier, read_condition};
 use qs_syncset::Mode;
 use std::alloc::{AllocError, Global};
 
@@ -141,6 +142,17 @@ pub enum Settings {
         /// How many commands a chunk takes.
         chunk: ChunkSize,
     },
+    /// Check it, and answer whether a condition holds of all ends, of some, or throughout.
+    Ask {
+        /// The condition, and of what it is to hold.
+        claim: Claim,
+        /// How the answer is written.
+        format: Format,
+        /// How many configurations are looked at, at most.
+        limit: u32,
+        /// Whose blocks were run before.
+        front: Vec<Part>,
+    },
     /// Check it, and list all outcomes.
     Outcomes {
         /// What is written of them, and how.
@@ -179,6 +191,7 @@ impl Settings {
             Settings::Rules { style, .. } => style.refusals(),
             Settings::Play { style, .. } => style.refusals(),
             Settings::Run { style, .. } => style.refusals(),
+            Settings::Ask { format, .. } => *format,
             Settings::Outcomes { format, .. } => format.refusals(),
         }
     }
@@ -381,8 +394,69 @@ fn run_settings(found: &ArgMatches<'_>) -> Option<Settings>
     Some(Settings::Run { style, mode, chunk })
 }
 
-fn outcomes_settings(alloc: Global, found: &ArgMatches<'_>) -> Result<Option<Settings>, AllocError>
-    ensures settings { IfOk result (λ settings. option_map request_of settings ≡ outcomes_at (rows_of (found_of found.now))) }
+// The claim of a text: None where it is no condition.
+fn claim_of(alloc: Global, quantifier: Quantifier, text: &str) -> Result<Option<Claim>, AllocError>
+    ensures claim { IfOk result (λ claim. claim ≡ claim_in quantifier text.now) }
+{
+    match read_condition(alloc, text.as_bytes()) {
+        Ok(condition) => Ok(Some(Claim {
+            quantifier,
+            condition,
+        })),
+        Err(ConditionFault::Memory) => Err(AllocError),
+        Err(_) => Ok(None),
+    }
+}
+
+// Whether the line has a condition.
+fn has_claim(found: &ArgMatches<'_>) -> bool
+    ensures has { result ≡ has_claim (rows_of (found_of found.now)) }
+{
+    text_at(found, "always").is_some()
+        || text_at(found, "some").is_some()
+        || text_at(found, "throughout").is_some()
+}
+
+// The claim of a line: None where it has none or several, or one that is no condition.
+fn given_claim(alloc: Global, found: &ArgMatches<'_>) -> Result<Option<Claim>, AllocError>
+    ensures claim { IfOk result (λ claim. claim ≡ claim_at (rows_of (found_of found.now))) }
+{
+    match (
+        text_at(found, "always"),
+        text_at(found, "some"),
+        text_at(found, "throughout"),
+    ) {
+        (Some(text), None, None) => claim_of(alloc, Quantifier::Always, text),
+        (None, Some(text), None) => claim_of(alloc, Quantifier::Some, text),
+        (None, None, Some(text)) => claim_of(alloc, Quantifier::Throughout, text),
+        _ => Ok(None),
+    }
+}
+
+fn ask_settings(alloc: Global, found: &ArgMatches<'_>) -> Result<Option<Settings>, AllocError>
+    ensures settings { IfOk result (λ settings. option_map request_of settings ≡ ask_at (rows_of (found_of found.now))) }
+{
+    if has_flag(found, "ends") {
+        return Ok(None);
+    }
+    let (Some(claim), Some(format), Some(limit), Some(front)) = (
+        given_claim(alloc, found)?,
+        format_of(found),
+        limit_of(found),
+        given_front(alloc, found)?,
+    ) else {
+        return Ok(None);
+    };
+    Ok(Some(Settings::Ask {
+        claim,
+        format,
+        limit,
+        front,
+    }))
+}
+
+fn list_settings(alloc: Global, found: &ArgMatches<'_>) -> Result<Option<Settings>, AllocError>
+    ensures settings { IfOk result (λ settings. option_map request_of settings ≡ list_at (rows_of (found_of found.now))) }
 {
     let (Some(format), Some(limit), Some(front)) = (
         outcomes_format_of(found),
@@ -396,6 +470,17 @@ fn outcomes_settings(alloc: Global, found: &ArgMatches<'_>) -> Result<Option<Set
         limit,
         front,
     }))
+}
+
+// All outcomes, or the answer to a condition where the line has one.
+fn outcomes_settings(alloc: Global, found: &ArgMatches<'_>) -> Result<Option<Settings>, AllocError>
+    ensures settings { IfOk result (λ settings. option_map request_of settings ≡ outcomes_at (rows_of (found_of found.now))) }
+{
+    if has_claim(found) {
+        ask_settings(alloc, found)
+    } else {
+        list_settings(alloc, found)
+    }
 }
 
 // What a word asks for, with what clap found after it.
@@ -458,8 +543,8 @@ fn matches_of<'a>(alloc: Global, words: &'a [&'a str]) -> Result<ArgMatches<'a>,
 
 /// The settings of a line, whose first word is the program's name: those that `clap` finds, and its defaults. `Refused`
 /// comes exactly where `clap` refuses the words by an error, where a format, a mode, a number or a list does not read,
-/// where an order stands beside picks or a number of rounds, or where steps or queues are asked for of an order or
-/// beside a report that is no text; `Help` and `Version` come exactly where it answers with help or with the version.
+/// where an order stands beside picks or a number of rounds, where a condition does not read or stands beside another one
+/// or beside `--ends`, or where steps or queues are asked for of an order or beside a report that is no text; `Help` and `Version` come exactly where it answers with help or with the version.
 /// `Memory` may come in place of each.
 pub fn read_line<'a>(alloc: Global, words: &'a [&'a str]) -> Result<Settings, LineFault>
     ensures line { IsAnswer (line_in (map (λ word. word.now) words.entry.now)) result }

@@ -14,6 +14,7 @@ use Rattle.qs_meaning.proofs.Reductions.{reduced_from}
 use Rattle.qs_meaning.proofs.Each.{each_both, each_map, each_snoc}
 use Rattle.qs_meaning.proofs.Orders.{begun_within, complete_orders_leave_none, configuration-append, configurations_follow_orders, legal-rest, legal_on}
 use Rattle.qs_outcomes.specs.Outcomes.{AreAllOutcomesAfter, AreApart, AreDifferent, HasConfigurationsAfter, HasMoreThanAfter, IsLeastAfter, IsListedAfter, outcome_at}
+use Rattle.qs_outcomes.specs.Answers.{HasNoted}
 use Rattle.qs_outcomes.specs.LeastOrders.{IsLeastThere}
 use Rattle.qs_standings.specs.Lists.{HasOne, NoTwo}
 use Rattle.qs_outcomes.specs.Search.{IsExplored, IsFound, IsSeenOrAhead, IsSeen}
@@ -29,14 +30,18 @@ all_begun p front s is none c =
     let over : get_or s.begun c 0 < blocks_of p c → ⊥ = none c in
     omega (arith, same, within, over)
 
-listed : (p : ProgramShape) (front : List Ticket) (rows : List RowShape) (s : StandingShape) → IsFound p front rows s → IsListedAfter p front s
-listed p front rows s found = record {
-  complete = (complete_orders_leave_none p s.order found.standing.legal).1
-      (λ c. sym (ap (λ (g : Configuration). g.begun c) found.standing.stands) ∙ all_begun p front s found.standing found.over c);
-  reduced = found.standing.reduced;
-  outcome = ap outcome_in found.standing.stands ∙ configurations_follow_orders p s.order found.standing.legal;
-  places = record { locals = found.standing.locals; states = found.standing.states };
+-- where no block is left, an order is complete
+pub listed_end : (p : ProgramShape) (front : List Ticket) (s : StandingShape) → IsStanding p front s → NoneNext p s → IsListedAfter p front s
+listed_end p front s is over = record {
+  complete = (complete_orders_leave_none p s.order is.legal).1
+      (λ c. sym (ap (λ (g : Configuration). g.begun c) is.stands) ∙ all_begun p front s is over c);
+  reduced = is.reduced;
+  outcome = ap outcome_in is.stands ∙ configurations_follow_orders p s.order is.legal;
+  places = record { locals = is.locals; states = is.states };
 }
+
+listed : (p : ProgramShape) (front : List Ticket) (rows : List RowShape) (s : StandingShape) → IsFound p front rows s → IsListedAfter p front s
+listed p front rows s found = listed_end p front s found.standing found.over
 
 found_apart : (p : ProgramShape) (front : List Ticket) (rows : List RowShape) (s t : StandingShape) → IsFound p front rows s → IsFound p front rows t → outcome_at s ≡ outcome_at t → row_of p s ≡ row_of p t
 found_apart p front rows s t a b e =
@@ -183,10 +188,15 @@ has_configurations p front sound rows found explored = (
       (picked_has p front sound (IsSeen p front rows [] found) (λ r s w. w.standing) (λ r s w. w.row) last.0 last.1.0 rows explored.seen last.2)),
 )
 
+-- one more configuration was noted
+pub noted_one_more : (p : ProgramShape) (front : List Ticket) → IsSound p → (rows : List RowShape) (stack found : List StandingShape) (s : StandingShape) → IsExplored p front rows stack found
+    → IsStanding p front s → (HasOne (λ r. row_of p s ≡ r) rows → ⊥) → HasNoted p front (suc (length rows))
+noted_one_more p front sound rows stack found s explored is new = (
+  picked p front sound (IsSeen p front rows stack found) (λ r s w. w.standing) (λ r s w. w.row) rows explored.seen ++ s ∷ [],
+  one_more p front sound (IsSeen p front rows stack found) (λ r s w. w.standing) (λ r s w. w.row) rows explored.seen explored.once s is new,
+)
+
 pub has_more_than : (p : ProgramShape) (front : List Ticket) → IsSound p → (limit : ℕ) (rows : List RowShape) (stack found : List StandingShape) (s : StandingShape) → IsExplored p front rows stack found
     → IsStanding p front s → length rows ≡ limit → (HasOne (λ r. row_of p s ≡ r) rows → ⊥) → HasMoreThanAfter p front limit
-has_more_than p front sound limit rows stack found s explored is full new = (
-  picked p front sound (IsSeen p front rows stack found) (λ r s w. w.standing) (λ r s w. w.row) rows explored.seen ++ s ∷ [],
-  subst (λ n. AreDifferent p front (picked p front sound (IsSeen p front rows stack found) (λ r s w. w.standing) (λ r s w. w.row) rows explored.seen ++ s ∷ []) (suc n)) full
-      (one_more p front sound (IsSeen p front rows stack found) (λ r s w. w.standing) (λ r s w. w.row) rows explored.seen explored.once s is new),
-)
+has_more_than p front sound limit rows stack found s explored is full new =
+    subst (λ n. HasNoted p front (suc n)) full (noted_one_more p front sound rows stack found s explored is new)

@@ -22,10 +22,10 @@ use Rattle.qs_standings.proofs.Lists.{has_back, has_either, has_front, has_map, 
 use Rattle.qs_standings.proofs.RowTells.{pick, row_tells, same_configurations}
 use Rattle.qs_standings.proofs.Stands.{configuration-snoc, goes_left, in_program}
 
-abbrev GoesThrough : List Ticket → StandingShape → Type 0
+abbrev pub GoesThrough : List Ticket → StandingShape → Type 0
 GoesThrough order s = (rest : List Ticket) × IsLongerBy s.order rest order
 
-abbrev LeadsToSeen : ProgramShape → List Ticket → List RowShape → List Ticket → Type 0
+abbrev pub LeadsToSeen : ProgramShape → List Ticket → List RowShape → List Ticket → Type 0
 LeadsToSeen p front rows order = (s : StandingShape) × IsSeenAfter p front rows order s
 
 module _ (p : ProgramShape) (front : List Ticket) (sound : IsSound p) (rows : List RowShape) (stack found : List StandingShape) (s : StandingShape) (is : IsStanding p front s)
@@ -33,7 +33,7 @@ module _ (p : ProgramShape) (front : List Ticket) (sound : IsSound p) (rows : Li
   below : AllByRecursion (λ u. IsBefore s.order u.order) stack
   below = pairs_last (λ t u. IsBefore u.order t.order) stack s first.stack_sorted
 
-  seen_before : (order : List Ticket) → IsLegal p order → IsReducedAfter p front order → IsBefore order s.order → LeadsToSeen p front rows order
+  pub seen_before : (order : List Ticket) → IsLegal p order → IsReducedAfter p front order → IsBefore order s.order → LeadsToSeen p front rows order
   seen_before order legal reduced before = elim (first.covered order legal reduced) [
     | inl seen ↦ seen
     | inr on ↦ absurd (elim (has_either (GoesThrough order) stack (s ∷ []) on) [

@@ -2,3 +2,4 @@ pub mod Before
 pub mod LeastFirst
 pub mod Exploring
 pub mod Explored
+pub mod Witnesses

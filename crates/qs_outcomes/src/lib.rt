@@ -1,11 +1,15 @@
 //! Everything that a program can come to: a search over the configurations between whole blocks.
 #![tactic(auto)]
 
+mod answer;
 mod fault;
+mod question;
 mod search;
 mod watcher;
 
+pub use answer::Answer;
 pub use fault::OutcomesFault;
 pub use qs_standings::Standing;
-pub use search::{AllOutcomes, outcomes, outcomes_after, outcomes_watched};
+pub use question::Question;
+pub use search::{AllOutcomes, ask_watched, outcomes, outcomes_after, outcomes_watched};
 pub use watcher::Watcher;

@@ -1,8 +1,9 @@
 //! The search over configurations.
 
-ghost use Rattle.std.specs.Prelude.{◌≡◌, ◌<◌, ◌≤◌, ◌+◌, true, false, IfOk, OnOk, IsErrOf, [], ◌∷◌, ◌++◌, length};
+ghost use Rattle.std.specs.Prelude.{◌≡◌, ◌<◌, ◌≤◌, ◌+◌, true, false, None, IfOk, IfSome, OnOk, IsErrOf, [], ◌∷◌, ◌++◌, length};
 ghost use Rattle.qs_serial.specs.NamedOrders.{order_of};
 ghost use Rattle.qs_meaning.specs.Serial.{IsLegal};
+ghost use Rattle.qs_outcomes.specs.Answers.{AreUnmet, HasNoted, IsAnswerAfter, IsWitnessAfter};
 ghost use Rattle.qs_outcomes.specs.Outcomes.{AreOutcomes, AreOutcomesAfter, HasMoreThan, HasMoreThanAfter};
 ghost use Rattle.qs_standings.specs.Lists.{HasOne};
 ghost use Rattle.qs_standings.specs.Rows.{AreStarts, drafted, rows_in, shape_of, IsInserted};
@@ -11,7 +12,9 @@ ghost use Rattle.qs_meaning.specs.Reduced.{goes_on};
 ghost use Rattle.qs_standings.specs.Going.{AreLast, in_byte};
 ghost use Rattle.qs_standings.specs.Standings.{IsFirst, IsStanding, configuration_in, row_of};
 
+use crate::answer::Answer;
 use crate::fault::OutcomesFault;
+use crate::question::{Nothing, Question};
 use crate::watcher::{Unwatched, Watcher};
 use indexmap::IndexSet;
 use qs_objects::{Object, Ticket};
@@ -73,6 +76,20 @@ struct Scratch {
     row: Draft,
     spare: Vec<Standing>,
     hints: Hints,
+}
+
+impl Scratch {
+    // Nothing written yet.
+    fn new(alloc: Global, program: &Program) -> Result<Scratch, AllocError> {
+        Ok(Scratch {
+            base: Draft::new(alloc),
+            values: [0; MOST_VARIABLES],
+            left: Vec::new(alloc),
+            row: Draft::new(alloc),
+            spare: Vec::new(alloc),
+            hints: Hints::new(alloc, program)?,
+        })
+    }
 }
 
 // A standing to write into, one that is done with where there is any.
@@ -222,27 +239,42 @@ fn add(list: &mut Vec<Standing>, standing: Standing) -> Result<(), AllocError>
     Ok(())
 }
 
+// What a search came to: a witness, or all that was found where there is none; and how many configurations were noted.
+#[derive(Drop)]
+struct Searched {
+    witness: Option<Standing>,
+    found: Vec<Standing>,
+    configurations: usize,
+}
+
 // Takes up a standing: nothing where its row was seen, else what the next blocks of those who go on lead to, or an
-// outcome where no block is left. The watcher is told of a standing whose row was not seen.
-fn visit<W: Watcher>(
+// outcome where no block is left, which is given back where it is what the question asks for. The watcher is told of a
+// standing whose row was not seen.
+fn visit<Q: Question, W: Watcher>(
     alloc: Global,
     program: &Program,
     last: &[Last],
     starts: &[usize],
     front: &[Ticket],
     limit: u32,
+    question: &Q,
     watcher: &mut W,
     standing: Standing,
     scratch: &mut Scratch,
     seen: &mut IndexSet<Row>,
     stack: &mut Vec<Standing>,
     found: &mut Vec<Standing>,
-) -> Result<(), OutcomesFault>
+) -> Result<Option<Standing>, OutcomesFault>
     requires small { length (rows_in seen.old.keys) ≤ limit }
     requires last { AreLast program.now last.now }
     requires starts { AreStarts program.now starts.now }
     requires explored { IsExplored program.now front.now (rows_in seen.old.keys) (stack.old.items ++ standing ∷ []) found.old.items }
-    ensures explored { OnOk result (IsExplored program.now front.now (rows_in seen.new.keys) stack.new.items found.new.items) }
+    requires unmet { AreUnmet (Q.asked question.now program.now) found.old.items }
+    ensures explored { IfOk result (λ met. met ≡ None
+        → IsExplored program.now front.now (rows_in seen.new.keys) stack.new.items found.new.items) }
+    ensures unmet { IfOk result (λ met. met ≡ None → AreUnmet (Q.asked question.now program.now) found.new.items) }
+    ensures witness { IfOk result (λ met. IfSome met (IsWitnessAfter program.now front.now (Q.asked question.now program.now))) }
+    ensures noted { IfOk result (λ met. IfSome met (λ _. HasNoted program.now front.now (length (rows_in seen.new.keys)))) }
     ensures small { OnOk result (length (rows_in seen.new.keys) ≤ limit) }
     ensures less { OnOk result (work_left limit (rows_in seen.new.keys) stack.new.items
         < work_left limit (rows_in seen.old.keys) stack.old.items + 1) }
@@ -252,32 +284,44 @@ fn visit<W: Watcher>(
     program.keeps_sound();
     match note(alloc, program, front, limit, &standing, scratch, seen) {
         Err(fault) => return Err(fault),
-        Ok(false) => return Ok(put_by(&mut scratch.spare, standing)?),
+        Ok(false) => {
+            put_by(&mut scratch.spare, standing)?;
+            return Ok(None);
+        }
         Ok(true) => watcher.noted(seen.len()),
     }
     if standing.is_over(program, front) {
+        if question.is_met(alloc, program, &standing)? {
+            return Ok(Some(standing));
+        }
         add(found, standing)?;
-        return Ok(());
+        return Ok(None);
     }
     push_next(
         alloc, program, last, starts, front, &standing, scratch, seen, stack,
     )?;
     put_by(&mut scratch.spare, standing)?;
-    Ok(())
+    Ok(None)
 }
 
-// The outcomes after a front, by a search that begins where the program stands after it.
-fn search_from<W: Watcher>(
+// What is met after a front, by a search that begins where the program stands after it.
+fn search_from<Q: Question, W: Watcher>(
     alloc: Global,
     program: &Program,
     front: &[Ticket],
     first: Standing,
     limit: u32,
+    question: &Q,
     watcher: &mut W,
-) -> Result<AllOutcomes, OutcomesFault>
+) -> Result<Searched, OutcomesFault>
     requires first { IsFirst program.now front.now first }
-    ensures outcomes { IfOk result (λ all. AreOutcomesAfter program.now front.now all) }
-    ensures within { IfOk result (λ all. all.configurations ≤ limit) }
+    ensures outcomes { IfOk result (λ searched. searched.witness ≡ None
+        → AreOutcomesAfter program.now front.now (record { found = searched.found.items; configurations = searched.configurations })) }
+    ensures unmet { IfOk result (λ searched. searched.witness ≡ None → AreUnmet (Q.asked question.now program.now) searched.found.items) }
+    ensures witness { IfOk result (λ searched. IfSome searched.witness (IsWitnessAfter program.now front.now (Q.asked question.now program.now))) }
+    ensures noted { IfOk result (λ searched. HasNoted program.now front.now searched.configurations) }
+    ensures legal { IfOk result (λ _. IsLegal program.now front.now) }
+    ensures within { IfOk result (λ searched. searched.configurations ≤ limit) }
     ensures limit { IsErrOf result OutcomesFault.Limit → HasMoreThanAfter program.now front.now limit }
     ensures order { ¬ IsErrOf result OutcomesFault.Order }
 {
@@ -287,23 +331,17 @@ fn search_from<W: Watcher>(
     let mut seen = IndexSet::new(alloc);
     let mut found = Vec::new(alloc);
     let mut stack = Vec::new(alloc);
-    let mut scratch = Scratch {
-        base: Draft::new(alloc),
-        values: [0; MOST_VARIABLES],
-        left: Vec::new(alloc),
-        row: Draft::new(alloc),
-        spare: Vec::new(alloc),
-        hints: Hints::new(alloc, program)?,
-    };
+    let mut scratch = Scratch::new(alloc, program)?;
     add(&mut stack, first)?;
     while let Some(standing) = stack.pop() {
-        visit(
+        let met = visit(
             alloc,
             program,
             last.as_slice(),
             starts.as_slice(),
             front,
             limit,
+            question,
             watcher,
             standing,
             &mut scratch,
@@ -311,11 +349,54 @@ fn search_from<W: Watcher>(
             &mut stack,
             &mut found,
         )?;
+        if let Some(witness) = met {
+            return Ok(Searched {
+                witness: Some(witness),
+                found,
+                configurations: seen.len(),
+            });
+        }
     }
-    Ok(AllOutcomes {
+    Ok(Searched {
+        witness: None,
         found,
         configurations: seen.len(),
     })
+}
+
+// What is met after the blocks that a list of clients names.
+fn search_after<Q: Question, W: Watcher>(
+    alloc: Global,
+    program: &Program,
+    front: &[u8],
+    limit: u32,
+    question: &Q,
+    watcher: &mut W,
+) -> Result<Searched, OutcomesFault>
+    ensures outcomes { IfOk result (λ searched. searched.witness ≡ None
+        → AreOutcomesAfter program.now (order_of front.now) (record { found = searched.found.items; configurations = searched.configurations })) }
+    ensures unmet { IfOk result (λ searched. searched.witness ≡ None → AreUnmet (Q.asked question.now program.now) searched.found.items) }
+    ensures witness { IfOk result (λ searched. IfSome searched.witness (IsWitnessAfter program.now (order_of front.now) (Q.asked question.now program.now))) }
+    ensures noted { IfOk result (λ searched. HasNoted program.now (order_of front.now) searched.configurations) }
+    ensures legal { IfOk result (λ _. IsLegal program.now (order_of front.now)) }
+    ensures within { IfOk result (λ searched. searched.configurations ≤ limit) }
+    ensures limit { IsErrOf result OutcomesFault.Limit → HasMoreThanAfter program.now (order_of front.now) limit }
+    ensures order { IsErrOf result OutcomesFault.Order → ¬ IsLegal program.now (order_of front.now) }
+{
+    if !names_order(program, front) {
+        return Err(OutcomesFault::Order);
+    }
+    let first = placed(alloc, program, front)?;
+    let order = copied(alloc, first.order())?;
+    search_from(
+        alloc,
+        program,
+        order.as_slice(),
+        first,
+        limit,
+        question,
+        watcher,
+    )
 }
 
 /// All outcomes of a program after the blocks that a list of clients names, each client's in turn: each once, with the
@@ -335,12 +416,43 @@ pub fn outcomes_watched<W: Watcher>(
     ensures limit { IsErrOf result OutcomesFault.Limit → HasMoreThanAfter program.now (order_of front.now) limit }
     ensures order { IsErrOf result OutcomesFault.Order → ¬ IsLegal program.now (order_of front.now) }
 {
-    if !names_order(program, front) {
-        return Err(OutcomesFault::Order);
-    }
-    let first = placed(alloc, program, front)?;
-    let order = copied(alloc, first.order())?;
-    search_from(alloc, program, order.as_slice(), first, limit, watcher)
+    let Searched {
+        found,
+        configurations,
+        ..
+    } = search_after(alloc, program, front, limit, &Nothing, watcher)?;
+    Ok(AllOutcomes {
+        found,
+        configurations,
+    })
+}
+
+/// Whether an outcome of a program, after the blocks that a list of clients names, is what a question asks for. The
+/// search stops at the first that is: the one with the least complete order that begins with these, is reduced after
+/// them and comes to what is asked for. Where there is no witness, no complete order that begins with these comes to
+/// it. The faults are those of `outcomes_watched`, but that a search that has stopped meets no limit.
+pub fn ask_watched<Q: Question, W: Watcher>(
+    alloc: Global,
+    program: &Program,
+    front: &[u8],
+    limit: u32,
+    question: &Q,
+    watcher: &mut W,
+) -> Result<Answer, OutcomesFault>
+    ensures answer { IfOk result (IsAnswerAfter program.now (order_of front.now) (Q.asked question.now program.now)) }
+    ensures within { IfOk result (λ answer. answer.configurations ≤ limit) }
+    ensures limit { IsErrOf result OutcomesFault.Limit → HasMoreThanAfter program.now (order_of front.now) limit }
+    ensures order { IsErrOf result OutcomesFault.Order → ¬ IsLegal program.now (order_of front.now) }
+{
+    let Searched {
+        witness,
+        configurations,
+        ..
+    } = search_after(alloc, program, front, limit, question, watcher)?;
+    Ok(Answer {
+        witness,
+        configurations,
+    })
 }
 
 /// All outcomes of a program after the blocks that a list of clients names, each client's in turn: each once, with the

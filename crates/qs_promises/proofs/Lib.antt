@@ -6,3 +6,4 @@ pub mod Ending
 pub mod Asked
 pub mod GoingOn
 pub mod Rounds
+pub mod Answering

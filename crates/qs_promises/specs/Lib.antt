@@ -5,6 +5,7 @@ pub mod BlockAlone
 pub mod Undisturbed
 pub mod Finished
 pub mod Outcomes
+pub mod Answers
 pub mod AsAsked
 pub mod GoesOn
 pub mod EnoughRounds

@@ -3,6 +3,7 @@
 
 ghost use Rattle.qs_core_progress.specs.CoreSteps.{CoreStepsAreBounded};
 ghost use Rattle.qs_plain_progress.specs.Steps.{StepsAreBounded};
+ghost use Rattle.qs_promises.specs.Answers.{AnswersAreOfRuns};
 ghost use Rattle.qs_promises.specs.AsAsked.{RunsAreAsAsked};
 ghost use Rattle.qs_promises.specs.BlockAlone.{BlocksAreAsIfAlone, BlocksThatAgreeDoTheSame, OnlyTheOrderDecides};
 ghost use Rattle.qs_promises.specs.EnoughRounds.{
@@ -57,6 +58,14 @@ pub fn outcomes_leave_nothing_out()
     ensures reached { RulesReachCompleteOrders }
     ensures reached_on { MachineReachesCompleteOrders }
     ensures listed { ListedOutcomesCanHappen }
+{}
+
+/// The answer to a claim is of runs. `always yes` says that its condition holds at the end of every finished run, and
+/// `throughout yes` that it holds wherever the order of a run has come; `always no`, `some yes` and `throughout no` come
+/// with an order that shows it, and some picks lead the plain rules, and the optimised machine in each mode, to the end
+/// of a complete one. It does nothing.
+pub fn answers_are_of_runs()
+    ensures answers { AnswersAreOfRuns }
 {}
 
 /// By the plain rules and on the optimised machine a run shows the state after exactly the picks and the rounds that

@@ -3,6 +3,7 @@ pub mod Report
 pub mod GraphText
 pub mod OutcomesText
 pub mod EndsText
+pub mod AnswerText
 pub mod Faults
 -- What crates promise one another, what proofs use, and worked examples.
 pub mod Lines
@@ -10,3 +11,4 @@ pub mod Examples
 pub mod GraphTextExamples
 pub mod OutcomesTextExamples
 pub mod EndsTextExamples
+pub mod AnswerTextExamples

@@ -1,5 +1,6 @@
 //! Worked examples of the texts, and what holds of the texts of graphs and of outcomes.
 
+ghost use Rattle.qs_report.specs.AnswerTextExamples.{AnswerTextExamples};
 ghost use Rattle.qs_report.specs.EndsText.{EndsTextsAreUnique};
 ghost use Rattle.qs_report.specs.EndsTextExamples.{EndsTextExamples};
 ghost use Rattle.qs_report.specs.Examples.{Examples};
@@ -41,4 +42,9 @@ pub fn ends_text_examples()
 /// A program has one text of its ends after a front, also where the limit is another one; it does nothing.
 pub fn ends_texts_are_unique()
     ensures unique { EndsTextsAreUnique }
+{}
+
+/// The texts of a few answers, worked out by hand; it does nothing.
+pub fn answer_text_examples()
+    ensures examples { AnswerTextExamples }
 {}

@@ -1,6 +1,7 @@
 //! The texts of results and faults, byte for byte.
 #![tactic(auto)]
 
+mod answers;
 mod counts;
 mod ends;
 mod faults;
@@ -12,6 +13,7 @@ mod runs;
 mod states;
 mod tickets;
 
+pub use answers::{answer_text, is_yes};
 pub use counts::check_text;
 pub use ends::ends_text;
 pub use faults::{Fault, fault_line, fault_line_watched, place_of, status, words_of};

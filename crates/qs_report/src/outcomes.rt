@@ -35,7 +35,7 @@ fn put_later_clients(out: &mut Vec<u8>, order: &[Ticket]) -> Result<(), AllocErr
 }
 
 // An order by its clients.
-fn put_clients_in(out: &mut Vec<u8>, order: &[Ticket]) -> Result<(), AllocError>
+pub(crate) fn put_clients_in(out: &mut Vec<u8>, order: &[Ticket]) -> Result<(), AllocError>
     ensures ok { OnOk result (out.new.items ≡ out.old.items ++ clients_text order.now) }
 {
     match order {

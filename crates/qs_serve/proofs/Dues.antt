@@ -1,7 +1,7 @@
 -- Out of memory is always a due answer, the status 4 is due only after a read has failed, the status 0 only with a
 -- text, and the report of a run is due where the line asked for that run. The function `serve` and those that find what
 -- is due stand on it. Each goes by cases on what the line asks for and on the answer.
-use Rattle.std.proofs.Common.{◌≡◌, ◌≤◌, ◌⊎◌, ◌||◌, if◌then◌else◌, ℕ, Bool, List, [], ◌∙◌, Option, Result, Ok, true, false, refl, sym, subst, inl, inr, IsOkAnd}
+use Rattle.std.proofs.Common.{◌≡◌, ◌≤◌, ◌⊎◌, ◌||◌, if◌then◌else◌, ℕ, Bool, List, [], ◌∙◌, Option, Some, None, Result, Ok, true, false, refl, sym, subst, inl, inr, IsOkAnd}
 use Rattle.std.proofs.lemmas.List.{append-nil}
 use Rattle.qs_played.specs.Played.{Played}
 use Rattle.qs_report.specs.declared.faults.Fault.{Fault}
@@ -27,10 +27,26 @@ use Rattle.qs_line.specs.declared.line.Format.TheVariants as format
 use Rattle.qs_line.specs.declared.line.OutcomesFormat.{OutcomesFormat}
 use Rattle.qs_line.specs.declared.line.GraphFormat.TheVariants as graph_format
 use Rattle.qs_line.specs.declared.line.ReportStyle.{ReportStyle}
-use Rattle.qs_line.specs.Line.{Line, Request, asks, check, graph, help, outcomes, play, refused, rules, run, version}
-use Rattle.qs_serve.specs.Due.{AreLinesFor, AreLinesWhere, IsDue, IsDueAfter, IsDueOfProgram, IsListOf, IsOutOfMemory, IsRefusedBy, IsReportBetween, IsReportOf, IsSomeText, IsTextBy, IsTextOfOutcomes, Lines, IsUnlisted, due_status, limit_in, listed_as, IsTextOfList, report_by, told_report}
+use Rattle.qs_line.specs.Line.{Line, Request, ask, asks, check, graph, help, outcomes, play, refused, rules, run, version}
+use Rattle.qs_conditions.specs.declared.claim.Claim.{Claim}
+use Rattle.qs_outcomes.specs.Answers.{AnswerShape}
+use Rattle.std.specs.Prelude.{IfSome}
+use Rattle.qs_objects.specs.declared.held.Ticket.{Ticket}
+use Rattle.qs_meaning.specs.Configurations.{OrderOutcome}
+use Rattle.qs_meaning.specs.Serial.{IsLegal}
+use Rattle.qs_conditions.specs.declared.claim.Quantifier.{Quantifier}
+use Rattle.qs_conditions.specs.declared.claim.Quantifier.TheVariants as quantifier
+use Rattle.qs_outcomes.specs.Answers.{IsWitnessAfter}
+use Rattle.qs_outcomes.specs.Outcomes.{HasPlaces}
+use Rattle.qs_standings.specs.Standings.{StandingShape}
+use Rattle.qs_throughout.specs.Courses.{IsCourseWitnessAfter}
+use Rattle.qs_questions.specs.Claims.{HasMoreFor, IsAnswerBy, IsAnswerTo}
+use Rattle.qs_questions.specs.Questions.{first_unknown_in}
+use Rattle.qs_report.specs.AnswerText.{IsAnswerText, is_yes}
+use Rattle.qs_json.specs.AnswerJson.{IsAnswerJson}
+use Rattle.qs_serve.specs.Due.{AreLinesFor, AreLinesWhere, IsAnswerAfterDue, IsAnswerTextTo, IsAnswered, IsDue, IsDueAfter, answer_in, IsDueOfProgram, IsListOf, IsOutOfMemory, IsRefusedBy, IsReportBetween, IsReportOf, IsSomeText, IsTextBy, IsTextOfOutcomes, Lines, IsUnanswered, IsUnlisted, due_status, limit_in, listed_as, IsTextOfList, report_by, told_report}
 use Rattle.qs_serve.specs.declared.due.Due.{Due}
-use Rattle.qs_serve.specs.declared.due.Due.TheVariants.{Text, Refused}
+use Rattle.qs_serve.specs.declared.due.Due.TheVariants.{Text, No, Refused}
 
 -- out of memory, whatever the line is, where no read has failed
 pub memory_is_due : (line : Line) (known : Option (List ℕ)) (failed : Bool) → failed ≡ false → IsDue line known failed (Refused fault.Memory)
@@ -79,11 +95,13 @@ zero_is_none (fault.Outcomes outcomes_fault.Order) e = absurd (cc e)
 -- so what is due with it is a text
 pub zero_is_text : (due : Due) → due_status due ≡ 0 → IsSomeText due
 zero_is_text (Text bytes) e = tt
+zero_is_text (No bytes) e = tt
 zero_is_text (Refused f) e = absurd (zero_is_none f e)
 
 -- a status of 4 that is due says that a read has failed
 pub four_is_due : (line : Line) (known : Option (List ℕ)) (failed : Bool) (due : Due) → IsDue line known failed due → due_status due ≡ 4 → failed ≡ true
 four_is_due line known failed (Text bytes) is e = absurd (cc e)
+four_is_due line known failed (No bytes) is e = absurd (cc e)
 four_is_due refused known failed (Refused f) (inl memory) e = absurd (cc (memory, e))
 four_is_due refused known failed (Refused f) (inr line) e = absurd (cc (line, e))
 four_is_due help known failed (Refused f) (inl memory) e = absurd (cc (memory, e))
@@ -102,6 +120,7 @@ pub due_by_lines : (request : Request) (style : ReportStyle) (p : ProgramShape) 
     → ((text : List ℕ) → text ≡ told_report steps queues (report_by style p played) → IsTextBy request [] p text)
     → IsReportBetween steps queues style p played due → IsOutOfMemory due ⊎ IsDueOfProgram request [] p due
 due_by_lines request style p steps queues played (Text bytes) by is = inr (by bytes.items is)
+due_by_lines request style p steps queues played (No bytes) by is = absurd is
 due_by_lines request style p steps queues played (Refused f) by is = inl (subst (λ g. IsOutOfMemory (Refused g)) (sym is) tt)
 
 -- a report alone stands between no lines
@@ -113,6 +132,7 @@ pub due_by_report : (request : Request) (style : ReportStyle) (p : ProgramShape)
     → ((text : List ℕ) → text ≡ report_by style p played → IsTextBy request [] p text) → IsReportOf style p played due
     → IsOutOfMemory due ⊎ IsDueOfProgram request [] p due
 due_by_report request style p played (Text bytes) by is = inr (by bytes.items is)
+due_by_report request style p played (No bytes) by is = absurd is
 due_by_report request style p played (Refused f) by is = inl (subst (λ g. IsOutOfMemory (Refused g)) (sym is) tt)
 
 -- where no lines are asked for, none stand beside a report
@@ -138,11 +158,13 @@ lines_where false Are lines told is are = is
 pub report_is_no_input : (style : ReportStyle) (p : ProgramShape) (played : Played) (due : Due) → IsReportOf style p played due
     → ¬ IsRefusedBy fault.Input due
 report_is_no_input style p played (Text bytes) is = λ none. none
+report_is_no_input style p played (No bytes) is = λ none. none
 report_is_no_input style p played (Refused f) is = λ e. absurd (cc (is, e))
 
 pub lines_are_no_input : (steps queues : List ℕ) (style : ReportStyle) (p : ProgramShape) (played : Played) (due : Due)
     → IsReportBetween steps queues style p played due → ¬ IsRefusedBy fault.Input due
 lines_are_no_input steps queues style p played (Text bytes) is = λ none. none
+lines_are_no_input steps queues style p played (No bytes) is = λ none. none
 lines_are_no_input steps queues style p played (Refused f) is = λ e. absurd (cc (is, e))
 
 -- a list of outcomes, or of their ends, that is due by what was asked for, in either format
@@ -159,6 +181,7 @@ pub due_after_list : (ends : Bool) (how : Format) (p : ProgramShape) (limit : �
     → AreOutcomesAfter p (order_of clients) all → all.configurations ≤ limit → IsListOf ends how p all due
     → IsDueAfter (listed_as ends how) p limit clients due
 due_after_list ends how p limit clients all (Text bytes) are within is = due_by_list ends how p limit clients all bytes.items are within is
+due_after_list ends how p limit clients all (No bytes) are within is = absurd is
 due_after_list ends how p limit clients all (Refused f) are within is =
     subst (λ g. IsDueAfter (listed_as ends how) p limit clients (Refused g)) (sym is) tt
 
@@ -173,6 +196,7 @@ pub due_by_outcomes : (how : OutcomesFormat) (p : ProgramShape) (limit : ℕ) (f
     → clients_of p front ≡ Ok clients → IsDueAfter how p limit clients due → IsOutOfMemory due ⊎ IsDueOfProgram (outcomes how limit front) [] p due
 due_by_outcomes how p limit front clients (Text bytes) named is =
     inr (of_named (λ xs. IsTextOfOutcomes how p limit xs bytes.items) (clients_of p front) clients named is)
+due_by_outcomes how p limit front clients (No bytes) named is = absurd is
 due_by_outcomes how p limit front clients (Refused fault.Memory) named is = inl tt
 due_by_outcomes how p limit front clients (Refused (fault.Outcomes f)) named is =
     inr (of_named (λ xs. IsUnlisted p (limit_in how limit) xs f) (clients_of p front) clients named is)
@@ -184,6 +208,62 @@ due_by_outcomes how p limit front clients (Refused (fault.Play f)) named is = ab
 due_by_outcomes how p limit front clients (Refused (fault.Order f)) named is = absurd is
 due_by_outcomes how p limit front clients (Refused (fault.Run f)) named is = absurd is
 
+-- a witness has its places, wherever it was found
+places_at_end : (p : ProgramShape) (front : List Ticket) (asked : OrderOutcome → Bool) (w : Option StandingShape) → IfSome w (IsWitnessAfter p front asked) → IfSome w (HasPlaces p)
+places_at_end p front asked None is = tt
+places_at_end p front asked (Some s) is = is.listed.places
+
+places_on_the_way : (p : ProgramShape) (front : List Ticket) (asked : OrderOutcome → Bool) (w : Option StandingShape) → IfSome w (IsCourseWitnessAfter p front asked) → IfSome w (HasPlaces p)
+places_on_the_way p front asked None is = tt
+places_on_the_way p front asked (Some s) is = is.on_the_way.places
+
+pub answer_places : (kind : Quantifier) (p : ProgramShape) (front : List Ticket) (asked : OrderOutcome → Bool) (a : AnswerShape) → IsAnswerBy kind p front asked a
+    → IfSome a.witness (HasPlaces p)
+answer_places quantifier.Always p front asked a is = places_at_end p front asked a.witness is.witness
+answer_places quantifier.Some p front asked a is = places_at_end p front asked a.witness is.witness
+answer_places quantifier.Throughout p front asked a is = places_on_the_way p front asked a.witness is.witness
+
+-- why a search was given up is why a claim is not answered
+pub unanswered : (p : ProgramShape) (kind : Quantifier) (limit : ℕ) (clients : List ℕ) (f : OutcomesFault) → (f ≡ outcomes_fault.Limit → HasMoreFor kind p (order_of clients) limit)
+    → (f ≡ outcomes_fault.Order → ¬ IsLegal p (order_of clients)) → IsUnanswered p kind limit clients f
+unanswered p kind limit clients outcomes_fault.Limit more order = more refl
+unanswered p kind limit clients outcomes_fault.Order more order = order refl
+unanswered p kind limit clients outcomes_fault.Memory more order = tt
+
+-- an answer that is due by a claim, in either format
+answered_by : (holds : Bool) (how : Format) (p : ProgramShape) (claim : Claim) (limit : ℕ) (clients : List ℕ) (a : AnswerShape) (text : List ℕ)
+    → IsAnswerTo claim p (order_of clients) a → a.configurations ≤ limit → is_yes claim.quantifier a ≡ holds → text ≡ answer_in how p claim.quantifier a
+    → IsAnswerTextTo how p claim limit clients holds text
+unfolding IsAnswerText IsAnswerJson
+answered_by holds format.Text p claim limit clients a text are within is e = (a, are, within, sym is, e)
+answered_by holds format.Json p claim limit clients a text are within is e = (a, are, within, sym is, e)
+
+pub answer_after : (how : Format) (p : ProgramShape) (claim : Claim) (limit : ℕ) (clients : List ℕ) (a : AnswerShape) (due : Due)
+    → IsAnswerTo claim p (order_of clients) a → a.configurations ≤ limit → IsAnswered how p claim.quantifier a due
+    → IsAnswerAfterDue how p claim limit clients due
+answer_after how p claim limit clients a (Text bytes) are within is = answered_by true how p claim limit clients a bytes.items are within is.0 is.1
+answer_after how p claim limit clients a (No bytes) are within is = answered_by false how p claim limit clients a bytes.items are within is.0 is.1
+answer_after how p claim limit clients a (Refused f) are within is = subst (λ g. IsAnswerAfterDue how p claim limit clients (Refused g)) (sym is) tt
+
+-- and it is due by what was asked for, where the condition speaks of what the program has
+pub due_by_claim : (how : Format) (p : ProgramShape) (claim : Claim) (limit : ℕ) (front : List Part) (clients : List ℕ) (due : Due)
+    → first_unknown_in p claim.condition ≡ None → clients_of p front ≡ Ok clients → IsAnswerAfterDue how p claim limit clients due
+    → IsOutOfMemory due ⊎ IsDueOfProgram (ask claim how limit front) [] p due
+due_by_claim how p claim limit front clients (Text bytes) known named is =
+    inr (known, of_named (λ xs. IsAnswerTextTo how p claim limit xs true bytes.items) (clients_of p front) clients named is)
+due_by_claim how p claim limit front clients (No bytes) known named is =
+    inr (known, of_named (λ xs. IsAnswerTextTo how p claim limit xs false bytes.items) (clients_of p front) clients named is)
+due_by_claim how p claim limit front clients (Refused fault.Memory) known named is = inl tt
+due_by_claim how p claim limit front clients (Refused (fault.Outcomes f)) known named is =
+    inr (of_named (λ xs. IsUnanswered p claim.quantifier limit xs f) (clients_of p front) clients named is)
+due_by_claim how p claim limit front clients (Refused fault.CommandLine) known named is = absurd is
+due_by_claim how p claim limit front clients (Refused fault.Input) known named is = absurd is
+due_by_claim how p claim limit front clients (Refused (fault.Read f)) known named is = absurd is
+due_by_claim how p claim limit front clients (Refused (fault.Check f)) known named is = absurd is
+due_by_claim how p claim limit front clients (Refused (fault.Play f)) known named is = absurd is
+due_by_claim how p claim limit front clients (Refused (fault.Order f)) known named is = absurd is
+due_by_claim how p claim limit front clients (Refused (fault.Run f)) known named is = absurd is
+
 -- a text that has no lines in it is due with any lines
 any_text : (request : Request) (found lines : Lines) (p : ProgramShape) (text : List ℕ) → AreLinesFor request found lines → IsTextBy request found p text
     → IsTextBy request lines p text
@@ -194,12 +274,14 @@ any_text (graph graph_format.Dot) found lines p text are is = subst (λ xs. IsTe
 any_text (rules style plan) found lines p text are is = is
 any_text (play style mode size plan) found lines p text are is = is
 any_text (run style mode size) found lines p text are is = is
+any_text (ask claim how limit front) found lines p text are is = is
 any_text (outcomes how limit front) found lines p text are is = is
 
 -- what is due with the lines that were found is due with these
 pub due_with_lines : (request : Request) (found lines : Lines) (p : ProgramShape) (due : Due) → AreLinesFor request found lines
     → IsDueOfProgram request found p due → IsDueOfProgram request lines p due
 due_with_lines request found lines p (Text bytes) are is = any_text request found lines p bytes.items are is
+due_with_lines request found lines p (No bytes) are is = is
 due_with_lines request found lines p (Refused f) are is = is
 
 pub due_with_any : (request : Request) (found lines : Lines) (p : ProgramShape) (due : Due) → AreLinesFor request found lines

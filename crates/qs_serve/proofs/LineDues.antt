@@ -12,12 +12,13 @@ use Rattle.qs_line.specs.Line.{IsAnswer, Line, asks, format_by, help, refused, r
 use Rattle.qs_serve.specs.Due.{IsDue, IsDueOfFault, IsFormat, IsTextKept, IsKeptBy, IsRefusedBy, IsTextOfMemory, format_of_answer}
 use Rattle.qs_serve.specs.Reading.{Reading}
 use Rattle.qs_serve.specs.declared.due.Due.{Due}
-use Rattle.qs_serve.specs.declared.due.Due.TheVariants.{Text, Refused}
+use Rattle.qs_serve.specs.declared.due.Due.TheVariants.{Text, No, Refused}
 use Rattle.qs_serve.proofs.Dues.{memory_is_due}
 
 refused_is_due : (line : Line) (before after : Reading) (due : Due) → before.has_failed ≡ false → after ≡ before → IsRefusedBy fault.Memory due
     → IsDue line before.remaining after.has_failed due
 refused_is_due line before after (Text bytes) fine unread is = absurd is
+refused_is_due line before after (No bytes) fine unread is = absurd is
 refused_is_due line before after (Refused f) fine unread is =
     subst (λ g. IsDue line before.remaining after.has_failed (Refused g)) (sym is)
     (memory_is_due line before.remaining after.has_failed (ap (λ (r : Reading). r.has_failed) unread ∙ fine))
@@ -45,6 +46,7 @@ format_by_line line (Err line_fault.Memory) before after due how is fault unread
 
 kept_or_refused : (line : Line) (known : Option (List ℕ)) (due : Due) (kept : List ℕ) → IsRefusedBy fault.Memory due → IsKeptBy line known due kept
 kept_or_refused (asks request) known (Text bytes) kept is = absurd is
+kept_or_refused (asks request) known (No bytes) kept is = absurd is
 kept_or_refused (asks request) known (Refused f) kept is = subst (λ g. IsTextKept known (Refused g) kept) (sym is) tt
 kept_or_refused help known due kept is = tt
 kept_or_refused version known due kept is = tt

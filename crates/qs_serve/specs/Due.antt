@@ -20,11 +20,18 @@ use Rattle.qs_report.specs.Report.{run_text, counts_text}
 use Rattle.qs_report.specs.GraphText.{IsGraphText}
 use Rattle.qs_dot.specs.DotText.{IsDotText}
 use Rattle.qs_node_lines.specs.NodeLines.{node_lines}
+use Rattle.qs_conditions.specs.declared.claim.Claim.{Claim}
+use Rattle.qs_conditions.specs.declared.claim.Quantifier.{Quantifier}
+use Rattle.qs_outcomes.specs.Answers.{AnswerShape}
+use Rattle.qs_questions.specs.Claims.{HasMoreFor}
+use Rattle.qs_questions.specs.Questions.{first_unknown_in}
+use Rattle.qs_json.specs.AnswerJson.{IsAnswerJson, json_of_answer}
 use Rattle.qs_json.specs.FaultJson.{fault_json}
 use Rattle.qs_json.specs.GraphJson.{IsGraphJson}
 use Rattle.qs_json.specs.EndsJson.{IsEndsJson, ends_json}
 use Rattle.qs_json.specs.OutcomesJson.{IsOutcomesJson, listed_json}
 use Rattle.qs_json.specs.RunJson.{counts_json, run_json}
+use Rattle.qs_report.specs.AnswerText.{IsAnswerText, is_yes, text_of_answer}
 use Rattle.qs_report.specs.EndsText.{IsEndsText, end_texts}
 use Rattle.qs_report.specs.OutcomesText.{IsOutcomesText, listed_text}
 use Rattle.qs_text.specs.SortedTexts.{IsInOrder}
@@ -65,10 +72,10 @@ use Rattle.qs_line.specs.declared.line.LineFault.{LineFault}
 use Rattle.qs_line.specs.declared.line.LineFault.TheVariants as line_fault
 use Rattle.qs_line.specs.declared.line.ReportStyle.{ReportStyle}
 use Rattle.qs_line.specs.declared.line.Settings.{Settings}
-use Rattle.qs_line.specs.Line.{Line, PlanShape, Request, asks, by_order, by_schedule, check, format_by, format_of_request, graph, help, line_in, outcomes, play, refused, request_of, rules, run, version}
+use Rattle.qs_line.specs.Line.{Line, PlanShape, Request, ask, asks, by_order, by_schedule, check, format_by, format_of_request, graph, help, line_in, outcomes, play, refused, request_of, rules, run, version}
 use Rattle.qs_serve.specs.Reading.{Reading}
 use Rattle.qs_serve.specs.declared.due.Due.{Due}
-use Rattle.qs_serve.specs.declared.due.Due.TheVariants.{Text, Refused}
+use Rattle.qs_serve.specs.declared.due.Due.TheVariants.{Text, No, Refused}
 
 -- a refusal, as text or as JSON
 abbrev pub refusal_in : Format → Fault → List ℕ
@@ -77,15 +84,18 @@ refusal_in format.Json f = fault_json f
 
 abbrev pub due_text : Format → Due → List ℕ
 due_text how (Text bytes) = bytes.items
+due_text how (No bytes) = bytes.items
 due_text how (Refused f) = refusal_in how f
 
 abbrev pub due_status : Due → ℕ
 due_status (Text bytes) = 0
+due_status (No bytes) = 1
 due_status (Refused f) = fault_status f
 
 -- the line of this fault is due
 abbrev pub IsRefusedBy : Fault → Due → Type 0
 IsRefusedBy f (Text bytes) = ⊥
+IsRefusedBy f (No bytes) = ⊥
 IsRefusedBy f (Refused g) = g ≡ f
 
 -- an allocation failed: in reading, in checking, in playing, in finding outcomes, or elsewhere
@@ -126,11 +136,13 @@ told_report steps queues report = steps ++ (report ++ queues)
 abbrev pub IsReportBetween : (steps queues : List ℕ) → ReportStyle → ProgramShape → Played → Due → Type 0
 IsReportBetween steps queues style p played (Text bytes) =
     bytes.items ≡ told_report steps queues (report_by style p played)
+IsReportBetween steps queues style p played (No bytes) = ⊥
 IsReportBetween steps queues style p played (Refused f) = f ≡ fault.Memory
 
 -- this report alone
 abbrev pub IsReportOf : ReportStyle → ProgramShape → Played → Due → Type 0
 IsReportOf style p played (Text bytes) = bytes.items ≡ report_by style p played
+IsReportOf style p played (No bytes) = ⊥
 IsReportOf style p played (Refused f) = f ≡ fault.Memory
 
 -- a list of outcomes, as text or as JSON
@@ -151,7 +163,19 @@ IsTextOfList true how p all text = IsInOrder (ends_in how p all) text
 -- such a text; or that an allocation failed
 abbrev pub IsListOf : (ends : Bool) → Format → ProgramShape → OutcomesShape → Due → Type 0
 IsListOf ends how p all (Text bytes) = IsTextOfList ends how p all bytes.items
+IsListOf ends how p all (No bytes) = ⊥
 IsListOf ends how p all (Refused f) = f ≡ fault.Memory
+
+-- an answer, as text or as JSON
+abbrev pub answer_in : Format → ProgramShape → Quantifier → AnswerShape → List ℕ
+answer_in format.Text p q a = text_of_answer p q a
+answer_in format.Json p q a = json_of_answer p q a
+
+-- this answer, which is yes or no; or that an allocation failed
+abbrev pub IsAnswered : Format → ProgramShape → Quantifier → AnswerShape → Due → Type 0
+IsAnswered how p q a (Text bytes) = (is_yes q a ≡ true) × (bytes.items ≡ answer_in how p q a)
+IsAnswered how p q a (No bytes) = (is_yes q a ≡ false) × (bytes.items ≡ answer_in how p q a)
+IsAnswered how p q a (Refused f) = f ≡ fault.Memory
 
 -- after as many rounds as a line plays by default, 1,000,000, a run has finished, whatever was picked before them
 abbrev pub FinishesByDefault : (rounds : ℕ) → Played → Type 0
@@ -231,9 +255,21 @@ IsTextOfOutcomes (outcomes_format.Ends format.Text) p limit clients text = IsEnd
 IsTextOfOutcomes (outcomes_format.Ends format.Json) p limit clients text = IsEndsJson p limit clients text
 IsTextOfOutcomes outcomes_format.Dot p limit clients text = IsChartDot p (limit_in outcomes_format.Dot limit) clients text
 
+-- the answer to a claim on a program after the blocks of some clients, yes or no, as text or as JSON
+abbrev pub IsAnswerTextTo : Format → ProgramShape → Claim → (limit : ℕ) → (clients : List ℕ) → (holds : Bool) → List ℕ → Type 0
+IsAnswerTextTo format.Text p claim limit clients holds text = IsAnswerText p claim limit clients holds text
+IsAnswerTextTo format.Json p claim limit clients holds text = IsAnswerJson p claim limit clients holds text
+
+-- the answer to a request whose condition speaks of what the program has
+abbrev pub IsAnswerBy : Request → ProgramShape → (holds : Bool) → List ℕ → Type 0
+IsAnswerBy (ask claim how limit front) p holds text =
+    (first_unknown_in p claim.condition ≡ None)
+    × IsOkAnd (clients_of p front) (λ clients. IsAnswerTextTo how p claim limit clients holds text)
+IsAnswerBy _ p holds text = ⊥
+
 -- what a request makes of a program: its counts; its graphs; the report of its run by the plain rules or in the
--- optimised machine; that of an outcome which its run on threads may have; or all its outcomes after the blocks of some
--- clients, of so many configurations at most. Each is written in the format that is asked for, and a report with the
+-- optimised machine; that of an outcome which its run on threads may have; or, after the blocks of some clients and of so
+-- many configurations at most, that a claim holds, or all its outcomes. Each is written in the format that is asked for, and a report with the
 -- counts of synchronisations where they are asked for, after a line for each step where these are, and before what lies
 -- where at the end of a run that has not finished.
 abbrev pub IsTextBy : Request → Lines → ProgramShape → List ℕ → Type 0
@@ -251,6 +287,7 @@ IsTextBy (play style mode size plan) lines p text =
     × (text ≡ told_report steps queues (report_by style p played))
 IsTextBy (run style mode size) lines p text =
     (outcome : Played) × IsOutcome p mode size outcome × (text ≡ report_by style p outcome)
+IsTextBy (ask claim how limit front) lines p text = IsAnswerBy (ask claim how limit front) p true text
 IsTextBy (outcomes how limit front) lines p text =
     IsOkAnd (clients_of p front) (λ clients. IsTextOfOutcomes how p limit clients text)
 
@@ -259,10 +296,12 @@ abbrev pub IsUnnamed : PlanShape → ProgramShape → Type 0
 IsUnnamed (by_schedule rounds picks) p = IsErr (actors_of p picks)
 IsUnnamed (by_order list) p = IsErr (clients_of p list)
 
--- so does the list that a request asks by
+-- so does the list that a request asks by, or its condition speaks of what the program does not have
 abbrev pub IsUnnamedBy : Request → ProgramShape → Type 0
 IsUnnamedBy (rules style plan) p = IsUnnamed plan p
 IsUnnamedBy (play style mode size plan) p = IsUnnamed plan p
+IsUnnamedBy (ask claim how limit front) p =
+    (¬ (first_unknown_in p claim.condition ≡ None)) ⊎ IsErr (clients_of p front)
 IsUnnamedBy (outcomes how limit front) p = IsErr (clients_of p front)
 IsUnnamedBy _ p = ⊥
 
@@ -303,8 +342,16 @@ IsUnlisted p limit clients outcomes_fault.Limit = HasMoreThanAfter p (order_of c
 IsUnlisted p limit clients outcomes_fault.Order = ¬ IsLegal p (order_of clients)
 IsUnlisted p limit clients outcomes_fault.Memory = Unit {0}
 
+-- why a claim is not answered after the blocks of some clients
+abbrev pub IsUnanswered : ProgramShape → Quantifier → ℕ → List ℕ → OutcomesFault → Type 0
+IsUnanswered p q limit clients outcomes_fault.Limit = HasMoreFor q p (order_of clients) limit
+IsUnanswered p q limit clients outcomes_fault.Order = ¬ IsLegal p (order_of clients)
+IsUnanswered p q limit clients outcomes_fault.Memory = Unit {0}
+
 -- why outcomes that a request asks for are not listed
 abbrev pub IsUnlistedBy : Request → ProgramShape → OutcomesFault → Type 0
+IsUnlistedBy (ask claim how limit front) p f =
+    IsOkAnd (clients_of p front) (λ clients. IsUnanswered p claim.quantifier limit clients f)
 IsUnlistedBy (outcomes how limit front) p f =
     IsOkAnd (clients_of p front) (λ clients. IsUnlisted p (limit_in how limit) clients f)
 IsUnlistedBy _ p f = ⊥
@@ -317,9 +364,19 @@ listed_as ends how = if ends then outcomes_format.Ends how else outcomes_format.
 -- allocation failed
 abbrev pub IsDueAfter : OutcomesFormat → ProgramShape → (limit : ℕ) → (clients : List ℕ) → Due → Type 0
 IsDueAfter how p limit clients (Text bytes) = IsTextOfOutcomes how p limit clients bytes.items
+IsDueAfter how p limit clients (No bytes) = ⊥
 IsDueAfter how p limit clients (Refused fault.Memory) = Unit {0}
 IsDueAfter how p limit clients (Refused (fault.Outcomes f)) = IsUnlisted p (limit_in how limit) clients f
 IsDueAfter how p limit clients (Refused _) = ⊥
+
+-- what is due of a claim after the blocks of some clients: the answer, why there is none, or that an allocation failed
+abbrev pub IsAnswerAfterDue : Format → ProgramShape → Claim → (limit : ℕ) → (clients : List ℕ) → Due → Type 0
+IsAnswerAfterDue how p claim limit clients (Text bytes) = IsAnswerTextTo how p claim limit clients true bytes.items
+IsAnswerAfterDue how p claim limit clients (No bytes) = IsAnswerTextTo how p claim limit clients false bytes.items
+IsAnswerAfterDue how p claim limit clients (Refused fault.Memory) = Unit {0}
+IsAnswerAfterDue how p claim limit clients (Refused (fault.Outcomes f)) =
+    IsUnanswered p claim.quantifier limit clients f
+IsAnswerAfterDue how p claim limit clients (Refused _) = ⊥
 
 -- why a request makes nothing of a program
 abbrev pub IsRefusedFor : Request → ProgramShape → Fault → Type 0
@@ -333,6 +390,7 @@ IsRefusedFor request p _ = ⊥
 -- what a request makes of a program, with these lines for the nodes of its graphs
 abbrev pub IsDueOfProgram : Request → Lines → ProgramShape → Due → Type 0
 IsDueOfProgram request lines p (Text bytes) = IsTextBy request lines p bytes.items
+IsDueOfProgram request lines p (No bytes) = IsAnswerBy request p false bytes.items
 IsDueOfProgram request lines p (Refused f) = IsRefusedFor request p f
 
 -- the lines that were found are these, where graphs are to be drawn; nothing else tells them
@@ -344,6 +402,7 @@ AreLinesFor (check how) found lines = ⊤
 AreLinesFor (rules style plan) found lines = ⊤
 AreLinesFor (play style mode size plan) found lines = ⊤
 AreLinesFor (run style mode size) found lines = ⊤
+AreLinesFor (ask claim how limit front) found lines = ⊤
 AreLinesFor (outcomes how limit front) found lines = ⊤
 
 -- what a request makes of a text: the result of its program, or the fault of the text, of its script, of the list whose
@@ -352,6 +411,9 @@ abbrev pub IsDueOfText : Request → List ℕ → Due → Type 0
 IsDueOfText request text (Text bytes) =
     (s : List Item) × IsScriptText text s × (fault_of s ≡ None)
     × IsTextBy request (node_lines text s) (program_of_items s) bytes.items
+IsDueOfText request text (No bytes) =
+    (s : List Item) × IsScriptText text s × (fault_of s ≡ None)
+    × IsAnswerBy request (program_of_items s) false bytes.items
 IsDueOfText request text (Refused (fault.Read f)) = IsRefused f text
 IsDueOfText request text (Refused (fault.Check f)) = (s : List Item) × IsScriptText text s × (fault_of s ≡ Some f)
 IsDueOfText request text (Refused fault.CommandLine) =
@@ -370,6 +432,7 @@ IsDueOfText request text (Refused _) = ⊥
 -- workers were let start; and the run is refused only as a refused run asks.
 abbrev pub HasAsked : {S : Type 0} → (S → ℕ → Bool → S → Type 0) → ProgramShape → S → S → Due → Type 0
 HasAsked Answers p before after (Text bytes) = LetAllStart Answers 0 (worker_count p) before after
+HasAsked Answers p before after (No bytes) = ⊥
 HasAsked Answers p before after (Refused (fault.Run f)) = IsRefusal Answers (worker_count p) f before after
 HasAsked Answers p before after (Refused f) = LetAllStart Answers 0 (worker_count p) before after
 
@@ -380,6 +443,7 @@ longest = 65537
 -- a text is due, such as that of help or of the version
 abbrev pub IsSomeText : Due → Type 0
 IsSomeText (Text bytes) = ⊤
+IsSomeText (No bytes) = ⊤
 IsSomeText (Refused f) = ⊥
 
 -- what is due, by the line, the input's bytes where they are known, and whether a read has failed; the texts of help
@@ -418,6 +482,7 @@ IsFormat line before after due how = (how ≡ format_by line) ⊎ (IsTextOfMemor
 -- the text that was read is kept, by which a fault is told; unless a read failed, or memory ran out
 abbrev pub IsTextKept : Option (List ℕ) → Due → List ℕ → Type 0
 IsTextKept known (Text bytes) kept = IfSome known (λ all. kept ≡ take longest all)
+IsTextKept known (No bytes) kept = IfSome known (λ all. kept ≡ take longest all)
 IsTextKept known (Refused fault.Input) kept = ⊤
 IsTextKept known (Refused fault.Memory) kept = ⊤
 IsTextKept known (Refused _) kept = IfSome known (λ all. kept ≡ take longest all)

@@ -38,7 +38,7 @@ pub(crate) fn tell_beside<'a, W: Write>(
         → Keeps (W.contents err.old) (W.contents err.new) }
     ensures refused { ¬ IsSomeText due.now → Keeps (W.contents err.old) (W.contents err.new) }
 {
-    if let Due::Text(_) = due {
+    if let Due::Text(_) | Due::No(_) = due {
         if is_terminal || may_ask(words) {
             if let Ok(asked) = asked_for(alloc, words) {
                 tell_limits(alloc, text, asked.limits, err);

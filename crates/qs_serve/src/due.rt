@@ -1,10 +1,10 @@
 // What a run has to write.
 
-ghost use Rattle.std.specs.Prelude.{◌≡◌, ◌+◌, ◌≤◌, ◌⊎◌, [], false, length, IfErr, IfOk, OnErr, OnOk, None, map};
+ghost use Rattle.std.specs.Prelude.{◌≡◌, ◌+◌, ◌≤◌, ◌⊎◌, [], false, length, IfErr, IfOk, IfSome, OnErr, OnOk, None, map};
 ghost use Rattle.qs_report.specs.declared.faults.Fault.TheVariants as fault;
 ghost use Rattle.qs_line.specs.declared.line.OutcomesFormat.TheVariants as outcomes_format;
-ghost use Rattle.qs_line.specs.Line.{asks, check, graph, line_in, outcomes, request_by, request_of, run};
-ghost use Rattle.qs_serve.specs.Due.{AreLinesFor, HasAsked, IsDue, IsDueAfter, IsDueOfFault, IsDueOfList, IsDueOfProgram, IsDueOfText, IsFormat, IsTextKept, IsKeptBy, IsRefusedBy, IsListOf, IsTextOf, IsOutOfMemory, due_status, format_of_answer, listed_as, longest};
+ghost use Rattle.qs_line.specs.Line.{ask, asks, check, graph, line_in, outcomes, request_by, request_of, run};
+ghost use Rattle.qs_serve.specs.Due.{AreLinesFor, HasAsked, IsAnswerAfterDue, IsAnswered, IsDue, IsDueAfter, IsDueOfFault, IsDueOfList, IsDueOfProgram, IsDueOfText, IsFormat, IsTextKept, IsKeptBy, IsRefusedBy, IsListOf, IsTextOf, IsOutOfMemory, due_status, format_of_answer, listed_as, longest};
 ghost use Rattle.qs_node_lines.specs.NodeLines.{node_lines};
 ghost use Rattle.qs_tree.specs.Limits.{longest_text};
 ghost use Rattle.qs_script.specs.Reads.{IsReadOf, IsScriptText};
@@ -16,15 +16,19 @@ use crate::plays::{due_of_play, due_of_rules};
 use crate::reports::due_of_outcome;
 use qs_check::{CheckFault, Program, check};
 use qs_chunk::ChunkSize;
+use qs_conditions::{Claim, Quantifier};
 use qs_dot::{MOST_PLACES, chart_dot, dot_text};
-use qs_json::{counts_json, ends_json, graph_json, outcomes_json};
+use qs_json::{answer_json, counts_json, ends_json, graph_json, outcomes_json};
 use qs_line::{
     Format, GraphFormat, LineFault, ListFault, OutcomesFormat, Part, ReportStyle, Settings,
     clients_of, read_line,
 };
 use qs_node_lines::{NodeLines, node_lines};
-use qs_outcomes::{AllOutcomes, Watcher, outcomes_watched};
-use qs_report::{Fault, check_text, ends_text, graph_text, outcomes_text, status};
+use qs_outcomes::{AllOutcomes, Answer, Watcher, outcomes_watched};
+use qs_questions::{answer, first_unknown};
+use qs_report::{
+    Fault, answer_text, check_text, ends_text, graph_text, is_yes, outcomes_text, status,
+};
 use qs_run::{FreeGate, FreeStart, Starter, execute_with};
 use qs_script::{ReadFault, read};
 use qs_syncset::Mode;
@@ -40,6 +44,8 @@ use std::thread::Threads;
 pub enum Due {
     /// The text of a result.
     Text(Vec<u8>),
+    /// The text of an answer that is no.
+    No(Vec<u8>),
     /// The line of a fault, and nothing else.
     Refused(Fault),
 }
@@ -53,6 +59,7 @@ impl Due {
     {
         match self {
             Due::Text(_) => 0,
+            Due::No(_) => 1,
             Due::Refused(fault) => status(fault),
         }
     }
@@ -119,6 +126,82 @@ fn due_of_run<S: Starter, T: Threads + Wait + Sync>(
         Ok(outcome) => due_of_outcome(alloc, program, style, outcome),
         Err(fault) => Due::Refused(Fault::Run(fault)),
     }
+}
+
+// The answer to a claim, in a format.
+fn due_of_answer(
+    alloc: Global,
+    program: &Program,
+    quantifier: Quantifier,
+    format: Format,
+    answer: Answer,
+) -> Due
+    requires places { IfSome answer.witness (HasPlaces program.now) }
+    ensures due { IsAnswered format program.now quantifier answer result }
+{
+    let text = match format {
+        Format::Text => answer_text(alloc, program, quantifier, &answer),
+        Format::Json => answer_json(alloc, program, quantifier, &answer),
+    };
+    let holds = is_yes(quantifier, &answer);
+    drop(answer);
+    match text {
+        Ok(bytes) if holds => Due::Text(bytes),
+        Ok(bytes) => Due::No(bytes),
+        Err(_) => Due::Refused(Fault::Memory),
+    }
+}
+
+// The answer to a claim after the blocks of some clients, found over so many configurations at most; a watcher is told
+// of each.
+fn due_of_claim_after<P: Watcher>(
+    alloc: Global,
+    program: &Program,
+    claim: &Claim,
+    format: Format,
+    limit: u32,
+    clients: &[u8],
+    watcher: &mut P,
+) -> Due
+    ensures not_input { ¬ IsRefusedBy fault.Input result }
+    ensures due { IsAnswerAfterDue format program.now claim.now limit clients.now result }
+{
+    match answer(alloc, program, claim, clients, limit, watcher) {
+        Ok(answer) => due_of_answer(alloc, program, claim.quantifier, format, answer),
+        Err(fault) => Due::Refused(Fault::Outcomes(fault)),
+    }
+}
+
+// The answer to a claim after the blocks of the clients that a list names. A condition that speaks of what the program
+// does not have is refused.
+fn due_of_claim<P: Watcher>(
+    alloc: Global,
+    program: &Program,
+    claim: &Claim,
+    format: Format,
+    limit: u32,
+    front: &[Part],
+    watcher: &mut P,
+) -> Due
+    ensures not_input { ¬ IsRefusedBy fault.Input result }
+    ensures due { IsOutOfMemory result ⊎ IsDueOfProgram (ask claim.now format limit front.now) [] program.now result }
+{
+    if first_unknown(&claim.condition, program).is_some() {
+        return Due::Refused(Fault::CommandLine);
+    }
+    let clients = match clients_of(alloc, program, front) {
+        Ok(clients) => clients,
+        Err(fault) => return due_of_list(fault),
+    };
+    due_of_claim_after(
+        alloc,
+        program,
+        claim,
+        format,
+        limit,
+        clients.as_slice(),
+        watcher,
+    )
 }
 
 // The list of all outcomes, or of their ends alone, in a format.
@@ -201,8 +284,8 @@ fn due_of_outcomes<P: Watcher>(
     }
 }
 
-// What settings make of a program: a run by the plain rules, in the optimised machine or on threads, all outcomes, the
-// counts, or the graphs.
+// What settings make of a program: a run by the plain rules, in the optimised machine or on threads, the answer to a
+// claim, all outcomes, the counts, or the graphs.
 fn due_of_program<T: Threads + Wait + Sync, P: Watcher>(
     rt: &T,
     alloc: Global,
@@ -225,6 +308,20 @@ fn due_of_program<T: Threads + Wait + Sync, P: Watcher>(
         Settings::Run { style, mode, chunk } => {
             due_of_run(rt, alloc, program, *style, *mode, *chunk, &mut FreeStart)
         }
+        Settings::Ask {
+            claim,
+            format,
+            limit,
+            front,
+        } => due_of_claim(
+            alloc,
+            program,
+            claim,
+            *format,
+            *limit,
+            front.as_slice(),
+            watcher,
+        ),
         Settings::Outcomes {
             format,
             limit,

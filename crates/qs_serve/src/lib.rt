@@ -2,6 +2,7 @@
 #![tactic(auto)]
 
 mod beside;
+mod condition_words;
 mod due;
 mod input;
 mod limit_words;

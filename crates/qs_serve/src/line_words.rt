@@ -1,5 +1,6 @@
 // What is said of a command line that is refused.
 
+use crate::condition_words::put_condition;
 use qs_diagnosis::{put, put_all};
 use qs_line::{MOST_ACTORS, Who, part_of, refusal, value_after};
 use qs_played::Actor;
@@ -26,7 +27,7 @@ pub(crate) fn put_line<'a>(
             Ok(())
         }
         None if words.len() < 2 => put(out, NO_WORD),
-        None => put_value(out, words),
+        None => put_value(alloc, out, words),
     }
 }
 
@@ -40,8 +41,9 @@ fn names_file<'a>(words: &'a [&'a str]) -> bool {
     false
 }
 
-// Puts what is wrong with the values of the line: the mode, an order beside a schedule, the rounds or a list.
-fn put_value<'a>(out: &mut Vec<u8>, words: &'a [&'a str]) -> Result<(), AllocError> {
+// Puts what is wrong with the values of the line: the mode, an order beside a schedule, the rounds, a list or a
+// condition.
+fn put_value<'a>(alloc: Global, out: &mut Vec<u8>, words: &'a [&'a str]) -> Result<(), AllocError> {
     if let Some(mode) = value_after(words, "--mode") {
         if !is_mode(mode) {
             return put_mode(out, mode);
@@ -62,7 +64,28 @@ fn put_value<'a>(out: &mut Vec<u8>, words: &'a [&'a str]) -> Result<(), AllocErr
     }
     put_list(out, words, "--pick", true)?;
     put_list(out, words, "--order", false)?;
-    put_list(out, words, "--after", false)
+    put_list(out, words, "--after", false)?;
+    put_claim(alloc, out, words)
+}
+
+// Puts what is wrong with a condition of the line: another one or `--ends` stands beside it, or it does not read.
+fn put_claim<'a>(alloc: Global, out: &mut Vec<u8>, words: &'a [&'a str]) -> Result<(), AllocError> {
+    let mut conditions: u8 = 0;
+    for setting in CLAIMS {
+        if value_after(words, setting).is_some() {
+            conditions = conditions.saturating_add(1);
+        }
+    }
+    if conditions > 1 {
+        return put(out, TWO_CONDITIONS);
+    }
+    if conditions == 1 && words.contains(&"--ends") {
+        return put(out, BESIDE_ENDS);
+    }
+    for setting in CLAIMS {
+        put_condition(alloc, out, words, setting)?;
+    }
+    Ok(())
 }
 
 fn is_mode(word: &str) -> bool {
@@ -96,6 +119,14 @@ const BESIDE_PICKS: &[u8] =
 
 const BESIDE_ROUNDS: &[u8] =
     b"error: the argument '--order <LIST>' cannot be used with '--rounds <N>'\n";
+
+/// The settings that take a condition.
+pub(crate) const CLAIMS: [&str; 3] = ["--always", "--some", "--throughout"];
+
+const TWO_CONDITIONS: &[u8] =
+    b"error: of '--always', '--some' and '--throughout' one may stand on the line\n";
+
+const BESIDE_ENDS: &[u8] = b"error: a condition is answered by yes or no; '--ends' lists ends\n";
 
 const NO_ACTOR: &[u8] =
     b"is no actor\n  = help: an actor is `c` or `h` and one digit, or `@` and a name, as in `@ann*2,h0`: twice the client ann, and then the handler of object 0\n";

@@ -31,7 +31,7 @@ fn write_due<W: Write>(out: &mut W, watch: &mut Watch<W>, format: Format, due: &
     ensures failed { watch.new.has_failed ≡ (watch.old.has_failed || not result) }
 {
     match due {
-        Due::Text(bytes) => write_text(out, watch, bytes.as_slice()),
+        Due::Text(bytes) | Due::No(bytes) => write_text(out, watch, bytes.as_slice()),
         Due::Refused(fault) => write_refusal(out, watch, format, fault),
     }
 }

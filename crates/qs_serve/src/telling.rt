@@ -4,8 +4,9 @@ ghost use Rattle.std.specs.Prelude.{IsTrue};
 ghost use Rattle.std.specs.Io.KnownBytes.{Keeps};
 ghost use Rattle.qs_serve.specs.Due.{IsSomeText};
 
+use crate::condition_words::put_unknown;
 use crate::due::Due;
-use crate::line_words::put_line;
+use crate::line_words::{CLAIMS, put_line};
 use crate::list_words::put_names;
 use crate::order_words::put_order;
 use crate::pick_words::put_actor;
@@ -49,13 +50,14 @@ fn plain_words(fault: &Fault) -> Option<&'static [u8]> {
             b"error: memory ran out while outcomes were looked for\n",
         ),
         Fault::Outcomes(OutcomesFault::Limit) => Some(
-            b"error: there are more configurations than the limit\n  = help: `--limit N` sets another limit, up to 4294967295; without it, it is 1000000\n",
+            b"error: there are more configurations than the limit\n  = help: `--limit N` sets another limit, up to 4294967295; without it, it is 1000000\n  = help: `--after LIST` looks only at what comes after some blocks, so that a search can be cut into parts\n",
         ),
         _ => None,
     }
 }
 
-// Puts what is said of a line that is refused: of the line itself, or else of its list, whose names are the script's.
+// Puts what is said of a line that is refused: of the line itself, or else of its list or of its condition, whose names
+// are the script's.
 fn put_refused<'a>(
     alloc: Global,
     out: &mut Vec<u8>,
@@ -65,6 +67,11 @@ fn put_refused<'a>(
     put_line(alloc, out, words)?;
     if out.is_empty() {
         put_names(alloc, out, words, text)?;
+    }
+    if out.is_empty() {
+        for setting in CLAIMS {
+            put_unknown(alloc, out, words, text, setting)?;
+        }
     }
     Ok(())
 }
@@ -120,7 +127,7 @@ pub(crate) fn tell<'a, W: Write>(
     ensures silent { IsSomeText due.now → IsTrue is_written → Keeps (W.contents err.old) (W.contents err.new) }
 {
     match due {
-        Due::Text(_) => {
+        Due::Text(_) | Due::No(_) => {
             if !is_written {
                 let mut watch = Watch::new();
                 write_text(err, &mut watch, WRITE);

@@ -62,10 +62,10 @@ state_tells s t us vs x y e =
     ((λ i. record { content = rest.0 i; refused = refused i }), rest.1)
 
 -- all objects in range, each at its place
-abbrev AllInRange : List State → Type 0
+abbrev pub AllInRange : List State → Type 0
 AllInRange ss = (h : ℕ) → h < length ss → IsInRange (get_or ss h no_state).content
 
-states_tell : (ss ts : List State) (us vs : List ℤ) → AllInRange ss → AllInRange ts → length ss ≡ length ts
+pub states_tell : (ss ts : List State) (us vs : List ℤ) → AllInRange ss → AllInRange ts → length ss ≡ length ts
     → flat_map state_row ss ++ us ≡ flat_map state_row ts ++ vs → (ss ≡ ts) × (us ≡ vs)
 states_tell [] [] us vs x y long e = (refl, e)
 states_tell [] (t ∷ ts) us vs x y long e = absurd (let h : 0 ≡ length (t ∷ ts) = long in omega (arith, h))
@@ -100,7 +100,7 @@ first_named p c l ls h = subst (λ k. AreNamedAlone p k l) (omega arith) (h 0 (o
 rest_named : (p : ProgramShape) (c : ℕ) (l : Locals) (ls : List Locals) → NamedFrom p c (l ∷ ls) → NamedFrom p (suc c) ls
 rest_named p c l ls h i less = subst (λ k. AreNamedAlone p k (get_or ls i zeros)) (omega arith) (h (suc i) (omega (arith, less)))
 
-named_tell : (p : ProgramShape) (c : ℕ) (ls ms : List Locals) (us vs : List ℤ) → length ls ≡ length ms → NamedFrom p c ls → NamedFrom p c ms
+pub named_tell : (p : ProgramShape) (c : ℕ) (ls ms : List Locals) (us vs : List ℤ) → length ls ≡ length ms → NamedFrom p c ls → NamedFrom p c ms
     → named_from p c ls ++ us ≡ named_from p c ms ++ vs → (ls ≡ ms) × (us ≡ vs)
 named_tell p c [] [] us vs long a b e = (refl, e)
 named_tell p c [] (m ∷ ms) us vs long a b e = absurd (let h : 0 ≡ length (m ∷ ms) = long in omega (arith, h))
@@ -119,7 +119,7 @@ module _ (p : ProgramShape) (front : List Ticket) (sound : IsSound p) where
       subst (λ k. AreNamedAlone p k (get_or s.locals i zeros)) (let z : i ≡ 0 + i = omega arith in z)
       (subst (AreNamedAlone p i) (sym (ap (λ (g : Configuration). g.locals i) is.stands)) (unnamed_stay_zero p sound s.order i))
 
-  in_range : (s : StandingShape) → IsStanding p front s → AllInRange s.states
+  pub in_range : (s : StandingShape) → IsStanding p front s → AllInRange s.states
   in_range s is h less = subst (λ (st : States). IsInRange (st h).content) (sym (ap (λ (g : Configuration). g.states) is.stands)) (orders_keep_ranges p sound s.order h)
 
   pub row_tells : (s t : StandingShape) → IsStanding p front s → IsStanding p front t → row_of p s ≡ row_of p t → configuration_in s ≡ configuration_in t

@@ -1,9 +1,10 @@
 use Rattle.std.proofs.Common.{refl}
 use Rattle.clap.proofs.OnLiterals.{clap_on_literals}
+use Rattle.qs_conditions.specs.Reading.{chain}
 use Rattle.qs_line.proofs.laws.line_examples.Goals as goal
 
 pub returns : goal.returns
-unfolding clap_on_literals
+unfolding clap_on_literals chain
 returns c = record {
   examples = record {
     defaults = record { checks = refl; graphs = refl; rules_alone = refl; play_alone = refl; run_alone = refl; outcomes_alone = refl };
@@ -48,6 +49,7 @@ returns c = record {
       twice = refl;
       of_run = refl;
     };
+    claims = record { always = refl; some = refl; throughout = refl; no_condition = refl; empty = refl; both = refl; all_three = refl; twice = refl; beside_ends = refl; as_drawing = refl; without_value = refl; of_play = refl };
     formats = record {
       text = refl;
       dot = refl;

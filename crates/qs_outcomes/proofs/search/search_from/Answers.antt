@@ -3,6 +3,7 @@ use Rattle.std.proofs.lemmas.List.{length-map}
 use Rattle.qs_objects.specs.declared.held.Ticket.{Ticket}
 use Rattle.qs_program.specs.Program.{ProgramShape}
 use Rattle.qs_meaning.specs.Serial.{IsLegal}
+use Rattle.qs_outcomes.specs.Answers.{HasNoted}
 use Rattle.qs_outcomes.specs.Outcomes.{HasConfigurationsAfter}
 use Rattle.qs_standings.specs.Rows.{rows_in, shape_of}
 use Rattle.qs_outcomes.specs.Search.{IsExplored}
@@ -19,7 +20,7 @@ over : (p : ProgramShape) (front : List Ticket) (rows : List RowShape) (stack fo
 over p front rows stack found none explored = subst (λ ts. IsExplored p front rows ts found) (none_left stack none) explored
 
 pub returns-clause-outcomes : goal.returns-clause-outcomes
-returns-clause-outcomes g c =
+returns-clause-outcomes g c = λ _.
     let p = c.args.program.now in
     let front = c.args.front.now in
     let sound = c.keeps_sound.ensures.sound in
@@ -34,6 +35,20 @@ returns-clause-outcomes g c =
       least = all_least p front sound rows found explored;
       sorted = c.loop-standing.invariant.explored.least.sorted;
       once = all_apart p front sound rows found explored;
-      counted = subst (HasConfigurationsAfter p front) (sym (c.len.ensures.len ∙ sym (length-map c.loop-standing.seen.keys shape_of)))
+      counted = subst (HasConfigurationsAfter p front) (sym (c.len-2.ensures.len ∙ sym (length-map c.loop-standing.seen.keys shape_of)))
           (has_configurations p front sound rows found explored);
     }
+
+pub returns-clause-noted : goal.returns-clause-noted
+returns-clause-noted g c =
+    let p = c.args.program.now in
+    let front = c.args.front.now in
+    let rows = rows_in c.loop-standing.seen.keys in
+    let found = c.loop-standing.found.items in
+    let explored : IsExplored p front rows [] found = over p front rows c.loop-standing.stack.items found
+    (let e = c.in_default.ensures.cases.0 in let k = c.loop-standing.stack.ok.0 in omega (arith, e, k)) c.loop-standing.invariant.explored in
+    let all : HasConfigurationsAfter p front (length rows) = has_configurations p front c.keeps_sound.ensures.sound rows found explored in
+    subst (HasNoted p front) (sym (c.len-2.ensures.len ∙ sym (length-map c.loop-standing.seen.keys shape_of))) (all.0, all.1)
+
+pub returns-clause-unmet : goal.returns-clause-unmet
+returns-clause-unmet g c = λ _. c.loop-standing.invariant.unmet

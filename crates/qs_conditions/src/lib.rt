@@ -1,0 +1,25 @@
+//! Conditions on what a program comes to: their text, the tree that it has, and the steps by which they are answered.
+#![tactic(auto)]
+
+mod claim;
+mod condition;
+mod expect;
+mod fault;
+pub mod laws;
+mod limits;
+mod parts;
+mod reader;
+mod signs;
+#[cfg(test)]
+mod tests;
+mod values;
+
+pub use claim::{Claim, Quantifier};
+pub use condition::{Condition, Step, Sum, Summand, Value};
+pub use fault::ConditionFault;
+pub use limits::MOST_NESTED;
+pub use qs_objects::Args;
+pub use qs_tokens::Name;
+pub use qs_tree::Relation;
+pub use reader::read_condition;
+pub use signs::{Placed, Sign};

@@ -1,0 +1,6 @@
+pub mod Firsts
+pub mod UnknownPlaces
+pub mod Running
+pub mod Totals
+pub mod Replies
+pub mod Sought

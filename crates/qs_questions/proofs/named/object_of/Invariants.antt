@@ -1,0 +1,7 @@
+use Rattle.std.proofs.Common.{◌≡◌, ◌<◌, ℕ, false}
+use Rattle.qs_program.specs.Numbering.{same_name}
+use Rattle.qs_program.specs.Program.{object_at}
+use Rattle.qs_questions.proofs.named.object_of.Given as goal
+
+abbrev pub invariant-loop-object : goal.invariant-loop-object
+invariant-loop-object l = (k : ℕ) → k < l.object → same_name l.name (object_at l.program k).name ≡ false

@@ -1,0 +1,11 @@
+use Rattle.std.proofs.Common.{◌≡◌, ◌==◌, ◌&&◌, drop}
+use Rattle.std.specs.List.{find}
+use Rattle.qs_objects.specs.Operations.{arity, word}
+use Rattle.qs_program.specs.Numbering.{same_name}
+use Rattle.qs_questions.specs.Questions.{only_asks}
+use Rattle.qs_questions.proofs.named.query_of.Given as goal
+
+abbrev pub invariant-loop-op : goal.invariant-loop-op
+invariant-loop-op l =
+    find (λ op. same_name l.word (word op) && (only_asks op && (arity op == l.count))) (drop l.op-index l.op-items)
+    ≡ find (λ op. same_name l.word (word op) && (only_asks op && (arity op == l.count))) l.op-items

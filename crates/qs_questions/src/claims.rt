@@ -1,0 +1,62 @@
+//! Answers to claims.
+
+ghost use Rattle.std.specs.Prelude.{◌≤◌, IfOk, IsErrOf};
+ghost use Rattle.qs_conditions.specs.Claims.{seeks};
+ghost use Rattle.qs_meaning.specs.Serial.{IsLegal};
+ghost use Rattle.qs_questions.specs.Claims.{HasMoreFor, IsAnswerTo, is_sought};
+ghost use Rattle.qs_serial.specs.NamedOrders.{order_of};
+
+use crate::asking::holds;
+use qs_conditions::{Claim, Quantifier};
+use qs_outcomes::{Answer, OutcomesFault, Question, Standing, Watcher, ask_watched};
+use qs_program::Program;
+use qs_throughout::ask_throughout;
+use std::alloc::{AllocError, Global};
+
+// The outcomes that the answer to a claim looks for: those of which its condition holds, or does not.
+#[derive(Drop)]
+struct Sought<'a> {
+    claim: &'a Claim,
+}
+
+impl Question for Sought<'_> {
+    ghost asked = { λ sought. is_sought sought.claim.now };
+
+    fn is_met(
+        &self,
+        alloc: Global,
+        program: &Program,
+        standing: &Standing,
+    ) -> Result<bool, AllocError> {
+        let holds = holds(alloc, &self.claim.condition, program, standing)?;
+        match self.claim.quantifier {
+            Quantifier::Always | Quantifier::Throughout => Ok(!holds),
+            Quantifier::Some => Ok(holds),
+        }
+    }
+}
+
+/// The answer to a claim on a program, after the blocks that a list of clients names, by a search that stops at the
+/// first witness. `Order` comes exactly where no legal order is named, `Limit` only where there are more configurations
+/// than the limit, `Memory` where memory was refused. The watcher is told of each new configuration as it is noted.
+pub fn answer<W: Watcher>(
+    alloc: Global,
+    program: &Program,
+    claim: &Claim,
+    front: &[u8],
+    limit: u32,
+    watcher: &mut W,
+) -> Result<Answer, OutcomesFault>
+    ensures answer { IfOk result (IsAnswerTo claim.now program.now (order_of front.now)) }
+    ensures within { IfOk result (λ answer. answer.configurations ≤ limit) }
+    ensures limit { IsErrOf result OutcomesFault.Limit → HasMoreFor claim.now.quantifier program.now (order_of front.now) limit }
+    ensures order { IsErrOf result OutcomesFault.Order → ¬ IsLegal program.now (order_of front.now) }
+{
+    let sought = Sought { claim };
+    match claim.quantifier {
+        Quantifier::Always | Quantifier::Some => {
+            ask_watched(alloc, program, front, limit, &sought, watcher)
+        }
+        Quantifier::Throughout => ask_throughout(alloc, program, front, limit, &sought, watcher),
+    }
+}

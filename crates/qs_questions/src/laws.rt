@@ -1,0 +1,23 @@
+//! What the definitions say of conditions, for callers' proofs and for readers.
+
+ghost use Rattle.qs_questions.specs.Claims.{StepsAnswer};
+ghost use Rattle.qs_questions.specs.Laws.{AskingChangesNothing, RepliesAreThere};
+ghost use Rattle.qs_questions.specs.QuestionExamples.{QuestionExamples};
+
+/// A query that a condition may ask changes nothing; and where the program has the reply that is asked for, the object
+/// gives one, as long as it is of its declared kind. It does nothing.
+pub fn replies()
+    ensures unchanged { AskingChangesNothing }
+    ensures there { RepliesAreThere }
+{}
+
+/// The steps of a condition answer what the condition says; it does nothing.
+pub fn steps_answer()
+    ensures steps { StepsAnswer }
+{}
+
+/// Conditions on two clients that withdraw from one account: which of them ask for what is not there, and which hold
+/// after each order, computed by the definitions; it does nothing.
+pub fn question_examples()
+    ensures examples { QuestionExamples }
+{}

@@ -1,0 +1,50 @@
+-- The answer to a claim on a program, as bytes.
+use Rattle.std.specs.Prelude.{◌≡◌, ◌≤◌, ℕ, Bool, List, [], ◌++◌, codes, if◌then◌else◌, length, Option, Some, None, is_some}
+use Rattle.qs_program.specs.Program.{ProgramShape}
+use Rattle.qs_serial.specs.NamedOrders.{order_of}
+use Rattle.qs_conditions.specs.Claims.{answer_by, word}
+use Rattle.qs_conditions.specs.declared.claim.Claim.{Claim}
+use Rattle.qs_conditions.specs.declared.claim.Quantifier.{Quantifier}
+use Rattle.qs_conditions.specs.declared.claim.Quantifier.TheVariants as q
+use Rattle.qs_outcomes.specs.Answers.{AnswerShape}
+use Rattle.qs_questions.specs.Claims.{IsAnswerTo}
+use Rattle.qs_standings.specs.Standings.{StandingShape}
+use Rattle.qs_text.specs.Texts.{count_line, texts_up_to}
+use Rattle.qs_report.specs.OutcomesText.{client_line, clients_text, object_line}
+
+-- the quantifier with yes or no
+abbrev pub answer_line : Quantifier → Bool → List ℕ
+answer_line q holds = word q ++ (if holds then codes " yes\n" else codes " no\n")
+
+-- what stands before the order of a witness: a complete order, or one after whose blocks the program stands there
+abbrev pub lead_word : Quantifier → List ℕ
+lead_word q.Always = codes "order"
+lead_word q.Some = codes "order"
+lead_word q.Throughout = codes "after"
+
+-- an order, and where the program stands after it
+abbrev pub witness_text : ProgramShape → Quantifier → StandingShape → List ℕ
+witness_text p q s =
+    lead_word q ++ codes " " ++ clients_text s.order ++ codes "\n" ++ texts_up_to (length p.objects) (object_line p s)
+    ++ texts_up_to (length p.clients) (client_line p s)
+
+abbrev pub witness_text_in : ProgramShape → Quantifier → Option StandingShape → List ℕ
+witness_text_in p q None = []
+witness_text_in p q (Some s) = witness_text p q s
+
+-- whether the answer is yes: all are as the condition says where none was found that is not, and some is where one was
+-- found
+abbrev pub is_yes : Quantifier → AnswerShape → Bool
+is_yes q a = answer_by q (is_some a.witness)
+
+-- yes or no, the witness, and how many configurations were noted
+abbrev pub text_of_answer : ProgramShape → Quantifier → AnswerShape → List ℕ
+text_of_answer p q a =
+    answer_line q (is_yes q a) ++ witness_text_in p q a.witness ++ count_line (codes "configurations") a.configurations
+
+-- There is an answer to the claim on the program after the blocks of these clients, with no more configurations than the
+-- limit; it is yes or no, and this is its text.
+unfoldable pub IsAnswerText : ProgramShape → Claim → (limit : ℕ) → (front : List ℕ) → (holds : Bool) → List ℕ → Type 0
+IsAnswerText p claim limit front holds text =
+    (a : AnswerShape) × IsAnswerTo claim p (order_of front) a × (a.configurations ≤ limit)
+    × (holds ≡ is_yes claim.quantifier a) × (text ≡ text_of_answer p claim.quantifier a)
