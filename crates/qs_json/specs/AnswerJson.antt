@@ -44,8 +44,8 @@ json_of_answer p q a =
     answer_field q (is_yes q a) ++ witness_field p q a.witness
     ++ field (codes "configurations") (decimal a.configurations) ++ codes "}\n"
 
--- There is an answer to the claim on the program after the blocks of these clients, with no more configurations than the
--- limit; it is yes or no, and this is its text.
+-- There is an answer to the claim on the program after the blocks of these clients, with no more configurations than
+-- the limit; it is yes or no, and this is its text.
 unfoldable pub IsAnswerJson : ProgramShape → Claim → (limit : ℕ) → (front : List ℕ) → (holds : Bool) → List ℕ → Type 0
 IsAnswerJson p claim limit front holds text =
     (a : AnswerShape) × IsAnswerTo claim p (order_of front) a × (a.configurations ≤ limit)

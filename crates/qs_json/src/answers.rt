@@ -84,8 +84,9 @@ fn put_witness_field(
     }
 }
 
-/// The answer to a claim as an object on a line: the answer; where there is a witness, the order that leads to it with the
-/// objects and the clients; and how many configurations were noted. An error says that an allocation failed, and nothing is left.
+/// The answer to a claim as an object on a line: the answer; where there is a witness, the order that leads to it with
+/// the objects and the clients; and how many configurations were noted. An error says that an allocation failed, and
+/// nothing is left.
 pub fn answer_json(
     alloc: Global,
     program: &Program,

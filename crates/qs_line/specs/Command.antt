@@ -72,7 +72,8 @@ claimed_app app =
     with_rule (with_rule (with_rule app (option_rule (codes "always"))) (option_rule (codes "some")))
     (option_rule (codes "throughout"))
 
--- `outcomes [--limit N] [--after LIST] [--ends] [--always COND] [--some COND] [--throughout COND] [--format F] [--warn]`
+-- `outcomes [--limit N] [--after LIST] [--ends] [--always COND] [--some COND] [--throughout COND] [--format F]
+-- [--warn]`
 abbrev pub outcomes_app : App
 outcomes_app =
     shared_app (claimed_app (with_rule (with_rule (with_rule (new_app (codes "outcomes")) limit_rule)

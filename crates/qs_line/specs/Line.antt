@@ -43,8 +43,9 @@ pub data PlanShape : Type 0 where
 
 -- what is asked for: the counts; the graphs; a run by the plain rules; one in the optimised machine, in a mode and by
 -- chunks of a size; one on threads; or, after the blocks of some clients and with so many configurations at most,
--- whether a condition holds of all ends, of some or throughout, or all outcomes, or their ends alone. Each is asked for in a format, and of a run the counts of synchronisations may be asked for
--- as well, and of a schedule a line for each step, and what lies where at its end.
+-- whether a condition holds of all ends, of some or throughout, or all outcomes, or their ends alone. Each is asked for
+-- in a format, and of a run the counts of synchronisations may be asked for as well, and of a schedule a line for each
+-- step, and what lies where at its end.
 pub data Request : Type 0 where
   check : Format → Request
   graph : GraphFormat → Request

@@ -5,8 +5,9 @@ macro_rules! with_limits {
     ($text:literal) => {
         concat!(
             $text,
-            "\n\nThe script comes on standard input. The status is 0 where a result is written, 2 where the line, the script, a list or\n",
-            "a limit is refused, 3 where memory or threads run out, and 4 where a read or a write fails.\n",
+            "\n\nThe script comes on standard input. The status is 0 where a result is written, 1 where that\n",
+            "answers a condition by no, 2 where the line, the script, a list or a limit is refused, 3 where memory or threads run\n",
+            "out, and 4 where a read or a write fails.\n",
             "A script has at most 65536 bytes, 8 objects, 8 clients and 8 templates; a client 64 blocks and 16 variables; a repeat\n",
             "1000 turns; all blocks 100000 requests and 1000000 steps; and a list 1000000 actors."
         )
@@ -112,11 +113,11 @@ Example:
   qs outcomes --format dot < my.script | dot -Tsvg > my.svg
 
 The second lists only what comes after a block of bob and then one of ann. The third lists the ends alone, so that `diff`
-compares two scripts. The next three answer yes, with status 0, or no, with status 1: whether a condition
-holds of all ends, of some, or between blocks too, with an order that shows it. The last draws how blocks lead from one configuration to
-the next, with a second outline for each outcome. A line `outcome 2 c1,c0` begins the second result: the block of client
-1, bob, first, then that of client 0, ann. Below it stand the objects at the end, and each client with its variables.
-Configurations, which the last line counts, are where the script can stand between two blocks."
+compares two scripts. The next three answer yes or no: whether a condition holds of all ends, of some, or between
+blocks too, with an order that shows it. The last draws how blocks lead from one configuration to the next, with a
+second outline for each outcome. A line `outcome 2 c1,c0` begins the second result: the block of client 1, bob, first,
+then that of client 0, ann. Below it stand the objects at the end, and each client with its variables. Configurations,
+which the last line counts, are where the script can stand between two blocks."
 );
 
 pub const FORMAT: &str =
