@@ -1,73 +1,30 @@
 -- How a breadth-first search goes on. What was noted grows at its end, and equal rows are of equal configurations. So
 -- wherever a legal order leads was noted, as long as the search went on from all standings with fewer blocks, and those
--- come first; by this the first that is asked for has the fewest blocks.
-use Rattle.std.proofs.Common.{◌≡◌, ◌<◌, ◌≤◌, ◌+◌, ℕ, zero, suc, Bool, true, false, if◌then◌else◌, ◌==◌, Some, List, [], ◌∷◌, ◌++◌, length, get_or, map, drop, flat_map, replicate, slice_get, refl, sym, ap, ◌∙◌, subst, arith, ◌⊎◌, inl, inr, ⊎_elim, true≢false, append-nil, append_assoc, length-append}
+-- come first; by this the first that is asked for has the fewest blocks. The standings that the search went on from are
+-- let go: here they are a list before those that wait.
+use Rattle.std.proofs.Common.{◌≡◌, ◌<◌, ◌≤◌, ◌+◌, ℕ, suc, Bool, true, false, Option, None, Some, List, [], ◌∷◌, ◌++◌, length, get_or, map, drop, flat_map, replicate, refl, sym, ap, ◌∙◌, subst, arith, inl, inr, ⊎_elim, true≢false, append-nil, append_assoc, length-append, ℤ}
 use Rattle.std.specs.List.{AllByRecursion}
+use Rattle.std.specs.Prelude.{IfSome}
 use Rattle.std.proofs.lemmas.List.{length-map, map-append}
+use Rattle.qs_objects.specs.Act.{State}
 use Rattle.qs_objects.specs.declared.held.Ticket.{Ticket}
 use Rattle.qs_objects.proofs.GridRows.{equal_long}
 use Rattle.qs_program.specs.Limits.{most_clients}
 use Rattle.qs_program.specs.Program.{ProgramShape, blocks_of}
 use Rattle.qs_program.specs.Sound.{IsSound}
-use Rattle.qs_meaning.specs.Configurations.{Configuration, OrderOutcome, configuration_after, configuration_from, first_configuration, one_block_on, outcome_in}
+use Rattle.qs_meaning.specs.Configurations.{Configuration, HasBlockLeft, OrderOutcome, configuration_after, configuration_from, first_configuration, one_block_on, outcome_in}
 use Rattle.qs_meaning.specs.Serial.{IsLegal, LegalFrom, no_state, zeros}
-use Rattle.qs_meaning.proofs.Each.{each_map, each_snoc}
+use Rattle.qs_meaning.proofs.Each.{each_back, each_both, each_join, each_map, each_snoc}
 use Rattle.qs_meaning.proofs.Orders.{configuration-append, legal-rest, legal_on}
-use Rattle.qs_outcomes.specs.Outcomes.{outcome_at}
-use Rattle.qs_standings.specs.Lists.{EachTwo, HasOne, NoTwo}
+use Rattle.qs_outcomes.specs.Outcomes.{HasPlaces, outcome_at}
+use Rattle.qs_standings.specs.Lists.{HasOne, NoTwo}
 use Rattle.qs_standings.specs.Rows.{IsInserted}
-use Rattle.qs_standings.specs.Standings.{HasNext, IsFirst, IsOneOn, IsStanding, RowShape, StandingShape, configuration_in, row_of, state_row}
-use Rattle.qs_standings.proofs.Lists.{has_back, has_front, has_map, has_of, has_some, pairs_join, same_list, two_snoc}
-use Rattle.qs_standings.proofs.RowSteps.{got}
+use Rattle.qs_standings.specs.Standings.{HasNext, HasRun, IsFirst, IsOneOn, IsStanding, RowShape, StandingShape, configuration_in, row_of, standing_with_block, state_row}
+use Rattle.qs_standings.proofs.Lists.{has_either, has_front, has_back, has_map, has_of, has_some, pairs_join, same_list, two_snoc}
 use Rattle.qs_standings.proofs.RowTells.{in_range, named, named_tell, same_row, states_tell}
-use Rattle.qs_standings.proofs.Stands.{below_or_past, in_program}
+use Rattle.qs_standings.proofs.Stands.{below_or_past, block_on, in_program}
 use Rattle.qs_throughout.specs.Courses.{HasNotedOnTheWay, HasOnTheWayAfter, IsCourseWitnessAfter, IsOnTheWayAfter, NoneMeetsOnTheWay}
-use Rattle.qs_throughout.specs.Walked.{AreFewerNoted, AreNoted, IsAtWithin, IsBehind, IsKept, IsReached, IsWalkedUpTo, begun_from}
-
--- lists by number
-
-pub each_got : {X : Type 0} (P : X → Type 0) (xs : List X) (i : ℕ) (x : X) → slice_get xs i ≡ Some x → AllByRecursion P xs → P x
-each_got P [] i x e all = absurd (cc)
-each_got P (y ∷ ys) zero x e all = subst P (let is : y ≡ x = cc in is) all.0
-each_got P (y ∷ ys) (suc i) x e all = each_got P ys i x e all.1
-
-got_less : {X : Type 0} (xs ys : List X) (i : ℕ) (x : X) → i < length xs → slice_get (xs ++ ys) i ≡ Some x → slice_get xs i ≡ Some x
-got_less [] ys i x less e = absurd (omega (arith, less))
-got_less (z ∷ zs) ys zero x less e = e
-got_less (z ∷ zs) ys (suc i) x less e = got_less zs ys i x (omega (arith, less)) e
-
-pub got_at : {X : Type 0} (xs : List X) (i : ℕ) (x : X) → i < length xs → x ≡ get_or xs i x → slice_get xs i ≡ Some x
-got_at [] i x less e = absurd (omega (arith, less))
-got_at (z ∷ zs) zero x less e = ap (λ y. Some y) (sym e)
-got_at (z ∷ zs) (suc i) x less e = got_at zs i x (omega (arith, less)) e
-
-pub some_at : {X : Type 0} (xs : List X) (i : ℕ) → i < length xs → (x : X) × (slice_get xs i ≡ Some x)
-some_at [] i less = absurd (omega (arith, less))
-some_at (z ∷ zs) zero less = (z, refl)
-some_at (z ∷ zs) (suc i) less = some_at zs i (omega (arith, less))
-
-has_at : {X : Type 0} {P : X → Type 0} (xs : List X) → HasOne P xs → (i : ℕ) × ((x : X) × (slice_get xs i ≡ Some x) × P x)
-has_at [] h = absurd h
-has_at (x ∷ xs) (inl h) = (0, (x, refl, h))
-has_at (x ∷ xs) (inr h) = let later = has_at xs h in (suc later.0, later.1)
-
-pairs_at : {X : Type 0} (R : X → X → Type 0) (xs : List X) (i j : ℕ) (x y : X) → EachTwo R xs → slice_get xs i ≡ Some x → slice_get xs j ≡ Some y → i < j → R x y
-pairs_at R [] i j x y h e f less = absurd (cc)
-pairs_at R (z ∷ zs) zero zero x y h e f less = absurd (omega (arith, less))
-pairs_at R (z ∷ zs) zero (suc j) x y h e f less = subst (λ w. R w y) (let is : z ≡ x = cc in is) (each_got (R z) zs j y f h.0)
-pairs_at R (z ∷ zs) (suc i) zero x y h e f less = absurd (omega (arith, less))
-pairs_at R (z ∷ zs) (suc i) (suc j) x y h e f less = pairs_at R zs i j x y h.1 e f (omega (arith, less))
-
--- how many blocks a client has begun along an order
-
-pub begun_is : (p : ProgramShape) (g : Configuration) (ts : List Ticket) (c n : ℕ) → g.begun c ≡ n → LegalFrom p g.begun ts → begun_from c n ts ≡ (configuration_from p g ts).begun c
-begun_is p g [] c n e legal = sym e
-begun_is p g (t ∷ ts) c n e legal =
-    begun_is p (one_block_on p t.client g) ts c (if t.client == c then suc t.index else n) (by_case (t.client == c)) (legal_on p g t ts legal)
-  where
-    by_case : (b : Bool) → (if b then suc (g.begun t.client) else g.begun c) ≡ (if b then suc t.index else n)
-    by_case true = ap suc (sym legal.0)
-    by_case false = e
+use Rattle.qs_throughout.specs.Walked.{AreFewerNoted, AreNoted, HasWalked, IsAbout, IsAtWithin, IsGoingOn, IsNextNoted, IsReached, IsTakenIn, IsWalked}
 
 -- the rows of standings tell their configurations, whatever their orders
 
@@ -123,7 +80,7 @@ longer_next p s n c on =
 
 -- a standing comes to what was noted
 
-module _ (p : ProgramShape) (front : List Ticket) (sound : IsSound p) (limit : ℕ) (asked : OrderOutcome → Bool) (rows after : List RowShape) (places : List StandingShape) (s : StandingShape) (noted : AreNoted p front limit asked rows places) (is : IsReached p front s) where
+module _ (p : ProgramShape) (front : List Ticket) (sound : IsSound p) (limit : ℕ) (asked : OrderOutcome → Bool) (rows : List RowShape) (places : List StandingShape) (s : StandingShape) (noted : AreNoted p front limit asked rows places) (is : IsReached p front s) where
   there_of : (ts : List StandingShape) → AllByRecursion (IsReached p front) ts → HasOne (λ r. row_of p s ≡ r) (map (row_of p) ts) → HasOne (λ t. configuration_in t ≡ configuration_in s) ts
   there_of [] each h = absurd h
   there_of (t ∷ ts) each (inl e) = inl (rows_tell p sound t s each.0.standing is.standing (sym e))
@@ -133,58 +90,37 @@ module _ (p : ProgramShape) (front : List Ticket) (sound : IsSound p) (limit : �
   others [] each none = tt
   others (t ∷ ts) each none = (λ e. none (inl (same_rows p s t is.standing each.0.standing (sym e))), others ts each.1 (λ h. none (inr h)))
 
-  apart_on : (HasOne (λ r. row_of p s ≡ r) rows → ⊥) → NoTwo (λ t u. configuration_in t ≡ configuration_in u) (places ++ s ∷ [])
-  apart_on none = two_snoc (λ t u. configuration_in t ≡ configuration_in u) places s noted.apart
-      (others places noted.reached (subst (λ rs. HasOne (λ r. row_of p s ≡ r) rs → ⊥) noted.rows none))
+  rows_long : length rows ≡ length places
+  rows_long = ap length noted.rows ∙ length-map places (row_of p)
 
-  pub old_noted : (new : Bool) → new ≡ false → IsInserted rows (row_of p s) new after → AreNoted p front limit asked after places
-  old_noted new old inserted =
-      let in_rows = subst (λ n. IsInserted rows (row_of p s) n after) old inserted in
-      record { rows = in_rows.0 ∙ noted.rows; reached = noted.reached; apart = noted.apart; small = noted.small; unmet = noted.unmet }
+  -- its row is among those that were noted
+  pub is_there : HasOne (λ r. row_of p s ≡ r) rows → HasOne (λ t. configuration_in t ≡ configuration_in s) places
+  is_there h = there_of places noted.reached (subst (HasOne (λ r. row_of p s ≡ r)) noted.rows h)
 
-  pub old_kept : (new : Bool) → new ≡ false → IsInserted rows (row_of p s) new after → IsKept places s places
-  old_kept new old inserted =
-      let in_rows = subst (λ n. IsInserted rows (row_of p s) n after) old inserted in
-      inl (refl, there_of places noted.reached (subst (HasOne (λ r. row_of p s ≡ r)) noted.rows in_rows.1))
+  -- it is not
+  module _ (none : HasOne (λ r. row_of p s ≡ r) rows → ⊥) where
+    apart_on : NoTwo (λ t u. configuration_in t ≡ configuration_in u) (places ++ s ∷ [])
+    apart_on = two_snoc (λ t u. configuration_in t ≡ configuration_in u) places s noted.apart
+        (others places noted.reached (subst (λ rs. HasOne (λ r. row_of p s ≡ r) rs → ⊥) noted.rows none))
 
-  pub old_small : (new : Bool) → new ≡ false → IsInserted rows (row_of p s) new after → length after ≤ limit
-  old_small new old inserted =
-      let in_rows = subst (λ n. IsInserted rows (row_of p s) n after) old inserted in
-      let e : length after ≡ length (map (row_of p) places) = ap length (in_rows.0 ∙ noted.rows) in
-      let long : length (map (row_of p) places) ≡ length places = length-map places (row_of p) in
-      let small = noted.small in omega (arith, e, long, small)
+    pub new_noted : length rows < limit → asked (outcome_at s) ≡ false → AreNoted p front limit asked (rows ++ row_of p s ∷ []) (places ++ s ∷ [])
+    new_noted less unmet = record {
+      rows = ap (λ rs. rs ++ row_of p s ∷ []) noted.rows ∙ sym (map-append (row_of p) places (s ∷ []));
+      reached = each_snoc (IsReached p front) places s noted.reached is;
+      apart = apart_on;
+      small = (let long = length-append places (s ∷ []) in let e = rows_long in omega (arith, long, less, e));
+      unmet = each_snoc (λ t. asked (outcome_at t) ≡ false) places s noted.unmet unmet;
+    }
 
-  pub new_noted : (new : Bool) → new ≡ true → IsInserted rows (row_of p s) new after → length places < limit → asked (outcome_at s) ≡ false
-      → (now : List StandingShape) → now ≡ places ++ s ∷ [] → AreNoted p front limit asked after now
-  new_noted new is_new inserted less unmet now are =
-      let in_rows = subst (λ n. IsInserted rows (row_of p s) n after) is_new inserted in
-      subst (AreNoted p front limit asked after) (sym are)
-      (record {
-        rows = in_rows.0 ∙ ap (λ rs. rs ++ row_of p s ∷ []) noted.rows ∙ sym (map-append (row_of p) places (s ∷ []));
-        reached = each_snoc (IsReached p front) places s noted.reached is;
-        apart = apart_on in_rows.1;
-        small = (let long = length-append places (s ∷ []) in omega (arith, long, less));
-        unmet = each_snoc (λ t. asked (outcome_at t) ≡ false) places s noted.unmet unmet;
-      })
-
-  pub longer_rows : (new : Bool) → new ≡ true → IsInserted rows (row_of p s) new after → length after ≡ suc (length places)
-  longer_rows new is_new inserted =
-      let in_rows = subst (λ n. IsInserted rows (row_of p s) n after) is_new inserted in
-      let e : length after ≡ length (rows ++ row_of p s ∷ []) = ap length in_rows.0 in
-      let f : length rows ≡ length (map (row_of p) places) = ap length noted.rows in
-      let long : length (map (row_of p) places) ≡ length places = length-map places (row_of p) in
-      let longer = length-append rows (row_of p s ∷ []) in omega (arith, e, f, long, longer)
-
-  pub one_more : (new : Bool) → new ≡ true → IsInserted rows (row_of p s) new after → (many : ℕ) → many ≡ suc (length places) → HasNotedOnTheWay p front many
-  one_more new is_new inserted many count =
-      let in_rows = subst (λ n. IsInserted rows (row_of p s) n after) is_new inserted in (
-        places ++ s ∷ [],
-        record {
-          count = (let long = length-append places (s ∷ []) in omega (arith, long, count));
-          reached = each_map (on_the_way p front) (places ++ s ∷ []) (each_snoc (IsReached p front) places s noted.reached is);
-          different = apart_on in_rows.1;
-        },
-      )
+    pub one_more : (many : ℕ) → many ≡ suc (length rows) → HasNotedOnTheWay p front many
+    one_more many count = (
+      places ++ s ∷ [],
+      record {
+        count = (let long = length-append places (s ∷ []) in let e = rows_long in omega (arith, long, count, e));
+        reached = each_map (on_the_way p front) (places ++ s ∷ []) (each_snoc (IsReached p front) places s noted.reached is);
+        different = apart_on;
+      },
+    )
 
   pub is_witness : AreFewerNoted p front places (length s.order) → asked (outcome_at s) ≡ true → IsCourseWitnessAfter p front asked s
   is_witness fewer met = record {
@@ -199,37 +135,21 @@ module _ (p : ProgramShape) (front : List Ticket) (sound : IsSound p) (limit : �
         (below_or_past (length (front ++ rest)) (length s.order));
   }
 
-pub none_noted : (p : ProgramShape) (front : List Ticket) (limit : ℕ) (asked : OrderOutcome → Bool) → AreNoted p front limit asked [] []
-none_noted p front limit asked = record { rows = refl; reached = tt; apart = tt; small = omega arith; unmet = tt }
-
-pub none_fewer : (p : ProgramShape) (front : List Ticket) (s : StandingShape) → IsFirst p front s → AreFewerNoted p front [] (length s.order)
-none_fewer p front s first rest legal less =
-    let e : length s.order ≡ length front = ap length first.order in
-    let long = length-append front rest in absurd (omega (arith, e, long, less))
-
 -- wherever an order leads was noted, if the search went on from all that have fewer blocks
 
 abbrev IsClosedBelow : ProgramShape → List StandingShape → ℕ → Type 0
 IsClosedBelow p places most =
-    (i c : ℕ) (s : StandingShape) → slice_get places i ≡ Some s → length s.order < most → HasNext p s c
-    → HasOne (IsAtWithin (one_block_on p c (configuration_in s)) (suc (length s.order))) places
+    (g : Configuration) (k c : ℕ) → HasOne (IsAtWithin g k) places → k < most → HasBlockLeft p g c
+    → HasOne (IsAtWithin (one_block_on p c g) (suc k)) places
 
 module _ (p : ProgramShape) (places : List StandingShape) (most : ℕ) (closed : IsClosedBelow p places most) where
   along : (ts : List Ticket) (g : Configuration) (k : ℕ) → HasOne (IsAtWithin g k) places → k + length ts ≤ most → LegalFrom p g.begun ts
       → HasOne (λ s. configuration_in s ≡ configuration_from p g ts) places
   along [] g k h fits legal = has_map (λ s (w : IsAtWithin g k s). w.0) places h
   along (t ∷ ts) g k h fits legal =
-      let at = has_at places h in
-      let s : StandingShape = at.1.0 in
-      let is : IsAtWithin g k s = at.1.2 in
       let within : k + suc (length ts) ≤ most = fits in
-      let left : HasNext p s t.client = subst (λ (f : Configuration). f.begun t.client < blocks_of p t.client) (sym is.0) (subst (λ n. n < blocks_of p t.client) legal.0 legal.1) in
-      let next = closed at.0 t.client s at.1.1 (let l = is.1 in omega (arith, l, within)) left in
       along ts (one_block_on p t.client g) (suc k)
-      (has_map
-      (λ u (w : IsAtWithin (one_block_on p t.client (configuration_in s)) (suc (length s.order)) u).
-      (w.0 ∙ ap (one_block_on p t.client) is.0, (let a = w.1 in let b = is.1 in omega (arith, a, b))))
-      places next)
+      (closed g k t.client h (omega (arith, within)) (subst (λ n. n < blocks_of p t.client) legal.0 legal.1))
       (omega (arith, within)) (legal_on p g t ts legal)
 
   all_after : (front rest : List Ticket) → HasOne (IsAtWithin (configuration_after p front) (length front)) places → IsLegal p (front ++ rest) → length (front ++ rest) ≤ most
@@ -238,140 +158,287 @@ module _ (p : ProgramShape) (places : List StandingShape) (most : ℕ) (closed :
       subst (λ (g : Configuration). HasOne (λ s. configuration_in s ≡ g) places) (sym (configuration-append p (first_configuration p) front rest))
       (along rest (configuration_after p front) (length front) first (let long = length-append front rest in omega (arith, long, fits)) (legal-rest p (first_configuration p) front rest legal))
 
-module _ (p : ProgramShape) (front : List Ticket) (places : List StandingShape) (at client : ℕ) (walked : IsWalkedUpTo p front places at client) where
-  sorted_at : (i j : ℕ) (s t : StandingShape) → slice_get places i ≡ Some s → slice_get places j ≡ Some t → i ≤ j → length s.order ≤ length t.order
-  sorted_at i j s t e f up =
+-- what waits has as many blocks or more, so the search went on from all that have fewer
+module _ (p : ProgramShape) (front : List Ticket) (blocks : ℕ) (walked waiting : List StandingShape) (turn : IsWalked p front blocks walked waiting) where
+  closed_walked : (g : Configuration) (k c : ℕ) → HasOne (IsAtWithin g k) walked → HasBlockLeft p g c → HasOne (IsAtWithin (one_block_on p c g) (suc k)) (walked ++ waiting)
+  closed_walked g k c h left =
+      has_some
+      (λ s (is : IsAtWithin g k s) (on : (d : ℕ) → IsNextNoted p (walked ++ waiting) s d).
+      has_map
+      (λ t (w : IsAtWithin (one_block_on p c (configuration_in s)) (suc (length s.order)) t).
+      (w.0 ∙ ap (one_block_on p c) is.0, (let a = w.1 in let b = is.1 in let fits : length t.order ≤ suc k = omega (arith, a, b) in fits)))
+      (walked ++ waiting) (on c (subst (λ (f : Configuration). HasBlockLeft p f c) (sym is.0) left)))
+      walked h turn.closed
+
+  closed_below : IsClosedBelow p (walked ++ waiting) blocks
+  closed_below g k c h less left =
       ⊎_elim
-      (λ (less : i < j). pairs_at (λ u v. length u.order ≤ length v.order) places i j s t walked.sorted e f less)
-      (λ (past : j ≤ i).
-      let same : i ≡ j = omega (arith, up, past) in
-      let both : Some s ≡ Some t = sym e ∙ (ap (slice_get places) same ∙ f) in
-      let is : s ≡ t = cc in subst (λ u. length s.order ≤ length u.order) is (omega arith))
-      (below_or_past i j)
+      (λ (old : HasOne (IsAtWithin g k) walked). closed_walked g k c old left)
+      (λ (ahead : HasOne (IsAtWithin g k) waiting). absurd (has_some
+      (λ s (is : IsAtWithin g k s) (about : IsAbout blocks s). (let a = is.1 in let b = about.0 in let none : ⊥ = omega (arith, a, b, less) in none))
+      waiting ahead turn.behind))
+      (has_either (IsAtWithin g k) walked waiting h)
 
-  -- from all with fewer blocks than the one that is looked at
-  closed_below : (s : StandingShape) → slice_get places at ≡ Some s → IsClosedBelow p places (length s.order)
-  closed_below s here i c t e less left =
-      walked.closed i c t e left
-      (⊎_elim
-      (λ (l : i < at). inl l)
-      (λ (past : at ≤ i). absurd (let up = sorted_at at i s t here e past in omega (arith, up, less)))
-      (below_or_past i at))
+  -- one that is noted waits behind the others
+  module _ (n : StandingShape) (long : length n.order ≡ suc blocks) where
+    more : (P : StandingShape → Type 0) → HasOne P (walked ++ waiting) → HasOne P (walked ++ (waiting ++ n ∷ []))
+    more P h = subst (HasOne P) (append_assoc walked waiting (n ∷ [])) (has_front P (walked ++ waiting) (n ∷ []) h)
 
-  pub fewer_next : (s n : StandingShape) (c : ℕ) → slice_get places at ≡ Some s → IsOneOn p s c n → AreFewerNoted p front places (length n.order)
-  fewer_next s n c here on rest legal less =
-      let long = longer_next p s n c on in
-      all_after p places (length s.order) (closed_below s here) front rest walked.first legal (omega (arith, long, less))
-
-  same_there : (s t : StandingShape) (i : ℕ) → slice_get places at ≡ Some s → slice_get places i ≡ Some t → i ≡ at → s ≡ t
-  same_there s t i here e is = (let both : Some s ≡ Some t = sym here ∙ (ap (slice_get places) (sym is) ∙ e) in cc)
-
-  behind_or_here : (i c : ℕ) → IsBehind at (client + 1) i c → IsBehind at client i c ⊎ ((i ≡ at) × (c ≡ client))
-  behind_or_here i c (inl l) = inl (inl l)
-  behind_or_here i c (inr h) =
-      ⊎_elim (λ (less : c < client). inl (inr (h.0, less))) (λ (past : client ≤ c). inr (h.0, (let l = h.1 in omega (arith, l, past)))) (below_or_past c client)
-
-  pub walked_skipped : (s : StandingShape) → slice_get places at ≡ Some s → (HasNext p s client → ⊥) → IsWalkedUpTo p front places at (client + 1)
-  walked_skipped s here none = record {
-    first = walked.first;
-    sorted = walked.sorted;
-    ahead = walked.ahead;
-    closed = λ i c t e left behind. ⊎_elim
-        (λ (old : IsBehind at client i c). walked.closed i c t e left old)
-        (λ (new : (i ≡ at) × (c ≡ client)). absurd (none (subst (λ u. HasNext p u client) (sym (same_there s t i here e new.0)) (subst (HasNext p t) new.1 left))))
-        (behind_or_here i c behind);
-  }
-
-  module _ (s n : StandingShape) (here : slice_get places at ≡ Some s) (on : IsOneOn p s client n) where
-    -- where the client's next block leads was noted
-    pub walked_old : HasOne (λ t. configuration_in t ≡ configuration_in n) places → IsWalkedUpTo p front places at (client + 1)
-    walked_old there = record {
-      first = walked.first;
-      sorted = walked.sorted;
-      ahead = walked.ahead;
-      closed = λ i c t e left behind. ⊎_elim
-          (λ (old : IsBehind at client i c). walked.closed i c t e left old)
-          (λ (new : (i ≡ at) × (c ≡ client)).
-          subst (λ u. HasOne (IsAtWithin (one_block_on p c (configuration_in u)) (suc (length u.order))) places) (same_there s t i here e new.0)
-          (subst (λ d. HasOne (IsAtWithin (one_block_on p d (configuration_in s)) (suc (length s.order))) places) (sym new.1)
-          (has_of (λ u (is : configuration_in u ≡ configuration_in n) (few : length u.order ≤ suc (length s.order)). (is ∙ on.next, few)) places there (walked.ahead s here))))
-          (behind_or_here i c behind);
+    pub walked_more : IsWalked p front blocks walked (waiting ++ n ∷ [])
+    walked_more = record {
+      first = more (IsAtWithin (configuration_after p front) (length front)) turn.first;
+      closed = each_map {Q = λ s. (c : ℕ) → IsNextNoted p (walked ++ (waiting ++ n ∷ [])) s c}
+          (λ s (on : (c : ℕ) → IsNextNoted p (walked ++ waiting) s c) c left. more (IsAtWithin (one_block_on p c (configuration_in s)) (suc (length s.order))) (on c left)) walked turn.closed;
+      before = turn.before;
+      behind = each_snoc (IsAbout blocks) waiting n turn.behind
+          ((let up : blocks ≤ length n.order = omega (arith, long) in up), (let fits : length n.order ≤ suc blocks = omega (arith, long) in fits));
+      sorted = pairs_join (λ s t. length s.order ≤ length t.order) waiting (n ∷ []) turn.sorted (tt, tt)
+          (each_map (λ s (about : IsAbout blocks s). ((let few = about.1 in let up : length s.order ≤ length n.order = omega (arith, few, long) in up), tt)) waiting turn.behind);
     }
 
-    -- it is added
-    pub walked_new : at < length places → IsWalkedUpTo p front (places ++ n ∷ []) at (client + 1)
-    walked_new within =
-        let long : length n.order ≡ suc (length s.order) = longer_next p s n client on in
-        record {
-          first = has_front (IsAtWithin (configuration_after p front) (length front)) places (n ∷ []) walked.first;
-          sorted = pairs_join (λ u v. length u.order ≤ length v.order) places (n ∷ []) walked.sorted (tt, tt)
-              (each_map (λ u (few : length u.order ≤ suc (length s.order)). ((let up : length u.order ≤ length n.order = omega (arith, few, long) in up), tt)) places (walked.ahead s here));
-          ahead = λ t e.
-              (let is : s ≡ t = same_there s t at here (got_less places (n ∷ []) at t within e) refl in
-              subst (λ u. AllByRecursion (λ v. length v.order ≤ suc (length u.order)) (places ++ n ∷ [])) is
-              (each_snoc (λ v. length v.order ≤ suc (length s.order)) places n (walked.ahead s here) (omega (arith, long))));
-          closed = λ i c t e left behind.
-              (let less : i < length places = ⊎_elim (λ (l : i < at). omega (arith, l, within)) (λ (h : (i ≡ at) × (c < client + 1)). (let f = h.0 in omega (arith, f, within))) behind in
-              let was = got_less places (n ∷ []) i t less e in
-              ⊎_elim
-              (λ (old : IsBehind at client i c). has_front (IsAtWithin (one_block_on p c (configuration_in t)) (suc (length t.order))) places (n ∷ []) (walked.closed i c t was left old))
-              (λ (new : (i ≡ at) × (c ≡ client)).
-              subst (λ u. HasOne (IsAtWithin (one_block_on p c (configuration_in u)) (suc (length u.order))) (places ++ n ∷ [])) (same_there s t i here was new.0)
-              (subst (λ d. HasOne (IsAtWithin (one_block_on p d (configuration_in s)) (suc (length s.order))) (places ++ n ∷ [])) (sym new.1)
-              (has_back (IsAtWithin (one_block_on p client (configuration_in s)) (suc (length s.order))) places (n ∷ []) (inl (on.next, (let up : length n.order ≤ suc (length s.order) = omega (arith, long) in up))))))
-              (behind_or_here i c behind));
-        }
+-- the search goes on from a standing, for one client after another
 
-    pub walked_on : (now : List StandingShape) → at < length places → IsKept places n now → IsWalkedUpTo p front now at (client + 1)
-    walked_on now within (inl h) = subst (λ ts. IsWalkedUpTo p front ts at (client + 1)) (sym h.0) (walked_old h.1)
-    walked_on now within (inr h) = subst (λ ts. IsWalkedUpTo p front ts at (client + 1)) (sym h) (walked_new within)
+module _ (p : ProgramShape) (front : List Ticket) (limit : ℕ) (asked : OrderOutcome → Bool) (rows : List RowShape) (s : StandingShape) (client : ℕ) (waiting : List StandingShape) (going : IsGoingOn p front limit asked rows s client waiting) where
+  abbrev places : List StandingShape
+  places = going.walked ++ s ∷ waiting
 
-pub more_kept : (places now : List StandingShape) (s : StandingShape) → IsKept places s now → length places ≤ length now
-more_kept places now s (inl h) = let e : length now ≡ length places = ap length h.0 in omega (arith, e)
-more_kept places now s (inr h) = let e : length now ≡ length (places ++ s ∷ []) = ap length h in let long = length-append places (s ∷ []) in omega (arith, e, long)
+  pub here_reached : IsReached p front s
+  here_reached = (each_back (IsReached p front) going.walked (s ∷ waiting) going.noted.reached).0
 
--- of all clients at a place
-pub place_done : (p : ProgramShape) (front : List Ticket) (places : List StandingShape) (at : ℕ) → at < length places → IsWalkedUpTo p front places at (length p.clients) → IsWalkedUpTo p front places (at + 1) 0
-place_done p front places at within walked = record {
-  first = walked.first;
-  sorted = walked.sorted;
-  ahead = λ t e.
-      (let here = some_at places at within in
-      let up : length here.0.order ≤ length t.order = sorted_at p front places at (length p.clients) walked at (at + 1) here.0 t here.1 e (omega arith) in
-      each_map (λ u (few : length u.order ≤ suc (length here.0.order)). (let fits : length u.order ≤ suc (length t.order) = omega (arith, few, up) in fits)) places (walked.ahead here.0 here.1));
-  closed = λ i c s e left behind. walked.closed i c s e left (⊎_elim
-      (λ (less : i < at + 1). ⊎_elim (λ (l : i < at). inl l) (λ (past : at ≤ i). inr ((let same : i ≡ at = omega (arith, less, past) in same), in_program p s c left)) (below_or_past i at))
-      (λ (h : (i ≡ at + 1) × (c < 0)). absurd (let l = h.1 in omega (arith, l)))
-      behind);
-}
+  pub all_small : length rows ≤ limit
+  all_small =
+      let e : length rows ≡ length (map (row_of p) places) = ap length going.noted.rows in
+      let long : length (map (row_of p) places) ≡ length places = length-map places (row_of p) in
+      let small = going.noted.small in omega (arith, e, long, small)
 
-pub walked_first : (p : ProgramShape) (front : List Ticket) (s : StandingShape) (now : List StandingShape) → IsFirst p front s → IsKept [] s now → IsWalkedUpTo p front now 0 0
-walked_first p front s now first (inl h) = absurd h.1
-walked_first p front s now first (inr h) = subst (λ ts. IsWalkedUpTo p front ts 0 0) (sym h) (record {
-  first = inl (first.first, (let e : length s.order ≡ length front = ap length first.order in omega (arith, e)));
-  sorted = (tt, tt);
-  ahead = λ t e. (let is : s ≡ t = cc in ((let fits : length s.order ≤ suc (length t.order) = subst (λ u. length s.order ≤ suc (length u.order)) is (omega arith) in fits), tt));
-  closed = λ i c t e left behind. absurd (⊎_elim (λ (l : i < 0). (let none : ⊥ = omega (arith, l) in none)) (λ (h : (i ≡ 0) × (c < 0)). (let l = h.1 in let none : ⊥ = omega (arith, l) in none)) behind);
-})
+  here_more : (ts : List StandingShape) → ((c : ℕ) → c < client → IsNextNoted p ts s c) → IsNextNoted p ts s client → (c : ℕ) → c < client + 1 → IsNextNoted p ts s c
+  here_more ts old new c less =
+      ⊎_elim
+      (λ (before : c < client). old c before)
+      (λ (past : client ≤ c). let same : client ≡ c = omega (arith, less, past) in subst (IsNextNoted p ts s) same new)
+      (below_or_past c client)
+
+  pub skipped : (HasNext p s client → ⊥) → IsGoingOn p front limit asked rows s (client + 1) waiting
+  skipped none = record {
+    walked = going.walked;
+    noted = going.noted;
+    turn = going.turn;
+    here = here_more places going.here (λ left. absurd (none left));
+  }
+
+  module _ (sound : IsSound p) (n : StandingShape) (on : IsOneOn p s client n) where
+    next_reached : IsReached p front n
+    next_reached = reached_next p front s n client here_reached on
+
+    each_few : AllByRecursion (λ t. length t.order ≤ suc (length s.order)) places
+    each_few = each_join (λ t. length t.order ≤ suc (length s.order)) going.walked (s ∷ waiting)
+        (each_map (λ t (few : length t.order ≤ length s.order). (let fits : length t.order ≤ suc (length s.order) = omega (arith, few) in fits)) going.walked going.turn.before)
+        (each_map (λ t (about : IsAbout (length s.order) t). about.1) (s ∷ waiting) going.turn.behind)
+
+    -- where the client's next block leads was noted
+    pub old_next : HasOne (λ r. row_of p n ≡ r) rows → IsGoingOn p front limit asked rows s (client + 1) waiting
+    old_next there = record {
+      walked = going.walked;
+      noted = going.noted;
+      turn = going.turn;
+      here = here_more places going.here
+          (λ left. has_of (λ u (is : configuration_in u ≡ configuration_in n) (few : length u.order ≤ suc (length s.order)). (is ∙ on.next, few)) places
+          (is_there p front sound limit asked rows places n going.noted next_reached there) each_few);
+    }
+
+    module _ (none : HasOne (λ r. row_of p n ≡ r) rows → ⊥) where
+      pub more_noted : (many : ℕ) → many ≡ suc (length rows) → HasNotedOnTheWay p front many
+      more_noted = one_more p front sound limit asked rows places n going.noted next_reached none
+
+      -- it is new
+      pub new_next : length rows < limit → asked (outcome_at n) ≡ false → IsGoingOn p front limit asked (rows ++ row_of p n ∷ []) s (client + 1) (waiting ++ n ∷ [])
+      new_next less unmet =
+          let assoc : ◌≡◌ {A = List StandingShape} (places ++ n ∷ []) (going.walked ++ s ∷ (waiting ++ n ∷ [])) = append_assoc going.walked (s ∷ waiting) (n ∷ []) in
+          let long : length n.order ≡ suc (length s.order) = longer_next p s n client on in
+          record {
+            walked = going.walked;
+            noted = subst (AreNoted p front limit asked (rows ++ row_of p n ∷ [])) assoc (new_noted p front sound limit asked rows places n going.noted next_reached none less unmet);
+            turn = walked_more p front (length s.order) going.walked (s ∷ waiting) going.turn n long;
+            here = subst (λ ts. (c : ℕ) → c < client + 1 → IsNextNoted p ts s c) assoc
+                (here_more (places ++ n ∷ [])
+                (λ c less left. has_front (IsAtWithin (one_block_on p c (configuration_in s)) (suc (length s.order))) places (n ∷ []) (going.here c less left))
+                (λ left. has_back (IsAtWithin (one_block_on p client (configuration_in s)) (suc (length s.order))) places (n ∷ []) (inl (on.next, (let up : length n.order ≤ suc (length s.order) = omega (arith, long) in up)))));
+          }
+
+    pub next_witness : asked (outcome_at n) ≡ true → IsCourseWitnessAfter p front asked n
+    next_witness = is_witness p front sound limit asked rows places n going.noted next_reached
+        (λ rest legal less. (
+        let long = longer_next p s n client on in
+        all_after p places (length s.order) (closed_below p front (length s.order) going.walked (s ∷ waiting) going.turn) front rest going.turn.first legal (omega (arith, long, less))))
+
+-- by what became of the rows
+module _ (p : ProgramShape) (front : List Ticket) (limit : ℕ) (asked : OrderOutcome → Bool) (rows after : List RowShape) (s : StandingShape) (client : ℕ) (waiting : List StandingShape) (going : IsGoingOn p front limit asked rows s client waiting)
+    (sound : IsSound p) (n : StandingShape) (on : IsOneOn p s client n) (new : Bool) (inserted : IsInserted rows (row_of p n) new after) where
+  as_old : new ≡ false → IsInserted rows (row_of p n) false after
+  as_old old = subst (λ b. IsInserted rows (row_of p n) b after) old inserted
+
+  as_new : new ≡ true → IsInserted rows (row_of p n) true after
+  as_new is = subst (λ b. IsInserted rows (row_of p n) b after) is inserted
+
+  pub rows_longer : new ≡ true → length after ≡ suc (length rows)
+  rows_longer is =
+      let e : length after ≡ length (rows ++ row_of p n ∷ []) = ap length (as_new is).0 in
+      let long = length-append rows (row_of p n ∷ []) in omega (arith, e, long)
+
+  pub rows_same : new ≡ false → length after ≡ length rows
+  rows_same old = ap length (as_old old).0
+
+  pub goes_old : new ≡ false → IsGoingOn p front limit asked after s (client + 1) waiting
+  goes_old old = subst (λ rs. IsGoingOn p front limit asked rs s (client + 1) waiting) (sym (as_old old).0) (old_next p front limit asked rows s client waiting going sound n on (as_old old).1)
+
+  pub goes_new : new ≡ true → length after ≤ limit → (now : List StandingShape) → IsTakenIn asked n waiting now → IsGoingOn p front limit asked after s (client + 1) now
+  goes_new is fits now taken =
+      let longer = rows_longer is in
+      subst (λ rs. IsGoingOn p front limit asked rs s (client + 1) now) (sym (as_new is).0)
+      (subst (IsGoingOn p front limit asked (rows ++ row_of p n ∷ []) s (client + 1)) (sym taken.last)
+      (new_next p front limit asked rows s client waiting going sound n on (as_new is).1 (omega (arith, longer, fits)) taken.unmet))
+
+  pub goes_many : new ≡ true → HasNotedOnTheWay p front (length after)
+  goes_many is = more_noted p front limit asked rows s client waiting going sound n on (as_new is).1 (length after) (rows_longer is)
+
+-- by what the code has counted, run and written
+pub has_left : (p : ProgramShape) (s : StandingShape) (c begun blocks : ℕ) → begun ≡ get_or s.begun c 0 → blocks ≡ blocks_of p c → begun < blocks → HasNext p s c
+has_left p s c begun blocks e f less = let is : get_or s.begun c 0 < blocks_of p c = omega (arith, e, f, less) in is
+
+pub none_left : (p : ProgramShape) (s : StandingShape) (c begun blocks : ℕ) → begun ≡ get_or s.begun c 0 → blocks ≡ blocks_of p c → blocks ≤ begun → HasNext p s c → ⊥
+none_left p s c begun blocks e f past left = let is : get_or s.begun c 0 < blocks_of p c = left in omega (arith, e, f, past, is)
+
+pub some_map : {P Q : StandingShape → Type 0} → ((s : StandingShape) → P s → Q s) → (met : Option StandingShape) → IfSome met P → IfSome met Q
+some_map f None h = tt
+some_map f (Some s) h = f s h
+
+pub either : {A : Type 0} (met : Option StandingShape) → (met ≡ None → A) → IfSome met (λ _. A) → A
+either None none some = none refl
+either (Some s) none some = some
+
+pub by_row : (r q : RowShape) → r ≡ q → (before after : List RowShape) (new : Bool) → IsInserted before r new after → IsInserted before q new after
+by_row r q same before after new is = subst (λ x. IsInserted before x new after) same is
+
+pub is_on : (p : ProgramShape) (s : StandingShape) (c begun blocks : ℕ) (values : List ℤ) (left : List State) → IsStanding p s.order s → begun ≡ get_or s.begun c 0 → blocks ≡ blocks_of p c → begun < blocks
+    → HasRun p s c values left → IsOneOn p s c (standing_with_block s c values left)
+is_on p s c begun blocks values left standing e f less ran =
+    let more = has_left p s c begun blocks e f less in block_on p s.order s c values left standing (in_program p s c more) more ran
+
+pub taken_places : (p : ProgramShape) (s : StandingShape) (c : ℕ) (n : StandingShape) → IsOneOn p s c n → (next : StandingShape) → next ≡ n → HasPlaces p next
+taken_places p s c n on next same =
+    subst (HasPlaces p) (sym same) (record { locals = on.standing.locals; states = on.standing.states })
+
+pub waits_longer : (asked : OrderOutcome → Bool) (s : StandingShape) (before after : List StandingShape) → IsTakenIn asked s before after → length after ≡ suc (length before)
+waits_longer asked s before after taken =
+    let e : length after ≡ length (before ++ s ∷ []) = ap length taken.last in
+    let long = length-append before (s ∷ []) in omega (arith, e, long)
+
+-- for all clients, and from the next one
+pub all_done : (p : ProgramShape) (front : List Ticket) (limit : ℕ) (asked : OrderOutcome → Bool) (rows : List RowShape) (s : StandingShape) (waiting : List StandingShape)
+    → IsGoingOn p front limit asked rows s (length p.clients) waiting → HasWalked p front limit asked rows waiting
+all_done p front limit asked rows s waiting going =
+    let assoc : ◌≡◌ {A = List StandingShape} (going.walked ++ s ∷ waiting) ((going.walked ++ s ∷ []) ++ waiting) = sym (append_assoc going.walked (s ∷ []) waiting) in
+    record {
+      walked = going.walked ++ s ∷ [];
+      blocks = length s.order;
+      noted = subst (AreNoted p front limit asked rows) assoc going.noted;
+      turn = record {
+        first = subst (HasOne (IsAtWithin (configuration_after p front) (length front))) assoc going.turn.first;
+        closed = subst (λ ts. AllByRecursion (λ t. (c : ℕ) → IsNextNoted p ts t c) (going.walked ++ s ∷ [])) assoc
+            (each_snoc (λ t. (c : ℕ) → IsNextNoted p (going.walked ++ s ∷ waiting) t c) going.walked s going.turn.closed (λ c left. going.here c (in_program p s c left) left));
+        before = each_snoc (λ t. length t.order ≤ length s.order) going.walked s going.turn.before (omega arith);
+        behind = going.turn.behind.1;
+        sorted = going.turn.sorted.1;
+      };
+    }
+
+pub goes_on : (p : ProgramShape) (front : List Ticket) (limit : ℕ) (asked : OrderOutcome → Bool) (rows : List RowShape) (s : StandingShape) (waiting : List StandingShape)
+    → HasWalked p front limit asked rows (s ∷ waiting) → IsGoingOn p front limit asked rows s 0 waiting
+goes_on p front limit asked rows s waiting has =
+    let up : has.blocks ≤ length s.order = has.turn.behind.0.0 in
+    record {
+      walked = has.walked;
+      noted = has.noted;
+      turn = record {
+        first = has.turn.first;
+        closed = has.turn.closed;
+        before = each_map (λ t (few : length t.order ≤ has.blocks). (let fits : length t.order ≤ length s.order = omega (arith, few, up) in fits)) has.walked has.turn.before;
+        behind = (
+          ((let least : length s.order ≤ length s.order = omega arith in least), (let most : length s.order ≤ suc (length s.order) = omega arith in most)),
+          each_both (λ t (past : length s.order ≤ length t.order) (about : IsAbout has.blocks t). (past, (let few = about.1 in let fits : length t.order ≤ suc (length s.order) = omega (arith, few, up) in fits)))
+              waiting has.turn.sorted.0 has.turn.behind.1,
+        );
+        sorted = has.turn.sorted;
+      };
+      here = λ c less. absurd (omega (arith, less));
+    }
+
+-- at the beginning
+
+pub none_noted : (p : ProgramShape) (front : List Ticket) (limit : ℕ) (asked : OrderOutcome → Bool) → AreNoted p front limit asked [] []
+none_noted p front limit asked = record { rows = refl; reached = tt; apart = tt; small = omega arith; unmet = tt }
+
+module _ (p : ProgramShape) (front : List Ticket) (sound : IsSound p) (limit : ℕ) (asked : OrderOutcome → Bool) (s : StandingShape) (first : IsFirst p front s) where
+  pub first_more : (many : ℕ) → many ≡ 1 → HasNotedOnTheWay p front many
+  first_more = one_more p front sound limit asked [] [] s (none_noted p front limit asked) (reached_first p front s first) (λ h. h)
+
+  pub first_witness : asked (outcome_at s) ≡ true → IsCourseWitnessAfter p front asked s
+  first_witness = is_witness p front sound limit asked [] [] s (none_noted p front limit asked) (reached_first p front s first)
+      (λ rest legal less. (
+      let e : length s.order ≡ length front = ap length first.order in
+      let long = length-append front rest in absurd (omega (arith, e, long, less))))
+
+  module _ (after : List RowShape) (new : Bool) (inserted : IsInserted [] (row_of p s) new after) where
+    first_row : after ≡ row_of p s ∷ []
+    first_row = by_case new inserted
+      where
+        by_case : (b : Bool) → IsInserted [] (row_of p s) b after → after ≡ row_of p s ∷ []
+        by_case true h = h.0
+        by_case false h = absurd h.1
+
+    pub first_many : HasNotedOnTheWay p front (length after)
+    first_many = first_more (length after) (ap length first_row)
+
+    pub first_walked : length after ≤ limit → (now : List StandingShape) → IsTakenIn asked s [] now → HasWalked p front limit asked after now
+    first_walked fits now taken =
+        let same : length s.order ≡ length front = ap length first.order in
+        let one : length after ≡ 1 = ap length first_row in
+        subst (λ rs. HasWalked p front limit asked rs now) (sym first_row)
+        (subst (HasWalked p front limit asked (row_of p s ∷ [])) (sym taken.last)
+        (record {
+          walked = [];
+          blocks = length s.order;
+          noted = new_noted p front sound limit asked [] [] s (none_noted p front limit asked) (reached_first p front s first) (λ h. h) (omega (arith, fits, one)) taken.unmet;
+          turn = record {
+            first = inl (first.first, (let few : length s.order ≤ length front = omega (arith, same) in few));
+            closed = tt;
+            before = tt;
+            behind = (((let least : length s.order ≤ length s.order = omega arith in least), (let most : length s.order ≤ suc (length s.order) = omega arith in most)), tt);
+            sorted = (tt, tt);
+          };
+        }))
 
 -- at the end
 
-module _ (p : ProgramShape) (front : List Ticket) (limit : ℕ) (asked : OrderOutcome → Bool) (rows : List RowShape) (places : List StandingShape) (at : ℕ) (past : length places ≤ at) (walked : IsWalkedUpTo p front places at 0) (noted : AreNoted p front limit asked rows places) where
-  all_noted : (rest : List Ticket) → IsLegal p (front ++ rest) → HasOne (λ s. configuration_in s ≡ configuration_after p (front ++ rest)) places
+module _ (p : ProgramShape) (front : List Ticket) (limit : ℕ) (asked : OrderOutcome → Bool) (rows : List RowShape) (has : HasWalked p front limit asked rows []) where
+  all_noted : (rest : List Ticket) → IsLegal p (front ++ rest) → HasOne (λ s. configuration_in s ≡ configuration_after p (front ++ rest)) (has.walked ++ [])
   all_noted rest legal =
-      all_after p places (length (front ++ rest)) (λ i c s e less left. walked.closed i c s e left (inl (let l = (got places i s e).0 in omega (arith, l, past)))) front rest walked.first legal (omega arith)
+      all_after p (has.walked ++ []) (length (front ++ rest))
+      (λ g k c h less left. closed_walked p front has.blocks has.walked [] has.turn g k c (subst (HasOne (IsAtWithin g k)) (append-nil has.walked) h) left)
+      front rest has.turn.first legal (omega arith)
 
   pub none_met : NoneMeetsOnTheWay p front asked
   none_met rest legal =
       has_some (λ s (at : configuration_in s ≡ configuration_after p (front ++ rest)) (not : asked (outcome_at s) ≡ false). ap (λ (g : Configuration). asked (outcome_in g)) (sym at) ∙ not)
-      places (all_noted rest legal) noted.unmet
-
-  rows_long : length rows ≡ length places
-  rows_long = ap length noted.rows ∙ length-map places (row_of p)
+      (has.walked ++ []) (all_noted rest legal) has.noted.unmet
 
   pub all_on_the_way : HasOnTheWayAfter p front (length rows)
   all_on_the_way = (
-    places,
-    record { count = sym rows_long; reached = each_map (on_the_way p front) places noted.reached; different = noted.apart },
+    has.walked ++ [],
+    record {
+      count = sym (ap length has.noted.rows ∙ length-map (has.walked ++ []) (row_of p));
+      reached = each_map (on_the_way p front) (has.walked ++ []) has.noted.reached;
+      different = has.noted.apart;
+    },
     all_noted,
   )

@@ -1,20 +1,16 @@
 -- What the search has noted, and from which of these standings it has gone on. It goes on from them in the order in
--- which they were noted, so those with fewer blocks come first.
-use Rattle.std.specs.Prelude.{◌≡◌, ◌<◌, ◌≤◌, ◌⊎◌, ◌==◌, ℕ, suc, Bool, if◌then◌else◌, Some}
-use Rattle.std.specs.Prelude.{List, [], ◌∷◌, ◌++◌, length, map, slice_get}
+-- which they were noted, so those with fewer blocks come first. It keeps those that wait, and of the others their rows.
+use Rattle.std.specs.Prelude.{◌≡◌, ◌<◌, ◌≤◌, ℕ, suc, Bool, false}
+use Rattle.std.specs.Prelude.{List, [], ◌∷◌, ◌++◌, length, map}
 use Rattle.std.specs.List.{AllByRecursion}
 use Rattle.qs_objects.specs.declared.held.Ticket.{Ticket}
 use Rattle.qs_program.specs.Program.{ProgramShape}
 use Rattle.qs_meaning.specs.Configurations.{Configuration, OrderOutcome, configuration_after, one_block_on}
 use Rattle.qs_meaning.specs.Serial.{IsLegal}
 use Rattle.qs_outcomes.specs.Answers.{AreUnmet}
+use Rattle.qs_outcomes.specs.Outcomes.{outcome_at}
 use Rattle.qs_standings.specs.Lists.{EachTwo, HasOne, NoTwo}
 use Rattle.qs_standings.specs.Standings.{HasNext, IsStanding, RowShape, StandingShape, configuration_in, row_of}
-
--- how many blocks of a client an order has, after so many that it has begun
-abbrev pub begun_from : ℕ → ℕ → List Ticket → ℕ
-begun_from c n [] = n
-begun_from c n (t ∷ ts) = begun_from c (if t.client == c then suc t.index else n) ts
 
 -- a standing, whatever its order, which begins with the front
 pub record IsReached (p : ProgramShape) (front : List Ticket) (s : StandingShape) : Type 0 where
@@ -31,11 +27,6 @@ pub record AreNoted (p : ProgramShape) (front : List Ticket) (limit : ℕ) (aske
   pub small : length places ≤ limit
   pub unmet : AreUnmet asked places
 
--- a standing was noted, or its configuration had been before
-abbrev pub IsKept : List StandingShape → StandingShape → List StandingShape → Type 0
-IsKept before s after =
-    ((after ≡ before) × HasOne (λ t. configuration_in t ≡ configuration_in s) before) ⊎ (after ≡ before ++ s ∷ [])
-
 -- it holds a configuration, after so many blocks at most
 abbrev pub IsAtWithin : Configuration → ℕ → StandingShape → Type 0
 IsAtWithin g most s = (configuration_in s ≡ g) × (length s.order ≤ most)
@@ -46,17 +37,44 @@ AreFewerNoted p front places many =
     (rest : List Ticket) → IsLegal p (front ++ rest) → length (front ++ rest) < many
     → HasOne (λ s. configuration_in s ≡ configuration_after p (front ++ rest)) places
 
--- a place before another, or the same one and a client before another
-abbrev pub IsBehind : (at client : ℕ) → (i c : ℕ) → Type 0
-IsBehind at client i c = (i < at) ⊎ ((i ≡ at) × (c < client))
+-- where the client's next block leads was noted, if it has one left
+abbrev pub IsNextNoted : ProgramShape → List StandingShape → StandingShape → ℕ → Type 0
+IsNextNoted p places s c =
+    HasNext p s c → HasOne (IsAtWithin (one_block_on p c (configuration_in s)) (suc (length s.order))) places
 
--- Where the next blocks lead was noted, from all places before one, and from that one of all clients before one. Those
--- with fewer blocks come first, and none has over one block more than the one that is looked at.
-pub record IsWalkedUpTo (p : ProgramShape) (front : List Ticket) (places : List StandingShape)
-    (at client : ℕ) : Type 0 where
-  pub first : HasOne (IsAtWithin (configuration_after p front) (length front)) places
-  pub sorted : EachTwo (λ s t. length s.order ≤ length t.order) places
-  pub ahead : (s : StandingShape) → slice_get places at ≡ Some s
-      → AllByRecursion (λ t. length t.order ≤ suc (length s.order)) places
-  pub closed : (i c : ℕ) (s : StandingShape) → slice_get places i ≡ Some s → HasNext p s c → IsBehind at client i c
-      → HasOne (IsAtWithin (one_block_on p c (configuration_in s)) (suc (length s.order))) places
+-- as many blocks as this, or one more
+abbrev pub IsAbout : ℕ → StandingShape → Type 0
+IsAbout blocks s = (blocks ≤ length s.order) × (length s.order ≤ suc blocks)
+
+-- The search has gone on from the first of those that were noted, which have so many blocks at most: where their next
+-- blocks lead was noted. The others wait, those with fewer blocks first, and have as many blocks, or one more.
+pub record IsWalked (p : ProgramShape) (front : List Ticket) (blocks : ℕ)
+    (walked waiting : List StandingShape) : Type 0 where
+  pub first : HasOne (IsAtWithin (configuration_after p front) (length front)) (walked ++ waiting)
+  pub closed : AllByRecursion (λ s. (c : ℕ) → IsNextNoted p (walked ++ waiting) s c) walked
+  pub before : AllByRecursion (λ s. length s.order ≤ blocks) walked
+  pub behind : AllByRecursion (IsAbout blocks) waiting
+  pub sorted : EachTwo (λ s t. length s.order ≤ length t.order) waiting
+
+-- these rows were noted, and these standings wait: the search has gone on from some others
+pub record HasWalked (p : ProgramShape) (front : List Ticket) (limit : ℕ) (asked : OrderOutcome → Bool)
+    (rows : List RowShape) (waiting : List StandingShape) : Type 0 where
+  pub walked : List StandingShape
+  pub blocks : ℕ
+  pub noted : AreNoted p front limit asked rows (walked ++ waiting)
+  pub turn : IsWalked p front blocks walked waiting
+
+-- It goes on from a standing, the first of those that wait: where the next blocks of all clients before one lead was
+-- noted.
+pub record IsGoingOn (p : ProgramShape) (front : List Ticket) (limit : ℕ) (asked : OrderOutcome → Bool)
+    (rows : List RowShape) (s : StandingShape) (client : ℕ) (waiting : List StandingShape) : Type 0 where
+  pub walked : List StandingShape
+  pub noted : AreNoted p front limit asked rows (walked ++ s ∷ waiting)
+  pub turn : IsWalked p front (length s.order) walked (s ∷ waiting)
+  pub here : (c : ℕ) → c < client → IsNextNoted p (walked ++ s ∷ waiting) s c
+
+-- a standing that is not what is asked for waits behind the others
+pub record IsTakenIn (asked : OrderOutcome → Bool) (s : StandingShape)
+    (before after : List StandingShape) : Type 0 where
+  pub unmet : asked (outcome_at s) ≡ false
+  pub last : after ≡ before ++ s ∷ []
