@@ -34,6 +34,7 @@ fn texts(alloc: Global, words: &Vec<String>) -> Result<Vec<&str>, AllocError>
 }
 
 fn main(rt: HostRuntime) -> ExitCode {
+    let from_terminal = rt.stdin().is_terminal();
     let mut input = Counted::new(rt.reader());
     let mut out = io::writer(&rt);
     let mut err = rt.stderr();
@@ -52,6 +53,7 @@ fn main(rt: HostRuntime) -> ExitCode {
         &mut input,
         &mut out,
         &mut Watch::new(),
+        from_terminal,
         is_terminal,
         &mut err,
     ))

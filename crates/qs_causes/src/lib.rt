@@ -5,6 +5,7 @@ mod bytes;
 mod excess;
 mod expected;
 mod finding;
+mod foreign;
 mod form;
 mod known;
 mod operations;

@@ -6,8 +6,9 @@ ghost use Rattle.qs_causes.specs.Sources.{end_in, span_in};
 
 use crate::expected::expected;
 use crate::finding::FormFault;
+use crate::foreign::{foreign_at, meant_by, open_before};
 use crate::form::{Form, FormStage};
-use crate::said::{Said, joined, part, say};
+use crate::said::{Said, joined, line_digits, part, say};
 use crate::source::Source;
 use crate::usual::usual_at;
 use crate::words::is_near;
@@ -40,22 +41,29 @@ fn say_at(
     ensures spot { IfOk result (λ said. IsSpot source.entry.text.now source.entry.tokens.now fault.place (IsTrue fault.ends) said.span) }
 {
     let place = fault.place;
-    if let Some(usual) = usual_at(source, stage, is_deep, place) {
+    let usual = foreign_at(source, stage, place).or(usual_at(source, stage, is_deep, place));
+    if let Some(usual) = usual {
+        let help = if usual.help.is_empty() {
+            open_help(alloc, source, place)?
+        } else {
+            joined(alloc, &[usual.help])?
+        };
         return say(
             alloc,
             source.span(place),
             &[usual.cause],
             &[b"due here: ", expected(stage)],
-            &[usual.help],
+            &[help.as_slice()],
         );
     }
     if fault.ends {
         return say_semicolon(alloc, source, place.saturating_sub(1));
     }
-    let help = word_help(alloc, source, stage, place)?;
     if place >= source.len() {
+        let help = open_help(alloc, source, place)?;
         return say_end(alloc, source, stage, place, help.as_slice());
     }
+    let help = word_help(alloc, source, stage, place)?;
     say(
         alloc,
         source.span(place),
@@ -92,6 +100,22 @@ fn say_end(
         &[b"the text ends here, and the script does not"],
         &[b"due here: ", expected(stage)],
         &[help],
+    )
+}
+
+// That a brace before a place is still open, where one is.
+fn open_help(alloc: Global, source: Source<'_>, place: usize) -> Result<Vec<u8>, AllocError> {
+    let Some(open) = open_before(source, place) else {
+        return joined(alloc, &[]);
+    };
+    let line = line_digits(alloc, source, open)?;
+    joined(
+        alloc,
+        &[
+            b"the `{` in line ",
+            line.as_slice(),
+            b" is still open: each `{` has its `}`",
+        ],
     )
 }
 
@@ -143,7 +167,7 @@ fn meant(
         FormStage::ObjectKind | FormStage::FormalKind => {
             nearest(alloc, word, &[b"account", b"buffer", b"grid"])
         }
-        FormStage::AfterName => match foreign(word) {
+        FormStage::AfterName => match meant_by(word) {
             Some(other) => Ok(Some(other)),
             None => nearest(
                 alloc,
@@ -153,31 +177,4 @@ fn meant(
         },
         _ => Ok(None),
     }
-}
-
-// Whether a word is one of some.
-fn is_among(word: &[u8], words: &[&[u8]]) -> bool {
-    for it in words {
-        if *it == word {
-            return true;
-        }
-    }
-    false
-}
-
-// What this language has for a word of others.
-fn foreign(word: &[u8]) -> Option<&'static [u8]> {
-    if is_among(word, &[b"while", b"for", b"loop", b"until"]) {
-        return Some(b"repeat 1000 { .. }");
-    }
-    if is_among(word, &[b"break", b"exit", b"return"]) {
-        return Some(b"leave;");
-    }
-    if is_among(word, &[b"elseif", b"elif", b"elsif"]) {
-        return Some(b"else { if .. { .. } }");
-    }
-    if is_among(word, &[b"let", b"var", b"int"]) {
-        return Some(b"x = 1;");
-    }
-    None
 }

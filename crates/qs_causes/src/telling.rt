@@ -95,7 +95,8 @@ fn tell_token(
     requires there { IsFaultAt text.now (SpanFault.Token fault start) }
     ensures told { OnOk result (IsTokenTold text.now fault out.old.items out.new.items) }
 {
-    let said = say_token(alloc, fault, start, &text[start..])?;
+    let before = text[..start].last().copied();
+    let said = say_token(alloc, fault, start, before, &text[start..])?;
     put_said(alloc, out, text, said.span, &said)
 }
 

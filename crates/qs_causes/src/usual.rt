@@ -1,5 +1,6 @@
 // What new users write, and what to write instead.
 
+use crate::foreign::is_around_block;
 use crate::form::FormStage;
 use crate::source::Source;
 use qs_tokens::Token;
@@ -11,7 +12,7 @@ pub(crate) struct Usual {
     pub(crate) help: &'static [u8],
 }
 
-fn mistake(cause: &'static [u8], help: &'static [u8]) -> Option<Usual> {
+pub(crate) fn mistake(cause: &'static [u8], help: &'static [u8]) -> Option<Usual> {
     Some(Usual { cause, help })
 }
 
@@ -29,12 +30,15 @@ pub(crate) fn usual_at(
             b"write `# ..`",
         );
     }
+    if let Some(usual) = at_name(source, stage, token, place) {
+        return Some(usual);
+    }
     match stage {
         FormStage::Item => at_item(token),
-        FormStage::Block => at_block(token),
+        FormStage::Block => at_block(source, token, place),
         FormStage::Statement | FormStage::AfterIf if is_deep => mistake(
             b"a statement stands inside at most eight `if`s and `repeat`s",
-            b"",
+            b"one `if` on a variable that was computed before often does for several",
         ),
         FormStage::Statement | FormStage::AfterIf => at_statement(token),
         FormStage::AfterName => at_subject(source, token, place),
@@ -49,6 +53,81 @@ pub(crate) fn usual_at(
         FormStage::ListFirst | FormStage::ListNext => at_list(token),
         stage => at_value(stage, token).or(at_declaration(stage, token)),
     }
+}
+
+// Where a name stands or is due: it is no word of the language, begins with a letter and has no `-`; and a number is
+// digits alone.
+fn at_name(source: Source<'_>, stage: FormStage, token: &Token, place: usize) -> Option<Usual> {
+    let before = place.saturating_sub(1);
+    let touches = place > 0 && source.end_of(before).start == source.span(place).start;
+    match token {
+        Token::Name(_) if touches && matches!(source.token(before), Some(Token::Number(_))) =>
+            mistake(
+                b"a number is decimal digits alone",
+                b"write 1000 for `1_000`, and 16 for `0x10`; a name begins with a letter",
+            ),
+        Token::Number(_) if is_due(stage) => mistake(
+            b"a name begins with a letter",
+            b"write the digits behind the letters, as in `a1`",
+        ),
+        Token::Minus if ends_name(stage) && touches => mistake(
+            b"a `-` is a minus, and stands in no name",
+            b"names have small letters, digits and `_`",
+        ),
+        _ if is_word(token) && (is_used(stage) || is_subject(source, stage, place)) => {
+            mistake(b"a word of the language is no name", b"take another name")
+        }
+        _ => None,
+    }
+}
+
+// Whether a new name is due at a place.
+fn is_due(stage: FormStage) -> bool {
+    matches!(
+        stage,
+        FormStage::ObjectName
+            | FormStage::ClientName
+            | FormStage::TemplateName
+            | FormStage::FormalName
+            | FormStage::TemplateOf
+    )
+}
+
+// Whether a name of an object or a variable is due there, and none of the words that begin something may stand there.
+fn is_used(stage: FormStage) -> bool {
+    matches!(
+        stage,
+        FormStage::ListFirst
+            | FormStage::GivenFirst
+            | FormStage::GivenMore
+            | FormStage::Operation
+            | FormStage::Value
+            | FormStage::Second
+            | FormStage::Left
+            | FormStage::Right
+            | FormStage::ArgumentFirst
+            | FormStage::ArgumentMore
+    ) || is_due(stage)
+}
+
+// Whether a statement begins there that gives to or asks what is named.
+fn is_subject(source: Source<'_>, stage: FormStage, place: usize) -> bool {
+    let next = source.token(place.saturating_add(1));
+    matches!(stage, FormStage::Statement | FormStage::AfterIf)
+        && matches!(next, Some(Token::Assign | Token::Dot))
+}
+
+// Whether a name has just ended.
+fn ends_name(stage: FormStage) -> bool {
+    matches!(
+        stage,
+        FormStage::ClientNext
+            | FormStage::FormalsOpen
+            | FormStage::FormalNext
+            | FormStage::GivenOpen
+            | FormStage::GivenNext
+            | FormStage::ListNext
+    )
 }
 
 // Whether nothing has begun at a place.
@@ -83,8 +162,12 @@ fn at_item(token: &Token) -> Option<Usual> {
     }
 }
 
-fn at_block(token: &Token) -> Option<Usual> {
+fn at_block(source: Source<'_>, token: &Token, place: usize) -> Option<Usual> {
     match token {
+        Token::Name(_) | Token::If | Token::Repeat if is_around_block(source, place) => mistake(
+            b"no loop and no test stands around a block",
+            b"write the blocks out, one after another; what is repeated inside a block stands in it",
+        ),
         Token::Name(_) | Token::If | Token::Repeat | Token::Leave | Token::Else => mistake(
             b"every statement stands inside a block",
             b"write `separate a { .. }` around it, with the objects that it uses",
@@ -92,7 +175,7 @@ fn at_block(token: &Token) -> Option<Usual> {
         Token::Semicolon => mistake(b"no `;` stands after a `}`", b"leave it out"),
         Token::Object | Token::Client | Token::Template => mistake(
             b"the client or template before this is not closed",
-            b"write a `}` before it",
+            b"",
         ),
         Token::OpenBrace => mistake(
             b"a block begins with `separate` and its objects",
@@ -112,14 +195,17 @@ fn at_statement(token: &Token) -> Option<Usual> {
             b"no `;` stands after a `}`, and there is no empty statement",
             b"leave it out",
         ),
-        Token::Else => mistake(b"an `else` stands right after the `}` of an `if`", b""),
+        Token::Else => mistake(
+            b"an `else` stands right after the `}` of an `if`",
+            b"write `if x == 0 { .. } else { .. }`",
+        ),
         Token::OpenBrace => mistake(
             b"braces stand only after `if`, `else`, `repeat`, a block's list and a client's name",
             b"leave them out",
         ),
         Token::Object | Token::Client | Token::Template => mistake(
             b"the block before this is not closed",
-            b"write a `}` for each `{` that is open",
+            b"",
         ),
         _ => None,
     }
@@ -319,13 +405,6 @@ fn is_word(token: &Token) -> bool {
 
 fn at_declaration(stage: FormStage, token: &Token) -> Option<Usual> {
     match stage {
-        FormStage::ObjectName
-        | FormStage::ClientName
-        | FormStage::TemplateName
-        | FormStage::FormalName
-            if is_word(token) => {
-            mistake(b"a word of the language is no name", b"take another name")
-        }
         FormStage::ObjectKind => at_kind(token),
         FormStage::Balance | FormStage::Capacity | FormStage::Rows | FormStage::Columns =>
             at_number(token),
@@ -333,6 +412,10 @@ fn at_declaration(stage: FormStage, token: &Token) -> Option<Usual> {
             Token::OpenParen => mistake(
                 b"a client has no parameters",
                 b"write `client ann { .. }`, or a template with formals",
+            ),
+            Token::Name(_) => mistake(
+                b"a client has its blocks in braces, or is started with a template",
+                b"write `client ann { .. }` or `client ann = pay(a)`",
             ),
             _ => None,
         },

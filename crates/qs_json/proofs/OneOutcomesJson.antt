@@ -17,9 +17,9 @@ use Rattle.qs_json.specs.OutcomesJson.{head_json, listed_json, outcome_json, out
 same_outcome : (p : ProgramShape) (n : ℕ) (s t : StandingShape) → IsSame s t → outcome_json p n s ≡ outcome_json p n t
 same_outcome p n s t (order, e) = λ i.
     head_json n (order i)
-    ++ field (codes "states") (array_up_to (length p.objects) (λ h. state_json (object_at p h).name ((e i).states h)))
+    ++ (field (codes "states") (array_up_to (length p.objects) (λ h. state_json (object_at p h).name ((e i).states h)))
     ++ field (codes "clients") (array_up_to (length p.clients)
-    (λ c. first_field (codes "client") (quoted (client_at p c).name) ++ variables_json (client_at p c).variables ((e i).locals c) ++ codes "}"))
+    (λ c. first_field (codes "client") (quoted (client_at p c).name) ++ variables_json (client_at p c).variables ((e i).locals c) ++ codes "}")))
     ++ codes "}\n"
 
 pub one_outcomes_json : OutcomesJsonIsUnique

@@ -1,5 +1,5 @@
 -- The answer to a claim on a program: one object on a line.
-use Rattle.std.specs.Prelude.{◌≡◌, ◌≤◌, ℕ, Bool, List, ◌++◌, codes, decimal, length, Option, Some, None}
+use Rattle.std.specs.Prelude.{◌≡◌, ◌≤◌, ℕ, Bool, List, ◌++◌, codes, decimal, Option, Some, None}
 use Rattle.qs_objects.specs.declared.held.Ticket.{Ticket}
 use Rattle.qs_program.specs.Program.{ProgramShape}
 use Rattle.qs_serial.specs.NamedOrders.{order_of}
@@ -11,8 +11,8 @@ use Rattle.qs_outcomes.specs.Answers.{AnswerShape}
 use Rattle.qs_questions.specs.Claims.{IsAnswerTo}
 use Rattle.qs_standings.specs.Standings.{StandingShape}
 use Rattle.qs_report.specs.AnswerText.{is_yes}
-use Rattle.qs_json.specs.Pieces.{array, array_up_to, field, first_field, truth}
-use Rattle.qs_json.specs.OutcomesJson.{client_json, next_client_json, object_json}
+use Rattle.qs_json.specs.Pieces.{array, field, first_field, truth}
+use Rattle.qs_json.specs.OutcomesJson.{next_client_json, standing_fields}
 
 -- the quantifier with true or false
 abbrev pub answer_field : Quantifier → Bool → List ℕ
@@ -26,10 +26,7 @@ order_field q.Throughout order = first_field (codes "after") (array next_client_
 
 -- an order, and where the program stands after it
 abbrev pub witness_json : ProgramShape → Quantifier → StandingShape → List ℕ
-witness_json p q s =
-    order_field q s.order
-    ++ field (codes "states") (array_up_to (length p.objects) (object_json p s))
-    ++ field (codes "clients") (array_up_to (length p.clients) (client_json p s)) ++ codes "}"
+witness_json p q s = order_field q s.order ++ standing_fields p s ++ codes "}"
 
 abbrev pub witness_or_null : ProgramShape → Quantifier → Option StandingShape → List ℕ
 witness_or_null p q None = codes "null"

@@ -5,10 +5,14 @@ pub mod FaultJson
 pub mod OutcomesJson
 pub mod EndsJson
 pub mod AnswerJson
+pub mod TallyJson
+pub mod EstimateJson
 pub mod GraphJson
 -- What crates promise one another, what proofs use, and worked examples.
 pub mod RunJsonExamples
 pub mod OutcomesJsonExamples
 pub mod EndsJsonExamples
 pub mod AnswerJsonExamples
+pub mod TallyJsonExamples
+pub mod EstimateJsonExamples
 pub mod GraphJsonExamples

@@ -39,16 +39,19 @@ client_json p s c =
 abbrev pub object_json : ProgramShape → StandingShape → ℕ → List ℕ
 object_json p s h = state_json (object_at p h).name (slice_index_or s.states h no_state)
 
+-- where a program stands: the objects and the clients
+abbrev pub standing_fields : ProgramShape → StandingShape → List ℕ
+standing_fields p s =
+    field (codes "states") (array_up_to (length p.objects) (object_json p s))
+    ++ field (codes "clients") (array_up_to (length p.clients) (client_json p s))
+
 -- the first fields of an outcome: its number, from 1, and an order that comes to it
 abbrev pub head_json : ℕ → List Ticket → List ℕ
 head_json n order = first_field (codes "outcome") (decimal n) ++ field (codes "order") (array next_client_json order)
 
 -- an outcome: these, the objects and the clients
 abbrev pub outcome_json : ProgramShape → ℕ → StandingShape → List ℕ
-outcome_json p n s =
-    head_json n s.order
-    ++ field (codes "states") (array_up_to (length p.objects) (object_json p s))
-    ++ field (codes "clients") (array_up_to (length p.clients) (client_json p s)) ++ codes "}\n"
+outcome_json p n s = head_json n s.order ++ standing_fields p s ++ codes "}\n"
 
 -- the outcome at a place of a list
 abbrev pub outcome_json_at : ProgramShape → List StandingShape → ℕ → List ℕ

@@ -7,7 +7,7 @@ ghost use Rattle.qs_text.specs.Texts.{Puts};
 ghost use Rattle.qs_json.specs.OutcomesJson.{next_client_json};
 ghost use Rattle.qs_json.specs.AnswerJson.{answer_field, json_of_answer, order_field, witness_field, witness_json};
 
-use crate::outcomes::{put_clients, put_joined, put_objects};
+use crate::outcomes::{put_joined, put_standing};
 use crate::pieces::put_truth;
 use qs_conditions::Quantifier;
 use qs_objects::Ticket;
@@ -58,12 +58,7 @@ fn put_witness(
     ensures ok { OnOk result (Puts (witness_json program.now quantifier standing.now) out.old.items out.new.items) }
 {
     put_order(out, quantifier, standing.order())?;
-    put_word(out, b",\"states\":[")?;
-    put_objects(out, program, standing)?;
-    put_word(out, b"]")?;
-    put_word(out, b",\"clients\":[")?;
-    put_clients(out, program, standing)?;
-    put_word(out, b"]")?;
+    put_standing(out, program, standing)?;
     put_word(out, b"}")
 }
 

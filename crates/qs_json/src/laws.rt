@@ -3,11 +3,13 @@
 ghost use Rattle.qs_json.specs.AnswerJsonExamples.{AnswerJsonExamples};
 ghost use Rattle.qs_json.specs.EndsJson.{EndsJsonIsUnique};
 ghost use Rattle.qs_json.specs.EndsJsonExamples.{EndsJsonExamples};
+ghost use Rattle.qs_json.specs.EstimateJsonExamples.{EstimateJsonExamples};
 ghost use Rattle.qs_json.specs.GraphJson.{GraphJsonIsUnique};
 ghost use Rattle.qs_json.specs.GraphJsonExamples.{GraphJsonExamples};
 ghost use Rattle.qs_json.specs.OutcomesJson.{OutcomesJsonIsUnique};
 ghost use Rattle.qs_json.specs.OutcomesJsonExamples.{OutcomesJsonExamples};
 ghost use Rattle.qs_json.specs.RunJsonExamples.{FaultJsonExamples, RunJsonExamples};
+ghost use Rattle.qs_json.specs.TallyJsonExamples.{TallyJsonExamples};
 
 /// The texts of a few runs, counts and refusals, worked out by hand; it does nothing.
 pub fn run_json_examples()
@@ -48,4 +50,14 @@ pub fn ends_json_is_unique()
 /// The texts of two answers, worked out by hand; it does nothing.
 pub fn answer_json_examples()
     ensures examples { AnswerJsonExamples }
+{}
+
+/// The texts of two tallies, worked out by hand; it does nothing.
+pub fn tally_json_examples()
+    ensures examples { TallyJsonExamples }
+{}
+
+/// The texts of two estimates, worked out by hand; it does nothing.
+pub fn estimate_json_examples()
+    ensures examples { EstimateJsonExamples }
 {}

@@ -4,6 +4,7 @@
 mod answers;
 mod counts;
 mod ends;
+mod estimates;
 mod events;
 mod faults;
 mod graphs;
@@ -12,11 +13,14 @@ mod outcomes;
 mod pieces;
 mod runs;
 mod states;
+mod tallies;
 
 pub use answers::answer_json;
 pub use counts::counts_json;
 pub use ends::ends_json;
+pub use estimates::estimate_json;
 pub use faults::fault_json;
 pub use graphs::graph_json;
 pub use outcomes::outcomes_json;
 pub use runs::run_json;
+pub use tallies::tally_json;

@@ -6,7 +6,7 @@ ghost use Rattle.std.specs.List.{AllByRecursion, join_by};
 ghost use Rattle.qs_outcomes.specs.Outcomes.{HasPlaces};
 ghost use Rattle.qs_text.specs.Texts.{texts_up_to, Puts};
 ghost use Rattle.qs_json.specs.Pieces.{element, field, first_field, quoted};
-ghost use Rattle.qs_json.specs.OutcomesJson.{client_json, head_json, listed_json, next_client_json, object_json, outcome_json, outcome_json_at, variable_json, variables_json};
+ghost use Rattle.qs_json.specs.OutcomesJson.{client_json, head_json, listed_json, next_client_json, object_json, outcome_json, outcome_json_at, standing_fields, variable_json, variables_json};
 
 use crate::pieces::{put_client_name, put_comma, put_integer, put_string};
 use crate::states::put_state;
@@ -163,6 +163,23 @@ pub(crate) fn put_objects(
     Ok(())
 }
 
+// Where a program stands, as fields: the objects and the clients.
+pub(crate) fn put_standing(
+    out: &mut Vec<u8>,
+    program: &Program,
+    standing: &Standing,
+) -> Result<(), AllocError>
+    requires places { HasPlaces program.now standing.now }
+    ensures ok { OnOk result (Puts (standing_fields program.now standing.now) out.old.items out.new.items) }
+{
+    put_word(out, b",\"states\":[")?;
+    put_objects(out, program, standing)?;
+    put_word(out, b"]")?;
+    put_word(out, b",\"clients\":[")?;
+    put_clients(out, program, standing)?;
+    put_word(out, b"]")
+}
+
 // An outcome with its number.
 fn put_outcome(
     out: &mut Vec<u8>,
@@ -174,12 +191,7 @@ fn put_outcome(
     ensures ok { OnOk result (Puts (outcome_json program.now number standing.now) out.old.items out.new.items) }
 {
     put_outcome_head(out, number, standing.order())?;
-    put_word(out, b",\"states\":[")?;
-    put_objects(out, program, standing)?;
-    put_word(out, b"]")?;
-    put_word(out, b",\"clients\":[")?;
-    put_clients(out, program, standing)?;
-    put_word(out, b"]")?;
+    put_standing(out, program, standing)?;
     put_word(out, b"}\n")
 }
 

@@ -62,9 +62,14 @@ machine_app word = with_rule (with_rule (new_app word) (defaulted_rule (codes "m
 abbrev pub play_app : App
 play_app = shared_app (planned_app (machine_app (codes "play")))
 
--- `run [--mode M] [--chunk N] [--counts] [--format F] [--warn]`
+-- `--times`, of 1 to 100000
+abbrev pub times_rule : Rule
+times_rule = record (option_rule (codes "times")) { parser = Some (parser.Signed (pos 1) (pos 100000)) }
+
+-- `run [--mode M] [--chunk N] [--counts] [--times N] [--format F] [--warn]`
 abbrev pub run_app : App
-run_app = shared_app (with_rule (machine_app (codes "run")) (flag_rule (codes "counts")))
+run_app =
+    shared_app (with_rule (with_rule (machine_app (codes "run")) (flag_rule (codes "counts"))) times_rule)
 
 -- `WORD [--always COND] [--some COND] [--throughout COND]`
 abbrev pub claimed_app : App → App
@@ -72,12 +77,16 @@ claimed_app app =
     with_rule (with_rule (with_rule app (option_rule (codes "always"))) (option_rule (codes "some")))
     (option_rule (codes "throughout"))
 
--- `outcomes [--limit N] [--after LIST] [--ends] [--always COND] [--some COND] [--throughout COND] [--format F]
--- [--warn]`
+-- `outcomes [--limit N] [--after LIST] [--ends] [--estimate]`
+abbrev pub listing_app : App
+listing_app =
+    with_rule (with_rule (with_rule (with_rule (new_app (codes "outcomes")) limit_rule) (option_rule (codes "after")))
+    (flag_rule (codes "ends"))) (flag_rule (codes "estimate"))
+
+-- `outcomes [--limit N] [--after LIST] [--ends] [--estimate] [--always COND] [--some COND] [--throughout COND]
+-- [--format F] [--warn]`
 abbrev pub outcomes_app : App
-outcomes_app =
-    shared_app (claimed_app (with_rule (with_rule (with_rule (new_app (codes "outcomes")) limit_rule)
-    (option_rule (codes "after"))) (flag_rule (codes "ends"))))
+outcomes_app = shared_app (claimed_app listing_app)
 
 -- the program's name and its version, with no word `help`
 abbrev pub named_app : App

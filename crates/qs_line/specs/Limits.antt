@@ -1,4 +1,4 @@
--- The limits of a list of actors.
+-- The limits of a list of actors, and of a number of runs.
 use Rattle.std.specs.Prelude.{ℕ}
 
 -- how often one part may stand for its actor
@@ -8,3 +8,7 @@ most_repeats = 1000000
 -- actors of a list, each as often as its part says
 abbrev pub most_actors : ℕ
 most_actors = 1000000
+
+-- runs on threads whose ends are counted
+abbrev pub most_times : ℕ
+most_times = 100000

@@ -19,6 +19,7 @@ use Rattle.qs_conditions.specs.declared.claim.Quantifier.TheVariants as quantifi
 use Rattle.qs_line.specs.Parts.{clients_in, list_in}
 use Rattle.qs_line.specs.declared.parts.Part.{Part}
 use Rattle.qs_line.specs.Command.{qs_app}
+use Rattle.qs_line.specs.Limits.{most_times}
 use Rattle.qs_line.specs.declared.line.Format.{Format}
 use Rattle.qs_line.specs.declared.line.Format.TheVariants as format
 use Rattle.qs_line.specs.declared.line.GraphFormat.{GraphFormat}
@@ -42,8 +43,9 @@ pub data PlanShape : Type 0 where
   by_order : (clients : List Part) → PlanShape
 
 -- what is asked for: the counts; the graphs; a run by the plain rules; one in the optimised machine, in a mode and by
--- chunks of a size; one on threads; or, after the blocks of some clients and with so many configurations at most,
--- whether a condition holds of all ends, of some or throughout, or all outcomes, or their ends alone. Each is asked for
+-- chunks of a size; one on threads, or so many of them, whose ends are counted; after the blocks of some clients, how
+-- many configurations there can be; or, after these and with so many configurations at most, whether a condition holds
+-- of all ends, of some or throughout, or all outcomes, or their ends alone. Each is asked for
 -- in a format, and of a run the counts of synchronisations may be asked for as well, and of a schedule a line for each
 -- step, and what lies where at its end.
 pub data Request : Type 0 where
@@ -52,7 +54,9 @@ pub data Request : Type 0 where
   rules : ReportStyle → PlanShape → Request
   play : ReportStyle → Mode → (chunk : ℕ) → PlanShape → Request
   run : ReportStyle → Mode → ℕ → Request
+  tally : Format → Mode → (chunk : ℕ) → (times : ℕ) → Request
   ask : Claim → Format → (limit : ℕ) → (front : List Part) → Request
+  estimate : Format → (front : List Part) → Request
   outcomes : OutcomesFormat → (limit : ℕ) → (front : List Part) → Request
 
 -- the format of a refusal where graphs are asked for: beside a drawing it is text
@@ -80,7 +84,9 @@ format_of_request (graph how) = format_beside how
 format_of_request (rules style plan) = format_beside_report style.format
 format_of_request (play style mode chunk plan) = format_beside_report style.format
 format_of_request (run style mode chunk) = format_beside_report style.format
+format_of_request (tally how mode chunk times) = how
 format_of_request (ask claim how limit front) = how
+format_of_request (estimate how front) = how
 format_of_request (outcomes how limit front) = format_beside_outcomes how
 
 abbrev pub plan_of : Plan → PlanShape
@@ -93,7 +99,9 @@ request_of (word.Graph how) = graph how
 request_of (word.Rules style plan) = rules style (plan_of plan)
 request_of (word.Play style mode chunk plan) = play style mode chunk (plan_of plan)
 request_of (word.Run style mode chunk) = run style mode chunk
+request_of (word.Tally how mode chunk times) = tally how mode chunk times
 request_of (word.Ask claim how limit front) = ask claim how limit front.items
+request_of (word.Estimate how front) = estimate how front.items
 request_of (word.Outcomes how limit front) = outcomes how limit front.items
 
 abbrev pub format_in : Text → Option Format
@@ -182,6 +190,13 @@ rounds_at rows = unwrap_or (option_map (number_in 0 4294967295) (first_of (codes
 abbrev pub limit_at : List Row → Option ℕ
 limit_at rows = option_and_then (number_in 1 4294967295) (first_of (codes "limit") rows)
 
+abbrev pub times_at : List Row → Option ℕ
+times_at rows = option_and_then (number_in 1 most_times) (first_of (codes "times") rows)
+
+-- a number of runs stands on the line
+abbrev pub has_times : List Row → Bool
+has_times rows = is_some (first_of (codes "times") rows)
+
 -- no pick where the line has no list of them
 abbrev pub picks_at : List Row → Option (List Part)
 picks_at rows = unwrap_or (option_map list_in (first_of (codes "pick") rows)) (Some [])
@@ -234,10 +249,21 @@ play_at rows =
     (λ chunk. option_map (play style mode chunk) (styled_plan_at style rows))
     (chunk_at rows)) (mode_at rows)) (style_at rows)
 
-abbrev pub run_at : List Row → Option Request
-run_at rows =
+-- many runs, whose ends are counted; no synchronisations are shown of them
+abbrev pub tally_at : List Row → Option Request
+tally_at rows =
+    if flag_at (codes "counts") rows then None
+    else option_and_then (λ how. option_and_then (λ mode. option_and_then (λ chunk. option_map (tally how mode chunk)
+    (times_at rows)) (chunk_at rows)) (mode_at rows)) (format_at rows)
+
+abbrev pub single_run_at : List Row → Option Request
+single_run_at rows =
     option_and_then (λ style. option_and_then (λ mode. option_map (run style mode) (chunk_at rows)) (mode_at rows))
     (style_at rows)
+
+-- a single run, or many where the line has a number of them
+abbrev pub run_at : List Row → Option Request
+run_at rows = if has_times rows then tally_at rows else single_run_at rows
 
 -- the claim of a text, where the text is a condition
 abbrev pub claim_in : Quantifier → Text → Option Claim
@@ -273,8 +299,18 @@ list_at rows =
     (outcomes_format_at rows)
 
 -- all outcomes, or the answer to a condition where the line has one
+abbrev pub answer_or_list_at : List Row → Option Request
+answer_or_list_at rows = if has_claim rows then ask_at rows else list_at rows
+
+-- an estimate, which stands beside no condition, and lists no ends
+abbrev pub estimate_at : List Row → Option Request
+estimate_at rows =
+    if has_claim rows || flag_at (codes "ends") rows then None
+    else option_and_then (λ how. option_map (estimate how) (front_at rows)) (format_at rows)
+
+-- an estimate where the line asks for one; else all outcomes, or the answer to a condition
 abbrev pub outcomes_at : List Row → Option Request
-outcomes_at rows = if has_claim rows then ask_at rows else list_at rows
+outcomes_at rows = if flag_at (codes "estimate") rows then estimate_at rows else answer_or_list_at rows
 
 -- what a word asks for, with the entries that clap finds after it
 abbrev pub request_at : Text → List Row → Option Request

@@ -20,7 +20,7 @@ use Rattle.qs_line.specs.declared.line.GraphFormat.TheVariants as graph_format
 use Rattle.qs_line.specs.declared.line.OutcomesFormat.TheVariants as outcomes_format
 use Rattle.qs_line.specs.declared.line.ReportFormat.TheVariants as report_format
 use Rattle.qs_line.specs.declared.line.ReportStyle.{ReportStyle}
-use Rattle.qs_line.specs.Line.{Line, ask, asks, by_order, by_schedule, check, graph, help, is_verbose_in, line_in, outcomes, play, refused, rules, run, version, warns_in}
+use Rattle.qs_line.specs.Line.{Line, ask, asks, by_order, by_schedule, check, estimate, graph, help, is_verbose_in, line_in, outcomes, play, refused, rules, run, tally, version, warns_in}
 
 -- the line of the words after the program's name
 abbrev pub line : List Text → Line
@@ -82,6 +82,27 @@ pub record LimitLines : Type 0 where
   pub of_play : line (codes "play" ∷ codes "--limit" ∷ codes "1" ∷ []) ≡ refused
   pub by_rounds : line (codes "outcomes" ∷ codes "--rounds" ∷ codes "1" ∷ []) ≡ refused
   pub counted : line (codes "outcomes" ∷ codes "--counts" ∷ []) ≡ refused
+
+pub record TallyLines : Type 0 where
+  pub many : line (codes "run" ∷ codes "--times" ∷ codes "1000" ∷ []) ≡ asks (tally format.Text Both 8 1000)
+  pub with_all : line (codes "run" ∷ codes "--mode=none" ∷ codes "--times=1" ∷ codes "--chunk=32"
+      ∷ codes "--format=json" ∷ []) ≡ asks (tally format.Json Plain 32 1)
+  pub most : line (codes "run" ∷ codes "--times=100000" ∷ []) ≡ asks (tally format.Text Both 8 100000)
+  pub one_more : line (codes "run" ∷ codes "--times=100001" ∷ []) ≡ refused
+  pub none : line (codes "run" ∷ codes "--times=0" ∷ []) ≡ refused
+  pub no_number : line (codes "run" ∷ codes "--times=many" ∷ []) ≡ refused
+  pub with_counts : line (codes "run" ∷ codes "--times=2" ∷ codes "--counts" ∷ []) ≡ refused
+  pub as_picture : line (codes "run" ∷ codes "--times=2" ∷ codes "--format=svg" ∷ []) ≡ refused
+  pub of_play : line (codes "play" ∷ codes "--times=2" ∷ []) ≡ refused
+
+pub record EstimateLines : Type 0 where
+  pub alone : line (codes "outcomes" ∷ codes "--estimate" ∷ []) ≡ asks (estimate format.Text [])
+  pub after : line (codes "outcomes" ∷ codes "--after=c1" ∷ codes "--estimate" ∷ codes "--format=json" ∷ [])
+      ≡ asks (estimate format.Json (once (Client 1) ∷ []))
+  pub with_ends : line (codes "outcomes" ∷ codes "--estimate" ∷ codes "--ends" ∷ []) ≡ refused
+  pub with_condition : line (codes "outcomes" ∷ codes "--estimate" ∷ codes "--some=1<2" ∷ []) ≡ refused
+  pub as_drawing : line (codes "outcomes" ∷ codes "--estimate" ∷ codes "--format=dot" ∷ []) ≡ refused
+  pub of_run : line (codes "run" ∷ codes "--estimate" ∷ []) ≡ refused
 
 pub record FrontLines : Type 0 where
   pub one : line (codes "outcomes" ∷ codes "--after" ∷ codes "c1" ∷ [])
@@ -317,6 +338,8 @@ pub record LineExamples : Type 0 where
   pub defaults : DefaultLines
   pub settings : SetLines
   pub limits : LimitLines
+  pub tallies : TallyLines
+  pub estimates : EstimateLines
   pub fronts : FrontLines
   pub orders : OrderLines
   pub claims : ClaimLines

@@ -3,7 +3,7 @@
 ghost use Rattle.std.specs.Prelude.{◌≡◌, IfOk, codes, false};
 ghost use Rattle.clap.specs.Words.{app_of, new_app, rule_of, with_rule, with_subcommand};
 ghost use Rattle.clap.specs.declared.Command.TheViews.{out-Command as fields_of};
-ghost use Rattle.qs_line.specs.Command.{check_app, chunk_rule, claimed_app, defaulted_rule, flag_rule, graph_app, limit_rule, machine_app, named_app, option_rule, outcomes_app, planned_app, play_app, qs_app, rules_app, run_app, scheduled_app, shared_app, texts_app};
+ghost use Rattle.qs_line.specs.Command.{check_app, chunk_rule, claimed_app, defaulted_rule, flag_rule, graph_app, limit_rule, listing_app, machine_app, named_app, option_rule, outcomes_app, planned_app, play_app, qs_app, rules_app, run_app, scheduled_app, shared_app, texts_app, times_rule};
 
 use crate::help;
 use clap::{Arg, ArgAction, Command, value_parser};
@@ -45,6 +45,13 @@ fn limit_option<'a>(alloc: Global) -> Arg<'a>
     option(alloc, "limit", "N", help::LIMIT)
         .default_value("1000000")
         .value_parser(value_parser!(u32).range(1..=4294967295))
+}
+
+fn times_option<'a>(alloc: Global) -> Arg<'a>
+    ensures rule { rule_of result ≡ times_rule }
+    ensures local { result.global ≡ false }
+{
+    option(alloc, "times", "N", help::TIMES).value_parser(value_parser!(u32).range(1..=100000))
 }
 
 fn flag<'a>(alloc: Global, name: &'a str, said: &'a str) -> Arg<'a>
@@ -163,11 +170,9 @@ fn run_command<'a>(alloc: Global) -> Result<Command<'a>, AllocError>
     ensures app { IfOk result (λ command. app_of command ≡ run_app) }
     ensures local { IfOk result (λ command. (fields_of command).has_globals ≡ false) }
 {
-    let run = machine_command(alloc, "run", help::RUN, help::RUN_EXAMPLE)?.arg(flag(
-        alloc,
-        "counts",
-        help::COUNTS,
-    ))?;
+    let run = machine_command(alloc, "run", help::RUN, help::RUN_EXAMPLE)?
+        .arg(flag(alloc, "counts", help::COUNTS))?
+        .arg(times_option(alloc))?;
     shared(alloc, run, help::REPORT_FORMAT)
 }
 
@@ -192,15 +197,24 @@ fn claimed<'a>(alloc: Global, command: Command<'a>) -> Result<Command<'a>, Alloc
     with_throughout(alloc, ends)
 }
 
+// The word `outcomes` with the settings of a list.
+fn listing_command<'a>(alloc: Global) -> Result<Command<'a>, AllocError>
+    ensures app { IfOk result (λ command. app_of command ≡ listing_app) }
+    ensures local { IfOk result (λ command. (fields_of command).has_globals ≡ false) }
+{
+    word(alloc, "outcomes", help::OUTCOMES, help::OUTCOMES_EXAMPLE)
+        .arg(limit_option(alloc))?
+        .arg(option(alloc, "after", "LIST", help::AFTER))?
+        .arg(flag(alloc, "ends", help::ENDS))?
+        .arg(flag(alloc, "estimate", help::ESTIMATE))
+}
+
 fn outcomes_command<'a>(alloc: Global) -> Result<Command<'a>, AllocError>
     ensures app { IfOk result (λ command. app_of command ≡ outcomes_app) }
     ensures local { IfOk result (λ command. (fields_of command).has_globals ≡ false) }
 {
-    let outcomes = word(alloc, "outcomes", help::OUTCOMES, help::OUTCOMES_EXAMPLE)
-        .arg(limit_option(alloc))?
-        .arg(option(alloc, "after", "LIST", help::AFTER))?
-        .arg(flag(alloc, "ends", help::ENDS))?;
-    shared(alloc, claimed(alloc, outcomes)?, help::OUTCOMES_FORMAT)
+    let claimed = claimed(alloc, listing_command(alloc)?)?;
+    shared(alloc, claimed, help::OUTCOMES_FORMAT)
 }
 
 // The program, before its words.

@@ -94,8 +94,11 @@ pub const RUN_EXAMPLE: &str = with_limits!(
     "\
 Example:
   qs run --mode none --counts < my.script
+  qs run --times 1000 < my.script
 
-The threads decide the order of reservations. Along it, each block shows what it does alone."
+The threads decide the order of reservations. Along it, each block shows what it does alone. The second runs the script
+1000 times, and counts how often each end came; it has the number that `qs outcomes` gives it, where there are at most
+1000000 configurations."
 );
 
 pub const OUTCOMES: &str =
@@ -110,11 +113,12 @@ Example:
   qs outcomes --always 'a.balance() + b.balance() == 200' < my.script
   qs outcomes --some '!(bob.x < 3) && a.refused() > 0' < my.script
   qs outcomes --throughout 'a.balance() >= 0' < my.script
+  qs outcomes --estimate < my.script
   qs outcomes --format dot < my.script | dot -Tsvg > my.svg
 
 The second lists only what comes after a block of bob and then one of ann. The third lists the ends alone, so that `diff`
 compares two scripts. The next three answer yes or no: whether a condition holds of all ends, of some, or between
-blocks too, with an order that shows it. The last draws how blocks lead from one configuration to the next, with a
+blocks too, with an order that shows it. The seventh says before a search how large it can be. The last draws how blocks lead from one configuration to the next, with a
 second outline for each outcome. A line `outcome 2 c1,c0` begins the second result: the block of client 1, bob, first,
 then that of client 0, ann. Below it stand the objects at the end, and each client with its variables. Configurations,
 which the last line counts, are where the script can stand between two blocks."
@@ -145,6 +149,12 @@ pub const LIMIT: &str =
 
 pub const ENDS: &str =
     "The ends alone, each once, without orders and numbers, in the order of their texts";
+
+pub const ESTIMATE: &str =
+    "Says how many configurations there can be, before any search: at most so many, and with --throughout at least so many";
+
+pub const TIMES: &str =
+    "Runs the script so many times, 1 to 100000, and counts how often each end came; not with --counts, and as text or JSON";
 
 pub const ALWAYS: &str =
     "Answers whether a condition holds of all ends, and stops at the first where it does not: sums of numbers, of variables as bob.x, and of queries as a.balance(), that are compared by ==, !=, <, <=, > or >=, joined by &&, || and !, with parentheses";

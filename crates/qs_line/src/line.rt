@@ -4,10 +4,11 @@ ghost use Rattle.std.specs.Prelude.{◌≡◌, [], IfOk, IfErr, map, option_and_
 ghost use Rattle.clap.specs.Words.{found_of, kind_of, rows_of, subcommand_of, subcommand_rows_of};
 ghost use Rattle.clap.specs.Faults.{fault_of};
 ghost use Rattle.qs_line.specs.Command.{qs_app};
-ghost use Rattle.qs_line.specs.Line.{IsAnswer, IsFault, IsFaultAmong, ask_at, check_at, chunk_at, claim_at, claim_in, has_claim, list_at, flag_at, format_at, front_at, graph_at, graph_format_at, is_verbose_in, is_verbose_met, limit_at, line_in, mode_at, outcomes_at, outcomes_format_at, plan_of, play_at, report_format_at, request_at, request_met, request_of, rules_at, run_at, style_at, styled_plan, can_tell, warns_in, warns_met};
+ghost use Rattle.qs_line.specs.Line.{IsAnswer, IsFault, IsFaultAmong, answer_or_list_at, ask_at, check_at, chunk_at, claim_at, claim_in, estimate_at, has_claim, has_times, list_at, flag_at, format_at, front_at, graph_at, graph_format_at, is_verbose_in, is_verbose_met, limit_at, line_in, mode_at, outcomes_at, outcomes_format_at, plan_of, play_at, report_format_at, request_at, request_met, request_of, rules_at, run_at, single_run_at, style_at, styled_plan, can_tell, tally_at, times_at, warns_in, warns_met};
 
 use crate::command::command;
 use crate::found::text_at;
+use crate::limits::MOST_TIMES;
 use crate::parts::Part;
 use crate::plan::{Plan, given_plan};
 use crate::reading::clients_in;
@@ -142,6 +143,17 @@ pub enum Settings {
         /// How many commands a chunk takes.
         chunk: ChunkSize,
     },
+    /// Check it, run it on threads many times, and count how often each end came.
+    Tally {
+        /// How the counts are written.
+        format: Format,
+        /// Which synchronisations are left out.
+        mode: Mode,
+        /// How many commands a chunk takes.
+        chunk: ChunkSize,
+        /// How many times it is run.
+        times: u32,
+    },
     /// Check it, and answer whether a condition holds of all ends, of some, or throughout.
     Ask {
         /// The condition, and of what it is to hold.
@@ -150,6 +162,13 @@ pub enum Settings {
         format: Format,
         /// How many configurations are looked at, at most.
         limit: u32,
+        /// Whose blocks were run before.
+        front: Vec<Part>,
+    },
+    /// Check it, and say how many configurations there can be.
+    Estimate {
+        /// How the numbers are written.
+        format: Format,
         /// Whose blocks were run before.
         front: Vec<Part>,
     },
@@ -191,7 +210,9 @@ impl Settings {
             Settings::Rules { style, .. } => style.refusals(),
             Settings::Play { style, .. } => style.refusals(),
             Settings::Run { style, .. } => style.refusals(),
+            Settings::Tally { format, .. } => *format,
             Settings::Ask { format, .. } => *format,
+            Settings::Estimate { format, .. } => *format,
             Settings::Outcomes { format, .. } => format.refusals(),
         }
     }
@@ -331,6 +352,28 @@ fn limit_of(found: &ArgMatches<'_>) -> Option<u32>
     if limit == 0 { None } else { Some(limit) }
 }
 
+// The number of runs of a line.
+fn times_of(found: &ArgMatches<'_>) -> Option<u32>
+    ensures times { result ≡ times_at (rows_of (found_of found.now)) }
+{
+    let times = text_at(found, "times")?.parse::<u32>().ok()?;
+    if times == 0 {
+        return None;
+    }
+    if times > MOST_TIMES {
+        None
+    } else {
+        Some(times)
+    }
+}
+
+// Whether the line has a number of runs.
+fn has_times(found: &ArgMatches<'_>) -> bool
+    ensures has { result ≡ has_times (rows_of (found_of found.now)) }
+{
+    text_at(found, "times").is_some()
+}
+
 // The clients after whose blocks outcomes are asked for; nobody where the line has no list of them.
 fn given_front(alloc: Global, found: &ArgMatches<'_>) -> Result<Option<Vec<Part>>, AllocError>
     ensures front { IfOk result (λ front. option_map (λ list. list.items) front ≡ front_at (rows_of (found_of found.now))) }
@@ -385,13 +428,44 @@ fn play_settings(alloc: Global, found: &ArgMatches<'_>) -> Result<Option<Setting
     }
 }
 
-fn run_settings(found: &ArgMatches<'_>) -> Option<Settings>
-    ensures settings { option_map request_of result ≡ run_at (rows_of (found_of found.now)) }
+// Many runs, whose ends are counted. No synchronisations are shown of them.
+fn tally_settings(found: &ArgMatches<'_>) -> Option<Settings>
+    ensures settings { option_map request_of result ≡ tally_at (rows_of (found_of found.now)) }
+{
+    if has_flag(found, "counts") {
+        return None;
+    }
+    let format = format_of(found)?;
+    let mode = mode_of(found)?;
+    let chunk = chunk_of(found)?;
+    let times = times_of(found)?;
+    Some(Settings::Tally {
+        format,
+        mode,
+        chunk,
+        times,
+    })
+}
+
+// A single run.
+fn single_run_settings(found: &ArgMatches<'_>) -> Option<Settings>
+    ensures settings { option_map request_of result ≡ single_run_at (rows_of (found_of found.now)) }
 {
     let style = style_of(found)?;
     let mode = mode_of(found)?;
     let chunk = chunk_of(found)?;
     Some(Settings::Run { style, mode, chunk })
+}
+
+// A single run, or many where the line has a number of them.
+fn run_settings(found: &ArgMatches<'_>) -> Option<Settings>
+    ensures settings { option_map request_of result ≡ run_at (rows_of (found_of found.now)) }
+{
+    if has_times(found) {
+        tally_settings(found)
+    } else {
+        single_run_settings(found)
+    }
 }
 
 // The claim of a text: None where it is no condition.
@@ -473,13 +547,37 @@ fn list_settings(alloc: Global, found: &ArgMatches<'_>) -> Result<Option<Setting
 }
 
 // All outcomes, or the answer to a condition where the line has one.
-fn outcomes_settings(alloc: Global, found: &ArgMatches<'_>) -> Result<Option<Settings>, AllocError>
-    ensures settings { IfOk result (λ settings. option_map request_of settings ≡ outcomes_at (rows_of (found_of found.now))) }
+fn answer_or_list(alloc: Global, found: &ArgMatches<'_>) -> Result<Option<Settings>, AllocError>
+    ensures settings { IfOk result (λ settings. option_map request_of settings ≡ answer_or_list_at (rows_of (found_of found.now))) }
 {
     if has_claim(found) {
         ask_settings(alloc, found)
     } else {
         list_settings(alloc, found)
+    }
+}
+
+// An estimate, which stands beside no condition, and lists no ends.
+fn estimate_settings(alloc: Global, found: &ArgMatches<'_>) -> Result<Option<Settings>, AllocError>
+    ensures settings { IfOk result (λ settings. option_map request_of settings ≡ estimate_at (rows_of (found_of found.now))) }
+{
+    if has_claim(found) || has_flag(found, "ends") {
+        return Ok(None);
+    }
+    let (Some(format), Some(front)) = (format_of(found), given_front(alloc, found)?) else {
+        return Ok(None);
+    };
+    Ok(Some(Settings::Estimate { format, front }))
+}
+
+// An estimate where the line asks for one; else all outcomes, or the answer to a condition.
+fn outcomes_settings(alloc: Global, found: &ArgMatches<'_>) -> Result<Option<Settings>, AllocError>
+    ensures settings { IfOk result (λ settings. option_map request_of settings ≡ outcomes_at (rows_of (found_of found.now))) }
+{
+    if has_flag(found, "estimate") {
+        estimate_settings(alloc, found)
+    } else {
+        answer_or_list(alloc, found)
     }
 }
 
@@ -544,8 +642,9 @@ fn matches_of<'a>(alloc: Global, words: &'a [&'a str]) -> Result<ArgMatches<'a>,
 /// The settings of a line, whose first word is the program's name: those that `clap` finds, and its defaults. `Refused`
 /// comes exactly where `clap` refuses the words by an error, where a format, a mode, a number or a list does not read,
 /// where an order stands beside picks or a number of rounds, where a condition does not read or stands beside another one
-/// or beside `--ends`, or where steps or queues are asked for of an order or beside a report that is no text; `Help` and `Version` come exactly where it answers with help or with the version.
-/// `Memory` may come in place of each.
+/// or beside `--ends`, where an estimate stands beside a condition or beside `--ends`, where a number of runs stands
+/// beside `--counts`, or where steps or queues are asked for of an order or beside a report that is no text; `Help` and
+/// `Version` come exactly where it answers with help or with the version. `Memory` may come in place of each.
 pub fn read_line<'a>(alloc: Global, words: &'a [&'a str]) -> Result<Settings, LineFault>
     ensures line { IsAnswer (line_in (map (λ word. word.now) words.entry.now)) result }
 {

@@ -4,6 +4,8 @@ pub mod GraphText
 pub mod OutcomesText
 pub mod EndsText
 pub mod AnswerText
+pub mod TallyText
+pub mod EstimateText
 pub mod Faults
 -- What crates promise one another, what proofs use, and worked examples.
 pub mod Lines
@@ -12,3 +14,5 @@ pub mod GraphTextExamples
 pub mod OutcomesTextExamples
 pub mod EndsTextExamples
 pub mod AnswerTextExamples
+pub mod TallyTextExamples
+pub mod EstimateTextExamples

@@ -3,11 +3,13 @@
 ghost use Rattle.qs_report.specs.AnswerTextExamples.{AnswerTextExamples};
 ghost use Rattle.qs_report.specs.EndsText.{EndsTextsAreUnique};
 ghost use Rattle.qs_report.specs.EndsTextExamples.{EndsTextExamples};
+ghost use Rattle.qs_report.specs.EstimateTextExamples.{EstimateTextExamples};
 ghost use Rattle.qs_report.specs.Examples.{Examples};
 ghost use Rattle.qs_report.specs.GraphText.{GraphTextsAreUnique};
 ghost use Rattle.qs_report.specs.GraphTextExamples.{GraphTextExamples};
 ghost use Rattle.qs_report.specs.OutcomesText.{OutcomesTextsAreUnique};
 ghost use Rattle.qs_report.specs.OutcomesTextExamples.{OutcomesTextExamples};
+ghost use Rattle.qs_report.specs.TallyTextExamples.{TallyTextExamples};
 
 /// The texts of a few runs, programs and faults, worked out by hand.
 pub fn examples()
@@ -47,4 +49,14 @@ pub fn ends_texts_are_unique()
 /// The texts of a few answers, worked out by hand; it does nothing.
 pub fn answer_text_examples()
     ensures examples { AnswerTextExamples }
+{}
+
+/// The texts of a few tallies, worked out by hand; it does nothing.
+pub fn tally_text_examples()
+    ensures examples { TallyTextExamples }
+{}
+
+/// The texts of two estimates, worked out by hand; it does nothing.
+pub fn estimate_text_examples()
+    ensures examples { EstimateTextExamples }
 {}

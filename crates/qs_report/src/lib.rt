@@ -4,6 +4,7 @@
 mod answers;
 mod counts;
 mod ends;
+mod estimates;
 mod faults;
 mod graphs;
 pub mod laws;
@@ -11,12 +12,15 @@ mod lines;
 mod outcomes;
 mod runs;
 mod states;
+mod tallies;
 mod tickets;
 
 pub use answers::{answer_text, is_yes};
 pub use counts::check_text;
 pub use ends::ends_text;
+pub use estimates::estimate_text;
 pub use faults::{Fault, fault_line, fault_line_watched, place_of, status, words_of};
 pub use graphs::graph_text;
 pub use outcomes::{outcome_at, outcomes_text};
 pub use runs::{report, report_counts, report_run, report_run_counts};
+pub use tallies::{came, end_at, tally_text};

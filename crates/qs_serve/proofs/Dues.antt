@@ -1,7 +1,7 @@
 -- Out of memory is always a due answer, the status 4 is due only after a read has failed, the status 0 only with a
 -- text, and the report of a run is due where the line asked for that run. The function `serve` and those that find what
 -- is due stand on it. Each goes by cases on what the line asks for and on the answer.
-use Rattle.std.proofs.Common.{◌≡◌, ◌≤◌, ◌⊎◌, ◌||◌, if◌then◌else◌, ℕ, Bool, List, [], ◌∙◌, Option, Some, None, Result, Ok, true, false, refl, sym, subst, inl, inr, IsOkAnd}
+use Rattle.std.proofs.Common.{◌≡◌, ◌≤◌, ◌⊎◌, ◌||◌, if◌then◌else◌, ℕ, Bool, List, [], ◌∷◌, ◌∙◌, Option, Some, None, Result, Ok, true, false, refl, sym, subst, inl, inr, IsOkAnd}
 use Rattle.std.proofs.lemmas.List.{append-nil}
 use Rattle.qs_played.specs.Played.{Played}
 use Rattle.qs_report.specs.declared.faults.Fault.{Fault}
@@ -27,10 +27,11 @@ use Rattle.qs_line.specs.declared.line.Format.TheVariants as format
 use Rattle.qs_line.specs.declared.line.OutcomesFormat.{OutcomesFormat}
 use Rattle.qs_line.specs.declared.line.GraphFormat.TheVariants as graph_format
 use Rattle.qs_line.specs.declared.line.ReportStyle.{ReportStyle}
-use Rattle.qs_line.specs.Line.{Line, Request, ask, asks, check, graph, help, outcomes, play, refused, rules, run, version}
+use Rattle.qs_line.specs.Line.{Line, Request, ask, asks, check, estimate, graph, help, outcomes, play, refused, rules, run, tally, version}
 use Rattle.qs_conditions.specs.declared.claim.Claim.{Claim}
 use Rattle.qs_outcomes.specs.Answers.{AnswerShape}
 use Rattle.std.specs.Prelude.{IfSome}
+use Rattle.std.specs.List.{AllByRecursion}
 use Rattle.qs_objects.specs.declared.held.Ticket.{Ticket}
 use Rattle.qs_meaning.specs.Configurations.{OrderOutcome}
 use Rattle.qs_meaning.specs.Serial.{IsLegal}
@@ -44,7 +45,12 @@ use Rattle.qs_questions.specs.Claims.{HasMoreFor, IsAnswerBy, IsAnswerTo}
 use Rattle.qs_questions.specs.Questions.{first_unknown_in}
 use Rattle.qs_report.specs.AnswerText.{IsAnswerText, is_yes}
 use Rattle.qs_json.specs.AnswerJson.{IsAnswerJson}
-use Rattle.qs_serve.specs.Due.{AreLinesFor, AreLinesWhere, IsAnswerAfterDue, IsAnswerTextTo, IsAnswered, IsDue, IsDueAfter, answer_in, IsDueOfProgram, IsListOf, IsOutOfMemory, IsRefusedBy, IsReportBetween, IsReportOf, IsSomeText, IsTextBy, IsTextOfOutcomes, Lines, IsUnanswered, IsUnlisted, due_status, limit_in, listed_as, IsTextOfList, report_by, told_report}
+use Rattle.qs_estimate.specs.Estimates.{IsEstimateAfter}
+use Rattle.qs_estimate.specs.declared.estimate.Estimate.{Estimate}
+use Rattle.qs_repeats.specs.Repeats.{IsTallyBy}
+use Rattle.qs_tally.specs.Tallies.{CountedShape, IsEnd, TallyShape, standings_in}
+use Rattle.qs_syncset.specs.declared.mode.Mode.{Mode}
+use Rattle.qs_serve.specs.Due.{AreLinesFor, AreLinesWhere, IsAnswerAfterDue, IsAnswerTextTo, IsAnswered, IsCounted, IsDue, IsDueAfter, IsEstimateText, IsEstimated, answer_in, most_numbered, IsDueOfProgram, IsListOf, IsOutOfMemory, IsRefusedBy, IsReportBetween, IsReportOf, IsSomeText, IsTextBy, IsTextOfOutcomes, Lines, IsUnanswered, IsUnlisted, due_status, limit_in, listed_as, IsTextOfList, report_by, told_report}
 use Rattle.qs_serve.specs.declared.due.Due.{Due}
 use Rattle.qs_serve.specs.declared.due.Due.TheVariants.{Text, No, Refused}
 
@@ -264,6 +270,44 @@ due_by_claim how p claim limit front clients (Refused (fault.Play f)) known name
 due_by_claim how p claim limit front clients (Refused (fault.Order f)) known named is = absurd is
 due_by_claim how p claim limit front clients (Refused (fault.Run f)) known named is = absurd is
 
+-- each end of a tally has its places
+places_of : (p : ProgramShape) (ends : List CountedShape) → AllByRecursion (IsEnd p) (standings_in ends)
+    → AllByRecursion (λ (e : CountedShape). HasPlaces p e.standing) ends
+places_of p [] are = tt
+places_of p (e ∷ ends) are = (are.0.places, places_of p ends are.1)
+
+pub tally_places : (p : ProgramShape) (mode : Mode) (size times limit : ℕ) (t : TallyShape) → IsTallyBy p mode size times limit t
+    → AllByRecursion (λ (e : CountedShape). HasPlaces p e.standing) t.ends
+tally_places p mode size times limit t is = places_of p t.ends is.counted.sound
+
+-- a tally that is due by what was asked for
+pub due_by_tally : (how : Format) (mode : Mode) (size times : ℕ) (p : ProgramShape) (t : TallyShape) (due : Due)
+    → IsTallyBy p mode size times most_numbered t → IsCounted how p times t due
+    → IsOutOfMemory due ⊎ IsDueOfProgram (tally how mode size times) [] p due
+due_by_tally how mode size times p t (Text bytes) are is = inr (t, are, is)
+due_by_tally how mode size times p t (No bytes) are is = absurd is
+due_by_tally how mode size times p t (Refused f) are is = inl (subst (λ g. IsOutOfMemory (Refused g)) (sym is) tt)
+
+pub tally_is_no_input : (how : Format) (p : ProgramShape) (times : ℕ) (t : TallyShape) (due : Due) → IsCounted how p times t due
+    → ¬ IsRefusedBy fault.Input due
+tally_is_no_input how p times t (Text bytes) is = λ none. none
+tally_is_no_input how p times t (No bytes) is = λ none. none
+tally_is_no_input how p times t (Refused f) is = λ e. absurd (cc (is, e))
+
+-- an estimate that is due by what was asked for
+pub due_by_estimate : (how : Format) (p : ProgramShape) (front : List Part) (clients : List ℕ) (e : Estimate) (due : Due)
+    → clients_of p front ≡ Ok clients → IsEstimateAfter p (order_of clients) e → IsEstimated how e due
+    → IsOutOfMemory due ⊎ IsDueOfProgram (estimate how front) [] p due
+due_by_estimate how p front clients e (Text bytes) named are is =
+    inr (of_named (λ xs. IsEstimateText how p xs bytes.items) (clients_of p front) clients named (e, are, is))
+due_by_estimate how p front clients e (No bytes) named are is = absurd is
+due_by_estimate how p front clients e (Refused f) named are is = inl (subst (λ g. IsOutOfMemory (Refused g)) (sym is) tt)
+
+pub estimate_is_no_input : (how : Format) (e : Estimate) (due : Due) → IsEstimated how e due → ¬ IsRefusedBy fault.Input due
+estimate_is_no_input how e (Text bytes) is = λ none. none
+estimate_is_no_input how e (No bytes) is = λ none. none
+estimate_is_no_input how e (Refused f) is = λ clash. absurd (cc (is, clash))
+
 -- a text that has no lines in it is due with any lines
 any_text : (request : Request) (found lines : Lines) (p : ProgramShape) (text : List ℕ) → AreLinesFor request found lines → IsTextBy request found p text
     → IsTextBy request lines p text
@@ -274,7 +318,9 @@ any_text (graph graph_format.Dot) found lines p text are is = subst (λ xs. IsTe
 any_text (rules style plan) found lines p text are is = is
 any_text (play style mode size plan) found lines p text are is = is
 any_text (run style mode size) found lines p text are is = is
+any_text (tally how mode size times) found lines p text are is = is
 any_text (ask claim how limit front) found lines p text are is = is
+any_text (estimate how front) found lines p text are is = is
 any_text (outcomes how limit front) found lines p text are is = is
 
 -- what is due with the lines that were found is due with these

@@ -26,6 +26,8 @@ use Rattle.qs_outcomes.specs.Answers.{AnswerShape}
 use Rattle.qs_questions.specs.Claims.{HasMoreFor}
 use Rattle.qs_questions.specs.Questions.{first_unknown_in}
 use Rattle.qs_json.specs.AnswerJson.{IsAnswerJson, json_of_answer}
+use Rattle.qs_json.specs.EstimateJson.{estimate_json}
+use Rattle.qs_json.specs.TallyJson.{tally_json}
 use Rattle.qs_json.specs.FaultJson.{fault_json}
 use Rattle.qs_json.specs.GraphJson.{IsGraphJson}
 use Rattle.qs_json.specs.EndsJson.{IsEndsJson, ends_json}
@@ -33,6 +35,12 @@ use Rattle.qs_json.specs.OutcomesJson.{IsOutcomesJson, listed_json}
 use Rattle.qs_json.specs.RunJson.{counts_json, run_json}
 use Rattle.qs_report.specs.AnswerText.{IsAnswerText, is_yes, text_of_answer}
 use Rattle.qs_report.specs.EndsText.{IsEndsText, end_texts}
+use Rattle.qs_report.specs.EstimateText.{estimate_text}
+use Rattle.qs_report.specs.TallyText.{tally_text}
+use Rattle.qs_estimate.specs.Estimates.{IsEstimateAfter}
+use Rattle.qs_estimate.specs.declared.estimate.Estimate.{Estimate}
+use Rattle.qs_repeats.specs.Repeats.{IsTallyBy}
+use Rattle.qs_tally.specs.Tallies.{TallyShape}
 use Rattle.qs_report.specs.OutcomesText.{IsOutcomesText, listed_text}
 use Rattle.qs_text.specs.SortedTexts.{IsInOrder}
 use Rattle.qs_text.specs.Texts.{AppendsFront}
@@ -72,7 +80,7 @@ use Rattle.qs_line.specs.declared.line.LineFault.{LineFault}
 use Rattle.qs_line.specs.declared.line.LineFault.TheVariants as line_fault
 use Rattle.qs_line.specs.declared.line.ReportStyle.{ReportStyle}
 use Rattle.qs_line.specs.declared.line.Settings.{Settings}
-use Rattle.qs_line.specs.Line.{Line, PlanShape, Request, ask, asks, by_order, by_schedule, check, format_by, format_of_request, graph, help, line_in, outcomes, play, refused, request_of, rules, run, version}
+use Rattle.qs_line.specs.Line.{Line, PlanShape, Request, ask, asks, by_order, by_schedule, check, estimate, format_by, format_of_request, graph, help, line_in, outcomes, play, refused, request_of, rules, run, tally, version}
 use Rattle.qs_serve.specs.Reading.{Reading}
 use Rattle.qs_serve.specs.declared.due.Due.{Due}
 use Rattle.qs_serve.specs.declared.due.Due.TheVariants.{Text, No, Refused}
@@ -177,6 +185,37 @@ IsAnswered how p q a (Text bytes) = (is_yes q a ≡ true) × (bytes.items ≡ an
 IsAnswered how p q a (No bytes) = (is_yes q a ≡ false) × (bytes.items ≡ answer_in how p q a)
 IsAnswered how p q a (Refused f) = f ≡ fault.Memory
 
+-- a tally of so many runs, as text or as JSON
+abbrev pub tally_in : Format → ProgramShape → (runs : ℕ) → TallyShape → List ℕ
+tally_in format.Text p runs t = tally_text p runs t
+tally_in format.Json p runs t = tally_json p runs t
+
+-- this tally; or that an allocation failed
+abbrev pub IsCounted : Format → ProgramShape → (runs : ℕ) → TallyShape → Due → Type 0
+IsCounted how p runs t (Text bytes) = bytes.items ≡ tally_in how p runs t
+IsCounted how p runs t (No bytes) = ⊥
+IsCounted how p runs t (Refused f) = f ≡ fault.Memory
+
+-- the ends of many runs have the numbers of outcomes, where there are no more configurations than these
+abbrev pub most_numbered : ℕ
+most_numbered = 1000000
+
+-- an estimate, as text or as JSON
+abbrev pub estimate_in : Format → Estimate → List ℕ
+estimate_in format.Text e = estimate_text e
+estimate_in format.Json e = estimate_json e
+
+-- this estimate; or that an allocation failed
+abbrev pub IsEstimated : Format → Estimate → Due → Type 0
+IsEstimated how e (Text bytes) = bytes.items ≡ estimate_in how e
+IsEstimated how e (No bytes) = ⊥
+IsEstimated how e (Refused f) = f ≡ fault.Memory
+
+-- an estimate of how many configurations there can be after the blocks of some clients
+abbrev pub IsEstimateText : Format → ProgramShape → (clients : List ℕ) → List ℕ → Type 0
+IsEstimateText how p clients text =
+    (e : Estimate) × IsEstimateAfter p (order_of clients) e × (text ≡ estimate_in how e)
+
 -- after as many rounds as a line plays by default, 1,000,000, a run has finished, whatever was picked before them
 abbrev pub FinishesByDefault : (rounds : ℕ) → Played → Type 0
 FinishesByDefault rounds played = rounds ≡ most_rounds → played.finished ≡ true
@@ -268,10 +307,11 @@ IsAnswerBy (ask claim how limit front) p holds text =
 IsAnswerBy _ p holds text = ⊥
 
 -- what a request makes of a program: its counts; its graphs; the report of its run by the plain rules or in the
--- optimised machine; that of an outcome which its run on threads may have; or, after the blocks of some clients and of so
--- many configurations at most, that a claim holds, or all its outcomes. Each is written in the format that is asked for, and a report with the
--- counts of synchronisations where they are asked for, after a line for each step where these are, and before what lies
--- where at the end of a run that has not finished.
+-- optimised machine; that of an outcome which its run on threads may have, or how often each end came in so many of
+-- these; after the blocks of some clients, how many configurations there can be; or, after these and of so many
+-- configurations at most, that a claim holds, or all its outcomes. Each is written in the format that is asked for, and
+-- a report with the counts of synchronisations where they are asked for, after a line for each step where these are,
+-- and before what lies where at the end of a run that has not finished.
 abbrev pub IsTextBy : Request → Lines → ProgramShape → List ℕ → Type 0
 IsTextBy (check how) lines p text = text ≡ counts_by_format how p
 IsTextBy (graph how) lines p text = IsTextOfGraphs how lines p text
@@ -287,6 +327,10 @@ IsTextBy (play style mode size plan) lines p text =
     × (text ≡ told_report steps queues (report_by style p played))
 IsTextBy (run style mode size) lines p text =
     (outcome : Played) × IsOutcome p mode size outcome × (text ≡ report_by style p outcome)
+IsTextBy (tally how mode size times) lines p text =
+    (t : TallyShape) × IsTallyBy p mode size times most_numbered t × (text ≡ tally_in how p times t)
+IsTextBy (estimate how front) lines p text =
+    IsOkAnd (clients_of p front) (λ clients. IsEstimateText how p clients text)
 IsTextBy (ask claim how limit front) lines p text = IsAnswerBy (ask claim how limit front) p true text
 IsTextBy (outcomes how limit front) lines p text =
     IsOkAnd (clients_of p front) (λ clients. IsTextOfOutcomes how p limit clients text)
@@ -302,6 +346,7 @@ IsUnnamedBy (rules style plan) p = IsUnnamed plan p
 IsUnnamedBy (play style mode size plan) p = IsUnnamed plan p
 IsUnnamedBy (ask claim how limit front) p =
     (¬ (first_unknown_in p claim.condition ≡ None)) ⊎ IsErr (clients_of p front)
+IsUnnamedBy (estimate how front) p = IsErr (clients_of p front)
 IsUnnamedBy (outcomes how limit front) p = IsErr (clients_of p front)
 IsUnnamedBy _ p = ⊥
 
@@ -333,6 +378,7 @@ IsUnorderedBy _ p f = ⊥
 -- a run on threads is asked for; it may want memory or threads on any program
 abbrev pub IsRun : Request → Type 0
 IsRun (run style mode size) = Unit {0}
+IsRun (tally how mode size times) = Unit {0}
 IsRun _ = ⊥
 
 -- why outcomes after the blocks of some clients are not listed: there are more configurations than the limit, the
@@ -348,10 +394,15 @@ IsUnanswered p q limit clients outcomes_fault.Limit = HasMoreFor q p (order_of c
 IsUnanswered p q limit clients outcomes_fault.Order = ¬ IsLegal p (order_of clients)
 IsUnanswered p q limit clients outcomes_fault.Memory = Unit {0}
 
+-- why there is no estimate after the blocks of some clients: they name no legal order
+abbrev pub IsUnestimated : ProgramShape → List ℕ → OutcomesFault → Type 0
+IsUnestimated p clients f = (f ≡ outcomes_fault.Order) × (¬ IsLegal p (order_of clients))
+
 -- why outcomes that a request asks for are not listed
 abbrev pub IsUnlistedBy : Request → ProgramShape → OutcomesFault → Type 0
 IsUnlistedBy (ask claim how limit front) p f =
     IsOkAnd (clients_of p front) (λ clients. IsUnanswered p claim.quantifier limit clients f)
+IsUnlistedBy (estimate how front) p f = IsOkAnd (clients_of p front) (λ clients. IsUnestimated p clients f)
 IsUnlistedBy (outcomes how limit front) p f =
     IsOkAnd (clients_of p front) (λ clients. IsUnlisted p (limit_in how limit) clients f)
 IsUnlistedBy _ p f = ⊥
@@ -402,7 +453,9 @@ AreLinesFor (check how) found lines = ⊤
 AreLinesFor (rules style plan) found lines = ⊤
 AreLinesFor (play style mode size plan) found lines = ⊤
 AreLinesFor (run style mode size) found lines = ⊤
+AreLinesFor (tally how mode size times) found lines = ⊤
 AreLinesFor (ask claim how limit front) found lines = ⊤
+AreLinesFor (estimate how front) found lines = ⊤
 AreLinesFor (outcomes how limit front) found lines = ⊤
 
 -- what a request makes of a text: the result of its program, or the fault of the text, of its script, of the list whose

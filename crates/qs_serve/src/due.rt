@@ -11,9 +11,11 @@ ghost use Rattle.qs_script.specs.Reads.{IsReadOf, IsScriptText};
 ghost use Rattle.std.specs.List.{AllByRecursion};
 ghost use Rattle.qs_outcomes.specs.Outcomes.{HasPlaces};
 
+use crate::estimates::due_of_estimate;
 use crate::input::{Counted, InputFault, gather};
 use crate::plays::{due_of_play, due_of_rules};
 use crate::reports::due_of_outcome;
+use crate::tallies::due_of_tally;
 use qs_check::{CheckFault, Program, check};
 use qs_chunk::ChunkSize;
 use qs_conditions::{Claim, Quantifier};
@@ -284,8 +286,8 @@ fn due_of_outcomes<P: Watcher>(
     }
 }
 
-// What settings make of a program: a run by the plain rules, in the optimised machine or on threads, the answer to a
-// claim, all outcomes, the counts, or the graphs.
+// What settings make of a program: a run by the plain rules, in the optimised machine or on threads, a tally of many
+// runs, an estimate, the answer to a claim, all outcomes, the counts, or the graphs.
 fn due_of_program<T: Threads + Wait + Sync, P: Watcher>(
     rt: &T,
     alloc: Global,
@@ -307,6 +309,15 @@ fn due_of_program<T: Threads + Wait + Sync, P: Watcher>(
         } => due_of_play(alloc, program, *style, *mode, *chunk, plan),
         Settings::Run { style, mode, chunk } => {
             due_of_run(rt, alloc, program, *style, *mode, *chunk, &mut FreeStart)
+        }
+        Settings::Tally {
+            format,
+            mode,
+            chunk,
+            times,
+        } => due_of_tally(rt, alloc, program, *format, *mode, *chunk, *times),
+        Settings::Estimate { format, front } => {
+            due_of_estimate(alloc, program, *format, front.as_slice())
         }
         Settings::Ask {
             claim,

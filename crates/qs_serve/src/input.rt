@@ -5,7 +5,7 @@ ghost use Rattle.std.specs.Io.KnownBytes.{Consumes, IsAtEnd};
 ghost use Rattle.qs_serve.specs.Input.{IsReadOn, is_read_fault};
 
 use std::alloc::{AllocError, Global};
-use std::io::Read;
+use std::io::{self, Read};
 use std::marker::Model;
 
 /// A reader that is reached by its counted reads alone. Contracts see the bytes that are left, how many reads were
@@ -15,6 +15,7 @@ pub struct Counted<R: Read> {
     inner: R,
     reads: u64,
     has_failed: bool,
+    why: Option<io::Error>,
 }
 
 impl<R: Read> Model for Counted<R> {
@@ -36,7 +37,13 @@ impl<R: Read> Counted<R> {
             inner,
             reads: 0,
             has_failed: false,
+            why: None,
         }
+    }
+
+    /// Why the last read that failed did, in the system's words; None where none has failed.
+    pub fn why(&self) -> Option<&io::Error> {
+        self.why.as_ref()
     }
 
     // One read, into `buf` after `at`: how many bytes it gave, 0 only at the end. None where it fails.
@@ -52,8 +59,9 @@ impl<R: Read> Counted<R> {
         self.reads = self.reads.saturating_add(1);
         match self.inner.read(&mut buf[at..]) {
             Ok(n) => Some(n),
-            Err(_) => {
+            Err(error) => {
                 self.has_failed = true;
+                self.why = Some(error);
                 None
             }
         }

@@ -4,6 +4,7 @@
 mod beside;
 mod condition_words;
 mod due;
+mod estimates;
 mod input;
 mod limit_words;
 mod line_words;
@@ -15,6 +16,7 @@ mod plays;
 mod progress;
 mod reports;
 mod serving;
+mod tallies;
 mod telling;
 mod warning_words;
 

@@ -41,49 +41,167 @@ fn names_file<'a>(words: &'a [&'a str]) -> bool {
     false
 }
 
-// Puts what is wrong with the values of the line: the mode, an order beside a schedule, the rounds, a list or a
-// condition.
+// Puts what is wrong with the line: two settings that do not stand together, a format that the word or another setting
+// does not have, or a value that does not read.
 fn put_value<'a>(alloc: Global, out: &mut Vec<u8>, words: &'a [&'a str]) -> Result<(), AllocError> {
+    put_apart(out, words)?;
+    if out.is_empty() {
+        put_format(out, words)?;
+    }
+    if out.is_empty() {
+        put_numbers(out, words)?;
+    }
+    if out.is_empty() {
+        put_list(out, words, "--pick", true)?;
+        put_list(out, words, "--order", false)?;
+        put_list(out, words, "--after", false)?;
+    }
+    if out.is_empty() {
+        for setting in CLAIMS {
+            put_condition(alloc, out, words, setting)?;
+        }
+    }
+    Ok(())
+}
+
+// Whether a setting stands on the line.
+fn stands<'a>(words: &'a [&'a str], setting: &str) -> bool {
+    words.contains(&setting) || value_after(words, setting).is_some()
+}
+
+// A setting as the help shows it: with the name of its value, where it has one.
+fn shown(setting: &str) -> &'static str {
+    match setting {
+        "--always" => "--always <COND>",
+        "--some" => "--some <COND>",
+        "--throughout" => "--throughout <COND>",
+        "--order" => "--order <LIST>",
+        "--pick" => "--pick <LIST>",
+        "--rounds" => "--rounds <N>",
+        "--times" => "--times <N>",
+        "--counts" => "--counts",
+        "--steps" => "--steps",
+        "--queues" => "--queues",
+        "--ends" => "--ends",
+        "--estimate" => "--estimate",
+        _ => "--format <F>",
+    }
+}
+
+// Settings that do not stand together.
+const APART: [(&str, &str); 15] = [
+    ("--order", "--pick"),
+    ("--order", "--rounds"),
+    ("--order", "--steps"),
+    ("--order", "--queues"),
+    ("--times", "--counts"),
+    ("--estimate", "--ends"),
+    ("--estimate", "--always"),
+    ("--estimate", "--some"),
+    ("--estimate", "--throughout"),
+    ("--always", "--ends"),
+    ("--some", "--ends"),
+    ("--throughout", "--ends"),
+    ("--always", "--some"),
+    ("--always", "--throughout"),
+    ("--some", "--throughout"),
+];
+
+// Puts the first two settings of the line that do not stand together.
+fn put_apart<'a>(out: &mut Vec<u8>, words: &'a [&'a str]) -> Result<(), AllocError> {
+    for (one, other) in APART {
+        if stands(words, one) && stands(words, other) {
+            return put_beside(out, shown(one), shown(other));
+        }
+    }
+    Ok(())
+}
+
+fn put_beside(out: &mut Vec<u8>, one: &str, other: &str) -> Result<(), AllocError> {
+    put(out, b"error: the argument '")?;
+    put(out, one.as_bytes())?;
+    put(out, b"' cannot be used with '")?;
+    put(out, other.as_bytes())?;
+    put(out, b"'\n")
+}
+
+// The formats of a word, beside `text` and `json`.
+fn picture_of(word: &str) -> &'static str {
+    match word {
+        "graph" | "outcomes" => "dot",
+        "rules" | "play" | "run" => "svg",
+        _ => "",
+    }
+}
+
+// Settings whose text is no drawing and no picture, and those that stand beside a report as text alone.
+const UNDRAWN: [&str; 6] = [
+    "--ends",
+    "--estimate",
+    "--always",
+    "--some",
+    "--throughout",
+    "--times",
+];
+
+const BESIDE_TEXT: [&str; 2] = ["--steps", "--queues"];
+
+// Puts which format the word does not have, or which setting does not stand beside the format.
+fn put_format<'a>(out: &mut Vec<u8>, words: &'a [&'a str]) -> Result<(), AllocError> {
+    let (Some(format), Some(word)) = (value_after(words, "--format"), words.get(1)) else {
+        return Ok(());
+    };
+    let picture = picture_of(word);
+    if format != "text" && format != "json" && (picture.is_empty() || format != picture) {
+        return put_no_format(out, format, picture);
+    }
+    for setting in BESIDE_TEXT {
+        if format != "text" && stands(words, setting) {
+            return put_beside_format(out, setting, format);
+        }
+    }
+    for setting in UNDRAWN {
+        if format == picture && stands(words, setting) {
+            return put_beside_format(out, setting, format);
+        }
+    }
+    Ok(())
+}
+
+fn put_no_format(out: &mut Vec<u8>, format: &str, picture: &str) -> Result<(), AllocError> {
+    put_all(
+        out,
+        &[
+            b"error: there is no format '",
+            format.as_bytes(),
+            b"' for '--format <F>' here\n  [possible values: text, json",
+        ],
+    )?;
+    if !picture.is_empty() {
+        put_all(out, &[b", ", picture.as_bytes()])?;
+    }
+    put(out, b"]\n")
+}
+
+fn put_beside_format(out: &mut Vec<u8>, setting: &str, format: &str) -> Result<(), AllocError> {
+    put(out, b"error: the argument '")?;
+    put(out, shown(setting).as_bytes())?;
+    put(out, b"' cannot be used with '--format ")?;
+    put(out, format.as_bytes())?;
+    put(out, b"'\n")
+}
+
+// Puts which mode or which number of rounds does not read.
+fn put_numbers<'a>(out: &mut Vec<u8>, words: &'a [&'a str]) -> Result<(), AllocError> {
     if let Some(mode) = value_after(words, "--mode") {
         if !is_mode(mode) {
             return put_mode(out, mode);
-        }
-    }
-    if value_after(words, "--order").is_some() {
-        if value_after(words, "--pick").is_some() {
-            return put(out, BESIDE_PICKS);
-        }
-        if value_after(words, "--rounds").is_some() {
-            return put(out, BESIDE_ROUNDS);
         }
     }
     if let Some(rounds) = value_after(words, "--rounds") {
         if rounds.parse::<u32>().is_err() {
             return put_rounds(out, rounds);
         }
-    }
-    put_list(out, words, "--pick", true)?;
-    put_list(out, words, "--order", false)?;
-    put_list(out, words, "--after", false)?;
-    put_claim(alloc, out, words)
-}
-
-// Puts what is wrong with a condition of the line: another one or `--ends` stands beside it, or it does not read.
-fn put_claim<'a>(alloc: Global, out: &mut Vec<u8>, words: &'a [&'a str]) -> Result<(), AllocError> {
-    let mut conditions: u8 = 0;
-    for setting in CLAIMS {
-        if value_after(words, setting).is_some() {
-            conditions = conditions.saturating_add(1);
-        }
-    }
-    if conditions > 1 {
-        return put(out, TWO_CONDITIONS);
-    }
-    if conditions == 1 && words.contains(&"--ends") {
-        return put(out, BESIDE_ENDS);
-    }
-    for setting in CLAIMS {
-        put_condition(alloc, out, words, setting)?;
     }
     Ok(())
 }
@@ -114,19 +232,8 @@ fn put_rounds(out: &mut Vec<u8>, rounds: &str) -> Result<(), AllocError> {
     )
 }
 
-const BESIDE_PICKS: &[u8] =
-    b"error: the argument '--order <LIST>' cannot be used with '--pick <LIST>'\n";
-
-const BESIDE_ROUNDS: &[u8] =
-    b"error: the argument '--order <LIST>' cannot be used with '--rounds <N>'\n";
-
 /// The settings that take a condition.
 pub(crate) const CLAIMS: [&str; 3] = ["--always", "--some", "--throughout"];
-
-const TWO_CONDITIONS: &[u8] =
-    b"error: of '--always', '--some' and '--throughout' one may stand on the line\n";
-
-const BESIDE_ENDS: &[u8] = b"error: a condition is answered by yes or no; '--ends' lists ends\n";
 
 const NO_ACTOR: &[u8] =
     b"is no actor\n  = help: an actor is `c` or `h` and one digit, or `@` and a name, as in `@ann*2,h0`: twice the client ann, and then the handler of object 0\n";

@@ -13,42 +13,70 @@ use qs_outcomes::Watcher;
 use qs_text::{Watch, write_text};
 use std::alloc::Global;
 use std::io::{Read, Write};
+use std::rt::Files;
 use std::sync::Wait;
 use std::thread::Threads;
 use std::time::{Clock, Duration, Instant};
+use std::{fs, str};
 
 const LABEL: &[u8] = b"configurations ";
 
-// As wide as a line with the greatest number.
-const BLANK: &[u8] = b"                                   ";
+// As wide as a line with the greatest numbers.
+const BLANK: &[u8] = b"                                                            ";
+
+// Where the system says how many pages of memory the program has: of its addresses, and of what is in use.
+const PAGES: &str = "/proc/self/statm";
+
+// The bytes of a page.
+const PAGE: u64 = 4096;
 
 // Between two lines, in milliseconds.
 const BETWEEN: u64 = 100;
 
-/// Shows on a terminal how many configurations a search has noted: on one line, which is written anew at most ten times
-/// a second, and first once the search has taken that long. A writer or a clock that fails shows nothing.
+// The second number of a text, in which one space stands between each two.
+fn second_number(text: &[u8]) -> Option<u64> {
+    str::from_utf8(text)
+        .ok()?
+        .split(' ')
+        .nth(1)?
+        .parse::<u64>()
+        .ok()
+}
+
+// How many megabytes of memory the program has in use, where the system says it.
+fn megabytes<F: Files>(files: &F) -> Option<u64> {
+    let mut file = fs::open(files, PAGES).ok()?;
+    let mut text = [0; 64];
+    let length = file.read(&mut text).ok()?;
+    let pages = second_number(text.get(..length)?)?;
+    Some(pages.saturating_mul(PAGE) / 1_000_000)
+}
+
+/// Shows on a terminal how many configurations a search has noted, and how much memory the program has in use, where the
+/// system says it: on one line, which is written anew at most ten times a second, and first once the search has taken
+/// that long. A writer or a clock that fails shows nothing.
 #[derive(Drop)]
-pub(crate) struct Progress<'a, C: Clock, W: Write> {
-    clock: &'a C,
+pub(crate) struct Progress<'a, C: Clock + Files, W: Write> {
+    rt: &'a C,
     err: &'a mut W,
     last: Option<Instant>,
     width: usize,
 }
 
-impl<'a, C: Clock, W: Write> Progress<'a, C, W> {
+impl<'a, C: Clock + Files, W: Write> Progress<'a, C, W> {
     /// Nothing is shown yet.
-    pub(crate) fn new(clock: &'a C, err: &'a mut W) -> Progress<'a, C, W> {
+    pub(crate) fn new(rt: &'a C, err: &'a mut W) -> Progress<'a, C, W> {
         Progress {
-            clock,
+            rt,
             err,
-            last: Instant::now(clock).ok(),
+            last: Instant::now(rt).ok(),
             width: 0,
         }
     }
 
     // Whether a line may be written again.
     fn is_due(&mut self) -> bool {
-        let (Some(last), Ok(now)) = (self.last, Instant::now(self.clock)) else {
+        let (Some(last), Ok(now)) = (self.last, Instant::now(self.rt)) else {
             return false;
         };
         if now.duration_since(last) < Duration::from_millis(BETWEEN) {
@@ -59,13 +87,21 @@ impl<'a, C: Clock, W: Write> Progress<'a, C, W> {
     }
 
     fn show(&mut self, configurations: usize) {
-        let mut buffer = Buffer::new();
-        let number = buffer.format(configurations).as_bytes();
-        self.width = LABEL.len().saturating_add(number.len());
-        let mut watch = Watch::new();
-        write_text(self.err, &mut watch, b"\r");
-        write_text(self.err, &mut watch, LABEL);
-        write_text(self.err, &mut watch, number);
+        let memory = megabytes(self.rt);
+        self.clear();
+        self.write(b"\r");
+        self.write(LABEL);
+        self.write(Buffer::new().format(configurations).as_bytes());
+        if let Some(memory) = memory {
+            self.write(b", ");
+            self.write(Buffer::new().format(memory).as_bytes());
+            self.write(b" MB");
+        }
+    }
+
+    fn write(&mut self, text: &[u8]) {
+        write_text(self.err, &mut Watch::new(), text);
+        self.width = self.width.saturating_add(text.len());
     }
 
     /// Leaves the line blank, where one was written.
@@ -82,7 +118,7 @@ impl<'a, C: Clock, W: Write> Progress<'a, C, W> {
     }
 }
 
-impl<C: Clock, W: Write> Watcher for Progress<'_, C, W> {
+impl<C: Clock + Files, W: Write> Watcher for Progress<'_, C, W> {
     fn noted(&mut self, configurations: usize) {
         if self.is_due() {
             self.show(configurations);
@@ -101,7 +137,7 @@ impl Watcher for Unshown {
 /// What is due by a command line and an input, and in which format, as `due_of` says it. While outcomes are searched
 /// for, `err` shows how far the search is, where it is a terminal; the line is blank again in the end. Where it is
 /// none, nothing is written to it.
-pub(crate) fn due_shown<'a, T: Threads + Wait + Clock + Sync, R: Read, W: Write>(
+pub(crate) fn due_shown<'a, T: Threads + Wait + Clock + Files + Sync, R: Read, W: Write>(
     rt: &T,
     alloc: Global,
     words: &'a [&'a str],

@@ -13,12 +13,13 @@ use crate::due::Due;
 use crate::input::Counted;
 use crate::output::finish;
 use crate::progress::due_shown;
-use crate::telling::{tell, tell_unread};
+use crate::telling::{tell, tell_unread, tell_waiting};
 use qs_line::Format;
 use qs_report::Fault;
 use qs_text::Watch;
 use std::alloc::Global;
 use std::io::{Read, Write};
+use std::rt::Files;
 use std::sync::Wait;
 use std::thread::Threads;
 use std::time::Clock;
@@ -27,16 +28,18 @@ use std::time::Clock;
 /// answer. The words are all the process's arguments, the program's name first. The status is 4 exactly where a read, a
 /// write or the flush fails. The word `run` takes threads, and waits for them. What was refused is told on `err` in
 /// words; beside a result, how much of each limit is left where the line asks for it, and what is warned of in a script
-/// where `err` is a terminal or the line asks for it. While outcomes are searched for, a terminal shows how far the
-/// search is. That changes neither output nor status. Where the status is 0, `err` is no terminal and nothing of it is
+/// where `err` is a terminal or the line asks for it. Where the script comes from a terminal, too, it says so before it
+/// is read. While outcomes are searched for, a terminal shows how far the
+/// search is, and how much memory it has in use. That changes neither output nor status. Where the status is 0, `err` is no terminal and nothing of it is
 /// asked for, nothing is written to `err`.
-pub fn serve<'a, T: Threads + Wait + Clock + Sync, R: Read, W: Write, E: Write>(
+pub fn serve<'a, T: Threads + Wait + Clock + Files + Sync, R: Read, W: Write, E: Write>(
     rt: &T,
     alloc: Global,
     words: &'a [&'a str],
     input: &mut Counted<R>,
     out: &mut W,
     watch: &mut Watch<W>,
+    from_terminal: bool,
     is_terminal: bool,
     err: &mut E,
 ) -> u8
@@ -51,10 +54,19 @@ pub fn serve<'a, T: Threads + Wait + Clock + Sync, R: Read, W: Write, E: Write>(
     ensures silent { result ≡ 0 → is_terminal ≡ false → warns_in (map (λ word. word.now) words.entry.now) ≡ false
         → is_verbose_in (map (λ word. word.now) words.entry.now) ≡ false → Keeps (E.contents err.old) (E.contents err.new) }
 {
+    tell_waiting(alloc, words, from_terminal, is_terminal, err);
     let mut text = Vec::new(alloc);
     let (due, format) = due_shown(rt, alloc, words, input, &mut text, is_terminal, err);
     let status = finish(out, watch, format, &due);
-    tell(alloc, words, text.as_slice(), &due, status != 4, err);
+    tell(
+        alloc,
+        words,
+        text.as_slice(),
+        &due,
+        input.why(),
+        status != 4,
+        err,
+    );
     tell_beside(alloc, words, text.as_slice(), &due, is_terminal, err);
     status
 }

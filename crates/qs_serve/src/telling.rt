@@ -1,6 +1,6 @@
 // What is said on standard error of a run that was refused.
 
-ghost use Rattle.std.specs.Prelude.{IsTrue};
+ghost use Rattle.std.specs.Prelude.{◌≡◌, false, IsTrue};
 ghost use Rattle.std.specs.Io.KnownBytes.{Keeps};
 ghost use Rattle.qs_serve.specs.Due.{IsSomeText};
 
@@ -13,6 +13,7 @@ use crate::pick_words::put_actor;
 use qs_causes::{tell_check, tell_read};
 use qs_check::CheckFault;
 use qs_diagnosis::put;
+use qs_line::read_line;
 use qs_outcomes::OutcomesFault;
 use qs_played::{PlayFault, RunFault};
 use qs_report::Fault;
@@ -20,14 +21,19 @@ use qs_script::ReadFault;
 use qs_serial::OrderFault;
 use qs_text::{Watch, write_text};
 use std::alloc::{AllocError, Global};
-use std::io::Write;
+use std::io::{self, Write};
 
 const WRITE: &[u8] = b"error: the output could not be written\n";
+
+const READ: &[u8] = b"error: the script could not be read from standard input\n";
+
+const WAITING: &[u8] =
+    b"qs: reading the script from the terminal; Ctrl-D on a line of its own ends it\n";
 
 // What is said of a fault that has no place in the script and no part of the line.
 fn plain_words(fault: &Fault) -> Option<&'static [u8]> {
     match fault {
-        Fault::Input => Some(b"error: the script could not be read from standard input\n"),
+        Fault::Input => Some(READ),
         Fault::Memory => Some(b"error: memory ran out\n"),
         Fault::Read(ReadFault::Size) => Some(
             b"error: a script has at most 65536 bytes, and this text has more\n",
@@ -96,14 +102,31 @@ fn told<'a>(
     Ok(out)
 }
 
+// Writes that the input could not be read, and why.
+fn tell_input<W: Write>(alloc: Global, error: &io::Error, err: &mut W) {
+    let mut watch = Watch::new();
+    match format!(in alloc; "error: the script could not be read from standard input: {error}\n") {
+        Ok(said) => {
+            write_text(err, &mut watch, said.as_bytes());
+        }
+        Err(_) => {
+            write_text(err, &mut watch, READ);
+        }
+    }
+}
+
 // Writes what is said of a fault; what fails here changes nothing else.
 fn tell_fault<'a, W: Write>(
     alloc: Global,
     words: &'a [&'a str],
     text: &[u8],
     fault: &Fault,
+    why: Option<&io::Error>,
     err: &mut W,
 ) {
+    if let (Fault::Input, Some(error)) = (fault, why) {
+        return tell_input(alloc, error, err);
+    }
     let mut watch = Watch::new();
     if let Some(plain) = plain_words(fault) {
         write_text(err, &mut watch, plain);
@@ -114,13 +137,35 @@ fn tell_fault<'a, W: Write>(
     }
 }
 
-/// Says why a run was refused, or that its output could not be written. Nothing, where neither is so. A writer that
-/// fails changes nothing else.
+/// Says, before it is read, that the script comes from a terminal, where it does, the line asks for something, and a
+/// terminal shows what is said.
+pub(crate) fn tell_waiting<'a, W: Write>(
+    alloc: Global,
+    words: &'a [&'a str],
+    from_terminal: bool,
+    is_terminal: bool,
+    err: &mut W,
+)
+    ensures silent { is_terminal ≡ false → Keeps (W.contents err.old) (W.contents err.new) }
+{
+    if !is_terminal || !from_terminal {
+        return;
+    }
+    if let Ok(settings) = read_line(alloc, words) {
+        drop(settings);
+        let mut watch = Watch::new();
+        write_text(err, &mut watch, WAITING);
+    }
+}
+
+/// Says why a run was refused, or that its output could not be written. Nothing, where neither is so. Of a read that
+/// failed it says why. A writer that fails changes nothing else.
 pub(crate) fn tell<'a, W: Write>(
     alloc: Global,
     words: &'a [&'a str],
     text: &[u8],
     due: &Due,
+    why: Option<&io::Error>,
     is_written: bool,
     err: &mut W,
 )
@@ -133,7 +178,7 @@ pub(crate) fn tell<'a, W: Write>(
                 write_text(err, &mut watch, WRITE);
             }
         }
-        Due::Refused(fault) => tell_fault(alloc, words, text, fault, err),
+        Due::Refused(fault) => tell_fault(alloc, words, text, fault, why, err),
     }
 }
 

@@ -8,6 +8,4 @@ use Rattle.qs_json.proofs.outcomes.put_outcome.Goals as goal
 pub returns : goal.returns
 returns c =
     let head = named (ap (λ (order : List Ticket). head_json c.args.number order) c.order.ensures.order) c.in_ok-put_outcome_head.ensures.ok in
-    let states = then (then c.in_ok-put_word.ensures.ok c.in_ok-put_objects.ensures.ok) c.in_ok-put_word-2.ensures.ok in
-    let clients = then (then c.in_ok-put_word-3.ensures.ok c.in_ok-put_clients.ensures.ok) c.in_ok-put_word-4.ensures.ok in
-    record { ok = on_ok_weaker c.put_word-5.result (λ e. then (then (then head states) clients) e) c.put_word-5.ensures.ok }
+    record { ok = on_ok_weaker c.put_word.result (λ e. then (then head c.in_ok-put_standing.ensures.ok) e) c.put_word.ensures.ok }

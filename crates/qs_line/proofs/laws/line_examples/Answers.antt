@@ -21,6 +21,25 @@ returns c = record {
       by_rounds = refl;
       counted = refl;
     };
+    tallies = record {
+      many = refl;
+      with_all = refl;
+      most = refl;
+      one_more = refl;
+      none = refl;
+      no_number = refl;
+      with_counts = refl;
+      as_picture = refl;
+      of_play = refl;
+    };
+    estimates = record {
+      alone = refl;
+      after = refl;
+      with_ends = refl;
+      with_condition = refl;
+      as_drawing = refl;
+      of_run = refl;
+    };
     fronts = record {
       one = refl;
       more = refl;

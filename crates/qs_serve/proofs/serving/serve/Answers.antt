@@ -24,7 +24,8 @@ due_by_zero P false status due is e = sym is.1 ∙ e
 pub returns-clause-silent : goal.returns-clause-silent
 returns-clause-silent g c = λ zero no_terminal no_warnings no_limits.
     let due = due_by_zero _ c.finish-status.new.watch.has_failed c.finish-status.result _ c.finish-status.ensures.status zero in
-    Keeps-trans _ _ _ (c.due_shown-due.ensures.silent no_terminal)
+    Keeps-trans _ _ _ (c.tell_waiting.ensures.silent no_terminal)
+    (Keeps-trans _ _ _ (c.due_shown-due.ensures.silent no_terminal)
     (Keeps-trans _ _ _
     (c.tell.ensures.silent (zero_is_text c.due_shown-due.result.0 due) (rw zero refl))
-    (c.tell_beside.ensures.unasked no_terminal no_warnings no_limits))
+    (c.tell_beside.ensures.unasked no_terminal no_warnings no_limits)))

@@ -1,0 +1,8 @@
+pub mod Pigeonhole
+pub mod Mapped
+pub mod Words
+pub mod Choosing
+pub mod Rows
+pub mod BlocksLeft
+pub mod MostOrders
+pub mod LeastOrders

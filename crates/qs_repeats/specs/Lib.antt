@@ -1,0 +1,2 @@
+-- What an auditor reads: the promise of the call of the surface is said with these.
+pub mod Repeats

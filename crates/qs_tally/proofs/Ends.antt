@@ -1,0 +1,133 @@
+-- Standings at the end of complete orders: each client has begun all its blocks, so equal rows are those of equal
+-- outcomes, whatever the orders. By this the end to which an order comes is found by its row. And a legal order is
+-- named by the clients of its tickets.
+use Rattle.std.proofs.Common.{◌≡◌, ℕ, zero, suc, Bool, true, false, Some, List, [], ◌∷◌, ◌++◌, length, get_or, map, drop, flat_map, replicate, slice_get, refl, sym, ap, ap₂, ◌∙◌, subst, inl, inr, append-nil}
+use Rattle.std.specs.List.{AllByRecursion}
+use Rattle.std.proofs.lemmas.List.{map-append}
+use Rattle.qs_objects.specs.declared.held.Ticket.{Ticket}
+use Rattle.qs_objects.proofs.GridRows.{equal_long}
+use Rattle.qs_program.specs.Limits.{most_clients}
+use Rattle.qs_program.specs.Program.{ProgramShape, blocks_of}
+use Rattle.qs_program.specs.Sound.{IsSound}
+use Rattle.qs_meaning.specs.Configurations.{Configuration, IsComplete, OrderOutcome, outcome_in, outcome_of}
+use Rattle.qs_meaning.specs.Serial.{IsLegal, LegalFrom, no_state, zeros}
+use Rattle.qs_meaning.specs.Solo.{put}
+use Rattle.qs_meaning.proofs.Each.{each_snoc}
+use Rattle.qs_meaning.proofs.Orders.{complete_orders_leave_none, configurations_follow_orders}
+use Rattle.qs_serial.specs.NamedOrders.{order_from, order_of}
+use Rattle.qs_outcomes.specs.Outcomes.{outcome_at}
+use Rattle.qs_standings.specs.Lists.{HasOne}
+use Rattle.qs_standings.specs.Rows.{IsInserted}
+use Rattle.qs_standings.specs.Standings.{IsFirst, IsStanding, RowShape, StandingShape, row_of, state_row}
+use Rattle.qs_standings.proofs.Lists.{same_list}
+use Rattle.qs_standings.proofs.RowTells.{in_range, named, named_tell, same_row, states_tell}
+use Rattle.qs_tally.specs.Counting.{AreTabled, ComesToNone, IsAtEnd, IsPlaced, not_yet}
+use Rattle.qs_tally.specs.Tallies.{CameTo, CountedShape, IsEnd, standings_in}
+
+-- a legal order is named by the clients of its tickets
+
+abbrev pub clients_in : List Ticket → List ℕ
+clients_in order = map (λ (t : Ticket). t.client) order
+
+named_from_counts : (p : ProgramShape) (begun : ℕ → ℕ) (ts : List Ticket) → LegalFrom p begun ts → order_from begun (clients_in ts) ≡ ts
+named_from_counts p begun [] legal = refl
+named_from_counts p begun (t ∷ ts) legal =
+    ap₂ (λ (u : Ticket) us. u ∷ us) (λ i. record { client = t.client; index = (sym legal.0) i })
+    (named_from_counts p (put begun t.client (suc (begun t.client))) ts (subst (λ k. LegalFrom p (put begun t.client (suc k)) ts) legal.0 legal.2))
+
+pub named_by_clients : (p : ProgramShape) (order : List Ticket) → IsLegal p order → order_of (clients_in order) ≡ order
+named_by_clients p order legal = named_from_counts p (λ _. 0) order legal
+
+-- at the end of a complete order
+
+pub at_end_of : (p : ProgramShape) (order : List Ticket) (s : StandingShape) → IsComplete p order → IsFirst p order s → IsAtEnd p s
+at_end_of p order s complete first = record {
+  standing = subst (λ ts. IsStanding p ts s) (sym first.order) first.standing;
+  complete = subst (IsComplete p) (sym first.order) complete;
+}
+
+pub is_end : (p : ProgramShape) (s : StandingShape) → IsAtEnd p s → IsEnd p s
+is_end p s is = record {
+  complete = is.complete;
+  outcome = ap outcome_in is.standing.stands ∙ configurations_follow_orders p s.order is.standing.legal;
+  places = record { locals = is.standing.locals; states = is.standing.states };
+}
+
+all_begun : (p : ProgramShape) (s : StandingShape) → IsAtEnd p s → (c : ℕ) → get_or s.begun c 0 ≡ blocks_of p c
+all_begun p s is c =
+    ap (λ (g : Configuration). g.begun c) is.standing.stands
+    ∙ (complete_orders_leave_none p s.order is.standing.legal).0 is.complete c
+
+pub same_rows : (p : ProgramShape) (s t : StandingShape) → IsAtEnd p s → IsAtEnd p t → outcome_at s ≡ outcome_at t → row_of p s ≡ row_of p t
+same_rows p s t a b e =
+    same_row p s t
+    (same_list 0 s.begun t.begun (a.standing.begun ∙ sym b.standing.begun) (λ i. all_begun p s a i ∙ sym (all_begun p t b i)))
+    (same_list zeros s.locals t.locals (a.standing.locals ∙ sym b.standing.locals) (λ i. ap (λ (o : OrderOutcome). o.locals i) e))
+    (same_list no_state s.states t.states (a.standing.states ∙ sym b.standing.states) (λ i. ap (λ (o : OrderOutcome). o.states i) e))
+
+pub same_ends : (p : ProgramShape) → IsSound p → (s t : StandingShape) → IsAtEnd p s → IsAtEnd p t → row_of p s ≡ row_of p t → outcome_at s ≡ outcome_at t
+same_ends p sound s t a b e =
+    let begun : s.begun ≡ t.begun =
+    (equal_long s.begun t.begun (drop (length s.begun) (replicate most_clients 0)) (drop (length t.begun) (replicate most_clients 0)) (a.standing.begun ∙ sym b.standing.begun)
+    (ap (λ (r : RowShape). r.begun) e)).0 in
+    let second = named_tell p 0 s.locals t.locals (flat_map state_row s.states) (flat_map state_row t.states) (a.standing.locals ∙ sym b.standing.locals)
+    (named p s.order sound s a.standing) (named p t.order sound t b.standing) (ap (λ (r : RowShape). r.numbers) e) in
+    let third = states_tell s.states t.states [] [] (in_range p s.order sound s a.standing) (in_range p t.order sound t b.standing) (a.standing.states ∙ sym b.standing.states)
+    (append-nil (flat_map state_row s.states) ∙ (second.1 ∙ sym (append-nil (flat_map state_row t.states)))) in
+    λ i. outcome_at (record { order = s.order; begun = begun i; locals = second.0 i; states = third.0 i })
+
+-- the place of an end, by the place of its row
+
+module _ (p : ProgramShape) (sound : IsSound p) (order : List Ticket) (s : StandingShape) (is : IsAtEnd p s) (along : s.order ≡ order) where
+  comes : outcome_at s ≡ outcome_of p order
+  comes = (is_end p s is).outcome ∙ ap (outcome_of p) along
+
+  came_at : (ends : List CountedShape) → AllByRecursion (IsAtEnd p) (standings_in ends) → (place : ℕ) → slice_get (map (row_of p) (standings_in ends)) place ≡ Some (row_of p s)
+      → CameTo p ends order place
+  came_at [] each place e = absurd (cc)
+  came_at (x ∷ xs) each zero e = (x, refl, same_ends p sound x.standing s each.0 is (let row : row_of p x.standing ≡ row_of p s = cc in row) ∙ comes)
+  came_at (x ∷ xs) each (suc place) e = came_at xs each.1 place e
+
+  to_none : (ts : List StandingShape) → AllByRecursion (IsAtEnd p) ts → (HasOne (λ r. row_of p s ≡ r) (map (row_of p) ts) → ⊥) → ComesToNone p order ts
+  to_none [] each none = tt
+  to_none (t ∷ ts) each none = (λ e. none (inl (same_rows p s t is each.0 (comes ∙ sym e))), to_none ts each.1 (λ h. none (inr h)))
+
+  module _ (kept after : List RowShape) (before ends : List CountedShape) (place : ℕ) (new : Bool) (tabled : AreTabled p kept before) (inserted : IsInserted kept (row_of p s) new after)
+      (here : slice_get after place ≡ Some (row_of p s)) where
+    pub old_tabled : new ≡ false → AreTabled p after before
+    old_tabled old =
+        let in_rows = subst (λ n. IsInserted kept (row_of p s) n after) old inserted in
+        record { rows = in_rows.0 ∙ tabled.rows; at_end = tabled.at_end }
+
+    pub old_placed : new ≡ false → IsPlaced p order place before before
+    old_placed old = record {
+      came = came_at before tabled.at_end place (subst (λ rs. slice_get rs place ≡ Some (row_of p s)) (old_tabled old).rows here);
+      either = inl refl;
+    }
+
+    more : standings_in (before ++ not_yet s ∷ []) ≡ standings_in before ++ s ∷ []
+    more = map-append (λ (e : CountedShape). e.standing) before (not_yet s ∷ [])
+
+    pub new_tabled : new ≡ true → ends ≡ before ++ not_yet s ∷ [] → AreTabled p after ends
+    new_tabled is_new are =
+        let in_rows = subst (λ n. IsInserted kept (row_of p s) n after) is_new inserted in
+        let longer : standings_in ends ≡ standings_in before ++ s ∷ [] = ap standings_in are ∙ more in
+        record {
+          rows = in_rows.0 ∙ ap (λ rs. rs ++ row_of p s ∷ []) tabled.rows ∙ sym (map-append (row_of p) (standings_in before) (s ∷ [])) ∙ ap (map (row_of p)) (sym longer);
+          at_end = subst (AllByRecursion (IsAtEnd p)) (sym longer) (each_snoc (IsAtEnd p) (standings_in before) s tabled.at_end is);
+        }
+
+    pub new_placed : new ≡ true → ends ≡ before ++ not_yet s ∷ [] → IsPlaced p order place before ends
+    new_placed is_new are =
+        let in_rows = subst (λ n. IsInserted kept (row_of p s) n after) is_new inserted in
+        let now = new_tabled is_new are in
+        record {
+          came = came_at ends now.at_end place (subst (λ rs. slice_get rs place ≡ Some (row_of p s)) now.rows here);
+          either = inr (record {
+            standing = s;
+            along = along;
+            is_end = is_end p s is;
+            longer = are;
+            new = to_none (standings_in before) tabled.at_end (subst (λ rs. HasOne (λ r. row_of p s ≡ r) rs → ⊥) tabled.rows in_rows.1);
+          });
+        }

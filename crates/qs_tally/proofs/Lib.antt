@@ -1,0 +1,5 @@
+pub mod Places
+pub mod Ends
+pub mod Counts
+pub mod Listing
+pub mod Goes

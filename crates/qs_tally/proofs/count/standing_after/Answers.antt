@@ -1,0 +1,18 @@
+use Rattle.std.proofs.Common.{ap, subst, sym, ◌∙◌}
+use Rattle.qs_serial.specs.NamedOrders.{order_of}
+use Rattle.qs_meaning.specs.Serial.{IsLegal}
+use Rattle.qs_standings.specs.Standings.{IsFirst}
+use Rattle.std.specs.Prelude.{IfOk}
+use Rattle.qs_tally.proofs.Ends.{named_by_clients}
+use Rattle.qs_tally.proofs.count.standing_after.Goals as goal
+
+pub placed-requires : goal.placed-requires
+placed-requires c = record {
+  legal = subst (IsLegal c.args.program.now) (sym (ap order_of (c.as_slice.ensures.value ∙ c.in_ok-clients.ensures.clients) ∙ named_by_clients c.args.program.now c.args.order.now c.requires.legal)) c.requires.legal;
+}
+
+pub returns : goal.returns
+returns c = record {
+  first = subst (λ order. IfOk c.placed.result (IsFirst c.args.program.now order))
+      (ap order_of (c.as_slice.ensures.value ∙ c.in_ok-clients.ensures.clients) ∙ named_by_clients c.args.program.now c.args.order.now c.requires.legal) c.placed.ensures.first;
+}
