@@ -3,3 +3,4 @@ pub mod OneDrawing
 pub mod WorkedDrawings
 pub mod Charting
 pub mod Ends
+mod EndNumbers

@@ -1,63 +1,90 @@
 -- The configurations of a program as a drawing in the DOT language, as bytes.
-use Rattle.std.specs.Prelude.{◌≡◌, ◌≤◌, ℕ, List, [], ◌++◌, codes, decimal, flat_map, length, if◌then◌else◌, nat_eq, slice_index_or}
+use Rattle.std.specs.Prelude.{◌≡◌, ◌≤◌, ℕ, Bool, true, false, List, [], ◌++◌, codes, decimal, flat_map, length, if◌then◌else◌, nat_eq, nat_lt, slice_index_or}
 use Rattle.std.specs.List.{list_any}
-use Rattle.qs_objects.specs.Act.{State}
-use Rattle.qs_program.specs.Program.{ProgramShape, client_at, object_at}
+use Rattle.qs_program.specs.Program.{ProgramShape, client_at}
 use Rattle.qs_serial.specs.NamedOrders.{order_of}
 use Rattle.qs_meaning.specs.Serial.{IsLegal}
 use Rattle.qs_dot.specs.declared.chart.Lead.{Lead}
 use Rattle.qs_dot.specs.Charts.{AreLeads, ArePlaces, ChartShape}
+use Rattle.qs_dot.specs.EndText.{end_text, number_in, objects_text}
+use Rattle.qs_outcomes.specs.Outcomes.{AreOutcomesAfter, OutcomesShape}
 use Rattle.qs_standings.specs.Standings.{StandingShape}
 use Rattle.qs_text.specs.Texts.{texts_up_to}
-use Rattle.qs_text.specs.Words.{no_state, state_text}
+
+-- whether a block leads on from a place
+abbrev pub leads_on : List Lead → ℕ → Bool
+leads_on leads i = list_any (λ (l : Lead). nat_eq l.from i) leads
 
 -- a second outline, for an outcome: no block leads on from there
-abbrev pub mark_text : List Lead → ℕ → List ℕ
-mark_text leads i = if list_any (λ (l : Lead). nat_eq l.from i) leads then [] else codes ", peripheries=2"
+abbrev pub mark_text : Bool → List ℕ
+mark_text on = if on then [] else codes ", peripheries=2"
 
--- an object with what it holds and how many commands it refused, on a line of its own in a label
-abbrev pub holds_text : List ℕ → State → List ℕ
-holds_text name s = codes "\\n" ++ state_text name s
+-- what a place says: its number with the objects; or, where it is an outcome, the number of that in the list of all
+-- outcomes, with all that it holds
+abbrev pub label_text : ProgramShape → (found : List StandingShape) → (on : Bool) → ℕ → StandingShape → List ℕ
+label_text p found true i s = decimal i ++ objects_text p s
+label_text p found false i s = codes "outcome " ++ decimal (number_in p (end_text p s) found) ++ end_text p s
 
--- the object of a number
-abbrev pub object_text : ProgramShape → StandingShape → ℕ → List ℕ
-object_text p s h = holds_text (object_at p h).name (slice_index_or s.states h no_state)
-
--- the beginning of a place's line, up to the objects in its label
-abbrev pub head_text : ℕ → List ℕ
-head_text i = codes "  n" ++ decimal i ++ codes " [label=\"" ++ decimal i
-
--- a place: its label is its number with the objects
-abbrev pub place_text : ProgramShape → List Lead → ℕ → StandingShape → List ℕ
-place_text p leads i s =
-    head_text i ++ texts_up_to (length p.objects) (object_text p s) ++ codes "\"" ++ mark_text leads i ++ codes "];\n"
+-- a place: its label, and how it is outlined
+abbrev pub place_text : ProgramShape → (found : List StandingShape) → (on : Bool) → ℕ → StandingShape → List ℕ
+place_text p found on i s =
+    codes "  n" ++ decimal i ++ codes " [label=\"" ++ label_text p found on i s ++ codes "\"" ++ mark_text on
+    ++ codes "];\n"
 
 -- what stands past the last place
 abbrev pub no_place : StandingShape
 no_place = record { order = []; begun = []; locals = []; states = [] }
 
 -- the place of a number
-abbrev pub place_line : ProgramShape → ChartShape → ℕ → List ℕ
-place_line p chart i = place_text p chart.leads i (slice_index_or chart.places i no_place)
+abbrev pub place_line : ProgramShape → (found : List StandingShape) → ChartShape → ℕ → List ℕ
+place_line p found chart i =
+    place_text p found (leads_on chart.leads i) i (slice_index_or chart.places i no_place)
+
+-- a client's name stands on a ground of its own, between these two. They and the colours do not unfold by themselves, so
+-- that a search for a proof does not go through their bytes
+unfoldable pub name_start : List ℕ
+name_start = codes " [label=<<table border=\"0\" bgcolor=\"#dfe5ec\"><tr><td>"
+
+unfoldable pub name_end : List ℕ
+name_end = codes "</td></tr></table>>];\n"
 
 -- an edge with the name of the client whose block leads along it
 abbrev pub lead_line : ProgramShape → Lead → List ℕ
 lead_line p l =
-    codes "  n" ++ decimal l.from ++ codes " -> n" ++ decimal l.to ++ codes " [label=\"" ++ (client_at p l.client).name
-    ++ codes "\"];\n"
+    codes "  n" ++ decimal l.from ++ codes " -> n" ++ decimal l.to ++ name_start ++ (client_at p l.client).name
+    ++ name_end
 
--- all places, and all edges
-abbrev pub chart_text : ProgramShape → ChartShape → List ℕ
-chart_text p chart =
-    codes "digraph outcomes {\n" ++ texts_up_to (length chart.places) (place_line p chart)
-    ++ flat_map (lead_line p) chart.leads ++ codes "}\n"
+-- Lines that can be seen on a light page and on a dark one, and no ground but that of the texts. No colour has a
+-- contrast of 4.5 to 1 both to white and to #16181c: that of #747c88, which the lines have, is 4.2 to each. So the texts
+-- stand on a light ground of their own, to which they have 14 to 1.
+unfoldable pub colours_text : List ℕ
+colours_text =
+    codes "  graph [bgcolor=transparent];\n  node [style=filled, fillcolor=\"#dfe5ec\", color=\"#747c88\", fontcolor=\"#16181c\"];\n  edge [color=\"#747c88\", fontcolor=\"#16181c\"];\n"
 
--- There is a chart of the program after the blocks that a list of clients names, of at most so many places, whose text
--- this is.
+-- more places than this are drawn close together, by rank from left to right, and in the size of a page
+abbrev pub most_wide : ℕ
+most_wide = 50
+
+abbrev pub layout_text : (places : ℕ) → List ℕ
+layout_text places =
+    if nat_lt most_wide places
+    then codes "  graph [rankdir=LR, nodesep=0.1, ranksep=0.3, size=\"11,7.5\", ratio=compress];\n  node [fontsize=11, margin=\"0.08,0.04\"];\n  edge [fontsize=10];\n"
+    else []
+
+-- how it is drawn, all places, and all edges
+abbrev pub chart_text : ProgramShape → (found : List StandingShape) → ChartShape → List ℕ
+chart_text p found chart =
+    codes "digraph outcomes {\n" ++ colours_text ++ layout_text (length chart.places)
+    ++ texts_up_to (length chart.places) (place_line p found chart) ++ flat_map (lead_line p) chart.leads ++ codes "}\n"
+
+-- There is a chart of the program after the blocks that a list of clients names, of at most so many places, and a list
+-- of all outcomes after them, and this is the chart's text with the list's numbers.
 pub record IsChartDot (p : ProgramShape) (limit : ℕ) (front : List ℕ) (text : List ℕ) : Type 0 where
   pub chart : ChartShape
+  pub all : OutcomesShape
   pub legal : IsLegal p (order_of front)
   pub places : ArePlaces p (order_of front) chart.places
   pub leads : AreLeads p chart.places chart.leads
   pub within : length chart.places ≤ limit
-  pub drawn : text ≡ chart_text p chart
+  pub outcomes : AreOutcomesAfter p (order_of front) all
+  pub drawn : text ≡ chart_text p all.found chart

@@ -1,86 +1,131 @@
 //! The chart of a program as a drawing, in the DOT language of graphviz.
 
-ghost use Rattle.std.specs.Prelude.{◌≡◌, ◌<◌, ◌++◌, flat_map, length, nat_eq, slice_index_or, IfOk, OnOk, IsErrOf};
-ghost use Rattle.std.specs.List.{AllByRecursion, list_any};
+ghost use Rattle.std.specs.Prelude.{◌≡◌, ◌<◌, ◌++◌, codes, decimal, flat_map, length, slice_index_or, IfOk, OnOk, IsErrOf};
+ghost use Rattle.std.specs.List.{AllByRecursion};
 ghost use Rattle.qs_serial.specs.NamedOrders.{order_of};
 ghost use Rattle.qs_meaning.specs.Serial.{IsLegal};
-ghost use Rattle.qs_outcomes.specs.Outcomes.{HasMoreThanAfter};
+ghost use Rattle.qs_outcomes.specs.Outcomes.{HasMoreThanAfter, HasPlaces};
 ghost use Rattle.qs_text.specs.Texts.{texts_up_to};
-ghost use Rattle.qs_dot.specs.declared.chart.Lead.{Lead as LeadShape};
-ghost use Rattle.qs_dot.specs.ChartDot.{IsChartDot, chart_text, head_text, holds_text, lead_line, mark_text, no_place, object_text, place_line, place_text};
+ghost use Rattle.qs_dot.specs.ChartDot.{IsChartDot, chart_text, colours_text, label_text, layout_text, lead_line, leads_on, mark_text, name_end, name_start, no_place, place_line, place_text};
+ghost use Rattle.qs_dot.specs.EndText.{end_text, number_in, objects_text};
 
 use crate::chart::{Chart, Lead, chart_after};
+use crate::end_text::{end_text, number_in, put_objects};
 use itoa::Buffer;
-use qs_objects::Object;
-use qs_outcomes::OutcomesFault;
+use qs_outcomes::{OutcomesFault, outcomes_after};
 use qs_program::Program;
 use qs_standings::Standing;
-use qs_text::{client_name, object_name, put, put_all, put_state};
+use qs_text::{client_name, put, put_all};
 use std::alloc::{AllocError, Global};
 
 /// So many places a drawing may have that is to be looked at.
 pub const MOST_PLACES: u32 = 200;
 
+// More places than this are drawn close together.
+const MOST_WIDE: usize = 50;
+
 // Whether a block leads on from a place.
 fn leads_on(leads: &[Lead], place: usize) -> bool
-    ensures leads { result ≡ list_any (λ (l : LeadShape). nat_eq l.from place) leads.now }
+    ensures leads { result ≡ leads_on leads.now place }
 {
     leads.iter().any(|lead| lead.from == place)
 }
 
-fn mark(leads: &[Lead], place: usize) -> &'static [u8]
-    ensures mark { result.now ≡ mark_text leads.now place }
+fn mark(on: bool) -> &'static [u8]
+    ensures mark { result.now ≡ mark_text on }
 {
-    if leads_on(leads, place) {
-        b""
-    } else {
-        b", peripheries=2"
-    }
+    if on { b"" } else { b", peripheries=2" }
 }
 
-// An object on a line of its own.
-fn put_holds(out: &mut Vec<u8>, name: &[u8], object: &Object) -> Result<(), AllocError>
-    ensures ok { OnOk result (out.new.items ≡ out.old.items ++ holds_text name.now object.now) }
-{
-    put(out, b"\\n")?;
-    put_state(out, name, object)
-}
-
-// All objects of a place.
-fn put_objects(out: &mut Vec<u8>, program: &Program, standing: &Standing) -> Result<(), AllocError>
-    requires places { length standing.now.states ≡ length program.now.objects }
-    ensures ok { OnOk result (out.new.items ≡ out.old.items ++ texts_up_to (length program.now.objects) (object_text program.now standing.now)) }
-{
-    program.keeps_sound();
-    for object in 0..program.objects() {
-        let name = object_name(program, object);
-        put_holds(out, name, standing.object(object as u8))?;
-    }
-    Ok(())
-}
-
-// The beginning of a place's line, up to the objects in its label.
-fn put_head(out: &mut Vec<u8>, place: usize) -> Result<(), AllocError>
-    ensures ok { OnOk result (out.new.items ≡ out.old.items ++ head_text place) }
-{
-    let mut buffer = Buffer::new();
-    let number = buffer.format(place).as_bytes();
-    put_all(out, &[b"  n", number, b" [label=\"", number])
-}
-
-fn put_place(
+// The place of a number, from which blocks lead on.
+fn put_number_of(
     out: &mut Vec<u8>,
     program: &Program,
-    leads: &[Lead],
     place: usize,
     standing: &Standing,
 ) -> Result<(), AllocError>
-    requires places { length standing.now.states ≡ length program.now.objects }
-    ensures ok { OnOk result (out.new.items ≡ out.old.items ++ place_text program.now leads.now place standing.now) }
+    requires places { HasPlaces program.now standing.now }
+    ensures ok { OnOk result (out.new.items ≡ out.old.items ++ (decimal place ++ objects_text program.now standing.now)) }
+{
+    let mut buffer = Buffer::new();
+    put(out, buffer.format(place).as_bytes())?;
+    put_objects(out, program, standing)
+}
+
+// An outcome, by its number among all outcomes.
+fn put_end(
+    alloc: Global,
+    out: &mut Vec<u8>,
+    program: &Program,
+    found: &[Standing],
+    standing: &Standing,
+) -> Result<(), AllocError>
+    requires found { AllByRecursion (HasPlaces program.now) found.now }
+    requires places { HasPlaces program.now standing.now }
+    ensures ok { OnOk result (out.new.items
+        ≡ out.old.items ++ (codes "outcome " ++ decimal (number_in program.now (end_text program.now standing.now) found.now) ++ end_text program.now standing.now)) }
+{
+    let text = end_text(alloc, program, standing)?;
+    let number = number_in(alloc, program, text.as_slice(), found)?;
+    let mut buffer = Buffer::new();
+    put_all(
+        out,
+        &[
+            b"outcome ",
+            buffer.format(number).as_bytes(),
+            text.as_slice(),
+        ],
+    )
+}
+
+// What a place says.
+fn put_label(
+    alloc: Global,
+    out: &mut Vec<u8>,
+    program: &Program,
+    found: &[Standing],
+    on: bool,
+    place: usize,
+    standing: &Standing,
+) -> Result<(), AllocError>
+    requires found { AllByRecursion (HasPlaces program.now) found.now }
+    requires places { HasPlaces program.now standing.now }
+    ensures ok { OnOk result (out.new.items ≡ out.old.items ++ label_text program.now found.now on place standing.now) }
+{
+    if on {
+        put_number_of(out, program, place, standing)
+    } else {
+        put_end(alloc, out, program, found, standing)
+    }
+}
+
+// The beginning of a place's line, up to its label.
+fn put_head(out: &mut Vec<u8>, place: usize) -> Result<(), AllocError>
+    ensures ok { OnOk result (out.new.items ≡ out.old.items ++ (codes "  n" ++ decimal place ++ codes " [label=\"")) }
+{
+    let mut buffer = Buffer::new();
+    put_all(
+        out,
+        &[b"  n", buffer.format(place).as_bytes(), b" [label=\""],
+    )
+}
+
+fn put_place(
+    alloc: Global,
+    out: &mut Vec<u8>,
+    program: &Program,
+    found: &[Standing],
+    on: bool,
+    place: usize,
+    standing: &Standing,
+) -> Result<(), AllocError>
+    requires found { AllByRecursion (HasPlaces program.now) found.now }
+    requires places { HasPlaces program.now standing.now }
+    ensures ok { OnOk result (out.new.items ≡ out.old.items ++ place_text program.now found.now on place standing.now) }
 {
     put_head(out, place)?;
-    put_objects(out, program, standing)?;
-    put_all(out, &[b"\"", mark(leads, place), b"];\n"])
+    put_label(alloc, out, program, found, on, place, standing)?;
+    put_all(out, &[b"\"", mark(on), b"];\n"])
 }
 
 fn place_at(places: &[Standing], place: usize) -> &Standing
@@ -90,19 +135,44 @@ fn place_at(places: &[Standing], place: usize) -> &Standing
     &places[place]
 }
 
-fn put_places(out: &mut Vec<u8>, program: &Program, chart: &Chart) -> Result<(), AllocError>
-    requires places { AllByRecursion (λ s. length s.states ≡ length program.now.objects) chart.now.places }
-    ensures ok { OnOk result (out.new.items ≡ out.old.items ++ texts_up_to (length chart.now.places) (place_line program.now chart.now)) }
+fn put_places(
+    alloc: Global,
+    out: &mut Vec<u8>,
+    program: &Program,
+    found: &[Standing],
+    chart: &Chart,
+) -> Result<(), AllocError>
+    requires found { AllByRecursion (HasPlaces program.now) found.now }
+    requires places { AllByRecursion (HasPlaces program.now) chart.now.places }
+    ensures ok { OnOk result (out.new.items
+        ≡ out.old.items ++ texts_up_to (length chart.now.places) (place_line program.now found.now chart.now)) }
 {
     for place in 0..chart.places().len() {
+        let on = leads_on(chart.leads(), place);
         let standing = place_at(chart.places(), place);
-        put_place(out, program, chart.leads(), place, standing)?;
+        put_place(alloc, out, program, found, on, place, standing)?;
     }
     Ok(())
 }
 
-fn put_lead(out: &mut Vec<u8>, program: &Program, lead: &Lead) -> Result<(), AllocError>
-    ensures ok { OnOk result (out.new.items ≡ out.old.items ++ lead_line program.now lead.now) }
+// What stands before a client's name at an edge.
+fn name_start() -> &'static [u8]
+    ensures start { result.now ≡ name_start }
+{
+    b" [label=<<table border=\"0\" bgcolor=\"#dfe5ec\"><tr><td>"
+}
+
+// And what stands after it.
+fn name_end() -> &'static [u8]
+    ensures end { result.now ≡ name_end }
+{
+    b"</td></tr></table>>];\n"
+}
+
+// From which place to which a lead goes.
+fn put_way(out: &mut Vec<u8>, lead: &Lead) -> Result<(), AllocError>
+    ensures ok { OnOk result (out.new.items
+        ≡ out.old.items ++ (codes "  n" ++ decimal lead.now.from ++ codes " -> n" ++ decimal lead.now.to)) }
 {
     let mut from = Buffer::new();
     let mut to = Buffer::new();
@@ -113,11 +183,17 @@ fn put_lead(out: &mut Vec<u8>, program: &Program, lead: &Lead) -> Result<(), All
             from.format(lead.from).as_bytes(),
             b" -> n",
             to.format(lead.to).as_bytes(),
-            b" [label=\"",
-            client_name(program, lead.client),
-            b"\"];\n",
         ],
     )
+}
+
+fn put_lead(out: &mut Vec<u8>, program: &Program, lead: &Lead) -> Result<(), AllocError>
+    ensures ok { OnOk result (out.new.items ≡ out.old.items ++ lead_line program.now lead.now) }
+{
+    put_way(out, lead)?;
+    put(out, name_start())?;
+    put(out, client_name(program, lead.client))?;
+    put(out, name_end())
 }
 
 fn put_leads(out: &mut Vec<u8>, program: &Program, leads: &[Lead]) -> Result<(), AllocError>
@@ -129,24 +205,54 @@ fn put_leads(out: &mut Vec<u8>, program: &Program, leads: &[Lead]) -> Result<(),
     Ok(())
 }
 
-// The text of a chart.
-fn drawn(alloc: Global, program: &Program, chart: &Chart) -> Result<Vec<u8>, AllocError>
-    requires places { AllByRecursion (λ s. length s.states ≡ length program.now.objects) chart.now.places }
-    ensures text { IfOk result (λ bytes. bytes.items ≡ chart_text program.now chart.now) }
+// How a drawing of so many places is laid out.
+fn layout(places: usize) -> &'static [u8]
+    ensures layout { result.now ≡ layout_text places }
+{
+    if places > MOST_WIDE {
+        b"  graph [rankdir=LR, nodesep=0.1, ranksep=0.3, size=\"11,7.5\", ratio=compress];\n  node [fontsize=11, margin=\"0.08,0.04\"];\n  edge [fontsize=10];\n"
+    } else {
+        b""
+    }
+}
+
+fn colours() -> &'static [u8]
+    ensures colours { result.now ≡ colours_text }
+{
+    b"  graph [bgcolor=transparent];\n  node [style=filled, fillcolor=\"#dfe5ec\", color=\"#747c88\", fontcolor=\"#16181c\"];\n  edge [color=\"#747c88\", fontcolor=\"#16181c\"];\n"
+}
+
+// The beginning of a drawing, which says how it is drawn.
+fn put_look(out: &mut Vec<u8>, places: usize) -> Result<(), AllocError>
+    ensures ok { OnOk result (out.new.items ≡ out.old.items ++ (codes "digraph outcomes {\n" ++ colours_text ++ layout_text places)) }
+{
+    put_all(out, &[b"digraph outcomes {\n", colours(), layout(places)])
+}
+
+// The text of a chart, with the numbers of a list of outcomes.
+fn drawn(
+    alloc: Global,
+    program: &Program,
+    found: &[Standing],
+    chart: &Chart,
+) -> Result<Vec<u8>, AllocError>
+    requires found { AllByRecursion (HasPlaces program.now) found.now }
+    requires places { AllByRecursion (HasPlaces program.now) chart.now.places }
+    ensures text { IfOk result (λ bytes. bytes.items ≡ chart_text program.now found.now chart.now) }
 {
     let mut out = Vec::new(alloc);
-    put(&mut out, b"digraph outcomes {\n")?;
-    put_places(&mut out, program, chart)?;
+    put_look(&mut out, chart.places().len())?;
+    put_places(alloc, &mut out, program, found, chart)?;
     put_leads(&mut out, program, chart.leads())?;
     put(&mut out, b"}\n")?;
     Ok(out)
 }
 
 /// The configurations of a program after the blocks that a list of clients names, each client's in turn, as one drawing
-/// in the DOT language, which graphviz draws: a place for each with what the objects hold there, a second outline where
-/// it is an outcome, and an edge for each block that leads on, with its client's name. `Order` comes exactly where no
-/// legal order is named, `Limit` only where there are more configurations than the limit, `Memory` where memory was
-/// refused.
+/// in the DOT language, which graphviz draws: a place for each with what the objects hold there, where it is an outcome
+/// a second outline, its number among all outcomes and the clients' variables, and an edge for each block that leads on,
+/// with its client's name. More places than 50 are drawn close together. `Order` comes exactly where no legal order is
+/// named, `Limit` only where there are more configurations than the limit, `Memory` where memory was refused.
 pub fn chart_dot(
     alloc: Global,
     program: &Program,
@@ -157,7 +263,8 @@ pub fn chart_dot(
     ensures limit { IsErrOf result OutcomesFault.Limit → HasMoreThanAfter program.now (order_of front.now) limit }
     ensures order { IsErrOf result OutcomesFault.Order → ¬ IsLegal program.now (order_of front.now) }
 {
+    let all = outcomes_after(alloc, program, front, limit)?;
     let chart = chart_after(alloc, program, front, limit)?;
-    let text = drawn(alloc, program, &chart)?;
+    let text = drawn(alloc, program, all.found(), &chart)?;
     Ok(text)
 }

@@ -4,6 +4,7 @@
 mod blocks;
 mod chart;
 mod chart_text;
+mod end_text;
 pub mod laws;
 mod nodes;
 mod written;

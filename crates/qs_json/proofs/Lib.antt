@@ -1,5 +1,4 @@
 pub mod Elements
-pub mod Nothing
 pub mod Refusals
 pub mod OneGraphJson
 pub mod OneOutcomesJson

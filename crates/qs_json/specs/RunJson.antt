@@ -3,12 +3,16 @@ use Rattle.std.specs.Prelude.{ℕ, ℤ, List, [], ◌++◌, codes, decimal, leng
 use Rattle.std.specs.Fmt.{signed_decimal}
 use Rattle.qs_objects.specs.Act.{State}
 use Rattle.qs_objects.specs.Objects.{kind_of, values_of}
+use Rattle.qs_objects.specs.declared.Op.TheVariants.{Balance}
 use Rattle.qs_objects.specs.declared.held.Ticket.{Ticket}
 use Rattle.qs_objects.specs.declared.held.Event.{Event}
 use Rattle.qs_objects.specs.declared.object.Kind.{Kind}
 use Rattle.qs_objects.specs.declared.object.Kind.TheVariants as kinds
 use Rattle.qs_program.specs.Program.{ClientShape, ProgramShape, object_at, client_at, whole_load, whole_weight}
 use Rattle.qs_played.specs.Played.{Played}
+use Rattle.qs_fates.specs.Fates.{trace_fates}
+use Rattle.qs_fates.specs.declared.fate.Fate.{Fate}
+use Rattle.qs_fates.specs.declared.fate.Fate.TheVariants.{Done, Refused, NoValue}
 use Rattle.qs_sync_counts.specs.declared.sync_counts.SyncCount.{SyncCount}
 use Rattle.qs_text.specs.Words.{first_ticket, no_state}
 use Rattle.qs_objects.specs.Operations.{word}
@@ -19,13 +23,43 @@ abbrev pub reply_json : Option ℤ → List ℕ
 reply_json None = codes "null"
 reply_json (Some reply) = signed_decimal reply
 
--- a request on an object of the program; a number past its objects has no name
-abbrev pub event_json : ProgramShape → Event → List ℕ
-event_json p e =
+-- whether a request was refused; null where its object has not run it yet
+abbrev pub refused_json : Option Fate → List ℕ
+refused_json None = codes "null"
+refused_json (Some Done) = codes "false"
+refused_json (Some Refused) = codes "true"
+refused_json (Some NoValue) = codes "false"
+
+-- whether a query asked for what is not there
+abbrev pub none_json : Option Fate → List ℕ
+none_json None = codes "false"
+none_json (Some Done) = codes "false"
+none_json (Some Refused) = codes "false"
+none_json (Some NoValue) = codes "true"
+
+-- what became of a request
+abbrev pub fate_json : Option Fate → List ℕ
+fate_json fate = field (codes "refused") (refused_json fate) ++ field (codes "none") (none_json fate)
+
+-- a request on an object of the program, with what became of it; a number past the objects has no name
+abbrev pub event_json : ProgramShape → Event → Option Fate → List ℕ
+event_json p e fate =
     first_field (codes "object") (quoted (object_at p e.request.object).name)
     ++ field (codes "operation") (quoted (word e.request.op))
     ++ field (codes "arguments") (array signed_decimal e.request.args)
-    ++ field (codes "reply") (reply_json e.reply) ++ codes "}"
+    ++ field (codes "reply") (reply_json e.reply) ++ fate_json fate ++ codes "}"
+
+-- past the end of a trace
+abbrev pub no_event : Event
+no_event = record { request = record { object = 0; op = Balance; args = [] }; reply = None }
+
+-- the request at a place of a trace, with what became of it
+abbrev pub request_json : ProgramShape → List Event → List (Option Fate) → ℕ → List ℕ
+request_json p trace fates k = event_json p (slice_index_or trace k no_event) (slice_index_or fates k None)
+
+-- the requests of a trace
+abbrev pub trace_json : ProgramShape → List Event → List (Option Fate) → List ℕ
+trace_json p trace fates = array_up_to (length trace) (request_json p trace fates)
 
 -- how many synchronisations a block has sent for an object
 abbrev pub sync_json : ProgramShape → SyncCount → List ℕ
@@ -48,7 +82,7 @@ block_json p t ended =
 abbrev pub ticket_json : (counts : Bool) → ProgramShape → Played → ℕ → List ℕ
 ticket_json counts p run i =
     block_json p (slice_index_or run.order i first_ticket) (slice_index_or run.ended i false)
-    ++ field (codes "trace") (array (event_json p) (slice_index_or run.traces i []))
+    ++ field (codes "trace") (trace_json p (slice_index_or run.traces i []) (trace_fates p run i))
     ++ syncs_json counts p run i ++ codes "}"
 
 abbrev pub kind_json : List ℕ → List ℕ

@@ -1,14 +1,15 @@
 // The trace of a ticket.
 
-ghost use Rattle.std.specs.Prelude.{◌≡◌, ◌<◌, ◌++◌, OnOk, codes};
+ghost use Rattle.std.specs.Prelude.{◌≡◌, ◌<◌, ◌++◌, None, OnOk, codes, length, slice_index_or};
 ghost use Rattle.std.specs.Fmt.{signed_decimal};
 ghost use Rattle.std.specs.List.{join_by};
 ghost use Rattle.qs_objects.specs.Operations.{word};
-ghost use Rattle.qs_text.specs.Texts.{Puts};
-ghost use Rattle.qs_json.specs.Pieces.{array, field, quoted};
-ghost use Rattle.qs_json.specs.RunJson.{event_json, reply_json};
+ghost use Rattle.qs_text.specs.Texts.{Puts, texts_up_to};
+ghost use Rattle.qs_json.specs.Pieces.{array, element, field, quoted};
+ghost use Rattle.qs_json.specs.RunJson.{event_json, fate_json, reply_json, request_json, trace_json};
 
 use crate::pieces::{put_comma, put_integer, put_object_name, put_string};
+use qs_fates::Fate;
 use qs_objects::{Event, Op};
 use qs_program::Program;
 use qs_text::put_word;
@@ -51,8 +52,26 @@ fn put_reply(out: &mut Vec<u8>, reply: Option<i64>) -> Result<(), AllocError>
     }
 }
 
-fn put_event(out: &mut Vec<u8>, program: &Program, event: &Event) -> Result<(), AllocError>
-    ensures ok { OnOk result (Puts (event_json program.now event.now) out.old.items out.new.items) }
+// What became of a request, as two fields.
+fn fate_words(fate: Option<Fate>) -> &'static [u8]
+    ensures words { result.now ≡ fate_json fate }
+{
+    match fate {
+        None => b",\"refused\":null,\"none\":false",
+        Some(Fate::Done) => b",\"refused\":false,\"none\":false",
+        Some(Fate::Refused) => b",\"refused\":true,\"none\":false",
+        Some(Fate::NoValue) => b",\"refused\":false,\"none\":true",
+    }
+}
+
+// A request with its reply, and with what became of it.
+fn put_event(
+    out: &mut Vec<u8>,
+    program: &Program,
+    event: &Event,
+    fate: Option<Fate>,
+) -> Result<(), AllocError>
+    ensures ok { OnOk result (Puts (event_json program.now event.now fate) out.old.items out.new.items) }
 {
     let request = &event.request;
     put_object_name(out, program, request.object)?;
@@ -60,29 +79,43 @@ fn put_event(out: &mut Vec<u8>, program: &Program, event: &Event) -> Result<(), 
     put_arguments(out, request.args.as_slice())?;
     put_word(out, b",\"reply\":")?;
     put_reply(out, event.reply)?;
+    put_word(out, fate_words(fate))?;
     put_word(out, b"}")
 }
 
-// The events of a trace, with a comma between each two.
-fn put_events(out: &mut Vec<u8>, program: &Program, trace: &[Event]) -> Result<(), AllocError>
-    ensures ok { OnOk result (Puts (join_by (event_json program.now) (codes ",") trace.now) out.old.items out.new.items) }
+// What became of the request at a place of a trace.
+fn fate_at(fates: &[Option<Fate>], place: usize) -> Option<Fate>
+    ensures fate { result ≡ slice_index_or fates.now place None }
+{
+    fates.get(place).copied().unwrap_or(None)
+}
+
+// The requests of a trace, with a comma between each two.
+fn put_events(
+    out: &mut Vec<u8>,
+    program: &Program,
+    trace: &[Event],
+    fates: &[Option<Fate>],
+) -> Result<(), AllocError>
+    ensures ok { OnOk result (Puts (texts_up_to (length trace.now) (element (request_json program.now trace.now fates.now))) out.old.items out.new.items) }
 {
     for place in 0..trace.len() {
         put_comma(out, place)?;
-        put_event(out, program, &trace[place])?;
+        put_event(out, program, &trace[place], fate_at(fates, place))?;
     }
     Ok(())
 }
 
-/// Puts a trace at the end, as a field.
+/// Puts a trace at the end, as a field, with what became of its requests.
 pub(crate) fn put_trace(
     out: &mut Vec<u8>,
     program: &Program,
     trace: &[Event],
+    fates: &[Option<Fate>],
 ) -> Result<(), AllocError>
-    ensures ok { OnOk result (Puts (codes ",\"trace\":" ++ array (event_json program.now) trace.now) out.old.items out.new.items) }
+    ensures ok { OnOk result (Puts (codes ",\"trace\":" ++ trace_json program.now trace.now fates.now) out.old.items out.new.items) }
 {
     put_word(out, b",\"trace\":[")?;
-    put_events(out, program, trace)?;
+    put_events(out, program, trace, fates)?;
     put_word(out, b"]")
 }

@@ -3,15 +3,17 @@
 ghost use Rattle.std.specs.Prelude.{◌≡◌, ◌<◌, [], IfOk, OnOk, codes, false, length, slice_index_or};
 ghost use Rattle.std.specs.List.{join_by};
 ghost use Rattle.qs_sync_counts.specs.SyncRows.{sync_count};
+ghost use Rattle.qs_fates.specs.Fates.{all_fates, trace_fates as told_in};
 ghost use Rattle.qs_text.specs.Words.{first_ticket};
 ghost use Rattle.qs_text.specs.Texts.{texts_up_to, Puts};
 ghost use Rattle.qs_json.specs.Pieces.{array, element, field};
 ghost use Rattle.qs_json.specs.RunJson as definitions;
-ghost use Rattle.qs_json.specs.RunJson.{block_json, object_json, sync_json, syncs_json, ticket_json};
+ghost use Rattle.qs_json.specs.RunJson.{block_json, object_json, sync_json, syncs_json, ticket_json, trace_json};
 
 use crate::events::put_trace;
 use crate::pieces::{put_client_name, put_comma, put_object_name, put_truth};
 use crate::states::put_state;
+use qs_fates::{JournalFates, journal_fates, trace_fates};
 use qs_objects::Ticket;
 use qs_played::Played;
 use qs_program::Program;
@@ -116,15 +118,34 @@ fn ended_at(played: &Played, place: usize) -> bool
     played.ended().get(place).copied().unwrap_or(false)
 }
 
+// The trace of the ticket at a place, as a field.
+fn put_told(
+    out: &mut Vec<u8>,
+    program: &Program,
+    played: &Played,
+    fates: &JournalFates,
+    place: usize,
+) -> Result<(), AllocError>
+    requires place { place < length played.now.order }
+    requires fates { fates.now ≡ all_fates program.now played.now }
+    ensures ok { OnOk result (Puts (field (codes "trace")
+        (trace_json program.now (slice_index_or played.now.traces place []) (told_in program.now played.now place))) out.old.items out.new.items) }
+{
+    let told = trace_fates(*out.allocator(), program, played, fates, place)?;
+    put_trace(out, program, played.trace(place), told.as_slice())
+}
+
 // The ticket at a place of the order, with its trace.
 fn put_ticket(
     out: &mut Vec<u8>,
     program: &Program,
     played: &Played,
+    fates: &JournalFates,
     place: usize,
     counts: bool,
 ) -> Result<(), AllocError>
-    requires { place < length played.now.order }
+    requires place { place < length played.now.order }
+    requires fates { fates.now ≡ all_fates program.now played.now }
     ensures ok { OnOk result (Puts (ticket_json counts program.now played.now place) out.old.items out.new.items) }
 {
     put_block(
@@ -133,7 +154,7 @@ fn put_ticket(
         ticket_at(played, place),
         ended_at(played, place),
     )?;
-    put_trace(out, program, played.trace(place))?;
+    put_told(out, program, played, fates, place)?;
     put_syncs(out, program, played, place, counts)?;
     put_word(out, b"}")
 }
@@ -143,13 +164,15 @@ fn put_tickets(
     out: &mut Vec<u8>,
     program: &Program,
     played: &Played,
+    fates: &JournalFates,
     counts: bool,
 ) -> Result<(), AllocError>
+    requires fates { fates.now ≡ all_fates program.now played.now }
     ensures ok { OnOk result (Puts (texts_up_to (length played.now.order) (element (ticket_json counts program.now played.now))) out.old.items out.new.items) }
 {
     for place in 0..played.order().len() {
         put_comma(out, place)?;
-        put_ticket(out, program, played, place, counts)?;
+        put_ticket(out, program, played, fates, place, counts)?;
     }
     Ok(())
 }
@@ -178,10 +201,10 @@ fn put_objects(out: &mut Vec<u8>, program: &Program, played: &Played) -> Result<
     Ok(())
 }
 
-/// A run as one object on one line: the tickets in their order, each with its trace, and with `counts` with its
-/// synchronisations for each object of its block's list; the objects' states; the number of syncs; and whether the run
-/// is finished. A number past the program's objects or clients has no name. An error says that an allocation failed,
-/// and nothing is left.
+/// A run as one object on one line: the tickets in their order, each with its trace, in which each request says whether
+/// it was refused or found nothing, and with `counts` with its synchronisations for each object of its block's list; the
+/// objects' states; the number of syncs; and whether the run is finished. A number past the program's objects or clients
+/// has no name. An error says that an allocation failed, and nothing is left.
 pub fn run_json(
     alloc: Global,
     program: &Program,
@@ -190,9 +213,10 @@ pub fn run_json(
 ) -> Result<Vec<u8>, AllocError>
     ensures text { IfOk result (λ bytes. bytes.items ≡ definitions.run_json counts program.now played.now) }
 {
+    let fates = journal_fates(alloc, program, played)?;
     let mut out = Vec::new(alloc);
     put_word(&mut out, b"{\"order\":[")?;
-    put_tickets(&mut out, program, played, counts)?;
+    put_tickets(&mut out, program, played, &fates, counts)?;
     put_word(&mut out, b"]")?;
     put_word(&mut out, b",\"states\":[")?;
     put_objects(&mut out, program, played)?;

@@ -1,14 +1,17 @@
 -- When clap refuses a line, the fault that is answered is the one that the kind of clap's error stands for, or that
 -- memory ran out. The proofs of `matches_of` and `read_line` stand on it. It goes by cases on the kinds of error that
 -- clap may give, all of which stand for one and the same answer.
-use Rattle.std.proofs.Common.{◌≡◌, ◌≢◌, ◌∙◌, [], ◌∷◌, Option, Result, Ok, Err, refl, sym, ap, inl, inr}
+use Rattle.std.proofs.Common.{◌≡◌, ◌≢◌, ◌∙◌, List, [], ◌∷◌, Option, Result, Ok, Err, false, refl, sym, ap, inl, inr}
 use Rattle.std.specs.Result.{IsErrAnd}
+use Rattle.clap.specs.Faults.{fault_of}
 use Rattle.clap.specs.Kinds.{HasKind, IsAmong, Kinds}
+use Rattle.clap.specs.Words.{Text, subcommand_of}
 use Rattle.clap.specs.Values.{kind_of}
 use Rattle.clap.specs.declared.error.Error.{Error}
 use Rattle.clap.specs.declared.error.kind.ErrorKind.{ErrorKind}
 use Rattle.clap.specs.declared.error.kind.ErrorKind.TheVariants.{DisplayHelp, DisplayVersion}
-use Rattle.qs_line.specs.Line.{IsAnswer, IsFault, IsFaultAmong, Request, line_by, line_of_kind, refused}
+use Rattle.qs_line.specs.Command.{qs_app}
+use Rattle.qs_line.specs.Line.{IsAnswer, IsFault, IsFaultAmong, Request, asks_language, line_by, line_in, line_of_kind, refused, request_met}
 use Rattle.qs_line.specs.declared.line.LineFault.{LineFault}
 use Rattle.qs_line.specs.declared.line.LineFault.TheVariants as fault
 use Rattle.qs_line.proofs.Alike.{Alike}
@@ -44,6 +47,11 @@ fault_is_answer (k ∷ ks) request (fault.Help text) alike among =
 fault_is_answer [] request (fault.Version text) alike among = absurd among.1
 fault_is_answer (k ∷ ks) request (fault.Version text) alike among =
     sym (first_says k ks among.0 alike among.1) ∙ ap line_of_kind among.2
+
+-- a line that does not ask for the page on the language is what clap makes of it
+pub other_line : (words : List Text) → asks_language words ≡ false
+    → line_in words ≡ line_by (fault_of qs_app words) (request_met (subcommand_of qs_app words))
+other_line words unasked = rw unasked refl
 
 -- `?` hands on the fault
 pub handed_on : {T : Type 0} (r : Result T LineFault) (f : LineFault) → IsErrAnd r (λ g. g ≡ f) → r ≡ Err f

@@ -43,13 +43,16 @@ scheduled_app app =
     with_rule (with_rule (with_rule app (option_rule (codes "rounds"))) (option_rule (codes "pick")))
     (option_rule (codes "order"))
 
--- `.. [--rounds N] [--pick LIST] [--order LIST] [--counts] [--steps] [--queues]`
+-- `.. [--counts] [--refusals]`
+abbrev pub shown_app : App → App
+shown_app app = with_rule (with_rule app (flag_rule (codes "counts"))) (flag_rule (codes "refusals"))
+
+-- `.. [--rounds N] [--pick LIST] [--order LIST] [--counts] [--refusals] [--steps] [--queues]`
 abbrev pub planned_app : App → App
 planned_app app =
-    with_rule (with_rule (with_rule (scheduled_app app) (flag_rule (codes "counts"))) (flag_rule (codes "steps")))
-    (flag_rule (codes "queues"))
+    with_rule (with_rule (shown_app (scheduled_app app)) (flag_rule (codes "steps"))) (flag_rule (codes "queues"))
 
--- `rules [--rounds N] [--pick LIST] [--order LIST] [--counts] [--steps] [--queues] [--format F] [--warn]`
+-- `rules [--rounds N] [--pick LIST] [--order LIST] [--counts] [--refusals] [--steps] [--queues] [--format F] [--warn]`
 abbrev pub rules_app : App
 rules_app = shared_app (planned_app (new_app (codes "rules")))
 
@@ -57,8 +60,8 @@ rules_app = shared_app (planned_app (new_app (codes "rules")))
 abbrev pub machine_app : Text → App
 machine_app word = with_rule (with_rule (new_app word) (defaulted_rule (codes "mode") (codes "both"))) chunk_rule
 
--- `play [--mode M] [--chunk N] [--rounds N] [--pick LIST] [--order LIST] [--counts] [--steps] [--queues] [--format F]
--- [--warn]`
+-- `play [--mode M] [--chunk N] [--rounds N] [--pick LIST] [--order LIST] [--counts] [--refusals] [--steps] [--queues]
+-- [--format F] [--warn]`
 abbrev pub play_app : App
 play_app = shared_app (planned_app (machine_app (codes "play")))
 
@@ -66,10 +69,9 @@ play_app = shared_app (planned_app (machine_app (codes "play")))
 abbrev pub times_rule : Rule
 times_rule = record (option_rule (codes "times")) { parser = Some (parser.Signed (pos 1) (pos 100000)) }
 
--- `run [--mode M] [--chunk N] [--counts] [--times N] [--format F] [--warn]`
+-- `run [--mode M] [--chunk N] [--counts] [--refusals] [--times N] [--format F] [--warn]`
 abbrev pub run_app : App
-run_app =
-    shared_app (with_rule (with_rule (machine_app (codes "run")) (flag_rule (codes "counts"))) times_rule)
+run_app = shared_app (with_rule (shown_app (machine_app (codes "run"))) times_rule)
 
 -- `WORD [--always COND] [--some COND] [--throughout COND]`
 abbrev pub claimed_app : App → App

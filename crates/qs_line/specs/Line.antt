@@ -1,5 +1,5 @@
 -- What a line asks for.
-use Rattle.std.specs.Prelude.{◌≡◌, ◌≢◌, ℕ, List, [], ◌∷◌, codes, Option, Some, None, Result, Ok, Err, ⊤, Bool, true, false, if◌then◌else◌, ◌||◌, ◌&&◌, not, is_some, option_map, option_and_then, unwrap_or}
+use Rattle.std.specs.Prelude.{◌≡◌, ◌≢◌, ℕ, List, [], ◌∷◌, codes, Option, Some, None, ◌==◌, length, slice_index_or, Result, Ok, Err, ⊤, Bool, true, false, if◌then◌else◌, ◌||◌, ◌&&◌, not, is_some, option_map, option_and_then, unwrap_or}
 use Rattle.std.specs.Option.{option_map_or}
 use Rattle.std.specs.Str.{bytes_eq}
 use Rattle.std.specs.Str.Parse.{digits_value, without_leading_plus}
@@ -46,8 +46,8 @@ pub data PlanShape : Type 0 where
 -- chunks of a size; one on threads, or so many of them, whose ends are counted; after the blocks of some clients, how
 -- many configurations there can be; or, after these and with so many configurations at most, whether a condition holds
 -- of all ends, of some or throughout, or all outcomes, or their ends alone. Each is asked for
--- in a format, and of a run the counts of synchronisations may be asked for as well, and of a schedule a line for each
--- step, and what lies where at its end.
+-- in a format, and of a run the counts of synchronisations and what was refused may be asked for as well, and of a
+-- schedule a line for each step, and what lies where at its end.
 pub data Request : Type 0 where
   check : Format → Request
   graph : GraphFormat → Request
@@ -172,6 +172,7 @@ abbrev pub style_at : List Row → Option ReportStyle
 style_at rows =
     option_map (λ how. record {
       counts = flag_at (codes "counts") rows;
+      refusals = flag_at (codes "refusals") rows;
       format = how;
       steps = flag_at (codes "steps") rows;
       queues = flag_at (codes "queues") rows;
@@ -249,10 +250,10 @@ play_at rows =
     (λ chunk. option_map (play style mode chunk) (styled_plan_at style rows))
     (chunk_at rows)) (mode_at rows)) (style_at rows)
 
--- many runs, whose ends are counted; no synchronisations are shown of them
+-- many runs, whose ends are counted; no synchronisations are shown of them, and no requests
 abbrev pub tally_at : List Row → Option Request
 tally_at rows =
-    if flag_at (codes "counts") rows then None
+    if flag_at (codes "counts") rows || flag_at (codes "refusals") rows then None
     else option_and_then (λ how. option_and_then (λ mode. option_and_then (λ chunk. option_map (tally how mode chunk)
     (times_at rows)) (chunk_at rows)) (mode_at rows)) (format_at rows)
 
@@ -363,9 +364,17 @@ abbrev pub line_by : Kinds → Option Request → Line
 line_by [] request = line_met request
 line_by (kind ∷ kinds) request = line_of_kind kind
 
+-- after the program's name the words ask for the page on the language of scripts
+abbrev pub asks_language : List Text → Bool
+asks_language words =
+    length words == 3 && (bytes_eq (slice_index_or words 1 []) (codes "help")
+    && bytes_eq (slice_index_or words 2 []) (codes "language"))
+
 -- the line of these words, the program's name first
 abbrev pub line_in : List Text → Line
-line_in words = line_by (fault_of qs_app words) (request_met (subcommand_of qs_app words))
+line_in words =
+    if asks_language words then help
+    else line_by (fault_of qs_app words) (request_met (subcommand_of qs_app words))
 
 -- whether the line of these words asks for warnings
 abbrev pub warns_in : List Text → Bool

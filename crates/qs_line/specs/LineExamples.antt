@@ -29,10 +29,14 @@ line words = line_in (codes "qs" ∷ words)
 -- a report as text, without the counts and with them, after the lines of its steps, and before those of its queues; and
 -- one as JSON and as a picture
 abbrev pub plain : ReportStyle
-plain = record { counts = false; format = report_format.Text; steps = false; queues = false }
+plain = record { counts = false; refusals = false; format = report_format.Text; steps = false; queues = false }
 
 abbrev pub counted : ReportStyle
 counted = record plain { counts = true }
+
+-- and with what was refused
+abbrev pub marked : ReportStyle
+marked = record plain { refusals = true }
 
 abbrev pub stepped : ReportStyle
 stepped = record plain { steps = true }
@@ -94,6 +98,25 @@ pub record TallyLines : Type 0 where
   pub with_counts : line (codes "run" ∷ codes "--times=2" ∷ codes "--counts" ∷ []) ≡ refused
   pub as_picture : line (codes "run" ∷ codes "--times=2" ∷ codes "--format=svg" ∷ []) ≡ refused
   pub of_play : line (codes "play" ∷ codes "--times=2" ∷ []) ≡ refused
+
+pub record RefusalLines : Type 0 where
+  pub by_rules : line (codes "rules" ∷ codes "--refusals" ∷ codes "--rounds=2" ∷ [])
+      ≡ asks (rules marked (by_schedule 2 []))
+  pub by_play : line (codes "play" ∷ codes "--refusals" ∷ codes "--counts" ∷ codes "--order=c0" ∷ [])
+      ≡ asks (play (record marked { counts = true }) Both 8 (by_order (once (Client 0) ∷ [])))
+  pub by_run : line (codes "run" ∷ codes "--refusals" ∷ []) ≡ asks (run marked Both 8)
+  pub as_data : line (codes "run" ∷ codes "--format=json" ∷ codes "--refusals" ∷ [])
+      ≡ asks (run (record as_json { refusals = true }) Both 8)
+  pub of_many : line (codes "run" ∷ codes "--times=2" ∷ codes "--refusals" ∷ []) ≡ refused
+  pub of_outcomes : line (codes "outcomes" ∷ codes "--refusals" ∷ []) ≡ refused
+  pub twice : line (codes "run" ∷ codes "--refusals" ∷ codes "--refusals" ∷ []) ≡ refused
+
+pub record LanguageLines : Type 0 where
+  pub page : line (codes "help" ∷ codes "language" ∷ []) ≡ help
+  pub alone : line (codes "help" ∷ []) ≡ refused
+  pub other : line (codes "help" ∷ codes "languages" ∷ []) ≡ refused
+  pub more : line (codes "help" ∷ codes "language" ∷ codes "--warn" ∷ []) ≡ refused
+  pub other_word : line (codes "check" ∷ codes "language" ∷ []) ≡ refused
 
 pub record EstimateLines : Type 0 where
   pub alone : line (codes "outcomes" ∷ codes "--estimate" ∷ []) ≡ asks (estimate format.Text [])
@@ -339,6 +362,8 @@ pub record LineExamples : Type 0 where
   pub settings : SetLines
   pub limits : LimitLines
   pub tallies : TallyLines
+  pub refusals : RefusalLines
+  pub language : LanguageLines
   pub estimates : EstimateLines
   pub fronts : FrontLines
   pub orders : OrderLines

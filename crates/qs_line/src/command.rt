@@ -3,7 +3,7 @@
 ghost use Rattle.std.specs.Prelude.{◌≡◌, IfOk, codes, false};
 ghost use Rattle.clap.specs.Words.{app_of, new_app, rule_of, with_rule, with_subcommand};
 ghost use Rattle.clap.specs.declared.Command.TheViews.{out-Command as fields_of};
-ghost use Rattle.qs_line.specs.Command.{check_app, chunk_rule, claimed_app, defaulted_rule, flag_rule, graph_app, limit_rule, listing_app, machine_app, named_app, option_rule, outcomes_app, planned_app, play_app, qs_app, rules_app, run_app, scheduled_app, shared_app, texts_app, times_rule};
+ghost use Rattle.qs_line.specs.Command.{check_app, chunk_rule, claimed_app, defaulted_rule, flag_rule, graph_app, limit_rule, listing_app, machine_app, named_app, option_rule, outcomes_app, planned_app, play_app, qs_app, rules_app, run_app, scheduled_app, shared_app, shown_app, texts_app, times_rule};
 
 use crate::help;
 use clap::{Arg, ArgAction, Command, value_parser};
@@ -98,14 +98,26 @@ fn scheduled<'a>(alloc: Global, command: Command<'a>) -> Result<Command<'a>, All
         .arg(option(alloc, "order", "LIST", help::ORDER))
 }
 
-// With the settings of a run that is played: who goes when, and whether the counts, the steps and the queues are shown.
+// With the settings that say what a report shows beside the requests.
+fn shown<'a>(alloc: Global, command: Command<'a>) -> Result<Command<'a>, AllocError>
+    requires local { (fields_of command).has_globals ≡ false }
+    ensures app { IfOk result (λ whole. app_of whole ≡ shown_app (app_of command.entry)) }
+    ensures local { IfOk result (λ whole. (fields_of whole).has_globals ≡ false) }
+{
+    command
+        .arg(flag(alloc, "counts", help::COUNTS))?
+        .arg(flag(alloc, "refusals", help::REFUSALS))
+}
+
+// With the settings of a run that is played: who goes when, and whether the counts, what was refused, the steps and the
+// queues are shown.
 fn planned<'a>(alloc: Global, command: Command<'a>) -> Result<Command<'a>, AllocError>
     requires local { (fields_of command).has_globals ≡ false }
     ensures app { IfOk result (λ whole. app_of whole ≡ planned_app (app_of command.entry)) }
     ensures local { IfOk result (λ whole. (fields_of whole).has_globals ≡ false) }
 {
-    scheduled(alloc, command)?
-        .arg(flag(alloc, "counts", help::COUNTS))?
+    let scheduled = scheduled(alloc, command)?;
+    shown(alloc, scheduled)?
         .arg(flag(alloc, "steps", help::STEPS))?
         .arg(flag(alloc, "queues", help::QUEUES))
 }
@@ -170,9 +182,8 @@ fn run_command<'a>(alloc: Global) -> Result<Command<'a>, AllocError>
     ensures app { IfOk result (λ command. app_of command ≡ run_app) }
     ensures local { IfOk result (λ command. (fields_of command).has_globals ≡ false) }
 {
-    let run = machine_command(alloc, "run", help::RUN, help::RUN_EXAMPLE)?
-        .arg(flag(alloc, "counts", help::COUNTS))?
-        .arg(times_option(alloc))?;
+    let machine = machine_command(alloc, "run", help::RUN, help::RUN_EXAMPLE)?;
+    let run = shown(alloc, machine)?.arg(times_option(alloc))?;
     shared(alloc, run, help::REPORT_FORMAT)
 }
 

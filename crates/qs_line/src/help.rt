@@ -31,7 +31,8 @@ Examples, with the script in the file my.script:
   qs outcomes < my.script                  all results that the script can have
 
 A report lists the blocks in the order of their reservations, each with its requests and replies, then the
-objects' last states and how many synchronisations were sent. `qs WORD --help` says more of a word.";
+objects' last states and how many synchronisations were sent. `qs WORD --help` says more of a word, and
+`qs help language` all of scripts: declarations, statements, and the operations of each kind of object.";
 
 pub const CHECK: &str =
     "Checks the script and counts its objects, clients, blocks, load (requests at most) and weight (steps at most)";
@@ -118,10 +119,11 @@ Example:
 
 The second lists only what comes after a block of bob and then one of ann. The third lists the ends alone, so that `diff`
 compares two scripts. The next three answer yes or no: whether a condition holds of all ends, of some, or between
-blocks too, with an order that shows it. The seventh says before a search how large it can be. The last draws how blocks lead from one configuration to the next, with a
-second outline for each outcome. A line `outcome 2 c1,c0` begins the second result: the block of client 1, bob, first,
-then that of client 0, ann. Below it stand the objects at the end, and each client with its variables. Configurations,
-which the last line counts, are where the script can stand between two blocks."
+blocks too, with an order that shows it. The seventh says before a search how large it can be. The last draws how
+blocks lead from one configuration to the next, with a second outline for each outcome. A line `outcome 2 c1,c0` begins
+the second result: the block of client 1, bob, first, then that of client 0, ann. Below it stand the objects at the end,
+and each client with its variables. Configurations, which the last line counts, are where the script can stand between
+two blocks."
 );
 
 pub const FORMAT: &str =
@@ -154,7 +156,7 @@ pub const ESTIMATE: &str =
     "Says how many configurations there can be, before any search: at most so many, and with --throughout at least so many";
 
 pub const TIMES: &str =
-    "Runs the script so many times, 1 to 100000, and counts how often each end came; not with --counts, and as text or JSON";
+    "Runs the script so many times, 1 to 100000, and counts how often each end came; not with --counts or --refusals, and as text or JSON";
 
 pub const ALWAYS: &str =
     "Answers whether a condition holds of all ends, and stops at the first where it does not: sums of numbers, of variables as bob.x, and of queries as a.balance(), that are compared by ==, !=, <, <=, > or >=, joined by &&, || and !, with parentheses";
@@ -176,6 +178,9 @@ pub const PICK: &str =
 
 pub const COUNTS: &str =
     "Shows after each block how many synchronisations it has sent for each of its objects";
+
+pub const REFUSALS: &str =
+    "Marks each command that its object refused, and each query of what is not there: `a.withdraw(120) refused`, `b.take() = 0 none`; not with --times";
 
 pub const STEPS: &str =
     "Writes a line for each step before the report: who made it, and what it did; not with --order, nor with another format than text";

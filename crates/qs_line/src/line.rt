@@ -1,10 +1,10 @@
 // The settings of a line.
 
-ghost use Rattle.std.specs.Prelude.{◌≡◌, [], IfOk, IfErr, map, option_and_then, option_map};
+ghost use Rattle.std.specs.Prelude.{◌≡◌, [], Err, IfOk, IfErr, map, option_and_then, option_map};
 ghost use Rattle.clap.specs.Words.{found_of, kind_of, rows_of, subcommand_of, subcommand_rows_of};
 ghost use Rattle.clap.specs.Faults.{fault_of};
 ghost use Rattle.qs_line.specs.Command.{qs_app};
-ghost use Rattle.qs_line.specs.Line.{IsAnswer, IsFault, IsFaultAmong, answer_or_list_at, ask_at, check_at, chunk_at, claim_at, claim_in, estimate_at, has_claim, has_times, list_at, flag_at, format_at, front_at, graph_at, graph_format_at, is_verbose_in, is_verbose_met, limit_at, line_in, mode_at, outcomes_at, outcomes_format_at, plan_of, play_at, report_format_at, request_at, request_met, request_of, rules_at, run_at, single_run_at, style_at, styled_plan, can_tell, tally_at, times_at, warns_in, warns_met};
+ghost use Rattle.qs_line.specs.Line.{IsAnswer, IsFault, IsFaultAmong, answer_or_list_at, ask_at, asks_language, help, check_at, chunk_at, claim_at, claim_in, estimate_at, has_claim, has_times, list_at, flag_at, format_at, front_at, graph_at, graph_format_at, is_verbose_in, is_verbose_met, limit_at, line_in, mode_at, outcomes_at, outcomes_format_at, plan_of, play_at, report_format_at, request_at, request_met, request_of, rules_at, run_at, single_run_at, style_at, styled_plan, can_tell, tally_at, times_at, warns_in, warns_met};
 
 use crate::command::command;
 use crate::found::text_at;
@@ -16,6 +16,7 @@ use clap::error::ErrorKind;
 use clap::{ArgMatches, Error};
 use qs_chunk::ChunkSize;
 use qs_conditions::{Claim, ConditionFault, Quantifier, read_condition};
+use qs_language::language_page;
 use qs_syncset::Mode;
 use std::alloc::{AllocError, Global};
 
@@ -94,6 +95,9 @@ pub enum ReportFormat {
 pub struct ReportStyle {
     /// Whether each block's synchronisations are shown.
     pub counts: bool,
+    /// Whether commands that were refused are marked, and queries of what is not there; JSON and pictures always mark
+    /// them.
+    pub refusals: bool,
     /// As text, as JSON or as a picture.
     pub format: ReportFormat,
     /// Whether a line for each step stands before it: only where a schedule is played and the report is text.
@@ -223,8 +227,8 @@ impl Settings {
 pub enum LineFault {
     /// It is no line of the program.
     Refused,
-    /// It asks for help, which is this text.
-    Help(String),
+    /// It asks for help, or for the page on the language, which is this text.
+    Help(Vec<u8>),
     /// It asks for the version, which is this text.
     Version(String),
     /// Out of memory.
@@ -299,6 +303,7 @@ fn style_of(found: &ArgMatches<'_>) -> Option<ReportStyle>
     let format = report_format_of(found)?;
     Some(ReportStyle {
         counts: has_flag(found, "counts"),
+        refusals: has_flag(found, "refusals"),
         format,
         steps: has_flag(found, "steps"),
         queues: has_flag(found, "queues"),
@@ -428,11 +433,11 @@ fn play_settings(alloc: Global, found: &ArgMatches<'_>) -> Result<Option<Setting
     }
 }
 
-// Many runs, whose ends are counted. No synchronisations are shown of them.
+// Many runs, whose ends are counted. No synchronisations are shown of them, and no requests.
 fn tally_settings(found: &ArgMatches<'_>) -> Option<Settings>
     ensures settings { option_map request_of result ≡ tally_at (rows_of (found_of found.now)) }
 {
-    if has_flag(found, "counts") {
+    if has_flag(found, "counts") || has_flag(found, "refusals") {
         return None;
     }
     let format = format_of(found)?;
@@ -616,7 +621,7 @@ fn line_fault(alloc: Global, error: &Error) -> LineFault
     match error.kind() {
         ErrorKind::OutOfMemory => LineFault::Memory,
         ErrorKind::DisplayHelp => match error.to_string(alloc) {
-            Ok(text) => LineFault::Help(text),
+            Ok(text) => LineFault::Help(text.into_bytes()),
             Err(_) => LineFault::Memory,
         },
         ErrorKind::DisplayVersion => match error.to_string(alloc) {
@@ -639,15 +644,39 @@ fn matches_of<'a>(alloc: Global, words: &'a [&'a str]) -> Result<ArgMatches<'a>,
     }
 }
 
+// Whether the words after the program's name ask for the page on the language.
+fn asks_language(words: &[&str]) -> bool
+    ensures value { result ≡ asks_language (map (λ word. word.now) words.now) }
+{
+    if words.len() != 3 {
+        return false;
+    }
+    words[1] == "help" && words[2] == "language"
+}
+
+// The page on the language.
+fn page(alloc: Global) -> LineFault
+    ensures help { IsAnswer help (Err result) }
+{
+    match language_page(alloc) {
+        Ok(page) => LineFault::Help(page),
+        Err(_) => LineFault::Memory,
+    }
+}
+
 /// The settings of a line, whose first word is the program's name: those that `clap` finds, and its defaults. `Refused`
 /// comes exactly where `clap` refuses the words by an error, where a format, a mode, a number or a list does not read,
 /// where an order stands beside picks or a number of rounds, where a condition does not read or stands beside another one
 /// or beside `--ends`, where an estimate stands beside a condition or beside `--ends`, where a number of runs stands
-/// beside `--counts`, or where steps or queues are asked for of an order or beside a report that is no text; `Help` and
-/// `Version` come exactly where it answers with help or with the version. `Memory` may come in place of each.
+/// beside `--counts` or `--refusals`, or where steps or queues are asked for of an order or beside a report that is no text; `Help` and
+/// `Version` come exactly where it answers with help or with the version, and `Help` where the words are `help language`.
+/// `Memory` may come in place of each.
 pub fn read_line<'a>(alloc: Global, words: &'a [&'a str]) -> Result<Settings, LineFault>
     ensures line { IsAnswer (line_in (map (λ word. word.now) words.entry.now)) result }
 {
+    if asks_language(words) {
+        return Err(page(alloc));
+    }
     let matches = matches_of(alloc, words)?;
     met_settings(alloc, &matches)?.ok_or(LineFault::Refused)
 }

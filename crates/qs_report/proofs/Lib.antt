@@ -5,3 +5,4 @@ pub mod UniqueTexts
 pub mod UniqueOutcomes
 pub mod UniqueEnds
 pub mod WorkedTexts
+pub mod MarkedLines

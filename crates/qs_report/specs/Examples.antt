@@ -1,5 +1,5 @@
 -- A few texts, worked out by hand.
-use Rattle.std.specs.Prelude.{◌≡◌, ℕ, pos, negsuc, List, [], ◌∷◌, codes}
+use Rattle.std.specs.Prelude.{◌≡◌, ℕ, pos, negsuc, true, false, List, [], ◌∷◌, codes}
 use Rattle.qs_objects.specs.Act.{buffer, grid}
 use Rattle.qs_script.specs.declared.fault.ReadFault.TheVariants as read
 use Rattle.qs_fault_places.specs.declared.fault.CheckFault.TheVariants as check
@@ -8,9 +8,12 @@ use Rattle.qs_serial.specs.declared.fault.OrderFault.TheVariants as order_fault
 use Rattle.qs_outcomes.specs.declared.fault.OutcomesFault.TheVariants as outcomes
 use Rattle.qs_report.specs.declared.faults.Fault.{Fault}
 use Rattle.qs_report.specs.declared.faults.Fault.TheVariants.{CommandLine, Input, Read, Check, Play, Order, Outcomes, Memory}
-use Rattle.qs_report.specs.Report.{report_text, counted_report_text, counts_text, state_line}
+use Rattle.qs_report.specs.Report.{report_text, counted_report_text, counts_text, state_line, styled_run_text}
 use Rattle.qs_report.specs.Faults.{fault_text, fault_status}
-use Rattle.qs_text.specs.Worked.{after_deposit, after_reservation, before, counted_syncs, deposited_once, deposits, state, three, two_clients_played}
+use Rattle.qs_played.specs.Played.{Played}
+use Rattle.qs_sync_counts.specs.SyncRows.{sync_count}
+use Rattle.qs_fates.specs.FateExamples.{two_withdrew}
+use Rattle.qs_text.specs.Worked.{after_deposit, after_reservation, before, counted_syncs, deposited_once, deposits, state, three, two_clients_played, withdrawals}
 
 pub record RunExamples : Type 0 where
   pub deposit :
@@ -39,6 +42,22 @@ pub record CountedRunExamples : Type 0 where
   pub several :
       counted_report_text three counted_syncs
       ≡ codes "order 3\nticket bob 0 done\nticket ann 0 done\nb.front() = 0\nsync b 0\nticket bob 1 open\nsync z_9 12\nsync b 4294967295\nstates\nsyncs 3\nunfinished\n"
+
+-- two withdrawals of 80 from an account of 100, and the value of an empty buffer; the last command of each block has not
+-- run yet
+abbrev pub counted_withdrawals : Played
+counted_withdrawals = record two_withdrew { sync_counts = (sync_count 0 1 ∷ sync_count 1 1 ∷ []) ∷ [] ∷ [] }
+
+pub record RefusalExamples : Type 0 where
+  pub withdrawn_twice :
+      styled_run_text true false withdrawals two_withdrew
+      ≡ codes "order 2\nticket ann 0 done\na.withdraw(80)\nb.take() = 0 none\na.balance() = 20\nb.put(5)\nticket bob 0 open\na.withdraw(80) refused\na.withdraw(20)\na.deposit(1)\nstates\nsyncs 2\nunfinished\n"
+  pub counted :
+      styled_run_text true true withdrawals counted_withdrawals
+      ≡ codes "order 2\nticket ann 0 done\na.withdraw(80)\nb.take() = 0 none\na.balance() = 20\nb.put(5)\nsync a 1\nsync b 1\nticket bob 0 open\na.withdraw(80) refused\na.withdraw(20)\na.deposit(1)\nstates\nsyncs 2\nunfinished\n"
+  pub unmarked :
+      styled_run_text false false withdrawals two_withdrew
+      ≡ codes "order 2\nticket ann 0 done\na.withdraw(80)\nb.take() = 0\na.balance() = 20\nb.put(5)\nticket bob 0 open\na.withdraw(80)\na.withdraw(20)\na.deposit(1)\nstates\nsyncs 2\nunfinished\n"
 
 pub record StateExamples : Type 0 where
   pub nothing : state_line (codes "b") (state (buffer 1 []) (pos 2)) ≡ codes "b buffer 1 [] refused 2\n"
@@ -94,6 +113,7 @@ pub record FaultExamples : Type 0 where
 pub record Examples : Type 0 where
   pub runs : RunExamples
   pub counted_runs : CountedRunExamples
+  pub refusals : RefusalExamples
   pub states : StateExamples
   pub counts : CountExamples
   pub faults : FaultExamples

@@ -1,10 +1,13 @@
 // The report of a run.
 
-ghost use Rattle.std.specs.Prelude.{◌≡◌, IfOk};
-ghost use Rattle.qs_report.specs.Report.{counted_report_text, report_text, run_text, finished_text};
+ghost use Rattle.std.specs.Prelude.{◌≡◌, ◌++◌, IfOk, OnOk, codes, true};
+ghost use Rattle.qs_report.specs.Report.{counted_report_text, report_text, run_text, styled_run_text, states_text, finished_text};
+ghost use Rattle.qs_text.specs.Texts.{count_line};
 
+use crate::refusals::put_marked_order;
 use crate::states::put_states;
 use crate::tickets::put_order;
+use qs_fates::journal_fates;
 use qs_played::{Outcome, Played};
 use qs_program::Program;
 use qs_text::{put, put_count_line};
@@ -20,6 +23,16 @@ fn finished_line(finished: bool) -> &'static [u8]
     }
 }
 
+// What stands behind the order: the objects' states, the number of syncs, and whether the run is finished.
+fn put_end(out: &mut Vec<u8>, program: &Program, played: &Played) -> Result<(), AllocError>
+    ensures ok { OnOk result (out.new.items ≡ out.old.items ++ states_text program.now played.now
+        ++ count_line (codes "syncs") played.now.syncs ++ finished_text played.now.finished) }
+{
+    put_states(out, program, played)?;
+    put_count_line(out, b"syncs", played.syncs())?;
+    put(out, finished_line(played.is_finished()))
+}
+
 // The text of a run, with or without its counts.
 fn text_of_run(
     alloc: Global,
@@ -31,9 +44,7 @@ fn text_of_run(
 {
     let mut out = Vec::new(alloc);
     put_order(&mut out, program, played, counts)?;
-    put_states(&mut out, program, played)?;
-    put_count_line(&mut out, b"syncs", played.syncs())?;
-    put(&mut out, finished_line(played.is_finished()))?;
+    put_end(&mut out, program, played)?;
     Ok(out)
 }
 
@@ -81,4 +92,22 @@ pub fn report_run_counts(
     ensures text { IfOk result (λ bytes. bytes.items ≡ counted_report_text program.now outcome.now) }
 {
     report_counts(alloc, program, outcome.played())
+}
+
+/// The text of a run as `report` makes it, or as `report_counts`, where each command that its object refused has the
+/// word `refused` at its line's end, and each query of what is not there the word `none`. An error says that an
+/// allocation failed, and nothing is left.
+pub fn report_with_refusals(
+    alloc: Global,
+    program: &Program,
+    played: &Played,
+    counts: bool,
+) -> Result<Vec<u8>, AllocError>
+    ensures text { IfOk result (λ bytes. bytes.items ≡ styled_run_text true counts program.now played.now) }
+{
+    let fates = journal_fates(alloc, program, played)?;
+    let mut out = Vec::new(alloc);
+    put_marked_order(&mut out, program, played, &fates, counts)?;
+    put_end(&mut out, program, played)?;
+    Ok(out)
 }

@@ -1,6 +1,6 @@
 // The order of a run: its tickets with their traces.
 
-ghost use Rattle.std.specs.Prelude.{◌≡◌, ◌<◌, ◌++◌, length, flat_map, OnOk, codes};
+ghost use Rattle.std.specs.Prelude.{◌≡◌, ◌<◌, ◌++◌, length, flat_map, OnOk, codes, false};
 ghost use Rattle.qs_sync_counts.specs.SyncRows.{sync_count};
 ghost use Rattle.qs_text.specs.Words.{reply_text};
 ghost use Rattle.qs_report.specs.Report.{event_line, ticket_line, ticket_text, sync_line, sync_lines, shown_ticket, order_text};
@@ -36,7 +36,7 @@ fn put_event(out: &mut Vec<u8>, program: &Program, event: &Event) -> Result<(), 
     put_reply(out, event.reply)
 }
 
-fn put_ticket_line(
+pub(crate) fn put_ticket_line(
     out: &mut Vec<u8>,
     program: &Program,
     ticket: Ticket,
@@ -75,7 +75,7 @@ fn put_ticket(
     place: usize,
 ) -> Result<(), AllocError>
     requires { place < length played.now.order }
-    ensures ok { OnOk result (out.new.items ≡ out.old.items ++ ticket_text program.now played.now place) }
+    ensures ok { OnOk result (out.new.items ≡ out.old.items ++ ticket_text false program.now played.now place) }
 {
     let ticket = played.order()[place];
     let ended = played.ended().get(place).copied().unwrap_or(false);
@@ -96,7 +96,7 @@ fn put_sync(out: &mut Vec<u8>, program: &Program, object: u8, count: u32) -> Res
 }
 
 // The synchronisations of the ticket at a place, for each object of its block's list.
-fn put_syncs(
+pub(crate) fn put_syncs(
     out: &mut Vec<u8>,
     program: &Program,
     played: &Played,
@@ -122,7 +122,7 @@ fn put_shown(
     counts: bool,
 ) -> Result<(), AllocError>
     requires { place < length played.now.order }
-    ensures ok { OnOk result (out.new.items ≡ out.old.items ++ shown_ticket counts program.now played.now place) }
+    ensures ok { OnOk result (out.new.items ≡ out.old.items ++ shown_ticket false counts program.now played.now place) }
 {
     put_ticket(out, program, played, place)?;
     if counts {
@@ -139,7 +139,7 @@ pub(crate) fn put_order(
     played: &Played,
     counts: bool,
 ) -> Result<(), AllocError>
-    ensures ok { OnOk result (out.new.items ≡ out.old.items ++ order_text counts program.now played.now) }
+    ensures ok { OnOk result (out.new.items ≡ out.old.items ++ order_text false counts program.now played.now) }
 {
     let count = played.order().len();
     put_count_line(out, b"order", count as u64)?;

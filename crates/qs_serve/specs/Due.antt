@@ -16,7 +16,7 @@ use Rattle.qs_dot.specs.ChartDot.{IsChartDot}
 use Rattle.qs_report.specs.declared.faults.Fault.{Fault}
 use Rattle.qs_report.specs.declared.faults.Fault.TheVariants as fault
 use Rattle.qs_report.specs.Faults.{fault_text, fault_status}
-use Rattle.qs_report.specs.Report.{run_text, counts_text}
+use Rattle.qs_report.specs.Report.{styled_run_text, counts_text}
 use Rattle.qs_report.specs.GraphText.{IsGraphText}
 use Rattle.qs_dot.specs.DotText.{IsDotText}
 use Rattle.qs_node_lines.specs.NodeLines.{node_lines}
@@ -127,14 +127,14 @@ counts_by_format format.Text p = counts_text p
 counts_by_format format.Json p = counts_json p
 
 -- the report of what was played, as text or as JSON, with the counts of synchronisations where they are asked for, or
--- as a picture
-abbrev pub report_in : ReportFormat → (counts : Bool) → ProgramShape → Played → List ℕ
-report_in report_format.Text counts p played = run_text counts p played
-report_in report_format.Json counts p played = run_json counts p played
-report_in report_format.Svg counts p played = run_svg p played
+-- as a picture; a text marks what was refused where that is asked for, and JSON and pictures always mark it
+abbrev pub report_in : ReportFormat → (refusals counts : Bool) → ProgramShape → Played → List ℕ
+report_in report_format.Text refusals counts p played = styled_run_text refusals counts p played
+report_in report_format.Json refusals counts p played = run_json counts p played
+report_in report_format.Svg refusals counts p played = run_svg p played
 
 abbrev pub report_by : ReportStyle → ProgramShape → Played → List ℕ
-report_by style p played = report_in style.format style.counts p played
+report_by style p played = report_in style.format style.refusals style.counts p played
 
 -- a report, after the lines of its steps and before those of its queues
 abbrev pub told_report : (steps queues report : List ℕ) → List ℕ
@@ -310,8 +310,8 @@ IsAnswerBy _ p holds text = ⊥
 -- optimised machine; that of an outcome which its run on threads may have, or how often each end came in so many of
 -- these; after the blocks of some clients, how many configurations there can be; or, after these and of so many
 -- configurations at most, that a claim holds, or all its outcomes. Each is written in the format that is asked for, and
--- a report with the counts of synchronisations where they are asked for, after a line for each step where these are,
--- and before what lies where at the end of a run that has not finished.
+-- a report with what was refused and with the counts of synchronisations where they are asked for, after a line for each
+-- step where these are, and before what lies where at the end of a run that has not finished.
 abbrev pub IsTextBy : Request → Lines → ProgramShape → List ℕ → Type 0
 IsTextBy (check how) lines p text = text ≡ counts_by_format how p
 IsTextBy (graph how) lines p text = IsTextOfGraphs how lines p text
@@ -500,7 +500,7 @@ IsSomeText (No bytes) = ⊤
 IsSomeText (Refused f) = ⊥
 
 -- what is due, by the line, the input's bytes where they are known, and whether a read has failed; the texts of help
--- and of the version are clap's
+-- and of the version are clap's, and the page on the language is that of `qs_language`
 abbrev pub IsDue : Line → Option (List ℕ) → Bool → Due → Type 0
 IsDue refused known failed due = IsRefusedBy fault.Memory due ⊎ IsRefusedBy fault.CommandLine due
 IsDue help known failed due = IsRefusedBy fault.Memory due ⊎ IsSomeText due

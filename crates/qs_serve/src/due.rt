@@ -488,7 +488,7 @@ fn due_of_line<T: Threads + Wait + Sync, R: Read, P: Watcher>(
             (due, format)
         }
         Err(LineFault::Refused) => (Due::Refused(Fault::CommandLine), Format::Text),
-        Err(LineFault::Help(text)) => (Due::Text(text.into_bytes()), Format::Text),
+        Err(LineFault::Help(text)) => (Due::Text(text), Format::Text),
         Err(LineFault::Version(text)) => (Due::Text(text.into_bytes()), Format::Text),
         Err(LineFault::Memory) => (Due::Refused(Fault::Memory), Format::Text),
     }

@@ -8,6 +8,9 @@ use std::alloc::{AllocError, Global};
 
 const SCRIPT: &[u8] = b"\nThe script comes on standard input: qs check < my.script\n";
 
+const HELP: &[u8] =
+    b"\n`qs --help` says what can be done with a script, and `qs help language` how it is written.\n";
+
 const NO_WORD: &[u8] =
     b"error: no word stands on the line: `check`, `graph`, `rules`, `play`, `run` or `outcomes`\n  = help: `qs --help` says what each of them does\n";
 
@@ -21,6 +24,9 @@ pub(crate) fn put_line<'a>(
     match refusal(alloc, words)? {
         Some(text) => {
             put(out, text.as_bytes())?;
+            if words.get(1) == Some(&"help") {
+                return put(out, HELP);
+            }
             if names_file(words) {
                 return put(out, SCRIPT);
             }
@@ -80,6 +86,7 @@ fn shown(setting: &str) -> &'static str {
         "--rounds" => "--rounds <N>",
         "--times" => "--times <N>",
         "--counts" => "--counts",
+        "--refusals" => "--refusals",
         "--steps" => "--steps",
         "--queues" => "--queues",
         "--ends" => "--ends",
@@ -89,12 +96,13 @@ fn shown(setting: &str) -> &'static str {
 }
 
 // Settings that do not stand together.
-const APART: [(&str, &str); 15] = [
+const APART: [(&str, &str); 16] = [
     ("--order", "--pick"),
     ("--order", "--rounds"),
     ("--order", "--steps"),
     ("--order", "--queues"),
     ("--times", "--counts"),
+    ("--times", "--refusals"),
     ("--estimate", "--ends"),
     ("--estimate", "--always"),
     ("--estimate", "--some"),

@@ -1,7 +1,7 @@
 // The reports of what was played.
 
 ghost use Rattle.std.specs.Prelude.{◌≡◌, IfOk};
-ghost use Rattle.qs_report.specs.Report.{run_text};
+ghost use Rattle.qs_report.specs.Report.{styled_run_text};
 ghost use Rattle.qs_serve.specs.Due.{IsReportBetween, IsReportOf, report_by, told_report};
 
 use crate::due::{Due, due_of_bytes};
@@ -9,21 +9,24 @@ use qs_check::Program;
 use qs_json::run_json;
 use qs_line::{ReportFormat, ReportStyle};
 use qs_played::{Outcome, Played};
-use qs_report::{report, report_counts, report_run, report_run_counts};
+use qs_report::{report, report_counts, report_run, report_run_counts, report_with_refusals};
 use qs_steps::Told;
 use qs_svg::run_svg;
 use std::alloc::{AllocError, Global};
 
-// The report of what was played as text, with the counts of synchronisations where they are asked for.
+// The report of what was played as text, with what was refused and with the counts of synchronisations where they are
+// asked for.
 fn report_text(
     alloc: Global,
     program: &Program,
-    counts: bool,
+    style: ReportStyle,
     played: &Played,
 ) -> Result<Vec<u8>, AllocError>
-    ensures text { IfOk result (λ text. text.items ≡ run_text counts program.now played.now) }
+    ensures text { IfOk result (λ text. text.items ≡ styled_run_text style.refusals style.counts program.now played.now) }
 {
-    if counts {
+    if style.refusals {
+        report_with_refusals(alloc, program, played, style.counts)
+    } else if style.counts {
         report_counts(alloc, program, played)
     } else {
         report(alloc, program, played)
@@ -40,7 +43,7 @@ fn styled_report(
     ensures text { IfOk result (λ text. text.items ≡ report_by style program.now played.now) }
 {
     match style.format {
-        ReportFormat::Text => report_text(alloc, program, style.counts, played),
+        ReportFormat::Text => report_text(alloc, program, style, played),
         ReportFormat::Json => run_json(alloc, program, played, style.counts),
         ReportFormat::Svg => run_svg(alloc, program, played),
     }
@@ -60,16 +63,19 @@ pub(crate) fn due_of_played(
     due_of_bytes(text)
 }
 
-// The report of what ran on threads as text, with the counts of synchronisations where they are asked for.
+// The report of what ran on threads as text, with what was refused and with the counts of synchronisations where they
+// are asked for.
 fn run_report_text(
     alloc: Global,
     program: &Program,
-    counts: bool,
+    style: ReportStyle,
     outcome: &Outcome,
 ) -> Result<Vec<u8>, AllocError>
-    ensures text { IfOk result (λ text. text.items ≡ run_text counts program.now outcome.now) }
+    ensures text { IfOk result (λ text. text.items ≡ styled_run_text style.refusals style.counts program.now outcome.now) }
 {
-    if counts {
+    if style.refusals {
+        report_with_refusals(alloc, program, outcome.played(), style.counts)
+    } else if style.counts {
         report_run_counts(alloc, program, outcome)
     } else {
         report_run(alloc, program, outcome)
@@ -86,7 +92,7 @@ fn styled_run_report(
     ensures text { IfOk result (λ text. text.items ≡ report_by style program.now outcome.now) }
 {
     match style.format {
-        ReportFormat::Text => run_report_text(alloc, program, style.counts, outcome),
+        ReportFormat::Text => run_report_text(alloc, program, style, outcome),
         ReportFormat::Json | ReportFormat::Svg => {
             styled_report(alloc, program, style, outcome.played())
         }

@@ -1,5 +1,6 @@
 -- What an auditor reads: the promises and the calls of the surface are said with these.
 pub mod Told
+pub mod Marks
 pub mod PlainSteps
 pub mod CoreSteps
 pub mod PlainQueues

@@ -1,6 +1,7 @@
 -- What the code that tells steps promises, call by call.
 use Rattle.std.specs.Prelude.{◌≡◌, ℕ, Bool, true, false, if◌then◌else◌, List, [], ◌++◌, codes, Option, Some, None, Result, Ok, Err}
 use Rattle.std.specs.Bool.{OnTrue}
+use Rattle.qs_objects.specs.Act.{State}
 use Rattle.qs_objects.specs.declared.Request.{Request}
 use Rattle.qs_program.specs.Program.{ProgramShape}
 use Rattle.qs_syncset.specs.Codes.{ClientCode, AreCodes}
@@ -42,14 +43,14 @@ abbrev pub idle_line : ProgramShape → (is_pick : Bool) → ℕ → Actor → L
 idle_line p true n a = step_line p n a (codes "does nothing")
 idle_line p false n a = []
 
-abbrev pub plain_line : ProgramShape → (is_pick : Bool) → ℕ → Actor → Option Effect → List ℕ
-plain_line p is_pick n a None = idle_line p is_pick n a
-plain_line p is_pick n a (Some effect) = step_line p n a (effect_text p effect)
+abbrev pub plain_line : ProgramShape → (is_pick : Bool) → ℕ → Actor → Option State → Option Effect → List ℕ
+plain_line p is_pick n a o None = idle_line p is_pick n a
+plain_line p is_pick n a o (Some effect) = step_line p n a (effect_text p o effect)
 
-abbrev pub core_line : ProgramShape → (is_pick : Bool) → ℕ → Actor → (stepped : Bool) → Option CoreEffect → List Request
-    → List ℕ
-core_line p is_pick n a false effect rs = idle_line p is_pick n a
-core_line p is_pick n a true effect rs = step_line p n a (core_text_or_none p effect rs)
+abbrev pub core_line : ProgramShape → (is_pick : Bool) → ℕ → Actor → (stepped : Bool) → Option State → Option CoreEffect
+    → List Request → List ℕ
+core_line p is_pick n a false o effect rs = idle_line p is_pick n a
+core_line p is_pick n a true o effect rs = step_line p n a (core_text_or_none p o effect rs)
 
 -- a machine as it is told: what stays the same of it in a run, its state, and by both its steps, what is told of them,
 -- and what lies where

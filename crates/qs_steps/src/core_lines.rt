@@ -8,8 +8,9 @@ ghost use Rattle.qs_steps.specs.Telling.{core_line};
 ghost use Rattle.qs_steps.specs.Told.{step_line, ticket_text};
 
 use crate::lines::{put_client, put_idle, put_reserves, put_ticket, put_who};
+use crate::marks::put_all_marked;
 use qs_core::CoreEffect;
-use qs_objects::{Request, Ticket};
+use qs_objects::{Object, Request, Ticket};
 use qs_played::Actor;
 use qs_program::Program;
 use qs_text::{object_name, put, put_whole_request};
@@ -73,14 +74,15 @@ fn put_block(
     put_ticket(out, program, ticket)
 }
 
-// What a step does, with the requests of its chunk.
+// What a step does, with the object as it stands before, and the requests of its chunk.
 fn put_core_effect(
     out: &mut Vec<u8>,
     program: &Program,
+    object: &mut Option<Object>,
     effect: CoreEffect,
     requests: &[Request],
 ) -> Result<(), AllocError>
-    ensures ok { OnOk result (out.new.items ≡ out.old.items ++ core_effect_text program.now effect requests.now) }
+    ensures ok { OnOk result (out.new.items ≡ out.old.items ++ core_effect_text program.now object.old effect requests.now) }
 {
     match effect {
         CoreEffect::Reserves(ticket) => put_reserves(out, program, ticket),
@@ -101,7 +103,7 @@ fn put_core_effect(
         CoreEffect::Serves(ticket) => put_block(out, program, b"serves ", ticket),
         CoreEffect::Runs(ticket) => {
             put(out, b"runs ")?;
-            put_requests(out, program, requests)?;
+            put_all_marked(out, program, object, requests)?;
             put_block(out, program, b" of ", ticket)
         }
         CoreEffect::GivesChunk(client) => {
@@ -123,19 +125,20 @@ fn put_stepped(
     program: &Program,
     number: u64,
     actor: Actor,
+    object: &mut Option<Object>,
     effect: Option<CoreEffect>,
     requests: &[Request],
 ) -> Result<(), AllocError>
-    ensures ok { OnOk result (out.new.items ≡ out.old.items ++ step_line program.now number actor (core_text_or_none program.now effect requests.now)) }
+    ensures ok { OnOk result (out.new.items ≡ out.old.items ++ step_line program.now number actor (core_text_or_none program.now object.old effect requests.now)) }
 {
     put_who(out, program, number, actor)?;
     if let Some(effect) = effect {
-        put_core_effect(out, program, effect, requests)?;
+        put_core_effect(out, program, object, effect, requests)?;
     }
     put(out, b"\n")
 }
 
-/// Puts the line of an actor that was asked to step: whether it stepped, and what it did then.
+/// Puts the line of an actor that was asked to step: whether it stepped, and what it did then, by its object before that.
 pub(crate) fn put_core_line(
     out: &mut Vec<u8>,
     program: &Program,
@@ -143,13 +146,14 @@ pub(crate) fn put_core_line(
     number: u64,
     actor: Actor,
     stepped: bool,
+    object: &mut Option<Object>,
     effect: Option<CoreEffect>,
     requests: &[Request],
 ) -> Result<(), AllocError>
-    ensures ok { OnOk result (out.new.items ≡ out.old.items ++ core_line program.now is_pick number actor stepped effect requests.now) }
+    ensures ok { OnOk result (out.new.items ≡ out.old.items ++ core_line program.now is_pick number actor stepped object.old effect requests.now) }
 {
     if stepped {
-        put_stepped(out, program, number, actor, effect, requests)
+        put_stepped(out, program, number, actor, object, effect, requests)
     } else {
         put_idle(out, program, is_pick, number, actor)
     }

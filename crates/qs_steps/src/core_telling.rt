@@ -1,9 +1,10 @@
 //! What a schedule of the optimised machine shows, and what is told of it.
 
-ghost use Rattle.std.specs.Prelude.{IfOk};
+ghost use Rattle.std.specs.Prelude.{◌≡◌, IfOk};
 ghost use Rattle.qs_played.specs.SyncSums.{AreSyncsCounted};
 ghost use Rattle.qs_core_laws.specs.CoreSchedule.{IsPlayedIn};
-ghost use Rattle.qs_core_state.specs.CoreState.{IsShownIsolated};
+ghost use Rattle.qs_core_state.specs.CoreState.{IsShownIsolated, core_of};
+ghost use Rattle.qs_steps.specs.CoreSteps.{core_object};
 ghost use Rattle.qs_steps.specs.Telling.{IsToldIn, played_in};
 
 use crate::core_lines::put_core_line;
@@ -12,17 +13,40 @@ use crate::telling::{Machine, play_steps, queues_of};
 use crate::wanted::{Told, Wanted};
 use qs_chunk::ChunkSize;
 use qs_core::Core;
+use qs_objects::Object;
 use qs_played::{Actor, MOST_ROUNDS, PlayFault, are_named};
 use qs_program::Program;
 use qs_syncset::Mode;
 use std::alloc::{AllocError, Global};
+
+// The object of an actor that is a handler, once more, where the handler has it.
+fn object_of(
+    alloc: Global,
+    program: &Program,
+    core: &Core<'_>,
+    actor: Actor,
+) -> Result<Option<Object>, AllocError>
+    requires own { core.now.program ≡ program.now }
+    ensures value { IfOk result (λ object. object ≡ core_object program.now (core_of core.now) actor) }
+{
+    let Actor::Handler(handler) = actor else {
+        return Ok(None);
+    };
+    if usize::from(handler) >= program.objects() {
+        return Ok(None);
+    }
+    match core.handler(handler).held() {
+        Some(held) => Ok(Some(held.object().copied(alloc)?)),
+        None => Ok(None),
+    }
+}
 
 impl Machine for Core<'_> {
     ghost use Rattle.qs_steps.specs.Telling.{core_view};
 
     ghost view = { core_view };
 
-    // What the actor does and with which requests is read before its step.
+    // What the actor does, with which requests and on which object, is read before its step.
     fn put_step(
         &mut self,
         alloc: Global,
@@ -33,12 +57,22 @@ impl Machine for Core<'_> {
         actor: Actor,
     ) -> Result<bool, AllocError> {
         let effect = self.next_effect(actor);
+        let mut object = object_of(alloc, program, self, actor)?;
         let requests = self.requests(alloc, actor)?;
         let stepped = self.step(actor);
         let put = put_core_line(
-            out, program, is_pick, number, actor, stepped, effect, &requests,
+            out,
+            program,
+            is_pick,
+            number,
+            actor,
+            stepped,
+            &mut object,
+            effect,
+            &requests,
         );
         drop(requests);
+        drop(object);
         put?;
         Ok(stepped)
     }

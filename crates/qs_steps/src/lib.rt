@@ -6,6 +6,7 @@ mod core_queues;
 mod core_telling;
 pub mod laws;
 mod lines;
+mod marks;
 mod plain_lines;
 mod plain_queues;
 mod rules_telling;

@@ -1,17 +1,19 @@
 //! The line of a step under the plain rules.
 
 ghost use Rattle.std.specs.Prelude.{◌≡◌, ◌++◌, OnOk};
-ghost use Rattle.qs_text.specs.Words.{reply_text, request_text};
+ghost use Rattle.qs_steps.specs.Marks.{marked};
+ghost use Rattle.qs_text.specs.Words.{request_text};
 ghost use Rattle.qs_steps.specs.PlainSteps.{effect_text};
 ghost use Rattle.qs_steps.specs.Telling.{plain_line};
 ghost use Rattle.qs_steps.specs.Told.{ticket_text};
 
 use crate::lines::{put_idle, put_reserves, put_ticket, put_who};
-use qs_objects::{Request, Ticket};
+use crate::marks::put_marked;
+use qs_objects::{Object, Request, Ticket};
 use qs_plain::Effect;
 use qs_played::Actor;
 use qs_program::Program;
-use qs_text::{put, put_number, put_whole_request};
+use qs_text::{put, put_whole_request};
 use std::alloc::AllocError;
 
 // A verb and a request.
@@ -40,22 +42,29 @@ fn put_verb(
     put_ticket(out, program, ticket)
 }
 
-// A query's reply.
-fn put_reply(out: &mut Vec<u8>, reply: Option<i64>) -> Result<(), AllocError>
-    ensures ok { OnOk result (out.new.items ≡ out.old.items ++ reply_text reply) }
+// A verb, and a request that a handler runs, with its mark.
+fn put_run(
+    out: &mut Vec<u8>,
+    program: &Program,
+    object: &mut Option<Object>,
+    verb: &[u8],
+    request: &Request,
+    reply: Option<i64>,
+) -> Result<(), AllocError>
+    ensures ok { OnOk result (out.new.items ≡ out.old.items ++ (verb.now ++ marked program.now object.old request.now reply)) }
 {
-    match reply {
-        None => Ok(()),
-        Some(value) => {
-            put(out, b" = ")?;
-            put_number(out, value)
-        }
-    }
+    put(out, verb)?;
+    put_marked(out, program, object, request, reply)
 }
 
-// What a step does.
-fn put_effect(out: &mut Vec<u8>, program: &Program, effect: &Effect) -> Result<(), AllocError>
-    ensures ok { OnOk result (out.new.items ≡ out.old.items ++ effect_text program.now effect.now) }
+// What a step does, with the object as it stands before.
+fn put_effect(
+    out: &mut Vec<u8>,
+    program: &Program,
+    object: &mut Option<Object>,
+    effect: &Effect,
+) -> Result<(), AllocError>
+    ensures ok { OnOk result (out.new.items ≡ out.old.items ++ effect_text program.now object.old effect.now) }
 {
     match effect {
         Effect::Reserves(ticket) => put_reserves(out, program, *ticket),
@@ -63,34 +72,34 @@ fn put_effect(out: &mut Vec<u8>, program: &Program, effect: &Effect) -> Result<(
         Effect::Asks(request) => put_asked(out, program, b"asks ", request),
         Effect::Ends(ticket) => put_verb(out, program, b"ends ", *ticket),
         Effect::Runs(ticket, request) => {
-            put_asked(out, program, b"runs ", request)?;
+            put_run(out, program, object, b"runs ", request, None)?;
             put_verb(out, program, b" of ", *ticket)
         }
         Effect::Answers(ticket, request, reply) => {
-            put_asked(out, program, b"answers ", request)?;
-            put_reply(out, *reply)?;
+            put_run(out, program, object, b"answers ", request, *reply)?;
             put_verb(out, program, b" of ", *ticket)
         }
         Effect::Leaves(ticket) => put_verb(out, program, b"leaves ", *ticket),
     }
 }
 
-/// Puts the line of an actor that was asked to step, by what it did, if it stepped.
+/// Puts the line of an actor that was asked to step, by what it did, if it stepped, and by its object before that.
 pub(crate) fn put_line(
     out: &mut Vec<u8>,
     program: &Program,
     is_pick: bool,
     number: u64,
     actor: Actor,
+    object: &mut Option<Object>,
     effect: &Option<Effect>,
 ) -> Result<(), AllocError>
-    ensures ok { OnOk result (out.new.items ≡ out.old.items ++ plain_line program.now is_pick number actor effect.now) }
+    ensures ok { OnOk result (out.new.items ≡ out.old.items ++ plain_line program.now is_pick number actor object.old effect.now) }
 {
     match effect {
         None => put_idle(out, program, is_pick, number, actor),
         Some(effect) => {
             put_who(out, program, number, actor)?;
-            put_effect(out, program, effect)?;
+            put_effect(out, program, object, effect)?;
             put(out, b"\n")
         }
     }

@@ -7,36 +7,54 @@ ghost use Rattle.qs_plain_laws.specs.PlainIsolation.{commands_in_queue};
 ghost use Rattle.qs_plain_laws.specs.PlainSchedule.{IsPlayed, played_of, scheduled};
 ghost use Rattle.qs_plain_laws.specs.PlainSyncSums.{AreQueriesCounted};
 ghost use Rattle.qs_steps.specs.PlainQueues.{plain_queues};
-ghost use Rattle.qs_steps.specs.PlainSteps.{plain_steps};
+ghost use Rattle.qs_plain.specs.Rules.{plain_of};
+ghost use Rattle.qs_steps.specs.PlainSteps.{plain_object, plain_steps};
 ghost use Rattle.qs_steps.specs.Telling.{played_in};
 
 use crate::plain_lines::put_line;
 use crate::plain_queues::put_plain_queues;
 use crate::telling::{Machine, play_steps, queues_of};
 use crate::wanted::{Told, Wanted};
+use qs_objects::Object;
 use qs_plain::Rules;
 use qs_played::{Actor, MOST_ROUNDS, PlayFault, are_named};
 use qs_program::Program;
 use std::alloc::{AllocError, Global};
+
+// The object of an actor that is a handler, once more.
+fn object_of(alloc: Global, rules: &Rules<'_>, actor: Actor) -> Result<Option<Object>, AllocError>
+    ensures value { IfOk result (λ object. object ≡ plain_object (plain_of rules.now) actor) }
+{
+    match actor {
+        Actor::Client(_) => Ok(None),
+        Actor::Handler(handler) => match rules.held(handler) {
+            Some(held) => Ok(Some(held.object().copied(alloc)?)),
+            None => Ok(None),
+        },
+    }
+}
 
 impl Machine for Rules<'_> {
     ghost use Rattle.qs_steps.specs.Telling.{rules_view};
 
     ghost view = { rules_view };
 
+    // The object is read before the step, and what the actor does after it.
     fn put_step(
         &mut self,
-        _alloc: Global,
+        alloc: Global,
         out: &mut Vec<u8>,
         program: &Program,
         is_pick: bool,
         number: u64,
         actor: Actor,
     ) -> Result<bool, AllocError> {
+        let mut object = object_of(alloc, self, actor)?;
         let effect = self.step_told(actor);
-        let put = put_line(out, program, is_pick, number, actor, &effect);
+        let put = put_line(out, program, is_pick, number, actor, &mut object, &effect);
         let stepped = effect.is_some();
         drop(effect);
+        drop(object);
         put?;
         Ok(stepped)
     }

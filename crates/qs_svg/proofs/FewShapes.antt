@@ -1,16 +1,22 @@
--- No picture has more shapes than it may have: a stretch has its frame, at most as many marks as are drawn, and two
--- texts. Where few stretches are drawn, each has up to 16 marks, and else 4; so both stay below the limit.
-use Rattle.std.proofs.Common.{◌≡◌, ℕ, zero, suc, ◌+◌, ◌*◌, ◌-◌, ◌≤◌, min, List, [], ◌∷◌, length, refl, arith, Bool, true, false, ◌&&◌, if◌then◌else◌, nat_eq, nat_le, nat_lt, get_or, ◌++◌, length-append}
+-- No picture has more shapes than it may have: a stretch has its frame, two shapes for each of the requests that are
+-- drawn, and two texts. Where few stretches are drawn, each has up to 12 requests, and else 4; so both stay below the
+-- limit.
+use Rattle.std.proofs.Common.{◌≡◌, ℕ, zero, suc, ◌+◌, ◌*◌, ◌-◌, ◌≤◌, min, List, [], ◌∷◌, length, refl, arith, Bool, true, false, ◌&&◌, if◌then◌else◌, nat_eq, nat_le, nat_lt, get_or, slice_get, Option, None, Some, ◌++◌, length-append}
 use Rattle.std.proofs.lemmas.Bool.Decides.{nat_tests}
 use Rattle.std.proofs.lemmas.Nat.{mul-le}
-use Rattle.std.proofs.Math.Nat.{mul-add, mul-one, mul_assoc, mul_comm, suc-mul}
+use Rattle.std.proofs.Math.Nat.{mul-add, mul_assoc, mul_comm, suc-mul}
 use Rattle.qs_objects.specs.declared.held.Entry.{Entry}
 use Rattle.qs_program.specs.Program.{ProgramShape}
 use Rattle.qs_played.specs.Played.{Played}
-use Rattle.qs_svg.specs.Shapes.{Shape, shapes_up_to}
-use Rattle.qs_svg.specs.Stretches.{columns_of, ended_at, journal_of, most_columns, most_marks, no_entry, queries_in, reserves, sent_for, syncs_at, ticket_at, stretch, stretch_start}
-use Rattle.qs_svg.specs.Places.{mark_x, mark_y}
-use Rattle.qs_svg.specs.Blocks.{cell, column, columns_left, columns_text, left_text, mark, marks, more_marks, more_text, row, row_left, row_names, sync_marks, sync_text, stretch_frame, stretch_shapes}
+use Rattle.qs_objects.specs.Act.{State}
+use Rattle.qs_program.specs.Program.{object_at}
+use Rattle.qs_fates.specs.declared.fate.Fate.{Fate}
+use Rattle.qs_fates.specs.declared.fate.Fate.TheVariants.{Done}
+use Rattle.qs_svg.specs.declared.layout.Layout.{Layout}
+use Rattle.qs_svg.specs.Shapes.{Shape, shapes_up_to, text_at}
+use Rattle.qs_svg.specs.Stretches.{all_columns, columns_of, ended_at, journal_of, most_columns, most_marks, no_entry, queries_in, reserves, sent_for, stretch, stretch_fates, stretch_start, syncs_at, ticket_at}
+use Rattle.qs_svg.specs.Places.{bands_of, layout_of, mark_x, mark_y, row_y}
+use Rattle.qs_svg.specs.Blocks.{cell, column, columns_left, columns_text, left_text, marks, more_marks, more_text, request_shapes, requests_words, row, row_left, row_names, state_shapes, stretch_frame, stretch_shapes, sync_marks, sync_text}
 use Rattle.qs_svg.specs.Legend.{client_shapes, sign_shapes}
 use Rattle.qs_svg.specs.RunSvg.{ground, heading, legend_shapes, row_shapes, run_shapes}
 use Rattle.qs_svg.specs.Few.{AreFewShapes}
@@ -34,51 +40,84 @@ some_or_none : (b : Bool) (shapes : List Shape) (m : ℕ) → length shapes ≤ 
 some_or_none true shapes m few = few
 some_or_none false shapes m few = omega arith
 
-marks_few : (p : ProgramShape) (most i h : ℕ) (entries : List Entry) → length (marks p most i h entries) ≤ most
-marks_few p most i h entries =
-    let all = up_to_few (min (length entries) most) 1 (λ j. mark p (mark_x i j) (mark_y h j) (get_or entries j no_entry) ∷ []) (λ j. omega arith) in
-    omega (arith, all, mul-one (min (length entries) most))
+marks_few : (p : ProgramShape) (l : Layout) (i h : ℕ) (entries : List Entry) (fates : List Fate) → length (marks p l i h entries fates) ≤ l.most * 2
+marks_few p l i h entries fates =
+    let drawn = λ (j : ℕ). request_shapes p (mark_x i) (mark_y l i h j) (get_or entries j no_entry) (get_or fates j Done) in
+    omega (arith, up_to_few (min (length entries) l.most) 2 drawn (λ j. omega arith))
 
--- a stretch: its frame, its marks, and two texts
-cell_few : (p : ProgramShape) (run : Played) (most i h : ℕ) (entries : List Entry) → length (cell p run most i h entries) ≤ most + 3
-cell_few p run most i h entries =
-    let frame = stretch_frame p (ticket_at run i) (ended_at run i) i h (length entries) ∷ [] in
-    let drawn = marks p most i h entries in
-    let more = more_marks most i h (length entries) in
+-- a stretch: its frame, its requests, and two texts
+cell_few : (p : ProgramShape) (run : Played) (l : Layout) (i h : ℕ) (entries : List Entry) (fates : List Fate)
+    → length (cell p run l i h entries fates) ≤ l.most * 2 + 3
+cell_few p run l i h entries fates =
+    let frame = stretch_frame p (ticket_at run i) (ended_at run i) l i h (length entries) ∷ [] in
+    let drawn = marks p l i h entries fates in
+    let more = more_marks l i h (length entries) in
     let sent = sent_for h (syncs_at run i) in
     let queries = queries_in entries in
-    let syncs = sync_marks i h sent queries in
-    let few_more = one_or_none (nat_lt most (length entries)) (more_text most i h (length entries)) in
-    let few_syncs = none_or_one (nat_eq sent 0 && nat_eq queries 0) (sync_text i h sent queries) in
-    some_or_none (reserves run i h) (stretch_shapes p run most i h entries) (most + 3)
+    let syncs = sync_marks l i h sent queries in
+    let few_more = one_or_none (nat_lt l.most (length entries)) (more_text l i h (length entries)) in
+    let few_syncs = none_or_one (nat_eq sent 0 && nat_eq queries 0) (sync_text l i h sent queries) in
+    some_or_none (reserves run i h) (stretch_shapes p run l i h entries fates) (l.most * 2 + 3)
     (omega (
       arith,
       length-append (frame ++ drawn ++ more) syncs,
       length-append (frame ++ drawn) more,
       length-append frame drawn,
-      marks_few p most i h entries,
+      marks_few p l i h entries fates,
       few_more,
       few_syncs,
     ))
 
--- a row: two texts, its stretches, and one text
-row_few : (p : ProgramShape) (run : Played) (most h : ℕ) → length (row p run most h) ≤ 3 + columns_of run * (most + 3)
-row_few p run most h =
+-- what is said of an object: three texts
+state_few : (s : Option State) (y : ℕ) → length (state_shapes s y) ≤ 1
+state_few None y = omega arith
+state_few (Some s) y = omega arith
+
+names_few : (p : ProgramShape) (run : Played) (l : Layout) (h band : ℕ) → length (row_names p run l h band) ≤ 3
+names_few p run l h band =
+    let name = text_at 12 (row_y l band h + 21) (object_at p h).name ∷ [] in
+    let requests = text_at 12 (row_y l band h + 37) (requests_words (length (journal_of run h))) ∷ [] in
+    let state = state_shapes (slice_get run.states h) (row_y l band h + 53) in
+    omega (
+      arith,
+      length-append (name ++ requests) state,
+      length-append name requests,
+      state_few (slice_get run.states h) (row_y l band h + 53),
+    )
+
+bands_few : (n : ℕ) → n ≤ 65 → bands_of n ≤ 10
+bands_few n few = omega (arith, few)
+
+-- a row: what is said of its object in ten bands at most, its stretches, and one text
+row_few : (p : ProgramShape) (run : Played) (l : Layout) (h : ℕ) → length (row p run l h) ≤ 31 + columns_of run * (l.most * 2 + 3)
+row_few p run l h =
     let requests = length (journal_of run h) in
-    let names = row_names p h requests in
-    let stretches = shapes_up_to (columns_of run) (λ i. cell p run most i h (stretch run h i)) in
+    let bands = bands_of (all_columns run) in
+    let names = shapes_up_to bands (row_names p run l h) in
+    let drawn = λ (i : ℕ). cell p run l i h (stretch run h i) (stretch_fates p run h i) in
+    let stretches = shapes_up_to (columns_of run) drawn in
     let left = requests - stretch_start run h (columns_of run) in
-    let few = up_to_few (columns_of run) (most + 3) (λ i. cell p run most i h (stretch run h i)) (λ i. cell_few p run most i h (stretch run h i)) in
-    let few_left = one_or_none (nat_lt most_columns (length run.order)) (left_text h left) in
-    omega (arith, length-append (names ++ stretches) (row_left run h left), length-append names stretches, few, few_left)
+    let few_names = up_to_few bands 3 (row_names p run l h) (names_few p run l h) in
+    let few_bands = bands_few (all_columns run) (omega arith) in
+    let few = up_to_few (columns_of run) (l.most * 2 + 3) drawn (λ i. cell_few p run l i h (stretch run h i) (stretch_fates p run h i)) in
+    let few_left = one_or_none (nat_lt most_columns (length run.order)) (left_text l h left) in
+    omega (
+      arith,
+      length-append (names ++ stretches) (row_left run l h left),
+      length-append names stretches,
+      few_names,
+      few_bands,
+      few,
+      few_left,
+    )
 
--- the stretches of all rows: few of many marks, or many of few
+-- the stretches of all rows: few of many requests, or many of few
 stretches_in : (b : Bool) (rows columns : ℕ) → (b ≡ true → columns * rows ≤ 192) → columns * rows ≤ 512
-    → rows * (columns * ((if b then 16 else 4) + 3)) ≤ 3648
-stretches_in true rows columns few all = omega (arith, mul_assoc rows columns 19, mul_comm rows columns, few refl)
-stretches_in false rows columns few all = omega (arith, mul_assoc rows columns 7, mul_comm rows columns, all)
+    → rows * (columns * ((if b then 12 else 4) * 2 + 3)) ≤ 5632
+stretches_in true rows columns few all = omega (arith, mul_assoc rows columns 27, mul_comm rows columns, few refl)
+stretches_in false rows columns few all = omega (arith, mul_assoc rows columns 11, mul_comm rows columns, all)
 
-stretches_few : (rows columns : ℕ) → rows ≤ 8 → columns ≤ 64 → rows * (columns * (most_marks columns rows + 3)) ≤ 3648
+stretches_few : (rows columns : ℕ) → rows ≤ 8 → columns ≤ 64 → rows * (columns * (most_marks columns rows * 2 + 3)) ≤ 5632
 stretches_few rows columns few_rows few_columns =
     stretches_in (nat_le (columns * rows) 192) rows columns (λ e. grind (arith, nat_tests)) (mul-le columns rows 64 8 few_columns few_rows)
 
@@ -88,24 +127,25 @@ few_shapes p run sound =
     let columns = columns_of run in
     let objects = length p.objects in
     let most = most_marks columns objects in
+    let l = layout_of p run in
     let clients = shapes_up_to (length p.clients) (client_shapes p) in
     let begun = (ground ∷ []) ++ (heading p run ∷ []) in
     let legend = legend_shapes p run in
-    let all_columns = shapes_up_to columns (column p run) in
-    let left = columns_left run in
-    let rows = row_shapes p run in
+    let all_names = shapes_up_to columns (column p run l) in
+    let left = columns_left run l in
+    let rows = row_shapes p run l in
     let few_clients = up_to_few (length p.clients) 2 (client_shapes p) (λ c. omega arith) in
-    let few_columns = up_to_few columns 3 (column p run) (λ i. omega arith) in
-    let few_left = one_or_none (nat_lt most_columns (length run.order)) (columns_text run) in
-    let few_rows = up_to_few objects (3 + columns * (most + 3)) (row p run most) (row_few p run most) in
+    let few_columns = up_to_few columns 3 (column p run l) (λ i. omega arith) in
+    let few_left = one_or_none (nat_lt most_columns (length run.order)) (columns_text run l) in
+    let few_rows = up_to_few objects (31 + columns * (most * 2 + 3)) (row p run l) (row_few p run l) in
     let few_stretches = stretches_few objects columns sound.objects (omega arith) in
     let within : columns ≤ 64 = omega arith in
-    let counted : length (run_shapes p run) ≤ 12 + length p.clients * 2 + columns * 3 + 1 + objects * (3 + columns * (most + 3)) =
+    let counted : length (run_shapes p run l) ≤ 17 + length p.clients * 2 + columns * 3 + 1 + objects * (31 + columns * (most * 2 + 3)) =
     omega (
       arith,
-      length-append (legend ++ all_columns ++ left) rows,
-      length-append (legend ++ all_columns) left,
-      length-append legend all_columns,
+      length-append (legend ++ all_names ++ left) rows,
+      length-append (legend ++ all_names) left,
+      length-append legend all_names,
       length-append (begun ++ clients) sign_shapes,
       length-append begun clients,
       few_clients,
@@ -113,4 +153,4 @@ few_shapes p run sound =
       few_left,
       few_rows,
     ) in
-    omega (arith, counted, mul-add objects 3 (columns * (most + 3)), few_stretches, within, sound.clients, sound.objects)
+    omega (arith, counted, mul-add objects 31 (columns * (most * 2 + 3)), few_stretches, within, sound.clients, sound.objects)

@@ -1,5 +1,6 @@
 pub mod Parts
 pub mod SentFor
 pub mod StretchEnds
+pub mod FatesOfRows
 pub mod FewShapes
 pub mod WholeStretches

@@ -1,13 +1,15 @@
--- No picture has more shapes than this.
+-- No picture has more shapes than this. The most stand in one of 64 columns and 8 rows: each of its stretches has a
+-- frame, a mark and its words for each of 4 requests, and two texts.
 use Rattle.std.specs.Prelude.{ℕ, ◌≤◌, length}
 use Rattle.qs_program.specs.Program.{ProgramShape}
 use Rattle.qs_program.specs.Sound.{IsSound}
 use Rattle.qs_played.specs.Played.{Played}
+use Rattle.qs_svg.specs.Places.{layout_of}
 use Rattle.qs_svg.specs.RunSvg.{run_shapes}
 
 abbrev pub most_shapes : ℕ
-most_shapes = 4000
+most_shapes = 6500
 
 -- of whatever run of a sound program
 abbrev pub AreFewShapes : Type 0
-AreFewShapes = (p : ProgramShape) (run : Played) → IsSound p → length (run_shapes p run) ≤ most_shapes
+AreFewShapes = (p : ProgramShape) (run : Played) → IsSound p → length (run_shapes p run (layout_of p run)) ≤ most_shapes

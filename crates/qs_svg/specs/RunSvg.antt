@@ -4,10 +4,11 @@ use Rattle.std.specs.List.{concat}
 use Rattle.qs_program.specs.Program.{ProgramShape}
 use Rattle.qs_played.specs.Played.{Played}
 use Rattle.qs_svg.specs.Shapes.{Shape, shapes_up_to, with_number}
-use Rattle.qs_svg.specs.Stretches.{all_columns, columns_of, most_marks}
-use Rattle.qs_svg.specs.Places.{picture_height, picture_width}
+use Rattle.qs_svg.specs.Stretches.{all_columns, columns_of}
+use Rattle.qs_svg.specs.Places.{bands_of, layout_of, picture_height, picture_width}
 use Rattle.qs_svg.specs.Words.{description, title_words}
 use Rattle.qs_svg.specs.Blocks.{column, columns_left, row}
+use Rattle.qs_svg.specs.declared.layout.Layout.{Layout}
 use Rattle.qs_svg.specs.Legend.{client_shapes, sign_shapes, style}
 
 abbrev pub ground : Shape
@@ -23,14 +24,14 @@ legend_shapes p run =
     ++ shapes_up_to (length p.clients) (client_shapes p)
     ++ sign_shapes
 
-abbrev pub row_shapes : ProgramShape → Played → List Shape
-row_shapes p run = shapes_up_to (length p.objects) (row p run (most_marks (columns_of run) (length p.objects)))
+abbrev pub row_shapes : ProgramShape → Played → Layout → List Shape
+row_shapes p run l = shapes_up_to (length p.objects) (row p run l)
 
-abbrev pub run_shapes : ProgramShape → Played → List Shape
-run_shapes p run =
+abbrev pub run_shapes : ProgramShape → Played → Layout → List Shape
+run_shapes p run l =
     legend_shapes p run
-    ++ shapes_up_to (columns_of run) (column p run) ++ columns_left run
-    ++ row_shapes p run
+    ++ shapes_up_to (columns_of run) (column p run l) ++ columns_left run l
+    ++ row_shapes p run l
 
 -- the first lines, with the size, the title, the description and the style
 abbrev pub size_text : (width height : ℕ) → List ℕ
@@ -40,12 +41,15 @@ size_text width height =
     ++ with_number (codes "' height='") height ++ with_number (codes "' viewBox='0 0 ") width
     ++ with_number (codes " ") height ++ codes "'>\n"
 
-abbrev pub head_text : ProgramShape → Played → List ℕ
-head_text p run =
-    size_text (picture_width (all_columns run) (length p.clients)) (picture_height (length p.objects))
+abbrev pub head_text : ProgramShape → Played → Layout → List ℕ
+head_text p run l =
+    size_text (picture_width (all_columns run) (length p.clients)) (picture_height l (bands_of (all_columns run)))
     ++ codes "<title id='title'>" ++ title_words p run ++ codes "</title>\n"
     ++ codes "<desc id='description'>" ++ description p run ++ codes "</desc>\n"
     ++ style
 
+abbrev pub picture : ProgramShape → Played → Layout → List ℕ
+picture p run l = head_text p run l ++ concat (run_shapes p run l) ++ codes "</svg>\n"
+
 abbrev pub run_svg : ProgramShape → Played → List ℕ
-run_svg p run = head_text p run ++ concat (run_shapes p run) ++ codes "</svg>\n"
+run_svg p run = picture p run (layout_of p run)

@@ -1,6 +1,6 @@
 -- What is drawn: a list of shapes, each of them one element of the picture with its text, and what stands at its
 -- beginning.
-use Rattle.std.specs.Prelude.{◌≡◌, ℕ, zero, suc, List, [], ◌++◌, codes, decimal}
+use Rattle.std.specs.Prelude.{◌≡◌, ℕ, zero, suc, ◌/◌, List, [], ◌++◌, codes, decimal, length, if◌then◌else◌, nat_lt}
 use Rattle.std.specs.List.{concat}
 
 -- the text of one element: a path, a text or a rectangle
@@ -36,3 +36,14 @@ text_start x y = with_number (codes "<text x='") x ++ with_number (codes "' y='"
 
 abbrev pub text_at : (x y : ℕ) → List ℕ → Shape
 text_at x y words = text_start x y ++ words ++ codes "</text>\n"
+
+-- a text that would be wider than its place is squeezed: a character is reckoned as 7 pixels
+abbrev pub squeezed : (width characters : ℕ) → List ℕ
+squeezed width characters =
+    if nat_lt (width / 7) characters
+    then with_number (codes "' textLength='") width ++ codes "' lengthAdjust='spacingAndGlyphs" else []
+
+abbrev pub fitted_text : (x y width : ℕ) → List ℕ → Shape
+fitted_text x y width words =
+    with_number (codes "<text x='") x ++ with_number (codes "' y='") y ++ squeezed width (length words) ++ codes "'>"
+    ++ words ++ codes "</text>\n"

@@ -2,15 +2,18 @@
 -- its beginning into stretches, one for each ticket of the order, with as many entries as the journal has of that
 -- ticket. A stretch's entries are drawn in the order of the journal, each in the colour of its own ticket's client. So
 -- where a block was not alone, two colours stand in one stretch.
-use Rattle.std.specs.Prelude.{ℕ, zero, suc, ◌+◌, ◌-◌, ◌*◌, min, ◌==◌, List, [], ◌∷◌, map, length, slice_index_or, slice_range, None, Bool, false, if◌then◌else◌, nat_le}
+use Rattle.std.specs.Prelude.{ℕ, zero, suc, ◌+◌, ◌-◌, ◌*◌, min, max, ◌==◌, List, [], ◌∷◌, map, length, slice_index_or, slice_range, None, Bool, false, if◌then◌else◌, nat_le}
 use Rattle.std.specs.List.{count_by}
 use Rattle.qs_objects.specs.Parts.{same}
 use Rattle.qs_objects.specs.Operations.{is_query}
 use Rattle.qs_objects.specs.declared.Op.TheVariants.{Balance}
 use Rattle.qs_objects.specs.declared.held.Entry.{Entry}
 use Rattle.qs_objects.specs.declared.held.Ticket.{Ticket}
+use Rattle.qs_program.specs.Program.{ProgramShape}
 use Rattle.qs_program.specs.Sound.{is_in}
 use Rattle.qs_played.specs.Played.{Played}
+use Rattle.qs_fates.specs.Fates.{fates_of}
+use Rattle.qs_fates.specs.declared.fate.Fate.{Fate}
 use Rattle.qs_sync_counts.specs.SyncRows.{object_of}
 use Rattle.qs_sync_counts.specs.declared.sync_counts.SyncCount.{SyncCount}
 use Rattle.qs_text.specs.Words.{first_ticket}
@@ -28,7 +31,7 @@ all_columns run = min (length run.order) (most_columns + 1)
 
 -- so many requests of a stretch are drawn at most, in a picture of few cells and of many; the others are counted
 abbrev pub most_marks_of_few : ℕ
-most_marks_of_few = 16
+most_marks_of_few = 12
 
 abbrev pub most_marks_of_many : ℕ
 most_marks_of_many = 4
@@ -81,6 +84,22 @@ stretch_start run h (suc i) =
 abbrev pub stretch : Played → ℕ → ℕ → List Entry
 stretch run h i = slice_range (journal_of run h) (stretch_start run h i) (stretch_start run h (suc i))
 
+-- what became of its requests
+abbrev pub stretch_fates : ProgramShape → Played → ℕ → ℕ → List Fate
+stretch_fates p run h i = slice_range (fates_of p run h) (stretch_start run h i) (stretch_start run h (suc i))
+
 -- how many entries of a stretch are queries
 abbrev pub queries_in : List Entry → ℕ
 queries_in entries = count_by (λ (e : Entry). is_query e.request.op) entries
+
+-- the greatest of the numbers of the places from 0 up to n
+abbrev pub greatest_up_to : ℕ → (ℕ → ℕ) → ℕ
+greatest_up_to zero number = 0
+greatest_up_to (suc n) number = max (greatest_up_to n number) (number n)
+
+-- the most requests that a block with a column has at an object, and at whichever object
+abbrev pub longest_at : Played → ℕ → ℕ
+longest_at run h = greatest_up_to (columns_of run) (λ i. entries_for (ticket_at run i) (journal_of run h))
+
+abbrev pub longest : (objects : ℕ) → Played → ℕ
+longest objects run = greatest_up_to objects (longest_at run)

@@ -1,18 +1,73 @@
 -- What is said in words: of tickets, of objects, and of the whole run. Names are lower-case letters, digits and `_`
 -- alone, so nothing in a picture has to be escaped.
-use Rattle.std.specs.Prelude.{ℕ, List, ◌++◌, codes, length, flat_map, Bool, if◌then◌else◌}
+use Rattle.std.specs.Prelude.{ℕ, ℤ, min, List, [], ◌++◌, codes, length, flat_map, Bool, if◌then◌else◌, nat_eq, nat_lt}
+use Rattle.std.specs.Fmt.{signed_decimal}
+use Rattle.qs_objects.specs.Act.{State}
+use Rattle.qs_objects.specs.Objects.{kind_of, values_of}
+use Rattle.qs_objects.specs.Operations.{word}
 use Rattle.qs_objects.specs.declared.held.Entry.{Entry}
 use Rattle.qs_objects.specs.declared.held.Ticket.{Ticket}
+use Rattle.qs_objects.specs.declared.object.Kind.{Kind}
+use Rattle.qs_objects.specs.declared.object.Kind.TheVariants as kinds
 use Rattle.qs_program.specs.Program.{ProgramShape, client_at, object_at}
 use Rattle.qs_played.specs.Played.{Played}
-use Rattle.qs_text.specs.Words.{ended_text, reply_text, request_text}
-use Rattle.qs_text.specs.Texts.{texts_up_to}
+use Rattle.qs_fates.specs.declared.fate.Fate.{Fate}
+use Rattle.qs_fates.specs.declared.fate.Fate.TheVariants.{Done, Refused, NoValue}
+use Rattle.qs_text.specs.Words.{args_text, ended_text, reply_text, request_text}
+use Rattle.qs_text.specs.Texts.{spaced_value, texts_up_to}
 use Rattle.qs_svg.specs.Shapes.{with_number}
 use Rattle.qs_svg.specs.Stretches.{ended_at, journal_of, objects_at, ticket_at}
 
--- a request with its reply, as in a report
-abbrev pub entry_words : ProgramShape → Entry → List ℕ
-entry_words p e = request_text p e.request ++ reply_text e.reply
+-- what became of a request, where it was not simply done
+abbrev pub fate_words : Fate → List ℕ
+fate_words Done = []
+fate_words Refused = codes " refused"
+fate_words NoValue = codes " none"
+
+-- a request with its reply, as in a report, and what became of it
+abbrev pub entry_words : ProgramShape → Entry → Fate → List ℕ
+entry_words p e fate = request_text p e.request ++ reply_text e.reply ++ fate_words fate
+
+-- the same in the row of its object, whose name is left out
+abbrev pub gap_words : (args : ℕ) → List ℕ
+gap_words args = if nat_eq args 0 then [] else codes " "
+
+abbrev pub args_words : List ℤ → List ℕ
+args_words args = gap_words (length args) ++ args_text args
+
+abbrev pub line_words : Entry → Fate → List ℕ
+line_words e fate = word e.request.op ++ args_words e.request.args ++ reply_text e.reply ++ fate_words fate
+
+-- so many things
+abbrev pub counted : ℕ → (word : List ℕ) → List ℕ
+counted n word = with_number (codes "") n ++ word ++ (if nat_eq n 1 then [] else codes "s")
+
+-- what an object holds, with so many of its values at most, and how many commands it refused
+abbrev pub most_told : ℕ
+most_told = 6
+
+-- the end of a list of so many values
+abbrev pub values_end : ℕ → List ℕ
+values_end n = if nat_lt most_told n then codes " ..]" else codes "]"
+
+abbrev pub values_words : List ℤ → List ℕ
+values_words values =
+    codes "[" ++ texts_up_to (min (length values) most_told) (spaced_value values)
+    ++ values_end (length values)
+
+abbrev pub with_integer : List ℕ → ℤ → List ℕ
+with_integer word z = word ++ signed_decimal z
+
+abbrev pub content_words : Kind → List ℤ → List ℕ
+content_words (kinds.Account balance) values = with_integer (codes "account ") balance
+content_words (kinds.Buffer capacity) values =
+    with_integer (codes "buffer ") capacity ++ codes " " ++ values_words values
+content_words (kinds.Grid rows columns) values =
+    with_integer (codes "grid ") rows ++ with_integer (codes " ") columns ++ codes " " ++ values_words values
+
+abbrev pub state_words : State → List ℕ
+state_words s =
+    content_words (kind_of s.content) (values_of s.content) ++ with_integer (codes ", refused ") s.refused
 
 -- a ticket
 abbrev pub ticket_words : ProgramShape → Ticket → List ℕ

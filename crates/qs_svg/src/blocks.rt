@@ -1,15 +1,16 @@
 // The column of a ticket.
 
-ghost use Rattle.std.specs.Prelude.{◌≡◌, ◌<◌, ◌≤◌, OnOk, length};
+ghost use Rattle.std.specs.Prelude.{◌≡◌, ◌<◌, OnOk, length};
 ghost use Rattle.qs_svg.specs.Shapes.{Draws, shapes_up_to};
 ghost use Rattle.qs_text.specs.Texts.{Puts};
-ghost use Rattle.qs_svg.specs.Stretches.{columns_of as columns_in, most_columns};
+ghost use Rattle.qs_svg.specs.Stretches.{columns_of as columns_in};
 ghost use Rattle.qs_svg.specs.Places.{first_row as first_of, frame_height, last_row as last_of};
 ghost use Rattle.qs_svg.specs.Blocks.{block_frame, column as column_shapes, column_names, columns_left};
 
 use crate::facts::{MOST_COLUMNS, columns_of, has_ended, ticket_at};
-use crate::pieces::{put_counted, put_name, put_path};
-use crate::stretches::{column_edge, row_edge, side};
+use crate::layout::{Layout, band_edge, column_edge, height_of_row, row_edge};
+use crate::pieces::{put_counted, put_name, put_path, put_things};
+use crate::stretches::side;
 use crate::words::put_block_words;
 use qs_objects::Ticket;
 use qs_played::Played;
@@ -40,30 +41,31 @@ fn last_row(objects: &[u8]) -> u8
 }
 
 // How high a frame over some rows is.
-fn height(first: u8, last: u8) -> u64
-    ensures height { result ≡ frame_height first last }
+fn height(layout: Layout, first: u8, last: u8) -> u64
+    ensures height { result ≡ frame_height layout first last }
 {
-    70 + 72 * u64::from(last.saturating_sub(first))
+    let row = u64::from(height_of_row(layout));
+    u64::from(last.saturating_sub(first)) * row + (row - 2)
 }
 
 // The frame of a block, over all rows of its objects.
 fn put_frame(
     out: &mut Vec<u8>,
     program: &Program,
-    column: usize,
+    layout: Layout,
+    column: u8,
     ticket: Ticket,
     ended: bool,
     rows: (u8, u8),
 ) -> Result<(), AllocError>
-    requires column { column ≤ most_columns }
-    ensures ok { OnOk result (Puts (block_frame program.now ticket ended column rows.0 rows.1) out.old.items out.new.items) }
+    ensures ok { OnOk result (Puts (block_frame program.now ticket ended layout column rows.0 rows.1) out.old.items out.new.items) }
 {
     let (first, last) = rows;
-    let x = column_edge(column) + 117;
-    let y = row_edge(usize::from(first)) + 1;
+    let x = column_edge(column) + 193;
+    let y = row_edge(layout, column / 7, first) + 1;
     put_path(out, b"block", ticket.client, x, y)?;
-    put_count(out, b"h-114v", height(first, last))?;
-    put_word(out, b"h114")?;
+    put_count(out, b"h-190v", height(layout, first, last))?;
+    put_word(out, b"h190")?;
     put_word(out, side(ended))?;
     put_word(out, b"'><title>")?;
     put_block_words(out, program, ticket, ended)?;
@@ -74,15 +76,16 @@ fn put_frame(
 fn put_names(
     out: &mut Vec<u8>,
     program: &Program,
-    column: usize,
+    layout: Layout,
+    column: u8,
     ticket: Ticket,
 ) -> Result<(), AllocError>
-    requires column { column ≤ most_columns }
-    ensures ok { OnOk result (Draws (column_names program.now column ticket) out.old.items out.new.items) }
+    ensures ok { OnOk result (Draws (column_names program.now layout column ticket) out.old.items out.new.items) }
 {
     let x = column_edge(column) + 8;
-    put_name(out, x, 96, client_name(program, ticket.client))?;
-    put_counted(out, x, 112, b"block ", usize::from(ticket.index), b"")
+    let y = band_edge(layout, column / 7);
+    put_name(out, x, y + 14, client_name(program, ticket.client))?;
+    put_counted(out, x, y + 30, b"block ", usize::from(ticket.index), b"")
 }
 
 // The column of the ticket at a place of the order.
@@ -90,18 +93,19 @@ fn put_column(
     out: &mut Vec<u8>,
     program: &Program,
     played: &Played,
-    column: usize,
+    layout: Layout,
+    column: u8,
 ) -> Result<(), AllocError>
-    requires column { column ≤ most_columns }
     requires place { column < length played.now.order }
-    ensures ok { OnOk result (Draws (column_shapes program.now played.now column) out.old.items out.new.items) }
+    ensures ok { OnOk result (Draws (column_shapes program.now played.now layout column) out.old.items out.new.items) }
 {
-    let ticket = ticket_at(played, column);
-    let ended = has_ended(played, column);
-    let objects = played.sync_objects(column);
+    let place = usize::from(column);
+    let ticket = ticket_at(played, place);
+    let ended = has_ended(played, place);
+    let objects = played.sync_objects(place);
     let rows = (first_row(objects), last_row(objects));
-    put_names(out, program, column, ticket)?;
-    put_frame(out, program, column, ticket, ended, rows)
+    put_names(out, program, layout, column, ticket)?;
+    put_frame(out, program, layout, column, ticket, ended, rows)
 }
 
 /// Puts all columns.
@@ -109,29 +113,29 @@ pub(crate) fn put_columns(
     out: &mut Vec<u8>,
     program: &Program,
     played: &Played,
+    layout: Layout,
 ) -> Result<(), AllocError>
-    ensures ok { OnOk result (Draws (shapes_up_to (columns_in played.now) (column_shapes program.now played.now)) out.old.items out.new.items) }
+    ensures ok { OnOk result (Draws (shapes_up_to (columns_in played.now) (column_shapes program.now played.now layout)) out.old.items out.new.items) }
 {
-    for column in 0..columns_of(played) {
-        put_column(out, program, played, column)?;
+    for column in 0..columns_of(played) as u8 {
+        put_column(out, program, played, layout, column)?;
     }
     Ok(())
 }
 
 /// Puts how many blocks more there are.
-pub(crate) fn put_columns_left(out: &mut Vec<u8>, played: &Played) -> Result<(), AllocError>
-    ensures ok { OnOk result (Draws (columns_left played.now) out.old.items out.new.items) }
+pub(crate) fn put_columns_left(
+    out: &mut Vec<u8>,
+    played: &Played,
+    layout: Layout,
+) -> Result<(), AllocError>
+    ensures ok { OnOk result (Draws (columns_left played.now layout) out.old.items out.new.items) }
 {
     let count = played.order().len();
     if MOST_COLUMNS < count {
-        put_counted(
-            out,
-            column_edge(MOST_COLUMNS) + 8,
-            96,
-            b"",
-            count - MOST_COLUMNS,
-            b" more blocks",
-        )
+        let x = column_edge(64) + 8;
+        let y = band_edge(layout, 9) + 14;
+        put_things(out, x, y, count - MOST_COLUMNS, b" more block")
     } else {
         Ok(())
     }

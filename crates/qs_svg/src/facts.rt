@@ -1,6 +1,6 @@
 // What is read off a run: its tickets, and how many entries and synchronisations there are.
 
-ghost use Rattle.std.specs.Prelude.{◌≡◌, ◌<◌, ◌≤◌, [], length, slice_index_or};
+ghost use Rattle.std.specs.Prelude.{◌≡◌, ◌+◌, ◌<◌, ◌≤◌, [], length, max, slice_index_or};
 ghost use Rattle.qs_svg.specs.Stretches.{most_columns};
 ghost use Rattle.qs_svg.specs.Stretches as stretches;
 
@@ -17,6 +17,14 @@ pub(crate) fn columns_of(played: &Played) -> usize
     ensures places { result ≤ length played.now.order }
 {
     played.order().len().min(MOST_COLUMNS)
+}
+
+/// How many columns there are, with the one that says how much more there is.
+pub(crate) fn all_columns(played: &Played) -> usize
+    ensures columns { result ≡ stretches.all_columns played.now }
+    ensures few { result ≤ most_columns + 1 }
+{
+    played.order().len().min(MOST_COLUMNS + 1)
 }
 
 /// The ticket at a place of the order.
@@ -101,4 +109,34 @@ pub(crate) fn queries_in(entries: &[Entry]) -> usize
         }
     }
     count
+}
+
+fn greater(first: usize, second: usize) -> usize
+    ensures greater { result ≡ max first second }
+{
+    first.max(second)
+}
+
+// The most requests that a block with a column has at an object.
+fn longest_at(played: &Played, object: usize) -> usize
+    ensures longest { result ≡ stretches.longest_at played.now object }
+{
+    let journal = journal_of(played, object);
+    let mut most = 0;
+    for column in 0..columns_of(played) {
+        let count = entries_for(ticket_at(played, column), journal);
+        most = greater(most, count);
+    }
+    most
+}
+
+/// The most requests that a block with a column has at whichever object.
+pub(crate) fn longest(played: &Played, objects: usize) -> usize
+    ensures longest { result ≡ stretches.longest objects played.now }
+{
+    let mut most = 0;
+    for object in 0..objects {
+        most = greater(most, longest_at(played, object));
+    }
+    most
 }

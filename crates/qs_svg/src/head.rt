@@ -1,14 +1,15 @@
 // The beginning of a picture: its size, its title, its description and its style.
 
 ghost use Rattle.std.specs.Prelude.{◌≡◌, ◌+◌, ◌<◌, ◌≤◌, OnOk, length};
-ghost use Rattle.qs_program.specs.Limits.{most_objects, most_clients};
+ghost use Rattle.qs_program.specs.Limits.{most_clients};
 ghost use Rattle.qs_text.specs.Texts.{texts_up_to, Puts};
-ghost use Rattle.qs_svg.specs.Stretches.{all_columns as columns_in_all, most_columns};
-ghost use Rattle.qs_svg.specs.Places.{picture_height, picture_width};
+ghost use Rattle.qs_svg.specs.Stretches.{most_columns};
+ghost use Rattle.qs_svg.specs.Places.{picture_width};
 ghost use Rattle.qs_svg.specs.Words.{description, finished_words as words_of_end, object_told, reserved_words, ticket_told, title_words};
 ghost use Rattle.qs_svg.specs.RunSvg.{head_text, size_text};
 
-use crate::facts::{MOST_COLUMNS, has_ended, journal_of, ticket_at};
+use crate::facts::{all_columns, has_ended, journal_of, ticket_at};
+use crate::layout::{Layout, band_edge, bands_of};
 use crate::legend::put_style;
 use crate::words::put_block_words;
 use qs_played::Played;
@@ -16,29 +17,14 @@ use qs_program::Program;
 use qs_text::{object_name, put_count, put_word};
 use std::alloc::AllocError;
 
-// How many columns there are, with the one that says how much more there is.
-fn all_columns(played: &Played) -> usize
-    ensures columns { result ≡ columns_in_all played.now }
-    ensures few { result ≤ most_columns + 1 }
-{
-    played.order().len().min(MOST_COLUMNS + 1)
-}
-
 fn width_of(columns: usize, clients: usize) -> u64
     requires columns { columns ≤ most_columns + 1 }
     requires clients { clients ≤ most_clients }
     ensures width { result ≡ picture_width columns clients }
 {
     let names = 24 + 130 * clients as u64;
-    let least = names.max(700);
-    least.max(160 + 120 * columns as u64)
-}
-
-fn height_of(rows: usize) -> u64
-    requires rows { rows ≤ most_objects }
-    ensures height { result ≡ picture_height rows }
-{
-    140 + 72 * rows as u64
+    let least = names.max(800);
+    least.max(212 + 196 * columns.min(7) as u64)
 }
 
 // The first line.
@@ -170,12 +156,14 @@ pub(crate) fn put_head(
     out: &mut Vec<u8>,
     program: &Program,
     played: &Played,
+    layout: Layout,
 ) -> Result<(), AllocError>
-    ensures ok { OnOk result (Puts (head_text program.now played.now) out.old.items out.new.items) }
+    ensures ok { OnOk result (Puts (head_text program.now played.now layout) out.old.items out.new.items) }
 {
     program.keeps_sound();
-    let width = width_of(all_columns(played), program.clients());
-    put_size(out, width, height_of(program.objects()))?;
+    let columns = all_columns(played);
+    let height = band_edge(layout, bands_of(columns));
+    put_size(out, width_of(columns, program.clients()), u64::from(height))?;
     put_word(out, b"<title id='title'>")?;
     put_title(out, program, played)?;
     put_word(out, b"</title>\n")?;

@@ -9,7 +9,7 @@ pub fn run_svg_examples()
     ensures examples { RunSvgExamples }
 {}
 
-/// A picture of whatever run of a sound program has at most 4,000 shapes; it does nothing.
+/// A picture of whatever run of a sound program has at most 6,500 shapes; it does nothing.
 pub fn few_shapes()
     ensures few { AreFewShapes }
 {}

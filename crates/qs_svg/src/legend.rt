@@ -10,7 +10,7 @@ use qs_program::Program;
 use qs_text::{client_name, put_all, put_word};
 use std::alloc::AllocError;
 
-/// Puts the style: colours for a light ground, and others for a dark one.
+/// Puts the style: colours for a light ground and for paper, and others for a dark screen.
 pub(crate) fn put_style(out: &mut Vec<u8>) -> Result<(), AllocError>
     ensures ok { OnOk result (Puts style out.old.items out.new.items) }
 {
@@ -22,13 +22,13 @@ pub(crate) fn put_style(out: &mut Vec<u8>) -> Result<(), AllocError>
             b".ground{fill:#fff}.sign{fill:#555}.side{fill:none;stroke:#555}\n",
             b".c0{fill:#0060a8;stroke:#0060a8}.c1{fill:#b84a00;stroke:#b84a00}.c2{fill:#00795a;stroke:#00795a}.c3{fill:#a3317f;stroke:#a3317f}\n",
             b".c4{fill:#6a4fc0;stroke:#6a4fc0}.c5{fill:#7d6400;stroke:#7d6400}.c6{fill:#c0262d;stroke:#c0262d}.c7{fill:#3f6470;stroke:#3f6470}\n",
-            b"@media(prefers-color-scheme:dark){\n",
+            b"@media screen and (prefers-color-scheme:dark){\n",
             b"text{fill:#e8e8e8}\n",
             b".ground{fill:#16181c}.sign{fill:#aaa}.side{stroke:#aaa}\n",
             b".c0{fill:#5db4ff;stroke:#5db4ff}.c1{fill:#ff9f5a;stroke:#ff9f5a}.c2{fill:#3fd6a4;stroke:#3fd6a4}.c3{fill:#f08fd0;stroke:#f08fd0}\n",
             b".c4{fill:#b6a2ff;stroke:#b6a2ff}.c5{fill:#e3c44a;stroke:#e3c44a}.c6{fill:#ff7f7f;stroke:#ff7f7f}.c7{fill:#a8c7d3;stroke:#a8c7d3}\n",
             b"}\n",
-            b".mark{stroke:none}.stretch{fill-opacity:.14;stroke-width:1}.block{fill:none;stroke-width:2}\n",
+            b".mark{stroke:none}.void{fill:none}.stretch{fill-opacity:.14;stroke-width:1}.block{fill:none;stroke-width:2}\n",
             b"</style>\n",
         ],
     )
@@ -79,6 +79,11 @@ pub(crate) fn put_signs(out: &mut Vec<u8>) -> Result<(), AllocError>
             b"<text x='434' y='68'>block that has ended</text>\n",
             b"<path class='side' d='M584,58h-14v12h14'/>\n",
             b"<text x='590' y='68'>open block</text>\n",
+            b"<path class='side' d='M12,82h8v8h-8zl8,8m0-8l-8,8'/>\n",
+            b"<text x='26' y='90'>command that was refused</text>\n",
+            b"<path class='side' d='M202,86a4,4 0 1 1 8,0a4,4 0 1 1-8,0z'/>\n",
+            b"<text x='216' y='90'>query of what is not there</text>\n",
+            b"<text x='398' y='90'>under an object's name: how many requests it ran, and its last state</text>\n",
         ],
     )
 }

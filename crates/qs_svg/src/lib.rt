@@ -5,6 +5,7 @@ mod blocks;
 mod facts;
 mod head;
 pub mod laws;
+mod layout;
 mod legend;
 mod pieces;
 mod rows;

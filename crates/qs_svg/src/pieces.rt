@@ -1,8 +1,9 @@
 // Pieces of a picture, put at the end of bytes.
 
-ghost use Rattle.std.specs.Prelude.{◌++◌, OnOk};
+ghost use Rattle.std.specs.Prelude.{◌≡◌, ◌++◌, OnOk, [], codes, if◌then◌else◌, nat_eq};
 ghost use Rattle.qs_text.specs.Texts.{Puts};
-ghost use Rattle.qs_svg.specs.Shapes.{path_start, text_at, text_start, with_number};
+ghost use Rattle.qs_svg.specs.Words.{counted};
+ghost use Rattle.qs_svg.specs.Shapes.{fitted_text, path_start, squeezed, text_at, text_start, with_number};
 
 use qs_text::{put_count, put_word};
 use std::alloc::AllocError;
@@ -56,5 +57,60 @@ pub(crate) fn put_counted(
     put_text(out, x, y)?;
     put_count(out, word, count as u64)?;
     put_word(out, other)?;
+    put_word(out, b"</text>\n")
+}
+
+// What follows the word for so many things.
+fn plural(count: usize) -> &'static [u8]
+    ensures plural { result.now ≡ (if nat_eq count 1 then [] else codes "s") }
+{
+    if count == 1 { b"" } else { b"s" }
+}
+
+// A text of so many things, as one shape.
+pub(crate) fn put_things(
+    out: &mut Vec<u8>,
+    x: u32,
+    y: u32,
+    count: usize,
+    word: &[u8],
+) -> Result<(), AllocError>
+    ensures ok { OnOk result (Puts (text_at x y (counted count word.now)) out.old.items out.new.items) }
+{
+    put_text(out, x, y)?;
+    put_count(out, b"", count as u64)?;
+    put_word(out, word)?;
+    put_word(out, plural(count))?;
+    put_word(out, b"</text>\n")
+}
+
+// What squeezes a text that would be wider than its place.
+fn put_squeezed(out: &mut Vec<u8>, width: u32, characters: usize) -> Result<(), AllocError>
+    ensures ok { OnOk result (Puts (squeezed width characters) out.old.items out.new.items) }
+{
+    let room = (width / 7) as usize;
+    if room < characters {
+        put_count(out, b"' textLength='", u64::from(width))?;
+        put_word(out, b"' lengthAdjust='spacingAndGlyphs")
+    } else {
+        Ok(())
+    }
+}
+
+// A text that is squeezed where it would be wider than its place, as one shape.
+pub(crate) fn put_fitted(
+    out: &mut Vec<u8>,
+    x: u32,
+    y: u32,
+    width: u32,
+    words: &[u8],
+) -> Result<(), AllocError>
+    ensures ok { OnOk result (Puts (fitted_text x y width words.now) out.old.items out.new.items) }
+{
+    put_count(out, b"<text x='", u64::from(x))?;
+    put_count(out, b"' y='", u64::from(y))?;
+    put_squeezed(out, width, words.len())?;
+    put_word(out, b"'>")?;
+    put_word(out, words)?;
     put_word(out, b"</text>\n")
 }

@@ -1,36 +1,42 @@
 // The row of an object.
 
-ghost use Rattle.std.specs.Prelude.{◌≡◌, ◌^◌, ◌<◌, ◌≤◌, IfOk, OnOk, length};
-ghost use Rattle.qs_svg.specs.Shapes.{Draws, shapes_up_to};
-ghost use Rattle.qs_svg.specs.Stretches.{columns_of as columns_in, stretch, stretch_start, most_columns, most_marks_of_few};
-ghost use Rattle.qs_svg.specs.Blocks.{cell, row as row_shapes, row_left, row_names};
+ghost use Rattle.std.specs.Prelude.{◌≡◌, ◌<◌, ◌-◌, IfOk, OnOk, [], ◌∷◌, length, slice_get};
+ghost use Rattle.qs_fates.specs.Fates.{all_fates, fates_of};
+ghost use Rattle.qs_svg.specs.Shapes.{Draws, fitted_text, shapes_up_to};
+ghost use Rattle.qs_svg.specs.Stretches.{all_columns as columns_in_all, columns_of as columns_in, stretch, stretch_fates, stretch_start};
+ghost use Rattle.qs_svg.specs.Places.{bands_of as bands_for};
+ghost use Rattle.qs_svg.specs.Words.{state_words};
+ghost use Rattle.qs_svg.specs.Blocks.{cell, row as row_shapes, row_left, row_names, state_shapes};
 
-use crate::facts::{MOST_COLUMNS, columns_of, entries_for, journal_of, reserves, ticket_at};
-use crate::pieces::{put_counted, put_name};
-use crate::stretches::{Spot, column_edge, put_stretch, row_edge};
-use qs_objects::Entry;
+use crate::facts::{
+    MOST_COLUMNS, all_columns, columns_of, entries_for, journal_of, reserves, ticket_at,
+};
+use crate::layout::{Layout, Spot, bands_of, column_edge, row_edge};
+use crate::pieces::{put_fitted, put_name, put_things};
+use crate::stretches::put_stretch;
+use crate::words::put_state_words;
+use qs_fates::{Fate, JournalFates};
+use qs_objects::{Entry, Object};
 use qs_played::Played;
 use qs_program::Program;
 use qs_text::object_name;
-use std::alloc::AllocError;
+use std::alloc::{AllocError, Global};
 
 // What stands of an object in the column of a ticket.
 fn put_cell(
     out: &mut Vec<u8>,
+    alloc: Global,
     program: &Program,
     played: &Played,
     spot: Spot,
     entries: &[Entry],
-    most: usize,
+    fates: &[Fate],
 ) -> Result<(), AllocError>
-    requires column { spot.column ≤ most_columns }
-    requires row { spot.row < 2 ^ 8 }
-    requires most { most ≤ most_marks_of_few }
     requires place { spot.column < length played.now.order }
-    ensures ok { OnOk result (Draws (cell program.now played.now most spot.column spot.row entries.now) out.old.items out.new.items) }
+    ensures ok { OnOk result (Draws (cell program.now played.now spot.layout spot.column spot.row entries.now fates.now) out.old.items out.new.items) }
 {
-    if reserves(played, spot.column, spot.row) {
-        put_stretch(out, program, played, spot, entries, most)
+    if reserves(played, usize::from(spot.column), usize::from(spot.row)) {
+        put_stretch(out, alloc, program, played, spot, entries, fates)
     } else {
         Ok(())
     }
@@ -39,77 +45,146 @@ fn put_cell(
 // The stretches of a row; answers where in the journal the next stretch would begin.
 fn put_cells(
     out: &mut Vec<u8>,
+    alloc: Global,
     program: &Program,
     played: &Played,
-    row: usize,
-    most: usize,
+    layout: Layout,
+    row: u8,
+    fates: &[Fate],
 ) -> Result<usize, AllocError>
-    requires row { row < 2 ^ 8 }
-    requires most { most ≤ most_marks_of_few }
+    requires fates { fates.now ≡ fates_of program.now played.now row }
     ensures ok { IfOk result (λ start. Draws
-        (shapes_up_to (columns_in played.now) (λ i. cell program.now played.now most i row (stretch played.now row i))) out.old.items out.new.items) }
+        (shapes_up_to (columns_in played.now) (λ i. cell program.now played.now layout i row (stretch played.now row i) (stretch_fates program.now played.now row i)))
+        out.old.items out.new.items) }
     ensures start { IfOk result (λ start. start ≡ stretch_start played.now row (columns_in played.now)) }
 {
-    let journal = journal_of(played, row);
+    let journal = journal_of(played, usize::from(row));
     let mut start = 0;
-    for column in 0..columns_of(played) {
-        let count = entries_for(ticket_at(played, column), journal);
+    for column in 0..columns_of(played) as u8 {
+        let count = entries_for(ticket_at(played, usize::from(column)), journal);
         let end = start + count.min(journal.len() - start);
-        let entries = &journal[start..end];
-        put_cell(out, program, played, Spot { column, row }, entries, most)?;
+        let spot = Spot {
+            layout,
+            column,
+            row,
+        };
+        put_cell(
+            out,
+            alloc,
+            program,
+            played,
+            spot,
+            &journal[start..end],
+            &fates[start..end],
+        )?;
         start = end;
     }
     Ok(start)
 }
 
-// The object's name and the number of its requests.
+// A state, under the names.
+fn put_state_of(out: &mut Vec<u8>, alloc: Global, object: &Object, y: u32) -> Result<(), AllocError>
+    ensures ok { OnOk result (Draws (fitted_text 12 y 176 (state_words object.now) ∷ []) out.old.items out.new.items) }
+{
+    let mut words = Vec::new(alloc);
+    put_state_words(&mut words, object)?;
+    put_fitted(out, 12, y, 176, words.as_slice())
+}
+
+// The last state of an object.
+fn put_state(
+    out: &mut Vec<u8>,
+    alloc: Global,
+    played: &Played,
+    row: u8,
+    y: u32,
+) -> Result<(), AllocError>
+    ensures ok { OnOk result (Draws (state_shapes (slice_get played.now.states row) y) out.old.items out.new.items) }
+{
+    match played.states().get(usize::from(row)) {
+        None => Ok(()),
+        Some(object) => put_state_of(out, alloc, object, y),
+    }
+}
+
+// What is said of an object before its row of a band.
 fn put_names(
     out: &mut Vec<u8>,
+    alloc: Global,
     program: &Program,
-    row: usize,
-    requests: usize,
+    played: &Played,
+    layout: Layout,
+    row: u8,
+    band: u8,
 ) -> Result<(), AllocError>
-    requires row { row < 2 ^ 8 }
-    ensures ok { OnOk result (Draws (row_names program.now row requests) out.old.items out.new.items) }
+    ensures ok { OnOk result (Draws (row_names program.now played.now layout row band) out.old.items out.new.items) }
 {
-    let y = row_edge(row);
-    put_name(out, 12, y + 28, object_name(program, row))?;
-    put_counted(out, 12, y + 46, b"", requests, b" requests")
+    let y = row_edge(layout, band, row);
+    let object = usize::from(row);
+    put_name(out, 12, y + 21, object_name(program, object))?;
+    put_things(
+        out,
+        12,
+        y + 37,
+        journal_of(played, object).len(),
+        b" request",
+    )?;
+    put_state(out, alloc, played, row, y + 53)
+}
+
+// The same in each band.
+fn put_all_names(
+    out: &mut Vec<u8>,
+    alloc: Global,
+    program: &Program,
+    played: &Played,
+    layout: Layout,
+    row: u8,
+) -> Result<(), AllocError>
+    ensures ok { OnOk result (Draws (shapes_up_to (bands_for (columns_in_all played.now)) (row_names program.now played.now layout row)) out.old.items out.new.items) }
+{
+    for band in 0..bands_of(all_columns(played)) {
+        put_names(out, alloc, program, played, layout, row, band)?;
+    }
+    Ok(())
 }
 
 // How many requests are left for the blocks that have no column.
 fn put_left(
     out: &mut Vec<u8>,
     played: &Played,
-    row: usize,
+    layout: Layout,
+    row: u8,
     requests: usize,
 ) -> Result<(), AllocError>
-    requires row { row < 2 ^ 8 }
-    ensures ok { OnOk result (Draws (row_left played.now row requests) out.old.items out.new.items) }
+    ensures ok { OnOk result (Draws (row_left played.now layout row requests) out.old.items out.new.items) }
 {
     if MOST_COLUMNS < played.order().len() {
-        let x = column_edge(MOST_COLUMNS) + 12;
-        let y = row_edge(row) + 40;
-        put_counted(out, x, y, b"", requests, b" requests")
+        let x = column_edge(64) + 12;
+        let y = row_edge(layout, 9, row) + 21;
+        put_things(out, x, y, requests, b" request")
     } else {
         Ok(())
     }
 }
 
-/// Puts the row of an object: its name, a stretch for each column, and what is left.
+/// Puts the row of an object: what is said of it, a stretch for each column, and what is left.
 pub(crate) fn put_row(
     out: &mut Vec<u8>,
+    alloc: Global,
     program: &Program,
     played: &Played,
-    row: usize,
-    most: usize,
+    layout: Layout,
+    row: u8,
+    fates: &JournalFates,
 ) -> Result<(), AllocError>
-    requires row { row < 2 ^ 8 }
-    requires most { most ≤ most_marks_of_few }
-    ensures ok { OnOk result (Draws (row_shapes program.now played.now most row) out.old.items out.new.items) }
+    requires row { row < length program.now.objects }
+    requires fates { fates.now ≡ all_fates program.now played.now }
+    ensures ok { OnOk result (Draws (row_shapes program.now played.now layout row) out.old.items out.new.items) }
 {
-    let requests = journal_of(played, row).len();
-    put_names(out, program, row, requests)?;
-    let start = put_cells(out, program, played, row, most)?;
-    put_left(out, played, row, requests.saturating_sub(start))
+    put_all_names(out, alloc, program, played, layout, row)?;
+    let object = usize::from(row);
+    let start = put_cells(out, alloc, program, played, layout, row, fates.of(object))?;
+    let requests = journal_of(played, object).len();
+    put_left(out, played, layout, row, requests.saturating_sub(start))
 }

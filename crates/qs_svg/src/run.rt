@@ -1,17 +1,16 @@
 // The picture of a run.
 
-ghost use Rattle.std.specs.Prelude.{◌≡◌, ◌≤◌, IfOk, OnOk};
-ghost use Rattle.qs_program.specs.Limits.{most_objects};
+ghost use Rattle.std.specs.Prelude.{◌≡◌, IfOk, OnOk};
 ghost use Rattle.qs_svg.specs.Shapes.{Draws};
 ghost use Rattle.qs_text.specs.Texts.{Puts};
-ghost use Rattle.qs_svg.specs.Stretches.{most_marks as most_of, most_columns, most_marks_of_few};
 ghost use Rattle.qs_svg.specs.RunSvg as definitions;
 
 use crate::blocks::{put_columns, put_columns_left};
-use crate::facts::columns_of;
 use crate::head::{put_head, put_title};
+use crate::layout::{Layout, layout_of};
 use crate::legend::{put_clients, put_signs};
 use crate::rows::put_row;
+use qs_fates::journal_fates;
 use qs_played::Played;
 use qs_program::Program;
 use qs_text::put_word;
@@ -36,52 +35,50 @@ fn put_legend(out: &mut Vec<u8>, program: &Program, played: &Played) -> Result<(
     put_signs(out)
 }
 
-// So many requests of a stretch are drawn, in a picture of few cells and of many.
-const MOST_MARKS_OF_FEW: usize = 16;
-
-const MOST_MARKS_OF_MANY: usize = 4;
-
-const MOST_FEW_CELLS: usize = 192;
-
-// How many requests of a stretch are drawn.
-fn most_marks(columns: usize, rows: usize) -> usize
-    requires columns { columns ≤ most_columns }
-    requires rows { rows ≤ most_objects }
-    ensures most { result ≡ most_of columns rows }
-    ensures few { result ≤ most_marks_of_few }
-{
-    if columns * rows <= MOST_FEW_CELLS {
-        MOST_MARKS_OF_FEW
-    } else {
-        MOST_MARKS_OF_MANY
-    }
-}
-
 // All rows.
-fn put_rows(out: &mut Vec<u8>, program: &Program, played: &Played) -> Result<(), AllocError>
-    ensures ok { OnOk result (Draws (definitions.row_shapes program.now played.now) out.old.items out.new.items) }
+fn put_rows(
+    out: &mut Vec<u8>,
+    alloc: Global,
+    program: &Program,
+    played: &Played,
+    layout: Layout,
+) -> Result<(), AllocError>
+    ensures ok { OnOk result (Draws (definitions.row_shapes program.now played.now layout) out.old.items out.new.items) }
 {
     program.keeps_sound();
-    let rows = program.objects();
-    let most = most_marks(columns_of(played), rows);
-    for row in 0..rows {
-        put_row(out, program, played, row, most)?;
+    let fates = journal_fates(alloc, program, played)?;
+    for row in 0..program.objects() as u8 {
+        put_row(out, alloc, program, played, layout, row, &fates)?;
     }
     Ok(())
 }
 
+// The picture of a run, by a layout.
+fn put_picture(
+    out: &mut Vec<u8>,
+    alloc: Global,
+    program: &Program,
+    played: &Played,
+    layout: Layout,
+) -> Result<(), AllocError>
+    ensures ok { OnOk result (Puts (definitions.picture program.now played.now layout) out.old.items out.new.items) }
+{
+    put_head(out, program, played, layout)?;
+    put_legend(out, program, played)?;
+    put_columns(out, program, played, layout)?;
+    put_columns_left(out, played, layout)?;
+    put_rows(out, alloc, program, played, layout)?;
+    put_word(out, b"</svg>\n")
+}
+
 /// A run as one picture in SVG: a column for each block, in the order of the reservations, and a row for each object,
-/// with the requests that it ran. A number past the program's objects or clients has no name. An error says that an
-/// allocation failed, and nothing is left.
+/// with the requests that it ran, what became of them, and its last state. A number past the program's objects or
+/// clients has no name. An error says that an allocation failed, and nothing is left.
 pub fn run_svg(alloc: Global, program: &Program, played: &Played) -> Result<Vec<u8>, AllocError>
     ensures picture { IfOk result (λ bytes. bytes.items ≡ definitions.run_svg program.now played.now) }
 {
+    let layout = layout_of(program, played);
     let mut out = Vec::new(alloc);
-    put_head(&mut out, program, played)?;
-    put_legend(&mut out, program, played)?;
-    put_columns(&mut out, program, played)?;
-    put_columns_left(&mut out, played)?;
-    put_rows(&mut out, program, played)?;
-    put_word(&mut out, b"</svg>\n")?;
+    put_picture(&mut out, alloc, program, played, layout)?;
     Ok(out)
 }

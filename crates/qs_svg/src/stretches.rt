@@ -1,42 +1,42 @@
 // The stretch of a ticket at an object: its frame, its requests and its synchronisations.
 
-ghost use Rattle.std.specs.Prelude.{◌≡◌, ◌^◌, ◌<◌, ◌≤◌, OnOk, length};
-ghost use Rattle.qs_svg.specs.Stretches.{most_columns, most_marks_of_few};
-ghost use Rattle.qs_svg.specs.Shapes.{Draws};
+ghost use Rattle.std.specs.Prelude.{◌≡◌, ◌+◌, ◌^◌, ◌<◌, OnOk, length, slice_index_or};
+ghost use Rattle.qs_fates.specs.declared.fate.Fate.TheVariants.{Done};
+ghost use Rattle.qs_svg.specs.Shapes.{Draws, fitted_text};
 ghost use Rattle.qs_text.specs.Texts.{Puts};
-ghost use Rattle.qs_svg.specs.Places.{column_x, mark_x, mark_y, row_y};
-ghost use Rattle.qs_svg.specs.Blocks.{form, mark, marks, more_marks, right_side, sync_marks, sync_text, stretch_frame, stretch_shapes};
+ghost use Rattle.qs_svg.specs.Places.{mark_x, mark_y};
+ghost use Rattle.qs_svg.specs.Words.{line_words};
+ghost use Rattle.qs_svg.specs.Blocks.{cross, form, mark, mark_kind, marks, more_marks, request_shapes, right_side, stretch_frame, stretch_shapes, sync_marks, sync_text};
 
 use crate::facts::{has_ended, queries_in, sent_for, ticket_at};
-use crate::pieces::{put_counted, put_path, put_text};
-use crate::words::{put_entry, put_stretch_words};
+use crate::layout::{Spot, column_edge, mark_left, mark_top, row_edge};
+use crate::pieces::{put_counted, put_fitted, put_path, put_text};
+use crate::words::{put_entry, put_line, put_stretch_words};
+use qs_fates::Fate;
 use qs_objects::{Entry, Ticket};
 use qs_played::Played;
 use qs_program::Program;
 use qs_text::{put_count, put_word};
-use std::alloc::AllocError;
+use std::alloc::{AllocError, Global};
 
-/// Where a stretch stands: its column and its row.
+// The corner of a mark.
 #[derive(Clone, Copy)]
-pub(crate) struct Spot {
-    pub column: usize,
-    pub row: usize,
+struct Corner {
+    x: u32,
+    y: u32,
 }
 
-// The left edge of a column.
-pub(crate) fn column_edge(column: usize) -> u32
-    requires few { column ≤ most_columns }
-    ensures edge { result ≡ column_x column }
+// The corner of the mark on a line of a stretch.
+fn corner_of(spot: Spot, line: u8) -> Corner
+    ensures x { result.x ≡ mark_x spot.column }
+    ensures y { result.y ≡ mark_y spot.layout spot.column spot.row line }
+    ensures left { result.x < 2 ^ 31 }
+    ensures top { result.y < 2 ^ 31 }
 {
-    140 + 120 * column as u32
-}
-
-// The upper edge of a row.
-pub(crate) fn row_edge(row: usize) -> u32
-    requires few { row < 2 ^ 8 }
-    ensures edge { result ≡ row_y row }
-{
-    124 + 72 * row as u32
+    Corner {
+        x: mark_left(spot),
+        y: mark_top(spot, line),
+    }
 }
 
 // What goes on from the point where a mark begins.
@@ -57,71 +57,126 @@ pub(crate) fn side(ended: bool) -> &'static [u8]
     if ended { b"z" } else { b"" }
 }
 
-// A request.
+// How a mark looks by what became of its request.
+fn kind_of_mark(fate: Fate) -> &'static [u8]
+    ensures kind { result.now ≡ mark_kind fate }
+{
+    match fate {
+        Fate::Done => b"mark",
+        Fate::Refused | Fate::NoValue => b"void",
+    }
+}
+
+fn cross_of(fate: Fate) -> &'static [u8]
+    ensures cross { result.now ≡ cross fate }
+{
+    match fate {
+        Fate::Refused => b"l8,8m0-8l-8,8",
+        Fate::Done | Fate::NoValue => b"",
+    }
+}
+
+// The mark of a request.
 fn put_mark(
     out: &mut Vec<u8>,
     program: &Program,
-    x: u32,
-    y: u32,
+    corner: Corner,
     entry: &Entry,
+    fate: Fate,
 ) -> Result<(), AllocError>
-    ensures ok { OnOk result (Puts (mark program.now x y entry.now) out.old.items out.new.items) }
+    ensures ok { OnOk result (Puts (mark program.now corner.x corner.y entry.now fate) out.old.items out.new.items) }
 {
-    put_path(out, b"mark", entry.ticket.client, x, y)?;
+    put_path(
+        out,
+        kind_of_mark(fate),
+        entry.ticket.client,
+        corner.x,
+        corner.y,
+    )?;
     put_word(out, form_of(entry.request.op.is_query()))?;
+    put_word(out, cross_of(fate))?;
     put_word(out, b"'><title>")?;
-    put_entry(out, program, entry)?;
+    put_entry(out, program, entry, fate)?;
     put_word(out, b"</title></path>\n")
 }
 
-// The corner of the mark of a number.
-fn mark_left(column: usize, number: usize) -> u32
-    requires few { column ≤ most_columns }
-    ensures left { result ≡ mark_x column number }
+// The words of a request.
+fn put_words(
+    out: &mut Vec<u8>,
+    alloc: Global,
+    corner: Corner,
+    entry: &Entry,
+    fate: Fate,
+) -> Result<(), AllocError>
+    requires x { corner.x < 2 ^ 31 }
+    requires y { corner.y < 2 ^ 31 }
+    ensures ok { OnOk result (Puts (fitted_text (corner.x + 14) (corner.y + 8) 156 (line_words entry.now fate)) out.old.items out.new.items) }
 {
-    column_edge(column) + 12 + 12 * (number % 8) as u32
+    let mut words = Vec::new(alloc);
+    put_line(&mut words, entry, fate)?;
+    put_fitted(out, corner.x + 14, corner.y + 8, 156, words.as_slice())
 }
 
-fn mark_top(row: usize, number: usize) -> u32
-    requires few { row < 2 ^ 8 }
-    requires marks { number < most_marks_of_few }
-    ensures top { result ≡ mark_y row number }
+// A request.
+fn put_request(
+    out: &mut Vec<u8>,
+    alloc: Global,
+    program: &Program,
+    corner: Corner,
+    entry: &Entry,
+    fate: Fate,
+) -> Result<(), AllocError>
+    requires x { corner.x < 2 ^ 31 }
+    requires y { corner.y < 2 ^ 31 }
+    ensures ok { OnOk result (Draws (request_shapes program.now corner.x corner.y entry.now fate) out.old.items out.new.items) }
 {
-    row_edge(row) + 12 + 13 * (number / 8) as u32
+    put_mark(out, program, corner, entry, fate)?;
+    put_words(out, alloc, corner, entry, fate)
+}
+
+// What became of the request at a place.
+fn fate_at(fates: &[Fate], place: usize) -> Fate
+    ensures fate { result ≡ slice_index_or fates.now place Done }
+{
+    fates.get(place).copied().unwrap_or(Fate::Done)
 }
 
 // The requests of a stretch that are drawn.
 fn put_marks(
     out: &mut Vec<u8>,
+    alloc: Global,
     program: &Program,
     spot: Spot,
     entries: &[Entry],
-    most: usize,
+    fates: &[Fate],
 ) -> Result<(), AllocError>
-    requires column { spot.column ≤ most_columns }
-    requires row { spot.row < 2 ^ 8 }
-    requires most { most ≤ most_marks_of_few }
-    ensures ok { OnOk result (Draws (marks program.now most spot.column spot.row entries.now) out.old.items out.new.items) }
+    ensures ok { OnOk result (Draws (marks program.now spot.layout spot.column spot.row entries.now fates.now) out.old.items out.new.items) }
 {
-    let count = entries.len().min(most);
+    let count = entries.len().min(usize::from(spot.layout.most)) as u8;
     for number in 0..count {
-        let x = mark_left(spot.column, number);
-        let y = mark_top(spot.row, number);
-        put_mark(out, program, x, y, &entries[number])?;
+        let place = usize::from(number);
+        let corner = corner_of(spot, number);
+        put_request(
+            out,
+            alloc,
+            program,
+            corner,
+            &entries[place],
+            fate_at(fates, place),
+        )?;
     }
     Ok(())
 }
 
 // How many more there are.
-fn put_more(out: &mut Vec<u8>, spot: Spot, requests: usize, most: usize) -> Result<(), AllocError>
-    requires column { spot.column ≤ most_columns }
-    requires row { spot.row < 2 ^ 8 }
-    ensures ok { OnOk result (Draws (more_marks most spot.column spot.row requests) out.old.items out.new.items) }
+fn put_more(out: &mut Vec<u8>, spot: Spot, requests: usize) -> Result<(), AllocError>
+    ensures ok { OnOk result (Draws (more_marks spot.layout spot.column spot.row requests) out.old.items out.new.items) }
 {
-    if most < requests {
-        let x = column_edge(spot.column) + 12;
-        let y = row_edge(spot.row) + 47;
-        put_counted(out, x, y, b"+ ", requests - most, b" more")
+    let most = spot.layout.most;
+    if usize::from(most) < requests {
+        let x = mark_left(spot);
+        let y = mark_top(spot, most) + 8;
+        put_counted(out, x, y, b"+ ", requests - usize::from(most), b" more")
     } else {
         Ok(())
     }
@@ -129,14 +184,12 @@ fn put_more(out: &mut Vec<u8>, spot: Spot, requests: usize, most: usize) -> Resu
 
 // The synchronisations that were sent and those that were skipped.
 fn put_signs(out: &mut Vec<u8>, spot: Spot, sent: u32, queries: usize) -> Result<(), AllocError>
-    requires column { spot.column ≤ most_columns }
-    requires row { spot.row < 2 ^ 8 }
-    ensures ok { OnOk result (Puts (sync_text spot.column spot.row sent queries) out.old.items out.new.items) }
+    ensures ok { OnOk result (Puts (sync_text spot.layout spot.column spot.row sent queries) out.old.items out.new.items) }
 {
     let sent = u64::from(sent);
     let skipped = (queries as u64).saturating_sub(sent);
-    let x = column_edge(spot.column) + 12;
-    let y = row_edge(spot.row) + 60;
+    let x = mark_left(spot);
+    let y = mark_top(spot, spot.layout.lines) + 8;
     put_text(out, x, y)?;
     put_count(out, b"&#9670; ", sent)?;
     put_count(out, b" &#9671; ", skipped)?;
@@ -144,9 +197,7 @@ fn put_signs(out: &mut Vec<u8>, spot: Spot, sent: u32, queries: usize) -> Result
 }
 
 fn put_syncs(out: &mut Vec<u8>, spot: Spot, sent: u32, queries: usize) -> Result<(), AllocError>
-    requires column { spot.column ≤ most_columns }
-    requires row { spot.row < 2 ^ 8 }
-    ensures ok { OnOk result (Draws (sync_marks spot.column spot.row sent queries) out.old.items out.new.items) }
+    ensures ok { OnOk result (Draws (sync_marks spot.layout spot.column spot.row sent queries) out.old.items out.new.items) }
 {
     if sent == 0 && queries == 0 {
         Ok(())
@@ -164,40 +215,38 @@ fn put_frame(
     ended: bool,
     requests: usize,
 ) -> Result<(), AllocError>
-    requires column { spot.column ≤ most_columns }
-    requires row { spot.row < 2 ^ 8 }
-    ensures ok { OnOk result (Puts (stretch_frame program.now ticket ended spot.column spot.row requests) out.old.items out.new.items) }
+    ensures ok { OnOk result (Puts (stretch_frame program.now ticket ended spot.layout spot.column spot.row requests) out.old.items out.new.items) }
 {
-    let x = column_edge(spot.column) + 112;
-    let y = row_edge(spot.row) + 6;
+    let x = column_edge(spot.column) + 188;
+    let y = row_edge(spot.layout, spot.column / 7, spot.row) + 6;
     put_path(out, b"stretch", ticket.client, x, y)?;
-    put_word(out, b"h-104v60h104")?;
+    put_count(out, b"h-180v", 16 * u64::from(spot.layout.lines) + 26)?;
+    put_word(out, b"h180")?;
     put_word(out, side(ended))?;
     put_word(out, b"'><title>")?;
-    put_stretch_words(out, program, ticket, spot.row, requests)?;
+    put_stretch_words(out, program, ticket, usize::from(spot.row), requests)?;
     put_word(out, b"</title></path>\n")
 }
 
 /// Puts all that is drawn of a ticket at an object, where its block reserves it.
 pub(crate) fn put_stretch(
     out: &mut Vec<u8>,
+    alloc: Global,
     program: &Program,
     played: &Played,
     spot: Spot,
     entries: &[Entry],
-    most: usize,
+    fates: &[Fate],
 ) -> Result<(), AllocError>
-    requires column { spot.column ≤ most_columns }
-    requires row { spot.row < 2 ^ 8 }
-    requires most { most ≤ most_marks_of_few }
     requires place { spot.column < length played.now.order }
-    ensures ok { OnOk result (Draws (stretch_shapes program.now played.now most spot.column spot.row entries.now) out.old.items out.new.items) }
+    ensures ok { OnOk result (Draws (stretch_shapes program.now played.now spot.layout spot.column spot.row entries.now fates.now) out.old.items out.new.items) }
 {
-    let ticket = ticket_at(played, spot.column);
-    let ended = has_ended(played, spot.column);
-    let sent = sent_for(played, spot.column, spot.row);
+    let place = usize::from(spot.column);
+    let ticket = ticket_at(played, place);
+    let ended = has_ended(played, place);
+    let sent = sent_for(played, place, usize::from(spot.row));
     put_frame(out, program, spot, ticket, ended, entries.len())?;
-    put_marks(out, program, spot, entries, most)?;
-    put_more(out, spot, entries.len(), most)?;
+    put_marks(out, alloc, program, spot, entries, fates)?;
+    put_more(out, spot, entries.len())?;
     put_syncs(out, spot, sent, queries_in(entries))
 }

@@ -1,26 +1,182 @@
 // What is said in words.
 
-ghost use Rattle.std.specs.Prelude.{OnOk};
-ghost use Rattle.qs_text.specs.Texts.{Puts};
-ghost use Rattle.qs_svg.specs.Words.{block_words, entry_words, ticket_words, stretch_words};
+ghost use Rattle.std.specs.Prelude.{◌≡◌, ◌<◌, ◌++◌, OnOk, codes, flat_map, length, min};
+ghost use Rattle.std.specs.Fmt.{signed_decimal};
+ghost use Rattle.qs_objects.specs.Objects.{kind_of, values_of};
+ghost use Rattle.qs_objects.specs.declared.object.Kind.TheVariants as kinds;
+ghost use Rattle.qs_text.specs.Words.{args_text};
+ghost use Rattle.qs_text.specs.Texts.{Puts, spaced_value, texts_up_to};
+ghost use Rattle.qs_svg.specs.Words.{args_words, gap_words, block_words, content_words, entry_words, fate_words, line_words, most_told, state_words, ticket_words, stretch_words, values_end, values_words, with_integer};
 
-use qs_objects::{Entry, Ticket};
+use qs_fates::Fate;
+use qs_objects::{Entry, Kind, Object, Ticket};
 use qs_program::Program;
 use qs_text::{
-    client_name, ended_word, object_name, put_count, put_reply, put_whole_request, put_word,
+    client_name, ended_word, object_name, put, put_count, put_number, put_reply, put_whole_request,
+    put_word,
 };
 use std::alloc::AllocError;
 
-// A request with its reply.
+// What became of a request, where it was not simply done.
+fn words_of_fate(fate: Fate) -> &'static [u8]
+    ensures words { result.now ≡ fate_words fate }
+{
+    match fate {
+        Fate::Done => b"",
+        Fate::Refused => b" refused",
+        Fate::NoValue => b" none",
+    }
+}
+
+// A request with its reply, and what became of it.
 pub(crate) fn put_entry(
     out: &mut Vec<u8>,
     program: &Program,
     entry: &Entry,
+    fate: Fate,
 ) -> Result<(), AllocError>
-    ensures ok { OnOk result (Puts (entry_words program.now entry.now) out.old.items out.new.items) }
+    ensures ok { OnOk result (Puts (entry_words program.now entry.now fate) out.old.items out.new.items) }
 {
     put_whole_request(out, program, &entry.request)?;
-    put_reply(out, entry.reply)
+    put_reply(out, entry.reply)?;
+    put_word(out, words_of_fate(fate))
+}
+
+// Further arguments, each after a comma.
+fn put_others(out: &mut Vec<u8>, args: &[i64]) -> Result<(), AllocError>
+    ensures ok { OnOk result (out.new.items
+        ≡ out.old.items ++ flat_map (λ arg. codes "," ++ signed_decimal arg) args.now) }
+{
+    for arg in args {
+        put(out, b",")?;
+        put_number(out, *arg)?;
+    }
+    Ok(())
+}
+
+// The arguments, joined by commas.
+fn put_joined(out: &mut Vec<u8>, args: &[i64]) -> Result<(), AllocError>
+    ensures ok { OnOk result (out.new.items ≡ out.old.items ++ args_text args.now) }
+{
+    match args {
+        [] => Ok(()),
+        [only] => put_number(out, *only),
+        [first, others @ ..] => {
+            put_number(out, *first)?;
+            put_others(out, others)
+        }
+    }
+}
+
+// What stands before so many arguments.
+fn gap(count: usize) -> &'static [u8]
+    ensures gap { result.now ≡ gap_words count }
+{
+    if count == 0 { b"" } else { b" " }
+}
+
+// The arguments, after a space where there are some.
+fn put_args(out: &mut Vec<u8>, args: &[i64]) -> Result<(), AllocError>
+    ensures ok { OnOk result (Puts (args_words args.now) out.old.items out.new.items) }
+{
+    put_word(out, gap(args.len()))?;
+    put_joined(out, args)
+}
+
+/// Puts a request as it stands in the row of its object.
+pub(crate) fn put_line(out: &mut Vec<u8>, entry: &Entry, fate: Fate) -> Result<(), AllocError>
+    ensures ok { OnOk result (Puts (line_words entry.now fate) out.old.items out.new.items) }
+{
+    put_word(out, entry.request.op.word())?;
+    put_args(out, entry.request.args.as_slice())?;
+    put_reply(out, entry.reply)?;
+    put_word(out, words_of_fate(fate))
+}
+
+// So many values of an object are told.
+const MOST_TOLD: usize = 6;
+
+// One value of an object, with a space before it unless it is the first.
+fn put_value(out: &mut Vec<u8>, object: &Object, place: usize) -> Result<(), AllocError>
+    requires { place < length (values_of object.now.content) }
+    ensures ok { OnOk result (Puts (spaced_value (values_of object.now.content) place) out.old.items out.new.items) }
+{
+    if place > 0 {
+        put_word(out, b" ")?;
+    }
+    put_number(out, object.value(place).unwrap_or(0))
+}
+
+// The first values of an object, with a space between each two.
+fn put_first_values(out: &mut Vec<u8>, object: &Object) -> Result<(), AllocError>
+    ensures ok { OnOk result (Puts (texts_up_to (min (length (values_of object.now.content)) most_told) (spaced_value (values_of object.now.content))) out.old.items out.new.items) }
+{
+    for place in 0..object.len().min(MOST_TOLD) {
+        put_value(out, object, place)?;
+    }
+    Ok(())
+}
+
+// How a list of so many values ends.
+fn closing(values: usize) -> &'static [u8]
+    ensures closing { result.now ≡ values_end values }
+{
+    if MOST_TOLD < values { b" ..]" } else { b"]" }
+}
+
+// The values of an object, between brackets.
+fn put_values(out: &mut Vec<u8>, object: &Object) -> Result<(), AllocError>
+    ensures ok { OnOk result (Puts (values_words (values_of object.now.content)) out.old.items out.new.items) }
+{
+    put_word(out, b"[")?;
+    put_first_values(out, object)?;
+    put_word(out, closing(object.len()))
+}
+
+// A word and a number.
+fn put_size(out: &mut Vec<u8>, word: &[u8], size: i64) -> Result<(), AllocError>
+    ensures ok { OnOk result (Puts (with_integer word.now size) out.old.items out.new.items) }
+{
+    put_word(out, word)?;
+    put_number(out, size)
+}
+
+// What a buffer holds.
+fn put_buffer(out: &mut Vec<u8>, object: &Object, capacity: i64) -> Result<(), AllocError>
+    ensures ok { OnOk result (Puts (content_words (kinds.Buffer capacity) (values_of object.now.content)) out.old.items out.new.items) }
+{
+    put_size(out, b"buffer ", capacity)?;
+    put_word(out, b" ")?;
+    put_values(out, object)
+}
+
+// What a grid holds.
+fn put_grid(out: &mut Vec<u8>, object: &Object, rows: i64, columns: i64) -> Result<(), AllocError>
+    ensures ok { OnOk result (Puts (content_words (kinds.Grid rows columns) (values_of object.now.content)) out.old.items out.new.items) }
+{
+    put_size(out, b"grid ", rows)?;
+    put_size(out, b" ", columns)?;
+    put_word(out, b" ")?;
+    put_values(out, object)
+}
+
+// What an object holds.
+fn put_content(out: &mut Vec<u8>, object: &Object) -> Result<(), AllocError>
+    ensures ok { OnOk result (Puts (content_words (kind_of object.now.content) (values_of object.now.content)) out.old.items out.new.items) }
+{
+    match object.kind() {
+        Kind::Account { balance } => put_size(out, b"account ", balance),
+        Kind::Buffer { capacity } => put_buffer(out, object, capacity),
+        Kind::Grid { rows, columns } => put_grid(out, object, rows, columns),
+    }
+}
+
+/// Puts what an object holds, and how many commands it refused.
+pub(crate) fn put_state_words(out: &mut Vec<u8>, object: &Object) -> Result<(), AllocError>
+    ensures ok { OnOk result (Puts (state_words object.now) out.old.items out.new.items) }
+{
+    put_content(out, object)?;
+    put_size(out, b", refused ", object.refused())
 }
 
 // A ticket.

@@ -1,7 +1,7 @@
 -- Programs and what is warned of in them, computed by the definitions.
-use Rattle.std.specs.Prelude.{◌≡◌, ℕ, false, List, [], ◌∷◌, Some, None, codes, pos}
-use Rattle.qs_objects.specs.declared.Op.TheVariants.{Deposit, Balance}
-use Rattle.qs_objects.specs.declared.object.Kind.TheVariants.{Account}
+use Rattle.std.specs.Prelude.{◌≡◌, ℕ, false, List, [], ◌∷◌, Some, None, codes, pos, negsuc}
+use Rattle.qs_objects.specs.declared.Op.TheVariants.{Deposit, Withdraw, Balance, SetCell, GetCell, RowSum}
+use Rattle.qs_objects.specs.declared.object.Kind.TheVariants.{Account, Buffer, Grid}
 use Rattle.qs_tree.specs.declared.tree.Relation.TheVariants.{Less}
 use Rattle.qs_program.specs.declared.code.Atom.{Atom}
 use Rattle.qs_program.specs.declared.code.Atom.TheVariants.{Variable, Number}
@@ -12,7 +12,9 @@ use Rattle.qs_program.specs.declared.program.Declared.{Declared}
 use Rattle.qs_program.specs.Numbering.{Name}
 use Rattle.qs_program.specs.Program.{BlockShape, ClientShape, ProgramShape, program_of}
 use Rattle.qs_program.specs.Statements.{Statements, end, command, query, assign, choose, again}
-use Rattle.qs_warnings.specs.declared.warning.Warning.TheVariants.{Empty, Unreserved, NeverSet, NeverRead, Unused}
+use Rattle.qs_warnings.specs.declared.warning.Warning.TheVariants.{Empty, Unreserved, NeverSet, NeverRead, Unused, AlwaysRefused, AlwaysZero}
+use Rattle.qs_warnings.specs.declared.certainties.Certainty.TheVariants.{Refused, Zero}
+use Rattle.qs_warnings.specs.Certainties.{certainty_of}
 use Rattle.qs_warnings.specs.Warnings.{warnings_of}
 
 abbrev pub account : Name → Declared
@@ -58,7 +60,46 @@ started own_list own_body body = program_of (account (codes "a") ∷ []) (record
   });
 } ∷ [])
 
+-- -5
+abbrev pub less : Atom
+less = Number (negsuc 4)
+
+-- x = g.get(1, 0)
+abbrev pub second_row : ℕ → Statements
+second_row object = query 0 (record { object = object; op = GetCell; args = one ∷ Number (pos 0) ∷ [] }) end
+
+-- a client whose template has a formal p, which stands for this grid, and that block
+abbrev pub of_grid : Name → ℕ → ClientShape
+of_grid name object = record {
+  name = name;
+  variables = codes "x" ∷ [];
+  blocks = block (object ∷ []) (second_row object) ∷ [];
+  start = Some (record {
+    formals = record { name = codes "p"; kind = Grid (pos 1) (pos 1) } ∷ [];
+    binding = object ∷ [];
+    blocks = block (0 ∷ []) (second_row 0) ∷ [];
+  });
+}
+
+-- requests of which their numbers alone say what becomes of them
+pub record CertaintyExamples : Type 0 where
+  pub below_zero : certainty_of (Account (pos 0)) Deposit (less ∷ []) ≡ Some Refused
+  pub nothing : certainty_of (Account (pos 0)) Deposit (Number (pos 0) ∷ []) ≡ None
+  pub all_there_is : certainty_of (Account (pos 0)) Withdraw (Number (pos 1000000000000000) ∷ []) ≡ None
+  pub more_than_all : certainty_of (Account (pos 0)) Withdraw (Number (pos 1000000000000001) ∷ []) ≡ Some Refused
+  pub unknown : certainty_of (Account (pos 0)) Withdraw (x ∷ []) ≡ None
+  pub last_row : certainty_of (Grid (pos 3) (pos 4)) RowSum (Number (pos 2) ∷ []) ≡ None
+  pub past_rows : certainty_of (Grid (pos 3) (pos 4)) RowSum (Number (pos 3) ∷ []) ≡ Some Zero
+  pub before_rows : certainty_of (Grid (pos 3) (pos 4)) RowSum (less ∷ []) ≡ Some Zero
+  -- one of the two is enough
+  pub past_columns : certainty_of (Grid (pos 3) (pos 4)) SetCell (x ∷ Number (pos 4) ∷ one ∷ []) ≡ Some Refused
+  pub past_both : certainty_of (Grid (pos 3) (pos 4)) GetCell (Number (pos 3) ∷ less ∷ []) ≡ Some Zero
+  pub inside : certainty_of (Grid (pos 3) (pos 4)) GetCell (Number (pos 2) ∷ Number (pos 3) ∷ []) ≡ None
+  pub half_known : certainty_of (Grid (pos 3) (pos 4)) GetCell (Number (pos 2) ∷ x ∷ []) ≡ None
+  pub of_buffer : certainty_of (Buffer (pos 1)) RowSum (less ∷ []) ≡ None
+
 pub record WarningExamples : Type 0 where
+  pub certainties : CertaintyExamples
   pub nothing : warnings_of (program_of [] []) ≡ Empty ∷ []
   pub no_client : warnings_of (program_of (account (codes "a") ∷ []) []) ≡ Empty ∷ Unreserved 0 ∷ []
   pub no_block : warnings_of (one_client []) ≡ Empty ∷ Unreserved 0 ∷ Unreserved 1 ∷ []
@@ -94,3 +135,11 @@ pub record WarningExamples : Type 0 where
   pub formal_unused : warnings_of (started (0 ∷ 1 ∷ []) (command (deposit 0 one) end) (command (deposit 0 one) end))
       ≡ Unused 0 0 1 ∷ []
   pub formals_used : warnings_of (started (1 ∷ []) (command (deposit 1 one) end) (command (deposit 0 one) end)) ≡ []
+  -- requests have numbers in the order of the text, inner ones too
+  pub always_refused : warnings_of (one_client (block (0 ∷ 1 ∷ [])
+      (command (deposit 1 one) (choose x_below_one false (query 0 (balance 0) end) (command (deposit 0 less) end)
+      (command (deposit 1 less) end))) ∷ [])) ≡ AlwaysRefused 0 0 2 ∷ AlwaysRefused 0 0 3 ∷ []
+  -- two clients of one template, of whom one has a grid with that row
+  pub always_zero : warnings_of (program_of (record { name = codes "g"; kind = Grid (pos 1) (pos 2) }
+      ∷ record { name = codes "h"; kind = Grid (pos 2) (pos 2) } ∷ [])
+      (of_grid (codes "ann") 0 ∷ of_grid (codes "bob") 1 ∷ [])) ≡ AlwaysZero 0 0 0 ∷ []

@@ -1,5 +1,5 @@
 -- Where the names of a checked script stand, by the numbers that a program has for them.
-use Rattle.std.specs.Prelude.{ℕ, zero, suc, ◌+◌, ◌-◌, ◌^◌, min, Bool, true, false, not, ◌&&◌, ◌||◌, nat_lt, if◌then◌else◌, List, length, Option, Some, option_map, slice_get, unwrap_or}
+use Rattle.std.specs.Prelude.{ℕ, zero, suc, ◌+◌, ◌-◌, ◌^◌, min, Bool, true, false, not, ◌&&◌, ◌||◌, nat_lt, if◌then◌else◌, List, length, Option, Some, None, option_map, slice_get, unwrap_or}
 use Rattle.std.specs.List.{filter, find, range_with_len}
 use Rattle.qs_tokens.specs.declared.token.Token.{Token}
 use Rattle.qs_tokens.specs.declared.token.Token.TheVariants as t
@@ -46,6 +46,11 @@ numbered holds from count number = slice_get (filter holds (places from count)) 
 -- the place after a place; past the last token, where there is none
 abbrev pub after : Option ℕ → ℕ → ℕ
 after place count = unwrap_or (option_map next place) count
+
+-- the place before a place; past the last token, where there is none
+abbrev pub before : Option ℕ → ℕ → ℕ
+before None count = count
+before (Some place) count = place - 1
 
 abbrev pub is_mark_at : List PlacedToken → Mark → ℕ → Bool
 is_mark_at tokens mark place = is_mark mark (token_in tokens place)
@@ -114,3 +119,9 @@ module _ (text : List ℕ) (tokens : List PlacedToken) where
   abbrev pub listed_at : ℕ → ℕ → List ℕ → ℕ
   listed_at client block word =
       first_from (λ p. same (word_in text tokens p) word) (list_at client block) (length tokens)
+
+  -- the object of a request: the name before the dot of that number in a client's block. A block has a dot for each of
+  -- its requests, and its list has none
+  abbrev pub request_at : ℕ → ℕ → ℕ → ℕ
+  request_at client block request =
+      before (numbered (is_mark_at tokens Dot) (list_at client block) (length tokens) request) (length tokens)

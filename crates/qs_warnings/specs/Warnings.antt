@@ -1,14 +1,17 @@
 -- What is warned of in a program.
-use Rattle.std.specs.Prelude.{ℕ, Bool, not, ◌==◌, ◌&&◌, ◌||◌, if◌then◌else◌, List, [], ◌∷◌, ◌++◌, length, flat_map, sum_by}
+use Rattle.std.specs.Prelude.{ℕ, Bool, not, ◌==◌, ◌&&◌, ◌||◌, if◌then◌else◌, List, [], ◌∷◌, ◌++◌, length, flat_map, sum_by, Option, Some, None, slice_index_or}
 use Rattle.std.specs.List.{list_any, range_with_len}
-use Rattle.qs_program.specs.Program.{BlockShape, ClientShape, ProgramShape, blocks_of, client_at, own_block}
+use Rattle.qs_program.specs.Program.{BlockShape, ClientShape, ProgramShape, block_at, blocks_of, client_at, own_block}
 use Rattle.qs_program.specs.Sound.{is_in}
 use Rattle.qs_program.specs.Statements.{Statements}
 use Rattle.qs_warnings.specs.declared.doings.Doing.{Doing}
 use Rattle.qs_warnings.specs.declared.doings.Doing.TheVariants.{Assigns, Asks, Reads, Calls}
+use Rattle.qs_warnings.specs.declared.certainties.Certainty.{Certainty}
+use Rattle.qs_warnings.specs.declared.certainties.Certainty.TheVariants.{Refused, Zero}
 use Rattle.qs_warnings.specs.declared.warning.Warning.{Warning}
-use Rattle.qs_warnings.specs.declared.warning.Warning.TheVariants.{Empty, Unreserved, NeverSet, NeverRead, Unused}
+use Rattle.qs_warnings.specs.declared.warning.Warning.TheVariants.{Empty, Unreserved, NeverSet, NeverRead, Unused, AlwaysRefused, AlwaysZero}
 use Rattle.qs_warnings.specs.Doings.{does}
+use Rattle.qs_warnings.specs.Certainties.{certainties_of}
 
 -- the numbers below n
 abbrev pub below : ℕ → List ℕ
@@ -56,12 +59,31 @@ list_warnings c k b = flat_map (name_warnings c k b.body) b.reserved
 abbrev pub block_warnings : ProgramShape → ℕ → ℕ → List Warning
 block_warnings p c k = list_warnings c k (own_block p c k)
 
+-- a request of which it is known what becomes of it, by its number in its block
+abbrev pub certainty_warnings : ℕ → ℕ → ℕ → Option Certainty → List Warning
+certainty_warnings c k request (Some Refused) = AlwaysRefused c k request ∷ []
+certainty_warnings c k request (Some Zero) = AlwaysZero c k request ∷ []
+certainty_warnings c k request None = []
+
+abbrev pub certainty_warnings_at : ℕ → ℕ → List (Option Certainty) → ℕ → List Warning
+certainty_warnings_at c k certainties request = certainty_warnings c k request (slice_index_or certainties request None)
+
+-- of requests, by what becomes of each
+abbrev pub each_certainty_warnings : ℕ → ℕ → List (Option Certainty) → List Warning
+each_certainty_warnings c k certainties = flat_map (certainty_warnings_at c k certainties) (below (length certainties))
+
+-- the requests of a client's block, in the order of the text, each formal standing for its object
+abbrev pub request_warnings : ProgramShape → ℕ → ℕ → List Warning
+request_warnings p c k = each_certainty_warnings c k (certainties_of p (block_at p c k).body)
+
 abbrev pub client_warnings : ProgramShape → ℕ → List Warning
 client_warnings p c =
     flat_map (variable_warnings p c) (below (length (client_at p c).variables))
     ++ flat_map (block_warnings p c) (below (blocks_of p c))
+    ++ flat_map (request_warnings p c) (below (blocks_of p c))
 
--- all that is warned of: that nothing is done; each object; and client by client its variables and its blocks' lists
+-- all that is warned of: that nothing is done; each object; and client by client its variables, its blocks' lists and its
+-- blocks' requests
 abbrev pub warnings_of : ProgramShape → List Warning
 warnings_of p =
     if_so (is_empty p) Empty

@@ -1,9 +1,10 @@
 // What is warned of in a program.
 
-ghost use Rattle.std.specs.Prelude.{◌≡◌, ◌<◌, ◌++◌, IfOk, OnOk, flat_map, length};
+ghost use Rattle.std.specs.Prelude.{◌≡◌, ◌<◌, ◌++◌, IfOk, OnOk, None, flat_map, length, slice_index_or};
 ghost use Rattle.qs_program.specs.Program.{blocks_of, client_at};
-ghost use Rattle.qs_warnings.specs.Warnings.{below, block_warnings, client_reserves, client_warnings, if_so, is_reserved, list_warnings, object_warnings, some_block_does, variable_warnings, warnings_of};
+ghost use Rattle.qs_warnings.specs.Warnings.{below, block_warnings, client_reserves, client_warnings, each_certainty_warnings, certainty_warnings, if_so, is_reserved, list_warnings, object_warnings, request_warnings, some_block_does, variable_warnings, warnings_of};
 
+use crate::certainties::{Certainty, add_certainties};
 use crate::doings::{Doing, body_does};
 use crate::warning::Warning;
 use qs_program::{Block, Program};
@@ -142,33 +143,132 @@ fn add_lists(out: &mut Vec<Warning>, program: &Program, client: u8) -> Result<()
     Ok(())
 }
 
-fn add_client(out: &mut Vec<Warning>, program: &Program, client: u8) -> Result<(), AllocError>
+// A request of which it is known what becomes of it.
+fn add_certainty(
+    out: &mut Vec<Warning>,
+    client: u8,
+    block: u8,
+    request: usize,
+    certainty: Option<Certainty>,
+) -> Result<(), AllocError>
+    ensures added { OnOk result (out.new.items ≡ out.old.items ++ certainty_warnings client block request certainty) }
+{
+    match certainty {
+        Some(Certainty::Refused) => out.push(Warning::AlwaysRefused {
+            client,
+            block,
+            request,
+        })?,
+        Some(Certainty::Zero) => out.push(Warning::AlwaysZero {
+            client,
+            block,
+            request,
+        })?,
+        None => {}
+    }
+    Ok(())
+}
+
+fn certainty_at(certainties: &[Option<Certainty>], request: usize) -> Option<Certainty>
+    requires { request < length certainties.now }
+    ensures value { result ≡ slice_index_or certainties.now request None }
+{
+    certainties[request]
+}
+
+// Requests, by what becomes of each.
+fn add_each(
+    out: &mut Vec<Warning>,
+    client: u8,
+    block: u8,
+    certainties: &[Option<Certainty>],
+) -> Result<(), AllocError>
+    ensures added { OnOk result (out.new.items ≡ out.old.items ++ each_certainty_warnings client block certainties.now) }
+{
+    for request in 0..certainties.len() {
+        add_certainty(
+            out,
+            client,
+            block,
+            request,
+            certainty_at(certainties, request),
+        )?;
+    }
+    Ok(())
+}
+
+// The requests of a client's block.
+fn add_block(
+    alloc: Global,
+    out: &mut Vec<Warning>,
+    program: &Program,
+    client: u8,
+    block: u8,
+) -> Result<(), AllocError>
+    requires client { client < length program.now.clients }
+    requires block { block < blocks_of program.now client }
+    ensures added { OnOk result (out.new.items ≡ out.old.items ++ request_warnings program.now client block) }
+{
+    let mut certainties = Vec::new(alloc);
+    add_certainties(
+        &mut certainties,
+        program,
+        program.block(client, block).body(),
+    )?;
+    add_each(out, client, block, certainties.as_slice())
+}
+
+// The requests of a client's blocks.
+fn add_requests(
+    alloc: Global,
+    out: &mut Vec<Warning>,
+    program: &Program,
+    client: u8,
+) -> Result<(), AllocError>
+    requires client { client < length program.now.clients }
+    ensures added { OnOk result (out.new.items
+        ≡ out.old.items ++ flat_map (request_warnings program.now client) (below (blocks_of program.now client))) }
+{
+    program.keeps_sound();
+    for block in 0..program.blocks_of(client) as u8 {
+        add_block(alloc, out, program, client, block)?;
+    }
+    Ok(())
+}
+
+fn add_client(
+    alloc: Global,
+    out: &mut Vec<Warning>,
+    program: &Program,
+    client: u8,
+) -> Result<(), AllocError>
     requires client { client < length program.now.clients }
     ensures added { OnOk result (out.new.items ≡ out.old.items ++ client_warnings program.now client) }
 {
     add_variables(out, program, client)?;
-    add_lists(out, program, client)
+    add_lists(out, program, client)?;
+    add_requests(alloc, out, program, client)
 }
 
-fn add_clients(out: &mut Vec<Warning>, program: &Program) -> Result<(), AllocError>
+fn add_clients(alloc: Global, out: &mut Vec<Warning>, program: &Program) -> Result<(), AllocError>
     ensures added { OnOk result (out.new.items ≡ out.old.items ++ flat_map (client_warnings program.now) (below (length program.now.clients))) }
 {
     program.keeps_sound();
     for client in 0..program.clients() as u8 {
-        add_client(out, program, client)?;
+        add_client(alloc, out, program, client)?;
     }
     Ok(())
 }
 
 /// What is warned of in a program: that nothing is done; objects that no block reserves; variables that are read and
-/// never set, or assigned and never read; and names of a block's list on which it makes no request. An error says that
-/// memory ran out.
+/// never set, or assigned and never read; names of a block's list on which it makes no request; and requests whose
+/// numbers alone say that they are refused or answered by 0. An error says that memory ran out.
 pub fn warnings(alloc: Global, program: &Program) -> Result<Vec<Warning>, AllocError>
     ensures exact { IfOk result (λ found. found.items ≡ warnings_of program.now) }
 {
     let mut found = Vec::new(alloc);
     add_if(&mut found, program.blocks() == 0, Warning::Empty)?;
     add_objects(&mut found, program)?;
-    add_clients(&mut found, program)?;
+    add_clients(alloc, &mut found, program)?;
     Ok(found)
 }

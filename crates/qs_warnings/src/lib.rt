@@ -1,6 +1,7 @@
 //! What is warned of in a script that is accepted, and its words.
 #![tactic(auto)]
 
+mod certainties;
 mod doings;
 mod finding;
 pub mod laws;

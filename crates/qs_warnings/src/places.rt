@@ -1,7 +1,7 @@
 // Where the names of a checked script stand, by the numbers that a program has for them.
 
 ghost use Rattle.std.specs.Prelude.{◌≡◌, length, option_map};
-ghost use Rattle.qs_warnings.specs.WarningPlaces.{after, blocks_at, blocks_name, brace_at, client_at, is_beside_dot, is_listed, is_mark, is_mark_at, is_name, is_variable, list_at, listed_at, listed_past, next, numbered, object_at, opened_at, template_at, variable_at};
+ghost use Rattle.qs_warnings.specs.WarningPlaces.{after, before, blocks_at, blocks_name, brace_at, client_at, is_beside_dot, is_listed, is_mark, is_mark_at, is_name, is_variable, list_at, listed_at, listed_past, next, numbered, object_at, opened_at, request_at, template_at, variable_at};
 
 use qs_causes::Source;
 use qs_tokens::Token;
@@ -57,20 +57,33 @@ fn after(place: Option<usize>, count: usize) -> usize
     }
 }
 
+// The place before a place; past the last token, where there is none.
+fn before(place: Option<usize>, count: usize) -> usize
+    ensures exact { result ≡ before place count }
+{
+    match place {
+        Some(place) => place.saturating_sub(1),
+        None => count,
+    }
+}
+
 // The place of the mark of that number, from a place on.
-fn numbered_place(source: Source<'_>, mark: Mark, from: usize, number: u8) -> Option<usize>
+fn numbered_place(source: Source<'_>, mark: Mark, from: usize, number: usize) -> Option<usize>
     ensures exact { result ≡ numbered (is_mark_at source.entry.tokens.now mark) from (length source.entry.tokens.now) number }
 {
     (from..source.len())
         .filter(|place| mark.is(source.token(*place)))
-        .nth(usize::from(number))
+        .nth(number)
 }
 
 // The place after the opening word of that number; past the last token, where there are not so many.
 fn after_opening(source: Source<'_>, opening: Mark, number: u8) -> usize
     ensures exact { result ≡ opened_at source.entry.text.now source.entry.tokens.now opening number }
 {
-    after(numbered_place(source, opening, 0, number), source.len())
+    after(
+        numbered_place(source, opening, 0, usize::from(number)),
+        source.len(),
+    )
 }
 
 /// The place of an object's name, where it is declared.
@@ -175,7 +188,7 @@ fn list_of(source: Source<'_>, client: u8, block: u8) -> usize
 {
     let from = blocks_of(source, client);
     after(
-        numbered_place(source, Mark::Separate, from, block),
+        numbered_place(source, Mark::Separate, from, usize::from(block)),
         source.len(),
     )
 }
@@ -187,4 +200,15 @@ pub(crate) fn listed_place(source: Source<'_>, client: u8, block: u8, word: &[u8
     (list_of(source, client, block)..source.len())
         .find(|place| source.word(*place) == word)
         .unwrap_or(source.len())
+}
+
+/// The place of the object of a client's request, by the number of its block and its own number there.
+pub(crate) fn request_place(source: Source<'_>, client: u8, block: u8, request: usize) -> usize
+    ensures exact { result ≡ request_at source.entry.text.now source.entry.tokens.now client block request }
+{
+    let from = list_of(source, client, block);
+    before(
+        numbered_place(source, Mark::Dot, from, request),
+        source.len(),
+    )
 }

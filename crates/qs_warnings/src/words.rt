@@ -4,11 +4,14 @@ ghost use Rattle.std.specs.Prelude.{◌≡◌, [], IfOk};
 ghost use Rattle.qs_warnings.specs.Warnings.{warnings_of};
 
 use crate::finding::warnings;
-use crate::places::{client_place, listed_place, object_place, variable_place};
+use crate::places::{client_place, listed_place, object_place, request_place, variable_place};
 use crate::warning::Warning;
+use itoa::Buffer;
 use qs_causes::{Source, is_near, placed_tokens};
-use qs_diagnosis::{Diagnosis, Span, put_all, put_warning};
+use qs_diagnosis::{Diagnosis, Span, put, put_all, put_warning};
+use qs_objects::Kind;
 use qs_program::{Names, Program};
+use qs_tokens::Token;
 use std::alloc::{AllocError, Global};
 
 // A text with its tokens and its program, and what was told of it.
@@ -39,6 +42,61 @@ fn near_variable<'a>(alloc: Global, names: &'a Names, word: &[u8]) -> Result<&'a
         }
     }
     Ok(b"")
+}
+
+// A request whose object stands at a place, up to its closing parenthesis.
+fn request_text(alloc: Global, source: Source<'_>, object: usize) -> Result<Vec<u8>, AllocError> {
+    let mut out = Vec::new(alloc);
+    for place in object..source.len() {
+        put(&mut out, source.word(place))?;
+        match source.token(place) {
+            Some(Token::Comma) => put(&mut out, b" ")?,
+            Some(Token::CloseParen) => break,
+            _ => {}
+        }
+    }
+    Ok(out)
+}
+
+// The object that a name stands for in a client's text.
+fn object_named(program: &Program, client: u8, word: &[u8]) -> Option<u8> {
+    if usize::from(client) >= program.clients() {
+        return None;
+    }
+    for name in 0..=u8::MAX {
+        if usize::from(name) >= program.declarations(client) {
+            return None;
+        }
+        if program.declared_as(client, name).name.as_slice() == word {
+            return Some(program.bound(client, name));
+        }
+    }
+    None
+}
+
+// The numbers that rows, or columns, may have.
+fn put_lines(out: &mut Vec<u8>, one: &[u8], several: &[u8], lines: i64) -> Result<(), AllocError> {
+    let mut buffer = Buffer::new();
+    let last = buffer.format(lines.saturating_sub(1)).as_bytes();
+    if lines > 1 {
+        put_all(out, &[several, b" 0 to ", last])
+    } else {
+        put_all(out, &[one, b" 0 alone"])
+    }
+}
+
+// What an object takes, as help for a request that it always refuses or answers by 0.
+fn put_taken(out: &mut Vec<u8>, name: &[u8], kind: Kind) -> Result<(), AllocError> {
+    match kind {
+        Kind::Account { .. } => put(out, b"an account takes amounts from 0 to 1000000000000000"),
+        Kind::Buffer { .. } => Ok(()),
+        Kind::Grid { rows, columns } => {
+            put_all(out, &[name, b" has "])?;
+            put_lines(out, b"row", b"rows", rows)?;
+            put(out, b" and ")?;
+            put_lines(out, b"column", b"columns", columns)
+        }
+    }
 }
 
 impl Telling<'_> {
@@ -134,6 +192,43 @@ impl Telling<'_> {
         )
     }
 
+    // Help for a request on an object that a client's text calls by a word: what that object takes.
+    fn taken(&self, client: u8, word: &[u8]) -> Result<Vec<u8>, AllocError> {
+        let mut out = Vec::new(self.alloc);
+        let Some(object) = object_named(self.program, client, word) else {
+            return Ok(out);
+        };
+        let is_there = usize::from(client) < self.program.clients()
+            && usize::from(object) < self.program.objects();
+        if !is_there {
+            return Ok(out);
+        }
+        let name = self.program.object_name(object).as_slice();
+        let kind = self.program.kind(object);
+        if self.program.is_started(client) && matches!(kind, Kind::Grid { .. }) {
+            let own = self.program.client_name(client).as_slice();
+            put_all(
+                &mut out,
+                &[b"for ", own, b", ", word, b" is ", name, b", and "],
+            )?;
+        }
+        put_taken(&mut out, name, kind)?;
+        Ok(out)
+    }
+
+    fn say_always(
+        &mut self,
+        client: u8,
+        block: u8,
+        request: usize,
+        what: &[u8],
+    ) -> Result<(), AllocError> {
+        let place = request_place(self.source, client, block, request);
+        let text = request_text(self.alloc, self.source, place)?;
+        let help = self.taken(client, self.source.word(place))?;
+        self.say(place, &[text.as_slice(), what], &[help.as_slice()])
+    }
+
     fn tell(&mut self, warning: Warning) -> Result<(), AllocError> {
         match warning {
             Warning::Empty => self.say_empty(),
@@ -145,6 +240,16 @@ impl Telling<'_> {
                 block,
                 name,
             } => self.say_unused(client, block, name),
+            Warning::AlwaysRefused {
+                client,
+                block,
+                request,
+            } => self.say_always(client, block, request, b" is always refused"),
+            Warning::AlwaysZero {
+                client,
+                block,
+                request,
+            } => self.say_always(client, block, request, b" is always 0"),
         }
     }
 }

@@ -1,8 +1,8 @@
 //! What lies where in the machine of the plain rules, and what its clients wait for.
 
-ghost use Rattle.std.specs.Prelude.{◌≡◌, map};
+ghost use Rattle.std.specs.Prelude.{◌≡◌, map, option_copied, option_map, slice_get};
 ghost use Rattle.qs_plain_client.specs.Queues.{QueueState};
-ghost use Rattle.qs_plain_laws.specs.Plain.{handler_at as the_handler};
+ghost use Rattle.qs_plain_laws.specs.Plain.{Handler, handler_at as the_handler};
 ghost use Rattle.qs_plain_laws.specs.PlainSchedule.{is_finished};
 ghost use Rattle.qs_plain.specs.Awaiting.{awaited_at};
 ghost use Rattle.qs_plain.specs.Rules.{plain_of};
@@ -10,6 +10,7 @@ ghost use Rattle.qs_plain.specs.Rules.{plain_of};
 use super::Machine;
 use crate::awaited::Awaited;
 use crate::showing;
+use qs_objects::Held;
 use qs_plain_client::{PrivateQueue, Stage};
 
 impl Machine<'_> {
@@ -27,6 +28,16 @@ impl Machine<'_> {
         match self.handlers.get(usize::from(number)) {
             Some(handler) => handler.queues(),
             None => &[],
+        }
+    }
+
+    /// The object of a handler, with its journal.
+    pub(crate) fn held(&self, number: u8) -> Option<&Held>
+        ensures value { option_copied result ≡ option_map (λ (x : Handler). x.held) (slice_get (plain_of self.now).handlers number) }
+    {
+        match self.handlers.get(usize::from(number)) {
+            Some(handler) => Some(handler.held()),
+            None => None,
         }
     }
 

@@ -1,14 +1,15 @@
 //! What lies where under the plain rules, and what the clients wait for.
 
-ghost use Rattle.std.specs.Prelude.{◌≡◌, map};
+ghost use Rattle.std.specs.Prelude.{◌≡◌, map, option_copied, option_map, slice_get};
 ghost use Rattle.qs_plain_client.specs.Queues.{QueueState};
-ghost use Rattle.qs_plain_laws.specs.Plain.{handler_at};
+ghost use Rattle.qs_plain_laws.specs.Plain.{Handler, handler_at};
 ghost use Rattle.qs_plain_laws.specs.PlainSchedule.{is_finished};
 ghost use Rattle.qs_plain.specs.Awaiting.{awaited_at};
 ghost use Rattle.qs_plain.specs.Rules.{plain_of};
 
 use super::Rules;
 use crate::awaited::Awaited;
+use qs_objects::Held;
 use qs_plain_client::PrivateQueue;
 
 impl Rules<'_> {
@@ -24,6 +25,13 @@ impl Rules<'_> {
         ensures value { map (λ (q : QueueState). q.queue) result.now ≡ (handler_at (plain_of self.now).handlers handler).queues }
     {
         self.machine.queues(handler)
+    }
+
+    /// The object of a handler, with its journal; None of a handler that is not there.
+    pub fn held(&self, handler: u8) -> Option<&Held>
+        ensures value { option_copied result ≡ option_map (λ (x : Handler). x.held) (slice_get (plain_of self.now).handlers handler) }
+    {
+        self.machine.held(handler)
     }
 
     /// What a client waits for; one that is not there is done.

@@ -3,6 +3,7 @@
 ghost use Rattle.std.specs.Prelude.{◌≡◌};
 
 use super::HandlerState;
+use qs_objects::Held;
 use qs_plain_client::PrivateQueue;
 
 impl HandlerState {
@@ -11,5 +12,12 @@ impl HandlerState {
         ensures value { result.now ≡ self.now.queues }
     {
         &self.queues[self.left..]
+    }
+
+    /// Its object, with the journal.
+    pub fn held(&self) -> &Held
+        ensures value { result.now ≡ self.now.held }
+    {
+        &self.held
     }
 }

@@ -1,4 +1,4 @@
-use Rattle.std.proofs.Common.{◌≡◌, ◌∙◌, ◌++◌, List, ap, codes, decimal}
+use Rattle.std.proofs.Common.{◌∙◌, List, ap, codes, decimal}
 use Rattle.std.specs.List.{join_by}
 use Rattle.std.proofs.lemmas.Result.{on_ok_weaker}
 use Rattle.qs_objects.specs.declared.held.Ticket.{Ticket}

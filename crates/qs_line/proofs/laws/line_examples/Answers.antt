@@ -32,6 +32,8 @@ returns c = record {
       as_picture = refl;
       of_play = refl;
     };
+    refusals = record { by_rules = refl; by_play = refl; by_run = refl; as_data = refl; of_many = refl; of_outcomes = refl; twice = refl };
+    language = record { page = refl; alone = refl; other = refl; more = refl; other_word = refl };
     estimates = record {
       alone = refl;
       after = refl;

@@ -9,6 +9,7 @@ returns c = record {
   examples = record {
     runs = record { deposit = refl; no_step = refl; one_step = refl; several = refl };
     counted_runs = record { deposit = refl; deposit_without = refl; no_step = refl; several = refl };
+    refusals = record { withdrawn_twice = refl; counted = refl; unmarked = refl };
     states = record { nothing = refl; two = refl; cells = refl };
     counts = record { one = refl; several = refl };
     faults = search rules;

@@ -1,15 +1,13 @@
-use Rattle.std.proofs.Common.{◌+◌, ◌∙◌, ap, ap₂, codes}
+use Rattle.std.proofs.Common.{◌+◌, ap, ap₂, codes}
 use Rattle.std.proofs.lemmas.Result.{on_ok_weaker}
 use Rattle.qs_svg.specs.Shapes.{path_start, with_number}
-use Rattle.qs_svg.specs.Places.{row_y}
 use Rattle.qs_text.proofs.Parts.{named, then}
 use Rattle.qs_svg.proofs.blocks.put_frame.Goals as goal
 
 pub returns : goal.returns
 returns c =
-    let corner = ap₂ (λ x y. path_start (codes "block") c.args.ticket.client (x + 117) (y + 1)) c.column_edge-x.ensures.edge
-    (c.row_edge-y.ensures.edge ∙ ap row_y c.from.ensures) in
-    let down = named (ap (with_number (codes "h-114v")) c.height.ensures.height) c.in_ok-put_count.ensures.ok in
+    let corner = ap₂ (λ x y. path_start (codes "block") c.args.ticket.client (x + 193) (y + 1)) c.column_edge-x.ensures.edge c.row_edge-y.ensures.edge in
+    let down = named (ap (with_number (codes "h-190v")) c.height.ensures.height) c.in_ok-put_count.ensures.ok in
     let frame = then (then (named corner c.in_ok-put_path.ensures.ok) down) c.in_ok-put_word.ensures.ok in
     record {
       ok = on_ok_weaker c.put_word-4.result

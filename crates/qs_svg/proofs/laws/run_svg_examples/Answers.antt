@@ -15,5 +15,19 @@ returns c = record {
     many_marks = refl;
     few_marks = refl;
     long_stretch = refl;
+    refused_line = refl;
+    none_line = refl;
+    done_line = refl;
+    account_state = refl;
+    buffer_state = refl;
+    one_request = refl;
+    two_requests = refl;
+    as_wide = refl;
+    squeezed_text = refl;
+    eighth_column = refl;
+    one_band = refl;
+    two_bands = refl;
+    second_band = refl;
+    widest = refl;
   };
 }

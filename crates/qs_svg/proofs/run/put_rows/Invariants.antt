@@ -1,10 +1,7 @@
 -- The rows before this one are there.
-use Rattle.std.proofs.Common.{length}
 use Rattle.qs_svg.specs.Shapes.{Draws, shapes_up_to}
-use Rattle.qs_svg.specs.Stretches.{columns_of, most_marks}
 use Rattle.qs_svg.specs.Blocks.{row}
 use Rattle.qs_svg.proofs.run.put_rows.Given as goal
 
 abbrev pub invariant-loop-row : goal.invariant-loop-row
-invariant-loop-row l =
-    Draws (shapes_up_to l.row (row l.program l.played (most_marks (columns_of l.played) (length l.program.objects)))) l.initial.out.items l.out.items
+invariant-loop-row l = Draws (shapes_up_to l.row (row l.program l.played l.layout)) l.initial.out.items l.out.items

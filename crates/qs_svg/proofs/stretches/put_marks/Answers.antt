@@ -1,22 +1,28 @@
-use Rattle.std.proofs.Common.{◌∙◌, [], ◌∷◌, ap, ap₂, arith, get_or, length, ◌<◌}
+use Rattle.std.proofs.Common.{ℕ, ◌∙◌, ap, ap₂, arith, get_or, length, ◌<◌}
 use Rattle.std.proofs.lemmas.List.{get_or_default}
 use Rattle.qs_objects.specs.declared.held.Entry.{Entry}
+use Rattle.qs_fates.specs.declared.fate.Fate.{Fate}
+use Rattle.qs_fates.specs.declared.fate.Fate.TheVariants.{Done}
 use Rattle.qs_svg.specs.Stretches.{no_entry}
 use Rattle.qs_svg.specs.Places.{mark_x, mark_y}
-use Rattle.qs_svg.specs.Blocks.{mark}
-use Rattle.qs_svg.proofs.Parts.{drawn, one_place_more}
-use Rattle.qs_text.proofs.Parts.{named}
+use Rattle.qs_svg.specs.Blocks.{request_shapes}
+use Rattle.qs_svg.proofs.Parts.{also, one_place_more}
 use Rattle.qs_svg.proofs.stretches.put_marks.Goals as goal
 
 pub loop-number-preserved : goal.loop-number-preserved
 loop-number-preserved c =
     let p = c.args.program.now in
     let entries = c.args.entries.now in
-    let i = c.args.spot.column in
-    let h = c.args.spot.row in
+    let fates = c.args.fates.now in
+    let spot = c.args.spot in
     let n = c.loop-number.number in
-    let inside : n < length entries = omega (arith, c.loop-number-test.true, c.min-count.ensures) in
-    let here = c.index-entries-number.is ∙ get_or_default entries n _ no_entry inside in
-    let place = ap₂ (λ x y. mark p x y c.index-entries-number.result) c.mark_left-x.ensures.left c.mark_top-y.ensures.top in
-    one_place_more (λ j. mark p (mark_x i j) (mark_y h j) (get_or entries j no_entry) ∷ []) n c.loop-number.invariant
-    (drawn (named (place ∙ ap (λ (e : Entry). mark p (mark_x i n) (mark_y h n) e) here) c.in_ok-put_mark.ensures.ok))
+    let x = mark_x spot.column in
+    let y = λ (j : ℕ). mark_y spot.layout spot.column spot.row j in
+    let place = c.from-place.ensures in
+    let inside : c.from-place.result < length entries = omega (arith, c.loop-number-test.true, c.min-count.ensures, place) in
+    let entry = c.index-entries-place.is ∙ get_or_default entries c.from-place.result _ no_entry inside ∙ ap (λ j. get_or entries j no_entry) place in
+    let fate = c.fate_at.ensures.fate ∙ ap (λ j. get_or fates j Done) place in
+    let corner = ap₂ (λ a b. request_shapes p a b c.index-entries-place.result c.fate_at.result) c.corner_of-corner.ensures.x c.corner_of-corner.ensures.y in
+    let here = corner ∙ ap₂ (λ (e : Entry) (f : Fate). request_shapes p x (y n) e f) entry fate in
+    one_place_more (λ j. request_shapes p x (y j) (get_or entries j no_entry) (get_or fates j Done)) n c.loop-number.invariant
+    (also here c.in_ok-put_request.ensures.ok)

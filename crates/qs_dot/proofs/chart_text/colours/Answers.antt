@@ -1,0 +1,7 @@
+use Rattle.std.proofs.Common.{refl}
+use Rattle.qs_dot.specs.ChartDot.{colours_text}
+use Rattle.qs_dot.proofs.chart_text.colours.Goals as goal
+
+pub returns : goal.returns
+unfolding colours_text
+returns c = record { colours = refl }

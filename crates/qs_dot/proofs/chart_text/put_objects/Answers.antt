@@ -1,9 +1,0 @@
-use Rattle.std.proofs.Common.{◌++◌, ◌∙◌}
-use Rattle.qs_text.proofs.Joined.{one_place_more}
-use Rattle.qs_dot.specs.ChartDot.{holds_text, object_text}
-use Rattle.qs_dot.proofs.chart_text.put_objects.Goals as goal
-
-pub loop-object-preserved : goal.loop-object-preserved
-loop-object-preserved c =
-    one_place_more (object_text c.args.program.now c.args.standing.now) c.loop-object.object _ _ _ c.loop-object.invariant
-    (c.in_ok-put_holds.ensures.ok ∙ (λ i. c.loop-object.out.items ++ holds_text (c.object_name-name.ensures.name i) (c.object.ensures.object i)))

@@ -1,8 +1,0 @@
--- The objects before this number are there.
-use Rattle.std.proofs.Common.{◌≡◌, ◌++◌}
-use Rattle.qs_text.specs.Texts.{texts_up_to}
-use Rattle.qs_dot.specs.ChartDot.{object_text}
-use Rattle.qs_dot.proofs.chart_text.put_objects.Given as goal
-
-abbrev pub invariant-loop-object : goal.invariant-loop-object
-invariant-loop-object l = l.out.items ≡ l.initial.out.items ++ texts_up_to l.object (object_text l.program l.standing)

@@ -1,0 +1,4 @@
+-- What an auditor reads: what became of requests is said with these.
+pub mod Fates
+pub mod Picked
+pub mod FateExamples

@@ -1,0 +1,15 @@
+use Rattle.std.proofs.Common.{◌≡◌, ap, arith, length, min}
+use Rattle.qs_objects.specs.Objects.{values_of}
+use Rattle.qs_text.specs.Texts.{spaced_value, texts_up_to}
+use Rattle.qs_text.proofs.Parts.{named, one_text_more}
+use Rattle.qs_svg.proofs.words.put_first_values.Goals as goal
+
+pub loop-place-preserved : goal.loop-place-preserved
+loop-place-preserved c =
+    one_text_more (spaced_value (values_of c.args.object.now.content)) c.loop-place.place c.loop-place.invariant c.in_ok-put_value.ensures.ok
+
+pub returns : goal.returns
+returns c =
+    let values = values_of c.args.object.now.content in
+    let all : c.loop-place.place ≡ min (length values) 6 = omega arith in
+    record { ok = named (ap (λ n. texts_up_to n (spaced_value values)) all) c.loop-place.invariant }
