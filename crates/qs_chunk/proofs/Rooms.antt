@@ -108,8 +108,8 @@ module _ (E : El) (Z : Al) {M : Type 1} {𝓤 : Ura M} {𝓛 : Logic 𝓤} {K : 
       let LE = param_laws 0 E.row E.laws in let LZ = param_laws 1 Z.row Z.laws in
       peeks t (Rm E Z) _ (shows 𝓛 (Rm E Z)) d vs (λ is. fsplit t $ move t (1 ∷ []) $
       in_a_block t d.ptr (λ p. room_owns (R E) (token Z d.giver) p d.places) (id⊢ 𝓤 _) (λ b o e. fsplit t $ flt_l t (λ small. fsplit t $
-      let told : vs ≡ room_val E Z (block_ptr b o) ∷ [] = (L.lowers (R E) (P E Z) Z.g LE LZ).val_is d vs is ∙ ap (λ p. room_val E Z p ∷ []) e in
-      rewrite t 2 (λ (ws : List Val). ‵ ((Fields E Z).own_val (d.ptr, (tt, tt)) ws)) told refl $ k b o e told small)))
+      let holds : vs ≡ room_val E Z (block_ptr b o) ∷ [] = (L.lowers (R E) (P E Z) Z.g LE LZ).val_is d vs is ∙ ap (λ p. room_val E Z p ∷ []) e in
+      rewrite t 2 (λ (ws : List Val). ‵ ((Fields E Z).own_val (d.ptr, (tt, tt)) ws)) holds refl $ k b o e holds small)))
 
   pub room_made : K → (d : Owner E Z) (b o : ℕ) → d.ptr ≡ block_ptr b o → length d.places * sz E < 2 ^ 63
       → Step K 𝓛 (‵ ((Rm E Z).own_val d (room_val E Z (block_ptr b o) ∷ [])) ∷ Γ) G

@@ -67,9 +67,9 @@ pub begun_is : (m s : CoreState) (c : ℕ) → m ≡ s → (client_part_at m.cli
 unfolding core_of
 begun_is m s c view = ap (λ (x : CoreState). (client_part_at x.clients c).mind.client.begun) view
 
-pub ended_told : (m s : CoreState) (c n k : ℕ) (b : Bool) → m ≡ s → n ≡ k → b ≡ has_ended (client_part_at m.clients c).mind.client n → b ≡ has_ended ((core_of s).client c) k
+pub ended_by_stage : (m s : CoreState) (c n k : ℕ) (b : Bool) → m ≡ s → n ≡ k → b ≡ has_ended (client_part_at m.clients c).mind.client n → b ≡ has_ended ((core_of s).client c) k
 unfolding core_of
-ended_told m s c n k b view same is = is ∙ (λ i. has_ended (client_part_at (view i).clients c).mind.client (same i))
+ended_by_stage m s c n k b view same is = is ∙ (λ i. has_ended (client_part_at (view i).clients c).mind.client (same i))
 
 few : (objects : List Declared) (cs : List ClientShape) → AllByRecursion (IsSoundClient objects) cs → (c : ℕ) → length (slice_index_or cs c no_client).blocks ≤ most_blocks
 few objects [] all c = omega arith
@@ -135,7 +135,7 @@ module _ (first : CoreState) (fit : IsFit first) (quiet : IsQuietNow first) (c :
         (turn_in first.program fit.sound fit.mode (codes_of first) fit.codes first.size first.order (blocks_begun first) t refl left (core_of first) quiet fit.kept);
   }
 
-  -- whether the block has ended is told by the client's stage
+  -- whether the block has ended is known by the client's stage
   pub stage_is : (turns : ℕ) (s : CoreState) → StandsIn first c turns s → (b : Bool) → b ≡ has_ended ((core_of s).client c) (blocks_begun first c)
       → is_between ((core_of s).client c).stage ≡ b
   stage_is turns s now b is = sym (is ∙ ended_is (core_of s) t (now.within.begun c ∙ latest))

@@ -35,7 +35,7 @@ use Rattle.qs_core_laws.proofs.CoreInvariant.{LaneHistory, post, deeds, TicketOk
 use Rattle.qs_core_laws.proofs.HandlerSteps.{of_ahead}
 use Rattle.qs_core_laws.proofs.ClientSteps.{place_record, place_lane, place_gone}
 use Rattle.qs_core_laws.proofs.SendingPreserved.{object_deeds, grown_there}
-use Rattle.qs_core_laws.proofs.LaneHistoryMoves.{begins_kept, none_after, told_here, told_there}
+use Rattle.qs_core_laws.proofs.LaneHistoryMoves.{begins_kept, none_after, ok_here, ok_there}
 
 module _ (program : ProgramShape) (fine : (t : Ticket) (l : Locals) → AsksOnly (reserves program t) (block_tree program t l)) (lined : (t : Ticket) → Lined (reserves program t) (objects_of_block program t))
     (s : Core) (y : LaneHistory) (g : ℕ → HandlerLog) (k : CoreInvariant program s y g) (settings : Settings)
@@ -107,18 +107,18 @@ module _ (program : ProgramShape) (fine : (t : Ticket) (l : Locals) → AsksOnly
   old_record : (u : Ticket) → same t u ≡ false → Y.block_record u ≡ y.block_record u
   old_record u e = put_at_there y.block_record t pg u e
 
-  told_new : TicketOk program Y t
-  told_new =
-      told_here program y t pg (λ h. []) (λ h. []) (standing_at program t r.client r.client.stage) (place_record program t (λ h. []) (λ h. []) r.client pg r.client.stage ends.3)
+  ok_new : TicketOk program Y t
+  ok_new =
+      ok_here program y t pg (λ h. []) (λ h. []) (standing_at program t r.client r.client.stage) (place_record program t (λ h. []) (λ h. []) r.client pg r.client.stage ends.3)
       (begins_kept program y t pg (λ h. []) (λ h. []) (standing_at program t r.client r.client.stage) c n l pg.entry (sym ends.1) own_index (before_it n begun))
       (place_lane program t (λ h. []) (λ h. []) r.client pg r.client.stage ends.3) (place_gone program t (λ h. []) (λ h. []) r.client pg r.client.stage ends.3)
     where
       own_index : (i : ℕ) → n ≡ suc i → t ≡ ticket c i → ⊥
       own_index i next is = let index : n ≡ i = ap (λ (t : Ticket). t.index) is in omega (arith, next, index)
 
-  told_old : (u : Ticket) → same t u ≡ false → suc u.index ≤ (s.client u.client).begun → TicketOk program y u → TicketOk program Y u
-  told_old u e low old =
-      told_there program y t pg (λ h. []) (λ h. []) (standing_at program t r.client r.client.stage) u e
+  ok_old : (u : Ticket) → same t u ≡ false → suc u.index ≤ (s.client u.client).begun → TicketOk program y u → TicketOk program Y u
+  ok_old u e low old =
+      ok_there program y t pg (λ h. []) (λ h. []) (standing_at program t r.client r.client.stage) u e
       (none_after (λ d. (s.client d).begun) t (omega (arith, begun)) u.client u.index low) old
 
   not_this : (d j : ℕ) → (c == d) ≡ false → same t (ticket d j) ≡ false
@@ -174,10 +174,10 @@ module _ (program : ProgramShape) (fine : (t : Ticket) (l : Locals) → AsksOnly
     below = each_snoc (λ (u : Ticket). suc u.index ≤ (put s.client c r.client u.client).begun) s.order t
         (each_map (λ (u : Ticket) (lt : suc u.index ≤ (s.client u.client).begun). let up = begun_up u.client in omega (arith, lt, up)) s.order k.below)
         (subst (λ (m : Client). suc n ≤ m.begun) (sym (put_here s.client c r.client)) (let b = new_begun in omega (arith, b)));
-    told = each_snoc (TicketOk program Y) s.order t
-        (each_both (λ u (n : same t u ≡ false) (h : (suc u.index ≤ (s.client u.client).begun) × TicketOk program y u). told_old u n h.0 h.1) s.order fresh
-        (each_both (λ u a b. (a, b)) s.order k.below k.told))
-        told_new;
+    tickets_ok = each_snoc (TicketOk program Y) s.order t
+        (each_both (λ u (n : same t u ≡ false) (h : (suc u.index ≤ (s.client u.client).begun) × TicketOk program y u). ok_old u n h.0 h.1) s.order fresh
+        (each_both (λ u a b. (a, b)) s.order k.below k.tickets_ok))
+        ok_new;
     entry = put_at_field (λ (p : BlockRecord). p.entry) y.block_record s.entry t pg l k.entry ends.1;
     trace = put_at_field (λ (p : BlockRecord). p.trace) y.block_record s.trace t pg r.events k.trace ends.2;
     idle = put_all (λ d (m : Client). m.begun ≡ 0 → (m.stage ≡ between zeros) × ((h : ℕ) → (m.held h ≡ None) × (m.chunk h ≡ None))) s.client c r.client (λ e. let b = new_begun in absurd (omega (arith, b, e))) (λ d other e. k.idle d e);

@@ -28,7 +28,7 @@ use Rattle.qs_protocol.proofs.ActKinds.{in_hand_gone}
 use Rattle.qs_played.specs.JournalRooms.{fresh_held}
 use Rattle.qs_core_laws.specs.Core.{Core}
 use Rattle.qs_core_laws.proofs.CoreInvariant.{LaneHistory, post, deeds, TicketOk, CoreInvariant}
-use Rattle.qs_core_laws.proofs.LaneHistoryMoves.{begins_kept, none_after, told_here, told_there}
+use Rattle.qs_core_laws.proofs.LaneHistoryMoves.{begins_kept, none_after, ok_here, ok_there}
 
 module _ (program : ProgramShape) (t : Ticket) (snt : ℕ → List Parcel) (got : ℕ → List HeldState) where
   pub place_record : (m : Client) (pg : BlockRecord) (pl : ClientStage) → PlaceOk program t snt got m pg pl → IsOpenRecord program t pg
@@ -79,14 +79,14 @@ module _ (program : ProgramShape) (s : Core) (y : LaneHistory) (g : ℕ → Hand
   apart_from_this : (u : Ticket) → suc u.index ≤ (s.client u.client).begun → (i : ℕ) → u.index ≡ suc i → t ≡ ticket u.client i → ⊥
   apart_from_this u low = none_after (λ d. (s.client d).begun) t (omega (arith, begun)) u.client u.index low
 
-  told_new : TicketOk program y t → suc k ≤ (s.client c).begun → TicketOk program story t
-  told_new old low =
-      told_here program y t pg snt got (standing_at program t m m.stage) (place_record program t snt got m pg m.stage ok)
+  ok_new : TicketOk program y t → suc k ≤ (s.client c).begun → TicketOk program story t
+  ok_new old low =
+      ok_here program y t pg snt got (standing_at program t m m.stage) (place_record program t snt got m pg m.stage ok)
       (begins_kept program y t pg snt got (standing_at program t m m.stage) c k (y.block_record t).entry pg.entry (sym entry) (apart_from_this t low) old.begins)
       (place_lane program t snt got m pg m.stage ok) (place_gone program t snt got m pg m.stage ok)
 
-  told_old : (u : Ticket) → same t u ≡ false → suc u.index ≤ (s.client u.client).begun → TicketOk program y u → TicketOk program story u
-  told_old u n low old = told_there program y t pg snt got (standing_at program t m m.stage) u n (apart_from_this u low) old
+  ok_old : (u : Ticket) → same t u ≡ false → suc u.index ≤ (s.client u.client).begun → TicketOk program y u → TicketOk program story u
+  ok_old u n low old = ok_there program y t pg snt got (standing_at program t m m.stage) u n (apart_from_this u low) old
 
   not_this : (d j : ℕ) → (c == d) ≡ false → same t (ticket d j) ≡ false
   not_this d j n = rw n
@@ -98,11 +98,11 @@ module _ (program : ProgramShape) (s : Core) (y : LaneHistory) (g : ℕ → Hand
     legal = kept.legal;
     counts = λ d. kept.counts d ∙ sym (begun_kept d);
     below = each_map (λ u (lt : suc u.index ≤ (s.client u.client).begun). subst (λ n. suc u.index ≤ n) (sym (begun_kept u.client)) lt) s.order kept.below;
-    told = each_both (λ u (lt : suc u.index ≤ (s.client u.client).begun) (old : TicketOk program y u).
+    tickets_ok = each_both (λ u (lt : suc u.index ≤ (s.client u.client).begun) (old : TicketOk program y u).
         ⊎_elim
-        (λ (is : t ≡ u). subst (TicketOk program story) is (told_new (subst (TicketOk program y) (sym is) old) (omega arith)))
-        (λ (other : same t u ≡ false). told_old u other lt old)
-        (ticket_cases t u)) s.order kept.below kept.told;
+        (λ (is : t ≡ u). subst (TicketOk program story) is (ok_new (subst (TicketOk program y) (sym is) old) (omega arith)))
+        (λ (other : same t u ≡ false). ok_old u other lt old)
+        (ticket_cases t u)) s.order kept.below kept.tickets_ok;
     entry = λ u. put_at_kept (λ (p : BlockRecord). p.entry) y.block_record t pg entry u ∙ kept.entry u;
     trace = put_at_field (λ (p : BlockRecord). p.trace) y.block_record s.trace t pg (s.trace t ++ events) kept.trace (trace ∙ ap (λ es. es ++ events) (kept.trace t));
     idle = put_all (λ d (m : Client). m.begun ≡ 0 → (m.stage ≡ between zeros) × ((h : ℕ) → (m.held h ≡ None) × (m.chunk h ≡ None))) s.client c m (λ e. absurd (omega arith)) (λ d other e. kept.idle d e);

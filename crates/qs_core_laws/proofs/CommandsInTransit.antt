@@ -108,7 +108,7 @@ module _ (program : ProgramShape) (sound : IsSound program) (s : Core) (y : Lane
   mine =
       each_both (λ t a (b : (suc t.index ≤ (s.client t.client).begun) × TicketOk program y t). (a, b.0, b.1))
       (filter (λ t. reserves program t h) s.order) (each_passes (λ t. reserves program t h) s.order)
-      (each_kept (λ (t : Ticket). (suc t.index ≤ (s.client t.client).begun) × TicketOk program y t) (λ t. reserves program t h) s.order (each_both (λ t a b. (a, b)) s.order k.below k.told))
+      (each_kept (λ (t : Ticket). (suc t.index ≤ (s.client t.client).begun) × TicketOk program y t) (λ t. reserves program t h) s.order (each_both (λ t a b. (a, b)) s.order k.below k.tickets_ok))
 
   pub mine_past : AllByRecursion IsMine (g h).past
   mine_past = each_front IsMine (g h).past (ahead (post s h)) (subst (AllByRecursion IsMine) (k.objects h).split mine)
@@ -146,7 +146,7 @@ module _ (program : ProgramShape) (sound : IsSound program) (s : Core) (y : Lane
 
   -- what an object's part of a block record is where the block doesn't reserve it
   pub part_out : (t : Ticket) → TicketOk program y t → reserves program t h ≡ false → parts_of y.block_record h t ≡ []
-  part_out t told out = unnamed (reserves program t) (block_tree program t (y.block_record t).entry) (y.block_record t).trace (y.block_record t).rest h (blocks_ask_only program sound t (y.block_record t).entry) told.block_record.path out
+  part_out t tickets_ok out = unnamed (reserves program t) (block_tree program t (y.block_record t).entry) (y.block_record t).trace (y.block_record t).rest h (blocks_ask_only program sound t (y.block_record t).entry) tickets_ok.block_record.path out
 
   empty_chunk : (t : Ticket) (events : List Event) (c : ObjectStance) → ClientLane t false [] [] events c → events ≡ [] → chunk_of c ≡ []
   empty_chunk t events c lane none = ap chunk_of lane.1 ∙ no_events lane.0 (sym lane.3 ∙ none)
@@ -156,12 +156,12 @@ module _ (program : ProgramShape) (sound : IsSound program) (s : Core) (y : Lane
       no_events (r ∷ rs) e = absurd (cc)
 
   chunk_out : (t : Ticket) → TicketOk program y t → reserves program t h ≡ false → in_chunk (s.client t.client) t.index h ≡ []
-  chunk_out t told out =
+  chunk_out t tickets_ok out =
       let o = k.outside t h out in
       let none : chunk_of (y.stands t h) ≡ [] =
       empty_chunk t (part h (y.block_record t).trace) (y.stands t h)
-      (subst (λ ps. ClientLane t false ps [] (part h (y.block_record t).trace) (y.stands t h)) o.0 (subst (λ gs. ClientLane t false (y.sent t h) gs (part h (y.block_record t).trace) (y.stands t h)) o.1 (told.lane h)))
-      (part_out t told out) in
+      (subst (λ ps. ClientLane t false ps [] (part h (y.block_record t).trace) (y.stands t h)) o.0 (subst (λ gs. ClientLane t false (y.sent t h) gs (part h (y.block_record t).trace) (y.stands t h)) o.1 (tickets_ok.lane h)))
+      (part_out t tickets_ok out) in
       ⊎_elim
       (λ (is : (s.client t.client).begun ≡ suc t.index). sym (chunk_last t is) ∙ none)
       (λ (other : ((s.client t.client).begun == suc t.index) ≡ false). chunk_none t other)
@@ -259,6 +259,6 @@ module _ (program : ProgramShape) (sound : IsSound program) (s : Core) (y : Lane
 
   -- of one that doesn't reserve the object
   pub waits_out : (t : Ticket) → TicketOk program y t → reserves program t h ≡ false → on_way s h t ≡ []
-  waits_out t told out = ap₂ (λ ps rs. commands_in ps ++ rs)
+  waits_out t tickets_ok out = ap₂ (λ ps rs. commands_in ps ++ rs)
       (lane_other t (each_map (λ u (m : reserves program u h ≡ true). not_same t u (λ is. true≢false (sym m ∙ (ap (λ t. reserves program t h) (sym is) ∙ out)))) (ahead (post s h)) (may_ahead program s y g k h)))
-      (chunk_out t told out)
+      (chunk_out t tickets_ok out)

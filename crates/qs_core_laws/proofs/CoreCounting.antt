@@ -84,21 +84,21 @@ module _ (program : ProgramShape) (sound : IsSound program) (mode : Mode) (code 
   CountedBy s n = Counted s.order s.client s.syncs s.entry s.trace n
 
   -- the counts that are kept for a ticket are those of the objects of its block's list, in order, and say these numbers
-  pub record Tells (n : Ticket → ℕ → ℕ) (counts : Ticket → List SyncCount) (t : Ticket) : Type 0 where
+  pub record HasCounts (n : Ticket → ℕ → ℕ) (counts : Ticket → List SyncCount) (t : Ticket) : Type 0 where
     pub objects : map object_of (counts t) ≡ (text_of program t).reserved
     pub numbers : (h : ℕ) → syncs_for (counts t) h ≡ n t h
 
-  abbrev pub AreTold : (Ticket → ℕ → ℕ) → (Ticket → List SyncCount) → Type 0
-  AreTold n counts = (t : Ticket) → Tells n counts t
+  abbrev pub HaveCounts : (Ticket → ℕ → ℕ) → (Ticket → List SyncCount) → Type 0
+  HaveCounts n counts = (t : Ticket) → HasCounts n counts t
 
   abbrev pub AreCounted : Core → Type 0
-  AreCounted s = (n : Ticket → ℕ → ℕ) × CountedBy s n × AreTold n s.sync_counts
+  AreCounted s = (n : Ticket → ℕ → ℕ) × CountedBy s n × HaveCounts n s.sync_counts
 
   one_of : (b : Bool) (a s' : Core) → (if b then Some a else None) ≡ Some s' → AreCounted a → AreCounted s'
   one_of true a s' e h = subst AreCounted (some_is a s' e) h
   one_of false a s' e h = absurd (cc)
 
-  module _ (s : Core) (n : Ticket → ℕ → ℕ) (k : CountedBy s n) (given : AreTold n s.sync_counts) where
+  module _ (s : Core) (n : Ticket → ℕ → ℕ) (k : CountedBy s n) (given : HaveCounts n s.sync_counts) where
     -- what a client does in its block, where this is counted of it then and others stay
     in_block : (c j : ℕ) → (s.client c).begun ≡ suc j → (r : Settlement) → r.client.begun ≡ (s.client c).begun → (syncs : ℕ → ℕ) (m : Ticket → ℕ → ℕ)
         → CountsOf s (ticket c j) (m (ticket c j)) r
@@ -206,15 +206,15 @@ module _ (program : ProgramShape) (sound : IsSound program) (mode : Mode) (code 
           (kept.places c ((s.client c).begun - 1) b) h parcel act).0
 
       -- the count that is kept is one more for h
-      told_more : (t : Ticket) (h : ℕ) → reserves program t h ≡ true
-          → AreTold (put_ticket n t (put (n t) h (suc (n t h)))) (put_ticket s.sync_counts t (with_sync h (s.sync_counts t)))
-      told_more t h listed u =
+      ok_more : (t : Ticket) (h : ℕ) → reserves program t h ≡ true
+          → HaveCounts (put_ticket n t (put (n t) h (suc (n t h)))) (put_ticket s.sync_counts t (with_sync h (s.sync_counts t)))
+      ok_more t h listed u =
           let more : ℕ → ℕ = put (n t) h (suc (n t h)) in
           let counts = with_sync h (s.sync_counts t) in
           let own = given t in
           ⊎_elim
           (λ (is : t ≡ u).
-          subst (Tells (put_ticket n t more) (put_ticket s.sync_counts t counts)) is (record {
+          subst (HasCounts (put_ticket n t more) (put_ticket s.sync_counts t counts)) is (record {
             objects = ap (map object_of) (put_at_here s.sync_counts t counts) ∙ (objects_stay h (s.sync_counts t) ∙ own.objects);
             numbers = λ g. ap (λ xs. syncs_for xs g) (put_at_here s.sync_counts t counts)
                 ∙ (sent_for h (s.sync_counts t) (n t) (subst (λ hs. is_in hs h ≡ true) (sym own.objects) listed)
@@ -253,7 +253,7 @@ module _ (program : ProgramShape) (sound : IsSound program) (mode : Mode) (code 
                 (put s.syncs c (suc (s.syncs c))) (put_ticket n t more)
                 (subst (λ f. CountsOf s t f (after_sent c h parcels.Sync)) (sym (put_at_here n t more)) (sent_counts c h parcels.Sync act b))
                 (λ u apart. put_at_there n t more u apart) (one_more c ((s.client c).begun - 1) h b (reserved_by c h parcels.Sync act b)),
-            told_more t h (asked_of c h parcels.Sync act b),
+            ok_more t h (asked_of c h parcels.Sync act b),
           )
 
       send_does : (c h : ℕ) (parcel : Parcel) (s' : Core) → asks_for c ≡ Send h parcel → sends code size s c h parcel ≡ Some s' → AreCounted s'
@@ -385,10 +385,10 @@ module _ (program : ProgramShape) (sound : IsSound program) (mode : Mode) (code 
       client_does c Finished s' act e = absurd (cc)
 
     -- the steps of handlers change nothing of this
-    handled_does : (a : Core) → CountedBy a n → AreTold n a.sync_counts → (h : ℕ) (o : Option Handler) (s' : Core) → after_handler code size a h o ≡ Some s' → AreCounted s'
-    handled_does a counted told h None s' e = absurd (cc)
-    handled_does a counted told h (Some x) s' e = subst AreCounted (some_is (handles code size a h x) s' e)
-        (n, record { newest = counted.newest; older = counted.older; fresh = counted.fresh; total = counted.total }, told)
+    handled_does : (a : Core) → CountedBy a n → HaveCounts n a.sync_counts → (h : ℕ) (o : Option Handler) (s' : Core) → after_handler code size a h o ≡ Some s' → AreCounted s'
+    handled_does a counted has_counts h None s' e = absurd (cc)
+    handled_does a counted has_counts h (Some x) s' e = subst AreCounted (some_is (handles code size a h x) s' e)
+        (n, record { newest = counted.newest; older = counted.older; fresh = counted.fresh; total = counted.total }, has_counts)
 
     ticket_does : (h : ℕ) (ts : List Ticket) (s' : Core) → takes_ticket code size s h ts ≡ Some s' → AreCounted s'
     ticket_does h [] s' e = absurd (cc)
@@ -448,8 +448,8 @@ module _ (program : ProgramShape) (sound : IsSound program) (mode : Mode) (code 
     total = sym (sum_zero (λ c. 0) (λ c. refl) (range_with_len 0 (length program.clients)));
   }
 
-  begin_told : AreTold (λ t h. 0) (core_begin program).sync_counts
-  begin_told t = record { objects = objects_none (text_of program t).reserved; numbers = λ h. none_for (text_of program t).reserved h }
+  begin_ok : HaveCounts (λ t h. 0) (core_begin program).sync_counts
+  begin_ok t = record { objects = objects_none (text_of program t).reserved; numbers = λ h. none_for (text_of program t).reserved h }
 
   pub run_counted : (actors : List Actor) → KeptCounted (core_plays code size actors (core_begin program))
-  run_counted actors = plays_both actors (core_begin program) (begin_kept program sound mode code codes size, ((λ t h. 0), begin_counted, begin_told))
+  run_counted actors = plays_both actors (core_begin program) (begin_kept program sound mode code codes size, ((λ t h. 0), begin_counted, begin_ok))

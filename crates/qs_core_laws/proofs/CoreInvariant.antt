@@ -46,7 +46,7 @@ pub record CoreInvariant (program : ProgramShape) (s : Core) (y : LaneHistory) (
   pub legal : IsLegal program s.order
   pub counts : (c : ℕ) → counts_after (λ _. 0) s.order c ≡ (s.client c).begun
   pub below : AllByRecursion (λ (t : Ticket). suc t.index ≤ (s.client t.client).begun) s.order
-  pub told : AllByRecursion (TicketOk program y) s.order
+  pub tickets_ok : AllByRecursion (TicketOk program y) s.order
   pub entry : (t : Ticket) → (y.block_record t).entry ≡ s.entry t
   pub trace : (t : Ticket) → (y.block_record t).trace ≡ s.trace t
   pub idle : (c : ℕ) → (s.client c).begun ≡ 0 → ((s.client c).stage ≡ between zeros) × ((h : ℕ) → HasNone (s.client c) h)

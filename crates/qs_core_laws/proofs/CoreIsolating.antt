@@ -119,7 +119,7 @@ module _ (program : ProgramShape) (sound : IsSound program) (s : Core) (y : Lane
           let lt : suc t.index < (s.client t.client).begun = grind (arith, less) in
           let many = k.counts t.client in
           let next : TicketOk program y (ticket t.client (suc t.index)) =
-          each_among (TicketOk program y) (ticket t.client (suc t.index)) s.order k.told
+          each_among (TicketOk program y) (ticket t.client (suc t.index)) s.order k.tickets_ok
           (legal_among program (λ _. 0) s.order t.client (suc t.index) k.legal (omega arith) (omega (arith, lt, many))) in
           let b : (y.block_record t).rest ≡ tree.Done (y.block_record (ticket t.client (suc t.index))).entry = next.begins in
           subst IsDone (sym b) tt
@@ -165,8 +165,8 @@ module _ (program : ProgramShape) (sound : IsSound program) (s : Core) (y : Lane
       states = length-map (range_with_len 0 (length program.objects)) (λ h. (shown h).object) ∙ length-range_with_len 0 (length program.objects);
     };
     legal = k.legal;
-    block_records = each_map (λ t (ok : TicketOk program y t). ok.block_record.path) s.order k.told;
-    begins = each_map (λ t (ok : TicketOk program y t). ok.begins) s.order k.told;
+    block_records = each_map (λ t (ok : TicketOk program y t). ok.block_record.path) s.order k.tickets_ok;
+    begins = each_map (λ t (ok : TicketOk program y t). ok.begins) s.order k.tickets_ok;
     flows = λ h. (flows h).0;
     honest = λ h own. (flows h).1;
     replayed = λ h own. (flows h).2;

@@ -210,7 +210,7 @@ module _ (program : ProgramShape) (sound : IsSound program) (mode : Mode) (code 
       legal = tt;
       counts = λ c. refl;
       below = tt;
-      told = tt;
+      tickets_ok = tt;
       entry = λ t. refl;
       trace = λ t. refl;
       idle = λ c e. (refl, λ h. (refl, refl));

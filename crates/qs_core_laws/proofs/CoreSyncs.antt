@@ -31,13 +31,13 @@ use Rattle.qs_core_laws.specs.Core.{Core, core_begin, settings_of}
 use Rattle.qs_core_laws.specs.CoreSchedule.{core_played, core_plays}
 use Rattle.qs_core_laws.specs.CoreSyncSums.{CoreSyncsAreCounted}
 use Rattle.qs_protocol.proofs.CountedTraces.{sent_as, trace_counted, tree_count}
-use Rattle.qs_core_laws.proofs.CoreCounting.{AreTold, CountedBy, run_counted}
+use Rattle.qs_core_laws.proofs.CoreCounting.{CountedBy, HaveCounts, run_counted}
 use Rattle.qs_core_laws.proofs.CoreInvariant.{LaneHistory, CoreInvariant, TicketOk}
 
 module _ (program : ProgramShape) (sound : IsSound program) (mode : Mode) (code : ℕ → ClientCode) (codes : AreCodes program mode code) (size : ℕ)
     (s : Core) (y : LaneHistory) (g : ℕ → HandlerLog) (kept : CoreInvariant program s y g) (n : Ticket → ℕ → ℕ)
     (counted : CountedBy program sound mode code codes size s n)
-    (told : AreTold program sound mode code codes size n s.sync_counts) where
+    (has_counts : HaveCounts program sound mode code codes size n s.sync_counts) where
   -- what a block's tree says of a trace so far
   abbrev by_tree : Ticket → ℕ → ℕ
   by_tree t h = syncs_along (code t.client).dynamic h false (synced_block code t (s.entry t)) (s.trace t)
@@ -84,7 +84,7 @@ module _ (program : ProgramShape) (sound : IsSound program) (mode : Mode) (code 
     t = ticket_at r i
 
     ok : TicketOk program y t
-    ok = AllByRecursion-get_or (TicketOk program y) s.order i (ticket 0 0) kept.told inside
+    ok = AllByRecursion-get_or (TicketOk program y) s.order i (ticket 0 0) kept.tickets_ok inside
 
     below : suc t.index ≤ (s.client t.client).begun
     below = AllByRecursion-get_or (λ (t : Ticket). suc t.index ≤ (s.client t.client).begun) s.order i (ticket 0 0) kept.below inside
@@ -107,7 +107,7 @@ module _ (program : ProgramShape) (sound : IsSound program) (mode : Mode) (code 
 
     -- what is shown of the Syncs that were sent are these numbers
     numbers : (h : ℕ) → syncs_at r i h ≡ n t h
-    numbers h = ap (λ xs. syncs_for xs h) counts_are ∙ (told t).numbers h
+    numbers h = ap (λ xs. syncs_for xs h) counts_are ∙ (has_counts t).numbers h
 
     leads : Leads (block_tree program t (entry_of r i)) (trace_of r i) (y.block_record t).rest
     leads = subst (λ l. Leads (block_tree program t l) (trace_of r i) (y.block_record t).rest) (kept.entry t ∙ sym entry_is)
@@ -123,7 +123,7 @@ module _ (program : ProgramShape) (sound : IsSound program) (mode : Mode) (code 
 
     keeps_counted : IsCounted program mode r i
     keeps_counted =
-        trace_counted program sound mode code codes r i own_block (y.block_record t).rest leads counts_sent (ap (map object_of) counts_are ∙ (told t).objects)
+        trace_counted program sound mode code codes r i own_block (y.block_record t).rest leads counts_sent (ap (map object_of) counts_are ∙ (has_counts t).objects)
 
   -- all counts together
   all_syncs : (ts : List Ticket) → sum_by syncs_of (map s.sync_counts ts) ≡ total_of program n ts
@@ -132,8 +132,8 @@ module _ (program : ProgramShape) (sound : IsSound program) (mode : Mode) (code 
       let first = sum_by-cons syncs_of (s.sync_counts t) (map s.sync_counts ts) in
       let total = sum_by-cons (λ t. sum_of program (n t)) t ts in
       let here = total_for (length program.objects) (s.sync_counts t)
-      (subst (AllByRecursion (λ h. h < length program.objects)) (sym (told t).objects) (listed_inside program sound t)) in
-      let same = sum_inside (syncs_for (s.sync_counts t)) (n t) 0 (length program.objects) (λ h low high. (told t).numbers h) in
+      (subst (AllByRecursion (λ h. h < length program.objects)) (sym (has_counts t).objects) (listed_inside program sound t)) in
+      let same = sum_inside (syncs_for (s.sync_counts t)) (n t) 0 (length program.objects) (λ h low high. (has_counts t).numbers h) in
       let rest = all_syncs ts in
       omega (arith, first, total, here, same, rest)
 
@@ -144,8 +144,8 @@ core_syncs_counted program sound mode code codes size actors =
     let k = run_counted program sound mode code codes size actors in
     let n = k.1.0 in
     let c = k.1.1 in
-    let told = k.1.2 in
+    let has_counts = k.1.2 in
     record {
-      all = sym c.total ∙ sym (all_syncs program sound mode code codes size s k.0.0 k.0.1 k.0.2 n c told s.order);
-      each = keeps_counted program sound mode code codes size s k.0.0 k.0.1 k.0.2 n c told;
+      all = sym c.total ∙ sym (all_syncs program sound mode code codes size s k.0.0 k.0.1 k.0.2 n c has_counts s.order);
+      each = keeps_counted program sound mode code codes size s k.0.0 k.0.1 k.0.2 n c has_counts;
     }

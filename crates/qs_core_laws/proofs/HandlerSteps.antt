@@ -69,7 +69,7 @@ module _ (program : ProgramShape) (s : Core) (y : LaneHistory) (g : ℕ → Hand
     legal = k.legal;
     counts = k.counts;
     below = k.below;
-    told = k.told;
+    tickets_ok = k.tickets_ok;
     entry = k.entry;
     trace = k.trace;
     idle = k.idle;
@@ -104,7 +104,7 @@ module _ (program : ProgramShape) (s : Core) (y : LaneHistory) (g : ℕ → Hand
 
   pub deeds_ok : (h : ℕ) → IsClientLog (ahead (post s h)) (deeds y h)
   deeds_ok h = record {
-    lane = each_map (λ t (told : TicketOk program y t). told.lane h) (ahead (post s h)) (of_ahead (TicketOk program y) h k.told);
+    lane = each_map (λ t (tickets_ok : TicketOk program y t). tickets_ok.lane h) (ahead (post s h)) (of_ahead (TicketOk program y) h k.tickets_ok);
     older = λ t u in_t in_u same_client less.
         let m = each_among (λ u. reserves program u h ≡ true) t (ahead (post s h)) (may_ahead h) in_t in
         let b : suc u.index ≤ (s.client u.client).begun = each_among (λ (t : Ticket). suc t.index ≤ (s.client t.client).begun) u (ahead (post s h)) (of_ahead (λ (t : Ticket). suc t.index ≤ (s.client t.client).begun) h k.below) in_u in

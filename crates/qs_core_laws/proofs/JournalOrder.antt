@@ -139,7 +139,7 @@ module _ (program : ProgramShape) (sound : IsSound program) (s : Core) (y : Lane
   size_of ts = total (λ t. length (parts t)) ts
 
   flow_pass : (t : Ticket) (ts : List Ticket) (x : HeldState) → TicketOk program y t → reserves program t h ≡ false → JournalLeads x ts → JournalLeads x (t ∷ ts)
-  flow_pass t ts x told out r = (
+  flow_pass t ts x tickets_ok out r = (
     r.0,
     r.1,
     (
@@ -147,11 +147,11 @@ module _ (program : ProgramShape) (sound : IsSound program) (s : Core) (y : Lane
         ran = [];
         later = r.0;
         journal_is = refl;
-        part_is = part_out program sound s y g k h t told out ∙ sym (ap (map command_event) (waits_out program sound s y g k h t told out));
+        part_is = part_out program sound s y g k h t tickets_ok out ∙ sym (ap (map command_event) (waits_out program sound s y g k h t tickets_ok out));
         honest = tt;
-        commands = subst (AllByRecursion NoQuery) (sym (waits_out program sound s y g k h t told out)) tt;
+        commands = subst (AllByRecursion NoQuery) (sym (waits_out program sound s y g k h t tickets_ok out)) tt;
       },
-      inl ((λ m. absurd (true≢false (sym m ∙ out))), waits_out program sound s y g k h t told out, r.2),
+      inl ((λ m. absurd (true≢false (sym m ∙ out))), waits_out program sound s y g k h t tickets_ok out, r.2),
     ),
     r.3,
     r.4,
@@ -159,7 +159,7 @@ module _ (program : ProgramShape) (sound : IsSound program) (s : Core) (y : Lane
 
   flow_over : (t : Ticket) (ts : List Ticket) (x z : HeldState) → TicketOk program y t → waits t ≡ [] → Extends t x (parts t) z → y.stands t h ≡ gone
       → length x.journal + (length (parts t) + size_of ts) ≤ x.room → (length z.journal + size_of ts ≤ z.room → JournalLeads z ts) → JournalLeads x (t ∷ ts)
-  flow_over t ts x z told none extends left le next =
+  flow_over t ts x z tickets_ok none extends left le next =
       let e = grown t x (parts t) z extends (omega (arith, le)) in
       let r = next (grown_room t x z (parts t) (size_of ts) e le) in (
         map (stamp t) (parts t) ++ r.0,
@@ -173,7 +173,7 @@ module _ (program : ProgramShape) (sound : IsSound program) (s : Core) (y : Lane
             honest = e.honest;
             commands = subst (AllByRecursion NoQuery) (sym none) tt;
           },
-          inl ((λ m. told.gone h left), none, subst (λ o. Flow line_of o r.0 ts) e.state r.2),
+          inl ((λ m. tickets_ok.gone h left), none, subst (λ o. Flow line_of o r.0 ts) e.state r.2),
         ),
         stamped_honest t x z (parts t) r.0 e r.3,
         stamped_replay t x z (parts t) r.0 e ∙ r.4,
@@ -181,7 +181,7 @@ module _ (program : ProgramShape) (sound : IsSound program) (s : Core) (y : Lane
 
   flow_first : (t : Ticket) (ts us : List Ticket) (x : HeldState) → Busy → FirstPart t x (parts t) (waits t) now → filter (λ t. reserves program t h) ts ≡ us
       → AllByRecursion (λ u. OnlyCommands (parts u) (waits u)) us → AllByRecursion (TicketOk program y) ts → length x.journal + (length (parts t) + size_of ts) ≤ x.room → JournalLeads x (t ∷ ts)
-  flow_first t ts us x busy f is all told le =
+  flow_first t ts us x busy f is all tickets_ok le =
       let short : length (parts t) ≡ length f.ran + length (map command_event (waits t)) = ap length f.parts ∙ length-append f.ran (map command_event (waits t)) in
       let e = grown t x f.ran now f.extends (omega (arith, le, short)) in (
         map (stamp t) f.ran,
@@ -195,7 +195,7 @@ module _ (program : ProgramShape) (sound : IsSound program) (s : Core) (y : Lane
                 (each_map {Q = λ u. reserves program u h ≡ false → OnlyCommands (parts u) (waits u)} (λ u (ok : TicketOk program y u) out. (
                   part_out program sound s y g k h u ok out ∙ sym (ap (map command_event) (waits_out program sound s y g k h u ok out)),
                   subst (AllByRecursion NoQuery) (sym (waits_out program sound s y g k h u ok out)) tt,
-                )) ts told),
+                )) ts tickets_ok),
           ),
         ),
         subst (IsHonest x.object) (sym (unstamp_all t f.ran)) e.honest,
@@ -207,38 +207,38 @@ module _ (program : ProgramShape) (sound : IsSound program) (s : Core) (y : Lane
 
   goes_along : (ts past q : List Ticket) (x found : HeldState) → filter (λ t. reserves program t h) ts ≡ past ++ q → Past past x found → Tail q found → AllByRecursion (TicketOk program y) ts
       → length x.journal + size_of ts ≤ x.room → JournalLeads x ts
-  goes_along [] [] [] x found e p tail told le =
+  goes_along [] [] [] x found e p tail tickets_ok le =
       let is : x ≡ now = p.0 ∙ tail in
       ([], ap (λ (o : HeldState). o.journal) (sym is) ∙ sym (append-nil x.journal), (refl, ap (λ (o : HeldState). o.object) is), tt, ap (λ (o : HeldState). o.object) is)
-  goes_along [] [] (u ∷ q) x found e p tail told le = absurd (cc)
-  goes_along [] (u ∷ past) q x found e p tail told le = absurd (cc)
-  goes_along (t ∷ ts) past q x found e p tail told le = by_case (reserves program t h) refl past q e p tail (λ past q x e p tail le. goes_along ts past q x found e p tail told.1 le)
+  goes_along [] [] (u ∷ q) x found e p tail tickets_ok le = absurd (cc)
+  goes_along [] (u ∷ past) q x found e p tail tickets_ok le = absurd (cc)
+  goes_along (t ∷ ts) past q x found e p tail tickets_ok le = by_case (reserves program t h) refl past q e p tail (λ past q x e p tail le. goes_along ts past q x found e p tail tickets_ok.1 le)
     where
       by_case : (b : Bool) → reserves program t h ≡ b → (past q : List Ticket) → (if b then t ∷ filter (λ t. reserves program t h) ts else filter (λ t. reserves program t h) ts) ≡ past ++ q
           → Past past x found → Tail q found
           → ((past q : List Ticket) (x : HeldState) → filter (λ t. reserves program t h) ts ≡ past ++ q → Past past x found → Tail q found → length x.journal + size_of ts ≤ x.room → JournalLeads x ts)
           → JournalLeads x (t ∷ ts)
-      by_case false out past q e p tail ih = flow_pass t ts x told.0 out (ih past q x e p tail (omega (arith, le)))
+      by_case false out past q e p tail ih = flow_pass t ts x tickets_ok.0 out (ih past q x e p tail (omega (arith, le)))
       by_case true own [] [] e p tail ih = absurd (cc)
       by_case true own [] (u ∷ us) e p tail ih =
           let is : t ≡ u = cc in
           let more : filter (λ t. reserves program t h) ts ≡ us = cc in
-          flow_first t ts us x tail.0 (subst (λ u. FirstPart u x (parts u) (waits u) now) (sym is) (subst (λ f. FirstPart u f (parts u) (waits u) now) (sym p.0) tail.1)) more tail.2 told.1 le
+          flow_first t ts us x tail.0 (subst (λ u. FirstPart u x (parts u) (waits u) now) (sym is) (subst (λ f. FirstPart u f (parts u) (waits u) now) (sym p.0) tail.1)) more tail.2 tickets_ok.1 le
       by_case true own (u ∷ past) q e p tail ih =
           let is : t ≡ u = cc in
           let more : filter (λ t. reserves program t h) ts ≡ past ++ q = cc in
           let z = p.0.0 in
           let o = match_over u x z (y.sent u h) (y.got u h) p.0.1 (parts u) (y.stands u h) (p.1.0.2.lane h) p.0.2 p.0.3 in
-          flow_over t ts x z told.0 (subst (λ u. waits u ≡ []) (sym is) p.2.0) (subst (λ u. Extends u x (parts u) z) (sym is) o.0) (subst (λ u. y.stands u h ≡ gone) (sym is) o.1) le
+          flow_over t ts x z tickets_ok.0 (subst (λ u. waits u ≡ []) (sym is) p.2.0) (subst (λ u. Extends u x (parts u) z) (sym is) o.0) (subst (λ u. y.stands u h ≡ gone) (sym is) o.1) le
           (ih past q z more (p.0.4, p.1.1, p.2.1) tail)
 
   within_load : (t : Ticket) → TicketOk program y t → length (parts t) ≤ cost program h t
-  within_load t told = leads_within h (block_tree program t (y.block_record t).entry) (y.block_record t).trace (y.block_record t).rest (cost program h t) told.block_record.path (requests_within (text_of program t).body (y.block_record t).entry h)
+  within_load t tickets_ok = leads_within h (block_tree program t (y.block_record t).entry) (y.block_record t).trace (y.block_record t).rest (cost program h t) tickets_ok.block_record.path (requests_within (text_of program t).body (y.block_record t).entry h)
 
   -- the room of the journal is never used up
   pub parts_fit : size_of s.order ≤ room_of program h
   parts_fit =
-      let short = total_less (λ t. length (parts t)) (cost program h) s.order (each_map within_load s.order k.told) in
+      let short = total_less (λ t. length (parts t)) (cost program h) s.order (each_map within_load s.order k.tickets_ok) in
       let whole = order_fits program h (λ _. 0) s.order k.legal in
       let room = all_left program h in
       omega (arith, short, whole, room)
@@ -247,4 +247,4 @@ module _ (program : ProgramShape) (sound : IsSound program) (s : Core) (y : Lane
   goes =
       goes_along s.order (g h).past (ahead (post s h)) (fresh_held program h) (g h).found (k.objects h).split
       ((k.objects h).served, mine_past program sound s y g k h, waits_past program sound s y g k h)
-      (tail_by (s.handler h) refl) k.told (let fit = parts_fit in omega (arith, fit))
+      (tail_by (s.handler h) refl) k.tickets_ok (let fit = parts_fit in omega (arith, fit))

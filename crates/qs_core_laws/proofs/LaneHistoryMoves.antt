@@ -41,9 +41,9 @@ module _ (program : ProgramShape) (y : LaneHistory) (t : Ticket) (pg : BlockReco
       (λ (other : same t (ticket d i) ≡ false). ap (λ (p : BlockRecord). p.rest) (old_record (ticket d i) other) ∙ (h ∙ ap tree.Done e))
       (ticket_cases t (ticket d i))
 
-  pub told_here : IsOpenRecord program t pg → Begins story_at.block_record t.client t.index pg.entry → ((h : ℕ) → ClientLane t false (snt h) (got h) (part h pg.trace) (stood h)) → ((h : ℕ) → stood h ≡ gone → IsDone pg.rest)
+  pub ok_here : IsOpenRecord program t pg → Begins story_at.block_record t.client t.index pg.entry → ((h : ℕ) → ClientLane t false (snt h) (got h) (part h pg.trace) (stood h)) → ((h : ℕ) → stood h ≡ gone → IsDone pg.rest)
       → TicketOk program story_at t
-  told_here block_record begins lanes over = record {
+  ok_here block_record begins lanes over = record {
     block_record = subst (IsOpenRecord program t) (sym (put_at_here y.block_record t pg)) block_record;
     begins = subst (λ (p : BlockRecord). Begins story_at.block_record t.client t.index p.entry) (sym (put_at_here y.block_record t pg)) begins;
     lane = λ h. subst (λ (p : BlockRecord). ClientLane t false (story_at.sent t h) (story_at.got t h) (part h p.trace) (story_at.stands t h)) (sym (put_at_here y.block_record t pg))
@@ -53,8 +53,8 @@ module _ (program : ProgramShape) (y : LaneHistory) (t : Ticket) (pg : BlockReco
     gone = λ h e. subst (λ (p : BlockRecord). IsDone p.rest) (sym (put_at_here y.block_record t pg)) (over h (ap (λ (f : ℕ → ObjectStance). f h) (sym (put_at_here y.stands t stood)) ∙ e));
   }
 
-  pub told_there : (u : Ticket) → same t u ≡ false → ((i : ℕ) → u.index ≡ suc i → t ≡ ticket u.client i → ⊥) → TicketOk program y u → TicketOk program story_at u
-  told_there u n apart old = record {
+  pub ok_there : (u : Ticket) → same t u ≡ false → ((i : ℕ) → u.index ≡ suc i → t ≡ ticket u.client i → ⊥) → TicketOk program y u → TicketOk program story_at u
+  ok_there u n apart old = record {
     block_record = subst (IsOpenRecord program u) (sym (old_record u n)) old.block_record;
     begins = begins_kept u.client u.index (y.block_record u).entry (story_at.block_record u).entry (sym (ap (λ (p : BlockRecord). p.entry) (old_record u n))) apart old.begins;
     lane = λ h. subst (λ (p : BlockRecord). ClientLane u false (story_at.sent u h) (story_at.got u h) (part h p.trace) (story_at.stands u h)) (sym (old_record u n))

@@ -91,10 +91,10 @@ module _ (program : ProgramShape) (lined : (t : Ticket) → Lined (reserves prog
 
   past_apart : (t : Ticket) (h : ℕ) → (y.stands t h ≡ gone → ⊥) → AllByRecursion (λ u. same t u ≡ false) (g h).past
   past_apart t h n =
-      let told = each_front (TicketOk program y) (g h).past (ahead (post s h)) (subst (AllByRecursion (TicketOk program y)) (k.objects h).split (each_kept (TicketOk program y) (λ t. reserves program t h) s.order k.told)) in
+      let tickets_ok = each_front (TicketOk program y) (g h).past (ahead (post s h)) (subst (AllByRecursion (TicketOk program y)) (k.objects h).split (each_kept (TicketOk program y) (λ t. reserves program t h) s.order k.tickets_ok)) in
       each_map (λ u (gone : y.stands u h ≡ gone). ⊎_elim (λ (is : t ≡ u). absurd (n (ap (λ u. y.stands u h) is ∙ gone))) (λ (other : same t u ≡ false). other) (ticket_cases t u)) (g h).past
       (past_gone (λ u. y.sent u h) (λ u. y.got u h) (λ u. part h (y.block_record u).trace) (λ u. y.stands u h) (g h).past (fresh_held program h) (g h).found (k.objects h).served
-      (each_map (λ u (told : TicketOk program y u). told.lane h) (g h).past told))
+      (each_map (λ u (tickets_ok : TicketOk program y u). tickets_ok.lane h) (g h).past tickets_ok))
 
   -- the block that a client is in
   pub newest : (c n h : ℕ) → (s.client c).begun ≡ suc n → reserves program (ticket c n) h ≡ true → (y.stands (ticket c n) h ≡ gone → ⊥) → LastOf (ticket c n) (ahead (post s h))

@@ -65,15 +65,15 @@ pub fn trace_fates(
 ) -> Result<Vec<Option<Fate>>, AllocError>
     requires place { place < length played.now.order }
     requires fates { fates.now ≡ all_fates program.now played.now }
-    ensures fates { IfOk result (λ told. told.items ≡ trace_fates program.now played.now place) }
+    ensures fates { IfOk result (λ fates_so_far. fates_so_far.items ≡ trace_fates program.now played.now place) }
 {
     let ticket = played.order()[place];
     let trace = played.trace(place);
     let mut places = vec![in alloc; 0; fates.len()]?;
-    let mut told = Vec::with_capacity(alloc, trace.len())?;
+    let mut fates_so_far = Vec::with_capacity(alloc, trace.len())?;
     for event in trace {
         let object = event.request.object;
-        told.push(take_next(played, fates, ticket, object, &mut places))?;
+        fates_so_far.push(take_next(played, fates, ticket, object, &mut places))?;
     }
-    Ok(told)
+    Ok(fates_so_far)
 }

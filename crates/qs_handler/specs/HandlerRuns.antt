@@ -20,7 +20,7 @@ pub data Task : Type 0 where
   gives : (client : ℕ) → (held : HeldState) → Task
   spares : (client : ℕ) → (chunk : Batch Request) → Task
 
--- these tasks, each of which the handler was told to do, lead it from one state to another
+-- these tasks, each of which the handler was asked to do, lead it from one state to another
 abbrev pub TasksLead : Handler → List Task → Handler → Type 0
 TasksLead h [] end = h ≡ end
 TasksLead h (takes next ∷ tasks) end = (new : Handler) × (accept_next h next ≡ Some new) × TasksLead new tasks end

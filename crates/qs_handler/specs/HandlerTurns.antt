@@ -33,6 +33,6 @@ pub record HasTurns (x : HeldState) (tasks : List Task) (z : HeldState) : Type 0
       ≡ flat_map (λ (u : Turn). u.received) (turns_for client turns)
   pub given : (client : ℕ) → given_to client tasks ≡ flat_map (λ (u : Turn). u.gave) (turns_for client turns)
 
--- whatever it was told to do, from its first ticket until it is closed, was a turn for each ticket
+-- whatever it was asked to do, from its first ticket until it is closed, was a turn for each ticket
 abbrev pub HandlersTakeTurns : Type 0
 HandlersTakeTurns = (x z : HeldState) (tasks : List Task) → TasksLead (free x) tasks (closed z) → HasTurns x tasks z

@@ -1,4 +1,4 @@
--- A handler's thread: what it was told to do so far, and how that shows at its ends of lanes and of its queue of
+-- A handler's thread: what it was asked to do so far, and how that shows at its ends of lanes and of its queue of
 -- tickets.
 use Rattle.std.specs.Prelude.{◌≡◌, ◌≤◌, ◌+◌, ◌==◌, if◌then◌else◌, ℕ, suc, true, List, [], ◌∷◌, Option, Some, None, length, slice_index_or}
 use Rattle.std.specs.List.{AllByRecursion}

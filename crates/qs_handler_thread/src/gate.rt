@@ -1,4 +1,4 @@
-//! What is told of tickets as their handlers begin them.
+//! Who hears of each ticket as its handler begins it.
 
 use qs_objects::Ticket;
 

@@ -24,7 +24,7 @@ fn announce<L, G: Passage<L>>(gate: &G, log: &mut L, next: Next, object: u8)
     }
 }
 
-/// Serves tickets at their clients' lanes until no further one comes: what the handler was told to do, one thing after
+/// Serves tickets at their clients' lanes until no further one comes: what the handler was asked to do, one thing after
 /// another, from its object as it was. The gate is passed once as each ticket is begun, with the object's number. Waits
 /// for tickets and for parcels.
 pub fn serve<D: DeskName, L, G: Passage<L>, R: Wait>(

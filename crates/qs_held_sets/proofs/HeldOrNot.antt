@@ -1,4 +1,4 @@
--- Whether a handler is held at a node of a graph can be told, although there is no end of paths. At first all is
+-- Whether a handler is held at a node of a graph can be decided, although there is no end of paths. At first all is
 -- believed: no node but Entry is reached, and everything is held elsewhere. Where what goes out of a reached node has
 -- not come to the next one, one belief is given up, with a path that shows why. There are only so many of them, so at
 -- last nothing changes any more, and what is believed then is so.

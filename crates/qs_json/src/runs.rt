@@ -3,7 +3,7 @@
 ghost use Rattle.std.specs.Prelude.{◌≡◌, ◌<◌, [], IfOk, OnOk, codes, false, length, slice_index_or};
 ghost use Rattle.std.specs.List.{join_by};
 ghost use Rattle.qs_sync_counts.specs.SyncRows.{sync_count};
-ghost use Rattle.qs_fates.specs.Fates.{all_fates, trace_fates as told_in};
+ghost use Rattle.qs_fates.specs.Fates.{all_fates, trace_fates as fates_in};
 ghost use Rattle.qs_text.specs.Words.{first_ticket};
 ghost use Rattle.qs_text.specs.Texts.{texts_up_to, Puts};
 ghost use Rattle.qs_json.specs.Pieces.{array, element, field};
@@ -119,7 +119,7 @@ fn ended_at(played: &Played, place: usize) -> bool
 }
 
 // The trace of the ticket at a place, as a field.
-fn put_told(
+fn put_events_of(
     out: &mut Vec<u8>,
     program: &Program,
     played: &Played,
@@ -129,10 +129,10 @@ fn put_told(
     requires place { place < length played.now.order }
     requires fates { fates.now ≡ all_fates program.now played.now }
     ensures ok { OnOk result (Puts (field (codes "trace")
-        (trace_json program.now (slice_index_or played.now.traces place []) (told_in program.now played.now place))) out.old.items out.new.items) }
+        (trace_json program.now (slice_index_or played.now.traces place []) (fates_in program.now played.now place))) out.old.items out.new.items) }
 {
-    let told = trace_fates(*out.allocator(), program, played, fates, place)?;
-    put_trace(out, program, played.trace(place), told.as_slice())
+    let own_fates = trace_fates(*out.allocator(), program, played, fates, place)?;
+    put_trace(out, program, played.trace(place), own_fates.as_slice())
 }
 
 // The ticket at a place of the order, with its trace.
@@ -154,7 +154,7 @@ fn put_ticket(
         ticket_at(played, place),
         ended_at(played, place),
     )?;
-    put_told(out, program, played, fates, place)?;
+    put_events_of(out, program, played, fates, place)?;
     put_syncs(out, program, played, place, counts)?;
     put_word(out, b"}")
 }

@@ -1,6 +1,6 @@
 -- A journal that goes on along an order of tickets is, ticket by ticket, what each block did, and a ticket has entries
 -- only where all before it are through with the object. The isolation of every machine and of the threads stands on it.
--- The main lemma, `told`, goes by induction on the order, with cases on whether the first ticket is through or the
+-- The main lemma, `ticket_by_ticket`, goes by induction on the order, with cases on whether the first ticket is through or the
 -- object is still busy with it.
 use Rattle.std.proofs.Common.{◌≡◌, ◌≢◌, ℕ, Bool, true, false, true≢false, List, [], ◌∷◌, ◌++◌, map, flat_map, refl, sym, ap, ap₂, ◌∙◌, subst, ◌⊎◌, inl, inr, append-nil}
 use Rattle.std.proofs.lemmas.List.Elements.{filter-append}
@@ -195,10 +195,10 @@ no_turns : (x : ObjectCourse) (j : List Entry) (ts : List Ticket) → ((u : Tick
 no_turns x j [] f = tt
 no_turns x j (t ∷ ts) f = ((λ u a h. absurd (f u (inr a) h)), no_turns x j ts (λ u a h. f u (inr a) h))
 
-pub told : (x : ObjectCourse) (s : State) (j : List Entry) (ts : List Ticket) → Apart ts → Flow x s j ts → IsTicketByTicket x j ts
-told x s j [] apart f = record { order = f.0; parts = tt; turns = tt }
-told x s j (t ∷ ts) apart (p, inl g) =
-    let ih = told x (replay s p.ran) p.later ts apart.1 g.2 in
+pub ticket_by_ticket : (x : ObjectCourse) (s : State) (j : List Entry) (ts : List Ticket) → Apart ts → Flow x s j ts → IsTicketByTicket x j ts
+ticket_by_ticket x s j [] apart f = record { order = f.0; parts = tt; turns = tt }
+ticket_by_ticket x s j (t ∷ ts) apart (p, inl g) =
+    let ih = ticket_by_ticket x (replay s p.ran) p.later ts apart.1 g.2 in
     let clear = clear_later x s t ts j p (inl g) t apart.0 in
     let same_entries = later_same x s t ts j p apart.0 in
     record {
@@ -213,7 +213,7 @@ told x s j (t ∷ ts) apart (p, inl g) =
         go : (us : List Ticket) → AllByRecursion (λ u. entries_of u p.later ≡ entries_of u j) us → AllByRecursion (PartIs x p.later) us → AllByRecursion (PartIs x j) us
         go [] e k = tt
         go (u ∷ us) e k = (k.0 ∙ ap (λ (xs : List Entry). without_tickets xs ++ map command_event (x.waits u)) e.0, go us e.1 k.1)
-told x s j (t ∷ ts) apart (p, inr g) =
+ticket_by_ticket x s j (t ∷ ts) apart (p, inr g) =
     let clear = clear_later x s t ts j p (inr g) t apart.0 in
     let same_entries = later_same x s t ts j p apart.0 in
     let none : AllByRecursion (λ u. entries_of u j ≡ []) ts = each_map (λ u (e : entries_of u p.later ≡ entries_of u j). sym e ∙ ap (entries_of u) g.1) ts same_entries in

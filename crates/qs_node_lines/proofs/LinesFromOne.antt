@@ -165,17 +165,17 @@ templates es (Template t ∷ is) n h =
     (blocks (drop count es) t.blocks inside) (templates (drop (length (item_anchors (Template t))) es) is n (after_item es (Template t) is h))
 templates es (Started c ∷ is) n h = templates (drop (length (item_anchors (Started c))) es) is n (after_item es (Started c) is h)
 
-clients : (told : Name → List (List ℕ)) → ((n : Name) → EachFromOne (told n)) → (es : List ℕ) (items : List Item) → Enough (length (script_anchors items)) es
-    → AllByRecursion EachFromOne (clients_nodes told es items)
-clients told of es [] h = tt
-clients told of es (Object o ∷ is) h = clients told of (drop (length (item_anchors (Object o))) es) is (after_item es (Object o) is h)
-clients told of es (Client c ∷ is) h = (
+clients : (of_template : Name → List (List ℕ)) → ((n : Name) → EachFromOne (of_template n)) → (es : List ℕ) (items : List Item) → Enough (length (script_anchors items)) es
+    → AllByRecursion EachFromOne (clients_nodes of_template es items)
+clients of_template of es [] h = tt
+clients of_template of es (Object o ∷ is) h = clients of_template of (drop (length (item_anchors (Object o))) es) is (after_item es (Object o) is h)
+clients of_template of es (Client c ∷ is) h = (
   blocks (drop 1 es) c.blocks (left 1 (length (blocks_anchors c.blocks)) es (as_many (1 + length (blocks_anchors c.blocks)) (length (item_anchors (Client c))) es (omega arith) (at_item es (Client c) is h))),
-  clients told of (drop (length (item_anchors (Client c))) es) is (after_item es (Client c) is h),
+  clients of_template of (drop (length (item_anchors (Client c))) es) is (after_item es (Client c) is h),
 )
-clients told of es (Template t ∷ is) h = clients told of (drop (length (item_anchors (Template t))) es) is (after_item es (Template t) is h)
-clients told of es (Started c ∷ is) h =
-    (of c.template, clients told of (drop (length (item_anchors (Started c))) es) is (after_item es (Started c) is h))
+clients of_template of es (Template t ∷ is) h = clients of_template of (drop (length (item_anchors (Template t))) es) is (after_item es (Template t) is h)
+clients of_template of es (Started c ∷ is) h =
+    (of c.template, clients of_template of (drop (length (item_anchors (Started c))) es) is (after_item es (Started c) is h))
 
 -- the lines of a text's anchors begin with 1
 of_line : (n : ℕ) (ts : List Token) → 1 ≤ n → FromOne (map its_line (map (λ t. (t, n)) ts))

@@ -117,9 +117,9 @@ started_count objects i es (Template t ∷ is) n k h =
     (template_blocks objects blocks t i) (started_count objects i left is n) k h
 started_count objects i es (Started c ∷ is) n k h = started_count objects i (drop (length (item_anchors (Started c))) es) is n k h
 
--- all clients, where what is told of templates is so
+-- all clients, where the counts of templates are so
 module _ (templates : Name → List (List ℕ)) (ts : List TemplateItem) (objects : List Name) (kinds : List Kind)
-    (told : (i : StartedItem) → HaveLines (templates i.template) (started_of objects (template_called ts i.template) i)) where
+    (counted : (i : StartedItem) → HaveLines (templates i.template) (started_of objects (template_called ts i.template) i)) where
   clients_count : (es : List ℕ) (items : List Item) (c : ℕ) → c < length (clients_of ts objects kinds items)
       → HaveLines (get_or (clients_nodes templates es items) c []) (get_or (clients_of ts objects kinds items) c no_client)
   clients_count es [] c h = absurd (omega (arith, h))
@@ -127,7 +127,7 @@ module _ (templates : Name → List (List ℕ)) (ts : List TemplateItem) (object
   clients_count es (Client i ∷ is) zero h = own_blocks objects kinds (drop 1 es) i
   clients_count es (Client i ∷ is) (suc c) h = clients_count (drop (length (item_anchors (Client i))) es) is c (omega (arith, h))
   clients_count es (Template t ∷ is) c h = clients_count (drop (length (item_anchors (Template t))) es) is c h
-  clients_count es (Started i ∷ is) zero h = told i
+  clients_count es (Started i ∷ is) zero h = counted i
   clients_count es (Started i ∷ is) (suc c) h = clients_count (drop (length (item_anchors (Started i))) es) is c (omega (arith, h))
 
 pub nodes_have_lines : NodesHaveLines

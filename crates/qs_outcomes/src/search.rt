@@ -248,7 +248,7 @@ struct Searched {
 }
 
 // Takes up a standing: nothing where its row was seen, else what the next blocks of those who go on lead to, or an
-// outcome where no block is left, which is given back where it is what the question asks for. The watcher is told of a
+// outcome where no block is left, which is given back where it is what the question asks for. The watcher hears of a
 // standing whose row was not seen.
 fn visit<Q: Question, W: Watcher>(
     alloc: Global,
@@ -403,7 +403,7 @@ fn search_after<Q: Question, W: Watcher>(
 /// least complete order that begins with these, is reduced after them and comes to it, and sorted by these orders; and
 /// how many different configurations orders lead to that are reduced after them. `Order` comes exactly where no legal
 /// order is named, `Limit` only where there are more configurations than the limit, `Memory` where memory was refused.
-/// The watcher is told of each new configuration as it is noted.
+/// The watcher hears of each new configuration as it is noted.
 pub fn outcomes_watched<W: Watcher>(
     alloc: Global,
     program: &Program,

@@ -1,13 +1,13 @@
-//! Who is told how far a search has come.
+//! Who hears how far a search has come.
 
-/// Is told of a search while it goes on: a sign of life of one that takes long.
+/// Hears of a search while it goes on: a sign of life of one that takes long.
 pub trait Watcher {
-    /// Is told, once for each new configuration, how many different ones were noted so far, this one among them.
+    /// Hears, once for each new configuration, how many different ones were noted so far, this one among them.
     /// Whatever it does, it returns, and the search goes on.
     fn noted(&mut self, configurations: usize);
 }
 
-// Whom nothing is told.
+// Who hears nothing.
 #[derive(Drop)]
 pub(crate) struct Unwatched;
 

@@ -98,7 +98,7 @@ fn place_of(played: &Played, client: u8) -> Option<usize>
 }
 
 // What a comparison of a client's first blocks in two runs says.
-fn told(
+fn compared(
     alloc: Global,
     client: u8,
     here: &Schedule<'_>,
@@ -125,8 +125,8 @@ fn told(
 }
 
 // `=` and a digit for so many equal events, `/` where the blocks differ, `?` where there is nothing to compare.
-fn sign_of(told: Option<Twin>) -> [u8; 2] {
-    match told {
+fn sign_of(compared: Option<Twin>) -> [u8; 2] {
+    match compared {
         Some(Twin::Agree(count @ 0..=9)) => [b'=', b'0' + count as u8],
         Some(Twin::Different) => [b'/', b' '],
         _ => [b'?', b' '],
@@ -145,8 +145,8 @@ fn put<W: Write>(
     let modes = [Mode::Plain, Mode::Dynamic, Mode::Static, Mode::Both];
     for mode in modes {
         for other_mode in modes {
-            let told = told(alloc, client, here, mode, there, other_mode);
-            let _ = out.write_all(sign_of(told).as_slice());
+            let compared = compared(alloc, client, here, mode, there, other_mode);
+            let _ = out.write_all(sign_of(compared).as_slice());
             let _ = out.write_all(b" ");
         }
     }

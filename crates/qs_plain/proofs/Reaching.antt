@@ -39,10 +39,10 @@ pub reached_next : (old new : RulesState) (a : Actor) (b : Bool) → IsSteppedTo
 reached_next old new a true reached steps same = stepped old new a reached steps
 reached_next old new a false reached steps same = subst IsSteppedTo (sym (same refl)) reached
 
--- the same of a step that is told
-pub reached_told : {D : Type 0} (old new : RulesState) (a : Actor) (o : Option D) → IsSteppedTo old → IfSome o (λ _. Steps old a new) → IfNone o (new ≡ old) → IsSteppedTo new
-reached_told old new a (Some d) reached steps same = stepped old new a reached steps
-reached_told old new a None reached steps same = subst IsSteppedTo (sym same) reached
+-- the same of a step that comes with its effect
+pub reached_with_effect : {D : Type 0} (old new : RulesState) (a : Actor) (o : Option D) → IsSteppedTo old → IfSome o (λ _. Steps old a new) → IfNone o (new ≡ old) → IsSteppedTo new
+reached_with_effect old new a (Some d) reached steps same = stepped old new a reached steps
+reached_with_effect old new a None reached steps same = subst IsSteppedTo (sym same) reached
 
 pub reached_isolated : (r : RulesState) → IsSound r.program → IsSteppedTo r → AreIsolated r
 reached_isolated r sound (actors, is) =

@@ -1,5 +1,5 @@
 -- What a step did is what the plain rules' definition says of it. The contracts of `go_on`, `separate` and
--- `step_handler_told` promise this. A client's effect follows from what its frames ask. A handler's effect is read before
+-- `step_handler_with_effect` promise this. A client's effect follows from what its frames ask. A handler's effect is read before
 -- its step, but for a query's reply: that is read after the step, from the entry that the journal has more.
 use Rattle.std.proofs.Common.{◌≡◌, ◌<◌, ℕ, ◌-◌, Bool, true, false, if◌then◌else◌, List, [], ◌∷◌, ◌++◌, map, length, drop, refl, ap, sym, subst, ◌∙◌, Option, Some, None, ℤ, get_or-set_same, length-set}
 use Rattle.std.proofs.Math.ListN.{set}
@@ -26,7 +26,7 @@ use Rattle.qs_plain.specs.Rules.{RulesState, Steps, plain_of}
 use Rattle.qs_plain_handler.specs.declared.effect.Effect.{Effect}
 use Rattle.qs_plain_handler.specs.declared.effect.Effect.TheVariants as effect
 use Rattle.qs_plain_handler.specs.Served.{HandlerState}
-use Rattle.qs_plain.specs.Told.{IsShortStep, IsTold, effect_of_did, last_ticket}
+use Rattle.qs_plain.specs.StepEffects.{HasDone, IsShortStep, effect_of_did, last_ticket}
 use Rattle.qs_plain.specs.declared.did.Did.{Did}
 use Rattle.qs_plain.proofs.RulesFieldLemmas.{new_rules}
 use Rattle.qs_plain.proofs.RulesSteps.{plain_client, plain_handler}
@@ -52,10 +52,10 @@ effect_out r c stays =
 moved_here : (cs : List ClientState) (c n : ℕ) (new : ClientState) → n ≡ c → c < length cs → client_state_at (set cs n new) c ≡ new
 moved_here cs c n new is less = ap (λ m. client_state_at (set cs m new) c) is ∙ get_or-set_same cs c new absent less
 
--- and what it did is told by it
-pub told_by : (it : Did) (before : Plain) (r : RulesState) (order : List Ticket) (c n : ℕ) (new : ClientState) (hs : List HandlerState) → n ≡ c → c < length r.clients → IsShortStep it
-    → plain_effect before (actor.Client c) ≡ effect_of_did it new.locals (last_ticket c new) → IsTold it before c (new_rules r order n new hs)
-told_by it before r order c n new hs is less short effect = record {
+-- and what it did is read off it
+pub effect_is_read : (it : Did) (before : Plain) (r : RulesState) (order : List Ticket) (c n : ℕ) (new : ClientState) (hs : List HandlerState) → n ≡ c → c < length r.clients → IsShortStep it
+    → plain_effect before (actor.Client c) ≡ effect_of_did it new.locals (last_ticket c new) → HasDone it before c (new_rules r order n new hs)
+effect_is_read it before r order c n new hs is less short effect = record {
   there = subst (λ k. c < k) (sym (length-set r.clients n new)) less;
   short = short;
   effect = effect ∙ ap (λ (d : ClientState). effect_of_did it d.locals (last_ticket c d)) (sym (moved_here r.clients c n new is less));

@@ -4,4 +4,4 @@ pub mod Rules
 pub mod BegunBlocks
 pub mod Blocks
 pub mod Awaiting
-pub mod Told
+pub mod StepEffects

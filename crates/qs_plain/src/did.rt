@@ -1,7 +1,7 @@
 //! What a client's step under the plain rules did.
 
 ghost use Rattle.std.specs.Prelude.{◌≡◌};
-ghost use Rattle.qs_plain.specs.Told.{has_stepped};
+ghost use Rattle.qs_plain.specs.StepEffects.{has_stepped};
 
 use qs_program::Call;
 

@@ -7,7 +7,7 @@ ghost use Rattle.qs_played.specs.declared.schedule.actor.Actor.TheVariants as ac
 ghost use Rattle.qs_plain_client.specs.declared.stage.Stage.TheVariants as stages;
 ghost use Rattle.qs_plain_handler.specs.Effects.{plain_effect, reply_in};
 ghost use Rattle.qs_plain.specs.declared.did.Did.TheVariants as dids;
-ghost use Rattle.qs_plain.specs.Told.{IsShortStep, IsTold, effect_of_did, has_stepped, last_ticket};
+ghost use Rattle.qs_plain.specs.StepEffects.{HasDone, IsShortStep, effect_of_did, has_stepped, last_ticket};
 ghost use Rattle.qs_plain_handler.specs.Handlers.{handler_state_at};
 
 mod reading;
@@ -105,7 +105,7 @@ impl<'p> Machine<'p> {
     }
 
     /// Makes one step of an actor and says what it does: None where the actor has none.
-    pub(crate) fn step_told(&mut self, actor: Actor) -> Option<Effect>
+    pub(crate) fn step_with_effect(&mut self, actor: Actor) -> Option<Effect>
         ensures steps { IfSome result (λ _. Steps self.old actor self.new) }
         ensures effect { IfSome result (λ effect. plain_effect (plain_of self.old) actor ≡ Some effect) }
         ensures none { IfNone result (the_step self.old.program (plain_of self.old) actor ≡ None) }
@@ -114,14 +114,14 @@ impl<'p> Machine<'p> {
         match actor {
             Actor::Client(client) => {
                 if usize::from(client) < self.clients.len() {
-                    self.step_client_told(client)
+                    self.step_client_with_effect(client)
                 } else {
                     None
                 }
             }
             Actor::Handler(handler) => {
                 if usize::from(handler) < self.handlers.len() {
-                    self.step_handler_told(handler)
+                    self.step_handler_with_effect(handler)
                 } else {
                     None
                 }
@@ -133,7 +133,7 @@ impl<'p> Machine<'p> {
     fn step_client(&mut self, number: u8) -> Did<'p>
         requires { number < length self.old.clients }
         ensures steps { OnTrue (has_stepped result) (Steps self.old (actors.Client number) self.new) }
-        ensures told { OnTrue (has_stepped result) (IsTold result (plain_of self.old) number self.new) }
+        ensures done { OnTrue (has_stepped result) (HasDone result (plain_of self.old) number self.new) }
         ensures none { has_stepped result ≡ false → the_step self.old.program (plain_of self.old) (actors.Client number) ≡ None }
         ensures unchanged { has_stepped result ≡ false → self.new ≡ self.old }
     {
@@ -151,7 +151,7 @@ impl<'p> Machine<'p> {
         }
     }
 
-    fn step_client_told(&mut self, number: u8) -> Option<Effect>
+    fn step_client_with_effect(&mut self, number: u8) -> Option<Effect>
         requires { number < length self.old.clients }
         ensures steps { IfSome result (λ _. Steps self.old (actors.Client number) self.new) }
         ensures effect { IfSome result (λ effect. plain_effect (plain_of self.old) (actors.Client number) ≡ Some effect) }
@@ -162,11 +162,11 @@ impl<'p> Machine<'p> {
         if !did.has_stepped() {
             return None;
         }
-        Some(self.told(number, did))
+        Some(self.effect_after(number, did))
     }
 
     // What a client has just done.
-    fn told(&self, number: u8, did: Did) -> Effect
+    fn effect_after(&self, number: u8, did: Did) -> Effect
         requires stepped { has_stepped did ≡ true }
         requires number { number < length self.now.clients }
         requires short { IsShortStep did }
@@ -193,7 +193,7 @@ impl<'p> Machine<'p> {
         requires out { (client_state_at self.old.clients number).stage ≡ stages.Out }
         requires more { 0 < length (client_state_at self.old.clients number).prepared }
         ensures steps { Steps self.old (actors.Client number) self.new }
-        ensures told { IsTold dids.Reserved (plain_of self.old) number self.new }
+        ensures done { HasDone dids.Reserved (plain_of self.old) number self.new }
     {
         self.program.keeps_sound();
         let client = &mut self.clients[usize::from(number)];
@@ -213,7 +213,7 @@ impl<'p> Machine<'p> {
         requires within { (client_state_at self.old.clients number).stage ≡ stages.Within }
         ensures steps { Steps self.old (actors.Client number) self.new }
         ensures stepped { has_stepped result ≡ true }
-        ensures told { IsTold result (plain_of self.old) number self.new }
+        ensures done { HasDone result (plain_of self.old) number self.new }
     {
         self.program.keeps_sound();
         let client = &mut self.clients[usize::from(number)];
@@ -278,7 +278,7 @@ impl<'p> Machine<'p> {
         }
     }
 
-    fn step_handler_told(&mut self, number: u8) -> Option<Effect>
+    fn step_handler_with_effect(&mut self, number: u8) -> Option<Effect>
         requires { number < length self.old.handlers }
         ensures steps { IfSome result (λ _. Steps self.old (actors.Handler number) self.new) }
         ensures effect { IfSome result (λ effect. plain_effect (plain_of self.old) (actors.Handler number) ≡ Some effect) }

@@ -69,13 +69,13 @@ impl<'p> Rules<'p> {
 
     /// Makes one step of an actor and says what it does: None where the actor has none or is not there, with nothing
     /// changed.
-    pub fn step_told(&mut self, actor: Actor) -> Option<Effect>
+    pub fn step_with_effect(&mut self, actor: Actor) -> Option<Effect>
         ensures steps { IfSome result (λ _. Steps self.old actor self.new) }
         ensures effect { IfSome result (λ effect. plain_effect (plain_of self.old) actor ≡ Some effect) }
         ensures none { IfNone result (the_step self.old.program (plain_of self.old) actor ≡ None) }
         ensures unchanged { IfNone result (self.new ≡ self.old) }
     {
-        self.machine.step_told(actor)
+        self.machine.step_with_effect(actor)
     }
 
     /// At every moment each reservation has done what its block does alone, as far as it has come; it does nothing.

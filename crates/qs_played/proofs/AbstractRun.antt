@@ -19,7 +19,7 @@ use Rattle.qs_program.specs.Program.{ProgramShape, blocks_of}
 use Rattle.qs_meaning.specs.Serial.{IsLegal, serial, declared_states}
 use Rattle.qs_program.specs.Sound.{IsSound}
 use Rattle.qs_meaning.proofs.Each.{each_map, zip_at}
-use Rattle.qs_meaning.proofs.Histories.{Among, Flow, InTurn, ObjectCourse, NoQuery, OnlyCommands, PartIs, Through, IsTicketByTicket, parts_of, told}
+use Rattle.qs_meaning.proofs.Histories.{Among, Flow, InTurn, ObjectCourse, NoQuery, OnlyCommands, PartIs, Through, IsTicketByTicket, parts_of, ticket_by_ticket}
 use Rattle.qs_meaning.specs.BlockRecords.{Begins, IsDone, IsBlockRecord, BlockRecord}
 use Rattle.qs_meaning.proofs.SerialRuns.{Agrees, legal_apart, line, runs_serially}
 use Rattle.qs_played.specs.Isolation.{IsFitting, IsIsolated, IsIsolatedObject, IsIsolatedBlock, IsWhole, ended_of, entry_of, journal_of, no_block, serial_block, queries_of, state_of, ticket_at, trace_of}
@@ -74,8 +74,8 @@ module _ (p : ProgramShape) (sound : IsSound p) (r : Played) (block_record : Tic
   serially : AllZip (Agrees p journal block_record) r.order (serial p r.order).places × ((h : ℕ) → (busy h → ⊥) → (serial p r.order).states h ≡ state h)
   serially = runs_serially p sound block_record waits state busy journal r.order run.legal run.block_records run.begins run.flows
 
-  told_at : (h : ℕ) → IsTicketByTicket (x h) (journal h) r.order
-  told_at h = told (x h) (declared_states p h) (journal h) r.order (legal_apart p (λ _. 0) r.order run.legal) (run.flows h)
+  ticket_by_ticket_at : (h : ℕ) → IsTicketByTicket (x h) (journal h) r.order
+  ticket_by_ticket_at h = ticket_by_ticket (x h) (declared_states p h) (journal h) r.order (legal_apart p (λ _. 0) r.order run.legal) (run.flows h)
 
   module _ (i : ℕ) (inside : i < length r.order) where
     abbrev t : Ticket
@@ -98,7 +98,7 @@ module _ (p : ProgramShape) (sound : IsSound p) (r : Played) (block_record : Tic
     }
 
     part_is : (h : ℕ) → PartIs (x h) (journal h) t
-    part_is h = AllByRecursion-get_or (PartIs (x h) (journal h)) r.order i (ticket 0 0) (told_at h).parts inside
+    part_is h = AllByRecursion-get_or (PartIs (x h) (journal h)) r.order i (ticket 0 0) (ticket_by_ticket_at h).parts inside
 
     module _ (h : ℕ) (own : h < length p.objects) where
       shown_part : part h (trace_of r i) ≡ without_tickets (entries_of t (journal_of r h)) ++ map command_event (waits h t)
@@ -115,7 +115,7 @@ module _ (p : ProgramShape) (sound : IsSound p) (r : Played) (block_record : Tic
       -- where a later reservation has an entry
       through : (m : ℕ) → i < m → m < length r.order → HasEntry (ticket_at r m) (journal_of r h) → without_tickets (entries_of t (journal_of r h)) ≡ part h (serial_block p r i).trace
       through m less long has =
-          let over = turns_at (x h) (journal h) r.order i m (ticket 0 0) (told_at h).turns less long (subst (HasEntry (ticket_at r m)) (run.journals h own) has) in
+          let over = turns_at (x h) (journal h) r.order i m (ticket 0 0) (ticket_by_ticket_at h).turns less long (subst (HasEntry (ticket_at r m)) (run.journals h own) has) in
           let whole : parts_of block_record h t ≡ without_tickets (entries_of t (journal h)) =
           part_is h ∙ (ap (λ ws. without_tickets (entries_of t (journal h)) ++ map command_event ws) over.1 ∙ append-nil (without_tickets (entries_of t (journal h)))) in
           ap (λ j. without_tickets (entries_of t j)) (run.journals h own) ∙ (sym whole ∙ sym (agrees.through h over.0))
@@ -130,7 +130,7 @@ module _ (p : ProgramShape) (sound : IsSound p) (r : Played) (block_record : Tic
   is_line h own = record {
     honest = subst (λ j. IsHonest (declared_states p h) (without_tickets j)) (sym (run.journals h own)) (run.honest h own);
     replayed = ap (λ j. replay (declared_states p h) (without_tickets j)) (run.journals h own) ∙ (run.replayed h own ∙ sym (run.states h own));
-    order = subst (λ j. j ≡ flat_map (λ t. entries_of t j) r.order) (sym (run.journals h own)) (told_at h).order;
+    order = subst (λ j. j ≡ flat_map (λ t. entries_of t j) r.order) (sym (run.journals h own)) (ticket_by_ticket_at h).order;
     turns = λ i m less long has. through i (omega (arith, less, long)) h own m less long has;
     parts = λ i inside. shown_part i inside h own;
     queries = λ i inside.

@@ -58,11 +58,11 @@ pub record BlockHistories (program : ProgramShape) (c blocks : ℕ) (m : Client)
   pub got_is : (h : ℕ) → got h ≡ upto (λ k. (block k).got h) m.begun
 
 -- the same by other names
-pub retold : (program : ProgramShape) (c blocks : ℕ) (m : Client) (entry entry' : ℕ → Locals) (trace trace' : ℕ → List Event)
+pub history_by : (program : ProgramShape) (c blocks : ℕ) (m : Client) (entry entry' : ℕ → Locals) (trace trace' : ℕ → List Event)
     (sent sent' : ℕ → List Parcel) (got got' : ℕ → List HeldState) → ((k : ℕ) → k < m.begun → entry k ≡ entry' k) → ((k : ℕ) → trace k ≡ trace' k)
     → ((h : ℕ) → sent h ≡ sent' h) → ((h : ℕ) → got h ≡ got' h)
     → BlockHistories program c blocks m entry trace sent got → BlockHistories program c blocks m entry' trace' sent' got'
-retold program c blocks m entry entry' trace trace' sent sent' got got' en tr se go o = record {
+history_by program c blocks m entry entry' trace trace' sent sent' got got' en tr se go o = record {
   block = o.block;
   within = o.within;
   idle = o.idle;
@@ -78,9 +78,9 @@ retold program c blocks m entry entry' trace trace' sent sent' got got' en tr se
 }
 
 -- before the first block
-pub nothing_told : (program : ProgramShape) (c blocks : ℕ) (m : Client) (entry : ℕ → Locals) (trace : ℕ → List Event) → m.begun ≡ 0 → m.stage ≡ between zeros
+pub no_history : (program : ProgramShape) (c blocks : ℕ) (m : Client) (entry : ℕ → Locals) (trace : ℕ → List Event) → m.begun ≡ 0 → m.stage ≡ between zeros
     → ((h : ℕ) → HasNone m h) → ((k : ℕ) → trace k ≡ []) → BlockHistories program c blocks m entry trace (λ h. []) (λ h. [])
-nothing_told program c blocks m entry trace none at hands empty = record {
+no_history program c blocks m entry trace none at hands empty = record {
   block = λ k. block_with (record { entry = []; trace = []; rest = tree.Done [] }) (λ h. []) (λ h. []);
   within = omega (arith, none);
   idle = λ e. (at, hands);
@@ -133,12 +133,12 @@ module _ (program : ProgramShape) (c blocks : ℕ) (settings : Settings) (m : Cl
   -- it did something in the block that it is in
   module _ (k : ℕ) (e : m.begun ≡ suc k) (r : Settlement) (still : r.client.begun ≡ m.begun) (new : Block)
       (more : ℕ → List Parcel) (came : ℕ → List HeldState) where
-    pub told_within : new.block_record.entry ≡ (o.block k).block_record.entry → new.block_record.trace ≡ (o.block k).block_record.trace ++ r.events
+    pub within_block : new.block_record.entry ≡ (o.block k).block_record.entry → new.block_record.trace ≡ (o.block k).block_record.trace ++ r.events
         → PlaceOk program (ticket c k) new.sent new.got r.client new.block_record r.client.stage
         → ((h : ℕ) → new.sent h ≡ (o.block k).sent h ++ more h) → ((h : ℕ) → new.got h ≡ (o.block k).got h ++ came h)
         → ((h : ℕ) → reserves program (ticket c k) h ≡ false → (more h ≡ []) × (came h ≡ []))
         → BlockHistories program c blocks r.client entry (put trace k (trace k ++ r.events)) (λ h. snt h ++ more h) (λ h. got h ++ came h)
-    told_within same_entry trace_is ok sent_more got_more none =
+    within_block same_entry trace_is ok sent_more got_more none =
         let n : r.client.begun ≡ suc k = still ∙ e in
         record {
           block = put o.block k new;
@@ -176,11 +176,11 @@ module _ (program : ProgramShape) (c blocks : ℕ) (settings : Settings) (m : Cl
         }
 
   -- its next block begins
-  pub told_begun : (l : Locals) → m.stage ≡ between l → m.begun < blocks → (r : Settlement) (new : Block) → r.client.begun ≡ suc m.begun
+  pub with_block : (l : Locals) → m.stage ≡ between l → m.begun < blocks → (r : Settlement) (new : Block) → r.client.begun ≡ suc m.begun
       → new.block_record.entry ≡ l → new.block_record.trace ≡ r.events → PlaceOk program (ticket c m.begun) new.sent new.got r.client new.block_record r.client.stage
       → ((h : ℕ) → new.sent h ≡ []) → ((h : ℕ) → new.got h ≡ [])
       → BlockHistories program c blocks r.client (put entry m.begun l) (put trace m.begun (trace m.begun ++ r.events)) snt got
-  told_begun l at less r new n entry_is trace_is ok none_sent none_got =
+  with_block l at less r new n entry_is trace_is ok none_sent none_got =
       let k = m.begun in
       let before = rests l at k refl in
       record {
@@ -259,11 +259,11 @@ module _ (program : ProgramShape) (fine : (t : Ticket) (l : Locals) → AsksOnly
       → ((h : ℕ) → reserves program (ticket c k) h ≡ false → (more h ≡ []) × (came h ≡ []))
       → Ends program (ticket c k) S G settings (lined (ticket c k)) (o.block k).block_record r → Comes k r more came
   within_ends k e r still S G more came sent_more got_more none ends =
-      told_within program c blocks settings m entry trace snt got o k e r still (block_with ends.0 S G) more came ends.1 ends.2 ends.3 sent_more got_more none
+      within_block program c blocks settings m entry trace snt got o k e r still (block_with ends.0 S G) more came ends.1 ends.2 ends.3 sent_more got_more none
 
-  pub send_told : (k : ℕ) → m.begun ≡ suc k → (a : ℕ) (p : Parcel) → act_of settings blocks m ≡ Send a p
+  pub history_sent : (k : ℕ) → m.begun ≡ suc k → (a : ℕ) (p : Parcel) → act_of settings blocks m ≡ Send a p
       → Comes k (after_parcel settings (ticket c k) (objects_of_block program (ticket c k)) m a p) (λ h. if a == h then p ∷ [] else []) (λ h. [])
-  send_told k e a p act =
+  history_sent k e a p act =
       let t = ticket c k in
       let b = o.block k in
       let ok = o.last k e in
@@ -273,9 +273,9 @@ module _ (program : ProgramShape) (fine : (t : Ticket) (l : Locals) → AsksOnly
       (one_more b.sent a p) (λ h. sym (append-nil (b.got h))) (λ h no. (only_reserved program t a h (p ∷ []) mine no, refl))
       (sends_ok program t b.sent b.got settings (lined t) blocks m b.block_record a p ok act)
 
-  pub get_told : (k : ℕ) → m.begun ≡ suc k → (a : ℕ) (x : HeldState) → act_of settings blocks m ≡ Await a
+  pub history_got : (k : ℕ) → m.begun ≡ suc k → (a : ℕ) (x : HeldState) → act_of settings blocks m ≡ Await a
       → Comes k (clients.take_object settings (ticket c k) (objects_of_block program (ticket c k)) m x m.stage) (λ h. []) (λ h. if a == h then x ∷ [] else [])
-  get_told k e a x act =
+  history_got k e a x act =
       let t = ticket c k in
       let b = o.block k in
       let ok = o.last k e in
@@ -285,9 +285,9 @@ module _ (program : ProgramShape) (fine : (t : Ticket) (l : Locals) → AsksOnly
       (λ h. sym (append-nil (b.sent h))) (one_more b.got a x) (λ h no. (refl, only_reserved program t a h (x ∷ []) mine no))
       (gets_ok program t b.sent b.got settings (lined t) blocks m b.block_record a x ok act)
 
-  pub chunk_told : (k : ℕ) → m.begun ≡ suc k → (a : ℕ) → act_of settings blocks m ≡ NeedChunk a
+  pub history_with_chunk : (k : ℕ) → m.begun ≡ suc k → (a : ℕ) → act_of settings blocks m ≡ NeedChunk a
       → Comes k (take_chunk settings (ticket c k) (objects_of_block program (ticket c k)) m a m.stage) (λ h. []) (λ h. [])
-  chunk_told k e a act =
+  history_with_chunk k e a act =
       let t = ticket c k in
       let b = o.block k in
       let ok = o.last k e in
@@ -296,15 +296,15 @@ module _ (program : ProgramShape) (fine : (t : Ticket) (l : Locals) → AsksOnly
       (chunks_ok program t b.sent b.got settings (lined t) blocks m b.block_record a ok act)
 
   -- the next block, whose code is this
-  pub reserve_told : (l : Locals) → m.stage ≡ between l → m.begun < blocks → (code : Synced)
+  pub history_reserved : (l : Locals) → m.stage ≡ between l → m.begun < blocks → (code : Synced)
       → without_syncs code ≡ block_tree program (ticket c m.begun) l → IsSoundSynced (λ h. false) code → IsOnReserved (objects_of_block program (ticket c m.begun)) code
       → let r = begin settings (ticket c m.begun) (objects_of_block program (ticket c m.begun)) m code in
       BlockHistories program c blocks r.client (put entry m.begun l) (put trace m.begun (trace m.begun ++ r.events)) snt got
-  reserve_told l at less code is_tree sound on =
+  history_reserved l at less code is_tree sound on =
       let t = ticket c m.begun in
       let r = begin settings t (objects_of_block program t) m code in
       let hands = (rests program c blocks settings m entry trace snt got o l at m.begun refl).hands in
       let ends = books_ok program t (λ h. []) (λ h. []) settings (lined t) blocks m l code (λ h. (hands h).0) (λ h. (hands h).1) (λ h. refl) (λ h. refl)
       is_tree (fine t l) sound on in
-      told_begun program c blocks settings m entry trace snt got o l at less r (block_with ends.0 (λ h. []) (λ h. []))
+      with_block program c blocks settings m entry trace snt got o l at less r (block_with ends.0 (λ h. []) (λ h. []))
       (settle_begun settings t (objects_of_block program t) code (record m { begun = suc m.begun })) ends.1 ends.2 ends.3 (λ h. refl) (λ h. refl)

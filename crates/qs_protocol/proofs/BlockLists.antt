@@ -1,5 +1,5 @@
 -- Where lists are kept block by block and then joined, and the last block's list grows, the joined list grows by the
--- same at its end; a new block with an empty list adds nothing. What a client did in its whole run is told block by
+-- same at its end; a new block with an empty list adds nothing. What a client did in its whole run is listed block by
 -- block (`BlockTales`, `HistoryCounts`), and grows so with each act. Only the last block's list changes, so those
 -- before it are joined as before.
 use Rattle.std.proofs.Common.{◌≡◌, ◌<◌, arith, ℕ, zero, suc, false, ◌==◌, List, [], ◌∷◌, ◌++◌, length, slice_index_or, slice_set, refl, sym, ap, ap₂, ◌∙◌}

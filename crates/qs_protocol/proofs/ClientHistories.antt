@@ -29,7 +29,7 @@ use Rattle.qs_played.specs.Played.{no_events, ticket}
 use Rattle.qs_protocol.proofs.ActObjects.{chunk_begun, got_begun, not_await, not_need, not_send, reserve_at, sent_begun, settle_begun}
 use Rattle.qs_protocol.proofs.BlockLists.{row_push, row_set}
 use Rattle.qs_protocol.specs.ClientHistories.{upto}
-use Rattle.qs_protocol.proofs.BlockHistories.{BlockHistories, chunk_told, get_told, in_block, nothing_told, reserve_told, rests, retold, send_told}
+use Rattle.qs_protocol.proofs.BlockHistories.{BlockHistories, history_by, history_got, history_reserved, history_sent, history_with_chunk, in_block, no_history, rests}
 use Rattle.qs_protocol.specs.ClientHistories.{ClientHistory}
 use Rattle.qs_protocol.proofs.ClientInvariants.{Lined, objects_of_block}
 use Rattle.qs_protocol.proofs.DeedJoins.{got_join, reservations_join, sent_join}
@@ -108,7 +108,7 @@ module _ (program : ProgramShape) (fine : (t : Ticket) (l : Locals) → AsksOnly
       trace_count = length-set m.traces k (trace_rows m k ++ r.events) ∙ o.trace_count;
       reserved = let all = reservations_join before (d ∷ []) in let old = o.reserved in omega (arith, all, old, still, none);
       full = full;
-      telling = retold program c (length code.blocks) r.client (entry_rows m) (entry_rows m)
+      telling = history_by program c (length code.blocks) r.client (entry_rows m) (entry_rows m)
           (put (trace_rows m) k (trace_rows m k ++ r.events)) (trace_rows (came (own m (ticket c k)) r syncs counts))
           (λ h. sent_to h before ++ sent_to h (d ∷ [])) (λ h. sent_to h (before ++ d ∷ []))
           (λ h. got_from h before ++ got_from h (d ∷ [])) (λ h. got_from h (before ++ d ∷ []))
@@ -139,7 +139,7 @@ module _ (program : ProgramShape) (fine : (t : Ticket) (l : Locals) → AsksOnly
         (subst (λ names. InClientHistory after (came (own m t) (after_parcel settings t names m.client h p) syncs counts)) (sym (reserved_is k (inside k at.1)))
         (comes (deeds.sends h p) k at.1 (after_parcel settings t (objects_of_block program t) m.client h p) (sent_begun settings t (objects_of_block program t) m.client h p)
         (sent_full settings t (objects_of_block program t) m.client h p o.full) refl syncs counts
-        (send_told program fine lined c (length code.blocks) settings m.client (entry_rows m) (trace_rows m)
+        (history_sent program fine lined c (length code.blocks) settings m.client (entry_rows m) (trace_rows m)
         (λ h. sent_to h before) (λ h. got_from h before) o.telling k at.1 h p act))))
 
     pub getting : (h : ℕ) (x : HeldState) → act_due m ≡ acts.Await h → InClientHistory (before ++ deeds.gets h x ∷ []) (finish (mind_after_object (hands_out m (acts.Await h)) x))
@@ -156,7 +156,7 @@ module _ (program : ProgramShape) (fine : (t : Ticket) (l : Locals) → AsksOnly
         (comes (deeds.gets h x) k at.1 (clients.take_object settings t (objects_of_block program t) m.client x m.client.stage)
         (got_begun settings t (objects_of_block program t) m.client h x m.client.stage)
         (got_full settings t (objects_of_block program t) m.client x m.client.stage o.full) refl m.syncs m.counts
-        (get_told program fine lined c (length code.blocks) settings m.client (entry_rows m) (trace_rows m)
+        (history_got program fine lined c (length code.blocks) settings m.client (entry_rows m) (trace_rows m)
         (λ h. sent_to h before) (λ h. got_from h before) o.telling k at.1 h x act))))
 
     pub taking : (h : ℕ) → act_due m ≡ acts.NeedChunk h → InClientHistory (before ++ deeds.takes_chunk h ∷ []) (finish (mind_after_chunk (hands_out m (acts.NeedChunk h)) h))
@@ -173,7 +173,7 @@ module _ (program : ProgramShape) (fine : (t : Ticket) (l : Locals) → AsksOnly
         (comes (deeds.takes_chunk h) k at.1 (take_chunk settings t (objects_of_block program t) m.client h m.client.stage)
         (chunk_begun settings t (objects_of_block program t) m.client h m.client.stage)
         (chunk_full settings t (objects_of_block program t) m.client h m.client.stage o.full) refl m.syncs m.counts
-        (chunk_told program fine lined c (length code.blocks) settings m.client (entry_rows m) (trace_rows m)
+        (history_with_chunk program fine lined c (length code.blocks) settings m.client (entry_rows m) (trace_rows m)
         (λ h. sent_to h before) (λ h. got_from h before) o.telling k at.1 h act))))
 
     -- a client that reserves is between blocks, of which some are left
@@ -207,7 +207,7 @@ module _ (program : ProgramShape) (fine : (t : Ticket) (l : Locals) → AsksOnly
         (begun_with l found.2 (begin settings t (objects_of_block program t) m.client (tree_at code k l))
         (settle_begun settings t (objects_of_block program t) (tree_at code k l) (record m.client { begun = suc m.client.begun }))
         (settle_full settings t (objects_of_block program t) (tree_at code k l) (record m.client { begun = suc m.client.begun }))
-        (reserve_told program fine lined c (length code.blocks) settings m.client (entry_rows m) (trace_rows m)
+        (history_reserved program fine lined c (length code.blocks) settings m.client (entry_rows m) (trace_rows m)
         (λ h. sent_to h before) (λ h. got_from h before) o.telling l found.1 found.2 (tree_at code k l) walk.0 walk.1 walk.2))))
       where
         begun_with : (l : Locals) → m.client.begun < length code.blocks → (r : Settlement) → r.client.begun ≡ suc m.client.begun → ComesFull r
@@ -225,7 +225,7 @@ module _ (program : ProgramShape) (fine : (t : Ticket) (l : Locals) → AsksOnly
               trace_count = length-set m.traces k (trace_rows m k ++ r.events) ∙ o.trace_count;
               reserved = let all = reservations_join before (deeds.reserves ∷ []) in let was = o.reserved in omega (arith, all, was, more);
               full = full;
-              telling = retold program c (length code.blocks) r.client (put (entry_rows m) k l) (λ j. slice_index_or (m.entries ++ l ∷ []) j [])
+              telling = history_by program c (length code.blocks) r.client (put (entry_rows m) k l) (λ j. slice_index_or (m.entries ++ l ∷ []) j [])
                   (put (trace_rows m) k (trace_rows m k ++ r.events)) (trace_rows (came (enters (own m m.ticket) (ticket c k) l) r m.syncs m.counts))
                   (λ h. sent_to h before) (λ h. sent_to h (before ++ deeds.reserves ∷ []))
                   (λ h. got_from h before) (λ h. got_from h (before ++ deeds.reserves ∷ []))
@@ -245,7 +245,7 @@ module _ (program : ProgramShape) (fine : (t : Ticket) (l : Locals) → AsksOnly
     trace_count = length-replicate (length code.blocks) [];
     reserved = refl;
     full = tt;
-    telling = nothing_told program c (length code.blocks) (clients.first_client zeros) (entry_rows (fresh_mind code size)) (trace_rows (fresh_mind code size))
+    telling = no_history program c (length code.blocks) (clients.first_client zeros) (entry_rows (fresh_mind code size)) (trace_rows (fresh_mind code size))
         refl refl (λ h. (refl, refl)) (none_at (length code.blocks));
   })
     where
@@ -292,8 +292,8 @@ module _ (program : ProgramShape) (fine : (t : Ticket) (l : Locals) → AsksOnly
           finished_at program (ticket c k) b.sent b.got settings (length code.blocks) m.client b.block_record m.client.stage (o.telling.last k e) o.full act
 
   -- what a client's whole run says
-  pub told : (deeds : List Deed) (end : ClientModel) → RunsTo c (fresh_mind code size) deeds end → ClientHistory program c code deeds end
-  told deeds end run =
+  pub client_history : (deeds : List Deed) (end : ClientModel) → RunsTo c (fresh_mind code size) deeds end → ClientHistory program c code deeds end
+  client_history deeds end run =
       subst (ClientHistory program c code deeds) (sym (run.end_is ∙ ap (hands_out (finish run.last)) run.finished))
       (ended (finished_tale deeds (finish run.last) (in_tale deeds run.last run.deeds_lead) run.finished))
     where

@@ -357,9 +357,9 @@ module _ (program : ProgramShape) (fine : (t : Ticket) (l : Locals) → AsksOnly
   stands_between (clients.leaves h hs l) e = absurd (true≢false (sym e))
 
   -- how many Syncs a client's whole run sent
-  pub told_counts : (deeds : List Deed) (end : ClientModel) → RunsTo c (fresh_mind code size) deeds end → (tale : ClientHistory program c code deeds end)
+  pub history_counts : (deeds : List Deed) (end : ClientModel) → RunsTo c (fresh_mind code size) deeds end → (tale : ClientHistory program c code deeds end)
       → HistoryCounts program c code size deeds end tale
-  told_counts deeds end run tale =
+  history_counts deeds end run tale =
       subst (λ (end : ClientModel). (tale : ClientHistory program c code deeds end) → HistoryCounts program c code size deeds end tale)
       (sym (run.end_is ∙ ap (hands_out (finish run.last)) run.finished)) ended tale
     where

@@ -38,7 +38,7 @@ impl Question for Sought<'_> {
 
 /// The answer to a claim on a program, after the blocks that a list of clients names, by a search that stops at the
 /// first witness. `Order` comes exactly where no legal order is named, `Limit` only where there are more configurations
-/// than the limit, `Memory` where memory was refused. The watcher is told of each new configuration as it is noted.
+/// than the limit, `Memory` where memory was refused. The watcher hears of each new configuration as it is noted.
 pub fn answer<W: Watcher>(
     alloc: Global,
     program: &Program,

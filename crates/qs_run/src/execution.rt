@@ -164,7 +164,7 @@ fn take_back<S>(starter: &mut S)
 ///
 /// The starter is asked once before each start, by the worker's number: the handlers are 0, 1, 2, .. in text order, and
 /// then come the clients. `Threads` says that the starter answered false, or that the system could not start a thread;
-/// it is not asked again, the threads that were started are told to end, and all workers are as they were. `Memory`
+/// it is not asked again, the threads that were started are asked to end, and all workers are as they were. `Memory`
 /// says that an allocation failed; the starter was not asked then, as all memory is taken before the first start. So no
 /// fault comes after a first step. The gate is passed on a handler's own thread as the handler begins each ticket.
 /// Waits for all threads, so it returns only if each of them ends.

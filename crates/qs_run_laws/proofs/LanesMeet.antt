@@ -30,7 +30,7 @@ use Rattle.qs_desk.specs.Tickets.{of_client, of_handler}
 use Rattle.qs_run_laws.specs.ThreadRuns.{IsThreadRun, ThreadRun}
 use Rattle.qs_run_laws.proofs.ClientTickets.{along_turns, legal_tickets, upto_tickets, without_others}
 use Rattle.qs_run_laws.proofs.LaneCuts.{AreFronts, IsMet, Sent, block_whole, turns_meet}
-use Rattle.qs_run_laws.proofs.ThreadHistories.{block_told, count_is, count_of, deeds_of, held_of, inside, tale, tasks_of, turned, turns_are}
+use Rattle.qs_run_laws.proofs.ThreadHistories.{block_begun, count_is, count_of, deeds_of, held_of, inside, tale, tasks_of, turned, turns_are}
 
 -- what holds of all tickets of turns
 each_unmapped : (P : Ticket → Type 0) (us : List Turn) → AllByRecursion P (map (λ (u : Turn). u.ticket) us) → AllByRecursion (λ (u : Turn). P u.ticket) us
@@ -78,9 +78,9 @@ module _ (p : ProgramShape) (sound : IsSound p) (mode : Mode) (code : ℕ → Cl
   sent_whole h =
       each_map (λ (u : Turn) (is : IsOwn h u.ticket).
       let t = u.ticket in
-      let told = tale p sound mode code codes size r run t.client in
-      let block = told.blocks t.index (block_told p sound mode code codes size r run t is.few) in
-      let events = part h (told.block_record t.index).trace in
+      let history = tale p sound mode code codes size r run t.client in
+      let block = history.blocks t.index (block_begun p sound mode code codes size r run t is.few) in
+      let events = part h (history.block_record t.index).trace in
       block_whole t (sent_for h t) (got_for h t) events
       (subst (λ b. ClientLane t false (sent_for h t) (got_for h t) events (if b then gone else sends [])) is.own (block.lanes h)))
       (turned p sound mode code codes size r run h).turns (own_turns h)
@@ -105,12 +105,12 @@ module _ (p : ProgramShape) (sound : IsSound p) (mode : Mode) (code : ℕ → Cl
 
   unsent : (h : ℕ) → AllByRecursion (λ t. reserves p t h ≡ false → sent_for h t ≡ []) r.order
   unsent h = each_map {Q = λ t. reserves p t h ≡ false → sent_for h t ≡ []} (λ (t : Ticket) (few : t.index < blocks_of p t.client) (out : reserves p t h ≡ false).
-      (((tale p sound mode code codes size r run t.client).blocks t.index (block_told p sound mode code codes size r run t few)).outside h out).0)
+      (((tale p sound mode code codes size r run t.client).blocks t.index (block_begun p sound mode code codes size r run t few)).outside h out).0)
       r.order (inside p sound mode code codes size r run)
 
   ungot : (h : ℕ) → AllByRecursion (λ t. reserves p t h ≡ false → got_for h t ≡ []) r.order
   ungot h = each_map {Q = λ t. reserves p t h ≡ false → got_for h t ≡ []} (λ (t : Ticket) (few : t.index < blocks_of p t.client) (out : reserves p t h ≡ false).
-      (((tale p sound mode code codes size r run t.client).blocks t.index (block_told p sound mode code codes size r run t few)).outside h out).1)
+      (((tale p sound mode code codes size r run t.client).blocks t.index (block_begun p sound mode code codes size r run t few)).outside h out).1)
       r.order (inside p sound mode code codes size r run)
 
   -- where some block of client c reserves h, the lane between them
@@ -135,10 +135,10 @@ module _ (p : ProgramShape) (sound : IsSound p) (mode : Mode) (code : ℕ → Cl
 
     fronts : AreFronts (sent_for h) (got_for h) (turns_for c (turned p sound mode code codes size r run h).turns)
     fronts =
-        let told = tale p sound mode code codes size r run c in
+        let history = tale p sound mode code codes size r run c in
         let us = turned p sound mode code codes size r run h in
-        let sent_is = ap (sent_to h) (sym deeds_are) ∙ (told.sent_is h ∙ along (sent_for h) c h client (unsent h)) in
-        let got_is = ap (got_from h) (sym deeds_are) ∙ (told.got_is h ∙ along (got_for h) c h client (ungot h)) in
+        let sent_is = ap (sent_to h) (sym deeds_are) ∙ (history.sent_is h ∙ along (sent_for h) c h client (unsent h)) in
+        let got_is = ap (got_from h) (sym deeds_are) ∙ (history.got_is h ∙ along (got_for h) c h client (ungot h)) in
         let received_is = ap (received_from c) (sym tasks_are) ∙ us.received c in
         let given_is = ap (given_to c) (sym tasks_are) ∙ us.given c in
         record {

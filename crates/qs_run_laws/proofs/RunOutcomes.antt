@@ -28,7 +28,7 @@ use Rattle.qs_protocol.proofs.HistoryCounts.{IsTallied}
 use Rattle.qs_protocol.proofs.CountedTraces.{trace_counted, tree_count}
 use Rattle.qs_run_laws.specs.Outcomes.{IsOutcome, ThreadRunsHaveOutcomes, part_at}
 use Rattle.qs_run_laws.specs.ThreadRuns.{IsThreadRun, ThreadRun, counts_by, entry_by, shown_by, trace_by}
-use Rattle.qs_run_laws.proofs.ThreadHistories.{block_told, inside, tale, tale_counts}
+use Rattle.qs_run_laws.proofs.ThreadHistories.{block_begun, inside, tale, tale_counts}
 use Rattle.qs_run_laws.proofs.ThreadsIsolated.{abstract_run, end, end_is, entry_is, every, isolated, mind_is, journal_of_object, block_record, shown, ticket_inside, trace_is}
 
 -- the same for each number of a range
@@ -76,7 +76,7 @@ module _ (p : ProgramShape) (sound : IsSound p) (mode : Mode) (code : ℕ → Cl
 
   places : AllZip IsAt r.order (serial p r.order).places
   places = zip_both (λ (t : Ticket) (q : SerialBlock) (few : t.index < blocks_of p t.client) (a : Agrees p (λ h. (end p sound mode code codes size r run h).journal) (block_record p sound mode code codes size r run) t q).
-      let done = ((tale p sound mode code codes size r run t.client).blocks t.index (block_told p sound mode code codes size r run t few)).done in
+      let done = ((tale p sound mode code codes size r run t.client).blocks t.index (block_begun p sound mode code codes size r run t few)).done in
       record {
         ticket = a.ticket;
         entry = entry_is p sound mode code codes size r run t few ∙ a.entry;
@@ -137,11 +137,11 @@ module _ (p : ProgramShape) (sound : IsSound p) (mode : Mode) (code : ℕ → Cl
         let client = no_block_beyond p t.client (let o = own in omega (arith, o)) in
         subst (λ (m : ClientModel). IsTallied (objects_of_block p t) (get_or m.counts t.index []) ((tale_counts p sound mode code codes size r run t.client).syncs t.index))
         (sym (mind_is p sound mode code codes size r run t.client client))
-        ((tale_counts p sound mode code codes size r run t.client).tallied t.index (block_told p sound mode code codes size r run t own))
+        ((tale_counts p sound mode code codes size r run t.client).tallied t.index (block_begun p sound mode code codes size r run t own))
 
     leads : Leads (block_tree p t (entry_of (shown p sound mode code codes size r run) i)) (trace_of (shown p sound mode code codes size r run) i) (block_record p sound mode code codes size r run t).rest
     leads =
-        let path = ((tale p sound mode code codes size r run t.client).blocks t.index (block_told p sound mode code codes size r run t own)).block_record.path in
+        let path = ((tale p sound mode code codes size r run t.client).blocks t.index (block_begun p sound mode code codes size r run t own)).block_record.path in
         subst (λ l. Leads (block_tree p t l) (trace_of (shown p sound mode code codes size r run) i) (block_record p sound mode code codes size r run t).rest) (sym entry_at)
         (subst (λ es. Leads (block_tree p t (block_record p sound mode code codes size r run t).entry) es (block_record p sound mode code codes size r run t).rest) (sym trace_at) path)
 
@@ -150,7 +150,7 @@ module _ (p : ProgramShape) (sound : IsSound p) (mode : Mode) (code : ℕ → Cl
     sent = inl (λ h.
         ap (λ xs. syncs_for xs h) counts_are
         ∙ (tallied.numbers h
-        ∙ ((tale_counts p sound mode code codes size r run t.client).counted t.index (block_told p sound mode code codes size r run t own) h
+        ∙ ((tale_counts p sound mode code codes size r run t.client).counted t.index (block_begun p sound mode code codes size r run t own) h
         ∙ sym (ap₂ (λ l es. syncs_along (code t.client).dynamic h false (synced_block code t l) es) entry_at trace_at))))
 
     reservation_counted : IsCounted p mode (shown p sound mode code codes size r run) i

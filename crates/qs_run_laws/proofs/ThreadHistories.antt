@@ -30,9 +30,9 @@ use Rattle.qs_played.proofs.JournalRooms.{no_block_beyond}
 use Rattle.qs_played.proofs.ReservedObjects.{reserved_inside}
 use Rattle.qs_played.proofs.SyncLists.{legal_blocks}
 use Rattle.qs_protocol.proofs.ClientInvariants.{objects_of_block}
-use Rattle.qs_protocol.proofs.ClientHistories.{told}
+use Rattle.qs_protocol.proofs.ClientHistories.{client_history}
 use Rattle.qs_protocol.specs.ClientHistories.{ClientHistory}
-use Rattle.qs_protocol.proofs.HistoryCounts.{HistoryCounts, in_counts, told_counts}
+use Rattle.qs_protocol.proofs.HistoryCounts.{HistoryCounts, history_counts, in_counts}
 use Rattle.qs_played.specs.JournalRooms.{fresh_held}
 use Rattle.qs_protocol.proofs.ReservedLists.{lined}
 use Rattle.qs_client_run.proofs.CodeBounds.{longest_covers}
@@ -102,11 +102,11 @@ module _ (p : ProgramShape) (sound : IsSound p) (mode : Mode) (code : ℕ → Cl
       code_asks p mode c (code c) sound (codes.own c own) k (longest (code c).blocks) l inside (longest_covers (code c).blocks k)
 
   pub tale : (c : ℕ) → ClientHistory p c (code c) (deeds_of c) (mind_of c)
-  tale c = told p (blocks_ask_only p sound) (lined p sound) c (code c) size (own_list c) (own_walk c) (deeds_of c) (mind_of c) (client_runs c)
+  tale c = client_history p (blocks_ask_only p sound) (lined p sound) c (code c) size (own_list c) (own_walk c) (deeds_of c) (mind_of c) (client_runs c)
 
   pub tale_counts : (c : ℕ) → HistoryCounts p c (code c) size (deeds_of c) (mind_of c) (tale c)
   tale_counts c =
-      told_counts p (blocks_ask_only p sound) (lined p sound) c (code c) size (own_list c) (own_walk c) (own_asks c) (deeds_of c) (mind_of c) (client_runs c) (tale c)
+      history_counts p (blocks_ask_only p sound) (lined p sound) c (code c) size (own_list c) (own_walk c) (own_asks c) (deeds_of c) (mind_of c) (client_runs c) (tale c)
 
   -- what handler h did, and its object at the end
   abbrev pub tasks_of : ℕ → List Task
@@ -141,8 +141,8 @@ module _ (p : ProgramShape) (sound : IsSound p) (mode : Mode) (code : ℕ → Cl
   pub inside : AllByRecursion (λ (t : Ticket). t.index < blocks_of p t.client) r.order
   inside = legal_blocks p (λ _. 0) r.order run.legal
 
-  pub block_told : (t : Ticket) → t.index < blocks_of p t.client → t.index < count_of t.client
-  block_told t few = let n = count_is t.client in omega (arith, few, n)
+  pub block_begun : (t : Ticket) → t.index < blocks_of p t.client → t.index < count_of t.client
+  block_begun t few = let n = count_is t.client in omega (arith, few, n)
 
   -- a client's mind ends with a row for each of its blocks
   pub rows_end : (c : ℕ) → (length (mind_of c).entries ≡ count_of c) × (length (mind_of c).traces ≡ count_of c) × (length (mind_of c).counts ≡ count_of c)

@@ -32,7 +32,7 @@ use Rattle.qs_run_laws.specs.ThreadRuns.{IsThreadRun, ThreadRun, counts_by, entr
 use Rattle.qs_run_laws.proofs.ClientTickets.{legal_counts}
 use Rattle.qs_run_laws.proofs.JournalFlows.{JournalGrowth, IsOver, grows, size_of}
 use Rattle.qs_run_laws.proofs.LanesMeet.{all_counted, got_for, sent_for, served_whole}
-use Rattle.qs_run_laws.proofs.ThreadHistories.{block_told, held_of, inside, mind_of, tale}
+use Rattle.qs_run_laws.proofs.ThreadHistories.{block_begun, held_of, inside, mind_of, tale}
 
 module _ (p : ProgramShape) (sound : IsSound p) (mode : Mode) (code : ℕ → ClientCode) (codes : AreCodes p mode code) (size : ℕ) (r : ThreadRun)
     (run : IsThreadRun p code size r) where
@@ -49,13 +49,13 @@ module _ (p : ProgramShape) (sound : IsSound p) (mode : Mode) (code : ℕ → Cl
   pub all_over : (h : ℕ) → AllByRecursion (IsOver p block_record h (sent_for p sound mode code codes size r run h) (got_for p sound mode code codes size r run h) (end h)) r.order
   all_over h =
       each_map (λ (t : Ticket) (few : t.index < blocks_of p t.client).
-      let block = (tale p sound mode code codes size r run t.client).blocks t.index (block_told p sound mode code codes size r run t few) in
+      let block = (tale p sound mode code codes size r run t.client).blocks t.index (block_begun p sound mode code codes size r run t few) in
       record { done = block.done; lane = block.lanes h; outside = block.outside h }) r.order (inside p sound mode code codes size r run)
 
   block_records : AllByRecursion (λ t. IsBlockRecord p t (block_record t)) r.order
   block_records =
       each_map (λ (t : Ticket) (few : t.index < blocks_of p t.client).
-      ((tale p sound mode code codes size r run t.client).blocks t.index (block_told p sound mode code codes size r run t few)).block_record.path)
+      ((tale p sound mode code codes size r run t.client).blocks t.index (block_begun p sound mode code codes size r run t few)).block_record.path)
       r.order (inside p sound mode code codes size r run)
 
   begins_same : (c k : ℕ) (l : Locals) → Begins (λ (t : Ticket). (tale p sound mode code codes size r run c).block_record t.index) c k l → Begins block_record c k l
@@ -66,7 +66,7 @@ module _ (p : ProgramShape) (sound : IsSound p) (mode : Mode) (code : ℕ → Cl
   begins =
       each_map (λ (t : Ticket) (few : t.index < blocks_of p t.client).
       begins_same t.client t.index (block_record t).entry
-      ((tale p sound mode code codes size r run t.client).begins t.index (block_told p sound mode code codes size r run t few)))
+      ((tale p sound mode code codes size r run t.client).begins t.index (block_begun p sound mode code codes size r run t few)))
       r.order (inside p sound mode code codes size r run)
 
   -- the room of a journal is never used up
@@ -99,12 +99,12 @@ module _ (p : ProgramShape) (sound : IsSound p) (mode : Mode) (code : ℕ → Cl
   pub entry_is : (t : Ticket) → t.index < blocks_of p t.client → entry_by r t ≡ (block_record t).entry
   entry_is t few =
       ap (λ (m : ClientModel). get_or m.entries t.index []) (mind_is t.client (no_block_beyond p t.client (omega (arith, few))))
-      ∙ (tale p sound mode code codes size r run t.client).entries t.index (block_told p sound mode code codes size r run t few)
+      ∙ (tale p sound mode code codes size r run t.client).entries t.index (block_begun p sound mode code codes size r run t few)
 
   pub trace_is : (t : Ticket) → t.index < blocks_of p t.client → trace_by r t ≡ (block_record t).trace
   trace_is t few =
       ap (λ (m : ClientModel). get_or m.traces t.index []) (mind_is t.client (no_block_beyond p t.client (omega (arith, few))))
-      ∙ (tale p sound mode code codes size r run t.client).traces t.index (block_told p sound mode code codes size r run t few)
+      ∙ (tale p sound mode code codes size r run t.client).traces t.index (block_begun p sound mode code codes size r run t few)
 
   journal_is : (h : ℕ) → h < length p.objects → journal_of shown h ≡ (end h).journal
   journal_is h own =
@@ -158,7 +158,7 @@ module _ (p : ProgramShape) (sound : IsSound p) (mode : Mode) (code : ℕ → Cl
     trace = λ i few. get_or-map (trace_by r) r.order i (ticket 0 0) [] few ∙ trace_is (ticket_at shown i) (ticket_inside i few);
     ended = λ i few e.
         let t = ticket_at shown i in
-        ((tale p sound mode code codes size r run t.client).blocks t.index (block_told p sound mode code codes size r run t (ticket_inside i few))).done;
+        ((tale p sound mode code codes size r run t.client).blocks t.index (block_begun p sound mode code codes size r run t (ticket_inside i few))).done;
     journals = journal_is;
     written = λ h t has. written h t (nat_lt h (length p.objects)) refl has;
     states = state_is;

@@ -33,7 +33,7 @@ pub record ThreadRun : Type 0 where
 -- What is known of it. The order is legal, as the desk keeps it, and has as many tickets of each client as the client
 -- reserved. Each handler took all that was pushed to it: the tickets of the order whose blocks reserve it, and then the
 -- closing mark. Where some block of a client reserves a handler, the lane between them was a lane. Each client did what
--- its mind asked for, on the objects that it got, up to its end. Each handler did what it was told to do on its
+-- its mind asked for, on the objects that it got, up to its end. Each handler did what it was asked to do on its
 -- declared object, whose journal has room for the loads of all blocks, up to its end.
 pub record IsThreadRun (p : ProgramShape) (code : ℕ → ClientCode) (size : ℕ) (r : ThreadRun) : Type 0 where
   pub legal : IsLegal p r.order

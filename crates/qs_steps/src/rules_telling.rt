@@ -50,7 +50,7 @@ impl Machine for Rules<'_> {
         actor: Actor,
     ) -> Result<bool, AllocError> {
         let mut object = object_of(alloc, self, actor)?;
-        let effect = self.step_told(actor);
+        let effect = self.step_with_effect(actor);
         let put = put_line(out, program, is_pick, number, actor, &mut object, &effect);
         let stepped = effect.is_some();
         drop(effect);

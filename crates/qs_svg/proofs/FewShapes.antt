@@ -14,9 +14,9 @@ use Rattle.qs_fates.specs.declared.fate.Fate.{Fate}
 use Rattle.qs_fates.specs.declared.fate.Fate.TheVariants.{Done}
 use Rattle.qs_svg.specs.declared.layout.Layout.{Layout}
 use Rattle.qs_svg.specs.Shapes.{Shape, shapes_up_to, text_at}
-use Rattle.qs_svg.specs.Stretches.{all_columns, columns_of, ended_at, journal_of, most_columns, most_marks, no_entry, queries_in, reserves, sent_for, stretch, stretch_fates, stretch_start, syncs_at, ticket_at}
-use Rattle.qs_svg.specs.Places.{bands_of, layout_of, mark_x, mark_y, row_y}
-use Rattle.qs_svg.specs.Blocks.{cell, column, columns_left, columns_text, left_text, marks, more_marks, more_text, request_shapes, requests_words, row, row_left, row_names, state_shapes, stretch_frame, stretch_shapes, sync_marks, sync_text}
+use Rattle.qs_svg.specs.Stretches.{all_columns, columns_of, ended_at, journal_of, most_columns, most_symbols, no_entry, queries_in, reserves, sent_for, stretch, stretch_fates, stretch_start, syncs_at, ticket_at}
+use Rattle.qs_svg.specs.Places.{bands_of, layout_of, row_y, symbol_x, symbol_y}
+use Rattle.qs_svg.specs.Blocks.{cell, column, columns_left, columns_text, left_text, more_symbols, more_text, request_shapes, requests_words, row, row_left, row_names, state_shapes, stretch_frame, stretch_shapes, symbols, sync_symbols, sync_text}
 use Rattle.qs_svg.specs.Legend.{client_shapes, sign_shapes}
 use Rattle.qs_svg.specs.RunSvg.{ground, heading, legend_shapes, row_shapes, run_shapes}
 use Rattle.qs_svg.specs.Few.{AreFewShapes}
@@ -40,9 +40,9 @@ some_or_none : (b : Bool) (shapes : List Shape) (m : ℕ) → length shapes ≤ 
 some_or_none true shapes m few = few
 some_or_none false shapes m few = omega arith
 
-marks_few : (p : ProgramShape) (l : Layout) (i h : ℕ) (entries : List Entry) (fates : List Fate) → length (marks p l i h entries fates) ≤ l.most * 2
-marks_few p l i h entries fates =
-    let drawn = λ (j : ℕ). request_shapes p (mark_x i) (mark_y l i h j) (get_or entries j no_entry) (get_or fates j Done) in
+symbols_few : (p : ProgramShape) (l : Layout) (i h : ℕ) (entries : List Entry) (fates : List Fate) → length (symbols p l i h entries fates) ≤ l.most * 2
+symbols_few p l i h entries fates =
+    let drawn = λ (j : ℕ). request_shapes p (symbol_x i) (symbol_y l i h j) (get_or entries j no_entry) (get_or fates j Done) in
     omega (arith, up_to_few (min (length entries) l.most) 2 drawn (λ j. omega arith))
 
 -- a stretch: its frame, its requests, and two texts
@@ -50,11 +50,11 @@ cell_few : (p : ProgramShape) (run : Played) (l : Layout) (i h : ℕ) (entries :
     → length (cell p run l i h entries fates) ≤ l.most * 2 + 3
 cell_few p run l i h entries fates =
     let frame = stretch_frame p (ticket_at run i) (ended_at run i) l i h (length entries) ∷ [] in
-    let drawn = marks p l i h entries fates in
-    let more = more_marks l i h (length entries) in
+    let drawn = symbols p l i h entries fates in
+    let more = more_symbols l i h (length entries) in
     let sent = sent_for h (syncs_at run i) in
     let queries = queries_in entries in
-    let syncs = sync_marks l i h sent queries in
+    let syncs = sync_symbols l i h sent queries in
     let few_more = one_or_none (nat_lt l.most (length entries)) (more_text l i h (length entries)) in
     let few_syncs = none_or_one (nat_eq sent 0 && nat_eq queries 0) (sync_text l i h sent queries) in
     some_or_none (reserves run i h) (stretch_shapes p run l i h entries fates) (l.most * 2 + 3)
@@ -63,7 +63,7 @@ cell_few p run l i h entries fates =
       length-append (frame ++ drawn ++ more) syncs,
       length-append (frame ++ drawn) more,
       length-append frame drawn,
-      marks_few p l i h entries fates,
+      symbols_few p l i h entries fates,
       few_more,
       few_syncs,
     ))
@@ -117,7 +117,7 @@ stretches_in : (b : Bool) (rows columns : ℕ) → (b ≡ true → columns * row
 stretches_in true rows columns few all = omega (arith, mul_assoc rows columns 27, mul_comm rows columns, few refl)
 stretches_in false rows columns few all = omega (arith, mul_assoc rows columns 11, mul_comm rows columns, all)
 
-stretches_few : (rows columns : ℕ) → rows ≤ 8 → columns ≤ 64 → rows * (columns * (most_marks columns rows * 2 + 3)) ≤ 5632
+stretches_few : (rows columns : ℕ) → rows ≤ 8 → columns ≤ 64 → rows * (columns * (most_symbols columns rows * 2 + 3)) ≤ 5632
 stretches_few rows columns few_rows few_columns =
     stretches_in (nat_le (columns * rows) 192) rows columns (λ e. grind (arith, nat_tests)) (mul-le columns rows 64 8 few_columns few_rows)
 
@@ -126,7 +126,7 @@ pub few_shapes : AreFewShapes
 few_shapes p run sound =
     let columns = columns_of run in
     let objects = length p.objects in
-    let most = most_marks columns objects in
+    let most = most_symbols columns objects in
     let l = layout_of p run in
     let clients = shapes_up_to (length p.clients) (client_shapes p) in
     let begun = (ground ∷ []) ++ (heading p run ∷ []) in

@@ -11,7 +11,7 @@ use Rattle.qs_fates.specs.declared.fate.Fate.TheVariants.{Done, Refused, NoValue
 use Rattle.qs_svg.specs.declared.layout.Layout.{Layout}
 use Rattle.qs_svg.specs.Shapes.{Shape, fitted_text, path_end, path_start, shapes_up_to, text_at, with_number}
 use Rattle.qs_svg.specs.Stretches.{all_columns, columns_of, ended_at, journal_of, most_columns, no_entry, objects_at, queries_in, reserves, sent_for, stretch_fates, syncs_at, ticket_at, stretch, stretch_start}
-use Rattle.qs_svg.specs.Places.{band_of, band_y, bands_of, column_x, first_row, frame_height, last_row, mark_x, mark_y, row_y}
+use Rattle.qs_svg.specs.Places.{band_of, band_y, bands_of, column_x, first_row, frame_height, last_row, row_y, symbol_x, symbol_y}
 use Rattle.qs_svg.specs.Words.{block_words, counted, entry_words, line_words, state_words, stretch_words}
 
 -- a query is a circle, a command a square
@@ -19,10 +19,10 @@ abbrev pub form : Bool → List ℕ
 form query = if query then codes "m0,4a4,4 0 1 1 8,0a4,4 0 1 1-8,0z" else codes "h8v8h-8z"
 
 -- a command that was refused and a query of what is not there are hollow, and the command is crossed out
-abbrev pub mark_kind : Fate → List ℕ
-mark_kind Done = codes "mark"
-mark_kind Refused = codes "void"
-mark_kind NoValue = codes "void"
+abbrev pub symbol_kind : Fate → List ℕ
+symbol_kind Done = codes "symbol"
+symbol_kind Refused = codes "void"
+symbol_kind NoValue = codes "void"
 
 abbrev pub cross : Fate → List ℕ
 cross Done = []
@@ -30,14 +30,14 @@ cross Refused = codes "l8,8m0-8l-8,8"
 cross NoValue = []
 
 -- a request, in the colour of its ticket's client, and its words beside it
-abbrev pub mark : ProgramShape → (x y : ℕ) → Entry → Fate → Shape
-mark p x y e fate =
-    path_start (mark_kind fate) e.ticket.client x y ++ form (is_query e.request.op) ++ cross fate
+abbrev pub symbol : ProgramShape → (x y : ℕ) → Entry → Fate → Shape
+symbol p x y e fate =
+    path_start (symbol_kind fate) e.ticket.client x y ++ form (is_query e.request.op) ++ cross fate
     ++ path_end (entry_words p e fate)
 
 abbrev pub request_shapes : ProgramShape → (x y : ℕ) → Entry → Fate → List Shape
 request_shapes p x y e fate =
-    (mark p x y e fate ∷ []) ++ (fitted_text (x + 14) (y + 8) 156 (line_words e fate) ∷ [])
+    (symbol p x y e fate ∷ []) ++ (fitted_text (x + 14) (y + 8) 156 (line_words e fate) ∷ [])
 
 -- the frame of a block that is open has no right side
 abbrev pub right_side : Bool → List ℕ
@@ -51,18 +51,18 @@ stretch_frame p t ended l i h requests =
     ++ path_end (stretch_words p t h requests)
 
 -- the requests of a stretch that are drawn, and how many more there are
-abbrev pub marks : ProgramShape → Layout → (i h : ℕ) → List Entry → List Fate → List Shape
-marks p l i h entries fates =
+abbrev pub symbols : ProgramShape → Layout → (i h : ℕ) → List Entry → List Fate → List Shape
+symbols p l i h entries fates =
     shapes_up_to (min (length entries) l.most)
-    (λ j. request_shapes p (mark_x i) (mark_y l i h j) (slice_index_or entries j no_entry)
+    (λ j. request_shapes p (symbol_x i) (symbol_y l i h j) (slice_index_or entries j no_entry)
     (slice_index_or fates j Done))
 
 abbrev pub more_text : Layout → (i h requests : ℕ) → Shape
 more_text l i h requests =
-    text_at (mark_x i) (mark_y l i h l.most + 8) (with_number (codes "+ ") (requests - l.most) ++ codes " more")
+    text_at (symbol_x i) (symbol_y l i h l.most + 8) (with_number (codes "+ ") (requests - l.most) ++ codes " more")
 
-abbrev pub more_marks : Layout → (i h requests : ℕ) → List Shape
-more_marks l i h requests =
+abbrev pub more_symbols : Layout → (i h requests : ℕ) → List Shape
+more_symbols l i h requests =
     if nat_lt l.most requests then more_text l i h requests ∷ [] else []
 
 -- the synchronisations that were sent are filled; those that were skipped, as the other queries had none, are hollow
@@ -71,18 +71,18 @@ sync_words sent skipped = with_number (codes "&#9670; ") sent ++ with_number (co
 
 abbrev pub sync_text : Layout → (i h sent queries : ℕ) → Shape
 sync_text l i h sent queries =
-    text_at (mark_x i) (mark_y l i h l.lines + 8) (sync_words sent (queries - sent))
+    text_at (symbol_x i) (symbol_y l i h l.lines + 8) (sync_words sent (queries - sent))
 
-abbrev pub sync_marks : Layout → (i h sent queries : ℕ) → List Shape
-sync_marks l i h sent queries =
+abbrev pub sync_symbols : Layout → (i h sent queries : ℕ) → List Shape
+sync_symbols l i h sent queries =
     if nat_eq sent 0 && nat_eq queries 0 then [] else sync_text l i h sent queries ∷ []
 
 -- all that is drawn of a ticket at an object, from the entries of its stretch and what became of them
 abbrev pub stretch_shapes : ProgramShape → Played → Layout → (i h : ℕ) → List Entry → List Fate → List Shape
 stretch_shapes p run l i h entries fates =
     (stretch_frame p (ticket_at run i) (ended_at run i) l i h (length entries) ∷ [])
-    ++ marks p l i h entries fates ++ more_marks l i h (length entries)
-    ++ sync_marks l i h (sent_for h (syncs_at run i)) (queries_in entries)
+    ++ symbols p l i h entries fates ++ more_symbols l i h (length entries)
+    ++ sync_symbols l i h (sent_for h (syncs_at run i)) (queries_in entries)
 
 abbrev pub cell : ProgramShape → Played → Layout → (i h : ℕ) → List Entry → List Fate → List Shape
 cell p run l i h entries fates = if reserves run i h then stretch_shapes p run l i h entries fates else []

@@ -1,5 +1,5 @@
 -- No picture has more shapes than this. The most stand in one of 64 columns and 8 rows: each of its stretches has a
--- frame, a mark and its words for each of 4 requests, and two texts.
+-- frame, a symbol and its words for each of 4 requests, and two texts.
 use Rattle.std.specs.Prelude.{ℕ, ◌≤◌, length}
 use Rattle.qs_program.specs.Program.{ProgramShape}
 use Rattle.qs_program.specs.Sound.{IsSound}

@@ -5,7 +5,7 @@ use Rattle.qs_svg.specs.Shapes.{Shape, path_start, text_at}
 
 -- a client's colour and name
 abbrev pub client_square : ℕ → Shape
-client_square c = path_start (codes "mark") c (12 + 130 * c) 38 ++ codes "h8v8h-8z'/>\n"
+client_square c = path_start (codes "symbol") c (12 + 130 * c) 38 ++ codes "h8v8h-8z'/>\n"
 
 abbrev pub client_shapes : ProgramShape → ℕ → List Shape
 client_shapes p c =
@@ -44,5 +44,5 @@ style =
     ++ codes ".c0{fill:#5db4ff;stroke:#5db4ff}.c1{fill:#ff9f5a;stroke:#ff9f5a}.c2{fill:#3fd6a4;stroke:#3fd6a4}.c3{fill:#f08fd0;stroke:#f08fd0}\n"
     ++ codes ".c4{fill:#b6a2ff;stroke:#b6a2ff}.c5{fill:#e3c44a;stroke:#e3c44a}.c6{fill:#ff7f7f;stroke:#ff7f7f}.c7{fill:#a8c7d3;stroke:#a8c7d3}\n"
     ++ codes "}\n"
-    ++ codes ".mark{stroke:none}.void{fill:none}.stretch{fill-opacity:.14;stroke-width:1}.block{fill:none;stroke-width:2}\n"
+    ++ codes ".symbol{stroke:none}.void{fill:none}.stretch{fill-opacity:.14;stroke-width:1}.block{fill:none;stroke-width:2}\n"
     ++ codes "</style>\n"

@@ -4,7 +4,7 @@ use Rattle.std.specs.Prelude.{ℕ, ◌+◌, ◌-◌, ◌*◌, ◌/◌, ◌%◌, 
 use Rattle.std.specs.List.{fold}
 use Rattle.qs_program.specs.Program.{ProgramShape}
 use Rattle.qs_played.specs.Played.{Played}
-use Rattle.qs_svg.specs.Stretches.{columns_of, longest, most_marks}
+use Rattle.qs_svg.specs.Stretches.{columns_of, longest, most_symbols}
 use Rattle.qs_svg.specs.declared.layout.Layout.{Layout}
 
 -- A stretch has lines for as many requests as the longest has, or as are drawn and one more that counts the others; but
@@ -17,7 +17,7 @@ layout_with rows most requests = record { rows = rows; lines = lines_for most re
 
 abbrev pub layout_of : ProgramShape → Played → Layout
 layout_of p run =
-    layout_with (length p.objects) (most_marks (columns_of run) (length p.objects)) (longest (length p.objects) run)
+    layout_with (length p.objects) (most_symbols (columns_of run) (length p.objects)) (longest (length p.objects) run)
 
 -- the band of a column, and its left edge
 abbrev pub band_of : ℕ → ℕ
@@ -44,12 +44,12 @@ band_y l band = 104 + band * band_height l
 abbrev pub row_y : Layout → (band h : ℕ) → ℕ
 row_y l band h = band_y l band + 40 + h * row_height l
 
--- the corner of the mark on a line of a stretch
-abbrev pub mark_x : ℕ → ℕ
-mark_x i = column_x i + 16
+-- the corner of the symbol on a line of a stretch
+abbrev pub symbol_x : ℕ → ℕ
+symbol_x i = column_x i + 16
 
-abbrev pub mark_y : Layout → (i h line : ℕ) → ℕ
-mark_y l i h line = row_y l (band_of i) h + 13 + 16 * line
+abbrev pub symbol_y : Layout → (i h line : ℕ) → ℕ
+symbol_y l i h line = row_y l (band_of i) h + 13 + 16 * line
 
 -- the first and the last row of the objects that a block reserves
 abbrev pub first_row : List ℕ → ℕ

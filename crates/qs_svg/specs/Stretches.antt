@@ -30,17 +30,17 @@ abbrev pub all_columns : Played → ℕ
 all_columns run = min (length run.order) (most_columns + 1)
 
 -- so many requests of a stretch are drawn at most, in a picture of few cells and of many; the others are counted
-abbrev pub most_marks_of_few : ℕ
-most_marks_of_few = 12
+abbrev pub most_symbols_of_few : ℕ
+most_symbols_of_few = 12
 
-abbrev pub most_marks_of_many : ℕ
-most_marks_of_many = 4
+abbrev pub most_symbols_of_many : ℕ
+most_symbols_of_many = 4
 
 abbrev pub most_few_cells : ℕ
 most_few_cells = 192
 
-abbrev pub most_marks : (columns rows : ℕ) → ℕ
-most_marks columns rows = if nat_le (columns * rows) most_few_cells then most_marks_of_few else most_marks_of_many
+abbrev pub most_symbols : (columns rows : ℕ) → ℕ
+most_symbols columns rows = if nat_le (columns * rows) most_few_cells then most_symbols_of_few else most_symbols_of_many
 
 -- the ticket at a place of the order, whether its block has ended, and the objects that it reserves, in the order of
 -- its list

@@ -2,8 +2,8 @@
 
 ghost use Rattle.std.specs.Prelude.{◌≡◌, ◌+◌, ◌^◌, ◌<◌, ◌≤◌};
 ghost use Rattle.qs_program.specs.Limits.{most_objects};
-ghost use Rattle.qs_svg.specs.Stretches.{most_columns, most_marks as most_of, most_marks_of_few};
-ghost use Rattle.qs_svg.specs.Places.{band_height, band_y, bands_of as bands_for, column_x, layout_of as layout_for, layout_with, mark_x, mark_y, row_height, row_y};
+ghost use Rattle.qs_svg.specs.Stretches.{most_columns, most_symbols as most_of, most_symbols_of_few};
+ghost use Rattle.qs_svg.specs.Places.{band_height, band_y, bands_of as bands_for, column_x, layout_of as layout_for, layout_with, row_height, row_y, symbol_x, symbol_y};
 
 use crate::facts::{columns_of, longest};
 use qs_played::Played;
@@ -67,16 +67,16 @@ pub(crate) fn row_edge(layout: Layout, band: u8, row: u8) -> u32
     band_edge(layout, band) + 40 + u32::from(row) * height_of_row(layout)
 }
 
-/// The corner of the mark on a line of a stretch.
-pub(crate) fn mark_left(spot: Spot) -> u32
-    ensures left { result ≡ mark_x spot.column }
+/// The corner of the symbol on a line of a stretch.
+pub(crate) fn symbol_left(spot: Spot) -> u32
+    ensures left { result ≡ symbol_x spot.column }
     ensures few { result < 2 ^ 31 }
 {
     column_edge(spot.column) + 16
 }
 
-pub(crate) fn mark_top(spot: Spot, line: u8) -> u32
-    ensures top { result ≡ mark_y spot.layout spot.column spot.row line }
+pub(crate) fn symbol_top(spot: Spot, line: u8) -> u32
+    ensures top { result ≡ symbol_y spot.layout spot.column spot.row line }
     ensures few { result < 2 ^ 31 }
 {
     row_edge(spot.layout, spot.column / 7, spot.row) + 13 + 16 * u32::from(line)
@@ -92,30 +92,30 @@ pub(crate) fn bands_of(columns: usize) -> u8
 }
 
 // So many requests of a stretch are drawn, in a picture of few cells and of many.
-const MOST_MARKS_OF_FEW: u8 = 12;
+const MOST_SYMBOLS_OF_FEW: u8 = 12;
 
-const MOST_MARKS_OF_MANY: u8 = 4;
+const MOST_SYMBOLS_OF_MANY: u8 = 4;
 
 const MOST_FEW_CELLS: usize = 192;
 
 // How many requests of a stretch are drawn.
-fn most_marks(columns: usize, rows: usize) -> u8
+fn most_symbols(columns: usize, rows: usize) -> u8
     requires columns { columns ≤ most_columns }
     requires rows { rows ≤ most_objects }
     ensures most { result ≡ most_of columns rows }
-    ensures few { result ≤ most_marks_of_few }
+    ensures few { result ≤ most_symbols_of_few }
 {
     if columns * rows <= MOST_FEW_CELLS {
-        MOST_MARKS_OF_FEW
+        MOST_SYMBOLS_OF_FEW
     } else {
-        MOST_MARKS_OF_MANY
+        MOST_SYMBOLS_OF_MANY
     }
 }
 
 // A layout for so many objects, and stretches of so many requests.
 fn room_for(rows: usize, most: u8, requests: usize) -> Layout
     requires rows { rows ≤ most_objects }
-    requires most { most ≤ most_marks_of_few }
+    requires most { most ≤ most_symbols_of_few }
     ensures layout { result ≡ layout_with rows most requests }
 {
     Layout {
@@ -131,6 +131,6 @@ pub(crate) fn layout_of(program: &Program, played: &Played) -> Layout
 {
     program.keeps_sound();
     let rows = program.objects();
-    let most = most_marks(columns_of(played), rows);
+    let most = most_symbols(columns_of(played), rows);
     room_for(rows, most, longest(played, rows))
 }

@@ -28,7 +28,7 @@ pub(crate) fn put_style(out: &mut Vec<u8>) -> Result<(), AllocError>
             b".c0{fill:#5db4ff;stroke:#5db4ff}.c1{fill:#ff9f5a;stroke:#ff9f5a}.c2{fill:#3fd6a4;stroke:#3fd6a4}.c3{fill:#f08fd0;stroke:#f08fd0}\n",
             b".c4{fill:#b6a2ff;stroke:#b6a2ff}.c5{fill:#e3c44a;stroke:#e3c44a}.c6{fill:#ff7f7f;stroke:#ff7f7f}.c7{fill:#a8c7d3;stroke:#a8c7d3}\n",
             b"}\n",
-            b".mark{stroke:none}.void{fill:none}.stretch{fill-opacity:.14;stroke-width:1}.block{fill:none;stroke-width:2}\n",
+            b".symbol{stroke:none}.void{fill:none}.stretch{fill-opacity:.14;stroke-width:1}.block{fill:none;stroke-width:2}\n",
             b"</style>\n",
         ],
     )
@@ -38,7 +38,7 @@ pub(crate) fn put_style(out: &mut Vec<u8>) -> Result<(), AllocError>
 fn put_square(out: &mut Vec<u8>, client: u8) -> Result<(), AllocError>
     ensures ok { OnOk result (Puts (client_square client) out.old.items out.new.items) }
 {
-    put_path(out, b"mark", client, 12 + 130 * u32::from(client), 38)?;
+    put_path(out, b"symbol", client, 12 + 130 * u32::from(client), 38)?;
     put_word(out, b"h8v8h-8z'/>\n")
 }
 

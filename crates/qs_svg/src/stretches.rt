@@ -4,12 +4,12 @@ ghost use Rattle.std.specs.Prelude.{◌≡◌, ◌+◌, ◌^◌, ◌<◌, OnOk, 
 ghost use Rattle.qs_fates.specs.declared.fate.Fate.TheVariants.{Done};
 ghost use Rattle.qs_svg.specs.Shapes.{Draws, fitted_text};
 ghost use Rattle.qs_text.specs.Texts.{Puts};
-ghost use Rattle.qs_svg.specs.Places.{mark_x, mark_y};
+ghost use Rattle.qs_svg.specs.Places.{symbol_x, symbol_y};
 ghost use Rattle.qs_svg.specs.Words.{line_words};
-ghost use Rattle.qs_svg.specs.Blocks.{cross, form, mark, mark_kind, marks, more_marks, request_shapes, right_side, stretch_frame, stretch_shapes, sync_marks, sync_text};
+ghost use Rattle.qs_svg.specs.Blocks.{cross, form, more_symbols, request_shapes, right_side, stretch_frame, stretch_shapes, symbol, symbol_kind, symbols, sync_symbols, sync_text};
 
 use crate::facts::{has_ended, queries_in, sent_for, ticket_at};
-use crate::layout::{Spot, column_edge, mark_left, mark_top, row_edge};
+use crate::layout::{Spot, column_edge, row_edge, symbol_left, symbol_top};
 use crate::pieces::{put_counted, put_fitted, put_path, put_text};
 use crate::words::{put_entry, put_line, put_stretch_words};
 use qs_fates::Fate;
@@ -19,27 +19,27 @@ use qs_program::Program;
 use qs_text::{put_count, put_word};
 use std::alloc::{AllocError, Global};
 
-// The corner of a mark.
+// The corner of a symbol.
 #[derive(Clone, Copy)]
 struct Corner {
     x: u32,
     y: u32,
 }
 
-// The corner of the mark on a line of a stretch.
+// The corner of the symbol on a line of a stretch.
 fn corner_of(spot: Spot, line: u8) -> Corner
-    ensures x { result.x ≡ mark_x spot.column }
-    ensures y { result.y ≡ mark_y spot.layout spot.column spot.row line }
+    ensures x { result.x ≡ symbol_x spot.column }
+    ensures y { result.y ≡ symbol_y spot.layout spot.column spot.row line }
     ensures left { result.x < 2 ^ 31 }
     ensures top { result.y < 2 ^ 31 }
 {
     Corner {
-        x: mark_left(spot),
-        y: mark_top(spot, line),
+        x: symbol_left(spot),
+        y: symbol_top(spot, line),
     }
 }
 
-// What goes on from the point where a mark begins.
+// What goes on from the point where a symbol begins.
 fn form_of(query: bool) -> &'static [u8]
     ensures form { result.now ≡ form query }
 {
@@ -57,12 +57,12 @@ pub(crate) fn side(ended: bool) -> &'static [u8]
     if ended { b"z" } else { b"" }
 }
 
-// How a mark looks by what became of its request.
-fn kind_of_mark(fate: Fate) -> &'static [u8]
-    ensures kind { result.now ≡ mark_kind fate }
+// How a symbol looks by what became of its request.
+fn kind_of_symbol(fate: Fate) -> &'static [u8]
+    ensures kind { result.now ≡ symbol_kind fate }
 {
     match fate {
-        Fate::Done => b"mark",
+        Fate::Done => b"symbol",
         Fate::Refused | Fate::NoValue => b"void",
     }
 }
@@ -76,19 +76,19 @@ fn cross_of(fate: Fate) -> &'static [u8]
     }
 }
 
-// The mark of a request.
-fn put_mark(
+// The symbol of a request.
+fn put_symbol(
     out: &mut Vec<u8>,
     program: &Program,
     corner: Corner,
     entry: &Entry,
     fate: Fate,
 ) -> Result<(), AllocError>
-    ensures ok { OnOk result (Puts (mark program.now corner.x corner.y entry.now fate) out.old.items out.new.items) }
+    ensures ok { OnOk result (Puts (symbol program.now corner.x corner.y entry.now fate) out.old.items out.new.items) }
 {
     put_path(
         out,
-        kind_of_mark(fate),
+        kind_of_symbol(fate),
         entry.ticket.client,
         corner.x,
         corner.y,
@@ -130,7 +130,7 @@ fn put_request(
     requires y { corner.y < 2 ^ 31 }
     ensures ok { OnOk result (Draws (request_shapes program.now corner.x corner.y entry.now fate) out.old.items out.new.items) }
 {
-    put_mark(out, program, corner, entry, fate)?;
+    put_symbol(out, program, corner, entry, fate)?;
     put_words(out, alloc, corner, entry, fate)
 }
 
@@ -142,7 +142,7 @@ fn fate_at(fates: &[Fate], place: usize) -> Fate
 }
 
 // The requests of a stretch that are drawn.
-fn put_marks(
+fn put_symbols(
     out: &mut Vec<u8>,
     alloc: Global,
     program: &Program,
@@ -150,7 +150,7 @@ fn put_marks(
     entries: &[Entry],
     fates: &[Fate],
 ) -> Result<(), AllocError>
-    ensures ok { OnOk result (Draws (marks program.now spot.layout spot.column spot.row entries.now fates.now) out.old.items out.new.items) }
+    ensures ok { OnOk result (Draws (symbols program.now spot.layout spot.column spot.row entries.now fates.now) out.old.items out.new.items) }
 {
     let count = entries.len().min(usize::from(spot.layout.most)) as u8;
     for number in 0..count {
@@ -170,12 +170,12 @@ fn put_marks(
 
 // How many more there are.
 fn put_more(out: &mut Vec<u8>, spot: Spot, requests: usize) -> Result<(), AllocError>
-    ensures ok { OnOk result (Draws (more_marks spot.layout spot.column spot.row requests) out.old.items out.new.items) }
+    ensures ok { OnOk result (Draws (more_symbols spot.layout spot.column spot.row requests) out.old.items out.new.items) }
 {
     let most = spot.layout.most;
     if usize::from(most) < requests {
-        let x = mark_left(spot);
-        let y = mark_top(spot, most) + 8;
+        let x = symbol_left(spot);
+        let y = symbol_top(spot, most) + 8;
         put_counted(out, x, y, b"+ ", requests - usize::from(most), b" more")
     } else {
         Ok(())
@@ -188,8 +188,8 @@ fn put_signs(out: &mut Vec<u8>, spot: Spot, sent: u32, queries: usize) -> Result
 {
     let sent = u64::from(sent);
     let skipped = (queries as u64).saturating_sub(sent);
-    let x = mark_left(spot);
-    let y = mark_top(spot, spot.layout.lines) + 8;
+    let x = symbol_left(spot);
+    let y = symbol_top(spot, spot.layout.lines) + 8;
     put_text(out, x, y)?;
     put_count(out, b"&#9670; ", sent)?;
     put_count(out, b" &#9671; ", skipped)?;
@@ -197,7 +197,7 @@ fn put_signs(out: &mut Vec<u8>, spot: Spot, sent: u32, queries: usize) -> Result
 }
 
 fn put_syncs(out: &mut Vec<u8>, spot: Spot, sent: u32, queries: usize) -> Result<(), AllocError>
-    ensures ok { OnOk result (Draws (sync_marks spot.layout spot.column spot.row sent queries) out.old.items out.new.items) }
+    ensures ok { OnOk result (Draws (sync_symbols spot.layout spot.column spot.row sent queries) out.old.items out.new.items) }
 {
     if sent == 0 && queries == 0 {
         Ok(())
@@ -246,7 +246,7 @@ pub(crate) fn put_stretch(
     let ended = has_ended(played, place);
     let sent = sent_for(played, place, usize::from(spot.row));
     put_frame(out, program, spot, ticket, ended, entries.len())?;
-    put_marks(out, alloc, program, spot, entries, fates)?;
+    put_symbols(out, alloc, program, spot, entries, fates)?;
     put_more(out, spot, entries.len())?;
     put_syncs(out, spot, sent, queries_in(entries))
 }

@@ -29,8 +29,8 @@ use Rattle.qs_syncset.specs.Modes.{is_static}
 use Rattle.qs_syncset.specs.SoundSynced.{IsSoundSynced}
 use Rattle.qs_syncset.proofs.SoundTrees.{block_sound, walk_reserved}
 use Rattle.qs_program.specs.Sound.{IsSound}
-use Rattle.qs_syncset.proofs.NamesAndKinds.{names_told}
-use Rattle.qs_syncset.proofs.Removals.{IsSoundRemoval, IsToldBy, none_removed, removal_bound, told_bound}
+use Rattle.qs_syncset.proofs.NamesAndKinds.{names_known}
+use Rattle.qs_syncset.proofs.Removals.{IsDecidedBy, IsSoundRemoval, decided_bound, none_removed, removal_bound}
 use Rattle.qs_syncset.proofs.CoalescedWalks.{IsReduced, reduced}
 
 all_from : {X : Type 0} (P : X → Type 0) (xs : List X) (d : X) → ((i : ℕ) → i < length xs → P (get_or xs i d)) → AllByRecursion P xs
@@ -62,17 +62,17 @@ removal_of p c k sound true g (names, coalesced, is) =
     let built : block_graph (block_at p c k).body ≡ bound_nodes (binding_of p c) (graph_of p c k).nodes = (blocks_have_graphs p c k sound).bound in
     subst (λ x. IsSoundRemoval x g) (sym built)
     (subst (IsSoundRemoval (bound_nodes (binding_of p c) (graph_of p c k).nodes)) (sym is)
-    (removal_bound (binding_of p c) (graph_of p c k) (names_told p c k sound) names coalesced))
+    (removal_bound (binding_of p c) (graph_of p c k) (names_known p c k sound) names coalesced))
 
 -- and a test by names tells which
-pub told_of : (p : ProgramShape) (c k : ℕ) → IsSound p → (g : List GraphNode)
+pub decided_of : (p : ProgramShape) (c k : ℕ) → IsSound p → (g : List GraphNode)
     → IsBoundGraphOf true (graph_of p c k) (binding_of p c) g → (held : ℕ → Bool)
-    → Decides (graph_of p c k) held → IsToldBy (block_graph (block_at p c k).body) g held
-told_of p c k sound g (names, coalesced, is) held decides =
+    → Decides (graph_of p c k) held → IsDecidedBy (block_graph (block_at p c k).body) g held
+decided_of p c k sound g (names, coalesced, is) held decides =
     let built : block_graph (block_at p c k).body ≡ bound_nodes (binding_of p c) (graph_of p c k).nodes = (blocks_have_graphs p c k sound).bound in
-    subst (λ x. IsToldBy x g held) (sym built)
-    (subst (λ y. IsToldBy (bound_nodes (binding_of p c) (graph_of p c k).nodes) y held) (sym is)
-    (told_bound (binding_of p c) (graph_of p c k) (names_told p c k sound) names coalesced held decides))
+    subst (λ x. IsDecidedBy x g held) (sym built)
+    (subst (λ y. IsDecidedBy (bound_nodes (binding_of p c) (graph_of p c k).nodes) y held) (sym is)
+    (decided_bound (binding_of p c) (graph_of p c k) (names_known p c k sound) names coalesced held decides))
 
 pub nodes_stay_sound : NodesStaySound
 nodes_stay_sound p mode client code sound of k inside =

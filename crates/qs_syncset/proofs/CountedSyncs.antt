@@ -42,7 +42,7 @@ use Rattle.qs_held_sets.specs.Held.{IsHeld}
 use Rattle.qs_syncset.specs.Modes.{is_dynamic, is_static}
 use Rattle.qs_syncset.specs.SoundSynced.{IsSoundSynced}
 use Rattle.qs_syncset.specs.SyncCounts.{AreOrdered, Decides, HasTest, SetsDecide, SyncsAreCounted, entry_with, has_synced, kept, kept_along, kept_by, queries, runs, syncs_along}
-use Rattle.qs_syncset.proofs.CodeWalks.{left_walk, removal_of, told_of}
+use Rattle.qs_syncset.proofs.CodeWalks.{decided_of, left_walk, removal_of}
 use Rattle.qs_syncset.proofs.Removals.{IsSoundRemoval, none_removed}
 use Rattle.qs_syncset.proofs.SyncTrees.{AreAllSynced, IsAsking, block_asks, fewer_is, most_is, plain_is, runs_is}
 use Rattle.qs_syncset.proofs.SyncWalks.{asking, in_range, kept_is}
@@ -265,7 +265,7 @@ module _ (program : ProgramShape) (sound : IsSound program) (client index : ℕ)
           → IsBoundGraphOf true names_graph (binding_of program client) g
           → syncs_along false h false (walk g limit (entry_with n l)) es ≡ kept body held l h es
       sent_kept n room g c =
-          kept_is built_graph g (removal_of program client index sound true g c) held (told_of program client index sound g c held decides) h limit
+          kept_is built_graph g (removal_of program client index sound true g c) held (decided_of program client index sound g c held decides) h limit
           (entry_with n l) (follows n room).ends es false
           ∙ sym (kept_alike built_graph held h limit 0 l (replicate n 0) (replicate (length built_graph) 0) es (zeros_alike (length built_graph) n room) (follows n room).ends)
 

@@ -19,7 +19,7 @@ use Rattle.qs_graph.specs.Names.{are_of_one_kind, graph_of}
 use Rattle.qs_graph.specs.Nodes.{ControlGraph, GraphNode, exit, place_at}
 use Rattle.qs_graph.specs.SoundNodes.{AreSoundNodes, IsSoundNode}
 use Rattle.qs_graph.proofs.Ranges.{all_at, blocks_have_graphs, is_in-all, sound_own}
-use Rattle.qs_syncset.proofs.Removals.{AreNamesTold}
+use Rattle.qs_syncset.proofs.Removals.{AreNamesKnown}
 
 same_back : (x y z : Kind) → same_kind x z ≡ true → same_kind y z ≡ true → same_kind x y ≡ true
 same_back (Account x) (Account y) (Account z) e f = refl
@@ -83,11 +83,11 @@ module _ (objects : List Declared) (blocks : List BlockShape) (reserved : List �
     aliases = is_started start;
   }
 
-  told_by : (start : Option StartShape) → IsStartSound objects blocks start
+  known_by : (start : Option StartShape) → IsStartSound objects blocks start
       → AllByRecursion (λ h. h < length (declarations_in objects start)) reserved → AreSoundNodes (declarations_in objects start) reserved nodes
-      → AreNamesTold (binding_in start) (over start)
-  told_by None sound known each m n c h is_call is_sync same = eq-eqb c.object h same
-  told_by (Some s) sound known each m n c h is_call is_sync same =
+      → AreNamesKnown (binding_in start) (over start)
+  known_by None sound known each m n c h is_call is_sync same = eq-eqb c.object h same
+  known_by (Some s) sound known each m n c h is_call is_sync same =
       let P : GraphNode → Type 0 = λ p. IsSoundNode s.formals reserved p.node in
       let at : (i : ℕ) → P (place_at nodes i) = λ i. all_at P P nodes i exit each (λ p w. w) tt in
       let calls : is_in reserved c.object ≡ true = (subst (IsSoundNode s.formals reserved) is_call (at m)).reserves in
@@ -110,9 +110,9 @@ module _ (objects : List Declared) (blocks : List BlockShape) (reserved : List �
       by_or false b e = e
 
 -- two names of one object in a checked program's block
-pub names_told : (p : ProgramShape) (c k : ℕ) → IsSound p → AreNamesTold (binding_of p c) (graph_of p c k)
-names_told p c k sound =
+pub names_known : (p : ProgramShape) (c k : ℕ) → IsSound p → AreNamesKnown (binding_of p c) (graph_of p c k)
+names_known p c k sound =
     let own = sound_own p c k sound in
-    told_by p.objects (client_at p c).blocks (own_block p c k).reserved (graph_of p c k).nodes (client_at p c).start
+    known_by p.objects (client_at p c).blocks (own_block p c k).reserved (graph_of p c k).nodes (client_at p c).start
     (all_at (IsSoundClient p.objects) (λ d. IsStartSound p.objects d.blocks d.start) p.clients c no_client sound.each (λ d w. w.start) tt)
     own.text.known (blocks_have_graphs p c k sound).own_sound

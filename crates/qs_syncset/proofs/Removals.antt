@@ -32,7 +32,7 @@ pub record IsSoundRemoval (g new : List GraphNode) : Type 0 where
   pub places : (n : ℕ) → n < length g → (place_at new n ≡ place_at g n) ⊎ IsRemovedHere g new n
 
 -- a test tells which synchronisations are removed
-pub record IsToldBy (g new : List GraphNode) (held : ℕ → Bool) : Type 0 where
+pub record IsDecidedBy (g new : List GraphNode) (held : ℕ → Bool) : Type 0 where
   pub left : (n j : ℕ) → n < length g → (place_at g n).node ≡ Sync j → place_at new n ≡ place_at g n → held n ≡ false
   pub gone : (n : ℕ) → n < length g → IsRemovedHere g new n → held n ≡ true
 
@@ -40,12 +40,12 @@ pub none_removed : (g : List GraphNode) → IsSoundRemoval g g
 none_removed g = record { count = refl; places = λ n inside. inl refl }
 
 -- where two names stand for one object, a call of the one may be a call of the other
-abbrev pub AreNamesTold : List ℕ → ControlGraph → Type 0
-AreNamesTold binding g =
+abbrev pub AreNamesKnown : List ℕ → ControlGraph → Type 0
+AreNamesKnown binding g =
     (m n : ℕ) (c : calls.Call) (h : ℕ) → (place_at g.nodes m).node ≡ Call c → (place_at g.nodes n).node ≡ Sync h
     → bound binding c.object ≡ bound binding h → may_be_one g c.object h ≡ true
 
-module _ (binding : List ℕ) (g : ControlGraph) (told : AreNamesTold binding g) where
+module _ (binding : List ℕ) (g : ControlGraph) (known : AreNamesKnown binding g) where
   abbrev objects : List GraphNode
   objects = bound_nodes binding g.nodes
 
@@ -63,7 +63,7 @@ module _ (binding : List ℕ) (g : ControlGraph) (told : AreNamesTold binding g)
   call_back m sync h s (Branch b) e c = c
   call_back m sync h s (Sync k) e c = c
   call_back m sync h s (Query x q) e c = c
-  call_back m sync h s (Call q) e c = told m sync q h e s (same_if (bound binding q.object) (bound binding h) c)
+  call_back m sync h s (Call q) e c = known m sync q h e s (same_if (bound binding q.object) (bound binding h) c)
   call_back m sync h s Exit e c = c
 
   none_since : (sync h : ℕ) → (place_at g.nodes sync).node ≡ Sync h → (since : List ℕ)
@@ -167,8 +167,8 @@ module _ (binding : List ℕ) (g : ControlGraph) (told : AreNamesTold binding g)
       gone_by n (Call q) e r w = let never : Sync r.handler ≡ bound_node binding (Call q) = sym r.sync ∙ node_bound n (Call q) e in absurd (cc)
       gone_by n Exit e r w = let never : Sync r.handler ≡ Exit = sym r.sync ∙ node_bound n Exit e in absurd (cc)
 
-      pub told_bound : IsToldBy objects left_objects held
-      told_bound = record {
+      pub decided_bound : IsDecidedBy objects left_objects held
+      decided_bound = record {
         left = λ n j inside e same.
             left_by n j (place_at g.nodes n).node refl (sym (node_bound n (place_at g.nodes n).node refl) ∙ e)
             (c.places n (omega (arith, inside, counted))) same;

@@ -16,7 +16,7 @@ use Rattle.qs_graph.specs.Walk.{Spot, Move, Ends, Goes, Calls, Syncs, Queries, a
 use Rattle.qs_graph.specs.WellFormed.{IsGraph, IsGraphNode, IsInRange}
 use Rattle.qs_syncset.specs.SyncCounts.{kept_along, kept_by, syncs_along}
 use Rattle.qs_syncset.proofs.Moves.{move_same, move_here}
-use Rattle.qs_syncset.proofs.Removals.{IsRemovedHere, IsSoundRemoval, IsToldBy}
+use Rattle.qs_syncset.proofs.Removals.{IsDecidedBy, IsRemovedHere, IsSoundRemoval}
 use Rattle.qs_syncset.proofs.CoalescedWalks.{sync_moves}
 use Rattle.qs_syncset.proofs.SyncTrees.{IsAsking, IsQueryOf}
 
@@ -97,7 +97,7 @@ in_range g ok n inside j e =
     let here : IsGraphNode (length g) (place_at g n) = AllByRecursion-get_or (IsGraphNode (length g)) g n exit ok.places inside in
     subst IsInRange e here.in_range
 
-module _ (g new : List GraphNode) (c : IsSoundRemoval g new) (held : ℕ → Bool) (told : IsToldBy g new held) (h : ℕ) where
+module _ (g new : List GraphNode) (c : IsSoundRemoval g new) (held : ℕ → Bool) (decided : IsDecidedBy g new held) (h : ℕ) where
   -- of no trace there are none
   kept_none : (n : ℕ) (s : Spot) → kept_along g held h n s [] ≡ 0
   kept_none zero s = refl
@@ -141,7 +141,7 @@ module _ (g new : List GraphNode) (c : IsSoundRemoval g new) (held : ℕ → Boo
       elim (c.places s.node within.0) [
         | inl same ↦
             subst (λ m. syncs_along false h b (tree_of_move (walk new n) s.locals m) es ≡ kept_along g held h (suc n) s es) (sym (move_same g new s same))
-            (same_step n s (move g s) (λ j t e. told.left s.node j within.0 (syncs_at g s j t e) same) each es b)
+            (same_step n s (move g s) (λ j t e. decided.left s.node j within.0 (syncs_at g s j t e) same) each es b)
         | inr r ↦ removed r each
       ]
     where
@@ -155,7 +155,7 @@ module _ (g new : List GraphNode) (c : IsSoundRemoval g new) (held : ℕ → Boo
         where
           by_case : (x : Bool) → (r.handler == h) ≡ x → (k : ℕ) → k ≡ (if x && not (held s.node) then 1 else 0) + k
           by_case true is k =
-              let holds : held s.node ≡ true = told.gone s.node within.0 r in
+              let holds : held s.node ≡ true = decided.gone s.node within.0 r in
               rw holds (omega arith)
           by_case false is k = omega arith
 

@@ -193,7 +193,7 @@ fn take_in<Q: Question>(
 }
 
 // Notes where the next block of a client leads, if it has one left after so many that were begun. It is given back if it
-// is what the question asks for. The watcher is told of it if it is new.
+// is what the question asks for. The watcher hears of it if it is new.
 fn note_next<Q: Question, W: Watcher>(
     alloc: Global,
     program: &Program,
@@ -447,7 +447,7 @@ fn search_from<Q: Question, W: Watcher>(
 /// stops at the first that is: none that is asked for is reached with fewer blocks. Where there is no witness, no legal
 /// order that begins with these blocks leads to what is asked for, and the answer counts all different configurations
 /// to which such orders lead. `Order` comes exactly where no legal order is named, `Limit` only where there are more
-/// configurations than the limit, `Memory` where memory was refused. The watcher is told of each new configuration as
+/// configurations than the limit, `Memory` where memory was refused. The watcher hears of each new configuration as
 /// it is noted.
 pub fn ask_throughout<Q: Question, W: Watcher>(
     alloc: Global,

@@ -47,9 +47,9 @@ sum_ones : (k : ℕ) → exact_sum (replicate k (pos 1)) ≡ pos k
 sum_ones zero = refl
 sum_ones (suc k) = grind (arith, sum_ones k)
 
-pub told : (kind : Kind) (op : Op) (args : List Atom) → IsSome (starts kind) → fits op kind ≡ true → length args ≡ arity op → certainty_of kind op args ≡ None
+pub certain : (kind : Kind) (op : Op) (args : List Atom) → IsSome (starts kind) → fits op kind ≡ true → length args ≡ arity op → certainty_of kind op args ≡ None
     → act (telling kind) op (map (atom_value []) args) ≡ replying (telling kind) (pos 0) → ⊥
-told = grind (arith, common_steps, length-replicate, get_or-replicate, sum_ones)
+certain = grind (arith, common_steps, length-replicate, get_or-replicate, sum_ones)
 
 not_both : (s : State) → replying s (pos 0) ≡ refusing s → ⊥
 not_both s e = search rules
@@ -72,6 +72,6 @@ all_zero kind op args fits always = by_case (certainty_of kind op args) refl
     here = always (telling kind) [] (telling_is kind fits.declared)
 
     by_case : (f : Option Certainty) → certainty_of kind op args ≡ f → certainty_of kind op args ≡ Some Zero
-    by_case None e = absurd (told kind op args fits.declared fits.fitting fits.long e here)
+    by_case None e = absurd (certain kind op args fits.declared fits.fitting fits.long e here)
     by_case (Some Zero) e = e
     by_case (Some Refused) e = absurd (not_both (telling kind) (sym here ∙ refused_is kind op args e (telling kind) [] (telling_is kind fits.declared)))

@@ -6,18 +6,18 @@ use Rattle.qs_tokens.specs.declared.token.Token.TheVariants as t
 use Rattle.qs_tokens.specs.Tokens.{same}
 use Rattle.qs_causes.specs.declared.spans.PlacedToken.{PlacedToken}
 use Rattle.qs_causes.specs.Sources.{token_in, word_in}
-use Rattle.qs_warnings.specs.declared.places.Mark.{Mark}
-use Rattle.qs_warnings.specs.declared.places.Mark.TheVariants.{Object, Client, Template, Separate, Brace, Assign, Dot}
+use Rattle.qs_warnings.specs.declared.places.TokenKind.{TokenKind}
+use Rattle.qs_warnings.specs.declared.places.TokenKind.TheVariants.{Object, Client, Template, Separate, Brace, Assign, Dot}
 
-abbrev pub is_mark : Mark → Option Token → Bool
-is_mark Object (Some t.Object) = true
-is_mark Client (Some t.Client) = true
-is_mark Template (Some t.Template) = true
-is_mark Separate (Some t.Separate) = true
-is_mark Brace (Some t.OpenBrace) = true
-is_mark Assign (Some t.Assign) = true
-is_mark Dot (Some t.Dot) = true
-is_mark _ _ = false
+abbrev pub is_of_kind : TokenKind → Option Token → Bool
+is_of_kind Object (Some t.Object) = true
+is_of_kind Client (Some t.Client) = true
+is_of_kind Template (Some t.Template) = true
+is_of_kind Separate (Some t.Separate) = true
+is_of_kind Brace (Some t.OpenBrace) = true
+is_of_kind Assign (Some t.Assign) = true
+is_of_kind Dot (Some t.Dot) = true
+is_of_kind _ _ = false
 
 abbrev pub is_name : Option Token → Bool
 is_name (Some (t.Name n)) = true
@@ -25,7 +25,7 @@ is_name _ = false
 
 -- the list of a block is open after a token, by whether it was before
 abbrev pub listed_past : Option Token → Bool → Bool
-listed_past token listed = is_mark Separate token || (not (is_mark Brace token) && listed)
+listed_past token listed = is_of_kind Separate token || (not (is_of_kind Brace token) && listed)
 
 -- the places from one up to another
 abbrev pub places : ℕ → ℕ → List ℕ
@@ -52,13 +52,13 @@ abbrev pub before : Option ℕ → ℕ → ℕ
 before None count = count
 before (Some place) count = place - 1
 
-abbrev pub is_mark_at : List PlacedToken → Mark → ℕ → Bool
-is_mark_at tokens mark place = is_mark mark (token_in tokens place)
+abbrev pub is_kind_at : List PlacedToken → TokenKind → ℕ → Bool
+is_kind_at tokens kind place = is_of_kind kind (token_in tokens place)
 
 module _ (text : List ℕ) (tokens : List PlacedToken) where
   -- the name after the word `object`, or `client`, of that number
-  abbrev pub opened_at : Mark → ℕ → ℕ
-  opened_at opening number = after (numbered (is_mark_at tokens opening) 0 (length tokens) number) (length tokens)
+  abbrev pub opened_at : TokenKind → ℕ → ℕ
+  opened_at opening number = after (numbered (is_kind_at tokens opening) 0 (length tokens) number) (length tokens)
 
   abbrev pub object_at : ℕ → ℕ
   object_at number = opened_at Object number
@@ -68,19 +68,19 @@ module _ (text : List ℕ) (tokens : List PlacedToken) where
 
   -- the name of the template that a word names
   abbrev pub is_template_of : List ℕ → ℕ → Bool
-  is_template_of word p = is_mark_at tokens Template p && same (word_in text tokens (next p)) word
+  is_template_of word p = is_kind_at tokens Template p && same (word_in text tokens (next p)) word
 
   abbrev pub template_at : List ℕ → ℕ
   template_at word = after (find (is_template_of word) (places 0 (length tokens))) (length tokens)
 
   -- the first brace from a place on
   abbrev pub brace_at : ℕ → ℕ
-  brace_at from = first_from (is_mark_at tokens Brace) from (length tokens)
+  brace_at from = first_from (is_kind_at tokens Brace) from (length tokens)
 
   -- the name before the blocks of a client: its own, or that of its template
   abbrev pub blocks_name : ℕ → ℕ
   blocks_name name =
-      if is_mark_at tokens Assign (next name) then template_at (word_in text tokens (next (next name))) else name
+      if is_kind_at tokens Assign (next name) then template_at (word_in text tokens (next (next name))) else name
 
   -- the brace with which the blocks of a client begin
   abbrev pub blocks_at : ℕ → ℕ
@@ -98,7 +98,7 @@ module _ (text : List ℕ) (tokens : List PlacedToken) where
 
   -- the token stands beside a dot, as the object and the operation of a request do
   abbrev pub is_beside_dot : ℕ → Bool
-  is_beside_dot place = (nat_lt 0 place && is_mark_at tokens Dot (place - 1)) || is_mark_at tokens Dot (next place)
+  is_beside_dot place = (nat_lt 0 place && is_kind_at tokens Dot (place - 1)) || is_kind_at tokens Dot (next place)
 
   -- a variable of that name stands there, in blocks that begin at a place
   abbrev pub is_variable : ℕ → List ℕ → ℕ → Bool
@@ -113,7 +113,7 @@ module _ (text : List ℕ) (tokens : List PlacedToken) where
   -- the first name of the list of a client's block
   abbrev pub list_at : ℕ → ℕ → ℕ
   list_at client block =
-      after (numbered (is_mark_at tokens Separate) (blocks_at client) (length tokens) block) (length tokens)
+      after (numbered (is_kind_at tokens Separate) (blocks_at client) (length tokens) block) (length tokens)
 
   -- a name in the list of a client's block
   abbrev pub listed_at : ℕ → ℕ → List ℕ → ℕ
@@ -124,4 +124,4 @@ module _ (text : List ℕ) (tokens : List PlacedToken) where
   -- its requests, and its list has none
   abbrev pub request_at : ℕ → ℕ → ℕ → ℕ
   request_at client block request =
-      before (numbered (is_mark_at tokens Dot) (list_at client block) (length tokens) request) (length tokens)
+      before (numbered (is_kind_at tokens Dot) (list_at client block) (length tokens) request) (length tokens)

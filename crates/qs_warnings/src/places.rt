@@ -1,14 +1,14 @@
 // Where the names of a checked script stand, by the numbers that a program has for them.
 
 ghost use Rattle.std.specs.Prelude.{◌≡◌, length, option_map};
-ghost use Rattle.qs_warnings.specs.WarningPlaces.{after, before, blocks_at, blocks_name, brace_at, client_at, is_beside_dot, is_listed, is_mark, is_mark_at, is_name, is_variable, list_at, listed_at, listed_past, next, numbered, object_at, opened_at, request_at, template_at, variable_at};
+ghost use Rattle.qs_warnings.specs.WarningPlaces.{after, before, blocks_at, blocks_name, brace_at, client_at, is_beside_dot, is_kind_at, is_listed, is_name, is_of_kind, is_variable, list_at, listed_at, listed_past, next, numbered, object_at, opened_at, request_at, template_at, variable_at};
 
 use qs_causes::Source;
 use qs_tokens::Token;
 
 // A word or a sign by which places are found.
 #[derive(Clone, Copy)]
-enum Mark {
+enum TokenKind {
     Object,
     Client,
     Template,
@@ -18,18 +18,18 @@ enum Mark {
     Dot,
 }
 
-impl Mark {
+impl TokenKind {
     fn is(self, token: Option<&Token>) -> bool
-        ensures exact { result ≡ is_mark self (option_map (λ token. token.now) token.entry) }
+        ensures exact { result ≡ is_of_kind self (option_map (λ token. token.now) token.entry) }
     {
         match self {
-            Mark::Object => matches!(token, Some(Token::Object)),
-            Mark::Client => matches!(token, Some(Token::Client)),
-            Mark::Template => matches!(token, Some(Token::Template)),
-            Mark::Separate => matches!(token, Some(Token::Separate)),
-            Mark::Brace => matches!(token, Some(Token::OpenBrace)),
-            Mark::Assign => matches!(token, Some(Token::Assign)),
-            Mark::Dot => matches!(token, Some(Token::Dot)),
+            TokenKind::Object => matches!(token, Some(Token::Object)),
+            TokenKind::Client => matches!(token, Some(Token::Client)),
+            TokenKind::Template => matches!(token, Some(Token::Template)),
+            TokenKind::Separate => matches!(token, Some(Token::Separate)),
+            TokenKind::Brace => matches!(token, Some(Token::OpenBrace)),
+            TokenKind::Assign => matches!(token, Some(Token::Assign)),
+            TokenKind::Dot => matches!(token, Some(Token::Dot)),
         }
     }
 }
@@ -67,17 +67,17 @@ fn before(place: Option<usize>, count: usize) -> usize
     }
 }
 
-// The place of the mark of that number, from a place on.
-fn numbered_place(source: Source<'_>, mark: Mark, from: usize, number: usize) -> Option<usize>
-    ensures exact { result ≡ numbered (is_mark_at source.entry.tokens.now mark) from (length source.entry.tokens.now) number }
+// The place of the token of a kind that has that number among them, from a place on.
+fn numbered_place(source: Source<'_>, kind: TokenKind, from: usize, number: usize) -> Option<usize>
+    ensures exact { result ≡ numbered (is_kind_at source.entry.tokens.now kind) from (length source.entry.tokens.now) number }
 {
     (from..source.len())
-        .filter(|place| mark.is(source.token(*place)))
+        .filter(|place| kind.is(source.token(*place)))
         .nth(number)
 }
 
 // The place after the opening word of that number; past the last token, where there are not so many.
-fn after_opening(source: Source<'_>, opening: Mark, number: u8) -> usize
+fn after_opening(source: Source<'_>, opening: TokenKind, number: u8) -> usize
     ensures exact { result ≡ opened_at source.entry.text.now source.entry.tokens.now opening number }
 {
     after(
@@ -90,21 +90,21 @@ fn after_opening(source: Source<'_>, opening: Mark, number: u8) -> usize
 pub(crate) fn object_place(source: Source<'_>, object: u8) -> usize
     ensures exact { result ≡ object_at source.entry.text.now source.entry.tokens.now object }
 {
-    after_opening(source, Mark::Object, object)
+    after_opening(source, TokenKind::Object, object)
 }
 
 /// The place of a client's name.
 pub(crate) fn client_place(source: Source<'_>, client: u8) -> usize
     ensures exact { result ≡ client_at source.entry.text.now source.entry.tokens.now client }
 {
-    after_opening(source, Mark::Client, client)
+    after_opening(source, TokenKind::Client, client)
 }
 
 // The place of the name of the template that a word names.
 fn template_place(source: Source<'_>, word: &[u8]) -> usize
     ensures exact { result ≡ template_at source.entry.text.now source.entry.tokens.now word.now }
 {
-    let found = (0..source.len()).find(|place| Mark::Template.is(source.token(*place))
+    let found = (0..source.len()).find(|place| TokenKind::Template.is(source.token(*place))
         && source.word(next(*place)) == word);
     after(found, source.len())
 }
@@ -114,7 +114,7 @@ fn brace_from(source: Source<'_>, from: usize) -> usize
     ensures exact { result ≡ brace_at source.entry.text.now source.entry.tokens.now from }
 {
     (from..source.len())
-        .find(|place| Mark::Brace.is(source.token(*place)))
+        .find(|place| TokenKind::Brace.is(source.token(*place)))
         .unwrap_or(source.len())
 }
 
@@ -123,7 +123,7 @@ fn blocks_name(source: Source<'_>, name: usize) -> usize
     ensures exact { result ≡ blocks_name source.entry.text.now source.entry.tokens.now name }
 {
     let after = next(name);
-    if Mark::Assign.is(source.token(after)) {
+    if TokenKind::Assign.is(source.token(after)) {
         template_place(source, source.word(next(after)))
     } else {
         name
@@ -141,14 +141,15 @@ fn blocks_of(source: Source<'_>, client: u8) -> usize
 fn is_beside_dot(source: Source<'_>, place: usize) -> bool
     ensures exact { result ≡ is_beside_dot source.entry.text.now source.entry.tokens.now place }
 {
-    (place > 0 && Mark::Dot.is(source.token(place - 1))) || Mark::Dot.is(source.token(next(place)))
+    (place > 0 && TokenKind::Dot.is(source.token(place - 1)))
+        || TokenKind::Dot.is(source.token(next(place)))
 }
 
 // Whether the list of a block is open after a token, by whether it was before.
 fn listed_past(token: Option<&Token>, listed: bool) -> bool
     ensures exact { result ≡ listed_past (option_map (λ token. token.now) token.entry) listed }
 {
-    Mark::Separate.is(token) || (!Mark::Brace.is(token) && listed)
+    TokenKind::Separate.is(token) || (!TokenKind::Brace.is(token) && listed)
 }
 
 // Whether a place stands in the list of a block, of blocks that begin at a place.
@@ -188,7 +189,7 @@ fn list_of(source: Source<'_>, client: u8, block: u8) -> usize
 {
     let from = blocks_of(source, client);
     after(
-        numbered_place(source, Mark::Separate, from, usize::from(block)),
+        numbered_place(source, TokenKind::Separate, from, usize::from(block)),
         source.len(),
     )
 }
@@ -208,7 +209,7 @@ pub(crate) fn request_place(source: Source<'_>, client: u8, block: u8, request: 
 {
     let from = list_of(source, client, block);
     before(
-        numbered_place(source, Mark::Dot, from, request),
+        numbered_place(source, TokenKind::Dot, from, request),
         source.len(),
     )
 }

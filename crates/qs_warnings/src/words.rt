@@ -14,7 +14,7 @@ use qs_program::{Names, Program};
 use qs_tokens::Token;
 use std::alloc::{AllocError, Global};
 
-// A text with its tokens and its program, and what was told of it.
+// A text with its tokens and its program, and what was found in it.
 #[derive(Drop)]
 struct Telling<'a> {
     alloc: Global,

@@ -2,7 +2,7 @@ use Rattle.std.proofs.Common.{◌≡◌, true, false, drop, ap, subst, sym, ◌�
 use Rattle.qs_objects.specs.Parts.{same}
 use Rattle.qs_objects.specs.declared.held.Entry.{Entry}
 use Rattle.qs_fates.specs.Picked.{picked_from}
-use Rattle.qs_fates.proofs.Tellings.{picked_here, picked_later}
+use Rattle.qs_fates.proofs.FatesAlong.{picked_here, picked_later}
 use Rattle.qs_fates.proofs.traces.next_fate.Goals as goal
 
 pub returns-then-eq-clause-rest : goal.returns-then-eq-clause-rest

@@ -10,6 +10,6 @@ returns c =
     let block = ap₂ (λ (t : Ticket) ended. block_json c.args.program.now t ended) c.ticket_at.ensures.ticket c.ended_at.ensures.ended in
     record {
       ok = on_ok_weaker c.put_word.result
-          (λ e. then (then (then (named block c.in_ok-put_block.ensures.ok) c.in_ok-put_told.ensures.ok) c.in_ok-put_syncs.ensures.ok) e)
+          (λ e. then (then (then (named block c.in_ok-put_block.ensures.ok) c.in_ok-put_events_of.ensures.ok) c.in_ok-put_syncs.ensures.ok) e)
           c.put_word.ensures.ok;
     }

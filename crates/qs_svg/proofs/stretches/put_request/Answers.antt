@@ -4,5 +4,5 @@ use Rattle.qs_svg.proofs.stretches.put_request.Goals as goal
 
 pub returns : goal.returns
 returns c = record {
-  ok = on_ok_weaker c.put_words.result (λ e. and_then (drawn c.in_ok-put_mark.ensures.ok) (drawn e)) c.put_words.ensures.ok;
+  ok = on_ok_weaker c.put_words.result (λ e. and_then (drawn c.in_ok-put_symbol.ensures.ok) (drawn e)) c.put_words.ensures.ok;
 }

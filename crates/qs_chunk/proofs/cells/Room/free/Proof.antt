@@ -47,11 +47,11 @@ free_spec 𝓤 𝓛 𝓜 𝓡 wired X U LX LU g d dd met _ =
     let H = 𝓛.H in let 𝓣 = tables 𝓤 H 𝓜 𝓡 𝓡.env in
     let E : El = record { row = X; laws = LX } in let Z : Al = record { row = U; laws = LU; g = g; d = d; drops = dd } in
     let En = ended X U g d dd in let c = clauses X U g d dd 𝓛 𝓜.mem 𝓡.returns in let fn = inst_fn (args E Z) code.function in
-    let heap = RefOf (0 ∷ []) tt (plain (λ _. P E Z)) (λ _. tt) in let told = lowers (R E) (P E Z) g (param_laws 0 X LX) (param_laws 1 U LU) in
+    let heap = RefOf (0 ∷ []) tt (plain (λ _. P E Z)) (λ _. tt) in let holds = lowers (R E) (P E Z) g (param_laws 0 X LX) (param_laws 1 U LU) in
     let hs : Stays En.signature.params En.kept = (stay_dropped (plain (λ _. Rm E Z)) no, (stay_dropped heap yes, (stay_dropped (plain (λ _. usize)) yes, tt))) in
     proved 𝓛 En hs c 𝓜 𝓡 (Goes-dropped 𝓛 3 (plain (λ _. Rm E Z)) no (λ κs x f. refl), (Goes-dropped 𝓛 3 heap yes (λ κs x f. refl), (Goes-dropped 𝓛 3 (plain (λ _. usize)) yes (λ κs x f. refl), tt)))
     (#self (args E Z)) fn (code.unfolded 𝓤 H 𝓜 𝓡 wired (X, (U, tt)) d dd)
-    (λ κs. ((λ x. room_val E Z x.ptr ∷ []), (shr_vals, (uint_vals w64, tt)))) (λ κs. (told.val_is, (shr_Tells (named 0) κs.0 (P E Z), (uint_Tells w64, tt)))) (λ κs qs bounds a gh are.
+    (λ κs. ((λ x. room_val E Z x.ptr ∷ []), (shr_vals, (uint_vals w64, tt)))) (λ κs. (holds.val_is, (shr_Tells (named 0) κs.0 (P E Z), (uint_Tells w64, tt)))) (λ κs qs bounds a gh are.
     let κ = κs.0 in let q = qs.0 in let h : Owner E Z = a.0 in let p : Ptr = h.ptr in let hp : ℕ × ℕ = a.1.0.ref_ptr in let heap : U.Denot = a.1.0.now in let n : ℕ = a.1.1.0 in
     let s : ℕ = sz E in let al : ℕ = capped (align (elτ E)) in let τ : Ty = block_ty E n in
     let y : (walk_of 𝓛 En hs c).Ghost = ((κs, qs, bounds, a, (room_val E Z p ∷ [], (vptr hp.0 hp.1 ∷ [], (vint w64 n ∷ [], tt)))), gh) in let Post : Val → SProp 𝓤 = (walk_of 𝓛 En hs c).post y in

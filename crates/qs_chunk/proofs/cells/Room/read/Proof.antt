@@ -54,8 +54,8 @@ read_spec 𝓤 𝓛 𝓜 𝓡 wired X U LX LU g d dd _ _ =
     move ! (1 ∷ []) $ split ! $ drop ! $ split ! $ drop ! $ split ! $ heard ! Inside (λ within. heard ! Full (λ full.
     split ! $ split ! $ move ! (2 ∷ []) $ fsplit ! $ fsplit3 ! $ keep ! (1 ∷ 2 ∷ 4 ∷ 5 ∷ []) $
     enter ! 𝓣.C 𝓣.Λ fn (vptr rb ro ∷ vint w64 i ∷ []) Post $ alloc_all ! (λ l. pass_all ! refl ((tt, tt), ((tt, record { fits = are.1.0.1 }), tt)) $ let Ev = env fn.locals l in
-    opens ! tt (Rm E Z) {h = h} rb ro (λ vs. move ! (1 ∷ []) $ room_had E Z ! h vs (λ b o lies told small.
-    rewrite ! 3 (λ (ws : List Val). ‵ (cell_at full_share (Rm E Z).mir ws rb ro)) told refl $
+    opens ! tt (Rm E Z) {h = h} rb ro (λ vs. move ! (1 ∷ []) $ room_had E Z ! h vs (λ b o lies holds small.
+    rewrite ! 3 (λ (ws : List Val). ‵ (cell_at full_share (Rm E Z).mir ws rb ro)) holds refl $
     let n = length h.places in let x = full.0 in let s = sz E in let at = i * s + o in
     let tiny : s < 2 ^ 64 = omega (arith, one_below n s (2 ^ 63) (omega arith) small) in let far : i * s < 2 ^ 64 = omega (arith, times_below i n s (2 ^ 63) (omega arith) small) in
     let new : Owner E Z = record h { places = set h.places i None } in

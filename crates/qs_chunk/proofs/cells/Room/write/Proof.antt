@@ -54,8 +54,8 @@ write_spec 𝓤 𝓛 𝓜 𝓡 wired X U LX LU g d dd _ _ =
     move ! (4 ∷ []) $ fsplit ! $ rewrite ! 0 (λ (ws : List Val). ‵ (X.own_val x ws)) alone.1 refl $ keep ! (3 ∷ 4 ∷ 6 ∷ 0 ∷ 7 ∷ []) $
     regoal ! (λ (ws : List Val). prop (WpFn 𝓤 H 𝓣.C 𝓣.Λ fn ws Post)) (λ j. are.0.0 j ++ (are.1.0.0 j ++ (alone.1 j ++ []))) refl $
     enter ! 𝓣.C 𝓣.Λ fn (vptr rb ro ∷ vint w64 i ∷ v ∷ []) Post $ alloc_all ! (λ l. pass_all ! refl ((tt, tt), ((tt, record { fits = are.1.0.1 }), (good, tt))) $ let Ev = env fn.locals l in
-    opens ! tt (Rm E Z) {h = h} rb ro (λ vs. move ! (1 ∷ []) $ room_had E Z ! h vs (λ b o lies told small.
-    rewrite ! 3 (λ (ws : List Val). ‵ (cell_at full_share (Rm E Z).mir ws rb ro)) told refl $
+    opens ! tt (Rm E Z) {h = h} rb ro (λ vs. move ! (1 ∷ []) $ room_had E Z ! h vs (λ b o lies holds small.
+    rewrite ! 3 (λ (ws : List Val). ‵ (cell_at full_share (Rm E Z).mir ws rb ro)) holds refl $
     let n = length h.places in let s = sz E in let at = i * s + o in
     let tiny : s < 2 ^ 64 = omega (arith, one_below n s (2 ^ 63) (omega arith) small) in let far : i * s < 2 ^ 64 = omega (arith, times_below i n s (2 ^ 63) (omega arith) small) in
     let new : Owner E Z = record h { places = set h.places i (Some x) } in

@@ -3,7 +3,7 @@ use Rattle.qs_program.specs.Sound.{IsSound}
 use Rattle.qs_client.specs.ClientModel.{is_between}
 use Rattle.qs_core.specs.CoreOrders.{blocks_begun}
 use Rattle.qs_core_state.specs.CoreState.{core_of}
-use Rattle.qs_core.proofs.CoreBlocks.{begun_is, client_inside, ended_told, few_blocks, fit_of, one_on, stage_is, stands_first, stands_on, turns_fit}
+use Rattle.qs_core.proofs.CoreBlocks.{begun_is, client_inside, ended_by_stage, few_blocks, fit_of, one_on, stage_is, stands_first, stands_on, turns_fit}
 use Rattle.qs_core.proofs.optimised.Core.play_block.Goals as goal
 
 pub overflow_cast-index : goal.overflow_cast-index
@@ -33,9 +33,9 @@ loop-turn-preserved c =
     let s = c.loop-turn.self in
     let fit = fit_of c.self.inside.machine self c.self.view_is (subst IsSound c.program.ensures.value c.keeps_sound.ensures.sound) c.keeps_machine.ensures.state c.self.invariant.0 in
     let number = c.begun-index.ensures.value ∙ begun_is c.self.inside.machine self c.args.client c.self.view_is in
-    let told = ended_told c.self-in-loop-turn.inside.machine s c.args.client c.begun-index.result (blocks_begun self c.args.client) c.has_ended.result c.self-in-loop-turn.view_is number c.has_ended.ensures.value in
+    let by_stage = ended_by_stage c.self-in-loop-turn.inside.machine s c.args.client c.begun-index.result (blocks_begun self c.args.client) c.has_ended.result c.self-in-loop-turn.view_is number c.has_ended.ensures.value in
     let inside : is_between ((core_of s).client c.args.client).stage ≡ false =
-    stage_is self fit c.requires.quiet c.args.client c.requires.left c.loop-turn._turn s c.loop-turn.invariant c.has_ended.result told ∙ c.if-has_ended.false in
+    stage_is self fit c.requires.quiet c.args.client c.requires.left c.loop-turn._turn s c.loop-turn.invariant c.has_ended.result by_stage ∙ c.if-has_ended.false in
     stands_on self fit c.requires.quiet c.args.client c.requires.left c.loop-turn._turn s c.turn-in-loop-turn.new.self c.loop-turn.invariant inside c.turn-in-loop-turn.ensures.goes
 
 pub returns-then-has_ended : goal.returns-then-has_ended
@@ -44,9 +44,9 @@ returns-then-has_ended c =
     let s = c.loop-turn.self in
     let fit = fit_of c.self.inside.machine self c.self.view_is (subst IsSound c.program.ensures.value c.keeps_sound.ensures.sound) c.keeps_machine.ensures.state c.self.invariant.0 in
     let number = c.begun-index.ensures.value ∙ begun_is c.self.inside.machine self c.args.client c.self.view_is in
-    let told = ended_told c.self-in-loop-turn.inside.machine s c.args.client c.begun-index.result (blocks_begun self c.args.client) c.has_ended.result c.self-in-loop-turn.view_is number c.has_ended.ensures.value in
+    let by_stage = ended_by_stage c.self-in-loop-turn.inside.machine s c.args.client c.begun-index.result (blocks_begun self c.args.client) c.has_ended.result c.self-in-loop-turn.view_is number c.has_ended.ensures.value in
     let outside : is_between ((core_of s).client c.args.client).stage ≡ true =
-    stage_is self fit c.requires.quiet c.args.client c.requires.left c.loop-turn._turn s c.loop-turn.invariant c.has_ended.result told ∙ c.if-has_ended.true in
+    stage_is self fit c.requires.quiet c.args.client c.requires.left c.loop-turn._turn s c.loop-turn.invariant c.has_ended.result by_stage ∙ c.if-has_ended.true in
     record { on = one_on self fit c.requires.quiet c.args.client c.requires.left c.loop-turn._turn s c.loop-turn.invariant outside }
 
 pub returns : goal.returns

@@ -17,8 +17,8 @@ use Rattle.qs_plain_handler.specs.declared.effect.Effect.TheVariants as effects
 use Rattle.qs_plain.specs.declared.did.Did.TheVariants as dids
 use Rattle.qs_plain_handler.specs.Handlers.{CanLog, logged_at}
 use Rattle.qs_plain.specs.Rules.{IsRules, RulesState, plain_of, to_come}
-use Rattle.qs_plain.specs.Told.{last_ticket}
-use Rattle.qs_plain.proofs.RulesEffects.{effect_within, told_by}
+use Rattle.qs_plain.specs.StepEffects.{last_ticket}
+use Rattle.qs_plain.proofs.RulesEffects.{effect_is_read, effect_within}
 use Rattle.qs_plain.proofs.RulesGo.{can_log, can_log_all, moved_to_come, asked_kept, ended_kept, command_steps, query_steps, end_steps}
 use Rattle.qs_plain.proofs.RulesFieldLemmas.{within_of, stage_of, here_of, made_kept, made_steps, can_log_all_of, logged_all_of}
 use Rattle.qs_plain.proofs.machine.Machine.go_on.Goals.{After-begun}
@@ -134,7 +134,7 @@ returns-in-Command c =
         ap (λ (x : RulesState). x.program) c.self.view_is,
       );
       stepped = refl;
-      told = told_by (dids.Logged call) _ r c.self.inside.order.items c.args.number c.from.result new c.log_command.new.handlers.items c.from.ensures k.less c.in-Command.ensures.short effect;
+      done = effect_is_read (dids.Logged call) _ r c.self.inside.order.items c.args.number c.from.result new c.log_command.new.handlers.items c.from.ensures k.less c.in-Command.ensures.short effect;
     }
 
 pub returns-in-Query : goal.returns-in-Query
@@ -153,7 +153,7 @@ returns-in-Query c =
         ap (λ (x : RulesState). x.program) c.self.view_is,
       );
       stepped = refl;
-      told = told_by (dids.Asked call) _ r c.self.inside.order.items c.args.number c.from.result new c.log_query.new.handlers.items c.from.ensures k.less c.in-Query.ensures.short effect;
+      done = effect_is_read (dids.Asked call) _ r c.self.inside.order.items c.args.number c.from.result new c.log_query.new.handlers.items c.from.ensures k.less c.in-Query.ensures.short effect;
     }
 
 pub returns-in-End : goal.returns-in-End
@@ -172,5 +172,5 @@ returns-in-End c =
         ap (λ (x : RulesState). x.program) c.self.view_is,
       );
       stepped = refl;
-      told = told_by dids.Ended _ r c.self.inside.order.items c.args.number c.from.result new c.log_all.new.handlers.items c.from.ensures k.less tt effect;
+      done = effect_is_read dids.Ended _ r c.self.inside.order.items c.args.number c.from.result new c.log_all.new.handlers.items c.from.ensures k.less tt effect;
     }

@@ -8,10 +8,10 @@ use Rattle.qs_plain_client.specs.Clients.{ClientState, IsClient, client_state_at
 use Rattle.qs_plain_client.specs.declared.stage.Stage.TheVariants as stage
 use Rattle.qs_plain_handler.specs.Effects.{plain_effect}
 use Rattle.qs_plain.specs.Rules.{to_come, RulesState, plain_of}
-use Rattle.qs_plain.specs.Told.{last_ticket}
+use Rattle.qs_plain.specs.StepEffects.{last_ticket}
 use Rattle.qs_plain_handler.specs.declared.effect.Effect.TheVariants as effects
 use Rattle.qs_plain.specs.declared.did.Did.TheVariants as dids
-use Rattle.qs_plain.proofs.RulesEffects.{effect_out, told_by}
+use Rattle.qs_plain.proofs.RulesEffects.{effect_is_read, effect_out}
 use Rattle.qs_plain.proofs.RulesBegin.{can_enter, begun_rules, fewer, separate_steps}
 use Rattle.qs_plain.proofs.RulesFieldLemmas.{within_of, stage_of, here_of, made_kept, made_steps, longer_order}
 use Rattle.qs_plain.proofs.machine.Machine.separate.Goals as goal
@@ -59,5 +59,5 @@ returns c =
             (separate_steps _ c.self.invariant.0 c.keeps_sound.ensures.sound c.args.number less isc out c.begin-queues.result.items c.begin-queues.new.self begins),
         ap (λ (r : RulesState). r.program) c.self.view_is,
       );
-      told = told_by dids.Reserved _ r c.push_reserved.new.self.items c.args.number c.from.result c.begin-queues.new.self c.enter_all.new.handlers.items c.from.ensures less tt effect;
+      done = effect_is_read dids.Reserved _ r c.push_reserved.new.self.items c.args.number c.from.result c.begin-queues.new.self c.enter_all.new.handlers.items c.from.ensures less tt effect;
     }

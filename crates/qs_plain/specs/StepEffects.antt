@@ -40,8 +40,8 @@ IsShortStep (did.Logged c) = length c.now.args ≤ 3
 IsShortStep (did.Asked c) = length c.now.args ≤ 3
 IsShortStep did.Ended = Unit {0}
 
--- what client c did from the state before is told by the code's state after it
-pub record IsTold (it : Did) (before : Plain) (c : ℕ) (new : RulesState) : Type 0 where
+-- what client c did from the state before is read off the code's state after it
+pub record HasDone (it : Did) (before : Plain) (c : ℕ) (new : RulesState) : Type 0 where
   pub there : c < length new.clients
   pub short : IsShortStep it
   pub effect : plain_effect before (actor.Client c) ≡ effect_of_did it (client_state_at new.clients c).locals

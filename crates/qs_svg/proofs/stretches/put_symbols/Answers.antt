@@ -4,10 +4,10 @@ use Rattle.qs_objects.specs.declared.held.Entry.{Entry}
 use Rattle.qs_fates.specs.declared.fate.Fate.{Fate}
 use Rattle.qs_fates.specs.declared.fate.Fate.TheVariants.{Done}
 use Rattle.qs_svg.specs.Stretches.{no_entry}
-use Rattle.qs_svg.specs.Places.{mark_x, mark_y}
+use Rattle.qs_svg.specs.Places.{symbol_x, symbol_y}
 use Rattle.qs_svg.specs.Blocks.{request_shapes}
 use Rattle.qs_svg.proofs.Parts.{also, one_place_more}
-use Rattle.qs_svg.proofs.stretches.put_marks.Goals as goal
+use Rattle.qs_svg.proofs.stretches.put_symbols.Goals as goal
 
 pub loop-number-preserved : goal.loop-number-preserved
 loop-number-preserved c =
@@ -16,8 +16,8 @@ loop-number-preserved c =
     let fates = c.args.fates.now in
     let spot = c.args.spot in
     let n = c.loop-number.number in
-    let x = mark_x spot.column in
-    let y = λ (j : ℕ). mark_y spot.layout spot.column spot.row j in
+    let x = symbol_x spot.column in
+    let y = λ (j : ℕ). symbol_y spot.layout spot.column spot.row j in
     let place = c.from-place.ensures in
     let inside : c.from-place.result < length entries = omega (arith, c.loop-number-test.true, c.min-count.ensures, place) in
     let entry = c.index-entries-place.is ∙ get_or_default entries c.from-place.result _ no_entry inside ∙ ap (λ j. get_or entries j no_entry) place in

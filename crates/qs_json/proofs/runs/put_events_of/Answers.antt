@@ -5,10 +5,10 @@ use Rattle.qs_fates.specs.declared.fate.Fate.{Fate}
 use Rattle.qs_json.specs.Pieces.{field}
 use Rattle.qs_json.specs.RunJson.{trace_json}
 use Rattle.qs_text.proofs.Parts.{named}
-use Rattle.qs_json.proofs.runs.put_told.Goals as goal
+use Rattle.qs_json.proofs.runs.put_events_of.Goals as goal
 
 pub returns : goal.returns
 returns c =
-    let told = ap₂ (λ (t : List Event) (fs : List (Option Fate)). field (codes "trace") (trace_json c.args.program.now t fs)) c.trace.ensures.value
-    (c.as_slice.ensures.value ∙ c.in_ok-told.ensures.fates) in
-    record { ok = on_ok_weaker c.put_trace.result (λ e. named told e) c.put_trace.ensures.ok }
+    let events = ap₂ (λ (t : List Event) (fs : List (Option Fate)). field (codes "trace") (trace_json c.args.program.now t fs)) c.trace.ensures.value
+    (c.as_slice.ensures.value ∙ c.in_ok-own_fates.ensures.fates) in
+    record { ok = on_ok_weaker c.put_trace.result (λ e. named events e) c.put_trace.ensures.ok }

@@ -1,4 +1,4 @@
--- The fates of one ticket are picked from among those of a journal, from some place on, and those of a trace are told
+-- The fates of one ticket are picked from among those of a journal, from some place on, and those of a trace are found
 -- request by request. The loops of `next_fate` and `trace_fates` go from one place to the next in this way. Each step
 -- takes the first element off the lists that are left, or finds them empty.
 use Rattle.std.proofs.Common.{◌≡◌, ◌<◌, ◌≤◌, ◌+◌, ℕ, zero, suc, nat_lt, Bool, true, false, if◌then◌else◌, ◌==◌, List, [], ◌∷◌, ◌++◌, length, replicate, get_or, set, drop, take, Option, None, slice_get, refl, sym, ap, ap₂, subst, ◌∙◌, ⊎_elim, arith, append_assoc, append-nil, get_or-set_same, get_or-set_other}
@@ -83,29 +83,29 @@ first_left (suc n) [] = refl
 first_left (suc n) (x ∷ xs) = first_left n xs
 
 -- the first of what is left on its object is what became of the next request
-pub next_told : (p : ProgramShape) (run : Played) (i : ℕ) (before : List Event) (x : Event) (left : ℕ → List Fate) (f : Option Fate)
+pub next_fate : (p : ProgramShape) (run : Played) (i : ℕ) (before : List Event) (x : Event) (left : ℕ → List Fate) (f : Option Fate)
     → ((h : ℕ) → left h ≡ drop (requests_on h before) (fates_on p run i h)) → f ≡ slice_get (left x.request.object) 0
     → f ≡ fate_after p run i before x
-next_told p run i before x left f is first =
+next_fate p run i before x left f is first =
     first ∙ (ap (λ l. slice_get l 0) (is x.request.object)
     ∙ first_left (requests_on x.request.object before) (fates_on p run i x.request.object))
 
--- one request more is told
-pub told_step : (p : ProgramShape) (run : Played) (i : ℕ) (trace : List Event) (k : ℕ) (x : Event) (told : List (Option Fate)) (f : Option Fate)
+-- one fate more
+pub fates_step : (p : ProgramShape) (run : Played) (i : ℕ) (trace : List Event) (k : ℕ) (x : Event) (fates_so_far : List (Option Fate)) (f : Option Fate)
     (whole : List (Option Fate)) → k < length trace → x ≡ get_or trace k x → f ≡ fate_after p run i (take k trace) x
-    → told ++ fates_along p run i (take k trace) (drop k trace) ≡ whole
-    → (told ++ f ∷ []) ++ fates_along p run i (take (k + 1) trace) (drop (k + 1) trace) ≡ whole
-told_step p run i trace k x told f whole less is fate so_far =
+    → fates_so_far ++ fates_along p run i (take k trace) (drop k trace) ≡ whole
+    → (fates_so_far ++ f ∷ []) ++ fates_along p run i (take (k + 1) trace) (drop (k + 1) trace) ≡ whole
+fates_step p run i trace k x fates_so_far f whole less is fate so_far =
     let here : drop k trace ≡ x ∷ drop (k + 1) trace = drop_more trace k x less ∙ ap (λ y. y ∷ drop (k + 1) trace) (sym is) in
     let before : take (k + 1) trace ≡ take k trace ++ x ∷ [] = take_more trace k x less ∙ ap (λ y. take k trace ++ y ∷ []) (sym is) in
-    append_assoc told (f ∷ []) (fates_along p run i (take (k + 1) trace) (drop (k + 1) trace))
-    ∙ (ap₂ (λ g es. told ++ (g ∷ fates_along p run i es (drop (k + 1) trace))) fate before
-    ∙ (sym (ap (λ l. told ++ fates_along p run i (take k trace) l) here) ∙ so_far))
+    append_assoc fates_so_far (f ∷ []) (fates_along p run i (take (k + 1) trace) (drop (k + 1) trace))
+    ∙ (ap₂ (λ g es. fates_so_far ++ (g ∷ fates_along p run i es (drop (k + 1) trace))) fate before
+    ∙ (sym (ap (λ l. fates_so_far ++ fates_along p run i (take k trace) l) here) ∙ so_far))
 
-pub told_end : (p : ProgramShape) (run : Played) (i : ℕ) (trace : List Event) (k : ℕ) (told whole : List (Option Fate)) → length trace ≤ k
-    → told ++ fates_along p run i (take k trace) (drop k trace) ≡ whole → told ≡ whole
-told_end p run i trace k told whole past so_far =
-    sym (append-nil told) ∙ (sym (ap (λ l. told ++ fates_along p run i (take k trace) l) (drop_all k trace past)) ∙ so_far)
+pub fates_end : (p : ProgramShape) (run : Played) (i : ℕ) (trace : List Event) (k : ℕ) (fates_so_far whole : List (Option Fate)) → length trace ≤ k
+    → fates_so_far ++ fates_along p run i (take k trace) (drop k trace) ≡ whole → fates_so_far ≡ whole
+fates_end p run i trace k fates_so_far whole past so_far =
+    sym (append-nil fates_so_far) ∙ (sym (ap (λ l. fates_so_far ++ fates_along p run i (take k trace) l) (drop_all k trace past)) ∙ so_far)
 
 -- one request more has passed on its object
 pub left_step : (p : ProgramShape) (run : Played) (i : ℕ) (trace : List Event) (k : ℕ) (x : Event) (left rest : ℕ → List Fate) → k < length trace

@@ -5,7 +5,7 @@ use Rattle.qs_plain.specs.Rules.{RulesState}
 use Rattle.qs_plain_handler.specs.Served.{HandlerState}
 use Rattle.qs_plain.proofs.RulesEffects.{effect_served}
 use Rattle.qs_plain.proofs.RulesFieldLemmas.{handlers_within, handler_here}
-use Rattle.qs_plain.proofs.machine.Machine.step_handler_told.Goals as goal
+use Rattle.qs_plain.proofs.machine.Machine.step_handler_with_effect.Goals as goal
 
 pub returns-clause-effect : goal.returns-clause-effect
 returns-clause-effect c =

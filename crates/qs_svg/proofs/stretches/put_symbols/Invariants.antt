@@ -3,13 +3,13 @@ use Rattle.std.proofs.Common.{get_or}
 use Rattle.qs_fates.specs.declared.fate.Fate.TheVariants.{Done}
 use Rattle.qs_svg.specs.Shapes.{Draws, shapes_up_to}
 use Rattle.qs_svg.specs.Stretches.{no_entry}
-use Rattle.qs_svg.specs.Places.{mark_x, mark_y}
+use Rattle.qs_svg.specs.Places.{symbol_x, symbol_y}
 use Rattle.qs_svg.specs.Blocks.{request_shapes}
-use Rattle.qs_svg.proofs.stretches.put_marks.Given as goal
+use Rattle.qs_svg.proofs.stretches.put_symbols.Given as goal
 
 abbrev pub invariant-loop-number : goal.invariant-loop-number
 invariant-loop-number l =
     Draws
     (shapes_up_to l.number
-    (λ j. request_shapes l.program (mark_x l.spot.column) (mark_y l.spot.layout l.spot.column l.spot.row j) (get_or l.entries j no_entry) (get_or l.fates j Done)))
+    (λ j. request_shapes l.program (symbol_x l.spot.column) (symbol_y l.spot.layout l.spot.column l.spot.row j) (get_or l.entries j no_entry) (get_or l.fates j Done)))
     l.initial.out.items l.out.items
