@@ -1,9 +1,12 @@
 -- A list of clients names an order whose blocks are run one after another: the blocks that were run so far and those
 -- that the rest of the list names make up the whole order. So where a client is not there, or has no block left, the
--- whole order is not legal; and at the end of the list the whole order was run.
-use Rattle.std.proofs.Common.{◌≡◌, ℕ, List, [], ◌∷◌, ◌++◌, sym, ap, ◌∙◌, subst, append_assoc, append-nil}
+-- whole order is not legal; and at the end of the list the whole order was run. A legal order is named by the clients of
+-- its tickets.
+use Rattle.std.proofs.Common.{◌≡◌, ℕ, suc, List, [], ◌∷◌, ◌++◌, map, refl, sym, ap, ap₂, ◌∙◌, subst, append_assoc, append-nil}
+use Rattle.qs_objects.specs.declared.held.Ticket.{Ticket}
 use Rattle.qs_program.specs.Program.{ProgramShape}
 use Rattle.qs_meaning.specs.Configurations.{Configuration, configuration_after, first_configuration, one_block_on}
+use Rattle.qs_meaning.specs.Solo.{put}
 use Rattle.qs_serial.specs.NamedOrders.{order_from, order_of}
 use Rattle.qs_meaning.specs.Serial.{IsLegal, LegalFrom}
 use Rattle.qs_meaning.proofs.Orders.{legal-rest}
@@ -41,3 +44,17 @@ named_left p clients c rest s now legal =
     let from : LegalFrom p (configuration_after p s.order).begun (order_from (configuration_in s).begun (c ∷ rest)) =
     legal-rest p (first_configuration p) s.order (order_from (configuration_in s).begun (c ∷ rest)) (subst (IsLegal p) now.whole legal) in
     from.1
+
+-- a legal order is named by the clients of its tickets
+
+abbrev pub clients_in : List Ticket → List ℕ
+clients_in order = map (λ (t : Ticket). t.client) order
+
+named_from_counts : (p : ProgramShape) (begun : ℕ → ℕ) (ts : List Ticket) → LegalFrom p begun ts → order_from begun (clients_in ts) ≡ ts
+named_from_counts p begun [] legal = refl
+named_from_counts p begun (t ∷ ts) legal =
+    ap₂ (λ (u : Ticket) us. u ∷ us) (λ i. record { client = t.client; index = (sym legal.0) i })
+    (named_from_counts p (put begun t.client (suc (begun t.client))) ts (subst (λ k. LegalFrom p (put begun t.client (suc k)) ts) legal.0 legal.2))
+
+pub named_by_clients : (p : ProgramShape) (order : List Ticket) → IsLegal p order → order_of (clients_in order) ≡ order
+named_by_clients p order legal = named_from_counts p (λ _. 0) order legal

@@ -11,7 +11,7 @@ mod standing;
 mod table;
 
 pub use copies::copied;
-pub use front::placed;
+pub use front::{placed, standing_after};
 pub use going::{Last, last_blocks};
 pub use hints::Hints;
 pub use rows::{Draft, Row, row_starts};

@@ -1,7 +1,6 @@
 -- Standings at the end of complete orders: each client has begun all its blocks, so equal rows are those of equal
--- outcomes, whatever the orders. By this the end to which an order comes is found by its row. And a legal order is
--- named by the clients of its tickets.
-use Rattle.std.proofs.Common.{◌≡◌, ℕ, zero, suc, Bool, true, false, Some, List, [], ◌∷◌, ◌++◌, length, get_or, map, drop, flat_map, replicate, slice_get, refl, sym, ap, ap₂, ◌∙◌, subst, inl, inr, append-nil}
+-- outcomes, whatever the orders. By this the end to which an order comes is found by its row.
+use Rattle.std.proofs.Common.{◌≡◌, ℕ, zero, suc, Bool, true, false, Some, List, [], ◌∷◌, ◌++◌, length, get_or, map, drop, flat_map, replicate, slice_get, refl, sym, ap, ◌∙◌, subst, inl, inr, append-nil}
 use Rattle.std.specs.List.{AllByRecursion}
 use Rattle.std.proofs.lemmas.List.{map-append}
 use Rattle.qs_objects.specs.declared.held.Ticket.{Ticket}
@@ -10,11 +9,9 @@ use Rattle.qs_program.specs.Limits.{most_clients}
 use Rattle.qs_program.specs.Program.{ProgramShape, blocks_of}
 use Rattle.qs_program.specs.Sound.{IsSound}
 use Rattle.qs_meaning.specs.Configurations.{Configuration, IsComplete, OrderOutcome, outcome_in, outcome_of}
-use Rattle.qs_meaning.specs.Serial.{IsLegal, LegalFrom, no_state, zeros}
-use Rattle.qs_meaning.specs.Solo.{put}
+use Rattle.qs_meaning.specs.Serial.{no_state, zeros}
 use Rattle.qs_meaning.proofs.Each.{each_snoc}
 use Rattle.qs_meaning.proofs.Orders.{complete_orders_leave_none, configurations_follow_orders}
-use Rattle.qs_serial.specs.NamedOrders.{order_from, order_of}
 use Rattle.qs_outcomes.specs.Outcomes.{outcome_at}
 use Rattle.qs_standings.specs.Lists.{HasOne}
 use Rattle.qs_standings.specs.Rows.{IsInserted}
@@ -23,20 +20,6 @@ use Rattle.qs_standings.proofs.Lists.{same_list}
 use Rattle.qs_standings.proofs.RowTells.{in_range, named, named_tell, same_row, states_tell}
 use Rattle.qs_tally.specs.Counting.{AreTabled, ComesToNone, IsAtEnd, IsPlaced, not_yet}
 use Rattle.qs_tally.specs.Tallies.{CameTo, CountedShape, IsEnd, standings_in}
-
--- a legal order is named by the clients of its tickets
-
-abbrev pub clients_in : List Ticket → List ℕ
-clients_in order = map (λ (t : Ticket). t.client) order
-
-named_from_counts : (p : ProgramShape) (begun : ℕ → ℕ) (ts : List Ticket) → LegalFrom p begun ts → order_from begun (clients_in ts) ≡ ts
-named_from_counts p begun [] legal = refl
-named_from_counts p begun (t ∷ ts) legal =
-    ap₂ (λ (u : Ticket) us. u ∷ us) (λ i. record { client = t.client; index = (sym legal.0) i })
-    (named_from_counts p (put begun t.client (suc (begun t.client))) ts (subst (λ k. LegalFrom p (put begun t.client (suc k)) ts) legal.0 legal.2))
-
-pub named_by_clients : (p : ProgramShape) (order : List Ticket) → IsLegal p order → order_of (clients_in order) ≡ order
-named_by_clients p order legal = named_from_counts p (λ _. 0) order legal
 
 -- at the end of a complete order
 

@@ -1,13 +1,10 @@
 //! Counting: the end to which an order comes is looked up by its row, or added, and has one more run.
 
-ghost use Rattle.std.specs.Prelude.{◌≡◌, ◌<◌, ◌+◌, ◌^◌, ◌++◌, ◌∷◌, [], false, map, slice_get, true, IfOk, OnOk, Some, ℕ};
+ghost use Rattle.std.specs.Prelude.{◌≡◌, ◌<◌, ◌+◌, ◌^◌, ◌++◌, ◌∷◌, [], false, slice_get, true, IfOk, OnOk, Some, ℕ};
 ghost use Rattle.std.specs.List.{AllByRecursion, AllZip};
 ghost use Rattle.qs_meaning.specs.Configurations.{IsComplete};
-ghost use Rattle.qs_meaning.specs.Serial.{IsLegal};
-ghost use Rattle.qs_objects.specs.declared.held.Ticket.{Ticket};
 ghost use Rattle.qs_outcomes.specs.Outcomes.{AreApart, IsListed};
 ghost use Rattle.qs_standings.specs.Rows.{IsInserted, rows_in, shape_of};
-ghost use Rattle.qs_standings.specs.Standings.{IsFirst};
 ghost use Rattle.qs_tally.specs.Counting.{AreTabled, HasNotCome, IsBegun, IsCounted, IsPlaced, IsSameEnd};
 ghost use Rattle.qs_tally.specs.Tallies.{CountedShape, standings_in};
 
@@ -16,28 +13,8 @@ use indexmap::IndexSet;
 use qs_objects::Ticket;
 use qs_outcomes::{OutcomesFault, outcomes};
 use qs_program::Program;
-use qs_standings::{Row, Standing, placed};
+use qs_standings::{Row, Standing, standing_after};
 use std::alloc::{AllocError, Global};
-
-// The clients of an order's tickets.
-fn clients_of(alloc: Global, order: &[Ticket]) -> Result<Vec<u8>, AllocError>
-    ensures clients { IfOk result (λ clients. clients.items ≡ map (λ (t : Ticket). t.client) order.now) }
-{
-    order.iter().map(|ticket| ticket.client).collect(alloc)
-}
-
-// Where a program stands after a legal order.
-fn standing_after(
-    alloc: Global,
-    program: &Program,
-    order: &[Ticket],
-) -> Result<Standing, AllocError>
-    requires legal { IsLegal program.now order.now }
-    ensures first { IfOk result (IsFirst program.now order.now) }
-{
-    let clients = clients_of(alloc, order)?;
-    placed(alloc, program, clients.as_slice())
-}
 
 // Looks up a row, and adds it if it is new: its place, and whether it is.
 fn look_up(rows: &mut IndexSet<Row>, row: Row) -> Result<(usize, bool), AllocError>

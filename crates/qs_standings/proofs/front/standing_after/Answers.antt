@@ -3,8 +3,8 @@ use Rattle.qs_serial.specs.NamedOrders.{order_of}
 use Rattle.qs_meaning.specs.Serial.{IsLegal}
 use Rattle.qs_standings.specs.Standings.{IsFirst}
 use Rattle.std.specs.Prelude.{IfOk}
-use Rattle.qs_tally.proofs.Ends.{named_by_clients}
-use Rattle.qs_tally.proofs.count.standing_after.Goals as goal
+use Rattle.qs_standings.proofs.Fronts.{named_by_clients}
+use Rattle.qs_standings.proofs.front.standing_after.Goals as goal
 
 pub placed-requires : goal.placed-requires
 placed-requires c = record {
