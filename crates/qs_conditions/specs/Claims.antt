@@ -9,8 +9,8 @@ word q.Always = codes "always"
 word q.Some = codes "some"
 word q.Throughout = codes "throughout"
 
--- whether an outcome is looked for, by whether the condition holds of it: one of which it holds, or one of which it does
--- not
+-- whether an outcome is looked for, by whether the condition holds of it: one of which it holds, or one of which it
+-- does not
 abbrev pub seeks : Quantifier → Bool → Bool
 seeks q.Always holds = not holds
 seeks q.Some holds = holds

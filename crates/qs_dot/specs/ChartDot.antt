@@ -40,8 +40,8 @@ abbrev pub place_line : ProgramShape → (found : List StandingShape) → ChartS
 place_line p found chart i =
     place_text p found (leads_on chart.leads i) i (slice_index_or chart.places i no_place)
 
--- a client's name stands on a ground of its own, between these two. They and the colours do not unfold by themselves, so
--- that a search for a proof does not go through their bytes
+-- a client's name stands on a ground of its own, between these two. They and the colours do not unfold by themselves,
+-- so that a search for a proof does not go through their bytes
 unfoldable pub name_start : List ℕ
 name_start = codes " [label=<<table border=\"0\" bgcolor=\"#dfe5ec\"><tr><td>"
 
@@ -55,8 +55,8 @@ lead_line p l =
     ++ name_end
 
 -- Lines that can be seen on a light page and on a dark one, and no ground but that of the texts. No colour has a
--- contrast of 4.5 to 1 both to white and to #16181c: that of #747c88, which the lines have, is 4.2 to each. So the texts
--- stand on a light ground of their own, to which they have 14 to 1.
+-- contrast of 4.5 to 1 both to white and to #16181c: that of #747c88, which the lines have, is 4.2 to each. So the
+-- texts stand on a light ground of their own, to which they have 14 to 1.
 unfoldable pub colours_text : List ℕ
 colours_text =
     codes "  graph [bgcolor=transparent];\n  node [style=filled, fillcolor=\"#dfe5ec\", color=\"#747c88\", fontcolor=\"#16181c\"];\n  edge [color=\"#747c88\", fontcolor=\"#16181c\"];\n"

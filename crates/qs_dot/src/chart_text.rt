@@ -250,9 +250,9 @@ fn drawn(
 
 /// The configurations of a program after the blocks that a list of clients names, each client's in turn, as one drawing
 /// in the DOT language, which graphviz draws: a place for each with what the objects hold there, where it is an outcome
-/// a second outline, its number among all outcomes and the clients' variables, and an edge for each block that leads on,
-/// with its client's name. More places than 50 are drawn close together. `Order` comes exactly where no legal order is
-/// named, `Limit` only where there are more configurations than the limit, `Memory` where memory was refused.
+/// a second outline, its number among all outcomes and the clients' variables, and an edge for each block that leads
+/// on, with its client's name. More places than 50 are drawn close together. `Order` comes exactly where no legal order
+/// is named, `Limit` only where there are more configurations than the limit, `Memory` where memory was refused.
 pub fn chart_dot(
     alloc: Global,
     program: &Program,

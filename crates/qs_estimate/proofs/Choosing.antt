@@ -1,5 +1,5 @@
--- All choices of how many blocks each client has done, up to so many of each: one list, in which no two are equal. It is
--- as long as the product of one more than each number.
+-- All choices of how many blocks each client has done, up to so many of each: one list, in which no two are equal. It
+-- is as long as the product of one more than each number.
 use Rattle.std.proofs.Common.{◌≡◌, ℕ, zero, suc, ◌≤◌, ◌*◌, List, [], ◌∷◌, ◌++◌, length, map, refl, sym, ap, ◌∙◌, subst, arith, length-append}
 use Rattle.std.specs.List.{AllByRecursion, AllZip}
 use Rattle.std.proofs.lemmas.List.{length-map}

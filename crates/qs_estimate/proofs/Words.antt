@@ -1,6 +1,6 @@
--- All words with so many of each letter at most stand in one list, which is made by putting in one letter after another:
--- of each word what has only the letters before stands in the list before, and `puts` has each way to put in the next
--- letter. The list is as long as Pascal's recursion says, or shorter.
+-- All words with so many of each letter at most stand in one list, which is made by putting in one letter after
+-- another: of each word what has only the letters before stands in the list before, and `puts` has each way to put in
+-- the next letter. The list is as long as Pascal's recursion says, or shorter.
 use Rattle.std.proofs.Common.{◌≡◌, ◌==◌, ℕ, zero, suc, ◌+◌, ◌-◌, ◌≤◌, ◌<◌, ◌*◌, Bool, true, false, cond, List, [], ◌∷◌, ◌++◌, length, map, filter, flat_map, count_by, nat_lt, refl, sym, ap, ◌∙◌, subst, arith, ◌⊎◌, inl, inr, length-append}
 use Rattle.std.specs.List.{AllByRecursion}
 use Rattle.std.proofs.Math.Nat.{mul-le-mul_right}

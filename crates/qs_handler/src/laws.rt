@@ -14,8 +14,8 @@ pub fn handlers_follow_their_lanes()
     ensures laws { HandlerLaws }
 {}
 
-/// Whatever acts a handler is asked to do, one after another: it gives its object to a client only right after a Sync of
-/// that client which is not served yet, the chunks that it gives back are empty and of the lane's size, and what may
+/// Whatever acts a handler is asked to do, one after another: it gives its object to a client only right after a Sync
+/// of that client which is not served yet, the chunks that it gives back are empty and of the lane's size, and what may
 /// follow in a lane may stand at the handler. It does nothing.
 pub fn handlers_keep_to_lanes()
     ensures lanes { HandlerLaneLaws }

@@ -123,7 +123,8 @@ module _ (old new : State) (to out : ℕ) (inside_reached : to < length old.reac
   list_grows (inl k) = rw k.same (omega arith)
   list_grows (inr p) = rw (p.list, length_push old.list to) (omega arith)
 
--- ---- a visit of x, whose set was `first` as it began, with `listed` nodes on the list; `most` bounds the turns that are left
+-- ---- a visit of x, whose set was `first` as it began, with `listed` nodes on the list; `most` bounds the turns that
+-- are left
 
 pub record IsVisit (g : ControlGraph) (x first listed most : ℕ) (s : State) : Type 0 where
   pub known : IsKnown g s

@@ -1,6 +1,7 @@
 -- When the text of a setting is parsed, the number is the one that the settings name, in the range of a chunk's size,
 -- of a number of rounds, of a limit or of a number of runs, and a text that is refused names none. The proofs of
--- `chunk_of`, `rounds_of`, `limit_of` and `times_of` stand on it. It goes by cases on the result of parsing, whose range is compared with that of the setting.
+-- `chunk_of`, `rounds_of`, `limit_of` and `times_of` stand on it. It goes by cases on the result of parsing, whose
+-- range is compared with that of the setting.
 use Rattle.std.proofs.Common.{◌≡◌, ◌≤◌, ◌^◌, ◌<◌, ℕ, Bool, List, true, false, Option, Some, None, Result, Ok, Err, refl, sym, ap, ◌∙◌, arith, ◌↔◌, IfSome}
 use Rattle.std.specs.Prelude.{if◌then◌else◌, IsSome, unwrap_or}
 use Rattle.std.specs.Result.{result_ok}

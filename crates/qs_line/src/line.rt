@@ -666,11 +666,11 @@ fn page(alloc: Global) -> LineFault
 
 /// The settings of a line, whose first word is the program's name: those that `clap` finds, and its defaults. `Refused`
 /// comes exactly where `clap` refuses the words by an error, where a format, a mode, a number or a list does not read,
-/// where an order stands beside picks or a number of rounds, where a condition does not read or stands beside another one
-/// or beside `--ends`, where an estimate stands beside a condition or beside `--ends`, where a number of runs stands
-/// beside `--counts` or `--refusals`, or where steps or queues are asked for of an order or beside a report that is no text; `Help` and
-/// `Version` come exactly where it answers with help or with the version, and `Help` where the words are `help language`.
-/// `Memory` may come in place of each.
+/// where an order stands beside picks or a number of rounds, where a condition does not read or stands beside another
+/// one or beside `--ends`, where an estimate stands beside a condition or beside `--ends`, where a number of runs
+/// stands beside `--counts` or `--refusals`, or where steps or queues are asked for of an order or beside a report that
+/// is no text; `Help` and `Version` come exactly where it answers with help or with the version, and `Help` where the
+/// words are `help language`. `Memory` may come in place of each.
 pub fn read_line<'a>(alloc: Global, words: &'a [&'a str]) -> Result<Settings, LineFault>
     ensures line { IsAnswer (line_in (map (λ word. word.now) words.entry.now)) result }
 {

@@ -1,7 +1,7 @@
 -- A journal that goes on along an order of tickets is, ticket by ticket, what each block did, and a ticket has entries
 -- only where all before it are through with the object. The isolation of every machine and of the threads stands on it.
--- The main lemma, `ticket_by_ticket`, goes by induction on the order, with cases on whether the first ticket is through or the
--- object is still busy with it.
+-- The main lemma, `ticket_by_ticket`, goes by induction on the order, with cases on whether the first ticket is through
+-- or the object is still busy with it.
 use Rattle.std.proofs.Common.{◌≡◌, ◌≢◌, ℕ, Bool, true, false, true≢false, List, [], ◌∷◌, ◌++◌, map, flat_map, refl, sym, ap, ap₂, ◌∙◌, subst, ◌⊎◌, inl, inr, append-nil}
 use Rattle.std.proofs.lemmas.List.Elements.{filter-append}
 use Rattle.std.specs.List.{AllByRecursion}

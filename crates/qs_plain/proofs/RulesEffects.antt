@@ -1,6 +1,6 @@
 -- What a step did is what the plain rules' definition says of it. The contracts of `go_on`, `separate` and
--- `step_handler_with_effect` promise this. A client's effect follows from what its frames ask. A handler's effect is read before
--- its step, but for a query's reply: that is read after the step, from the entry that the journal has more.
+-- `step_handler_with_effect` promise this. A client's effect follows from what its frames ask. A handler's effect is
+-- read before its step, but for a query's reply: that is read after the step, from the entry that the journal has more.
 use Rattle.std.proofs.Common.{◌≡◌, ◌<◌, ℕ, ◌-◌, Bool, true, false, if◌then◌else◌, List, [], ◌∷◌, ◌++◌, map, length, drop, refl, ap, sym, subst, ◌∙◌, Option, Some, None, ℤ, get_or-set_same, length-set}
 use Rattle.std.proofs.Math.ListN.{set}
 use Rattle.std.proofs.lemmas.List.{length-map}

@@ -1,6 +1,6 @@
--- What the answer to a claim says of runs: a finished run's order is complete, so what no complete order comes to is not
--- what the run shows; and each complete order is reached by some picks. A run's order is legal, and so is each beginning
--- of it.
+-- What the answer to a claim says of runs: a finished run's order is complete, so what no complete order comes to is
+-- not what the run shows; and each complete order is reached by some picks. A run's order is legal, and so is each
+-- beginning of it.
 use Rattle.std.proofs.Common.{◌≡◌, ◌∙◌, ℕ, Bool, true, false, not, List, ◌++◌, Option, Some, None, refl, sym, ap, subst}
 use Rattle.std.specs.Prelude.{IfSome, is_some}
 use Rattle.qs_objects.specs.declared.held.Ticket.{Ticket}

@@ -61,9 +61,9 @@ pub fn outcomes_leave_nothing_out()
 {}
 
 /// The answer to a claim is of runs. `always yes` says that its condition holds at the end of every finished run, and
-/// `throughout yes` that it holds wherever the order of a run has come; `always no`, `some yes` and `throughout no` come
-/// with an order that shows it, and some picks lead the plain rules, and the optimised machine in each mode, to the end
-/// of a complete one. It does nothing.
+/// `throughout yes` that it holds wherever the order of a run has come; `always no`, `some yes` and `throughout no`
+/// come with an order that shows it, and some picks lead the plain rules, and the optimised machine in each mode, to
+/// the end of a complete one. It does nothing.
 pub fn answers_are_of_runs()
     ensures answers { AnswersAreOfRuns }
 {}

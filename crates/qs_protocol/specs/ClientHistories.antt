@@ -58,7 +58,8 @@ pub record ClientHistory (program : ProgramShape) (c : ℕ) (code : ClientCode) 
   pub hands : (h : ℕ) → HasNone end.client h
   pub first : length code.blocks ≡ 0 → end.client.stage ≡ clients.between zeros
   pub blocks : (k : ℕ) → k < length code.blocks → IsBlockHistory program c k (block_record k) (sent k) (got k)
-  pub begins : (k : ℕ) → k < length code.blocks → Begins (λ (t : Ticket). block_record t.index) c k (block_record k).entry
+  pub begins : (k : ℕ) → k < length code.blocks
+      → Begins (λ (t : Ticket). block_record t.index) c k (block_record k).entry
   pub entries : (k : ℕ) → k < length code.blocks → slice_index_or end.entries k [] ≡ (block_record k).entry
   pub traces : (k : ℕ) → k < length code.blocks → slice_index_or end.traces k [] ≡ (block_record k).trace
   pub sent_is : (h : ℕ) → sent_to h deeds ≡ upto (λ k. sent k h) (length code.blocks)

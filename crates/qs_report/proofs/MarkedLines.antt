@@ -1,5 +1,5 @@
--- There is a fate for each request of a trace. `put_marked_trace` hands both lists to the loop that writes the lines, which
--- goes through them side by side. It follows the recursion by which the fates are defined.
+-- There is a fate for each request of a trace. `put_marked_trace` hands both lists to the loop that writes the lines,
+-- which goes through them side by side. It follows the recursion by which the fates are defined.
 use Rattle.std.proofs.Common.{◌≡◌, ℕ, suc, List, [], ◌∷◌, ◌++◌, length, refl, ap}
 use Rattle.qs_objects.specs.declared.held.Event.{Event}
 use Rattle.qs_program.specs.Program.{ProgramShape}

@@ -42,8 +42,8 @@ abbrev pub text_of_answer : ProgramShape → Quantifier → AnswerShape → List
 text_of_answer p q a =
     answer_line q (is_yes q a) ++ witness_text_in p q a.witness ++ count_line (codes "configurations") a.configurations
 
--- There is an answer to the claim on the program after the blocks of these clients, with no more configurations than the
--- limit; it is yes or no, and this is its text.
+-- There is an answer to the claim on the program after the blocks of these clients, with no more configurations than
+-- the limit; it is yes or no, and this is its text.
 unfoldable pub IsAnswerText : ProgramShape → Claim → (limit : ℕ) → (front : List ℕ) → (holds : Bool) → List ℕ → Type 0
 IsAnswerText p claim limit front holds text =
     (a : AnswerShape) × IsAnswerTo claim p (order_of front) a × (a.configurations ≤ limit)

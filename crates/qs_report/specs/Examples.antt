@@ -43,8 +43,8 @@ pub record CountedRunExamples : Type 0 where
       counted_report_text three counted_syncs
       ≡ codes "order 3\nticket bob 0 done\nticket ann 0 done\nb.front() = 0\nsync b 0\nticket bob 1 open\nsync z_9 12\nsync b 4294967295\nstates\nsyncs 3\nunfinished\n"
 
--- two withdrawals of 80 from an account of 100, and the value of an empty buffer; the last command of each block has not
--- run yet
+-- two withdrawals of 80 from an account of 100, and the value of an empty buffer; the last command of each block has
+-- not run yet
 abbrev pub counted_withdrawals : Played
 counted_withdrawals = record two_withdrew { sync_counts = (sync_count 0 1 ∷ sync_count 1 1 ∷ []) ∷ [] ∷ [] }
 

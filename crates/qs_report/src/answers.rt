@@ -62,8 +62,9 @@ fn put_witness_in(
     }
 }
 
-/// The text of the answer to a claim: the quantifier with `yes` or `no`; where there is a witness, the order that leads to
-/// it, the objects' lines and the clients' lines; and how many configurations were noted. An error says that an allocation failed, and nothing is left.
+/// The text of the answer to a claim: the quantifier with `yes` or `no`; where there is a witness, the order that leads
+/// to it, the objects' lines and the clients' lines; and how many configurations were noted. An error says that an
+/// allocation failed, and nothing is left.
 pub fn answer_text(
     alloc: Global,
     program: &Program,

@@ -18,8 +18,8 @@ fn put_most_line(out: &mut Vec<u8>, most: Option<u64>) -> Result<(), AllocError>
 }
 
 /// The text of an estimate: how many configurations there are at most, or that there may be more than the greatest
-/// number that is told; and how many there are at least where those of all orders are looked at, as `--throughout` does.
-/// An error says that an allocation failed, and nothing is left.
+/// number that is told; and how many there are at least where those of all orders are looked at, as `--throughout`
+/// does. An error says that an allocation failed, and nothing is left.
 pub fn estimate_text(alloc: Global, estimate: Estimate) -> Result<Vec<u8>, AllocError>
     ensures text { IfOk result (λ bytes. bytes.items ≡ text_of_estimate estimate) }
 {

@@ -13,7 +13,8 @@ module _ {S W X T : Type 0} where
     pub inside : group.inside ≡ rest.inside
 
 -- What came of the start inside of a group's.
-abbrev pub inside_of : {S V W A B T : Type 0} → Result (Group S V A T) (Group S W B T) → Result (Ended S A T) (Ended S B T)
+abbrev pub inside_of : {S V W A B T : Type 0} → Result (Group S V A T) (Group S W B T)
+    → Result (Ended S A T) (Ended S B T)
 inside_of (Ok ran) = Ok ran.inside
 inside_of (Err held) = Err held.inside
 
@@ -25,7 +26,8 @@ module _ {S A B T : Type 0} where
 
 module _ {S V W A B T : Type 0} where
   -- The worker ended as the rest of its group did, and the group has it behind the others.
-  abbrev pub IsWith : Result (Group S W A T) (Group S V B T) → Result W V → Result (Group S W A T) (Group S V B T) → Type 0
+  abbrev pub IsWith : Result (Group S W A T) (Group S V B T) → Result W V
+      → Result (Group S W A T) (Group S V B T) → Type 0
   IsWith (Ok rest) (Ok last) (Ok group) = HasOneMore last rest group
   IsWith (Err rest) (Err last) (Err group) = HasOneMore last rest group
   IsWith _ _ _ = ⊥

@@ -1,7 +1,7 @@
 -- A list of clients names an order whose blocks are run one after another: the blocks that were run so far and those
 -- that the rest of the list names make up the whole order. So where a client is not there, or has no block left, the
--- whole order is not legal; and at the end of the list the whole order was run. A legal order is named by the clients of
--- its tickets.
+-- whole order is not legal; and at the end of the list the whole order was run. A legal order is named by the clients
+-- of its tickets.
 use Rattle.std.proofs.Common.{◌≡◌, ℕ, suc, List, [], ◌∷◌, ◌++◌, map, refl, sym, ap, ap₂, ◌∙◌, subst, append_assoc, append-nil}
 use Rattle.qs_objects.specs.declared.held.Ticket.{Ticket}
 use Rattle.qs_program.specs.Program.{ProgramShape}

@@ -1,5 +1,5 @@
--- What is said of the requests that a handler runs: whether its object, as it stands before them, refuses a command or has
--- nothing to answer to a query.
+-- What is said of the requests that a handler runs: whether its object, as it stands before them, refuses a command or
+-- has nothing to answer to a query.
 use Rattle.std.specs.Prelude.{ℕ, ℤ, List, [], ◌∷◌, ◌++◌, codes, Option, Some, None}
 use Rattle.qs_objects.specs.Act.{State}
 use Rattle.qs_objects.specs.Journals.{after}

@@ -138,7 +138,8 @@ fn put_stepped(
     put(out, b"\n")
 }
 
-/// Puts the line of an actor that was asked to step: whether it stepped, and what it did then, by its object before that.
+/// Puts the line of an actor that was asked to step: whether it stepped, and what it did then, by its object before
+/// that.
 pub(crate) fn put_core_line(
     out: &mut Vec<u8>,
     program: &Program,

@@ -67,8 +67,8 @@ fn put_others(
     }
 }
 
-/// Puts commands, which the object runs one after another, each with its mark and with a space between each two. An error
-/// says that an allocation failed.
+/// Puts commands, which the object runs one after another, each with its mark and with a space between each two. An
+/// error says that an allocation failed.
 pub(crate) fn put_all_marked(
     out: &mut Vec<u8>,
     program: &Program,

@@ -1,6 +1,6 @@
 -- Each client of a checked program has a code in each mode: its graphs are there, and where synchronisations are
--- removed it can be decided at which of them the handler is held. So what is said of a machine's runs is said of some run
--- in each mode.
+-- removed it can be decided at which of them the handler is held. So what is said of a machine's runs is said of some
+-- run in each mode.
 use Rattle.std.proofs.Common.{◌≡◌, inl, inr, ⊎_elim, ◌∙◌, ℕ, suc, arith, Bool, true, false, List, [], ◌∷◌, length, map, refl, sym, subst}
 use Rattle.std.specs.List.{AllByRecursion, range_with_len}
 use Rattle.std.proofs.lemmas.List.{length-map}

@@ -39,7 +39,8 @@ pub record IsAdded (p : ProgramShape) (order : List Ticket) (before after : List
   pub new : ComesToNone p order (standings_in before)
 
 -- the end to which an order comes has this place, where it was or was added
-pub record IsPlaced (p : ProgramShape) (order : List Ticket) (place : ℕ) (before after : List CountedShape) : Type 0 where
+pub record IsPlaced (p : ProgramShape) (order : List Ticket) (place : ℕ) (before after : List CountedShape)
+    : Type 0 where
   pub came : CameTo p after order place
   pub either : (after ≡ before) ⊎ IsAdded p order before after
 

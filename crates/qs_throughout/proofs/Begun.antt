@@ -1,4 +1,5 @@
--- How many blocks each client has begun along a legal order: each ticket says it of its client. It goes ticket by ticket.
+-- How many blocks each client has begun along a legal order: each ticket says it of its client. It goes ticket by
+-- ticket.
 use Rattle.std.proofs.Common.{◌≡◌, ◌<◌, ◌≤◌, ◌+◌, ℕ, zero, suc, List, [], ◌∷◌, length, get_or, take, sym, ap, ◌∙◌, arith, add-one, ⊎_elim}
 use Rattle.std.specs.Prelude.{slice_set}
 use Rattle.qs_objects.specs.declared.held.Ticket.{Ticket}

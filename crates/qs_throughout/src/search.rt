@@ -192,8 +192,8 @@ fn take_in<Q: Question>(
     Ok(None)
 }
 
-// Notes where the next block of a client leads, if it has one left after so many that were begun. It is given back if it
-// is what the question asks for. The watcher hears of it if it is new.
+// Notes where the next block of a client leads, if it has one left after so many that were begun. It is given back if
+// it is what the question asks for. The watcher hears of it if it is new.
 fn note_next<Q: Question, W: Watcher>(
     alloc: Global,
     program: &Program,

@@ -1,6 +1,6 @@
--- A request of which its numbers say nothing fares otherwise in some state of its object's kind, which is given here. So
--- the test finds each request that is always refused or always answered by 0. The law on it, `CertaintiesAreAll`, is proved
--- here, by cases on the object and the operation, which arithmetic finds.
+-- A request of which its numbers say nothing fares otherwise in some state of its object's kind, which is given here.
+-- So the test finds each request that is always refused or always answered by 0. The law on it, `CertaintiesAreAll`, is
+-- proved here, by cases on the object and the operation, which arithmetic finds.
 use Rattle.std.proofs.Common.{◌≡◌, List, [], ◌∷◌, ℕ, zero, suc, pos, Some, None, IsSome, true, length, map, replicate, Option, arith, rules, refl, sym, ◌∙◌}
 use Rattle.std.proofs.lemmas.Grind.{common_steps}
 use Rattle.std.proofs.lemmas.List.{length-replicate, get_or-replicate}

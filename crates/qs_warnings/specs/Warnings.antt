@@ -82,8 +82,8 @@ client_warnings p c =
     ++ flat_map (block_warnings p c) (below (blocks_of p c))
     ++ flat_map (request_warnings p c) (below (blocks_of p c))
 
--- all that is warned of: that nothing is done; each object; and client by client its variables, its blocks' lists and its
--- blocks' requests
+-- all that is warned of: that nothing is done; each object; and client by client its variables, its blocks' lists and
+-- its blocks' requests
 abbrev pub warnings_of : ProgramShape → List Warning
 warnings_of p =
     if_so (is_empty p) Empty

@@ -1,5 +1,5 @@
--- What is noted, with what becomes of the statements from this one on, is the whole. A statement has fewer statements in
--- it than its list.
+-- What is noted, with what becomes of the statements from this one on, is the whole. A statement has fewer statements
+-- in it than its list.
 use Rattle.std.proofs.Common.{◌≡◌, ◌+◌, ◌*◌, ◌++◌, drop}
 use Rattle.qs_program.specs.Views.{single, size_of, statements_of}
 use Rattle.qs_warnings.specs.Certainties.{certainties_of}
