@@ -9,7 +9,7 @@ use crate::help;
 use clap::{Arg, ArgAction, Command, value_parser};
 use std::alloc::{AllocError, Global};
 
-const VERSION: &str = "0.9.0";
+const VERSION: &str = "1.0.0";
 
 fn option<'a>(alloc: Global, name: &'a str, value: &'a str, said: &'a str) -> Arg<'a>
     ensures rule { rule_of result ≡ option_rule name.entry.now }
