@@ -68,7 +68,7 @@ most_wide = 50
 abbrev pub layout_text : (places : ℕ) → List ℕ
 layout_text places =
     if nat_lt most_wide places
-    then codes "  graph [rankdir=LR, nodesep=0.1, ranksep=0.3, size=\"11,7.5\", ratio=compress];\n  node [fontsize=11, margin=\"0.08,0.04\"];\n  edge [fontsize=10];\n"
+    then codes "  graph [rankdir=LR, nodesep=0.1, ranksep=0.3];\n  node [fontsize=11, margin=\"0.08,0.04\"];\n  edge [fontsize=10];\n"
     else []
 
 -- how it is drawn, all places, and all edges

@@ -12,7 +12,7 @@ use Rattle.qs_report.proofs.UniqueEnds.{same_each}
 use Rattle.qs_text.proofs.SameOrders.{one_order}
 use Rattle.qs_json.specs.Pieces.{array_up_to, field, first_field, quoted}
 use Rattle.qs_json.specs.RunJson.{state_json}
-use Rattle.qs_json.specs.OutcomesJson.{variables_json}
+use Rattle.qs_json.specs.Variables.{variables_json}
 use Rattle.qs_json.specs.EndsJson.{EndsJsonIsUnique, IsEndsJson, end_json, ends_json}
 
 same_end : (p : ProgramShape) (s t : StandingShape) → IsSame s t → end_json p s ≡ end_json p t

@@ -12,7 +12,8 @@ use Rattle.qs_report.proofs.UniqueOutcomes.{IsSame, same_lists}
 use Rattle.qs_text.proofs.SameTexts.{same_texts}
 use Rattle.qs_json.specs.Pieces.{array_up_to, field, first_field, quoted}
 use Rattle.qs_json.specs.RunJson.{state_json}
-use Rattle.qs_json.specs.OutcomesJson.{head_json, listed_json, outcome_json, outcome_json_at, variables_json, IsOutcomesJson, OutcomesJsonIsUnique}
+use Rattle.qs_json.specs.OutcomesJson.{head_json, listed_json, outcome_json, outcome_json_at, IsOutcomesJson, OutcomesJsonIsUnique}
+use Rattle.qs_json.specs.Variables.{variables_json}
 
 same_outcome : (p : ProgramShape) (n : ℕ) (s t : StandingShape) → IsSame s t → outcome_json p n s ≡ outcome_json p n t
 same_outcome p n s t (order, e) = λ i.

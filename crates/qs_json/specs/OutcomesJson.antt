@@ -1,39 +1,24 @@
 -- All outcomes of a program: one object on a line for each, and one for how many there are.
-use Rattle.std.specs.Prelude.{◌≡◌, ◌≤◌, ◌+◌, ℕ, pos, List, [], ◌++◌, codes, decimal, length, slice_index_or}
-use Rattle.std.specs.Fmt.{signed_decimal}
+use Rattle.std.specs.Prelude.{◌≡◌, ◌≤◌, ◌+◌, ℕ, List, ◌++◌, codes, decimal, length, slice_index_or}
 use Rattle.qs_objects.specs.declared.held.Ticket.{Ticket}
-use Rattle.qs_program.specs.Numbering.{Name}
-use Rattle.qs_program.specs.Program.{ProgramShape, client_at, object_at}
-use Rattle.qs_program.specs.Values.{Locals}
+use Rattle.qs_program.specs.Program.{ProgramShape, object_at}
 use Rattle.qs_serial.specs.NamedOrders.{order_of}
-use Rattle.qs_meaning.specs.Serial.{zeros}
 use Rattle.qs_outcomes.specs.Outcomes.{AreOutcomesAfter, OutcomesShape}
-use Rattle.qs_standings.specs.Standings.{StandingShape}
+use Rattle.qs_standings.specs.Standings.{StandingShape, configuration_in}
 use Rattle.qs_report.specs.OutcomesText.{next_client_text, no_standing}
 use Rattle.qs_text.specs.Words.{no_state}
 use Rattle.qs_text.specs.Texts.{texts_up_to}
 use Rattle.qs_json.specs.Pieces.{array, array_up_to, field, first_field, quoted}
 use Rattle.qs_json.specs.RunJson.{state_json}
+use Rattle.qs_json.specs.Variables.{client_with}
 
 -- the client whose block comes next, as a part of a list for `--order`
 abbrev pub next_client_json : Ticket → List ℕ
 next_client_json t = quoted (next_client_text t)
 
--- a variable with its value, by its number
-abbrev pub variable_json : List Name → Locals → ℕ → List ℕ
-variable_json names l x =
-    first_field (codes "variable") (quoted (slice_index_or names x []))
-    ++ field (codes "value") (signed_decimal (slice_index_or l x (pos 0))) ++ codes "}"
-
--- the variables of a client, in the order of their first appearance
-abbrev pub variables_json : List Name → Locals → List ℕ
-variables_json names l = field (codes "variables") (array_up_to (length names) (variable_json names l))
-
 -- a client with its variables
 abbrev pub client_json : ProgramShape → StandingShape → ℕ → List ℕ
-client_json p s c =
-    first_field (codes "client") (quoted (client_at p c).name)
-    ++ variables_json (client_at p c).variables (slice_index_or s.locals c zeros) ++ codes "}"
+client_json p s c = client_with p (configuration_in s).locals c
 
 -- an object at the end
 abbrev pub object_json : ProgramShape → StandingShape → ℕ → List ℕ

@@ -8,6 +8,7 @@ use Rattle.qs_objects.specs.declared.held.Ticket.{Ticket}
 use Rattle.qs_objects.specs.declared.held.Event.{Event}
 use Rattle.qs_objects.specs.declared.object.Kind.{Kind}
 use Rattle.qs_objects.specs.declared.object.Kind.TheVariants as kinds
+use Rattle.qs_program.specs.Values.{Locals}
 use Rattle.qs_program.specs.Program.{ClientShape, ProgramShape, object_at, client_at, whole_load, whole_weight}
 use Rattle.qs_played.specs.Played.{Played}
 use Rattle.qs_fates.specs.Fates.{trace_fates}
@@ -17,6 +18,7 @@ use Rattle.qs_sync_counts.specs.declared.sync_counts.SyncCount.{SyncCount}
 use Rattle.qs_text.specs.Words.{first_ticket, no_state}
 use Rattle.qs_objects.specs.Operations.{word}
 use Rattle.qs_json.specs.Pieces.{array, array_up_to, field, first_field, quoted, truth}
+use Rattle.qs_json.specs.Variables.{clients_or_null}
 
 -- a query's reply; a command has none
 abbrev pub reply_json : Option ℤ → List ℕ
@@ -112,11 +114,12 @@ abbrev pub object_json : ProgramShape → Played → ℕ → List ℕ
 object_json p run h = state_json (object_at p h).name (slice_index_or run.states h no_state)
 
 -- the tickets in their order, each with its trace, and with its counts where they are asked for; the objects' states,
--- the number of syncs, and whether the run is finished
-abbrev pub run_json : (counts : Bool) → ProgramShape → Played → List ℕ
-run_json counts p run =
+-- the clients' variables at the end, the number of syncs, and whether the run is finished
+abbrev pub run_json : (counts : Bool) → ProgramShape → Played → Option (ℕ → Locals) → List ℕ
+run_json counts p run locals =
     first_field (codes "order") (array_up_to (length run.order) (ticket_json counts p run))
     ++ field (codes "states") (array_up_to (length run.states) (object_json p run))
+    ++ field (codes "clients") (clients_or_null p locals)
     ++ field (codes "syncs") (decimal run.syncs)
     ++ field (codes "finished") (truth run.finished) ++ codes "}\n"
 

@@ -6,7 +6,8 @@ ghost use Rattle.std.specs.List.{AllByRecursion, join_by};
 ghost use Rattle.qs_outcomes.specs.Outcomes.{HasPlaces};
 ghost use Rattle.qs_text.specs.Texts.{texts_up_to, Puts};
 ghost use Rattle.qs_json.specs.Pieces.{element, field, first_field, quoted};
-ghost use Rattle.qs_json.specs.OutcomesJson.{client_json, head_json, listed_json, next_client_json, object_json, outcome_json, outcome_json_at, standing_fields, variable_json, variables_json};
+ghost use Rattle.qs_json.specs.OutcomesJson.{client_json, head_json, listed_json, next_client_json, object_json, outcome_json, outcome_json_at, standing_fields};
+ghost use Rattle.qs_json.specs.Variables.{variable_json, variables_json};
 
 use crate::pieces::{put_client_name, put_comma, put_integer, put_string};
 use crate::states::put_state;

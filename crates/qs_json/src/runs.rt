@@ -1,22 +1,27 @@
 // A run.
 
-ghost use Rattle.std.specs.Prelude.{◌≡◌, ◌<◌, [], IfOk, OnOk, codes, false, length, slice_index_or};
+ghost use Rattle.std.specs.Prelude.{◌≡◌, ◌<◌, [], IfOk, IfSome, OnOk, codes, false, length, option_map, slice_index_or};
 ghost use Rattle.std.specs.List.{join_by};
 ghost use Rattle.qs_sync_counts.specs.SyncRows.{sync_count};
 ghost use Rattle.qs_fates.specs.Fates.{all_fates, trace_fates as fates_in};
+ghost use Rattle.qs_outcomes.specs.Outcomes.{HasPlaces};
+ghost use Rattle.qs_standings.specs.Standings.{configuration_in};
 ghost use Rattle.qs_text.specs.Words.{first_ticket};
 ghost use Rattle.qs_text.specs.Texts.{texts_up_to, Puts};
 ghost use Rattle.qs_json.specs.Pieces.{array, element, field};
 ghost use Rattle.qs_json.specs.RunJson as definitions;
 ghost use Rattle.qs_json.specs.RunJson.{block_json, object_json, sync_json, syncs_json, ticket_json, trace_json};
+ghost use Rattle.qs_json.specs.Variables.{clients_or_null};
 
 use crate::events::put_trace;
+use crate::outcomes::put_clients;
 use crate::pieces::{put_client_name, put_comma, put_object_name, put_truth};
 use crate::states::put_state;
 use qs_fates::{JournalFates, journal_fates, trace_fates};
 use qs_objects::Ticket;
 use qs_played::Played;
 use qs_program::Program;
+use qs_standings::Standing;
 use qs_text::{object_name, put_count, put_word};
 use std::alloc::{AllocError, Global};
 
@@ -201,17 +206,40 @@ fn put_objects(out: &mut Vec<u8>, program: &Program, played: &Played) -> Result<
     Ok(())
 }
 
+// The clients with their variables where the program stands at the end, or null, as a field.
+fn put_end_of_run(
+    out: &mut Vec<u8>,
+    program: &Program,
+    end: Option<&Standing>,
+) -> Result<(), AllocError>
+    requires places { IfSome end (λ standing. HasPlaces program.now standing.now) }
+    ensures ok { OnOk result (Puts (field (codes "clients")
+        (clients_or_null program.now (option_map (λ standing. (configuration_in standing.now).locals) end.entry))) out.old.items out.new.items) }
+{
+    put_word(out, b",\"clients\":")?;
+    let Some(standing) = end else {
+        return put_word(out, b"null");
+    };
+    put_word(out, b"[")?;
+    put_clients(out, program, standing)?;
+    put_word(out, b"]")
+}
+
 /// A run as one object on one line: the tickets in their order, each with its trace, in which each request says whether
-/// it was refused or found nothing, and with `counts` with its synchronisations for each object of its block's list; the
-/// objects' states; the number of syncs; and whether the run is finished. A number past the program's objects or clients
-/// has no name. An error says that an allocation failed, and nothing is left.
+/// it was refused or found nothing, and with `counts` with its synchronisations for each object of its block's list;
+/// the objects' states; the clients' variables where the program stands at the run's end, or null where no end is
+/// given; the number of syncs; and whether the run is finished. A number past the program's objects or clients has no
+/// name. An error says that an allocation failed, and nothing is left.
 pub fn run_json(
     alloc: Global,
     program: &Program,
     played: &Played,
+    end: Option<&Standing>,
     counts: bool,
 ) -> Result<Vec<u8>, AllocError>
-    ensures text { IfOk result (λ bytes. bytes.items ≡ definitions.run_json counts program.now played.now) }
+    requires places { IfSome end (λ standing. HasPlaces program.now standing.now) }
+    ensures text { IfOk result (λ bytes. bytes.items
+        ≡ definitions.run_json counts program.now played.now (option_map (λ standing. (configuration_in standing.now).locals) end.entry)) }
 {
     let fates = journal_fates(alloc, program, played)?;
     let mut out = Vec::new(alloc);
@@ -221,6 +249,7 @@ pub fn run_json(
     put_word(&mut out, b",\"states\":[")?;
     put_objects(&mut out, program, played)?;
     put_word(&mut out, b"]")?;
+    put_end_of_run(&mut out, program, end)?;
     put_count(&mut out, b",\"syncs\":", played.syncs())?;
     put_truth(&mut out, b",\"finished\":", played.is_finished())?;
     put_word(&mut out, b"}\n")?;

@@ -8,24 +8,30 @@ The language of scripts
 A script declares objects, and clients that use them. A # begins a comment, up to the end of its line. A script in the
 file my.script is played by `qs play < my.script`.
 
-  object a account 100                  an object: its name, its kind, and the numbers of its kind
+  object a account 100                  an object: its name, its kind, and the numbers that its kind has below
   client ann {                          a client, which runs its blocks one after another
     separate a b {                      a block: it reserves a and b, and no other client can use them until its }
       a.deposit(5);                     a command is sent, and the client goes on
-      x = a.balance();                  a query is waited for; it stands alone, and its reply is assigned
+      x = a.balance();                  a query is waited for, and its reply is always assigned
       y = x + 1;                        a value, or two values with one of +, - and * between them
       if x < 3 { .. } else { .. }       two values with ==, !=, <, <=, > or >=; `else { .. }` may be left out
-      repeat 10 { .. }                  so many times: a number from 0 to 1000
+      repeat 10 { .. }                  so many times: 0 to 1000, written as a number
       repeat 9 { if x == y { leave; } } `leave;` ends the innermost repeat
     }
   }
-  template pay(account p, account q) { separate p q { .. } }    blocks over formals, p and q
+  template pay(account p, account q) { separate p q { .. } }    blocks over formals, which stand for objects
   client bob = pay(a, b)                a client with these blocks on a and b, and with variables of its own
 
-A value is a number or a variable, and so is each argument of a request. Variables belong to a client, begin at 0, and
-keep their values from block to block; reports don't show them, `qs outcomes` does. Names are lower-case letters, digits
-and _, begin with a letter, and have at most 16 bytes; words of the language are no names. Numbers have at most 18
-digits, with a - where they are negative. A command that can't be done changes nothing and is counted as refused.
+The words on the right explain, and `..` stands for statements. An object is declared before it is used. It runs the
+requests of a block in their order, and those of the next block after them: so a query sees all that its block sent
+before, and a block all that the blocks before it left.
+
+A value is a number or a variable, and so is each argument of a request, which is sent as it is then. Variables belong
+to a client, begin at 0, and keep their values from block to block; `qs outcomes < my.script` shows them at the end, and
+a report does not. Names are lower-case letters, digits and _, begin with a letter, and have at most 16 bytes; no names
+are object, client, template, separate, if, else, repeat, leave, account, buffer and grid. Numbers have at most 18
+digits, with a - where they are negative. A command that can't be done changes nothing, and its object counts it as
+refused.
 
 Kinds of objects, and their operations:
 ";
@@ -39,9 +45,10 @@ pub const GRID: &[u8] =
     b"\n  grid R C, with R rows and C columns of numbers, 1 to 16 each, all 0; rows and columns are counted from 0\n";
 
 pub const TAIL: &[u8] = b"
-Which client comes first is for the schedule to say, and a block waits for nothing but its objects: a `put` on a full
-buffer is refused. The language has no wait conditions, no separate blocks inside one another, no loops around blocks,
-no `while`, no queries inside expressions, no texts, and no objects of your own kinds.
+Which client comes first is for the schedule to say, and blocks of others may come between two blocks of a client. A
+block waits for nothing but its objects: a `put` on a full buffer is refused. The language has no wait conditions, no
+separate blocks inside one another, no loops around blocks, no `while`, no `else if`, no queries inside expressions, no
+numbers as formals, no texts, and no objects of your own kinds.
 `qs --help` says what can be done with a script, and `qs WORD --help` its limits.
 ";
 

@@ -50,7 +50,11 @@ use Rattle.qs_estimate.specs.declared.estimate.Estimate.{Estimate}
 use Rattle.qs_repeats.specs.Repeats.{IsTallyBy}
 use Rattle.qs_tally.specs.Tallies.{CountedShape, IsEnd, TallyShape, standings_in}
 use Rattle.qs_syncset.specs.declared.mode.Mode.{Mode}
-use Rattle.qs_serve.specs.Due.{AreLinesFor, AreLinesWhere, IsAnswerAfterDue, IsAnswerTextTo, IsAnswered, IsCounted, IsDue, IsDueAfter, IsEstimateText, IsEstimated, answer_in, most_numbered, IsDueOfProgram, IsListOf, IsOutOfMemory, IsRefusedBy, IsReportBetween, IsReportOf, IsSomeText, IsTextBy, IsTextOfOutcomes, Lines, IsUnanswered, IsUnlisted, due_status, limit_in, listed_as, IsTextOfList, report_by, told_report}
+use Rattle.qs_played.specs.declared.schedule.actor.Actor.{Actor}
+use Rattle.qs_core_state.specs.CoreState.{IsShownIsolated}
+use Rattle.qs_played.specs.Isolation.{IsIsolated}
+use Rattle.qs_run_report.specs.RunReports.{report_by}
+use Rattle.qs_serve.specs.Due.{AreLinesFor, AreLinesWhere, IsAnswerAfterDue, IsAnswerTextTo, IsAnswered, IsCounted, IsDue, IsDueAfter, IsEstimateText, IsEstimated, answer_in, most_numbered, IsDueOfProgram, IsListOf, IsOutOfMemory, IsRefusedBy, IsReportBetween, IsReportOf, IsSomeText, IsTextBy, IsTextOfOutcomes, Lines, IsUnanswered, IsUnlisted, due_status, limit_in, listed_as, IsTextOfList, told_report}
 use Rattle.qs_serve.specs.declared.due.Due.{Due}
 use Rattle.qs_serve.specs.declared.due.Due.TheVariants.{Text, No, Refused}
 
@@ -334,3 +338,9 @@ pub due_with_any : (request : Request) (found lines : Lines) (p : ProgramShape) 
     → IsOutOfMemory due ⊎ IsDueOfProgram request found p due → IsOutOfMemory due ⊎ IsDueOfProgram request lines p due
 due_with_any request found lines p due are (inl memory) = inl memory
 due_with_any request found lines p due are (inr is) = inr (due_with_lines request found lines p due are is)
+
+-- the order of what the optimised machine shows is legal
+pub shown_is_legal : (p : ProgramShape) (mode : Mode) (size : ℕ) (picks : List Actor) (rounds : ℕ) (played : Played) → IsShownIsolated p mode size picks rounds played
+    → IsLegal p played.order
+unfolding IsShownIsolated IsIsolated
+shown_is_legal p mode size picks rounds played is = is.3.legal

@@ -1,7 +1,7 @@
 -- What is due by the answer of reading a line is due by the line: its result or fault, its format, the text that is
 -- kept, and that nothing is read where it asks for nothing. The function `due_of` stands on it. It goes by cases on the
 -- answer.
-use Rattle.std.proofs.Common.{◌≡◌, ◌⊎◌, ℕ, List, ◌∙◌, Option, None, Result, Ok, Err, false, sym, ap, subst, inl, inr}
+use Rattle.std.proofs.Common.{◌≡◌, ℕ, List, ◌∙◌, Option, None, Result, Ok, Err, false, sym, ap, subst, inl, inr}
 use Rattle.std.specs.Prelude.{IfErr, IfOk, OnErr, OnOk}
 use Rattle.qs_report.specs.declared.faults.Fault.TheVariants as fault
 use Rattle.qs_line.specs.declared.line.Format.{Format}

@@ -16,7 +16,7 @@ use Rattle.qs_dot.specs.ChartDot.{IsChartDot}
 use Rattle.qs_report.specs.declared.faults.Fault.{Fault}
 use Rattle.qs_report.specs.declared.faults.Fault.TheVariants as fault
 use Rattle.qs_report.specs.Faults.{fault_text, fault_status}
-use Rattle.qs_report.specs.Report.{styled_run_text, counts_text}
+use Rattle.qs_report.specs.Report.{counts_text}
 use Rattle.qs_report.specs.GraphText.{IsGraphText}
 use Rattle.qs_dot.specs.DotText.{IsDotText}
 use Rattle.qs_node_lines.specs.NodeLines.{node_lines}
@@ -32,7 +32,7 @@ use Rattle.qs_json.specs.FaultJson.{fault_json}
 use Rattle.qs_json.specs.GraphJson.{IsGraphJson}
 use Rattle.qs_json.specs.EndsJson.{IsEndsJson, ends_json}
 use Rattle.qs_json.specs.OutcomesJson.{IsOutcomesJson, listed_json}
-use Rattle.qs_json.specs.RunJson.{counts_json, run_json}
+use Rattle.qs_json.specs.RunJson.{counts_json}
 use Rattle.qs_report.specs.AnswerText.{IsAnswerText, is_yes, text_of_answer}
 use Rattle.qs_report.specs.EndsText.{IsEndsText, end_texts}
 use Rattle.qs_report.specs.EstimateText.{estimate_text}
@@ -62,7 +62,6 @@ use Rattle.qs_steps.specs.CoreQueues.{core_queues}
 use Rattle.qs_steps.specs.CoreSteps.{core_steps}
 use Rattle.qs_steps.specs.PlainQueues.{plain_queues}
 use Rattle.qs_steps.specs.PlainSteps.{plain_steps}
-use Rattle.qs_svg.specs.RunSvg.{run_svg}
 use Rattle.qs_run_laws.specs.Outcomes.{IsOutcome}
 use Rattle.qs_run.specs.Starts.{IsRefusal, LetAllStart, worker_count}
 use Rattle.qs_line.specs.Named.{actors_of, clients_of}
@@ -74,13 +73,12 @@ use Rattle.qs_line.specs.declared.line.GraphFormat.{GraphFormat}
 use Rattle.qs_line.specs.declared.line.GraphFormat.TheVariants as graph_format
 use Rattle.qs_line.specs.declared.line.OutcomesFormat.{OutcomesFormat}
 use Rattle.qs_line.specs.declared.line.OutcomesFormat.TheVariants as outcomes_format
-use Rattle.qs_line.specs.declared.line.ReportFormat.{ReportFormat}
-use Rattle.qs_line.specs.declared.line.ReportFormat.TheVariants as report_format
 use Rattle.qs_line.specs.declared.line.LineFault.{LineFault}
 use Rattle.qs_line.specs.declared.line.LineFault.TheVariants as line_fault
 use Rattle.qs_line.specs.declared.line.ReportStyle.{ReportStyle}
 use Rattle.qs_line.specs.declared.line.Settings.{Settings}
 use Rattle.qs_line.specs.Line.{Line, PlanShape, Request, ask, asks, by_order, by_schedule, check, estimate, format_by, format_of_request, graph, help, line_in, outcomes, play, refused, request_of, rules, run, tally, version}
+use Rattle.qs_run_report.specs.RunReports.{report_by}
 use Rattle.qs_serve.specs.Reading.{Reading}
 use Rattle.qs_serve.specs.declared.due.Due.{Due}
 use Rattle.qs_serve.specs.declared.due.Due.TheVariants.{Text, No, Refused}
@@ -125,16 +123,6 @@ IsTextOf (Err e) due = due ≡ Refused fault.Memory
 abbrev pub counts_by_format : Format → ProgramShape → List ℕ
 counts_by_format format.Text p = counts_text p
 counts_by_format format.Json p = counts_json p
-
--- the report of what was played, as text or as JSON, with the counts of synchronisations where they are asked for, or
--- as a picture; a text marks what was refused where that is asked for, and JSON and pictures always mark it
-abbrev pub report_in : ReportFormat → (refusals counts : Bool) → ProgramShape → Played → List ℕ
-report_in report_format.Text refusals counts p played = styled_run_text refusals counts p played
-report_in report_format.Json refusals counts p played = run_json counts p played
-report_in report_format.Svg refusals counts p played = run_svg p played
-
-abbrev pub report_by : ReportStyle → ProgramShape → Played → List ℕ
-report_by style p played = report_in style.format style.refusals style.counts p played
 
 -- a report, after the lines of its steps and before those of its queues
 abbrev pub told_report : (steps queues report : List ℕ) → List ℕ
@@ -292,10 +280,12 @@ IsTextOfOutcomes (outcomes_format.List format.Text) p limit clients text = IsOut
 IsTextOfOutcomes (outcomes_format.List format.Json) p limit clients text = IsOutcomesJson p limit clients text
 IsTextOfOutcomes (outcomes_format.Ends format.Text) p limit clients text = IsEndsText p limit clients text
 IsTextOfOutcomes (outcomes_format.Ends format.Json) p limit clients text = IsEndsJson p limit clients text
-IsTextOfOutcomes outcomes_format.Dot p limit clients text = IsChartDot p (limit_in outcomes_format.Dot limit) clients text
+IsTextOfOutcomes outcomes_format.Dot p limit clients text =
+    IsChartDot p (limit_in outcomes_format.Dot limit) clients text
 
 -- the answer to a claim on a program after the blocks of some clients, yes or no, as text or as JSON
-abbrev pub IsAnswerTextTo : Format → ProgramShape → Claim → (limit : ℕ) → (clients : List ℕ) → (holds : Bool) → List ℕ → Type 0
+abbrev pub IsAnswerTextTo : Format → ProgramShape → Claim → (limit : ℕ) → (clients : List ℕ) → (holds : Bool)
+    → List ℕ → Type 0
 IsAnswerTextTo format.Text p claim limit clients holds text = IsAnswerText p claim limit clients holds text
 IsAnswerTextTo format.Json p claim limit clients holds text = IsAnswerJson p claim limit clients holds text
 
@@ -310,8 +300,8 @@ IsAnswerBy _ p holds text = ⊥
 -- optimised machine; that of an outcome which its run on threads may have, or how often each end came in so many of
 -- these; after the blocks of some clients, how many configurations there can be; or, after these and of so many
 -- configurations at most, that a claim holds, or all its outcomes. Each is written in the format that is asked for, and
--- a report with what was refused and with the counts of synchronisations where they are asked for, after a line for each
--- step where these are, and before what lies where at the end of a run that has not finished.
+-- a report with what was refused and with the counts of synchronisations where they are asked for, after a line for
+-- each step where these are, and before what lies where at the end of a run that has not finished.
 abbrev pub IsTextBy : Request → Lines → ProgramShape → List ℕ → Type 0
 IsTextBy (check how) lines p text = text ≡ counts_by_format how p
 IsTextBy (graph how) lines p text = IsTextOfGraphs how lines p text

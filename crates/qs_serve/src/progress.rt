@@ -52,9 +52,9 @@ fn megabytes<F: Files>(files: &F) -> Option<u64> {
     Some(pages.saturating_mul(PAGE) / 1_000_000)
 }
 
-/// Shows on a terminal how many configurations a search has noted, and how much memory the program has in use, where the
-/// system says it: on one line, which is written anew at most ten times a second, and first once the search has taken
-/// that long. A writer or a clock that fails shows nothing.
+/// Shows on a terminal how many configurations a search has noted, and how much memory the program has in use, where
+/// the system says it: on one line, which is written anew at most ten times a second, and first once the search has
+/// taken that long. A writer or a clock that fails shows nothing.
 #[derive(Drop)]
 pub(crate) struct Progress<'a, C: Clock + Files, W: Write> {
     rt: &'a C,

@@ -1,53 +1,17 @@
 // The reports of what was played.
 
 ghost use Rattle.std.specs.Prelude.{◌≡◌, IfOk};
-ghost use Rattle.qs_report.specs.Report.{styled_run_text};
-ghost use Rattle.qs_serve.specs.Due.{IsReportBetween, IsReportOf, report_by, told_report};
+ghost use Rattle.qs_meaning.specs.Serial.{IsLegal};
+ghost use Rattle.qs_run_report.specs.RunReports.{report_by};
+ghost use Rattle.qs_serve.specs.Due.{IsReportBetween, IsReportOf, told_report};
 
 use crate::due::{Due, due_of_bytes};
 use qs_check::Program;
-use qs_json::run_json;
-use qs_line::{ReportFormat, ReportStyle};
+use qs_line::ReportStyle;
 use qs_played::{Outcome, Played};
-use qs_report::{report, report_counts, report_run, report_run_counts, report_with_refusals};
+use qs_run_report::{styled_report, styled_run_report};
 use qs_steps::Told;
-use qs_svg::run_svg;
 use std::alloc::{AllocError, Global};
-
-// The report of what was played as text, with what was refused and with the counts of synchronisations where they are
-// asked for.
-fn report_text(
-    alloc: Global,
-    program: &Program,
-    style: ReportStyle,
-    played: &Played,
-) -> Result<Vec<u8>, AllocError>
-    ensures text { IfOk result (λ text. text.items ≡ styled_run_text style.refusals style.counts program.now played.now) }
-{
-    if style.refusals {
-        report_with_refusals(alloc, program, played, style.counts)
-    } else if style.counts {
-        report_counts(alloc, program, played)
-    } else {
-        report(alloc, program, played)
-    }
-}
-
-// The report of what was played, in the style that is asked for.
-fn styled_report(
-    alloc: Global,
-    program: &Program,
-    style: ReportStyle,
-    played: &Played,
-) -> Result<Vec<u8>, AllocError>
-    ensures text { IfOk result (λ text. text.items ≡ report_by style program.now played.now) }
-{
-    match style.format {
-        ReportFormat::Text => report_text(alloc, program, style, played),
-        ReportFormat::Json => run_json(alloc, program, played, style.counts),
-        ReportFormat::Svg => run_svg(alloc, program, played),
-    }
-}
 
 /// The report of what was played, where it was written.
 pub(crate) fn due_of_played(
@@ -56,47 +20,12 @@ pub(crate) fn due_of_played(
     style: ReportStyle,
     played: Played,
 ) -> Due
+    requires legal { IsLegal program.now played.order }
     ensures due { IsReportOf style program.now played result }
 {
     let text = styled_report(alloc, program, style, &played);
     drop(played);
     due_of_bytes(text)
-}
-
-// The report of what ran on threads as text, with what was refused and with the counts of synchronisations where they
-// are asked for.
-fn run_report_text(
-    alloc: Global,
-    program: &Program,
-    style: ReportStyle,
-    outcome: &Outcome,
-) -> Result<Vec<u8>, AllocError>
-    ensures text { IfOk result (λ text. text.items ≡ styled_run_text style.refusals style.counts program.now outcome.now) }
-{
-    if style.refusals {
-        report_with_refusals(alloc, program, outcome.played(), style.counts)
-    } else if style.counts {
-        report_run_counts(alloc, program, outcome)
-    } else {
-        report_run(alloc, program, outcome)
-    }
-}
-
-// The report of what ran on threads, in the style that is asked for.
-fn styled_run_report(
-    alloc: Global,
-    program: &Program,
-    style: ReportStyle,
-    outcome: &Outcome,
-) -> Result<Vec<u8>, AllocError>
-    ensures text { IfOk result (λ text. text.items ≡ report_by style program.now outcome.now) }
-{
-    match style.format {
-        ReportFormat::Text => run_report_text(alloc, program, style, outcome),
-        ReportFormat::Json | ReportFormat::Svg => {
-            styled_report(alloc, program, style, outcome.played())
-        }
-    }
 }
 
 /// The report of what ran on threads, where it was written.
@@ -106,6 +35,7 @@ pub(crate) fn due_of_outcome(
     style: ReportStyle,
     outcome: Outcome,
 ) -> Due
+    requires legal { IsLegal program.now outcome.order }
     ensures due { IsReportOf style program.now outcome result }
 {
     let text = styled_run_report(alloc, program, style, &outcome);
@@ -130,6 +60,7 @@ fn report_between(
     style: ReportStyle,
     told: Told,
 ) -> Result<Vec<u8>, AllocError>
+    requires legal { IsLegal program.now told.played.order }
     ensures text { IfOk result (λ text. text.items ≡ told_report told.steps.items told.queues.items (report_by style program.now told.played)) }
 {
     let (steps, queues, played) = told.into_parts();
@@ -141,6 +72,7 @@ fn report_between(
 
 /// What is due for a run whose steps and queues were written: its report between them.
 pub(crate) fn due_of_told(alloc: Global, program: &Program, style: ReportStyle, told: Told) -> Due
+    requires legal { IsLegal program.now told.played.order }
     ensures due { IsReportBetween told.steps.items told.queues.items style program.now told.played result }
 {
     due_of_bytes(report_between(alloc, program, style, told))

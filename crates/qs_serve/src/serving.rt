@@ -30,8 +30,8 @@ use std::time::Clock;
 /// words; beside a result, how much of each limit is left where the line asks for it, and what is warned of in a script
 /// where `err` is a terminal or the line asks for it. Where the script comes from a terminal, too, it says so before it
 /// is read. While outcomes are searched for, a terminal shows how far the
-/// search is, and how much memory it has in use. That changes neither output nor status. Where the status is 0, `err` is no terminal and nothing of it is
-/// asked for, nothing is written to `err`.
+/// search is, and how much memory it has in use. That changes neither output nor status. Where the status is 0, `err`
+/// is no terminal and nothing of it is asked for, nothing is written to `err`.
 pub fn serve<'a, T: Threads + Wait + Clock + Files + Sync, R: Read, W: Write, E: Write>(
     rt: &T,
     alloc: Global,

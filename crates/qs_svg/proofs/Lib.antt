@@ -4,3 +4,4 @@ pub mod StretchEnds
 pub mod FatesOfRows
 pub mod FewShapes
 pub mod WholeStretches
+mod ToldValues

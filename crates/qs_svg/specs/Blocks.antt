@@ -133,7 +133,8 @@ column_names p l i t =
 abbrev pub column : ProgramShape → Played → Layout → ℕ → List Shape
 column p run l i =
     column_names p l i (ticket_at run i)
-    ++ (block_frame p (ticket_at run i) (ended_at run i) l i (first_row (objects_at run i)) (last_row (objects_at run i))
+    ++ (block_frame p (ticket_at run i) (ended_at run i) l i (first_row (objects_at run i))
+    (last_row (objects_at run i))
     ∷ [])
 
 -- how many blocks more there are

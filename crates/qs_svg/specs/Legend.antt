@@ -28,13 +28,14 @@ sign_shapes =
     ∷ codes "<text x='26' y='90'>command that was refused</text>\n"
     ∷ codes "<path class='side' d='M202,86a4,4 0 1 1 8,0a4,4 0 1 1-8,0z'/>\n"
     ∷ codes "<text x='216' y='90'>query of what is not there</text>\n"
-    ∷ codes "<text x='398' y='90'>under an object's name: how many requests it ran, and its last state</text>\n" ∷ []
+    ∷ codes "<text x='398' y='90'>under a name: how many requests it ran, and its last state</text>\n" ∷ []
 
--- colours for a light ground and for paper, and others for a dark screen; the colour of each client can be told from the others on both
+-- colours for a light ground and for paper, and others for a dark screen; the colour of each client can be told from
+-- the others on both
 abbrev pub style : List ℕ
 style =
     codes "<style>\n"
-    ++ codes "text{font:12px sans-serif;fill:#1c1c1c}.head{font-weight:bold}\n"
+    ++ codes "text{font:12px Helvetica,Arial,Liberation Sans,sans-serif;fill:#1c1c1c}.head{font-weight:bold}\n"
     ++ codes ".ground{fill:#fff}.sign{fill:#555}.side{fill:none;stroke:#555}\n"
     ++ codes ".c0{fill:#0060a8;stroke:#0060a8}.c1{fill:#b84a00;stroke:#b84a00}.c2{fill:#00795a;stroke:#00795a}.c3{fill:#a3317f;stroke:#a3317f}\n"
     ++ codes ".c4{fill:#6a4fc0;stroke:#6a4fc0}.c5{fill:#7d6400;stroke:#7d6400}.c6{fill:#c0262d;stroke:#c0262d}.c7{fill:#3f6470;stroke:#3f6470}\n"

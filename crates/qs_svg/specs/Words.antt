@@ -1,6 +1,6 @@
 -- What is said in words: of tickets, of objects, and of the whole run. Names are lower-case letters, digits and `_`
 -- alone, so nothing in a picture has to be escaped.
-use Rattle.std.specs.Prelude.{ℕ, ℤ, min, List, [], ◌++◌, codes, length, flat_map, Bool, if◌then◌else◌, nat_eq, nat_lt}
+use Rattle.std.specs.Prelude.{ℕ, ℤ, suc, ◌+◌, ◌-◌, List, [], ◌∷◌, ◌++◌, codes, length, flat_map, Bool, if◌then◌else◌, nat_eq, nat_le, nat_lt}
 use Rattle.std.specs.Fmt.{signed_decimal}
 use Rattle.qs_objects.specs.Act.{State}
 use Rattle.qs_objects.specs.Objects.{kind_of, values_of}
@@ -42,18 +42,26 @@ line_words e fate = word e.request.op ++ args_words e.request.args ++ reply_text
 abbrev pub counted : ℕ → (word : List ℕ) → List ℕ
 counted n word = with_number (codes "") n ++ word ++ (if nat_eq n 1 then [] else codes "s")
 
--- what an object holds, with so many of its values at most, and how many commands it refused
-abbrev pub most_told : ℕ
-most_told = 6
+-- what an object holds, with as many of its values as have room in so many characters, each with one that parts it from
+-- the next
+abbrev pub value_room : ℕ
+value_room = 13
 
--- the end of a list of so many values
-abbrev pub values_end : ℕ → List ℕ
-values_end n = if nat_lt most_told n then codes " ..]" else codes "]"
+abbrev pub value_size : ℤ → ℕ
+value_size z = length (signed_decimal z) + 1
+
+abbrev pub told_in : (room : ℕ) → List ℤ → ℕ
+told_in room [] = 0
+told_in room (z ∷ zs) = if nat_le (value_size z) room then suc (told_in (room - value_size z) zs) else 0
+
+-- the end of a list of so many values, of which so many are told
+abbrev pub values_end : (told values : ℕ) → List ℕ
+values_end told n = if nat_lt told n then codes " ..]" else codes "]"
 
 abbrev pub values_words : List ℤ → List ℕ
 values_words values =
-    codes "[" ++ texts_up_to (min (length values) most_told) (spaced_value values)
-    ++ values_end (length values)
+    codes "[" ++ texts_up_to (told_in value_room values) (spaced_value values)
+    ++ values_end (told_in value_room values) (length values)
 
 abbrev pub with_integer : List ℕ → ℤ → List ℕ
 with_integer word z = word ++ signed_decimal z

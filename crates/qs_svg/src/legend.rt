@@ -18,7 +18,7 @@ pub(crate) fn put_style(out: &mut Vec<u8>) -> Result<(), AllocError>
         out,
         &[
             b"<style>\n",
-            b"text{font:12px sans-serif;fill:#1c1c1c}.head{font-weight:bold}\n",
+            b"text{font:12px Helvetica,Arial,Liberation Sans,sans-serif;fill:#1c1c1c}.head{font-weight:bold}\n",
             b".ground{fill:#fff}.sign{fill:#555}.side{fill:none;stroke:#555}\n",
             b".c0{fill:#0060a8;stroke:#0060a8}.c1{fill:#b84a00;stroke:#b84a00}.c2{fill:#00795a;stroke:#00795a}.c3{fill:#a3317f;stroke:#a3317f}\n",
             b".c4{fill:#6a4fc0;stroke:#6a4fc0}.c5{fill:#7d6400;stroke:#7d6400}.c6{fill:#c0262d;stroke:#c0262d}.c7{fill:#3f6470;stroke:#3f6470}\n",
@@ -83,7 +83,7 @@ pub(crate) fn put_signs(out: &mut Vec<u8>) -> Result<(), AllocError>
             b"<text x='26' y='90'>command that was refused</text>\n",
             b"<path class='side' d='M202,86a4,4 0 1 1 8,0a4,4 0 1 1-8,0z'/>\n",
             b"<text x='216' y='90'>query of what is not there</text>\n",
-            b"<text x='398' y='90'>under an object's name: how many requests it ran, and its last state</text>\n",
+            b"<text x='398' y='90'>under a name: how many requests it ran, and its last state</text>\n",
         ],
     )
 }

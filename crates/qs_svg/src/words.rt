@@ -1,13 +1,14 @@
 // What is said in words.
 
-ghost use Rattle.std.specs.Prelude.{◌≡◌, ◌<◌, ◌++◌, OnOk, codes, flat_map, length, min};
+ghost use Rattle.std.specs.Prelude.{◌≡◌, ◌<◌, ◌≤◌, ◌++◌, OnOk, codes, flat_map, length};
 ghost use Rattle.std.specs.Fmt.{signed_decimal};
 ghost use Rattle.qs_objects.specs.Objects.{kind_of, values_of};
 ghost use Rattle.qs_objects.specs.declared.object.Kind.TheVariants as kinds;
 ghost use Rattle.qs_text.specs.Words.{args_text};
 ghost use Rattle.qs_text.specs.Texts.{Puts, spaced_value, texts_up_to};
-ghost use Rattle.qs_svg.specs.Words.{args_words, gap_words, block_words, content_words, entry_words, fate_words, line_words, most_told, state_words, ticket_words, stretch_words, values_end, values_words, with_integer};
+ghost use Rattle.qs_svg.specs.Words.{args_words, gap_words, block_words, content_words, entry_words, fate_words, line_words, state_words, ticket_words, told_in, stretch_words, value_room, value_size, values_end, values_words, with_integer};
 
+use itoa::Buffer;
 use qs_fates::Fate;
 use qs_objects::{Entry, Kind, Object, Ticket};
 use qs_program::Program;
@@ -93,8 +94,32 @@ pub(crate) fn put_line(out: &mut Vec<u8>, entry: &Entry, fate: Fate) -> Result<(
     put_word(out, words_of_fate(fate))
 }
 
-// So many values of an object are told.
-const MOST_TOLD: usize = 6;
+// The values of an object that are told take so many characters at most, each with one that parts it from the next.
+const VALUE_ROOM: usize = 13;
+
+// How many characters a value takes.
+fn size_of(value: i64) -> usize
+    ensures size { result ≡ value_size value }
+{
+    let mut buffer = Buffer::new();
+    buffer.format(value).len() + 1
+}
+
+// How many values of an object are told.
+fn values_told(object: &Object) -> usize
+    ensures told { result ≡ told_in value_room (values_of object.now.content) }
+    ensures few { result ≤ length (values_of object.now.content) }
+{
+    let mut room = VALUE_ROOM;
+    for place in 0..object.len() {
+        let size = size_of(object.value(place).unwrap_or(0));
+        if room < size {
+            return place;
+        }
+        room -= size;
+    }
+    object.len()
+}
 
 // One value of an object, with a space before it unless it is the first.
 fn put_value(out: &mut Vec<u8>, object: &Object, place: usize) -> Result<(), AllocError>
@@ -107,30 +132,32 @@ fn put_value(out: &mut Vec<u8>, object: &Object, place: usize) -> Result<(), All
     put_number(out, object.value(place).unwrap_or(0))
 }
 
-// The first values of an object, with a space between each two.
-fn put_first_values(out: &mut Vec<u8>, object: &Object) -> Result<(), AllocError>
-    ensures ok { OnOk result (Puts (texts_up_to (min (length (values_of object.now.content)) most_told) (spaced_value (values_of object.now.content))) out.old.items out.new.items) }
+// So many values of an object, with a space between each two.
+fn put_first_values(out: &mut Vec<u8>, object: &Object, told: usize) -> Result<(), AllocError>
+    requires { told ≤ length (values_of object.now.content) }
+    ensures ok { OnOk result (Puts (texts_up_to told (spaced_value (values_of object.now.content))) out.old.items out.new.items) }
 {
-    for place in 0..object.len().min(MOST_TOLD) {
+    for place in 0..told {
         put_value(out, object, place)?;
     }
     Ok(())
 }
 
-// How a list of so many values ends.
-fn closing(values: usize) -> &'static [u8]
-    ensures closing { result.now ≡ values_end values }
+// How a list of so many values ends, of which so many are told.
+fn closing(told: usize, values: usize) -> &'static [u8]
+    ensures closing { result.now ≡ values_end told values }
 {
-    if MOST_TOLD < values { b" ..]" } else { b"]" }
+    if told < values { b" ..]" } else { b"]" }
 }
 
 // The values of an object, between brackets.
 fn put_values(out: &mut Vec<u8>, object: &Object) -> Result<(), AllocError>
     ensures ok { OnOk result (Puts (values_words (values_of object.now.content)) out.old.items out.new.items) }
 {
+    let told = values_told(object);
     put_word(out, b"[")?;
-    put_first_values(out, object)?;
-    put_word(out, closing(object.len()))
+    put_first_values(out, object, told)?;
+    put_word(out, closing(told, object.len()))
 }
 
 // A word and a number.

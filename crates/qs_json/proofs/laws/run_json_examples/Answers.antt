@@ -6,7 +6,7 @@ use Rattle.qs_json.proofs.laws.run_json_examples.Goals as goal
 pub returns : goal.returns
 unfolding digits
 returns c = record {
-  runs = record { deposit = refl; no_step = refl; several = refl; refusals = refl; counted_deposit = refl; counted = refl; counts = refl };
+  runs = record { deposit = refl; no_step = refl; several = refl; refusals = refl; counted_deposit = refl; counted = refl; variables = refl; counts = refl };
   faults = record {
     command_line = refl;
     read_byte = refl;

@@ -2,7 +2,7 @@ use Rattle.std.proofs.Common.{ap₂, List}
 use Rattle.std.proofs.lemmas.Result.{on_ok_weaker}
 use Rattle.qs_program.specs.Numbering.{Name}
 use Rattle.qs_program.specs.Values.{Locals}
-use Rattle.qs_json.specs.OutcomesJson.{variables_json}
+use Rattle.qs_json.specs.Variables.{variables_json}
 use Rattle.qs_text.proofs.Parts.{named, then}
 use Rattle.qs_json.proofs.outcomes.put_client.Goals as goal
 

@@ -1,4 +1,4 @@
-use Rattle.qs_json.specs.OutcomesJson.{variable_json}
+use Rattle.qs_json.specs.Variables.{variable_json}
 use Rattle.qs_json.proofs.Elements.{one_element_more}
 use Rattle.qs_json.proofs.outcomes.put_values.Goals as goal
 

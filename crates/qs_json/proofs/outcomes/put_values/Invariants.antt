@@ -1,7 +1,7 @@
 -- The variables before this number are there.
 use Rattle.qs_text.specs.Texts.{texts_up_to, Puts}
 use Rattle.qs_json.specs.Pieces.{element}
-use Rattle.qs_json.specs.OutcomesJson.{variable_json}
+use Rattle.qs_json.specs.Variables.{variable_json}
 use Rattle.qs_json.proofs.outcomes.put_values.Given as goal
 
 abbrev pub invariant-loop-number : goal.invariant-loop-number

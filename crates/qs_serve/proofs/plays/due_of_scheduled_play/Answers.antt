@@ -8,9 +8,19 @@ use Rattle.qs_steps.specs.Telling.{played_in}
 use Rattle.qs_line.specs.Named.{actors_of}
 use Rattle.qs_line.specs.Line.{by_schedule, play}
 use Rattle.qs_serve.specs.Due.{AreQueuesOfPlay, AreStepsOfPlay, IsDueOfProgram, IsOutOfMemory}
-use Rattle.qs_serve.proofs.Dues.{alone, due_by_lines, due_by_report, lines_where, no_queues, no_steps, of_named}
+use Rattle.qs_serve.proofs.Dues.{alone, due_by_lines, due_by_report, lines_where, no_queues, no_steps, of_named, shown_is_legal}
 use Rattle.qs_serve.proofs.plays.due_of_scheduled_play.Goals as goal
 use Rattle.qs_serve.proofs.plays.due_of_scheduled_play.Goals.{in-Ok-play_told, in-Err-play_told}
+
+pub due_of_told-requires : goal.due_of_told-requires
+due_of_told-requires c = record {
+  legal = shown_is_legal c.args.program.now c.args.mode c.args.chunk c.as_slice.result.now c.args.rounds c.in-Ok-play_told.told.played c.in-Ok-play_told.ensures.isolated;
+}
+
+pub due_of_played-requires : goal.due_of_played-requires
+due_of_played-requires c = record {
+  legal = shown_is_legal c.args.program.now c.args.mode c.args.chunk c.as_slice-2.result.now c.args.rounds c.in-Ok-play.played c.in-Ok-play.ensures.isolated;
+}
 
 pub returns-then-is_told-clause-due : goal.returns-then-is_told-clause-due
 returns-then-is_told-clause-due c =

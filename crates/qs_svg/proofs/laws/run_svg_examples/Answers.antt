@@ -20,6 +20,7 @@ returns c = record {
     done_line = refl;
     account_state = refl;
     buffer_state = refl;
+    long_state = refl;
     one_request = refl;
     two_requests = refl;
     as_wide = refl;

@@ -1,4 +1,4 @@
-use Rattle.std.proofs.Common.{◌≡◌, ap, arith, length, min}
+use Rattle.std.proofs.Common.{◌≡◌, ap, arith}
 use Rattle.qs_objects.specs.Objects.{values_of}
 use Rattle.qs_text.specs.Texts.{spaced_value, texts_up_to}
 use Rattle.qs_text.proofs.Parts.{named, one_text_more}
@@ -11,5 +11,5 @@ loop-place-preserved c =
 pub returns : goal.returns
 returns c =
     let values = values_of c.args.object.now.content in
-    let all : c.loop-place.place ≡ min (length values) 6 = omega arith in
+    let all : c.loop-place.place ≡ c.args.told = omega arith in
     record { ok = named (ap (λ n. texts_up_to n (spaced_value values)) all) c.loop-place.invariant }
