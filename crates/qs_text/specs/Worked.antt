@@ -166,5 +166,6 @@ on_b_and_a =
     record {
       reserved = 1 ∷ 0 ∷ [];
       body = statements.query 0 balance
-          (statements.query 0 balance_of_b (statements.command deposit (statements.query 0 balance_of_b statements.end)));
+          (statements.query 0 balance_of_b
+            (statements.command deposit (statements.query 0 balance_of_b statements.end)));
     }
