@@ -167,5 +167,5 @@ on_b_and_a =
       reserved = 1 ∷ 0 ∷ [];
       body = statements.query 0 balance
           (statements.query 0 balance_of_b
-            (statements.command deposit (statements.query 0 balance_of_b statements.end)));
+          (statements.command deposit (statements.query 0 balance_of_b statements.end)));
     }

@@ -1,0 +1,98 @@
+//! A tour of the library, in pieces of some ten lines: a script becomes a program, which is played, run on threads,
+//! searched and asked about. What is printed depends on no schedule.
+#![tactic(auto)]
+
+mod playing;
+mod scripts;
+mod searching;
+mod threads;
+
+use qs_program::Program;
+use qs_syncset::Mode;
+use std::alloc::Global;
+use std::io;
+use std::io::Write;
+use std::process::ExitCode;
+use std::sync::Wait;
+use std::thread::Threads;
+
+// A heading, and below it what a piece of the tour answered.
+fn put<W: Write>(out: &mut W, heading: &str, text: Option<Vec<u8>>) -> io::Result<()> {
+    writeln!(out, "-- {heading}")?;
+    match text {
+        Some(text) => out.write_all(text.as_slice()),
+        None => writeln!(out, "refused"),
+    }
+}
+
+// The same for a few words.
+fn put_words<W: Write>(out: &mut W, heading: &str, words: &str) -> io::Result<()> {
+    writeln!(out, "-- {heading}")?;
+    writeln!(out, "{words}")
+}
+
+// What one thread plays.
+fn put_played<W: Write>(out: &mut W, alloc: Global, program: &Program) -> io::Result<()> {
+    let plain = playing::in_a_mode(alloc, program, Mode::Plain);
+    put(out, "played without coalescing", plain)?;
+    let both = playing::in_a_mode(alloc, program, Mode::Both);
+    put(out, "played with both kinds of coalescing", both)?;
+    let turned = playing::in_an_order(alloc, program, &[1, 0, 0]);
+    put(out, "played in an order, bob first", turned)
+}
+
+// What threads run.
+fn put_run<R: Threads + Wait + Sync, W: Write>(
+    out: &mut W,
+    rt: &R,
+    alloc: Global,
+    program: &Program,
+) -> io::Result<()> {
+    let begun = threads::second_handler_waits(rt, alloc, program);
+    let words = match begun {
+        Some(true) => "the handler of b began after that of a",
+        Some(false) => "the handler of b began first",
+        None => "refused",
+    };
+    put_words(out, "run on threads, with a gate of its own", words)?;
+    let words = if threads::is_refused(rt, alloc, program) {
+        "refused: its starter did not let the second worker start"
+    } else {
+        "not refused"
+    };
+    put_words(out, "run on threads, with a starter of its own", words)
+}
+
+// What a search finds.
+fn put_found<W: Write>(out: &mut W, alloc: Global, program: &Program) -> io::Result<()> {
+    let all = searching::all_outcomes(alloc, program);
+    put(out, "all outcomes", all)?;
+    let condition = "a.balance() + b.balance() == 201";
+    let words = match searching::holds_always(alloc, program, condition) {
+        Some(true) => "yes",
+        Some(false) => "no",
+        None => "refused",
+    };
+    put_words(out, condition, words)
+}
+
+fn tour<R: Threads + Wait + Sync, W: Write>(rt: &R, alloc: Global, out: &mut W) -> io::Result<()> {
+    let Some(program) = scripts::program(alloc, scripts::TRANSFER) else {
+        return put(out, "a script", None);
+    };
+    put_played(out, alloc, &program)?;
+    put_found(out, alloc, &program)?;
+    if let Some(chain) = scripts::program(alloc, scripts::ONE_AFTER_THE_OTHER) {
+        put_run(out, rt, alloc, &chain)?;
+    }
+    out.flush()
+}
+
+fn main(rt: HostRuntime) -> ExitCode {
+    let alloc = rt.alloc();
+    let mut out = io::writer(&rt);
+    match tour(&rt, alloc, &mut out) {
+        Ok(()) => ExitCode::SUCCESS,
+        Err(_) => ExitCode::FAILURE,
+    }
+}

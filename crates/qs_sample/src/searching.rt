@@ -1,0 +1,41 @@
+//! What a program can come to.
+
+use qs_conditions::{Claim, Quantifier, read_condition};
+use qs_outcomes::{Watcher, outcomes};
+use qs_program::Program;
+use qs_questions::{answer, first_unknown};
+use qs_report::outcomes_text;
+use std::alloc::Global;
+
+// Searches give up beyond so many configurations.
+const LIMIT: u32 = 10_000;
+
+/// Hears nothing of a search.
+#[derive(Drop)]
+struct Silent;
+
+impl Watcher for Silent {
+    fn noted(&mut self, _configurations: usize) {}
+}
+
+/// The list of all outcomes. `outcomes` leaves none out and lists each once, with an order that comes to it (clause
+/// *outcomes*); `Limit` comes only where there are more configurations (*limit*).
+pub fn all_outcomes(alloc: Global, program: &Program) -> Option<Vec<u8>> {
+    let all = outcomes(alloc, program, LIMIT).ok()?;
+    outcomes_text(alloc, program, &all).ok()
+}
+
+/// Whether a condition holds at the end of every run, None where it does not read, or speaks of what the program does
+/// not have. `answer` has a witness exactly where some outcome is another one (clause *answer*).
+pub fn holds_always(alloc: Global, program: &Program, text: &str) -> Option<bool> {
+    let condition = read_condition(alloc, text.as_bytes()).ok()?;
+    if first_unknown(&condition, program).is_some() {
+        return None;
+    }
+    let claim = Claim {
+        quantifier: Quantifier::Always,
+        condition,
+    };
+    let found = answer(alloc, program, &claim, &[], LIMIT, &mut Silent).ok()?;
+    Some(found.witness.is_none())
+}
