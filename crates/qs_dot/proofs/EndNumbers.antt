@@ -12,14 +12,15 @@ use Rattle.qs_standings.specs.Standings.{IsStanding, StandingShape}
 use Rattle.qs_text.specs.Texts.{texts_up_to}
 use Rattle.qs_dot.proofs.Charting.{each_got}
 use Rattle.qs_dot.proofs.Ends.{ends_are_outcomes}
-use Rattle.qs_dot.specs.EndText.{end_text, holds_text, number_in, same_text, values_text}
+use Rattle.qs_dot.specs.EndText.{end_text, holds_text, number_in, same_text}
+use Rattle.qs_text.specs.Variables.{variables_text}
 use Rattle.qs_dot.specs.ChartLaws.{EndsHaveNumbers, HasNumber}
 
 -- what an end says is said of its outcome
 same_end : (p : ProgramShape) (t s : StandingShape) → outcome_at t ≡ outcome_at s → end_text p t ≡ end_text p s
 same_end p t s e =
     ap (λ (o : OrderOutcome). texts_up_to (length p.objects) (λ h. holds_text (object_at p h).name (o.states h))
-    ++ texts_up_to (length p.clients) (λ c. codes "\\n" ++ (client_at p c).name ++ values_text (client_at p c).variables (o.locals c))) e
+    ++ texts_up_to (length p.clients) (λ c. codes "\\n" ++ (client_at p c).name ++ variables_text (client_at p c).variables (o.locals c))) e
 
 numbered : (p : ProgramShape) (text : List ℕ) (found : List StandingShape) → HasOne (λ t. end_text p t ≡ text) found → HasNumber p found text
 numbered p text [] h = absurd h

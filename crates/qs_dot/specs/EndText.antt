@@ -1,14 +1,12 @@
 -- What an outcome holds, on lines of its own, and its number among all outcomes.
-use Rattle.std.specs.Prelude.{ℕ, suc, Bool, List, [], ◌∷◌, ◌++◌, codes, length, if◌then◌else◌, pos, nat_eq, slice_index_or}
+use Rattle.std.specs.Prelude.{ℕ, suc, Bool, List, [], ◌∷◌, ◌++◌, codes, length, if◌then◌else◌, nat_eq, slice_index_or}
 use Rattle.std.specs.Cmp.Lexicographic.{pointwise}
-use Rattle.std.specs.Fmt.{signed_decimal}
 use Rattle.qs_objects.specs.Act.{State}
-use Rattle.qs_program.specs.Numbering.{Name}
 use Rattle.qs_program.specs.Program.{ProgramShape, client_at, object_at}
-use Rattle.qs_program.specs.Values.{Locals}
 use Rattle.qs_meaning.specs.Serial.{zeros}
 use Rattle.qs_standings.specs.Standings.{StandingShape}
 use Rattle.qs_text.specs.Texts.{texts_up_to}
+use Rattle.qs_text.specs.Variables.{variables_text}
 use Rattle.qs_text.specs.Words.{no_state, state_text}
 
 -- an object with what it holds and how many commands it refused, on a line of its own in a label
@@ -23,20 +21,11 @@ object_text p s h = holds_text (object_at p h).name (slice_index_or s.states h n
 abbrev pub objects_text : ProgramShape → StandingShape → List ℕ
 objects_text p s = texts_up_to (length p.objects) (object_text p s)
 
--- a variable with its value, by its number
-abbrev pub value_text : List Name → Locals → ℕ → List ℕ
-value_text names l x =
-    codes " " ++ slice_index_or names x [] ++ codes " " ++ signed_decimal (slice_index_or l x (pos 0))
-
--- all variables of a client
-abbrev pub values_text : List Name → Locals → List ℕ
-values_text names l = texts_up_to (length names) (value_text names l)
-
 -- a client with its variables, on a line of its own
 abbrev pub client_text : ProgramShape → StandingShape → ℕ → List ℕ
 client_text p s c =
     codes "\\n" ++ (client_at p c).name
-    ++ values_text (client_at p c).variables (slice_index_or s.locals c zeros)
+    ++ variables_text (client_at p c).variables (slice_index_or s.locals c zeros)
 
 -- all that an outcome holds: the objects, and the clients' variables
 abbrev pub end_text : ProgramShape → StandingShape → List ℕ

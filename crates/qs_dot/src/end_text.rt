@@ -4,12 +4,12 @@ ghost use Rattle.std.specs.Prelude.{◌≡◌, ◌<◌, ◌++◌, length, IfOk, 
 ghost use Rattle.std.specs.List.{AllByRecursion};
 ghost use Rattle.qs_outcomes.specs.Outcomes.{HasPlaces};
 ghost use Rattle.qs_text.specs.Texts.{texts_up_to};
-ghost use Rattle.qs_dot.specs.EndText.{client_text, end_text, holds_text, number_in, object_text, objects_text, value_text, values_text};
+ghost use Rattle.qs_dot.specs.EndText.{client_text, end_text, holds_text, number_in, object_text, objects_text};
 
 use qs_objects::Object;
-use qs_program::{Locals, Names, Program};
+use qs_program::Program;
 use qs_standings::Standing;
-use qs_text::{client_name, object_name, put, put_all, put_number, put_state, variable_name};
+use qs_text::{client_name, object_name, put, put_all, put_state, put_variables};
 use std::alloc::{AllocError, Global};
 
 // An object on a line of its own.
@@ -37,29 +37,6 @@ pub(crate) fn put_objects(
     Ok(())
 }
 
-// A variable with its value.
-fn put_value(
-    out: &mut Vec<u8>,
-    variables: &Names,
-    locals: &Locals,
-    number: usize,
-) -> Result<(), AllocError>
-    ensures ok { OnOk result (out.new.items ≡ out.old.items ++ value_text variables.now locals.now number) }
-{
-    put_all(out, &[b" ", variable_name(variables, number), b" "])?;
-    put_number(out, locals.get(number).copied().unwrap_or(0))
-}
-
-// All variables of a client.
-fn put_values(out: &mut Vec<u8>, variables: &Names, locals: &Locals) -> Result<(), AllocError>
-    ensures ok { OnOk result (out.new.items ≡ out.old.items ++ values_text variables.now locals.now) }
-{
-    for number in 0..variables.len() {
-        put_value(out, variables, locals, number)?;
-    }
-    Ok(())
-}
-
 // A client with its variables, on a line of its own.
 fn put_client(
     out: &mut Vec<u8>,
@@ -72,7 +49,7 @@ fn put_client(
     ensures ok { OnOk result (out.new.items ≡ out.old.items ++ client_text program.now standing.now client) }
 {
     put_all(out, &[b"\\n", client_name(program, client)])?;
-    put_values(out, program.variables(client), standing.locals(client))
+    put_variables(out, program.variables(client), standing.locals(client))
 }
 
 // All clients.

@@ -17,11 +17,12 @@ use crate::fault::OutcomesFault;
 use crate::question::{Nothing, Question};
 use crate::watcher::{Unwatched, Watcher};
 use indexmap::IndexSet;
-use qs_objects::{Object, Ticket};
-use qs_program::{Locals, MOST_VARIABLES, Program};
+use qs_objects::Ticket;
+use qs_program::Program;
 use qs_serial::names_order;
 use qs_standings::{
-    Draft, Hints, Last, Row, Standing, copied, insert, last_blocks, placed, row_starts, was_seen,
+    Last, Row, Scratch, Standing, copied, insert, last_blocks, placed, put_by, row_starts,
+    spare_standing, was_seen,
 };
 use std::alloc::{AllocError, Global};
 use std::marker::Model;
@@ -63,47 +64,6 @@ impl AllOutcomes {
     {
         self.configurations
     }
-}
-
-// What the search writes into again and again: the row of the standing that was taken up, what a next block leaves of
-// the client's variables and of the objects, and the row of where it leads; standings that are done with; and guesses
-// where rows stand.
-#[derive(Drop)]
-struct Scratch {
-    base: Draft,
-    values: Locals,
-    left: Vec<Object>,
-    row: Draft,
-    spare: Vec<Standing>,
-    hints: Hints,
-}
-
-impl Scratch {
-    // Nothing written yet.
-    fn new(alloc: Global, program: &Program) -> Result<Scratch, AllocError> {
-        Ok(Scratch {
-            base: Draft::new(alloc),
-            values: [0; MOST_VARIABLES],
-            left: Vec::new(alloc),
-            row: Draft::new(alloc),
-            spare: Vec::new(alloc),
-            hints: Hints::new(alloc, program)?,
-        })
-    }
-}
-
-// A standing to write into, one that is done with where there is any.
-fn spare_standing(alloc: Global, spare: &mut Vec<Standing>) -> Standing {
-    match spare.pop() {
-        Some(standing) => standing,
-        None => Standing::empty(alloc),
-    }
-}
-
-// Keeps a standing that is done with.
-fn put_by(spare: &mut Vec<Standing>, standing: Standing) -> Result<(), AllocError> {
-    spare.push(standing)?;
-    Ok(())
 }
 
 // Notes a standing's row: whether it is new.

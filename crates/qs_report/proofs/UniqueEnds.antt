@@ -11,7 +11,7 @@ use Rattle.qs_standings.specs.Standings.{StandingShape}
 use Rattle.qs_text.specs.Texts.{texts_up_to}
 use Rattle.qs_text.proofs.SameOrders.{one_order}
 use Rattle.qs_report.specs.EndsText.{EndsTextsAreUnique, IsEndsText, end_text, end_texts}
-use Rattle.qs_report.specs.OutcomesText.{variables_text}
+use Rattle.qs_text.specs.Variables.{variables_text}
 use Rattle.qs_report.specs.Report.{state_line}
 use Rattle.qs_report.proofs.UniqueOutcomes.{IsSame, same_lists}
 

@@ -20,7 +20,8 @@ use Rattle.qs_standings.specs.Standings.{IsStanding, StandingShape, configuratio
 use Rattle.qs_outcomes.proofs.Before.{before_both, not_before}
 use Rattle.qs_standings.proofs.Lists.{has_map, has_of, has_some}
 use Rattle.qs_standings.proofs.Stands.{below_or_past}
-use Rattle.qs_report.specs.OutcomesText.{IsOutcomesText, OutcomesTextsAreUnique, listed_text, no_standing, outcome_line, outcome_text, outcome_text_at, variables_text}
+use Rattle.qs_report.specs.OutcomesText.{IsOutcomesText, OutcomesTextsAreUnique, listed_text, no_standing, outcome_line, outcome_text, outcome_text_at}
+use Rattle.qs_text.specs.Variables.{variables_text}
 use Rattle.qs_report.specs.Report.{state_line}
 use Rattle.qs_text.specs.Texts.{count_line, texts_up_to}
 use Rattle.qs_text.proofs.SameTexts.{same_texts}

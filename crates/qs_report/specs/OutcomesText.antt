@@ -1,11 +1,8 @@
 -- All outcomes of a program, as bytes.
-use Rattle.std.specs.Prelude.{◌≡◌, ◌≤◌, ◌+◌, ℕ, pos, List, [], ◌∷◌, ◌++◌, codes, decimal, length, slice_index_or}
-use Rattle.std.specs.Fmt.{signed_decimal}
+use Rattle.std.specs.Prelude.{◌≡◌, ◌≤◌, ◌+◌, ℕ, List, [], ◌∷◌, ◌++◌, codes, decimal, length, slice_index_or}
 use Rattle.std.specs.List.{join_by}
 use Rattle.qs_objects.specs.declared.held.Ticket.{Ticket}
-use Rattle.qs_program.specs.Numbering.{Name}
 use Rattle.qs_program.specs.Program.{ProgramShape, client_at, object_at}
-use Rattle.qs_program.specs.Values.{Locals}
 use Rattle.qs_serial.specs.NamedOrders.{order_of}
 use Rattle.qs_meaning.specs.Serial.{zeros}
 use Rattle.qs_outcomes.specs.Outcomes.{AreOutcomesAfter, OutcomesShape}
@@ -13,6 +10,7 @@ use Rattle.qs_standings.specs.Standings.{StandingShape}
 use Rattle.qs_text.specs.Words.{no_state}
 use Rattle.qs_report.specs.Report.{state_line}
 use Rattle.qs_text.specs.Texts.{count_line, texts_up_to}
+use Rattle.qs_text.specs.Variables.{variables_text}
 
 -- the client whose block comes next
 abbrev pub next_client_text : Ticket → List ℕ
@@ -26,14 +24,6 @@ clients_text (t ∷ ts) = join_by next_client_text (codes ",") (t ∷ ts)
 -- the number of an outcome, from 1, and an order that comes to it
 abbrev pub outcome_line : ℕ → List Ticket → List ℕ
 outcome_line n order = codes "outcome " ++ decimal n ++ codes " " ++ clients_text order ++ codes "\n"
-
--- a variable with its value, by its number
-abbrev pub variable_text : List Name → Locals → ℕ → List ℕ
-variable_text names l x =
-    codes " " ++ slice_index_or names x [] ++ codes " " ++ signed_decimal (slice_index_or l x (pos 0))
-
-abbrev pub variables_text : List Name → Locals → List ℕ
-variables_text names l = texts_up_to (length names) (variable_text names l)
 
 -- a client with its variables, in the order of their first appearance
 abbrev pub client_line : ProgramShape → StandingShape → ℕ → List ℕ

@@ -3,15 +3,15 @@
 ghost use Rattle.std.specs.Prelude.{◌≡◌, ◌<◌, ◌++◌, codes, flat_map, length, slice_index_or, IfOk, OnOk};
 ghost use Rattle.std.specs.List.{AllByRecursion};
 ghost use Rattle.qs_outcomes.specs.Outcomes.{HasPlaces};
-ghost use Rattle.qs_report.specs.OutcomesText.{client_line, clients_text, listed_text, next_client_text, no_standing, object_line, outcome_line, outcome_text, outcome_text_at, variable_text, variables_text};
+ghost use Rattle.qs_report.specs.OutcomesText.{client_line, clients_text, listed_text, next_client_text, no_standing, object_line, outcome_line, outcome_text, outcome_text_at};
 ghost use Rattle.qs_text.specs.Texts.{texts_up_to};
 
 use crate::states::put_state_line;
 use itoa::Buffer;
 use qs_objects::Ticket;
 use qs_outcomes::{AllOutcomes, Standing};
-use qs_program::{Locals, Names, Program};
-use qs_text::{client_name, object_name, put, put_all, put_count_line, put_number, variable_name};
+use qs_program::Program;
+use qs_text::{client_name, object_name, put, put_all, put_count_line, put_variables};
 use std::alloc::{AllocError, Global};
 
 // The client whose block comes next.
@@ -55,29 +55,6 @@ fn put_outcome_line(out: &mut Vec<u8>, number: usize, order: &[Ticket]) -> Resul
     put_all(out, &[b"outcome ", buffer.format(number).as_bytes(), b" "])?;
     put_clients_in(out, order)?;
     put(out, b"\n")
-}
-
-// A variable with its value.
-fn put_variable(
-    out: &mut Vec<u8>,
-    variables: &Names,
-    locals: &Locals,
-    number: usize,
-) -> Result<(), AllocError>
-    ensures ok { OnOk result (out.new.items ≡ out.old.items ++ variable_text variables.now locals.now number) }
-{
-    put_all(out, &[b" ", variable_name(variables, number), b" "])?;
-    put_number(out, locals.get(number).copied().unwrap_or(0))
-}
-
-// All variables of a client.
-fn put_variables(out: &mut Vec<u8>, variables: &Names, locals: &Locals) -> Result<(), AllocError>
-    ensures ok { OnOk result (out.new.items ≡ out.old.items ++ variables_text variables.now locals.now) }
-{
-    for number in 0..variables.len() {
-        put_variable(out, variables, locals, number)?;
-    }
-    Ok(())
 }
 
 // A client with its variables at the end.

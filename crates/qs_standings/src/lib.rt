@@ -7,6 +7,7 @@ mod front;
 mod going;
 mod hints;
 mod rows;
+mod scratch;
 mod standing;
 mod table;
 
@@ -15,5 +16,6 @@ pub use front::{placed, standing_after};
 pub use going::{Last, last_blocks};
 pub use hints::Hints;
 pub use rows::{Draft, Row, row_starts};
+pub use scratch::{Scratch, put_by, spare_standing};
 pub use standing::Standing;
 pub use table::{insert, was_seen};

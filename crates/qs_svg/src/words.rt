@@ -1,10 +1,8 @@
 // What is said in words.
 
-ghost use Rattle.std.specs.Prelude.{◌≡◌, ◌<◌, ◌≤◌, ◌++◌, OnOk, codes, flat_map, length};
-ghost use Rattle.std.specs.Fmt.{signed_decimal};
+ghost use Rattle.std.specs.Prelude.{◌≡◌, ◌<◌, ◌≤◌, OnOk, length};
 ghost use Rattle.qs_objects.specs.Objects.{kind_of, values_of};
 ghost use Rattle.qs_objects.specs.declared.object.Kind.TheVariants as kinds;
-ghost use Rattle.qs_text.specs.Words.{args_text};
 ghost use Rattle.qs_text.specs.Texts.{Puts, spaced_value, texts_up_to};
 ghost use Rattle.qs_svg.specs.Words.{args_words, gap_words, block_words, content_words, entry_words, fate_words, line_words, state_words, ticket_words, told_in, stretch_words, value_room, value_size, values_end, values_words, with_integer};
 
@@ -13,8 +11,8 @@ use qs_fates::Fate;
 use qs_objects::{Entry, Kind, Object, Ticket};
 use qs_program::Program;
 use qs_text::{
-    client_name, ended_word, object_name, put, put_count, put_number, put_reply, put_whole_request,
-    put_word,
+    client_name, ended_word, object_name, put_args, put_count, put_number, put_reply,
+    put_whole_request, put_word,
 };
 use std::alloc::AllocError;
 
@@ -43,32 +41,6 @@ pub(crate) fn put_entry(
     put_word(out, words_of_fate(fate))
 }
 
-// Further arguments, each after a comma.
-fn put_others(out: &mut Vec<u8>, args: &[i64]) -> Result<(), AllocError>
-    ensures ok { OnOk result (out.new.items
-        ≡ out.old.items ++ flat_map (λ arg. codes "," ++ signed_decimal arg) args.now) }
-{
-    for arg in args {
-        put(out, b",")?;
-        put_number(out, *arg)?;
-    }
-    Ok(())
-}
-
-// The arguments, joined by commas.
-fn put_joined(out: &mut Vec<u8>, args: &[i64]) -> Result<(), AllocError>
-    ensures ok { OnOk result (out.new.items ≡ out.old.items ++ args_text args.now) }
-{
-    match args {
-        [] => Ok(()),
-        [only] => put_number(out, *only),
-        [first, others @ ..] => {
-            put_number(out, *first)?;
-            put_others(out, others)
-        }
-    }
-}
-
 // What stands before so many arguments.
 fn gap(count: usize) -> &'static [u8]
     ensures gap { result.now ≡ gap_words count }
@@ -77,11 +49,11 @@ fn gap(count: usize) -> &'static [u8]
 }
 
 // The arguments, after a space where there are some.
-fn put_args(out: &mut Vec<u8>, args: &[i64]) -> Result<(), AllocError>
+fn put_spaced_args(out: &mut Vec<u8>, args: &[i64]) -> Result<(), AllocError>
     ensures ok { OnOk result (Puts (args_words args.now) out.old.items out.new.items) }
 {
     put_word(out, gap(args.len()))?;
-    put_joined(out, args)
+    put_args(out, args)
 }
 
 /// Puts a request as it stands in the row of its object.
@@ -89,7 +61,7 @@ pub(crate) fn put_line(out: &mut Vec<u8>, entry: &Entry, fate: Fate) -> Result<(
     ensures ok { OnOk result (Puts (line_words entry.now fate) out.old.items out.new.items) }
 {
     put_word(out, entry.request.op.word())?;
-    put_args(out, entry.request.args.as_slice())?;
+    put_spaced_args(out, entry.request.args.as_slice())?;
     put_reply(out, entry.reply)?;
     put_word(out, words_of_fate(fate))
 }

@@ -2,6 +2,7 @@
 pub mod Texts
 pub mod Blocks
 pub mod Words
+pub mod Variables
 pub mod SortedTexts
 -- What crates promise one another, what proofs use, and worked examples.
 pub mod Watched

@@ -10,6 +10,7 @@ mod names;
 mod requests;
 mod sorted;
 mod states;
+mod variables;
 mod watching;
 
 pub use blocks::{Block, BlockWriter, put_blocks};
@@ -20,7 +21,8 @@ pub use held::held_at;
 pub use names::{
     client_name, declared_name, object_name, put_named, put_names, short_name, variable_name,
 };
-pub use requests::{ended_word, put_reply, put_request, put_whole_request};
+pub use requests::{ended_word, put_args, put_reply, put_request, put_whole_request};
 pub use sorted::sorted_text;
 pub use states::put_state;
+pub use variables::put_variables;
 pub use watching::{Watch, write_text, write_texts};

@@ -23,9 +23,9 @@ fn put_others(out: &mut Vec<u8>, args: &[i64]) -> Result<(), AllocError>
     Ok(())
 }
 
-// The arguments, joined by commas.
+/// Puts arguments at the end, joined by commas. An error says that an allocation failed.
 #[inline(always)]
-fn put_args(out: &mut Vec<u8>, args: &[i64]) -> Result<(), AllocError>
+pub fn put_args(out: &mut Vec<u8>, args: &[i64]) -> Result<(), AllocError>
     ensures ok { OnOk result (out.new.items ≡ out.old.items ++ args_text args.now) }
 {
     match args {

@@ -1,6 +1,6 @@
 use Rattle.qs_text.proofs.Joined.{one_place_more}
-use Rattle.qs_report.specs.OutcomesText.{variable_text}
-use Rattle.qs_report.proofs.outcomes.put_variables.Goals as goal
+use Rattle.qs_text.specs.Variables.{variable_text}
+use Rattle.qs_text.proofs.variables.put_variables.Goals as goal
 
 pub loop-number-preserved : goal.loop-number-preserved
 loop-number-preserved c =

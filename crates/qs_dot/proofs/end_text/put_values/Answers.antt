@@ -1,7 +1,0 @@
-use Rattle.qs_text.proofs.Joined.{one_place_more}
-use Rattle.qs_dot.specs.EndText.{value_text}
-use Rattle.qs_dot.proofs.end_text.put_values.Goals as goal
-
-pub loop-number-preserved : goal.loop-number-preserved
-loop-number-preserved c =
-    one_place_more (value_text c.args.variables.now c.args.locals.now) c.loop-number.number _ _ _ c.loop-number.invariant c.in_ok-put_value.ensures.ok
