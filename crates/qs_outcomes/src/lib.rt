@@ -12,4 +12,4 @@ pub use fault::OutcomesFault;
 pub use qs_standings::Standing;
 pub use question::Question;
 pub use search::{AllOutcomes, ask_watched, outcomes, outcomes_after, outcomes_watched};
-pub use watcher::Watcher;
+pub use watcher::{Unwatched, Watcher};

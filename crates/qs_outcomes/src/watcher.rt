@@ -7,9 +7,9 @@ pub trait Watcher {
     fn noted(&mut self, configurations: usize);
 }
 
-// Who hears nothing.
+/// Who hears nothing.
 #[derive(Drop)]
-pub(crate) struct Unwatched;
+pub struct Unwatched;
 
 impl Watcher for Unwatched {
     fn noted(&mut self, _configurations: usize) {}

@@ -2,7 +2,10 @@
 //! searched and asked about. What is printed depends on no schedule.
 #![tactic(auto)]
 
+mod lanes;
+mod minds;
 mod playing;
+mod scheduling;
 mod scripts;
 mod searching;
 mod threads;
@@ -38,7 +41,23 @@ fn put_played<W: Write>(out: &mut W, alloc: Global, program: &Program) -> io::Re
     let both = playing::in_a_mode(alloc, program, Mode::Both);
     put(out, "played with both kinds of coalescing", both)?;
     let turned = playing::in_an_order(alloc, program, &[1, 0, 0]);
-    put(out, "played in an order, bob first", turned)
+    put(out, "played in an order, bob first", turned)?;
+    let own = scheduling::clients_first(alloc, program, Mode::Both);
+    put(out, "played by a scheduler of its own", own)
+}
+
+// What parts do that are driven by hand.
+fn put_by_hand<R: Wait, W: Write>(out: &mut W, rt: &R, alloc: Global) -> io::Result<()> {
+    let words = match lanes::lent_balance(rt, alloc) {
+        Some(7) => "an account of 7 was lent through a lane",
+        _ => "refused",
+    };
+    put_words(out, "a lane by hand", words)?;
+    let words = match minds::after_an_empty_block(alloc) {
+        Some(true) => "the handler closed with its object",
+        _ => "refused",
+    };
+    put_words(out, "a handler's mind by hand", words)
 }
 
 // What threads run.
@@ -82,6 +101,7 @@ fn tour<R: Threads + Wait + Sync, W: Write>(rt: &R, alloc: Global, out: &mut W) 
     };
     put_played(out, alloc, &program)?;
     put_found(out, alloc, &program)?;
+    put_by_hand(out, rt, alloc)?;
     if let Some(chain) = scripts::program(alloc, scripts::ONE_AFTER_THE_OTHER) {
         put_run(out, rt, alloc, &chain)?;
     }

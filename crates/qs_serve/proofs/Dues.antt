@@ -1,6 +1,7 @@
 -- Out of memory is always a due answer, the status 4 is due only after a read has failed, the status 0 only with a
--- text, and the report of a run is due where the line asked for that run. The function `serve` and those that find what
--- is due stand on it. Each goes by cases on what the line asks for and on the answer.
+-- text, the report of a run is due where the line asked for that run, and what is due of the program of a text is due of
+-- the text. The function `serve` and those that find what is due stand on it. Each goes by cases on what the line asks
+-- for and on the answer.
 use Rattle.std.proofs.Common.{◌≡◌, ◌≤◌, ◌⊎◌, ◌||◌, if◌then◌else◌, ℕ, Bool, List, [], ◌∷◌, ◌∙◌, Option, Some, None, Result, Ok, true, false, refl, sym, subst, inl, inr, IsOkAnd}
 use Rattle.std.proofs.lemmas.List.{append-nil}
 use Rattle.qs_played.specs.Played.{Played}
@@ -16,6 +17,13 @@ use Rattle.qs_serial.specs.declared.fault.OrderFault.TheVariants as order_fault
 use Rattle.qs_outcomes.specs.Outcomes.{AreOutcomesAfter, OutcomesShape}
 use Rattle.qs_outcomes.specs.declared.fault.OutcomesFault.{OutcomesFault}
 use Rattle.qs_outcomes.specs.declared.fault.OutcomesFault.TheVariants as outcomes_fault
+use Rattle.qs_tree.specs.declared.tree.Item.{Item}
+use Rattle.qs_script.specs.declared.fault.ReadFault.{ReadFault}
+use Rattle.qs_script.specs.Reads.{IsRefused, IsScriptText}
+use Rattle.qs_fault_places.specs.declared.fault.CheckFault.{CheckFault}
+use Rattle.qs_check.specs.Checked.{IsCheckOf, fault_of}
+use Rattle.qs_resolution.specs.Resolve.{program_of_items}
+use Rattle.qs_node_lines.specs.NodeLines.{node_lines}
 use Rattle.qs_report.specs.EndsText.{IsEndsText}
 use Rattle.qs_report.specs.OutcomesText.{IsOutcomesText}
 use Rattle.qs_json.specs.EndsJson.{IsEndsJson}
@@ -30,7 +38,7 @@ use Rattle.qs_line.specs.declared.line.ReportStyle.{ReportStyle}
 use Rattle.qs_line.specs.Line.{Line, Request, ask, asks, check, estimate, graph, help, outcomes, play, refused, rules, run, tally, version}
 use Rattle.qs_conditions.specs.declared.claim.Claim.{Claim}
 use Rattle.qs_outcomes.specs.Answers.{AnswerShape}
-use Rattle.std.specs.Prelude.{IfSome}
+use Rattle.std.specs.Prelude.{Err, IfErr, IfOk, IfSome, MatchBool}
 use Rattle.std.specs.List.{AllByRecursion}
 use Rattle.qs_objects.specs.declared.held.Ticket.{Ticket}
 use Rattle.qs_meaning.specs.Configurations.{OrderOutcome}
@@ -54,7 +62,8 @@ use Rattle.qs_played.specs.declared.schedule.actor.Actor.{Actor}
 use Rattle.qs_core_state.specs.CoreState.{IsShownIsolated}
 use Rattle.qs_played.specs.Isolation.{IsIsolated}
 use Rattle.qs_run_report.specs.RunReports.{report_by}
-use Rattle.qs_serve.specs.Due.{AreLinesFor, AreLinesWhere, IsAnswerAfterDue, IsAnswerTextTo, IsAnswered, IsCounted, IsDue, IsDueAfter, IsEstimateText, IsEstimated, answer_in, most_numbered, IsDueOfProgram, IsListOf, IsOutOfMemory, IsRefusedBy, IsReportBetween, IsReportOf, IsSomeText, IsTextBy, IsTextOfOutcomes, Lines, IsUnanswered, IsUnlisted, due_status, limit_in, listed_as, IsTextOfList, told_report}
+use Rattle.qs_serve.specs.Due.{AreLinesFor, AreLinesWhere, IsAnswerAfterDue, IsAnswerTextTo, IsAnswered, IsCounted, IsDue, IsDueAfter, IsEstimateText, IsEstimated, answer_in, most_numbered, IsDueOfProgram, IsDueOfText, IsDueOfTextAlone, IsDueWithoutThreads, IsListOf, IsOutOfMemory, IsProgramOf, IsRefusedBy, IsReportBetween, IsReportOf, IsSomeText, IsTextBy, IsTextOfOutcomes, Lines, IsUnanswered, IsUnlisted, IsUnreadable, due_status, limit_in, listed_as, IsTextOfList, takes_threads, told_report}
+use Rattle.qs_serve.specs.Prepared.{prepared_by}
 use Rattle.qs_serve.specs.declared.due.Due.{Due}
 use Rattle.qs_serve.specs.declared.due.Due.TheVariants.{Text, No, Refused}
 
@@ -344,3 +353,85 @@ pub shown_is_legal : (p : ProgramShape) (mode : Mode) (size : ℕ) (picks : List
     → IsLegal p played.order
 unfolding IsShownIsolated IsIsolated
 shown_is_legal p mode size picks rounds played is = is.3.legal
+
+-- the program of a text that was checked
+pub program_by_check : (request : Request) (text : List ℕ) (s : List Item) (found : Lines) (checked : Result ProgramShape CheckFault) → IsScriptText text s
+    → AreLinesFor request found (node_lines text s) → IsCheckOf s checked
+    → IfOk (prepared_by found checked) (λ it. IsProgramOf request text it.lines it.program)
+program_by_check request text s found (Ok p) script are is = (s, script, is.0, is.1, are)
+program_by_check request text s found (Err f) script are is = tt
+
+-- the fault of a text that was checked
+pub fault_by_check : (text : List ℕ) (s : List Item) (found : Lines) (checked : Result ProgramShape CheckFault) → IsScriptText text s → IsCheckOf s checked
+    → IfErr (prepared_by found checked) (IsUnreadable text)
+fault_by_check text s found (Ok p) script is = tt
+fault_by_check text s found (Err check_fault.Memory) script is = inl tt
+fault_by_check text s found (Err f) script is = inr (s, script, is (λ e. absurd (cc e)))
+
+-- and of a text that was read
+pub fault_by_read : (text : List ℕ) (f : ReadFault) → IsRefused f text → IsUnreadable text (fault.Read f)
+fault_by_read text f is = inr is
+
+-- what is due of the program of a text is due of the text
+by_program : (request : Request) (text : List ℕ) (s : List Item) (due : Due) → IsScriptText text s → fault_of s ≡ None
+    → IsDueOfProgram request (node_lines text s) (program_of_items s) due → IsDueOfText request text due
+by_program request text s (Text bytes) script sound is = (s, script, sound, is)
+by_program request text s (No bytes) script sound is = (s, script, sound, is)
+by_program request text s (Refused fault.CommandLine) script sound is = (s, script, sound, is)
+by_program request text s (Refused (fault.Play f)) script sound is = (s, script, sound, is)
+by_program request text s (Refused (fault.Order f)) script sound is = (s, script, sound, is)
+by_program request text s (Refused (fault.Run f)) script sound is = (s, script, sound, is)
+by_program request text s (Refused (fault.Outcomes f)) script sound is = (s, script, sound, is)
+by_program request text s (Refused fault.Memory) script sound is = absurd is
+by_program request text s (Refused fault.Input) script sound is = absurd is
+by_program request text s (Refused (fault.Read f)) script sound is = absurd is
+by_program request text s (Refused (fault.Check f)) script sound is = absurd is
+
+pub due_by_program : (request : Request) (text : List ℕ) (found : Lines) (p : ProgramShape) (due : Due) → IsProgramOf request text found p
+    → IsOutOfMemory due ⊎ IsDueOfProgram request found p due → IsOutOfMemory due ⊎ IsDueOfText request text due
+due_by_program request text found p due of (inl memory) = inl memory
+due_by_program request text found p due (s, script, sound, e, are) (inr is) =
+    inr (by_program request text s due script sound
+    (subst (λ q. IsDueOfProgram request (node_lines text s) q due) e (due_with_lines request found (node_lines text s) p due are is)))
+
+-- why a text has no program is due of the text
+pub due_by_fault : (request : Request) (text : List ℕ) (f : Fault) → IsUnreadable text f → IsOutOfMemory (Refused f) ⊎ IsDueOfText request text (Refused f)
+due_by_fault request text f (inl memory) = inl memory
+due_by_fault request text (fault.Read f) (inr is) = inr is
+due_by_fault request text (fault.Check f) (inr is) = inr is
+due_by_fault request text fault.CommandLine (inr is) = absurd is
+due_by_fault request text fault.Memory (inr is) = absurd is
+due_by_fault request text fault.Input (inr is) = absurd is
+due_by_fault request text (fault.Play f) (inr is) = absurd is
+due_by_fault request text (fault.Order f) (inr is) = absurd is
+due_by_fault request text (fault.Run f) (inr is) = absurd is
+due_by_fault request text (fault.Outcomes f) (inr is) = absurd is
+
+-- and it is no fault of the input
+pub unreadable_is_no_input : (text : List ℕ) (f : Fault) → IsUnreadable text f → ¬ IsRefusedBy fault.Input (Refused f)
+unreadable_is_no_input text fault.Input (inl memory) = absurd memory
+unreadable_is_no_input text fault.Input (inr is) = absurd is
+unreadable_is_no_input text fault.CommandLine is = λ e. absurd (cc e)
+unreadable_is_no_input text fault.Memory is = λ e. absurd (cc e)
+unreadable_is_no_input text (fault.Read f) is = λ e. absurd (cc e)
+unreadable_is_no_input text (fault.Check f) is = λ e. absurd (cc e)
+unreadable_is_no_input text (fault.Play f) is = λ e. absurd (cc e)
+unreadable_is_no_input text (fault.Order f) is = λ e. absurd (cc e)
+unreadable_is_no_input text (fault.Run f) is = λ e. absurd (cc e)
+unreadable_is_no_input text (fault.Outcomes f) is = λ e. absurd (cc e)
+
+-- where there are no threads: what takes them is refused, and all else is due as ever
+pub refused_alone : (request : Request) (text : List ℕ) (due : Due) → takes_threads request ≡ true → IsRefusedBy fault.CommandLine due
+    → IsDueOfTextAlone request text due
+refused_alone request text due e is =
+    inr (subst (λ b. MatchBool b (IsRefusedBy fault.CommandLine due) (IsDueOfText request text due)) (sym e) is)
+
+pub due_alone : (request : Request) (text : List ℕ) (due : Due) → takes_threads request ≡ false → IsOutOfMemory due ⊎ IsDueOfText request text due
+    → IsDueOfTextAlone request text due
+due_alone request text due e (inl memory) = inl memory
+due_alone request text due e (inr is) = inr (subst (λ b. MatchBool b (IsRefusedBy fault.CommandLine due) (IsDueOfText request text due)) (sym e) is)
+
+pub made_alone : (request : Request) (lines : Lines) (p : ProgramShape) (due : Due) → takes_threads request ≡ false
+    → IsDueWithoutThreads request lines p due → IsOutOfMemory due ⊎ IsDueOfProgram request lines p due
+made_alone request lines p due e (inl memory) = inl memory
+made_alone request lines p due e (inr is) = inr (subst (λ b. MatchBool b (IsRefusedBy fault.CommandLine due) (IsDueOfProgram request lines p due)) e is)

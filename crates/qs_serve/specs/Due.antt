@@ -471,6 +471,40 @@ IsDueOfText request text (Refused (fault.Outcomes f)) =
     (s : List Item) × IsScriptText text s × (fault_of s ≡ None) × IsUnlistedBy request (program_of_items s) f
 IsDueOfText request text (Refused _) = ⊥
 
+-- why a text has no program: it is no script, or its script is refused
+abbrev pub IsFaultOfText : List ℕ → Fault → Type 0
+IsFaultOfText text (fault.Read f) = IsRefused f text
+IsFaultOfText text (fault.Check f) = (s : List Item) × IsScriptText text s × (fault_of s ≡ Some f)
+IsFaultOfText text _ = ⊥
+
+-- the same, or that an allocation failed
+abbrev pub IsUnreadable : List ℕ → Fault → Type 0
+IsUnreadable text f = IsOutOfMemory (Refused f) ⊎ IsFaultOfText text f
+
+-- the program of a text, and the lines of the text for the nodes of its graphs where a request draws these
+abbrev pub IsProgramOf : Request → List ℕ → (found : Lines) → ProgramShape → Type 0
+IsProgramOf request text found p =
+    (s : List Item) × IsScriptText text s × (fault_of s ≡ None) × (p ≡ program_of_items s)
+    × AreLinesFor request found (node_lines text s)
+
+-- a request for runs on threads
+abbrev pub takes_threads : Request → Bool
+takes_threads (run style mode size) = true
+takes_threads (tally how mode size times) = true
+takes_threads _ = false
+
+-- what a request makes of a program where there are no threads: what takes them is refused, as a fault of the line
+abbrev pub IsDueWithoutThreads : Request → Lines → ProgramShape → Due → Type 0
+IsDueWithoutThreads request lines p due =
+    IsOutOfMemory due
+    ⊎ MatchBool (takes_threads request) (IsRefusedBy fault.CommandLine due) (IsDueOfProgram request lines p due)
+
+-- what a request makes of a text where there are no threads
+abbrev pub IsDueOfTextAlone : Request → List ℕ → Due → Type 0
+IsDueOfTextAlone request text due =
+    IsOutOfMemory due
+    ⊎ MatchBool (takes_threads request) (IsRefusedBy fault.CommandLine due) (IsDueOfText request text due)
+
 -- What a run on threads has asked its starter: its report is due, or an allocation failed in writing it, only where all
 -- workers were let start; and the run is refused only as a refused run asks.
 abbrev pub HasAsked : {S : Type 0} → (S → ℕ → Bool → S → Type 0) → ProgramShape → S → S → Due → Type 0
@@ -516,6 +550,18 @@ format_of_answer (Err f) = format.Text
 abbrev pub IsTextOfMemory : Due → Format → Type 0
 IsTextOfMemory due format.Text = IsRefusedBy fault.Memory due
 IsTextOfMemory due format.Json = ⊥
+
+-- what is due by a line and a script's text where there are no threads; the texts of help and of the version are clap's,
+-- and the page on the language is that of `qs_language`
+abbrev pub IsDueOfLine : Line → List ℕ → Due → Type 0
+IsDueOfLine refused text due = IsRefusedBy fault.Memory due ⊎ IsRefusedBy fault.CommandLine due
+IsDueOfLine help text due = IsRefusedBy fault.Memory due ⊎ IsSomeText due
+IsDueOfLine version text due = IsRefusedBy fault.Memory due ⊎ IsSomeText due
+IsDueOfLine (asks request) text due = IsDueOfTextAlone request text due
+
+-- it is written in the format that the line asks for; or that memory ran out is said as text, before the line was read
+abbrev pub IsFormatOfLine : Line → Due → Format → Type 0
+IsFormatOfLine line due how = (how ≡ format_by line) ⊎ IsTextOfMemory due how
 
 -- what is due is written in the format that the line asks for; or that memory ran out is said as text, before the line
 -- was read, so that nothing of the input was read

@@ -2,5 +2,6 @@
 pub mod Reading
 pub mod Due
 -- What crates promise one another, what proofs use, and worked examples.
+pub mod Prepared
 pub mod Input
 pub mod Told

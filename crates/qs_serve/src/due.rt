@@ -1,10 +1,11 @@
 // What a run has to write.
 
-ghost use Rattle.std.specs.Prelude.{◌≡◌, ◌+◌, ◌≤◌, ◌⊎◌, [], false, length, IfErr, IfOk, IfSome, OnErr, OnOk, None, map};
+ghost use Rattle.std.specs.Prelude.{◌≡◌, ◌+◌, ◌≤◌, ◌⊎◌, [], false, length, Err, IfErr, IfOk, IfSome, OnErr, OnOk, None, map};
 ghost use Rattle.qs_report.specs.declared.faults.Fault.TheVariants as fault;
 ghost use Rattle.qs_line.specs.declared.line.OutcomesFormat.TheVariants as outcomes_format;
 ghost use Rattle.qs_line.specs.Line.{ask, asks, check, graph, line_in, outcomes, request_by, request_of, run};
-ghost use Rattle.qs_serve.specs.Due.{AreLinesFor, HasAsked, IsAnswerAfterDue, IsAnswered, IsDue, IsDueAfter, IsDueOfFault, IsDueOfList, IsDueOfProgram, IsDueOfText, IsFormat, IsTextKept, IsKeptBy, IsRefusedBy, IsListOf, IsTextOf, IsOutOfMemory, due_status, format_of_answer, listed_as, longest};
+ghost use Rattle.qs_serve.specs.Due.{AreLinesFor, HasAsked, IsAnswerAfterDue, IsAnswered, IsDue, IsDueAfter, IsDueOfFault, IsDueOfList, IsDueOfProgram, IsDueOfText, IsDueWithoutThreads, IsFormat, IsTextKept, IsKeptBy, IsProgramOf, IsRefusedBy, IsListOf, IsTextOf, IsOutOfMemory, IsUnreadable, due_status, format_of_answer, listed_as, longest};
+ghost use Rattle.qs_serve.specs.Prepared.{prepared_by};
 ghost use Rattle.qs_node_lines.specs.NodeLines.{node_lines};
 ghost use Rattle.qs_tree.specs.Limits.{longest_text};
 ghost use Rattle.qs_script.specs.Reads.{IsReadOf, IsScriptText};
@@ -286,10 +287,9 @@ fn due_of_outcomes<P: Watcher>(
     }
 }
 
-// What settings make of a program: a run by the plain rules, in the optimised machine or on threads, a tally of many
-// runs, an estimate, the answer to a claim, all outcomes, the counts, or the graphs.
-fn due_of_program<T: Threads + Wait + Sync, P: Watcher>(
-    rt: &T,
+/// What settings make of a program: a run by the plain rules or in the optimised machine, an estimate, the answer to a
+/// claim, all outcomes, the counts, or the graphs. What takes threads is refused, as a fault of the command line.
+pub(crate) fn due_of_program<P: Watcher>(
     alloc: Global,
     settings: &Settings,
     program: &Program,
@@ -297,7 +297,7 @@ fn due_of_program<T: Threads + Wait + Sync, P: Watcher>(
     watcher: &mut P,
 ) -> Due
     ensures not_input { ¬ IsRefusedBy fault.Input result }
-    ensures due { IsOutOfMemory result ⊎ IsDueOfProgram (request_of settings.now) lines.now program.now result }
+    ensures due { IsDueWithoutThreads (request_of settings.now) lines.now program.now result }
 {
     match settings {
         Settings::Rules { style, plan } => due_of_rules(alloc, program, *style, plan),
@@ -307,15 +307,7 @@ fn due_of_program<T: Threads + Wait + Sync, P: Watcher>(
             chunk,
             plan,
         } => due_of_play(alloc, program, *style, *mode, *chunk, plan),
-        Settings::Run { style, mode, chunk } => {
-            due_of_run(rt, alloc, program, *style, *mode, *chunk, &mut FreeStart)
-        }
-        Settings::Tally {
-            format,
-            mode,
-            chunk,
-            times,
-        } => due_of_tally(rt, alloc, program, *format, *mode, *chunk, *times),
+        Settings::Run { .. } | Settings::Tally { .. } => Due::Refused(Fault::CommandLine),
         Settings::Estimate { format, front } => {
             due_of_estimate(alloc, program, *format, front.as_slice())
         }
@@ -343,6 +335,13 @@ fn due_of_program<T: Threads + Wait + Sync, P: Watcher>(
     }
 }
 
+/// The program of a script's text, and the lines of the text for the nodes of its graphs, where these are to be drawn.
+#[derive(Drop)]
+pub(crate) struct PreparedText {
+    pub program: Program,
+    pub lines: NodeLines,
+}
+
 // The lines of a script's text for the nodes of its graphs, where these are to be drawn; else none are looked for.
 fn lines_for(
     alloc: Global,
@@ -361,6 +360,95 @@ fn lines_for(
     }
 }
 
+// The program of a script that was checked with the lines for its nodes, or the fault by which it was refused.
+fn prepared_checked(
+    lines: NodeLines,
+    checked: Result<Program, CheckFault>,
+) -> Result<PreparedText, Fault>
+    ensures exact { result ≡ prepared_by lines checked }
+{
+    match checked {
+        Ok(program) => Ok(PreparedText { program, lines }),
+        Err(fault) => Err(Fault::Check(fault)),
+    }
+}
+
+// The program of a script.
+fn prepared_script(
+    alloc: Global,
+    settings: &Settings,
+    text: &[u8],
+    script: Script,
+) -> Result<PreparedText, Fault>
+    requires script { IsScriptText text.now script }
+    ensures program { IfOk result (λ it. IsProgramOf (request_of settings.now) text.now it.lines it.program) }
+    ensures fault { IfErr result (IsUnreadable text.now) }
+{
+    let Ok(lines) = lines_for(alloc, settings, text, &script) else {
+        return Err(Fault::Memory);
+    };
+    let checked = check(alloc, script);
+    prepared_checked(lines, checked)
+}
+
+// The program of a text that was read, or the fault by which it was refused.
+fn prepared_read(
+    alloc: Global,
+    settings: &Settings,
+    text: &[u8],
+    script: Result<Script, ReadFault>,
+) -> Result<PreparedText, Fault>
+    requires read { IsReadOf text.now script }
+    ensures program { IfOk result (λ it. IsProgramOf (request_of settings.now) text.now it.lines it.program) }
+    ensures fault { IfErr result (IsUnreadable text.now) }
+    ensures unread { IfErr script (λ f. result ≡ Err (fault.Read f)) }
+{
+    match script {
+        Ok(script) => prepared_script(alloc, settings, text, script),
+        Err(fault) => Err(Fault::Read(fault)),
+    }
+}
+
+/// The program of a script's text, and the lines for the nodes of its graphs, where the settings ask for a drawing of
+/// these. An error says why the text is no script, why its script is refused, or that an allocation failed.
+pub(crate) fn prepared(
+    alloc: Global,
+    settings: &Settings,
+    text: &[u8],
+) -> Result<PreparedText, Fault>
+    ensures program { IfOk result (λ it. IsProgramOf (request_of settings.now) text.now it.lines it.program) }
+    ensures fault { IfErr result (IsUnreadable text.now) }
+{
+    let script = read(alloc, text);
+    prepared_read(alloc, settings, text, script)
+}
+
+// What settings make of a program: one run on threads or many, or what takes none.
+fn due_of_prepared<T: Threads + Wait + Sync, P: Watcher>(
+    rt: &T,
+    alloc: Global,
+    settings: &Settings,
+    program: &Program,
+    lines: &NodeLines,
+    watcher: &mut P,
+) -> Due
+    ensures not_input { ¬ IsRefusedBy fault.Input result }
+    ensures due { IsOutOfMemory result ⊎ IsDueOfProgram (request_of settings.now) lines.now program.now result }
+{
+    match settings {
+        Settings::Run { style, mode, chunk } => {
+            due_of_run(rt, alloc, program, *style, *mode, *chunk, &mut FreeStart)
+        }
+        Settings::Tally {
+            format,
+            mode,
+            chunk,
+            times,
+        } => due_of_tally(rt, alloc, program, *format, *mode, *chunk, *times),
+        _ => due_of_program(alloc, settings, program, lines, watcher),
+    }
+}
+
 // What settings make of a text.
 fn due_of_text<T: Threads + Wait + Sync, P: Watcher>(
     rt: &T,
@@ -372,66 +460,9 @@ fn due_of_text<T: Threads + Wait + Sync, P: Watcher>(
     ensures not_input { ¬ IsRefusedBy fault.Input result }
     ensures due { IsOutOfMemory result ⊎ IsDueOfText (request_of settings.now) text.now result }
 {
-    let script = read(alloc, text);
-    due_of_read(rt, alloc, settings, text, script, watcher)
-}
-
-// What settings make of a text that was read, or the fault by which it was refused.
-fn due_of_read<T: Threads + Wait + Sync, P: Watcher>(
-    rt: &T,
-    alloc: Global,
-    settings: &Settings,
-    text: &[u8],
-    script: Result<Script, ReadFault>,
-    watcher: &mut P,
-) -> Due
-    requires read { IsReadOf text.now script }
-    ensures not_input { ¬ IsRefusedBy fault.Input result }
-    ensures fault { IfErr script (λ f. IsRefusedBy (fault.Read f) result) }
-    ensures due { IsOutOfMemory result ⊎ IsDueOfText (request_of settings.now) text.now result }
-{
-    match script {
-        Ok(script) => due_of_script(rt, alloc, settings, text, script, watcher),
-        Err(fault) => Due::Refused(Fault::Read(fault)),
-    }
-}
-
-// What settings make of a script.
-fn due_of_script<T: Threads + Wait + Sync, P: Watcher>(
-    rt: &T,
-    alloc: Global,
-    settings: &Settings,
-    text: &[u8],
-    script: Script,
-    watcher: &mut P,
-) -> Due
-    requires script { IsScriptText text.now script }
-    ensures not_input { ¬ IsRefusedBy fault.Input result }
-    ensures due { IsOutOfMemory result ⊎ IsDueOfText (request_of settings.now) text.now result }
-{
-    let Ok(lines) = lines_for(alloc, settings, text, &script) else {
-        return Due::Refused(Fault::Memory);
-    };
-    let checked = check(alloc, script);
-    due_of_checked(rt, alloc, settings, &lines, checked, watcher)
-}
-
-// What settings make of the program of a script, or the fault by which the script was refused.
-fn due_of_checked<T: Threads + Wait + Sync, P: Watcher>(
-    rt: &T,
-    alloc: Global,
-    settings: &Settings,
-    lines: &NodeLines,
-    checked: Result<Program, CheckFault>,
-    watcher: &mut P,
-) -> Due
-    ensures not_input { ¬ IsRefusedBy fault.Input result }
-    ensures fault { IfErr checked (λ f. IsRefusedBy (fault.Check f) result) }
-    ensures due { IfOk checked (λ p. IsOutOfMemory result ⊎ IsDueOfProgram (request_of settings.now) lines.now p result) }
-{
-    match checked {
-        Ok(program) => due_of_program(rt, alloc, settings, &program, lines, watcher),
-        Err(fault) => Due::Refused(Fault::Check(fault)),
+    match prepared(alloc, settings, text) {
+        Ok(it) => due_of_prepared(rt, alloc, settings, &it.program, &it.lines, watcher),
+        Err(fault) => Due::Refused(fault),
     }
 }
 
@@ -463,6 +494,18 @@ fn due_of_input<T: Threads + Wait + Sync, R: Read, P: Watcher>(
     }
 }
 
+/// What is due by the fault of a line that gave no settings: the text of help or of the version, or the fault.
+pub(crate) fn due_of_fault(fault: LineFault) -> Due
+    ensures due { IsDueOfFault fault result }
+{
+    match fault {
+        LineFault::Refused => Due::Refused(Fault::CommandLine),
+        LineFault::Help(text) => Due::Text(text),
+        LineFault::Version(text) => Due::Text(text.into_bytes()),
+        LineFault::Memory => Due::Refused(Fault::Memory),
+    }
+}
+
 // What is due by settings and an input, or by the fault of the line that gave none; and the format in which it is due.
 fn due_of_line<T: Threads + Wait + Sync, R: Read, P: Watcher>(
     rt: &T,
@@ -487,10 +530,7 @@ fn due_of_line<T: Threads + Wait + Sync, R: Read, P: Watcher>(
             drop(settings);
             (due, format)
         }
-        Err(LineFault::Refused) => (Due::Refused(Fault::CommandLine), Format::Text),
-        Err(LineFault::Help(text)) => (Due::Text(text), Format::Text),
-        Err(LineFault::Version(text)) => (Due::Text(text.into_bytes()), Format::Text),
-        Err(LineFault::Memory) => (Due::Refused(Fault::Memory), Format::Text),
+        Err(fault) => (due_of_fault(fault), Format::Text),
     }
 }
 

@@ -1,6 +1,7 @@
 //! The program over a reader and a writer: words and bytes in, bytes and a status out.
 #![tactic(auto)]
 
+mod alone;
 mod beside;
 mod condition_words;
 mod due;
@@ -20,6 +21,8 @@ mod tallies;
 mod telling;
 mod warning_words;
 
+pub use alone::{bytes_of, due_without_threads};
+pub use due::Due;
 pub use input::Counted;
 pub use qs_report::Fault;
 pub use qs_text::Watch;

@@ -12,8 +12,13 @@ use qs_report::{Fault, fault_line_watched};
 use qs_text::{Watch, write_text};
 use std::io::Write;
 
-// Writes a refusal, as text or as JSON. False exactly where a write fails; no more is written then.
-fn write_refusal<W: Write>(out: &mut W, watch: &mut Watch<W>, format: Format, fault: &Fault) -> bool
+/// Writes a refusal, as text or as JSON. False exactly where a write fails; no more is written then.
+pub fn write_refusal<W: Write>(
+    out: &mut W,
+    watch: &mut Watch<W>,
+    format: Format,
+    fault: &Fault,
+) -> bool
     ensures front { AppendsFront (W.contents out.old) (W.contents out.new) (refusal_in format fault.now) }
     ensures whole { IsTrue result → Appends (W.contents out.old) (W.contents out.new) (refusal_in format fault.now) }
     ensures failed { watch.new.has_failed ≡ (watch.old.has_failed || not result) }

@@ -9,7 +9,7 @@ use crate::due::{Due, due_of};
 use crate::input::Counted;
 use itoa::Buffer;
 use qs_line::Format;
-use qs_outcomes::Watcher;
+use qs_outcomes::{Unwatched, Watcher};
 use qs_text::{Watch, write_text};
 use std::alloc::Global;
 use std::io::{Read, Write};
@@ -126,14 +126,6 @@ impl<C: Clock + Files, W: Write> Watcher for Progress<'_, C, W> {
     }
 }
 
-/// To whom nothing is shown.
-#[derive(Drop)]
-pub(crate) struct Unshown;
-
-impl Watcher for Unshown {
-    fn noted(&mut self, _configurations: usize) {}
-}
-
 /// What is due by a command line and an input, and in which format, as `due_of` says it. While outcomes are searched
 /// for, `err` shows how far the search is, where it is a terminal; the line is blank again in the end. Where it is
 /// none, nothing is written to it.
@@ -155,7 +147,7 @@ pub(crate) fn due_shown<'a, T: Threads + Wait + Clock + Files + Sync, R: Read, W
     ensures silent { is_terminal ≡ false → Keeps (W.contents err.old) (W.contents err.new) }
 {
     if !is_terminal {
-        return due_of(rt, alloc, words, input, kept, &mut Unshown);
+        return due_of(rt, alloc, words, input, kept, &mut Unwatched);
     }
     let mut progress = Progress::new(rt, err);
     let shown = due_of(rt, alloc, words, input, kept, &mut progress);

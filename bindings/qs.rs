@@ -1,0 +1,76 @@
+//! The executor of SCOOP separate blocks, called from Rust by way of the static library that `bindings/build` makes.
+
+use std::ffi::OsStr;
+use std::os::unix::ffi::OsStrExt;
+
+type Call = unsafe extern "C" fn(*const u8, usize, *const u8, usize, *mut u8, usize, *mut u8) -> usize;
+
+unsafe extern "C" {
+    fn qs_check(_: *const u8, _: usize, _: *const u8, _: usize, _: *mut u8, _: usize, _: *mut u8) -> usize;
+    fn qs_graph(_: *const u8, _: usize, _: *const u8, _: usize, _: *mut u8, _: usize, _: *mut u8) -> usize;
+    fn qs_rules(_: *const u8, _: usize, _: *const u8, _: usize, _: *mut u8, _: usize, _: *mut u8) -> usize;
+    fn qs_play(_: *const u8, _: usize, _: *const u8, _: usize, _: *mut u8, _: usize, _: *mut u8) -> usize;
+    fn qs_outcomes(_: *const u8, _: usize, _: *const u8, _: usize, _: *mut u8, _: usize, _: *mut u8) -> usize;
+}
+
+/// A word of the program that has a call here: all but `run`, which takes threads.
+#[derive(Clone, Copy)]
+pub enum Word {
+    Check,
+    Graph,
+    Rules,
+    Play,
+    Outcomes,
+}
+
+impl Word {
+    /// The word of a text, if there is one.
+    pub fn named(text: &OsStr) -> Option<Word> {
+        match text.as_bytes() {
+            b"check" => Some(Word::Check),
+            b"graph" => Some(Word::Graph),
+            b"rules" => Some(Word::Rules),
+            b"play" => Some(Word::Play),
+            b"outcomes" => Some(Word::Outcomes),
+            _ => None,
+        }
+    }
+
+    fn call(self) -> Call {
+        match self {
+            Word::Check => qs_check,
+            Word::Graph => qs_graph,
+            Word::Rules => qs_rules,
+            Word::Play => qs_play,
+            Word::Outcomes => qs_outcomes,
+        }
+    }
+}
+
+/// What the program writes on its standard output for a word, a script and further words, and its exit status. A word
+/// that has a line feed in it counts as two.
+pub fn ask<W: AsRef<OsStr>>(word: Word, script: &[u8], words: &[W]) -> (Vec<u8>, u8) {
+    let words: Vec<&[u8]> = words.iter().map(|it| it.as_ref().as_bytes()).collect();
+    let line = words.join(&b'\n');
+    let (mut room, mut status) = (vec![0; 1 << 14], 0);
+    loop {
+        // SAFETY: the declarations above are those of bindings/qs.h; each pointer and length are of one slice, which is
+        // borrowed for the call, and the room and the status are borrowed from nobody else.
+        let length = unsafe {
+            word.call()(
+                script.as_ptr(),
+                script.len(),
+                line.as_ptr(),
+                line.len(),
+                room.as_mut_ptr(),
+                room.len(),
+                &mut status,
+            )
+        };
+        if length <= room.len() {
+            room.truncate(length);
+            return (room, status);
+        }
+        room.resize(length, 0);
+    }
+}

@@ -1,0 +1,81 @@
+//! The program for C: each call takes a script and the words of a line, and answers what the program writes and its
+//! status, into memory of the caller's. Nothing is kept between calls.
+#![tactic(auto)]
+
+mod answering;
+
+ghost use Rattle.std.specs.Prelude.{codes};
+ghost use Rattle.qs_c.specs.Answers.{IsAnswered};
+
+use crate::answering::answered;
+use std::alloc::Global;
+
+/// What `qs check` writes: how many blocks and nodes there are, and the loads and weights.
+#[unsafe(no_mangle)]
+pub extern "C" fn qs_check(
+    alloc: Global,
+    script: &[u8],
+    words: &[u8],
+    room: &mut [u8],
+    status: &mut u8,
+) -> usize
+    ensures answer { IsAnswered (codes "check") words.now script.now room.old room.new status.new result }
+{
+    answered(alloc, "check", script, words, room, status)
+}
+
+/// What `qs graph` writes: the control-flow graphs, with the sets of objects that are held.
+#[unsafe(no_mangle)]
+pub extern "C" fn qs_graph(
+    alloc: Global,
+    script: &[u8],
+    words: &[u8],
+    room: &mut [u8],
+    status: &mut u8,
+) -> usize
+    ensures answer { IsAnswered (codes "graph") words.now script.now room.old room.new status.new result }
+{
+    answered(alloc, "graph", script, words, room, status)
+}
+
+/// What `qs rules` writes: the report of a run by the plain rules.
+#[unsafe(no_mangle)]
+pub extern "C" fn qs_rules(
+    alloc: Global,
+    script: &[u8],
+    words: &[u8],
+    room: &mut [u8],
+    status: &mut u8,
+) -> usize
+    ensures answer { IsAnswered (codes "rules") words.now script.now room.old room.new status.new result }
+{
+    answered(alloc, "rules", script, words, room, status)
+}
+
+/// What `qs play` writes: the report of a run in the optimised machine.
+#[unsafe(no_mangle)]
+pub extern "C" fn qs_play(
+    alloc: Global,
+    script: &[u8],
+    words: &[u8],
+    room: &mut [u8],
+    status: &mut u8,
+) -> usize
+    ensures answer { IsAnswered (codes "play") words.now script.now room.old room.new status.new result }
+{
+    answered(alloc, "play", script, words, room, status)
+}
+
+/// What `qs outcomes` writes: all that a program can come to, or the answer to a question about it.
+#[unsafe(no_mangle)]
+pub extern "C" fn qs_outcomes(
+    alloc: Global,
+    script: &[u8],
+    words: &[u8],
+    room: &mut [u8],
+    status: &mut u8,
+) -> usize
+    ensures answer { IsAnswered (codes "outcomes") words.now script.now room.old room.new status.new result }
+{
+    answered(alloc, "outcomes", script, words, room, status)
+}

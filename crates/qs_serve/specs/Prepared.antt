@@ -1,0 +1,13 @@
+-- What is made of the answer of checking a script.
+use Rattle.std.specs.Prelude.{Ok, Err, Result}
+use Rattle.qs_fault_places.specs.declared.fault.CheckFault.{CheckFault}
+use Rattle.qs_program.specs.Program.{ProgramShape}
+use Rattle.qs_report.specs.declared.faults.Fault.{Fault}
+use Rattle.qs_report.specs.declared.faults.Fault.TheVariants as fault
+use Rattle.qs_serve.specs.Due.{Lines}
+use Rattle.qs_serve.specs.declared.due.PreparedText.{PreparedText}
+
+-- the program with the lines that were found, or the fault by which the script was refused
+abbrev pub prepared_by : Lines → Result ProgramShape CheckFault → Result PreparedText Fault
+prepared_by lines (Ok p) = Ok (record { program = p; lines = lines })
+prepared_by lines (Err f) = Err (fault.Check f)
