@@ -7,7 +7,7 @@
    output, and sets *status to the program's exit status: 0 for a result, 1 for an answer that is no, 2 where the line,
    the script or a limit is refused (the text then says why, on one line), 3 where memory was refused. As much of the
    text stands at the front of the room as fits; the rest of the room stays as it was. Where the answer is more than
-   the room has, ask again with more room: the text is the same each time.
+   the room has, ask again with more room: the text is the same each time, unless memory runs out.
 
    `qs run` has no call: it starts threads, which a library of this kind may not. Lines that ask for it can't be
    written here.
@@ -28,7 +28,7 @@
 extern "C" {
 #endif
 
-/* How many blocks and nodes the script has, and the loads of its clients and objects. */
+/* How many objects, clients and blocks the script has, its load and its weight. */
 size_t qs_check(const uint8_t *script, size_t script_length, const uint8_t *words, size_t words_length, uint8_t *room,
                 size_t room_length, uint8_t *status);
 

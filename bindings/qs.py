@@ -39,7 +39,7 @@ class Library:
             room = length
 
     def check(self, script, *words):
-        """How many blocks and nodes a script has, and its loads."""
+        """How many objects, clients and blocks a script has, its load and its weight."""
         return self.ask("check", script, *words)
 
     def graph(self, script, *words):
