@@ -10,7 +10,7 @@ ghost use Rattle.qs_c.specs.Answers.{IsAnswered};
 use crate::answering::answered;
 use std::alloc::Global;
 
-/// What `qs check` writes: how many blocks and nodes there are, and the loads and weights.
+/// What `qs check` writes: how many objects, clients and blocks a script has, its load and its weight.
 #[unsafe(no_mangle)]
 pub extern "C" fn qs_check(
     alloc: Global,
