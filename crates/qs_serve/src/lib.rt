@@ -3,16 +3,11 @@
 
 mod alone;
 mod beside;
-mod condition_words;
 mod due;
 mod estimates;
 mod input;
 mod limit_words;
-mod line_words;
-mod list_words;
-mod order_words;
 mod output;
-mod pick_words;
 mod plays;
 mod progress;
 mod reports;

@@ -4,16 +4,11 @@ ghost use Rattle.std.specs.Prelude.{◌≡◌, false, IsTrue};
 ghost use Rattle.std.specs.Io.KnownBytes.{Keeps};
 ghost use Rattle.qs_serve.specs.Due.{IsSomeText};
 
-use crate::condition_words::put_unknown;
 use crate::due::Due;
-use crate::line_words::{CLAIMS, put_line};
-use crate::list_words::put_names;
-use crate::order_words::put_order;
-use crate::pick_words::put_actor;
 use qs_causes::{tell_check, tell_read};
 use qs_check::CheckFault;
-use qs_diagnosis::put;
 use qs_line::read_line;
+use qs_line_causes::{put_order, put_pick, put_refused};
 use qs_outcomes::OutcomesFault;
 use qs_played::{PlayFault, RunFault};
 use qs_report::Fault;
@@ -62,26 +57,6 @@ fn plain_words(fault: &Fault) -> Option<&'static [u8]> {
     }
 }
 
-// Puts what is said of a line that is refused: of the line itself, or else of its list or of its condition, whose names
-// are the script's.
-fn put_refused<'a>(
-    alloc: Global,
-    out: &mut Vec<u8>,
-    words: &'a [&'a str],
-    text: &[u8],
-) -> Result<(), AllocError> {
-    put_line(alloc, out, words)?;
-    if out.is_empty() {
-        put_names(alloc, out, words, text)?;
-    }
-    if out.is_empty() {
-        for setting in CLAIMS {
-            put_unknown(alloc, out, words, text, setting)?;
-        }
-    }
-    Ok(())
-}
-
 // The text of what is said of a fault of the line, of the script, of a pick or of an order.
 fn told<'a>(
     alloc: Global,
@@ -94,10 +69,10 @@ fn told<'a>(
         Fault::CommandLine => put_refused(alloc, &mut out, words, text)?,
         Fault::Read(_) => tell_read(alloc, &mut out, text)?,
         Fault::Check(_) => tell_check(alloc, &mut out, text)?,
-        Fault::Play(_) => put_actor(alloc, &mut out, words, text)?,
+        Fault::Play(_) => put_pick(alloc, &mut out, words, text)?,
         Fault::Order(_) => put_order(alloc, &mut out, words, text, "--order")?,
         Fault::Outcomes(_) => put_order(alloc, &mut out, words, text, "--after")?,
-        _ => put(&mut out, b"")?,
+        _ => {}
     }
     Ok(out)
 }

@@ -1,6 +1,6 @@
 // What is said of a pick of nobody.
 
-use crate::line_words::put_part;
+use crate::line::put_part;
 use qs_causes::actors;
 use qs_diagnosis::put_all;
 use qs_line::{Who, part_of, value_after};
@@ -20,7 +20,7 @@ fn is_there(part: &[u8], clients: usize, objects: usize) -> bool {
 }
 
 /// Puts which part of the list of picks names nobody, and who is there.
-pub(crate) fn put_actor<'a>(
+pub fn put_pick<'a>(
     alloc: Global,
     out: &mut Vec<u8>,
     words: &'a [&'a str],

@@ -2,7 +2,7 @@
 
 ghost use Rattle.std.specs.Prelude.{◌<◌, length};
 
-use crate::line_words::put_part;
+use crate::line::put_part;
 use qs_check::{Program, check};
 use qs_diagnosis::{put, put_all};
 use qs_line::{clients_of, list_in, value_after};
@@ -11,7 +11,7 @@ use qs_script::read;
 use std::alloc::{AllocError, Global};
 
 /// Puts which part of the list after a setting names no block of the script, and what is there.
-pub(crate) fn put_order<'a>(
+pub fn put_order<'a>(
     alloc: Global,
     out: &mut Vec<u8>,
     words: &'a [&'a str],

@@ -1,6 +1,6 @@
 // What is said of a command line that is refused.
 
-use crate::condition_words::put_condition;
+use crate::condition::put_condition;
 use qs_diagnosis::{put, put_all};
 use qs_line::{MOST_ACTORS, Who, part_of, refusal, value_after};
 use qs_played::Actor;

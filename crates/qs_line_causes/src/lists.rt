@@ -1,6 +1,6 @@
 // What is said of a list that names somebody whom the script does not have, or two at once.
 
-use crate::line_words::put_part;
+use crate::line::put_part;
 use qs_check::{Program, check};
 use qs_diagnosis::{put, put_all};
 use qs_line::{ListFault, Part, Why, actors_of, clients_of, list_in, value_after};
