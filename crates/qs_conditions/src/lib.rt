@@ -1,4 +1,8 @@
 //! Conditions on what a program comes to: their text, the tree that it has, and the steps by which they are answered.
+//!
+//! ```rust
+//! let condition = qs_conditions::read_condition(alloc, b"a.balance() == 100").ok()?;
+//! ```
 #![tactic(auto)]
 
 mod claim;
@@ -10,8 +14,6 @@ mod limits;
 mod parts;
 mod reader;
 mod signs;
-#[cfg(test)]
-mod tests;
 mod values;
 
 pub use claim::{Claim, Quantifier};
