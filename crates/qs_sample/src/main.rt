@@ -2,6 +2,7 @@
 //! searched and asked about. What is printed depends on no schedule.
 #![tactic(auto)]
 
+mod desks;
 mod lanes;
 mod minds;
 mod playing;
@@ -47,7 +48,12 @@ fn put_played<W: Write>(out: &mut W, alloc: Global, program: &Program) -> io::Re
 }
 
 // What parts do that are driven by hand.
-fn put_by_hand<R: Wait, W: Write>(out: &mut W, rt: &R, alloc: Global) -> io::Result<()> {
+fn put_by_hand<R: Wait, W: Write>(
+    out: &mut W,
+    rt: &R,
+    alloc: Global,
+    program: &Program,
+) -> io::Result<()> {
     let words = match lanes::lent_balance(rt, alloc) {
         Some(7) => "an account of 7 was lent through a lane",
         _ => "refused",
@@ -57,7 +63,21 @@ fn put_by_hand<R: Wait, W: Write>(out: &mut W, rt: &R, alloc: Global) -> io::Res
         Some(true) => "the handler closed with its object",
         _ => "refused",
     };
-    put_words(out, "a handler's mind by hand", words)
+    put_words(out, "a handler's mind by hand", words)?;
+    let reply = match scripts::program(alloc, scripts::READS) {
+        Some(reads) => minds::last_reply(alloc, &reads),
+        None => None,
+    };
+    let words = match reply {
+        Some(7) => "the client read 7",
+        _ => "refused",
+    };
+    put_words(out, "a client's mind by hand", words)?;
+    let words = match desks::first_ticket_comes(rt, alloc, program) {
+        Some(true) => "the first handler took the first block's ticket",
+        _ => "refused",
+    };
+    put_words(out, "a desk by hand", words)
 }
 
 // What threads run.
@@ -101,7 +121,7 @@ fn tour<R: Threads + Wait + Sync, W: Write>(rt: &R, alloc: Global, out: &mut W) 
     };
     put_played(out, alloc, &program)?;
     put_found(out, alloc, &program)?;
-    put_by_hand(out, rt, alloc)?;
+    put_by_hand(out, rt, alloc, &program)?;
     if let Some(chain) = scripts::program(alloc, scripts::ONE_AFTER_THE_OTHER) {
         put_run(out, rt, alloc, &chain)?;
     }

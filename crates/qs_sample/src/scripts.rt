@@ -13,6 +13,9 @@ pub const TRANSFER: &str = "object a account 100 object b account 100
 pub const ONE_AFTER_THE_OTHER: &str = "object a account 100 object b account 100
     client ann { separate a { x = a.balance(); } separate b { y = b.balance(); } }";
 
+/// Ann reads one account.
+pub const READS: &str = "object a account 7 client ann { separate a { x = a.balance(); } }";
+
 /// The program of a script. `read` answers the one script that the text is, or a fault: there is none. `check` answers
 /// the script's program, or the first fault of those in SPEC, in text order.
 pub fn program(alloc: Global, text: &str) -> Option<Program> {
