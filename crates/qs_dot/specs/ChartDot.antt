@@ -61,14 +61,14 @@ unfoldable pub colours_text : List ℕ
 colours_text =
     codes "  graph [bgcolor=transparent];\n  node [style=filled, fillcolor=\"#dfe5ec\", color=\"#747c88\", fontcolor=\"#16181c\"];\n  edge [color=\"#747c88\", fontcolor=\"#16181c\"];\n"
 
--- more places than this are drawn close together, by rank from left to right, and in the size of a page
+-- more places than this are drawn close together, by rank from left to right, and printed by a browser on one page
 abbrev pub most_wide : ℕ
 most_wide = 50
 
 abbrev pub layout_text : (places : ℕ) → List ℕ
 layout_text places =
     if nat_lt most_wide places
-    then codes "  graph [rankdir=LR, nodesep=0.1, ranksep=0.3];\n  node [fontsize=11, margin=\"0.08,0.04\"];\n  edge [fontsize=10];\n"
+    then codes "  graph [rankdir=LR, nodesep=0.1, ranksep=0.3];\n  graph [stylesheet=\"data:text/css,@media%20print{svg{width:100vw;height:100vh}}\"];\n  node [fontsize=11, margin=\"0.08,0.04\"];\n  edge [fontsize=10];\n"
     else []
 
 -- how it is drawn, all places, and all edges

@@ -77,4 +77,4 @@ pub record ChartDotExamples : Type 0 where
   pub wide : layout_text 50 ≡ []
   pub close :
       layout_text 51
-      ≡ codes "  graph [rankdir=LR, nodesep=0.1, ranksep=0.3];\n  node [fontsize=11, margin=\"0.08,0.04\"];\n  edge [fontsize=10];\n"
+      ≡ codes "  graph [rankdir=LR, nodesep=0.1, ranksep=0.3];\n  graph [stylesheet=\"data:text/css,@media%20print{svg{width:100vw;height:100vh}}\"];\n  node [fontsize=11, margin=\"0.08,0.04\"];\n  edge [fontsize=10];\n"

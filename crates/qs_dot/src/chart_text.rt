@@ -210,7 +210,7 @@ fn layout(places: usize) -> &'static [u8]
     ensures layout { result.now ≡ layout_text places }
 {
     if places > MOST_WIDE {
-        b"  graph [rankdir=LR, nodesep=0.1, ranksep=0.3];\n  node [fontsize=11, margin=\"0.08,0.04\"];\n  edge [fontsize=10];\n"
+        b"  graph [rankdir=LR, nodesep=0.1, ranksep=0.3];\n  graph [stylesheet=\"data:text/css,@media%20print{svg{width:100vw;height:100vh}}\"];\n  node [fontsize=11, margin=\"0.08,0.04\"];\n  edge [fontsize=10];\n"
     } else {
         b""
     }

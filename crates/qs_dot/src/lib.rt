@@ -1,4 +1,8 @@
 //! Graphs in the language of graphviz: the control-flow graphs of a program, and the chart of all that it can come to.
+//!
+//! ```rust
+//! let graphs = qs_dot::dot_text(alloc, &program, &lines).ok()?;
+//! ```
 #![tactic(auto)]
 
 mod blocks;
