@@ -1,4 +1,8 @@
 //! The check of a script: its names become numbers, and what a program may not have is refused.
+//!
+//! ```rust
+//! let program = qs_check::check(alloc, script).ok()?;
+//! ```
 #![tactic(auto)]
 
 mod checker;

@@ -1,5 +1,9 @@
 //! The optimised machine, and what is played on it; with it all that the plain rules, the laws of both, and comparisons
 //! offer.
+//!
+//! ```rust
+//! let played = qs_core::play(alloc, &program, Mode::Both, ChunkSize::new(8)?, &[], MOST_ROUNDS).ok()?;
+//! ```
 #![tactic(auto)]
 
 mod core_effect;

@@ -1,4 +1,9 @@
 //! The desk, at which clients reserve handlers: one order of all reservations, and a queue of tickets for each handler.
+//!
+//! ```rust
+//! let raw = qs_desk::RawDesk::new(alloc, &program).ok()?;
+//! let DeskParts { mut desk, shares, tickets } = raw.open::<D>();
+//! ```
 #![tactic(auto)]
 
 mod desk;

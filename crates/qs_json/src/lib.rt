@@ -1,4 +1,8 @@
 //! The texts of results and refusals for machines: objects of named fields, one on a line.
+//!
+//! ```rust
+//! let graphs = qs_json::graph_json(alloc, &program).ok()?;
+//! ```
 #![tactic(auto)]
 
 mod answers;

@@ -1,4 +1,10 @@
 //! The lane, a client's private queue at a handler: parcels go down, and objects and empty chunks come up.
+//!
+//! ```rust
+//! let (mut out, mut inside) = qs_lane::lane(rt, alloc, ChunkSize::new(8)?).ok()?;
+//! out.send(rt, Parcel::Sync);
+//! let parcel = inside.take(rt);
+//! ```
 #![tactic(auto)]
 
 mod lane_ends;

@@ -1,4 +1,8 @@
 //! Everything that a program can come to: a search over the configurations between whole blocks.
+//!
+//! ```rust
+//! let all = qs_outcomes::outcomes(alloc, &program, 1_000_000).ok()?;
+//! ```
 #![tactic(auto)]
 
 mod answer;

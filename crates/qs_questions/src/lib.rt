@@ -1,5 +1,10 @@
 //! Questions to a program: whether a condition speaks of what the program has, and whether it holds where an order has
 //! come to its end.
+//!
+//! ```rust
+//! let claim = Claim { quantifier: Quantifier::Always, condition };
+//! let found = qs_questions::answer(alloc, &program, &claim, &[], 1_000_000, &mut watcher).ok()?;
+//! ```
 #![tactic(auto)]
 
 mod asking;

@@ -1,4 +1,8 @@
 //! The texts of results and faults, byte for byte.
+//!
+//! ```rust
+//! let text = qs_report::report(alloc, &program, &played).ok()?;
+//! ```
 #![tactic(auto)]
 
 mod answers;

@@ -3,6 +3,10 @@
 //! `execution` has the public call, `execute`. It prepares what the run begins with (`prepare`), has all workers run on
 //! threads of their own (`start`), and collects what they gave back into the outcome that is shown (`collect`). What a
 //! worker is says `worker`.
+//!
+//! ```rust
+//! let outcome = qs_run::execute(rt, alloc, &program, Mode::Both, ChunkSize::new(8)?, &FreeGate).ok()?;
+//! ```
 #![tactic(auto)]
 
 mod collect;

@@ -1,4 +1,8 @@
 //! Scripts: from a text to its tree.
+//!
+//! ```rust
+//! let script = qs_script::read(alloc, text.as_bytes()).ok()?;
+//! ```
 #![tactic(auto)]
 
 mod expect;

@@ -1,4 +1,8 @@
 //! A run as one picture in SVG: a row for each object, a column for each block.
+//!
+//! ```rust
+//! let picture = qs_svg::run_svg(alloc, &program, &played).ok()?;
+//! ```
 #![tactic(auto)]
 
 mod blocks;
