@@ -3,6 +3,7 @@
 #![tactic(auto)]
 
 mod desks;
+mod journals;
 mod lanes;
 mod minds;
 mod playing;
@@ -47,7 +48,7 @@ fn put_played<W: Write>(out: &mut W, alloc: Global, program: &Program) -> io::Re
     put(out, "played by a scheduler of its own", own)
 }
 
-// What parts do that are driven by hand.
+// What a lane, an object and a desk do that are driven by hand.
 fn put_by_hand<R: Wait, W: Write>(
     out: &mut W,
     rt: &R,
@@ -59,6 +60,20 @@ fn put_by_hand<R: Wait, W: Write>(
         _ => "refused",
     };
     put_words(out, "a lane by hand", words)?;
+    let words = match journals::after_a_deposit(alloc) {
+        Some((1, 12)) => "the journal has one request, and the account holds 12",
+        _ => "refused",
+    };
+    put_words(out, "an object by hand", words)?;
+    let words = match desks::first_ticket_comes(rt, alloc, program) {
+        Some(true) => "the first handler took the first block's ticket",
+        _ => "refused",
+    };
+    put_words(out, "a desk by hand", words)
+}
+
+// What the minds of a handler and of a client decide that are driven by hand.
+fn put_minds<W: Write>(out: &mut W, alloc: Global) -> io::Result<()> {
     let words = match minds::after_an_empty_block(alloc) {
         Some(true) => "the handler closed with its object",
         _ => "refused",
@@ -72,12 +87,7 @@ fn put_by_hand<R: Wait, W: Write>(
         Some(7) => "the client read 7",
         _ => "refused",
     };
-    put_words(out, "a client's mind by hand", words)?;
-    let words = match desks::first_ticket_comes(rt, alloc, program) {
-        Some(true) => "the first handler took the first block's ticket",
-        _ => "refused",
-    };
-    put_words(out, "a desk by hand", words)
+    put_words(out, "a client's mind by hand", words)
 }
 
 // What threads run.
@@ -122,6 +132,7 @@ fn tour<R: Threads + Wait + Sync, W: Write>(rt: &R, alloc: Global, out: &mut W) 
     put_played(out, alloc, &program)?;
     put_found(out, alloc, &program)?;
     put_by_hand(out, rt, alloc, &program)?;
+    put_minds(out, alloc)?;
     if let Some(chain) = scripts::program(alloc, scripts::ONE_AFTER_THE_OTHER) {
         put_run(out, rt, alloc, &chain)?;
     }

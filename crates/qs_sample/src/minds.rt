@@ -29,8 +29,8 @@ pub fn after_an_empty_block(alloc: Global) -> Option<bool> {
 // More acts than the client of the tour has.
 const ACTS: u32 = 100;
 
-/// The reply to the last query of the program's first client, who is given an account of 7 once, and whose parcels go
-/// nowhere. A client's mind says its next act, and is told only what came: a ticket, an object or a chunk.
+/// The last reply in the first trace of the program's first client, who is given an account of 7 once, and whose
+/// parcels go nowhere. A client's mind says its next act, and is told only what came: a ticket, an object or a chunk.
 pub fn last_reply(alloc: Global, program: &Program) -> Option<i64> {
     if program.clients() == 0 {
         return None;
@@ -49,7 +49,13 @@ pub fn last_reply(alloc: Global, program: &Program) -> Option<i64> {
             Act::Send(_, parcel) => drop(parcel),
             Act::Await(_) => mind.got(held.take()?),
             Act::NeedChunk(_) => return None,
-            Act::Finished => return mind.row().last()?.reply,
+            Act::Finished => {
+                let traces = mind.traces();
+                if traces.len() == 0 {
+                    return None;
+                }
+                return traces.of(0).last()?.reply;
+            }
         }
     }
     None
