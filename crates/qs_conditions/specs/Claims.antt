@@ -1,5 +1,5 @@
 -- Of what a condition is to hold.
-use Rattle.std.specs.Prelude.{ℕ, Bool, true, false, not, List, codes, Option, is_some}
+use Rattle.std.specs.Prelude.{ℕ, Bool, not, List, codes}
 use Rattle.qs_conditions.specs.declared.claim.Quantifier.{Quantifier}
 use Rattle.qs_conditions.specs.declared.claim.Quantifier.TheVariants as q
 

@@ -1,11 +1,10 @@
 // What is said of a condition that does not read, or that asks for what the script does not have.
 
-use qs_check::check;
+use crate::program::program_of;
 use qs_conditions::{ConditionFault, read_condition};
 use qs_diagnosis::{Diagnosis, Span, put_diagnosis};
 use qs_line::value_after;
 use qs_questions::first_unknown;
-use qs_script::read;
 use std::alloc::{AllocError, Global};
 
 const UNREAD: &[u8] = b"the condition does not read";
@@ -89,13 +88,10 @@ pub(crate) fn put_unknown<'a>(
     let Some(condition) = value_after(words, setting) else {
         return Ok(());
     };
-    let Ok(script) = read(alloc, text) else {
+    let Some(program) = program_of(alloc, text) else {
         return Ok(());
     };
-    let (Ok(program), Ok(asked)) = (
-        check(alloc, script),
-        read_condition(alloc, condition.as_bytes()),
-    ) else {
+    let Ok(asked) = read_condition(alloc, condition.as_bytes()) else {
         return Ok(());
     };
     match first_unknown(&asked, &program) {

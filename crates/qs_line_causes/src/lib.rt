@@ -6,6 +6,7 @@ mod line;
 mod lists;
 mod order;
 mod pick;
+mod program;
 mod refused;
 
 pub use order::put_order;

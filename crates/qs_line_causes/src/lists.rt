@@ -1,10 +1,10 @@
 // What is said of a list that names somebody whom the script does not have, or two at once.
 
 use crate::line::put_part;
-use qs_check::{Program, check};
+use crate::program::program_of;
+use qs_check::Program;
 use qs_diagnosis::{put, put_all};
 use qs_line::{ListFault, Part, Why, actors_of, clients_of, list_in, value_after};
-use qs_script::read;
 use std::alloc::{AllocError, Global};
 
 /// Puts which part of the list of the line names nobody of the script or two at once, and who is there.
@@ -14,10 +14,7 @@ pub(crate) fn put_names<'a>(
     words: &'a [&'a str],
     text: &[u8],
 ) -> Result<(), AllocError> {
-    let Ok(script) = read(alloc, text) else {
-        return Ok(());
-    };
-    let Ok(program) = check(alloc, script) else {
+    let Some(program) = program_of(alloc, text) else {
         return Ok(());
     };
     put_named(alloc, out, &program, words, "--pick")?;

@@ -3,11 +3,11 @@
 ghost use Rattle.std.specs.Prelude.{◌<◌, length};
 
 use crate::line::put_part;
-use qs_check::{Program, check};
+use crate::program::program_of;
+use qs_check::Program;
 use qs_diagnosis::{put, put_all};
 use qs_line::{clients_of, list_in, value_after};
 use qs_program::MOST_CLIENTS;
-use qs_script::read;
 use std::alloc::{AllocError, Global};
 
 /// Puts which part of the list after a setting names no block of the script, and what is there.
@@ -21,12 +21,9 @@ pub fn put_order<'a>(
     let Some(list) = value_after(words, setting) else {
         return Ok(());
     };
-    let Ok(script) = read(alloc, text) else {
-        return Ok(());
-    };
-    match check(alloc, script) {
-        Ok(program) => put_surplus(alloc, out, &program, setting, list),
-        Err(_) => Ok(()),
+    match program_of(alloc, text) {
+        Some(program) => put_surplus(alloc, out, &program, setting, list),
+        None => Ok(()),
     }
 }
 
