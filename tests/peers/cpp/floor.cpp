@@ -1,0 +1,143 @@
+// What the machine asks for, whoever writes the program: the least work between threads that the loads cannot do without.
+#include <algorithm>
+#include <atomic>
+#include <chrono>
+#include <cstdint>
+#include <cstdio>
+#include <cstdlib>
+#include <cstring>
+#include <functional>
+#include <immintrin.h>
+#include <linux/futex.h>
+#include <sys/syscall.h>
+#include <thread>
+#include <unistd.h>
+#include <vector>
+
+using Word = std::atomic<uint64_t>;
+
+// A bounded queue as the kit lays it out: a tail and a head on lines of their own, a stamp for each slot side by side.
+template <size_t BYTES, size_t ROOM> struct Queue {
+  struct Item { uint64_t words[BYTES / 8]; };
+  alignas(64) Word tail{0};
+  alignas(64) Word head{0};
+  alignas(64) Word stamps[ROOM];
+  alignas(64) Item slots[ROOM]{};
+  Queue() { for (size_t k = 0; k < ROOM; k++) stamps[k] = k; }
+
+  bool push(const Item &item) {
+    uint64_t at = tail;
+    if (stamps[at % ROOM] != at || !tail.compare_exchange_strong(at, at + 1)) return false;
+    slots[at % ROOM] = item;
+    stamps[at % ROOM] = at + 1;
+    return true;
+  }
+
+  bool pop(Item &item) {
+    uint64_t at = head;
+    if (stamps[at % ROOM] != at + 1 || !head.compare_exchange_strong(at, at + 1)) return false;
+    item = slots[at % ROOM];
+    slots[at % ROOM] = Item{};
+    stamps[at % ROOM] = at + ROOM;
+    return true;
+  }
+
+  void send(const Item &item) { while (!push(item)) _mm_pause(); }
+  Item take() { Item item; while (!pop(item)) _mm_pause(); return item; }
+};
+
+static double milliseconds(const std::function<void()> &work) {
+  std::vector<double> found;
+  for (int k = 0; k < 11; k++) {
+    auto began = std::chrono::steady_clock::now();
+    work();
+    found.push_back(std::chrono::duration<double, std::milli>(std::chrono::steady_clock::now() - began).count());
+  }
+  std::sort(found.begin(), found.end());
+  return found[5];
+}
+
+static void start_sixteen() {
+  std::vector<std::thread> all;
+  for (int k = 0; k < 16; k++) all.emplace_back([] {});
+  for (auto &it : all) it.join();
+}
+
+static void sleep_at(std::atomic<int> &word, int seen) {
+  while (word == seen) syscall(SYS_futex, &word, FUTEX_WAIT_PRIVATE, seen, nullptr, nullptr, 0);
+}
+
+static void wake_at(std::atomic<int> &word) {
+  word++;
+  syscall(SYS_futex, &word, FUTEX_WAKE_PRIVATE, 1, nullptr, nullptr, 0);
+}
+
+// Eight clients in turn, each asleep until it is woken; where a handler has to answer, that is asleep too.
+static void pass_turns(bool with_handlers) {
+  static std::atomic<int> turn[8], asked[8], answered[8];
+  for (int k = 0; k < 8; k++) turn[k] = asked[k] = answered[k] = 0;
+  std::vector<std::thread> all;
+  for (int k = 0; k < 8; k++) all.emplace_back([=] {
+    for (int round = 0; round < 32; round++) {
+      sleep_at(turn[k], round);
+      if (with_handlers) { wake_at(asked[k]); sleep_at(answered[k], round); }
+      wake_at(turn[(k + 1) % 8]);
+    }
+  });
+  for (int k = 0; k < 8; k++) all.emplace_back([=] {
+    for (int round = 0; with_handlers && round < 32; round++) { sleep_at(asked[k], round); wake_at(answered[k]); }
+  });
+  wake_at(turn[0]);
+  for (auto &it : all) it.join();
+}
+
+// A request and its answer, 50,000 times, by two threads that never sleep.
+static void ask_and_answer() {
+  static Queue<96, 16> down;
+  static Queue<96, 16> up;
+  std::thread handler([] { for (int k = 0; k < 50000; k++) { down.take(); up.send({}); } });
+  for (int k = 0; k < 50000; k++) { down.send({}); up.take(); }
+  handler.join();
+}
+
+// 12,500 chunks of 8 requests go down and come back empty; one thread writes a trace of them, the other a journal.
+static void pass_chunks() {
+  const int chunks = 12500, size = 8;
+  Queue<96, 16> down;
+  Queue<40, 4> spare;
+  std::vector<uint64_t> rooms(4 * size * 6);
+  for (uint64_t k = 0; k < 4; k++) spare.send({{k}});
+  auto *trace = (uint64_t *)malloc(chunks * size * 64), *journal = (uint64_t *)malloc(chunks * size * 72);
+  std::thread handler([&] {
+    uint64_t balance = 0, *to = journal;
+    for (int k = 0; k < chunks; k++) {
+      uint64_t place = down.take().words[0];
+      for (uint64_t *from = &rooms[place * size * 6], *end = from + size * 6; from < end; from += 6, to += 9) {
+        balance += from[1];
+        memcpy(to, from, 48);
+        to[6] = to[7] = to[8] = balance;
+      }
+      spare.send({{place}});
+    }
+  });
+  uint64_t *to = trace;
+  for (int k = 0; k < chunks; k++) {
+    uint64_t place = spare.take().words[0];
+    for (uint64_t *at = &rooms[place * size * 6], *end = at + size * 6; at < end; at += 6, to += 8) {
+      for (int word = 0; word < 6; word++) at[word] = to[word] = word + k;
+      to[6] = to[7] = 0;
+    }
+    down.send({{place}});
+  }
+  handler.join();
+  free(trace);
+  free(journal);
+}
+
+int main() {
+  printf("sixteen threads started and joined: %.1f\n", milliseconds(start_sixteen));
+  printf("256 turns of eight sleepers: %.1f\n", milliseconds([] { pass_turns(false); }));
+  printf("256 turns of eight sleepers, each with another sleeper's answer: %.1f\n", milliseconds([] { pass_turns(true); }));
+  printf("50,000 requests and answers through two queues: %.1f\n", milliseconds(ask_and_answer));
+  printf("12,500 chunks of 8 requests through two queues: %.1f\n", milliseconds(pass_chunks));
+}
