@@ -125,12 +125,27 @@ fn put_found<W: Write>(out: &mut W, alloc: Global, program: &Program) -> io::Res
     put_words(out, condition, words)
 }
 
+// What a search finds where alike clients may change places.
+fn put_alike<W: Write>(out: &mut W, alloc: Global) -> io::Result<()> {
+    let found = match scripts::program(alloc, scripts::ALIKE) {
+        Some(program) => searching::up_to_alike(alloc, &program),
+        None => None,
+    };
+    let words = match found {
+        Some((120, 1, 6)) =>
+            "120 outcomes are one but for who is who, and 6 configurations lead there",
+        _ => "refused",
+    };
+    put_words(out, "outcomes but for alike clients", words)
+}
+
 fn tour<R: Threads + Wait + Sync, W: Write>(rt: &R, alloc: Global, out: &mut W) -> io::Result<()> {
     let Some(program) = scripts::program(alloc, scripts::TRANSFER) else {
         return put(out, "a script", None);
     };
     put_played(out, alloc, &program)?;
     put_found(out, alloc, &program)?;
+    put_alike(out, alloc)?;
     put_by_hand(out, rt, alloc, &program)?;
     put_minds(out, alloc)?;
     if let Some(chain) = scripts::program(alloc, scripts::ONE_AFTER_THE_OTHER) {

@@ -13,6 +13,12 @@ pub const TRANSFER: &str = "object a account 100 object b account 100
 pub const ONE_AFTER_THE_OTHER: &str = "object a account 100 object b account 100
     client ann { separate a { x = a.balance(); } separate b { y = b.balance(); } }";
 
+/// Five clients who read an account and add to it: four of a template, and one with the same text but for a name.
+pub const ALIKE: &str = "object a account 0
+    template reads(account p) { separate p { x = p.balance(); p.deposit(1); } }
+    client c = reads(a) client d = reads(a) client e = reads(a) client f = reads(a)
+    client g { separate a { seen = a.balance(); a.deposit(1); } }";
+
 /// Ann reads one account.
 pub const READS: &str = "object a account 7 client ann { separate a { x = a.balance(); } }";
 

@@ -1,5 +1,6 @@
 //! What a program can come to.
 
+use qs_alike::{classes_of, outcomes_alike};
 use qs_conditions::{Claim, Quantifier, read_condition};
 use qs_outcomes::{Watcher, outcomes};
 use qs_program::Program;
@@ -23,6 +24,14 @@ impl Watcher for Silent {
 pub fn all_outcomes(alloc: Global, program: &Program) -> Option<Vec<u8>> {
     let all = outcomes(alloc, program, LIMIT).ok()?;
     outcomes_text(alloc, program, &all).ok()
+}
+
+/// How many outcomes there are; how many but for alike clients in each other's places, of which `outcomes_alike` lists
+/// one each (clause *outcomes*); and how many configurations it took up.
+pub fn up_to_alike(alloc: Global, program: &Program) -> Option<(usize, usize, usize)> {
+    let all = outcomes(alloc, program, LIMIT).ok()?;
+    let some = outcomes_alike(alloc, program, &classes_of(program), LIMIT).ok()?;
+    Some((all.found().len(), some.found().len(), some.configurations()))
 }
 
 /// Whether a condition holds at the end of every run, None where it does not read, or speaks of what the program does

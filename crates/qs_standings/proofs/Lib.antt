@@ -1,3 +1,4 @@
+pub mod Flips
 pub mod Fronts
 pub mod RowSteps
 pub mod Stands

@@ -122,15 +122,21 @@ module _ (p : ProgramShape) (front : List Ticket) (sound : IsSound p) where
   pub in_range : (s : StandingShape) → IsStanding p front s → AllInRange s.states
   in_range s is h less = subst (λ (st : States). IsInRange (st h).content) (sym (ap (λ (g : Configuration). g.states) is.stands)) (orders_keep_ranges p sound s.order h)
 
+-- equal rows are of equal configurations
+pub standings_tell : (p : ProgramShape) → IsSound p → (front other : List Ticket) (s t : StandingShape) → IsStanding p front s → IsStanding p other t
+    → row_of p s ≡ row_of p t → configuration_in s ≡ configuration_in t
+standings_tell p sound front other s t a b e =
+    let begun : s.begun ≡ t.begun =
+    (equal_long s.begun t.begun (drop (length s.begun) (replicate most_clients 0)) (drop (length t.begun) (replicate most_clients 0)) (a.begun ∙ sym b.begun)
+    (ap (λ (r : RowShape). r.begun) e)).0 in
+    let second = named_tell p 0 s.locals t.locals (flat_map state_row s.states) (flat_map state_row t.states) (a.locals ∙ sym b.locals) (named p front sound s a) (named p other sound t b) (ap (λ (r : RowShape). r.numbers) e) in
+    let third = states_tell s.states t.states [] [] (in_range p front sound s a) (in_range p other sound t b) (a.states ∙ sym b.states)
+    (append_none (flat_map state_row s.states) ∙ (second.1 ∙ sym (append_none (flat_map state_row t.states)))) in
+    λ i. configuration_in (record { order = s.order; begun = begun i; locals = second.0 i; states = third.0 i })
+
+module _ (p : ProgramShape) (front : List Ticket) (sound : IsSound p) where
   pub row_tells : (s t : StandingShape) → IsStanding p front s → IsStanding p front t → row_of p s ≡ row_of p t → configuration_in s ≡ configuration_in t
-  row_tells s t a b e =
-      let begun : s.begun ≡ t.begun =
-      (equal_long s.begun t.begun (drop (length s.begun) (replicate most_clients 0)) (drop (length t.begun) (replicate most_clients 0)) (a.begun ∙ sym b.begun)
-      (ap (λ (r : RowShape). r.begun) e)).0 in
-      let second = named_tell p 0 s.locals t.locals (flat_map state_row s.states) (flat_map state_row t.states) (a.locals ∙ sym b.locals) (named s a) (named t b) (ap (λ (r : RowShape). r.numbers) e) in
-      let third = states_tell s.states t.states [] [] (in_range s a) (in_range t b) (a.states ∙ sym b.states)
-      (append_none (flat_map state_row s.states) ∙ (second.1 ∙ sym (append_none (flat_map state_row t.states)))) in
-      λ i. configuration_in (record { order = s.order; begun = begun i; locals = second.0 i; states = third.0 i })
+  row_tells s t a b e = standings_tell p sound front front s t a b e
 
 -- and equal configurations of as many clients and objects have equal rows
 pub same_row : (p : ProgramShape) (s t : StandingShape) → s.begun ≡ t.begun → s.locals ≡ t.locals → s.states ≡ t.states → row_of p s ≡ row_of p t

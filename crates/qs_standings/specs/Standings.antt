@@ -1,5 +1,6 @@
 -- Configurations as they are kept: in lists, with an order that leads there, and as one row of numbers.
-use Rattle.std.specs.Prelude.{◌≡◌, ℕ, List, [], ◌∷◌, ◌++◌, true, drop, length, replicate, slice_index_or, slice_set, ℤ, pos, flat_map, suc, take}
+use Rattle.std.specs.Prelude.{◌≡◌, ◌==◌, if◌then◌else◌, map, ℕ, List, [], ◌∷◌, ◌++◌, true, drop, length, replicate, slice_index_or, slice_set, ℤ, pos, flat_map, suc, take}
+use Rattle.std.specs.List.{swap}
 use Rattle.qs_objects.specs.Act.{State, Content, account, buffer, grid}
 use Rattle.qs_objects.specs.Rows.{join_rows}
 use Rattle.qs_objects.specs.declared.held.Ticket.{Ticket}
@@ -90,6 +91,22 @@ standing_with_block s c values states = record {
   begun = slice_set s.begun c (suc (slice_index_or s.begun c 0));
   locals = slice_set s.locals c values;
   states = states;
+}
+
+-- one of two numbers for the other
+abbrev pub flipped : (one other : ℕ) → ℕ → ℕ
+flipped one other n = if n == one then other else (if n == other then one else n)
+
+abbrev pub flipped_ticket : (one other : ℕ) → Ticket → Ticket
+flipped_ticket one other t = record { client = flipped one other t.client; index = t.index }
+
+-- with two clients in each other's places
+abbrev pub exchanged : (one other : ℕ) → StandingShape → StandingShape
+exchanged one other s = record {
+  order = map (flipped_ticket one other) s.order;
+  begun = swap s.begun one other;
+  locals = swap s.locals one other;
+  states = s.states;
 }
 
 -- a list of numbers with its length before it

@@ -1,10 +1,11 @@
 //! Configurations with the orders that lead there.
 
-ghost use Rattle.std.specs.Prelude.{◌≡◌, ◌<◌, ◌↔◌, true, false, ℕ, IfOk, OnOk, [], ◌∷◌, ◌++◌, length, slice_index_or, slice_set};
+ghost use Rattle.std.specs.Prelude.{◌≡◌, ◌<◌, ◌↔◌, true, false, ℕ, IfOk, OnOk, [], ◌∷◌, ◌++◌, length, map, slice_index_or, slice_set};
 ghost use Rattle.qs_meaning.specs.Serial.{declared_states, no_state, zeros};
 ghost use Rattle.qs_meaning.specs.Solo.{solo};
 ghost use Rattle.qs_serial.specs.Alone.{AreCallsWithin, states_in};
 ghost use Rattle.qs_program.specs.Program.{blocks_of};
+ghost use Rattle.qs_standings.specs.Standings.{flipped, flipped_ticket};
 
 use crate::going::{Last, goes_on};
 use crate::rows::{Draft, Row, add_locals, add_objects, padded, put_stem};
@@ -127,17 +128,46 @@ fn put_locals(
     Ok(())
 }
 
+// The other of two clients; another one stays as it is.
+fn flipped(one: u8, other: u8, client: u8) -> u8
+    ensures flipped { result ≡ flipped one other client }
+{
+    if client == one {
+        other
+    } else if client == other {
+        one
+    } else {
+        client
+    }
+}
+
+// Puts two clients in each other's places of an order.
+fn flip_order(one: u8, other: u8, order: &mut [Ticket])
+    ensures flipped { order.new ≡ map (flipped_ticket one other) order.old }
+{
+    for place in 0..order.len() {
+        order[place].client = flipped(one, other, order[place].client);
+    }
+}
+
 impl Standing {
     ghost use Rattle.qs_meaning.specs.Reduced.{goes_on};
     ghost use Rattle.qs_standings.specs.Going.{AreLast, in_byte};
     ghost use Rattle.qs_standings.specs.Rows.{AreStarts, drafted, shape_of};
-    ghost use Rattle.qs_standings.specs.Standings.{NoneNext, HasNext, HasRun, IsFirst, IsOneOn, IsStanding, configuration_in, row_of, standing_with_block};
+    ghost use Rattle.qs_standings.specs.Standings.{exchanged, NoneNext, HasNext, HasRun, IsFirst, IsOneOn, IsStanding, configuration_in, row_of, standing_with_block};
 
     /// The order of blocks that leads there.
     pub fn order(&self) -> &[Ticket]
         ensures order { result.now ≡ self.now.order }
     {
         self.order.as_slice()
+    }
+
+    /// How many blocks each client has begun.
+    pub fn begun(&self) -> &[u8]
+        ensures begun { result.now ≡ self.now.begun }
+    {
+        self.begun.as_slice()
     }
 
     /// A client's variables.
@@ -286,6 +316,17 @@ impl Standing {
         let mut next = Standing::empty(alloc);
         self.put_next(program, front, client, &values, &mut left, &mut next)?;
         Ok(next)
+    }
+
+    /// Puts two clients in each other's places.
+    pub fn exchange(&mut self, one: u8, other: u8)
+        requires begun { (one < length self.old.begun) × (other < length self.old.begun) }
+        requires locals { (one < length self.old.locals) × (other < length self.old.locals) }
+        ensures exchanged { self.new ≡ exchanged one other self.old }
+    {
+        flip_order(one, other, self.order.as_mut_slice());
+        self.begun.swap(usize::from(one), usize::from(other));
+        self.locals.swap(usize::from(one), usize::from(other));
     }
 
     /// Its row. An error says that memory was refused.

@@ -1,0 +1,140 @@
+-- Two arranged configurations of which one is a change of the other are the same. Else some client would have a lesser
+-- place in the one than in the other. Then all of its class up to this client would have to stand before it in the
+-- other, which are too many for the numbers that are left.
+use Rattle.std.proofs.Common.{◌≡◌, ℕ, suc, ◌<◌, ◌≤◌, arith, Bool, true, false, if◌then◌else◌, ◌==◌, List, [], ◌∷◌, drop, refl, sym, ap, ◌∙◌, subst, ⊎_elim}
+use Rattle.std.specs.Prelude.{ℤ, nat_abs, IsTrue}
+use Rattle.std.specs.Ordering.{int_cmp, ordering_reverse, is_le}
+use Rattle.std.specs.declared.cmp.Ordering.{Ordering}
+use Rattle.std.specs.declared.cmp.Ordering.TheVariants.{Less, Equal, Greater}
+use Rattle.std.specs.Cmp.{IsTotalOrder}
+use Rattle.std.specs.Cmp.Lexicographic.{slice_cmp}
+use Rattle.std.specs.BTreeMap.Comparable.{le_lt_trans}
+use Rattle.std.specs.FinMap.{int_cmp-IsAntisymmetric, slice_cmp-IsAntisymmetric}
+use Rattle.std.proofs.lemmas.Bool.{cases_lt, cases_order}
+use Rattle.std.proofs.lemmas.Cmp.{int_cmp_total, lists_total, tied_itself}
+use Rattle.indexmap.proofs.IndexTableLemmas.Probe.{Into, OneToOne, pigeonhole}
+use Rattle.qs_objects.proofs.Choices.{eqb_self, num_cases}
+use Rattle.qs_alike.specs.Changes.{changed}
+use Rattle.qs_alike.specs.Arranged.{ArrangedOnce, place_of}
+
+abbrev order : List ℤ → List ℤ → Ordering
+order u v = slice_cmp int_cmp u v
+
+pub total : IsTotalOrder order
+total = lists_total int_cmp_total
+
+abbrev IsLess : List ℤ → List ℤ → Type 0
+IsLess u v = order u v ≡ Less
+
+not_before_itself : (u : List ℤ) → IsLess u u → ⊥
+not_before_itself u l = let e : Less ≡ Equal = sym l ∙ tied_itself total u in cc
+
+at_most : (u v : List ℤ) → (IsLess v u → ⊥) → IsTrue (is_le (order u v))
+at_most u v none = by (order u v) refl
+  where
+    by : (r : Ordering) → order u v ≡ r → IsTrue (is_le (order u v))
+    by Less e = ap is_le e
+    by Equal e = ap is_le e
+    by Greater e = absurd (none (total.antisymm v u ∙ ap ordering_reverse e))
+
+-- lists by the numbers of clients, ordered in each class; the second has what the first has, at other numbers of the
+-- same class
+module _ (k : ℕ → ℕ) (a b : ℕ → List ℤ) (to from : ℕ → ℕ)
+    (there : (c : ℕ) → from (to c) ≡ c) (alike : (c : ℕ) → k (to c) ≡ k c) (same : (c : ℕ) → b (to c) ≡ a c)
+    (first : (c d : ℕ) → c < d → k c ≡ k d → IsLess (a d) (a c) → ⊥)
+    (other : (c d : ℕ) → c < d → k c ≡ k d → IsLess (b d) (b c) → ⊥) where
+  moved : ℕ → ℕ → ℕ
+  moved c d = if k d == k c then to d else d
+
+  moved_there : (c d : ℕ) → k d ≡ k c → moved c d ≡ to d
+  unfolding moved
+  moved_there c d e =
+      let t : (k d == k c) ≡ true = subst (λ n. (k d == n) ≡ true) e (eqb_self (k d)) in
+      ap (λ (t : Bool). if t then to d else d) t
+
+  moved_not : (c d : ℕ) → (k d == k c) ≡ false → moved c d ≡ d
+  unfolding moved
+  moved_not c d f = ap (λ (t : Bool). if t then to d else d) f
+
+  differ : (m n : ℕ) → (m == n) ≡ false → m ≡ n → ⊥
+  differ m n f e = let t : (m == n) ≡ true = subst (λ x. (m == x) ≡ true) e (eqb_self m) in
+      let d : true ≡ false = sym t ∙ f in cc
+
+  up_to : (f : ℕ → List ℤ) → ((c d : ℕ) → c < d → k c ≡ k d → IsLess (f d) (f c) → ⊥)
+      → (c d : ℕ) → c ≤ d → k c ≡ k d → IsLess (f d) (f c) → ⊥
+  up_to f sorted c d h e l =
+      ⊎_elim
+      (λ (is : c ≡ d). not_before_itself (f c) (subst (λ n. IsLess (f n) (f c)) (sym is) l))
+      (λ rest.
+      ⊎_elim (λ (less : c < d). sorted c d less e l) (λ (more : d < c). absurd (omega (arith, h, more))) rest)
+      (cases_order c d)
+
+  none_less : (c : ℕ) → IsLess (a c) (b c) → ⊥
+  none_less c l = let q : suc c ≤ c = pigeonhole (suc c) c (moved c) into one in omega (arith, q)
+    where
+      before : (d : ℕ) → d ≤ c → k d ≡ k c → to d < c
+      before d h e =
+          ⊎_elim
+          (λ (less : to d < c). less)
+          (λ (past : c ≤ to d).
+          let low : IsLess (a d) (b c) = le_lt_trans total (a d) (a c) (b c) (at_most (a d) (a c) (up_to a first d c h e)) l in
+          absurd (up_to b other c (to d) past (sym e ∙ sym (alike d)) (subst (λ u. IsLess u (b c)) (sym (same d)) low)))
+          (cases_lt (to d) c)
+
+      into : Into (moved c) (suc c) c
+      into d h =
+          ⊎_elim
+          (λ (e : k d ≡ k c). subst (λ n. n < c) (sym (moved_there c d e)) (before d (omega (arith, h)) e))
+          (λ (f : (k d == k c) ≡ false). subst (λ n. n < c) (sym (moved_not c d f))
+          (⊎_elim
+          (λ (is : d ≡ c). absurd (differ (k d) (k c) f (ap k is)))
+          (λ rest. ⊎_elim (λ (less : d < c). less) (λ (more : c < d). absurd (omega (arith, h, more))) rest)
+          (cases_order d c)))
+          (num_cases (k d) (k c))
+
+      crossed : (i j : ℕ) → k i ≡ k c → (k j == k c) ≡ false → to i ≡ j → ⊥
+      crossed i j e f is = differ (k j) (k c) f (ap k (sym is) ∙ (alike i ∙ e))
+
+      one : OneToOne (moved c) (suc c)
+      one i j h m is =
+          ⊎_elim
+          (λ (e : k i ≡ k c).
+          ⊎_elim
+          (λ (f : k j ≡ k c). sym (there i) ∙ (ap from (sym (moved_there c i e) ∙ (is ∙ moved_there c j f)) ∙ there j))
+          (λ (f : (k j == k c) ≡ false). absurd (crossed i j e f (sym (moved_there c i e) ∙ (is ∙ moved_not c j f))))
+          (num_cases (k j) (k c)))
+          (λ (e : (k i == k c) ≡ false).
+          ⊎_elim
+          (λ (f : k j ≡ k c). absurd (crossed j i f e (sym (moved_there c j f) ∙ (sym is ∙ moved_not c i e))))
+          (λ (f : (k j == k c) ≡ false). sym (moved_not c i e) ∙ (is ∙ moved_not c j f))
+          (num_cases (k j) (k c)))
+          (num_cases (k i) (k c))
+
+count_in : List ℤ → ℕ
+count_in [] = 0
+count_in (x ∷ xs) = nat_abs x
+
+pub arranged_once : ArrangedOnce
+unfolding count_in
+arranged_once k x is g first other =
+    λ i. record { begun = λ c. ap count_in (each c) i; locals = λ c. ap (drop 1) (each c) i; states = g.states }
+  where
+    a : ℕ → List ℤ
+    a = place_of g
+
+    b : ℕ → List ℤ
+    b = place_of (changed x g)
+
+    each : (c : ℕ) → place_of (changed x g) c ≡ place_of g c
+    each c = by (order (place_of (changed x g) c) (place_of g c)) refl
+      where
+        by : (r : Ordering) → order (place_of (changed x g) c) (place_of g c) ≡ r → place_of (changed x g) c ≡ place_of g c
+        by Less e =
+            let none = none_less k (place_of (changed x g)) (place_of g) x.old x.new is.back
+            (λ d. sym (is.alike (x.old d)) ∙ ap k (is.back d)) (λ d. refl) other first in
+            absurd (none c e)
+        by Equal e = slice_cmp-IsAntisymmetric int_cmp-IsAntisymmetric (place_of (changed x g) c) (place_of g c) e
+        by Greater e =
+            let none = none_less k (place_of g) (place_of (changed x g)) x.new x.old is.there
+            is.alike (λ d. ap (place_of g) (is.there d)) first other in
+            absurd (none c (total.antisymm (place_of g c) (place_of (changed x g) c) ∙ ap ordering_reverse e))

@@ -1,0 +1,66 @@
+-- From one configuration to another all legal orders are equally long: each block adds one to the count of a client.
+use Rattle.std.proofs.Common.{◌≡◌, ℕ, zero, suc, ◌+◌, ◌<◌, ◌≤◌, arith, List, [], ◌∷◌, length, refl, ap, subst, ⊎_elim, inl, inr}
+use Rattle.std.proofs.lemmas.Bool.{cases_eq, cases_lt}
+use Rattle.qs_objects.specs.declared.held.Ticket.{Ticket}
+use Rattle.qs_objects.proofs.Choices.{eqb_apart}
+use Rattle.qs_program.specs.Program.{ProgramShape, blocks_of, no_client}
+use Rattle.qs_meaning.specs.Configurations.{Configuration, configuration_from, one_block_on}
+use Rattle.qs_meaning.specs.Serial.{LegalFrom}
+use Rattle.qs_meaning.specs.Solo.{put}
+use Rattle.qs_meaning.proofs.Orders.{legal_on}
+use Rattle.qs_meaning.proofs.TreeWalks.{put_here, put_there}
+use Rattle.qs_standings.proofs.Stands.{past_end}
+
+pub total_of : ℕ → (ℕ → ℕ) → ℕ
+total_of zero f = 0
+total_of (suc n) f = total_of n f + f n
+
+total_same : (n : ℕ) (f g : ℕ → ℕ) → ((i : ℕ) → i < n → f i ≡ g i) → total_of n f ≡ total_of n g
+unfolding total_of
+total_same zero f g each = refl
+total_same (suc n) f g each =
+    let before = total_same n f g (λ i less. each i (omega (arith, less))) in
+    let here = each n (omega arith) in
+    omega (arith, before, here)
+
+total_put : (n c : ℕ) (f : ℕ → ℕ) → c < n → total_of n (put f c (suc (f c))) ≡ suc (total_of n f)
+unfolding total_of
+total_put zero c f less = absurd (omega (arith, less))
+total_put (suc n) c f less = elim (cases_eq c n) [
+  | inl same ↦
+      let before = total_same n (put f c (suc (f c))) f (λ i under. put_there f c (suc (f c)) i (eqb_apart c i (λ e. omega (arith, same, under, e)))) in
+      let here : put f c (suc (f c)) n ≡ suc (f n) = subst (λ m. put f c (suc (f c)) m ≡ suc (f m)) same (put_here f c (suc (f c))) in
+      omega (arith, before, here)
+  | inr other ↦
+      let before = total_put n c f (let o : c ≡ n → ⊥ = other in omega (arith, less, o)) in
+      let here : put f c (suc (f c)) n ≡ f n = put_there f c (suc (f c)) n (eqb_apart c n other) in
+      omega (arith, before, here)
+]
+
+-- who has a block is one of the program's clients
+has_place : (p : ProgramShape) (c k : ℕ) → k < blocks_of p c → c < length p.clients
+has_place p c k less =
+    ⊎_elim
+    (λ (l : c < length p.clients). l)
+    (λ (past : length p.clients ≤ c).
+    let none : blocks_of p c ≡ 0 = ap (λ client. length client.blocks) (past_end p.clients c no_client past) in
+    absurd (omega (arith, less, none)))
+    (cases_lt c (length p.clients))
+
+total_after : (p : ProgramShape) (g : Configuration) (ts : List Ticket) → LegalFrom p g.begun ts
+    → length ts + total_of (length p.clients) g.begun ≡ total_of (length p.clients) (configuration_from p g ts).begun
+total_after p g [] legal = omega arith
+total_after p g (t ∷ ts) legal =
+    let rest = total_after p (one_block_on p t.client g) ts (legal_on p g t ts legal) in
+    let one : total_of (length p.clients) (put g.begun t.client (suc (g.begun t.client))) ≡ suc (total_of (length p.clients) g.begun) =
+    total_put (length p.clients) t.client g.begun (has_place p t.client t.index legal.1) in
+    omega (arith, rest, one)
+
+pub equally_long : (p : ProgramShape) (g : Configuration) (ts us : List Ticket) → LegalFrom p g.begun ts → LegalFrom p g.begun us
+    → configuration_from p g ts ≡ configuration_from p g us → length ts ≡ length us
+equally_long p g ts us legal other same =
+    let one = total_after p g ts legal in
+    let two = total_after p g us other in
+    let ends : total_of (length p.clients) (configuration_from p g ts).begun ≡ total_of (length p.clients) (configuration_from p g us).begun =
+    ap (λ (h : Configuration). total_of (length p.clients) h.begun) same in
+    omega (arith, one, two, ends)

@@ -1,0 +1,6 @@
+pub mod Orders
+pub mod Arranging
+pub mod Exchanging
+pub mod Lengths
+pub mod Searching
+pub mod Searched

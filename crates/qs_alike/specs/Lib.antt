@@ -1,0 +1,7 @@
+-- What an auditor reads: the promises and the calls of the surface are said with these.
+pub mod Changes
+pub mod Arranged
+pub mod AlikeOutcomes
+-- What crates promise one another, what proofs use, and worked examples.
+pub mod Texts
+pub mod AlikeSearch

@@ -1,0 +1,55 @@
+//! Which clients are alike.
+
+ghost use Rattle.std.specs.Prelude.{◌≡◌, ◌<◌, ◌≤◌, true, length};
+ghost use Rattle.qs_alike.specs.Changes.{AreClasses};
+ghost use Rattle.qs_alike.specs.Texts.{HaveSameText, classes_in};
+
+use crate::texts::is_same_block;
+use qs_program::{MOST_CLIENTS, Program};
+
+/// The class of each client: the number of the first client with the same text.
+pub type Classes = [u8; MOST_CLIENTS];
+
+// Whether two clients have the same text but for names.
+fn have_same_text(program: &Program, one: u8, other: u8) -> bool
+    requires within { (one < length program.now.clients) × (other < length program.now.clients) }
+    ensures same { result ≡ true → HaveSameText program.now one other }
+{
+    program.keeps_sound();
+    if program.variables(one).len() != program.variables(other).len()
+        || program.blocks_of(one) != program.blocks_of(other)
+    {
+        return false;
+    }
+    for index in 0..program.blocks_of(one) as u8 {
+        if !is_same_block(program.block(one, index), program.block(other, index)) {
+            return false;
+        }
+    }
+    true
+}
+
+// The first client with the same text.
+fn class_of(program: &Program, client: u8) -> u8
+    requires within { client < length program.now.clients }
+    ensures class { (result ≤ client) × HaveSameText program.now result client }
+{
+    for earlier in 0..client {
+        if have_same_text(program, earlier, client) {
+            return earlier;
+        }
+    }
+    client
+}
+
+/// The classes of a program's clients.
+pub fn classes_of(program: &Program) -> Classes
+    ensures classes { AreClasses program.now (classes_in result) }
+{
+    program.keeps_sound();
+    let mut classes = [0, 1, 2, 3, 4, 5, 6, 7];
+    for client in 0..program.clients() as u8 {
+        classes[usize::from(client)] = class_of(program, client);
+    }
+    classes
+}

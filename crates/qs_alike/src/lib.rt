@@ -1,0 +1,13 @@
+//! Alike clients: those with the same text, which may change places. Of all outcomes of a program that differ by this
+//! alone, one is listed.
+#![tactic(auto)]
+
+mod classes;
+pub mod laws;
+mod placing;
+mod search;
+mod texts;
+
+pub use classes::{Classes, classes_of};
+pub use placing::arrange;
+pub use search::{AlikeOutcomes, outcomes_alike};
