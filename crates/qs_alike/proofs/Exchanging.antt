@@ -23,20 +23,19 @@ use Rattle.qs_alike.proofs.Searched.{no_change, no_change_is, then_changed, then
 abbrev pub flip : ℕ → ℕ → Change
 flip c d = record { new = flipped c d; old = flipped c d }
 
-flipped_first : (c d : ℕ) → flipped c d c ≡ d
+pub flipped_first : (c d : ℕ) → flipped c d c ≡ d
 flipped_first c d = ap (λ (b : Bool). if b then d else (if c == d then c else c)) (eqb_self c)
 
-flipped_second : (c d : ℕ) → (c ≡ d → ⊥) → flipped c d d ≡ c
-flipped_second c d apart =
-    ap (λ (b : Bool). if b then d else (if d == d then c else d)) (eqb_apart d c (λ e. apart (sym e)))
-    ∙ ap (λ (b : Bool). if b then c else d) (eqb_self d)
+pub flipped_second : (c d : ℕ) → flipped c d d ≡ c
+flipped_second c d = ap (flipped c d) (sym (flipped_first c d)) ∙ exchange-twice c d c
 
-flipped_other : (c d n : ℕ) → (n ≡ c → ⊥) → (n ≡ d → ⊥) → flipped c d n ≡ n
+pub flipped_other : (c d n : ℕ) → (n ≡ c → ⊥) → (n ≡ d → ⊥) → flipped c d n ≡ n
 flipped_other c d n one two =
     ap (λ (b : Bool). if b then d else (if n == d then c else n)) (eqb_apart n c one)
     ∙ ap (λ (b : Bool). if b then c else n) (eqb_apart n d two)
 
-flip_alike : (k : Classes) (c d : ℕ) → k c ≡ k d → (n : ℕ) → k (flipped c d n) ≡ k n
+-- what two have in common they have in each other's places
+pub flip_alike : {A : Type 0} (k : ℕ → A) (c d : ℕ) → k c ≡ k d → (n : ℕ) → k (flipped c d n) ≡ k n
 flip_alike k c d same n =
     ⊎_elim
     (λ (is : n ≡ c). ap (λ m. k (flipped c d m)) is ∙ (ap k (flipped_first c d) ∙ (sym same ∙ ap k (sym is))))
@@ -94,7 +93,7 @@ module _ (k : Classes) (g : Configuration) (c d : ℕ) (behind : c < d) (same : 
       (λ (is : e ≡ c). subst (λ n. b < n) (sym (ap (flipped c d) is ∙ flipped_first c d)) (omega (arith, before, behind)))
       (λ (first : (e == c) ≡ false).
       ⊎_elim
-      (λ (is : e ≡ d). subst (λ n. b < n) (sym (ap (flipped c d) is ∙ flipped_second c d (λ e. omega (arith, e, behind)))) before)
+      (λ (is : e ≡ d). subst (λ n. b < n) (sym (ap (flipped c d) is ∙ flipped_second c d)) before)
       (λ (second : (e == d) ≡ false). subst (λ n. b < n) (sym (flipped_other c d e (apart e c first) (apart e d second))) less)
       (num_cases e d))
       (num_cases e c)
@@ -116,7 +115,7 @@ module _ (k : Classes) (g : Configuration) (c d : ℕ) (behind : c < d) (same : 
       let first : place_of h c ≡ place_of g d = ap (place_of g) (flipped_first c d) in
       ⊎_elim
       (λ (is : e ≡ d).
-      let second : place_of h e ≡ place_of g c = ap (place_of g) (ap (flipped c d) is ∙ flipped_second c d (λ e. omega (arith, e, behind))) in
+      let second : place_of h e ≡ place_of g c = ap (place_of g) (ap (flipped c d) is ∙ flipped_second c d) in
       let turned : compared g c d ≡ Less = subst (λ u. slice_cmp int_cmp u (place_of g d) ≡ Less) second (subst (λ v. slice_cmp int_cmp (place_of h e) v ≡ Less) first l) in
       let greater : compared g c d ≡ Greater = total.antisymm (place_of g c) (place_of g d) ∙ ap ordering_reverse lesser in
       let z : Less ≡ Greater = sym turned ∙ greater in cc)

@@ -1,6 +1,9 @@
+pub mod SameTexts
 pub mod Orders
 pub mod Arranging
 pub mod Exchanging
 pub mod Lengths
 pub mod Searching
 pub mod Searched
+pub mod Counting
+pub mod Adding

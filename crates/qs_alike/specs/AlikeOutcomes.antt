@@ -1,12 +1,18 @@
 -- What the list of a program's outcomes says that has one of all changes of alike clients.
 use Rattle.std.specs.Prelude.{◌≡◌, ℕ, suc, List, length}
-use Rattle.std.specs.List.{AllByRecursion}
+use Rattle.std.specs.List.{AllByRecursion, AllZip, sum}
 use Rattle.qs_program.specs.Program.{ProgramShape}
 use Rattle.qs_meaning.specs.Configurations.{Configuration, IsComplete, IsProgramOutcome, OrderOutcome, outcome_of}
 use Rattle.qs_standings.specs.Lists.{HasOne, NoTwo}
 use Rattle.qs_standings.specs.Standings.{IsStanding, StandingShape, configuration_in}
-use Rattle.qs_outcomes.specs.Outcomes.{HasPlaces, OutcomesShape, outcome_at}
-use Rattle.qs_alike.specs.Changes.{Change, Classes, IsChange, changed, changed_outcome}
+use Rattle.qs_outcomes.specs.Outcomes.{AreOutcomes, HasPlaces, OutcomesShape, outcome_at}
+use Rattle.qs_alike.specs.Changes.{AreClasses, Change, Classes, IsChange, changed, changed_outcome}
+
+-- what was found, how many outcomes each of them stands for, and how many configurations were noted
+pub record AlikeShape : Type 0 where
+  pub found : List StandingShape
+  pub counts : List ℕ
+  pub configurations : ℕ
 
 -- what an outcome becomes by some change
 abbrev pub BecomesOutcome : Classes → OrderOutcome → OrderOutcome → Type 0
@@ -15,6 +21,16 @@ BecomesOutcome k a b = (x : Change) × IsChange k x × (b ≡ changed_outcome x 
 -- what a configuration becomes by some change
 abbrev pub Becomes : Classes → Configuration → Configuration → Type 0
 Becomes k g h = (x : Change) × IsChange k x × (h ≡ changed x g)
+
+-- what an outcome becomes by changes of alike clients: all of these, each once
+pub record AreChangesOf (k : Classes) (o : OrderOutcome) (all : List OrderOutcome) : Type 0 where
+  pub sound : AllByRecursion (BecomesOutcome k o) all
+  pub complete : (x : Change) → IsChange k x → HasOne (λ b. b ≡ changed_outcome x o) all
+  pub once : NoTwo ◌≡◌ all
+
+-- there are so many of them
+abbrev pub StandsFor : Classes → OrderOutcome → ℕ → Type 0
+StandsFor k o count = (all : List OrderOutcome) × AreChangesOf k o all × (length all ≡ count)
 
 -- its order is complete, and comes to what it holds
 pub record IsEnd (p : ProgramShape) (s : StandingShape) : Type 0 where
@@ -37,14 +53,25 @@ pub record AreUnlike (p : ProgramShape) (k : Classes) (ss : List StandingShape) 
   pub reached : AllByRecursion (λ s. IsStanding p s.order s) ss
   pub unlike : NoTwo (λ s t. Becomes k (configuration_in s) (configuration_in t)) ss
 
--- Each that is listed is an end, each outcome becomes one of them, and none of them becomes another; so many
--- configurations were noted, of which none becomes another.
-pub record AreAlikeOutcomes (p : ProgramShape) (k : Classes) (all : OutcomesShape) : Type 0 where
+-- for each standing the number of outcomes that its own becomes
+abbrev pub AreCounted : Classes → List StandingShape → List ℕ → Type 0
+AreCounted k found counts = AllZip (λ s count. StandsFor k (outcome_at s) count) found counts
+
+-- Each that is listed is an end, each outcome becomes one of them, and none of them becomes another; for each it is said
+-- how many outcomes it becomes; so many configurations were noted, of which none becomes another.
+pub record AreAlikeOutcomes (p : ProgramShape) (k : Classes) (all : AlikeShape) : Type 0 where
   pub sound : AllByRecursion (IsEnd p) all.found
   pub complete : AreAllBecoming p k all.found
   pub once : NoneBecome k all.found
+  pub counted : AreCounted k all.found all.counts
   pub noted : (ss : List StandingShape) × AreUnlike p k ss all.configurations
 
 -- there are more of them than so many
 abbrev pub HasMoreUnlike : ProgramShape → Classes → ℕ → Type 0
 HasMoreUnlike p k limit = (ss : List StandingShape) × AreUnlike p k ss (suc limit)
+
+-- The counts add up to how many outcomes the program has.
+abbrev pub CountsAreAll : Type 0
+CountsAreAll =
+    (p : ProgramShape) (k : Classes) → AreClasses p k → (full : OutcomesShape) → AreOutcomes p full
+    → (alike : AlikeShape) → AreAlikeOutcomes p k alike → length full.found ≡ sum alike.counts

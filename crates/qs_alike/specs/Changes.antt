@@ -1,5 +1,5 @@
 -- Alike clients may change places: what they do there is what they did, by their new numbers.
-use Rattle.std.specs.Prelude.{◌≡◌, ◌≤◌, ℕ, List, length, map}
+use Rattle.std.specs.Prelude.{◌≡◌, ◌<◌, ◌≤◌, ℕ, List, length, map}
 use Rattle.qs_objects.specs.declared.held.Ticket.{Ticket}
 use Rattle.qs_program.specs.Program.{ProgramShape, client_at}
 use Rattle.qs_meaning.specs.Configurations.{Configuration, IsComplete, IsProgramOutcome, OrderOutcome, configuration_after}
@@ -15,6 +15,15 @@ pub record AreClasses (p : ProgramShape) (k : Classes) : Type 0 where
   pub blocks : (c d : ℕ) → k c ≡ k d → (client_at p c).blocks ≡ (client_at p d).blocks
   pub variables : (c d : ℕ) → k c ≡ k d → length (client_at p c).variables ≡ length (client_at p d).variables
   pub alone : (c d : ℕ) → length p.clients ≤ c → k c ≡ k d → c ≡ d
+
+-- two clients with the same blocks, over as many variables
+pub record HaveSameText (p : ProgramShape) (c d : ℕ) : Type 0 where
+  pub blocks : (client_at p c).blocks ≡ (client_at p d).blocks
+  pub variables : length (client_at p c).variables ≡ length (client_at p d).variables
+
+-- all clients with the same text are of one class
+abbrev pub AreAllAlike : ProgramShape → Classes → Type 0
+AreAllAlike p k = (c d : ℕ) → c < length p.clients → d < length p.clients → HaveSameText p c d → k c ≡ k d
 
 -- each client's new number, and whose number it was
 pub record Change : Type 0 where

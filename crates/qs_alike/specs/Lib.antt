@@ -5,3 +5,4 @@ pub mod AlikeOutcomes
 -- What crates promise one another, what proofs use, and worked examples.
 pub mod Texts
 pub mod AlikeSearch
+pub mod AlikeCounts

@@ -1,8 +1,9 @@
 //! Which clients are alike.
 
-ghost use Rattle.std.specs.Prelude.{◌≡◌, ◌<◌, ◌≤◌, true, length};
-ghost use Rattle.qs_alike.specs.Changes.{AreClasses};
-ghost use Rattle.qs_alike.specs.Texts.{HaveSameText, classes_in};
+ghost use Rattle.std.specs.Prelude.{◌<◌, length};
+ghost use Rattle.std.specs.Bool.{Decides};
+ghost use Rattle.qs_alike.specs.Changes.{AreAllAlike, AreClasses, HaveSameText};
+ghost use Rattle.qs_alike.specs.Texts.{IsFirstAlike, classes_in};
 
 use crate::texts::is_same_block;
 use qs_program::{MOST_CLIENTS, Program};
@@ -13,7 +14,7 @@ pub type Classes = [u8; MOST_CLIENTS];
 // Whether two clients have the same text but for names.
 fn have_same_text(program: &Program, one: u8, other: u8) -> bool
     requires within { (one < length program.now.clients) × (other < length program.now.clients) }
-    ensures same { result ≡ true → HaveSameText program.now one other }
+    ensures same { Decides result (HaveSameText program.now one other) }
 {
     program.keeps_sound();
     if program.variables(one).len() != program.variables(other).len()
@@ -32,7 +33,7 @@ fn have_same_text(program: &Program, one: u8, other: u8) -> bool
 // The first client with the same text.
 fn class_of(program: &Program, client: u8) -> u8
     requires within { client < length program.now.clients }
-    ensures class { (result ≤ client) × HaveSameText program.now result client }
+    ensures class { IsFirstAlike program.now client result }
 {
     for earlier in 0..client {
         if have_same_text(program, earlier, client) {
@@ -42,9 +43,10 @@ fn class_of(program: &Program, client: u8) -> u8
     client
 }
 
-/// The classes of a program's clients.
+/// The classes of a program's clients: those with the same text but for names are of one class.
 pub fn classes_of(program: &Program) -> Classes
     ensures classes { AreClasses program.now (classes_in result) }
+    ensures all { AreAllAlike program.now (classes_in result) }
 {
     program.keeps_sound();
     let mut classes = [0, 1, 2, 3, 4, 5, 6, 7];

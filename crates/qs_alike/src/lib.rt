@@ -3,11 +3,13 @@
 #![tactic(auto)]
 
 mod classes;
+mod counts;
 pub mod laws;
 mod placing;
 mod search;
 mod texts;
 
 pub use classes::{Classes, classes_of};
+pub use counts::stands_for;
 pub use placing::arrange;
 pub use search::{AlikeOutcomes, outcomes_alike};

@@ -13,6 +13,7 @@ ghost use Rattle.qs_alike.specs.Changes.{AreClasses};
 ghost use Rattle.qs_alike.specs.Texts.{classes_in};
 
 use crate::classes::Classes;
+use crate::counts::counts_of;
 use crate::placing::arrange;
 use indexmap::IndexSet;
 use qs_outcomes::OutcomesFault;
@@ -21,10 +22,11 @@ use qs_standings::{Last, Row, Standing, insert, last_blocks, placed};
 use std::alloc::{AllocError, Global};
 use std::marker::Model;
 
-/// Of all outcomes of a program one for all that differ by a change of alike clients, and how many configurations were
-/// noted, of which none is a change of another.
+/// Of all outcomes of a program one for all that differ by a change of alike clients, for how many outcomes each of them
+/// stands, and how many configurations were noted, of which none is a change of another.
 pub struct AlikeOutcomes {
     found: Vec<Standing>,
+    counts: Vec<u32>,
     configurations: usize,
 }
 
@@ -32,17 +34,18 @@ impl Drop for AlikeOutcomes {
     fn drop(self) {
         let AlikeOutcomes {
             found: _,
+            counts: _,
             configurations: _,
         } = self;
     }
 }
 
 impl Model for AlikeOutcomes {
-    ghost use Rattle.qs_outcomes.specs.Outcomes.{OutcomesShape};
+    ghost use Rattle.qs_alike.specs.AlikeOutcomes.{AlikeShape};
 
-    ghost Value = { OutcomesShape };
+    ghost Value = { AlikeShape };
 
-    ghost view = { λ o. record { found = o.found.items; configurations = o.configurations } };
+    ghost view = { λ o. record { found = o.found.items; counts = o.counts.items; configurations = o.configurations } };
 }
 
 impl AlikeOutcomes {
@@ -51,6 +54,14 @@ impl AlikeOutcomes {
         ensures found { result.now ≡ self.now.found }
     {
         self.found.as_slice()
+    }
+
+    /// For each of these how many outcomes its own becomes by changes of alike clients. Their sum is how many outcomes
+    /// there are in all.
+    pub fn counts(&self) -> &[u32]
+        ensures counts { result.now ≡ self.now.counts }
+    {
+        self.counts.as_slice()
     }
 
     /// How many configurations were noted.
@@ -175,9 +186,9 @@ fn visit(
     Ok(())
 }
 
-/// Of all outcomes of a program one for all that differ by a change of alike clients, with a complete order that comes
-/// to it; and how many configurations were noted. `Limit` comes only where more configurations than the limit are
-/// reached of which none is a change of another, `Memory` where memory was refused, and `Order` never.
+/// Of all outcomes of a program one for all that differ by a change of alike clients, with their number and a complete
+/// order that comes to it; and how many configurations were noted. `Limit` comes only where more configurations than the
+/// limit are reached of which none is a change of another, `Memory` where memory was refused, and `Order` never.
 pub fn outcomes_alike(
     alloc: Global,
     program: &Program,
@@ -211,8 +222,10 @@ pub fn outcomes_alike(
             &mut found,
         )?;
     }
+    let counts = counts_of(alloc, program, classes, found.as_slice())?;
     Ok(AlikeOutcomes {
         found,
+        counts,
         configurations: seen.len(),
     })
 }

@@ -1,12 +1,13 @@
 //! Whether two texts are the same but for names.
 
-ghost use Rattle.std.specs.Prelude.{◌≡◌, true};
+ghost use Rattle.std.specs.Prelude.{◌≡◌};
+ghost use Rattle.std.specs.Bool.{Decides};
 ghost use Rattle.qs_program.specs.Views.{single};
 
 use qs_program::{Atom, Block, Body, Call, Expr, Stmt, Test};
 
 fn is_same_atom(one: Atom, other: Atom) -> bool
-    ensures same { result ≡ true → one ≡ other }
+    ensures same { Decides result (one ≡ other) }
 {
     match (one, other) {
         (Atom::Variable(one), Atom::Variable(other)) => one == other,
@@ -16,7 +17,7 @@ fn is_same_atom(one: Atom, other: Atom) -> bool
 }
 
 fn are_same_atoms(one: &[Atom], other: &[Atom]) -> bool
-    ensures same { result ≡ true → one.now ≡ other.now }
+    ensures same { Decides result (one.now ≡ other.now) }
 {
     if one.len() != other.len() {
         return false;
@@ -30,7 +31,7 @@ fn are_same_atoms(one: &[Atom], other: &[Atom]) -> bool
 }
 
 fn is_same_expr(one: Expr, other: Expr) -> bool
-    ensures same { result ≡ true → one ≡ other }
+    ensures same { Decides result (one ≡ other) }
 {
     match (one, other) {
         (Expr::Plain(one), Expr::Plain(other)) => is_same_atom(one, other),
@@ -42,7 +43,7 @@ fn is_same_expr(one: Expr, other: Expr) -> bool
 }
 
 fn is_same_test(one: Test, other: Test) -> bool
-    ensures same { result ≡ true → one ≡ other }
+    ensures same { Decides result (one ≡ other) }
 {
     is_same_atom(one.left, other.left)
         && one.relation == other.relation
@@ -50,7 +51,7 @@ fn is_same_test(one: Test, other: Test) -> bool
 }
 
 fn is_same_call(one: &Call, other: &Call) -> bool
-    ensures same { result ≡ true → one.now ≡ other.now }
+    ensures same { Decides result (one.now ≡ other.now) }
 {
     one.object == other.object
         && one.op == other.op
@@ -59,7 +60,7 @@ fn is_same_call(one: &Call, other: &Call) -> bool
 
 #[cycle(same)]
 fn is_same_body(one: &Body, other: &Body) -> bool
-    ensures same { result ≡ true → one.now ≡ other.now }
+    ensures same { Decides result (one.now ≡ other.now) }
 {
     let one = one.as_slice();
     let other = other.as_slice();
@@ -76,7 +77,7 @@ fn is_same_body(one: &Body, other: &Body) -> bool
 
 #[cycle(same)]
 fn is_same_stmt(one: &Stmt, other: &Stmt) -> bool
-    ensures same { result ≡ true → single one.now ≡ single other.now }
+    ensures same { Decides result (single one.now ≡ single other.now) }
 {
     match (one, other) {
         (Stmt::Command(one), Stmt::Command(other)) => is_same_call(one, other),
@@ -111,7 +112,7 @@ fn is_same_stmt(one: &Stmt, other: &Stmt) -> bool
 
 /// Whether two blocks reserve the same objects by the same list and have the same statements.
 pub(crate) fn is_same_block(one: &Block, other: &Block) -> bool
-    ensures same { result ≡ true → one.now ≡ other.now }
+    ensures same { Decides result (one.now ≡ other.now) }
 {
     one.reserved() == other.reserved() && is_same_body(one.body(), other.body())
 }

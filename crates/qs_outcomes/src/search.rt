@@ -51,6 +51,16 @@ impl Model for AllOutcomes {
 }
 
 impl AllOutcomes {
+    /// What a search has found, and how many configurations it went through.
+    pub fn new(found: Vec<Standing>, configurations: usize) -> AllOutcomes
+        ensures all { result ≡ record { found = found.items; configurations = configurations } }
+    {
+        AllOutcomes {
+            found,
+            configurations,
+        }
+    }
+
     /// Where the program stands at the end of complete orders: one standing for each outcome.
     pub fn found(&self) -> &[Standing]
         ensures found { result.now ≡ self.now.found }

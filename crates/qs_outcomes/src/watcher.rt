@@ -2,7 +2,7 @@
 
 /// Hears of a search while it goes on: a sign of life of one that takes long.
 pub trait Watcher {
-    /// Hears, once for each new configuration, how many different ones were noted so far, this one among them.
+    /// Hears, each time that new configurations were noted, how many different ones there are so far.
     /// Whatever it does, it returns, and the search goes on.
     fn noted(&mut self, configurations: usize);
 }

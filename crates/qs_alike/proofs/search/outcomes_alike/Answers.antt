@@ -3,7 +3,7 @@ use Rattle.std.proofs.lemmas.List.{length-map}
 use Rattle.qs_program.specs.Program.{ProgramShape}
 use Rattle.qs_standings.specs.Rows.{rows_in, shape_of}
 use Rattle.qs_standings.specs.Standings.{RowShape, StandingShape}
-use Rattle.qs_alike.specs.AlikeOutcomes.{AreUnlike}
+use Rattle.qs_alike.specs.AlikeOutcomes.{AreCounted, AreUnlike}
 use Rattle.qs_alike.specs.AlikeSearch.{IsSearched}
 use Rattle.qs_alike.specs.Changes.{Classes}
 use Rattle.qs_alike.specs.Texts.{classes_in}
@@ -31,6 +31,7 @@ returns-clause-outcomes c =
       sound = all_ends p k sound c.requires.classes rows found searched;
       complete = all_becoming p k sound c.requires.classes rows found searched;
       once = none_become p k sound c.requires.classes rows found searched;
+      counted = subst (λ ss. AreCounted k ss c.in_ok-counts.counts.items) c.as_slice-2.ensures.value c.in_ok-counts.ensures.counted;
       noted = subst (λ n. (ss : List StandingShape) × AreUnlike p k ss n) (sym (c.len.ensures.len ∙ sym (length-map c.loop-standing.seen.keys shape_of)))
           (noted p k rows [] found searched);
     }

@@ -1,9 +1,10 @@
-use Rattle.std.proofs.Common.{◌≡◌, ◌<◌, ◌+◌, ◌++◌, ◌∷◌, [], ℕ, List, length, get_or, take, arith, ap, ap₂, sym, ◌∙◌}
-use Rattle.qs_program.specs.Statements.{join_statements}
+use Rattle.std.proofs.Common.{◌≡◌, ◌<◌, ◌+◌, ◌++◌, ◌∷◌, [], ℕ, List, length, get_or, take, arith, ap, ap₂, sym, true≢false, ◌∙◌}
+use Rattle.qs_program.specs.Statements.{Statements, join_statements}
 use Rattle.qs_program.specs.Views.{single, size_of, statements_of}
 use Rattle.qs_program.specs.declared.code.Stmt.{Stmt}
 use Rattle.qs_program.proofs.StatementLists.{size_at, statements_of-append}
 use Rattle.qs_standings.proofs.RowSteps.{take_more}
+use Rattle.qs_alike.proofs.SameTexts.{equally_many, same_at}
 use Rattle.qs_alike.proofs.texts.+same.Goals as goal
 
 one_more : (xs : List Stmt) (i : ℕ) (x : Stmt) → i < length xs → x ≡ get_or xs i x
@@ -27,5 +28,38 @@ is_same_body-is_same_stmt-requires t c =
 pub is_same_body-loop-place-preserved : goal.is_same_body-loop-place-preserved
 is_same_body-loop-place-preserved t c =
     one_more c.as_slice-one.result.now c.loop-place.place c.index-one-place.result c.loop-place-test.true c.index-one-place.is
-    ∙ (ap₂ join_statements c.loop-place.invariant (c.is_same_stmt.ensures.same c.if-not-is_same_stmt.false)
+    ∙ (ap₂ join_statements c.loop-place.invariant (c.is_same_stmt.ensures.same.0 c.if-not-is_same_stmt.false)
     ∙ sym (one_more c.as_slice-other.result.now c.loop-place.place c.index-other-place.result (omega arith) c.index-other-place.is))
+
+-- what the two slices hold is the same where the bodies are
+same_items : (a b : Statements) (xs ys : List Stmt) → a ≡ statements_of xs → b ≡ statements_of ys → a ≡ b → statements_of xs ≡ statements_of ys
+same_items a b xs ys e i same = sym e ∙ (same ∙ i)
+
+pub is_same_body-returns-then-one-other : goal.is_same_body-returns-then-one-other
+is_same_body-returns-then-one-other t c =
+    let xs = c.as_slice-one.result.now in
+    let ys = c.as_slice-other.result.now in
+    record {
+      same = (
+        λ e. absurd (true≢false (sym e)),
+        λ whole. absurd (c.if-one-other.true (equally_many xs ys
+            (same_items c.args.one.now c.args.other.now xs ys c.as_slice-one.ensures.value c.as_slice-other.ensures.value whole))),
+      );
+    }
+
+pub is_same_body-returns-then-not-is_same_stmt : goal.is_same_body-returns-then-not-is_same_stmt
+is_same_body-returns-then-not-is_same_stmt t c =
+    let xs = c.as_slice-one.result.now in
+    let ys = c.as_slice-other.result.now in
+    let i = c.loop-place.place in
+    record {
+      same = (
+        λ e. absurd (true≢false (sym e)),
+        λ whole. sym c.if-not-is_same_stmt.true ∙ c.is_same_stmt.ensures.same.1
+            (ap single c.index-one-place.is
+            ∙ (same_at xs ys i c.index-one-place.result c.index-other-place.result
+            (same_items c.args.one.now c.args.other.now xs ys c.as_slice-one.ensures.value c.as_slice-other.ensures.value whole)
+            c.loop-place-test.true (let less = c.loop-place-test.true in let long = c.if-one-other.false in omega (arith, less, long))
+            ∙ sym (ap single c.index-other-place.is))),
+      );
+    }
