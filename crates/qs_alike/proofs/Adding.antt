@@ -1,7 +1,7 @@
 -- The counts add up to the number of all outcomes. What those that are listed become, all in one list, is each outcome
--- once: each outcome becomes one of those that are listed, and so that one becomes it, since a change can be undone; and
--- what two of them become is never the same, since one of the two would become the other. Two lists of the same, each
--- once, are equally long.
+-- once: each outcome becomes one of those that are listed, and so that one becomes it, since a change can be undone;
+-- and what two of them become is never the same, since one of the two would become the other. Two lists of the same,
+-- each once, are equally long.
 use Rattle.std.proofs.Common.{◌≡◌, ◌≤◌, ◌+◌, ℕ, List, [], ◌∷◌, ◌++◌, length, refl, sym, ap, ◌∙◌, subst, arith, inl, inr, length-append}
 use Rattle.std.specs.List.{AllByRecursion, sum}
 use Rattle.std.proofs.lemmas.List.Sums.{sum_by-cons}

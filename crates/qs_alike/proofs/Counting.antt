@@ -1,23 +1,50 @@
--- Why the count is right. Whatever can come to stand at a number is had by one alike client from there on that nobody of
--- its class before it equals. Where these two are exchanged, what is left to change stands behind the number. Where a
--- change puts there what another equal one has, the two are exchanged first, which makes no difference to the outcome.
-use Rattle.std.proofs.Common.{◌≡◌, ◌<◌, ◌≤◌, ◌+◌, ◌⊎◌, ℕ, List, [], ◌∷◌, ◌++◌, length, refl, sym, ap, ◌∙◌, subst, arith, inl, inr, ⊎_elim, length-append, ◌-◌, ◌*◌, ◌^◌, suc, get_or}
-use Rattle.std.specs.List.{AllByRecursion, swap}
-use Rattle.std.proofs.Math.Nat.{mul-le-mul_right, pow-le-pow_right, pow-succ'}
+-- All that an outcome becomes by changes of alike clients can be listed, each once. Whatever can come to stand at a
+-- number is had by one alike client from there on that nobody of its class before it equals. Where these two are
+-- exchanged, what is left to change stands behind the number. Where a change puts there what another equal one has, the
+-- two are exchanged first, which makes no difference to the outcome.
+use Rattle.std.proofs.Common.{◌≡◌, ◌<◌, ◌≤◌, ◌+◌, ◌⊎◌, ◌==◌, ℕ, zero, suc, Bool, true, false, List, [], ◌∷◌, ◌++◌, length, refl, sym, ap, ◌∙◌, subst, arith, inl, inr, ⊎_elim, true≢false, length-append}
+use Rattle.std.specs.Prelude.{ℤ}
+use Rattle.std.specs.List.{AllByRecursion}
+use Rattle.std.specs.Ordering.{int_eq}
+use Rattle.std.specs.Cmp.Lexicographic.{pointwise}
+use Rattle.std.specs.Cmp.Rules.{signed_items}
 use Rattle.std.proofs.lemmas.Bool.{cases_lt}
-use Rattle.indexmap.proofs.ReorderLemmas.{exchange-twice, exchange-within, get_or-swap}
+use Rattle.indexmap.proofs.ReorderLemmas.{exchange-twice}
+use Rattle.qs_objects.proofs.Choices.{eqb_self, num_cases}
 use Rattle.qs_program.specs.Program.{ProgramShape}
 use Rattle.qs_meaning.specs.Configurations.{OrderOutcome}
-use Rattle.qs_meaning.specs.Serial.{zeros}
 use Rattle.qs_meaning.proofs.Each.{each_join, each_map}
 use Rattle.qs_standings.specs.Lists.{HasOne, NoTwo}
-use Rattle.qs_standings.specs.Standings.{StandingShape, flipped}
+use Rattle.qs_standings.specs.Standings.{flipped}
 use Rattle.qs_standings.proofs.Lists.{has_back, has_front, has_map, pairs_join}
-use Rattle.qs_alike.specs.AlikeCounts.{CountsFrom, HasEarlier, IsChangeFrom, IsChoice, handed_out}
 use Rattle.qs_alike.specs.AlikeOutcomes.{StandsFor}
 use Rattle.qs_alike.specs.Changes.{AreClasses, Change, Classes, IsChange, changed_outcome}
 use Rattle.qs_alike.proofs.Exchanging.{flip, flip_alike, flip_is, flipped_first, flipped_other, flipped_second}
 use Rattle.qs_alike.proofs.Searched.{no_change, no_change_is, then_changed, then_is}
+
+-- a change that leaves all below a number where they are
+pub record IsChangeFrom (k : Classes) (n : ℕ) (x : Change) : Type 0 where
+  pub change : IsChange k x
+  pub kept : (c : ℕ) → c < n → x.old c ≡ c
+
+-- what an outcome becomes by such changes: all of these, each once
+pub record AreChangesFrom (k : Classes) (n : ℕ) (o : OrderOutcome) (all : List OrderOutcome) : Type 0 where
+  pub sound : AllByRecursion (λ b. (x : Change) × IsChangeFrom k n x × (b ≡ changed_outcome x o)) all
+  pub complete : (x : Change) → IsChangeFrom k n x → HasOne (λ b. b ≡ changed_outcome x o) all
+  pub once : NoTwo ◌≡◌ all
+
+-- there are so many of them
+abbrev pub CountsFrom : Classes → ℕ → OrderOutcome → ℕ → Type 0
+CountsFrom k n o count = (all : List OrderOutcome) × AreChangesFrom k n o all × (length all ≡ count)
+
+-- someone of the class, from a number on and before another, has the same variables as that one
+abbrev pub HasEarlier : Classes → OrderOutcome → (n other : ℕ) → Type 0
+HasEarlier k o n other = (m : ℕ) × (n ≤ m) × (m < other) × (k m ≡ k n) × (o.locals m ≡ o.locals other)
+
+-- one of the class of a number, whose variables nobody has of those from this number on who come before it
+pub record IsChoice (k : Classes) (o : OrderOutcome) (n other : ℕ) : Type 0 where
+  pub alike : k n ≡ k other
+  pub new : HasEarlier k o n other → ⊥
 
 -- all that an outcome becomes where the change puts at a number what stood below another, each once
 pub record AreChangesTo (k : Classes) (n : ℕ) (o : OrderOutcome) (to : ℕ) (all : List OrderOutcome) : Type 0 where
@@ -30,14 +57,14 @@ abbrev pub CountsTo : Classes → ℕ → OrderOutcome → ℕ → ℕ → Type 
 CountsTo k n o to count = (all : List OrderOutcome) × AreChangesTo k n o to all × (length all ≡ count)
 
 -- whose variables a client gets is of its class
-old_alike : (k : Classes) (x : Change) → IsChange k x → (c : ℕ) → k c ≡ k (x.old c)
+pub old_alike : (k : Classes) (x : Change) → IsChange k x → (c : ℕ) → k c ≡ k (x.old c)
 old_alike k x is c = ap k (sym (is.back c)) ∙ is.alike (x.old c)
 
 -- where two clients have the same, it makes no difference which of them another one is taken for
-same_flipped : (o : OrderOutcome) (x : Change) (c d : ℕ) → o.locals c ≡ o.locals d → changed_outcome (then_changed (flip c d) x) o ≡ changed_outcome x o
+pub same_flipped : (o : OrderOutcome) (x : Change) (c d : ℕ) → o.locals c ≡ o.locals d → changed_outcome (then_changed (flip c d) x) o ≡ changed_outcome x o
 same_flipped o x c d same = λ i. record { locals = λ n. flip_alike o.locals c d same (x.old n) i; states = o.states }
 
-flipped_below : (c d n : ℕ) → n < c → c ≤ d → flipped c d n ≡ n
+pub flipped_below : (c d n : ℕ) → n < c → c ≤ d → flipped c d n ≡ n
 flipped_below c d n less behind = flipped_other c d n (λ e. omega (arith, e, less)) (λ e. omega (arith, e, less, behind))
 
 -- nothing from there on
@@ -227,38 +254,87 @@ stands k o count (all, are, long) = (
   long,
 )
 
--- where two clients are exchanged in the order by which the variables are handed out
-module _ (s : StandingShape) (order after : List ℕ) (n to : ℕ) (first : n < length order) (second : to < length order)
-    (now : after ≡ swap order n to) where
-  read : (c : ℕ) → get_or after c 8 ≡ get_or order (flipped n to c) 8
-  read c = ap (λ xs. get_or xs c 8) now ∙ get_or-swap order n to 8 first second c
+-- whether someone before is of the class and has the same
+module _ (k : Classes) (n : ℕ) (o : OrderOutcome) (other : ℕ) where
+  abbrev IsIt : ℕ → Type 0
+  IsIt c = (n ≤ c) × (k c ≡ k n) × (o.locals c ≡ o.locals other)
 
-  pub handed_exchanged : handed_out s after ≡ changed_outcome (flip n to) (handed_out s order)
-  handed_exchanged = λ i. record { locals = λ c. get_or s.locals (read c i) zeros; states = (handed_out s order).states }
+  abbrev HasBelow : ℕ → Type 0
+  HasBelow m = (c : ℕ) × (n ≤ c) × (c < m) × (k c ≡ k n) × (o.locals c ≡ o.locals other)
 
-  pub within_exchanged : (many : ℕ) → n < many → to < many → ((c : ℕ) → c < many → get_or order c 8 < many)
-      → (c : ℕ) → c < many → get_or after c 8 < many
-  within_exchanged many one other within c less =
-      subst (λ m. m < many) (sym (read c)) (within (flipped n to c) (exchange-within n to many c one other less))
+  same_lists : (u v : List ℤ) → (u ≡ v) ⊎ (u ≡ v → ⊥)
+  same_lists u v = by (pointwise int_eq u v) refl
+    where
+      by : (b : Bool) → pointwise int_eq u v ≡ b → (u ≡ v) ⊎ (u ≡ v → ⊥)
+      by true e = inl ((signed_items u v).0 e)
+      by false e = inr (λ same. true≢false (sym ((signed_items u v).1 same) ∙ e))
 
--- how large a count can be
-pub most_more : (many n to count more : ℕ) → n ≤ to → count ≤ (to - n) * 8 ^ (many - n - 1) → more ≤ 8 ^ (many - (n + 1))
-    → count + more ≤ (to + 1 - n) * 8 ^ (many - n - 1)
-most_more many n to count more behind few one =
-    let e : many - (n + 1) ≡ many - n - 1 = omega arith in
-    let single : more ≤ 8 ^ (many - n - 1) = subst (λ m. more ≤ 8 ^ m) e one in
-    let f : to + 1 - n ≡ (to - n) + 1 = omega (arith, behind) in
-    subst (λ m. count + more ≤ m * 8 ^ (many - n - 1)) (sym f) (omega (arith, few, single))
+  is_it : (c : ℕ) → IsIt c ⊎ (IsIt c → ⊥)
+  is_it c =
+      ⊎_elim
+      (λ (before : c < n). inr (λ w. (let from = w.0 in omega (arith, before, from))))
+      (λ (from : n ≤ c).
+      ⊎_elim
+      (λ (alike : k c ≡ k n).
+      ⊎_elim (λ (same : o.locals c ≡ o.locals other). inl (from, alike, same)) (λ (not : o.locals c ≡ o.locals other → ⊥). inr (λ w. not w.2))
+      (same_lists (o.locals c) (o.locals other)))
+      (λ (not : (k c == k n) ≡ false).
+      inr (λ w. true≢false (sym (subst (λ m. (k c == m) ≡ true) w.1 (eqb_self (k c))) ∙ not)))
+      (num_cases (k c) (k n)))
+      (cases_lt c n)
 
-pub most_all : (many n to count : ℕ) → many ≤ 8 → n < many → to ≤ many → count ≤ (to - n) * 8 ^ (many - n - 1) → count ≤ 8 ^ (many - n)
-most_all many n to count small within past few =
-    let e : many - n ≡ suc (many - n - 1) = omega (arith, within) in
-    let eight : to - n ≤ 8 = omega (arith, small, past) in
-    let more : (to - n) * 8 ^ (many - n - 1) ≤ 8 * 8 ^ (many - n - 1) = mul-le-mul_right (8 ^ (many - n - 1)) eight in
-    let power = pow-succ' 8 (many - n - 1) in
-    subst (λ m. count ≤ 8 ^ m) (sym e) (omega (arith, few, more, power))
+  has_below : (m : ℕ) → HasBelow m ⊎ (HasBelow m → ⊥)
+  has_below zero = inr (λ w. (let less = w.2 in omega (arith, less)))
+  has_below (suc m) =
+      ⊎_elim
+      (λ (w : HasBelow m). inl (w.0, w.1, (let less = w.2 in omega (arith, less)), w.3, w.4))
+      (λ (none : HasBelow m → ⊥).
+      ⊎_elim
+      (λ (it : IsIt m). inl (m, it.0, omega arith, it.1, it.2))
+      (λ (not : IsIt m → ⊥).
+      inr (λ w.
+      ⊎_elim
+      (λ (under : w.0 < m). none (w.0, w.1, under, w.3, w.4))
+      (λ (past : m ≤ w.0).
+      let e : w.0 ≡ m = (let less = w.2 in omega (arith, less, past)) in
+      not (subst IsIt e (w.1, w.3, w.4)))
+      (cases_lt w.0 m)))
+      (is_it m))
+      (has_below m)
 
-pub most_fits : (many n count : ℕ) → many ≤ 8 → count ≤ 8 ^ (many - n) → count < 4294967296
-most_fits many n count small few =
-    let most : 8 ^ (many - n) ≤ 8 ^ 8 = pow-le-pow_right (let z : 0 < 8 = omega arith in z) (let z : many - n ≤ 8 = omega (arith, small) in z) in
-    omega (arith, few, most)
+  choice : IsChoice k o n other ⊎ (k n ≡ k other → HasEarlier k o n other)
+  choice =
+      ⊎_elim
+      (λ (w : HasEarlier k o n other). inr (λ _. w))
+      (λ (none : HasEarlier k o n other → ⊥).
+      ⊎_elim
+      (λ (alike : k n ≡ k other). inl (record { alike = alike; new = none }))
+      (λ (not : (k n == k other) ≡ false).
+      inr (λ alike. absurd (true≢false (sym (subst (λ m. (k n == m) ≡ true) alike (eqb_self (k n))) ∙ not))))
+      (num_cases (k n) (k other)))
+      (has_below other)
+
+-- So what each client can come to have is gone through, and behind it what is left.
+counted_to : (k : Classes) (n : ℕ) (o : OrderOutcome) → ((q : OrderOutcome) → (count : ℕ) × CountsFrom k (n + 1) q count) → (more : ℕ)
+    → (count : ℕ) × CountsTo k n o (n + more) count
+counted_to k n o next zero = (0, counts_begin k n o (n + 0) (omega arith))
+counted_to k n o next (suc more) =
+    let so_far = counted_to k n o next more in
+    let to : n + more + 1 ≡ n + suc more = omega arith in
+    ⊎_elim
+    (λ (is : IsChoice k o n (n + more)).
+    let later = next (changed_outcome (flip n (n + more)) o) in (
+      so_far.0 + later.0,
+      subst (λ m. CountsTo k n o m (so_far.0 + later.0)) to (counts_more k n o (n + more) (omega arith) so_far.0 so_far.1 is later.0 later.1),
+    ))
+    (λ (not : k n ≡ k (n + more) → HasEarlier k o n (n + more)).
+    (so_far.0, subst (λ m. CountsTo k n o m so_far.0) to (counts_skip k n o (n + more) (omega arith) so_far.0 so_far.1 not)))
+    (choice k n o (n + more))
+
+pub counted_from : (p : ProgramShape) (k : Classes) → AreClasses p k → (left n : ℕ) → n + left ≡ length p.clients → (o : OrderOutcome)
+    → (count : ℕ) × CountsFrom k n o count
+counted_from p k are zero n all o =
+    (1, subst (λ m. CountsFrom k m o 1) (let z : length p.clients ≡ n = omega (arith, all) in z) (counts_none p k are o))
+counted_from p k are (suc left) n all o =
+    let c = counted_to k n o (λ q. counted_from p k are left (n + 1) (omega (arith, all)) q) (suc left) in
+    (c.0, counts_all p k are o n (n + suc left) c.0 (omega (arith, all)) (omega (arith, all)) c.1)

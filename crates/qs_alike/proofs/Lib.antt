@@ -5,5 +5,7 @@ pub mod Exchanging
 pub mod Lengths
 pub mod Searching
 pub mod Searched
+pub mod Pairs
 pub mod Counting
+pub mod Shares
 pub mod Adding

@@ -1,6 +1,6 @@
--- Two texts that are equal are so statement by statement, and are equally long. By this the comparison of two texts says
--- yes wherever they are equal. It goes by induction on the list of statements. The first client with the text of one is
--- the first with the text of each that has the same, so that these are of one class.
+-- Two texts that are equal are so statement by statement, and are equally long. By this the comparison of two texts
+-- says yes wherever they are equal. It goes by induction on the list of statements. The first client with the text of
+-- one is the first with the text of each that has the same, so that these are of one class.
 use Rattle.std.proofs.Common.{◌≡◌, ◌<◌, ℕ, zero, suc, List, [], ◌∷◌, length, get_or, refl, sym, ap, ◌∙◌, arith, ⊎_elim}
 use Rattle.std.proofs.lemmas.Bool.{cases_order}
 use Rattle.qs_program.specs.Program.{ProgramShape}

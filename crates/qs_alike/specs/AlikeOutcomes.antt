@@ -57,8 +57,8 @@ pub record AreUnlike (p : ProgramShape) (k : Classes) (ss : List StandingShape) 
 abbrev pub AreCounted : Classes → List StandingShape → List ℕ → Type 0
 AreCounted k found counts = AllZip (λ s count. StandsFor k (outcome_at s) count) found counts
 
--- Each that is listed is an end, each outcome becomes one of them, and none of them becomes another; for each it is said
--- how many outcomes it becomes; so many configurations were noted, of which none becomes another.
+-- Each that is listed is an end, each outcome becomes one of them, and none of them becomes another; for each it is
+-- said how many outcomes it becomes; so many configurations were noted, of which none becomes another.
 pub record AreAlikeOutcomes (p : ProgramShape) (k : Classes) (all : AlikeShape) : Type 0 where
   pub sound : AllByRecursion (IsEnd p) all.found
   pub complete : AreAllBecoming p k all.found

@@ -1,6 +1,6 @@
 //! Which clients are alike.
 
-ghost use Rattle.std.specs.Prelude.{◌<◌, length};
+ghost use Rattle.std.specs.Prelude.{◌≡◌, ◌<◌, length};
 ghost use Rattle.std.specs.Bool.{Decides};
 ghost use Rattle.qs_alike.specs.Changes.{AreAllAlike, AreClasses, HaveSameText};
 ghost use Rattle.qs_alike.specs.Texts.{IsFirstAlike, classes_in};
@@ -10,6 +10,14 @@ use qs_program::{MOST_CLIENTS, Program};
 
 /// The class of each client: the number of the first client with the same text.
 pub type Classes = [u8; MOST_CLIENTS];
+
+/// Whether two clients are of one class.
+pub(crate) fn are_alike(classes: &Classes, one: u8, other: u8) -> bool
+    requires within { (one < 8) × (other < 8) }
+    ensures alike { Decides result (classes_in classes.now one ≡ classes_in classes.now other) }
+{
+    classes[usize::from(one)] == classes[usize::from(other)]
+}
 
 // Whether two clients have the same text but for names.
 fn have_same_text(program: &Program, one: u8, other: u8) -> bool

@@ -9,7 +9,7 @@ ghost use Rattle.qs_alike.specs.Arranged.{IsArrangedBelow, compared};
 ghost use Rattle.qs_alike.specs.Changes.{AreClasses};
 ghost use Rattle.qs_alike.specs.Texts.{classes_in};
 
-use crate::classes::Classes;
+use crate::classes::{Classes, are_alike};
 use qs_program::Program;
 use qs_standings::Standing;
 use std::cmp::Ordering;
@@ -40,8 +40,7 @@ fn settle(program: &Program, classes: &Classes, standing: &mut Standing, place: 
 {
     program.keeps_sound();
     for other in place + 1..program.clients() as u8 {
-        let alike = classes[usize::from(place)] == classes[usize::from(other)];
-        if alike && is_less(standing, other, place) {
+        if are_alike(classes, place, other) && is_less(standing, other, place) {
             standing.exchange(place, other);
         }
     }

@@ -22,8 +22,8 @@ use qs_standings::{Last, Row, Standing, insert, last_blocks, placed};
 use std::alloc::{AllocError, Global};
 use std::marker::Model;
 
-/// Of all outcomes of a program one for all that differ by a change of alike clients, for how many outcomes each of them
-/// stands, and how many configurations were noted, of which none is a change of another.
+/// Of all outcomes of a program one for all that differ by a change of alike clients, for how many outcomes each of
+/// them stands, and how many configurations were noted, of which none is a change of another.
 pub struct AlikeOutcomes {
     found: Vec<Standing>,
     counts: Vec<u32>,
@@ -187,8 +187,8 @@ fn visit(
 }
 
 /// Of all outcomes of a program one for all that differ by a change of alike clients, with their number and a complete
-/// order that comes to it; and how many configurations were noted. `Limit` comes only where more configurations than the
-/// limit are reached of which none is a change of another, `Memory` where memory was refused, and `Order` never.
+/// order that comes to it; and how many configurations were noted. `Limit` comes only where more configurations than
+/// the limit are reached of which none is a change of another, `Memory` where memory was refused, and `Order` never.
 pub fn outcomes_alike(
     alloc: Global,
     program: &Program,

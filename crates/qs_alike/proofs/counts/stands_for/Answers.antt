@@ -1,37 +1,55 @@
-use Rattle.std.proofs.Common.{◌≡◌, ◌<◌, ◌≤◌, ℕ, List, length, get_or, sym, ap, ◌∙◌, subst, arith, ⊎_elim, ◌∷◌, []}
-use Rattle.std.proofs.lemmas.Bool.{cases_lt}
-use Rattle.std.proofs.lemmas.Grind.{common_steps}
-use Rattle.std.proofs.lemmas.List.{get_or_past}
-use Rattle.qs_meaning.specs.Serial.{zeros}
+use Rattle.std.proofs.Common.{◌≡◌, ◌<◌, ◌≤◌, ◌+◌, ◌-◌, ◌*◌, ◌/◌, arith, length, subst}
+use Rattle.std.proofs.Math.Nat.{div-le_self}
 use Rattle.qs_outcomes.specs.Outcomes.{outcome_at}
-use Rattle.qs_standings.specs.Standings.{StandingShape}
-use Rattle.qs_alike.specs.AlikeCounts.{CountsFrom, handed_out}
 use Rattle.qs_alike.specs.Texts.{classes_in}
-use Rattle.qs_alike.proofs.Counting.{stands}
+use Rattle.qs_alike.proofs.Counting.{CountsFrom, counts_none, stands}
+use Rattle.qs_alike.proofs.Shares.{counts_back, product_few, product_fits}
 use Rattle.qs_alike.proofs.counts.stands_for.Goals as goal
 
-abbrev numbers : List ℕ
-numbers = 0 ∷ 1 ∷ 2 ∷ 3 ∷ 4 ∷ 5 ∷ 6 ∷ 7 ∷ []
+pub loop-done-init : goal.loop-done-init
+loop-done-init c =
+    let many = length c.args.program.now.clients in
+    let k = classes_in c.args.classes.now in
+    let o = outcome_at c.args.standing.now in
+    let e : many ≡ many - 0 = omega arith in
+    record { counted = subst (λ m. CountsFrom k m o 1) e (counts_none c.args.program.now k c.requires.classes o); few = omega arith }
 
--- each of eight has its own
-own : (c : ℕ) → c < 8 → get_or numbers c 8 ≡ c
-own c less = grind (arith, common_steps)
+pub overflow_mul-count : goal.overflow_mul-count
+overflow_mul-count c =
+    let many = length c.args.program.now.clients in
+    let small : many ≤ 8 = c.keeps_sound.ensures.sound.clients in
+    let less : c.loop-done.done < many = let l = c.loop-done-test.true in let value = c.clients-clients.ensures.value in omega (arith, l, value) in
+    let fits =
+    product_fits c.loop-done.done many (c.loop-done.count * c.alike_from.result) less small
+    (product_few c.loop-done.done c.loop-done.count c.alike_from.result c.loop-done.invariant.few c.alike_from.ensures.few) in
+    omega (arith, fits)
 
--- nobody's variables are another's at first
-at_first : (s : StandingShape) → length s.locals ≤ 8 → handed_out s numbers ≡ outcome_at s
-at_first s few = λ i. record { locals = λ c. each c i; states = (outcome_at s).states }
-  where
-    each : (c : ℕ) → get_or s.locals (get_or numbers c 8) zeros ≡ get_or s.locals c zeros
-    each c =
-        ⊎_elim
-        (λ (less : c < 8). ap (λ n. get_or s.locals n zeros) (own c less))
-        (λ (past : 8 ≤ c).
-        ap (λ n. get_or s.locals n zeros) (get_or_past numbers c 8 past)
-        ∙ (get_or_past s.locals 8 zeros few ∙ sym (get_or_past s.locals c zeros (omega (arith, few, past)))))
-        (cases_lt c 8)
+pub loop-done-preserved : goal.loop-done-preserved
+loop-done-preserved c =
+    let many = length c.args.program.now.clients in
+    let k = classes_in c.args.classes.now in
+    let o = outcome_at c.args.standing.now in
+    let done = c.loop-done.done in
+    let place = c.clients-clients.result - 1 - done in
+    let next = c.loop-done.count * c.alike_from.result / c.same_from-same.result in
+    let value = c.clients-clients.ensures.value in
+    let less : done < many = let l = c.loop-done-test.true in omega (arith, l, value) in
+    let here : many - done ≡ place + 1 = omega (arith, less, value) in
+    let there : place ≡ many - (done + 1) = omega (arith, less, value) in
+    record {
+      counted = subst (λ m. CountsFrom k m o next) there
+          (counts_back c.args.program.now k c.requires.classes o place (omega (arith, less, value)) c.loop-done.count c.alike_from.result c.same_from-same.result
+          (subst (λ m. CountsFrom k m o c.loop-done.count) here c.loop-done.invariant.counted) c.alike_from.ensures.count c.same_from-same.ensures.count c.same_from-same.ensures.some);
+      few = (let part = div-le_self (c.loop-done.count * c.alike_from.result) c.same_from-same.result in
+          let few = product_few done c.loop-done.count c.alike_from.result c.loop-done.invariant.few c.alike_from.ensures.few in omega (arith, part, few));
+    }
 
 pub returns : goal.returns
 returns c =
-    let few : length c.args.standing.now.locals ≤ 8 = let s = c.keeps_sound.ensures.sound.clients in let l = c.requires.places.locals in omega (arith, s, l) in
+    let many = length c.args.program.now.clients in
     let k = classes_in c.args.classes.now in
-    record { count = stands k (outcome_at c.args.standing.now) c.count_from.result (subst (λ o. CountsFrom k 0 o c.count_from.result) (at_first c.args.standing.now few) c.count_from.ensures.count) }
+    let o = outcome_at c.args.standing.now in
+    let past = c.loop-done-test.false in
+    let value = c.clients-clients.ensures.value in
+    let e : many - c.loop-done.done ≡ 0 = omega (arith, past, value) in
+    record { count = stands k o c.loop-done.count (subst (λ m. CountsFrom k m o c.loop-done.count) e c.loop-done.invariant.counted) }
