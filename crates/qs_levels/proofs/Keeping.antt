@@ -1,0 +1,142 @@
+-- What a table keeps, as orders come up one after another, each after all that are kept: where a row is new, its
+-- lead is added; where it is there, the lead there came by an order that is before. So of all orders that lead to one
+-- configuration the least is kept.
+use Rattle.std.proofs.Common.{◌≡◌, ◌<◌, ℕ, zero, suc, Bool, true, false, if◌then◌else◌, List, [], ◌∷◌, ◌++◌, length, slice_index_or, refl, sym, ap, ◌∙◌, subst, arith, ◌⊎◌, inl, inr, append_assoc, append-nil}
+use Rattle.std.specs.List.{AllByRecursion}
+use Rattle.qs_objects.specs.declared.held.Ticket.{Ticket}
+use Rattle.qs_program.specs.Program.{ProgramShape}
+use Rattle.qs_program.specs.Sound.{IsSound}
+use Rattle.qs_meaning.specs.Configurations.{configuration_after}
+use Rattle.qs_meaning.specs.Reduced.{goes_on}
+use Rattle.qs_meaning.proofs.Each.{each_both, each_map, each_snoc}
+use Rattle.qs_outcomes.specs.LeastOrders.{IsBefore}
+use Rattle.qs_outcomes.proofs.Before.{before_both, before_longer, fork}
+use Rattle.qs_standings.specs.Lists.{HasOne}
+use Rattle.qs_standings.specs.Standings.{GoesOn, IsNext, IsStanding, StandingShape, configuration_in, row_of}
+use Rattle.qs_standings.proofs.Lists.{has_back, has_front, has_of, none_of, pairs_join, two_snoc}
+use Rattle.qs_standings.proofs.RowTells.{row_tells}
+use Rattle.qs_levels.specs.Leads.{AreKept, IsLead, IsLedOn, IsLedUpTo, IsNoLater, IsReached, IsTableOf, StandsFor, TableShape, leads_below, no_standing, order_on}
+use Rattle.qs_levels.proofs.Lists.{has_mapped, map_snoc, mapped_has, zip_snoc}
+
+pub no_later_both : (ts us vs : List Ticket) → IsNoLater ts us → IsNoLater us vs → IsNoLater ts vs
+no_later_both ts us vs (inl e) k = subst (λ xs. IsNoLater xs vs) (sym e) k
+no_later_both ts us vs (inr h) (inl e) = inr (subst (IsBefore ts) e h)
+no_later_both ts us vs (inr h) (inr k) = inr (before_both ts us vs h k)
+
+module _ (p : ProgramShape) (front : List Ticket) (sound : IsSound p) where
+  -- of an order that is after all that are kept, and the standing to which it leads
+  module _ (orders : List (List Ticket)) (kept_ones : List StandingShape) (n : StandingShape) (order : List Ticket) (is : IsStanding p front n) (by_it : n.order ≡ order)
+      (before : AllByRecursion (λ m. IsBefore m.order order) kept_ones) (kept : AreKept p front orders kept_ones) where
+    there : configuration_in n ≡ configuration_after p order
+    there = is.stands ∙ ap (configuration_after p) by_it
+
+    keeps_new : (HasOne (λ m. row_of p n ≡ row_of p m) kept_ones → ⊥) → AreKept p front (orders ++ order ∷ []) (kept_ones ++ n ∷ [])
+    keeps_new new = record {
+      standing = each_snoc (IsStanding p front) kept_ones n kept.standing is;
+      by_order = each_snoc (λ s. HasOne (λ o. s.order ≡ o) (orders ++ order ∷ [])) kept_ones n
+          (each_map (λ s h. has_front (λ o. s.order ≡ o) orders (order ∷ []) h) kept_ones kept.by_order)
+          (has_back (λ o. n.order ≡ o) orders (order ∷ []) (inl by_it));
+      once = two_snoc (λ s t. row_of p s ≡ row_of p t) kept_ones n kept.once
+          (each_map {Q = λ m. row_of p m ≡ row_of p n → ⊥} (λ m (other : row_of p n ≡ row_of p m → ⊥) e. other (sym e)) kept_ones (none_of (λ m. row_of p n ≡ row_of p m) kept_ones new));
+      sorted = pairs_join (λ s m. IsBefore s.order m.order) kept_ones (n ∷ []) kept.sorted (tt, tt)
+          (each_map (λ m (b : IsBefore m.order order). (subst (IsBefore m.order) (sym by_it) b, tt)) kept_ones before);
+      reached = each_snoc (IsReached p (kept_ones ++ n ∷ [])) orders order
+          (each_map (λ o h. has_front (StandsFor p o) kept_ones (n ∷ []) h) orders kept.reached)
+          (has_back (StandsFor p order) kept_ones (n ∷ []) (inl (record { there = there; early = inl by_it })));
+    }
+
+    keeps_old : HasOne (λ m. row_of p n ≡ row_of p m) kept_ones → AreKept p front (orders ++ order ∷ []) kept_ones
+    keeps_old old = record {
+      standing = kept.standing;
+      by_order = each_map (λ s h. has_front (λ o. s.order ≡ o) orders (order ∷ []) h) kept_ones kept.by_order;
+      once = kept.once;
+      sorted = kept.sorted;
+      reached = each_snoc (IsReached p kept_ones) orders order kept.reached
+          (has_of
+          (λ m (e : row_of p n ≡ row_of p m) (w : IsStanding p front m × IsBefore m.order order).
+          (let far : StandsFor p order m = record { there = row_tells p front sound m n w.0 is (sym e) ∙ there; early = inr w.1 } in far))
+          kept_ones old (each_both (λ m a b. (a, b)) kept_ones kept.standing before));
+    }
+
+  -- the standing at a place, whose order is after all that are kept, is led on by the clients below a number
+  module _ (ss : List StandingShape) (place : ℕ) (s : StandingShape) (within : place < length ss) (at_place : s ≡ slice_index_or ss place no_standing)
+      (orders : List (List Ticket)) (t : TableShape) (table : IsTableOf p front ss orders t) (before : AllByRecursion (λ m. IsBefore m.order s.order) table.standings) where
+    pub record IsFarOn (c : ℕ) (after : TableShape) : Type 0 where
+      pub far : IsTableOf p front ss (orders ++ leads_below p s c) after
+      pub ahead : AllByRecursion (λ m. IsBefore m.order (order_on s c)) far.standings
+
+    next_client : (c : ℕ) → IsBefore (order_on s c) (order_on s (suc c))
+    next_client c = fork s.order (record { client = c; index = (configuration_in s).begun c }) (record { client = suc c; index = (configuration_in s).begun (suc c) }) (omega arith)
+
+    lead_is : (c : ℕ) (n : StandingShape) → GoesOn p s c → IsNext p front s c n → IsLead p front ss (record { source = place; client = c }) n
+    lead_is c n goes next = record { within = within; goes = subst (λ s. GoesOn p s c) at_place goes; next = subst (λ s. IsNext p front s c n) at_place next }
+
+    -- one client more, who goes on
+    leads_one : (c : ℕ) (middle after : TableShape) → GoesOn p s c → IsFarOn c middle → IsLedOn p front s (record { source = place; client = c }) middle after
+        → IsFarOn (suc c) after
+    leads_one c middle after goes so_far (n, next, either) = by_row either
+      where
+        orders_now : List (List Ticket)
+        orders_now = orders ++ leads_below p s c
+
+        now : (orders ++ leads_below p s c) ++ order_on s c ∷ [] ≡ orders ++ leads_below p s (suc c)
+        now =
+            append_assoc orders (leads_below p s c) (order_on s c ∷ [])
+            ∙ ap (λ os. orders ++ os) (sym (ap (λ (b : Bool). if b then leads_below p s c ++ order_on s c ∷ [] else leads_below p s c) goes))
+
+        behind : AllByRecursion (λ m. IsBefore m.order (order_on s (suc c))) so_far.far.standings
+        behind = each_map (λ m b. before_both m.order (order_on s c) (order_on s (suc c)) b (next_client c)) so_far.far.standings so_far.ahead
+
+        by_row : ((HasOne (λ r. row_of p n ≡ r) middle.rows → ⊥) × (after ≡ record { rows = middle.rows ++ row_of p n ∷ []; leads = middle.leads ++ record { source = place; client = c } ∷ [] }))
+            ⊎ (HasOne (λ r. row_of p n ≡ r) middle.rows × (after ≡ middle)) → IsFarOn (suc c) after
+        by_row (inl (new, same)) = subst (IsFarOn (suc c)) (sym same) (record {
+          far = record {
+            standings = so_far.far.standings ++ n ∷ [];
+            are_rows = ap (λ rs. rs ++ row_of p n ∷ []) so_far.far.are_rows ∙ sym (map_snoc (row_of p) so_far.far.standings n);
+            kept = subst (λ os. AreKept p front os (so_far.far.standings ++ n ∷ [])) now
+                (keeps_new (orders ++ leads_below p s c) so_far.far.standings n (order_on s c) next.standing next.order so_far.ahead so_far.far.kept
+                (λ h. new (subst (HasOne (λ r. row_of p n ≡ r)) (sym so_far.far.are_rows) (mapped_has (row_of p) (λ r. row_of p n ≡ r) so_far.far.standings h))));
+            by_lead = zip_snoc (IsLead p front ss) middle.leads so_far.far.standings (record { source = place; client = c }) n so_far.far.by_lead (lead_is c n goes next);
+          };
+          ahead = each_snoc (λ m. IsBefore m.order (order_on s (suc c))) so_far.far.standings n behind (subst (λ ts. IsBefore ts (order_on s (suc c))) (sym next.order) (next_client c));
+        })
+        by_row (inr (old, same)) = subst (IsFarOn (suc c)) (sym same) (record {
+          far = record {
+            standings = so_far.far.standings;
+            are_rows = so_far.far.are_rows;
+            kept = subst (λ os. AreKept p front os so_far.far.standings) now
+                (keeps_old (orders ++ leads_below p s c) so_far.far.standings n (order_on s c) next.standing next.order so_far.ahead so_far.far.kept
+                (has_mapped (row_of p) (λ r. row_of p n ≡ r) so_far.far.standings (subst (HasOne (λ r. row_of p n ≡ r)) so_far.far.are_rows old)));
+            by_lead = so_far.far.by_lead;
+          };
+          ahead = behind;
+        })
+
+    -- one who does not
+    leads_none : (c : ℕ) (middle : TableShape) → goes_on p (configuration_in s).begun c ≡ false → IsFarOn c middle → IsFarOn (suc c) middle
+    leads_none c middle stays so_far = record {
+      far = record {
+        standings = so_far.far.standings;
+        are_rows = so_far.far.are_rows;
+        kept = subst (λ os. AreKept p front os so_far.far.standings)
+            (ap (λ os. orders ++ os) (sym (ap (λ (b : Bool). if b then leads_below p s c ++ order_on s c ∷ [] else leads_below p s c) stays))) so_far.far.kept;
+        by_lead = so_far.far.by_lead;
+      };
+      ahead = each_map (λ m b. before_both m.order (order_on s c) (order_on s (suc c)) b (next_client c)) so_far.far.standings so_far.ahead;
+    }
+
+    pub up_to : (c : ℕ) (after : TableShape) → IsLedUpTo p front s place c t after → IsFarOn c after
+    up_to zero after e = subst (IsFarOn zero) (sym e) (record {
+      far = record {
+        standings = table.standings;
+        are_rows = table.are_rows;
+        kept = subst (λ os. AreKept p front os table.standings) (sym (append-nil orders)) table.kept;
+        by_lead = table.by_lead;
+      };
+      ahead = each_map (λ m b. before_longer m.order s.order (record { client = 0; index = (configuration_in s).begun 0 } ∷ []) b) table.standings before;
+    })
+    up_to (suc c) after (middle, far, on, off) = by_case (goes_on p (configuration_in s).begun c) refl (up_to c middle far)
+      where
+        by_case : (b : Bool) → goes_on p (configuration_in s).begun c ≡ b → IsFarOn c middle → IsFarOn (suc c) after
+        by_case true e so_far = leads_one c middle after e so_far (on e)
+        by_case false e so_far = subst (IsFarOn (suc c)) (sym (off e)) (leads_none c middle e so_far)

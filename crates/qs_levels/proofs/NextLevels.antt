@@ -1,0 +1,152 @@
+-- A table into which a whole level was led on, or a part of one, keeps all to which this leads. It is sorted, so each
+-- order that comes up is after all that are kept.
+use Rattle.std.proofs.Common.{◌≡◌, ◌<◌, ◌+◌, ℕ, zero, suc, Bool, true, false, if◌then◌else◌, List, [], ◌∷◌, ◌++◌, length, get_or, take, drop, slice_index_or, refl, sym, ap, ◌∙◌, subst, arith, inl, inr}
+use Rattle.std.proofs.lemmas.Bool.{cases_eq}
+use Rattle.std.proofs.lemmas.List.{length-map, take_more}
+use Rattle.std.specs.List.{AllByRecursion}
+use Rattle.qs_objects.specs.declared.held.Ticket.{Ticket}
+use Rattle.qs_program.specs.Program.{ProgramShape}
+use Rattle.qs_program.specs.Sound.{IsSound}
+use Rattle.qs_meaning.specs.Reduced.{goes_on}
+use Rattle.qs_meaning.proofs.Each.{each_back, each_front, each_join, each_map, each_snoc}
+use Rattle.qs_outcomes.specs.LeastOrders.{AreSorted, IsBefore, IsLongerBy}
+use Rattle.qs_outcomes.proofs.Before.{before_onward}
+use Rattle.qs_standings.specs.Lists.{HasOne}
+use Rattle.qs_standings.specs.Standings.{GoesOn, IsStanding, StandingShape, configuration_in, row_of}
+use Rattle.qs_standings.proofs.Lists.{has_map, has_some, pairs_front, pairs_last}
+use Rattle.qs_standings.proofs.RowTells.{same_configurations}
+use Rattle.qs_standings.proofs.Stands.{goes_left, in_program}
+use Rattle.qs_levels.specs.Fronts.{AreDistinct}
+use Rattle.qs_levels.specs.Leads.{AreKept, HasMoreOnward, IsLedUpTo, IsOneLonger, IsOverfull, IsReached, IsTableOf, TableShape, leads, leads_below, no_standing, order_on}
+use Rattle.qs_levels.specs.Levels.{IsNextOf}
+use Rattle.qs_levels.proofs.Keeping.{up_to}
+use Rattle.qs_levels.proofs.Lists.{all_among, cut_at, flat_map_snoc, two_of}
+
+-- what holds of the orders by which a standing leads on
+each_below : (P : List Ticket → Type 0) (p : ProgramShape) (s : StandingShape) → ((c : ℕ) → GoesOn p s c → P (order_on s c)) → (c : ℕ)
+    → AllByRecursion P (leads_below p s c)
+each_below P p s each zero = tt
+each_below P p s each (suc c) = by_case (goes_on p (configuration_in s).begun c) refl (each_below P p s each c)
+  where
+    by_case : (b : Bool) → goes_on p (configuration_in s).begun c ≡ b → AllByRecursion P (leads_below p s c)
+        → AllByRecursion P (if b then leads_below p s c ++ order_on s c ∷ [] else leads_below p s c)
+    by_case true e rest = each_snoc P (leads_below p s c) (order_on s c) rest (each c e)
+    by_case false e rest = rest
+
+pub each_lead : (P : List Ticket → Type 0) (p : ProgramShape) (ss : List StandingShape) → AllByRecursion (λ s. (c : ℕ) → GoesOn p s c → P (order_on s c)) ss
+    → AllByRecursion P (leads p ss)
+each_lead P p [] each = tt
+each_lead P p (s ∷ ss) each = each_join P (leads_below p s (length p.clients)) (leads p ss) (each_below P p s each.0 (length p.clients)) (each_lead P p ss each.1)
+
+-- and the other way
+among_below : (P : List Ticket → Type 0) (p : ProgramShape) (s : StandingShape) (c n : ℕ) → c < n → GoesOn p s c → AllByRecursion P (leads_below p s n)
+    → P (order_on s c)
+among_below P p s c zero less goes each = absurd (omega (arith, less))
+among_below P p s c (suc n) less goes each = elim (cases_eq c n) [
+  | inl same ↦
+      subst (λ k. P (order_on s k)) (sym same)
+      (each_back P (leads_below p s n) (order_on s n ∷ [])
+      (subst (λ b. AllByRecursion P (if b then leads_below p s n ++ order_on s n ∷ [] else leads_below p s n)) (ap (goes_on p (configuration_in s).begun) (sym same) ∙ goes) each)).0
+  | inr other ↦ among_below P p s c n (let o : c ≡ n → ⊥ = other in omega (arith, less, o)) goes (front_of (goes_on p (configuration_in s).begun n) each)
+]
+  where
+    front_of : (b : Bool) → AllByRecursion P (if b then leads_below p s n ++ order_on s n ∷ [] else leads_below p s n) → AllByRecursion P (leads_below p s n)
+    front_of true h = each_front P (leads_below p s n) (order_on s n ∷ []) h
+    front_of false h = h
+
+lead_each : (P : List Ticket → Type 0) (p : ProgramShape) (ss : List StandingShape) → AllByRecursion P (leads p ss)
+    → AllByRecursion (λ s. AllByRecursion P (leads_below p s (length p.clients))) ss
+lead_each P p [] each = tt
+lead_each P p (s ∷ ss) each = (
+  each_front P (leads_below p s (length p.clients)) (leads p ss) each,
+  lead_each P p ss (each_back P (leads_below p s (length p.clients)) (leads p ss) each),
+)
+
+module _ (p : ProgramShape) (front : List Ticket) (sound : IsSound p) where
+  -- all that are kept are before the next standing
+  kept_before : (done : List StandingShape) (s : StandingShape) (kept_ones : List StandingShape) → AreSorted (done ++ s ∷ []) → AreKept p front (leads p done) kept_ones
+      → AllByRecursion (λ m. IsBefore m.order s.order) kept_ones
+  kept_before done s kept_ones sorted kept =
+      each_map (λ m (by : HasOne (λ o. m.order ≡ o) (leads p done)).
+      has_some (λ o (e : m.order ≡ o) (b : IsBefore o s.order). subst (λ ts. IsBefore ts s.order) (sym e) b) (leads p done) by
+      (each_lead (λ o. IsBefore o s.order) p done
+      (each_map {Q = λ d. (c : ℕ) → GoesOn p d c → IsBefore (order_on d c) s.order} (λ d (b : IsBefore d.order s.order) c goes.
+      before_onward d.order s.order (record { client = c; index = (configuration_in d).begun c } ∷ []) b) done
+      (pairs_last (λ d e. IsBefore d.order e.order) done s sorted)))) kept_ones kept.by_order
+
+  sorted_to : (level : List StandingShape) (i : ℕ) (s : StandingShape) → i < length level → s ≡ get_or level i s → AreSorted level → AreSorted (take i level ++ s ∷ [])
+  sorted_to level i s less is sorted =
+      pairs_front (λ d e. IsBefore d.order e.order) (take i level ++ s ∷ []) (drop (suc i) level) (subst AreSorted (sym (cut_at level i s less is)) sorted)
+
+  -- one place more
+  pub led_at : (level : List StandingShape) (i : ℕ) (s : StandingShape) → i < length level → s ≡ get_or level i s → s ≡ slice_index_or level i no_standing → AreSorted level → (t after : TableShape)
+      → IsTableOf p front level (leads p (take i level)) t → IsLedUpTo p front s i (length p.clients) t after → IsTableOf p front level (leads p (take (i + 1) level)) after
+  led_at level i s less is at sorted t after table led =
+      let now : leads p (take i level) ++ leads_below p s (length p.clients) ≡ leads p (take (i + 1) level) =
+      sym (flat_map_snoc (λ s. leads_below p s (length p.clients)) (take i level) s) ∙ ap (leads p) (ap (λ x. take i level ++ x ∷ []) is ∙ sym (take_more level i s less)) in
+      subst (λ os. IsTableOf p front level os after) now
+      (up_to p front sound level i s less at (leads p (take i level)) t table (kept_before (take i level) s table.standings (sorted_to level i s less is sorted) table.kept) (length p.clients) after led).far
+
+  -- each of these orders is longer by one block than one of the standings
+  one_longer : (level : List StandingShape) → AllByRecursion (λ s. (c : ℕ) → GoesOn p s c → HasOne (λ d. (ticket : Ticket) × IsLongerBy d.order (ticket ∷ []) (order_on s c)) level) level
+  one_longer level =
+      each_map {Q = λ s. (c : ℕ) → GoesOn p s c → HasOne (λ d. (ticket : Ticket) × IsLongerBy d.order (ticket ∷ []) (order_on s c)) level} (λ s (h : HasOne (λ d. d ≡ s) level) c goes.
+      has_map (λ d (e : d ≡ s). (record { client = c; index = (configuration_in s).begun c }, ap (λ (x : StandingShape). x.order ++ record { client = c; index = (configuration_in s).begun c } ∷ []) (sym e))) level h)
+      level (all_among level)
+
+  kept_onward : (level : List StandingShape) (orders : List (List Ticket)) (kept_ones : List StandingShape) → AllByRecursion (λ o. HasOne (λ d. (ticket : Ticket) × IsLongerBy d.order (ticket ∷ []) o) level) orders
+      → AreKept p front orders kept_ones → AllByRecursion (λ n. HasOne (λ s. IsOneLonger s n) level) kept_ones
+  kept_onward level orders kept_ones each kept =
+      each_map (λ n (by : HasOne (λ o. n.order ≡ o) orders).
+      has_some (λ o (e : n.order ≡ o) (h : HasOne (λ d. (ticket : Ticket) × IsLongerBy d.order (ticket ∷ []) o) level).
+      has_map (λ d (w : (ticket : Ticket) × IsLongerBy d.order (ticket ∷ []) o). (w.0, e ∙ w.1)) level h) orders by each)
+      kept_ones kept.by_order
+
+  kept_distinct : (orders : List (List Ticket)) (kept_ones : List StandingShape) → AreKept p front orders kept_ones → AreDistinct kept_ones
+  kept_distinct orders kept_ones kept =
+      two_of {Q = IsStanding p front} (λ s t. row_of p s ≡ row_of p t → ⊥) (λ s t. configuration_in s ≡ configuration_in t → ⊥)
+      (λ s t a b other e. other (same_configurations p front s t a b e)) kept_ones kept.standing kept.once
+
+  -- where there was no room
+  pub too_many : (level : List StandingShape) (i : ℕ) (s : StandingShape) → i < length level → s ≡ get_or level i s → s ≡ slice_index_or level i no_standing → AreSorted level → (t : TableShape)
+      → IsTableOf p front level (leads p (take i level)) t → (room c : ℕ) (after : TableShape) → IsLedUpTo p front s i c t after → IsOverfull room after → HasMoreOnward p front level room
+  too_many level i s less is at sorted t table room c after led full =
+      let whole : (take i level ++ s ∷ []) ++ drop (suc i) level ≡ level = cut_at level i s less is in
+      let now : IsTableOf p front level (leads p (take i level) ++ leads_below p s c) after =
+      (up_to p front sound level i s less at (leads p (take i level)) t table (kept_before (take i level) s table.standings (sorted_to level i s less is sorted) table.kept) c after led).far in
+      let R : StandingShape → Type 0 = λ s. (c : ℕ) → GoesOn p s c → HasOne (λ d. (ticket : Ticket) × IsLongerBy d.order (ticket ∷ []) (order_on s c)) level in
+      let longer : AllByRecursion R (take i level ++ s ∷ []) = each_front R (take i level ++ s ∷ []) (drop (suc i) level) (subst (AllByRecursion R) (sym whole) (one_longer level)) in
+      let P : List Ticket → Type 0 = λ o. HasOne (λ d. (ticket : Ticket) × IsLongerBy d.order (ticket ∷ []) o) level in
+      record {
+        configurations = now.standings;
+        different = record {
+          count = sym (length-map now.standings (row_of p)) ∙ ap length (sym now.are_rows) ∙ full;
+          reached = now.kept.standing;
+          different = kept_distinct (leads p (take i level) ++ leads_below p s c) now.standings now.kept;
+        };
+        onward = kept_onward level (leads p (take i level) ++ leads_below p s c) now.standings
+            (each_join P (leads p (take i level)) (leads_below p s c) (each_lead P p (take i level) (each_front R (take i level) (s ∷ []) longer))
+            (each_below P p s (each_back R (take i level) (s ∷ []) longer).0 c)) now.kept;
+      }
+
+  -- all to which a level leads
+  pub next_of : (level next : List StandingShape) → AreKept p front (leads p level) next → IsNextOf p front level next
+  next_of level next kept = record {
+    standing = kept.standing;
+    onward = kept_onward level (leads p level) next (each_lead (λ o. HasOne (λ d. (ticket : Ticket) × IsLongerBy d.order (ticket ∷ []) o) level) p level (one_longer level)) kept;
+    once = kept_distinct (leads p level) next kept;
+    sorted = kept.sorted;
+    reached = each_map {Q = λ s. (c : ℕ) → GoesOn p s c → IsReached p next (order_on s c)}
+        (λ s (h : AllByRecursion (IsReached p next) (leads_below p s (length p.clients))) c goes.
+        among_below (IsReached p next) p s c (length p.clients) (in_program p s c (goes_left p s c goes)) goes h)
+        level (lead_each (IsReached p next) p level kept.reached);
+  }
+
+-- nothing was led on yet
+pub no_table : (p : ProgramShape) (front : List Ticket) (ss : List StandingShape) → IsTableOf p front ss [] (record { rows = []; leads = [] })
+no_table p front ss = record {
+  standings = [];
+  are_rows = refl;
+  kept = record { standing = tt; by_order = tt; once = tt; sorted = tt; reached = tt };
+  by_lead = tt;
+}

@@ -1,0 +1,75 @@
+use Rattle.std.proofs.Common.{◌≡◌, ◌++◌, ◌∷◌, [], Err, ap, subst, inl, inr, sym, ◌∙◌, refl, arith, true, false, length-append}
+use Rattle.std.proofs.lemmas.Result.{err_from_is_err_and}
+use Rattle.qs_outcomes.specs.declared.fault.OutcomesFault.TheVariants.{Limit}
+use Rattle.qs_outcomes.specs.Search.{IsNoted}
+use Rattle.qs_standings.specs.Rows.{drafted, rows_in}
+use Rattle.qs_standings.specs.Standings.{IsNext, row_of, standing_with_block}
+use Rattle.qs_standings.proofs.Lists.{has_map}
+use Rattle.qs_standings.proofs.Stands.{block_next, goes_left}
+use Rattle.qs_levels.proofs.leading.lead_client.Goals as goal
+use Rattle.qs_levels.proofs.leading.lead_client.Goals.{In_ok-run_next, In_ok-write_next_row}
+
+pub run_next-requires-clause-left : goal.run_next-requires-clause-left
+run_next-requires-clause-left c = goes_left c.args.program.now c.args.standing.now c.args.lead.client c.requires.goes
+
+pub write_next_row-requires-clause-left : goal.write_next_row-requires-clause-left
+write_next_row-requires-clause-left c = goes_left c.args.program.now c.args.standing.now c.args.lead.client c.requires.goes
+
+is_next : (c : In_ok-run_next) → IsNext c.args.program.now c.args.front.now c.args.standing.now c.args.lead.client (standing_with_block c.args.standing.now c.args.lead.client c.run_next.new.values c.run_next.new.left.items)
+is_next c = block_next c.args.program.now c.args.front.now c.args.standing.now c.args.lead.client _ _ c.requires.standing c.requires.client c.requires.goes c.in_ok-run_next.ensures.ran
+
+row_is : (c : In_ok-write_next_row) → drafted c.write_next_row.new.row ≡ row_of c.args.program.now (standing_with_block c.args.standing.now c.args.lead.client c.run_next.new.values c.run_next.new.left.items)
+row_is c =
+    c.in_ok-write_next_row.ensures.row
+    ∙ ap (λ left. row_of c.args.program.now (standing_with_block c.args.standing.now c.args.lead.client c.run_next.new.values left)) c.as_slice-left.ensures.value
+
+pub returns-then-was_seen-clause-led : goal.returns-then-was_seen-clause-led
+returns-then-was_seen-clause-led c =
+    let row = row_is (goal.at.returns-then-was_seen-clause-led c).In_ok-write_next_row in (
+      _,
+      is_next (goal.at.returns-then-was_seen-clause-led c).In_ok-run_next,
+      inr (has_map (λ r (e : drafted c.write_next_row.new.row ≡ r). sym row ∙ e) (rows_in c.args.table.now.rows.keys) (c.was_seen.ensures.seen c.if-was_seen.true), refl),
+    )
+
+pub returns-in_err-note-clause-limit : goal.returns-in_err-note-clause-limit
+returns-in_err-note-clause-limit c = λ is.
+    let row = row_is (goal.at.returns-in_err-note-clause-limit c).In_ok-write_next_row in
+    let next = is_next (goal.at.returns-in_err-note-clause-limit c).In_ok-run_next in
+    let p = err_from_is_err_and c.from_residual-in_err-note.result c.from_residual-in_err-note.ensures.1 in
+    let same : c.in_err-note.field-0.0 ≡ Limit = cc (p.1, p.2) in
+    let full = c.in_err-note.ensures.full (ap (λ e. Err e) same) in (
+      _,
+      (_, next, inl ((λ h. full.1 (has_map (λ r e. row ∙ e) (rows_in c.args.table.now.rows.keys) h)), refl)),
+      length-append (rows_in c.args.table.now.rows.keys) (_ ∷ []) ∙ omega (arith, full.0),
+    )
+
+pub returns-then-not-branch-clause-led : goal.returns-then-not-branch-clause-led
+returns-then-not-branch-clause-led c =
+    let row = row_is (goal.at.returns-then-not-branch-clause-led c).In_ok-write_next_row in
+    let rows = rows_in c.args.table.now.rows.keys in
+    let noted : IsNoted rows (drafted c.write_next_row.new.row) c.args.room false (rows_in c.note.new.rows.keys) =
+    subst (λ b. IsNoted rows (drafted c.write_next_row.new.row) c.args.room b (rows_in c.note.new.rows.keys)) c.if-not-branch.true c.in_ok-note.ensures.noted in (
+      _,
+      is_next (goal.at.returns-then-not-branch-clause-led c).In_ok-run_next,
+      inr (
+        has_map (λ r (e : drafted c.write_next_row.new.row ≡ r). sym row ∙ e) rows noted.0.1,
+        λ i. record { rows = noted.0.0 i; leads = c.args.table.now.leads.items },
+      ),
+    )
+
+pub returns-clause-led : goal.returns-clause-led
+returns-clause-led c =
+    let row = row_is (goal.at.returns-clause-led c).In_ok-write_next_row in
+    let rows = rows_in c.args.table.now.rows.keys in
+    let noted : IsNoted rows (drafted c.write_next_row.new.row) c.args.room true (rows_in c.note.new.rows.keys) =
+    subst (λ b. IsNoted rows (drafted c.write_next_row.new.row) c.args.room b (rows_in c.note.new.rows.keys)) c.if-not-branch.false c.in_ok-note.ensures.noted in (
+      _,
+      is_next (goal.at.returns-clause-led c).In_ok-run_next,
+      inl (
+        (λ h. noted.0.1 (has_map (λ r e. row ∙ e) rows h)),
+        λ i. record {
+          rows = (noted.0.0 ∙ ap (λ r. rows ++ r ∷ []) row) i;
+          leads = (c.in_ok-add_lead.ensures.added) i;
+        },
+      ),
+    )

@@ -1,0 +1,117 @@
+-- How a level is led on. The next blocks of those who go on give orders that are longer by one block; for each
+-- configuration to which these lead, a table has its row, and from where the least of these orders leads there.
+use Rattle.std.specs.Prelude.{◌≡◌, ◌<◌, ◌⊎◌, ℕ, zero, suc, false, if◌then◌else◌, List, [], ◌∷◌, ◌++◌, length, map, flat_map, slice_index_or}
+use Rattle.std.specs.List.{AllByRecursion, AllZip}
+use Rattle.qs_objects.specs.declared.held.Ticket.{Ticket}
+use Rattle.qs_program.specs.Program.{ProgramShape}
+use Rattle.qs_meaning.specs.Configurations.{configuration_after}
+use Rattle.qs_meaning.specs.Reduced.{goes_on}
+use Rattle.qs_outcomes.specs.LeastOrders.{AreSorted, IsBefore, IsLongerBy}
+use Rattle.qs_outcomes.specs.Outcomes.{AreDifferent}
+use Rattle.qs_standings.specs.Lists.{HasOne, NoTwo}
+use Rattle.qs_standings.specs.Rows.{rows_in}
+use Rattle.qs_standings.specs.Standings.{GoesOn, IsNext, IsStanding, RowShape, StandingShape, configuration_in, row_of}
+use Rattle.qs_levels.specs.declared.table.Lead.{Lead}
+use Rattle.qs_levels.specs.declared.table.Table.{Table}
+
+-- an order that is the other, or before it
+abbrev pub IsNoLater : List Ticket → List Ticket → Type 0
+IsNoLater ts us = (ts ≡ us) ⊎ IsBefore ts us
+
+-- it stands where an order leads, by one that is no later
+pub record StandsFor (p : ProgramShape) (order : List Ticket) (s : StandingShape) : Type 0 where
+  pub there : configuration_in s ≡ configuration_after p order
+  pub early : IsNoLater s.order order
+
+-- so does one of these
+abbrev pub IsReached : ProgramShape → List StandingShape → List Ticket → Type 0
+IsReached p ss order = HasOne (StandsFor p order) ss
+
+-- Of the standings to which these orders lead, these are kept: each by one of the orders, no two in one configuration,
+-- and for each order one that is there by an order that is no later.
+pub record AreKept (p : ProgramShape) (front : List Ticket) (orders : List (List Ticket))
+    (standings : List StandingShape) : Type 0 where
+  pub standing : AllByRecursion (IsStanding p front) standings
+  pub by_order : AllByRecursion (λ s. HasOne (λ order. s.order ≡ order) orders) standings
+  pub once : NoTwo (λ s t. row_of p s ≡ row_of p t) standings
+  pub sorted : AreSorted standings
+  pub reached : AllByRecursion (IsReached p standings) orders
+
+-- the order of a standing with the next block of a client
+abbrev pub order_on : StandingShape → ℕ → List Ticket
+order_on s c = s.order ++ record { client = c; index = (configuration_in s).begun c } ∷ []
+
+-- the orders by which those of the clients below n lead on who go on
+abbrev pub leads_below : ProgramShape → StandingShape → ℕ → List (List Ticket)
+leads_below p s zero = []
+leads_below p s (suc c) =
+    if goes_on p (configuration_in s).begun c then leads_below p s c ++ order_on s c ∷ [] else leads_below p s c
+
+-- of all clients from all of these standings
+abbrev pub leads : ProgramShape → List StandingShape → List (List Ticket)
+leads p ss = flat_map (λ s. leads_below p s (length p.clients)) ss
+
+-- rows, and from where and by whose next block each is reached
+pub record TableShape : Type 0 where
+  pub rows : List RowShape
+  pub leads : List Lead
+
+abbrev pub tabled : Table → TableShape
+tabled t = record { rows = rows_in t.rows.keys; leads = t.leads.items }
+
+-- nobody stands there
+abbrev pub no_standing : StandingShape
+no_standing = record { order = []; begun = []; locals = []; states = [] }
+
+-- where a lead leads from one of these standings
+pub record IsLead (p : ProgramShape) (front : List Ticket) (ss : List StandingShape) (lead : Lead)
+    (n : StandingShape) : Type 0 where
+  pub within : lead.source < length ss
+  pub goes : GoesOn p (slice_index_or ss lead.source no_standing) lead.client
+  pub next : IsNext p front (slice_index_or ss lead.source no_standing) lead.client n
+
+-- the standings to which the leads of a table lead are kept
+pub record IsTableOf (p : ProgramShape) (front : List Ticket) (ss : List StandingShape) (orders : List (List Ticket))
+    (t : TableShape) : Type 0 where
+  pub standings : List StandingShape
+  pub are_rows : t.rows ≡ map (row_of p) standings
+  pub kept : AreKept p front orders standings
+  pub by_lead : AllZip (IsLead p front ss) t.leads standings
+
+-- with a lead more
+abbrev pub with_lead : ProgramShape → TableShape → Lead → StandingShape → TableShape
+with_lead p t lead n = record { rows = t.rows ++ row_of p n ∷ []; leads = t.leads ++ lead ∷ [] }
+
+-- a client leads on: its lead is added, or the row of where it leads is there
+abbrev pub IsLedOn : ProgramShape → List Ticket → StandingShape → Lead → (before after : TableShape) → Type 0
+IsLedOn p front s lead before after =
+    (n : StandingShape) × IsNext p front s lead.client n
+    × (((HasOne (λ r. row_of p n ≡ r) before.rows → ⊥) × (after ≡ with_lead p before lead n))
+    ⊎ (HasOne (λ r. row_of p n ≡ r) before.rows × (after ≡ before)))
+
+-- those of the clients below n who go on lead on, one after another, from a standing at a place
+abbrev pub IsLedUpTo : ProgramShape → List Ticket → StandingShape → (place n : ℕ) → (before after : TableShape) → Type 0
+IsLedUpTo p front s place zero before after = after ≡ before
+IsLedUpTo p front s place (suc c) before after =
+    (middle : TableShape) × IsLedUpTo p front s place c before middle
+    × (GoesOn p s c → IsLedOn p front s (record { source = place; client = c }) middle after)
+    × (goes_on p (configuration_in s).begun c ≡ false → after ≡ middle)
+
+-- a table with one more than there is room for
+abbrev pub IsOverfull : ℕ → TableShape → Type 0
+IsOverfull room t = length t.rows ≡ suc room
+
+-- where some client leads on, there is no room for what is kept
+abbrev pub IsLedTooFar : ProgramShape → List Ticket → StandingShape → (place room : ℕ) → TableShape → Type 0
+IsLedTooFar p front s place room before =
+    (c : ℕ) × (after : TableShape) × IsLedUpTo p front s place c before after × IsOverfull room after
+
+-- its order goes on from the other's by one block
+abbrev pub IsOneLonger : StandingShape → StandingShape → Type 0
+IsOneLonger s n = (ticket : Ticket) × IsLongerBy s.order (ticket ∷ []) n.order
+
+-- so many different configurations and one more, to which these standings lead by one block more
+pub record HasMoreOnward (p : ProgramShape) (front : List Ticket) (level : List StandingShape) (room : ℕ) : Type 0 where
+  pub configurations : List StandingShape
+  pub different : AreDifferent p front configurations (suc room)
+  pub onward : AllByRecursion (λ n. HasOne (λ s. IsOneLonger s n) level) configurations

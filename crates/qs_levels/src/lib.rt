@@ -1,0 +1,13 @@
+//! The search over configurations level by level: after each number of blocks all configurations at once.
+#![tactic(auto)]
+
+mod fronts;
+pub mod laws;
+mod leading;
+mod parts;
+mod search;
+mod sifting;
+mod table;
+
+pub use fronts::fronts_after;
+pub use search::outcomes_by_levels;
