@@ -5,6 +5,8 @@ pub mod RunJson
 pub mod FaultJson
 pub mod OutcomesJson
 pub mod EndsJson
+pub mod AlikeJson
+pub mod FrontsJson
 pub mod AnswerJson
 pub mod TallyJson
 pub mod EstimateJson

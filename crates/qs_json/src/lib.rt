@@ -5,12 +5,14 @@
 //! ```
 #![tactic(auto)]
 
+mod alike;
 mod answers;
 mod counts;
 mod ends;
 mod estimates;
 mod events;
 mod faults;
+mod fronts;
 mod graphs;
 pub mod laws;
 mod outcomes;
@@ -19,11 +21,13 @@ mod runs;
 mod states;
 mod tallies;
 
+pub use alike::alike_json;
 pub use answers::answer_json;
 pub use counts::counts_json;
 pub use ends::ends_json;
 pub use estimates::estimate_json;
 pub use faults::fault_json;
+pub use fronts::fronts_json;
 pub use graphs::graph_json;
 pub use outcomes::outcomes_json;
 pub use runs::run_json;

@@ -5,7 +5,7 @@ ghost use Rattle.std.specs.Fmt.{signed_decimal};
 ghost use Rattle.std.specs.List.{AllByRecursion, join_by};
 ghost use Rattle.qs_outcomes.specs.Outcomes.{HasPlaces};
 ghost use Rattle.qs_text.specs.Texts.{texts_up_to, Puts};
-ghost use Rattle.qs_json.specs.Pieces.{element, field, first_field, quoted};
+ghost use Rattle.qs_json.specs.Pieces.{array, element, field, first_field, quoted};
 ghost use Rattle.qs_json.specs.OutcomesJson.{client_json, head_json, listed_json, next_client_json, object_json, outcome_json, outcome_json_at, standing_fields};
 ghost use Rattle.qs_json.specs.Variables.{variable_json, variables_json};
 
@@ -41,14 +41,25 @@ pub(crate) fn put_joined(out: &mut Vec<u8>, order: &[Ticket]) -> Result<(), Allo
     Ok(())
 }
 
-// The number of an outcome, and an order that comes to it.
-fn put_outcome_head(out: &mut Vec<u8>, number: usize, order: &[Ticket]) -> Result<(), AllocError>
-    ensures ok { OnOk result (Puts (head_json number order.now) out.old.items out.new.items) }
+// An order, as a field.
+pub(crate) fn put_order(out: &mut Vec<u8>, order: &[Ticket]) -> Result<(), AllocError>
+    ensures ok { OnOk result (Puts (field (codes "order") (array next_client_json order.now)) out.old.items out.new.items) }
 {
-    put_count(out, b"{\"outcome\":", number as u64)?;
     put_word(out, b",\"order\":[")?;
     put_joined(out, order)?;
     put_word(out, b"]")
+}
+
+// The number of an outcome, and an order that comes to it.
+pub(crate) fn put_outcome_head(
+    out: &mut Vec<u8>,
+    number: usize,
+    order: &[Ticket],
+) -> Result<(), AllocError>
+    ensures ok { OnOk result (Puts (head_json number order.now) out.old.items out.new.items) }
+{
+    put_count(out, b"{\"outcome\":", number as u64)?;
+    put_order(out, order)
 }
 
 // The name of a variable, as a first field.

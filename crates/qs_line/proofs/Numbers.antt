@@ -1,7 +1,7 @@
 -- When the text of a setting is parsed, the number is the one that the settings name, in the range of a chunk's size,
--- of a number of rounds, of a limit or of a number of runs, and a text that is refused names none. The proofs of
--- `chunk_of`, `rounds_of`, `limit_of` and `times_of` stand on it. It goes by cases on the result of parsing, whose
--- range is compared with that of the setting.
+-- of a number of rounds, or from 1 to the most that a setting takes, and a text that is refused names none. The proofs
+-- of `chunk_of`, `rounds_of` and `number_of` stand on it. It goes by cases on the result of parsing, whose range is
+-- compared with that of the setting.
 use Rattle.std.proofs.Common.{◌≡◌, ◌≤◌, ◌^◌, ◌<◌, ℕ, Bool, List, true, false, Option, Some, None, Result, Ok, Err, refl, sym, ap, ◌∙◌, arith, ◌↔◌, IfSome}
 use Rattle.std.specs.Prelude.{if◌then◌else◌, IsSome, unwrap_or}
 use Rattle.std.specs.Result.{result_ok}
@@ -54,14 +54,6 @@ parsed_within low high n text (Ok m) h e at_least at_most =
     let is : n ≡ digits_value 10 (without_leading_plus text) = sym same ∙ h.1 in
     ap Some is ∙ sym (number_in-some low high text h.0.0 (omega (arith, h.0.1)) (omega (arith, is, at_least)) (omega (arith, is, at_most)))
 parsed_within low high n text (Err error) h e at_least at_most = absurd (cc e)
-
-pub parsed_outside : {E : Type 0} (low high n : ℕ) (text : List ℕ) (r : Result ℕ E) → ParsesUnsigned 32 10 text r → result_ok r ≡ Some n
-    → (low ≤ n → n ≤ high → ⊥) → number_in low high text ≡ None
-parsed_outside low high n text (Ok m) h e outside =
-    let same : m ≡ n = ap (λ o. unwrap_or o 0) e in
-    let is : n ≡ digits_value 10 (without_leading_plus text) = sym same ∙ h.1 in
-    number_in-none low high text (λ _ at_least at_most. outside (omega (arith, is, at_least)) (omega (arith, is, at_most)))
-parsed_outside low high n text (Err error) h e outside = absurd (cc e)
 
 pub unparsed_chunk : {E : Type 0} (text : List ℕ) (r : Result ℕ E) → ParsesUnsigned 8 10 text r → result_ok r ≡ None → number_in 1 32 text ≡ None
 unparsed_chunk text (Ok n) h e = absurd (cc e)

@@ -85,10 +85,22 @@ listing_app =
     with_rule (with_rule (with_rule (with_rule (new_app (codes "outcomes")) limit_rule) (option_rule (codes "after")))
     (flag_rule (codes "ends"))) (flag_rule (codes "estimate"))
 
--- `outcomes [--limit N] [--after LIST] [--ends] [--estimate] [--always COND] [--some COND] [--throughout COND]
--- [--format F] [--warn]`
+-- `--front`, of 1 to 512
+abbrev pub front_rule : Rule
+front_rule = record (option_rule (codes "front")) { parser = Some (parser.Signed (pos 1) (pos 512)) }
+
+-- `--threads`, of 1 to 64
+abbrev pub threads_rule : Rule
+threads_rule = record (option_rule (codes "threads")) { parser = Some (parser.Signed (pos 1) (pos 64)) }
+
+-- `.. [--alike] [--front K] [--threads N]`
+abbrev pub searched_app : App → App
+searched_app app = with_rule (with_rule (with_rule app (flag_rule (codes "alike"))) front_rule) threads_rule
+
+-- `outcomes [--limit N] [--after LIST] [--ends] [--estimate] [--alike] [--front K] [--threads N] [--always COND]
+-- [--some COND] [--throughout COND] [--format F] [--warn]`
 abbrev pub outcomes_app : App
-outcomes_app = shared_app (claimed_app listing_app)
+outcomes_app = shared_app (claimed_app (searched_app listing_app))
 
 -- the program's name and its version, with no word `help`
 abbrev pub named_app : App

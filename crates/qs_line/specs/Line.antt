@@ -19,7 +19,7 @@ use Rattle.qs_conditions.specs.declared.claim.Quantifier.TheVariants as quantifi
 use Rattle.qs_line.specs.Parts.{clients_in, list_in}
 use Rattle.qs_line.specs.declared.parts.Part.{Part}
 use Rattle.qs_line.specs.Command.{qs_app}
-use Rattle.qs_line.specs.Limits.{most_times}
+use Rattle.qs_line.specs.Limits.{most_front, most_threads, most_times}
 use Rattle.qs_line.specs.declared.line.Format.{Format}
 use Rattle.qs_line.specs.declared.line.Format.TheVariants as format
 use Rattle.qs_line.specs.declared.line.GraphFormat.{GraphFormat}
@@ -45,7 +45,9 @@ pub data PlanShape : Type 0 where
 -- what is asked for: the counts; the graphs; a run by the plain rules; one in the optimised machine, in a mode and by
 -- chunks of a size; one on threads, or so many of them, whose ends are counted; after the blocks of some clients, how
 -- many configurations there can be; or, after these and with so many configurations at most, whether a condition holds
--- of all ends, of some or throughout, or all outcomes, or their ends alone. Each is asked for
+-- of all ends, of some or throughout, the configurations after so many blocks more, or all outcomes, or their ends
+-- alone, by so many threads; or, with so many configurations at most, one of all outcomes that differ by alike clients
+-- in each other's places. Each is asked for
 -- in a format, and of a run the counts of synchronisations and what was refused may be asked for as well, and of a
 -- schedule a line for each step, and what lies where at its end.
 pub data Request : Type 0 where
@@ -57,7 +59,9 @@ pub data Request : Type 0 where
   tally : Format → Mode → (chunk : ℕ) → (times : ℕ) → Request
   ask : Claim → Format → (limit : ℕ) → (front : List Part) → Request
   estimate : Format → (front : List Part) → Request
-  outcomes : OutcomesFormat → (limit : ℕ) → (front : List Part) → Request
+  fronts : Format → (blocks : ℕ) → (limit : ℕ) → (front : List Part) → Request
+  alike : Format → (limit : ℕ) → Request
+  outcomes : OutcomesFormat → (limit : ℕ) → (threads : ℕ) → (front : List Part) → Request
 
 -- the format of a refusal where graphs are asked for: beside a drawing it is text
 abbrev pub format_beside : GraphFormat → Format
@@ -87,7 +91,9 @@ format_of_request (run style mode chunk) = format_beside_report style.format
 format_of_request (tally how mode chunk times) = how
 format_of_request (ask claim how limit front) = how
 format_of_request (estimate how front) = how
-format_of_request (outcomes how limit front) = format_beside_outcomes how
+format_of_request (fronts how blocks limit front) = how
+format_of_request (alike how limit) = how
+format_of_request (outcomes how limit threads front) = format_beside_outcomes how
 
 abbrev pub plan_of : Plan → PlanShape
 plan_of (plan.Schedule rounds picks) = by_schedule rounds picks.items
@@ -102,7 +108,9 @@ request_of (word.Run style mode chunk) = run style mode chunk
 request_of (word.Tally how mode chunk times) = tally how mode chunk times
 request_of (word.Ask claim how limit front) = ask claim how limit front.items
 request_of (word.Estimate how front) = estimate how front.items
-request_of (word.Outcomes how limit front) = outcomes how limit front.items
+request_of (word.Fronts how blocks limit front) = fronts how blocks limit front.items
+request_of (word.Alike how limit) = alike how limit
+request_of (word.Outcomes how limit threads front) = outcomes how limit threads front.items
 
 abbrev pub format_in : Text → Option Format
 format_in text =
@@ -198,6 +206,22 @@ times_at rows = option_and_then (number_in 1 most_times) (first_of (codes "times
 abbrev pub has_times : List Row → Bool
 has_times rows = is_some (first_of (codes "times") rows)
 
+-- how many blocks a front has
+abbrev pub blocks_at : List Row → Option ℕ
+blocks_at rows = option_and_then (number_in 1 most_front) (first_of (codes "front") rows)
+
+-- such a number stands on the line
+abbrev pub has_blocks : List Row → Bool
+has_blocks rows = is_some (first_of (codes "front") rows)
+
+-- one thread where the line has no number of them
+abbrev pub threads_at : List Row → Option ℕ
+threads_at rows = unwrap_or (option_map (number_in 1 most_threads) (first_of (codes "threads") rows)) (Some 1)
+
+-- such a number stands on the line
+abbrev pub has_threads : List Row → Bool
+has_threads rows = is_some (first_of (codes "threads") rows)
+
 -- no pick where the line has no list of them
 abbrev pub picks_at : List Row → Option (List Part)
 picks_at rows = unwrap_or (option_map list_in (first_of (codes "pick") rows)) (Some [])
@@ -287,31 +311,67 @@ abbrev pub claim_at : List Row → Option Claim
 claim_at rows =
     one_claim (first_of (codes "always") rows) (first_of (codes "some") rows) (first_of (codes "throughout") rows)
 
--- an answer, as text or as JSON; it lists no ends
+-- an answer, as text or as JSON; it lists no ends, and is searched for by one thread
 abbrev pub ask_at : List Row → Option Request
 ask_at rows =
-    if flag_at (codes "ends") rows then None
+    if flag_at (codes "ends") rows || has_threads rows then None
     else option_and_then (λ claim. option_and_then (λ how. option_and_then (λ limit. option_map (ask claim how limit)
     (front_at rows)) (limit_at rows)) (format_at rows)) (claim_at rows)
 
+-- by how many threads outcomes are searched for: a drawing by one alone
+abbrev pub threads_beside : OutcomesFormat → List Row → Option ℕ
+threads_beside outcomes_format.Dot rows = if has_threads rows then None else Some 1
+threads_beside (outcomes_format.List how) rows = threads_at rows
+threads_beside (outcomes_format.Ends how) rows = threads_at rows
+
 abbrev pub list_at : List Row → Option Request
 list_at rows =
-    option_and_then (λ how. option_and_then (λ limit. option_map (outcomes how limit) (front_at rows)) (limit_at rows))
-    (outcomes_format_at rows)
+    option_and_then (λ how. option_and_then (λ limit. option_and_then (λ threads. option_map (outcomes how limit threads)
+    (front_at rows)) (threads_beside how rows)) (limit_at rows)) (outcomes_format_at rows)
 
 -- all outcomes, or the answer to a condition where the line has one
 abbrev pub answer_or_list_at : List Row → Option Request
 answer_or_list_at rows = if has_claim rows then ask_at rows else list_at rows
 
--- an estimate, which stands beside no condition, and lists no ends
+-- a condition, the ends alone, or a number of threads stand on the line
+abbrev pub is_of_list : List Row → Bool
+is_of_list rows = has_claim rows || (flag_at (codes "ends") rows || has_threads rows)
+
+-- an estimate, which stands beside none of these, and beside neither `--alike` nor `--front`
 abbrev pub estimate_at : List Row → Option Request
 estimate_at rows =
-    if has_claim rows || flag_at (codes "ends") rows then None
+    if is_of_list rows || (flag_at (codes "alike") rows || has_blocks rows) then None
     else option_and_then (λ how. option_map (estimate how) (front_at rows)) (format_at rows)
 
--- an estimate where the line asks for one; else all outcomes, or the answer to a condition
+-- whose blocks were run before stands on the line
+abbrev pub has_front : List Row → Bool
+has_front rows = is_some (first_of (codes "after") rows)
+
+-- one of all outcomes that differ by alike clients, which stands beside none of these, and beside neither `--after` nor
+-- `--front`
+abbrev pub alike_at : List Row → Option Request
+alike_at rows =
+    if is_of_list rows || (has_front rows || has_blocks rows) then None
+    else option_and_then (λ how. option_map (alike how) (limit_at rows)) (format_at rows)
+
+-- the configurations after so many blocks, which stand beside none of these
+abbrev pub fronts_at : List Row → Option Request
+fronts_at rows =
+    if is_of_list rows then None
+    else option_and_then (λ how. option_and_then (λ blocks. option_and_then (λ limit. option_map (fronts how blocks limit)
+    (front_at rows)) (limit_at rows)) (blocks_at rows)) (format_at rows)
+
+-- the configurations after so many blocks where the line asks for them; else all outcomes, or the answer to a condition
+abbrev pub fronts_or_list_at : List Row → Option Request
+fronts_or_list_at rows = if has_blocks rows then fronts_at rows else answer_or_list_at rows
+
+-- one of all alike outcomes where the line asks for these; else what is left
+abbrev pub alike_or_list_at : List Row → Option Request
+alike_or_list_at rows = if flag_at (codes "alike") rows then alike_at rows else fronts_or_list_at rows
+
+-- an estimate where the line asks for one; else what is left
 abbrev pub outcomes_at : List Row → Option Request
-outcomes_at rows = if flag_at (codes "estimate") rows then estimate_at rows else answer_or_list_at rows
+outcomes_at rows = if flag_at (codes "estimate") rows then estimate_at rows else alike_or_list_at rows
 
 -- what a word asks for, with the entries that clap finds after it
 abbrev pub request_at : Text → List Row → Option Request

@@ -20,7 +20,7 @@ use Rattle.qs_line.specs.declared.line.GraphFormat.TheVariants as graph_format
 use Rattle.qs_line.specs.declared.line.OutcomesFormat.TheVariants as outcomes_format
 use Rattle.qs_line.specs.declared.line.ReportFormat.TheVariants as report_format
 use Rattle.qs_line.specs.declared.line.ReportStyle.{ReportStyle}
-use Rattle.qs_line.specs.Line.{Line, ask, asks, by_order, by_schedule, check, estimate, graph, help, is_verbose_in, line_in, outcomes, play, refused, rules, run, tally, version, warns_in}
+use Rattle.qs_line.specs.Line.{Line, alike, ask, asks, by_order, by_schedule, check, estimate, fronts, graph, help, is_verbose_in, line_in, outcomes, play, refused, rules, run, tally, version, warns_in}
 
 -- the line of the words after the program's name
 abbrev pub line : List Text → Line
@@ -60,7 +60,7 @@ pub record DefaultLines : Type 0 where
   pub rules_alone : line (codes "rules" ∷ []) ≡ asks (rules plain (by_schedule 1000000 []))
   pub play_alone : line (codes "play" ∷ []) ≡ asks (play plain Both 8 (by_schedule 1000000 []))
   pub run_alone : line (codes "run" ∷ []) ≡ asks (run plain Both 8)
-  pub outcomes_alone : line (codes "outcomes" ∷ []) ≡ asks (outcomes (outcomes_format.List format.Text) 1000000 [])
+  pub outcomes_alone : line (codes "outcomes" ∷ []) ≡ asks (outcomes (outcomes_format.List format.Text) 1000000 1 [])
 
 pub record SetLines : Type 0 where
   pub mode : line (codes "play" ∷ codes "--mode" ∷ codes "static" ∷ [])
@@ -76,8 +76,8 @@ pub record SetLines : Type 0 where
   pub runs : line (codes "run" ∷ codes "--chunk" ∷ codes "4" ∷ codes "--mode=static" ∷ []) ≡ asks (run plain Static 4)
 
 pub record LimitLines : Type 0 where
-  pub least : line (codes "outcomes" ∷ codes "--limit" ∷ codes "1" ∷ []) ≡ asks (outcomes (outcomes_format.List format.Text) 1 [])
-  pub most : line (codes "outcomes" ∷ codes "--limit=4294967295" ∷ []) ≡ asks (outcomes (outcomes_format.List format.Text) 4294967295 [])
+  pub least : line (codes "outcomes" ∷ codes "--limit" ∷ codes "1" ∷ []) ≡ asks (outcomes (outcomes_format.List format.Text) 1 1 [])
+  pub most : line (codes "outcomes" ∷ codes "--limit=4294967295" ∷ []) ≡ asks (outcomes (outcomes_format.List format.Text) 4294967295 1 [])
   pub none : line (codes "outcomes" ∷ codes "--limit" ∷ codes "0" ∷ []) ≡ refused
   pub one_more : line (codes "outcomes" ∷ codes "--limit" ∷ codes "4294967296" ∷ []) ≡ refused
   pub negative : line (codes "outcomes" ∷ codes "--limit=-1" ∷ []) ≡ refused
@@ -127,17 +127,54 @@ pub record EstimateLines : Type 0 where
   pub as_drawing : line (codes "outcomes" ∷ codes "--estimate" ∷ codes "--format=dot" ∷ []) ≡ refused
   pub of_run : line (codes "run" ∷ codes "--estimate" ∷ []) ≡ refused
 
+pub record AlikeLines : Type 0 where
+  pub alone : line (codes "outcomes" ∷ codes "--alike" ∷ []) ≡ asks (alike format.Text 1000000)
+  pub limited : line (codes "outcomes" ∷ codes "--limit=7" ∷ codes "--alike" ∷ codes "--format=json" ∷ [])
+      ≡ asks (alike format.Json 7)
+  pub as_drawing : line (codes "outcomes" ∷ codes "--alike" ∷ codes "--format=dot" ∷ []) ≡ refused
+  pub with_ends : line (codes "outcomes" ∷ codes "--ends" ∷ codes "--alike" ∷ []) ≡ refused
+  pub with_condition : line (codes "outcomes" ∷ codes "--alike" ∷ codes "--some=1<2" ∷ []) ≡ refused
+  pub with_estimate : line (codes "outcomes" ∷ codes "--alike" ∷ codes "--estimate" ∷ []) ≡ refused
+  pub after : line (codes "outcomes" ∷ codes "--alike" ∷ codes "--after=c0" ∷ []) ≡ refused
+  pub with_threads : line (codes "outcomes" ∷ codes "--alike" ∷ codes "--threads=2" ∷ []) ≡ refused
+
+-- the configurations after so many blocks
+pub record PartLines : Type 0 where
+  pub alone : line (codes "outcomes" ∷ codes "--front" ∷ codes "2" ∷ []) ≡ asks (fronts format.Text 2 1000000 [])
+  pub after : line (codes "outcomes" ∷ codes "--after=c1" ∷ codes "--limit=7" ∷ codes "--front=512" ∷ codes "--format=json"
+      ∷ []) ≡ asks (fronts format.Json 512 7 (once (Client 1) ∷ []))
+  pub none : line (codes "outcomes" ∷ codes "--front=0" ∷ []) ≡ refused
+  pub one_more : line (codes "outcomes" ∷ codes "--front=513" ∷ []) ≡ refused
+  pub as_drawing : line (codes "outcomes" ∷ codes "--front=2" ∷ codes "--format=dot" ∷ []) ≡ refused
+  pub with_ends : line (codes "outcomes" ∷ codes "--front=2" ∷ codes "--ends" ∷ []) ≡ refused
+  pub with_condition : line (codes "outcomes" ∷ codes "--front=2" ∷ codes "--always=1<2" ∷ []) ≡ refused
+  pub with_estimate : line (codes "outcomes" ∷ codes "--estimate" ∷ codes "--front=2" ∷ []) ≡ refused
+  pub with_alike : line (codes "outcomes" ∷ codes "--alike" ∷ codes "--front=2" ∷ []) ≡ refused
+
+pub record ThreadLines : Type 0 where
+  pub several : line (codes "outcomes" ∷ codes "--threads=4" ∷ [])
+      ≡ asks (outcomes (outcomes_format.List format.Text) 1000000 4 [])
+  pub of_ends : line (codes "outcomes" ∷ codes "--ends" ∷ codes "--threads" ∷ codes "64" ∷ codes "--after=c0" ∷ [])
+      ≡ asks (outcomes (outcomes_format.Ends format.Text) 1000000 64 (once (Client 0) ∷ []))
+  pub none : line (codes "outcomes" ∷ codes "--threads=0" ∷ []) ≡ refused
+  pub one_more : line (codes "outcomes" ∷ codes "--threads=65" ∷ []) ≡ refused
+  pub as_drawing : line (codes "outcomes" ∷ codes "--threads=2" ∷ codes "--format=dot" ∷ []) ≡ refused
+  pub with_condition : line (codes "outcomes" ∷ codes "--threads=2" ∷ codes "--some=1<2" ∷ []) ≡ refused
+  pub with_front : line (codes "outcomes" ∷ codes "--threads=2" ∷ codes "--front=2" ∷ []) ≡ refused
+  pub with_estimate : line (codes "outcomes" ∷ codes "--estimate" ∷ codes "--threads=2" ∷ []) ≡ refused
+  pub of_run : line (codes "run" ∷ codes "--threads=2" ∷ []) ≡ refused
+
 pub record FrontLines : Type 0 where
   pub one : line (codes "outcomes" ∷ codes "--after" ∷ codes "c1" ∷ [])
-      ≡ asks (outcomes (outcomes_format.List format.Text) 1000000 (once (Client 1) ∷ []))
+      ≡ asks (outcomes (outcomes_format.List format.Text) 1000000 1 (once (Client 1) ∷ []))
   pub more : line (codes "outcomes" ∷ codes "--after=c0,c9,c0" ∷ codes "--limit=7" ∷ [])
-      ≡ asks (outcomes (outcomes_format.List format.Text) 7 (once (Client 0) ∷ once (Client 9) ∷ once (Client 0) ∷ []))
+      ≡ asks (outcomes (outcomes_format.List format.Text) 7 1 (once (Client 0) ∷ once (Client 9) ∷ once (Client 0) ∷ []))
   pub a_handler : line (codes "outcomes" ∷ codes "--after" ∷ codes "c0,h0" ∷ []) ≡ refused
   pub nobody : line (codes "outcomes" ∷ codes "--after" ∷ [] ∷ []) ≡ refused
   pub a_bare_name : line (codes "outcomes" ∷ codes "--after" ∷ codes "ann" ∷ []) ≡ refused
   pub two_digits : line (codes "outcomes" ∷ codes "--after" ∷ codes "c10" ∷ []) ≡ refused
   pub repeated : line (codes "outcomes" ∷ codes "--after=@ann*2,c1" ∷ [])
-      ≡ asks (outcomes (outcomes_format.List format.Text) 1000000 (times 2 (Name (codes "ann")) ∷ once (Client 1) ∷ []))
+      ≡ asks (outcomes (outcomes_format.List format.Text) 1000000 1 (times 2 (Name (codes "ann")) ∷ once (Client 1) ∷ []))
   pub twice : line (codes "outcomes" ∷ codes "--after=c0" ∷ codes "--after=c0" ∷ []) ≡ refused
   pub of_play : line (codes "play" ∷ codes "--after" ∷ codes "c0" ∷ []) ≡ refused
 
@@ -181,7 +218,7 @@ pub record FormatLines : Type 0 where
       ≡ asks (play (record as_json { counts = true }) Both 8 (by_schedule 1000000 []))
   pub runs : line (codes "run" ∷ codes "--format=json" ∷ []) ≡ asks (run as_json Both 8)
   pub lists : line (codes "outcomes" ∷ codes "--format=json" ∷ codes "--limit=7" ∷ [])
-      ≡ asks (outcomes (outcomes_format.List format.Json) 7 [])
+      ≡ asks (outcomes (outcomes_format.List format.Json) 7 1 [])
   pub play_as_text : line (codes "play" ∷ codes "--format=text" ∷ [])
       ≡ asks (play plain Both 8 (by_schedule 1000000 []))
   pub rules_as_picture : line (codes "rules" ∷ codes "--format=svg" ∷ codes "--order=c0" ∷ [])
@@ -196,11 +233,11 @@ pub record FormatLines : Type 0 where
   pub of_play : line (codes "play" ∷ codes "--format=dot" ∷ []) ≡ refused
   pub of_run : line (codes "run" ∷ codes "--format" ∷ codes "xml" ∷ []) ≡ refused
   pub outcomes_as_drawing : line (codes "outcomes" ∷ codes "--format=dot" ∷ codes "--after=c1" ∷ [])
-      ≡ asks (outcomes outcomes_format.Dot 1000000 (once (Client 1) ∷ []))
+      ≡ asks (outcomes outcomes_format.Dot 1000000 1 (once (Client 1) ∷ []))
   pub ends : line (codes "outcomes" ∷ codes "--ends" ∷ [])
-      ≡ asks (outcomes (outcomes_format.Ends format.Text) 1000000 [])
+      ≡ asks (outcomes (outcomes_format.Ends format.Text) 1000000 1 [])
   pub ends_as_json : line (codes "outcomes" ∷ codes "--format=json" ∷ codes "--ends" ∷ codes "--limit=7" ∷ [])
-      ≡ asks (outcomes (outcomes_format.Ends format.Json) 7 [])
+      ≡ asks (outcomes (outcomes_format.Ends format.Json) 7 1 [])
   pub ends_as_drawing : line (codes "outcomes" ∷ codes "--ends" ∷ codes "--format=dot" ∷ []) ≡ refused
   pub ends_of_a_run : line (codes "play" ∷ codes "--ends" ∷ []) ≡ refused
   pub before_word : line (codes "--format=dot" ∷ codes "graph" ∷ []) ≡ refused
@@ -322,7 +359,7 @@ pub record WarnedLines : Type 0 where
   pub checks : line (codes "check" ∷ codes "--warn" ∷ []) ≡ asks (check format.Text)
   pub runs : line (codes "run" ∷ codes "--warn" ∷ codes "--counts" ∷ []) ≡ asks (run counted Both 8)
   pub lists : line (codes "outcomes" ∷ codes "--limit" ∷ codes "7" ∷ codes "--warn" ∷ [])
-      ≡ asks (outcomes (outcomes_format.List format.Text) 7 [])
+      ≡ asks (outcomes (outcomes_format.List format.Text) 7 1 [])
   pub asked : warns_in (codes "qs" ∷ codes "graph" ∷ codes "--warn" ∷ []) ≡ true
   pub unasked : warns_in (codes "qs" ∷ codes "graph" ∷ []) ≡ false
   pub twice : line (codes "check" ∷ codes "--warn" ∷ codes "--warn" ∷ []) ≡ refused
@@ -365,6 +402,9 @@ pub record LineExamples : Type 0 where
   pub refusals : RefusalLines
   pub language : LanguageLines
   pub estimates : EstimateLines
+  pub alike : AlikeLines
+  pub parts : PartLines
+  pub threads : ThreadLines
   pub fronts : FrontLines
   pub orders : OrderLines
   pub claims : ClaimLines

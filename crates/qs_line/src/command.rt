@@ -3,7 +3,7 @@
 ghost use Rattle.std.specs.Prelude.{◌≡◌, IfOk, codes, false};
 ghost use Rattle.clap.specs.Words.{app_of, new_app, rule_of, with_rule, with_subcommand};
 ghost use Rattle.clap.specs.declared.Command.TheViews.{out-Command as fields_of};
-ghost use Rattle.qs_line.specs.Command.{check_app, chunk_rule, claimed_app, defaulted_rule, flag_rule, graph_app, limit_rule, listing_app, machine_app, named_app, option_rule, outcomes_app, planned_app, play_app, qs_app, rules_app, run_app, scheduled_app, shared_app, shown_app, texts_app, times_rule};
+ghost use Rattle.qs_line.specs.Command.{check_app, chunk_rule, claimed_app, defaulted_rule, flag_rule, front_rule, graph_app, limit_rule, listing_app, machine_app, named_app, option_rule, outcomes_app, planned_app, play_app, qs_app, rules_app, run_app, scheduled_app, searched_app, shared_app, shown_app, texts_app, threads_rule, times_rule};
 
 use crate::help;
 use clap::{Arg, ArgAction, Command, value_parser};
@@ -52,6 +52,20 @@ fn times_option<'a>(alloc: Global) -> Arg<'a>
     ensures local { result.global ≡ false }
 {
     option(alloc, "times", "N", help::TIMES).value_parser(value_parser!(u32).range(1..=100000))
+}
+
+fn front_option<'a>(alloc: Global) -> Arg<'a>
+    ensures rule { rule_of result ≡ front_rule }
+    ensures local { result.global ≡ false }
+{
+    option(alloc, "front", "K", help::FRONT).value_parser(value_parser!(u32).range(1..=512))
+}
+
+fn threads_option<'a>(alloc: Global) -> Arg<'a>
+    ensures rule { rule_of result ≡ threads_rule }
+    ensures local { result.global ≡ false }
+{
+    option(alloc, "threads", "N", help::THREADS).value_parser(value_parser!(u32).range(1..=64))
 }
 
 fn flag<'a>(alloc: Global, name: &'a str, said: &'a str) -> Arg<'a>
@@ -220,11 +234,24 @@ fn listing_command<'a>(alloc: Global) -> Result<Command<'a>, AllocError>
         .arg(flag(alloc, "estimate", help::ESTIMATE))
 }
 
+// With the settings that say what is searched for, and by how many threads.
+fn searched<'a>(alloc: Global, command: Command<'a>) -> Result<Command<'a>, AllocError>
+    requires local { (fields_of command).has_globals ≡ false }
+    ensures app { IfOk result (λ whole. app_of whole ≡ searched_app (app_of command.entry)) }
+    ensures local { IfOk result (λ whole. (fields_of whole).has_globals ≡ false) }
+{
+    command
+        .arg(flag(alloc, "alike", help::ALIKE))?
+        .arg(front_option(alloc))?
+        .arg(threads_option(alloc))
+}
+
 fn outcomes_command<'a>(alloc: Global) -> Result<Command<'a>, AllocError>
     ensures app { IfOk result (λ command. app_of command ≡ outcomes_app) }
     ensures local { IfOk result (λ command. (fields_of command).has_globals ≡ false) }
 {
-    let claimed = claimed(alloc, listing_command(alloc)?)?;
+    let searched = searched(alloc, listing_command(alloc)?)?;
+    let claimed = claimed(alloc, searched)?;
     shared(alloc, claimed, help::OUTCOMES_FORMAT)
 }
 

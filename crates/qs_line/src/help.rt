@@ -155,6 +155,15 @@ pub const ENDS: &str =
 pub const ESTIMATE: &str =
     "Says how many configurations there can be, before any search: at most so many, and with --throughout at least so many";
 
+pub const ALIKE: &str =
+    "Lists one of all results that differ only by which of some alike clients has which variables, and for how many it stands; clients are alike if their texts are the same but for names";
+
+pub const FRONT: &str =
+    "Lists what the script can come to after so many blocks in all, 1 to 512, each once: parts from which a search can go on by --after, one by one or on many machines";
+
+pub const THREADS: &str =
+    "How many threads search, 1 to 64; what is listed is the same [default: 1]";
+
 pub const TIMES: &str =
     "Runs the script so many times, 1 to 100000, and counts how often each end came; not with --counts or --refusals, and as text or JSON";
 

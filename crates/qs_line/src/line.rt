@@ -4,11 +4,11 @@ ghost use Rattle.std.specs.Prelude.{◌≡◌, [], Err, IfOk, IfErr, map, option
 ghost use Rattle.clap.specs.Words.{found_of, kind_of, rows_of, subcommand_of, subcommand_rows_of};
 ghost use Rattle.clap.specs.Faults.{fault_of};
 ghost use Rattle.qs_line.specs.Command.{qs_app};
-ghost use Rattle.qs_line.specs.Line.{IsAnswer, IsFault, IsFaultAmong, answer_or_list_at, ask_at, asks_language, help, check_at, chunk_at, claim_at, claim_in, estimate_at, has_claim, has_times, list_at, flag_at, format_at, front_at, graph_at, graph_format_at, is_verbose_in, is_verbose_met, limit_at, line_in, mode_at, outcomes_at, outcomes_format_at, plan_of, play_at, report_format_at, request_at, request_met, request_of, rules_at, run_at, single_run_at, style_at, styled_plan, can_tell, tally_at, times_at, warns_in, warns_met};
+ghost use Rattle.qs_line.specs.Line.{IsAnswer, IsFault, IsFaultAmong, alike_at, alike_or_list_at, answer_or_list_at, ask_at, asks_language, blocks_at, help, check_at, chunk_at, claim_at, claim_in, estimate_at, fronts_at, fronts_or_list_at, has_blocks, has_claim, has_front, has_threads, has_times, is_of_list, list_at, flag_at, format_at, front_at, graph_at, graph_format_at, is_verbose_in, is_verbose_met, limit_at, line_in, mode_at, number_in, outcomes_at, outcomes_format_at, plan_of, play_at, report_format_at, request_at, request_met, request_of, rules_at, run_at, single_run_at, style_at, styled_plan, can_tell, tally_at, threads_at, threads_beside, times_at, warns_in, warns_met};
 
 use crate::command::command;
 use crate::found::text_at;
-use crate::limits::MOST_TIMES;
+use crate::limits::{MOST_FRONT, MOST_THREADS, MOST_TIMES};
 use crate::parts::Part;
 use crate::plan::{Plan, given_plan};
 use crate::reading::clients_in;
@@ -176,12 +176,32 @@ pub enum Settings {
         /// Whose blocks were run before.
         front: Vec<Part>,
     },
+    /// Check it, and list the configurations after so many blocks more: fronts from which parts of a search begin.
+    Fronts {
+        /// How they are written.
+        format: Format,
+        /// How many blocks.
+        blocks: u32,
+        /// How many configurations are looked at, at most.
+        limit: u32,
+        /// Whose blocks were run before.
+        front: Vec<Part>,
+    },
+    /// Check it, and list one of all outcomes that differ by alike clients in each other's places.
+    Alike {
+        /// How they are written.
+        format: Format,
+        /// How many configurations are looked at, at most.
+        limit: u32,
+    },
     /// Check it, and list all outcomes.
     Outcomes {
         /// What is written of them, and how.
         format: OutcomesFormat,
         /// How many configurations are looked at, at most.
         limit: u32,
+        /// How many threads search for them.
+        threads: u32,
         /// Whose blocks were run before.
         front: Vec<Part>,
     },
@@ -217,6 +237,8 @@ impl Settings {
             Settings::Tally { format, .. } => *format,
             Settings::Ask { format, .. } => *format,
             Settings::Estimate { format, .. } => *format,
+            Settings::Fronts { format, .. } => *format,
+            Settings::Alike { format, .. } => *format,
             Settings::Outcomes { format, .. } => format.refusals(),
         }
     }
@@ -350,26 +372,59 @@ fn chunk_of(found: &ArgMatches<'_>) -> Option<ChunkSize>
     ChunkSize::new(text_at(found, "chunk")?.parse::<u8>().ok()?)
 }
 
+// The number of a text, from 1 to the most that there may be.
+fn number_of(text: &str, most: u32) -> Option<u32>
+    ensures number { result ≡ number_in 1 most text.now }
+{
+    let number = text.parse::<u32>().ok()?;
+    if number == 0 {
+        return None;
+    }
+    if number > most { None } else { Some(number) }
+}
+
 fn limit_of(found: &ArgMatches<'_>) -> Option<u32>
     ensures limit { result ≡ limit_at (rows_of (found_of found.now)) }
 {
-    let limit = text_at(found, "limit")?.parse::<u32>().ok()?;
-    if limit == 0 { None } else { Some(limit) }
+    number_of(text_at(found, "limit")?, u32::MAX)
 }
 
 // The number of runs of a line.
 fn times_of(found: &ArgMatches<'_>) -> Option<u32>
     ensures times { result ≡ times_at (rows_of (found_of found.now)) }
 {
-    let times = text_at(found, "times")?.parse::<u32>().ok()?;
-    if times == 0 {
-        return None;
+    number_of(text_at(found, "times")?, MOST_TIMES)
+}
+
+// How many blocks the fronts of a line have.
+fn blocks_of(found: &ArgMatches<'_>) -> Option<u32>
+    ensures blocks { result ≡ blocks_at (rows_of (found_of found.now)) }
+{
+    number_of(text_at(found, "front")?, MOST_FRONT)
+}
+
+// The threads of a line; one where it has no number of them.
+fn threads_of(found: &ArgMatches<'_>) -> Option<u32>
+    ensures threads { result ≡ threads_at (rows_of (found_of found.now)) }
+{
+    match text_at(found, "threads") {
+        Some(text) => number_of(text, MOST_THREADS),
+        None => Some(1),
     }
-    if times > MOST_TIMES {
-        None
-    } else {
-        Some(times)
-    }
+}
+
+// Whether the line has a number of threads.
+fn has_threads(found: &ArgMatches<'_>) -> bool
+    ensures has { result ≡ has_threads (rows_of (found_of found.now)) }
+{
+    text_at(found, "threads").is_some()
+}
+
+// Whether the line asks for fronts.
+fn has_blocks(found: &ArgMatches<'_>) -> bool
+    ensures has { result ≡ has_blocks (rows_of (found_of found.now)) }
+{
+    text_at(found, "front").is_some()
 }
 
 // Whether the line has a number of runs.
@@ -515,7 +570,7 @@ fn given_claim(alloc: Global, found: &ArgMatches<'_>) -> Result<Option<Claim>, A
 fn ask_settings(alloc: Global, found: &ArgMatches<'_>) -> Result<Option<Settings>, AllocError>
     ensures settings { IfOk result (λ settings. option_map request_of settings ≡ ask_at (rows_of (found_of found.now))) }
 {
-    if has_flag(found, "ends") {
+    if has_flag(found, "ends") || has_threads(found) {
         return Ok(None);
     }
     let (Some(claim), Some(format), Some(limit), Some(front)) = (
@@ -534,12 +589,26 @@ fn ask_settings(alloc: Global, found: &ArgMatches<'_>) -> Result<Option<Settings
     }))
 }
 
+// By how many threads outcomes are searched for: a drawing by one alone.
+fn threads_beside(format: OutcomesFormat, found: &ArgMatches<'_>) -> Option<u32>
+    ensures threads { result ≡ threads_beside format (rows_of (found_of found.now)) }
+{
+    match format {
+        OutcomesFormat::Dot if has_threads(found) => None,
+        OutcomesFormat::Dot => Some(1),
+        OutcomesFormat::List(_) | OutcomesFormat::Ends(_) => threads_of(found),
+    }
+}
+
 fn list_settings(alloc: Global, found: &ArgMatches<'_>) -> Result<Option<Settings>, AllocError>
     ensures settings { IfOk result (λ settings. option_map request_of settings ≡ list_at (rows_of (found_of found.now))) }
 {
-    let (Some(format), Some(limit), Some(front)) = (
-        outcomes_format_of(found),
+    let Some(format) = outcomes_format_of(found) else {
+        return Ok(None);
+    };
+    let (Some(limit), Some(threads), Some(front)) = (
         limit_of(found),
+        threads_beside(format, found),
         given_front(alloc, found)?,
     ) else {
         return Ok(None);
@@ -547,6 +616,7 @@ fn list_settings(alloc: Global, found: &ArgMatches<'_>) -> Result<Option<Setting
     Ok(Some(Settings::Outcomes {
         format,
         limit,
+        threads,
         front,
     }))
 }
@@ -562,11 +632,18 @@ fn answer_or_list(alloc: Global, found: &ArgMatches<'_>) -> Result<Option<Settin
     }
 }
 
-// An estimate, which stands beside no condition, and lists no ends.
+// Whether a condition, the ends alone, or a number of threads stand on the line.
+fn is_of_list(found: &ArgMatches<'_>) -> bool
+    ensures has { result ≡ is_of_list (rows_of (found_of found.now)) }
+{
+    has_claim(found) || (has_flag(found, "ends") || has_threads(found))
+}
+
+// An estimate, which stands beside none of these, and beside neither `--alike` nor `--front`.
 fn estimate_settings(alloc: Global, found: &ArgMatches<'_>) -> Result<Option<Settings>, AllocError>
     ensures settings { IfOk result (λ settings. option_map request_of settings ≡ estimate_at (rows_of (found_of found.now))) }
 {
-    if has_claim(found) || has_flag(found, "ends") {
+    if is_of_list(found) || (has_flag(found, "alike") || has_blocks(found)) {
         return Ok(None);
     }
     let (Some(format), Some(front)) = (format_of(found), given_front(alloc, found)?) else {
@@ -575,14 +652,78 @@ fn estimate_settings(alloc: Global, found: &ArgMatches<'_>) -> Result<Option<Set
     Ok(Some(Settings::Estimate { format, front }))
 }
 
-// An estimate where the line asks for one; else all outcomes, or the answer to a condition.
+// Whether the line has a list of whose blocks were run before.
+fn has_front(found: &ArgMatches<'_>) -> bool
+    ensures has { result ≡ has_front (rows_of (found_of found.now)) }
+{
+    text_at(found, "after").is_some()
+}
+
+// One of all alike outcomes, which stands beside none of these, and beside neither `--after` nor `--front`.
+fn alike_settings(found: &ArgMatches<'_>) -> Option<Settings>
+    ensures settings { option_map request_of result ≡ alike_at (rows_of (found_of found.now)) }
+{
+    if is_of_list(found) || (has_front(found) || has_blocks(found)) {
+        return None;
+    }
+    let format = format_of(found)?;
+    let limit = limit_of(found)?;
+    Some(Settings::Alike { format, limit })
+}
+
+// Fronts, which stand beside none of these.
+fn fronts_settings(alloc: Global, found: &ArgMatches<'_>) -> Result<Option<Settings>, AllocError>
+    ensures settings { IfOk result (λ settings. option_map request_of settings ≡ fronts_at (rows_of (found_of found.now))) }
+{
+    if is_of_list(found) {
+        return Ok(None);
+    }
+    let (Some(format), Some(blocks), Some(limit), Some(front)) = (
+        format_of(found),
+        blocks_of(found),
+        limit_of(found),
+        given_front(alloc, found)?,
+    ) else {
+        return Ok(None);
+    };
+    Ok(Some(Settings::Fronts {
+        format,
+        blocks,
+        limit,
+        front,
+    }))
+}
+
+// Fronts where the line asks for them; else all outcomes, or the answer to a condition.
+fn fronts_or_list(alloc: Global, found: &ArgMatches<'_>) -> Result<Option<Settings>, AllocError>
+    ensures settings { IfOk result (λ settings. option_map request_of settings ≡ fronts_or_list_at (rows_of (found_of found.now))) }
+{
+    if has_blocks(found) {
+        fronts_settings(alloc, found)
+    } else {
+        answer_or_list(alloc, found)
+    }
+}
+
+// One of all alike outcomes where the line asks for these; else what is left.
+fn alike_or_list(alloc: Global, found: &ArgMatches<'_>) -> Result<Option<Settings>, AllocError>
+    ensures settings { IfOk result (λ settings. option_map request_of settings ≡ alike_or_list_at (rows_of (found_of found.now))) }
+{
+    if has_flag(found, "alike") {
+        Ok(alike_settings(found))
+    } else {
+        fronts_or_list(alloc, found)
+    }
+}
+
+// An estimate where the line asks for one; else what is left.
 fn outcomes_settings(alloc: Global, found: &ArgMatches<'_>) -> Result<Option<Settings>, AllocError>
     ensures settings { IfOk result (λ settings. option_map request_of settings ≡ outcomes_at (rows_of (found_of found.now))) }
 {
     if has_flag(found, "estimate") {
         estimate_settings(alloc, found)
     } else {
-        answer_or_list(alloc, found)
+        alike_or_list(alloc, found)
     }
 }
 
@@ -667,9 +808,10 @@ fn page(alloc: Global) -> LineFault
 /// The settings of a line, whose first word is the program's name: those that `clap` finds, and its defaults. `Refused`
 /// comes exactly where `clap` refuses the words by an error, where a format, a mode, a number or a list does not read,
 /// where an order stands beside picks or a number of rounds, where a condition does not read or stands beside another
-/// one or beside `--ends`, where an estimate stands beside a condition or beside `--ends`, where a number of runs
-/// stands beside `--counts` or `--refusals`, or where steps or queues are asked for of an order or beside a report that
-/// is no text; `Help` and `Version` come exactly where it answers with help or with the version, and `Help` where the
+/// one, where two of a condition, `--ends`, `--estimate`, `--alike` and `--front` stand together, where a number of
+/// threads stands beside one of these but `--ends`, or beside a drawing, where `--alike` stands beside `--after`, where
+/// a number of runs stands beside `--counts` or `--refusals`, or where steps or queues are asked for of an order or
+/// beside a report that is no text; `Help` and `Version` come exactly where it answers with help or with the version, and `Help` where the
 /// words are `help language`. `Memory` may come in place of each.
 pub fn read_line<'a>(alloc: Global, words: &'a [&'a str]) -> Result<Settings, LineFault>
     ensures line { IsAnswer (line_in (map (λ word. word.now) words.entry.now)) result }

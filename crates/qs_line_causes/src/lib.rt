@@ -9,6 +9,6 @@ mod pick;
 mod program;
 mod refused;
 
-pub use order::put_order;
+pub use order::{put_front, put_order};
 pub use pick::put_pick;
 pub use refused::put_refused;

@@ -91,12 +91,16 @@ fn shown(setting: &str) -> &'static str {
         "--queues" => "--queues",
         "--ends" => "--ends",
         "--estimate" => "--estimate",
+        "--alike" => "--alike",
+        "--after" => "--after <LIST>",
+        "--front" => "--front <K>",
+        "--threads" => "--threads <N>",
         _ => "--format <F>",
     }
 }
 
 // Settings that do not stand together.
-const APART: [(&str, &str); 16] = [
+const APART: [(&str, &str); 34] = [
     ("--order", "--pick"),
     ("--order", "--rounds"),
     ("--order", "--steps"),
@@ -107,6 +111,24 @@ const APART: [(&str, &str); 16] = [
     ("--estimate", "--always"),
     ("--estimate", "--some"),
     ("--estimate", "--throughout"),
+    ("--estimate", "--alike"),
+    ("--estimate", "--front"),
+    ("--estimate", "--threads"),
+    ("--alike", "--ends"),
+    ("--alike", "--always"),
+    ("--alike", "--some"),
+    ("--alike", "--throughout"),
+    ("--alike", "--after"),
+    ("--alike", "--front"),
+    ("--alike", "--threads"),
+    ("--front", "--ends"),
+    ("--front", "--always"),
+    ("--front", "--some"),
+    ("--front", "--throughout"),
+    ("--front", "--threads"),
+    ("--threads", "--always"),
+    ("--threads", "--some"),
+    ("--threads", "--throughout"),
     ("--always", "--ends"),
     ("--some", "--ends"),
     ("--throughout", "--ends"),
@@ -143,9 +165,12 @@ fn picture_of(word: &str) -> &'static str {
 }
 
 // Settings whose text is no drawing and no picture, and those that stand beside a report as text alone.
-const UNDRAWN: [&str; 6] = [
+const UNDRAWN: [&str; 9] = [
     "--ends",
     "--estimate",
+    "--alike",
+    "--front",
+    "--threads",
     "--always",
     "--some",
     "--throughout",

@@ -27,6 +27,41 @@ pub fn put_order<'a>(
     }
 }
 
+/// Puts which part of the list of blocks that were run before names no block of the script; or else, where fronts are
+/// asked for, that they have more blocks than are left, and how many the script has.
+pub fn put_front<'a>(
+    alloc: Global,
+    out: &mut Vec<u8>,
+    words: &'a [&'a str],
+    text: &[u8],
+) -> Result<(), AllocError> {
+    put_order(alloc, out, words, text, "--after")?;
+    if !out.is_empty() || value_after(words, "--front").is_none() {
+        return Ok(());
+    }
+    match program_of(alloc, text) {
+        Some(program) => put_long_front(out, &program),
+        None => Ok(()),
+    }
+}
+
+fn put_long_front(out: &mut Vec<u8>, program: &Program) -> Result<(), AllocError> {
+    program.keeps_sound();
+    let mut blocks = 0usize;
+    for client in 0..program.clients() as u8 {
+        blocks = blocks.saturating_add(program.blocks_of(client));
+    }
+    let mut buffer = itoa::Buffer::new();
+    put_all(
+        out,
+        &[
+            b"error: '--front <K>' asks for more blocks than are left\n  = help: blocks of the script: ",
+            buffer.format(blocks).as_bytes(),
+            b"\n",
+        ],
+    )
+}
+
 // Puts the first part that is no client, or that names one more block than its client has.
 fn put_surplus(
     alloc: Global,

@@ -3,6 +3,8 @@ pub mod Report
 pub mod GraphText
 pub mod OutcomesText
 pub mod EndsText
+pub mod AlikeText
+pub mod FrontsText
 pub mod AnswerText
 pub mod TallyText
 pub mod EstimateText

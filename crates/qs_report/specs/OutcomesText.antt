@@ -21,9 +21,13 @@ abbrev pub clients_text : List Ticket → List ℕ
 clients_text [] = codes "-"
 clients_text (t ∷ ts) = join_by next_client_text (codes ",") (t ∷ ts)
 
--- the number of an outcome, from 1, and an order that comes to it
+-- what is listed, its number, from 1, and an order that leads there
+abbrev pub numbered : List ℕ → ℕ → List Ticket → List ℕ
+numbered word n order = word ++ decimal n ++ codes " " ++ clients_text order
+
+-- the number of an outcome, and an order that comes to it
 abbrev pub outcome_line : ℕ → List Ticket → List ℕ
-outcome_line n order = codes "outcome " ++ decimal n ++ codes " " ++ clients_text order ++ codes "\n"
+outcome_line n order = numbered (codes "outcome ") n order ++ codes "\n"
 
 -- a client with its variables, in the order of their first appearance
 abbrev pub client_line : ProgramShape → StandingShape → ℕ → List ℕ

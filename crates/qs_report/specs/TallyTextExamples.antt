@@ -1,5 +1,5 @@
 -- Tallies with their texts, worked out by hand.
-use Rattle.std.specs.Prelude.{◌≡◌, ℕ, List, [], ◌∷◌, codes, true, false}
+use Rattle.std.specs.Prelude.{◌≡◌, ℕ, [], ◌∷◌, codes, true, false}
 use Rattle.qs_standings.specs.Standings.{StandingShape}
 use Rattle.qs_tally.specs.Tallies.{CountedShape}
 use Rattle.qs_text.specs.Worked.{withdrawals}

@@ -5,11 +5,13 @@
 //! ```
 #![tactic(auto)]
 
+mod alike;
 mod answers;
 mod counts;
 mod ends;
 mod estimates;
 mod faults;
+mod fronts;
 mod graphs;
 pub mod laws;
 mod lines;
@@ -20,11 +22,13 @@ mod states;
 mod tallies;
 mod tickets;
 
+pub use alike::{alike_text, all_of};
 pub use answers::{answer_text, is_yes};
 pub use counts::check_text;
 pub use ends::ends_text;
 pub use estimates::estimate_text;
 pub use faults::{Fault, fault_line, fault_line_watched, place_of, status, words_of};
+pub use fronts::fronts_text;
 pub use graphs::graph_text;
 pub use outcomes::{outcome_at, outcomes_text};
 pub use runs::{report, report_counts, report_run, report_run_counts, report_with_refusals};

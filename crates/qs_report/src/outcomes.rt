@@ -3,7 +3,7 @@
 ghost use Rattle.std.specs.Prelude.{◌≡◌, ◌<◌, ◌++◌, codes, flat_map, length, slice_index_or, IfOk, OnOk};
 ghost use Rattle.std.specs.List.{AllByRecursion};
 ghost use Rattle.qs_outcomes.specs.Outcomes.{HasPlaces};
-ghost use Rattle.qs_report.specs.OutcomesText.{client_line, clients_text, listed_text, next_client_text, no_standing, object_line, outcome_line, outcome_text, outcome_text_at};
+ghost use Rattle.qs_report.specs.OutcomesText.{client_line, clients_text, listed_text, next_client_text, no_standing, numbered, object_line, outcome_line, outcome_text, outcome_text_at};
 ghost use Rattle.qs_text.specs.Texts.{texts_up_to};
 
 use crate::states::put_state_line;
@@ -47,13 +47,25 @@ pub(crate) fn put_clients_in(out: &mut Vec<u8>, order: &[Ticket]) -> Result<(), 
     }
 }
 
+// What is listed, its number, and an order that leads there.
+pub(crate) fn put_numbered(
+    out: &mut Vec<u8>,
+    word: &[u8],
+    number: usize,
+    order: &[Ticket],
+) -> Result<(), AllocError>
+    ensures ok { OnOk result (out.new.items ≡ out.old.items ++ numbered word.now number order.now) }
+{
+    let mut buffer = Buffer::new();
+    put_all(out, &[word, buffer.format(number).as_bytes(), b" "])?;
+    put_clients_in(out, order)
+}
+
 // The line that begins an outcome.
 fn put_outcome_line(out: &mut Vec<u8>, number: usize, order: &[Ticket]) -> Result<(), AllocError>
     ensures ok { OnOk result (out.new.items ≡ out.old.items ++ outcome_line number order.now) }
 {
-    let mut buffer = Buffer::new();
-    put_all(out, &[b"outcome ", buffer.format(number).as_bytes(), b" "])?;
-    put_clients_in(out, order)?;
+    put_numbered(out, b"outcome ", number, order)?;
     put(out, b"\n")
 }
 

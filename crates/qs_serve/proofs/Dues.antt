@@ -35,7 +35,7 @@ use Rattle.qs_line.specs.declared.line.Format.TheVariants as format
 use Rattle.qs_line.specs.declared.line.OutcomesFormat.{OutcomesFormat}
 use Rattle.qs_line.specs.declared.line.GraphFormat.TheVariants as graph_format
 use Rattle.qs_line.specs.declared.line.ReportStyle.{ReportStyle}
-use Rattle.qs_line.specs.Line.{Line, Request, ask, asks, check, estimate, graph, help, outcomes, play, refused, rules, run, tally, version}
+use Rattle.qs_line.specs.Line.{Line, Request, alike, ask, asks, check, estimate, fronts, graph, help, outcomes, play, refused, rules, run, tally, version}
 use Rattle.qs_conditions.specs.declared.claim.Claim.{Claim}
 use Rattle.qs_outcomes.specs.Answers.{AnswerShape}
 use Rattle.std.specs.Prelude.{Err, IfErr, IfOk, IfSome, MatchBool}
@@ -211,21 +211,21 @@ unlisted_in false how p limit clients f is = is
 unlisted_in true how p limit clients f is = is
 
 -- what is due after the blocks of the clients that a list names is due by what was asked for
-pub due_by_outcomes : (how : OutcomesFormat) (p : ProgramShape) (limit : ℕ) (front : List Part) (clients : List ℕ) (due : Due)
-    → clients_of p front ≡ Ok clients → IsDueAfter how p limit clients due → IsOutOfMemory due ⊎ IsDueOfProgram (outcomes how limit front) [] p due
-due_by_outcomes how p limit front clients (Text bytes) named is =
+pub due_by_outcomes : (how : OutcomesFormat) (p : ProgramShape) (limit threads : ℕ) (front : List Part) (clients : List ℕ) (due : Due)
+    → clients_of p front ≡ Ok clients → IsDueAfter how p limit clients due → IsOutOfMemory due ⊎ IsDueOfProgram (outcomes how limit threads front) [] p due
+due_by_outcomes how p limit threads front clients (Text bytes) named is =
     inr (of_named (λ xs. IsTextOfOutcomes how p limit xs bytes.items) (clients_of p front) clients named is)
-due_by_outcomes how p limit front clients (No bytes) named is = absurd is
-due_by_outcomes how p limit front clients (Refused fault.Memory) named is = inl tt
-due_by_outcomes how p limit front clients (Refused (fault.Outcomes f)) named is =
+due_by_outcomes how p limit threads front clients (No bytes) named is = absurd is
+due_by_outcomes how p limit threads front clients (Refused fault.Memory) named is = inl tt
+due_by_outcomes how p limit threads front clients (Refused (fault.Outcomes f)) named is =
     inr (of_named (λ xs. IsUnlisted p (limit_in how limit) xs f) (clients_of p front) clients named is)
-due_by_outcomes how p limit front clients (Refused fault.CommandLine) named is = absurd is
-due_by_outcomes how p limit front clients (Refused fault.Input) named is = absurd is
-due_by_outcomes how p limit front clients (Refused (fault.Read f)) named is = absurd is
-due_by_outcomes how p limit front clients (Refused (fault.Check f)) named is = absurd is
-due_by_outcomes how p limit front clients (Refused (fault.Play f)) named is = absurd is
-due_by_outcomes how p limit front clients (Refused (fault.Order f)) named is = absurd is
-due_by_outcomes how p limit front clients (Refused (fault.Run f)) named is = absurd is
+due_by_outcomes how p limit threads front clients (Refused fault.CommandLine) named is = absurd is
+due_by_outcomes how p limit threads front clients (Refused fault.Input) named is = absurd is
+due_by_outcomes how p limit threads front clients (Refused (fault.Read f)) named is = absurd is
+due_by_outcomes how p limit threads front clients (Refused (fault.Check f)) named is = absurd is
+due_by_outcomes how p limit threads front clients (Refused (fault.Play f)) named is = absurd is
+due_by_outcomes how p limit threads front clients (Refused (fault.Order f)) named is = absurd is
+due_by_outcomes how p limit threads front clients (Refused (fault.Run f)) named is = absurd is
 
 -- a witness has its places, wherever it was found
 places_at_end : (p : ProgramShape) (front : List Ticket) (asked : OrderOutcome → Bool) (w : Option StandingShape) → IfSome w (IsWitnessAfter p front asked) → IfSome w (HasPlaces p)
@@ -334,7 +334,9 @@ any_text (run style mode size) found lines p text are is = is
 any_text (tally how mode size times) found lines p text are is = is
 any_text (ask claim how limit front) found lines p text are is = is
 any_text (estimate how front) found lines p text are is = is
-any_text (outcomes how limit front) found lines p text are is = is
+any_text (fronts how blocks limit front) found lines p text are is = is
+any_text (alike how limit) found lines p text are is = is
+any_text (outcomes how limit threads front) found lines p text are is = is
 
 -- what is due with the lines that were found is due with these
 pub due_with_lines : (request : Request) (found lines : Lines) (p : ProgramShape) (due : Due) → AreLinesFor request found lines

@@ -1,3 +1,4 @@
 pub mod Dues
 pub mod LineDues
+pub mod OtherDues
 mod Gathering

@@ -1,5 +1,5 @@
 -- What a run has to write, and its status.
-use Rattle.std.specs.Prelude.{◌≡◌, ℕ, ◌⊎◌, List, [], ◌++◌, min, take, Bool, true, false, if◌then◌else◌, Option, Some, None, Ok, Err, Result, Vec, ⊤, IfSome, IsErr, IsOkAnd, MatchBool}
+use Rattle.std.specs.Prelude.{◌≡◌, ◌≤◌, ℕ, ◌⊎◌, List, [], ◌++◌, min, take, Bool, true, false, if◌then◌else◌, Option, Some, None, Ok, Err, Result, Vec, ⊤, IfSome, IsErr, IsOkAnd, MatchBool}
 use Rattle.std.specs.Global.{Global}
 use Rattle.std.specs.Io.KnownBytes.{Appends}
 use Rattle.qs_script.specs.declared.fault.ReadFault.TheVariants as read
@@ -12,6 +12,10 @@ use Rattle.qs_serial.specs.declared.fault.OrderFault.TheVariants as order_fault
 use Rattle.qs_outcomes.specs.Outcomes.{HasMoreThanAfter, OutcomesShape}
 use Rattle.qs_outcomes.specs.declared.fault.OutcomesFault.{OutcomesFault}
 use Rattle.qs_outcomes.specs.declared.fault.OutcomesFault.TheVariants as outcomes_fault
+use Rattle.qs_standings.specs.Standings.{StandingShape}
+use Rattle.qs_levels.specs.Fronts.{AreFrontsAfter}
+use Rattle.qs_alike.specs.AlikeOutcomes.{AlikeShape, AreAlikeOutcomes, HasMoreUnlike}
+use Rattle.qs_alike.specs.Changes.{AreAllAlike, AreClasses, Classes}
 use Rattle.qs_dot.specs.ChartDot.{IsChartDot}
 use Rattle.qs_report.specs.declared.faults.Fault.{Fault}
 use Rattle.qs_report.specs.declared.faults.Fault.TheVariants as fault
@@ -25,6 +29,8 @@ use Rattle.qs_conditions.specs.declared.claim.Quantifier.{Quantifier}
 use Rattle.qs_outcomes.specs.Answers.{AnswerShape}
 use Rattle.qs_questions.specs.Claims.{HasMoreFor}
 use Rattle.qs_questions.specs.Questions.{first_unknown_in}
+use Rattle.qs_json.specs.AlikeJson.{all_alike_json}
+use Rattle.qs_json.specs.FrontsJson.{all_fronts_json}
 use Rattle.qs_json.specs.AnswerJson.{IsAnswerJson, json_of_answer}
 use Rattle.qs_json.specs.EstimateJson.{estimate_json}
 use Rattle.qs_json.specs.TallyJson.{tally_json}
@@ -33,6 +39,8 @@ use Rattle.qs_json.specs.GraphJson.{IsGraphJson}
 use Rattle.qs_json.specs.EndsJson.{IsEndsJson, ends_json}
 use Rattle.qs_json.specs.OutcomesJson.{IsOutcomesJson, listed_json}
 use Rattle.qs_json.specs.RunJson.{counts_json}
+use Rattle.qs_report.specs.AlikeText.{alike_text}
+use Rattle.qs_report.specs.FrontsText.{fronts_text}
 use Rattle.qs_report.specs.AnswerText.{IsAnswerText, is_yes, text_of_answer}
 use Rattle.qs_report.specs.EndsText.{IsEndsText, end_texts}
 use Rattle.qs_report.specs.EstimateText.{estimate_text}
@@ -77,7 +85,7 @@ use Rattle.qs_line.specs.declared.line.LineFault.{LineFault}
 use Rattle.qs_line.specs.declared.line.LineFault.TheVariants as line_fault
 use Rattle.qs_line.specs.declared.line.ReportStyle.{ReportStyle}
 use Rattle.qs_line.specs.declared.line.Settings.{Settings}
-use Rattle.qs_line.specs.Line.{Line, PlanShape, Request, ask, asks, by_order, by_schedule, check, estimate, format_by, format_of_request, graph, help, line_in, outcomes, play, refused, request_of, rules, run, tally, version}
+use Rattle.qs_line.specs.Line.{Line, PlanShape, Request, alike, ask, asks, by_order, by_schedule, check, estimate, format_by, format_of_request, fronts, graph, help, line_in, outcomes, play, refused, request_of, rules, run, tally, version}
 use Rattle.qs_run_report.specs.RunReports.{report_by}
 use Rattle.qs_serve.specs.Reading.{Reading}
 use Rattle.qs_serve.specs.declared.due.Due.{Due}
@@ -204,6 +212,40 @@ abbrev pub IsEstimateText : Format → ProgramShape → (clients : List ℕ) →
 IsEstimateText how p clients text =
     (e : Estimate) × IsEstimateAfter p (order_of clients) e × (text ≡ estimate_in how e)
 
+-- one of all alike outcomes, as text or as JSON
+abbrev pub alike_in : Format → ProgramShape → AlikeShape → List ℕ
+alike_in format.Text p all = alike_text p all.found all.counts all.configurations
+alike_in format.Json p all = all_alike_json p all.found all.counts all.configurations
+
+-- clients are of one class exactly where they have the same text
+abbrev pub AreTheClasses : ProgramShape → Classes → Type 0
+AreTheClasses p k = AreClasses p k × AreAllAlike p k
+
+-- There is a list of one of all outcomes that differ by alike clients in each other's places, where all clients with
+-- the same text are alike, over no more configurations than the limit, whose text this is.
+unfoldable pub IsAlikeText : Format → ProgramShape → (limit : ℕ) → List ℕ → Type 0
+IsAlikeText how p limit text =
+    (k : Classes) × AreTheClasses p k × ((all : AlikeShape) × AreAlikeOutcomes p k all × (all.configurations ≤ limit)
+    × (text ≡ alike_in how p all))
+
+-- fronts, as text or as JSON
+abbrev pub fronts_in : Format → ProgramShape → List StandingShape → List ℕ
+fronts_in format.Text p found = fronts_text p found
+fronts_in format.Json p found = all_fronts_json p found
+
+-- these; or that an allocation failed
+abbrev pub AreToldFronts : Format → ProgramShape → List StandingShape → Due → Type 0
+AreToldFronts how p found (Text bytes) = bytes.items ≡ fronts_in how p found
+AreToldFronts how p found (No bytes) = ⊥
+AreToldFronts how p found (Refused f) = f ≡ fault.Memory
+
+-- There is a list of the configurations after the blocks of some clients and so many blocks more, of at least one,
+-- whose text this is.
+unfoldable pub IsFrontsText : Format → ProgramShape → (blocks : ℕ) → (clients : List ℕ) → List ℕ → Type 0
+IsFrontsText how p blocks clients text =
+    (found : List StandingShape) × AreFrontsAfter p (order_of clients) blocks found × (¬ (found ≡ []))
+    × (text ≡ fronts_in how p found)
+
 -- after as many rounds as a line plays by default, 1,000,000, a run has finished, whatever was picked before them
 abbrev pub FinishesByDefault : (rounds : ℕ) → Played → Type 0
 FinishesByDefault rounds played = rounds ≡ most_rounds → played.finished ≡ true
@@ -299,7 +341,8 @@ IsAnswerBy _ p holds text = ⊥
 -- what a request makes of a program: its counts; its graphs; the report of its run by the plain rules or in the
 -- optimised machine; that of an outcome which its run on threads may have, or how often each end came in so many of
 -- these; after the blocks of some clients, how many configurations there can be; or, after these and of so many
--- configurations at most, that a claim holds, or all its outcomes. Each is written in the format that is asked for, and
+-- configurations at most, that a claim holds, the configurations after so many blocks more, or all its outcomes, by as
+-- many threads as may be; or one of all alike ones. Each is written in the format that is asked for, and
 -- a report with what was refused and with the counts of synchronisations where they are asked for, after a line for
 -- each step where these are, and before what lies where at the end of a run that has not finished.
 abbrev pub IsTextBy : Request → Lines → ProgramShape → List ℕ → Type 0
@@ -322,7 +365,10 @@ IsTextBy (tally how mode size times) lines p text =
 IsTextBy (estimate how front) lines p text =
     IsOkAnd (clients_of p front) (λ clients. IsEstimateText how p clients text)
 IsTextBy (ask claim how limit front) lines p text = IsAnswerBy (ask claim how limit front) p true text
-IsTextBy (outcomes how limit front) lines p text =
+IsTextBy (fronts how blocks limit front) lines p text =
+    IsOkAnd (clients_of p front) (λ clients. IsFrontsText how p blocks clients text)
+IsTextBy (alike how limit) lines p text = IsAlikeText how p limit text
+IsTextBy (outcomes how limit threads front) lines p text =
     IsOkAnd (clients_of p front) (λ clients. IsTextOfOutcomes how p limit clients text)
 
 -- a list of a plan names nobody in the program: a part of it is at fault
@@ -337,7 +383,8 @@ IsUnnamedBy (play style mode size plan) p = IsUnnamed plan p
 IsUnnamedBy (ask claim how limit front) p =
     (¬ (first_unknown_in p claim.condition ≡ None)) ⊎ IsErr (clients_of p front)
 IsUnnamedBy (estimate how front) p = IsErr (clients_of p front)
-IsUnnamedBy (outcomes how limit front) p = IsErr (clients_of p front)
+IsUnnamedBy (fronts how blocks limit front) p = IsErr (clients_of p front)
+IsUnnamedBy (outcomes how limit threads front) p = IsErr (clients_of p front)
 IsUnnamedBy _ p = ⊥
 
 -- what is due by the fault of a list: a part at fault is one of the command line
@@ -388,12 +435,30 @@ IsUnanswered p q limit clients outcomes_fault.Memory = Unit {0}
 abbrev pub IsUnestimated : ProgramShape → List ℕ → OutcomesFault → Type 0
 IsUnestimated p clients f = (f ≡ outcomes_fault.Order) × (¬ IsLegal p (order_of clients))
 
+-- why the configurations after so many blocks more are not listed: there are more configurations than the limit on the
+-- way, the clients name no legal order or none goes on by so many blocks, or an allocation failed
+abbrev pub AreNoFronts : ProgramShape → (blocks limit : ℕ) → (clients : List ℕ) → OutcomesFault → Type 0
+AreNoFronts p blocks limit clients outcomes_fault.Limit = HasMoreThanAfter p (order_of clients) limit
+AreNoFronts p blocks limit clients outcomes_fault.Order =
+    (¬ IsLegal p (order_of clients)) ⊎ AreFrontsAfter p (order_of clients) blocks []
+AreNoFronts p blocks limit clients outcomes_fault.Memory = Unit {0}
+
+-- why one of all alike outcomes is not listed: there are more configurations than the limit of which none becomes
+-- another, or an allocation failed
+abbrev pub AreUnlistedAlike : ProgramShape → (limit : ℕ) → OutcomesFault → Type 0
+AreUnlistedAlike p limit outcomes_fault.Limit = (k : Classes) × AreTheClasses p k × HasMoreUnlike p k limit
+AreUnlistedAlike p limit outcomes_fault.Order = ⊥
+AreUnlistedAlike p limit outcomes_fault.Memory = Unit {0}
+
 -- why outcomes that a request asks for are not listed
 abbrev pub IsUnlistedBy : Request → ProgramShape → OutcomesFault → Type 0
 IsUnlistedBy (ask claim how limit front) p f =
     IsOkAnd (clients_of p front) (λ clients. IsUnanswered p claim.quantifier limit clients f)
 IsUnlistedBy (estimate how front) p f = IsOkAnd (clients_of p front) (λ clients. IsUnestimated p clients f)
-IsUnlistedBy (outcomes how limit front) p f =
+IsUnlistedBy (fronts how blocks limit front) p f =
+    IsOkAnd (clients_of p front) (λ clients. AreNoFronts p blocks limit clients f)
+IsUnlistedBy (alike how limit) p f = AreUnlistedAlike p limit f
+IsUnlistedBy (outcomes how limit threads front) p f =
     IsOkAnd (clients_of p front) (λ clients. IsUnlisted p (limit_in how limit) clients f)
 IsUnlistedBy _ p f = ⊥
 
@@ -409,6 +474,14 @@ IsDueAfter how p limit clients (No bytes) = ⊥
 IsDueAfter how p limit clients (Refused fault.Memory) = Unit {0}
 IsDueAfter how p limit clients (Refused (fault.Outcomes f)) = IsUnlisted p (limit_in how limit) clients f
 IsDueAfter how p limit clients (Refused _) = ⊥
+
+-- what is due of the configurations after the blocks of some clients and so many blocks more
+abbrev pub IsDueOfFronts : Format → ProgramShape → (blocks limit : ℕ) → (clients : List ℕ) → Due → Type 0
+IsDueOfFronts how p blocks limit clients (Text bytes) = IsFrontsText how p blocks clients bytes.items
+IsDueOfFronts how p blocks limit clients (No bytes) = ⊥
+IsDueOfFronts how p blocks limit clients (Refused fault.Memory) = Unit {0}
+IsDueOfFronts how p blocks limit clients (Refused (fault.Outcomes f)) = AreNoFronts p blocks limit clients f
+IsDueOfFronts how p blocks limit clients (Refused _) = ⊥
 
 -- what is due of a claim after the blocks of some clients: the answer, why there is none, or that an allocation failed
 abbrev pub IsAnswerAfterDue : Format → ProgramShape → Claim → (limit : ℕ) → (clients : List ℕ) → Due → Type 0
@@ -446,7 +519,9 @@ AreLinesFor (run style mode size) found lines = ⊤
 AreLinesFor (tally how mode size times) found lines = ⊤
 AreLinesFor (ask claim how limit front) found lines = ⊤
 AreLinesFor (estimate how front) found lines = ⊤
-AreLinesFor (outcomes how limit front) found lines = ⊤
+AreLinesFor (fronts how blocks limit front) found lines = ⊤
+AreLinesFor (alike how limit) found lines = ⊤
+AreLinesFor (outcomes how limit threads front) found lines = ⊤
 
 -- what a request makes of a text: the result of its program, or the fault of the text, of its script, of the list whose
 -- names are the script's, of its schedule, of its order, of its threads or of its outcomes

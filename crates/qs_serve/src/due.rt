@@ -16,6 +16,7 @@ use crate::estimates::due_of_estimate;
 use crate::input::{Counted, InputFault, gather};
 use crate::plays::{due_of_play, due_of_rules};
 use crate::reports::due_of_outcome;
+use crate::searches::{due_by_threads, due_of_alike, due_of_fronts};
 use crate::tallies::due_of_tally;
 use qs_check::{CheckFault, Program, check};
 use qs_chunk::ChunkSize;
@@ -208,7 +209,13 @@ fn due_of_claim<P: Watcher>(
 }
 
 // The list of all outcomes, or of their ends alone, in a format.
-fn due_of_all(alloc: Global, program: &Program, ends: bool, format: Format, all: AllOutcomes) -> Due
+pub(crate) fn due_of_all(
+    alloc: Global,
+    program: &Program,
+    ends: bool,
+    format: Format,
+    all: AllOutcomes,
+) -> Due
     requires places { AllByRecursion (HasPlaces program.now) all.found }
     ensures due { IsListOf ends format program.now all result }
 {
@@ -259,17 +266,18 @@ fn due_of_drawing_after(alloc: Global, program: &Program, limit: u32, clients: &
 }
 
 // All outcomes after the blocks of the clients that a list names, found over so many configurations at most; a watcher
-// is told of each.
-fn due_of_outcomes<P: Watcher>(
+// is told of each. However many threads are asked for, one searches.
+pub(crate) fn due_of_outcomes<P: Watcher>(
     alloc: Global,
     program: &Program,
     format: OutcomesFormat,
     limit: u32,
+    threads: u32,
     front: &[Part],
     watcher: &mut P,
 ) -> Due
     ensures not_input { ¬ IsRefusedBy fault.Input result }
-    ensures due { IsOutOfMemory result ⊎ IsDueOfProgram (outcomes format limit front.now) [] program.now result }
+    ensures due { IsOutOfMemory result ⊎ IsDueOfProgram (outcomes format limit threads front.now) [] program.now result }
 {
     let clients = match clients_of(alloc, program, front) {
         Ok(clients) => clients,
@@ -288,7 +296,8 @@ fn due_of_outcomes<P: Watcher>(
 }
 
 /// What settings make of a program: a run by the plain rules or in the optimised machine, an estimate, the answer to a
-/// claim, all outcomes, the counts, or the graphs. What takes threads is refused, as a fault of the command line.
+/// claim, fronts, alike outcomes, all outcomes, the counts, or the graphs. A run on threads is refused, as a fault of the
+/// command line.
 pub(crate) fn due_of_program<P: Watcher>(
     alloc: Global,
     settings: &Settings,
@@ -325,11 +334,27 @@ pub(crate) fn due_of_program<P: Watcher>(
             front.as_slice(),
             watcher,
         ),
+        Settings::Fronts {
+            format,
+            blocks,
+            limit,
+            front,
+        } => due_of_fronts(alloc, program, *format, *blocks, *limit, front.as_slice()),
+        Settings::Alike { format, limit } => due_of_alike(alloc, program, *format, *limit),
         Settings::Outcomes {
             format,
             limit,
+            threads,
             front,
-        } => due_of_outcomes(alloc, program, *format, *limit, front.as_slice(), watcher),
+        } => due_of_outcomes(
+            alloc,
+            program,
+            *format,
+            *limit,
+            *threads,
+            front.as_slice(),
+            watcher,
+        ),
         Settings::Check { format } => due_of_counts(alloc, program, *format),
         Settings::Graph { format } => due_of_graphs(alloc, program, lines, *format),
     }
@@ -423,7 +448,7 @@ pub(crate) fn prepared(
     prepared_read(alloc, settings, text, script)
 }
 
-// What settings make of a program: one run on threads or many, or what takes none.
+// What settings make of a program: one run on threads or many, outcomes by many threads, or what takes none.
 fn due_of_prepared<T: Threads + Wait + Sync, P: Watcher>(
     rt: &T,
     alloc: Global,
@@ -445,6 +470,21 @@ fn due_of_prepared<T: Threads + Wait + Sync, P: Watcher>(
             chunk,
             times,
         } => due_of_tally(rt, alloc, program, *format, *mode, *chunk, *times),
+        Settings::Outcomes {
+            format,
+            limit,
+            threads,
+            front,
+        } => due_by_threads(
+            rt,
+            alloc,
+            program,
+            *format,
+            *limit,
+            *threads,
+            front.as_slice(),
+            watcher,
+        ),
         _ => due_of_program(alloc, settings, program, lines, watcher),
     }
 }

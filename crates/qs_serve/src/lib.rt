@@ -11,6 +11,7 @@ mod output;
 mod plays;
 mod progress;
 mod reports;
+mod searches;
 mod serving;
 mod tallies;
 mod telling;

@@ -8,7 +8,7 @@ use crate::due::Due;
 use qs_causes::{tell_check, tell_read};
 use qs_check::CheckFault;
 use qs_line::read_line;
-use qs_line_causes::{put_order, put_pick, put_refused};
+use qs_line_causes::{put_front, put_order, put_pick, put_refused};
 use qs_outcomes::OutcomesFault;
 use qs_played::{PlayFault, RunFault};
 use qs_report::Fault;
@@ -71,7 +71,7 @@ fn told<'a>(
         Fault::Check(_) => tell_check(alloc, &mut out, text)?,
         Fault::Play(_) => put_pick(alloc, &mut out, words, text)?,
         Fault::Order(_) => put_order(alloc, &mut out, words, text, "--order")?,
-        Fault::Outcomes(_) => put_order(alloc, &mut out, words, text, "--after")?,
+        Fault::Outcomes(_) => put_front(alloc, &mut out, words, text)?,
         _ => {}
     }
     Ok(out)

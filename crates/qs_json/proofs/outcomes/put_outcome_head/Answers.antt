@@ -3,8 +3,4 @@ use Rattle.qs_text.proofs.Parts.{then}
 use Rattle.qs_json.proofs.outcomes.put_outcome_head.Goals as goal
 
 pub returns : goal.returns
-returns c = record {
-  ok = on_ok_weaker c.put_word-2.result
-      (λ e. then c.in_ok-put_count.ensures.ok (then (then c.in_ok-put_word.ensures.ok c.in_ok-put_joined.ensures.ok) e))
-      c.put_word-2.ensures.ok;
-}
+returns c = record { ok = on_ok_weaker c.put_order.result (λ e. then c.in_ok-put_count.ensures.ok e) c.put_order.ensures.ok }

@@ -42,6 +42,38 @@ returns c = record {
       as_drawing = refl;
       of_run = refl;
     };
+    alike = record {
+      alone = refl;
+      limited = refl;
+      as_drawing = refl;
+      with_ends = refl;
+      with_condition = refl;
+      with_estimate = refl;
+      after = refl;
+      with_threads = refl;
+    };
+    parts = record {
+      alone = refl;
+      after = refl;
+      none = refl;
+      one_more = refl;
+      as_drawing = refl;
+      with_ends = refl;
+      with_condition = refl;
+      with_estimate = refl;
+      with_alike = refl;
+    };
+    threads = record {
+      several = refl;
+      of_ends = refl;
+      none = refl;
+      one_more = refl;
+      as_drawing = refl;
+      with_condition = refl;
+      with_front = refl;
+      with_estimate = refl;
+      of_run = refl;
+    };
     fronts = record {
       one = refl;
       more = refl;
