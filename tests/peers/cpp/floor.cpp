@@ -101,6 +101,23 @@ static void ask_and_answer() {
   handler.join();
 }
 
+// The same where the object is lent: it goes home, a chunk of one command follows it, and it is asked for once more.
+static void borrow_and_return() {
+  static Queue<96, 16> down;
+  static Queue<96, 16> up;
+  std::thread handler([] {
+    for (int k = 0; k < 50000; k++) {
+      for (int parcel = 0; parcel < 3; parcel++) down.take();
+      up.send({});
+    }
+  });
+  for (int k = 0; k < 50000; k++) {
+    for (int parcel = 0; parcel < 3; parcel++) down.send({});
+    up.take();
+  }
+  handler.join();
+}
+
 // 12,500 chunks of 8 requests go down and come back empty; one thread writes a trace of them, the other a journal.
 static void pass_chunks() {
   const int chunks = 12500, size = 8;
@@ -156,5 +173,6 @@ int main() {
   printf("256 turns of eight sleepers: %.1f\n", milliseconds([] { pass_turns(false); }));
   printf("256 turns of eight sleepers, each with another sleeper's answer: %.1f\n", milliseconds([] { pass_turns(true); }));
   printf("50,000 requests and answers through two queues: %.1f\n", milliseconds(ask_and_answer));
+  printf("50,000 times an object home, a chunk and a request, and the object back: %.1f\n", milliseconds(borrow_and_return));
   printf("12,500 chunks of 8 requests through two queues: %.1f\n", milliseconds(pass_chunks));
 }
