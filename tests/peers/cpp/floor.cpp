@@ -101,19 +101,36 @@ static void ask_and_answer() {
   handler.join();
 }
 
-// The same where the object is lent: it goes home, a chunk of one command follows it, and it is asked for once more.
-static void borrow_and_return() {
+// The same where the object is lent, with what a query after a command does to it. The object goes home, a chunk with the
+// command follows it, and it is asked for once more. Handler and client each put an entry into its journal.
+static void lend_and_ask(bool with_journal) {
   static Queue<96, 16> down;
   static Queue<96, 16> up;
-  std::thread handler([] {
+  static uint64_t chunk[6], balance;
+  static std::vector<uint64_t> journal;
+  journal.assign(with_journal ? 100000 * 9 : 0, 0);
+  journal.clear();
+  auto enter = [=](uint64_t value) {
+    if (!with_journal) return;
+    balance += value;
+    for (int word = 0; word < 9; word++) journal.push_back(balance);
+  };
+  std::thread handler([=] {
     for (int k = 0; k < 50000; k++) {
-      for (int parcel = 0; parcel < 3; parcel++) down.take();
+      for (int parcel = 0; parcel < 3; parcel++) {
+        down.take();
+        if (parcel == 1) enter(chunk[1]);
+      }
       up.send({});
     }
   });
   for (int k = 0; k < 50000; k++) {
-    for (int parcel = 0; parcel < 3; parcel++) down.send({});
+    down.send({});
+    for (int word = 0; with_journal && word < 6; word++) chunk[word] = k;
+    down.send({});
+    down.send({});
     up.take();
+    enter(k);
   }
   handler.join();
 }
@@ -173,6 +190,7 @@ int main() {
   printf("256 turns of eight sleepers: %.1f\n", milliseconds([] { pass_turns(false); }));
   printf("256 turns of eight sleepers, each with another sleeper's answer: %.1f\n", milliseconds([] { pass_turns(true); }));
   printf("50,000 requests and answers through two queues: %.1f\n", milliseconds(ask_and_answer));
-  printf("50,000 times an object home, a chunk and a request, and the object back: %.1f\n", milliseconds(borrow_and_return));
+  printf("50,000 times an object home, a chunk and a request, and the object back: %.1f\n", milliseconds([] { lend_and_ask(false); }));
+  printf("the same with a journal in which both write: %.1f\n", milliseconds([] { lend_and_ask(true); }));
   printf("12,500 chunks of 8 requests through two queues: %.1f\n", milliseconds(pass_chunks));
 }
