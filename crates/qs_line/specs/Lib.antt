@@ -6,4 +6,3 @@ pub mod Command
 pub mod Line
 -- What crates promise one another, what proofs use, and worked examples.
 pub mod Numbers
-pub mod LineExamples

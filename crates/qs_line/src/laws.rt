@@ -1,12 +1,6 @@
 //! What the definitions say, for readers.
 
-ghost use Rattle.qs_line.specs.LineExamples.{LineExamples};
 ghost use Rattle.qs_line.specs.Numbers.{ClientNumbersStay, NumbersStay};
-
-/// Lines without settings, with them, and refused ones, computed by the definitions; it does nothing.
-pub fn line_examples()
-    ensures examples { LineExamples }
-{}
 
 /// A list of actors by number alone, of no more than the limit, is read as these, each once, and names them in every
 /// program; and so is a list of clients. It does nothing.

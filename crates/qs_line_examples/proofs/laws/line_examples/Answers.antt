@@ -1,7 +1,7 @@
 use Rattle.std.proofs.Common.{refl}
 use Rattle.clap.proofs.OnLiterals.{clap_on_literals}
 use Rattle.qs_conditions.specs.Reading.{chain}
-use Rattle.qs_line.proofs.laws.line_examples.Goals as goal
+use Rattle.qs_line_examples.proofs.laws.line_examples.Goals as goal
 
 pub returns : goal.returns
 unfolding clap_on_literals chain
