@@ -24,7 +24,7 @@ fn is_less(standing: &Standing, one: u8, other: u8) -> bool
     match begun[usize::from(one)].cmp(&begun[usize::from(other)]) {
         Ordering::Less => true,
         Ordering::Greater => false,
-        Ordering::Equal => standing.locals(one).cmp(standing.locals(other)) == Ordering::Less,
+        Ordering::Equal => standing.locals(one).cmp(&standing.locals(other)) == Ordering::Less,
     }
 }
 

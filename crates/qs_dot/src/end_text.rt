@@ -49,7 +49,7 @@ fn put_client(
     ensures ok { OnOk result (out.new.items ≡ out.old.items ++ client_text program.now standing.now client) }
 {
     put_all(out, &[b"\\n", client_name(program, client)])?;
-    put_variables(out, program.variables(client), standing.locals(client))
+    put_variables(out, program.variables(client), &standing.locals(client))
 }
 
 // All clients.

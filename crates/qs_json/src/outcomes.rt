@@ -123,7 +123,7 @@ fn put_client(
     ensures ok { OnOk result (Puts (client_json program.now standing.now client) out.old.items out.new.items) }
 {
     put_client_name(out, program, client)?;
-    put_variables(out, program.variables(client), standing.locals(client))?;
+    put_variables(out, program.variables(client), &standing.locals(client))?;
     put_word(out, b"}")
 }
 

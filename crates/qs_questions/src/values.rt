@@ -35,11 +35,8 @@ fn variable_value(program: &Program, standing: &Standing, client: &Name, name: &
     let Some(variable) = variable_of(program, client, name) else {
         return 0;
     };
-    standing
-        .locals(variable.client)
-        .get(variable.number)
-        .copied()
-        .unwrap_or(0)
+    let locals = standing.locals(variable.client);
+    locals.get(variable.number).copied().unwrap_or(0)
 }
 
 // What a value is. An error says that memory was refused.

@@ -81,7 +81,7 @@ fn put_client(
     ensures ok { OnOk result (out.new.items ≡ out.old.items ++ client_line program.now standing.now client) }
 {
     put(out, client_name(program, client))?;
-    put_variables(out, program.variables(client), standing.locals(client))?;
+    put_variables(out, program.variables(client), &standing.locals(client))?;
     put(out, b"\n")
 }
 

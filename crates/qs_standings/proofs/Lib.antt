@@ -7,3 +7,5 @@ pub mod RowTells
 pub mod Inserting
 pub mod GoingSets
 pub mod NextRows
+pub mod Spread
+pub mod Packing

@@ -25,13 +25,13 @@ set_behind (x ∷ xs) ys i v =
     (λ k. slice_set (x ∷ (xs ++ ys)) (let e : length (x ∷ xs) + i ≡ suc (length xs + i) = omega arith in e k) v)
     ∙ ap (λ zs. x ∷ zs) (set_behind xs ys i v)
 
-over_behind : (xs ys : List ℤ) (place : ℕ) (vs : List ℤ) → overwritten (xs ++ ys) (length xs + place) vs ≡ xs ++ overwritten ys place vs
+pub over_behind : (xs ys : List ℤ) (place : ℕ) (vs : List ℤ) → overwritten (xs ++ ys) (length xs + place) vs ≡ xs ++ overwritten ys place vs
 over_behind xs ys place [] = refl
 over_behind xs ys place (v ∷ vs) =
     (λ i. overwritten (set_behind xs ys place v i) (let e : suc (length xs + place) ≡ length xs + suc place = omega arith in e i) vs)
     ∙ over_behind xs (slice_set ys place v) (suc place) vs
 
-over_whole : (xs rest vs : List ℤ) → length xs ≡ length vs → overwritten (xs ++ rest) 0 vs ≡ vs ++ rest
+pub over_whole : (xs rest vs : List ℤ) → length xs ≡ length vs → overwritten (xs ++ rest) 0 vs ≡ vs ++ rest
 over_whole [] rest [] e = refl
 over_whole [] rest (v ∷ vs) e = absurd (let h : 0 ≡ length (v ∷ vs) = e in omega (arith, h))
 over_whole (x ∷ xs) rest [] e = absurd (let h : length (x ∷ xs) ≡ 0 = e in omega (arith, h))
@@ -48,6 +48,10 @@ over_more row numbers first i x d within is =
 
 pub over_end : (row numbers : List ℤ) (place i : ℕ) → length numbers ≤ i → overwritten row place (drop i numbers) ≡ row
 over_end row numbers place i past = ap (overwritten row place) (nothing_left numbers i past)
+
+-- a slice that is as long as all takes the place of all
+pub whole : (old new : List ℤ) (n : ℕ) → length new ≡ n → take n (new ++ drop (length new) old) ≡ new
+whole old new n long = (λ i. take (sym long i) (new ++ drop (length new) old)) ∙ take-append_seam new (drop (length new) old)
 
 -- one more client's variables
 pub before_more : (p : ProgramShape) (k c : ℕ) → named_before p k (suc c) ≡ named_before p k c + length (client_at p (k + c)).variables

@@ -1,12 +1,14 @@
 //! Configurations as rows of numbers.
 
-ghost use Rattle.std.specs.Prelude.{◌≡◌, ◌∷◌, ◌++◌, ◌<◌, ◌≤◌, ◌+◌, IfOk, OnOk, [], length, flat_map, take};
+ghost use Rattle.std.specs.Prelude.{◌≡◌, ◌∷◌, ◌++◌, ◌<◌, ◌≤◌, ◌+◌, IfOk, OnOk, [], length, flat_map, slice_index_or, take};
 ghost use Rattle.qs_standings.specs.Rows.{AreStarts, named_before, overwritten};
 ghost use Rattle.qs_standings.specs.Standings.{counted, named_from, padded, state_row};
 ghost use Rattle.qs_program.specs.Limits.{most_clients, most_variables};
 ghost use Rattle.qs_program.specs.Program.{client_at};
+ghost use Rattle.qs_meaning.specs.Serial.{zeros};
 ghost use Rattle.qs_objects.specs.Objects.{values_of};
 
+use crate::variables::Variables;
 use indexmap::Equivalent;
 use qs_objects::{Kind, Object};
 use qs_program::{Locals, MOST_CLIENTS, Program};
@@ -119,7 +121,7 @@ pub(crate) fn padded(begun: &[u8]) -> [u8; MOST_CLIENTS]
 pub(crate) fn add_locals(
     row: &mut Vec<i64>,
     program: &Program,
-    locals: &[Locals],
+    locals: &Variables,
 ) -> Result<(), AllocError>
     requires each { length locals.now ≡ length program.now.clients }
     ensures added { OnOk result (row.new.items ≡ row.old.items ++ named_from program.now 0 locals.now) }
@@ -128,19 +130,26 @@ pub(crate) fn add_locals(
     for client in 0..program.clients() as u8 {
         add_named(
             row,
-            &locals[usize::from(client)],
+            locals,
+            usize::from(client),
             program.variables(client).len(),
         )?;
     }
     Ok(())
 }
 
-fn add_named(row: &mut Vec<i64>, values: &Locals, count: usize) -> Result<(), AllocError>
-    requires { count ≤ most_variables }
-    ensures added { OnOk result (row.new.items ≡ row.old.items ++ take count values.now) }
+fn add_named(
+    row: &mut Vec<i64>,
+    locals: &Variables,
+    client: usize,
+    count: usize,
+) -> Result<(), AllocError>
+    requires client { client < length locals.now }
+    requires count { count ≤ most_variables }
+    ensures added { OnOk result (row.new.items ≡ row.old.items ++ take count (slice_index_or locals.now client zeros)) }
 {
     if count > 0 {
-        row.extend_from_slice(&values[..count])?;
+        row.extend_from_slice(&locals.at(client)[..count])?;
     }
     Ok(())
 }
@@ -171,7 +180,7 @@ pub fn row_starts(alloc: Global, program: &Program) -> Result<Vec<usize>, AllocE
 }
 
 // Puts numbers in the place of those from a place on.
-fn put_numbers(row: &mut [i64], first: usize, numbers: &[i64])
+pub(crate) fn put_numbers(row: &mut [i64], first: usize, numbers: &[i64])
     requires { first + length numbers.now ≤ length row.old }
     ensures put { row.new ≡ overwritten row.old first numbers.now }
     ensures long { length row.new ≡ length row.old }

@@ -9,6 +9,7 @@ ghost use Rattle.qs_standings.specs.Standings.{flipped, flipped_ticket};
 
 use crate::going::{Last, goes_on};
 use crate::rows::{Draft, Row, add_locals, add_objects, padded, put_stem};
+use crate::variables::Variables;
 use qs_objects::{Object, Ticket};
 use qs_program::{Block, Locals, MOST_VARIABLES, Program};
 use qs_serial::run_body;
@@ -19,10 +20,10 @@ use std::mem;
 /// Where a program stands after an order of whole blocks: the order, how many blocks each client has begun, the
 /// clients' variables, and the objects.
 pub struct Standing {
-    order: Vec<Ticket>,
-    begun: Vec<u8>,
-    locals: Vec<Locals>,
-    objects: Vec<Object>,
+    pub(crate) order: Vec<Ticket>,
+    pub(crate) begun: Vec<u8>,
+    pub(crate) locals: Variables,
+    pub(crate) objects: Vec<Object>,
 }
 
 impl Drop for Standing {
@@ -41,7 +42,7 @@ impl Model for Standing {
 
     ghost Value = { StandingShape };
 
-    ghost view = { λ s. record { order = s.order.items; begun = s.begun.items; locals = s.locals.items; states = s.objects.items } };
+    ghost view = { λ s. record { order = s.order.items; begun = s.begun.items; locals = s.locals; states = s.objects.items } };
 }
 
 // All objects as declared.
@@ -58,8 +59,8 @@ fn declared_objects(alloc: Global, program: &Program) -> Result<Vec<Object>, All
     Ok(objects)
 }
 
-// Puts copies of objects in the place of those that are there.
-fn put_objects(
+/// Puts copies of objects in the place of those that are there.
+pub(crate) fn put_objects(
     alloc: Global,
     objects: &[Object],
     copies: &mut Vec<Object>,
@@ -112,22 +113,6 @@ fn put_counts(begun: &[u8], place: usize, count: u8, counts: &mut Vec<u8>) -> Re
     Ok(())
 }
 
-// Puts the same variables but for one client's in the place of those that are there.
-fn put_locals(
-    locals: &[Locals],
-    place: usize,
-    values: &Locals,
-    changed: &mut Vec<Locals>,
-) -> Result<(), AllocError>
-    requires { place < length locals.now }
-    ensures set { OnOk result (changed.new.items ≡ slice_set locals.now place values.now) }
-{
-    changed.clear();
-    changed.extend_from_slice(locals)?;
-    changed[place] = *values;
-    Ok(())
-}
-
 // The other of two clients; another one stays as it is.
 fn flipped(one: u8, other: u8, client: u8) -> u8
     ensures flipped { result ≡ flipped one other client }
@@ -171,11 +156,11 @@ impl Standing {
     }
 
     /// A client's variables.
-    pub fn locals(&self, client: u8) -> &Locals
+    pub fn locals(&self, client: u8) -> Locals
         requires { client < length self.now.locals }
-        ensures locals { result.now ≡ slice_index_or self.now.locals client zeros }
+        ensures locals { result ≡ slice_index_or self.now.locals client zeros }
     {
-        &self.locals[usize::from(client)]
+        self.locals.at(usize::from(client))
     }
 
     /// An object.
@@ -195,7 +180,7 @@ impl Standing {
         Ok(Standing {
             order: Vec::new(alloc),
             begun: vec![in alloc; 0; clients]?,
-            locals: vec![in alloc; [0; MOST_VARIABLES]; clients]?,
+            locals: Variables::zeros(alloc, program)?,
             objects: declared_objects(alloc, program)?,
         })
     }
@@ -238,7 +223,7 @@ impl Standing {
         Standing {
             order: Vec::new(alloc),
             begun: Vec::new(alloc),
-            locals: Vec::new(alloc),
+            locals: Variables::empty(alloc),
             objects: Vec::new(alloc),
         }
     }
@@ -261,7 +246,7 @@ impl Standing {
     {
         program.keeps_sound();
         let place = usize::from(client);
-        *values = self.locals[place];
+        *values = self.locals.at(place);
         let block = program.block(client, self.begun[place]);
         run_block(alloc, block, values, self.objects.as_slice(), left)?;
         Ok(())
@@ -292,7 +277,7 @@ impl Standing {
             &mut next.order,
         )?;
         put_counts(self.begun.as_slice(), place, index + 1, &mut next.begun)?;
-        put_locals(self.locals.as_slice(), place, values, &mut next.locals)?;
+        self.locals.put_changed(place, values, &mut next.locals)?;
         mem::swap(&mut next.objects, left);
         Ok(())
     }
@@ -326,7 +311,7 @@ impl Standing {
     {
         flip_order(one, other, self.order.as_mut_slice());
         self.begun.swap(usize::from(one), usize::from(other));
-        self.locals.swap(usize::from(one), usize::from(other));
+        self.locals.exchange(usize::from(one), usize::from(other));
     }
 
     /// Its row. An error says that memory was refused.
@@ -352,7 +337,7 @@ impl Standing {
         program.keeps_sound();
         row.begun = padded(self.begun.as_slice());
         row.numbers.clear();
-        add_locals(&mut row.numbers, program, self.locals.as_slice())?;
+        add_locals(&mut row.numbers, program, &self.locals)?;
         add_objects(&mut row.numbers, self.objects.as_slice())
     }
 

@@ -6,7 +6,7 @@ pub returns : goal.returns
 returns c =
     let one = c.locals.ensures.locals in
     let other = c.locals-2.ensures.locals in
-    let d = signed_items c.locals.result.now c.locals-2.result.now in
+    let d = signed_items c.locals.result c.locals-2.result in
     record {
       same = (
         λ t. sym one ∙ (d.0 (sym c.eq.ensures ∙ t) ∙ other),

@@ -1,5 +1,6 @@
-use Rattle.std.proofs.Common.{◌≡◌, ◌<◌, ◌++◌, [], ap, arith, get_or, length, take, ◌∙◌, refl}
+use Rattle.std.proofs.Common.{◌≡◌, ◌<◌, ◌++◌, ap, arith, get_or, length, take, ◌∙◌, refl}
 use Rattle.qs_program.specs.Program.{client_at}
+use Rattle.qs_meaning.specs.Serial.{zeros}
 use Rattle.qs_standings.proofs.RowSteps.{named_more}
 use Rattle.qs_standings.proofs.rows.add_locals.Goals as goal
 
@@ -9,5 +10,6 @@ loop-client-preserved c =
     let i = c.loop-client.client in
     let inside : i < length c.args.locals.now = (let e = c.clients-client-end.ensures.value in let n = c.requires.each in omega (arith, e, n)) in
     let count : c.len.result ≡ length (client_at p i).variables = c.len.ensures.value ∙ ap length c.variables.ensures.value in
-    named_more p c.args.locals.now i (get_or c.args.locals.now i []) [] c.args.row.now.items c.loop-client.row.items c.add_named.new.row.items inside refl c.loop-client.invariant
-    (c.in_ok-add_named.ensures.added ∙ (λ k. c.loop-client.row.items ++ take (count k) (get_or c.args.locals.now (c.from.ensures k) [])))
+    let values = ap (λ j. get_or c.args.locals.now j zeros) c.from.ensures in
+    named_more p c.args.locals.now i (get_or c.args.locals.now i zeros) zeros c.args.row.now.items c.loop-client.row.items c.add_named.new.row.items inside refl c.loop-client.invariant
+    (c.in_ok-add_named.ensures.added ∙ (λ k. c.loop-client.row.items ++ take (count k) (values k)))

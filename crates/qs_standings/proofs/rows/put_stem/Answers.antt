@@ -1,12 +1,8 @@
-use Rattle.std.proofs.Common.{◌≡◌, ◌++◌, ℕ, List, ℤ, ap, arith, drop, length, sym, ◌∙◌, get_or, take}
-use Rattle.std.proofs.Math.Seq.{take-append_seam}
+use Rattle.std.proofs.Common.{◌≡◌, ap, arith, length, ◌∙◌, get_or, take}
 use Rattle.qs_program.specs.Program.{client_at}
 use Rattle.qs_standings.specs.Rows.{named_before, overwritten}
+use Rattle.qs_standings.proofs.NextRows.{whole}
 use Rattle.qs_standings.proofs.rows.put_stem.Goals as goal
-
--- a slice that is as long as all takes the place of all
-whole : (old new : List ℤ) (n : ℕ) → length new ≡ n → take n (new ++ drop (length new) old) ≡ new
-whole old new n long = (λ i. take (sym long i) (new ++ drop (length new) old)) ∙ take-append_seam new (drop (length new) old)
 
 pub returns : goal.returns
 returns c =

@@ -1,6 +1,4 @@
 use Rattle.std.proofs.Common.{◌≡◌, subst, replicate}
-use Rattle.std.specs.List.{each_same}
-use Rattle.qs_meaning.specs.Serial.{zeros}
 use Rattle.qs_standings.proofs.Stands.{stands_first}
 use Rattle.qs_standings.proofs.standing.Standing.first.Goals as goal
 
@@ -8,6 +6,6 @@ pub returns : goal.returns
 returns c = record {
   first = stands_first c.args.program.now _ c.new.ensures.items
       (subst (λ n. c.in_ok-vec.field-0.items ≡ replicate n 0) c.clients-clients.ensures.value (c.in_ok-vec.ensures.items_if_clones_equal (λ y same. same)))
-      (subst (λ n. c.in_ok-vec-2.field-0.items ≡ replicate n zeros) c.clients-clients.ensures.value (c.in_ok-vec-2.ensures.items_if_clones_equal (λ y clone. each_same zeros y clone.whole)))
+      c.in_ok-zeros.ensures.zeros
       c.in_ok-declared_objects.ensures.count c.in_ok-declared_objects.ensures.values;
 }

@@ -9,15 +9,13 @@ use Rattle.qs_standings.proofs.Stands.{block_within, read_at, same_run}
 use Rattle.qs_standings.proofs.standing.Standing.run_next.Goals as goal
 use Rattle.qs_standings.proofs.standing.Standing.run_next.Goals.{After-as_slice}
 
-begun_here : (c : After-as_slice) → c.index-2.result.now ≡ get_or c.args.self.now.begun c.args.client 0
+begun_here : (c : After-as_slice) → c.index.result.now ≡ get_or c.args.self.now.begun c.args.client 0
 begun_here c =
-    read_at c.self.inside.begun.items c.args.self.now.begun c.args.client c.from-place.result c.index-2.result.now 0
-    c.index-2.ensures c.from-place.ensures (ap (λ (s : StandingShape). s.begun) c.self.view_is) (let n = c.requires.standing.begun in let l = c.requires.client in omega (arith, n, l))
+    read_at c.self.inside.begun.items c.args.self.now.begun c.args.client c.from-place.result c.index.result.now 0
+    c.index.ensures c.from-place.ensures (ap (λ (s : StandingShape). s.begun) c.self.view_is) (let n = c.requires.standing.begun in let l = c.requires.client in omega (arith, n, l))
 
-locals_here : (c : After-as_slice) → c.index.result.now ≡ get_or c.args.self.now.locals c.args.client zeros
-locals_here c =
-    read_at c.self.inside.locals.items c.args.self.now.locals c.args.client c.from-place.result c.index.result.now zeros
-    c.index.ensures c.from-place.ensures (ap (λ (s : StandingShape). s.locals) c.self.view_is) (let n = c.requires.standing.locals in let l = c.requires.client in omega (arith, n, l))
+locals_here : (c : After-as_slice) → c.at.result ≡ get_or c.args.self.now.locals c.args.client zeros
+locals_here c = c.at.ensures.at ∙ (λ i. get_or (c.self.view_is i).locals (c.from-place.ensures i) zeros)
 
 states_here : (c : After-as_slice) → c.as_slice.result.now ≡ c.args.self.now.states
 states_here c = c.as_slice.ensures.value ∙ ap (λ (s : StandingShape). s.states) c.self.view_is
