@@ -1,4 +1,4 @@
--- What threads share: programs, standings and tables hold nothing that a thread must not see while another one does.
+-- What threads share: programs and levels hold nothing that a thread must not see while another one does.
 use denote.Param.Send.{IsSync, sendable}
 use Rattle.std.proofs.Crossing.{crosses}
 use Rattle.std.proofs.MapsCrossing as maps
@@ -31,8 +31,11 @@ client_sync = search (block_sync, start_sync, names_sync, crosses, sendable) dep
 pub program_sync : IsSync Rattle.qs_program.specs.contracts.program.Program.the_row
 program_sync = search (client_sync, declared_sync, crosses, sendable) depth 40
 
-pub standing_sync : IsSync Rattle.qs_standings.specs.contracts.standing.Standing.the_row
-standing_sync = search (crosses, sendable) depth 40
+packed_sync : IsSync Rattle.qs_standings.specs.contracts.packed.Packed.the_row
+packed_sync = search (crosses, sendable) depth 40
 
-pub table_sync : IsSync Rattle.qs_levels.specs.contracts.table.Table.the_row
-table_sync = search (crosses, maps.crosses, sendable) depth 40
+part_sync : IsSync Rattle.qs_levels.specs.contracts.part.Part.the_row
+part_sync = search (packed_sync, crosses, sendable) depth 40
+
+pub level_sync : IsSync Rattle.qs_levels.specs.contracts.level.Level.the_row
+level_sync = search (part_sync, crosses, sendable) depth 40

@@ -1,22 +1,23 @@
 -- What a table keeps, as orders come up one after another, each after all that are kept: where a row is new, its
 -- lead is added; where it is there, the lead there came by an order that is before. So of all orders that lead to one
 -- configuration the least is kept.
-use Rattle.std.proofs.Common.{◌≡◌, ◌<◌, ℕ, zero, suc, Bool, true, false, if◌then◌else◌, List, [], ◌∷◌, ◌++◌, length, slice_index_or, refl, sym, ap, ◌∙◌, subst, arith, ◌⊎◌, inl, inr, append_assoc, append-nil}
+use Rattle.std.proofs.Common.{◌≡◌, ◌<◌, ℕ, zero, suc, Bool, true, false, true≢false, if◌then◌else◌, List, [], ◌∷◌, ◌++◌, length, map, slice_index_or, refl, sym, ap, ◌∙◌, subst, arith, ◌⊎◌, inl, inr, append_assoc, append-nil}
 use Rattle.std.specs.List.{AllByRecursion}
 use Rattle.qs_objects.specs.declared.held.Ticket.{Ticket}
 use Rattle.qs_program.specs.Program.{ProgramShape}
 use Rattle.qs_program.specs.Sound.{IsSound}
 use Rattle.qs_meaning.specs.Configurations.{configuration_after}
-use Rattle.qs_meaning.specs.Reduced.{goes_on}
 use Rattle.qs_meaning.proofs.Each.{each_both, each_map, each_snoc}
 use Rattle.qs_outcomes.specs.LeastOrders.{IsBefore}
 use Rattle.qs_outcomes.proofs.Before.{before_both, before_longer, fork}
 use Rattle.qs_standings.specs.Lists.{HasOne}
-use Rattle.qs_standings.specs.Standings.{GoesOn, IsNext, IsStanding, StandingShape, configuration_in, row_of}
+use Rattle.qs_standings.specs.Standings.{IsNext, IsStanding, StandingShape, configuration_in, row_of}
 use Rattle.qs_standings.proofs.Lists.{has_back, has_front, has_of, none_of, pairs_join, two_snoc}
 use Rattle.qs_standings.proofs.RowTells.{row_tells}
-use Rattle.qs_levels.specs.Leads.{AreKept, IsLead, IsLedOn, IsLedUpTo, IsNoLater, IsReached, IsTableOf, StandsFor, TableShape, leads_below, no_standing, order_on}
-use Rattle.qs_levels.proofs.Lists.{has_mapped, map_snoc, mapped_has, zip_snoc}
+use Rattle.qs_levels.specs.Founds.{Found, found_in, no_standing}
+use Rattle.qs_levels.specs.Leads.{AreKept, IsLead, IsLedOn, IsLedUpTo, IsNoLater, IsReached, IsTableOf, StandsFor, TableShape, leads_below, order_on, with_lead}
+use Rattle.qs_levels.specs.Shares.{is_taken}
+use Rattle.qs_levels.proofs.Lists.{has_mapped, map_snoc, mapped_has}
 
 pub no_later_both : (ts us vs : List Ticket) → IsNoLater ts us → IsNoLater us vs → IsNoLater ts vs
 no_later_both ts us vs (inl e) k = subst (λ xs. IsNoLater xs vs) (sym e) k
@@ -59,84 +60,90 @@ module _ (p : ProgramShape) (front : List Ticket) (sound : IsSound p) where
     }
 
   -- the standing at a place, whose order is after all that are kept, is led on by the clients below a number
-  module _ (ss : List StandingShape) (place : ℕ) (s : StandingShape) (within : place < length ss) (at_place : s ≡ slice_index_or ss place no_standing)
-      (orders : List (List Ticket)) (t : TableShape) (table : IsTableOf p front ss orders t) (before : AllByRecursion (λ m. IsBefore m.order s.order) table.standings) where
+  module _ (number count : ℕ) (ss : List StandingShape) (place : ℕ) (s : StandingShape) (within : place < length ss) (at_place : s ≡ slice_index_or ss place no_standing)
+      (orders : List (List Ticket)) (t : TableShape) (table : IsTableOf p front number count ss orders t) (before : AllByRecursion (λ m. IsBefore m.order s.order) (found_in t.found)) where
     pub record IsFarOn (c : ℕ) (after : TableShape) : Type 0 where
-      pub far : IsTableOf p front ss (orders ++ leads_below p s c) after
-      pub ahead : AllByRecursion (λ m. IsBefore m.order (order_on s c)) far.standings
+      pub far : IsTableOf p front number count ss (orders ++ leads_below p number count s c) after
+      pub ahead : AllByRecursion (λ m. IsBefore m.order (order_on s c)) (found_in after.found)
 
     next_client : (c : ℕ) → IsBefore (order_on s c) (order_on s (suc c))
     next_client c = fork s.order (record { client = c; index = (configuration_in s).begun c }) (record { client = suc c; index = (configuration_in s).begun (suc c) }) (omega arith)
 
-    lead_is : (c : ℕ) (n : StandingShape) → GoesOn p s c → IsNext p front s c n → IsLead p front ss (record { source = place; client = c }) n
-    lead_is c n goes next = record { within = within; goes = subst (λ s. GoesOn p s c) at_place goes; next = subst (λ s. IsNext p front s c n) at_place next }
+    abbrev found_by : ℕ → StandingShape → ℕ → Found
+    found_by c n going = record { lead = record { source = place; client = c }; standing = n; going = going }
 
-    -- one client more, who goes on
-    leads_one : (c : ℕ) (middle after : TableShape) → GoesOn p s c → IsFarOn c middle → IsLedOn p front s (record { source = place; client = c }) middle after
+    lead_is : (c : ℕ) (n : StandingShape) (going : ℕ) → is_taken p number count s c ≡ true → IsNext p front s c n → IsLead p front number count ss (found_by c n going)
+    lead_is c n going taken next = record { within = within; taken = subst (λ s. is_taken p number count s c ≡ true) at_place taken; next = subst (λ s. IsNext p front s c n) at_place next }
+
+    -- one client more, who leads on
+    leads_one : (c : ℕ) (middle after : TableShape) → is_taken p number count s c ≡ true → IsFarOn c middle → IsLedOn p front s (record { source = place; client = c }) middle after
         → IsFarOn (suc c) after
-    leads_one c middle after goes so_far (n, next, either) = by_row either
+    leads_one c middle after taken so_far (n, next, either) = by_row either
       where
-        orders_now : List (List Ticket)
-        orders_now = orders ++ leads_below p s c
-
-        now : (orders ++ leads_below p s c) ++ order_on s c ∷ [] ≡ orders ++ leads_below p s (suc c)
+        now : (orders ++ leads_below p number count s c) ++ order_on s c ∷ [] ≡ orders ++ leads_below p number count s (suc c)
         now =
-            append_assoc orders (leads_below p s c) (order_on s c ∷ [])
-            ∙ ap (λ os. orders ++ os) (sym (ap (λ (b : Bool). if b then leads_below p s c ++ order_on s c ∷ [] else leads_below p s c) goes))
+            append_assoc orders (leads_below p number count s c) (order_on s c ∷ [])
+            ∙ ap (λ os. orders ++ os) (sym (ap (λ (b : Bool). if b then leads_below p number count s c ++ order_on s c ∷ [] else leads_below p number count s c) taken))
 
-        behind : AllByRecursion (λ m. IsBefore m.order (order_on s (suc c))) so_far.far.standings
-        behind = each_map (λ m b. before_both m.order (order_on s c) (order_on s (suc c)) b (next_client c)) so_far.far.standings so_far.ahead
+        behind : AllByRecursion (λ m. IsBefore m.order (order_on s (suc c))) (found_in middle.found)
+        behind = each_map (λ m b. before_both m.order (order_on s c) (order_on s (suc c)) b (next_client c)) (found_in middle.found) so_far.ahead
 
-        by_row : ((HasOne (λ r. row_of p n ≡ r) middle.rows → ⊥) × (after ≡ record { rows = middle.rows ++ row_of p n ∷ []; leads = middle.leads ++ record { source = place; client = c } ∷ [] }))
+        longer : (going : ℕ) → found_in (middle.found ++ found_by c n going ∷ []) ≡ found_in middle.found ++ n ∷ []
+        longer going = map_snoc (λ (f : Found). f.standing) middle.found (found_by c n going)
+
+        by_row : ((HasOne (λ r. row_of p n ≡ r) middle.rows → ⊥) × (going : ℕ) × (after ≡ with_lead p middle (record { source = place; client = c }) n going))
             ⊎ (HasOne (λ r. row_of p n ≡ r) middle.rows × (after ≡ middle)) → IsFarOn (suc c) after
-        by_row (inl (new, same)) = subst (IsFarOn (suc c)) (sym same) (record {
+        by_row (inl (new, going, same)) = subst (IsFarOn (suc c)) (sym same) (record {
           far = record {
-            standings = so_far.far.standings ++ n ∷ [];
-            are_rows = ap (λ rs. rs ++ row_of p n ∷ []) so_far.far.are_rows ∙ sym (map_snoc (row_of p) so_far.far.standings n);
-            kept = subst (λ os. AreKept p front os (so_far.far.standings ++ n ∷ [])) now
-                (keeps_new (orders ++ leads_below p s c) so_far.far.standings n (order_on s c) next.standing next.order so_far.ahead so_far.far.kept
-                (λ h. new (subst (HasOne (λ r. row_of p n ≡ r)) (sym so_far.far.are_rows) (mapped_has (row_of p) (λ r. row_of p n ≡ r) so_far.far.standings h))));
-            by_lead = zip_snoc (IsLead p front ss) middle.leads so_far.far.standings (record { source = place; client = c }) n so_far.far.by_lead (lead_is c n goes next);
+            are_rows = ap (λ rs. rs ++ row_of p n ∷ []) so_far.far.are_rows ∙ (sym (map_snoc (row_of p) (found_in middle.found) n) ∙ ap (map (row_of p)) (sym (longer going)));
+            kept = subst (λ ns. AreKept p front (orders ++ leads_below p number count s (suc c)) ns) (sym (longer going))
+                (subst (λ os. AreKept p front os (found_in middle.found ++ n ∷ [])) now
+                (keeps_new (orders ++ leads_below p number count s c) (found_in middle.found) n (order_on s c) next.standing next.order so_far.ahead so_far.far.kept
+                (λ h. new (subst (HasOne (λ r. row_of p n ≡ r)) (sym so_far.far.are_rows) (mapped_has (row_of p) (λ r. row_of p n ≡ r) (found_in middle.found) h)))));
+            by_lead = each_snoc (IsLead p front number count ss) middle.found (found_by c n going) so_far.far.by_lead (lead_is c n going taken next);
           };
-          ahead = each_snoc (λ m. IsBefore m.order (order_on s (suc c))) so_far.far.standings n behind (subst (λ ts. IsBefore ts (order_on s (suc c))) (sym next.order) (next_client c));
+          ahead = subst (AllByRecursion (λ m. IsBefore m.order (order_on s (suc c)))) (sym (longer going))
+              (each_snoc (λ m. IsBefore m.order (order_on s (suc c))) (found_in middle.found) n behind (subst (λ ts. IsBefore ts (order_on s (suc c))) (sym next.order) (next_client c)));
         })
         by_row (inr (old, same)) = subst (IsFarOn (suc c)) (sym same) (record {
           far = record {
-            standings = so_far.far.standings;
             are_rows = so_far.far.are_rows;
-            kept = subst (λ os. AreKept p front os so_far.far.standings) now
-                (keeps_old (orders ++ leads_below p s c) so_far.far.standings n (order_on s c) next.standing next.order so_far.ahead so_far.far.kept
-                (has_mapped (row_of p) (λ r. row_of p n ≡ r) so_far.far.standings (subst (HasOne (λ r. row_of p n ≡ r)) so_far.far.are_rows old)));
+            kept = subst (λ os. AreKept p front os (found_in middle.found)) now
+                (keeps_old (orders ++ leads_below p number count s c) (found_in middle.found) n (order_on s c) next.standing next.order so_far.ahead so_far.far.kept
+                (has_mapped (row_of p) (λ r. row_of p n ≡ r) (found_in middle.found) (subst (HasOne (λ r. row_of p n ≡ r)) so_far.far.are_rows old)));
             by_lead = so_far.far.by_lead;
           };
           ahead = behind;
         })
 
     -- one who does not
-    leads_none : (c : ℕ) (middle : TableShape) → goes_on p (configuration_in s).begun c ≡ false → IsFarOn c middle → IsFarOn (suc c) middle
+    leads_none : (c : ℕ) (middle : TableShape) → is_taken p number count s c ≡ false → IsFarOn c middle → IsFarOn (suc c) middle
     leads_none c middle stays so_far = record {
       far = record {
-        standings = so_far.far.standings;
         are_rows = so_far.far.are_rows;
-        kept = subst (λ os. AreKept p front os so_far.far.standings)
-            (ap (λ os. orders ++ os) (sym (ap (λ (b : Bool). if b then leads_below p s c ++ order_on s c ∷ [] else leads_below p s c) stays))) so_far.far.kept;
+        kept = subst (λ os. AreKept p front os (found_in middle.found))
+            (ap (λ os. orders ++ os) (sym (ap (λ (b : Bool). if b then leads_below p number count s c ++ order_on s c ∷ [] else leads_below p number count s c) stays))) so_far.far.kept;
         by_lead = so_far.far.by_lead;
       };
-      ahead = each_map (λ m b. before_both m.order (order_on s c) (order_on s (suc c)) b (next_client c)) so_far.far.standings so_far.ahead;
+      ahead = each_map (λ m b. before_both m.order (order_on s c) (order_on s (suc c)) b (next_client c)) (found_in middle.found) so_far.ahead;
     }
 
-    pub up_to : (c : ℕ) (after : TableShape) → IsLedUpTo p front s place c t after → IsFarOn c after
+    pub up_to : (c : ℕ) (after : TableShape) → IsLedUpTo p front number count s place c t after → IsFarOn c after
     up_to zero after e = subst (IsFarOn zero) (sym e) (record {
       far = record {
-        standings = table.standings;
         are_rows = table.are_rows;
-        kept = subst (λ os. AreKept p front os table.standings) (sym (append-nil orders)) table.kept;
+        kept = subst (λ os. AreKept p front os (found_in t.found)) (sym (append-nil orders)) table.kept;
         by_lead = table.by_lead;
       };
-      ahead = each_map (λ m b. before_longer m.order s.order (record { client = 0; index = (configuration_in s).begun 0 } ∷ []) b) table.standings before;
+      ahead = each_map (λ m b. before_longer m.order s.order (record { client = 0; index = (configuration_in s).begun 0 } ∷ []) b) (found_in t.found) before;
     })
-    up_to (suc c) after (middle, far, on, off) = by_case (goes_on p (configuration_in s).begun c) refl (up_to c middle far)
+    up_to (suc c) after (middle, far, on, off) = by_case (is_taken p number count s c) refl (up_to c middle far)
       where
-        by_case : (b : Bool) → goes_on p (configuration_in s).begun c ≡ b → IsFarOn c middle → IsFarOn (suc c) after
+        by_case : (b : Bool) → is_taken p number count s c ≡ b → IsFarOn c middle → IsFarOn (suc c) after
         by_case true e so_far = leads_one c middle after e so_far (on e)
         by_case false e so_far = subst (IsFarOn (suc c)) (sym (off e)) (leads_none c middle e so_far)
+
+-- nobody leads on
+pub none_up_to : (p : ProgramShape) (front : List Ticket) (number count : ℕ) (s : StandingShape) (place : ℕ) (t : TableShape) (c : ℕ) → ((d : ℕ) → d < c → is_taken p number count s d ≡ false) → IsLedUpTo p front number count s place c t t
+none_up_to p front number count s place t zero none = refl
+none_up_to p front number count s place t (suc c) none = (t, none_up_to p front number count s place t c (λ d less. none d (omega (arith, less))), (λ taken. absurd (true≢false (sym taken ∙ none c (omega arith)))), (λ stays. refl))

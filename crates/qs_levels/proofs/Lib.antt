@@ -3,6 +3,9 @@ pub mod Weights
 pub mod Keeping
 pub mod NextLevels
 pub mod Reaching
-pub mod Sifted
+pub mod Zips
+pub mod Leasts
+pub mod Masks
+pub mod Merged
 pub mod Ends
 pub mod Crossing

@@ -101,3 +101,14 @@ pub each_at : {X : Type 0} (P : X → Type 0) (xs : List X) (i : ℕ) (d : X) �
 each_at P [] i d less h = absurd (omega (arith, less))
 each_at P (x ∷ xs) zero d less h = h.0
 each_at P (x ∷ xs) (suc i) d less h = each_at P xs i d (omega (arith, less)) h.1
+
+-- what stands at a place, whatever is read past the end
+pub own_default : {X : Type 0} (xs : List X) (i : ℕ) (d : X) → i < length xs → get_or xs i d ≡ get_or xs i (get_or xs i d)
+own_default [] i d less = absurd (omega (arith, less))
+own_default (x ∷ xs) zero d less = refl
+own_default (x ∷ xs) (suc i) d less = own_default_of xs i d (get_or xs i d) (omega (arith, less))
+  where
+    own_default_of : {X : Type 0} (ys : List X) (j : ℕ) (a b : X) → j < length ys → get_or ys j a ≡ get_or ys j b
+    own_default_of [] j a b less = absurd (omega (arith, less))
+    own_default_of (y ∷ ys) zero a b less = refl
+    own_default_of (y ∷ ys) (suc j) a b less = own_default_of ys j a b (omega (arith, less))

@@ -1,16 +1,20 @@
--- How a level is led on. The next blocks of those who go on give orders that are longer by one block; for each
--- configuration to which these lead, a table has its row, and from where the least of these orders leads there.
-use Rattle.std.specs.Prelude.{◌≡◌, ◌<◌, ◌⊎◌, ℕ, zero, suc, false, if◌then◌else◌, List, [], ◌∷◌, ◌++◌, length, map, flat_map, slice_index_or}
-use Rattle.std.specs.List.{AllByRecursion, AllZip}
+-- How a level is led on, as far as a share of the configurations goes. The next blocks of those who go on give orders
+-- that are longer by one block; for each configuration of the share to which these lead, a table has its row, and the
+-- standing there by the least of these orders.
+use Rattle.std.specs.Prelude.{◌≡◌, ◌<◌, ◌⊎◌, ℕ, zero, suc, true, false, if◌then◌else◌, List, [], ◌∷◌, ◌++◌, length, map, flat_map, slice_index_or}
+use Rattle.std.specs.List.{AllByRecursion}
 use Rattle.qs_objects.specs.declared.held.Ticket.{Ticket}
 use Rattle.qs_program.specs.Program.{ProgramShape}
 use Rattle.qs_meaning.specs.Configurations.{configuration_after}
-use Rattle.qs_meaning.specs.Reduced.{goes_on}
 use Rattle.qs_outcomes.specs.LeastOrders.{AreSorted, IsBefore, IsLongerBy}
 use Rattle.qs_outcomes.specs.Outcomes.{AreDifferent}
 use Rattle.qs_standings.specs.Lists.{HasOne, NoTwo}
 use Rattle.qs_standings.specs.Rows.{rows_in}
-use Rattle.qs_standings.specs.Standings.{GoesOn, IsNext, IsStanding, RowShape, StandingShape, configuration_in, row_of}
+use Rattle.qs_standings.specs.Standings.{IsNext, IsStanding, RowShape, StandingShape, configuration_in, row_of}
+use Rattle.qs_meaning.specs.Reduced.{goes_on}
+use Rattle.qs_standings.specs.Going.{in_byte}
+use Rattle.qs_levels.specs.Shares.{is_taken}
+use Rattle.qs_levels.specs.Founds.{Found, found_in, no_standing, zipped}
 use Rattle.qs_levels.specs.declared.table.Lead.{Lead}
 use Rattle.qs_levels.specs.declared.table.Table.{Table}
 
@@ -41,70 +45,88 @@ pub record AreKept (p : ProgramShape) (front : List Ticket) (orders : List (List
 abbrev pub order_on : StandingShape → ℕ → List Ticket
 order_on s c = s.order ++ record { client = c; index = (configuration_in s).begun c } ∷ []
 
--- the orders by which those of the clients below n lead on who go on
-abbrev pub leads_below : ProgramShape → StandingShape → ℕ → List (List Ticket)
-leads_below p s zero = []
-leads_below p s (suc c) =
-    if goes_on p (configuration_in s).begun c then leads_below p s c ++ order_on s c ∷ [] else leads_below p s c
+-- the orders by which those of the clients below n lead on who lead to a configuration of the share
+abbrev pub leads_below : ProgramShape → (number count : ℕ) → StandingShape → ℕ → List (List Ticket)
+leads_below p number count s zero = []
+leads_below p number count s (suc c) =
+    if is_taken p number count s c then leads_below p number count s c ++ order_on s c ∷ [] else leads_below p number count s c
 
 -- of all clients from all of these standings
-abbrev pub leads : ProgramShape → List StandingShape → List (List Ticket)
-leads p ss = flat_map (λ s. leads_below p s (length p.clients)) ss
+abbrev pub leads : ProgramShape → (number count : ℕ) → List StandingShape → List (List Ticket)
+leads p number count ss = flat_map (λ s. leads_below p number count s (length p.clients)) ss
 
--- rows, and from where and by whose next block each is reached
+-- rows, and what was found at each
 pub record TableShape : Type 0 where
   pub rows : List RowShape
-  pub leads : List Lead
+  pub found : List Found
 
 abbrev pub tabled : Table → TableShape
-tabled t = record { rows = rows_in t.rows.keys; leads = t.leads.items }
+tabled t = record { rows = rows_in t.rows.keys; found = zipped t.marks.items t.standings }
 
--- nobody stands there
-abbrev pub no_standing : StandingShape
-no_standing = record { order = []; begun = []; locals = []; states = [] }
+-- a mark for each standing
+abbrev pub AreEven : Table → Type 0
+AreEven t = length t.marks.items ≡ length t.standings
 
--- where a lead leads from one of these standings
-pub record IsLead (p : ProgramShape) (front : List Ticket) (ss : List StandingShape) (lead : Lead)
-    (n : StandingShape) : Type 0 where
-  pub within : lead.source < length ss
-  pub goes : GoesOn p (slice_index_or ss lead.source no_standing) lead.client
-  pub next : IsNext p front (slice_index_or ss lead.source no_standing) lead.client n
+-- where a lead to a configuration of the share leads from one of these standings
+pub record IsLead (p : ProgramShape) (front : List Ticket) (number count : ℕ) (ss : List StandingShape)
+    (f : Found) : Type 0 where
+  pub within : f.lead.source < length ss
+  pub taken : is_taken p number count (slice_index_or ss f.lead.source no_standing) f.lead.client ≡ true
+  pub next : IsNext p front (slice_index_or ss f.lead.source no_standing) f.lead.client f.standing
 
--- the standings to which the leads of a table lead are kept
-pub record IsTableOf (p : ProgramShape) (front : List Ticket) (ss : List StandingShape) (orders : List (List Ticket))
-    (t : TableShape) : Type 0 where
-  pub standings : List StandingShape
-  pub are_rows : t.rows ≡ map (row_of p) standings
-  pub kept : AreKept p front orders standings
-  pub by_lead : AllZip (IsLead p front ss) t.leads standings
+-- of each that was found it is known who goes on from there
+abbrev pub AreKnown : ProgramShape → List Found → Type 0
+AreKnown p found =
+    AllByRecursion (λ (f : Found). in_byte f.going ≡ goes_on p (configuration_in f.standing).begun) found
+
+-- of the standings to which these orders lead, those in a table are kept
+pub record IsTableOf (p : ProgramShape) (front : List Ticket) (number count : ℕ) (ss : List StandingShape)
+    (orders : List (List Ticket)) (t : TableShape) : Type 0 where
+  pub are_rows : t.rows ≡ map (row_of p) (found_in t.found)
+  pub kept : AreKept p front orders (found_in t.found)
+  pub by_lead : AllByRecursion (IsLead p front number count ss) t.found
+
+-- all configurations of a share to which these standings lead by one block more
+pub record IsPartOf (p : ProgramShape) (front : List Ticket) (number count : ℕ) (ss : List StandingShape)
+    (found : List Found) : Type 0 where
+  pub kept : AreKept p front (leads p number count ss) (found_in found)
+  pub by_lead : AllByRecursion (IsLead p front number count ss) found
+  pub known : AreKnown p found
 
 -- with a lead more
-abbrev pub with_lead : ProgramShape → TableShape → Lead → StandingShape → TableShape
-with_lead p t lead n = record { rows = t.rows ++ row_of p n ∷ []; leads = t.leads ++ lead ∷ [] }
+abbrev pub with_lead : ProgramShape → TableShape → Lead → StandingShape → ℕ → TableShape
+with_lead p t lead n going = record {
+  rows = t.rows ++ row_of p n ∷ [];
+  found = t.found ++ record { lead = lead; standing = n; going = going } ∷ [];
+}
 
 -- a client leads on: its lead is added, or the row of where it leads is there
 abbrev pub IsLedOn : ProgramShape → List Ticket → StandingShape → Lead → (before after : TableShape) → Type 0
 IsLedOn p front s lead before after =
     (n : StandingShape) × IsNext p front s lead.client n
-    × (((HasOne (λ r. row_of p n ≡ r) before.rows → ⊥) × (after ≡ with_lead p before lead n))
+    × (((HasOne (λ r. row_of p n ≡ r) before.rows → ⊥) × (going : ℕ) × (after ≡ with_lead p before lead n going))
     ⊎ (HasOne (λ r. row_of p n ≡ r) before.rows × (after ≡ before)))
 
--- those of the clients below n who go on lead on, one after another, from a standing at a place
-abbrev pub IsLedUpTo : ProgramShape → List Ticket → StandingShape → (place n : ℕ) → (before after : TableShape) → Type 0
-IsLedUpTo p front s place zero before after = after ≡ before
-IsLedUpTo p front s place (suc c) before after =
-    (middle : TableShape) × IsLedUpTo p front s place c before middle
-    × (GoesOn p s c → IsLedOn p front s (record { source = place; client = c }) middle after)
-    × (goes_on p (configuration_in s).begun c ≡ false → after ≡ middle)
+-- those of the clients below n lead on who lead to a configuration of the share, one after another, from a standing at
+-- a place
+abbrev pub IsLedUpTo : ProgramShape → List Ticket → (number count : ℕ) → StandingShape → (place n : ℕ)
+    → (before after : TableShape) → Type 0
+IsLedUpTo p front number count s place zero before after = after ≡ before
+IsLedUpTo p front number count s place (suc c) before after =
+    (middle : TableShape) × IsLedUpTo p front number count s place c before middle
+    × (is_taken p number count s c ≡ true
+    → IsLedOn p front s (record { source = place; client = c }) middle after)
+    × (is_taken p number count s c ≡ false → after ≡ middle)
 
 -- a table with one more than there is room for
 abbrev pub IsOverfull : ℕ → TableShape → Type 0
 IsOverfull room t = length t.rows ≡ suc room
 
 -- where some client leads on, there is no room for what is kept
-abbrev pub IsLedTooFar : ProgramShape → List Ticket → StandingShape → (place room : ℕ) → TableShape → Type 0
-IsLedTooFar p front s place room before =
-    (c : ℕ) × (after : TableShape) × IsLedUpTo p front s place c before after × IsOverfull room after
+abbrev pub IsLedTooFar : ProgramShape → List Ticket → (number count : ℕ) → StandingShape → (place room : ℕ)
+    → TableShape → Type 0
+IsLedTooFar p front number count s place room before =
+    (c : ℕ) × (after : TableShape) × IsLedUpTo p front number count s place c before after × IsOverfull room after
 
 -- its order goes on from the other's by one block
 abbrev pub IsOneLonger : StandingShape → StandingShape → Type 0

@@ -1,6 +1,6 @@
 //! The configurations after so many blocks.
 
-ghost use Rattle.std.specs.Prelude.{◌≡◌, ◌≤◌, IfOk, IsErrOf, [], ◌∷◌, length};
+ghost use Rattle.std.specs.Prelude.{◌≡◌, ◌<◌, ◌≤◌, IfOk, IsErrOf, [], ◌∷◌, length};
 ghost use Rattle.qs_meaning.specs.Serial.{IsLegal};
 ghost use Rattle.qs_outcomes.specs.Outcomes.{HasMoreThanAfter};
 ghost use Rattle.qs_serial.specs.NamedOrders.{order_of};
@@ -10,58 +10,124 @@ ghost use Rattle.qs_standings.specs.Standings.{IsFirst};
 ghost use Rattle.qs_levels.specs.Fronts.{AreFrontsAfter};
 ghost use Rattle.qs_levels.specs.Leads.{HasMoreOnward};
 ghost use Rattle.qs_levels.specs.Levels.{IsNextOf, IsSomeLevel};
+ghost use Rattle.qs_levels.specs.Founds.{found_in, found_of};
+ghost use Rattle.qs_levels.specs.Shares.{AreGoing};
 
 use crate::leading::led_on;
-use crate::sifting::built;
-use crate::table::add;
+use crate::level::{Going, Level, Spot};
+use crate::merging::{add, next_of};
+use crate::part::Part;
+use crate::parts::add_part;
+use crate::share::{Share, share_of};
+use crate::table::{Lead, Mark, Table, add_found};
 use qs_objects::Ticket;
 use qs_outcomes::OutcomesFault;
 use qs_program::Program;
 use qs_serial::names_order;
-use qs_standings::{Last, Standing, copied, last_blocks, placed, row_starts};
-use std::alloc::Global;
+use qs_standings::{Last, Packed, Standing, copied, last_blocks, placed, row_starts};
+use std::alloc::{AllocError, Global};
 
-// The level of no blocks.
+// One standing as a part, and who goes on from it.
+fn one_part(alloc: Global, mut first: Standing, going: u8) -> Result<Part, AllocError>
+    ensures found { IfOk result (λ part. part ≡ found_of (record { lead = record { source = 0; client = 0 }; going = going }) first ∷ []) }
+{
+    let lead = Lead {
+        source: 0,
+        client: 0,
+    };
+    let mut table = Table::new(alloc, Packed::new(alloc));
+    add_found(&mut table, Mark { lead, going }, &mut first)?;
+    let Table {
+        rows: _,
+        marks,
+        standings,
+    } = table;
+    Ok(Part::new(marks, standings))
+}
+
+// The level that has the only standing of a part.
+fn one_spot(alloc: Global, part: Part, going: Going) -> Result<Level, AllocError>
+    requires one { length part ≡ 1 }
+    ensures standings { IfOk result (λ level. level.standings ≡ found_in part) }
+    ensures going { IfOk result (λ level. level.going ≡ going ∷ []) }
+{
+    let mut parts = Vec::new(alloc);
+    add_part(&mut parts, part)?;
+    let mut spots = Vec::new(alloc);
+    add(
+        &mut spots,
+        Spot {
+            part: 0,
+            place: 0,
+            going,
+        },
+    )?;
+    Ok(Level::new(parts, spots))
+}
+
+// The level of no blocks, for so many shares.
 pub(crate) fn first_level(
     alloc: Global,
+    program: &Program,
+    last: &[Last],
+    front: &[Ticket],
     first: Standing,
+    count: usize,
     limit: usize,
-) -> Result<Vec<Standing>, OutcomesFault>
-    ensures first { IfOk result (λ level. level.items ≡ first ∷ []) }
+) -> Result<Level, OutcomesFault>
+    requires last { AreLast program.now last.now }
+    requires first { IsFirst program.now front.now first }
+    requires some { 0 < count }
+    ensures first { IfOk result (λ level. level.standings ≡ first ∷ []) }
+    ensures going { IfOk result (λ level. AreGoing program.now count level.standings level.going) }
     ensures within { IfOk result (λ level. 1 ≤ limit) }
     ensures limit { IsErrOf result OutcomesFault.Limit → limit ≡ 0 }
     ensures order { ¬ IsErrOf result OutcomesFault.Order }
 {
+    program.keeps_sound();
     if limit == 0 {
         return Err(OutcomesFault::Limit);
     }
-    let mut level = Vec::new(alloc);
-    add(&mut level, first)?;
+    let going = Going {
+        clients: first.goes_on(program, last, front),
+        share: share_of(first.begun(), count),
+    };
+    let part = one_part(alloc, first, going.clients)?;
+    let level = one_spot(alloc, part, going)?;
     Ok(level)
 }
 
-// The level after a level. There is room for so many configurations.
+// The level after a level, as one share. There is room for so many configurations.
 fn after_level(
     alloc: Global,
     program: &Program,
     last: &[Last],
     starts: &[usize],
     front: &[Ticket],
-    level: &[Standing],
+    level: &Level,
     room: usize,
-) -> Result<Vec<Standing>, OutcomesFault>
+) -> Result<Level, OutcomesFault>
     requires last { AreLast program.now last.now }
     requires starts { AreStarts program.now starts.now }
-    requires level { IsSomeLevel program.now front.now level.now }
-    ensures next { IfOk result (λ next. IsNextOf program.now front.now level.now next.items) }
-    ensures small { IfOk result (λ next. length next.items ≤ room) }
-    ensures limit { IsErrOf result OutcomesFault.Limit → HasMoreOnward program.now front.now level.now room }
+    requires level { IsSomeLevel program.now front.now level.now.standings }
+    requires going { AreGoing program.now 1 level.now.standings level.now.going }
+    ensures next { IfOk result (λ next. IsNextOf program.now front.now level.now.standings next.standings) }
+    ensures going { IfOk result (λ next. AreGoing program.now 1 next.standings next.going) }
+    ensures small { IfOk result (λ next. length next.standings ≤ room) }
+    ensures limit { IsErrOf result OutcomesFault.Limit → HasMoreOnward program.now front.now level.now.standings room }
     ensures order { ¬ IsErrOf result OutcomesFault.Order }
 {
-    program.keeps_sound();
-    let table = led_on(alloc, program, last, starts, front, level, room)?;
-    let next = built(alloc, program, front, level, &[], &table, Vec::new(alloc))?;
-    Ok(next)
+    let share = Share {
+        number: 0,
+        count: 1,
+    };
+    let none = Packed::new(alloc);
+    let part = led_on(
+        alloc, program, last, starts, front, level, share, room, none,
+    )?;
+    let mut parts = Vec::new(alloc);
+    add_part(&mut parts, part)?;
+    next_of(alloc, program, front, level, parts, room)
 }
 
 // The configurations after so many blocks, by a search that begins where the program stands after a front.
@@ -82,22 +148,24 @@ fn fronts_from(
     program.keeps_sound();
     let last = last_blocks(alloc, program)?;
     let starts = row_starts(alloc, program)?;
-    let mut level = first_level(alloc, first, limit as usize)?;
+    let last = last.as_slice();
+    let mut level = first_level(alloc, program, last, front, first, 1, limit as usize)?;
     for done in 0..blocks {
         level = after_level(
             alloc,
             program,
-            last.as_slice(),
+            last,
             starts.as_slice(),
             front,
-            level.as_slice(),
+            &level,
             limit as usize,
         )?;
-        if level.is_empty() {
-            return Ok(level);
+        if level.len() == 0 {
+            return Ok(Vec::new(alloc));
         }
     }
-    Ok(level)
+    let found = level.unpacked(alloc)?;
+    Ok(found)
 }
 
 /// The configurations to which orders lead that are reduced after the blocks that a list of clients names, each

@@ -1,25 +1,30 @@
-//! A level, or a part of one, is led on: to where the next blocks of those who go on lead.
+//! A level is led on: to where the next blocks of those who go on lead, as far as this is in a share.
 
-ghost use Rattle.std.specs.Prelude.{◌≡◌, ◌<◌, ◌≤◌, IfOk, OnOk, IsErrOf, length};
+ghost use Rattle.std.specs.Prelude.{◌≡◌, ◌<◌, ◌≤◌, IfOk, OnOk, IsErrOf, length, slice_index_or};
 ghost use Rattle.std.specs.List.{AllByRecursion};
-ghost use Rattle.qs_meaning.specs.Reduced.{goes_on};
 ghost use Rattle.qs_outcomes.specs.LeastOrders.{AreSorted};
 ghost use Rattle.qs_standings.specs.Going.{AreLast};
 ghost use Rattle.qs_standings.specs.Rows.{AreStarts, drafted};
 ghost use Rattle.qs_standings.specs.Standings.{GoesOn, IsStanding, row_of};
-ghost use Rattle.qs_levels.specs.Leads.{HasMoreOnward, IsLedOn, IsLedTooFar, IsLedUpTo, IsOverfull, IsTableOf, TableShape, leads, tabled};
+ghost use Rattle.qs_levels.specs.Shares.{AreGoing, AreMasks, AreTaken};
+ghost use Rattle.qs_levels.specs.Founds.{no_standing};
+ghost use Rattle.qs_levels.specs.Leads.{AreEven, AreKnown, HasMoreOnward, IsLedOn, IsLedTooFar, IsLedUpTo, IsOverfull, IsPartOf, TableShape, tabled};
 
-use crate::table::{Lead, Table, add_lead, note};
+use crate::level::Level;
+use crate::part::Part;
+use crate::share::{Share, masks, taken};
+use crate::table::{Lead, Mark, Table, add_found, note};
 use qs_objects::Ticket;
 use qs_outcomes::OutcomesFault;
 use qs_program::Program;
-use qs_standings::{Last, Scratch, Standing, was_seen};
+use qs_standings::{Last, Packed, Scratch, Standing, put_by, spare_standing, was_seen};
 use std::alloc::Global;
 
-// Adds the lead of a client who goes on, where the row to which it leads is not in the table.
+// Adds where the next block of a client who goes on leads, where its row is not in the table.
 fn lead_client(
     alloc: Global,
     program: &Program,
+    last: &[Last],
     starts: &[usize],
     front: &[Ticket],
     standing: &Standing,
@@ -28,15 +33,20 @@ fn lead_client(
     scratch: &mut Scratch,
     table: &mut Table,
 ) -> Result<(), OutcomesFault>
+    requires last { AreLast program.now last.now }
     requires client { lead.client < length program.now.clients }
     requires starts { AreStarts program.now starts.now }
     requires standing { IsStanding program.now front.now standing.now }
     requires goes { GoesOn program.now standing.now lead.client }
     requires base { drafted scratch.old.base ≡ row_of program.now standing.now }
     requires small { length (tabled table.old).rows ≤ room }
+    requires known { AreKnown program.now (tabled table.old).found }
+    requires even { AreEven table.old }
     ensures base { scratch.new.base ≡ scratch.old.base }
     ensures led { OnOk result (IsLedOn program.now front.now standing.now lead (tabled table.old) (tabled table.new)) }
     ensures small { OnOk result (length (tabled table.new).rows ≤ room) }
+    ensures known { OnOk result (AreKnown program.now (tabled table.new).found) }
+    ensures even { OnOk result (AreEven table.new) }
     ensures limit { IsErrOf result OutcomesFault.Limit
         → (after : TableShape) × IsLedOn program.now front.now standing.now lead (tabled table.old) after × IsOverfull room after }
     ensures order { ¬ IsErrOf result OutcomesFault.Order }
@@ -73,11 +83,22 @@ fn lead_client(
     )? {
         return Ok(());
     }
-    add_lead(&mut table.leads, lead)?;
+    let mut next = spare_standing(alloc, &mut scratch.spare);
+    standing.put_next(
+        program,
+        front,
+        client,
+        &scratch.values,
+        &mut scratch.left,
+        &mut next,
+    )?;
+    let going = next.goes_on(program, last, front);
+    add_found(table, Mark { lead, going }, &mut next)?;
+    put_by(&mut scratch.spare, next)?;
     Ok(())
 }
 
-// Leads the standing at a place on, by each client in turn.
+// Leads the standing at a place on, by each of the clients in turn that lead to a configuration of the share.
 fn lead_standing(
     alloc: Global,
     program: &Program,
@@ -86,6 +107,8 @@ fn lead_standing(
     front: &[Ticket],
     standing: &Standing,
     place: usize,
+    share: Share,
+    taken: u8,
     room: usize,
     scratch: &mut Scratch,
     table: &mut Table,
@@ -93,65 +116,129 @@ fn lead_standing(
     requires last { AreLast program.now last.now }
     requires starts { AreStarts program.now starts.now }
     requires standing { IsStanding program.now front.now standing.now }
+    requires taken { AreTaken program.now share.number share.count standing.now taken }
     requires small { length (tabled table.old).rows ≤ room }
-    ensures led { OnOk result (IsLedUpTo program.now front.now standing.now place (length program.now.clients) (tabled table.old) (tabled table.new)) }
+    requires known { AreKnown program.now (tabled table.old).found }
+    requires even { AreEven table.old }
+    ensures led { OnOk result (IsLedUpTo program.now front.now share.number share.count standing.now place (length program.now.clients) (tabled table.old) (tabled table.new)) }
     ensures small { OnOk result (length (tabled table.new).rows ≤ room) }
-    ensures limit { IsErrOf result OutcomesFault.Limit → IsLedTooFar program.now front.now standing.now place room (tabled table.old) }
+    ensures known { OnOk result (AreKnown program.now (tabled table.new).found) }
+    ensures even { OnOk result (AreEven table.new) }
+    ensures limit { IsErrOf result OutcomesFault.Limit
+        → IsLedTooFar program.now front.now share.number share.count standing.now place room (tabled table.old) }
     ensures order { ¬ IsErrOf result OutcomesFault.Order }
 {
     program.keeps_sound();
     standing.write_row(program, front, &mut scratch.base)?;
-    let goes = standing.goes_on(program, last, front);
     for client in 0..program.clients() as u8 {
-        if (goes >> client) & 1 == 1 {
+        if (taken >> client) & 1 == 1 {
             let lead = Lead {
                 source: place,
                 client,
             };
             lead_client(
-                alloc, program, starts, front, standing, lead, room, scratch, table,
+                alloc, program, last, starts, front, standing, lead, room, scratch, table,
             )?;
         }
     }
     Ok(())
 }
 
-/// Leads a level, or a part of one, on. There is room for so many configurations.
+// Leads the standing at a place of a level on, where somebody leads from there to a configuration of the share.
+fn lead_place(
+    alloc: Global,
+    program: &Program,
+    last: &[Last],
+    starts: &[usize],
+    front: &[Ticket],
+    level: &Level,
+    place: usize,
+    share: Share,
+    masks: &[u8],
+    room: usize,
+    standing: &mut Standing,
+    scratch: &mut Scratch,
+    table: &mut Table,
+) -> Result<(), OutcomesFault>
+    requires last { AreLast program.now last.now }
+    requires starts { AreStarts program.now starts.now }
+    requires level { AllByRecursion (IsStanding program.now front.now) level.now.standings }
+    requires going { AreGoing program.now share.count level.now.standings level.now.going }
+    requires within { place < length level.now.standings }
+    requires some { 0 < share.count }
+    requires masks { AreMasks share.number share.count masks.now }
+    requires small { length (tabled table.old).rows ≤ room }
+    requires known { AreKnown program.now (tabled table.old).found }
+    requires even { AreEven table.old }
+    ensures led { OnOk result (IsLedUpTo program.now front.now share.number share.count (slice_index_or level.now.standings place no_standing) place
+        (length program.now.clients) (tabled table.old) (tabled table.new)) }
+    ensures small { OnOk result (length (tabled table.new).rows ≤ room) }
+    ensures known { OnOk result (AreKnown program.now (tabled table.new).found) }
+    ensures even { OnOk result (AreEven table.new) }
+    ensures limit { IsErrOf result OutcomesFault.Limit
+        → IsLedTooFar program.now front.now share.number share.count (slice_index_or level.now.standings place no_standing) place room (tabled table.old) }
+    ensures order { ¬ IsErrOf result OutcomesFault.Order }
+{
+    let taken = taken(program, level, place, share, masks);
+    if taken == 0 {
+        return Ok(());
+    }
+    level.load(alloc, place, standing)?;
+    lead_standing(
+        alloc, program, last, starts, front, standing, place, share, taken, room, scratch, table,
+    )
+}
+
+/// Leads a level on to the configurations of a share. There is room for so many of them. The memory of spare standings
+/// is used for what is found.
 pub(crate) fn led_on(
     alloc: Global,
     program: &Program,
     last: &[Last],
     starts: &[usize],
     front: &[Ticket],
-    level: &[Standing],
+    level: &Level,
+    share: Share,
     room: usize,
-) -> Result<Table, OutcomesFault>
+    spare: Packed,
+) -> Result<Part, OutcomesFault>
     requires last { AreLast program.now last.now }
     requires starts { AreStarts program.now starts.now }
-    requires level { AllByRecursion (IsStanding program.now front.now) level.now }
-    requires sorted { AreSorted level.now }
-    ensures table { IfOk result (λ table. IsTableOf program.now front.now level.now (leads program.now level.now) (tabled table)) }
-    ensures small { IfOk result (λ table. length (tabled table).rows ≤ room) }
-    ensures limit { IsErrOf result OutcomesFault.Limit → HasMoreOnward program.now front.now level.now room }
+    requires level { AllByRecursion (IsStanding program.now front.now) level.now.standings }
+    requires sorted { AreSorted level.now.standings }
+    requires going { AreGoing program.now share.count level.now.standings level.now.going }
+    requires some { 0 < share.count }
+    requires few { share.count ≤ 256 }
+    ensures part { IfOk result (IsPartOf program.now front.now share.number share.count level.now.standings) }
+    ensures limit { IsErrOf result OutcomesFault.Limit → HasMoreOnward program.now front.now level.now.standings room }
     ensures order { ¬ IsErrOf result OutcomesFault.Order }
 {
     program.keeps_sound();
+    let masks = masks(alloc, share)?;
     let mut scratch = Scratch::new(alloc, program)?;
-    let mut table = Table::new(alloc);
+    let mut standing = Standing::empty(alloc);
+    let mut table = Table::new(alloc, spare);
     for place in 0..level.len() {
-        let standing = &level[place];
-        lead_standing(
+        lead_place(
             alloc,
             program,
             last,
             starts,
             front,
-            standing,
+            level,
             place,
+            share,
+            masks.as_slice(),
             room,
+            &mut standing,
             &mut scratch,
             &mut table,
         )?;
     }
-    Ok(table)
+    let Table {
+        rows: _,
+        marks,
+        standings,
+    } = table;
+    Ok(Part::new(marks, standings))
 }

@@ -4,9 +4,12 @@
 mod fronts;
 pub mod laws;
 mod leading;
+mod level;
+mod merging;
+mod part;
 mod parts;
 mod search;
-mod sifting;
+mod share;
 mod table;
 
 pub use fronts::fronts_after;

@@ -44,7 +44,7 @@ fn search_from<R: Threads + Sync, W: Watcher>(
     let last = last.as_slice();
     let starts = starts.as_slice();
     let limit = limit as usize;
-    let mut level = first_level(alloc, first, limit)?;
+    let mut level = first_level(alloc, program, last, front, first, threads, limit)?;
     let mut noted = 1;
     watcher.noted(noted);
     let none = Vec::new(alloc);
@@ -55,15 +55,15 @@ fn search_from<R: Threads + Sync, W: Watcher>(
         last,
         starts,
         front,
-        level.as_slice(),
+        &level,
         threads,
         limit - noted,
         none,
     )?;
-    'levels: while !next.is_empty() {
+    'levels: while next.len() > 0 {
         noted += next.len();
         watcher.noted(noted);
-        let spare = level;
+        let spare = level.into_spare(alloc)?;
         level = next;
         next = next_level(
             rt,
@@ -72,13 +72,14 @@ fn search_from<R: Threads + Sync, W: Watcher>(
             last,
             starts,
             front,
-            level.as_slice(),
+            &level,
             threads,
             limit - noted,
             spare,
         )?;
     }
-    Ok(AllOutcomes::new(level, noted))
+    let found = level.unpacked(alloc)?;
+    Ok(AllOutcomes::new(found, noted))
 }
 
 /// All outcomes of a program after the blocks that a list of clients names, each client's in turn, as

@@ -1,14 +1,15 @@
-//! Tables of rows, and from where each row is reached.
+//! What a part of a level leads to: rows, and where each lead leads.
 
 ghost use Rattle.std.specs.Prelude.{◌≡◌, ◌≤◌, IfOk, OnOk, IsErrOf, [], ◌∷◌, ◌++◌, length};
 ghost use Rattle.qs_outcomes.specs.Search.{IsNoted};
 ghost use Rattle.qs_standings.specs.Lists.{HasOne};
 ghost use Rattle.qs_standings.specs.Rows.{drafted, rows_in};
-ghost use Rattle.qs_levels.specs.Leads.{tabled};
+ghost use Rattle.qs_levels.specs.Founds.{found_of};
+ghost use Rattle.qs_levels.specs.Leads.{AreEven, tabled};
 
 use indexmap::IndexSet;
 use qs_outcomes::OutcomesFault;
-use qs_standings::{Draft, Hints, Row, Standing, insert};
+use qs_standings::{Draft, Hints, Packed, Row, Standing, insert};
 use std::alloc::{AllocError, Global};
 
 /// From which standing of a level, by its place, and by whose next block a configuration is reached.
@@ -18,36 +19,50 @@ pub(crate) struct Lead {
     pub client: u8,
 }
 
-/// Rows, and the lead to each at the same place.
+/// A lead, and who goes on from where it leads, client c in bit c.
+#[derive(Clone, Copy, Drop)]
+pub(crate) struct Mark {
+    pub lead: Lead,
+    pub going: u8,
+}
+
+/// Rows, and the lead to each and its standing at the same place.
 #[derive(Drop)]
 pub(crate) struct Table {
     pub rows: IndexSet<Row>,
-    pub leads: Vec<Lead>,
+    pub marks: Vec<Mark>,
+    pub standings: Packed,
 }
 
 impl Table {
-    /// No rows.
-    pub(crate) fn new(alloc: Global) -> Table
-        ensures none { tabled result ≡ record { rows = []; leads = [] } }
+    /// No rows, in memory of standings that are done with.
+    pub(crate) fn new(alloc: Global, spare: Packed) -> Table
+        ensures none { tabled result ≡ record { rows = []; found = [] } }
+        ensures even { AreEven result }
     {
+        let mut standings = spare;
+        standings.clear();
         Table {
             rows: IndexSet::new(alloc),
-            leads: Vec::new(alloc),
+            marks: Vec::new(alloc),
+            standings,
         }
     }
 }
 
-pub(crate) fn add(list: &mut Vec<Standing>, standing: Standing) -> Result<(), AllocError>
-    ensures added { OnOk result (list.new.items ≡ list.old.items ++ standing ∷ []) }
+/// Adds a mark, and the standing to it, whose objects and variables are taken.
+pub(crate) fn add_found(
+    table: &mut Table,
+    mark: Mark,
+    standing: &mut Standing,
+) -> Result<(), AllocError>
+    requires even { AreEven table.old }
+    ensures rows { table.new.rows ≡ table.old.rows }
+    ensures even { OnOk result (AreEven table.new) }
+    ensures added { OnOk result ((tabled table.new).found ≡ (tabled table.old).found ++ found_of mark standing.old ∷ []) }
 {
-    list.push(standing)?;
-    Ok(())
-}
-
-pub(crate) fn add_lead(leads: &mut Vec<Lead>, lead: Lead) -> Result<(), AllocError>
-    ensures added { OnOk result (leads.new.items ≡ leads.old.items ++ lead ∷ []) }
-{
-    leads.push(lead)?;
+    table.standings.push(standing)?;
+    table.marks.push(mark)?;
     Ok(())
 }
 

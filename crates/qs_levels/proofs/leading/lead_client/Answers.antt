@@ -3,9 +3,14 @@ use Rattle.std.proofs.lemmas.Result.{err_from_is_err_and}
 use Rattle.qs_outcomes.specs.declared.fault.OutcomesFault.TheVariants.{Limit}
 use Rattle.qs_outcomes.specs.Search.{IsNoted}
 use Rattle.qs_standings.specs.Rows.{drafted, rows_in}
-use Rattle.qs_standings.specs.Standings.{IsNext, row_of, standing_with_block}
+use Rattle.qs_standings.specs.Standings.{IsNext, IsStanding, StandingShape, configuration_in, row_of, standing_with_block}
 use Rattle.qs_standings.proofs.Lists.{has_map}
 use Rattle.qs_standings.proofs.Stands.{block_next, goes_left}
+use Rattle.qs_meaning.specs.Reduced.{goes_on}
+use Rattle.qs_meaning.proofs.Each.{each_snoc}
+use Rattle.qs_standings.specs.Going.{in_byte}
+use Rattle.qs_levels.specs.Leads.{AreKnown, tabled}
+use Rattle.qs_levels.specs.Founds.{Found}
 use Rattle.qs_levels.proofs.leading.lead_client.Goals as goal
 use Rattle.qs_levels.proofs.leading.lead_client.Goals.{In_ok-run_next, In_ok-write_next_row}
 
@@ -39,7 +44,7 @@ returns-in_err-note-clause-limit c = λ is.
     let same : c.in_err-note.field-0.0 ≡ Limit = cc (p.1, p.2) in
     let full = c.in_err-note.ensures.full (ap (λ e. Err e) same) in (
       _,
-      (_, next, inl ((λ h. full.1 (has_map (λ r e. row ∙ e) (rows_in c.args.table.now.rows.keys) h)), refl)),
+      (_, next, inl ((λ h. full.1 (has_map (λ r e. row ∙ e) (rows_in c.args.table.now.rows.keys) h)), 0, refl)),
       length-append (rows_in c.args.table.now.rows.keys) (_ ∷ []) ∙ omega (arith, full.0),
     )
 
@@ -53,9 +58,12 @@ returns-then-not-branch-clause-led c =
       is_next (goal.at.returns-then-not-branch-clause-led c).In_ok-run_next,
       inr (
         has_map (λ r (e : drafted c.write_next_row.new.row ≡ r). sym row ∙ e) rows noted.0.1,
-        λ i. record { rows = noted.0.0 i; leads = c.args.table.now.leads.items },
+        λ i. record { rows = noted.0.0 i; found = (tabled c.args.table.now).found },
       ),
     )
+
+pub put_next-requires-clause-left : goal.put_next-requires-clause-left
+put_next-requires-clause-left c = goes_left c.args.program.now c.args.standing.now c.args.lead.client c.requires.goes
 
 pub returns-clause-led : goal.returns-clause-led
 returns-clause-led c =
@@ -67,9 +75,20 @@ returns-clause-led c =
       is_next (goal.at.returns-clause-led c).In_ok-run_next,
       inl (
         (λ h. noted.0.1 (has_map (λ r e. row ∙ e) rows h)),
+        c.goes_on-going.result,
         λ i. record {
-          rows = (noted.0.0 ∙ ap (λ r. rows ++ r ∷ []) row) i;
-          leads = (c.in_ok-add_lead.ensures.added) i;
+          rows = (ap rows_in (ap (λ (m : _). m.keys) c.in_ok-add_found.ensures.rows) ∙ (noted.0.0 ∙ ap (λ r. rows ++ r ∷ []) row)) i;
+          found = (c.in_ok-add_found.ensures.added
+              ∙ ap (λ (n : StandingShape). (tabled c.args.table.now).found ++ record { lead = c.args.lead; standing = n; going = c.goes_on-going.result } ∷ []) c.in_ok-put_next.ensures.next) i;
         },
       ),
     )
+
+pub goes_on-going-requires-clause-standing : goal.goes_on-going-requires-clause-standing
+goes_on-going-requires-clause-standing c =
+    subst (IsStanding c.args.program.now c.args.front.now) (sym c.in_ok-put_next.ensures.next) (is_next (goal.at.goes_on-going-requires-clause-standing c).In_ok-run_next).standing
+
+pub returns-clause-known : goal.returns-clause-known
+returns-clause-known c =
+    subst (AreKnown c.args.program.now) (sym c.in_ok-add_found.ensures.added)
+    (each_snoc (λ (f : Found). in_byte f.going ≡ goes_on c.args.program.now (configuration_in f.standing).begun) (tabled c.args.table.now).found _ c.requires.known c.goes_on-going.ensures.goes)

@@ -1,12 +1,14 @@
 use Rattle.std.proofs.Common.{◌≡◌, ◌≤◌, length}
 use Rattle.qs_standings.specs.Rows.{drafted}
 use Rattle.qs_standings.specs.Standings.{row_of}
-use Rattle.qs_levels.specs.Leads.{IsLedUpTo, tabled}
+use Rattle.qs_levels.specs.Leads.{AreEven, AreKnown, IsLedUpTo, tabled}
 use Rattle.qs_levels.proofs.leading.lead_standing.Given as goal
 
 abbrev pub invariant-loop-client : goal.invariant-loop-client
 invariant-loop-client l = record {
-  led : IsLedUpTo l.program l.front l.standing l.place l.client (tabled l.initial.table) (tabled l.table);
+  led : IsLedUpTo l.program l.front l.fn.share.number l.fn.share.count l.standing l.place l.client (tabled l.initial.table) (tabled l.table);
   base : drafted l.scratch.base ≡ row_of l.program l.standing;
   small : length (tabled l.table).rows ≤ l.room;
+  known : AreKnown l.program (tabled l.table).found;
+  even : AreEven l.table;
 }

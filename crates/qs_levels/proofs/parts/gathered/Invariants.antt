@@ -1,12 +1,11 @@
-use Rattle.std.proofs.Common.{◌≡◌, ◌≤◌, ℕ, length, map, slice_index_or, vec_len}
-use Rattle.qs_levels.specs.Leads.{tabled}
-use Rattle.qs_levels.specs.Sifts.{AreTabled}
+use Rattle.std.proofs.Common.{◌≡◌, ◌<◌, ◌≤◌, ℕ, [], length, slice_index_or, vec_len}
+use Rattle.qs_levels.specs.Leads.{IsPartOf}
 use Rattle.qs_levels.proofs.parts.gathered.Given as goal
 
 abbrev pub invariant-loop-number : goal.invariant-loop-number
 invariant-loop-number l = record {
-  tables : AreTabled l.program l.front l.level l.size (map tabled l.tables.items);
-  count : length l.tables.items ≡ l.number;
-  long : vec_len l.results ≡ l.threads;
+  parts : (i : ℕ) → i < length l.parts.items → IsPartOf l.program l.front i l.count l.level.standings (slice_index_or l.parts.items i []);
+  count : length l.parts.items ≡ l.number;
+  long : vec_len l.results ≡ l.count;
   behind : (k : ℕ) (d : _) → l.number ≤ k → slice_index_or l.results.items k d ≡ slice_index_or l.initial.results.items k d;
 }

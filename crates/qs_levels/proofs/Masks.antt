@@ -1,0 +1,54 @@
+-- Sets of clients as bytes: what two of them have in common, and who leads on that is in a share. A begun block of a
+-- client changes the share by what it counts for.
+use Rattle.std.proofs.Common.{◌≡◌, ◌<◌, ◌+◌, ◌%◌, ◌==◌, ◌&&◌, ℕ, zero, suc, List, [], ◌∷◌, ◌++◌, min, bit_and, length, slice_index_or, refl, sym, ap, ap₂, ◌∙◌, subst, arith, inl, inr}
+use Rattle.std.proofs.Math.Nat.{mod-add-mod}
+use Rattle.std.proofs.lemmas.Bool.{cases_eq}
+use Rattle.std.proofs.lemmas.Bool.Decides.{nat_tests}
+use Rattle.std.proofs.lemmas.Nat.Bits.{bit_at-lt, bit_at_and}
+use Rattle.std.specs.Int.{bit_at}
+use Rattle.qs_program.specs.Limits.{most_clients}
+use Rattle.qs_program.specs.Program.{ProgramShape}
+use Rattle.qs_program.specs.Sound.{IsSound}
+use Rattle.qs_standings.specs.Going.{in_byte}
+use Rattle.qs_standings.specs.Standings.{StandingShape, configuration_in}
+use Rattle.qs_levels.specs.Shares.{AreMasks, AreTaken, IsGoing, mark_of, weight}
+use Rattle.qs_levels.specs.declared.level.Going.{Going}
+
+in_both : (a b c : ℕ) → in_byte (bit_and a b) c ≡ (in_byte a c && in_byte b c)
+in_both a b c = ap (λ n. n == 1) (bit_at_and a b c) ∙ least (bit_at a c) (bit_at b c) (bit_at-lt a c) (bit_at-lt b c)
+  where
+    least : (x y : ℕ) → x < 2 → y < 2 → (min x y == 1) ≡ ((x == 1) && (y == 1))
+    least zero y less under = grind (arith, nat_tests)
+    least (suc zero) zero less under = grind (arith, nat_tests)
+    least (suc zero) (suc zero) less under = grind (arith, nat_tests)
+    least (suc zero) (suc (suc y)) less under = absurd (omega (arith, under))
+    least (suc (suc x)) y less under = absurd (omega (arith, less))
+
+pub are_taken : (p : ProgramShape) → IsSound p → (number count : ℕ) (s : StandingShape) (g : Going) (masks : List ℕ) → 0 < count → IsGoing p count s g → AreMasks number count masks
+    → AreTaken p number count s (bit_and g.clients (slice_index_or masks g.share 0))
+are_taken p sound number count s g masks some going are c less =
+    let mark = mark_of p (configuration_in s).begun in
+    let within : g.share < count = (let e = going.share in let m : mark % count < count = omega (arith, some) in omega (arith, e, m)) in
+    let few : c < most_clients = (let n = sound.clients in omega (arith, less, n)) in
+    in_both g.clients (slice_index_or masks g.share 0) c
+    ∙ ap₂ (λ x y. x && y) (λ i. going.clients i c)
+    (are.each g.share c within few ∙ ap (λ n. n == number) (ap (λ r. (r + weight c) % count) going.share ∙ mod-add-mod mark count (weight c)))
+
+-- a mask more
+pub masks_more : (P : ℕ → ℕ → ℕ → Type 0) (masks : List ℕ) (mask : ℕ) → ((r c : ℕ) → r < length masks → c < most_clients → P r c (slice_index_or masks r 0))
+    → ((c : ℕ) → c < most_clients → P (length masks) c mask) → (r c : ℕ) → r < length masks + 1 → c < most_clients → P r c (slice_index_or (masks ++ mask ∷ []) r 0)
+masks_more P masks mask before here r c less few = elim (cases_eq r (length masks)) [
+  | inl same ↦ subst (λ k. P k c (slice_index_or (masks ++ mask ∷ []) k 0)) (sym same) (subst (P (length masks) c) (sym (last_of masks)) (here c few))
+  | inr other ↦
+      let under : r < length masks = (let o : r ≡ length masks → ⊥ = other in omega (arith, less, o)) in
+      subst (P r c) (sym (first_of masks r under)) (before r c under few)
+]
+  where
+    first_of : (ms : List ℕ) (i : ℕ) → i < length ms → slice_index_or (ms ++ mask ∷ []) i 0 ≡ slice_index_or ms i 0
+    first_of [] i less = absurd (omega (arith, less))
+    first_of (m ∷ ms) zero less = refl
+    first_of (m ∷ ms) (suc i) less = first_of ms i (omega (arith, less))
+
+    last_of : (ms : List ℕ) → slice_index_or (ms ++ mask ∷ []) (length ms) 0 ≡ mask
+    last_of [] = refl
+    last_of (m ∷ ms) = last_of ms

@@ -1,7 +1,0 @@
-use denote.Param.Send.{sendable}
-use Rattle.std.proofs.Crossing.{crosses}
-use Rattle.qs_levels.proofs.Crossing.{program_sync, standing_sync, table_sync}
-use Rattle.qs_levels.proofs.parts.built_parts.Goals as goal
-
-pub map_vec-requires-sync-F : goal.map_vec-requires-sync-F
-map_vec-requires-sync-F g c = λ κs h. search (program_sync, standing_sync, table_sync, crosses, sendable) depth 40

@@ -1,0 +1,7 @@
+use Rattle.std.proofs.Common.{◌≡◌, ◌+◌, ◌%◌, ◌==◌, ◌&&◌, ℕ, nat_lt}
+use Rattle.qs_standings.specs.Going.{in_byte}
+use Rattle.qs_levels.specs.Shares.{weight}
+use Rattle.qs_levels.proofs.share.mask.Given as goal
+
+abbrev pub invariant-loop-client : goal.invariant-loop-client
+invariant-loop-client l = (c : ℕ) → in_byte l.set c ≡ (nat_lt c l.client && ((l.from + weight c) % l.share.count == l.share.number))

@@ -1,0 +1,11 @@
+use Rattle.std.proofs.Common.{◌≡◌, ◌<◌, ◌+◌, ◌%◌, ◌==◌, ℕ, length, slice_index_or}
+use Rattle.qs_program.specs.Limits.{most_clients}
+use Rattle.qs_standings.specs.Going.{in_byte}
+use Rattle.qs_levels.specs.Shares.{weight}
+use Rattle.qs_levels.proofs.share.masks.Given as goal
+
+abbrev pub invariant-loop-from : goal.invariant-loop-from
+invariant-loop-from l = record {
+  long : length l.masks.items ≡ l.from;
+  each : (r c : ℕ) → r < l.from → c < most_clients → in_byte (slice_index_or l.masks.items r 0) c ≡ ((r + weight c) % l.share.count == l.share.number);
+}

@@ -1,0 +1,150 @@
+//! Parts of a level are merged, in the order of their leads.
+
+ghost use Rattle.std.specs.Prelude.{◌≡◌, ◌<◌, ◌≤◌, true, false, suc, [], ◌∷◌, ◌++◌, IfOk, OnOk, IsErrOf, length, slice_index_or, slice_set};
+ghost use Rattle.qs_levels.specs.Leads.{HasMoreOnward};
+ghost use Rattle.qs_levels.specs.Levels.{IsNextOf, IsSomeLevel};
+ghost use Rattle.qs_levels.specs.Merging.{AreParts, IsBetter, IsLeastPart, IsLess, IsNoMore, rests_of, spot_of};
+ghost use Rattle.qs_levels.specs.Shares.{AreGoing};
+
+use crate::level::{Going, Level, Spot};
+use crate::part::Part;
+use crate::table::Lead;
+use qs_objects::Ticket;
+use qs_outcomes::OutcomesFault;
+use qs_program::Program;
+use std::alloc::{AllocError, Global};
+
+// The part with the least first lead so far, and this lead.
+#[derive(Clone, Copy, Drop)]
+struct Candidate {
+    number: usize,
+    lead: Lead,
+}
+
+fn is_less(one: Lead, other: Lead) -> bool
+    ensures less { result ≡ true → IsLess one other }
+    ensures past { result ≡ false → IsNoMore other one }
+{
+    one.source < other.source || (one.source == other.source && one.client < other.client)
+}
+
+// The best of the parts up to a number, and of the one with this number, which has this first lead.
+fn better(best: Option<Candidate>, number: usize, first: Option<Lead>) -> Option<Candidate>
+    ensures better { IsBetter best number first result }
+{
+    match first {
+        None => best,
+        Some(lead) => match best {
+            Some(least) if !is_less(lead, least.lead) => best,
+            _ => Some(Candidate { number, lead }),
+        },
+    }
+}
+
+// The part whose first lead from its place on is the least.
+fn least(parts: &[Part], places: &[usize]) -> Option<usize>
+    requires even { length places.now ≡ length parts.now }
+    ensures least { IsLeastPart (rests_of places.now parts.now) result }
+{
+    let mut best = None;
+    for number in 0..parts.len() {
+        best = better(best, number, parts[number].lead_from(places[number]));
+    }
+    match best {
+        Some(candidate) => Some(candidate.number),
+        None => None,
+    }
+}
+
+/// Adds a place behind others.
+pub(crate) fn add(spots: &mut Vec<Spot>, spot: Spot) -> Result<(), AllocError>
+    ensures added { OnOk result (spots.new.items ≡ spots.old.items ++ spot ∷ []) }
+{
+    spots.push(spot)?;
+    Ok(())
+}
+
+// Adds the place of a part that comes next, and passes over it.
+fn take(
+    parts: &[Part],
+    places: &mut Vec<usize>,
+    number: usize,
+    spots: &mut Vec<Spot>,
+) -> Result<(), AllocError>
+    requires number { number < length parts.now }
+    requires even { length places.old.items ≡ length parts.now }
+    requires within { slice_index_or places.old.items number 0 < length (slice_index_or parts.now number []) }
+    ensures places { places.new.items ≡ slice_set places.old.items number (suc (slice_index_or places.old.items number 0)) }
+    ensures spots { OnOk result (spots.new.items ≡ spots.old.items ++ spot_of parts.now number (slice_index_or places.old.items number 0) ∷ []) }
+{
+    let part = &parts[number];
+    let place = places[number];
+    let end = part.len();
+    if place >= end {
+        unreachable!();
+    }
+    places[number] = place + 1;
+    let going = Going {
+        clients: part.going(place),
+        share: number,
+    };
+    add(
+        spots,
+        Spot {
+            part: number,
+            place,
+            going,
+        },
+    )?;
+    Ok(())
+}
+
+// All to which a level leads, from the parts of all shares.
+fn merged(
+    alloc: Global,
+    program: &Program,
+    front: &[Ticket],
+    level: &Level,
+    parts: Vec<Part>,
+) -> Result<Level, OutcomesFault>
+    requires level { IsSomeLevel program.now front.now level.now.standings }
+    requires parts { AreParts program.now front.now level.now.standings parts.items }
+    requires some { 0 < length parts.items }
+    ensures next { IfOk result (λ next. IsNextOf program.now front.now level.now.standings next.standings) }
+    ensures going { IfOk result (λ next. AreGoing program.now (length parts.items) next.standings next.going) }
+    ensures limit { ¬ IsErrOf result OutcomesFault.Limit }
+    ensures order { ¬ IsErrOf result OutcomesFault.Order }
+{
+    program.keeps_sound();
+    let mut places = vec![in alloc; 0; parts.len()]?;
+    let mut spots = Vec::with_capacity(alloc, level.len())?;
+    while let Some(number) = least(parts.as_slice(), places.as_slice()) {
+        take(parts.as_slice(), &mut places, number, &mut spots)?;
+    }
+    Ok(Level::new(parts, spots))
+}
+
+/// The level after a level, from the parts of all shares. There is room for so many configurations.
+pub(crate) fn next_of(
+    alloc: Global,
+    program: &Program,
+    front: &[Ticket],
+    level: &Level,
+    parts: Vec<Part>,
+    room: usize,
+) -> Result<Level, OutcomesFault>
+    requires level { IsSomeLevel program.now front.now level.now.standings }
+    requires parts { AreParts program.now front.now level.now.standings parts.items }
+    requires some { 0 < length parts.items }
+    ensures next { IfOk result (λ next. IsNextOf program.now front.now level.now.standings next.standings) }
+    ensures going { IfOk result (λ next. AreGoing program.now (length parts.items) next.standings next.going) }
+    ensures small { IfOk result (λ next. length next.standings ≤ room) }
+    ensures limit { IsErrOf result OutcomesFault.Limit → HasMoreOnward program.now front.now level.now.standings room }
+    ensures order { ¬ IsErrOf result OutcomesFault.Order }
+{
+    let next = merged(alloc, program, front, level, parts)?;
+    if next.len() > room {
+        return Err(OutcomesFault::Limit);
+    }
+    Ok(next)
+}
