@@ -1,4 +1,5 @@
 pub mod SameTexts
+pub mod SettingApart
 pub mod Orders
 pub mod Arranging
 pub mod Exchanging

@@ -2,6 +2,7 @@
 //! alone, one is listed.
 #![tactic(auto)]
 
+mod apart;
 mod classes;
 mod counts;
 pub mod laws;
@@ -9,6 +10,7 @@ mod placing;
 mod search;
 mod texts;
 
+pub use apart::classes_apart;
 pub use classes::{Classes, classes_of};
 pub use counts::stands_for;
 pub use placing::arrange;

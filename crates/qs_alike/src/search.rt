@@ -3,7 +3,7 @@
 ghost use Rattle.std.specs.Prelude.{◌≡◌, ◌<◌, ◌≤◌, ◌+◌, IfOk, OnOk, IsErrOf, [], ◌∷◌, ◌++◌, length};
 ghost use Rattle.qs_meaning.specs.Reduced.{goes_on};
 ghost use Rattle.qs_outcomes.specs.Search.{IsNoted, work_left};
-ghost use Rattle.qs_standings.specs.Going.{AreLast, in_byte};
+ghost use Rattle.qs_going.specs.Going.{AreLast, in_byte};
 ghost use Rattle.qs_standings.specs.Lists.{HasOne};
 ghost use Rattle.qs_standings.specs.Rows.{rows_in};
 ghost use Rattle.qs_standings.specs.Standings.{IsStanding, configuration_in, row_of};
@@ -69,6 +69,18 @@ impl AlikeOutcomes {
         ensures configurations { result ≡ self.now.configurations }
     {
         self.configurations
+    }
+
+    /// The standings, to keep: as those of `found`.
+    pub fn into_found(self) -> Vec<Standing>
+        ensures found { result.items ≡ self.found }
+    {
+        let AlikeOutcomes {
+            found,
+            counts: _,
+            configurations: _,
+        } = self;
+        found
     }
 }
 

@@ -15,14 +15,10 @@ use Rattle.qs_standings.specs.Standings.{IsNext, IsStanding, StandingShape, conf
 use Rattle.qs_standings.proofs.Lists.{has_back, has_front, has_of, none_of, pairs_join, two_snoc}
 use Rattle.qs_standings.proofs.RowTells.{row_tells}
 use Rattle.qs_levels.specs.Founds.{Found, found_in, no_standing}
-use Rattle.qs_levels.specs.Leads.{AreKept, IsLead, IsLedOn, IsLedUpTo, IsNoLater, IsReached, IsTableOf, StandsFor, TableShape, leads_below, order_on, with_lead}
+use Rattle.qs_level_laws.specs.Onward.{IsReached, StandsFor, order_on}
+use Rattle.qs_levels.specs.Leads.{AreKept, IsLead, IsLedOn, IsLedUpTo, IsTableOf, TableShape, leads_below, with_lead}
 use Rattle.qs_levels.specs.Shares.{is_taken}
-use Rattle.qs_levels.proofs.Lists.{has_mapped, map_snoc, mapped_has}
-
-pub no_later_both : (ts us vs : List Ticket) → IsNoLater ts us → IsNoLater us vs → IsNoLater ts vs
-no_later_both ts us vs (inl e) k = subst (λ xs. IsNoLater xs vs) (sym e) k
-no_later_both ts us vs (inr h) (inl e) = inr (subst (IsBefore ts) e h)
-no_later_both ts us vs (inr h) (inr k) = inr (before_both ts us vs h k)
+use Rattle.qs_level_laws.proofs.Lists.{has_mapped, map_snoc, mapped_has}
 
 module _ (p : ProgramShape) (front : List Ticket) (sound : IsSound p) where
   -- of an order that is after all that are kept, and the standing to which it leads

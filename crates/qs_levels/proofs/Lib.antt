@@ -1,11 +1,7 @@
-pub mod Lists
-pub mod Weights
 pub mod Keeping
 pub mod NextLevels
-pub mod Reaching
 pub mod Zips
 pub mod Leasts
 pub mod Masks
 pub mod Merged
-pub mod Ends
 pub mod Crossing

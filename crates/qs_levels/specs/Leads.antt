@@ -5,31 +5,17 @@ use Rattle.std.specs.Prelude.{◌≡◌, ◌<◌, ◌⊎◌, ℕ, zero, suc, tru
 use Rattle.std.specs.List.{AllByRecursion}
 use Rattle.qs_objects.specs.declared.held.Ticket.{Ticket}
 use Rattle.qs_program.specs.Program.{ProgramShape}
-use Rattle.qs_meaning.specs.Configurations.{configuration_after}
-use Rattle.qs_outcomes.specs.LeastOrders.{AreSorted, IsBefore, IsLongerBy}
-use Rattle.qs_outcomes.specs.Outcomes.{AreDifferent}
+use Rattle.qs_outcomes.specs.LeastOrders.{AreSorted}
 use Rattle.qs_standings.specs.Lists.{HasOne, NoTwo}
 use Rattle.qs_standings.specs.Rows.{rows_in}
 use Rattle.qs_standings.specs.Standings.{IsNext, IsStanding, RowShape, StandingShape, configuration_in, row_of}
 use Rattle.qs_meaning.specs.Reduced.{goes_on}
-use Rattle.qs_standings.specs.Going.{in_byte}
+use Rattle.qs_going.specs.Going.{in_byte}
+use Rattle.qs_level_laws.specs.Onward.{IsReached, order_on}
 use Rattle.qs_levels.specs.Shares.{is_taken}
 use Rattle.qs_levels.specs.Founds.{Found, found_in, no_standing, zipped}
 use Rattle.qs_levels.specs.declared.table.Lead.{Lead}
 use Rattle.qs_levels.specs.declared.table.Table.{Table}
-
--- an order that is the other, or before it
-abbrev pub IsNoLater : List Ticket → List Ticket → Type 0
-IsNoLater ts us = (ts ≡ us) ⊎ IsBefore ts us
-
--- it stands where an order leads, by one that is no later
-pub record StandsFor (p : ProgramShape) (order : List Ticket) (s : StandingShape) : Type 0 where
-  pub there : configuration_in s ≡ configuration_after p order
-  pub early : IsNoLater s.order order
-
--- so does one of these
-abbrev pub IsReached : ProgramShape → List StandingShape → List Ticket → Type 0
-IsReached p ss order = HasOne (StandsFor p order) ss
 
 -- Of the standings to which these orders lead, these are kept: each by one of the orders, no two in one configuration,
 -- and for each order one that is there by an order that is no later.
@@ -40,10 +26,6 @@ pub record AreKept (p : ProgramShape) (front : List Ticket) (orders : List (List
   pub once : NoTwo (λ s t. row_of p s ≡ row_of p t) standings
   pub sorted : AreSorted standings
   pub reached : AllByRecursion (IsReached p standings) orders
-
--- the order of a standing with the next block of a client
-abbrev pub order_on : StandingShape → ℕ → List Ticket
-order_on s c = s.order ++ record { client = c; index = (configuration_in s).begun c } ∷ []
 
 -- the orders by which those of the clients below n lead on who lead to a configuration of the share
 abbrev pub leads_below : ProgramShape → (number count : ℕ) → StandingShape → ℕ → List (List Ticket)
@@ -127,13 +109,3 @@ abbrev pub IsLedTooFar : ProgramShape → List Ticket → (number count : ℕ) �
     → TableShape → Type 0
 IsLedTooFar p front number count s place room before =
     (c : ℕ) × (after : TableShape) × IsLedUpTo p front number count s place c before after × IsOverfull room after
-
--- its order goes on from the other's by one block
-abbrev pub IsOneLonger : StandingShape → StandingShape → Type 0
-IsOneLonger s n = (ticket : Ticket) × IsLongerBy s.order (ticket ∷ []) n.order
-
--- so many different configurations and one more, to which these standings lead by one block more
-pub record HasMoreOnward (p : ProgramShape) (front : List Ticket) (level : List StandingShape) (room : ℕ) : Type 0 where
-  pub configurations : List StandingShape
-  pub different : AreDifferent p front configurations (suc room)
-  pub onward : AllByRecursion (λ n. HasOne (λ s. IsOneLonger s n) level) configurations

@@ -1,8 +1,5 @@
--- What an auditor reads: the promises and the calls of the surface are said with these.
-pub mod Fronts
 -- What crates promise one another, what proofs use, and worked examples.
 pub mod Founds
 pub mod Shares
 pub mod Leads
-pub mod Levels
 pub mod Merging

@@ -1,18 +1,14 @@
 -- Which configurations a thread leads to. What all blocks count for that the clients have begun, by the remainder of a
 -- division, says whose share a configuration is in; so each is in exactly one.
-use Rattle.std.specs.Prelude.{◌≡◌, ◌<◌, ◌+◌, ◌*◌, ◌/◌, ◌%◌, ◌==◌, ◌&&◌, ℕ, zero, suc, Bool, List, length, slice_index_or}
+use Rattle.std.specs.Prelude.{◌≡◌, ◌<◌, ◌+◌, ◌*◌, ◌/◌, ◌%◌, ◌==◌, ◌&&◌, ℕ, Bool, List, length, slice_index_or}
 use Rattle.std.specs.List.{AllZip}
 use Rattle.qs_program.specs.Limits.{most_clients}
 use Rattle.qs_program.specs.Program.{ProgramShape}
 use Rattle.qs_meaning.specs.Reduced.{Counts, goes_on}
-use Rattle.qs_standings.specs.Going.{in_byte}
+use Rattle.qs_going.specs.Going.{in_byte}
 use Rattle.qs_standings.specs.Standings.{StandingShape, configuration_in}
+use Rattle.qs_level_laws.specs.Weights.{weighted}
 use Rattle.qs_levels.specs.declared.level.Going.{Going}
-
--- the blocks that the clients below n have begun, where each block of a client counts for so much
-abbrev pub weighted : (ℕ → ℕ) → ℕ → Counts → ℕ
-weighted w zero begun = 0
-weighted w (suc n) begun = weighted w n begun + begun n * w n
 
 -- what a block of a client counts for: 0, 1, 1, 0, 0, 1, 1, 0
 abbrev pub weight : ℕ → ℕ

@@ -3,12 +3,13 @@
 ghost use Rattle.std.specs.Prelude.{◌≡◌, ◌<◌, ◌≤◌, IfOk, OnOk, IsErrOf, length, slice_index_or};
 ghost use Rattle.std.specs.List.{AllByRecursion};
 ghost use Rattle.qs_outcomes.specs.LeastOrders.{AreSorted};
-ghost use Rattle.qs_standings.specs.Going.{AreLast};
+ghost use Rattle.qs_going.specs.Going.{AreLast};
 ghost use Rattle.qs_standings.specs.Rows.{AreStarts, drafted};
 ghost use Rattle.qs_standings.specs.Standings.{GoesOn, IsStanding, row_of};
 ghost use Rattle.qs_levels.specs.Shares.{AreGoing, AreMasks, AreTaken};
 ghost use Rattle.qs_levels.specs.Founds.{no_standing};
-ghost use Rattle.qs_levels.specs.Leads.{AreEven, AreKnown, HasMoreOnward, IsLedOn, IsLedTooFar, IsLedUpTo, IsOverfull, IsPartOf, TableShape, tabled};
+ghost use Rattle.qs_level_laws.specs.Onward.{HasMoreOnward};
+ghost use Rattle.qs_levels.specs.Leads.{AreEven, AreKnown, IsLedOn, IsLedTooFar, IsLedUpTo, IsOverfull, IsPartOf, TableShape, tabled};
 
 use crate::level::Level;
 use crate::part::Part;

@@ -1,24 +1,23 @@
 -- Where the top of the stack is what is asked for, and nothing was before: an order before the top leads to what was
 -- seen, and at the end of a complete one this was found, so it is not what is asked for.
 use Rattle.std.proofs.Common.{◌≡◌, ◌<◌, ℕ, suc, Bool, true, false, List, [], ◌∷◌, ◌++◌, length, refl, sym, ap, ◌∙◌, subst, arith, true≢false, Option, Some, None, length-append}
-use Rattle.std.specs.List.{AllByRecursion}
 use Rattle.std.specs.Prelude.{IfSome}
 use Rattle.qs_objects.specs.declared.held.Ticket.{Ticket}
 use Rattle.qs_program.specs.Program.{ProgramShape, blocks_of}
 use Rattle.qs_program.specs.Sound.{IsSound}
 use Rattle.qs_meaning.specs.Configurations.{Configuration, IsComplete, OrderOutcome, configuration_after, outcome_in, outcome_of}
 use Rattle.qs_meaning.proofs.Orders.{complete_orders_leave_none, configurations_follow_orders}
-use Rattle.qs_outcomes.specs.Answers.{AreUnmet, HasNoted, IsAnswerAfter, IsWitnessAfter, NoneMeets}
+use Rattle.qs_outcomes.specs.Answers.{AreUnmet, HasNoted, IsWitnessAfter, NoneMeets}
 use Rattle.qs_outcomes.specs.LeastOrders.{IsBefore, IsSeenAfter}
 use Rattle.qs_outcomes.specs.Outcomes.{AreAllOutcomesAfter, outcome_at}
 use Rattle.qs_outcomes.specs.Search.{IsExplored, IsNoted, IsSeen}
 use Rattle.qs_standings.specs.Lists.{HasOne}
-use Rattle.qs_standings.specs.Standings.{IsReducedAfter, IsStanding, NoneNext, RowShape, StandingShape, configuration_in, row_of}
+use Rattle.qs_standings.specs.Standings.{IsReducedAfter, NoneNext, RowShape, StandingShape, configuration_in, row_of}
 use Rattle.qs_standings.proofs.Lists.{has_some}
 use Rattle.qs_standings.proofs.RowTells.{row_tells}
 use Rattle.qs_outcomes.proofs.Explored.{listed_end, noted_one_more}
 use Rattle.qs_outcomes.proofs.Exploring.{taken}
-use Rattle.qs_outcomes.proofs.LeastFirst.{LeadsToSeen, seen_before}
+use Rattle.qs_outcomes.proofs.LeastFirst.{seen_before}
 
 module _ (p : ProgramShape) (front : List Ticket) (sound : IsSound p) (rows : List RowShape) (stack found : List StandingShape) (s : StandingShape) (explored : IsExplored p front rows (stack ++ s ∷ []) found)
     (asked : OrderOutcome → Bool) (unmet : AreUnmet asked found) where

@@ -1,13 +1,12 @@
 -- What the answer to a question says: a witness, if an outcome is what is asked for; else that none is.
-use Rattle.std.specs.Prelude.{◌≡◌, ℕ, Bool, true, false, List, ◌++◌, Option, Some, None, IfSome}
+use Rattle.std.specs.Prelude.{◌≡◌, ℕ, Bool, true, false, List, ◌++◌, Option, None, IfSome}
 use Rattle.std.specs.List.{AllByRecursion}
 use Rattle.qs_objects.specs.declared.held.Ticket.{Ticket}
 use Rattle.qs_program.specs.Program.{ProgramShape}
 use Rattle.qs_meaning.specs.Configurations.{IsComplete, OrderOutcome, outcome_of}
 use Rattle.qs_meaning.specs.Serial.{IsLegal}
 use Rattle.qs_outcomes.specs.LeastOrders.{IsBefore}
-use Rattle.qs_outcomes.specs.Outcomes.{AreDifferent, HasConfigurationsAfter, IsListedAfter, OutcomesShape, outcome_at}
-use Rattle.qs_standings.specs.Lists.{HasOne}
+use Rattle.qs_outcomes.specs.Outcomes.{AreDifferent, HasConfigurationsAfter, IsListedAfter, outcome_at}
 use Rattle.qs_standings.specs.Standings.{IsReducedAfter, StandingShape}
 
 -- where a program stands at the end of an order, if that is what is asked for; and how many configurations were noted

@@ -4,3 +4,5 @@ pub mod Running
 pub mod Totals
 pub mod Replies
 pub mod Sought
+pub mod NamedSets
+pub mod AlikeAnswers

@@ -14,6 +14,7 @@ use Rattle.qs_conditions.specs.Conditions.{Tree, compare, negation, both, either
 use Rattle.qs_conditions.specs.declared.condition.Value.{Value}
 use Rattle.qs_conditions.specs.declared.condition.Value.TheVariants.{Number, Variable, Reply}
 use Rattle.qs_conditions.specs.declared.condition.Summand.{Summand}
+use Rattle.qs_questions.specs.AlikeClaims.{named_clients}
 use Rattle.qs_questions.specs.Questions.{first_unknown_in, has_value, holds_at}
 
 -- a client that withdraws so much, and reads the balance into its variable `left`
@@ -96,3 +97,10 @@ pub record QuestionExamples : Type 0 where
   pub would_change : has_value shop (Reply (codes "line") (codes "take") []) ≡ false
   pub no_object : has_value shop (Reply (codes "ann") (codes "refused") []) ≡ false
   pub no_client : has_value shop (Variable (codes "till") (codes "left")) ≡ false
+  pub names_first : named_clients shop (steps_of reads_differ) 0 ≡ true
+  pub names_second : named_clients shop (steps_of reads_differ) 1 ≡ true
+  pub names_none : named_clients shop (steps_of one_refused) 0 ≡ false
+  pub names_in_either : named_clients shop (steps_of (either one_refused reads_differ)) 1 ≡ true
+  pub names_one : named_clients shop (steps_of two_unknown) 0 ≡ true
+  pub not_the_other : named_clients shop (steps_of two_unknown) 1 ≡ false
+  pub not_a_third : named_clients shop (steps_of two_unknown) 2 ≡ false

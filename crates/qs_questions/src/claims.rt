@@ -15,8 +15,8 @@ use std::alloc::{AllocError, Global};
 
 // The outcomes that the answer to a claim looks for: those of which its condition holds, or does not.
 #[derive(Drop)]
-struct Sought<'a> {
-    claim: &'a Claim,
+pub(crate) struct Sought<'a> {
+    pub(crate) claim: &'a Claim,
 }
 
 impl Question for Sought<'_> {

@@ -4,18 +4,23 @@
 //! ```rust
 //! let claim = Claim { quantifier: Quantifier::Always, condition };
 //! let found = qs_questions::answer(alloc, &program, &claim, &[], 1_000_000, &mut watcher).ok()?;
+//! let alike = qs_questions::answer_alike(alloc, &program, &claim, 1_000_000).ok()?;
 //! ```
 #![tactic(auto)]
 
+mod alike;
 mod asking;
 mod claims;
+mod clients;
 pub mod laws;
 mod named;
 mod stack;
 mod unknown;
 mod values;
 
+pub use alike::answer_alike;
 pub use asking::holds;
 pub use claims::answer;
+pub use clients::named_clients;
 pub use named::{ClientVariable, ObjectQuery};
 pub use unknown::first_unknown;

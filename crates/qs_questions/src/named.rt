@@ -22,7 +22,7 @@ pub struct ObjectQuery {
 }
 
 // The number of the client that has a name.
-fn client_of(program: &Program, name: &Name) -> Option<u8>
+pub(crate) fn client_of(program: &Program, name: &Name) -> Option<u8>
     ensures client { result ≡ client_of program.now name.now }
     ensures within { IfSome result (λ client. client < length program.now.clients) }
 {

@@ -15,7 +15,7 @@ use Rattle.qs_outcomes.specs.declared.fault.OutcomesFault.{OutcomesFault}
 use Rattle.qs_outcomes.specs.declared.fault.OutcomesFault.TheVariants as outcomes_fault
 use Rattle.qs_alike.specs.AlikeOutcomes.{AlikeShape, AreAlikeOutcomes, HasMoreUnlike, IsEnd, StandsFor}
 use Rattle.qs_alike.specs.Changes.{Classes}
-use Rattle.qs_levels.specs.Fronts.{AreFrontsAfter, IsAfter}
+use Rattle.qs_level_laws.specs.Fronts.{AreFrontsAfter, IsAfter}
 use Rattle.qs_report.specs.declared.faults.Fault.TheVariants as fault
 use Rattle.qs_line.specs.Line.{alike, fronts}
 use Rattle.qs_line.specs.Named.{clients_of}

@@ -13,7 +13,7 @@ use Rattle.qs_outcomes.specs.Outcomes.{HasMoreThanAfter, OutcomesShape}
 use Rattle.qs_outcomes.specs.declared.fault.OutcomesFault.{OutcomesFault}
 use Rattle.qs_outcomes.specs.declared.fault.OutcomesFault.TheVariants as outcomes_fault
 use Rattle.qs_standings.specs.Standings.{StandingShape}
-use Rattle.qs_levels.specs.Fronts.{AreFrontsAfter}
+use Rattle.qs_level_laws.specs.Fronts.{AreFrontsAfter}
 use Rattle.qs_alike.specs.AlikeOutcomes.{AlikeShape, AreAlikeOutcomes, HasMoreUnlike}
 use Rattle.qs_alike.specs.Changes.{AreAllAlike, AreClasses, Classes}
 use Rattle.qs_dot.specs.ChartDot.{IsChartDot}

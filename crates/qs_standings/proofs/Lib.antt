@@ -5,7 +5,6 @@ pub mod Stands
 pub mod Lists
 pub mod RowTells
 pub mod Inserting
-pub mod GoingSets
 pub mod NextRows
 pub mod Spread
 pub mod Packing

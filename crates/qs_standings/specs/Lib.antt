@@ -2,7 +2,6 @@
 pub mod Standings
 pub mod Lists
 -- What crates promise one another, what proofs use, and worked examples.
-pub mod Going
 pub mod Packed
 pub mod Rows
 pub mod Variables

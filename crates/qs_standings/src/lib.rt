@@ -4,7 +4,6 @@
 
 mod copies;
 mod front;
-mod going;
 mod hints;
 mod packed;
 mod rows;
@@ -15,9 +14,9 @@ mod variables;
 
 pub use copies::copied;
 pub use front::{placed, standing_after};
-pub use going::{Last, last_blocks};
 pub use hints::Hints;
 pub use packed::Packed;
+pub use qs_going::{Last, last_blocks};
 pub use rows::{Draft, Row, row_starts};
 pub use scratch::{Scratch, put_by, spare_standing};
 pub use standing::Standing;

@@ -3,10 +3,10 @@ use Rattle.std.proofs.lemmas.Result.{err_from_is_err_and}
 use Rattle.qs_meaning.specs.Serial.{IsLegal}
 use Rattle.qs_outcomes.specs.Outcomes.{HasMoreThanAfter}
 use Rattle.qs_outcomes.specs.declared.fault.OutcomesFault.TheVariants.{Limit}
-use Rattle.qs_levels.specs.Fronts.{AreFrontsAfter}
-use Rattle.qs_levels.specs.Levels.{IsLevel}
-use Rattle.qs_levels.proofs.Lists.{nothing}
-use Rattle.qs_levels.proofs.Reaching.{fronts_of, level_first, level_on, more_than_none, none_later}
+use Rattle.qs_level_laws.specs.Fronts.{AreFrontsAfter}
+use Rattle.qs_level_laws.specs.Levels.{IsLevel}
+use Rattle.qs_level_laws.proofs.Lists.{nothing}
+use Rattle.qs_level_laws.proofs.Reaching.{fronts_of, level_first, level_on, more_than_none, none_later}
 use Rattle.qs_levels.proofs.fronts.fronts_from.Goals as goal
 use Rattle.qs_levels.proofs.fronts.fronts_from.Goals.{In_ok-level-2}
 

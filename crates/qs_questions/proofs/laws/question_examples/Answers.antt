@@ -23,5 +23,12 @@ returns c = record {
     would_change = refl;
     no_object = refl;
     no_client = refl;
+    names_first = refl;
+    names_second = refl;
+    names_none = refl;
+    names_in_either = refl;
+    names_one = refl;
+    not_the_other = refl;
+    not_a_third = refl;
   };
 }

@@ -1,0 +1,2 @@
+-- What crates promise one another, what proofs use, and worked examples.
+pub mod Going

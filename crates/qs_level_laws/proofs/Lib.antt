@@ -1,0 +1,4 @@
+pub mod Lists
+pub mod Weights
+pub mod Reaching
+pub mod Ends
