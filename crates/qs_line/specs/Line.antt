@@ -47,9 +47,9 @@ pub data PlanShape : Type 0 where
 -- many configurations there can be; or, after these and with so many configurations at most, whether a condition holds
 -- of all ends, of some or throughout, the configurations after so many blocks more, or all outcomes, or their ends
 -- alone, by so many threads; or, with so many configurations at most, one of all outcomes that differ by alike clients
--- in each other's places. Each is asked for
--- in a format, and of a run the counts of synchronisations and what was refused may be asked for as well, and of a
--- schedule a line for each step, and what lies where at its end.
+-- in each other's places, or by these whether a condition holds of all ends or of some. Each is asked for in a format,
+-- and of a run the counts of synchronisations and what was refused may be asked for as well, and of a schedule a line
+-- for each step, and what lies where at its end.
 pub data Request : Type 0 where
   check : Format → Request
   graph : GraphFormat → Request
@@ -61,6 +61,7 @@ pub data Request : Type 0 where
   estimate : Format → (front : List Part) → Request
   fronts : Format → (blocks : ℕ) → (limit : ℕ) → (front : List Part) → Request
   alike : Format → (limit : ℕ) → Request
+  ask_alike : Claim → Format → (limit : ℕ) → Request
   outcomes : OutcomesFormat → (limit : ℕ) → (threads : ℕ) → (front : List Part) → Request
 
 -- the format of a refusal where graphs are asked for: beside a drawing it is text
@@ -93,6 +94,7 @@ format_of_request (ask claim how limit front) = how
 format_of_request (estimate how front) = how
 format_of_request (fronts how blocks limit front) = how
 format_of_request (alike how limit) = how
+format_of_request (ask_alike claim how limit) = how
 format_of_request (outcomes how limit threads front) = format_beside_outcomes how
 
 abbrev pub plan_of : Plan → PlanShape
@@ -110,6 +112,7 @@ request_of (word.Ask claim how limit front) = ask claim how limit front.items
 request_of (word.Estimate how front) = estimate how front.items
 request_of (word.Fronts how blocks limit front) = fronts how blocks limit front.items
 request_of (word.Alike how limit) = alike how limit
+request_of (word.AskAlike claim how limit) = ask_alike claim how limit
 request_of (word.Outcomes how limit threads front) = outcomes how limit threads front.items
 
 abbrev pub format_in : Text → Option Format
@@ -347,12 +350,23 @@ estimate_at rows =
 abbrev pub has_front : List Row → Bool
 has_front rows = is_some (first_of (codes "after") rows)
 
--- one of all outcomes that differ by alike clients, which stands beside none of these, and beside neither `--after` nor
--- `--front`
+-- one of all outcomes that differ by alike clients
+abbrev pub alike_list_at : List Row → Option Request
+alike_list_at rows = option_and_then (λ how. option_map (alike how) (limit_at rows)) (format_at rows)
+
+-- an answer by these, to a condition of all ends or of some
+abbrev pub ask_alike_at : List Row → Option Request
+ask_alike_at rows =
+    if is_some (first_of (codes "throughout") rows) then None
+    else option_and_then (λ claim. option_and_then (λ how. option_map (ask_alike claim how) (limit_at rows))
+    (format_at rows)) (claim_at rows)
+
+-- one of all outcomes that differ by alike clients, or the answer by these to a condition where the line has one;
+-- neither stands beside the ends alone, a number of threads, `--after` or `--front`
 abbrev pub alike_at : List Row → Option Request
 alike_at rows =
-    if is_of_list rows || (has_front rows || has_blocks rows) then None
-    else option_and_then (λ how. option_map (alike how) (limit_at rows)) (format_at rows)
+    if (flag_at (codes "ends") rows || has_threads rows) || (has_front rows || has_blocks rows) then None
+    else if has_claim rows then ask_alike_at rows else alike_list_at rows
 
 -- the configurations after so many blocks, which stand beside none of these
 abbrev pub fronts_at : List Row → Option Request

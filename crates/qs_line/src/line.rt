@@ -4,7 +4,7 @@ ghost use Rattle.std.specs.Prelude.{◌≡◌, [], Err, IfOk, IfErr, map, option
 ghost use Rattle.clap.specs.Words.{found_of, kind_of, rows_of, subcommand_of, subcommand_rows_of};
 ghost use Rattle.clap.specs.Faults.{fault_of};
 ghost use Rattle.qs_line.specs.Command.{qs_app};
-ghost use Rattle.qs_line.specs.Line.{IsAnswer, IsFault, IsFaultAmong, alike_at, alike_or_list_at, answer_or_list_at, ask_at, asks_language, blocks_at, help, check_at, chunk_at, claim_at, claim_in, estimate_at, fronts_at, fronts_or_list_at, has_blocks, has_claim, has_front, has_threads, has_times, is_of_list, list_at, flag_at, format_at, front_at, graph_at, graph_format_at, is_verbose_in, is_verbose_met, limit_at, line_in, mode_at, number_in, outcomes_at, outcomes_format_at, plan_of, play_at, report_format_at, request_at, request_met, request_of, rules_at, run_at, single_run_at, style_at, styled_plan, can_tell, tally_at, threads_at, threads_beside, times_at, warns_in, warns_met};
+ghost use Rattle.qs_line.specs.Line.{IsAnswer, IsFault, IsFaultAmong, alike_at, alike_list_at, alike_or_list_at, answer_or_list_at, ask_alike_at, ask_at, asks_language, blocks_at, help, check_at, chunk_at, claim_at, claim_in, estimate_at, fronts_at, fronts_or_list_at, has_blocks, has_claim, has_front, has_threads, has_times, is_of_list, list_at, flag_at, format_at, front_at, graph_at, graph_format_at, is_verbose_in, is_verbose_met, limit_at, line_in, mode_at, number_in, outcomes_at, outcomes_format_at, plan_of, play_at, report_format_at, request_at, request_met, request_of, rules_at, run_at, single_run_at, style_at, styled_plan, can_tell, tally_at, threads_at, threads_beside, times_at, warns_in, warns_met};
 
 use crate::command::command;
 use crate::found::text_at;
@@ -194,6 +194,15 @@ pub enum Settings {
         /// How many configurations are looked at, at most.
         limit: u32,
     },
+    /// Check it, and answer by one of all alike ends whether a condition holds of all ends or of some.
+    AskAlike {
+        /// The condition, and of what it is to hold.
+        claim: Claim,
+        /// How the answer is written.
+        format: Format,
+        /// How many configurations are looked at, at most.
+        limit: u32,
+    },
     /// Check it, and list all outcomes.
     Outcomes {
         /// What is written of them, and how.
@@ -239,6 +248,7 @@ impl Settings {
             Settings::Estimate { format, .. } => *format,
             Settings::Fronts { format, .. } => *format,
             Settings::Alike { format, .. } => *format,
+            Settings::AskAlike { format, .. } => *format,
             Settings::Outcomes { format, .. } => format.refusals(),
         }
     }
@@ -659,16 +669,49 @@ fn has_front(found: &ArgMatches<'_>) -> bool
     text_at(found, "after").is_some()
 }
 
-// One of all alike outcomes, which stands beside none of these, and beside neither `--after` nor `--front`.
-fn alike_settings(found: &ArgMatches<'_>) -> Option<Settings>
-    ensures settings { option_map request_of result ≡ alike_at (rows_of (found_of found.now)) }
+// One of all alike outcomes.
+fn alike_list_settings(found: &ArgMatches<'_>) -> Option<Settings>
+    ensures settings { option_map request_of result ≡ alike_list_at (rows_of (found_of found.now)) }
 {
-    if is_of_list(found) || (has_front(found) || has_blocks(found)) {
-        return None;
-    }
     let format = format_of(found)?;
     let limit = limit_of(found)?;
     Some(Settings::Alike { format, limit })
+}
+
+// An answer by one of all alike ends. What holds throughout is no matter of ends.
+fn ask_alike_settings(alloc: Global, found: &ArgMatches<'_>) -> Result<Option<Settings>, AllocError>
+    ensures settings { IfOk result (λ settings. option_map request_of settings ≡ ask_alike_at (rows_of (found_of found.now))) }
+{
+    if text_at(found, "throughout").is_some() {
+        return Ok(None);
+    }
+    let (Some(claim), Some(format), Some(limit)) = (
+        given_claim(alloc, found)?,
+        format_of(found),
+        limit_of(found),
+    ) else {
+        return Ok(None);
+    };
+    Ok(Some(Settings::AskAlike {
+        claim,
+        format,
+        limit,
+    }))
+}
+
+// One of all alike outcomes, or an answer by these where the line has a condition. Neither stands beside `--ends`,
+// `--threads`, `--after` or `--front`.
+fn alike_settings(alloc: Global, found: &ArgMatches<'_>) -> Result<Option<Settings>, AllocError>
+    ensures settings { IfOk result (λ settings. option_map request_of settings ≡ alike_at (rows_of (found_of found.now))) }
+{
+    if (has_flag(found, "ends") || has_threads(found)) || (has_front(found) || has_blocks(found)) {
+        return Ok(None);
+    }
+    if has_claim(found) {
+        ask_alike_settings(alloc, found)
+    } else {
+        Ok(alike_list_settings(found))
+    }
 }
 
 // Fronts, which stand beside none of these.
@@ -710,7 +753,7 @@ fn alike_or_list(alloc: Global, found: &ArgMatches<'_>) -> Result<Option<Setting
     ensures settings { IfOk result (λ settings. option_map request_of settings ≡ alike_or_list_at (rows_of (found_of found.now))) }
 {
     if has_flag(found, "alike") {
-        Ok(alike_settings(found))
+        alike_settings(alloc, found)
     } else {
         fronts_or_list(alloc, found)
     }

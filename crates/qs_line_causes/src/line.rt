@@ -100,7 +100,7 @@ fn shown(setting: &str) -> &'static str {
 }
 
 // Settings that do not stand together.
-const APART: [(&str, &str); 34] = [
+const APART: [(&str, &str); 32] = [
     ("--order", "--pick"),
     ("--order", "--rounds"),
     ("--order", "--steps"),
@@ -115,8 +115,6 @@ const APART: [(&str, &str); 34] = [
     ("--estimate", "--front"),
     ("--estimate", "--threads"),
     ("--alike", "--ends"),
-    ("--alike", "--always"),
-    ("--alike", "--some"),
     ("--alike", "--throughout"),
     ("--alike", "--after"),
     ("--alike", "--front"),

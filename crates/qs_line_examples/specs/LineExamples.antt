@@ -20,7 +20,7 @@ use Rattle.qs_line.specs.declared.line.GraphFormat.TheVariants as graph_format
 use Rattle.qs_line.specs.declared.line.OutcomesFormat.TheVariants as outcomes_format
 use Rattle.qs_line.specs.declared.line.ReportFormat.TheVariants as report_format
 use Rattle.qs_line.specs.declared.line.ReportStyle.{ReportStyle}
-use Rattle.qs_line.specs.Line.{Line, alike, ask, asks, by_order, by_schedule, check, estimate, fronts, graph, help, is_verbose_in, line_in, outcomes, play, refused, rules, run, tally, version, warns_in}
+use Rattle.qs_line.specs.Line.{Line, alike, ask, ask_alike, asks, by_order, by_schedule, check, estimate, fronts, graph, help, is_verbose_in, line_in, outcomes, play, refused, rules, run, tally, version, warns_in}
 
 -- the line of the words after the program's name
 abbrev pub line : List Text → Line
@@ -127,13 +127,31 @@ pub record EstimateLines : Type 0 where
   pub as_drawing : line (codes "outcomes" ∷ codes "--estimate" ∷ codes "--format=dot" ∷ []) ≡ refused
   pub of_run : line (codes "run" ∷ codes "--estimate" ∷ []) ≡ refused
 
+abbrev pub number : ℕ → ℕ → Summand
+number place n = record { place = place; negative = false; value = value.Number (pos n) }
+
+-- that one is less than two
+abbrev pub is_less : List Step
+is_less = steps.Compare (number 0 1 ∷ []) relation.Less (number 2 2 ∷ []) ∷ []
+
+abbrev pub claim : Quantifier → Claim
+claim q = record { quantifier = q; condition = is_less }
+
 pub record AlikeLines : Type 0 where
   pub alone : line (codes "outcomes" ∷ codes "--alike" ∷ []) ≡ asks (alike format.Text 1000000)
   pub limited : line (codes "outcomes" ∷ codes "--limit=7" ∷ codes "--alike" ∷ codes "--format=json" ∷ [])
       ≡ asks (alike format.Json 7)
   pub as_drawing : line (codes "outcomes" ∷ codes "--alike" ∷ codes "--format=dot" ∷ []) ≡ refused
   pub with_ends : line (codes "outcomes" ∷ codes "--ends" ∷ codes "--alike" ∷ []) ≡ refused
-  pub with_condition : line (codes "outcomes" ∷ codes "--alike" ∷ codes "--some=1<2" ∷ []) ≡ refused
+  pub with_condition : line (codes "outcomes" ∷ codes "--alike" ∷ codes "--some=1<2" ∷ codes "--format=json" ∷ [])
+      ≡ asks (ask_alike (claim quantifier.Some) format.Json 1000000)
+  pub with_other_condition : line (codes "outcomes" ∷ codes "--always=1<2" ∷ codes "--limit=7" ∷ codes "--alike" ∷ [])
+      ≡ asks (ask_alike (claim quantifier.Always) format.Text 7)
+  pub with_course : line (codes "outcomes" ∷ codes "--alike" ∷ codes "--throughout=1<2" ∷ []) ≡ refused
+  pub with_two : line (codes "outcomes" ∷ codes "--alike" ∷ codes "--always=1<2" ∷ codes "--some=1<2" ∷ []) ≡ refused
+  pub with_no_condition : line (codes "outcomes" ∷ codes "--alike" ∷ codes "--some=<" ∷ []) ≡ refused
+  pub condition_after : line (codes "outcomes" ∷ codes "--alike" ∷ codes "--some=1<2" ∷ codes "--after=c0" ∷ [])
+      ≡ refused
   pub with_estimate : line (codes "outcomes" ∷ codes "--alike" ∷ codes "--estimate" ∷ []) ≡ refused
   pub after : line (codes "outcomes" ∷ codes "--alike" ∷ codes "--after=c0" ∷ []) ≡ refused
   pub with_threads : line (codes "outcomes" ∷ codes "--alike" ∷ codes "--threads=2" ∷ []) ≡ refused
@@ -241,16 +259,6 @@ pub record FormatLines : Type 0 where
   pub ends_as_drawing : line (codes "outcomes" ∷ codes "--ends" ∷ codes "--format=dot" ∷ []) ≡ refused
   pub ends_of_a_run : line (codes "play" ∷ codes "--ends" ∷ []) ≡ refused
   pub before_word : line (codes "--format=dot" ∷ codes "graph" ∷ []) ≡ refused
-
-abbrev pub number : ℕ → ℕ → Summand
-number place n = record { place = place; negative = false; value = value.Number (pos n) }
-
--- that one is less than two
-abbrev pub is_less : List Step
-is_less = steps.Compare (number 0 1 ∷ []) relation.Less (number 2 2 ∷ []) ∷ []
-
-abbrev pub claim : Quantifier → Claim
-claim q = record { quantifier = q; condition = is_less }
 
 pub record ClaimLines : Type 0 where
   pub always : line (codes "outcomes" ∷ codes "--always" ∷ codes "1<2" ∷ [])

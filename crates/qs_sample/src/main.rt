@@ -139,6 +139,23 @@ fn put_alike<W: Write>(out: &mut W, alloc: Global) -> io::Result<()> {
     put_words(out, "outcomes but for alike clients", words)
 }
 
+// What is answered where alike clients may change places.
+fn put_answers<W: Write>(out: &mut W, alloc: Global) -> io::Result<()> {
+    let found = match scripts::program(alloc, scripts::ALIKE) {
+        Some(program) => (
+            searching::holds_always_but_for_alike(alloc, &program, "a.balance() == 5"),
+            searching::holds_always_but_for_alike(alloc, &program, "c.x < 4"),
+        ),
+        None => (None, None),
+    };
+    let words = match found {
+        (Some((true, 6)), Some((false, 20))) =>
+            "the account always has 5, by 6 configurations; c may read 4, by 20",
+        _ => "refused",
+    };
+    put_words(out, "answers but for alike clients", words)
+}
+
 fn tour<R: Threads + Wait + Sync, W: Write>(rt: &R, alloc: Global, out: &mut W) -> io::Result<()> {
     let Some(program) = scripts::program(alloc, scripts::TRANSFER) else {
         return put(out, "a script", None);
@@ -146,6 +163,7 @@ fn tour<R: Threads + Wait + Sync, W: Write>(rt: &R, alloc: Global, out: &mut W) 
     put_played(out, alloc, &program)?;
     put_found(out, alloc, &program)?;
     put_alike(out, alloc)?;
+    put_answers(out, alloc)?;
     put_by_hand(out, rt, alloc, &program)?;
     put_minds(out, alloc)?;
     if let Some(chain) = scripts::program(alloc, scripts::ONE_AFTER_THE_OTHER) {

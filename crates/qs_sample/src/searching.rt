@@ -4,7 +4,7 @@ use qs_alike::{classes_of, outcomes_alike};
 use qs_conditions::{Claim, Quantifier, read_condition};
 use qs_outcomes::{Watcher, outcomes};
 use qs_program::Program;
-use qs_questions::{answer, first_unknown};
+use qs_questions::{answer, answer_alike, first_unknown};
 use qs_report::outcomes_text;
 use std::alloc::Global;
 
@@ -47,4 +47,21 @@ pub fn holds_always(alloc: Global, program: &Program, text: &str) -> Option<bool
     };
     let found = answer(alloc, program, &claim, &[], LIMIT, &mut Silent).ok()?;
     Some(found.witness.is_none())
+}
+
+/// Whether a condition holds at the end of every run, and how many configurations it took to say so, where alike clients
+/// may change places but for those that the condition names. `answer_alike` has a witness exactly where `answer` has one
+/// (law `alike_answers_agree`).
+pub fn holds_always_but_for_alike(
+    alloc: Global,
+    program: &Program,
+    text: &str,
+) -> Option<(bool, usize)> {
+    let condition = read_condition(alloc, text.as_bytes()).ok()?;
+    let claim = Claim {
+        quantifier: Quantifier::Always,
+        condition,
+    };
+    let found = answer_alike(alloc, program, &claim, LIMIT).ok()?;
+    Some((found.witness.is_none(), found.configurations))
 }

@@ -3,6 +3,7 @@
 -- the text. The function `serve` and those that find what is due stand on it. Each goes by cases on what the line asks
 -- for and on the answer.
 use Rattle.std.proofs.Common.{◌≡◌, ◌≤◌, ◌⊎◌, ◌||◌, if◌then◌else◌, ℕ, Bool, List, [], ◌∷◌, ◌∙◌, Option, Some, None, Result, Ok, true, false, refl, sym, subst, inl, inr, IsOkAnd}
+use Rattle.std.specs.Prelude.{is_some}
 use Rattle.std.proofs.lemmas.List.{append-nil}
 use Rattle.qs_played.specs.Played.{Played}
 use Rattle.qs_report.specs.declared.faults.Fault.{Fault}
@@ -35,7 +36,7 @@ use Rattle.qs_line.specs.declared.line.Format.TheVariants as format
 use Rattle.qs_line.specs.declared.line.OutcomesFormat.{OutcomesFormat}
 use Rattle.qs_line.specs.declared.line.GraphFormat.TheVariants as graph_format
 use Rattle.qs_line.specs.declared.line.ReportStyle.{ReportStyle}
-use Rattle.qs_line.specs.Line.{Line, Request, alike, ask, asks, check, estimate, fronts, graph, help, outcomes, play, refused, rules, run, tally, version}
+use Rattle.qs_line.specs.Line.{Line, Request, alike, ask, ask_alike, asks, check, estimate, fronts, graph, help, outcomes, play, refused, rules, run, tally, version}
 use Rattle.qs_conditions.specs.declared.claim.Claim.{Claim}
 use Rattle.qs_outcomes.specs.Answers.{AnswerShape}
 use Rattle.std.specs.Prelude.{Err, IfErr, IfOk, IfSome, MatchBool}
@@ -227,6 +228,11 @@ due_by_outcomes how p limit threads front clients (Refused (fault.Play f)) named
 due_by_outcomes how p limit threads front clients (Refused (fault.Order f)) named is = absurd is
 due_by_outcomes how p limit threads front clients (Refused (fault.Run f)) named is = absurd is
 
+-- where no place was found there is none
+pub none_found : (found due : Option ℕ) → found ≡ due → is_some found ≡ false → due ≡ None
+none_found None due e h = sym e
+none_found (Some i) due e h = absurd (cc h)
+
 -- a witness has its places, wherever it was found
 places_at_end : (p : ProgramShape) (front : List Ticket) (asked : OrderOutcome → Bool) (w : Option StandingShape) → IfSome w (IsWitnessAfter p front asked) → IfSome w (HasPlaces p)
 places_at_end p front asked None is = tt
@@ -336,6 +342,7 @@ any_text (ask claim how limit front) found lines p text are is = is
 any_text (estimate how front) found lines p text are is = is
 any_text (fronts how blocks limit front) found lines p text are is = is
 any_text (alike how limit) found lines p text are is = is
+any_text (ask_alike claim how limit) found lines p text are is = is
 any_text (outcomes how limit threads front) found lines p text are is = is
 
 -- what is due with the lines that were found is due with these

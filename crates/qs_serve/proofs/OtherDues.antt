@@ -1,6 +1,6 @@
--- What is due of the searches of other kinds: one of all alike outcomes, and the configurations after so many blocks. The
--- functions of `searches` stand on it. Each goes by cases on what is due.
-use Rattle.std.proofs.Common.{◌≡◌, ◌≤◌, ◌==◌, ◌⊎◌, ◌∙◌, ℕ, List, [], Result, Ok, Err, Vec, IfOk, false, length, ap, refl, sym, subst, inl, inr}
+-- What is due of the searches of other kinds: one of all alike outcomes, the answer to a claim by these, and the
+-- configurations after so many blocks. The functions of `searches` stand on it. Each goes by cases on what is due.
+use Rattle.std.proofs.Common.{◌≡◌, ◌≤◌, ◌==◌, ◌⊎◌, ◌∙◌, ℕ, Bool, List, [], Option, Some, None, Result, Ok, Err, Vec, IfOk, IfSome, false, length, ap, refl, sym, subst, inl, inr}
 use Rattle.std.specs.Global.{Global}
 use Rattle.std.specs.List.{AllByRecursion, AllZip}
 use Rattle.std.proofs.lemmas.Slice.Zip.{AllZip-long}
@@ -17,11 +17,17 @@ use Rattle.qs_alike.specs.AlikeOutcomes.{AlikeShape, AreAlikeOutcomes, HasMoreUn
 use Rattle.qs_alike.specs.Changes.{Classes}
 use Rattle.qs_level_laws.specs.Fronts.{AreFrontsAfter, IsAfter}
 use Rattle.qs_report.specs.declared.faults.Fault.TheVariants as fault
-use Rattle.qs_line.specs.Line.{alike, fronts}
+use Rattle.qs_conditions.specs.declared.claim.Claim.{Claim}
+use Rattle.qs_meaning.specs.Configurations.{OrderOutcome}
+use Rattle.qs_outcomes.specs.Answers.{AnswerShape}
+use Rattle.qs_questions.specs.AlikeClaims.{HasMoreAlike, IsAlikeAnswer, IsEndMet}
+use Rattle.qs_questions.specs.Claims.{is_sought}
+use Rattle.qs_questions.specs.Questions.{first_unknown_in}
+use Rattle.qs_line.specs.Line.{alike, ask_alike, fronts}
 use Rattle.qs_line.specs.Named.{clients_of}
 use Rattle.qs_line.specs.declared.line.Format.{Format}
 use Rattle.qs_line.specs.declared.parts.Part.{Part}
-use Rattle.qs_serve.specs.Due.{AreNoFronts, AreTheClasses, AreToldFronts, AreUnlistedAlike, IsAlikeText, IsDueOfFronts, IsDueOfProgram, IsFrontsText, IsOutOfMemory, IsRefusedBy, IsTextOf, alike_in}
+use Rattle.qs_serve.specs.Due.{AreNoFronts, AreTheClasses, AreToldFronts, AreUnlistedAlike, IsAlikeAnswerText, IsAlikeText, IsAnswered, IsDueOfFronts, IsDueOfProgram, IsFrontsText, IsOutOfMemory, IsRefusedBy, IsTextOf, IsUnansweredAlike, alike_in}
 use Rattle.qs_serve.specs.declared.due.Due.{Due}
 use Rattle.qs_serve.specs.declared.due.Due.TheVariants.{Text, No, Refused}
 use Rattle.qs_serve.proofs.Dues.{of_named}
@@ -50,6 +56,33 @@ unlisted_alike p k limit outcomes_fault.Memory classes more order = tt
 pub due_unlisted : (how : Format) (p : ProgramShape) (limit : ℕ) (f : OutcomesFault) → AreUnlistedAlike p limit f
     → IsOutOfMemory (Refused (fault.Outcomes f)) ⊎ IsDueOfProgram (alike how limit) [] p (Refused (fault.Outcomes f))
 due_unlisted how p limit f is = inr is
+
+-- a witness of an answer by alike ends has its places
+met_places : (p : ProgramShape) (asked : OrderOutcome → Bool) (w : Option StandingShape) → IfSome w (IsEndMet p asked) → IfSome w (HasPlaces p)
+met_places p asked None is = tt
+met_places p asked (Some s) is = is.end.places
+
+pub alike_witness_places : (p : ProgramShape) (claim : Claim) (a : AnswerShape) → IsAlikeAnswer claim p a → IfSome a.witness (HasPlaces p)
+alike_witness_places p claim a (k, classes, is) = met_places p (is_sought claim p) a.witness is.witness
+
+pub due_by_alike_claim : (how : Format) (p : ProgramShape) (claim : Claim) (limit : ℕ) (a : AnswerShape) (due : Due) → first_unknown_in p claim.condition ≡ None
+    → IsAlikeAnswer claim p a → a.configurations ≤ limit → IsAnswered how p claim.quantifier a due
+    → IsOutOfMemory due ⊎ IsDueOfProgram (ask_alike claim how limit) [] p due
+unfolding IsAlikeAnswerText
+due_by_alike_claim how p claim limit a (Text bytes) known are within is = inr (known, (a, are, within, sym is.0, is.1))
+due_by_alike_claim how p claim limit a (No bytes) known are within is = inr (known, (a, are, within, sym is.0, is.1))
+due_by_alike_claim how p claim limit a (Refused f) known are within is = inl (subst (λ g. IsOutOfMemory (Refused g)) (sym is) tt)
+
+-- why a search for it was given up is why there is no answer
+pub unanswered_alike : (p : ProgramShape) (claim : Claim) (limit : ℕ) (f : OutcomesFault) → (f ≡ outcomes_fault.Limit → HasMoreAlike claim p limit)
+    → (f ≡ outcomes_fault.Order → ⊥) → IsUnansweredAlike p claim limit f
+unanswered_alike p claim limit outcomes_fault.Limit more order = more refl
+unanswered_alike p claim limit outcomes_fault.Order more order = order refl
+unanswered_alike p claim limit outcomes_fault.Memory more order = tt
+
+pub due_unanswered_alike : (how : Format) (p : ProgramShape) (claim : Claim) (limit : ℕ) (f : OutcomesFault) → IsUnansweredAlike p claim limit f
+    → IsOutOfMemory (Refused (fault.Outcomes f)) ⊎ IsDueOfProgram (ask_alike claim how limit) [] p (Refused (fault.Outcomes f))
+due_unanswered_alike how p claim limit f is = inr is
 
 pub fronts_places : (p : ProgramShape) (front : List Ticket) (blocks : ℕ) (found : List StandingShape) → AreFrontsAfter p front blocks found → AllByRecursion (HasPlaces p) found
 fronts_places p front blocks found are =

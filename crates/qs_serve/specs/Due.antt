@@ -26,7 +26,9 @@ use Rattle.qs_dot.specs.DotText.{IsDotText}
 use Rattle.qs_node_lines.specs.NodeLines.{node_lines}
 use Rattle.qs_conditions.specs.declared.claim.Claim.{Claim}
 use Rattle.qs_conditions.specs.declared.claim.Quantifier.{Quantifier}
+use Rattle.qs_conditions.specs.declared.claim.Quantifier.TheVariants as quantifier
 use Rattle.qs_outcomes.specs.Answers.{AnswerShape}
+use Rattle.qs_questions.specs.AlikeClaims.{HasMoreAlike, IsAlikeAnswer}
 use Rattle.qs_questions.specs.Claims.{HasMoreFor}
 use Rattle.qs_questions.specs.Questions.{first_unknown_in}
 use Rattle.qs_json.specs.AlikeJson.{all_alike_json}
@@ -85,7 +87,7 @@ use Rattle.qs_line.specs.declared.line.LineFault.{LineFault}
 use Rattle.qs_line.specs.declared.line.LineFault.TheVariants as line_fault
 use Rattle.qs_line.specs.declared.line.ReportStyle.{ReportStyle}
 use Rattle.qs_line.specs.declared.line.Settings.{Settings}
-use Rattle.qs_line.specs.Line.{Line, PlanShape, Request, alike, ask, asks, by_order, by_schedule, check, estimate, format_by, format_of_request, fronts, graph, help, line_in, outcomes, play, refused, request_of, rules, run, tally, version}
+use Rattle.qs_line.specs.Line.{Line, PlanShape, Request, alike, ask, ask_alike, asks, by_order, by_schedule, check, estimate, format_by, format_of_request, fronts, graph, help, line_in, outcomes, play, refused, request_of, rules, run, tally, version}
 use Rattle.qs_run_report.specs.RunReports.{report_by}
 use Rattle.qs_serve.specs.Reading.{Reading}
 use Rattle.qs_serve.specs.declared.due.Due.{Due}
@@ -228,6 +230,13 @@ IsAlikeText how p limit text =
     (k : Classes) × AreTheClasses p k × ((all : AlikeShape) × AreAlikeOutcomes p k all × (all.configurations ≤ limit)
     × (text ≡ alike_in how p all))
 
+-- There is an answer to a claim, yes or no, where alike clients may change places but for those that its condition
+-- names, over no more configurations than the limit, whose text this is.
+unfoldable pub IsAlikeAnswerText : Format → ProgramShape → Claim → (limit : ℕ) → (holds : Bool) → List ℕ → Type 0
+IsAlikeAnswerText how p claim limit holds text =
+    (a : AnswerShape) × IsAlikeAnswer claim p a × (a.configurations ≤ limit) × (holds ≡ is_yes claim.quantifier a)
+    × (text ≡ answer_in how p claim.quantifier a)
+
 -- fronts, as text or as JSON
 abbrev pub fronts_in : Format → ProgramShape → List StandingShape → List ℕ
 fronts_in format.Text p found = fronts_text p found
@@ -336,15 +345,17 @@ abbrev pub IsAnswerBy : Request → ProgramShape → (holds : Bool) → List ℕ
 IsAnswerBy (ask claim how limit front) p holds text =
     (first_unknown_in p claim.condition ≡ None)
     × IsOkAnd (clients_of p front) (λ clients. IsAnswerTextTo how p claim limit clients holds text)
+IsAnswerBy (ask_alike claim how limit) p holds text =
+    (first_unknown_in p claim.condition ≡ None) × IsAlikeAnswerText how p claim limit holds text
 IsAnswerBy _ p holds text = ⊥
 
 -- what a request makes of a program: its counts; its graphs; the report of its run by the plain rules or in the
 -- optimised machine; that of an outcome which its run on threads may have, or how often each end came in so many of
 -- these; after the blocks of some clients, how many configurations there can be; or, after these and of so many
 -- configurations at most, that a claim holds, the configurations after so many blocks more, or all its outcomes, by as
--- many threads as may be; or one of all alike ones. Each is written in the format that is asked for, and
--- a report with what was refused and with the counts of synchronisations where they are asked for, after a line for
--- each step where these are, and before what lies where at the end of a run that has not finished.
+-- many threads as may be; or one of all alike ones, or that a claim holds by these. Each is written in the format that
+-- is asked for, and a report with what was refused and with the counts of synchronisations where they are asked for,
+-- after a line for each step where these are, and before what lies where at the end of a run that has not finished.
 abbrev pub IsTextBy : Request → Lines → ProgramShape → List ℕ → Type 0
 IsTextBy (check how) lines p text = text ≡ counts_by_format how p
 IsTextBy (graph how) lines p text = IsTextOfGraphs how lines p text
@@ -368,6 +379,7 @@ IsTextBy (ask claim how limit front) lines p text = IsAnswerBy (ask claim how li
 IsTextBy (fronts how blocks limit front) lines p text =
     IsOkAnd (clients_of p front) (λ clients. IsFrontsText how p blocks clients text)
 IsTextBy (alike how limit) lines p text = IsAlikeText how p limit text
+IsTextBy (ask_alike claim how limit) lines p text = IsAnswerBy (ask_alike claim how limit) p true text
 IsTextBy (outcomes how limit threads front) lines p text =
     IsOkAnd (clients_of p front) (λ clients. IsTextOfOutcomes how p limit clients text)
 
@@ -376,12 +388,15 @@ abbrev pub IsUnnamed : PlanShape → ProgramShape → Type 0
 IsUnnamed (by_schedule rounds picks) p = IsErr (actors_of p picks)
 IsUnnamed (by_order list) p = IsErr (clients_of p list)
 
--- so does the list that a request asks by, or its condition speaks of what the program does not have
+-- so does the list that a request asks by, or its condition speaks of what the program does not have, or of more than
+-- ends where the answer is by these
 abbrev pub IsUnnamedBy : Request → ProgramShape → Type 0
 IsUnnamedBy (rules style plan) p = IsUnnamed plan p
 IsUnnamedBy (play style mode size plan) p = IsUnnamed plan p
 IsUnnamedBy (ask claim how limit front) p =
     (¬ (first_unknown_in p claim.condition ≡ None)) ⊎ IsErr (clients_of p front)
+IsUnnamedBy (ask_alike claim how limit) p =
+    (¬ (first_unknown_in p claim.condition ≡ None)) ⊎ (claim.quantifier ≡ quantifier.Throughout)
 IsUnnamedBy (estimate how front) p = IsErr (clients_of p front)
 IsUnnamedBy (fronts how blocks limit front) p = IsErr (clients_of p front)
 IsUnnamedBy (outcomes how limit threads front) p = IsErr (clients_of p front)
@@ -450,6 +465,12 @@ AreUnlistedAlike p limit outcomes_fault.Limit = (k : Classes) × AreTheClasses p
 AreUnlistedAlike p limit outcomes_fault.Order = ⊥
 AreUnlistedAlike p limit outcomes_fault.Memory = Unit {0}
 
+-- why a claim is not answered where alike clients may change places
+abbrev pub IsUnansweredAlike : ProgramShape → Claim → (limit : ℕ) → OutcomesFault → Type 0
+IsUnansweredAlike p claim limit outcomes_fault.Limit = HasMoreAlike claim p limit
+IsUnansweredAlike p claim limit outcomes_fault.Order = ⊥
+IsUnansweredAlike p claim limit outcomes_fault.Memory = Unit {0}
+
 -- why outcomes that a request asks for are not listed
 abbrev pub IsUnlistedBy : Request → ProgramShape → OutcomesFault → Type 0
 IsUnlistedBy (ask claim how limit front) p f =
@@ -458,6 +479,7 @@ IsUnlistedBy (estimate how front) p f = IsOkAnd (clients_of p front) (λ clients
 IsUnlistedBy (fronts how blocks limit front) p f =
     IsOkAnd (clients_of p front) (λ clients. AreNoFronts p blocks limit clients f)
 IsUnlistedBy (alike how limit) p f = AreUnlistedAlike p limit f
+IsUnlistedBy (ask_alike claim how limit) p f = IsUnansweredAlike p claim limit f
 IsUnlistedBy (outcomes how limit threads front) p f =
     IsOkAnd (clients_of p front) (λ clients. IsUnlisted p (limit_in how limit) clients f)
 IsUnlistedBy _ p f = ⊥
@@ -521,6 +543,7 @@ AreLinesFor (ask claim how limit front) found lines = ⊤
 AreLinesFor (estimate how front) found lines = ⊤
 AreLinesFor (fronts how blocks limit front) found lines = ⊤
 AreLinesFor (alike how limit) found lines = ⊤
+AreLinesFor (ask_alike claim how limit) found lines = ⊤
 AreLinesFor (outcomes how limit threads front) found lines = ⊤
 
 -- what a request makes of a text: the result of its program, or the fault of the text, of its script, of the list whose

@@ -16,7 +16,7 @@ use crate::estimates::due_of_estimate;
 use crate::input::{Counted, InputFault, gather};
 use crate::plays::{due_of_play, due_of_rules};
 use crate::reports::due_of_outcome;
-use crate::searches::{due_by_threads, due_of_alike, due_of_fronts};
+use crate::searches::{due_by_threads, due_of_alike, due_of_alike_claim, due_of_fronts};
 use crate::tallies::due_of_tally;
 use qs_check::{CheckFault, Program, check};
 use qs_chunk::ChunkSize;
@@ -132,8 +132,8 @@ fn due_of_run<S: Starter, T: Threads + Wait + Sync>(
     }
 }
 
-// The answer to a claim, in a format.
-fn due_of_answer(
+/// The answer to a claim, in a format.
+pub(crate) fn due_of_answer(
     alloc: Global,
     program: &Program,
     quantifier: Quantifier,
@@ -341,6 +341,11 @@ pub(crate) fn due_of_program<P: Watcher>(
             front,
         } => due_of_fronts(alloc, program, *format, *blocks, *limit, front.as_slice()),
         Settings::Alike { format, limit } => due_of_alike(alloc, program, *format, *limit),
+        Settings::AskAlike {
+            claim,
+            format,
+            limit,
+        } => due_of_alike_claim(alloc, program, claim, *format, *limit),
         Settings::Outcomes {
             format,
             limit,

@@ -5,16 +5,18 @@ ghost use Rattle.std.specs.Prelude.{◌≡◌, ◌<◌, ◌⊎◌, [], length, I
 ghost use Rattle.std.specs.List.{AllByRecursion};
 ghost use Rattle.qs_outcomes.specs.Outcomes.{HasPlaces};
 ghost use Rattle.qs_report.specs.declared.faults.Fault.TheVariants as fault;
-ghost use Rattle.qs_line.specs.Line.{alike, fronts, outcomes};
+ghost use Rattle.qs_line.specs.Line.{alike, ask_alike, fronts, outcomes};
 ghost use Rattle.qs_serve.specs.Due.{AreToldFronts, alike_in, IsDueAfter, IsDueOfFronts, IsDueOfProgram, IsOutOfMemory, IsRefusedBy, listed_as};
 
-use crate::due::{Due, due_of_all, due_of_bytes, due_of_list, due_of_outcomes};
+use crate::due::{Due, due_of_all, due_of_answer, due_of_bytes, due_of_list, due_of_outcomes};
 use qs_alike::{AlikeOutcomes, classes_of, outcomes_alike};
 use qs_check::Program;
+use qs_conditions::{Claim, Quantifier};
 use qs_json::{alike_json, fronts_json};
 use qs_levels::{fronts_after, outcomes_by_levels};
 use qs_line::{Format, OutcomesFormat, Part, clients_of};
 use qs_outcomes::{OutcomesFault, Watcher};
+use qs_questions::{answer_alike, first_unknown};
 use qs_report::{Fault, alike_text, fronts_text};
 use qs_standings::Standing;
 use std::alloc::{AllocError, Global};
@@ -47,6 +49,31 @@ pub(crate) fn due_of_alike(alloc: Global, program: &Program, format: Format, lim
     let classes = classes_of(program);
     match outcomes_alike(alloc, program, &classes, limit) {
         Ok(all) => due_of_bytes(text_of_alike(alloc, program, format, &all)),
+        Err(fault) => Due::Refused(Fault::Outcomes(fault)),
+    }
+}
+
+/// The answer to a claim on ends, in a format, by one of all ends that differ by alike clients in each other's places,
+/// found over so many configurations at most. A condition that speaks of what the program does not have is refused, and
+/// so is what has to hold throughout.
+pub(crate) fn due_of_alike_claim(
+    alloc: Global,
+    program: &Program,
+    claim: &Claim,
+    format: Format,
+    limit: u32,
+) -> Due
+    ensures not_input { ¬ IsRefusedBy fault.Input result }
+    ensures due { IsOutOfMemory result ⊎ IsDueOfProgram (ask_alike claim.now format limit) [] program.now result }
+{
+    if matches!(claim.quantifier, Quantifier::Throughout) {
+        return Due::Refused(Fault::CommandLine);
+    }
+    if first_unknown(&claim.condition, program).is_some() {
+        return Due::Refused(Fault::CommandLine);
+    }
+    match answer_alike(alloc, program, claim, limit) {
+        Ok(answer) => due_of_answer(alloc, program, claim.quantifier, format, answer),
         Err(fault) => Due::Refused(Fault::Outcomes(fault)),
     }
 }

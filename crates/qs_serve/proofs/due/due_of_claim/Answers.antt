@@ -1,12 +1,6 @@
-use Rattle.std.proofs.Common.{◌≡◌, ◌∙◌, ap, sym, false, ℕ, Option, Some, None, Ok}
-use Rattle.std.specs.Prelude.{is_some}
-use Rattle.qs_serve.proofs.Dues.{due_by_claim}
+use Rattle.std.proofs.Common.{◌∙◌, ap, sym, Ok}
+use Rattle.qs_serve.proofs.Dues.{due_by_claim, none_found}
 use Rattle.qs_serve.proofs.due.due_of_claim.Goals as goal
-
--- where no place was found there is none
-none_found : (found due : Option ℕ) → found ≡ due → is_some found ≡ false → due ≡ None
-none_found None due e h = sym e
-none_found (Some i) due e h = absurd (cc h)
 
 pub returns-clause-due : goal.returns-clause-due
 returns-clause-due g c =
