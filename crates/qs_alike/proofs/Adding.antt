@@ -7,7 +7,7 @@ use Rattle.std.specs.List.{AllByRecursion, sum}
 use Rattle.std.proofs.lemmas.List.Sums.{sum_by-cons}
 use Rattle.qs_meaning.specs.Configurations.{OrderOutcome, outcome_of}
 use Rattle.qs_meaning.proofs.Each.{each_join, each_map}
-use Rattle.qs_estimate.proofs.Pigeonhole.{at_most}
+use Rattle.qs_standings.proofs.Pigeonhole.{at_most}
 use Rattle.qs_outcomes.specs.Outcomes.{IsListed, outcome_at}
 use Rattle.qs_standings.specs.Lists.{HasOne, NoTwo}
 use Rattle.qs_standings.specs.Standings.{StandingShape}

@@ -1,15 +1,15 @@
 -- From one configuration to another all legal orders are equally long: each block adds one to the count of a client.
-use Rattle.std.proofs.Common.{◌≡◌, ℕ, zero, suc, ◌+◌, ◌<◌, ◌≤◌, arith, List, [], ◌∷◌, length, refl, ap, subst, ⊎_elim, inl, inr}
-use Rattle.std.proofs.lemmas.Bool.{cases_eq, cases_lt}
+use Rattle.std.proofs.Common.{◌≡◌, ℕ, zero, suc, ◌+◌, ◌<◌, arith, List, [], ◌∷◌, length, refl, ap, subst, inl, inr}
+use Rattle.std.proofs.lemmas.Bool.{cases_eq}
 use Rattle.qs_objects.specs.declared.held.Ticket.{Ticket}
 use Rattle.qs_objects.proofs.Choices.{eqb_apart}
-use Rattle.qs_program.specs.Program.{ProgramShape, blocks_of, no_client}
+use Rattle.qs_program.specs.Program.{ProgramShape}
 use Rattle.qs_meaning.specs.Configurations.{Configuration, configuration_from, one_block_on}
 use Rattle.qs_meaning.specs.Serial.{LegalFrom}
 use Rattle.qs_meaning.specs.Solo.{put}
 use Rattle.qs_meaning.proofs.Orders.{legal_on}
 use Rattle.qs_meaning.proofs.TreeWalks.{put_here, put_there}
-use Rattle.qs_standings.proofs.Stands.{past_end}
+use Rattle.qs_standings.proofs.Stands.{has_place}
 
 pub total_of : ℕ → (ℕ → ℕ) → ℕ
 total_of zero f = 0
@@ -36,16 +36,6 @@ total_put (suc n) c f less = elim (cases_eq c n) [
       let here : put f c (suc (f c)) n ≡ f n = put_there f c (suc (f c)) n (eqb_apart c n other) in
       omega (arith, before, here)
 ]
-
--- who has a block is one of the program's clients
-has_place : (p : ProgramShape) (c k : ℕ) → k < blocks_of p c → c < length p.clients
-has_place p c k less =
-    ⊎_elim
-    (λ (l : c < length p.clients). l)
-    (λ (past : length p.clients ≤ c).
-    let none : blocks_of p c ≡ 0 = ap (λ client. length client.blocks) (past_end p.clients c no_client past) in
-    absurd (omega (arith, less, none)))
-    (cases_lt c (length p.clients))
 
 total_after : (p : ProgramShape) (g : Configuration) (ts : List Ticket) → LegalFrom p g.begun ts
     → length ts + total_of (length p.clients) g.begun ≡ total_of (length p.clients) (configuration_from p g ts).begun

@@ -257,6 +257,13 @@ impl Mind {
         if self.is_between() { begun } else { begun - 1 }
     }
 
+    /// Writes to all memory that was taken for traces, so that no block has to wait until the system finds it.
+    pub fn touch(&mut self)
+        ensures same { self.new ≡ self.old }
+    {
+        self.run.touch();
+    }
+
     /// How many Syncs were sent, as the act after each comes.
     #[tactic(auto, unfolding(crate::specs::MindState::mind_of))]
     pub fn syncs(&self) -> u64

@@ -74,6 +74,13 @@ impl Run {
         self.holdings.held(handler)
     }
 
+    /// Writes to all memory that was taken for traces, so that no block has to wait until the system finds it.
+    pub fn touch(&mut self)
+        ensures same { self.new ≡ self.old }
+    {
+        self.traces.touch();
+    }
+
     /// The traces of all blocks, by move.
     pub fn into_traces(self) -> Traces
         ensures value { result ≡ self.traces }

@@ -38,6 +38,7 @@ pub fn run<D: DeskName, R: Wait>(
         × AreDone share.client lanes deeds result.1 result.2 }
 {
     let mut mind = mind;
+    mind.touch();
     let mut share = share;
     let mut lanes = lanes;
     for _ in rt.forever() {

@@ -20,7 +20,7 @@ use Rattle.qs_estimate.specs.Estimates.{left}
 use Rattle.qs_estimate.specs.Laws.{LeastIsThere}
 use Rattle.qs_estimate.proofs.BlocksLeft.{begun_few, begun_more, left-long, left_of, word_named}
 use Rattle.qs_estimate.proofs.Choosing.{vectors, vectors-long, vectors_apart, vectors_within}
-use Rattle.qs_estimate.proofs.Pigeonhole.{at_most}
+use Rattle.qs_standings.proofs.Pigeonhole.{at_most}
 use Rattle.qs_estimate.proofs.Words.{times, times-append, times-here, times-there}
 
 -- ---- an order for a choice

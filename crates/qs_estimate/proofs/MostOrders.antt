@@ -16,7 +16,7 @@ use Rattle.qs_estimate.specs.Estimates.{left, most_orders}
 use Rattle.qs_estimate.specs.Laws.{MostSuffices, MostSufficesOnTheWay}
 use Rattle.qs_estimate.proofs.BlocksLeft.{word, word_few}
 use Rattle.qs_estimate.proofs.Mapped.{has_mapped}
-use Rattle.qs_estimate.proofs.Pigeonhole.{at_most}
+use Rattle.qs_standings.proofs.Pigeonhole.{at_most}
 use Rattle.qs_estimate.proofs.Words.{word_in, words, words_few}
 
 -- where the next blocks of these clients lead

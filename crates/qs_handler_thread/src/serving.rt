@@ -46,6 +46,8 @@ pub fn serve<D: DeskName, L, G: Passage<L>, R: Wait>(
     let object = tickets.handler();
     let mut tickets = tickets;
     let mut lanes = lanes;
+    let mut held = held;
+    held.touch();
     let mut mind = Mind::new(held);
     for _ in rt.forever() {
         match mind.next() {

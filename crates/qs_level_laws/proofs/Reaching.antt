@@ -1,11 +1,11 @@
 -- From level to level: a reduced order of one block more goes through the level, and where it goes on from there the
 -- least order of the level does so, too, no later. So the next level has the least orders again, and no order that
 -- leads to one of its configurations is before the one that stands there.
-use Rattle.std.proofs.Common.{◌≡◌, ◌<◌, ◌≤◌, ◌+◌, ℕ, zero, suc, true, List, [], ◌∷◌, ◌++◌, length, take, drop, refl, sym, ap, ◌∙◌, subst, arith, inl, inr, ⊎_elim, append_assoc, append-nil, length-append}
+use Rattle.std.proofs.Common.{◌≡◌, ◌≤◌, ◌+◌, ℕ, zero, suc, true, List, [], ◌∷◌, ◌++◌, length, take, drop, refl, sym, ap, ◌∙◌, subst, arith, inl, inr, append_assoc, append-nil, length-append}
 use Rattle.std.proofs.lemmas.List.{length-take-le}
 use Rattle.std.specs.List.{AllByRecursion}
 use Rattle.qs_objects.specs.declared.held.Ticket.{Ticket}
-use Rattle.qs_program.specs.Program.{ProgramShape, blocks_of, no_client}
+use Rattle.qs_program.specs.Program.{ProgramShape, blocks_of}
 use Rattle.qs_meaning.specs.Configurations.{Configuration, IsComplete, configuration_after, configuration_from, first_configuration, one_block_on, outcome_in, outcome_of}
 use Rattle.qs_meaning.specs.Reduced.{IsOutcomeAfter, IsReducedFrom, goes_on}
 use Rattle.qs_meaning.specs.Serial.{IsLegal, LegalFrom}
@@ -18,7 +18,7 @@ use Rattle.qs_outcomes.proofs.Before.{before_both, before_longer, before_onward,
 use Rattle.qs_standings.specs.Lists.{HasOne}
 use Rattle.qs_standings.specs.Standings.{GoesOn, IsFirst, IsReducedAfter, IsStanding, StandingShape, configuration_in}
 use Rattle.qs_standings.proofs.Lists.{has_map, has_of, has_some}
-use Rattle.qs_standings.proofs.Stands.{below_or_past, configuration-snoc, past_end}
+use Rattle.qs_standings.proofs.Stands.{configuration-snoc, has_place}
 use Rattle.qs_level_laws.specs.Fronts.{AreFrontsAfter, FrontsCover, IsAfter, IsOnward}
 use Rattle.qs_level_laws.specs.Onward.{IsNoLater, IsOneLonger, IsReached, StandsFor, order_on}
 use Rattle.qs_level_laws.specs.Levels.{IsLevel, IsNextOf}
@@ -55,15 +55,6 @@ counted_after p g (t ∷ ts) legal =
     let rest = counted_after p (one_block_on p t.client g) ts (legal_on p g t ts legal) in
     let one : counted p (one_block_on p t.client g).begun ≡ counted p g.begun + 1 = sum_more (length p.clients) t.client g.begun (has_place p t.client t.index legal.1) in
     omega (arith, rest, one)
-  where
-    has_place : (p : ProgramShape) (c k : ℕ) → k < blocks_of p c → c < length p.clients
-    has_place p c k less =
-        ⊎_elim
-        (λ (l : c < length p.clients). l)
-        (λ (past : length p.clients ≤ c).
-        let none : blocks_of p c ≡ 0 = ap (λ client. length client.blocks) (past_end p.clients c no_client past) in
-        absurd (omega (arith, less, none)))
-        (below_or_past c (length p.clients))
 
 pub equally_long : (p : ProgramShape) (ts us : List Ticket) → IsLegal p ts → IsLegal p us → counted p (configuration_after p ts).begun ≡ counted p (configuration_after p us).begun → length ts ≡ length us
 equally_long p ts us legal other same =

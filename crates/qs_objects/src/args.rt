@@ -5,6 +5,7 @@ ghost use Rattle.std.specs.Prelude.{◌≡◌, ◌≤◌, List, [], ◌∷◌, �
 use smallvec::SmallVec;
 use std::alloc::Global;
 use std::marker::Model;
+use std::mem::forget;
 
 /// At most three numbers, which lie in the value itself, so that no call takes memory.
 pub struct Args {
@@ -12,8 +13,11 @@ pub struct Args {
 }
 
 impl Drop for Args {
+    // The numbers lie in the value itself, so there is no memory to give back, and nobody has to look at them. A long
+    // list of requests is dropped without a look at each.
     fn drop(self) {
-        let Args { numbers: _ } = self;
+        let Args { numbers } = self;
+        forget(numbers);
     }
 }
 

@@ -5,6 +5,7 @@ ghost use Rattle.qs_objects.specs.Objects.{has_memory};
 ghost use Rattle.qs_objects.specs.Journals.{run_one, has_room as room_is_left};
 
 use crate::Request;
+use crate::memory::{Blank, touch};
 use crate::object::Object;
 use std::alloc::{AllocError, Global};
 use std::marker::Model;
@@ -71,6 +72,28 @@ impl Drop for Event {
             request: _,
             reply: _,
         } = self;
+    }
+}
+
+impl Blank for Entry {
+    fn blank(alloc: Global) -> Entry {
+        Entry {
+            ticket: Ticket {
+                client: 0,
+                index: 0,
+            },
+            request: Request::blank(alloc),
+            reply: None,
+        }
+    }
+}
+
+impl Blank for Event {
+    fn blank(alloc: Global) -> Event {
+        Event {
+            request: Request::blank(alloc),
+            reply: None,
+        }
     }
 }
 
@@ -182,6 +205,16 @@ impl Held {
             entries,
             room: self.room,
         })
+    }
+
+    /// Writes to all memory that was taken for the journal, where that is empty, so that no `run` has to wait until the
+    /// system finds it. The object and the journal are as they were.
+    pub fn touch(&mut self)
+        ensures same { self.new ≡ self.old }
+    {
+        if self.entries.is_empty() {
+            touch(&mut self.entries, self.room);
+        }
     }
 
     /// Whether the journal has room for one more entry.

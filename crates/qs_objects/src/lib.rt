@@ -3,12 +3,15 @@
 
 ghost use Rattle.std.specs.Prelude.{◌≡◌};
 
+use std::alloc::Global;
+
 mod account;
 mod args;
 mod buffer;
 mod grid;
 mod held;
 pub mod laws;
+mod memory;
 mod object;
 mod operation;
 mod rows;
@@ -58,6 +61,15 @@ impl Drop for Request {
 }
 
 impl Request {
+    // A request that nobody makes.
+    pub(crate) fn blank(alloc: Global) -> Request {
+        Request {
+            object: 0,
+            op: Op::Balance,
+            args: Args::new(alloc),
+        }
+    }
+
     /// The same request once more; takes no memory.
     pub fn copied(&self) -> Request
         ensures same { result ≡ self.now }

@@ -3,6 +3,7 @@
 ghost use Rattle.std.specs.Prelude.{◌≡◌, ◌<◌, ◌≤◌, ◌+◌, ◌-◌, [], ◌∷◌, ◌++◌, IfOk, IsErr, drop, length, replicate, slice_index_or, slice_set, take};
 ghost use Rattle.qs_objects.specs.Rows.{IsLast, join_rows, rows_state};
 
+use crate::memory::{Blank, touch};
 use std::alloc::{AllocError, Global};
 use std::marker::Model;
 
@@ -108,6 +109,18 @@ impl<T> Rows<T> {
         self.starts[row] = self.items.len() - count;
         self.items.push_reserved(item);
         self.lengths[row] = count + 1;
+    }
+}
+
+impl<T: Blank> Rows<T> {
+    /// Writes to all memory that was taken, where there is no value yet, so that no `push` has to wait until the system
+    /// finds it. The rows are as they were.
+    pub(crate) fn touch(&mut self)
+        ensures same { self.new ≡ self.old }
+    {
+        if self.items.is_empty() {
+            touch(&mut self.items, self.room);
+        }
     }
 }
 

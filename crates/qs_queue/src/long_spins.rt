@@ -11,10 +11,10 @@ pub(crate) struct LongSpins {
 }
 
 impl LongSpins {
-    /// The first wait spins for long.
+    /// The first waits go without a long spin: an end of a queue that waits only now and then would spin in vain.
     pub(crate) const fn new() -> LongSpins {
         LongSpins {
-            without: 0,
+            without: MOST_WITHOUT,
             next_without: 1,
         }
     }

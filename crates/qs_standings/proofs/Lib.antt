@@ -8,3 +8,4 @@ pub mod Inserting
 pub mod NextRows
 pub mod Spread
 pub mod Packing
+pub mod Pigeonhole

@@ -58,15 +58,19 @@ reduced-snoc p g (u ∷ ts) t reduced goes = (reduced.0, reduced-snoc p (one_blo
 pub goes_left : (p : ProgramShape) (s : StandingShape) (c : ℕ) → GoesOn p s c → HasNext p s c
 goes_left p s c goes = (some_go_on p (configuration_in s).begun).undisturbed.left c goes
 
--- a client that has a block left is one of the program's
-pub in_program : (p : ProgramShape) (s : StandingShape) (c : ℕ) → HasNext p s c → c < length p.clients
-in_program p s c left =
+-- who has a block is one of the program's clients
+pub has_place : (p : ProgramShape) (c k : ℕ) → k < blocks_of p c → c < length p.clients
+has_place p c k less =
     ⊎_elim
     (λ (l : c < length p.clients). l)
     (λ (past : length p.clients ≤ c).
     let none : blocks_of p c ≡ 0 = ap (λ (client : ClientShape). length client.blocks) (past_end p.clients c no_client past) in
-    let has : get_or s.begun c 0 < blocks_of p c = left in absurd (omega (arith, none, has)))
+    absurd (omega (arith, less, none)))
     (below_or_past c (length p.clients))
+
+-- and so is who has a block left
+pub in_program : (p : ProgramShape) (s : StandingShape) (c : ℕ) → HasNext p s c → c < length p.clients
+in_program p s c left = has_place p c (get_or s.begun c 0) left
 
 module _ (p : ProgramShape) (front : List Ticket) (s n : StandingShape) (c : ℕ) (standing : IsStanding p front s) (client : c < length p.clients) (left : HasNext p s c) where
   abbrev ran : BlockResult

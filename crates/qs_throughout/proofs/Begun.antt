@@ -1,16 +1,16 @@
 -- How many blocks each client has begun along a legal order: each ticket says it of its client. It goes ticket by
 -- ticket.
-use Rattle.std.proofs.Common.{◌≡◌, ◌<◌, ◌≤◌, ◌+◌, ℕ, zero, suc, List, [], ◌∷◌, length, get_or, take, sym, ap, ◌∙◌, arith, add-one, ⊎_elim}
+use Rattle.std.proofs.Common.{◌≡◌, ◌<◌, ◌+◌, ℕ, zero, suc, List, [], ◌∷◌, length, get_or, take, sym, ap, ◌∙◌, arith, add-one}
 use Rattle.std.specs.Prelude.{slice_set}
 use Rattle.qs_objects.specs.declared.held.Ticket.{Ticket}
-use Rattle.qs_program.specs.Program.{ClientShape, ProgramShape, blocks_of, no_client}
+use Rattle.qs_program.specs.Program.{ProgramShape, blocks_of}
 use Rattle.qs_meaning.specs.Configurations.{Configuration, configuration_after, configuration_from, first_configuration, one_block_on}
 use Rattle.qs_meaning.specs.Serial.{IsLegal, LegalFrom}
 use Rattle.qs_meaning.specs.Solo.{put}
 use Rattle.qs_meaning.proofs.Orders.{legal_on}
 use Rattle.qs_serial.proofs.Lookups.{lookup-set}
 use Rattle.qs_standings.proofs.RowSteps.{take_more}
-use Rattle.qs_standings.proofs.Stands.{below_or_past, configuration-snoc, past_end}
+use Rattle.qs_standings.proofs.Stands.{configuration-snoc, has_place}
 
 -- a ticket of a legal order
 pub ticket_at : (p : ProgramShape) (g : Configuration) (ts : List Ticket) (i : ℕ) (d : Ticket) → i < length ts → LegalFrom p g.begun ts
@@ -21,13 +21,7 @@ ticket_at p g (u ∷ ts) (suc i) d less legal = ticket_at p (one_block_on p u.cl
 
 pub client_of : (p : ProgramShape) (ts : List Ticket) (i : ℕ) (d : Ticket) → i < length ts → IsLegal p ts → (get_or ts i d).client < length p.clients
 client_of p ts i d less legal =
-    let within = (ticket_at p (first_configuration p) ts i d less legal).1 in
-    ⊎_elim
-    (λ (l : (get_or ts i d).client < length p.clients). l)
-    (λ (past : length p.clients ≤ (get_or ts i d).client).
-    let none : blocks_of p (get_or ts i d).client ≡ 0 = ap (λ (client : ClientShape). length client.blocks) (past_end p.clients (get_or ts i d).client no_client past) in
-    absurd (omega (arith, none, within)))
-    (below_or_past (get_or ts i d).client (length p.clients))
+    has_place p (get_or ts i d).client (get_or ts i d).index (ticket_at p (first_configuration p) ts i d less legal).1
 
 -- one more ticket
 pub begun_more : (p : ProgramShape) (ts : List Ticket) (i : ℕ) (d : Ticket) (counts : List ℕ) (client index : ℕ) → i < length ts → IsLegal p ts

@@ -1,14 +1,16 @@
-use Rattle.std.proofs.Common.{◌∙◌, refl, sym, ap}
+use Rattle.std.proofs.Common.{◌∙◌, refl, sym, ap, subst}
 use Rattle.qs_objects.specs.declared.held.Ticket.{Ticket}
 use Rattle.qs_client.specs.MindState.{mind_of}
 use Rattle.qs_client_rules.specs.declared.act.Act.TheVariants as acts
-use Rattle.qs_client_thread.proofs.ThreadActs.{begins, count_is, has_left, is_empty, kept_by_chunk, kept_by_object, kept_by_parcel, kept_by_ticket}
+use Rattle.qs_client_thread.proofs.ThreadActs.{HasDeeds, begins, count_is, has_left, is_empty, kept_by_chunk, kept_by_object, kept_by_parcel, kept_by_ticket}
 use Rattle.qs_client_thread.proofs.ThreadActs.{may_follow, reaches}
 use Rattle.qs_client_thread.proofs.running.run.Goals as goal
 
 pub loop-init : goal.loop-init
 loop-init g c =
-    begins g.D.DeskName.program c.args.share.client (mind_of c.args.mind) c.args.lanes c.args.share refl c.requires.unbooked c.requires.fresh
+    subst (λ m. HasDeeds g.D.DeskName.program c.args.share.client (mind_of c.args.mind) c.args.lanes m c.args.share c.args.lanes)
+    (sym (ap mind_of c.touch.ensures.same))
+    (begins g.D.DeskName.program c.args.share.client (mind_of c.args.mind) c.args.lanes c.args.share refl c.requires.unbooked c.requires.fresh)
 
 pub reserve_and_wake_handlers-requires : goal.reserve_and_wake_handlers-requires
 reserve_and_wake_handlers-requires g c =

@@ -1,5 +1,6 @@
-use Rattle.std.proofs.Common.{◌∷◌, [], refl, subst, sym}
+use Rattle.std.proofs.Common.{◌∷◌, [], refl, subst, sym, ap, ◌∙◌}
 use Rattle.qs_desk.specs.Views.{TicketsView}
+use Rattle.qs_handler.specs.Handler.{free}
 use Rattle.qs_handler_thread.proofs.Passed.{passed_more}
 use Rattle.qs_handler_thread.proofs.ServedTasks.{all_served, begins, is_asked_for, is_empty, kept_by_chunk, kept_by_object, kept_by_parcel, kept_to_end, parcel_stands, reaches_asker, reaches_sender, reaches_spared, took_ticket}
 use Rattle.qs_handler_thread.specs.Passes.{ArePassed}
@@ -7,7 +8,7 @@ use Rattle.qs_handler_thread.proofs.serving.serve.Goals as goal
 
 pub loop-init : goal.loop-init
 loop-init g c = (
-  begins g.D.DeskName.program c.args.tickets.handler c.args.held c.args.lanes c.new-mind.result c.args.tickets c.new-mind.ensures.free refl c.requires.taken c.requires.fresh,
+  begins g.D.DeskName.program c.args.tickets.handler c.args.held c.args.lanes c.new-mind.result c.args.tickets (c.new-mind.ensures.free ∙ ap free c.touch.ensures.same) refl c.requires.taken c.requires.fresh,
   subst (λ taken. ArePassed (g.G.Passage.moves c.args.gate.now) c.args.tickets.handler c.args.log.now taken c.args.log.now) (sym c.requires.taken) refl,
 )
 

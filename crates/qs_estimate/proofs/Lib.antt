@@ -1,8 +1,0 @@
-pub mod Pigeonhole
-pub mod Mapped
-pub mod Words
-pub mod Choosing
-pub mod Rows
-pub mod BlocksLeft
-pub mod MostOrders
-pub mod LeastOrders
