@@ -354,11 +354,10 @@ has_front rows = is_some (first_of (codes "after") rows)
 abbrev pub alike_list_at : List Row → Option Request
 alike_list_at rows = option_and_then (λ how. option_map (alike how) (limit_at rows)) (format_at rows)
 
--- an answer by these, to a condition of all ends or of some
+-- an answer by these to a condition
 abbrev pub ask_alike_at : List Row → Option Request
 ask_alike_at rows =
-    if is_some (first_of (codes "throughout") rows) then None
-    else option_and_then (λ claim. option_and_then (λ how. option_map (ask_alike claim how) (limit_at rows))
+    option_and_then (λ claim. option_and_then (λ how. option_map (ask_alike claim how) (limit_at rows))
     (format_at rows)) (claim_at rows)
 
 -- one of all outcomes that differ by alike clients, or the answer by these to a condition where the line has one;

@@ -162,7 +162,7 @@ pub const ESTIMATE: &str =
     "Says how many configurations there can be, before any search: at most so many, and with --throughout at least so many";
 
 pub const ALIKE: &str =
-    "Lists one of all results that differ only by which of some alike clients has which variables, and for how many it stands; --always and --some are answered by these, and whom their condition names is alike to nobody; clients are alike if their texts are the same but for names";
+    "Lists one of all results that differ only by which of some alike clients has which variables, and for how many it stands; --always, --some and --throughout are answered by these, and whom their condition names is alike to nobody; clients are alike if their texts are the same but for names";
 
 pub const FRONT: &str =
     "Lists what the script can come to after so many blocks in all, 1 to 512, each once: parts from which a search can go on by --after, one by one or on many machines";

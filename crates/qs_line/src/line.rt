@@ -678,13 +678,10 @@ fn alike_list_settings(found: &ArgMatches<'_>) -> Option<Settings>
     Some(Settings::Alike { format, limit })
 }
 
-// An answer by one of all alike ends. What holds throughout is no matter of ends.
+// An answer by one of all that differ by alike clients.
 fn ask_alike_settings(alloc: Global, found: &ArgMatches<'_>) -> Result<Option<Settings>, AllocError>
     ensures settings { IfOk result (λ settings. option_map request_of settings ≡ ask_alike_at (rows_of (found_of found.now))) }
 {
-    if text_at(found, "throughout").is_some() {
-        return Ok(None);
-    }
     let (Some(claim), Some(format), Some(limit)) = (
         given_claim(alloc, found)?,
         format_of(found),

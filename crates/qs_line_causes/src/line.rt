@@ -100,7 +100,7 @@ fn shown(setting: &str) -> &'static str {
 }
 
 // Settings that do not stand together.
-const APART: [(&str, &str); 32] = [
+const APART: [(&str, &str); 31] = [
     ("--order", "--pick"),
     ("--order", "--rounds"),
     ("--order", "--steps"),
@@ -115,7 +115,6 @@ const APART: [(&str, &str); 32] = [
     ("--estimate", "--front"),
     ("--estimate", "--threads"),
     ("--alike", "--ends"),
-    ("--alike", "--throughout"),
     ("--alike", "--after"),
     ("--alike", "--front"),
     ("--alike", "--threads"),

@@ -147,7 +147,8 @@ pub record AlikeLines : Type 0 where
       ≡ asks (ask_alike (claim quantifier.Some) format.Json 1000000)
   pub with_other_condition : line (codes "outcomes" ∷ codes "--always=1<2" ∷ codes "--limit=7" ∷ codes "--alike" ∷ [])
       ≡ asks (ask_alike (claim quantifier.Always) format.Text 7)
-  pub with_course : line (codes "outcomes" ∷ codes "--alike" ∷ codes "--throughout=1<2" ∷ []) ≡ refused
+  pub with_course : line (codes "outcomes" ∷ codes "--alike" ∷ codes "--throughout=1<2" ∷ [])
+      ≡ asks (ask_alike (claim quantifier.Throughout) format.Text 1000000)
   pub with_two : line (codes "outcomes" ∷ codes "--alike" ∷ codes "--always=1<2" ∷ codes "--some=1<2" ∷ []) ≡ refused
   pub with_no_condition : line (codes "outcomes" ∷ codes "--alike" ∷ codes "--some=<" ∷ []) ≡ refused
   pub condition_after : line (codes "outcomes" ∷ codes "--alike" ∷ codes "--some=1<2" ∷ codes "--after=c0" ∷ [])

@@ -9,7 +9,7 @@ use Rattle.qs_objects.proofs.Choices.{eqb_self}
 use Rattle.qs_program.specs.Numbering.{Name, found_at, is_among}
 use Rattle.qs_program.specs.Program.{ProgramShape, client_at}
 use Rattle.qs_program.specs.Values.{relates}
-use Rattle.qs_meaning.specs.Configurations.{OrderOutcome, outcome_of}
+use Rattle.qs_meaning.specs.Configurations.{Configuration, OrderOutcome, outcome_in, outcome_of}
 use Rattle.qs_meaning.proofs.Each.{each_back, each_front, each_snoc}
 use Rattle.qs_conditions.specs.Claims.{seeks}
 use Rattle.qs_conditions.specs.Conditions.{sum_of}
@@ -23,12 +23,13 @@ use Rattle.qs_conditions.specs.declared.condition.Step.TheVariants as s
 use Rattle.qs_standings.specs.Standings.{StandingShape}
 use Rattle.qs_standings.proofs.Lists.{has_some}
 use Rattle.qs_standings.proofs.RowSteps.{take_more}
-use Rattle.qs_outcomes.specs.Answers.{AnswerShape, AreUnmet, IsAnswerAfter, IsWitnessAfter, NoneMeets}
+use Rattle.qs_outcomes.specs.Answers.{AnswerShape, AreUnmet, IsWitnessAfter, NoneMeets}
 use Rattle.qs_outcomes.specs.Outcomes.{outcome_at}
+use Rattle.qs_throughout.specs.Courses.{IsCourseWitnessAfter, NoneMeetsOnTheWay}
 use Rattle.qs_alike.specs.AlikeOutcomes.{AlikeShape, AreAlikeOutcomes, AreAllBecoming, AreUnlike, BecomesOutcome, IsEnd}
 use Rattle.qs_alike.specs.Changes.{AreAllAlike, AreClasses, Change, Classes, IsChange, changed_outcome}
 use Rattle.qs_alike.specs.Apart.{AreSetApart}
-use Rattle.qs_questions.specs.AlikeClaims.{AlikeAnswersAgree, AreClassesFor, ChangesKeepSought, IsAnswerBetween, IsEndMet, IsFirstMet, is_client, is_named, named_clients, names}
+use Rattle.qs_questions.specs.AlikeClaims.{AlikeAnswersAgree, AreClassesFor, ChangesKeepSought, IsAlikeAnswerBy, IsAnswerBetween, IsEndMet, IsFirstMet, is_client, is_named, named_clients, names}
 use Rattle.qs_questions.specs.Answering.{answered, last_of, run_steps}
 use Rattle.qs_questions.specs.Claims.{IsAnswerBy, is_sought}
 use Rattle.qs_questions.specs.Questions.{client_of, summands_of, value_at, variable_in, variable_value}
@@ -173,12 +174,6 @@ module _ (p : ProgramShape) (k : Classes) (asked : OrderOutcome → Bool) (all :
     noted = so_many;
   }
 
-of_ends : (quantifier : Quantifier) (p : ProgramShape) (asked : OrderOutcome → Bool) (a : AnswerShape)
-    → (quantifier ≡ q.Throughout → ⊥) → IsAnswerBy quantifier p [] asked a → IsAnswerAfter p [] asked a
-of_ends q.Always p asked a ends is = is
-of_ends q.Some p asked a ends is = is
-of_ends q.Throughout p asked a ends is = absurd (ends refl)
-
 both_or_none : (p : ProgramShape) (asked : OrderOutcome → Bool) (u v : Option StandingShape)
     → IfSome u (IsWitnessAfter p [] asked) → (u ≡ None → NoneMeets p [] asked)
     → IfSome v (IsEndMet p asked) → (v ≡ None → NoneMeets p [] asked) → is_some u ≡ is_some v
@@ -189,7 +184,28 @@ both_or_none p asked (Some s) None one none other nobody =
 both_or_none p asked None (Some t) one none other nobody =
     absurd (true≢false (sym other.met ∙ (ap asked other.end.outcome ∙ none refl t.order other.end.complete)))
 
+-- a witness on the way is where an order leads
+passed_by : (p : ProgramShape) (asked : OrderOutcome → Bool) (s : StandingShape) → IsCourseWitnessAfter p [] asked s → NoneMeetsOnTheWay p [] asked → ⊥
+passed_by p asked s is none =
+    true≢false (sym is.met ∙ (ap (λ (g : Configuration). asked (outcome_in g)) is.on_the_way.there
+    ∙ none s.order is.on_the_way.legal))
+
+passed_or_none : (p : ProgramShape) (asked : OrderOutcome → Bool) (u v : Option StandingShape)
+    → IfSome u (IsCourseWitnessAfter p [] asked) → (u ≡ None → NoneMeetsOnTheWay p [] asked)
+    → IfSome v (IsCourseWitnessAfter p [] asked) → (v ≡ None → NoneMeetsOnTheWay p [] asked) → is_some u ≡ is_some v
+passed_or_none p asked None None one none other nobody = refl
+passed_or_none p asked (Some s) (Some t) one none other nobody = refl
+passed_or_none p asked (Some s) None one none other nobody = absurd (passed_by p asked s one (nobody refl))
+passed_or_none p asked None (Some t) one none other nobody = absurd (passed_by p asked t other (none refl))
+
+by_quantifier : (quantifier : Quantifier) (p : ProgramShape) (k : Classes) (asked : OrderOutcome → Bool) (a b : AnswerShape)
+    → IsAnswerBy quantifier p [] asked a → IsAlikeAnswerBy quantifier p k asked b → is_some a.witness ≡ is_some b.witness
+by_quantifier q.Always p k asked a b one other =
+    both_or_none p asked a.witness b.witness one.witness (λ e. (one.none e).0) other.witness other.none
+by_quantifier q.Some p k asked a b one other =
+    both_or_none p asked a.witness b.witness one.witness (λ e. (one.none e).0) other.witness other.none
+by_quantifier q.Throughout p k asked a b one other =
+    passed_or_none p asked a.witness b.witness one.witness (λ e. (one.none e).0) other.witness (λ e. (other.none e).0)
+
 pub answers_agree : AlikeAnswersAgree
-answers_agree p claim ends a b one other =
-    let full = of_ends claim.quantifier p (is_sought claim p) a ends one in
-    both_or_none p (is_sought claim p) a.witness b.witness full.witness (λ e. (full.none e).0) other.2.witness other.2.none
+answers_agree p claim a b one other = by_quantifier claim.quantifier p other.0 (is_sought claim p) a b one other.2

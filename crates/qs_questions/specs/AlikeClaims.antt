@@ -6,6 +6,7 @@ use Rattle.std.specs.Option.{is_some}
 use Rattle.qs_program.specs.Program.{ProgramShape}
 use Rattle.qs_meaning.specs.Configurations.{OrderOutcome}
 use Rattle.qs_conditions.specs.declared.claim.Claim.{Claim}
+use Rattle.qs_conditions.specs.declared.claim.Quantifier.{Quantifier}
 use Rattle.qs_conditions.specs.declared.claim.Quantifier.TheVariants as q
 use Rattle.qs_conditions.specs.declared.condition.Value.{Value}
 use Rattle.qs_conditions.specs.declared.condition.Value.TheVariants.{Number, Variable, Reply}
@@ -16,6 +17,7 @@ use Rattle.qs_outcomes.specs.Answers.{AnswerShape, AreUnmet, NoneMeets}
 use Rattle.qs_outcomes.specs.Outcomes.{outcome_at}
 use Rattle.qs_alike.specs.AlikeOutcomes.{AreUnlike, HasMoreUnlike, IsEnd}
 use Rattle.qs_alike.specs.Changes.{AreClasses, Change, Classes, HaveSameText, IsChange, changed_outcome}
+use Rattle.qs_throughout_alike.specs.AlikeCourses.{IsAlikeCourseAnswer}
 use Rattle.qs_questions.specs.Claims.{IsAnswerTo, is_sought}
 use Rattle.qs_questions.specs.Questions.{client_of, summands_of}
 
@@ -58,7 +60,7 @@ IsFirstMet asked found (Some i) =
     (i < length found) × ((d : StandingShape) → asked (outcome_at (slice_index_or found i d)) ≡ true)
     × AreUnmet asked (take i found)
 
--- The answer by classes: a witness is an end that is asked for. Where there is none, no complete order comes to what is
+-- The answer at ends by classes: a witness is an end that is asked for. Where there is none, no complete order comes to what is
 -- asked for. So many configurations were noted, of which none is a change of another.
 pub record IsAnswerBetween (p : ProgramShape) (k : Classes) (asked : OrderOutcome → Bool)
     (a : AnswerShape) : Type 0 where
@@ -66,18 +68,20 @@ pub record IsAnswerBetween (p : ProgramShape) (k : Classes) (asked : OrderOutcom
   pub none : a.witness ≡ None → NoneMeets p [] asked
   pub noted : (ss : List StandingShape) × AreUnlike p k ss a.configurations
 
+-- found among the ends of complete orders, or among all that legal orders lead to
+abbrev pub IsAlikeAnswerBy : Quantifier → ProgramShape → Classes → (OrderOutcome → Bool) → AnswerShape → Type 0
+IsAlikeAnswerBy q.Always p k asked a = IsAnswerBetween p k asked a
+IsAlikeAnswerBy q.Some p k asked a = IsAnswerBetween p k asked a
+IsAlikeAnswerBy q.Throughout p k asked a = IsAlikeCourseAnswer p k asked a
+
 -- the answer to a claim by classes of alike clients for its condition
 abbrev pub IsAlikeAnswer : Claim → ProgramShape → AnswerShape → Type 0
 IsAlikeAnswer claim p a =
-    (k : Classes) × AreClassesFor p claim.condition k × IsAnswerBetween p k (is_sought claim p) a
+    (k : Classes) × AreClassesFor p claim.condition k × IsAlikeAnswerBy claim.quantifier p k (is_sought claim p) a
 
 -- there are more configurations than the limit, of which none is a change of another
 abbrev pub HasMoreAlike : Claim → ProgramShape → (limit : ℕ) → Type 0
 HasMoreAlike claim p limit = (k : Classes) × AreClassesFor p claim.condition k × HasMoreUnlike p k limit
-
--- of a claim whether it holds at ends, and not between blocks, too
-abbrev pub IsOfEnds : Claim → Type 0
-IsOfEnds claim = claim.quantifier ≡ q.Throughout → ⊥
 
 -- A change of these classes changes nothing of what is asked for.
 abbrev pub ChangesKeepSought : Type 0
@@ -88,5 +92,5 @@ ChangesKeepSought =
 -- The answer by classes has a witness exactly where the other answer has one.
 abbrev pub AlikeAnswersAgree : Type 0
 AlikeAnswersAgree =
-    (p : ProgramShape) (claim : Claim) → IsOfEnds claim → (a b : AnswerShape) → IsAnswerTo claim p [] a
-    → IsAlikeAnswer claim p b → is_some a.witness ≡ is_some b.witness
+    (p : ProgramShape) (claim : Claim) → (a b : AnswerShape) → IsAnswerTo claim p [] a → IsAlikeAnswer claim p b
+    → is_some a.witness ≡ is_some b.witness

@@ -238,7 +238,7 @@ places_at_end : (p : ProgramShape) (front : List Ticket) (asked : OrderOutcome �
 places_at_end p front asked None is = tt
 places_at_end p front asked (Some s) is = is.listed.places
 
-places_on_the_way : (p : ProgramShape) (front : List Ticket) (asked : OrderOutcome → Bool) (w : Option StandingShape) → IfSome w (IsCourseWitnessAfter p front asked) → IfSome w (HasPlaces p)
+pub places_on_the_way : (p : ProgramShape) (front : List Ticket) (asked : OrderOutcome → Bool) (w : Option StandingShape) → IfSome w (IsCourseWitnessAfter p front asked) → IfSome w (HasPlaces p)
 places_on_the_way p front asked None is = tt
 places_on_the_way p front asked (Some s) is = is.on_the_way.places
 

@@ -18,9 +18,11 @@ use Rattle.qs_alike.specs.Changes.{Classes}
 use Rattle.qs_level_laws.specs.Fronts.{AreFrontsAfter, IsAfter}
 use Rattle.qs_report.specs.declared.faults.Fault.TheVariants as fault
 use Rattle.qs_conditions.specs.declared.claim.Claim.{Claim}
+use Rattle.qs_conditions.specs.declared.claim.Quantifier.{Quantifier}
+use Rattle.qs_conditions.specs.declared.claim.Quantifier.TheVariants as quantifier
 use Rattle.qs_meaning.specs.Configurations.{OrderOutcome}
 use Rattle.qs_outcomes.specs.Answers.{AnswerShape}
-use Rattle.qs_questions.specs.AlikeClaims.{HasMoreAlike, IsAlikeAnswer, IsEndMet}
+use Rattle.qs_questions.specs.AlikeClaims.{HasMoreAlike, IsAlikeAnswer, IsAlikeAnswerBy, IsEndMet}
 use Rattle.qs_questions.specs.Claims.{is_sought}
 use Rattle.qs_questions.specs.Questions.{first_unknown_in}
 use Rattle.qs_line.specs.Line.{alike, ask_alike, fronts}
@@ -30,7 +32,7 @@ use Rattle.qs_line.specs.declared.parts.Part.{Part}
 use Rattle.qs_serve.specs.Due.{AreNoFronts, AreTheClasses, AreToldFronts, AreUnlistedAlike, IsAlikeAnswerText, IsAlikeText, IsAnswered, IsDueOfFronts, IsDueOfProgram, IsFrontsText, IsOutOfMemory, IsRefusedBy, IsTextOf, IsUnansweredAlike, alike_in}
 use Rattle.qs_serve.specs.declared.due.Due.{Due}
 use Rattle.qs_serve.specs.declared.due.Due.TheVariants.{Text, No, Refused}
-use Rattle.qs_serve.proofs.Dues.{of_named}
+use Rattle.qs_serve.proofs.Dues.{of_named, places_on_the_way}
 
 pub alike_places : (p : ProgramShape) (k : Classes) (all : AlikeShape) → AreAlikeOutcomes p k all → AllByRecursion (HasPlaces p) all.found
 alike_places p k all are = each_map (λ s (e : IsEnd p s). e.places) all.found are.sound
@@ -62,8 +64,14 @@ met_places : (p : ProgramShape) (asked : OrderOutcome → Bool) (w : Option Stan
 met_places p asked None is = tt
 met_places p asked (Some s) is = is.end.places
 
+by_places : (kind : Quantifier) (p : ProgramShape) (k : Classes) (asked : OrderOutcome → Bool) (a : AnswerShape) → IsAlikeAnswerBy kind p k asked a
+    → IfSome a.witness (HasPlaces p)
+by_places quantifier.Always p k asked a is = met_places p asked a.witness is.witness
+by_places quantifier.Some p k asked a is = met_places p asked a.witness is.witness
+by_places quantifier.Throughout p k asked a is = places_on_the_way p [] asked a.witness is.witness
+
 pub alike_witness_places : (p : ProgramShape) (claim : Claim) (a : AnswerShape) → IsAlikeAnswer claim p a → IfSome a.witness (HasPlaces p)
-alike_witness_places p claim a (k, classes, is) = met_places p (is_sought claim p) a.witness is.witness
+alike_witness_places p claim a (k, classes, is) = by_places claim.quantifier p k (is_sought claim p) a is
 
 pub due_by_alike_claim : (how : Format) (p : ProgramShape) (claim : Claim) (limit : ℕ) (a : AnswerShape) (due : Due) → first_unknown_in p claim.condition ≡ None
     → IsAlikeAnswer claim p a → a.configurations ≤ limit → IsAnswered how p claim.quantifier a due

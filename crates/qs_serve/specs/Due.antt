@@ -388,15 +388,13 @@ abbrev pub IsUnnamed : PlanShape → ProgramShape → Type 0
 IsUnnamed (by_schedule rounds picks) p = IsErr (actors_of p picks)
 IsUnnamed (by_order list) p = IsErr (clients_of p list)
 
--- so does the list that a request asks by, or its condition speaks of what the program does not have, or of more than
--- ends where the answer is by these
+-- so does the list that a request asks by, or its condition speaks of what the program does not have
 abbrev pub IsUnnamedBy : Request → ProgramShape → Type 0
 IsUnnamedBy (rules style plan) p = IsUnnamed plan p
 IsUnnamedBy (play style mode size plan) p = IsUnnamed plan p
 IsUnnamedBy (ask claim how limit front) p =
     (¬ (first_unknown_in p claim.condition ≡ None)) ⊎ IsErr (clients_of p front)
-IsUnnamedBy (ask_alike claim how limit) p =
-    (¬ (first_unknown_in p claim.condition ≡ None)) ⊎ (claim.quantifier ≡ quantifier.Throughout)
+IsUnnamedBy (ask_alike claim how limit) p = ¬ (first_unknown_in p claim.condition ≡ None)
 IsUnnamedBy (estimate how front) p = IsErr (clients_of p front)
 IsUnnamedBy (fronts how blocks limit front) p = IsErr (clients_of p front)
 IsUnnamedBy (outcomes how limit threads front) p = IsErr (clients_of p front)

@@ -11,7 +11,7 @@ ghost use Rattle.qs_serve.specs.Due.{AreToldFronts, alike_in, IsDueAfter, IsDueO
 use crate::due::{Due, due_of_all, due_of_answer, due_of_bytes, due_of_list, due_of_outcomes};
 use qs_alike::{AlikeOutcomes, classes_of, outcomes_alike};
 use qs_check::Program;
-use qs_conditions::{Claim, Quantifier};
+use qs_conditions::Claim;
 use qs_json::{alike_json, fronts_json};
 use qs_levels::{fronts_after, outcomes_by_levels};
 use qs_line::{Format, OutcomesFormat, Part, clients_of};
@@ -53,9 +53,8 @@ pub(crate) fn due_of_alike(alloc: Global, program: &Program, format: Format, lim
     }
 }
 
-/// The answer to a claim on ends, in a format, by one of all ends that differ by alike clients in each other's places,
-/// found over so many configurations at most. A condition that speaks of what the program does not have is refused, and
-/// so is what has to hold throughout.
+/// The answer to a claim, in a format, by one of all that differ by alike clients in each other's places, found over so
+/// many configurations at most. A condition that speaks of what the program does not have is refused.
 pub(crate) fn due_of_alike_claim(
     alloc: Global,
     program: &Program,
@@ -66,9 +65,6 @@ pub(crate) fn due_of_alike_claim(
     ensures not_input { ¬ IsRefusedBy fault.Input result }
     ensures due { IsOutOfMemory result ⊎ IsDueOfProgram (ask_alike claim.now format limit) [] program.now result }
 {
-    if matches!(claim.quantifier, Quantifier::Throughout) {
-        return Due::Refused(Fault::CommandLine);
-    }
     if first_unknown(&claim.condition, program).is_some() {
         return Due::Refused(Fault::CommandLine);
     }

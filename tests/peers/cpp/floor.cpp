@@ -9,6 +9,7 @@
 #include <functional>
 #include <immintrin.h>
 #include <linux/futex.h>
+#include <memory>
 #include <sys/mman.h>
 #include <sys/syscall.h>
 #include <thread>
@@ -94,40 +95,45 @@ static void pass_turns(bool with_handlers) {
 
 // A request and its answer, 50,000 times, by two threads that never sleep.
 static void ask_and_answer() {
-  static Queue<96, 16> down;
-  static Queue<96, 16> up;
+  static Queue<104, 16> down;
+  static Queue<104, 16> up;
   std::thread handler([] { for (int k = 0; k < 50000; k++) { down.take(); up.send({}); } });
   for (int k = 0; k < 50000; k++) { down.send({}); up.take(); }
   handler.join();
 }
 
 // The same where the object is lent, with what a query after a command does to it. The object goes home, a chunk with the
-// command follows it, and it is asked for once more. Handler and client each put an entry into its journal.
+// command follows it and comes back empty, and the object is asked for once more. Handler and client each put an entry
+// into its journal.
 static void lend_and_ask(bool with_journal) {
-  static Queue<96, 16> down;
-  static Queue<96, 16> up;
-  static uint64_t chunk[6], balance;
+  static Queue<104, 16> down;
+  static Queue<104, 16> up;
+  Queue<40, 4> spare;
+  static uint64_t chunks[4][8], balance;
   static std::vector<uint64_t> journal;
   journal.assign(with_journal ? 100000 * 9 : 0, 0);
   journal.clear();
+  for (uint64_t k = 0; k < 4; k++) spare.send({{k}});
   auto enter = [=](uint64_t value) {
     if (!with_journal) return;
     balance += value;
     for (int word = 0; word < 9; word++) journal.push_back(balance);
   };
-  std::thread handler([=] {
+  std::thread handler([&] {
     for (int k = 0; k < 50000; k++) {
-      for (int parcel = 0; parcel < 3; parcel++) {
-        down.take();
-        if (parcel == 1) enter(chunk[1]);
-      }
+      down.take();
+      uint64_t place = down.take().words[0];
+      enter(chunks[place][1]);
+      spare.send({{place}});
+      down.take();
       up.send({});
     }
   });
   for (int k = 0; k < 50000; k++) {
     down.send({});
-    for (int word = 0; with_journal && word < 6; word++) chunk[word] = k;
-    down.send({});
+    uint64_t place = spare.take().words[0];
+    for (int word = 0; word < 6; word++) chunks[place][word] = k;
+    down.send({{place}});
     down.send({});
     up.take();
     enter(k);
@@ -135,46 +141,96 @@ static void lend_and_ask(bool with_journal) {
   handler.join();
 }
 
-// 12,500 chunks of 8 requests go down and come back empty; one thread writes a trace of them, the other a journal.
-static void pass_chunks() {
-  const int chunks = 12500, size = 8;
-  Queue<96, 16> down;
+static uint64_t *fresh(size_t bytes) {
+  return (uint64_t *)mmap(nullptr, bytes, PROT_READ | PROT_WRITE, MAP_PRIVATE | MAP_ANONYMOUS, -1, 0);
+}
+
+// Where a thread sleeps that finds nothing by some 3 microseconds of looks.
+struct Sleeper {
+  alignas(64) std::atomic<int> epoch{0}, waiting{0};
+
+  void wake() {
+    if (waiting) { epoch++; syscall(SYS_futex, &epoch, FUTEX_WAKE_PRIVATE, 1, nullptr, nullptr, 0); }
+  }
+
+  template <class Queue> uint64_t take(Queue &queue) {
+    typename Queue::Item item;
+    while (true) {
+      for (int look = 0; look < 80; look++) {
+        if (queue.pop(item)) return item.words[0];
+        if (look >= 30) _mm_pause();
+      }
+      waiting++;
+      int seen = epoch;
+      bool found = queue.pop(item);
+      if (!found) syscall(SYS_futex, &epoch, FUTEX_WAIT_PRIVATE, seen, nullptr, nullptr, 0);
+      waiting--;
+      if (found) return item.words[0];
+    }
+  }
+};
+
+// A client and a handler between whom chunks of 8 requests go down and come back empty, four at most. One writes a trace
+// of them, the other a journal, in memory that is new, to which each first writes once where `early` is set.
+struct Lane {
+  static const int size = 8;
+  Queue<104, 16> down;
   Queue<40, 4> spare;
-  std::vector<uint64_t> rooms(4 * size * 6);
-  for (uint64_t k = 0; k < 4; k++) spare.send({{k}});
-  auto *trace = (uint64_t *)malloc(chunks * size * 64), *journal = (uint64_t *)malloc(chunks * size * 72);
-  std::thread handler([&] {
-    uint64_t balance = 0, *to = journal;
+  Sleeper client, handler;
+  uint64_t rooms[4 * size * 6];
+
+  static uint64_t *books(size_t bytes, bool early) {
+    uint64_t *memory = fresh(bytes);
+    for (size_t at = 0; early && at < bytes / 8; at++) memory[at] = 0;
+    return memory;
+  }
+
+  void serve(int chunks, bool early) {
+    uint64_t balance = 0, *journal = books(chunks * size * 72, early), *to = journal;
     for (int k = 0; k < chunks; k++) {
-      uint64_t place = down.take().words[0];
+      uint64_t place = handler.take(down);
       for (uint64_t *from = &rooms[place * size * 6], *end = from + size * 6; from < end; from += 6, to += 9) {
         balance += from[1];
         memcpy(to, from, 48);
         to[6] = to[7] = to[8] = balance;
       }
       spare.send({{place}});
+      client.wake();
     }
-  });
-  uint64_t *to = trace;
-  for (int k = 0; k < chunks; k++) {
-    uint64_t place = spare.take().words[0];
-    for (uint64_t *at = &rooms[place * size * 6], *end = at + size * 6; at < end; at += 6, to += 8) {
-      for (int word = 0; word < 6; word++) at[word] = to[word] = word + k;
-      to[6] = to[7] = 0;
-    }
-    down.send({{place}});
+    munmap(journal, chunks * size * 72);
   }
-  handler.join();
-  free(trace);
-  free(journal);
+
+  void ask(int chunks, bool early) {
+    uint64_t *trace = books(chunks * size * 64, early), *to = trace;
+    for (int k = 0; k < chunks; k++) {
+      uint64_t place = client.take(spare);
+      for (uint64_t *at = &rooms[place * size * 6], *end = at + size * 6; at < end; at += 6, to += 8) {
+        for (int word = 0; word < 6; word++) at[word] = to[word] = word + k;
+        to[6] = to[7] = 0;
+      }
+      down.send({{place}});
+      handler.wake();
+    }
+    munmap(trace, chunks * size * 64);
+  }
+};
+
+static void pass_chunks(int lanes, int chunks, bool early) {
+  std::vector<std::unique_ptr<Lane>> all;
+  std::vector<std::thread> threads;
+  for (int k = 0; k < lanes; k++) {
+    all.push_back(std::make_unique<Lane>());
+    Lane *lane = all.back().get();
+    for (uint64_t place = 0; place < 4; place++) lane->spare.send({{place}});
+    threads.emplace_back([=] { lane->serve(chunks, early); });
+    threads.emplace_back([=] { lane->ask(chunks, early); });
+  }
+  for (auto &it : threads) it.join();
 }
 
 // The trace and the journal of 100,000 commands, an entry of 64 and one of 72 bytes for each, in memory that is new.
 static void write_books() {
   const int commands = 100000;
-  auto fresh = [](size_t bytes) {
-    return (uint64_t *)mmap(nullptr, bytes, PROT_READ | PROT_WRITE, MAP_PRIVATE | MAP_ANONYMOUS, -1, 0);
-  };
   uint64_t *trace = fresh(commands * 64), *journal = fresh(commands * 72);
   for (int k = 0; k < commands; k++) {
     for (int word = 0; word < 8; word++) trace[8 * k + word] = k + word;
@@ -190,7 +246,11 @@ int main() {
   printf("256 turns of eight sleepers: %.1f\n", milliseconds([] { pass_turns(false); }));
   printf("256 turns of eight sleepers, each with another sleeper's answer: %.1f\n", milliseconds([] { pass_turns(true); }));
   printf("50,000 requests and answers through two queues: %.1f\n", milliseconds(ask_and_answer));
-  printf("50,000 times an object home, a chunk and a request, and the object back: %.1f\n", milliseconds([] { lend_and_ask(false); }));
+  printf("50,000 times an object home, a chunk, a request, and both back: %.1f\n", milliseconds([] { lend_and_ask(false); }));
   printf("the same with a journal in which both write: %.1f\n", milliseconds([] { lend_and_ask(true); }));
-  printf("12,500 chunks of 8 requests through two queues: %.1f\n", milliseconds(pass_chunks));
+  for (bool early : {false, true}) {
+    printf("12,500 chunks of 8 requests, with trace and journal in new memory%s: %.1f\n", early ? " that is written to before" : "",
+           milliseconds([=] { pass_chunks(1, 12500, early); }));
+    printf("eight pairs of threads with 1,500 chunks each: %.1f\n", milliseconds([=] { pass_chunks(8, 1500, early); }));
+  }
 }
