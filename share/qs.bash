@@ -22,7 +22,7 @@ _qs() {
         rules) settings="--rounds --pick --order --counts --refusals --steps --queues --format --warn --help" ;;
         play) settings="--mode --chunk --rounds --pick --order --counts --refusals --steps --queues --format --warn --help" ;;
         run) settings="--mode --chunk --counts --refusals --times --format --warn --help" ;;
-        outcomes) settings="--limit --after --ends --estimate --alike --front --threads --always --some --throughout --format --warn --help" ;;
+        outcomes) settings="--limit --after --ends --estimate --alike --front --leads --threads --always --some --throughout --format --warn --help" ;;
     esac
     COMPREPLY=($(compgen -W "$settings" -- "$word"))
 }

@@ -1,28 +1,28 @@
--- The parts read so far, followed by those of the texts that are left, are the parts of the whole list, and one text
--- that is no part spoils the list. The loop of `parts_of` has this as its invariant, `parts_with`. It goes by cases on
--- what the next text is.
+-- What was read so far, followed by what the texts that are left stand for, is what the whole list stands for, and one
+-- text that stands for nothing spoils the list. The loops of `parts_of` and `orders_in` have this as their invariant,
+-- `read_with`. It goes by cases on what the next text stands for.
 use Rattle.std.proofs.Common.{◌≡◌, ℕ, List, [], ◌∷◌, ◌++◌, Option, Some, None, refl, sym, ap, append_assoc, option_map}
-use Rattle.qs_line.specs.declared.parts.Part.{Part}
-use Rattle.qs_line.specs.Parts.{part_in, parts_of}
+use Rattle.qs_line.specs.Parts.{each_in}
 
--- the parts so far, and then those of the texts that are left
-abbrev pub parts_with : List Part → List (List ℕ) → Option (List Part)
-parts_with parts texts = option_map (λ rest. parts ++ rest) (parts_of texts)
+module _ {A : Type 0} (one : List ℕ → Option A) where
+  -- what was read so far, and then the texts that are left
+  abbrev pub read_with : List A → List (List ℕ) → Option (List A)
+  read_with found texts = option_map (λ rest. found ++ rest) (each_in one texts)
 
-pub parts_with-first : (texts : List (List ℕ)) → parts_of texts ≡ parts_with [] texts
-parts_with-first texts = same (parts_of texts)
-  where
-    same : (o : Option (List Part)) → o ≡ option_map (λ rest. [] ++ rest) o
-    same None = refl
-    same (Some rest) = refl
+  pub read_with-first : (texts : List (List ℕ)) → each_in one texts ≡ read_with [] texts
+  read_with-first texts = same (each_in one texts)
+    where
+      same : (o : Option (List A)) → o ≡ option_map (λ rest. [] ++ rest) o
+      same None = refl
+      same (Some rest) = refl
 
-pub parts_with-some : (parts : List Part) (part : Part) (text : List ℕ) (texts : List (List ℕ)) → part_in text ≡ Some part
-    → parts_with parts (text ∷ texts) ≡ parts_with (parts ++ part ∷ []) texts
-parts_with-some parts part text texts e = rw e (go (parts_of texts))
-  where
-    go : (o : Option (List Part)) → option_map (λ rest. parts ++ rest) (option_map (λ more. part ∷ more) o) ≡ option_map (λ rest. (parts ++ part ∷ []) ++ rest) o
-    go None = refl
-    go (Some rest) = ap Some (sym (append_assoc parts (part ∷ []) rest))
+  pub read_with-some : (found : List A) (next : A) (text : List ℕ) (texts : List (List ℕ)) → one text ≡ Some next
+      → read_with found (text ∷ texts) ≡ read_with (found ++ next ∷ []) texts
+  read_with-some found next text texts e = rw e (go (each_in one texts))
+    where
+      go : (o : Option (List A)) → option_map (λ rest. found ++ rest) (option_map (λ more. next ∷ more) o) ≡ option_map (λ rest. (found ++ next ∷ []) ++ rest) o
+      go None = refl
+      go (Some rest) = ap Some (sym (append_assoc found (next ∷ []) rest))
 
-pub parts_with-none : (parts : List Part) (text : List ℕ) (texts : List (List ℕ)) → part_in text ≡ None → parts_with parts (text ∷ texts) ≡ None
-parts_with-none parts text texts e = rw e refl
+  pub read_with-none : (found : List A) (text : List ℕ) (texts : List (List ℕ)) → one text ≡ None → read_with found (text ∷ texts) ≡ None
+  read_with-none found text texts e = rw e refl

@@ -93,12 +93,14 @@ front_rule = record (option_rule (codes "front")) { parser = Some (parser.Signed
 abbrev pub threads_rule : Rule
 threads_rule = record (option_rule (codes "threads")) { parser = Some (parser.Signed (pos 1) (pos 64)) }
 
--- `.. [--alike] [--front K] [--threads N]`
+-- `.. [--alike] [--front K] [--leads LISTS] [--threads N]`
 abbrev pub searched_app : App → App
-searched_app app = with_rule (with_rule (with_rule app (flag_rule (codes "alike"))) front_rule) threads_rule
+searched_app app =
+    with_rule (with_rule (with_rule (with_rule app (flag_rule (codes "alike"))) front_rule)
+    (option_rule (codes "leads"))) threads_rule
 
--- `outcomes [--limit N] [--after LIST] [--ends] [--estimate] [--alike] [--front K] [--threads N] [--always COND]
--- [--some COND] [--throughout COND] [--format F] [--warn]`
+-- `outcomes [--limit N] [--after LIST] [--ends] [--estimate] [--alike] [--front K] [--leads LISTS] [--threads N]
+-- [--always COND] [--some COND] [--throughout COND] [--format F] [--warn]`
 abbrev pub outcomes_app : App
 outcomes_app = shared_app (claimed_app (searched_app listing_app))
 

@@ -1,6 +1,7 @@
 -- What a line asks for.
-use Rattle.std.specs.Prelude.{◌≡◌, ◌≢◌, ℕ, List, [], ◌∷◌, codes, Option, Some, None, ◌==◌, length, slice_index_or, Result, Ok, Err, ⊤, Bool, true, false, if◌then◌else◌, ◌||◌, ◌&&◌, not, is_some, option_map, option_and_then, unwrap_or}
+use Rattle.std.specs.Prelude.{◌≡◌, ◌≢◌, ℕ, List, [], ◌∷◌, map, Vec, codes, Option, Some, None, ◌==◌, length, slice_index_or, Result, Ok, Err, ⊤, Bool, true, false, if◌then◌else◌, ◌||◌, ◌&&◌, not, is_some, option_map, option_and_then, unwrap_or}
 use Rattle.std.specs.Option.{option_map_or}
+use Rattle.std.specs.Global.{Global}
 use Rattle.std.specs.Str.{bytes_eq}
 use Rattle.std.specs.Str.Parse.{digits_value, without_leading_plus}
 use Rattle.clap.specs.Faults.{fault_of}
@@ -16,7 +17,7 @@ use Rattle.qs_conditions.specs.Reads.{condition_in}
 use Rattle.qs_conditions.specs.declared.claim.Claim.{Claim}
 use Rattle.qs_conditions.specs.declared.claim.Quantifier.{Quantifier}
 use Rattle.qs_conditions.specs.declared.claim.Quantifier.TheVariants as quantifier
-use Rattle.qs_line.specs.Parts.{clients_in, list_in}
+use Rattle.qs_line.specs.Parts.{clients_in, list_in, orders_in}
 use Rattle.qs_line.specs.declared.parts.Part.{Part}
 use Rattle.qs_line.specs.Command.{qs_app}
 use Rattle.qs_line.specs.Limits.{most_front, most_threads, most_times}
@@ -45,11 +46,11 @@ pub data PlanShape : Type 0 where
 -- what is asked for: the counts; the graphs; a run by the plain rules; one in the optimised machine, in a mode and by
 -- chunks of a size; one on threads, or so many of them, whose ends are counted; after the blocks of some clients, how
 -- many configurations there can be; or, after these and with so many configurations at most, whether a condition holds
--- of all ends, of some or throughout, the configurations after so many blocks more, or all outcomes, or their ends
--- alone, by so many threads; or, with so many configurations at most, one of all outcomes that differ by alike clients
--- in each other's places, or by these whether a condition holds of all ends or of some. Each is asked for in a format,
--- and of a run the counts of synchronisations and what was refused may be asked for as well, and of a schedule a line
--- for each step, and what lies where at its end.
+-- of all ends, of some or throughout, or all outcomes, or their ends alone, by so many threads; or, after the blocks of
+-- each of some lists of clients, the configurations after so many blocks more; or, with so many configurations at most,
+-- one of all outcomes that differ by alike clients in each other's places, or by these whether a condition holds of all
+-- ends, of some or throughout. Each is asked for in a format, and of a run the counts of synchronisations and what was
+-- refused may be asked for as well, and of a schedule a line for each step, and what lies where at its end.
 pub data Request : Type 0 where
   check : Format → Request
   graph : GraphFormat → Request
@@ -59,7 +60,7 @@ pub data Request : Type 0 where
   tally : Format → Mode → (chunk : ℕ) → (times : ℕ) → Request
   ask : Claim → Format → (limit : ℕ) → (front : List Part) → Request
   estimate : Format → (front : List Part) → Request
-  fronts : Format → (blocks : ℕ) → (limit : ℕ) → (front : List Part) → Request
+  fronts : Format → (blocks : ℕ) → (limit : ℕ) → (orders : List (List Part)) → Request
   alike : Format → (limit : ℕ) → Request
   ask_alike : Claim → Format → (limit : ℕ) → Request
   outcomes : OutcomesFormat → (limit : ℕ) → (threads : ℕ) → (front : List Part) → Request
@@ -92,7 +93,7 @@ format_of_request (run style mode chunk) = format_beside_report style.format
 format_of_request (tally how mode chunk times) = how
 format_of_request (ask claim how limit front) = how
 format_of_request (estimate how front) = how
-format_of_request (fronts how blocks limit front) = how
+format_of_request (fronts how blocks limit orders) = how
 format_of_request (alike how limit) = how
 format_of_request (ask_alike claim how limit) = how
 format_of_request (outcomes how limit threads front) = format_beside_outcomes how
@@ -110,7 +111,8 @@ request_of (word.Run style mode chunk) = run style mode chunk
 request_of (word.Tally how mode chunk times) = tally how mode chunk times
 request_of (word.Ask claim how limit front) = ask claim how limit front.items
 request_of (word.Estimate how front) = estimate how front.items
-request_of (word.Fronts how blocks limit front) = fronts how blocks limit front.items
+request_of (word.Fronts how blocks limit orders) =
+    fronts how blocks limit (map (λ (order : Vec Part Global). order.items) orders.items)
 request_of (word.Alike how limit) = alike how limit
 request_of (word.AskAlike claim how limit) = ask_alike claim how limit
 request_of (word.Outcomes how limit threads front) = outcomes how limit threads front.items
@@ -371,8 +373,9 @@ alike_at rows =
 abbrev pub fronts_at : List Row → Option Request
 fronts_at rows =
     if is_of_list rows then None
-    else option_and_then (λ how. option_and_then (λ blocks. option_and_then (λ limit. option_map (fronts how blocks limit)
-    (front_at rows)) (limit_at rows)) (blocks_at rows)) (format_at rows)
+    else option_and_then (λ how. option_and_then (λ blocks. option_and_then
+    (λ limit. option_map (λ front. fronts how blocks limit (front ∷ [])) (front_at rows))
+    (limit_at rows)) (blocks_at rows)) (format_at rows)
 
 -- the configurations after so many blocks where the line asks for them; else all outcomes, or the answer to a condition
 abbrev pub fronts_or_list_at : List Row → Option Request
@@ -383,8 +386,19 @@ abbrev pub alike_or_list_at : List Row → Option Request
 alike_or_list_at rows = if flag_at (codes "alike") rows then alike_at rows else fronts_or_list_at rows
 
 -- an estimate where the line asks for one; else what is left
+abbrev pub estimate_or_list_at : List Row → Option Request
+estimate_or_list_at rows = if flag_at (codes "estimate") rows then estimate_at rows else alike_or_list_at rows
+
+-- the configurations after so many blocks more than each of the orders of a text, which stand beside `--front` alone
+abbrev pub leads_at : Text → List Row → Option Request
+leads_at text rows =
+    if is_of_list rows || (flag_at (codes "estimate") rows || (flag_at (codes "alike") rows || has_front rows)) then None
+    else option_and_then (λ how. option_and_then (λ blocks. option_and_then (λ limit. option_map (fronts how blocks limit)
+    (orders_in text)) (limit_at rows)) (blocks_at rows)) (format_at rows)
+
+-- these where the line has such a text; else what is left
 abbrev pub outcomes_at : List Row → Option Request
-outcomes_at rows = if flag_at (codes "estimate") rows then estimate_at rows else alike_or_list_at rows
+outcomes_at rows = option_map_or (λ text. leads_at text rows) (first_of (codes "leads") rows) (estimate_or_list_at rows)
 
 -- what a word asks for, with the entries that clap finds after it
 abbrev pub request_at : Text → List Row → Option Request

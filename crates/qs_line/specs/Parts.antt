@@ -62,10 +62,15 @@ part_by text (Some i) =
 abbrev pub part_in : List ℕ → Option Part
 part_in text = part_by text (position (λ byte. byte == 42) text)
 
+-- what some texts stand for, where each stands for one
+module _ {A : Type 0} (one : List ℕ → Option A) where
+  abbrev pub each_in : List (List ℕ) → Option (List A)
+  each_in [] = Some []
+  each_in (text ∷ texts) = option_and_then (λ first. option_map (λ rest. first ∷ rest) (each_in texts)) (one text)
+
 -- the parts of some texts, where each is a part
 abbrev pub parts_of : List (List ℕ) → Option (List Part)
-parts_of [] = Some []
-parts_of (text ∷ texts) = option_and_then (λ part. option_map (λ parts. part ∷ parts) (parts_of texts)) (part_in text)
+parts_of texts = each_in part_in texts
 
 -- how many actors they stand for
 abbrev pub length_of : List Part → ℕ
@@ -92,3 +97,7 @@ without_handlers parts = if has_handler parts then None else Some parts
 -- the same, where no part is a handler by its number
 abbrev pub clients_in : List ℕ → Option (List Part)
 clients_in text = option_and_then without_handlers (list_in text)
+
+-- lists of clients, one on each line
+abbrev pub orders_in : List ℕ → Option (List (List Part))
+orders_in text = each_in clients_in (slice_split (λ byte. byte == 10) text)

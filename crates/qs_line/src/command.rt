@@ -243,6 +243,7 @@ fn searched<'a>(alloc: Global, command: Command<'a>) -> Result<Command<'a>, Allo
     command
         .arg(flag(alloc, "alike", help::ALIKE))?
         .arg(front_option(alloc))?
+        .arg(option(alloc, "leads", "LISTS", help::LEADS))?
         .arg(threads_option(alloc))
 }
 

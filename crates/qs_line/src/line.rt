@@ -1,17 +1,17 @@
 // The settings of a line.
 
-ghost use Rattle.std.specs.Prelude.{◌≡◌, [], Err, IfOk, IfErr, map, option_and_then, option_map};
+ghost use Rattle.std.specs.Prelude.{◌≡◌, [], ◌∷◌, Err, IfOk, IfErr, map, option_and_then, option_map};
 ghost use Rattle.clap.specs.Words.{found_of, kind_of, rows_of, subcommand_of, subcommand_rows_of};
 ghost use Rattle.clap.specs.Faults.{fault_of};
 ghost use Rattle.qs_line.specs.Command.{qs_app};
-ghost use Rattle.qs_line.specs.Line.{IsAnswer, IsFault, IsFaultAmong, alike_at, alike_list_at, alike_or_list_at, answer_or_list_at, ask_alike_at, ask_at, asks_language, blocks_at, help, check_at, chunk_at, claim_at, claim_in, estimate_at, fronts_at, fronts_or_list_at, has_blocks, has_claim, has_front, has_threads, has_times, is_of_list, list_at, flag_at, format_at, front_at, graph_at, graph_format_at, is_verbose_in, is_verbose_met, limit_at, line_in, mode_at, number_in, outcomes_at, outcomes_format_at, plan_of, play_at, report_format_at, request_at, request_met, request_of, rules_at, run_at, single_run_at, style_at, styled_plan, can_tell, tally_at, threads_at, threads_beside, times_at, warns_in, warns_met};
+ghost use Rattle.qs_line.specs.Line.{IsAnswer, IsFault, IsFaultAmong, alike_at, alike_list_at, alike_or_list_at, answer_or_list_at, ask_alike_at, ask_at, asks_language, blocks_at, help, check_at, chunk_at, claim_at, claim_in, estimate_at, estimate_or_list_at, fronts_at, fronts_or_list_at, has_blocks, has_claim, has_front, has_threads, has_times, is_of_list, list_at, flag_at, format_at, front_at, graph_at, graph_format_at, is_verbose_in, is_verbose_met, leads_at, limit_at, line_in, mode_at, number_in, outcomes_at, outcomes_format_at, plan_of, play_at, report_format_at, request_at, request_met, request_of, rules_at, run_at, single_run_at, style_at, styled_plan, can_tell, tally_at, threads_at, threads_beside, times_at, warns_in, warns_met};
 
 use crate::command::command;
 use crate::found::text_at;
 use crate::limits::{MOST_FRONT, MOST_THREADS, MOST_TIMES};
 use crate::parts::Part;
 use crate::plan::{Plan, given_plan};
-use crate::reading::clients_in;
+use crate::reading::{clients_in, orders_in};
 use clap::error::ErrorKind;
 use clap::{ArgMatches, Error};
 use qs_chunk::ChunkSize;
@@ -182,10 +182,10 @@ pub enum Settings {
         format: Format,
         /// How many blocks.
         blocks: u32,
-        /// How many configurations are looked at, at most.
+        /// How many configurations are looked at after each order, at most.
         limit: u32,
-        /// Whose blocks were run before.
-        front: Vec<Part>,
+        /// Whose blocks were run before, in one order or in several.
+        orders: Vec<Vec<Part>>,
     },
     /// Check it, and list one of all outcomes that differ by alike clients in each other's places.
     Alike {
@@ -711,6 +711,14 @@ fn alike_settings(alloc: Global, found: &ArgMatches<'_>) -> Result<Option<Settin
     }
 }
 
+fn one_order(alloc: Global, order: Vec<Part>) -> Result<Vec<Vec<Part>>, AllocError>
+    ensures one { IfOk result (λ orders. map (λ order. order.items) orders.items ≡ order.items ∷ []) }
+{
+    let mut orders = Vec::with_capacity(alloc, 1)?;
+    orders.push(order)?;
+    Ok(orders)
+}
+
 // Fronts, which stand beside none of these.
 fn fronts_settings(alloc: Global, found: &ArgMatches<'_>) -> Result<Option<Settings>, AllocError>
     ensures settings { IfOk result (λ settings. option_map request_of settings ≡ fronts_at (rows_of (found_of found.now))) }
@@ -726,11 +734,12 @@ fn fronts_settings(alloc: Global, found: &ArgMatches<'_>) -> Result<Option<Setti
     ) else {
         return Ok(None);
     };
+    let orders = one_order(alloc, front)?;
     Ok(Some(Settings::Fronts {
         format,
         blocks,
         limit,
-        front,
+        orders,
     }))
 }
 
@@ -757,13 +766,52 @@ fn alike_or_list(alloc: Global, found: &ArgMatches<'_>) -> Result<Option<Setting
 }
 
 // An estimate where the line asks for one; else what is left.
-fn outcomes_settings(alloc: Global, found: &ArgMatches<'_>) -> Result<Option<Settings>, AllocError>
-    ensures settings { IfOk result (λ settings. option_map request_of settings ≡ outcomes_at (rows_of (found_of found.now))) }
+fn estimate_or_list(alloc: Global, found: &ArgMatches<'_>) -> Result<Option<Settings>, AllocError>
+    ensures settings { IfOk result (λ settings. option_map request_of settings ≡ estimate_or_list_at (rows_of (found_of found.now))) }
 {
     if has_flag(found, "estimate") {
         estimate_settings(alloc, found)
     } else {
         alike_or_list(alloc, found)
+    }
+}
+
+// The fronts after each of some orders, which stand beside `--front` alone.
+fn leads_settings(
+    alloc: Global,
+    found: &ArgMatches<'_>,
+    text: &str,
+) -> Result<Option<Settings>, AllocError>
+    ensures settings { IfOk result (λ settings. option_map request_of settings ≡ leads_at text.now (rows_of (found_of found.now))) }
+{
+    if is_of_list(found)
+        || (has_flag(found, "estimate") || (has_flag(found, "alike") || has_front(found)))
+    {
+        return Ok(None);
+    }
+    let (Some(format), Some(blocks), Some(limit), Some(orders)) = (
+        format_of(found),
+        blocks_of(found),
+        limit_of(found),
+        orders_in(alloc, text)?,
+    ) else {
+        return Ok(None);
+    };
+    Ok(Some(Settings::Fronts {
+        format,
+        blocks,
+        limit,
+        orders,
+    }))
+}
+
+// The fronts after each of some orders where the line has these; else what is left.
+fn outcomes_settings(alloc: Global, found: &ArgMatches<'_>) -> Result<Option<Settings>, AllocError>
+    ensures settings { IfOk result (λ settings. option_map request_of settings ≡ outcomes_at (rows_of (found_of found.now))) }
+{
+    match text_at(found, "leads") {
+        Some(text) => leads_settings(alloc, found, text),
+        None => estimate_or_list(alloc, found),
     }
 }
 
@@ -850,6 +898,7 @@ fn page(alloc: Global) -> LineFault
 /// where an order stands beside picks or a number of rounds, where a condition does not read or stands beside another
 /// one, where two of a condition, `--ends`, `--estimate`, `--alike` and `--front` stand together, where a number of
 /// threads stands beside one of these but `--ends`, or beside a drawing, where `--alike` stands beside `--after`, where
+/// `--leads` stands beside one of all these or without `--front`, where
 /// a number of runs stands beside `--counts` or `--refusals`, or where steps or queues are asked for of an order or
 /// beside a report that is no text; `Help` and `Version` come exactly where it answers with help or with the version, and `Help` where the
 /// words are `help language`. `Memory` may come in place of each.

@@ -5,7 +5,7 @@ ghost use Rattle.std.specs.List.{list_all, slice_split};
 ghost use Rattle.qs_tokens.specs.Limits.{longest_name};
 ghost use Rattle.qs_tokens.specs.Tokens.{is_digit, is_name_byte, same, value_of};
 ghost use Rattle.qs_line.specs.Limits.{most_actors, most_repeats};
-ghost use Rattle.qs_line.specs.Parts.{actor_in, clients_in as clients_due, count_in, has_handler as some_handler, is_handler, is_name, is_reserved as is_reserved_word, length_of, list_in as list_due, name_in, part_in, parts_of as parts_due, times, who_in};
+ghost use Rattle.qs_line.specs.Parts.{actor_in, clients_in as clients_due, count_in, has_handler as some_handler, is_handler, is_name, is_reserved as is_reserved_word, length_of, list_in as list_due, name_in, orders_in as orders_due, part_in, parts_of as parts_due, times, who_in};
 
 use crate::limits::{LONGEST_NAME, MOST_ACTORS, MOST_REPEATS};
 use crate::parts::{Part, Who};
@@ -153,17 +153,19 @@ pub fn part_of(text: &[u8]) -> Option<Part>
     }
 }
 
-fn texts_of<'a>(alloc: Global, text: &'a str) -> Result<Vec<&'a str>, AllocError>
-    ensures parts { IfOk result (λ parts. map (λ part. part.now) parts.items ≡ slice_split (λ byte. byte == 44) text.now) }
+// The texts between the signs of one kind, which is one byte.
+fn texts_of<'a>(alloc: Global, text: &'a str, sign: char) -> Result<Vec<&'a str>, AllocError>
+    requires byte { sign < 128 }
+    ensures parts { IfOk result (λ parts. map (λ part. part.now) parts.items ≡ slice_split (λ byte. byte == sign) text.now) }
 {
-    text.split(',').collect(alloc)
+    text.split(sign).collect(alloc)
 }
 
 // The parts of a text, however many actors they stand for.
 fn parts_of(alloc: Global, text: &str) -> Result<Option<Vec<Part>>, AllocError>
     ensures parts { IfOk result (λ parts. option_map (λ list. list.items) parts ≡ parts_due (slice_split (λ byte. byte == 44) text.now)) }
 {
-    let texts = texts_of(alloc, text)?;
+    let texts = texts_of(alloc, text, ',')?;
     let mut parts = Vec::new(alloc);
     for part in &texts {
         match part_of(part.as_bytes()) {
@@ -226,4 +228,19 @@ pub fn clients_in(alloc: Global, text: &str) -> Result<Option<Vec<Part>>, AllocE
         return Ok(None);
     }
     Ok(Some(parts))
+}
+
+/// Lists of clients, one on each line of a text; None exactly where a line is no such list.
+pub fn orders_in(alloc: Global, text: &str) -> Result<Option<Vec<Vec<Part>>>, AllocError>
+    ensures orders { IfOk result (λ orders. option_map (λ list. map (λ order. order.items) list.items) orders ≡ orders_due text.now) }
+{
+    let lines = texts_of(alloc, text, '\n')?;
+    let mut orders = Vec::new(alloc);
+    for line in &lines {
+        match clients_in(alloc, line)? {
+            Some(order) => orders.push(order)?,
+            None => return Ok(None),
+        }
+    }
+    Ok(Some(orders))
 }

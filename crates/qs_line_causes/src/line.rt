@@ -11,6 +11,8 @@ const SCRIPT: &[u8] = b"\nThe script comes on standard input: qs check < my.scri
 const HELP: &[u8] =
     b"\n`qs --help` says what can be done with a script, and `qs help language` how it is written.\n";
 
+const NO_FRONT: &[u8] = b"error: '--leads <LISTS>' wants '--front <K>' beside it\n";
+
 const NO_WORD: &[u8] =
     b"error: no word stands on the line: `check`, `graph`, `rules`, `play`, `run` or `outcomes`\n  = help: `qs --help` says what each of them does\n";
 
@@ -51,6 +53,9 @@ fn names_file<'a>(words: &'a [&'a str]) -> bool {
 // does not have, or a value that does not read.
 fn put_value<'a>(alloc: Global, out: &mut Vec<u8>, words: &'a [&'a str]) -> Result<(), AllocError> {
     put_apart(out, words)?;
+    if out.is_empty() && stands(words, "--leads") && !stands(words, "--front") {
+        return put(out, NO_FRONT);
+    }
     if out.is_empty() {
         put_format(out, words)?;
     }
@@ -61,6 +66,7 @@ fn put_value<'a>(alloc: Global, out: &mut Vec<u8>, words: &'a [&'a str]) -> Resu
         put_list(out, words, "--pick", true)?;
         put_list(out, words, "--order", false)?;
         put_list(out, words, "--after", false)?;
+        put_lists(out, words)?;
     }
     if out.is_empty() {
         for setting in CLAIMS {
@@ -94,13 +100,14 @@ fn shown(setting: &str) -> &'static str {
         "--alike" => "--alike",
         "--after" => "--after <LIST>",
         "--front" => "--front <K>",
+        "--leads" => "--leads <LISTS>",
         "--threads" => "--threads <N>",
         _ => "--format <F>",
     }
 }
 
 // Settings that do not stand together.
-const APART: [(&str, &str); 31] = [
+const APART: [(&str, &str); 39] = [
     ("--order", "--pick"),
     ("--order", "--rounds"),
     ("--order", "--steps"),
@@ -123,6 +130,14 @@ const APART: [(&str, &str); 31] = [
     ("--front", "--some"),
     ("--front", "--throughout"),
     ("--front", "--threads"),
+    ("--leads", "--after"),
+    ("--leads", "--ends"),
+    ("--leads", "--estimate"),
+    ("--leads", "--alike"),
+    ("--leads", "--always"),
+    ("--leads", "--some"),
+    ("--leads", "--throughout"),
+    ("--leads", "--threads"),
     ("--threads", "--always"),
     ("--threads", "--some"),
     ("--threads", "--throughout"),
@@ -312,39 +327,102 @@ fn put_list<'a>(
     setting: &str,
     may_be_handler: bool,
 ) -> Result<(), AllocError> {
-    let Some(list) = value_after(words, setting) else {
+    match value_after(words, setting) {
+        Some(list) => put_fault(out, list, Which::only(setting), may_be_handler),
+        None => Ok(()),
+    }
+}
+
+// The same of the first of the lists after `--leads` of which there is something to say.
+fn put_lists<'a>(out: &mut Vec<u8>, words: &'a [&'a str]) -> Result<(), AllocError> {
+    let Some(lists) = value_after(words, LEADS) else {
         return Ok(());
     };
+    for (index, list) in lists.split('\n').enumerate() {
+        if out.is_empty() {
+            put_fault(out, list, Which::of_several(index), false)?;
+        }
+    }
+    Ok(())
+}
+
+fn put_fault(
+    out: &mut Vec<u8>,
+    list: &str,
+    which: Which<'_>,
+    may_be_handler: bool,
+) -> Result<(), AllocError> {
     let mut place = 1u64;
     let mut count = 0u32;
     for part in list.split(',') {
         if let Some(what) = fault_of_part(part, may_be_handler) {
-            return put_part(out, setting, place, part.as_bytes(), what);
+            return put_part(out, which, place, part.as_bytes(), what);
         }
         count = count.saturating_add(times_of(part));
         if count > MOST_ACTORS {
-            return put_part(out, setting, place, part.as_bytes(), TOO_MANY);
+            return put_part(out, which, place, part.as_bytes(), TOO_MANY);
         }
         place = place.saturating_add(1);
     }
     Ok(())
 }
 
-/// Puts what is wrong with a part of the list after a setting.
+/// The setting that takes a list on each line of its value.
+pub(crate) const LEADS: &str = "--leads";
+
+/// A list of the line: the only one after its setting, or one of several, by its number from 1.
+#[derive(Clone, Copy)]
+pub(crate) struct Which<'a> {
+    setting: &'a str,
+    number: Option<u64>,
+}
+
+impl<'a> Which<'a> {
+    /// The only list after a setting.
+    pub(crate) fn only(setting: &'a str) -> Which<'a> {
+        Which {
+            setting,
+            number: None,
+        }
+    }
+
+    /// One of the lists after `--leads`, by its number from 0.
+    pub(crate) fn of_several(index: usize) -> Which<'a> {
+        Which {
+            setting: LEADS,
+            number: Some((index as u64).saturating_add(1)),
+        }
+    }
+}
+
+// Puts which list it is.
+fn put_which(out: &mut Vec<u8>, which: Which<'_>) -> Result<(), AllocError> {
+    let mut buffer = itoa::Buffer::new();
+    match which.number {
+        Some(number) => put_all(
+            out,
+            &[b" of list ", buffer.format(number).as_bytes(), b" for '"],
+        )?,
+        None => put(out, b" of the list for '")?,
+    }
+    let value: &[u8] = if which.number.is_some() {
+        b" <LISTS>'"
+    } else {
+        b" <LIST>'"
+    };
+    put_all(out, &[which.setting.as_bytes(), value])
+}
+
+/// Puts what is wrong with a part of a list.
 pub(crate) fn put_part(
     out: &mut Vec<u8>,
-    setting: &str,
+    which: Which<'_>,
     place: u64,
     part: &[u8],
     what: &[u8],
 ) -> Result<(), AllocError> {
     let mut buffer = itoa::Buffer::new();
-    put(out, b"error: part ")?;
-    put(out, buffer.format(place).as_bytes())?;
-    put(out, b" of the list for '")?;
-    put(out, setting.as_bytes())?;
-    put(out, b" <LIST>', '")?;
-    put(out, part)?;
-    put(out, b"', ")?;
-    put(out, what)
+    put_all(out, &[b"error: part ", buffer.format(place).as_bytes()])?;
+    put_which(out, which)?;
+    put_all(out, &[b", '", part, b"', ", what])
 }

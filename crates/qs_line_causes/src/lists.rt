@@ -1,6 +1,6 @@
 // What is said of a list that names somebody whom the script does not have, or two at once.
 
-use crate::line::put_part;
+use crate::line::{LEADS, Which, put_part};
 use crate::program::program_of;
 use qs_check::Program;
 use qs_diagnosis::{put, put_all};
@@ -19,7 +19,8 @@ pub(crate) fn put_names<'a>(
     };
     put_named(alloc, out, &program, words, "--pick")?;
     put_named(alloc, out, &program, words, "--order")?;
-    put_named(alloc, out, &program, words, "--after")
+    put_named(alloc, out, &program, words, "--after")?;
+    put_named_lists(alloc, out, &program, words)
 }
 
 // Whether the list after a setting has handlers too.
@@ -27,9 +28,14 @@ fn has_handlers(setting: &str) -> bool {
     setting == "--pick"
 }
 
-// Why the list after a setting names nobody.
-fn fault_of(alloc: Global, program: &Program, setting: &str, parts: &[Part]) -> Option<ListFault> {
-    if has_handlers(setting) {
+// Why a list names nobody.
+fn fault_of(
+    alloc: Global,
+    program: &Program,
+    with_handlers: bool,
+    parts: &[Part],
+) -> Option<ListFault> {
+    if with_handlers {
         match actors_of(alloc, program, parts) {
             Ok(_) => None,
             Err(fault) => Some(fault),
@@ -50,28 +56,68 @@ fn put_named<'a>(
     words: &'a [&'a str],
     setting: &str,
 ) -> Result<(), AllocError> {
-    let Some(list) = value_after(words, setting) else {
+    match value_after(words, setting) {
+        Some(list) => put_unnamed(
+            alloc,
+            out,
+            program,
+            list,
+            Which::only(setting),
+            has_handlers(setting),
+        ),
+        None => Ok(()),
+    }
+}
+
+// The same of the first of the lists after `--leads` of which there is something to say.
+fn put_named_lists<'a>(
+    alloc: Global,
+    out: &mut Vec<u8>,
+    program: &Program,
+    words: &'a [&'a str],
+) -> Result<(), AllocError> {
+    let Some(lists) = value_after(words, LEADS) else {
         return Ok(());
     };
+    for (index, list) in lists.split('\n').enumerate() {
+        if out.is_empty() {
+            put_unnamed(alloc, out, program, list, Which::of_several(index), false)?;
+        }
+    }
+    Ok(())
+}
+
+fn put_unnamed(
+    alloc: Global,
+    out: &mut Vec<u8>,
+    program: &Program,
+    list: &str,
+    which: Which<'_>,
+    with_handlers: bool,
+) -> Result<(), AllocError> {
     let Some(parts) = list_in(alloc, list)? else {
         return Ok(());
     };
-    let Some(ListFault::Part { place, why }) = fault_of(alloc, program, setting, parts.as_slice())
-    else {
+    let Some(ListFault::Part { place, why }) = fault_of(
+        alloc,
+        program,
+        with_handlers,
+        parts.as_slice(),
+    ) else {
         return Ok(());
     };
     for (index, part) in list.split(',').enumerate() {
         if index == place {
             put_part(
                 out,
-                setting,
+                which,
                 (place as u64).saturating_add(1),
                 part.as_bytes(),
                 words_of(why),
             )?;
         }
     }
-    put_who_is_there(out, program, has_handlers(setting))
+    put_who_is_there(out, program, with_handlers)
 }
 
 fn words_of(why: Why) -> &'static [u8] {

@@ -2,7 +2,7 @@
 
 ghost use Rattle.std.specs.Prelude.{◌<◌, length};
 
-use crate::line::put_part;
+use crate::line::{LEADS, Which, put_part};
 use crate::program::program_of;
 use qs_check::Program;
 use qs_diagnosis::{put, put_all};
@@ -22,12 +22,30 @@ pub fn put_order<'a>(
         return Ok(());
     };
     match program_of(alloc, text) {
-        Some(program) => put_surplus(alloc, out, &program, setting, list),
+        Some(program) => put_surplus(alloc, out, &program, Which::only(setting), list),
         None => Ok(()),
     }
 }
 
-/// Puts which part of the list of blocks that were run before names no block of the script; or else, where fronts are
+// The same of the first of the lists after `--leads` of which there is something to say.
+fn put_orders<'a>(
+    alloc: Global,
+    out: &mut Vec<u8>,
+    words: &'a [&'a str],
+    text: &[u8],
+) -> Result<(), AllocError> {
+    let (Some(lists), Some(program)) = (value_after(words, LEADS), program_of(alloc, text)) else {
+        return Ok(());
+    };
+    for (index, list) in lists.split('\n').enumerate() {
+        if out.is_empty() {
+            put_surplus(alloc, out, &program, Which::of_several(index), list)?;
+        }
+    }
+    Ok(())
+}
+
+/// Puts which part of a list of blocks that were run before names no block of the script; or else, where fronts are
 /// asked for, that they have more blocks than are left, and how many the script has.
 pub fn put_front<'a>(
     alloc: Global,
@@ -36,6 +54,7 @@ pub fn put_front<'a>(
     text: &[u8],
 ) -> Result<(), AllocError> {
     put_order(alloc, out, words, text, "--after")?;
+    put_orders(alloc, out, words, text)?;
     if !out.is_empty() || value_after(words, "--front").is_none() {
         return Ok(());
     }
@@ -67,7 +86,7 @@ fn put_surplus(
     alloc: Global,
     out: &mut Vec<u8>,
     program: &Program,
-    setting: &str,
+    which: Which<'_>,
     list: &str,
 ) -> Result<(), AllocError> {
     let Some(parts) = list_in(alloc, list)? else {
@@ -84,7 +103,7 @@ fn put_surplus(
             return Ok(());
         };
         if usize::from(*client) >= program.clients() {
-            put_part(out, setting, place, text.as_bytes(), b"names no client\n")?;
+            put_part(out, which, place, text.as_bytes(), b"names no client\n")?;
             return put_clients(out, program);
         }
         let Some(blocks) = begun.get_mut(usize::from(*client)) else {
@@ -93,7 +112,7 @@ fn put_surplus(
         *blocks = (*blocks).saturating_add(part.count as usize);
         if *blocks > program.blocks_of(*client) {
             let surplus = *blocks - program.blocks_of(*client);
-            put_part(out, setting, place, text.as_bytes(), b"names ")?;
+            put_part(out, which, place, text.as_bytes(), b"names ")?;
             put_too_many(out, surplus)?;
             return put_blocks(out, program, *client);
         }

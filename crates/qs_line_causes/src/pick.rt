@@ -1,6 +1,6 @@
 // What is said of a pick of nobody.
 
-use crate::line::put_part;
+use crate::line::{Which, put_part};
 use qs_causes::actors;
 use qs_diagnosis::put_all;
 use qs_line::{Who, part_of, value_after};
@@ -34,7 +34,7 @@ pub fn put_pick<'a>(
     for part in picks.split(',') {
         let part = part.as_bytes();
         if !is_there(part, clients, objects) {
-            put_part(out, "--pick", place, part, b"names nobody\n")?;
+            put_part(out, Which::only("--pick"), place, part, b"names nobody\n")?;
             return put_counts(out, clients, objects);
         }
         place = place.saturating_add(1);

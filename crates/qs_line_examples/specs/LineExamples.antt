@@ -159,9 +159,9 @@ pub record AlikeLines : Type 0 where
 
 -- the configurations after so many blocks
 pub record PartLines : Type 0 where
-  pub alone : line (codes "outcomes" ∷ codes "--front" ∷ codes "2" ∷ []) ≡ asks (fronts format.Text 2 1000000 [])
+  pub alone : line (codes "outcomes" ∷ codes "--front" ∷ codes "2" ∷ []) ≡ asks (fronts format.Text 2 1000000 ([] ∷ []))
   pub after : line (codes "outcomes" ∷ codes "--after=c1" ∷ codes "--limit=7" ∷ codes "--front=512" ∷ codes "--format=json"
-      ∷ []) ≡ asks (fronts format.Json 512 7 (once (Client 1) ∷ []))
+      ∷ []) ≡ asks (fronts format.Json 512 7 ((once (Client 1) ∷ []) ∷ []))
   pub none : line (codes "outcomes" ∷ codes "--front=0" ∷ []) ≡ refused
   pub one_more : line (codes "outcomes" ∷ codes "--front=513" ∷ []) ≡ refused
   pub as_drawing : line (codes "outcomes" ∷ codes "--front=2" ∷ codes "--format=dot" ∷ []) ≡ refused
@@ -169,6 +169,27 @@ pub record PartLines : Type 0 where
   pub with_condition : line (codes "outcomes" ∷ codes "--front=2" ∷ codes "--always=1<2" ∷ []) ≡ refused
   pub with_estimate : line (codes "outcomes" ∷ codes "--estimate" ∷ codes "--front=2" ∷ []) ≡ refused
   pub with_alike : line (codes "outcomes" ∷ codes "--alike" ∷ codes "--front=2" ∷ []) ≡ refused
+
+-- the same after each of some orders
+pub record LeadLines : Type 0 where
+  pub several : line (codes "outcomes" ∷ codes "--front=2" ∷ codes "--leads" ∷ codes "c1\nc0,c1" ∷ [])
+      ≡ asks (fronts format.Text 2 1000000 ((once (Client 1) ∷ []) ∷ (once (Client 0) ∷ once (Client 1) ∷ []) ∷ []))
+  pub one : line (codes "outcomes" ∷ codes "--front=2" ∷ codes "--leads=c1" ∷ codes "--limit=7" ∷ [])
+      ≡ asks (fronts format.Text 2 7 ((once (Client 1) ∷ []) ∷ []))
+  pub nobody : line (codes "outcomes" ∷ codes "--front=2" ∷ codes "--leads=" ∷ []) ≡ refused
+  pub a_handler : line (codes "outcomes" ∷ codes "--front=2" ∷ codes "--leads=c1\nh0" ∷ []) ≡ refused
+  pub an_empty_line : line (codes "outcomes" ∷ codes "--front=2" ∷ codes "--leads=c1\n" ∷ []) ≡ refused
+  pub without_front : line (codes "outcomes" ∷ codes "--leads=c1" ∷ []) ≡ refused
+  pub as_drawing : line (codes "outcomes" ∷ codes "--front=2" ∷ codes "--leads=c1" ∷ codes "--format=dot" ∷ []) ≡ refused
+  pub after : line (codes "outcomes" ∷ codes "--front=2" ∷ codes "--leads=c1" ∷ codes "--after=c1" ∷ []) ≡ refused
+  pub with_ends : line (codes "outcomes" ∷ codes "--front=2" ∷ codes "--leads=c1" ∷ codes "--ends" ∷ []) ≡ refused
+  pub with_condition : line (codes "outcomes" ∷ codes "--front=2" ∷ codes "--leads=c1" ∷ codes "--some=1<2" ∷ [])
+      ≡ refused
+  pub with_threads : line (codes "outcomes" ∷ codes "--front=2" ∷ codes "--leads=c1" ∷ codes "--threads=2" ∷ [])
+      ≡ refused
+  pub with_estimate : line (codes "outcomes" ∷ codes "--estimate" ∷ codes "--leads=c1" ∷ []) ≡ refused
+  pub with_alike : line (codes "outcomes" ∷ codes "--alike" ∷ codes "--leads=c1" ∷ []) ≡ refused
+  pub of_run : line (codes "run" ∷ codes "--leads=c1" ∷ []) ≡ refused
 
 pub record ThreadLines : Type 0 where
   pub several : line (codes "outcomes" ∷ codes "--threads=4" ∷ [])
@@ -413,6 +434,7 @@ pub record LineExamples : Type 0 where
   pub estimates : EstimateLines
   pub alike : AlikeLines
   pub parts : PartLines
+  pub leads : LeadLines
   pub threads : ThreadLines
   pub fronts : FrontLines
   pub orders : OrderLines

@@ -1,4 +1,5 @@
 pub mod Dues
+pub mod FrontsDues
 pub mod LineDues
 pub mod OtherDues
 mod Gathering

@@ -1,21 +1,17 @@
 -- What is due of the searches of other kinds: one of all alike outcomes, the answer to a claim by these, and the
 -- configurations after so many blocks. The functions of `searches` stand on it. Each goes by cases on what is due.
-use Rattle.std.proofs.Common.{◌≡◌, ◌≤◌, ◌==◌, ◌⊎◌, ◌∙◌, ℕ, Bool, List, [], Option, Some, None, Result, Ok, Err, Vec, IfOk, IfSome, false, length, ap, refl, sym, subst, inl, inr}
+use Rattle.std.proofs.Common.{◌≡◌, ◌≤◌, ◌⊎◌, ℕ, Bool, [], Option, Some, None, Result, Ok, Err, Vec, IfOk, IfSome, length, refl, sym, subst, inl, inr}
 use Rattle.std.specs.Global.{Global}
-use Rattle.std.specs.List.{AllByRecursion, AllZip}
+use Rattle.std.specs.List.{AllByRecursion}
 use Rattle.std.proofs.lemmas.Slice.Zip.{AllZip-long}
-use Rattle.qs_objects.specs.declared.held.Ticket.{Ticket}
 use Rattle.qs_program.specs.Program.{ProgramShape}
-use Rattle.qs_serial.specs.NamedOrders.{order_of}
-use Rattle.qs_meaning.specs.Serial.{IsLegal}
 use Rattle.qs_meaning.proofs.Each.{each_map}
 use Rattle.qs_standings.specs.Standings.{StandingShape}
-use Rattle.qs_outcomes.specs.Outcomes.{HasMoreThanAfter, HasPlaces, outcome_at}
+use Rattle.qs_outcomes.specs.Outcomes.{HasPlaces, outcome_at}
 use Rattle.qs_outcomes.specs.declared.fault.OutcomesFault.{OutcomesFault}
 use Rattle.qs_outcomes.specs.declared.fault.OutcomesFault.TheVariants as outcomes_fault
 use Rattle.qs_alike.specs.AlikeOutcomes.{AlikeShape, AreAlikeOutcomes, HasMoreUnlike, IsEnd, StandsFor}
 use Rattle.qs_alike.specs.Changes.{Classes}
-use Rattle.qs_level_laws.specs.Fronts.{AreFrontsAfter, IsAfter}
 use Rattle.qs_report.specs.declared.faults.Fault.TheVariants as fault
 use Rattle.qs_conditions.specs.declared.claim.Claim.{Claim}
 use Rattle.qs_conditions.specs.declared.claim.Quantifier.{Quantifier}
@@ -25,14 +21,12 @@ use Rattle.qs_outcomes.specs.Answers.{AnswerShape}
 use Rattle.qs_questions.specs.AlikeClaims.{HasMoreAlike, IsAlikeAnswer, IsAlikeAnswerBy, IsEndMet}
 use Rattle.qs_questions.specs.Claims.{is_sought}
 use Rattle.qs_questions.specs.Questions.{first_unknown_in}
-use Rattle.qs_line.specs.Line.{alike, ask_alike, fronts}
-use Rattle.qs_line.specs.Named.{clients_of}
+use Rattle.qs_line.specs.Line.{alike, ask_alike}
 use Rattle.qs_line.specs.declared.line.Format.{Format}
-use Rattle.qs_line.specs.declared.parts.Part.{Part}
-use Rattle.qs_serve.specs.Due.{AreNoFronts, AreTheClasses, AreToldFronts, AreUnlistedAlike, IsAlikeAnswerText, IsAlikeText, IsAnswered, IsDueOfFronts, IsDueOfProgram, IsFrontsText, IsOutOfMemory, IsRefusedBy, IsTextOf, IsUnansweredAlike, alike_in}
+use Rattle.qs_serve.specs.Due.{AreTheClasses, AreUnlistedAlike, IsAlikeAnswerText, IsAlikeText, IsAnswered, IsDueOfProgram, IsOutOfMemory, IsTextOf, IsUnansweredAlike, alike_in}
 use Rattle.qs_serve.specs.declared.due.Due.{Due}
 use Rattle.qs_serve.specs.declared.due.Due.TheVariants.{Text, No, Refused}
-use Rattle.qs_serve.proofs.Dues.{of_named, places_on_the_way}
+use Rattle.qs_serve.proofs.Dues.{places_on_the_way}
 
 pub alike_places : (p : ProgramShape) (k : Classes) (all : AlikeShape) → AreAlikeOutcomes p k all → AllByRecursion (HasPlaces p) all.found
 alike_places p k all are = each_map (λ s (e : IsEnd p s). e.places) all.found are.sound
@@ -91,47 +85,3 @@ unanswered_alike p claim limit outcomes_fault.Memory more order = tt
 pub due_unanswered_alike : (how : Format) (p : ProgramShape) (claim : Claim) (limit : ℕ) (f : OutcomesFault) → IsUnansweredAlike p claim limit f
     → IsOutOfMemory (Refused (fault.Outcomes f)) ⊎ IsDueOfProgram (ask_alike claim how limit) [] p (Refused (fault.Outcomes f))
 due_unanswered_alike how p claim limit f is = inr is
-
-pub fronts_places : (p : ProgramShape) (front : List Ticket) (blocks : ℕ) (found : List StandingShape) → AreFrontsAfter p front blocks found → AllByRecursion (HasPlaces p) found
-fronts_places p front blocks found are =
-    each_map (λ s (a : IsAfter p front blocks s). record { locals = a.standing.locals; states = a.standing.states }) found are.sound
-
--- a list whose length is not 0
-pub some_of : (found shown : List StandingShape) → shown ≡ found → false ≡ (length shown == 0) → (found ≡ [] → ⊥)
-some_of found shown e more none = absurd (cc (subst (λ n. false ≡ (n == 0)) (ap length (e ∙ none)) more))
-
-pub due_after_fronts : (how : Format) (p : ProgramShape) (blocks limit : ℕ) (clients : List ℕ) (found : List StandingShape) (due : Due)
-    → AreFrontsAfter p (order_of clients) blocks found → (found ≡ [] → ⊥) → AreToldFronts how p found due → IsDueOfFronts how p blocks limit clients due
-unfolding IsFrontsText
-due_after_fronts how p blocks limit clients found (Text bytes) are some is = (found, are, some, is)
-due_after_fronts how p blocks limit clients found (No bytes) are some is = absurd is
-due_after_fronts how p blocks limit clients found (Refused f) are some is =
-    subst (λ g. IsDueOfFronts how p blocks limit clients (Refused g)) (sym is) tt
-
-pub fronts_are_no_input : (how : Format) (p : ProgramShape) (found : List StandingShape) (due : Due) → AreToldFronts how p found due → ¬ IsRefusedBy fault.Input due
-fronts_are_no_input how p found (Text bytes) is = λ none. none
-fronts_are_no_input how p found (No bytes) is = λ none. none
-fronts_are_no_input how p found (Refused f) is = λ e. absurd (cc (is, e))
-
-pub no_fronts : (p : ProgramShape) (blocks limit : ℕ) (clients : List ℕ) (f : OutcomesFault) → (f ≡ outcomes_fault.Limit → HasMoreThanAfter p (order_of clients) limit)
-    → (f ≡ outcomes_fault.Order → ¬ IsLegal p (order_of clients)) → AreNoFronts p blocks limit clients f
-no_fronts p blocks limit clients outcomes_fault.Limit more order = more refl
-no_fronts p blocks limit clients outcomes_fault.Order more order = inl (order refl)
-no_fronts p blocks limit clients outcomes_fault.Memory more order = tt
-
--- what is due after the blocks of the clients that a list names is due by what was asked for
-pub due_by_fronts : (how : Format) (p : ProgramShape) (blocks limit : ℕ) (front : List Part) (clients : List ℕ) (due : Due) → clients_of p front ≡ Ok clients
-    → IsDueOfFronts how p blocks limit clients due → IsOutOfMemory due ⊎ IsDueOfProgram (fronts how blocks limit front) [] p due
-due_by_fronts how p blocks limit front clients (Text bytes) named is =
-    inr (of_named (λ xs. IsFrontsText how p blocks xs bytes.items) (clients_of p front) clients named is)
-due_by_fronts how p blocks limit front clients (No bytes) named is = absurd is
-due_by_fronts how p blocks limit front clients (Refused fault.Memory) named is = inl tt
-due_by_fronts how p blocks limit front clients (Refused (fault.Outcomes f)) named is =
-    inr (of_named (λ xs. AreNoFronts p blocks limit xs f) (clients_of p front) clients named is)
-due_by_fronts how p blocks limit front clients (Refused fault.CommandLine) named is = absurd is
-due_by_fronts how p blocks limit front clients (Refused fault.Input) named is = absurd is
-due_by_fronts how p blocks limit front clients (Refused (fault.Read f)) named is = absurd is
-due_by_fronts how p blocks limit front clients (Refused (fault.Check f)) named is = absurd is
-due_by_fronts how p blocks limit front clients (Refused (fault.Play f)) named is = absurd is
-due_by_fronts how p blocks limit front clients (Refused (fault.Order f)) named is = absurd is
-due_by_fronts how p blocks limit front clients (Refused (fault.Run f)) named is = absurd is

@@ -1,5 +1,5 @@
 -- What a run has to write, and its status.
-use Rattle.std.specs.Prelude.{◌≡◌, ◌≤◌, ℕ, ◌⊎◌, List, [], ◌++◌, min, take, Bool, true, false, if◌then◌else◌, Option, Some, None, Ok, Err, Result, Vec, ⊤, IfSome, IsErr, IsOkAnd, MatchBool}
+use Rattle.std.specs.Prelude.{◌≡◌, ◌≤◌, ℕ, ◌⊎◌, List, [], ◌∷◌, ◌++◌, min, take, Bool, true, false, if◌then◌else◌, Option, Some, None, Ok, Err, Result, Vec, ⊤, IfSome, IsErr, IsOkAnd, MatchBool}
 use Rattle.std.specs.Global.{Global}
 use Rattle.std.specs.Io.KnownBytes.{Appends}
 use Rattle.qs_script.specs.declared.fault.ReadFault.TheVariants as read
@@ -12,6 +12,7 @@ use Rattle.qs_serial.specs.declared.fault.OrderFault.TheVariants as order_fault
 use Rattle.qs_outcomes.specs.Outcomes.{HasMoreThanAfter, OutcomesShape}
 use Rattle.qs_outcomes.specs.declared.fault.OutcomesFault.{OutcomesFault}
 use Rattle.qs_outcomes.specs.declared.fault.OutcomesFault.TheVariants as outcomes_fault
+use Rattle.qs_standings.specs.Lists.{HasOne}
 use Rattle.qs_standings.specs.Standings.{StandingShape}
 use Rattle.qs_level_laws.specs.Fronts.{AreFrontsAfter}
 use Rattle.qs_alike.specs.AlikeOutcomes.{AlikeShape, AreAlikeOutcomes, HasMoreUnlike}
@@ -26,7 +27,6 @@ use Rattle.qs_dot.specs.DotText.{IsDotText}
 use Rattle.qs_node_lines.specs.NodeLines.{node_lines}
 use Rattle.qs_conditions.specs.declared.claim.Claim.{Claim}
 use Rattle.qs_conditions.specs.declared.claim.Quantifier.{Quantifier}
-use Rattle.qs_conditions.specs.declared.claim.Quantifier.TheVariants as quantifier
 use Rattle.qs_outcomes.specs.Answers.{AnswerShape}
 use Rattle.qs_questions.specs.AlikeClaims.{HasMoreAlike, IsAlikeAnswer}
 use Rattle.qs_questions.specs.Claims.{HasMoreFor}
@@ -87,6 +87,7 @@ use Rattle.qs_line.specs.declared.line.LineFault.{LineFault}
 use Rattle.qs_line.specs.declared.line.LineFault.TheVariants as line_fault
 use Rattle.qs_line.specs.declared.line.ReportStyle.{ReportStyle}
 use Rattle.qs_line.specs.declared.line.Settings.{Settings}
+use Rattle.qs_line.specs.declared.parts.Part.{Part}
 use Rattle.qs_line.specs.Line.{Line, PlanShape, Request, alike, ask, ask_alike, asks, by_order, by_schedule, check, estimate, format_by, format_of_request, fronts, graph, help, line_in, outcomes, play, refused, request_of, rules, run, tally, version}
 use Rattle.qs_run_report.specs.RunReports.{report_by}
 use Rattle.qs_serve.specs.Reading.{Reading}
@@ -242,18 +243,19 @@ abbrev pub fronts_in : Format → ProgramShape → List StandingShape → List �
 fronts_in format.Text p found = fronts_text p found
 fronts_in format.Json p found = all_fronts_json p found
 
--- these; or that an allocation failed
-abbrev pub AreToldFronts : Format → ProgramShape → List StandingShape → Due → Type 0
-AreToldFronts how p found (Text bytes) = bytes.items ≡ fronts_in how p found
-AreToldFronts how p found (No bytes) = ⊥
-AreToldFronts how p found (Refused f) = f ≡ fault.Memory
-
 -- There is a list of the configurations after the blocks of some clients and so many blocks more, of at least one,
 -- whose text this is.
 unfoldable pub IsFrontsText : Format → ProgramShape → (blocks : ℕ) → (clients : List ℕ) → List ℕ → Type 0
 IsFrontsText how p blocks clients text =
     (found : List StandingShape) × AreFrontsAfter p (order_of clients) blocks found × (¬ (found ≡ []))
     × (text ≡ fronts_in how p found)
+
+-- this is the text for each of some lists of clients, one behind another
+abbrev pub AreFrontsTexts : Format → ProgramShape → (blocks : ℕ) → (orders : List (List Part)) → List ℕ → Type 0
+AreFrontsTexts how p blocks [] text = text ≡ []
+AreFrontsTexts how p blocks (order ∷ orders) text =
+    (own rest : List ℕ) × IsOkAnd (clients_of p order) (λ clients. IsFrontsText how p blocks clients own)
+    × AreFrontsTexts how p blocks orders rest × (text ≡ own ++ rest)
 
 -- after as many rounds as a line plays by default, 1,000,000, a run has finished, whatever was picked before them
 abbrev pub FinishesByDefault : (rounds : ℕ) → Played → Type 0
@@ -352,10 +354,11 @@ IsAnswerBy _ p holds text = ⊥
 -- what a request makes of a program: its counts; its graphs; the report of its run by the plain rules or in the
 -- optimised machine; that of an outcome which its run on threads may have, or how often each end came in so many of
 -- these; after the blocks of some clients, how many configurations there can be; or, after these and of so many
--- configurations at most, that a claim holds, the configurations after so many blocks more, or all its outcomes, by as
--- many threads as may be; or one of all alike ones, or that a claim holds by these. Each is written in the format that
--- is asked for, and a report with what was refused and with the counts of synchronisations where they are asked for,
--- after a line for each step where these are, and before what lies where at the end of a run that has not finished.
+-- configurations at most, that a claim holds, or all its outcomes, by as many threads as may be; or, after each of some
+-- lists, the configurations after so many blocks more; or one of all alike outcomes, or that a claim holds by these.
+-- Each is written in the format that is asked for, and a report with what was refused and with the counts of
+-- synchronisations where they are asked for, after a line for each step where these are, and before what lies where at
+-- the end of a run that has not finished.
 abbrev pub IsTextBy : Request → Lines → ProgramShape → List ℕ → Type 0
 IsTextBy (check how) lines p text = text ≡ counts_by_format how p
 IsTextBy (graph how) lines p text = IsTextOfGraphs how lines p text
@@ -376,8 +379,7 @@ IsTextBy (tally how mode size times) lines p text =
 IsTextBy (estimate how front) lines p text =
     IsOkAnd (clients_of p front) (λ clients. IsEstimateText how p clients text)
 IsTextBy (ask claim how limit front) lines p text = IsAnswerBy (ask claim how limit front) p true text
-IsTextBy (fronts how blocks limit front) lines p text =
-    IsOkAnd (clients_of p front) (λ clients. IsFrontsText how p blocks clients text)
+IsTextBy (fronts how blocks limit orders) lines p text = AreFrontsTexts how p blocks orders text
 IsTextBy (alike how limit) lines p text = IsAlikeText how p limit text
 IsTextBy (ask_alike claim how limit) lines p text = IsAnswerBy (ask_alike claim how limit) p true text
 IsTextBy (outcomes how limit threads front) lines p text =
@@ -396,7 +398,7 @@ IsUnnamedBy (ask claim how limit front) p =
     (¬ (first_unknown_in p claim.condition ≡ None)) ⊎ IsErr (clients_of p front)
 IsUnnamedBy (ask_alike claim how limit) p = ¬ (first_unknown_in p claim.condition ≡ None)
 IsUnnamedBy (estimate how front) p = IsErr (clients_of p front)
-IsUnnamedBy (fronts how blocks limit front) p = IsErr (clients_of p front)
+IsUnnamedBy (fronts how blocks limit orders) p = HasOne (λ order. IsErr (clients_of p order)) orders
 IsUnnamedBy (outcomes how limit threads front) p = IsErr (clients_of p front)
 IsUnnamedBy _ p = ⊥
 
@@ -474,8 +476,8 @@ abbrev pub IsUnlistedBy : Request → ProgramShape → OutcomesFault → Type 0
 IsUnlistedBy (ask claim how limit front) p f =
     IsOkAnd (clients_of p front) (λ clients. IsUnanswered p claim.quantifier limit clients f)
 IsUnlistedBy (estimate how front) p f = IsOkAnd (clients_of p front) (λ clients. IsUnestimated p clients f)
-IsUnlistedBy (fronts how blocks limit front) p f =
-    IsOkAnd (clients_of p front) (λ clients. AreNoFronts p blocks limit clients f)
+IsUnlistedBy (fronts how blocks limit orders) p f =
+    HasOne (λ order. IsOkAnd (clients_of p order) (λ clients. AreNoFronts p blocks limit clients f)) orders
 IsUnlistedBy (alike how limit) p f = AreUnlistedAlike p limit f
 IsUnlistedBy (ask_alike claim how limit) p f = IsUnansweredAlike p claim limit f
 IsUnlistedBy (outcomes how limit threads front) p f =
@@ -495,13 +497,19 @@ IsDueAfter how p limit clients (Refused fault.Memory) = Unit {0}
 IsDueAfter how p limit clients (Refused (fault.Outcomes f)) = IsUnlisted p (limit_in how limit) clients f
 IsDueAfter how p limit clients (Refused _) = ⊥
 
--- what is due of the configurations after the blocks of some clients and so many blocks more
-abbrev pub IsDueOfFronts : Format → ProgramShape → (blocks limit : ℕ) → (clients : List ℕ) → Due → Type 0
-IsDueOfFronts how p blocks limit clients (Text bytes) = IsFrontsText how p blocks clients bytes.items
-IsDueOfFronts how p blocks limit clients (No bytes) = ⊥
-IsDueOfFronts how p blocks limit clients (Refused fault.Memory) = Unit {0}
-IsDueOfFronts how p blocks limit clients (Refused (fault.Outcomes f)) = AreNoFronts p blocks limit clients f
-IsDueOfFronts how p blocks limit clients (Refused _) = ⊥
+-- why there is no text of the configurations after the blocks of some clients and so many blocks more
+abbrev pub IsFaultOfFronts : ProgramShape → (blocks limit : ℕ) → (clients : List ℕ) → Fault → Type 0
+IsFaultOfFronts p blocks limit clients fault.Memory = Unit {0}
+IsFaultOfFronts p blocks limit clients (fault.Outcomes f) = AreNoFronts p blocks limit clients f
+IsFaultOfFronts p blocks limit clients _ = ⊥
+
+-- and of those after the blocks of the clients that a list names
+abbrev pub IsFaultOfOrder : ProgramShape → (blocks limit : ℕ) → (order : List Part) → Fault → Type 0
+IsFaultOfOrder p blocks limit order fault.Memory = Unit {0}
+IsFaultOfOrder p blocks limit order fault.CommandLine = IsErr (clients_of p order)
+IsFaultOfOrder p blocks limit order (fault.Outcomes f) =
+    IsOkAnd (clients_of p order) (λ clients. AreNoFronts p blocks limit clients f)
+IsFaultOfOrder p blocks limit order _ = ⊥
 
 -- what is due of a claim after the blocks of some clients: the answer, why there is none, or that an allocation failed
 abbrev pub IsAnswerAfterDue : Format → ProgramShape → Claim → (limit : ℕ) → (clients : List ℕ) → Due → Type 0
@@ -539,7 +547,7 @@ AreLinesFor (run style mode size) found lines = ⊤
 AreLinesFor (tally how mode size times) found lines = ⊤
 AreLinesFor (ask claim how limit front) found lines = ⊤
 AreLinesFor (estimate how front) found lines = ⊤
-AreLinesFor (fronts how blocks limit front) found lines = ⊤
+AreLinesFor (fronts how blocks limit orders) found lines = ⊤
 AreLinesFor (alike how limit) found lines = ⊤
 AreLinesFor (ask_alike claim how limit) found lines = ⊤
 AreLinesFor (outcomes how limit threads front) found lines = ⊤

@@ -4,4 +4,3 @@ pub mod Due
 -- What crates promise one another, what proofs use, and worked examples.
 pub mod Prepared
 pub mod Input
-pub mod Told

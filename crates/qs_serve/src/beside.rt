@@ -6,9 +6,8 @@ ghost use Rattle.qs_line.specs.Line.{is_verbose_in, warns_in};
 ghost use Rattle.qs_serve.specs.Due.{IsSomeText};
 
 use crate::due::Due;
-use crate::limit_words::tell_limits;
-use crate::warning_words::warn;
 use qs_line::asked_for;
+use qs_said::{tell_limits, tell_warnings};
 use std::alloc::Global;
 use std::io::Write;
 
@@ -42,7 +41,7 @@ pub(crate) fn tell_beside<'a, W: Write>(
         if is_terminal || may_ask(words) {
             if let Ok(asked) = asked_for(alloc, words) {
                 tell_limits(alloc, text, asked.limits, err);
-                warn(alloc, text, asked.warnings || is_terminal, err);
+                tell_warnings(alloc, text, asked.warnings || is_terminal, err);
             }
         }
     }

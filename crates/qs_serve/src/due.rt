@@ -13,10 +13,11 @@ ghost use Rattle.std.specs.List.{AllByRecursion};
 ghost use Rattle.qs_outcomes.specs.Outcomes.{HasPlaces};
 
 use crate::estimates::due_of_estimate;
+use crate::fronts::due_of_fronts;
 use crate::input::{Counted, InputFault, gather};
 use crate::plays::{due_of_play, due_of_rules};
 use crate::reports::due_of_outcome;
-use crate::searches::{due_by_threads, due_of_alike, due_of_alike_claim, due_of_fronts};
+use crate::searches::{due_by_threads, due_of_alike, due_of_alike_claim};
 use crate::tallies::due_of_tally;
 use qs_check::{CheckFault, Program, check};
 use qs_chunk::ChunkSize;
@@ -338,8 +339,8 @@ pub(crate) fn due_of_program<P: Watcher>(
             format,
             blocks,
             limit,
-            front,
-        } => due_of_fronts(alloc, program, *format, *blocks, *limit, front.as_slice()),
+            orders,
+        } => due_of_fronts(alloc, program, *format, *blocks, *limit, orders.as_slice()),
         Settings::Alike { format, limit } => due_of_alike(alloc, program, *format, *limit),
         Settings::AskAlike {
             claim,

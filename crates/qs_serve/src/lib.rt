@@ -5,8 +5,8 @@ mod alone;
 mod beside;
 mod due;
 mod estimates;
+mod fronts;
 mod input;
-mod limit_words;
 mod output;
 mod plays;
 mod progress;
@@ -15,7 +15,6 @@ mod searches;
 mod serving;
 mod tallies;
 mod telling;
-mod warning_words;
 
 pub use alone::{bytes_of, due_without_threads};
 pub use due::Due;

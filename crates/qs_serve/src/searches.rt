@@ -1,24 +1,22 @@
-// Searches of other kinds: one of all alike outcomes, the configurations after so many blocks, and all outcomes by many
-// threads.
+// Searches of other kinds: one of all alike outcomes, and all outcomes by many threads.
 
 ghost use Rattle.std.specs.Prelude.{◌≡◌, ◌<◌, ◌⊎◌, [], length, IfOk};
 ghost use Rattle.std.specs.List.{AllByRecursion};
 ghost use Rattle.qs_outcomes.specs.Outcomes.{HasPlaces};
 ghost use Rattle.qs_report.specs.declared.faults.Fault.TheVariants as fault;
-ghost use Rattle.qs_line.specs.Line.{alike, ask_alike, fronts, outcomes};
-ghost use Rattle.qs_serve.specs.Due.{AreToldFronts, alike_in, IsDueAfter, IsDueOfFronts, IsDueOfProgram, IsOutOfMemory, IsRefusedBy, listed_as};
+ghost use Rattle.qs_line.specs.Line.{alike, ask_alike, outcomes};
+ghost use Rattle.qs_serve.specs.Due.{alike_in, IsDueAfter, IsDueOfProgram, IsOutOfMemory, IsRefusedBy, listed_as};
 
 use crate::due::{Due, due_of_all, due_of_answer, due_of_bytes, due_of_list, due_of_outcomes};
 use qs_alike::{AlikeOutcomes, classes_of, outcomes_alike};
 use qs_check::Program;
 use qs_conditions::Claim;
-use qs_json::{alike_json, fronts_json};
-use qs_levels::{fronts_after, outcomes_by_levels};
+use qs_json::alike_json;
+use qs_levels::outcomes_by_levels;
 use qs_line::{Format, OutcomesFormat, Part, clients_of};
-use qs_outcomes::{OutcomesFault, Watcher};
+use qs_outcomes::Watcher;
 use qs_questions::{answer_alike, first_unknown};
-use qs_report::{Fault, alike_text, fronts_text};
-use qs_standings::Standing;
+use qs_report::{Fault, alike_text};
 use std::alloc::{AllocError, Global};
 use std::thread::Threads;
 
@@ -72,60 +70,6 @@ pub(crate) fn due_of_alike_claim(
         Ok(answer) => due_of_answer(alloc, program, claim.quantifier, format, answer),
         Err(fault) => Due::Refused(Fault::Outcomes(fault)),
     }
-}
-
-// Fronts, in a format.
-fn due_of_found(alloc: Global, program: &Program, format: Format, found: Vec<Standing>) -> Due
-    requires places { AllByRecursion (HasPlaces program.now) found.items }
-    ensures due { AreToldFronts format program.now found.items result }
-{
-    let text = match format {
-        Format::Text => fronts_text(alloc, program, found.as_slice()),
-        Format::Json => fronts_json(alloc, program, found.as_slice()),
-    };
-    drop(found);
-    due_of_bytes(text)
-}
-
-// The configurations after the blocks of some clients and so many blocks more.
-fn due_of_fronts_after(
-    alloc: Global,
-    program: &Program,
-    format: Format,
-    blocks: u32,
-    limit: u32,
-    clients: &[u8],
-) -> Due
-    ensures not_input { ¬ IsRefusedBy fault.Input result }
-    ensures due { IsDueOfFronts format program.now blocks limit clients.now result }
-{
-    match fronts_after(alloc, program, clients, blocks, limit) {
-        Ok(found) if found.as_slice().is_empty() => Due::Refused(Fault::Outcomes(
-            OutcomesFault::Order,
-        )),
-        Ok(found) => due_of_found(alloc, program, format, found),
-        Err(fault) => Due::Refused(Fault::Outcomes(fault)),
-    }
-}
-
-/// The configurations after the blocks of the clients that a list names and so many blocks more, found over so many
-/// configurations at most. Where no order goes on by so many blocks, the list is refused.
-pub(crate) fn due_of_fronts(
-    alloc: Global,
-    program: &Program,
-    format: Format,
-    blocks: u32,
-    limit: u32,
-    front: &[Part],
-) -> Due
-    ensures not_input { ¬ IsRefusedBy fault.Input result }
-    ensures due { IsOutOfMemory result ⊎ IsDueOfProgram (fronts format blocks limit front.now) [] program.now result }
-{
-    let clients = match clients_of(alloc, program, front) {
-        Ok(clients) => clients,
-        Err(fault) => return due_of_list(fault),
-    };
-    due_of_fronts_after(alloc, program, format, blocks, limit, clients.as_slice())
 }
 
 // All outcomes after the blocks of some clients as a list, or their ends alone, by many threads.

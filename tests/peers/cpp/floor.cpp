@@ -10,6 +10,7 @@
 #include <immintrin.h>
 #include <linux/futex.h>
 #include <memory>
+#include <mutex>
 #include <sys/mman.h>
 #include <sys/syscall.h>
 #include <thread>
@@ -170,10 +171,9 @@ struct Sleeper {
   }
 };
 
-// A client and a handler between whom chunks of 8 requests go down and come back empty, four at most. One writes a trace
+// A client and a handler between whom chunks of requests go down and come back empty, four at most. One writes a trace
 // of them, the other a journal, in memory that is new, to which each first writes once where `early` is set.
-struct Lane {
-  static const int size = 8;
+template <int size> struct Lane {
   Queue<104, 16> down;
   Queue<40, 4> spare;
   Sleeper client, handler;
@@ -215,17 +215,88 @@ struct Lane {
   }
 };
 
-static void pass_chunks(int lanes, int chunks, bool early) {
-  std::vector<std::unique_ptr<Lane>> all;
+template <int size> static void pass_chunks(int lanes, int chunks, bool early) {
+  std::vector<std::unique_ptr<Lane<size>>> all;
   std::vector<std::thread> threads;
   for (int k = 0; k < lanes; k++) {
-    all.push_back(std::make_unique<Lane>());
-    Lane *lane = all.back().get();
+    all.push_back(std::make_unique<Lane<size>>());
+    Lane<size> *lane = all.back().get();
     for (uint64_t place = 0; place < 4; place++) lane->spare.send({{place}});
     threads.emplace_back([=] { lane->serve(chunks, early); });
     threads.emplace_back([=] { lane->ask(chunks, early); });
   }
   for (auto &it : threads) it.join();
+}
+
+// 256 short blocks of eight clients, each at two or at all of eight handlers that take blocks by their tickets. At each a
+// chunk goes down and comes back, and the block ends; where a query follows, the object comes up before and goes home.
+// Nobody keeps a trace or a journal.
+struct Office {
+  enum Parcel : uint64_t { sync = 100, home, end };
+  struct Desk { Queue<40, 64> tickets; Sleeper handler; Queue<104, 16> down[8], up[8]; Queue<40, 4> spare[8]; };
+  bool at_all;
+  Desk desks[8];
+  Sleeper clients[8];
+  std::mutex order;
+
+  explicit Office(bool at_all) : at_all(at_all) {
+    for (auto &desk : desks) for (auto &spare : desk.spare) for (uint64_t place = 0; place < 4; place++) spare.send({{place}});
+  }
+
+  std::vector<int> reserved(int client, int block) {
+    if (at_all) return {0, 1, 2, 3, 4, 5, 6, 7};
+    return {block % 8, (block + client % 7 + 1) % 8};
+  }
+
+  void serve(int number) {
+    int blocks = 0;
+    for (int client = 0; client < 8; client++)
+      for (int block = 0; block < 32; block++) for (int it : reserved(client, block)) blocks += it == number;
+    Desk &desk = desks[number];
+    while (blocks-- > 0) {
+      uint64_t client = desk.handler.take(desk.tickets), parcel;
+      while ((parcel = desk.handler.take(desk.down[client])) != end) {
+        if (parcel < sync) { desk.spare[client].send({{parcel}}); clients[client].wake(); }
+        if (parcel == sync) { desk.up[client].send({}); clients[client].wake(); }
+      }
+    }
+  }
+
+  void send(int client, Desk &desk, uint64_t parcel) { desk.down[client].send({{parcel}}); }
+
+  void ask(int client, Desk &desk) {
+    send(client, desk, clients[client].take(desk.spare[client]));
+    send(client, desk, sync);
+    desk.handler.wake();
+    clients[client].take(desk.up[client]);
+  }
+
+  void visit(int client) {
+    for (int block = 0; block < 32; block++) {
+      std::vector<Desk *> held;
+      for (int it : reserved(client, block)) held.push_back(&desks[it]);
+      {
+        std::lock_guard<std::mutex> one(order);
+        for (Desk *desk : held) desk->tickets.send({{uint64_t(client)}});
+      }
+      for (Desk *desk : held) desk->handler.wake();
+      if (at_all) for (size_t k = 1; k < held.size(); k++) send(client, *held[k], clients[client].take(held[k]->spare[client]));
+      for (size_t k = 0; k < (at_all ? 1 : held.size()); k++) ask(client, *held[k]);
+      for (size_t k = 0; k < held.size(); k++) {
+        if (k == 0 || !at_all) send(client, *held[k], home);
+        send(client, *held[k], end);
+        held[k]->handler.wake();
+      }
+    }
+  }
+};
+
+static void visit_all(bool at_all) {
+  auto office = std::make_unique<Office>(at_all);
+  std::vector<std::thread> all;
+  for (int k = 0; k < 8; k++) all.emplace_back([&, k] { office->serve(k); });
+  for (int k = 0; k < 8; k++) all.emplace_back([&, k] { office->visit(k); });
+  for (auto &it : all) it.join();
 }
 
 // The trace and the journal of 100,000 commands, an entry of 64 and one of 72 bytes for each, in memory that is new.
@@ -245,12 +316,15 @@ int main() {
   printf("sixteen threads started and joined: %.1f\n", milliseconds(start_sixteen));
   printf("256 turns of eight sleepers: %.1f\n", milliseconds([] { pass_turns(false); }));
   printf("256 turns of eight sleepers, each with another sleeper's answer: %.1f\n", milliseconds([] { pass_turns(true); }));
+  printf("256 short blocks of eight clients at all of eight handlers: %.1f\n", milliseconds([] { visit_all(true); }));
+  printf("256 short blocks of eight clients at two of eight handlers: %.1f\n", milliseconds([] { visit_all(false); }));
   printf("50,000 requests and answers through two queues: %.1f\n", milliseconds(ask_and_answer));
   printf("50,000 times an object home, a chunk, a request, and both back: %.1f\n", milliseconds([] { lend_and_ask(false); }));
   printf("the same with a journal in which both write: %.1f\n", milliseconds([] { lend_and_ask(true); }));
   for (bool early : {false, true}) {
-    printf("12,500 chunks of 8 requests, with trace and journal in new memory%s: %.1f\n", early ? " that is written to before" : "",
-           milliseconds([=] { pass_chunks(1, 12500, early); }));
-    printf("eight pairs of threads with 1,500 chunks each: %.1f\n", milliseconds([=] { pass_chunks(8, 1500, early); }));
+    const char *when = early ? " that is written to before" : "";
+    printf("12,500 chunks of 8 requests, with trace and journal in new memory%s: %.1f\n", when, milliseconds([=] { pass_chunks<8>(1, 12500, early); }));
+    printf("3,125 chunks of 32 requests: %.1f\n", milliseconds([=] { pass_chunks<32>(1, 3125, early); }));
+    printf("eight pairs of threads with 1,500 chunks of 8 each: %.1f\n", milliseconds([=] { pass_chunks<8>(8, 1500, early); }));
   }
 }

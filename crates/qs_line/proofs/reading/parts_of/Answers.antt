@@ -1,7 +1,7 @@
 use Rattle.std.proofs.Common.{◌∙◌, ◌+◌, [], map, drop, get_or, sym, ap}
 use Rattle.std.proofs.lemmas.List.{drop_more}
 use Rattle.qs_line.specs.Parts.{part_in}
-use Rattle.qs_line.proofs.PartLists.{parts_with, parts_with-none, parts_with-some}
+use Rattle.qs_line.proofs.PartLists.{read_with, read_with-none, read_with-some}
 use Rattle.qs_line.proofs.reading.parts_of.Goals as goal
 
 pub returns-in-None : goal.returns-in-None
@@ -13,7 +13,7 @@ returns-in-None c =
     let next = drop_more items c.loop-part.part-index (record { ref_ptr = (0, 0); now = [] }) c.loop-part-test.true in
     let none = ap part_in (sym c.as_bytes.ensures.value) ∙ sym c.part_of.ensures.part ∙ c.in-None.is in
     record {
-      parts = sym (c.loop-part.invariant ∙ ap (λ left. parts_with parts (map (λ part. part.now) left)) next ∙ parts_with-none parts part.now rest none);
+      parts = sym (c.loop-part.invariant ∙ ap (λ left. read_with part_in parts (map (λ part. part.now) left)) next ∙ read_with-none part_in parts part.now rest none);
     }
 
 pub loop-part-preserved : goal.loop-part-preserved
@@ -24,5 +24,5 @@ loop-part-preserved c =
     let rest = map (λ part. part.now) (drop (c.loop-part.part-index + 1) items) in
     let next = drop_more items c.loop-part.part-index (record { ref_ptr = (0, 0); now = [] }) c.loop-part-test.true in
     let some = ap part_in (sym c.as_bytes.ensures.value) ∙ sym c.part_of.ensures.part ∙ c.in-Some.is in
-    c.loop-part.invariant ∙ ap (λ left. parts_with parts (map (λ part. part.now) left)) next ∙ parts_with-some parts c.in-Some.part part.now rest some
-    ∙ ap (λ now. parts_with now rest) (sym c.in_ok-push-in-Some.ensures.items)
+    c.loop-part.invariant ∙ ap (λ left. read_with part_in parts (map (λ part. part.now) left)) next ∙ read_with-some part_in parts c.in-Some.part part.now rest some
+    ∙ ap (λ now. read_with part_in now rest) (sym c.in_ok-push-in-Some.ensures.items)

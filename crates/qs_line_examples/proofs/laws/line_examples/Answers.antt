@@ -68,6 +68,22 @@ returns c = record {
       with_estimate = refl;
       with_alike = refl;
     };
+    leads = record {
+      several = refl;
+      one = refl;
+      nobody = refl;
+      a_handler = refl;
+      an_empty_line = refl;
+      without_front = refl;
+      as_drawing = refl;
+      after = refl;
+      with_ends = refl;
+      with_condition = refl;
+      with_threads = refl;
+      with_estimate = refl;
+      with_alike = refl;
+      of_run = refl;
+    };
     threads = record {
       several = refl;
       of_ends = refl;

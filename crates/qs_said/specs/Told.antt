@@ -1,4 +1,4 @@
--- What is said on standard error beside a result.
+-- What is said of the limits that a script leaves.
 use Rattle.std.specs.Prelude.{◌≡◌, ◌⊎◌, ℕ, List, Option, None, length}
 use Rattle.std.specs.Io.KnownBytes.{Keeps}
 use Rattle.qs_script.specs.Reads.{IsScriptText}

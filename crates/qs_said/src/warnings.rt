@@ -1,4 +1,4 @@
-// What is said on standard error of a script that was accepted.
+// What is warned of in a script that was accepted.
 
 ghost use Rattle.std.specs.Prelude.{◌≡◌, false};
 ghost use Rattle.std.specs.Io.KnownBytes.{Keeps};
@@ -23,7 +23,7 @@ fn said_of(alloc: Global, text: &[u8]) -> Result<Vec<u8>, AllocError> {
 
 /// Says what is warned of in the script of a text, where that is asked for. A writer that fails changes nothing else,
 /// and neither does memory that runs out.
-pub(crate) fn warn<W: Write>(alloc: Global, text: &[u8], is_asked: bool, err: &mut W)
+pub fn tell_warnings<W: Write>(alloc: Global, text: &[u8], is_asked: bool, err: &mut W)
     ensures unasked { is_asked ≡ false → Keeps (W.contents err.old) (W.contents err.new) }
 {
     if is_asked {

@@ -1,6 +1,6 @@
 use Rattle.std.proofs.Common.{inr, subst, sym}
-use Rattle.qs_serve.specs.Told.{IsLimitsText}
-use Rattle.qs_serve.proofs.limit_words.tell_limits.Goals as goal
+use Rattle.qs_said.specs.Told.{IsLimitsText}
+use Rattle.qs_said.proofs.limits.tell_limits.Goals as goal
 
 -- a front of these lines was written
 pub returns-in-Ok-clause-told : goal.returns-in-Ok-clause-told

@@ -1,8 +1,8 @@
-// What is said on standard error of the limits that a script leaves.
+// What is said of the limits that a script leaves.
 
 ghost use Rattle.std.specs.Prelude.{◌≡◌, false, IfOk};
 ghost use Rattle.std.specs.Io.KnownBytes.{Keeps};
-ghost use Rattle.qs_serve.specs.Told.{AreLimitsTold, IsLimitsText};
+ghost use Rattle.qs_said.specs.Told.{AreLimitsTold, IsLimitsText};
 
 use qs_check::check;
 use qs_limit_use::{limits_text, template_use};
@@ -27,7 +27,7 @@ fn limits_of(alloc: Global, text: &[u8]) -> Result<Vec<u8>, AllocError>
 
 /// Says how much of each limit the script of a text uses and leaves, where that is asked for. A writer that fails
 /// changes nothing else, and neither does memory that runs out: then nothing is said.
-pub(crate) fn tell_limits<W: Write>(alloc: Global, text: &[u8], is_asked: bool, err: &mut W)
+pub fn tell_limits<W: Write>(alloc: Global, text: &[u8], is_asked: bool, err: &mut W)
     ensures unasked { is_asked ≡ false → Keeps (W.contents err.old) (W.contents err.new) }
     ensures told { AreLimitsTold text.now (W.contents err.old) (W.contents err.new) }
 {
