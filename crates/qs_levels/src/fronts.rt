@@ -19,12 +19,12 @@ use crate::merging::{add, next_of};
 use crate::part::Part;
 use crate::parts::add_part;
 use crate::share::{Share, share_of};
-use crate::table::{Lead, Mark, Table, add_found};
+use crate::table::{Lead, Mark, Spare, Table, add_found};
 use qs_objects::Ticket;
 use qs_outcomes::OutcomesFault;
 use qs_program::Program;
 use qs_serial::names_order;
-use qs_standings::{Last, Packed, Standing, copied, last_blocks, placed, row_starts};
+use qs_standings::{Last, Standing, copied, last_blocks, placed, row_starts};
 use std::alloc::{AllocError, Global};
 
 // One standing as a part, and who goes on from it.
@@ -35,7 +35,7 @@ fn one_part(alloc: Global, mut first: Standing, going: u8) -> Result<Part, Alloc
         source: 0,
         client: 0,
     };
-    let mut table = Table::new(alloc, Packed::new(alloc));
+    let mut table = Table::new(alloc, Spare::new(alloc));
     add_found(&mut table, Mark { lead, going }, &mut first)?;
     let Table {
         rows: _,
@@ -121,13 +121,13 @@ fn after_level(
         number: 0,
         count: 1,
     };
-    let none = Packed::new(alloc);
+    let none = Spare::new(alloc);
     let part = led_on(
         alloc, program, last, starts, front, level, share, room, none,
     )?;
     let mut parts = Vec::new(alloc);
     add_part(&mut parts, part)?;
-    next_of(alloc, program, front, level, parts, room)
+    next_of(alloc, program, front, level, parts, Vec::new(alloc), room)
 }
 
 // The configurations after so many blocks, by a search that begins where the program stands after a front.

@@ -14,11 +14,11 @@ ghost use Rattle.qs_levels.specs.Leads.{AreEven, AreKnown, IsLedOn, IsLedTooFar,
 use crate::level::Level;
 use crate::part::Part;
 use crate::share::{Share, masks, taken};
-use crate::table::{Lead, Mark, Table, add_found, note};
+use crate::table::{Lead, Mark, Spare, Table, add_found, note};
 use qs_objects::Ticket;
 use qs_outcomes::OutcomesFault;
 use qs_program::Program;
-use qs_standings::{Last, Packed, Scratch, Standing, put_by, spare_standing, was_seen};
+use qs_standings::{Last, Scratch, Standing, put_by, spare_standing, was_seen};
 use std::alloc::Global;
 
 // Adds where the next block of a client who goes on leads, where its row is not in the table.
@@ -190,8 +190,8 @@ fn lead_place(
     )
 }
 
-/// Leads a level on to the configurations of a share. There is room for so many of them. The memory of spare standings
-/// is used for what is found.
+/// Leads a level on to the configurations of a share. There is room for so many of them. The memory of a part that is
+/// done with is used for what is found.
 pub(crate) fn led_on(
     alloc: Global,
     program: &Program,
@@ -201,7 +201,7 @@ pub(crate) fn led_on(
     level: &Level,
     share: Share,
     room: usize,
-    spare: Packed,
+    spare: Spare,
 ) -> Result<Part, OutcomesFault>
     requires last { AreLast program.now last.now }
     requires starts { AreStarts program.now starts.now }

@@ -5,7 +5,8 @@ ghost use Rattle.std.specs.List.{AllByRecursion};
 ghost use Rattle.qs_levels.specs.Founds.{IsSpot, level_in, no_standing};
 
 use crate::part::Part;
-use qs_standings::{Packed, Standing};
+use crate::table::Spare;
+use qs_standings::Standing;
 use std::alloc::{AllocError, Global};
 use std::marker::Model;
 
@@ -22,6 +23,13 @@ pub(crate) struct Spot {
     pub part: usize,
     pub place: usize,
     pub going: Going,
+}
+
+/// Memory of a level that is done with, for another one.
+#[derive(Drop)]
+pub(crate) struct Spares {
+    pub parts: Vec<Spare>,
+    pub spots: Vec<Spot>,
 }
 
 /// Standings in the order of their orders, and who goes on from each.
@@ -93,14 +101,17 @@ impl Level {
         Ok(all)
     }
 
-    /// Its memory, for other standings.
-    pub(crate) fn into_spare(self, alloc: Global) -> Result<Vec<Packed>, AllocError> {
-        let Level { parts, spots: _ } = self;
-        let mut spare = Vec::with_capacity(alloc, parts.len())?;
+    /// Its memory, for another level.
+    pub(crate) fn into_spare(self, alloc: Global) -> Result<Spares, AllocError> {
+        let Level { parts, spots } = self;
+        let mut spares = Vec::with_capacity(alloc, parts.len())?;
         for part in parts {
-            spare.push(part.into_spare())?;
+            spares.push(part.into_spare())?;
         }
-        Ok(spare)
+        Ok(Spares {
+            parts: spares,
+            spots,
+        })
     }
 }
 

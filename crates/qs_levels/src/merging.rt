@@ -106,6 +106,7 @@ fn merged(
     front: &[Ticket],
     level: &Level,
     parts: Vec<Part>,
+    mut spots: Vec<Spot>,
 ) -> Result<Level, OutcomesFault>
     requires level { IsSomeLevel program.now front.now level.now.standings }
     requires parts { AreParts program.now front.now level.now.standings parts.items }
@@ -117,7 +118,7 @@ fn merged(
 {
     program.keeps_sound();
     let mut places = vec![in alloc; 0; parts.len()]?;
-    let mut spots = Vec::with_capacity(alloc, level.len())?;
+    spots.clear();
     while let Some(number) = least(parts.as_slice(), places.as_slice()) {
         take(parts.as_slice(), &mut places, number, &mut spots)?;
     }
@@ -131,6 +132,7 @@ pub(crate) fn next_of(
     front: &[Ticket],
     level: &Level,
     parts: Vec<Part>,
+    spots: Vec<Spot>,
     room: usize,
 ) -> Result<Level, OutcomesFault>
     requires level { IsSomeLevel program.now front.now level.now.standings }
@@ -142,7 +144,7 @@ pub(crate) fn next_of(
     ensures limit { IsErrOf result OutcomesFault.Limit → HasMoreOnward program.now front.now level.now.standings room }
     ensures order { ¬ IsErrOf result OutcomesFault.Order }
 {
-    let next = merged(alloc, program, front, level, parts)?;
+    let next = merged(alloc, program, front, level, parts, spots)?;
     if next.len() > room {
         return Err(OutcomesFault::Limit);
     }

@@ -4,7 +4,7 @@ ghost use Rattle.std.specs.Prelude.{◌≡◌, ◌<◌, [], OnOk, drop, length, 
 ghost use Rattle.qs_levels.specs.Founds.{no_found, zipped};
 ghost use Rattle.qs_levels.specs.Merging.{first_lead};
 
-use crate::table::{Lead, Mark};
+use crate::table::{Lead, Mark, Spare};
 use qs_standings::{Packed, Standing};
 use std::alloc::{AllocError, Global};
 use std::marker::Model;
@@ -74,12 +74,9 @@ impl Part {
         Ok(())
     }
 
-    /// Its memory, for other standings.
-    pub(crate) fn into_spare(self) -> Packed {
-        let Part {
-            marks: _,
-            standings,
-        } = self;
-        standings
+    /// Its memory, for another part.
+    pub(crate) fn into_spare(self) -> Spare {
+        let Part { marks, standings } = self;
+        Spare { marks, standings }
     }
 }

@@ -9,14 +9,15 @@ ghost use Rattle.qs_levels.specs.Merging.{AreParts, IsPartLed};
 ghost use Rattle.qs_levels.specs.Shares.{AreGoing};
 
 use crate::leading::led_on;
-use crate::level::Level;
+use crate::level::{Level, Spares};
 use crate::merging::next_of;
 use crate::part::Part;
 use crate::share::Share;
+use crate::table::Spare;
 use qs_objects::Ticket;
 use qs_outcomes::OutcomesFault;
 use qs_program::Program;
-use qs_standings::{Last, Packed};
+use qs_standings::Last;
 use std::alloc::{AllocError, Global};
 use std::thread::Threads;
 use std::{mem, thread};
@@ -25,7 +26,7 @@ use std::{mem, thread};
 #[derive(Drop)]
 struct Job {
     number: usize,
-    spare: Packed,
+    spare: Spare,
 }
 
 // Leads a level on to the configurations of a share, of so many.
@@ -57,8 +58,8 @@ fn led_part(
     )
 }
 
-// A job for each share, and to each the memory of some spare standings, where there are any.
-fn jobs_of(alloc: Global, count: usize, mut spare: Vec<Packed>) -> Result<Vec<Job>, AllocError>
+// A job for each share, and to each the memory of a part that is done with, where there is one.
+fn jobs_of(alloc: Global, count: usize, mut spare: Vec<Spare>) -> Result<Vec<Job>, AllocError>
     ensures len { IfOk result (λ jobs. length jobs.items ≡ count) }
     ensures numbers { IfOk result (λ jobs. (i : ℕ) (job : _) → i < count → job ≡ slice_index_or jobs.items i job → job.number ≡ i) }
 {
@@ -66,14 +67,14 @@ fn jobs_of(alloc: Global, count: usize, mut spare: Vec<Packed>) -> Result<Vec<Jo
     for number in 0..count {
         let own = match spare.pop() {
             Some(own) => own,
-            None => Packed::new(alloc),
+            None => Spare::new(alloc),
         };
         add_job(&mut jobs, number, own)?;
     }
     Ok(jobs)
 }
 
-fn add_job(jobs: &mut Vec<Job>, number: usize, spare: Packed) -> Result<(), AllocError>
+fn add_job(jobs: &mut Vec<Job>, number: usize, spare: Spare) -> Result<(), AllocError>
     ensures added { OnOk result (jobs.new.items ≡ jobs.old.items ++ record { number = number; spare = spare } ∷ []) }
 {
     jobs.push(Job { number, spare })?;
@@ -91,7 +92,7 @@ fn led_parts<R: Threads + Sync>(
     level: &Level,
     count: usize,
     room: usize,
-    spare: Vec<Packed>,
+    spare: Vec<Spare>,
 ) -> Result<Vec<Result<Part, OutcomesFault>>, AllocError>
     requires last { AreLast program.now last.now }
     requires starts { AreStarts program.now starts.now }
@@ -158,8 +159,8 @@ pub(crate) fn add_part(parts: &mut Vec<Part>, part: Part) -> Result<(), AllocErr
     Ok(())
 }
 
-/// The level after a level, by so many threads. There is room for so many configurations. The memory of spare standings
-/// is used for it.
+/// The level after a level, by so many threads. There is room for so many configurations. The memory of a level that is
+/// done with is used for it.
 pub(crate) fn next_level<R: Threads + Sync>(
     rt: &R,
     alloc: Global,
@@ -170,7 +171,7 @@ pub(crate) fn next_level<R: Threads + Sync>(
     level: &Level,
     threads: usize,
     room: usize,
-    spare: Vec<Packed>,
+    spares: Spares,
 ) -> Result<Level, OutcomesFault>
     requires last { AreLast program.now last.now }
     requires starts { AreStarts program.now starts.now }
@@ -184,9 +185,13 @@ pub(crate) fn next_level<R: Threads + Sync>(
     ensures limit { IsErrOf result OutcomesFault.Limit → HasMoreOnward program.now front.now level.now.standings room }
     ensures order { ¬ IsErrOf result OutcomesFault.Order }
 {
+    let Spares {
+        parts: spare,
+        spots,
+    } = spares;
     let led = led_parts(
         rt, alloc, program, last, starts, front, level, threads, room, spare,
     )?;
     let parts = gathered(alloc, program, front, level, threads, room, led)?;
-    next_of(alloc, program, front, level, parts, room)
+    next_of(alloc, program, front, level, parts, spots, room)
 }

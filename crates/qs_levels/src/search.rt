@@ -7,6 +7,7 @@ ghost use Rattle.qs_serial.specs.NamedOrders.{order_of};
 ghost use Rattle.qs_standings.specs.Standings.{IsFirst};
 
 use crate::fronts::first_level;
+use crate::level::Spares;
 use crate::parts::next_level;
 use qs_objects::Ticket;
 use qs_outcomes::{AllOutcomes, OutcomesFault, Watcher};
@@ -47,7 +48,10 @@ fn search_from<R: Threads + Sync, W: Watcher>(
     let mut level = first_level(alloc, program, last, front, first, threads, limit)?;
     let mut noted = 1;
     watcher.noted(noted);
-    let none = Vec::new(alloc);
+    let none = Spares {
+        parts: Vec::new(alloc),
+        spots: Vec::new(alloc),
+    };
     let mut next = next_level(
         rt,
         alloc,

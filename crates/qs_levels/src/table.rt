@@ -26,6 +26,23 @@ pub(crate) struct Mark {
     pub going: u8,
 }
 
+/// Memory of a part that is done with, for another one.
+#[derive(Drop)]
+pub(crate) struct Spare {
+    pub marks: Vec<Mark>,
+    pub standings: Packed,
+}
+
+impl Spare {
+    /// No memory.
+    pub(crate) fn new(alloc: Global) -> Spare {
+        Spare {
+            marks: Vec::new(alloc),
+            standings: Packed::new(alloc),
+        }
+    }
+}
+
 /// Rows, and the lead to each and its standing at the same place.
 #[derive(Drop)]
 pub(crate) struct Table {
@@ -35,16 +52,20 @@ pub(crate) struct Table {
 }
 
 impl Table {
-    /// No rows, in memory of standings that are done with.
-    pub(crate) fn new(alloc: Global, spare: Packed) -> Table
+    /// No rows, in memory of what is done with.
+    pub(crate) fn new(alloc: Global, spare: Spare) -> Table
         ensures none { tabled result ≡ record { rows = []; found = [] } }
         ensures even { AreEven result }
     {
-        let mut standings = spare;
+        let Spare {
+            mut marks,
+            mut standings,
+        } = spare;
+        marks.clear();
         standings.clear();
         Table {
             rows: IndexSet::new(alloc),
-            marks: Vec::new(alloc),
+            marks,
             standings,
         }
     }

@@ -20,7 +20,7 @@ loop-number-init c =
     let p = c.args.program.now in
     let parts = c.args.parts.items in
     let begun = begins (goal.at.loop-number-init c).In_ok-places in
-    let none = c.in_ok-spots.ensures.items in
+    let none = c.clear.ensures.items in
     record {
       even = ap length begun ∙ length-replicate (length parts) 0;
       spots = subst (AllByRecursion (IsSpot parts)) (sym none) tt;

@@ -65,6 +65,6 @@ returns-clause-outcomes g c =
     let none : c.levels.next.standings ≡ [] =
     nothing c.levels.next.standings (let n = c.levels-test.false in let e = c.len.ensures.len in omega (arith, n, e)) in
     subst (AreOutcomesAfter p front) {x = record { found = c.levels.level.standings; configurations = c.levels.noted }}
-    (ap (λ (ss : _). record { found = ss; configurations = c.levels.noted }) (sym c.in_ok-found.ensures.all) ∙ sym c.new.ensures.all)
+    (ap (λ (ss : _). record { found = ss; configurations = c.levels.noted }) (sym c.in_ok-found.ensures.all) ∙ sym c.new-3.ensures.all)
     (outcomes_of_level p front c.keeps_sound.ensures.sound c.levels.level.standings c.levels.noted (subst (λ ts. IsSearched p front c.levels.level.standings ts c.levels.noted) none c.levels.invariant.searched)
     (subst (IsLegal p) c.requires.first.order c.requires.first.standing.legal))
