@@ -98,6 +98,6 @@ without_handlers parts = if has_handler parts then None else Some parts
 abbrev pub clients_in : List ℕ → Option (List Part)
 clients_in text = option_and_then without_handlers (list_in text)
 
--- lists of clients, one on each line
+-- lists of clients that are joined by colons
 abbrev pub orders_in : List ℕ → Option (List (List Part))
-orders_in text = each_in clients_in (slice_split (λ byte. byte == 10) text)
+orders_in text = each_in clients_in (slice_split (λ byte. byte == 58) text)

@@ -168,7 +168,7 @@ pub const FRONT: &str =
     "Lists what the script can come to after so many blocks in all, 1 to 512, each once: parts from which a search can go on by --after, one by one or on many machines";
 
 pub const LEADS: &str =
-    "Lists these after each of some orders, one on a line, each as --after has it: a batch of a search on many machines";
+    "Lists these after each of some orders, joined by colons, each as --after has it: a batch of a search on many machines";
 
 pub const THREADS: &str =
     "How many threads search, 1 to 64; what is listed is the same [default: 1]";

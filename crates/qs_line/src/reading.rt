@@ -230,14 +230,14 @@ pub fn clients_in(alloc: Global, text: &str) -> Result<Option<Vec<Part>>, AllocE
     Ok(Some(parts))
 }
 
-/// Lists of clients, one on each line of a text; None exactly where a line is no such list.
+/// The lists of clients of a text in which they are joined by colons; None exactly where one of them is no such list.
 pub fn orders_in(alloc: Global, text: &str) -> Result<Option<Vec<Vec<Part>>>, AllocError>
     ensures orders { IfOk result (λ orders. option_map (λ list. map (λ order. order.items) list.items) orders ≡ orders_due text.now) }
 {
-    let lines = texts_of(alloc, text, '\n')?;
+    let lists = texts_of(alloc, text, ':')?;
     let mut orders = Vec::new(alloc);
-    for line in &lines {
-        match clients_in(alloc, line)? {
+    for list in &lists {
+        match clients_in(alloc, list)? {
             Some(order) => orders.push(order)?,
             None => return Ok(None),
         }

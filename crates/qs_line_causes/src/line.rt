@@ -338,7 +338,7 @@ fn put_lists<'a>(out: &mut Vec<u8>, words: &'a [&'a str]) -> Result<(), AllocErr
     let Some(lists) = value_after(words, LEADS) else {
         return Ok(());
     };
-    for (index, list) in lists.split('\n').enumerate() {
+    for (index, list) in lists.split(':').enumerate() {
         if out.is_empty() {
             put_fault(out, list, Which::of_several(index), false)?;
         }
@@ -367,7 +367,7 @@ fn put_fault(
     Ok(())
 }
 
-/// The setting that takes a list on each line of its value.
+/// The setting that takes several lists.
 pub(crate) const LEADS: &str = "--leads";
 
 /// A list of the line: the only one after its setting, or one of several, by its number from 1.

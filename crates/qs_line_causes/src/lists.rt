@@ -79,7 +79,7 @@ fn put_named_lists<'a>(
     let Some(lists) = value_after(words, LEADS) else {
         return Ok(());
     };
-    for (index, list) in lists.split('\n').enumerate() {
+    for (index, list) in lists.split(':').enumerate() {
         if out.is_empty() {
             put_unnamed(alloc, out, program, list, Which::of_several(index), false)?;
         }

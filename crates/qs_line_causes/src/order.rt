@@ -37,7 +37,7 @@ fn put_orders<'a>(
     let (Some(lists), Some(program)) = (value_after(words, LEADS), program_of(alloc, text)) else {
         return Ok(());
     };
-    for (index, list) in lists.split('\n').enumerate() {
+    for (index, list) in lists.split(':').enumerate() {
         if out.is_empty() {
             put_surplus(alloc, out, &program, Which::of_several(index), list)?;
         }

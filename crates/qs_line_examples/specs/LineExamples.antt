@@ -172,13 +172,13 @@ pub record PartLines : Type 0 where
 
 -- the same after each of some orders
 pub record LeadLines : Type 0 where
-  pub several : line (codes "outcomes" ∷ codes "--front=2" ∷ codes "--leads" ∷ codes "c1\nc0,c1" ∷ [])
+  pub several : line (codes "outcomes" ∷ codes "--front=2" ∷ codes "--leads" ∷ codes "c1:c0,c1" ∷ [])
       ≡ asks (fronts format.Text 2 1000000 ((once (Client 1) ∷ []) ∷ (once (Client 0) ∷ once (Client 1) ∷ []) ∷ []))
   pub one : line (codes "outcomes" ∷ codes "--front=2" ∷ codes "--leads=c1" ∷ codes "--limit=7" ∷ [])
       ≡ asks (fronts format.Text 2 7 ((once (Client 1) ∷ []) ∷ []))
   pub nobody : line (codes "outcomes" ∷ codes "--front=2" ∷ codes "--leads=" ∷ []) ≡ refused
-  pub a_handler : line (codes "outcomes" ∷ codes "--front=2" ∷ codes "--leads=c1\nh0" ∷ []) ≡ refused
-  pub an_empty_line : line (codes "outcomes" ∷ codes "--front=2" ∷ codes "--leads=c1\n" ∷ []) ≡ refused
+  pub a_handler : line (codes "outcomes" ∷ codes "--front=2" ∷ codes "--leads=c1:h0" ∷ []) ≡ refused
+  pub an_empty_list : line (codes "outcomes" ∷ codes "--front=2" ∷ codes "--leads=c1:" ∷ []) ≡ refused
   pub without_front : line (codes "outcomes" ∷ codes "--leads=c1" ∷ []) ≡ refused
   pub as_drawing : line (codes "outcomes" ∷ codes "--front=2" ∷ codes "--leads=c1" ∷ codes "--format=dot" ∷ []) ≡ refused
   pub after : line (codes "outcomes" ∷ codes "--front=2" ∷ codes "--leads=c1" ∷ codes "--after=c1" ∷ []) ≡ refused
