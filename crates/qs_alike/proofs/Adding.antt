@@ -1,9 +1,10 @@
 -- The counts add up to the number of all outcomes. What those that are listed become, all in one list, is each outcome
 -- once: each outcome becomes one of those that are listed, and so that one becomes it, since a change can be undone;
 -- and what two of them become is never the same, since one of the two would become the other. Two lists of the same,
--- each once, are equally long.
+-- each once, are equally long. The list is made of what any function tells of standings, so that it serves for
+-- configurations, too.
 use Rattle.std.proofs.Common.{◌≡◌, ◌≤◌, ◌+◌, ℕ, List, [], ◌∷◌, ◌++◌, length, refl, sym, ap, ◌∙◌, subst, arith, inl, inr, length-append}
-use Rattle.std.specs.List.{AllByRecursion, sum}
+use Rattle.std.specs.List.{AllByRecursion, AllZip, sum}
 use Rattle.std.proofs.lemmas.List.Sums.{sum_by-cons}
 use Rattle.qs_meaning.specs.Configurations.{OrderOutcome, outcome_of}
 use Rattle.qs_meaning.proofs.Each.{each_join, each_map}
@@ -12,86 +13,88 @@ use Rattle.qs_outcomes.specs.Outcomes.{IsListed, outcome_at}
 use Rattle.qs_standings.specs.Lists.{HasOne, NoTwo}
 use Rattle.qs_standings.specs.Standings.{StandingShape}
 use Rattle.qs_standings.proofs.Lists.{has_back, has_front, has_map, has_some, pairs_join}
-use Rattle.qs_alike.specs.AlikeOutcomes.{AreChangesOf, AreCounted, BecomesOutcome, CountsAreAll, IsEnd, NoneBecome}
+use Rattle.qs_alike.specs.AlikeOutcomes.{AreChangesOf, BecomesOutcome, CountsAreAll, IsEnd, StandsFor}
 use Rattle.qs_alike.specs.Changes.{Change, Classes, IsChange, changed_outcome}
 use Rattle.qs_alike.proofs.Orders.{changes_keep_outcomes}
 use Rattle.qs_alike.proofs.Searched.{then_changed, then_is}
 
 -- a change undone
-abbrev undone : Change → Change
+abbrev pub undone : Change → Change
 undone x = record { new = x.old; old = x.new }
 
-undone_is : (k : Classes) (x : Change) → IsChange k x → IsChange k (undone x)
+pub undone_is : (k : Classes) (x : Change) → IsChange k x → IsChange k (undone x)
 undone_is k x is = record {
   there = is.back;
   back = is.there;
   alike = λ c. sym (ap k (sym (is.back c)) ∙ is.alike (x.old c));
 }
 
-undone_becomes : (k : Classes) (a b : OrderOutcome) → BecomesOutcome k a b → BecomesOutcome k b a
+pub undone_becomes : (k : Classes) (a b : OrderOutcome) → BecomesOutcome k a b → BecomesOutcome k b a
 undone_becomes k a b (x, is, e) = (
   undone x,
   undone_is k x is,
   sym (ap (changed_outcome (undone x)) e ∙ (λ i. record { locals = λ c. a.locals (is.there c i); states = a.states })),
 )
 
-becomes_then : (k : Classes) (a b c : OrderOutcome) → BecomesOutcome k a b → BecomesOutcome k b c → BecomesOutcome k a c
+pub becomes_then : (k : Classes) (a b c : OrderOutcome) → BecomesOutcome k a b → BecomesOutcome k b c → BecomesOutcome k a c
 becomes_then k a b c (x, f, e) (y, g, i) = (then_changed x y, then_is k x y f g, i ∙ ap (changed_outcome y) e)
 
--- one of these becomes the outcome
-abbrev Comes : Classes → List StandingShape → OrderOutcome → Type 0
-Comes k found o = HasOne (λ s. BecomesOutcome k (outcome_at s) o) found
+-- what is told of one of these becomes the outcome
+abbrev pub Comes : (StandingShape → OrderOutcome) → Classes → List StandingShape → OrderOutcome → Type 0
+Comes f k found o = HasOne (λ s. BecomesOutcome k (f s) o) found
 
 -- what each of these becomes, in one list
-record AreGathered (k : Classes) (found : List StandingShape) (counts : List ℕ) (all : List OrderOutcome) : Type 0 where
+pub record AreGathered (f : StandingShape → OrderOutcome) (k : Classes) (found : List StandingShape) (counts : List ℕ)
+    (all : List OrderOutcome) : Type 0 where
   pub long : length all ≡ sum counts
-  pub sound : AllByRecursion (Comes k found) all
-  pub complete : (o : OrderOutcome) → Comes k found o → HasOne (λ b. b ≡ o) all
+  pub sound : AllByRecursion (Comes f k found) all
+  pub complete : (o : OrderOutcome) → Comes f k found o → HasOne (λ b. b ≡ o) all
   pub once : NoTwo ◌≡◌ all
 
--- the list of the first and that of those behind it
-joined : (k : Classes) (s : StandingShape) (ss : List StandingShape) (n : ℕ) (ns : List ℕ) (mine others : List OrderOutcome)
-    → AreChangesOf k (outcome_at s) mine → length mine ≡ n → AllByRecursion (λ t. BecomesOutcome k (outcome_at s) (outcome_at t) → ⊥) ss
-    → AreGathered k ss ns others → AreGathered k (s ∷ ss) (n ∷ ns) (mine ++ others)
-joined k s ss n ns mine others are long apart rest = record {
-  long = length-append mine others ∙ (ap (λ m. m + length others) long ∙ (ap (λ m. n + m) rest.long ∙ sym (sum_by-cons (λ m. m) n ns)));
-  sound = each_join (Comes k (s ∷ ss)) mine others
-      (each_map {Q = Comes k (s ∷ ss)} (λ b (w : BecomesOutcome k (outcome_at s) b). inl w) mine are.sound)
-      (each_map {Q = Comes k (s ∷ ss)} (λ b (w : Comes k ss b). inr w) others rest.sound);
-  complete = complete;
-  once = pairs_join (λ a b. a ≡ b → ⊥) mine others are.once rest.once
-      (each_map {Q = λ a. AllByRecursion (λ b. a ≡ b → ⊥) others}
-      (λ a (w : BecomesOutcome k (outcome_at s) a). each_map {Q = λ b. a ≡ b → ⊥} (λ b (h : Comes k ss b). differs a b w h) others rest.sound)
-      mine are.sound);
-}
-  where
-    complete : (o : OrderOutcome) → Comes k (s ∷ ss) o → HasOne (λ b. b ≡ o) (mine ++ others)
-    complete o (inl (x, is, e)) =
-        has_front (λ b. b ≡ o) mine others
-        (has_map (λ b (i : b ≡ changed_outcome x (outcome_at s)). i ∙ sym e) mine (are.complete x is))
-    complete o (inr h) = has_back (λ b. b ≡ o) mine others (rest.complete o h)
+module _ (f : StandingShape → OrderOutcome) (k : Classes) where
+  -- the list of the first and that of those behind it
+  pub joined : (s : StandingShape) (ss : List StandingShape) (n : ℕ) (ns : List ℕ) (mine others : List OrderOutcome)
+      → AreChangesOf k (f s) mine → length mine ≡ n → AllByRecursion (λ t. BecomesOutcome k (f s) (f t) → ⊥) ss
+      → AreGathered f k ss ns others → AreGathered f k (s ∷ ss) (n ∷ ns) (mine ++ others)
+  joined s ss n ns mine others are long apart rest = record {
+    long = length-append mine others ∙ (ap (λ m. m + length others) long ∙ (ap (λ m. n + m) rest.long ∙ sym (sum_by-cons (λ m. m) n ns)));
+    sound = each_join (Comes f k (s ∷ ss)) mine others
+        (each_map {Q = Comes f k (s ∷ ss)} (λ b (w : BecomesOutcome k (f s) b). inl w) mine are.sound)
+        (each_map {Q = Comes f k (s ∷ ss)} (λ b (w : Comes f k ss b). inr w) others rest.sound);
+    complete = complete;
+    once = pairs_join (λ a b. a ≡ b → ⊥) mine others are.once rest.once
+        (each_map {Q = λ a. AllByRecursion (λ b. a ≡ b → ⊥) others}
+        (λ a (w : BecomesOutcome k (f s) a). each_map {Q = λ b. a ≡ b → ⊥} (λ b (h : Comes f k ss b). differs a b w h) others rest.sound)
+        mine are.sound);
+  }
+    where
+      complete : (o : OrderOutcome) → Comes f k (s ∷ ss) o → HasOne (λ b. b ≡ o) (mine ++ others)
+      complete o (inl (x, is, e)) =
+          has_front (λ b. b ≡ o) mine others
+          (has_map (λ b (i : b ≡ changed_outcome x (f s)). i ∙ sym e) mine (are.complete x is))
+      complete o (inr h) = has_back (λ b. b ≡ o) mine others (rest.complete o h)
 
-    -- what the first becomes no other one becomes
-    differs : (a b : OrderOutcome) → BecomesOutcome k (outcome_at s) a → Comes k ss b → a ≡ b → ⊥
-    differs a b w h same =
-        has_some
-        (λ t (c : BecomesOutcome k (outcome_at t) b) (not : BecomesOutcome k (outcome_at s) (outcome_at t) → ⊥).
-        not (becomes_then k (outcome_at s) b (outcome_at t) (subst (BecomesOutcome k (outcome_at s)) same w) (undone_becomes k (outcome_at t) b c)))
-        ss h apart
+      -- what the first becomes no other one becomes
+      differs : (a b : OrderOutcome) → BecomesOutcome k (f s) a → Comes f k ss b → a ≡ b → ⊥
+      differs a b w h same =
+          has_some
+          (λ t (c : BecomesOutcome k (f t) b) (not : BecomesOutcome k (f s) (f t) → ⊥).
+          not (becomes_then k (f s) b (f t) (subst (BecomesOutcome k (f s)) same w) (undone_becomes k (f t) b c)))
+          ss h apart
 
-gathered : (k : Classes) (found : List StandingShape) (counts : List ℕ) → NoneBecome k found
-    → AreCounted k found counts → (all : List OrderOutcome) × AreGathered k found counts all
-gathered k [] [] once stand = ([], record { long = refl; sound = tt; complete = λ o h. absurd h; once = tt })
-gathered k [] (n ∷ ns) once stand = absurd stand
-gathered k (s ∷ ss) [] once stand = absurd stand
-gathered k (s ∷ ss) (n ∷ ns) once stand =
-    let mine = stand.0 in
-    let rest = gathered k ss ns once.1 stand.1 in
-    (mine.0 ++ rest.0, joined k s ss n ns mine.0 rest.0 mine.1 mine.2 once.0 rest.1)
+  pub gathered : (found : List StandingShape) (counts : List ℕ) → NoTwo (λ s t. BecomesOutcome k (f s) (f t)) found
+      → AllZip (λ s n. StandsFor k (f s) n) found counts → (all : List OrderOutcome) × AreGathered f k found counts all
+  gathered [] [] once stand = ([], record { long = refl; sound = tt; complete = λ o h. absurd h; once = tt })
+  gathered [] (n ∷ ns) once stand = absurd stand
+  gathered (s ∷ ss) [] once stand = absurd stand
+  gathered (s ∷ ss) (n ∷ ns) once stand =
+      let mine = stand.0 in
+      let rest = gathered ss ns once.1 stand.1 in
+      (mine.0 ++ rest.0, joined s ss n ns mine.0 rest.0 mine.1 mine.2 once.0 rest.1)
 
 pub counts_are_all : CountsAreAll
 counts_are_all p k are full every alike listed =
-    let g = gathered k alike.found alike.counts listed.once listed.counted in
+    let g = gathered outcome_at k alike.found alike.counts listed.once listed.counted in
     let less : length full.found ≤ length g.0 =
     at_most (λ (s : StandingShape) (b : OrderOutcome). b ≡ outcome_at s) (λ s t. outcome_at s ≡ outcome_at t) (λ s t b e i. sym e ∙ i)
     full.found g.0 every.once (each_map (into g.0 g.1) full.found every.sound) in
@@ -100,13 +103,13 @@ counts_are_all p k are full every alike listed =
     g.0 full.found g.1.once (each_map back g.0 g.1.sound) in
     let long = g.1.long in omega (arith, less, more, long)
   where
-    into : (all : List OrderOutcome) → AreGathered k alike.found alike.counts all → (s : StandingShape) → IsListed p s → HasOne (λ b. b ≡ outcome_at s) all
+    into : (all : List OrderOutcome) → AreGathered outcome_at k alike.found alike.counts all → (s : StandingShape) → IsListed p s → HasOne (λ b. b ≡ outcome_at s) all
     into all g s is =
         g.complete (outcome_at s)
         (has_map (λ t (b : BecomesOutcome k (outcome_at s) (outcome_at t)). undone_becomes k (outcome_at s) (outcome_at t) b) alike.found
         (listed.complete (outcome_at s) (s.order, is.complete, sym is.outcome)))
 
-    back : (b : OrderOutcome) → Comes k alike.found b → HasOne (λ s. outcome_at s ≡ b) full.found
+    back : (b : OrderOutcome) → Comes outcome_at k alike.found b → HasOne (λ s. outcome_at s ≡ b) full.found
     back b h =
         has_some
         (λ t (c : BecomesOutcome k (outcome_at t) b) (end : IsEnd p t).

@@ -62,7 +62,7 @@ is_end p s is over = record {
 }
 
 -- two arranged standings of which one becomes the other have one row
-become_row : (p : ProgramShape) (k : Classes) (s t : StandingShape) → IsPlaced p k s → IsPlaced p k t
+pub become_row : (p : ProgramShape) (k : Classes) (s t : StandingShape) → IsPlaced p k s → IsPlaced p k t
     → Becomes k (configuration_in s) (configuration_in t) → row_of p s ≡ row_of p t
 become_row p k s t a b (x, is, e) =
     let same : changed x (configuration_in s) ≡ configuration_in s =
@@ -78,7 +78,7 @@ all_but : {X : Type 0} {Q : X → Type 0} (R S : X → X → Type 0) → ((x y :
 all_but R S f x q [] each h = tt
 all_but R S f x q (y ∷ ys) each h = (λ s. h.0 (f x y q each.0 s), all_but R S f x q ys each.1 h.1)
 
-two_turned : {X : Type 0} {Q : X → Type 0} (R S : X → X → Type 0) → ((x y : X) → Q x → Q y → S x y → R x y) → (xs : List X) → AllByRecursion Q xs → NoTwo R xs → NoTwo S xs
+pub two_turned : {X : Type 0} {Q : X → Type 0} (R S : X → X → Type 0) → ((x y : X) → Q x → Q y → S x y → R x y) → (xs : List X) → AllByRecursion Q xs → NoTwo R xs → NoTwo S xs
 two_turned R S f [] each h = tt
 two_turned R S f (x ∷ xs) each h = (all_but R S f x each.0 xs each.1 h.0, two_turned R S f xs each.1 h.1)
 

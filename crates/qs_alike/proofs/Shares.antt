@@ -16,7 +16,7 @@ use Rattle.qs_standings.specs.Standings.{flipped}
 use Rattle.qs_standings.proofs.Lists.{has_map}
 use Rattle.qs_alike.specs.AlikeCounts.{AreThose, CountsThose, IsAlikeFrom, IsSameFrom}
 use Rattle.qs_alike.specs.Changes.{AreClasses, Change, Classes, changed_outcome}
-use Rattle.qs_alike.proofs.Counting.{AreChangesFrom, CountsFrom, IsChangeFrom, counted_from, flipped_below, old_alike, same_flipped}
+use Rattle.qs_alike.proofs.Counting.{AreChangesFrom, CountsFrom, IsChangeFrom, counted_from, flipped_below, old_alike, same_flipped, some_long}
 use Rattle.qs_alike.proofs.Exchanging.{flip, flip_is, flipped_first, flipped_second}
 use Rattle.qs_alike.proofs.Pairs.{each_pairs, has_known, has_pairs, known, long_known, long_pairs, pairs, two_known, two_pairs}
 use Rattle.qs_alike.proofs.Searched.{then_changed, then_is}
@@ -55,10 +55,6 @@ those_skip P to count (xs, are, long) not = (
   where
     further : (c : ℕ) → c < to → c < to + 1
     further c less = omega (arith, less)
-
-some_long : (P : ℕ → Type 0) (xs : List ℕ) → HasOne P xs → 0 < length xs
-some_long P [] h = absurd h
-some_long P (x ∷ xs) h = omega arith
 
 -- where there is one there are not none
 pub those_some : (P : ℕ → Type 0) (to count c : ℕ) → CountsThose P to count → c < to → P c → 0 < count
@@ -251,7 +247,9 @@ product_few done count alike few eight =
     let e : suc done ≡ done + 1 = omega arith in
     subst (λ m. count * alike ≤ 8 ^ m) e (subst (λ m. count * alike ≤ m) (sym (pow-suc 8 done)) most)
 
+pub power_fits : (done : ℕ) → done ≤ 8 → 8 ^ done ≤ 16777216
+power_fits done small = let most : 8 ^ done ≤ 8 ^ 8 = pow-le-pow_right (let z : 0 < 8 = omega arith in z) small in omega (arith, most)
+
 pub product_fits : (done many product : ℕ) → done < many → many ≤ 8 → product ≤ 8 ^ (done + 1) → product ≤ 16777216
 product_fits done many product less small few =
-    let most : 8 ^ (done + 1) ≤ 8 ^ 8 = pow-le-pow_right (let z : 0 < 8 = omega arith in z) (let z : done + 1 ≤ 8 = omega (arith, less, small) in z) in
-    omega (arith, few, most)
+    let most = power_fits (done + 1) (omega (arith, less, small)) in omega (arith, few, most)

@@ -1,16 +1,26 @@
--- What it is counted by for how many outcomes one of them stands: for each client those of its class from it on, and
--- which of these have the same variables.
+-- What it is counted by for how many outcomes or configurations one of them stands: for each client those of its class
+-- from it on, and which of these have the same.
 use Rattle.std.specs.Prelude.{◌≡◌, ◌<◌, ◌≤◌, ℕ, List, length}
 use Rattle.std.specs.List.{AllByRecursion}
 use Rattle.qs_meaning.specs.Configurations.{OrderOutcome}
+use Rattle.qs_outcomes.specs.Outcomes.{outcome_at}
 use Rattle.qs_standings.specs.Lists.{HasOne, NoTwo}
+use Rattle.qs_standings.specs.Standings.{StandingShape, configuration_in}
+use Rattle.qs_alike.specs.Arranged.{places_at}
 use Rattle.qs_alike.specs.Changes.{Classes}
+use Rattle.qs_alike.specs.declared.counts.Compared.{Compared}
+use Rattle.qs_alike.specs.declared.counts.Compared.TheVariants.{Variables, Places}
+
+-- what alike clients have in a standing, by what they are compared
+abbrev pub had_in : Compared → StandingShape → OrderOutcome
+had_in Variables s = outcome_at s
+had_in Places s = places_at (configuration_in s)
 
 -- one of a client's class, from that client on
 abbrev pub IsAlikeFrom : Classes → ℕ → ℕ → Type 0
 IsAlikeFrom k n c = (n ≤ c) × (k c ≡ k n)
 
--- one of these with the same variables
+-- one of these that has the same
 abbrev pub IsSameFrom : Classes → OrderOutcome → ℕ → ℕ → Type 0
 IsSameFrom k o n c = (n ≤ c) × (k c ≡ k n) × (o.locals c ≡ o.locals n)
 

@@ -12,6 +12,6 @@ mod texts;
 
 pub use apart::classes_apart;
 pub use classes::{Classes, classes_of};
-pub use counts::stands_for;
+pub use counts::{configurations_for, stands_for};
 pub use placing::arrange;
 pub use search::{AlikeOutcomes, outcomes_alike};

@@ -6,3 +6,4 @@ pub mod Replies
 pub mod Sought
 pub mod NamedSets
 pub mod AlikeAnswers
+pub mod WithoutWitness

@@ -18,6 +18,8 @@ use Rattle.qs_outcomes.specs.Outcomes.{outcome_at}
 use Rattle.qs_alike.specs.AlikeOutcomes.{AreUnlike, HasMoreUnlike, IsEnd}
 use Rattle.qs_alike.specs.Changes.{AreClasses, Change, Classes, HaveSameText, IsChange, changed_outcome}
 use Rattle.qs_throughout_alike.specs.AlikeCourses.{IsAlikeCourseAnswer}
+use Rattle.qs_alike_totals.specs.declared.followed.Orders.{Orders}
+use Rattle.qs_alike_totals.specs.declared.followed.Orders.TheVariants as o
 use Rattle.qs_questions.specs.Claims.{IsAnswerTo, is_sought}
 use Rattle.qs_questions.specs.Questions.{client_of, summands_of}
 
@@ -73,6 +75,12 @@ abbrev pub IsAlikeAnswerBy : Quantifier → ProgramShape → Classes → (OrderO
 IsAlikeAnswerBy q.Always p k asked a = IsAnswerBetween p k asked a
 IsAlikeAnswerBy q.Some p k asked a = IsAnswerBetween p k asked a
 IsAlikeAnswerBy q.Throughout p k asked a = IsAlikeCourseAnswer p k asked a
+
+-- the orders whose configurations the answer to a claim counts
+abbrev pub orders_for : Quantifier → Orders
+orders_for q.Always = o.Reduced
+orders_for q.Some = o.Reduced
+orders_for q.Throughout = o.All
 
 -- the answer to a claim by classes of alike clients for its condition
 abbrev pub IsAlikeAnswer : Claim → ProgramShape → AnswerShape → Type 0

@@ -22,8 +22,8 @@ use qs_program::Program;
 use qs_throughout_alike::ask_throughout_alike;
 use std::alloc::{AllocError, Global};
 
-// The classes of a program's clients, where each client whose variable a condition names is alone.
-fn classes_for(condition: &Condition, program: &Program) -> Classes
+/// The classes of a program's clients, where each client whose variable a condition names is alone.
+pub(crate) fn classes_for(condition: &Condition, program: &Program) -> Classes
     ensures classes { AreClassesFor program.now condition.now (classes_in result) }
 {
     classes_apart(
@@ -78,8 +78,8 @@ fn answer_at_ends(
     })
 }
 
-// The answer to a claim, where clients of one class may change places.
-fn answer_by(
+/// The answer to a claim, where clients of one class may change places.
+pub(crate) fn answer_by(
     alloc: Global,
     program: &Program,
     claim: &Claim,

@@ -1,17 +1,21 @@
 //! Answers to claims.
 
-ghost use Rattle.std.specs.Prelude.{◌≤◌, IfOk, IsErrOf};
+ghost use Rattle.std.specs.Prelude.{◌≤◌, [], IfOk, IsErrOf};
 ghost use Rattle.qs_conditions.specs.Claims.{seeks};
 ghost use Rattle.qs_meaning.specs.Serial.{IsLegal};
 ghost use Rattle.qs_questions.specs.Claims.{HasMoreFor, IsAnswerTo, is_sought};
 ghost use Rattle.qs_serial.specs.NamedOrders.{order_of};
 
 use crate::asking::holds;
+use crate::unmet::unmet_in_all;
 use qs_conditions::{Claim, Quantifier};
 use qs_outcomes::{Answer, OutcomesFault, Question, Standing, Watcher, ask_watched};
 use qs_program::Program;
 use qs_throughout::ask_throughout;
 use std::alloc::{AllocError, Global};
+
+// So many configurations are looked at before alike clients are asked: about a millisecond's.
+const FEW: u32 = 1_000;
 
 // The outcomes that the answer to a claim looks for: those of which its condition holds, or does not.
 #[derive(Drop)]
@@ -36,10 +40,8 @@ impl Question for Sought<'_> {
     }
 }
 
-/// The answer to a claim on a program, after the blocks that a list of clients names, by a search that stops at the
-/// first witness. `Order` comes exactly where no legal order is named, `Limit` only where there are more configurations
-/// than the limit, `Memory` where memory was refused. The watcher hears of each new configuration as it is noted.
-pub fn answer<W: Watcher>(
+// The answer to a claim, by a search over all configurations, which stops at the first witness.
+fn answer_by_all<W: Watcher>(
     alloc: Global,
     program: &Program,
     claim: &Claim,
@@ -58,5 +60,55 @@ pub fn answer<W: Watcher>(
             ask_watched(alloc, program, front, limit, &sought, watcher)
         }
         Quantifier::Throughout => ask_throughout(alloc, program, front, limit, &sought, watcher),
+    }
+}
+
+// The answer to a claim from the beginning on: over alike clients, where these tell it, and else over all configurations.
+fn answer_by_alike<W: Watcher>(
+    alloc: Global,
+    program: &Program,
+    claim: &Claim,
+    limit: u32,
+    watcher: &mut W,
+) -> Result<Answer, OutcomesFault>
+    ensures answer { IfOk result (IsAnswerTo claim.now program.now []) }
+    ensures within { IfOk result (λ answer. answer.configurations ≤ limit) }
+    ensures limit { IsErrOf result OutcomesFault.Limit → HasMoreFor claim.now.quantifier program.now [] limit }
+    ensures order { IsErrOf result OutcomesFault.Order → ¬ IsLegal program.now [] }
+{
+    match unmet_in_all(alloc, program, claim)? {
+        Some(configurations) if configurations <= limit as usize => Ok(Answer {
+            witness: None,
+            configurations,
+        }),
+        Some(_) => Err(OutcomesFault::Limit),
+        None => answer_by_all(alloc, program, claim, &[], limit, watcher),
+    }
+}
+
+/// The answer to a claim on a program, after the blocks that a list of clients names, by a search that stops at the
+/// first witness. `Order` comes exactly where no legal order is named, `Limit` only where there are more configurations
+/// than the limit, `Memory` where memory was refused. Where nobody's blocks are named, many configurations are looked at
+/// and there is no witness, alike clients may tell the answer sooner: it is the same. The watcher hears of each new
+/// configuration of a search over all.
+pub fn answer<W: Watcher>(
+    alloc: Global,
+    program: &Program,
+    claim: &Claim,
+    front: &[u8],
+    limit: u32,
+    watcher: &mut W,
+) -> Result<Answer, OutcomesFault>
+    ensures answer { IfOk result (IsAnswerTo claim.now program.now (order_of front.now)) }
+    ensures within { IfOk result (λ answer. answer.configurations ≤ limit) }
+    ensures limit { IsErrOf result OutcomesFault.Limit → HasMoreFor claim.now.quantifier program.now (order_of front.now) limit }
+    ensures order { IsErrOf result OutcomesFault.Order → ¬ IsLegal program.now (order_of front.now) }
+{
+    if !front.is_empty() || limit <= FEW {
+        return answer_by_all(alloc, program, claim, front, limit, watcher);
+    }
+    match answer_by_all(alloc, program, claim, &[], FEW, watcher) {
+        Err(OutcomesFault::Limit) => answer_by_alike(alloc, program, claim, limit, watcher),
+        found => found,
     }
 }

@@ -16,6 +16,7 @@ pub mod laws;
 mod named;
 mod stack;
 mod unknown;
+mod unmet;
 mod values;
 
 pub use alike::answer_alike;

@@ -1,0 +1,4 @@
+pub mod LeastSets
+pub mod Evenness
+pub mod Steps
+pub mod InAll

@@ -1,0 +1,13 @@
+//! How many configurations a program has in all, counted by one of those that differ by a change of alike clients.
+//!
+//! ```rust
+//! let count = qs_alike_totals::configurations_in_all(alloc, &program, Orders::All, 65_536).ok()?;
+//! ```
+#![tactic(auto)]
+
+mod counting;
+mod drawing;
+mod followed;
+
+pub use counting::configurations_in_all;
+pub use followed::Orders;
