@@ -10,3 +10,4 @@ pub mod Pairs
 pub mod Counting
 pub mod Shares
 pub mod Adding
+pub mod LedTo

@@ -18,14 +18,14 @@ use Rattle.qs_standings.specs.Lists.{HasOne, NoTwo}
 use Rattle.qs_standings.specs.Standings.{IsStanding, NoneNext, RowShape, StandingShape, configuration_in, row_of}
 use Rattle.qs_standings.proofs.Lists.{has_map, has_some, none_of, same_list, two_snoc}
 use Rattle.qs_standings.proofs.RowTells.{pick, standings_tell, same_row}
-use Rattle.qs_alike.specs.AlikeOutcomes.{AreAllBecoming, AreUnlike, Becomes, BecomesOutcome, HasMoreUnlike, IsEnd, NoneBecome}
-use Rattle.qs_alike.specs.AlikeSearch.{IsFoundPlaced, IsMet, IsPlaced, IsSearched, IsSeenPlaced}
+use Rattle.qs_alike.specs.AlikeOutcomes.{AreAllBecoming, AreUnlike, Becomes, BecomesOutcome, CanBeAt, CanBeAtEach, CanBeAtMore, IsEnd, NoneBecome}
+use Rattle.qs_alike.specs.AlikeSearch.{IsFoundPlaced, IsLed, IsMet, IsPlaced, IsSearched, IsSeenPlaced}
 use Rattle.qs_alike.specs.Arranged.{IsArranged}
 use Rattle.qs_alike.specs.Changes.{AreClasses, Change, Classes, IsChange, changed, changed_order, changed_outcome}
 use Rattle.qs_alike.proofs.Arranging.{arranged_once}
 use Rattle.qs_alike.proofs.Lengths.{equally_long}
 use Rattle.qs_alike.proofs.Orders.{as_many, leads_from, legal_from}
-use Rattle.qs_alike.proofs.Searching.{top}
+use Rattle.qs_alike.proofs.Searching.{top_led}
 
 -- one change after another
 abbrev pub then_changed : Change → Change → Change
@@ -83,15 +83,16 @@ two_turned R S f [] each h = tt
 two_turned R S f (x ∷ xs) each h = (all_but R S f x each.0 xs each.1 h.0, two_turned R S f xs each.1 h.1)
 
 -- what was met becomes a standing that was seen
-record Reaches (p : ProgramShape) (k : Classes) (rows : List RowShape) (found : List StandingShape) (g : Configuration) : Type 0 where
+pub record Reaches (p : ProgramShape) (k : Classes) (rows : List RowShape) (found : List StandingShape) (g : Configuration) : Type 0 where
   pub standing : StandingShape
   pub row : RowShape
   pub seen : IsSeenPlaced p k rows [] found row standing
+  pub there : HasOne (λ r. row_of p standing ≡ r) rows
   pub becomes : Becomes k g (configuration_in standing)
 
 module _ (p : ProgramShape) (k : Classes) (sound : IsSound p) (are : AreClasses p k) (rows : List RowShape) (found : List StandingShape)
     (searched : IsSearched p k rows [] found) where
-  met_seen : (g : Configuration) → IsMet p k rows [] g → Reaches p k rows found g
+  pub met_seen : (g : Configuration) → IsMet p k rows [] g → Reaches p k rows found g
   met_seen g (inl h) = absurd h
   met_seen g (inr h) =
       let m = pick p (λ m. IsPlaced p k m × Becomes k g (configuration_in m)) rows h in
@@ -103,6 +104,7 @@ module _ (p : ProgramShape) (k : Classes) (sound : IsSound p) (are : AreClasses 
         standing = w.0;
         row = r;
         seen = w.1;
+        there = has_map (λ q (e : row_of p m.0 ≡ q). w.1.row ∙ (sym is ∙ e)) rows m.2;
         becomes = (m.1.1.0, m.1.1.1, same ∙ m.1.1.2);
       })
       rows m.2 searched.seen
@@ -202,9 +204,10 @@ module _ (p : ProgramShape) (k : Classes) (sound : IsSound p) (are : AreClasses 
   none_become = two_turned (λ s t. row_of p s ≡ row_of p t) (λ s t. BecomesOutcome k (outcome_at s) (outcome_at t)) found_apart found searched.found searched.apart
 
 -- the standings that were seen, one for each row
-module _ (p : ProgramShape) (k : Classes) (Kept : RowShape → StandingShape → Type 0)
-    (placed : (r : RowShape) (s : StandingShape) → Kept r s → IsPlaced p k s)
-    (row : (r : RowShape) (s : StandingShape) → Kept r s → row_of p s ≡ r) where
+module _ (p : ProgramShape) (k : Classes) (rows : List RowShape) (stack found : List StandingShape) where
+  abbrev Kept : RowShape → StandingShape → Type 0
+  Kept = IsSeenPlaced p k rows stack found
+
   abbrev AllKept : List RowShape → Type 0
   AllKept rs = AllByRecursion (λ r. (s : StandingShape) × Kept r s) rs
 
@@ -217,36 +220,51 @@ module _ (p : ProgramShape) (k : Classes) (Kept : RowShape → StandingShape →
   picked_long [] h = refl
   picked_long (r ∷ rs) h = ap suc (picked_long rs h.1)
 
-  picked_standing : (rs : List RowShape) (h : AllKept rs) → AllByRecursion (λ s. IsStanding p s.order s) (picked rs h)
+  picked_each : (Q : StandingShape → Type 0) → ((r : RowShape) (s : StandingShape) → Kept r s → Q s) → (rs : List RowShape) (h : AllKept rs)
+      → AllByRecursion Q (picked rs h)
   unfolding picked
-  picked_standing [] h = tt
-  picked_standing (r ∷ rs) h = ((placed r h.0.0 h.0.1).standing, picked_standing rs h.1)
+  picked_each Q f [] h = tt
+  picked_each Q f (r ∷ rs) h = (f r h.0.0 h.0.1, picked_each Q f rs h.1)
+
+  pub picked_led : (rs : List RowShape) (h : AllKept rs) → CanBeAtEach p k (picked rs h)
+  picked_led = picked_each (λ s. CanBeAt p k (configuration_in s)) (λ r s kept. kept.led)
+
+  picked_standing : (rs : List RowShape) (h : AllKept rs) → AllByRecursion (λ s. IsStanding p s.order s) (picked rs h)
+  picked_standing = picked_each (λ s. IsStanding p s.order s) (λ r s kept. kept.placed.standing)
+
+  -- where a standing's row is one of them, what it holds is held by one of these
+  pub picked_one : IsSound p → (s : StandingShape) → IsStanding p s.order s → (rs : List RowShape) (h : AllKept rs)
+      → HasOne (λ r. row_of p s ≡ r) rs → HasOne (λ t. configuration_in t ≡ configuration_in s) (picked rs h)
+  unfolding picked
+  picked_one sound s stands [] h there = absurd there
+  picked_one sound s stands (r ∷ rs) h (inl e) =
+      inl (standings_tell p sound h.0.0.order s.order h.0.0 s h.0.1.placed.standing stands (h.0.1.row ∙ sym e))
+  picked_one sound s stands (r ∷ rs) h (inr there) = inr (picked_one sound s stands rs h.1 there)
 
   picked_other : (s : StandingShape) → IsPlaced p k s → (rs : List RowShape) (h : AllKept rs) → AllByRecursion (λ r. row_of p s ≡ r → ⊥) rs
       → AllByRecursion (λ t. Becomes k (configuration_in s) (configuration_in t) → ⊥) (picked rs h)
   unfolding picked
   picked_other s own [] h other = tt
-  picked_other s own (r ∷ rs) h other =
-      (λ b. other.0 (become_row p k s h.0.0 own (placed r h.0.0 h.0.1) b ∙ row r h.0.0 h.0.1), picked_other s own rs h.1 other.1)
+  picked_other s own (r ∷ rs) h other = (λ b. other.0 (become_row p k s h.0.0 own h.0.1.placed b ∙ h.0.1.row), picked_other s own rs h.1 other.1)
 
   picked_into : (s : StandingShape) → IsPlaced p k s → (rs : List RowShape) (h : AllKept rs) → AllByRecursion (λ r. row_of p s ≡ r → ⊥) rs
       → AllByRecursion (λ t. Becomes k (configuration_in t) (configuration_in s) → ⊥) (picked rs h)
   unfolding picked
   picked_into s own [] h other = tt
   picked_into s own (r ∷ rs) h other =
-      (λ b. other.0 (sym (become_row p k h.0.0 s (placed r h.0.0 h.0.1) own b) ∙ row r h.0.0 h.0.1), picked_into s own rs h.1 other.1)
+      (λ b. other.0 (sym (become_row p k h.0.0 s h.0.1.placed own b) ∙ h.0.1.row), picked_into s own rs h.1 other.1)
 
   picked_unlike : (rs : List RowShape) (h : AllKept rs) → NoTwo ◌≡◌ rs
       → NoTwo (λ s t. Becomes k (configuration_in s) (configuration_in t)) (picked rs h)
   unfolding picked
   picked_unlike [] h once = tt
   picked_unlike (r ∷ rs) h once =
-      (picked_other h.0.0 (placed r h.0.0 h.0.1) rs h.1 (each_map {Q = λ q. row_of p h.0.0 ≡ q → ⊥} (λ q (other : r ≡ q → ⊥) e. other (sym (row r h.0.0 h.0.1) ∙ e)) rs once.0), picked_unlike rs h.1 once.1)
+      (picked_other h.0.0 h.0.1.placed rs h.1 (each_map {Q = λ q. row_of p h.0.0 ≡ q → ⊥} (λ q (other : r ≡ q → ⊥) e. other (sym h.0.1.row ∙ e)) rs once.0), picked_unlike rs h.1 once.1)
 
   pub unlike : (rs : List RowShape) (h : AllKept rs) → NoTwo ◌≡◌ rs → AreUnlike p k (picked rs h) (length rs)
   unlike rs h once = record { count = picked_long rs h; reached = picked_standing rs h; unlike = picked_unlike rs h once }
 
-  pub one_more : (rs : List RowShape) (h : AllKept rs) → NoTwo ◌≡◌ rs → (s : StandingShape) → IsPlaced p k s
+  one_more : (rs : List RowShape) (h : AllKept rs) → NoTwo ◌≡◌ rs → (s : StandingShape) → IsPlaced p k s
       → (HasOne (λ r. row_of p s ≡ r) rs → ⊥) → AreUnlike p k (picked rs h ++ s ∷ []) (suc (length rs))
   one_more rs h once s is new = record {
     count = (let long = picked_long rs h in omega (arith, long, length-append (picked rs h) (s ∷ [])));
@@ -255,17 +273,15 @@ module _ (p : ProgramShape) (k : Classes) (Kept : RowShape → StandingShape →
         (picked_into s is rs h (none_of (λ r. row_of p s ≡ r) rs new));
   }
 
-pub noted : (p : ProgramShape) (k : Classes) (rows : List RowShape) (stack found : List StandingShape) → IsSearched p k rows stack found
-    → (ss : List StandingShape) × AreUnlike p k ss (length rows)
-noted p k rows stack found searched = (
-  picked p k (IsSeenPlaced p k rows stack found) (λ r s w. w.placed) (λ r s w. w.row) rows searched.seen,
-  unlike p k (IsSeenPlaced p k rows stack found) (λ r s w. w.placed) (λ r s w. w.row) rows searched.seen searched.once,
-)
+  pub more_led : (rs : List RowShape) (h : AllKept rs) → NoTwo ◌≡◌ rs → (s : StandingShape) → IsLed p k s
+      → (HasOne (λ r. row_of p s ≡ r) rs → ⊥) → CanBeAtMore p k (length rs)
+  more_led rs h once s is new = (
+    picked rs h ++ s ∷ [],
+    one_more rs h once s is.placed new,
+    each_snoc (λ t. CanBeAt p k (configuration_in t)) (picked rs h) s (picked_led rs h) is.led,
+  )
 
 pub more_than : (p : ProgramShape) (k : Classes) (rows : List RowShape) (stack found : List StandingShape) (s : StandingShape)
-    → IsSearched p k rows (stack ++ s ∷ []) found → (HasOne (λ r. row_of p s ≡ r) rows → ⊥) → HasMoreUnlike p k (length rows)
-more_than p k rows stack found s searched new = (
-  picked p k (IsSeenPlaced p k rows (stack ++ s ∷ []) found) (λ r s w. w.placed) (λ r s w. w.row) rows searched.seen ++ s ∷ [],
-  one_more p k (IsSeenPlaced p k rows (stack ++ s ∷ []) found) (λ r s w. w.placed) (λ r s w. w.row) rows searched.seen searched.once s
-      (top p k rows stack found s searched) new,
-)
+    → IsSearched p k rows (stack ++ s ∷ []) found → (HasOne (λ r. row_of p s ≡ r) rows → ⊥) → CanBeAtMore p k (length rows)
+more_than p k rows stack found s searched new =
+    more_led p k rows (stack ++ s ∷ []) found rows searched.seen searched.once s (top_led p k rows stack found s searched) new

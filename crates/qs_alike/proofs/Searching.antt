@@ -12,7 +12,7 @@ use Rattle.qs_standings.specs.Standings.{GoesOn, NoneNext, RowShape, StandingSha
 use Rattle.qs_standings.proofs.Lists.{has_back, has_either, has_front, has_map, has_only, none_of, two_snoc}
 use Rattle.qs_standings.proofs.Stands.{goes_left, in_program}
 use Rattle.qs_alike.specs.AlikeOutcomes.{Becomes}
-use Rattle.qs_alike.specs.AlikeSearch.{AreAdded, IsAdded, IsFoundPlaced, IsGrownBy, IsMet, IsPlaced, IsSearched, IsSeenPlaced}
+use Rattle.qs_alike.specs.AlikeSearch.{AreAdded, IsAdded, IsFoundPlaced, IsGrownBy, IsLed, IsMet, IsNextPlaced, IsPlaced, IsSearched, IsSeenPlaced}
 use Rattle.qs_alike.specs.Changes.{Classes}
 
 -- What was met is met still, once the standing on top has its row among those that were seen.
@@ -34,20 +34,31 @@ module _ (p : ProgramShape) (k : Classes) (rows later : List RowShape) (stack no
     w.0,
     record {
       placed = w.1.placed;
+      led = w.1.led;
       row = w.1.row;
       closed = λ c goes. met_on (one_block_on p c (configuration_in w.0)) (w.1.closed c goes);
       found = λ none. grown (λ t. configuration_in t ≡ configuration_in w.0) (w.1.found none);
     },
   )
 
+-- where a next block leads, the search is led, too
+one_led : (p : ProgramShape) (k : Classes) (s : StandingShape) → IsLed p k s → (n : StandingShape) → (c : ℕ) × IsNextPlaced p k s c n → IsLed p k n
+one_led p k s is n (c, next) = record {
+  placed = next.placed;
+  led = (c ∷ is.led.0, (configuration_in s, is.led.1, next.goes, next.becomes, next.placed.arranged));
+}
+
 module _ (p : ProgramShape) (k : Classes) (rows : List RowShape) (stack found : List StandingShape) (s : StandingShape)
     (searched : IsSearched p k rows (stack ++ s ∷ []) found) where
+  pub top_led : IsLed p k s
+  top_led = (each_back (IsLed p k) stack (s ∷ []) searched.stack).0
+
   pub top : IsPlaced p k s
-  top = (each_back (IsPlaced p k) stack (s ∷ []) searched.stack).0
+  top = top_led.placed
 
   pub skips : HasOne (λ r. row_of p s ≡ r) rows → IsSearched p k rows stack found
   skips seen = record {
-    stack = each_front (IsPlaced p k) stack (s ∷ []) searched.stack;
+    stack = each_front (IsLed p k) stack (s ∷ []) searched.stack;
     first = met_on p k rows rows stack stack s top (λ P h. h) (λ P h. h) seen (first_configuration p) searched.first;
     seen = each_map (seen_on p k rows rows stack stack s top (λ P h. h) (λ P h. h) seen found found (λ P h. h)) rows searched.seen;
     once = searched.once;
@@ -74,13 +85,14 @@ module _ (p : ProgramShape) (k : Classes) (rows : List RowShape) (stack found : 
 
     pub ends : NoneNext p s → IsSearched p k later stack (found ++ s ∷ [])
     ends none = record {
-      stack = each_front (IsPlaced p k) stack (s ∷ []) searched.stack;
+      stack = each_front (IsLed p k) stack (s ∷ []) searched.stack;
       first = met_on p k rows later stack stack s top more_rows (λ P h. h) last (first_configuration p) searched.first;
       seen = each_snoc _ rows (row_of p s)
           (each_map (seen_on p k rows later stack stack s top more_rows (λ P h. h) last found (found ++ s ∷ []) (λ P h. has_front P found (s ∷ []) h)) rows searched.seen) (
             s,
             record {
               placed = top;
+              led = top_led.led;
               row = refl;
               closed = λ c goes. absurd (none c (goes_left p s c goes));
               found = λ _. has_back (λ t. configuration_in t ≡ configuration_in s) found (s ∷ []) (inl refl);
@@ -95,13 +107,14 @@ module _ (p : ProgramShape) (k : Classes) (rows : List RowShape) (stack found : 
     pub goes_further : (NoneNext p s → ⊥) → (added : List StandingShape) → AreAdded p k s (length p.clients) added
         → IsSearched p k later (stack ++ added) found
     goes_further some added next = record {
-      stack = each_join (IsPlaced p k) stack added (each_front (IsPlaced p k) stack (s ∷ []) searched.stack) next.placed;
+      stack = each_join (IsLed p k) stack added (each_front (IsLed p k) stack (s ∷ []) searched.stack) (each_map (one_led p k s top_led) added next.placed);
       first = met_on p k rows later stack (stack ++ added) s top more_rows (λ P h. has_front P stack added h) last (first_configuration p) searched.first;
       seen = each_snoc _ rows (row_of p s)
           (each_map (seen_on p k rows later stack (stack ++ added) s top more_rows (λ P h. has_front P stack added h) last found found (λ P h. h)) rows searched.seen) (
             s,
             record {
               placed = top;
+              led = top_led.led;
               row = refl;
               closed = λ c goes. inl (has_back _ stack added (next.each c (in_program p s c (goes_left p s c goes)) goes));
               found = λ none. absurd (some none);
@@ -118,16 +131,16 @@ grown_none p k s before = ([], sym (append-nil before), record { placed = tt; ea
 
 pub grown_on : (p : ProgramShape) (k : Classes) (s : StandingShape) (c : ℕ) (before mid after : List StandingShape) → IsGrownBy p k s c before mid
     → IsAdded p k s c mid after → IsGrownBy p k s (c + 1) before after
-grown_on p k s c before mid after (added, e, now) (inl (n, (placed, becomes), is)) = (
+grown_on p k s c before mid after (added, e, now) (inl (n, next, is)) = (
   added ++ n ∷ [],
   is ∙ (ap (λ xs. xs ++ n ∷ []) e ∙ append_assoc before added (n ∷ [])),
   record {
-    placed = each_snoc (IsPlaced p k) added n now.placed placed;
+    placed = each_snoc (λ m. (d : ℕ) × IsNextPlaced p k s d m) added n now.placed (c, next);
     each = λ d less goes.
         ⊎_elim
         (λ (under : d < c). has_front _ added (n ∷ []) (now.each d under goes))
         (λ (past : c ≤ d). has_back _ added (n ∷ [])
-        (inl (subst (λ m. Becomes k (one_block_on p m (configuration_in s)) (configuration_in n)) (let z : c ≡ d = omega (arith, less, past) in z) becomes)))
+        (inl (subst (λ m. Becomes k (one_block_on p m (configuration_in s)) (configuration_in n)) (let z : c ≡ d = omega (arith, less, past) in z) next.becomes)))
         (cases_lt d c);
     few = (let few = now.few in omega (arith, few, length-append added (n ∷ [])));
   },
@@ -145,6 +158,24 @@ grown_on p k s c before mid after (added, e, now) (inr (not, is)) = (
     few = (let few = now.few in omega (arith, few));
   },
 )
+
+-- nothing was seen, and the first configuration alone stands on the stack
+pub begun : (p : ProgramShape) (k : Classes) (f s : StandingShape) → configuration_in f ≡ first_configuration p
+    → Becomes k (configuration_in f) (configuration_in s) → IsPlaced p k s → (rows : List RowShape) (stack found : List StandingShape)
+    → rows ≡ [] → stack ≡ s ∷ [] → found ≡ [] → IsSearched p k rows stack found
+begun p k f s first becomes placed rows stack found none one nothing =
+    let now : Becomes k (first_configuration p) (configuration_in s) = subst (λ g. Becomes k g (configuration_in s)) first becomes in
+    let at : IsSearched p k [] (s ∷ []) [] =
+    record {
+      stack = (record { placed = placed; led = ([], now.2) }, tt);
+      first = inl (inl now);
+      seen = tt;
+      once = tt;
+      found = tt;
+      apart = tt;
+    } in
+    subst (λ rs. IsSearched p k rs stack found) (sym none)
+    (subst (λ ts. IsSearched p k [] ts found) (sym one) (subst (IsSearched p k [] (s ∷ [])) (sym nothing) at))
 
 -- a standing that was taken up, by what was noted of it and what was added
 module _ (p : ProgramShape) (k : Classes) (limit : ℕ) (rows later : List RowShape) (stack found : List StandingShape) (s : StandingShape)

@@ -1,11 +1,13 @@
 -- What the list of a program's outcomes says that has one of all changes of alike clients.
-use Rattle.std.specs.Prelude.{◌≡◌, ℕ, suc, List, length}
+use Rattle.std.specs.Prelude.{◌≡◌, ℕ, suc, List, [], ◌∷◌, true, length}
 use Rattle.std.specs.List.{AllByRecursion, AllZip, sum}
 use Rattle.qs_program.specs.Program.{ProgramShape}
-use Rattle.qs_meaning.specs.Configurations.{Configuration, IsComplete, IsProgramOutcome, OrderOutcome, outcome_of}
+use Rattle.qs_meaning.specs.Configurations.{Configuration, IsComplete, IsProgramOutcome, OrderOutcome, first_configuration, one_block_on, outcome_of}
+use Rattle.qs_meaning.specs.Reduced.{goes_on}
 use Rattle.qs_standings.specs.Lists.{HasOne, NoTwo}
 use Rattle.qs_standings.specs.Standings.{IsStanding, StandingShape, configuration_in}
 use Rattle.qs_outcomes.specs.Outcomes.{AreOutcomes, HasPlaces, OutcomesShape, outcome_at}
+use Rattle.qs_alike.specs.Arranged.{IsArranged}
 use Rattle.qs_alike.specs.Changes.{AreClasses, Change, Classes, IsChange, changed, changed_outcome}
 
 -- what was found, how many outcomes each of them stands for, and how many configurations were noted
@@ -69,6 +71,35 @@ pub record AreAlikeOutcomes (p : ProgramShape) (k : Classes) (all : AlikeShape) 
 -- there are more of them than so many
 abbrev pub HasMoreUnlike : ProgramShape → Classes → ℕ → Type 0
 HasMoreUnlike p k limit = (ss : List StandingShape) × AreUnlike p k ss (suc limit)
+
+-- Where the search is led by these clients' blocks, the last one first: each is one of those who go on where the search
+-- is, and where its block leads, the places of each class are put in order.
+abbrev pub IsLedTo : ProgramShape → Classes → List ℕ → Configuration → Type 0
+IsLedTo p k [] g = g ≡ first_configuration p
+IsLedTo p k (c ∷ cs) g =
+    (h : Configuration) × IsLedTo p k cs h × (goes_on p h.begun c ≡ true) × Becomes k (one_block_on p c h) g
+    × IsArranged k g
+
+-- where the search can be
+abbrev pub CanBeAt : ProgramShape → Classes → Configuration → Type 0
+CanBeAt p k g = (cs : List ℕ) × IsLedTo p k cs g
+
+-- the search can be at each of these
+abbrev pub CanBeAtEach : ProgramShape → Classes → List StandingShape → Type 0
+CanBeAtEach p k ss = AllByRecursion (λ s. CanBeAt p k (configuration_in s)) ss
+
+-- wherever the search can be is one of these
+abbrev pub CanBeAtNoOther : ProgramShape → Classes → List StandingShape → Type 0
+CanBeAtNoOther p k ss = (g : Configuration) → CanBeAt p k g → HasOne (λ s. configuration_in s ≡ g) ss
+
+-- The search can be at exactly so many configurations, of which none becomes another.
+abbrev pub CanBeAtExactly : ProgramShape → Classes → ℕ → Type 0
+CanBeAtExactly p k many =
+    (ss : List StandingShape) × AreUnlike p k ss many × CanBeAtEach p k ss × CanBeAtNoOther p k ss
+
+-- and at more than so many
+abbrev pub CanBeAtMore : ProgramShape → Classes → ℕ → Type 0
+CanBeAtMore p k limit = (ss : List StandingShape) × AreUnlike p k ss (suc limit) × CanBeAtEach p k ss
 
 -- The counts add up to how many outcomes the program has.
 abbrev pub CountsAreAll : Type 0

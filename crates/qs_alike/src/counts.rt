@@ -36,7 +36,8 @@ fn have_same(standing: &Standing, one: u8, other: u8) -> bool
 fn are_equal(compared: Compared, standing: &Standing, one: u8, other: u8) -> bool
     requires within { (one < length standing.now.locals) × (other < length standing.now.locals) }
     requires begun { compared ≡ Places → length standing.now.begun ≡ length standing.now.locals }
-    ensures equal { Decides result ((had_in compared standing.now).locals one ≡ (had_in compared standing.now).locals other) }
+    ensures equal { Decides result
+        ((had_in compared standing.now).locals one ≡ (had_in compared standing.now).locals other) }
 {
     let same = have_same(standing, one, other);
     match compared {
@@ -75,7 +76,8 @@ fn same_from(
     requires place { place < length program.now.clients }
     requires locals { length standing.now.locals ≡ length program.now.clients }
     requires begun { compared ≡ Places → length standing.now.begun ≡ length standing.now.locals }
-    ensures count { CountsThose (IsSameFrom (classes_in classes.now) (had_in compared standing.now) place) (length program.now.clients) result }
+    ensures count { CountsThose (IsSameFrom (classes_in classes.now) (had_in compared standing.now) place)
+        (length program.now.clients) result }
     ensures some { 0 < result }
 {
     program.keeps_sound();
@@ -88,8 +90,8 @@ fn same_from(
     count
 }
 
-// How many there are of what clients have in a standing, where alike ones change places. Behind each client the count is
-// a whole number, so that no division leaves a rest.
+// How many there are of what clients have in a standing, where alike ones change places. Behind each client the count
+// is a whole number, so that no division leaves a rest.
 fn changes_of(program: &Program, classes: &Classes, compared: Compared, standing: &Standing) -> u32
     requires classes { AreClasses program.now (classes_in classes.now) }
     requires locals { length standing.now.locals ≡ length program.now.clients }

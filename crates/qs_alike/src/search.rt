@@ -7,7 +7,7 @@ ghost use Rattle.qs_going.specs.Going.{AreLast, in_byte};
 ghost use Rattle.qs_standings.specs.Lists.{HasOne};
 ghost use Rattle.qs_standings.specs.Rows.{rows_in};
 ghost use Rattle.qs_standings.specs.Standings.{IsStanding, configuration_in, row_of};
-ghost use Rattle.qs_alike.specs.AlikeOutcomes.{AreAlikeOutcomes, HasMoreUnlike};
+ghost use Rattle.qs_alike.specs.AlikeOutcomes.{AreAlikeOutcomes, CanBeAtExactly, CanBeAtMore, HasMoreUnlike};
 ghost use Rattle.qs_alike.specs.AlikeSearch.{IsAdded, IsGrownBy, IsSearched};
 ghost use Rattle.qs_alike.specs.Changes.{AreClasses};
 ghost use Rattle.qs_alike.specs.Texts.{classes_in};
@@ -23,7 +23,7 @@ use std::alloc::{AllocError, Global};
 use std::marker::Model;
 
 /// Of all outcomes of a program one for all that differ by a change of alike clients, for how many outcomes each of
-/// them stands, and how many configurations were noted, of which none is a change of another.
+/// them stands, and how many configurations the search can be at, of which none is a change of another.
 pub struct AlikeOutcomes {
     found: Vec<Standing>,
     counts: Vec<u32>,
@@ -64,7 +64,7 @@ impl AlikeOutcomes {
         self.counts.as_slice()
     }
 
-    /// How many configurations were noted.
+    /// How many configurations the search can be at.
     pub fn configurations(&self) -> usize
         ensures configurations { result ≡ self.now.configurations }
     {
@@ -183,7 +183,7 @@ fn visit(
     ensures small { OnOk result (length (rows_in seen.new.keys) ≤ limit) }
     ensures less { OnOk result (work_left limit (rows_in seen.new.keys) stack.new.items
         < work_left limit (rows_in seen.old.keys) stack.old.items + 1) }
-    ensures limit { IsErrOf result OutcomesFault.Limit → HasMoreUnlike program.now (classes_in classes.now) limit }
+    ensures limit { IsErrOf result OutcomesFault.Limit → CanBeAtMore program.now (classes_in classes.now) limit }
     ensures order { ¬ IsErrOf result OutcomesFault.Order }
 {
     program.keeps_sound();
@@ -199,8 +199,10 @@ fn visit(
 }
 
 /// Of all outcomes of a program one for all that differ by a change of alike clients, with their number and a complete
-/// order that comes to it; and how many configurations were noted. `Limit` comes only where more configurations than
-/// the limit are reached of which none is a change of another, `Memory` where memory was refused, and `Order` never.
+/// order that comes to it. `configurations` is exactly how many configurations the search can be at, where only those
+/// clients go on whom nobody else disturbs, and the places of each class are put in order after each block. None of
+/// these is a change of another. `Limit` comes only where there are more of them than the limit, `Memory` where memory
+/// was refused, and `Order` never.
 pub fn outcomes_alike(
     alloc: Global,
     program: &Program,
@@ -209,8 +211,10 @@ pub fn outcomes_alike(
 ) -> Result<AlikeOutcomes, OutcomesFault>
     requires classes { AreClasses program.now (classes_in classes.now) }
     ensures outcomes { IfOk result (λ all. AreAlikeOutcomes program.now (classes_in classes.now) all) }
+    ensures exact { IfOk result (λ all. CanBeAtExactly program.now (classes_in classes.now) all.configurations) }
     ensures within { IfOk result (λ all. all.configurations ≤ limit) }
     ensures limit { IsErrOf result OutcomesFault.Limit → HasMoreUnlike program.now (classes_in classes.now) limit }
+    ensures more { IsErrOf result OutcomesFault.Limit → CanBeAtMore program.now (classes_in classes.now) limit }
     ensures order { ¬ IsErrOf result OutcomesFault.Order }
 {
     program.keeps_sound();

@@ -21,10 +21,11 @@ pub returns-in_ok-push : goal.returns-in_ok-push
 returns-in_ok-push c = record {
   added = inl (
     c.arrange.new.standing,
-    (
-      c.arrange.ensures.placed,
-      subst (λ g. Becomes (classes_in c.args.classes.now) g (configuration_in c.arrange.new.standing)) c.in_ok-next.ensures.on.next c.arrange.ensures.becomes,
-    ),
+    record {
+      placed = c.arrange.ensures.placed;
+      goes = (λ i. sym c.requires.goes i c.args.client) ∙ in_set c.args.goes c.args.client c.if-goes-client-eq1.true;
+      becomes = subst (λ g. Becomes (classes_in c.args.classes.now) g (configuration_in c.arrange.new.standing)) c.in_ok-next.ensures.on.next c.arrange.ensures.becomes;
+    },
     c.in_ok-push.ensures.items,
   );
 }

@@ -3,7 +3,7 @@ use Rattle.std.proofs.lemmas.Result.{err_from_is_err_and}
 use Rattle.qs_outcomes.specs.declared.fault.OutcomesFault.TheVariants.{Limit}
 use Rattle.qs_standings.specs.Rows.{rows_in}
 use Rattle.qs_standings.specs.Standings.{IsStanding}
-use Rattle.qs_alike.specs.AlikeOutcomes.{HasMoreUnlike}
+use Rattle.qs_alike.specs.AlikeOutcomes.{CanBeAtMore}
 use Rattle.qs_alike.specs.Texts.{classes_in}
 use Rattle.qs_alike.proofs.Searching.{ended, gone_on, skipped, top}
 use Rattle.qs_alike.proofs.Searched.{more_than}
@@ -14,7 +14,7 @@ returns-in_err-note-clause-limit c = λ is.
     let p = err_from_is_err_and c.from_residual.result c.from_residual.ensures.1 in
     let same : c.in_err-note.field-0.0 ≡ Limit = cc (p.1, p.2) in
     let full = c.in_err-note.ensures.full (ap (λ e. Err e) same) in
-    subst (λ n. HasMoreUnlike c.args.program.now (classes_in c.args.classes.now) n) full.0
+    subst (λ n. CanBeAtMore c.args.program.now (classes_in c.args.classes.now) n) full.0
     (more_than c.args.program.now (classes_in c.args.classes.now) (rows_in c.args.seen.now.keys) c.args.stack.now.items c.args.found.now.items c.args.standing c.requires.searched full.1)
 
 pub returns-then-not-branch-clause-searched : goal.returns-then-not-branch-clause-searched
