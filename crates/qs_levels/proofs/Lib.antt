@@ -5,3 +5,4 @@ pub mod Leasts
 pub mod Masks
 pub mod Merged
 pub mod Crossing
+pub mod Jobs

@@ -57,8 +57,8 @@ fn one_spot(alloc: Global, part: Part, going: Going) -> Result<Level, AllocError
     add(
         &mut spots,
         Spot {
-            part: 0,
             place: 0,
+            part: 0,
             going,
         },
     )?;
@@ -78,6 +78,7 @@ pub(crate) fn first_level(
     requires last { AreLast program.now last.now }
     requires first { IsFirst program.now front.now first }
     requires some { 0 < count }
+    requires few { count ≤ 256 }
     ensures first { IfOk result (λ level. level.standings ≡ first ∷ []) }
     ensures going { IfOk result (λ level. AreGoing program.now count level.standings level.going) }
     ensures within { IfOk result (λ level. 1 ≤ limit) }

@@ -18,7 +18,7 @@ use crate::table::{Lead, Mark, Spare, Table, add_found, note};
 use qs_objects::Ticket;
 use qs_outcomes::OutcomesFault;
 use qs_program::Program;
-use qs_standings::{Last, Scratch, Standing, put_by, spare_standing, was_seen};
+use qs_standings::{Last, Scratch, Standing, was_seen};
 use std::alloc::Global;
 
 // Adds where the next block of a client who goes on leads, where its row is not in the table.
@@ -31,6 +31,7 @@ fn lead_client(
     standing: &Standing,
     lead: Lead,
     room: usize,
+    next: &mut Standing,
     scratch: &mut Scratch,
     table: &mut Table,
 ) -> Result<(), OutcomesFault>
@@ -84,18 +85,16 @@ fn lead_client(
     )? {
         return Ok(());
     }
-    let mut next = spare_standing(alloc, &mut scratch.spare);
     standing.put_next(
         program,
         front,
         client,
         &scratch.values,
         &mut scratch.left,
-        &mut next,
+        next,
     )?;
     let going = next.goes_on(program, last, front);
-    add_found(table, Mark { lead, going }, &mut next)?;
-    put_by(&mut scratch.spare, next)?;
+    add_found(table, Mark { lead, going }, next)?;
     Ok(())
 }
 
@@ -111,6 +110,7 @@ fn lead_standing(
     share: Share,
     taken: u8,
     room: usize,
+    next: &mut Standing,
     scratch: &mut Scratch,
     table: &mut Table,
 ) -> Result<(), OutcomesFault>
@@ -138,7 +138,7 @@ fn lead_standing(
                 client,
             };
             lead_client(
-                alloc, program, last, starts, front, standing, lead, room, scratch, table,
+                alloc, program, last, starts, front, standing, lead, room, next, scratch, table,
             )?;
         }
     }
@@ -158,6 +158,7 @@ fn lead_place(
     masks: &[u8],
     room: usize,
     standing: &mut Standing,
+    next: &mut Standing,
     scratch: &mut Scratch,
     table: &mut Table,
 ) -> Result<(), OutcomesFault>
@@ -186,7 +187,8 @@ fn lead_place(
     }
     level.load(alloc, place, standing)?;
     lead_standing(
-        alloc, program, last, starts, front, standing, place, share, taken, room, scratch, table,
+        alloc, program, last, starts, front, standing, place, share, taken, room, next, scratch,
+        table,
     )
 }
 
@@ -218,6 +220,7 @@ pub(crate) fn led_on(
     let masks = masks(alloc, share)?;
     let mut scratch = Scratch::new(alloc, program)?;
     let mut standing = Standing::empty(alloc);
+    let mut next = Standing::empty(alloc);
     let mut table = Table::new(alloc, spare);
     for place in 0..level.len() {
         lead_place(
@@ -232,6 +235,7 @@ pub(crate) fn led_on(
             masks.as_slice(),
             room,
             &mut standing,
+            &mut next,
             &mut scratch,
             &mut table,
         )?;

@@ -14,14 +14,15 @@ use std::marker::Model;
 #[derive(Clone, Copy, Drop)]
 pub(crate) struct Going {
     pub clients: u8,
-    pub share: usize,
+    pub share: u8,
 }
 
-/// In which part a standing is and at which place there, and who goes on from it.
+/// In which part a standing is and at which place there, and who goes on from it. Every thread reads those of all
+/// standings, so it is short.
 #[derive(Clone, Copy, Drop)]
 pub(crate) struct Spot {
-    pub part: usize,
     pub place: usize,
+    pub part: u8,
     pub going: Going,
 }
 
@@ -84,7 +85,7 @@ impl Level {
         ensures loaded { OnOk result (standing.new ≡ slice_index_or self.now.standings place no_standing) }
     {
         let spot = self.spots[place];
-        self.parts[spot.part].load(alloc, spot.place, standing)?;
+        self.parts[usize::from(spot.part)].load(alloc, spot.place, standing)?;
         Ok(())
     }
 

@@ -11,6 +11,7 @@ mod parts;
 mod search;
 mod share;
 mod table;
+mod threads;
 
 pub use fronts::fronts_after;
 pub use search::outcomes_by_levels;

@@ -28,17 +28,20 @@ fn is_less(one: Lead, other: Lead) -> bool
     one.source < other.source || (one.source == other.source && one.client < other.client)
 }
 
-// The best of the parts up to a number, and of the one with this number, which has this first lead.
-fn better(best: Option<Candidate>, number: usize, first: Option<Lead>) -> Option<Candidate>
-    ensures better { IsBetter best number first result }
+// Puts the part with this number, which has this first lead, in the place of the best of those before it where it is
+// better. Nothing is written where it isn't, since each configuration has this done for each part.
+fn improve(best: &mut Option<Candidate>, number: usize, first: Option<Lead>)
+    ensures better { IsBetter best.old number first best.new }
 {
-    match first {
-        None => best,
-        Some(lead) => match best {
-            Some(least) if !is_less(lead, least.lead) => best,
-            _ => Some(Candidate { number, lead }),
-        },
+    let Some(lead) = first else {
+        return;
+    };
+    if let Some(least) = best {
+        if !is_less(lead, least.lead) {
+            return;
+        }
     }
+    *best = Some(Candidate { number, lead });
 }
 
 // The part whose first lead from its place on is the least.
@@ -48,7 +51,7 @@ fn least(parts: &[Part], places: &[usize]) -> Option<usize>
 {
     let mut best = None;
     for number in 0..parts.len() {
-        best = better(best, number, parts[number].lead_from(places[number]));
+        improve(&mut best, number, parts[number].lead_from(places[number]));
     }
     match best {
         Some(candidate) => Some(candidate.number),
@@ -72,6 +75,7 @@ fn take(
     spots: &mut Vec<Spot>,
 ) -> Result<(), AllocError>
     requires number { number < length parts.now }
+    requires few { length parts.now ≤ 256 }
     requires even { length places.old.items ≡ length parts.now }
     requires within { slice_index_or places.old.items number 0 < length (slice_index_or parts.now number []) }
     ensures places { places.new.items ≡ slice_set places.old.items number (suc (slice_index_or places.old.items number 0)) }
@@ -86,13 +90,13 @@ fn take(
     places[number] = place + 1;
     let going = Going {
         clients: part.going(place),
-        share: number,
+        share: number as u8,
     };
     add(
         spots,
         Spot {
-            part: number,
             place,
+            part: number as u8,
             going,
         },
     )?;
@@ -111,6 +115,7 @@ fn merged(
     requires level { IsSomeLevel program.now front.now level.now.standings }
     requires parts { AreParts program.now front.now level.now.standings parts.items }
     requires some { 0 < length parts.items }
+    requires few { length parts.items ≤ 256 }
     ensures next { IfOk result (λ next. IsNextOf program.now front.now level.now.standings next.standings) }
     ensures going { IfOk result (λ next. AreGoing program.now (length parts.items) next.standings next.going) }
     ensures limit { ¬ IsErrOf result OutcomesFault.Limit }
@@ -138,6 +143,7 @@ pub(crate) fn next_of(
     requires level { IsSomeLevel program.now front.now level.now.standings }
     requires parts { AreParts program.now front.now level.now.standings parts.items }
     requires some { 0 < length parts.items }
+    requires few { length parts.items ≤ 256 }
     ensures next { IfOk result (λ next. IsNextOf program.now front.now level.now.standings next.standings) }
     ensures going { IfOk result (λ next. AreGoing program.now (length parts.items) next.standings next.going) }
     ensures small { IfOk result (λ next. length next.standings ≤ room) }

@@ -14,13 +14,14 @@ use crate::merging::next_of;
 use crate::part::Part;
 use crate::share::Share;
 use crate::table::Spare;
+use crate::threads::side_by_side;
 use qs_objects::Ticket;
 use qs_outcomes::OutcomesFault;
 use qs_program::Program;
 use qs_standings::Last;
 use std::alloc::{AllocError, Global};
+use std::mem;
 use std::thread::Threads;
-use std::{mem, thread};
 
 // A share by its number, and memory for what is found.
 #[derive(Drop)]
@@ -110,7 +111,7 @@ fn led_parts<R: Threads + Sync>(
             × AreGoing program.now count level.now.standings level.now.going × (0 < count) × (count ≤ 256) }
         ensures { IsPartLed program.entry.now front.entry.now level.entry.now.standings room job.number count result }
     { led_part(alloc, program, last, starts, front, level, count, room, job) };
-    thread::map_vec(rt, jobs, &lead)
+    side_by_side(rt, jobs, &lead)
 }
 
 // Takes the result that a thread came to out of a list. What is behind it stays.

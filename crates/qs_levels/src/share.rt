@@ -31,16 +31,17 @@ fn weight(client: u8) -> usize
 }
 
 /// In which share, of so many, a standing is whose clients have begun so many blocks.
-pub(crate) fn share_of(begun: &[u8], count: usize) -> usize
-    requires few { length begun.now ≤ most_clients }
+pub(crate) fn share_of(begun: &[u8], count: usize) -> u8
+    requires clients { length begun.now ≤ most_clients }
     requires some { 0 < count }
+    requires few { count ≤ 256 }
     ensures share { result ≡ weighted weight (length begun.now) (begun_counts begun.now) % count }
 {
     let mut mark = 0;
     for client in 0..begun.len() {
         mark += usize::from(begun[client]) * weight(client as u8);
     }
-    mark % count
+    (mark % count) as u8
 }
 
 // Whose next blocks lead from a share to this one, client c in bit c.
@@ -93,5 +94,5 @@ pub(crate) fn taken(
 {
     program.keeps_sound();
     let going = level.going(place);
-    going.clients & masks[going.share]
+    going.clients & masks[usize::from(going.share)]
 }

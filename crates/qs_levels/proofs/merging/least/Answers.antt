@@ -14,7 +14,7 @@ loop-number-preserved c =
     let first =
     c.lead_from.ensures.first
     ∙ (ap (λ fs. first_lead (drop (slice_index_or places number 0) fs)) part ∙ ap first_lead (sym (rests_at places parts number c.requires.even c.loop-number-test.true))) in
-    least_on (rests_of places parts) number c.loop-number.best c.better-best.result c.loop-number.invariant (subst (λ l. IsBetter c.loop-number.best number l c.better-best.result) first c.better-best.ensures.better)
+    least_on (rests_of places parts) number c.loop-number.best c.improve.new.best c.loop-number.invariant (subst (λ l. IsBetter c.loop-number.best number l c.improve.new.best) first c.improve.ensures.better)
 
 pub returns-in-Some : goal.returns-in-Some
 returns-in-Some c = record {

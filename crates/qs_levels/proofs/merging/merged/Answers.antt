@@ -1,4 +1,4 @@
-use Rattle.std.proofs.Common.{◌≡◌, ◌<◌, ◌∙◌, ◌∷◌, [], ◌++◌, None, Some, ap, arith, length, replicate, slice_index_or, subst, suc, sym}
+use Rattle.std.proofs.Common.{◌≡◌, ◌<◌, ◌≤◌, ◌∙◌, ◌∷◌, [], ◌++◌, None, Some, ap, arith, length, replicate, slice_index_or, subst, suc, sym}
 use Rattle.std.proofs.lemmas.List.{length-replicate, length-set}
 use Rattle.std.specs.List.{AllByRecursion}
 use Rattle.std.specs.Prelude.{slice_set}
@@ -48,6 +48,7 @@ take-requires c =
     let k = c.in-Some.number in
     record {
       number = subst (λ ps. k < length ps) (sym same) next.number;
+      few = subst (λ ps. length ps ≤ 256) (sym same) c.requires.few;
       even = c.loop-number.invariant.even ∙ sym (ap length same);
       within = subst (λ ps. slice_index_or places k 0 < length (slice_index_or ps k [])) (sym same) next.within;
     }

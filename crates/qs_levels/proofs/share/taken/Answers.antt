@@ -1,8 +1,8 @@
-use Rattle.std.proofs.Common.{◌<◌, ◌%◌, arith, slice_index_or, subst, sym}
+use Rattle.std.proofs.Common.{◌<◌, ◌%◌, arith, bit_and, slice_index_or, subst, sym}
 use Rattle.qs_meaning.proofs.Each.{zip_at}
 use Rattle.qs_standings.specs.Standings.{configuration_in}
 use Rattle.qs_levels.specs.Founds.{no_standing}
-use Rattle.qs_levels.specs.Shares.{IsGoing, mark_of}
+use Rattle.qs_levels.specs.Shares.{AreTaken, IsGoing, mark_of}
 use Rattle.qs_levels.specs.declared.level.Going.{Going}
 use Rattle.qs_levels.proofs.Masks.{are_taken}
 use Rattle.qs_levels.proofs.share.taken.Goals as goal
@@ -15,18 +15,22 @@ going_there c =
     subst (IsGoing c.args.program.now c.args.share.count (slice_index_or c.args.level.now.standings c.args.place no_standing)) (sym (c.going-going.ensures.going none))
     (zip_at (IsGoing c.args.program.now c.args.share.count) c.args.level.now.standings c.args.level.now.going c.args.place no_standing none c.requires.going c.requires.within)
 
-pub bounds-masks-going : goal.bounds-masks-going
-bounds-masks-going c =
-    let going = going_there (goal.at.bounds-masks-going c).After-going-going in
+pub bounds-masks-from : goal.bounds-masks-from
+bounds-masks-from c =
+    let going = going_there (goal.at.bounds-masks-from c).After-going-going in
     let share = going.share in
     let mark = mark_of c.args.program.now (configuration_in (slice_index_or c.args.level.now.standings c.args.place no_standing)).begun in
     let some = c.requires.some in
     let under : mark % c.args.share.count < c.args.share.count = omega (arith, some) in
     let long = c.requires.masks.long in
-    omega (arith, share, under, long)
+    let same = c.from.ensures in
+    omega (arith, share, under, long, same)
 
 pub returns : goal.returns
 returns c = record {
-  taken = are_taken c.args.program.now c.keeps_sound.ensures.sound c.args.share.number c.args.share.count (slice_index_or c.args.level.now.standings c.args.place no_standing) c.going-going.result c.args.masks.now
-      c.requires.some (going_there (goal.at.returns c).After-going-going) c.requires.masks;
+  taken = subst (λ k. AreTaken c.args.program.now c.args.share.number c.args.share.count (slice_index_or c.args.level.now.standings c.args.place no_standing)
+      (bit_and c.going-going.result.clients (slice_index_or c.args.masks.now k 0)))
+      (sym c.from.ensures)
+      (are_taken c.args.program.now c.keeps_sound.ensures.sound c.args.share.number c.args.share.count (slice_index_or c.args.level.now.standings c.args.place no_standing) c.going-going.result c.args.masks.now
+      c.requires.some (going_there (goal.at.returns c).After-going-going) c.requires.masks);
 }
