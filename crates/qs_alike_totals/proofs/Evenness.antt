@@ -1,19 +1,23 @@
 -- Where alike clients change places, those who may be next change places, too. Along all orders that is whoever has a
--- block left. Along reduced orders it is so where those who go on draw all others that have a block left: then they are
--- part of each set that nobody disturbs, and those who go on after the change are such a set but for the change.
-use Rattle.std.proofs.Common.{◌≡◌, ℕ, Bool, true, false, true≢false, ◌&&◌, nat_lt, length, drop, refl, sym, ap, ap₂, ◌∙◌, subst, arith, inl, inr}
-use Rattle.std.proofs.lemmas.Bool.{cases_Bool}
+-- block left. Along reduced orders it is so where those who go on are the only smallest set that nobody disturbs: those
+-- who go on after the change are such a set but for the change, and no larger.
+use Rattle.std.proofs.Common.{◌≡◌, ◌<◌, ◌≤◌, ◌+◌, ℕ, zero, suc, Bool, true, false, true≢false, nat_lt, length, drop, refl, sym, ap, ap₂, ◌∙◌, subst, arith, inl, inr, ⊎_elim}
+use Rattle.std.proofs.lemmas.Bool.{cases_Bool, cases_lt}
 use Rattle.std.specs.List.{list_any}
 use Rattle.std.specs.Prelude.{slice_index_or}
-use Rattle.qs_objects.proofs.Choices.{and_cases}
 use Rattle.qs_program.specs.Program.{BlockShape, ProgramShape, block_at, blocks_of, client_at, no_block}
 use Rattle.qs_program.specs.Sound.{is_in}
-use Rattle.qs_meaning.specs.Reduced.{Clients, Counts, IsUndisturbed, block_reserves, goes_on, has_block_left, still_reserves}
-use Rattle.qs_meaning.proofs.Groups.{both_true, some_go_on}
+use Rattle.qs_meaning.specs.Reduced.{Clients, Counts, IsUndisturbed, block_reserves, goes_on, has_block_left, many_below, size_of_set, still_reserves}
+use Rattle.qs_meaning.proofs.Each.{each_map}
+use Rattle.qs_meaning.proofs.Groups.{some_go_on}
+use Rattle.qs_standings.specs.Lists.{HasOne}
+use Rattle.qs_standings.proofs.Pigeonhole.{at_most}
+use Rattle.qs_alike.specs.AlikeCounts.{CountsThose}
 use Rattle.qs_alike.specs.Changes.{AreClasses, Change, Classes, IsChange}
 use Rattle.qs_alike.proofs.Adding.{undone, undone_is}
-use Rattle.qs_alike_totals.specs.Drawing.{AreDrawn}
-use Rattle.qs_alike_totals.proofs.LeastSets.{no_less}
+use Rattle.qs_alike.proofs.Shares.{those_more, those_none, those_skip}
+use Rattle.qs_alike_totals.specs.Choosing.{IsOnlySmallest}
+use Rattle.qs_alike_totals.proofs.LeastSets.{least_size, no_less}
 
 -- counts, and the same by the new numbers of a change
 module _ (p : ProgramShape) (k : Classes) (are : AreClasses p k) (x : Change) (is : IsChange k x) (begun later : Counts)
@@ -42,19 +46,38 @@ module _ (p : ProgramShape) (k : Classes) (are : AreClasses p k) (x : Change) (i
         ∙ undisturbed.apart (x.new c) (x.new d) h member out (subst (λ (b : BlockShape). is_in b.reserved h ≡ true) (sym (block_there c)) reserved);
   }
 
--- of two sets that nobody disturbs nobody disturbs what is in both
-in_both : (p : ProgramShape) (begun : Counts) (a b : Clients) → IsUndisturbed p begun a → IsUndisturbed p begun b → IsUndisturbed p begun (λ c. a c && b c)
-in_both p begun a b one other = record {
-  left = λ c member. one.left c (and_cases (a c) (b c) member).0;
-  apart = λ c d h member out reserved. (let two = and_cases (a c) (b c) member in elim (cases_Bool (a d)) [
-    | inl here ↦ other.apart c d h two.1 (second (a d) (b d) here out) reserved
-    | inr away ↦ one.apart c d h two.0 away reserved
-  ]);
-}
+-- ---- a change leaves a set as large
+
+those : (n : ℕ) (set : Clients) → CountsThose (λ c. set c ≡ true) n (many_below n set)
+those zero set = those_none (λ c. set c ≡ true) 0 (λ c less is. omega (arith, less))
+those (suc n) set = by_case (set n) refl (those n set)
   where
-    second : (u v : Bool) → u ≡ true → (u && v) ≡ false → v ≡ false
-    second true v e f = f
-    second false v e f = absurd (true≢false (sym e))
+    by_case : (b : Bool) → set n ≡ b → CountsThose (λ c. set c ≡ true) n (many_below n set) → CountsThose (λ c. set c ≡ true) (suc n) (many_below (suc n) set)
+    by_case true e before =
+        let more = those_more (λ c. set c ≡ true) n (many_below n set) before e in
+        rw e (subst (λ m. CountsThose (λ c. set c ≡ true) m (suc (many_below n set))) (let z : n + 1 ≡ suc n = omega arith in z)
+        (subst (CountsThose (λ c. set c ≡ true) (n + 1)) (let z : many_below n set + 1 ≡ suc (many_below n set) = omega arith in z) more))
+    by_case false e before =
+        rw e (subst (λ m. CountsThose (λ c. set c ≡ true) m (many_below n set)) (let z : n + 1 ≡ suc n = omega arith in z)
+        (those_skip (λ c. set c ≡ true) n (many_below n set) before (λ is. true≢false (sym is ∙ e))))
+
+module _ (p : ProgramShape) (k : Classes) (are : AreClasses p k) (x : Change) (is : IsChange k x) where
+  -- a client stays one of the program's
+  stays_in : (c : ℕ) → c < length p.clients → x.new c < length p.clients
+  stays_in c less =
+      ⊎_elim (λ (under : x.new c < length p.clients). under)
+      (λ (past : length p.clients ≤ x.new c).
+      absurd (let e : x.new c ≡ c = are.alone (x.new c) c past (is.alike c) in omega (arith, less, past, e)))
+      (cases_lt (x.new c) (length p.clients))
+
+  pub no_larger : (set : Clients) → size_of_set p (λ c. set (x.new c)) ≤ size_of_set p set
+  no_larger set =
+      let (cs, are_cs, many) = those (length p.clients) (λ c. set (x.new c)) in
+      let (ds, are_ds, all) = those (length p.clients) set in
+      let most : length cs ≤ length ds =
+      at_most (λ (c d : ℕ). d ≡ x.new c) ◌≡◌ (λ c d e f g. sym (is.there c) ∙ (ap x.old (sym f ∙ g) ∙ is.there d)) cs ds are_cs.once
+      (each_map {Q = λ c. HasOne (λ d. d ≡ x.new c) ds} (λ c (w : (c < length p.clients) × (set (x.new c) ≡ true)). are_ds.complete (x.new c) (stays_in c w.0) w.1) cs are_cs.sound) in
+      omega (arith, most, many, all)
 
 same_truth : (a b : Bool) → (a ≡ true → b ≡ true) → (b ≡ true → a ≡ true) → a ≡ b
 same_truth true true f g = refl
@@ -63,7 +86,7 @@ same_truth false true f g = absurd (true≢false (sym (g refl)))
 same_truth false false f g = refl
 
 module _ (p : ProgramShape) (k : Classes) (are : AreClasses p k) (x : Change) (is : IsChange k x) (begun later : Counts)
-    (same : (c : ℕ) → later (x.new c) ≡ begun c) (drawn : AreDrawn p begun (goes_on p begun)) where
+    (same : (c : ℕ) → later (x.new c) ≡ begun c) (only : IsOnlySmallest p begun) where
   abbrev now : Clients
   now = goes_on p begun
 
@@ -77,40 +100,35 @@ module _ (p : ProgramShape) (k : Classes) (are : AreClasses p k) (x : Change) (i
   back_undisturbed : IsUndisturbed p begun back
   back_undisturbed = pulled p k are x is begun later same after (some_go_on p later).undisturbed
 
-  -- with a member they have one of those who go on before
-  meets : (m : ℕ) → back m ≡ true → (s : ℕ) × (now s ≡ true) × (back s ≡ true)
-  meets m member = elim (cases_Bool (now m)) [
-    | inl here ↦ (m, here, member)
+  -- those who go on before it, by their new numbers
+  abbrev there : Clients
+  there c = now (x.old c)
+
+  there_undisturbed : IsUndisturbed p later there
+  there_undisturbed =
+      pulled p k are (undone x) (undone_is k x is) later begun (λ m. sym (same (x.old m)) ∙ ap later (is.back m)) now (some_go_on p begun).undisturbed
+
+  -- who goes on after it went on before
+  backward : (c : ℕ) → back c ≡ true → now c ≡ true
+  backward c member = elim (cases_Bool (now c)) [
+    | inl goes ↦ goes
     | inr out ↦
-        let (h, reserved, (d, goes, holds)) = drawn m (back_undisturbed.left m member) out in
-        elim (cases_Bool (back d)) [
-          | inl there ↦ (d, goes, there)
-          | inr away ↦ absurd (true≢false (sym holds ∙ back_undisturbed.apart m d h member away reserved))
-        ]
+        let larger = only back back_undisturbed c member out in
+        let some = (some_go_on p begun).some c (back_undisturbed.left c member) in
+        let least = (least_size p later there there_undisturbed (x.new some.0) (ap now (is.there some.0) ∙ some.1)).1 in
+        let one = no_larger p k are x is after in
+        let other = no_larger p k are (undone x) (undone_is k x is) now in
+        absurd (omega (arith, larger, least, one, other))
   ]
 
-  -- whoever goes on before has a new number that goes on after
+  -- and the other way round
   onward : (c : ℕ) → now c ≡ true → back c ≡ true
   onward c goes =
       let left = (some_go_on p begun).undisturbed.left c goes in
       let n = same c in
       let many = many_there p k are x is begun later same c in
       let some = (some_go_on p later).some (x.new c) (omega (arith, left, n, many)) in
-      let met = meets (x.old some.0) (subst (λ m. after m ≡ true) (sym (is.back some.0)) some.1) in
-      (and_cases (now c) (back c)
-      (no_less p begun (λ m. now m && back m) (in_both p begun now back (some_go_on p begun).undisturbed back_undisturbed) met.0
-      (both_true (now met.0) (back met.0) met.1 met.2) (λ d both. (and_cases (now d) (back d) both).0) c goes)).1
-
-  -- and back
-  backward : (c : ℕ) → back c ≡ true → now c ≡ true
-  backward c goes =
-      let some = (some_go_on p begun).some c (back_undisturbed.left c goes) in
-      let there : (d : ℕ) → now (x.old (x.new d)) ≡ now d = λ d. ap now (is.there d) in
-      sym (there c)
-      ∙ no_less p later (λ m. now (x.old m))
-      (pulled p k are (undone x) (undone_is k x is) later begun (λ m. sym (same (x.old m)) ∙ ap later (is.back m)) now (some_go_on p begun).undisturbed)
-      (x.new some.0) (there some.0 ∙ some.1)
-      (λ d member. subst (λ m. after m ≡ true) (is.back d) (onward (x.old d) member)) (x.new c) goes
+      no_less p begun back back_undisturbed (x.old some.0) (subst (λ m. after m ≡ true) (sym (is.back some.0)) some.1) backward c goes
 
   pub goes_even : (c : ℕ) → goes_on p later (x.new c) ≡ goes_on p begun c
   goes_even c = same_truth (after (x.new c)) (now c) (backward c) (onward c)

@@ -31,7 +31,7 @@ many_more (suc n) a b h = by_case (a n) (b n) refl refl (many_more n a b h)
     by_case false false e f m = rw (e, f) m
 
 -- a part that has as many is all
-fills : (n : ℕ) (a b : ℕ → Bool) → ((i : ℕ) → a i ≡ true → b i ≡ true) → many_below n b ≤ many_below n a → (i : ℕ) → i < n → b i ≡ true → a i ≡ true
+pub fills : (n : ℕ) (a b : ℕ → Bool) → ((i : ℕ) → a i ≡ true → b i ≡ true) → many_below n b ≤ many_below n a → (i : ℕ) → i < n → b i ≡ true → a i ≡ true
 fills zero a b h most i less is = absurd (omega (arith, less))
 fills (suc n) a b h most i less is =
     ⊎_elim
@@ -156,6 +156,15 @@ module _ (p : ProgramShape) (begun : Counts) where
           let o : Outcome (first_smallest p begun (suc k)) =
           subst (λ x. Outcome (if x then smaller p (first_smallest p begun k) (group_of p begun k) else first_smallest p begun k)) (sym e) (outcome b e before) in
           record { some = o.0; most = o.1 }
+
+  -- those who go on are no more than a set that nobody disturbs, if it has a member
+  pub least_size : (set : Clients) → IsUndisturbed p begun set → (c : ℕ) → set c ≡ true
+      → (0 < size_of_set p (goes_on p begun)) × (size_of_set p (goes_on p begun) ≤ size_of_set p set)
+  least_size set is c member =
+      let left = is.left c member in
+      let least = no_more n c (left_in p begun c left) left in
+      let more = many_more n (group_of p begun c) set (grown_within set is c member n) in
+      let some = least.some in let most = least.most in (some, let e : size_of_set p (goes_on p begun) ≤ size_of_set p set = omega (arith, most, more) in e)
 
   -- a part of those who go on that nobody disturbs is all of them, if it has a member
   pub no_less : (set : Clients) → IsUndisturbed p begun set → (c : ℕ) → set c ≡ true → ((d : ℕ) → set d ≡ true → goes_on p begun d ≡ true)

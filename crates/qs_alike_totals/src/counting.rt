@@ -11,7 +11,7 @@ ghost use Rattle.qs_alike.specs.Texts.{classes_in};
 ghost use Rattle.qs_alike_totals.specs.Counting.{IsAdded, IsCounting, IsEven, IsGrownBy};
 ghost use Rattle.qs_alike_totals.specs.Totals.{HasInAll};
 
-use crate::drawing::are_drawn;
+use crate::choosing::is_only_smallest;
 use crate::followed::{Orders, is_next};
 use indexmap::IndexSet;
 use qs_alike::{Classes, arrange, classes_of, configurations_for};
@@ -50,7 +50,7 @@ fn is_even(
     ensures even { result ≡ true → IsEven orders program.now (classes_in classes.now) (configuration_in standing.now) }
 {
     match orders {
-        Orders::Reduced => are_drawn(program, last, standing.begun(), goes),
+        Orders::Reduced => is_only_smallest(program, last, standing.begun(), goes),
         Orders::All => true,
     }
 }

@@ -5,8 +5,8 @@
 //! ```
 #![tactic(auto)]
 
+mod choosing;
 mod counting;
-mod drawing;
 mod followed;
 
 pub use counting::configurations_in_all;
