@@ -3,7 +3,7 @@ use mathlib.Core.Logic.{⊎_elim}
 use denote.Param.Members.{Shared}
 use Rattle.std.proofs.Common.{◌≡◌, ◌++◌, ◌-◌, ◌+◌, List, ap, arith, drop, length, length-append, refl, slice_index_or, subst, sym, take, ℕ, ◌∙◌}
 use Rattle.std.proofs.lemmas.Bool.{cases_lt}
-use Rattle.std.proofs.lemmas.List.{drop-append-le, get_or-append_right, get_or-drop, get_or-take, get_or_append_left, length-drop, length-take, take-append-drop}
+use Rattle.std.proofs.lemmas.List.{get_or-append_right, get_or-drop, get_or-take, get_or_append_left, length-drop, length-take, take-append-drop}
 use Rattle.std.specs.Fn.{FnReturns}
 use Rattle.std.specs.Fork.{AcceptsJobs, GivesJob}
 use Rattle.std.specs.Fork.Halves.{GivesFor}

@@ -6,3 +6,4 @@ pub mod Masks
 pub mod Merged
 pub mod Crossing
 pub mod Jobs
+pub mod GoingAgain

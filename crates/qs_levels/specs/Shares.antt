@@ -1,9 +1,9 @@
 -- Which configurations a thread leads to. What all blocks count for that the clients have begun, by the remainder of a
 -- division, says whose share a configuration is in; so each is in exactly one.
-use Rattle.std.specs.Prelude.{◌≡◌, ◌<◌, ◌+◌, ◌*◌, ◌/◌, ◌%◌, ◌==◌, ◌&&◌, ℕ, Bool, List, length, slice_index_or}
+use Rattle.std.specs.Prelude.{◌≡◌, ◌<◌, ◌+◌, ◌*◌, ◌/◌, ◌%◌, ◌==◌, ◌&&◌, ℕ, suc, Bool, List, length, slice_index_or}
 use Rattle.std.specs.List.{AllZip}
 use Rattle.qs_program.specs.Limits.{most_clients}
-use Rattle.qs_program.specs.Program.{ProgramShape}
+use Rattle.qs_program.specs.Program.{ProgramShape, block_at, blocks_of}
 use Rattle.qs_meaning.specs.Reduced.{Counts, goes_on}
 use Rattle.qs_going.specs.Going.{in_byte}
 use Rattle.qs_standings.specs.Standings.{StandingShape, configuration_in}
@@ -33,6 +33,11 @@ pub record AreMasks (number count : ℕ) (masks : List ℕ) : Type 0 where
   pub long : length masks ≡ count
   pub each : (r c : ℕ) → r < count → c < most_clients
       → in_byte (slice_index_or masks r 0) c ≡ ((r + weight c) % count == number)
+
+-- a client has a block left behind its next one that reserves the same objects
+pub record ReservesAgain (p : ProgramShape) (begun : Counts) (c : ℕ) : Type 0 where
+  pub left : suc (begun c) < blocks_of p c
+  pub same : (block_at p c (begun c)).reserved ≡ (block_at p c (suc (begun c))).reserved
 
 -- who goes on from a standing, and in which share of so many it is
 pub record IsGoing (p : ProgramShape) (count : ℕ) (s : StandingShape) (g : Going) : Type 0 where

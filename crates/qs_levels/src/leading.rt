@@ -1,12 +1,13 @@
 //! A level is led on: to where the next blocks of those who go on lead, as far as this is in a share.
 
-ghost use Rattle.std.specs.Prelude.{◌≡◌, ◌<◌, ◌≤◌, IfOk, OnOk, IsErrOf, length, slice_index_or};
+ghost use Rattle.std.specs.Prelude.{◌≡◌, ◌<◌, ◌≤◌, true, IfOk, OnOk, IsErrOf, length, slice_index_or};
 ghost use Rattle.std.specs.List.{AllByRecursion};
 ghost use Rattle.qs_outcomes.specs.LeastOrders.{AreSorted};
-ghost use Rattle.qs_going.specs.Going.{AreLast};
+ghost use Rattle.qs_meaning.specs.Reduced.{goes_on};
+ghost use Rattle.qs_going.specs.Going.{AreLast, in_byte};
 ghost use Rattle.qs_standings.specs.Rows.{AreStarts, drafted};
-ghost use Rattle.qs_standings.specs.Standings.{GoesOn, IsStanding, row_of};
-ghost use Rattle.qs_levels.specs.Shares.{AreGoing, AreMasks, AreTaken};
+ghost use Rattle.qs_standings.specs.Standings.{GoesOn, HasNext, IsNext, IsStanding, configuration_in, row_of};
+ghost use Rattle.qs_levels.specs.Shares.{AreGoing, AreMasks, AreTaken, ReservesAgain};
 ghost use Rattle.qs_levels.specs.Founds.{no_standing};
 ghost use Rattle.qs_level_laws.specs.Onward.{HasMoreOnward};
 ghost use Rattle.qs_levels.specs.Leads.{AreEven, AreKnown, IsLedOn, IsLedTooFar, IsLedUpTo, IsOverfull, IsPartOf, TableShape, tabled};
@@ -21,6 +22,44 @@ use qs_program::Program;
 use qs_standings::{Last, Scratch, Standing, was_seen};
 use std::alloc::Global;
 
+// Whether a client has a block left behind its next one that reserves the same objects.
+fn reserves_again(program: &Program, front: &[Ticket], standing: &Standing, client: u8) -> bool
+    requires client { client < length program.now.clients }
+    requires standing { IsStanding program.now front.now standing.now }
+    requires left { HasNext program.now standing.now client }
+    ensures again { result ≡ true → ReservesAgain program.now (configuration_in standing.now).begun client }
+{
+    program.keeps_sound();
+    let index = standing.begun()[usize::from(client)];
+    usize::from(index) + 1 < program.blocks_of(client)
+        && program.block(client, index).reserved() == program.block(client, index + 1).reserved()
+}
+
+// Who goes on where a client's next block has led: those who went on before it, where the block behind it reserves the
+// same objects. So who goes on is seldom found anew.
+fn goes_on_next(
+    program: &Program,
+    last: &[Last],
+    front: &[Ticket],
+    standing: &Standing,
+    going: u8,
+    client: u8,
+    next: &Standing,
+) -> u8
+    requires last { AreLast program.now last.now }
+    requires client { client < length program.now.clients }
+    requires standing { IsStanding program.now front.now standing.now }
+    requires going { in_byte going ≡ goes_on program.now (configuration_in standing.now).begun }
+    requires goes { GoesOn program.now standing.now client }
+    requires next { IsNext program.now front.now standing.now client next.now }
+    ensures going { in_byte result ≡ goes_on program.now (configuration_in next.now).begun }
+{
+    if reserves_again(program, front, standing, client) {
+        return going;
+    }
+    next.goes_on(program, last, front)
+}
+
 // Adds where the next block of a client who goes on leads, where its row is not in the table.
 fn lead_client(
     alloc: Global,
@@ -29,6 +68,7 @@ fn lead_client(
     starts: &[usize],
     front: &[Ticket],
     standing: &Standing,
+    going: u8,
     lead: Lead,
     room: usize,
     next: &mut Standing,
@@ -39,6 +79,7 @@ fn lead_client(
     requires client { lead.client < length program.now.clients }
     requires starts { AreStarts program.now starts.now }
     requires standing { IsStanding program.now front.now standing.now }
+    requires going { in_byte going ≡ goes_on program.now (configuration_in standing.now).begun }
     requires goes { GoesOn program.now standing.now lead.client }
     requires base { drafted scratch.old.base ≡ row_of program.now standing.now }
     requires small { length (tabled table.old).rows ≤ room }
@@ -93,7 +134,7 @@ fn lead_client(
         &mut scratch.left,
         next,
     )?;
-    let going = next.goes_on(program, last, front);
+    let going = goes_on_next(program, last, front, standing, going, client, next);
     add_found(table, Mark { lead, going }, next)?;
     Ok(())
 }
@@ -106,6 +147,7 @@ fn lead_standing(
     starts: &[usize],
     front: &[Ticket],
     standing: &Standing,
+    going: u8,
     place: usize,
     share: Share,
     taken: u8,
@@ -117,6 +159,7 @@ fn lead_standing(
     requires last { AreLast program.now last.now }
     requires starts { AreStarts program.now starts.now }
     requires standing { IsStanding program.now front.now standing.now }
+    requires going { in_byte going ≡ goes_on program.now (configuration_in standing.now).begun }
     requires taken { AreTaken program.now share.number share.count standing.now taken }
     requires small { length (tabled table.old).rows ≤ room }
     requires known { AreKnown program.now (tabled table.old).found }
@@ -138,7 +181,8 @@ fn lead_standing(
                 client,
             };
             lead_client(
-                alloc, program, last, starts, front, standing, lead, room, next, scratch, table,
+                alloc, program, last, starts, front, standing, going, lead, room, next, scratch,
+                table,
             )?;
         }
     }
@@ -186,9 +230,10 @@ fn lead_place(
         return Ok(());
     }
     level.load(alloc, place, standing)?;
+    let going = level.going(place).clients;
     lead_standing(
-        alloc, program, last, starts, front, standing, place, share, taken, room, next, scratch,
-        table,
+        alloc, program, last, starts, front, standing, going, place, share, taken, room, next,
+        scratch, table,
     )
 }
 

@@ -3,7 +3,7 @@ use Rattle.std.proofs.lemmas.Result.{err_from_is_err_and}
 use Rattle.qs_outcomes.specs.declared.fault.OutcomesFault.TheVariants.{Limit}
 use Rattle.qs_outcomes.specs.Search.{IsNoted}
 use Rattle.qs_standings.specs.Rows.{drafted, rows_in}
-use Rattle.qs_standings.specs.Standings.{IsNext, IsStanding, StandingShape, configuration_in, row_of, standing_with_block}
+use Rattle.qs_standings.specs.Standings.{IsNext, StandingShape, configuration_in, row_of, standing_with_block}
 use Rattle.qs_standings.proofs.Lists.{has_map}
 use Rattle.qs_standings.proofs.Stands.{block_next, goes_left}
 use Rattle.qs_meaning.specs.Reduced.{goes_on}
@@ -75,20 +75,21 @@ returns-clause-led c =
       is_next (goal.at.returns-clause-led c).In_ok-run_next,
       inl (
         (λ h. noted.0.1 (has_map (λ r e. row ∙ e) rows h)),
-        c.goes_on-going.result,
+        c.goes_on_next-going.result,
         λ i. record {
           rows = (ap rows_in (ap (λ (m : _). m.keys) c.in_ok-add_found.ensures.rows) ∙ (noted.0.0 ∙ ap (λ r. rows ++ r ∷ []) row)) i;
           found = (c.in_ok-add_found.ensures.added
-              ∙ ap (λ (n : StandingShape). (tabled c.args.table.now).found ++ record { lead = c.args.lead; standing = n; going = c.goes_on-going.result } ∷ []) c.in_ok-put_next.ensures.next) i;
+              ∙ ap (λ (n : StandingShape). (tabled c.args.table.now).found ++ record { lead = c.args.lead; standing = n; going = c.goes_on_next-going.result } ∷ []) c.in_ok-put_next.ensures.next) i;
         },
       ),
     )
 
-pub goes_on-going-requires-clause-standing : goal.goes_on-going-requires-clause-standing
-goes_on-going-requires-clause-standing c =
-    subst (IsStanding c.args.program.now c.args.front.now) (sym c.in_ok-put_next.ensures.next) (is_next (goal.at.goes_on-going-requires-clause-standing c).In_ok-run_next).standing
+pub goes_on_next-going-requires-clause-next : goal.goes_on_next-going-requires-clause-next
+goes_on_next-going-requires-clause-next c =
+    subst (IsNext c.args.program.now c.args.front.now c.args.standing.now c.args.lead.client) (sym c.in_ok-put_next.ensures.next)
+    (is_next (goal.at.goes_on_next-going-requires-clause-next c).In_ok-run_next)
 
 pub returns-clause-known : goal.returns-clause-known
 returns-clause-known c =
     subst (AreKnown c.args.program.now) (sym c.in_ok-add_found.ensures.added)
-    (each_snoc (λ (f : Found). in_byte f.going ≡ goes_on c.args.program.now (configuration_in f.standing).begun) (tabled c.args.table.now).found _ c.requires.known c.goes_on-going.ensures.goes)
+    (each_snoc (λ (f : Found). in_byte f.going ≡ goes_on c.args.program.now (configuration_in f.standing).begun) (tabled c.args.table.now).found _ c.requires.known c.goes_on_next-going.ensures.going)

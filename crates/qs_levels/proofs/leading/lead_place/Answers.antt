@@ -1,10 +1,13 @@
 use Rattle.std.proofs.Common.{◌∙◌, ap, length, slice_index_or, subst, sym}
 use Rattle.qs_going.specs.Going.{in_byte}
-use Rattle.qs_standings.specs.Standings.{IsStanding}
+use Rattle.qs_meaning.specs.Reduced.{goes_on}
+use Rattle.qs_meaning.proofs.Each.{zip_at}
+use Rattle.qs_standings.specs.Standings.{IsStanding, StandingShape, configuration_in}
 use Rattle.qs_going.proofs.GoingSets.{in_none}
 use Rattle.qs_levels.specs.Founds.{no_standing}
 use Rattle.qs_levels.specs.Leads.{tabled}
-use Rattle.qs_levels.specs.Shares.{AreTaken}
+use Rattle.qs_levels.specs.Shares.{AreTaken, IsGoing}
+use Rattle.qs_levels.specs.declared.level.Going.{Going}
 use Rattle.qs_levels.proofs.Keeping.{none_up_to}
 use Rattle.qs_level_laws.proofs.Lists.{each_at}
 use Rattle.qs_levels.proofs.leading.lead_place.Goals as goal
@@ -23,3 +26,12 @@ lead_standing-requires-clause-standing c =
 pub lead_standing-requires-clause-taken : goal.lead_standing-requires-clause-taken
 lead_standing-requires-clause-taken c =
     subst (λ s. AreTaken c.args.program.now c.args.share.number c.args.share.count s c.taken-taken.result) (sym c.in_ok-load.ensures.loaded) c.taken-taken.ensures.taken
+
+pub lead_standing-requires-clause-going : goal.lead_standing-requires-clause-going
+lead_standing-requires-clause-going c =
+    let p = c.args.program.now in
+    let none : Going = record { clients = 0; share = 0 } in
+    let there : IsGoing p c.args.share.count (slice_index_or c.args.level.now.standings c.args.place no_standing) c.going-going.result =
+    subst (IsGoing p c.args.share.count (slice_index_or c.args.level.now.standings c.args.place no_standing)) (sym (c.going-going.ensures.going none))
+    (zip_at (IsGoing p c.args.share.count) c.args.level.now.standings c.args.level.now.going c.args.place no_standing none c.requires.going c.requires.within) in
+    there.clients ∙ ap (λ (s : StandingShape). goes_on p (configuration_in s).begun) (sym c.in_ok-load.ensures.loaded)

@@ -1,0 +1,17 @@
+use Rattle.std.proofs.Common.{ap, sym, ◌∙◌}
+use Rattle.qs_meaning.specs.Configurations.{Configuration}
+use Rattle.qs_meaning.specs.Reduced.{goes_on}
+use Rattle.qs_standings.specs.Standings.{configuration_in}
+use Rattle.qs_standings.proofs.Stands.{goes_left}
+use Rattle.qs_levels.proofs.GoingAgain.{goes_on_again}
+use Rattle.qs_levels.proofs.leading.goes_on_next.Goals as goal
+
+pub reserves_again-requires-clause-left : goal.reserves_again-requires-clause-left
+reserves_again-requires-clause-left c = goes_left c.args.program.now c.args.standing.now c.args.client c.requires.goes
+
+pub returns-then-reserves_again : goal.returns-then-reserves_again
+returns-then-reserves_again c = record {
+  going = c.requires.going
+      ∙ (sym (goes_on_again c.args.program.now (configuration_in c.args.standing.now).begun c.args.client (c.reserves_again.ensures.again c.if-reserves_again.true))
+      ∙ ap (λ (g : Configuration). goes_on c.args.program.now g.begun) (sym c.requires.next.next));
+}
