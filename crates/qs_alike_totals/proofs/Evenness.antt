@@ -1,7 +1,10 @@
 -- Where alike clients change places, those who may be next change places, too. Along all orders that is whoever has a
--- block left. Along reduced orders it is so where those who go on are the only smallest set that nobody disturbs: those
--- who go on after the change are such a set but for the change, and no larger.
-use Rattle.std.proofs.Common.{◌≡◌, ◌<◌, ◌≤◌, ◌+◌, ℕ, zero, suc, Bool, true, false, true≢false, nat_lt, length, drop, refl, sym, ap, ap₂, ◌∙◌, subst, arith, inl, inr, ⊎_elim}
+-- block left. Along reduced orders it is so where those who go on have no rivals: those who go on after the change are, by
+-- their old numbers, a set that nobody disturbs, and no larger. If it is another set, then it shares nobody with those
+-- who went on before, since of two such sets nobody disturbs what is in both. So all of its members are behind a client
+-- whose whole class went on before. Some of this class has that client's number after the change, so there was a set as
+-- small with a client before all of it.
+use Rattle.std.proofs.Common.{◌≡◌, ◌<◌, ◌≤◌, ◌+◌, ℕ, zero, suc, Bool, true, false, true≢false, ◌&&◌, nat_lt, length, drop, refl, sym, ap, ap₂, ◌∙◌, subst, arith, inl, inr, ⊎_elim}
 use Rattle.std.proofs.lemmas.Bool.{cases_Bool, cases_lt}
 use Rattle.std.specs.List.{list_any}
 use Rattle.std.specs.Prelude.{slice_index_or}
@@ -9,15 +12,16 @@ use Rattle.qs_program.specs.Program.{BlockShape, ProgramShape, block_at, blocks_
 use Rattle.qs_program.specs.Sound.{is_in}
 use Rattle.qs_meaning.specs.Reduced.{Clients, Counts, IsUndisturbed, block_reserves, goes_on, has_block_left, many_below, size_of_set, still_reserves}
 use Rattle.qs_meaning.proofs.Each.{each_map}
-use Rattle.qs_meaning.proofs.Groups.{some_go_on}
+use Rattle.qs_meaning.proofs.Groups.{both_true, left_in, some_go_on}
+use Rattle.qs_objects.proofs.Choices.{and_cases}
 use Rattle.qs_standings.specs.Lists.{HasOne}
 use Rattle.qs_standings.proofs.Pigeonhole.{at_most}
 use Rattle.qs_alike.specs.AlikeCounts.{CountsThose}
 use Rattle.qs_alike.specs.Changes.{AreClasses, Change, Classes, IsChange}
 use Rattle.qs_alike.proofs.Adding.{undone, undone_is}
 use Rattle.qs_alike.proofs.Shares.{those_more, those_none, those_skip}
-use Rattle.qs_alike_totals.specs.Choosing.{IsOnlySmallest}
-use Rattle.qs_alike_totals.proofs.LeastSets.{least_size, no_less}
+use Rattle.qs_alike_totals.specs.Choosing.{HasNoRivals, IsBehind, IsWhole}
+use Rattle.qs_alike_totals.proofs.LeastSets.{comes_first, fills, in_both, least_size, no_less}
 
 -- counts, and the same by the new numbers of a change
 module _ (p : ProgramShape) (k : Classes) (are : AreClasses p k) (x : Change) (is : IsChange k x) (begun later : Counts)
@@ -86,7 +90,7 @@ same_truth false true f g = absurd (true≢false (sym (g refl)))
 same_truth false false f g = refl
 
 module _ (p : ProgramShape) (k : Classes) (are : AreClasses p k) (x : Change) (is : IsChange k x) (begun later : Counts)
-    (same : (c : ℕ) → later (x.new c) ≡ begun c) (only : IsOnlySmallest p begun) where
+    (same : (c : ℕ) → later (x.new c) ≡ begun c) (none : HasNoRivals p k begun) where
   abbrev now : Clients
   now = goes_on p begun
 
@@ -108,17 +112,61 @@ module _ (p : ProgramShape) (k : Classes) (are : AreClasses p k) (x : Change) (i
   there_undisturbed =
       pulled p k are (undone x) (undone_is k x is) later begun (λ m. sym (same (x.old m)) ∙ ap later (is.back m)) now (some_go_on p begun).undisturbed
 
+  -- neither is larger than the other
+  back_no_larger : size_of_set p back ≤ size_of_set p after
+  back_no_larger = no_larger p k are x is after
+
+  there_no_larger : size_of_set p there ≤ size_of_set p now
+  there_no_larger = no_larger p k are (undone x) (undone_is k x is) now
+
+  -- somebody goes on after it who did not before
+  module _ (c : ℕ) (member : back c ≡ true) (out : now c ≡ false) where
+    some : (d : ℕ) × (now d ≡ true)
+    some = (some_go_on p begun).some c (back_undisturbed.left c member)
+
+    after_least : size_of_set p after ≤ size_of_set p there
+    after_least = (least_size p later there there_undisturbed (x.new some.0) (ap now (is.there some.0) ∙ some.1)).1
+
+    now_least : size_of_set p now ≤ size_of_set p back
+    now_least = (least_size p begun back back_undisturbed c member).1
+
+    back_least : size_of_set p back ≤ size_of_set p now
+    back_least = (let one = back_no_larger in let two = after_least in let three = there_no_larger in omega (arith, one, two, three))
+
+    -- then nobody did
+    none_before : (e : ℕ) → back e ≡ true → now e ≡ false
+    none_before e in_back = elim (cases_Bool (now e)) [
+      | inl goes ↦
+          let all : (d : ℕ) → now d ≡ true → back d ≡ true =
+          λ d goes_d. (and_cases (now d) (back d)
+          (no_less p begun (λ m. now m && back m) (in_both p begun now back (some_go_on p begun).undisturbed back_undisturbed) e (both_true (now e) (back e) goes in_back)
+          (λ m both. (and_cases (now m) (back m) both).0) d goes_d)).1 in
+          absurd (true≢false (sym (fills (length p.clients) now back all back_least c (left_in p begun c (back_undisturbed.left c member)) member) ∙ out))
+      | inr away ↦ away
+    ]
+
+    behind : (e : ℕ) → back e ≡ true → IsWhole k now none.0 × IsBehind k none.0 e
+    behind e in_back = elim (none.1 e (back_undisturbed.left e in_back) (none_before e in_back)) [
+      | inl in_larger ↦ absurd (let more = in_larger back back_undisturbed in_back in let less = back_least in omega (arith, more, less))
+      | inr is_behind ↦ is_behind
+    ]
+
+    impossible : ⊥
+    impossible =
+        let first = none.0 in
+        let in_there : there first ≡ true = (behind c member).0 (x.old first) (sym (is.alike (x.old first)) ∙ ap k (is.back first)) in
+        let small : size_of_set p there ≤ size_of_set p after =
+        (let one = there_no_larger in let two = now_least in let three = back_no_larger in omega (arith, one, two, three)) in
+        let (s, (low, goes_s)) = comes_first p later there there_undisturbed small first in_there in
+        let high : first < s =
+        (behind (x.old s) (ap after (is.back s) ∙ goes_s)).1 s (sym (ap k (is.back s)) ∙ is.alike (x.old s)) in
+        omega (arith, low, high)
+
   -- who goes on after it went on before
   backward : (c : ℕ) → back c ≡ true → now c ≡ true
   backward c member = elim (cases_Bool (now c)) [
     | inl goes ↦ goes
-    | inr out ↦
-        let larger = only back back_undisturbed c member out in
-        let some = (some_go_on p begun).some c (back_undisturbed.left c member) in
-        let least = (least_size p later there there_undisturbed (x.new some.0) (ap now (is.there some.0) ∙ some.1)).1 in
-        let one = no_larger p k are x is after in
-        let other = no_larger p k are (undone x) (undone_is k x is) now in
-        absurd (omega (arith, larger, least, one, other))
+    | inr out ↦ absurd (impossible c member out)
   ]
 
   -- and the other way round

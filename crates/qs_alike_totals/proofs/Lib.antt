@@ -1,5 +1,5 @@
 pub mod LeastSets
-pub mod Choices
+pub mod Rivals
 pub mod Evenness
 pub mod Steps
 pub mod InAll

@@ -1,26 +1,29 @@
--- Whether those who go on are the only smallest set of clients that nobody disturbs. They draw another client where its
--- next block shares an object with a block that one of them has left: a set with such a client has them all. So all
--- others have to be looked at alone, as if those who go on and those whom they draw had no block left.
+-- Whether the same clients go on whatever alike clients change places. All who go on together are a smallest set that
+-- nobody disturbs. There may be others that are as small, and of these the first one goes on.
 use Rattle.std.specs.Prelude.{◌≡◌, ◌<◌, ◌⊎◌, ℕ, true, false}
-use Rattle.qs_program.specs.Program.{ProgramShape, block_at, blocks_of}
-use Rattle.qs_program.specs.Sound.{is_in}
-use Rattle.qs_meaning.specs.Reduced.{Clients, Counts, IsUndisturbed, goes_on, size_of_set, still_reserves}
+use Rattle.qs_program.specs.Program.{ProgramShape, blocks_of}
+use Rattle.qs_alike.specs.Changes.{Classes}
+use Rattle.qs_meaning.specs.Reduced.{Clients, Counts, IsUndisturbed, goes_on, size_of_set}
 
--- one of the set has a block left that reserves an object
-abbrev pub IsHeldBySome : ProgramShape → Counts → Clients → ℕ → Type 0
-IsHeldBySome p begun set h = (d : ℕ) × (set d ≡ true) × (still_reserves p begun d h ≡ true)
+-- each set that nobody disturbs, and that has the client, is larger than those who go on
+abbrev pub IsInLarger : ProgramShape → Counts → ℕ → Type 0
+IsInLarger p begun c =
+    (set : Clients) → IsUndisturbed p begun set → set c ≡ true → size_of_set p (goes_on p begun) < size_of_set p set
 
-abbrev pub IsDrawn : ProgramShape → Counts → Clients → ℕ → Type 0
-IsDrawn p begun set c =
-    (h : ℕ) × (is_in (block_at p c (begun c)).reserved h ≡ true) × IsHeldBySome p begun set h
+-- all of a client's class are in a set
+abbrev pub IsWhole : Classes → Clients → ℕ → Type 0
+IsWhole k set c = (d : ℕ) → k d ≡ k c → set d ≡ true
 
--- how many blocks count as begun: all of a client that is in the set or drawn by it, and of another as many as are
-abbrev pub IsRest : ProgramShape → Counts → Clients → ℕ → ℕ → Type 0
-IsRest p begun set c rest =
-    ((rest ≡ blocks_of p c) × ((set c ≡ true) ⊎ IsDrawn p begun set c)) ⊎ ((rest ≡ begun c) × (set c ≡ false))
+-- all of a client's class have larger numbers than another client
+abbrev pub IsBehind : Classes → (first c : ℕ) → Type 0
+IsBehind k first c = (d : ℕ) → k d ≡ k c → first < d
 
--- each set that nobody disturbs, and that has somebody who does not go on, is larger than those who go on
-abbrev pub IsOnlySmallest : ProgramShape → Counts → Type 0
-IsOnlySmallest p begun =
-    (set : Clients) → IsUndisturbed p begun set → (c : ℕ) → set c ≡ true → goes_on p begun c ≡ false
-    → size_of_set p (goes_on p begun) < size_of_set p set
+-- A client who has a block left, and does not go on, never goes on in place of those who do: it is in larger sets alone,
+-- or all of its class have larger numbers than one of those who go on with all of its own class.
+abbrev pub IsNoRival : ProgramShape → Classes → Counts → (first c : ℕ) → Type 0
+IsNoRival p k begun first c = IsInLarger p begun c ⊎ (IsWhole k (goes_on p begun) first × IsBehind k first c)
+
+-- those who go on have no rivals
+abbrev pub HasNoRivals : ProgramShape → Classes → Counts → Type 0
+HasNoRivals p k begun =
+    (first : ℕ) × ((c : ℕ) → begun c < blocks_of p c → goes_on p begun c ≡ false → IsNoRival p k begun first c)

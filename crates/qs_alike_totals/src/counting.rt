@@ -11,11 +11,11 @@ ghost use Rattle.qs_alike.specs.Texts.{classes_in};
 ghost use Rattle.qs_alike_totals.specs.Counting.{IsAdded, IsCounting, IsEven, IsGrownBy};
 ghost use Rattle.qs_alike_totals.specs.Totals.{HasInAll};
 
-use crate::choosing::is_only_smallest;
+use crate::choosing::has_no_rivals;
 use crate::followed::{Orders, is_next};
 use indexmap::IndexSet;
-use qs_alike::{Classes, arrange, classes_of, configurations_for};
-use qs_program::Program;
+use qs_alike::{Classes, arrange, classes_apart, classes_of, configurations_for};
+use qs_program::{MOST_CLIENTS, Program};
 use qs_standings::{Last, Row, Standing, insert, last_blocks, placed};
 use std::alloc::{AllocError, Global};
 
@@ -50,7 +50,7 @@ fn is_even(
     ensures even { result ≡ true → IsEven orders program.now (classes_in classes.now) (configuration_in standing.now) }
 {
     match orders {
-        Orders::Reduced => is_only_smallest(program, last, standing.begun(), goes),
+        Orders::Reduced => has_no_rivals(program, classes, last, standing.begun(), goes),
         Orders::All => true,
     }
 }
@@ -149,32 +149,32 @@ fn add(list: &mut Vec<Standing>, standing: Standing) -> Result<(), AllocError>
     Ok(())
 }
 
-/// How many configurations such orders lead to in all. It looks at one of those that differ by a change of alike
-/// clients, and counts all that this one becomes. `None` where it would have to look at more than the limit, or at one
-/// from where it can't tell that alike clients which change places go on alike; along all legal orders they always do.
-/// An error says that memory was refused.
-pub fn configurations_in_all(
+// How many configurations such orders lead to in all, where clients of one class may change places. `None` where the count
+// came to more configurations than are left to look at, of which none are left then, or to one that isn't known to be even.
+fn count_by(
     alloc: Global,
     program: &Program,
+    classes: &Classes,
     orders: Orders,
-    limit: u32,
+    left: &mut u32,
 ) -> Result<Option<usize>, AllocError>
+    requires classes { AreClasses program.now (classes_in classes.now) }
     ensures exact { IfOk result (λ found. IfSome found (HasInAll orders program.now)) }
 {
     program.keeps_sound();
-    let classes = classes_of(program);
+    let limit = *left;
     let last = last_blocks(alloc, program)?;
     let mut seen = IndexSet::new(alloc);
     let mut total = 0;
     let mut stack = Vec::new(alloc);
     let mut first = placed(alloc, program, &[])?;
-    arrange(program, &classes, &mut first);
+    arrange(program, classes, &mut first);
     add(&mut stack, first)?;
     while let Some(standing) = stack.pop() {
         if !visit(
             alloc,
             program,
-            &classes,
+            classes,
             last.as_slice(),
             orders,
             limit,
@@ -183,8 +183,44 @@ pub fn configurations_in_all(
             &mut stack,
             &mut total,
         )? {
+            *left = limit - seen.len().min(limit as usize) as u32;
             return Ok(None);
         }
     }
     Ok(Some(total))
+}
+
+// The first client of each class, client c in bit c.
+fn firsts(classes: &Classes) -> u8 {
+    let mut set = 0;
+    for client in 0..MOST_CLIENTS as u8 {
+        if classes[usize::from(client)] == client {
+            set |= 1 << client;
+        }
+    }
+    set
+}
+
+/// How many configurations such orders lead to in all. It looks at one of those that differ by a change of alike
+/// clients, and counts all that this one becomes. Where it can't tell that alike clients which change places go on alike,
+/// as they always do along all legal orders, it begins again with the first client of each class set apart. `None` where
+/// it would have to look at more than the limit. An error says that memory was refused.
+pub fn configurations_in_all(
+    alloc: Global,
+    program: &Program,
+    orders: Orders,
+    limit: u32,
+) -> Result<Option<usize>, AllocError>
+    ensures exact { IfOk result (λ found. IfSome found (HasInAll orders program.now)) }
+{
+    let mut classes = classes_of(program);
+    let mut left = limit;
+    for _round in 0..MOST_CLIENTS {
+        let found = count_by(alloc, program, &classes, orders, &mut left)?;
+        if found.is_some() || left == 0 {
+            return Ok(found);
+        }
+        classes = classes_apart(program, &classes, firsts(&classes));
+    }
+    Ok(None)
 }

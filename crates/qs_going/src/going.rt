@@ -4,7 +4,7 @@ ghost use Rattle.std.specs.Prelude.{◌≡◌, ◌<◌, ℕ, IfOk, if◌then◌e
 ghost use Rattle.std.specs.List.{AllByRecursion, list_any};
 ghost use Rattle.qs_program.specs.Limits.{most_objects};
 ghost use Rattle.qs_program.specs.Sound.{is_in};
-ghost use Rattle.qs_meaning.specs.Reduced.{goes_on, group_of, many_below, smaller, still_reserves, wider};
+ghost use Rattle.qs_meaning.specs.Reduced.{goes_on, group_of, size_of_set, smaller, still_reserves, wider};
 ghost use Rattle.qs_going.specs.Going.{AreComers, AreLast, IsGrown, IsLast, begun_counts, in_byte};
 
 use qs_program::{MOST_CLIENTS, MOST_OBJECTS, Program};
@@ -157,9 +157,9 @@ fn group(program: &Program, begun: &[u8], rows: &[u8; MOST_CLIENTS], client: u8)
     set
 }
 
-// How many clients a set has.
-fn size(program: &Program, set: u8) -> u8
-    ensures size { result ≡ many_below (length program.now.clients) (in_byte set) }
+/// How many clients a set has.
+pub fn size(program: &Program, set: u8) -> u8
+    ensures size { result ≡ size_of_set program.now (in_byte set) }
 {
     program.keeps_sound();
     let mut count = 0;
@@ -235,4 +235,20 @@ pub fn goes_on(program: &Program, last: &[Last], begun: &[u8]) -> u8
         }
     }
     best
+}
+
+/// The set that is grown from each client, where so many blocks were begun. It takes no memory.
+pub fn groups(program: &Program, last: &[Last], begun: &[u8]) -> [u8; MOST_CLIENTS]
+    requires last { AreLast program.now last.now }
+    requires begun { length begun.now ≡ length program.now.clients }
+    ensures groups { (c : ℕ) → c < length program.now.clients
+        → in_byte (slice_index_or result c 0) ≡ group_of program.now (begun_counts begun.now) c }
+{
+    program.keeps_sound();
+    let rows = all_comers(program, last, begun);
+    let mut sets = [0; MOST_CLIENTS];
+    for client in 0..program.clients() as u8 {
+        sets[usize::from(client)] = group(program, begun, &rows, client);
+    }
+    sets
 }

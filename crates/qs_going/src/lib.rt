@@ -3,4 +3,4 @@
 
 mod going;
 
-pub use going::{Last, goes_on, last_blocks};
+pub use going::{Last, goes_on, groups, last_blocks, size};

@@ -10,41 +10,26 @@ use Rattle.qs_objects.specs.declared.held.Ticket.{Ticket}
 use Rattle.qs_program.specs.Program.{ProgramShape, blocks_of}
 use Rattle.qs_program.specs.Sound.{IsSound}
 use Rattle.qs_meaning.specs.Configurations.{Configuration, HasBlockLeft, OrderOutcome, configuration_after, configuration_from, first_configuration, one_block_on, outcome_in}
-use Rattle.qs_meaning.specs.Serial.{IsLegal, LegalFrom, no_state, zeros}
+use Rattle.qs_meaning.specs.Serial.{IsLegal, LegalFrom}
 use Rattle.qs_meaning.proofs.Each.{each_back, each_join, each_map, each_snoc}
 use Rattle.qs_meaning.proofs.Orders.{legal_on}
 use Rattle.qs_outcomes.specs.Outcomes.{outcome_at}
 use Rattle.qs_standings.specs.Lists.{HasOne, NoTwo}
 use Rattle.qs_standings.specs.Standings.{HasNext, IsFirst, IsOneOn, IsStanding, RowShape, StandingShape, configuration_in, row_of}
-use Rattle.qs_standings.proofs.Lists.{has_back, has_either, has_front, has_map, has_of, has_some, none_of, pairs_join, same_list, two_snoc}
-use Rattle.qs_standings.proofs.RowTells.{same_row, standings_tell}
+use Rattle.qs_standings.proofs.Lists.{has_back, has_either, has_front, has_map, has_of, has_some, pairs_join, two_snoc}
+use Rattle.qs_standings.proofs.RowTells.{standings_tell}
 use Rattle.qs_standings.proofs.Stands.{below_or_past, in_program}
-use Rattle.qs_throughout.specs.Courses.{IsCourseWitnessAfter, NoneMeetsOnTheWay, passed}
+use Rattle.qs_throughout.specs.Courses.{IsCourseWitnessAfter, NoneMeetsOnTheWay}
 use Rattle.qs_throughout.specs.Walked.{IsAbout}
-use Rattle.qs_alike.specs.AlikeOutcomes.{AreUnlike, Becomes, HasMoreUnlike}
+use Rattle.qs_alike.specs.AlikeOutcomes.{AreUnlike, Becomes}
 use Rattle.qs_alike.specs.AlikeSearch.{IsPlaced}
-use Rattle.qs_alike.specs.Arranged.{IsArranged}
-use Rattle.qs_alike.specs.Changes.{AreClasses, Change, Classes, IsChange, changed, changed_order}
-use Rattle.qs_alike.proofs.Arranging.{arranged_once}
-use Rattle.qs_alike.proofs.Exchanging.{becomes_itself, becomes_then}
+use Rattle.qs_alike.specs.Changes.{AreClasses, Classes, changed, changed_order}
+use Rattle.qs_alike.proofs.Exchanging.{becomes_then}
 use Rattle.qs_alike.proofs.Lengths.{equally_long}
 use Rattle.qs_alike.proofs.Orders.{as_many, leads, leads_from, legal_changed}
+use Rattle.qs_alike.proofs.Searched.{become_row}
 use Rattle.qs_throughout_alike.specs.AlikeCourses.{HasAllUnlike, HasNotedUnlike, IsBlind}
-use Rattle.qs_throughout_alike.specs.AlikeWalked.{AreNoted, HasWalked, IsAtWithin, IsGoingOn, IsNew, IsNextNoted, IsOld, IsPlacedFirst, IsPlacedOn, IsTakenIn, IsWalked}
-
--- ---- changes
-
--- two arranged standings of which one becomes the other have one row
-become_row : (p : ProgramShape) (k : Classes) (s t : StandingShape) → IsPlaced p k s → IsPlaced p k t
-    → Becomes k (configuration_in s) (configuration_in t) → row_of p s ≡ row_of p t
-become_row p k s t a b (x, is, e) =
-    let same : changed x (configuration_in s) ≡ configuration_in s =
-    arranged_once k x is (configuration_in s) a.arranged (subst (IsArranged k) e b.arranged) in
-    let there : configuration_in s ≡ configuration_in t = sym same ∙ sym e in
-    same_row p s t
-    (same_list 0 s.begun t.begun (a.standing.begun ∙ sym b.standing.begun) (λ i. ap (λ (g : Configuration). g.begun i) there))
-    (same_list zeros s.locals t.locals (a.standing.locals ∙ sym b.standing.locals) (λ i. ap (λ (g : Configuration). g.locals i) there))
-    (same_list no_state s.states t.states (a.standing.states ∙ sym b.standing.states) (λ i. ap (λ (g : Configuration). g.states i) there))
+use Rattle.qs_throughout_alike.specs.AlikeWalked.{AreNoted, HasWalked, IsAtWithin, IsGoingOn, IsNew, IsNextNoted, IsPlacedFirst, IsPlacedOn, IsTakenIn, IsWalked}
 
 module _ (p : ProgramShape) (k : Classes) where
   unlike_one : (s : StandingShape) → IsPlaced p k s → (ts : List StandingShape) → AllByRecursion (IsPlaced p k) ts

@@ -2,7 +2,7 @@ use Rattle.std.proofs.Common.{ap, subst, sym}
 use Rattle.qs_going.specs.Going.{begun_counts}
 use Rattle.qs_standings.specs.Standings.{configuration_in}
 use Rattle.qs_alike.specs.Texts.{classes_in}
-use Rattle.qs_alike_totals.specs.Choosing.{IsOnlySmallest}
+use Rattle.qs_alike_totals.specs.Choosing.{HasNoRivals}
 use Rattle.qs_alike_totals.specs.Counting.{IsEven}
 use Rattle.qs_alike_totals.proofs.Evenness.{goes_even}
 use Rattle.qs_alike_totals.proofs.counting.is_even.Goals as goal
@@ -12,7 +12,7 @@ returns-in-Reduced c = record {
   even = λ is. (
       let p = c.args.program.now in
       let begun = (configuration_in c.args.standing.now).begun in
-      let only = subst (λ xs. IsOnlySmallest p (begun_counts xs)) c.begun.ensures.begun (c.is_only_smallest.ensures.only is) in
+      let none = subst (λ xs. HasNoRivals p (classes_in c.args.classes.now) (begun_counts xs)) c.begun.ensures.begun (c.has_no_rivals.ensures.none is) in
       subst (λ q. IsEven q p (classes_in c.args.classes.now) (configuration_in c.args.standing.now)) (sym c.in-Reduced.is)
-      (λ x is_x. goes_even p (classes_in c.args.classes.now) c.requires.classes x is_x begun (λ d. begun (x.old d)) (λ d. ap begun (is_x.there d)) only));
+      (λ x is_x. goes_even p (classes_in c.args.classes.now) c.requires.classes x is_x begun (λ d. begun (x.old d)) (λ d. ap begun (is_x.there d)) none));
 }

@@ -1,10 +1,8 @@
-use Rattle.std.proofs.Common.{◌≡◌, ◌<◌, length, arith, Err, ap}
+use Rattle.std.proofs.Common.{◌≡◌, length, arith, Err, ap}
 use Rattle.qs_outcomes.specs.declared.fault.OutcomesFault.TheVariants.{Limit}
 use Rattle.qs_standings.specs.Rows.{rows_in}
-use Rattle.qs_program.specs.Program.{blocks_of}
-use Rattle.qs_standings.specs.Standings.{HasNext}
 use Rattle.qs_alike.specs.Texts.{classes_in}
-use Rattle.qs_throughout_alike.proofs.Walking.{all_small, finds, goes_further, has_many, here_placed, keeps, more_noted, skipped, still_small}
+use Rattle.qs_throughout_alike.proofs.Walking.{finds, goes_further, has_many, here_placed, keeps, more_noted, still_small}
 use Rattle.qs_throughout_alike.proofs.search.take_next.Goals as goal
 
 pub bounds-begun-from : goal.bounds-begun-from
