@@ -4,14 +4,17 @@ ghost use Rattle.std.specs.Prelude.{◌≡◌, ◌<◌, ◌⊎◌, ℕ, true, If
 ghost use Rattle.qs_program.specs.Program.{blocks_of};
 ghost use Rattle.qs_meaning.specs.Reduced.{goes_on, group_of, size_of_set};
 ghost use Rattle.qs_going.specs.Going.{AreLast, begun_counts, in_byte};
+ghost use Rattle.qs_standings.specs.Standings.{IsStanding, configuration_in};
 ghost use Rattle.qs_alike.specs.Changes.{AreClasses};
 ghost use Rattle.qs_alike.specs.Texts.{classes_in};
 ghost use Rattle.qs_alike_totals.specs.Choosing.{HasNoRivals, IsBehind, IsWhole};
+ghost use Rattle.qs_alike_totals.specs.Totals.{IsEven};
 
+use crate::followed::Orders;
 use qs_alike::Classes;
 use qs_going::{groups, size};
 use qs_program::{MOST_CLIENTS, Program};
-use qs_standings::Last;
+use qs_standings::{Last, Standing};
 
 // Whether all of a client's class are in a set.
 fn is_whole(classes: &Classes, set: u8, client: u8) -> bool
@@ -78,9 +81,8 @@ fn is_no_rival(
     }
 }
 
-/// Whether the same clients go on, by their new numbers, whatever alike clients change places. It may say no where they
-/// do.
-pub(crate) fn has_no_rivals(
+// Whether the same clients go on, by their new numbers, whatever alike clients change places. It may say no where they do.
+fn has_no_rivals(
     program: &Program,
     classes: &Classes,
     last: &[Last],
@@ -107,4 +109,26 @@ pub(crate) fn has_no_rivals(
         }
     }
     true
+}
+
+/// Whether alike clients that change places at a standing go on as those did whose places they take. It may say no where
+/// they do. Who goes on along reduced orders is given, client c in bit c.
+pub fn is_even(
+    program: &Program,
+    classes: &Classes,
+    last: &[Last],
+    orders: Orders,
+    goes: u8,
+    standing: &Standing,
+) -> bool
+    requires classes { AreClasses program.now (classes_in classes.now) }
+    requires last { AreLast program.now last.now }
+    requires standing { IsStanding program.now standing.now.order standing.now }
+    requires goes { in_byte goes ≡ goes_on program.now (configuration_in standing.now).begun }
+    ensures even { result ≡ true → IsEven orders program.now (classes_in classes.now) (configuration_in standing.now) }
+{
+    match orders {
+        Orders::Reduced => has_no_rivals(program, classes, last, standing.begun(), goes),
+        Orders::All => true,
+    }
 }

@@ -20,13 +20,7 @@ pub enum Orders {
 }
 
 /// Whether a client's block may be next. Who goes on along reduced orders is given, client c in bit c.
-pub(crate) fn is_next(
-    program: &Program,
-    orders: Orders,
-    goes: u8,
-    standing: &Standing,
-    client: u8,
-) -> bool
+pub fn is_next(program: &Program, orders: Orders, goes: u8, standing: &Standing, client: u8) -> bool
     requires client { client < length program.now.clients }
     requires standing { IsStanding program.now standing.now.order standing.now }
     requires goes { in_byte goes ≡ goes_on program.now (configuration_in standing.now).begun }

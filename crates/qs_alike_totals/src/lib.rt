@@ -9,5 +9,6 @@ mod choosing;
 mod counting;
 mod followed;
 
-pub use counting::configurations_in_all;
-pub use followed::Orders;
+pub use choosing::is_even;
+pub use counting::{Span, configurations_in_all, count_from, first_alone};
+pub use followed::{Orders, is_next};

@@ -7,3 +7,4 @@ pub mod Sought
 pub mod NamedSets
 pub mod AlikeAnswers
 pub mod WithoutWitness
+pub mod WithWitness

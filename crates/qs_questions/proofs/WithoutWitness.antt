@@ -1,7 +1,7 @@
 -- What a search over alike clients and a count over alike clients tell together: where the one found no witness, and the
 -- other how many configurations there are in all, the answer over all configurations is known. Where there are more than
 -- a limit, so many of them and one more are different.
-use Rattle.std.proofs.Common.{◌≡◌, ◌<◌, ℕ, suc, Bool, None, List, [], ◌++◌, take, drop, refl, sym, subst, arith}
+use Rattle.std.proofs.Common.{◌≡◌, ◌<◌, ℕ, suc, Bool, None, List, [], ◌++◌, take, drop, sym, subst, arith}
 use Rattle.std.proofs.lemmas.List.{length-take-le, take-append-drop}
 use Rattle.std.specs.List.{AllByRecursion}
 use Rattle.qs_program.specs.Program.{ProgramShape}
@@ -9,12 +9,12 @@ use Rattle.qs_meaning.specs.Configurations.{OrderOutcome}
 use Rattle.qs_meaning.proofs.Each.{each_front}
 use Rattle.qs_conditions.specs.declared.claim.Quantifier.{Quantifier}
 use Rattle.qs_conditions.specs.declared.claim.Quantifier.TheVariants as q
-use Rattle.qs_outcomes.specs.Answers.{AnswerShape}
-use Rattle.qs_outcomes.specs.Outcomes.{HasConfigurationsAfter, HasMoreThanAfter}
+use Rattle.qs_outcomes.specs.Answers.{AnswerShape, HasNoted}
+use Rattle.qs_outcomes.specs.Outcomes.{HasMoreThanAfter}
 use Rattle.qs_standings.specs.Lists.{NoTwo}
 use Rattle.qs_standings.specs.Standings.{IsStanding, StandingShape, configuration_in}
 use Rattle.qs_standings.proofs.Lists.{pairs_front}
-use Rattle.qs_throughout.specs.Courses.{HasMoreOnTheWayAfter, HasOnTheWayAfter, IsOnTheWayAfter}
+use Rattle.qs_throughout.specs.Courses.{HasMoreOnTheWayAfter, HasNotedOnTheWay, IsOnTheWayAfter}
 use Rattle.qs_alike.specs.Changes.{Classes}
 use Rattle.qs_alike_totals.specs.Totals.{HasInAll}
 use Rattle.qs_questions.specs.AlikeClaims.{IsAlikeAnswerBy, orders_for}
@@ -40,8 +40,8 @@ module _ (ss : List StandingShape) (n : ℕ) where
   first_apart : (R : StandingShape → StandingShape → Type 0) → NoTwo R ss → NoTwo R (take n ss)
   first_apart R apart = pairs_front (λ x y. R x y → ⊥) (take n ss) (drop n ss) (subst (NoTwo R) (sym whole) apart)
 
-cut_reduced : (p : ProgramShape) (count limit : ℕ) → HasConfigurationsAfter p [] count → limit < count → HasMoreThanAfter p [] limit
-cut_reduced p count limit (ss, are, all) less = (
+cut_reduced : (p : ProgramShape) (count limit : ℕ) → HasNoted p [] count → limit < count → HasMoreThanAfter p [] limit
+cut_reduced p count limit (ss, are) less = (
   take (suc limit) ss,
   record {
     count = length-take-le (suc limit) ss (let long = are.count in omega (arith, long, less));
@@ -50,8 +50,8 @@ cut_reduced p count limit (ss, are, all) less = (
   },
 )
 
-cut_all : (p : ProgramShape) (count limit : ℕ) → HasOnTheWayAfter p [] count → limit < count → HasMoreOnTheWayAfter p [] limit
-cut_all p count limit (ss, are, all) less = (
+cut_all : (p : ProgramShape) (count limit : ℕ) → HasNotedOnTheWay p [] count → limit < count → HasMoreOnTheWayAfter p [] limit
+cut_all p count limit (ss, are) less = (
   take (suc limit) ss,
   record {
     count = length-take-le (suc limit) ss (let long = are.count in omega (arith, long, less));
@@ -60,8 +60,9 @@ cut_all p count limit (ss, are, all) less = (
   },
 )
 
-pub has_more : (v : Quantifier) (p : ProgramShape) (asked : OrderOutcome → Bool) (count limit : ℕ)
-    → IsAnswerBy v p [] asked (record { witness = None; configurations = count }) → limit < count → HasMoreFor v p [] limit
-has_more q.Always p asked count limit is less = cut_reduced p count limit (is.none refl).1 less
-has_more q.Some p asked count limit is less = cut_reduced p count limit (is.none refl).1 less
-has_more q.Throughout p asked count limit is less = cut_all p count limit (is.none refl).1 less
+-- more were noted than so many
+pub has_more : (v : Quantifier) (p : ProgramShape) (asked : OrderOutcome → Bool) (a : AnswerShape) (limit : ℕ) → IsAnswerBy v p [] asked a → limit < a.configurations
+    → HasMoreFor v p [] limit
+has_more q.Always p asked a limit is less = cut_reduced p a.configurations limit is.noted less
+has_more q.Some p asked a limit is less = cut_reduced p a.configurations limit is.noted less
+has_more q.Throughout p asked a limit is less = cut_all p a.configurations limit is.noted less

@@ -12,12 +12,14 @@ use Rattle.qs_conditions.specs.declared.condition.Value.{Value}
 use Rattle.qs_conditions.specs.declared.condition.Value.TheVariants.{Number, Variable, Reply}
 use Rattle.qs_conditions.specs.declared.condition.Summand.{Summand}
 use Rattle.qs_conditions.specs.declared.condition.Step.{Step}
-use Rattle.qs_standings.specs.Standings.{StandingShape}
+use Rattle.qs_standings.specs.Standings.{NoneNext, StandingShape}
 use Rattle.qs_outcomes.specs.Answers.{AnswerShape, AreUnmet, NoneMeets}
 use Rattle.qs_outcomes.specs.Outcomes.{outcome_at}
 use Rattle.qs_alike.specs.AlikeOutcomes.{AreUnlike, HasMoreUnlike, IsEnd}
 use Rattle.qs_alike.specs.Changes.{AreClasses, Change, Classes, HaveSameText, IsChange, changed_outcome}
 use Rattle.qs_throughout_alike.specs.AlikeCourses.{IsAlikeCourseAnswer}
+use Rattle.qs_alike_noted.specs.Noted.{HasNotedBy}
+use Rattle.qs_alike_witness.specs.LeastMet.{IsLeastMet}
 use Rattle.qs_alike_totals.specs.declared.followed.Orders.{Orders}
 use Rattle.qs_alike_totals.specs.declared.followed.Orders.TheVariants as o
 use Rattle.qs_questions.specs.Claims.{IsAnswerTo, is_sought}
@@ -86,6 +88,22 @@ orders_for q.Throughout = o.All
 abbrev pub IsAlikeAnswer : Claim → ProgramShape → AnswerShape → Type 0
 IsAlikeAnswer claim p a =
     (k : Classes) × AreClassesFor p claim.condition k × IsAlikeAnswerBy claim.quantifier p k (is_sought claim p) a
+
+-- it is where a witness may be: where no client has a block left, or anywhere where the condition has to hold throughout
+abbrev pub IsAtEnd : Quantifier → ProgramShape → StandingShape → Type 0
+IsAtEnd q.Always p s = NoneNext p s
+IsAtEnd q.Some p s = NoneNext p s
+IsAtEnd q.Throughout p s = Unit {0}
+
+-- The witness is what is asked for, by the least of all orders of so many blocks that are followed, and so many
+-- configurations were noted until it was found.
+pub record IsLeastAnswer (v : Quantifier) (p : ProgramShape) (depth : ℕ) (asked : OrderOutcome → Bool)
+    (a : AnswerShape) : Type 0 where
+  pub standing : StandingShape
+  pub witness : a.witness ≡ Some standing
+  pub least : IsLeastMet (orders_for v) p depth asked standing
+  pub end : IsAtEnd v p standing
+  pub noted : HasNotedBy (orders_for v) p standing.order a.configurations
 
 -- there are more configurations than the limit, of which none is a change of another
 abbrev pub HasMoreAlike : Claim → ProgramShape → (limit : ℕ) → Type 0

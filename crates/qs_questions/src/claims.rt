@@ -6,8 +6,8 @@ ghost use Rattle.qs_meaning.specs.Serial.{IsLegal};
 ghost use Rattle.qs_questions.specs.Claims.{HasMoreFor, IsAnswerTo, is_sought};
 ghost use Rattle.qs_serial.specs.NamedOrders.{order_of};
 
+use crate::among::answer_among;
 use crate::asking::holds;
-use crate::unmet::unmet_in_all;
 use qs_conditions::{Claim, Quantifier};
 use qs_outcomes::{Answer, OutcomesFault, Question, Standing, Watcher, ask_watched};
 use qs_program::Program;
@@ -76,21 +76,20 @@ fn answer_by_alike<W: Watcher>(
     ensures limit { IsErrOf result OutcomesFault.Limit → HasMoreFor claim.now.quantifier program.now [] limit }
     ensures order { IsErrOf result OutcomesFault.Order → ¬ IsLegal program.now [] }
 {
-    match unmet_in_all(alloc, program, claim)? {
-        Some(configurations) if configurations <= limit as usize => Ok(Answer {
-            witness: None,
-            configurations,
-        }),
-        Some(_) => Err(OutcomesFault::Limit),
-        None => answer_by_all(alloc, program, claim, &[], limit, watcher),
+    let Some(answer) = answer_among(alloc, program, claim)? else {
+        return answer_by_all(alloc, program, claim, &[], limit, watcher);
+    };
+    if answer.configurations > limit as usize {
+        return Err(OutcomesFault::Limit);
     }
+    Ok(answer)
 }
 
 /// The answer to a claim on a program, after the blocks that a list of clients names, by a search that stops at the
 /// first witness. `Order` comes exactly where no legal order is named, `Limit` only where there are more configurations
-/// than the limit, `Memory` where memory was refused. Where nobody's blocks are named, many configurations are looked at
-/// and there is no witness, alike clients may tell the answer sooner: it is the same. The watcher hears of each new
-/// configuration of a search over all.
+/// than the limit, `Memory` where memory was refused. Where nobody's blocks are named and many configurations are looked
+/// at, alike clients may tell the answer sooner: it is the same. The watcher hears of each new configuration of a search
+/// over all.
 pub fn answer<W: Watcher>(
     alloc: Global,
     program: &Program,

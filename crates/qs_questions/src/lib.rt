@@ -9,6 +9,7 @@
 #![tactic(auto)]
 
 mod alike;
+mod among;
 mod asking;
 mod claims;
 mod clients;
@@ -16,7 +17,6 @@ pub mod laws;
 mod named;
 mod stack;
 mod unknown;
-mod unmet;
 mod values;
 
 pub use alike::answer_alike;

@@ -2,43 +2,19 @@ use Rattle.std.proofs.Common.{subst, sym}
 use Rattle.qs_standings.specs.Rows.{rows_in}
 use Rattle.qs_standings.specs.Standings.{IsStanding}
 use Rattle.qs_alike.specs.Texts.{classes_in}
-use Rattle.qs_alike_totals.proofs.Steps.{counted_on, own_placed, skipped}
+use Rattle.qs_alike_totals.proofs.Steps.{counted_on, skipped}
 use Rattle.qs_alike_totals.proofs.counting.visit.Goals as goal
 
-pub note-requires : goal.note-requires
-note-requires c = record {
-  standing = (own_placed c.args.orders c.args.program.now (classes_in c.args.classes.now) c.keeps_sound.ensures.sound c.requires.classes (rows_in c.args.seen.now.keys) c.args.stack.now.items c.args.standing c.args.total.now
-      c.requires.counting).standing;
-}
-
 pub returns-then-not-branch-clause-counting : goal.returns-then-not-branch-clause-counting
-returns-then-not-branch-clause-counting c = λ _.
-    skipped c.args.orders c.args.program.now (classes_in c.args.classes.now) c.keeps_sound.ensures.sound c.requires.classes (rows_in c.args.seen.now.keys) (rows_in c.note.new.seen.keys) c.args.stack.now.items
-    c.args.standing c.args.total.now c.requires.counting c.in_ok-note.field-0 c.in_ok-note.ensures.noted c.if-not-branch.true
+returns-then-not-branch-clause-counting c = λ _ starts are_starts is.
+    skipped c.args.orders c.args.program.now (classes_in c.args.classes.now) c.args.span c.keeps_sound.ensures.sound c.requires.classes starts are_starts (rows_in c.args.seen.now.keys)
+    (rows_in c.note.new.seen.keys) c.args.stack.now.items c.args.standing c.args.total.now is c.in_ok-note.field-0 c.in_ok-note.ensures.noted c.if-not-branch.true
 
 pub goes_on-goes-requires-clause-standing : goal.goes_on-goes-requires-clause-standing
-goes_on-goes-requires-clause-standing c =
-    subst (λ ts. IsStanding c.args.program.now ts c.args.standing) (sym c.order.ensures.order)
-    (own_placed c.args.orders c.args.program.now (classes_in c.args.classes.now) c.keeps_sound.ensures.sound c.requires.classes (rows_in c.args.seen.now.keys) c.args.stack.now.items c.args.standing c.args.total.now
-    c.requires.counting).standing
-
-pub is_even-requires-clause-standing : goal.is_even-requires-clause-standing
-is_even-requires-clause-standing c =
-    (own_placed c.args.orders c.args.program.now (classes_in c.args.classes.now) c.keeps_sound.ensures.sound c.requires.classes (rows_in c.args.seen.now.keys) c.args.stack.now.items c.args.standing c.args.total.now
-    c.requires.counting).standing
-
-pub configurations_for-requires-clause-standing : goal.configurations_for-requires-clause-standing
-configurations_for-requires-clause-standing c =
-    (own_placed c.args.orders c.args.program.now (classes_in c.args.classes.now) c.keeps_sound.ensures.sound c.requires.classes (rows_in c.args.seen.now.keys) c.args.stack.now.items c.args.standing c.args.total.now
-    c.requires.counting).standing
-
-pub push_next-requires-clause-standing : goal.push_next-requires-clause-standing
-push_next-requires-clause-standing c =
-    (own_placed c.args.orders c.args.program.now (classes_in c.args.classes.now) c.keeps_sound.ensures.sound c.requires.classes (rows_in c.args.seen.now.keys) c.args.stack.now.items c.args.standing c.args.total.now
-    c.requires.counting).standing
+goes_on-goes-requires-clause-standing c = subst (λ ts. IsStanding c.args.program.now ts c.args.standing) (sym c.order.ensures.order) c.requires.standing
 
 pub returns-clause-counting : goal.returns-clause-counting
-returns-clause-counting c = λ _.
-    counted_on c.args.orders c.args.program.now (classes_in c.args.classes.now) c.keeps_sound.ensures.sound c.requires.classes (rows_in c.args.seen.now.keys) (rows_in c.note.new.seen.keys) c.args.stack.now.items
-    c.args.standing c.args.total.now c.requires.counting c.in_ok-note.field-0 c.in_ok-note.ensures.noted c.if-not-branch.false (c.is_even.ensures.even c.if-not-is_even.false)
-    c.configurations_for.result c.configurations_for.ensures.count c.push_next.new.stack.items c.in_ok-push_next.ensures.grown
+returns-clause-counting c = λ _ starts are_starts is.
+    counted_on c.args.orders c.args.program.now (classes_in c.args.classes.now) c.args.span c.keeps_sound.ensures.sound c.requires.classes starts are_starts (rows_in c.args.seen.now.keys)
+    (rows_in c.note.new.seen.keys) c.args.stack.now.items c.args.standing c.args.total.now is c.in_ok-note.field-0 c.in_ok-note.ensures.noted c.if-not-branch.false
+    (c.is_even.ensures.even c.if-not-is_even.false) c.count_of.result c.count_of.ensures.count c.push_next.new.stack.items c.in_ok-push_next.ensures.grown

@@ -3,9 +3,9 @@ use Rattle.qs_going.specs.Going.{begun_counts}
 use Rattle.qs_standings.specs.Standings.{configuration_in}
 use Rattle.qs_alike.specs.Texts.{classes_in}
 use Rattle.qs_alike_totals.specs.Choosing.{HasNoRivals}
-use Rattle.qs_alike_totals.specs.Counting.{IsEven}
+use Rattle.qs_alike_totals.specs.Totals.{IsEven}
 use Rattle.qs_alike_totals.proofs.Evenness.{goes_even}
-use Rattle.qs_alike_totals.proofs.counting.is_even.Goals as goal
+use Rattle.qs_alike_totals.proofs.choosing.is_even.Goals as goal
 
 pub returns-in-Reduced : goal.returns-in-Reduced
 returns-in-Reduced c = record {

@@ -1,15 +1,16 @@
-use Rattle.std.proofs.Common.{◌≤◌, ◌*◌, length}
+use Rattle.std.proofs.Common.{◌≤◌, length}
+use Rattle.std.specs.List.{AllByRecursion}
 use Rattle.qs_outcomes.specs.Search.{work_left}
 use Rattle.qs_standings.specs.Rows.{rows_in}
+use Rattle.qs_alike.specs.AlikeSearch.{IsPlaced}
 use Rattle.qs_alike.specs.Texts.{classes_in}
-use Rattle.qs_alike_totals.specs.Counting.{IsCounting}
-use Rattle.qs_alike_totals.proofs.counting.count_by.Given as goal
+use Rattle.qs_alike_witness.proofs.gathering.gathered.Given as goal
 
 abbrev pub invariant-loop-standing : goal.invariant-loop-standing
 invariant-loop-standing l = record {
-  counting : IsCounting l.orders l.program (classes_in l.classes) (rows_in l.seen.keys) l.stack.items l.total;
+  placed : AllByRecursion (IsPlaced l.program (classes_in l.classes)) l.stack.items;
+  found : AllByRecursion (IsPlaced l.program (classes_in l.classes)) l.found.items;
   small : length (rows_in l.seen.keys) ≤ l.limit;
-  few : l.total ≤ 16777216 * length (rows_in l.seen.keys);
 }
 
 abbrev pub decreases-loop-standing : goal.decreases-loop-standing

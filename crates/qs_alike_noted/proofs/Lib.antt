@@ -1,0 +1,2 @@
+pub mod Forking
+pub mod Passing

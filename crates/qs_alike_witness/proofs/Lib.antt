@@ -1,0 +1,2 @@
+pub mod Hopes
+pub mod Leads

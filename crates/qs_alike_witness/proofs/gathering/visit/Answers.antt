@@ -1,0 +1,24 @@
+use Rattle.std.proofs.Common.{[], ◌∷◌, subst, sym}
+use Rattle.std.specs.List.{AllByRecursion}
+use Rattle.qs_meaning.proofs.Each.{each_back, each_front, each_snoc}
+use Rattle.qs_alike.specs.AlikeSearch.{IsPlaced}
+use Rattle.qs_alike.specs.Texts.{classes_in}
+use Rattle.qs_alike_witness.proofs.gathering.visit.Goals as goal
+
+pub returns-then-not-branch-clause-placed : goal.returns-then-not-branch-clause-placed
+returns-then-not-branch-clause-placed c = λ _.
+    each_front (IsPlaced c.args.program.now (classes_in c.args.classes.now)) c.args.stack.now.items (c.args.standing ∷ []) c.requires.placed
+
+pub push_next-requires-clause-standing : goal.push_next-requires-clause-standing
+push_next-requires-clause-standing c =
+    (each_back (IsPlaced c.args.program.now (classes_in c.args.classes.now)) c.args.stack.now.items (c.args.standing ∷ []) c.requires.placed).0.standing
+
+pub push_next-requires-clause-placed : goal.push_next-requires-clause-placed
+push_next-requires-clause-placed c =
+    each_front (IsPlaced c.args.program.now (classes_in c.args.classes.now)) c.args.stack.now.items (c.args.standing ∷ []) c.requires.placed
+
+pub returns-clause-found : goal.returns-clause-found
+returns-clause-found c = λ _.
+    subst (AllByRecursion (IsPlaced c.args.program.now (classes_in c.args.classes.now))) (sym c.in_ok-add.ensures.added)
+    (each_snoc (IsPlaced c.args.program.now (classes_in c.args.classes.now)) c.args.found.now.items c.args.standing c.requires.found
+    (each_back (IsPlaced c.args.program.now (classes_in c.args.classes.now)) c.args.stack.now.items (c.args.standing ∷ []) c.requires.placed).0)
