@@ -327,3 +327,10 @@ grown_on q p k span s goes_on c before mid after (added, e, now) (inr (not, is))
     few = (let few = now.few in omega (arith, few));
   },
 )
+
+-- what was added has the places of each class in order
+pub grown_placed : (q : Orders) (p : ProgramShape) (k : Classes) (span : Span) (s : StandingShape) (to : ℕ) (before after : List StandingShape) → AllByRecursion (IsPlaced p k) before
+    → IsGrownBy q p k span s to before after → AllByRecursion (IsPlaced p k) after
+grown_placed q p k span s to before after each (added, e, are) =
+    subst (AllByRecursion (IsPlaced p k)) (sym e)
+    (each_join (IsPlaced p k) before added each (each_map {Q = IsPlaced p k} (λ n (on : IsOnward q p k s n × GoesOnAt span (length s.order)). on.0.0) added are.onward))

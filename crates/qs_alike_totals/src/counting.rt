@@ -84,8 +84,9 @@ fn push_one(
     Ok(())
 }
 
-// Adds where all blocks lead that may be next, if the count goes on.
-fn push_next(
+/// Adds where all blocks lead that may be next, with the places of each class in order, if the count goes on. Who goes on
+/// along reduced orders is given, client c in bit c. An error says that memory was refused.
+pub fn push_next(
     alloc: Global,
     program: &Program,
     classes: &Classes,

@@ -10,5 +10,5 @@ mod counting;
 mod followed;
 
 pub use choosing::is_even;
-pub use counting::{Span, configurations_in_all, count_from, first_alone};
+pub use counting::{Span, configurations_in_all, count_from, first_alone, push_next};
 pub use followed::{Orders, is_next};

@@ -15,7 +15,7 @@ ghost use Rattle.qs_throughout_alike.specs.AlikeWalked.{IsPlacedOn};
 
 use indexmap::IndexSet;
 use qs_alike::{Classes, arrange};
-use qs_alike_totals::{Orders, is_next};
+use qs_alike_totals::{Orders, Span, push_next};
 use qs_program::Program;
 use qs_standings::{Last, Row, Standing, insert, placed};
 use std::alloc::{AllocError, Global};
@@ -39,82 +39,6 @@ fn add(list: &mut Vec<Standing>, standing: Standing) -> Result<(), AllocError>
     ensures added { OnOk result (list.new.items ≡ list.old.items ++ standing ∷ []) }
 {
     list.push(standing)?;
-    Ok(())
-}
-
-// Where the next block of a client leads, with the places of each class in order.
-pub(crate) fn placed_next(
-    alloc: Global,
-    program: &Program,
-    classes: &Classes,
-    standing: &Standing,
-    client: u8,
-) -> Result<Standing, AllocError>
-    requires client { client < length program.now.clients }
-    requires classes { AreClasses program.now (classes_in classes.now) }
-    requires standing { IsStanding program.now standing.now.order standing.now }
-    requires left { HasNext program.now standing.now client }
-    ensures next { IfOk result (IsPlacedOn program.now (classes_in classes.now) standing.now client) }
-{
-    let mut next = standing.next(alloc, program, standing.order(), client)?;
-    arrange(program, classes, &mut next);
-    Ok(next)
-}
-
-// Adds where a client's next block leads, if its block may be next.
-fn push_one(
-    alloc: Global,
-    program: &Program,
-    classes: &Classes,
-    orders: Orders,
-    goes: u8,
-    standing: &Standing,
-    client: u8,
-    stack: &mut Vec<Standing>,
-) -> Result<(), AllocError>
-    requires client { client < length program.now.clients }
-    requires classes { AreClasses program.now (classes_in classes.now) }
-    requires standing { IsStanding program.now standing.now.order standing.now }
-    requires goes { in_byte goes ≡ goes_on program.now (configuration_in standing.now).begun }
-    requires placed { AllByRecursion (IsPlaced program.now (classes_in classes.now)) stack.old.items }
-    ensures placed { OnOk result (AllByRecursion (IsPlaced program.now (classes_in classes.now)) stack.new.items) }
-    ensures few { OnOk result (length stack.new.items ≤ length stack.old.items + 1) }
-{
-    if is_next(program, orders, goes, standing, client) {
-        let next = placed_next(alloc, program, classes, standing, client)?;
-        add(stack, next)?;
-    }
-    Ok(())
-}
-
-// Adds where all blocks lead that may be next, if there are fewer blocks than so many.
-fn push_next(
-    alloc: Global,
-    program: &Program,
-    classes: &Classes,
-    last: &[Last],
-    orders: Orders,
-    depth: usize,
-    standing: &Standing,
-    stack: &mut Vec<Standing>,
-) -> Result<(), AllocError>
-    requires classes { AreClasses program.now (classes_in classes.now) }
-    requires last { AreLast program.now last.now }
-    requires standing { IsStanding program.now standing.now.order standing.now }
-    requires placed { AllByRecursion (IsPlaced program.now (classes_in classes.now)) stack.old.items }
-    ensures placed { OnOk result (AllByRecursion (IsPlaced program.now (classes_in classes.now)) stack.new.items) }
-    ensures few { OnOk result (length stack.new.items ≤ length stack.old.items + length program.now.clients) }
-{
-    program.keeps_sound();
-    if standing.order().len() >= depth {
-        return Ok(());
-    }
-    let goes = standing.goes_on(program, last, standing.order());
-    for client in 0..program.clients() as u8 {
-        push_one(
-            alloc, program, classes, orders, goes, standing, client, stack,
-        )?;
-    }
     Ok(())
 }
 
@@ -154,8 +78,13 @@ fn visit(
     if seen.len() > limit as usize {
         return Ok(false);
     }
+    let span = Span {
+        from: 0,
+        until: Some(depth),
+    };
+    let goes = standing.goes_on(program, last, standing.order());
     push_next(
-        alloc, program, classes, last, orders, depth, &standing, stack,
+        alloc, program, classes, orders, span, goes, &standing, stack,
     )?;
     add(found, standing)?;
     Ok(true)

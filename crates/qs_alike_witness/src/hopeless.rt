@@ -14,13 +14,13 @@ ghost use Rattle.qs_alike.specs.Texts.{classes_in};
 ghost use Rattle.qs_alike_totals.specs.Totals.{may_be_next};
 ghost use Rattle.qs_alike_witness.specs.Hopeless.{AreAllMet, AreHopeless, IsFirstOpen, IsHopeless, IsRowMet};
 
-use crate::gathering::placed_next;
 use indexmap::IndexSet;
 use qs_alike::Classes;
 use qs_alike_totals::{Orders, is_even, is_next};
 use qs_outcomes::Question;
 use qs_program::Program;
 use qs_standings::{Last, Row, Standing, insert};
+use qs_throughout_alike::placed_next;
 use std::alloc::{AllocError, Global};
 
 // Whether a row is one of these.

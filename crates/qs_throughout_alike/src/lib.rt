@@ -4,4 +4,4 @@
 
 mod search;
 
-pub use search::ask_throughout_alike;
+pub use search::{ask_throughout_alike, placed_next};

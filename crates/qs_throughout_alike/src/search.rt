@@ -85,8 +85,8 @@ fn take_in<Q: Question, W: Watcher>(
     Ok(None)
 }
 
-// Where the next block of a client leads, with the places of each class in order.
-fn placed_next(
+/// Where the next block of a client leads, with the places of each class in order. An error says that memory was refused.
+pub fn placed_next(
     alloc: Global,
     program: &Program,
     classes: &Classes,
