@@ -20,6 +20,9 @@ use std::alloc::{AllocError, Global};
 // A search looks at so many configurations at most of which none becomes another.
 const MOST_UNLIKE: u32 = 65_536;
 
+// For a witness so many configurations are looked at at most: each takes several times as long as in a search over all.
+const MOST_FOR_WITNESS: u32 = 16_384;
+
 // The orders whose configurations the answer to a claim counts.
 fn orders_for(quantifier: Quantifier) -> Orders
     ensures orders { result ≡ orders_for quantifier }
@@ -61,7 +64,15 @@ fn least_answer(
 {
     let orders = orders_for(claim.quantifier);
     let sought = Sought { claim };
-    let found = least_met(alloc, program, classes, orders, depth, MOST_UNLIKE, &sought)?;
+    let found = least_met(
+        alloc,
+        program,
+        classes,
+        orders,
+        depth,
+        MOST_FOR_WITNESS,
+        &sought,
+    )?;
     let Some(witness) = found else {
         return Ok(None);
     };
@@ -74,7 +85,7 @@ fn least_answer(
         classes,
         orders,
         witness.order(),
-        MOST_UNLIKE,
+        MOST_FOR_WITNESS,
     )?;
     let Some(configurations) = noted else {
         return Ok(None);
