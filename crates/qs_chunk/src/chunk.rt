@@ -3,6 +3,7 @@
 ghost use Rattle.std.specs.Prelude.{◌≡◌, ◌==◌, ◌<◌, ◌≤◌, ◌↔◌, [], ◌∷◌, ◌++◌, length, IfNone, IfSome, IfOk, IfErr, IsOk};
 ghost use Rattle.qs_chunk.specs.Batch.{batch};
 ghost use Rattle.qs_chunk.specs.Limits.{largest_chunk};
+ghost use Rattle.std.specs.Vec.Ownership.{FitsInBlock};
 
 use crate::cells::{Room, make};
 use crate::places::{place_after, place_on};
@@ -10,7 +11,6 @@ use crate::size::ChunkSize;
 use std::alloc::{AllocError, Global};
 use std::marker::Model;
 use std::mem::size_of;
-use std_alloc::room::may_hold;
 
 /// Values in order, at most as many as the capacity. No call but the constructor takes memory. They lie from the place
 /// `start` on, and go on at place 0 behind the last place.
@@ -41,14 +41,13 @@ impl<T> Model for Chunk<T> {
 }
 
 impl<T> Chunk<T> {
-    /// An empty chunk with all its memory. An error says that this memory was refused.
+    /// An empty chunk with all its memory. An error says that the allocator refused this memory. Of the values as many
+    /// as the largest chunk has fit into one block of memory, which may have 2^63 - 1 bytes.
     pub fn with_capacity(alloc: Global, size: ChunkSize) -> Result<Chunk<T>, AllocError>
+        requires fits { FitsInBlock T.row largest_chunk }
         ensures empty { IfOk result (λ chunk. chunk ≡ batch [] size) }
     {
         let capacity = usize::from(size.get());
-        if !may_hold::<T>(capacity) {
-            return Err(AllocError);
-        }
         let room = make(&alloc, capacity)?;
         Ok(Chunk {
             room,

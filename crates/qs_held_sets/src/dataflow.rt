@@ -10,7 +10,7 @@ ghost use Rattle.qs_objects.specs.ByteSets.{in_byte};
 ghost use Rattle.qs_held_sets.specs.Dataflow.{IsPassed, IsTaken, IsWork, state, turns_left};
 ghost use Rattle.qs_held_sets.specs.Flow.{held_after, without};
 
-use crate::worklist::{VisitCount, Worklist};
+use crate::worklist::{Turns, Worklist};
 use qs_graph::{Graph, Node};
 use std::alloc::AllocError;
 use std::sync::ledger::Ledger;
@@ -91,7 +91,7 @@ pub(crate) fn run<L: Ledger>(
     reached: &mut [bool],
     sets: &mut [u8],
     list: &mut Worklist,
-    turns: &mut VisitCount<L>,
+    turns: &mut Turns<L>,
 ) -> Result<(), AllocError>
     requires work { IsWork graph.now (state reached.old sets.old list.old) }
     ensures done { OnOk result (IsWork graph.now (state reached.new sets.new [])) }

@@ -7,4 +7,4 @@ mod sets;
 mod worklist;
 
 pub use sets::{Sets, held_sets, held_sets_counted};
-pub use worklist::VisitCount;
+pub use worklist::Turns;

@@ -6,7 +6,7 @@ ghost use Rattle.qs_held_sets.specs.Bytes.{every_handler, truths_of};
 ghost use Rattle.qs_held_sets.specs.Table.{AreSetsOf, has};
 
 use crate::dataflow::run;
-use crate::worklist::{VisitCount, Worklist};
+use crate::worklist::{Turns, Worklist};
 use qs_graph::Graph;
 use smallvec::{SmallVec, smallvec};
 use std::alloc::{AllocError, Global};
@@ -53,7 +53,7 @@ fn run_from_entry<L: Ledger>(
     graph: &Graph,
     reached: &mut [bool],
     bytes: &mut [u8],
-    turns: &mut VisitCount<L>,
+    turns: &mut Turns<L>,
 ) -> Result<(), AllocError>
     requires reached { reached.old ≡ replicate (length graph.now.nodes) false }
     requires bytes { bytes.old ≡ replicate (length graph.now.nodes) every_handler }
@@ -75,7 +75,7 @@ fn run_from_entry<L: Ledger>(
 pub fn held_sets_counted<L: Ledger>(
     alloc: Global,
     graph: &Graph,
-    turns: &mut VisitCount<L>,
+    turns: &mut Turns<L>,
 ) -> Result<Sets, AllocError>
     ensures sets { IfOk result (λ sets. AreSetsOf graph.now sets) }
     ensures counted { OnOk result (turns.old < turns.new) }
@@ -95,7 +95,7 @@ fn newly_counted<L: Ledger>(alloc: Global, graph: &Graph, blank: Blank) -> Resul
     requires some { 0 < blank.parts }
     ensures sets { IfOk result (λ sets. AreSetsOf graph.now sets) }
 {
-    let mut turns = VisitCount::<L>::new(blank);
+    let mut turns = Turns::<L>::new(blank);
     held_sets_counted(alloc, graph, &mut turns)
 }
 

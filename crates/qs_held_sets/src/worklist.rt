@@ -10,15 +10,15 @@ use std::sync::ledger::{Blank, Book, Ledger, Share};
 
 /// How many nodes were taken from worklists. It takes no bytes, and nothing but the taking of a node changes it.
 #[derive(Drop)]
-pub struct VisitCount<L: Ledger> {
+pub struct Turns<L: Ledger> {
     book: Book<L>,
     share: Share<L>,
 }
 
 // Counting costs nothing as a program runs.
-const _: () = prove!(size_of::<VisitCount<Brand>>() == 0);
+const _: () = prove!(size_of::<Turns<Brand>>() == 0);
 
-impl<L: Ledger> Model for VisitCount<L> {
+impl<L: Ledger> Model for Turns<L> {
     ghost use Rattle.std.specs.Prelude.{ℕ, ◌<◌};
 
     ghost Value = { ℕ };
@@ -28,16 +28,16 @@ impl<L: Ledger> Model for VisitCount<L> {
     ghost invariant = { λ t. 0 < t.share.parts };
 }
 
-impl<L: Ledger> VisitCount<L> {
+impl<L: Ledger> Turns<L> {
     /// No turn yet.
-    pub fn new(blank: Blank) -> VisitCount<L>
+    pub fn new(blank: Blank) -> Turns<L>
         requires name { blank.name ≡ L.name }
         requires parts { blank.parts ≡ L.parts }
         requires some { 0 < blank.parts }
         ensures none { result ≡ 0 }
     {
         let (book, share) = blank.open();
-        VisitCount { book, share }
+        Turns { book, share }
     }
 
     // One turn more.
@@ -81,7 +81,7 @@ impl Worklist {
     }
 
     /// Takes the next node, which is a turn.
-    pub(crate) fn pop<L: Ledger>(&mut self, turns: &mut VisitCount<L>) -> Option<usize>
+    pub(crate) fn pop<L: Ledger>(&mut self, turns: &mut Turns<L>) -> Option<usize>
         ensures last { IfSome result (λ node. self.old ≡ self.new ++ node ∷ []) }
         ensures counted { IfSome result (λ _. turns.new ≡ turns.old + 1) }
         ensures empty { IfNone result (self.old ≡ []) }

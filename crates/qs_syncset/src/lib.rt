@@ -9,5 +9,5 @@ mod removal;
 
 pub use code::{Code, compile};
 pub use mode::Mode;
-pub use qs_held_sets::{Sets, VisitCount, held_sets, held_sets_counted};
+pub use qs_held_sets::{Sets, Turns, held_sets, held_sets_counted};
 pub use removal::coalesce;
