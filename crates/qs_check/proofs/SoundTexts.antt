@@ -32,7 +32,7 @@ use Rattle.qs_check.proofs.Soundness.{sound}
 use Rattle.qs_check.proofs.SoundStarts.{all_with, called_more, starts_sound, well_called}
 use Rattle.qs_check.proofs.TextNames.{distinct_variables, among_variables}
 use Rattle.qs_check.proofs.TextRequests.{all_first, all_later}
-use Rattle.qs_check.proofs.WellFormed.{well_formed_from, no_fault_left}
+use Rattle.qs_check.proofs.WellFormed.{ends_well, no_fault_left, well_formed_from, within_limits}
 
 module _ (N : List Name) (K : List Kind) (V : List Name) where
   abbrev Among : List Name → Type 0
@@ -194,3 +194,10 @@ sound_text items p form h e load weight =
     let lighter : whole_load (program_of_items items) ≤ most_requests = omega (arith, load, ap whole_load e) in
     let shorter : whole_weight (program_of_items items) ≤ most_steps = omega (arith, weight, ap whole_weight e) in
     subst IsSound (sym e) (sound_resolved items form h lighter shorter)
+
+-- so the program of every script that is accepted is sound
+pub sound_accepted : (items : List Item) → HasForm items → fault_of items ≡ None → IsSound (program_of_items items)
+sound_accepted items form h =
+    let w = ends_well (scope_or_fault start (script_places items)) (excess_of (program_of_items items)) h in
+    let limits = within_limits (program_of_items items) w.2 in
+    sound_resolved items form (ap (λ m. first_fault m None) w.1) limits.0 limits.1

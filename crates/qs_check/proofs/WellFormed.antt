@@ -224,7 +224,7 @@ at_most limit n h = grind (arith, nat_tests)
 not_above : (limit n : ℕ) → n ≤ limit → nat_lt limit n ≡ false
 not_above limit n h = grind (arith, nat_tests)
 
-within_limits : (p : ProgramShape) → excess_of p ≡ None → (whole_load p ≤ most_requests) × (whole_weight p ≤ most_steps)
+pub within_limits : (p : ProgramShape) → excess_of p ≡ None → (whole_load p ≤ most_requests) × (whole_weight p ≤ most_steps)
 within_limits p h =
     let w = no_excess (nat_lt 100000 (whole_load p)) (nat_lt 1000000 (whole_weight p)) h in
     (at_most 100000 (whole_load p) w.0, at_most 1000000 (whole_weight p) w.1)
@@ -232,7 +232,7 @@ within_limits p h =
 pub no_fault_left : (p : ProgramShape) → whole_load p ≤ most_requests → whole_weight p ≤ most_steps → excess_of p ≡ None
 no_fault_left p h k = rw (not_above 100000 (whole_load p) h, not_above 1000000 (whole_weight p) k) refl
 
-ends_well : (m : ScopeOrFault) (after : Option CheckFault) → first_fault m after ≡ None → (t : Scope) × (m ≡ Ok t) × (after ≡ None)
+pub ends_well : (m : ScopeOrFault) (after : Option CheckFault) → first_fault m after ≡ None → (t : Scope) × (m ≡ Ok t) × (after ≡ None)
 ends_well (Ok t) after h = (t, refl, h)
 ends_well (Err e) after h = absurd (cc)
 
