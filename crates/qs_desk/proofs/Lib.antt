@@ -3,3 +3,4 @@ pub mod Plans
 pub mod Pushing
 pub mod Starts
 pub mod Steps
+pub mod Wakings

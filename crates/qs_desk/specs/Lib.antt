@@ -3,6 +3,7 @@ pub mod Views
 pub mod Tickets
 pub mod Places
 pub mod TicketQueues
+pub mod Wakings
 -- What crates promise one another, what proofs use, and worked examples.
 pub mod Limits
 pub mod Plans

@@ -6,62 +6,45 @@ ghost use Rattle.qs_program.specs.Program.{blocks_of};
 ghost use Rattle.qs_meaning.specs.Serial.{IsLegal};
 ghost use Rattle.qs_program.specs.Sound.{IsSound};
 ghost use Rattle.qs_desk.specs.Limits.{all_bookings};
-ghost use Rattle.qs_desk.specs.TicketQueues.{queue_at, with_ticket, closed_queue, queue_name, IsNewQueue, MayGrow, MayClose};
+ghost use Rattle.qs_desk.specs.TicketQueues.{queue_at, queue_name, IsNewQueue};
 ghost use Rattle.qs_desk.specs.Plans.{lists_of_program};
 ghost use Rattle.qs_desk.specs.Tickets.{ticket, of_client, pushed_to};
 ghost use Rattle.qs_objects.specs.declared.held.Next.{Next};
 
+use crate::bookings::Bookings;
 use crate::name::DeskName;
 use crate::plan::Plan;
-use crate::queue::{TicketSender, TicketTaker, TicketWaker, Tickets};
+use crate::queue::{TicketSender, TicketWaker, Tickets};
 use crate::share::{Books, Share};
-use qs_objects::{Next, Ticket};
-use qs_program::MOST_HANDLERS;
+use qs_objects::Ticket;
 use std::marker::Model;
 use std::sync::Wait;
 
 /// The desk: the order of all reservations, and the desk's ends of the handlers' queues of tickets. What wakes the
 /// handlers lies here until the desk is put under a lock.
 pub struct Desk<D: DeskName> {
-    plan: Plan,
-    history: Vec<Ticket>,
-    senders: Vec<TicketSender>,
-    books: Books<D>,
-    closed: bool,
-    wakers: Option<Vec<TicketWaker>>,
+    bookings: Bookings<D>,
+    wakers: Vec<TicketWaker>,
 }
-
-/// For each handler whether it was reserved.
-pub(crate) type Reserved = [bool; MOST_HANDLERS];
 
 impl<D: DeskName> Drop for Desk<D> {
     fn drop(self) {
         let Desk {
-            plan: _,
-            history: _,
-            senders: _,
-            books: _,
-            closed: _,
+            bookings: _,
             wakers: _,
         } = self;
     }
 }
 
 impl<D: DeskName> Model for Desk<D> {
-    ghost use Rattle.std.specs.Prelude.{◌≡◌, ◌≤◌, vec_capacity};
-    ghost use Rattle.qs_desk.specs.Desks.{IsDesk};
-    ghost use Rattle.qs_desk.specs.Limits.{all_bookings};
-    ghost use Rattle.qs_desk.specs.Plans.{lists_of_program};
+    ghost use Rattle.std.specs.Prelude.{◌≡◌};
     ghost use Rattle.qs_desk.specs.Views.{DeskView};
 
     ghost Value = { DeskView };
 
-    ghost view = { λ d. record { history = d.history.items; closed = d.closed } };
+    ghost view = { λ d. d.bookings };
 
-    ghost invariant = { λ d.
-        IsDesk D.program D.queues d.history.items d.closed d.senders.items d.books
-        × (d.plan ≡ lists_of_program D.program)
-        × (all_bookings ≤ vec_capacity d.history) };
+    ghost invariant = { λ d. d.wakers.items ≡ D.queues };
 }
 
 impl<D: DeskName> Desk<D> {
@@ -77,16 +60,30 @@ impl<D: DeskName> Desk<D> {
         requires names { (map queue_name senders.items ≡ D.queues) × (length senders.items ≡ length D.program.objects) }
         requires senders { (h : ℕ) → h < length senders.items → IsNewQueue D.program h (queue_at senders.items h) }
         requires books { books ≡ replicate most_clients 0 }
+        requires wakers { wakers.items ≡ D.queues }
         ensures desk { result ≡ record { history = []; closed = false } }
     {
         Desk {
-            plan,
-            history,
-            senders,
-            books,
-            closed: false,
-            wakers: Some(wakers),
+            bookings: Bookings::new(plan, history, senders, books),
+            wakers,
         }
+    }
+
+    /// What was booked, with what wakes the handlers, by their numbers.
+    pub(crate) fn with(bookings: Bookings<D>, wakers: Vec<TicketWaker>) -> Desk<D>
+        requires own { wakers.items ≡ D.queues }
+        ensures same { result ≡ bookings }
+    {
+        Desk { bookings, wakers }
+    }
+
+    /// What was booked, and what wakes each handler, by their numbers.
+    pub(crate) fn into_parts(self) -> (Bookings<D>, Vec<TicketWaker>)
+        ensures same { result.0 ≡ self }
+        ensures own { result.1.items ≡ D.queues }
+    {
+        let Desk { bookings, wakers } = self;
+        (bookings, wakers)
     }
 
     /// Books the next block of the share's client: the history grows by its ticket, and so does the queue of each
@@ -98,33 +95,7 @@ impl<D: DeskName> Desk<D> {
         ensures history { self.new ≡ record self.old { history = self.old.history ++ result ∷ [] } }
         ensures share { share.new ≡ record share.old { count = share.old.count + 1 } }
     {
-        self.book_and_tell(rt, share).0
-    }
-
-    /// Books a client's next block, and says which handlers were reserved.
-    pub(crate) fn book_and_tell<R: Wait>(
-        &mut self,
-        rt: &R,
-        share: &mut Share<D>,
-    ) -> (Ticket, Reserved)
-        requires unclosed { self.old.closed ≡ false }
-        requires left { share.old.count < blocks_of D.program share.old.client }
-        ensures ticket { result.0 ≡ ticket share.old.client share.old.count }
-        ensures history { self.new ≡ record self.old { history = self.old.history ++ result.0 ∷ [] } }
-        ensures share { share.new ≡ record share.old { count = share.old.count + 1 } }
-    {
-        let ticket = share.next();
-        self.books.count(share);
-        self.history.push_reserved(ticket);
-        let reserved = push_ticket::<D, R>(rt, &self.plan, &mut self.senders, ticket);
-        (ticket, reserved)
-    }
-
-    /// What wakes the handlers, by their numbers; a second call finds nothing.
-    pub(crate) fn take_wakers(&mut self) -> Option<Vec<TicketWaker>>
-        ensures same { self.new ≡ self.old }
-    {
-        self.wakers.take()
+        self.bookings.book_and_tell(rt, share).0
     }
 
     /// Puts the closing mark at the end of each handler's queue. It wakes nobody.
@@ -132,8 +103,7 @@ impl<D: DeskName> Desk<D> {
         requires unclosed { self.old.closed ≡ false }
         ensures closed { self.new ≡ record self.old { closed = true } }
     {
-        self.closed = true;
-        push_closed(rt, &mut self.senders);
+        self.bookings.close(rt);
     }
 
     /// The tickets of all reservations, in their order, which is legal.
@@ -142,14 +112,10 @@ impl<D: DeskName> Desk<D> {
         ensures legal { IsLegal D.program self.history }
     {
         let Desk {
-            plan: _,
-            history: order,
-            senders: _,
-            books: _,
-            closed: _,
+            bookings,
             wakers: _,
         } = self;
-        order
+        bookings.into_order()
     }
 
     /// The history has as many tickets of a client as its share says.
@@ -157,7 +123,7 @@ impl<D: DeskName> Desk<D> {
         ensures same { (self.new ≡ self.old) × (share.new ≡ share.old) }
         ensures count { length (of_client share.old.client self.old.history) ≡ share.old.count }
     {
-        self.books.check(share);
+        self.bookings.booked(share);
     }
 
     /// What a handler took is a front of what was pushed to it.
@@ -165,51 +131,6 @@ impl<D: DeskName> Desk<D> {
         ensures same { self.new ≡ self.old }
         ensures front { (rest : List Next) × (pushed_to D.program tickets.handler self.old.history self.old.closed ≡ tickets.taken ++ rest) }
     {
-        let (handler, end) = tickets.into_end();
-        compare_queue(self.senders.as_mut_slice(), handler, end);
-    }
-}
-
-// The two ends of a handler's queue meet.
-fn compare_queue(senders: &mut [TicketSender], handler: u8, end: TicketTaker)
-    requires { (handler < length senders.old) × (end.name ≡ (queue_at senders.old handler).name) }
-    ensures same { senders.new ≡ senders.old }
-    ensures front { (rest : List Next) × ((queue_at senders.old handler).sent ≡ end.received ++ rest) }
-{
-    senders[usize::from(handler)].agree(end);
-}
-
-// Pushes a ticket to each handler that its block reserves, and tells which these are.
-fn push_ticket<D: DeskName, R: Wait>(
-    rt: &R,
-    plan: &Plan,
-    senders: &mut Vec<TicketSender>,
-    ticket: Ticket,
-) -> Reserved
-    requires plan { plan.now ≡ lists_of_program D.program }
-    requires room { (h : ℕ) → h < length senders.old.items → MayGrow D.program ticket h (queue_at senders.old.items h) }
-    ensures len { length senders.new.items ≡ length senders.old.items }
-    ensures grown { (h : ℕ) → h < length senders.old.items → queue_at senders.new.items h ≡ with_ticket D.program ticket h (queue_at senders.old.items h) }
-{
-    let mut reserved = [false; MOST_HANDLERS];
-    for handler in 0..senders.len() {
-        if plan.reserves(ticket, handler) {
-            senders[handler].push(rt, Next::Ticket(ticket));
-            if let Some(place) = reserved.get_mut(handler) {
-                *place = true;
-            }
-        }
-    }
-    reserved
-}
-
-// Pushes the closing mark to each handler.
-fn push_closed<R: Wait>(rt: &R, senders: &mut Vec<TicketSender>)
-    requires room { (h : ℕ) → h < length senders.old.items → MayClose (queue_at senders.old.items h) }
-    ensures len { length senders.new.items ≡ length senders.old.items }
-    ensures closed { (h : ℕ) → h < length senders.old.items → queue_at senders.new.items h ≡ closed_queue (queue_at senders.old.items h) }
-{
-    for handler in 0..senders.len() {
-        senders[handler].push(rt, Next::Closed);
+        self.bookings.follows(tickets);
     }
 }

@@ -1,22 +1,27 @@
 //! The desk under its lock.
 
-ghost use Rattle.std.specs.Prelude.{◌≡◌, ◌+◌, ◌<◌, false, true};
+ghost use Rattle.std.specs.Prelude.{◌≡◌, ◌+◌, ◌<◌, Bool, List, false, true, replicate};
 ghost use Rattle.qs_program.specs.Program.{blocks_of};
+ghost use Rattle.qs_program.specs.Limits.{most_handlers};
 ghost use Rattle.qs_desk.specs.Tickets.{ticket};
+ghost use Rattle.qs_desk.specs.Wakings.{AreReserved, AreWoken};
 
-use crate::desk::{Desk, Reserved};
+use crate::bookings::{Bookings, Reserved};
+use crate::desk::Desk;
 use crate::name::DeskName;
 use crate::queue::TicketWaker;
 use crate::share::Share;
+use crate::wake::{Wakes, wake_told};
 use qs_objects::Ticket;
 use qs_program::MOST_HANDLERS;
+use std::marker::Model;
 use std::sync::{Mutex, Wait};
 
-// A desk that is not closed.
+// The bookings of a desk that is not closed.
 #[derive(Drop)]
 struct Open<D: DeskName> {
-    desk: Desk<D>,
-    ghost is_open: { desk.closed ≡ false },
+    bookings: Bookings<D>,
+    ghost is_open: { bookings.closed ≡ false },
 }
 
 impl<D: DeskName> Open<D> {
@@ -24,15 +29,17 @@ impl<D: DeskName> Open<D> {
         requires left { share.old.count < blocks_of D.program share.old.client }
         ensures ticket { result.0 ≡ ticket share.old.client share.old.count }
         ensures share { share.new ≡ record share.old { count = share.old.count + 1 } }
+        ensures told { AreReserved D.program result.0 result.1 }
     {
-        self.desk.book_and_tell(rt, share)
+        self.bookings.book_and_tell(rt, share)
     }
 }
 
-/// The desk under its lock, where clients reserve from their own threads. It is not closed before `close`.
+/// The desk under its lock, where clients reserve from their own threads. It is not closed before `close`. Contracts see
+/// the names of the queues whose handlers it can wake, by their numbers.
 pub struct Front<D: DeskName> {
     lock: Mutex<Open<D>>,
-    wakers: Option<Vec<TicketWaker>>,
+    wakers: Vec<TicketWaker>,
 }
 
 impl<D: DeskName> Drop for Front<D> {
@@ -41,15 +48,26 @@ impl<D: DeskName> Drop for Front<D> {
     }
 }
 
+impl<D: DeskName> Model for Front<D> {
+    ghost use Rattle.std.specs.Prelude.{◌≡◌, List};
+    ghost use Rattle.atomic_table.specs.Seated.{TableId};
+
+    ghost Value = { List TableId };
+
+    ghost view = { λ f. f.wakers.items };
+
+    ghost invariant = { λ f. f.wakers.items ≡ D.queues };
+}
+
 impl<D: DeskName> Front<D> {
-    /// A desk that is not closed, under a lock.
+    /// A desk that is not closed, under a lock, with what wakes the handler of each of its queues.
     pub fn new(desk: Desk<D>) -> Front<D>
         requires unclosed { desk.closed ≡ false }
+        ensures own { result ≡ D.queues }
     {
-        let mut desk = desk;
-        let wakers = desk.take_wakers();
+        let (bookings, wakers) = desk.into_parts();
         Front {
-            lock: Mutex::new(Open { desk }),
+            lock: Mutex::new(Open { bookings }),
             wakers,
         }
     }
@@ -71,8 +89,25 @@ impl<D: DeskName> Front<D> {
         ensures ticket { result ≡ ticket share.old.client share.old.count }
         ensures share { share.new ≡ record share.old { count = share.old.count + 1 } }
     {
+        self.book_and_wake(rt, share, self.wakers.as_slice(), &mut ())
+    }
+
+    // Reserves for a client's next block. Once the lock is given back it wakes the handlers that the block reserves, by
+    // these.
+    fn book_and_wake<L, W: Wakes<L>, R: Wait>(
+        &self,
+        rt: &R,
+        share: &mut Share<D>,
+        wakers: &[W],
+        log: &mut L,
+    ) -> Ticket
+        requires left { share.old.count < blocks_of D.program share.old.client }
+        ensures ticket { result ≡ ticket share.old.client share.old.count }
+        ensures share { share.new ≡ record share.old { count = share.old.count + 1 } }
+        ensures woken { (told : List Bool) × AreReserved D.program result told × AreWoken W.moves wakers.now told log.old log.new }
+    {
         let (ticket, reserved) = self.book(rt, share);
-        wake_reserved(self.wakers.as_ref(), &reserved);
+        wake_told(wakers, &reserved, log);
         ticket
     }
 
@@ -81,6 +116,7 @@ impl<D: DeskName> Front<D> {
         requires left { share.old.count < blocks_of D.program share.old.client }
         ensures ticket { result.0 ≡ ticket share.old.client share.old.count }
         ensures share { share.new ≡ record share.old { count = share.old.count + 1 } }
+        ensures told { AreReserved D.program result.0 result.1 }
     {
         self.lock.lock(rt).book(rt, share)
     }
@@ -91,21 +127,23 @@ impl<D: DeskName> Front<D> {
         ensures closed { result.closed ≡ true }
     {
         let Front { lock, wakers } = self;
-        let Open { mut desk } = lock.into_inner();
-        desk.close(rt);
-        wake_reserved(wakers.as_ref(), &[true; MOST_HANDLERS]);
-        desk
+        let Open { mut bookings } = lock.into_inner();
+        close_and_wake(rt, &mut bookings, wakers.as_slice(), &mut ());
+        Desk::with(bookings, wakers)
     }
 }
 
-// Wakes the handlers that were reserved, where they sleep.
-fn wake_reserved(wakers: Option<&Vec<TicketWaker>>, reserved: &Reserved) {
-    let Some(wakers) = wakers else {
-        return;
-    };
-    for (waker, is_reserved) in wakers.iter().zip(reserved) {
-        if *is_reserved {
-            waker.wake();
-        }
-    }
+// Puts the closing mark at the end of each handler's queue, and wakes all handlers, by these.
+fn close_and_wake<D: DeskName, L, W: Wakes<L>, R: Wait>(
+    rt: &R,
+    bookings: &mut Bookings<D>,
+    wakers: &[W],
+    log: &mut L,
+)
+    requires unclosed { bookings.old.closed ≡ false }
+    ensures closed { bookings.new ≡ record bookings.old { closed = true } }
+    ensures woken { AreWoken W.moves wakers.now (replicate most_handlers true) log.old log.new }
+{
+    bookings.close(rt);
+    wake_told(wakers, &[true; MOST_HANDLERS], log);
 }

@@ -6,6 +6,7 @@
 //! ```
 #![tactic(auto)]
 
+mod bookings;
 mod desk;
 mod front;
 pub mod laws;
@@ -14,6 +15,7 @@ mod plan;
 mod queue;
 mod raw;
 mod share;
+mod wake;
 
 pub use desk::Desk;
 pub use front::Front;

@@ -63,7 +63,8 @@ impl Model for RawDesk {
         × (r.history.items ≡ []) × (all_bookings ≤ vec_capacity r.history)
         × (length r.senders.items ≡ length r.program.value.objects)
         × ((h : ℕ) → h < length r.senders.items → IsNewQueue r.program.value h (queue_at r.senders.items h))
-        × (r.ends ≡ map (end_at r.program.value (map queue_name r.senders.items)) places) };
+        × (r.ends ≡ map (end_at r.program.value (map queue_name r.senders.items)) places)
+        × (r.wakers.items ≡ map queue_name r.senders.items) };
 }
 
 /// What a desk begins with: the desk, a share for each client, and the tickets of each handler.
@@ -94,7 +95,9 @@ fn make_queues(
 }
 
 // What wakes each handler, by their numbers.
-fn make_wakers(alloc: Global, senders: &[TicketSender]) -> Result<Vec<TicketWaker>, AllocError> {
+fn make_wakers(alloc: Global, senders: &[TicketSender]) -> Result<Vec<TicketWaker>, AllocError>
+    ensures own { IfOk result (λ wakers. wakers.items ≡ map queue_name senders.now) }
+{
     let mut wakers = Vec::with_capacity(alloc, senders.len())?;
     for sender in senders {
         wakers.push(sender.waker()?)?;

@@ -70,7 +70,7 @@ impl<T, K, P: Protocol<T, K>> Model for Sender<T, K, P> {
     ghost invariant = { λ s. IsPassOf s.shared.value.queue s.pass × (known s.pass ≡ sending (known s.pass).key (known s.pass).sent) };
 }
 
-/// What wakes the taking end of a queue, where it sleeps there, and does nothing else.
+/// What wakes the taking end of a queue, where it sleeps there, and does nothing else. Contracts see the queue's name.
 pub struct Waker<T, K, P: Protocol<T, K>> {
     shared: Arc<Shared<T, K, P>, Global>,
 }
@@ -79,6 +79,14 @@ impl<T: Drop, K, P: Protocol<T, K>> Drop for Waker<T, K, P> {
     fn drop(self) {
         let Waker { shared: _ } = self;
     }
+}
+
+impl<T, K, P: Protocol<T, K>> Model for Waker<T, K, P> {
+    ghost use Rattle.atomic_table.specs.Seated.{TableId};
+
+    ghost Value = { TableId };
+
+    ghost view = { λ w. w.shared.value.queue.table.shared.table_id };
 }
 
 impl<T, K, P: Protocol<T, K>> Waker<T, K, P> {
@@ -194,8 +202,11 @@ impl<T: Drop, K, P: Protocol<T, K>> Sender<T, K, P> {
         self.shared.sleeper.notify_one();
     }
 
-    /// What wakes the taking end from elsewhere. An error says that there are too many of them.
-    pub fn waker(&self) -> Result<Waker<T, K, P>, AllocError> {
+    /// What wakes the taking end from elsewhere; its value is the queue's name. An error says that there are too many of
+    /// them.
+    pub fn waker(&self) -> Result<Waker<T, K, P>, AllocError>
+        ensures own { IfOk result (λ waker. waker ≡ self.now.name) }
+    {
         let shared = Arc::try_clone(&self.shared)?;
         Ok(Waker { shared })
     }

@@ -2,7 +2,7 @@ use Rattle.std.proofs.Common.{ap, subst, ◌∙◌}
 use Rattle.qs_desk.specs.Desks.{IsDesk}
 use Rattle.qs_desk.specs.Views.{DeskView}
 use Rattle.qs_desk.proofs.Steps.{all_may_close, desk_closed}
-use Rattle.qs_desk.proofs.desk.Desk.close.Goals as goal
+use Rattle.qs_desk.proofs.bookings.Bookings.close.Goals as goal
 
 pub push_closed-requires : goal.push_closed-requires
 push_closed-requires g c =

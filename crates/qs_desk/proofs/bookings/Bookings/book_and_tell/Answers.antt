@@ -4,7 +4,7 @@ use Rattle.qs_desk.specs.Desks.{IsDesk}
 use Rattle.qs_desk.specs.TicketQueues.{queue_at, with_ticket}
 use Rattle.qs_desk.specs.Views.{DeskView}
 use Rattle.qs_desk.proofs.Steps.{all_may_grow, room_left, desk_more}
-use Rattle.qs_desk.proofs.desk.Desk.book_and_tell.Goals as goal
+use Rattle.qs_desk.proofs.bookings.Bookings.book_and_tell.Goals as goal
 
 pub push_reserved-requires : goal.push_reserved-requires
 push_reserved-requires g c =
