@@ -209,23 +209,23 @@ static void add_bytes_of(const struct script *script, uint32_t token) {
     add(name);
 }
 
-/* A part of a list: an actor by its number or by its name, now and then several times. */
+/* Parts of a list for one actor: its name and how often, or its number so often. */
 static void add_part(const struct script *script, bool is_handler, uint32_t number, uint32_t times, bool is_first) {
     char part[32];
     uint32_t most = (uint32_t)(is_handler ? script->object_count : script->client_count);
-    if (!is_first)
-        add(",");
     if (number < most && !chance(6)) {
-        add("@");
+        add(is_first ? "@" : ",@");
         add_bytes_of(script, is_handler ? script->objects[number].name : script->clients[number].name);
-    } else {
-        snprintf(part, sizeof part, "%c%u", is_handler ? 'h' : 'c', number);
-        add(part);
-    }
-    if (times > 1 || !chance(30)) {
         snprintf(part, sizeof part, "*%u", times);
+        add(times > 1 || !chance(30) ? part : "");
+        return;
+    }
+    snprintf(part, sizeof part, "%c%u", is_handler ? 'h' : 'c', number);
+    for (uint32_t i = 0; i < times; i++) {
+        add(is_first && !i ? "" : ",");
         add(part);
     }
+    add(chance(600) ? "" : "*2");
 }
 
 /* An order by chance: all blocks or a front of them, and now and then one that no client has. */
@@ -277,11 +277,13 @@ static void add_wrong_word(void) {
                                         "--order\nh0",
                                         "--pick\nc10",
                                         "--pick=@client",
-                                        "--pick\nc0*0",
+                                        "--pick\n@a*0",
+                                        "--pick\nc0*2",
                                         "--limit=0",
                                         "--counts=1",
                                         "--counts\n--counts",
-                                        "--after\nc0*1000001",
+                                        "--after\n@a*1000001",
+                                        "--after\nc0,c0*1",
                                         "--ends=",
                                         "--estimate\n--ends",
                                         "--order\nc0\n--rounds=1",

@@ -177,8 +177,8 @@ static bool is_name(struct bytes bytes) {
     return true;
 }
 
-/* Reads one part of a list, without its comma. */
-static bool read_part(struct bytes bytes, bool has_handlers, struct part *part) {
+/* Reads the name of a part, behind its `@`, and how often it stands there. */
+static bool read_named_part(struct bytes bytes, struct part *part) {
     const uint8_t *star = bytes.length ? memchr(bytes.at, '*', bytes.length) : NULL;
     uint64_t times = 1;
     if (star) {
@@ -187,20 +187,20 @@ static bool read_part(struct bytes bytes, bool has_handlers, struct part *part) 
             return false;
         bytes.length = (size_t)(star - bytes.at);
     }
-    *part = (struct part){.times = (uint32_t)times};
-    if (bytes.length && bytes.at[0] == '@') {
-        struct bytes name = {bytes.at + 1, bytes.length - 1};
-        part->is_named = true;
-        part->name_length = (uint8_t)name.length;
-        if (!is_name(name))
-            return false;
-        memcpy(part->name, name.at, name.length);
-        return true;
-    }
+    if (!is_name(bytes))
+        return false;
+    *part = (struct part){.times = (uint32_t)times, .is_named = true, .name_length = (uint8_t)bytes.length};
+    memcpy(part->name, bytes.at, bytes.length);
+    return true;
+}
+
+/* Reads one part of a list, without its comma. */
+static bool read_part(struct bytes bytes, bool has_handlers, struct part *part) {
+    if (bytes.length && bytes.at[0] == '@')
+        return read_named_part((struct bytes){bytes.at + 1, bytes.length - 1}, part);
     if (bytes.length != 2 || bytes.at[1] < '0' || bytes.at[1] > '9')
         return false;
-    part->is_handler = bytes.at[0] == 'h';
-    part->number = bytes.at[1] - '0';
+    *part = (struct part){.times = 1, .is_handler = bytes.at[0] == 'h', .number = bytes.at[1] - '0'};
     return bytes.at[0] == 'c' || (part->is_handler && has_handlers);
 }
 

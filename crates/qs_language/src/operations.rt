@@ -1,10 +1,10 @@
-// The lines of the operations.
+// The titles of the kinds, and the lines of their operations.
 
-ghost use Rattle.std.specs.Prelude.{◌≡◌, ◌++◌, OnOk};
+ghost use Rattle.std.specs.Prelude.{◌≡◌, ◌++◌, ◌-◌, OnOk};
 ghost use Rattle.qs_objects.specs.Operations.{operations_of};
-ghost use Rattle.qs_language.specs.Language.{Adds, AddsKind, AddsLineOf, AddsLinesOf};
+ghost use Rattle.qs_language.specs.Language.{AddsKind, AddsLineOf, AddsLinesOf, IsWithinLine, call, declaration as declared_as, sort_of, spaces_after, title};
 
-use crate::words::does;
+use crate::words::{about, does};
 use qs_objects::{Kind, Op};
 use std::alloc::AllocError;
 
@@ -15,43 +15,52 @@ pub(crate) fn put(out: &mut Vec<u8>, text: &[u8]) -> Result<(), AllocError>
     out.extend_from_slice(text)
 }
 
+// The column in which the words of a line begin, after the four spaces before it and the two parentheses.
+const COLUMN: usize = 24;
+
 // The spaces that are left of a column, after so many bytes.
 fn put_spaces(out: &mut Vec<u8>, width: usize) -> Result<(), AllocError>
-    ensures ok { OnOk result (Adds out.old.items out.new.items) }
+    ensures ok { OnOk result (out.new.items ≡ out.old.items ++ spaces_after width) }
 {
-    let spaces: &[u8] = b"                        ";
-    let from = width.min(spaces.len());
-    put(out, &spaces[from..])
+    for _space in 0..COLUMN.saturating_sub(width) {
+        out.push(b' ')?;
+    }
+    Ok(())
 }
 
-// The arguments of an operation, whether it is a query, and what it does.
-fn put_rest(out: &mut Vec<u8>, op: Op) -> Result<(), AllocError>
-    ensures ok { OnOk result (Adds out.old.items out.new.items) }
+// How an operation is called, up to the column of the words.
+fn put_call(out: &mut Vec<u8>, op: Op, parameters: &[u8]) -> Result<(), AllocError>
+    ensures ok { OnOk result (out.new.items ≡ out.old.items ++ call op parameters.now) }
 {
-    let parameters = op.parameters();
-    let width = op.word().len().saturating_add(parameters.len());
+    let word = op.word();
+    put(out, b"    ")?;
+    put(out, word)?;
+    put(out, b"(")?;
     put(out, parameters)?;
     put(out, b")")?;
-    put_spaces(out, width)?;
-    put(
-        out,
-        if op.is_query() {
-            b"query    "
-        } else {
-            b"command  "
-        },
-    )?;
-    put(out, does(op))?;
-    put(out, b"\n")
+    put_spaces(out, word.len().saturating_add(parameters.len()))
+}
+
+// Whether an operation is a query or a command.
+fn put_sort(out: &mut Vec<u8>, op: Op) -> Result<(), AllocError>
+    ensures ok { OnOk result (out.new.items ≡ out.old.items ++ sort_of op) }
+{
+    if op.is_query() {
+        put(out, b"query    ")
+    } else {
+        put(out, b"command  ")
+    }
 }
 
 fn put_operation(out: &mut Vec<u8>, op: Op) -> Result<(), AllocError>
     ensures ok { OnOk result (AddsLineOf op out.old.items out.new.items) }
 {
-    put(out, b"    ")?;
-    put(out, op.word())?;
-    put(out, b"(")?;
-    put_rest(out, op)
+    let parameters = op.parameters();
+    let explained = does(op);
+    put_call(out, op, parameters)?;
+    put_sort(out, op)?;
+    put(out, explained)?;
+    put(out, b"\n")
 }
 
 fn put_operations(out: &mut Vec<u8>, operations: &[Op]) -> Result<(), AllocError>
@@ -66,10 +75,32 @@ fn put_operations(out: &mut Vec<u8>, operations: &[Op]) -> Result<(), AllocError
     }
 }
 
-/// Puts what is said of a kind, and a line for each of its operations. An error says that an allocation failed.
-pub(crate) fn put_kind(out: &mut Vec<u8>, title: &[u8], kind: Kind) -> Result<(), AllocError>
+// What a declaration of an object has after the object's name.
+fn declaration(kind: Kind) -> &'static [u8]
+    ensures declared { result.now ≡ declared_as kind }
+{
+    match kind {
+        Kind::Account { .. } => b"account N",
+        Kind::Buffer { .. } => b"buffer N",
+        Kind::Grid { .. } => b"grid R C",
+    }
+}
+
+fn put_title(out: &mut Vec<u8>, kind: Kind, explained: &[u8]) -> Result<(), AllocError>
+    ensures ok { OnOk result (out.new.items ≡ out.old.items ++ title kind explained.now) }
+{
+    put(out, b"\n  ")?;
+    put(out, declaration(kind))?;
+    put(out, b", ")?;
+    put(out, explained)?;
+    put(out, b"\n")
+}
+
+/// Puts the title of a kind, and a line for each of its operations. An error says that an allocation failed.
+pub(crate) fn put_kind(out: &mut Vec<u8>, kind: Kind) -> Result<(), AllocError>
     ensures ok { OnOk result (AddsKind kind out.old.items out.new.items) }
 {
-    put(out, title)?;
+    let explained = about(kind);
+    put_title(out, kind, explained)?;
     put_operations(out, kind.operations())
 }

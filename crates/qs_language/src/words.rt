@@ -1,8 +1,10 @@
-// What the page says, but for the names of the operations.
+// What the page says, but for the titles and how operations are called.
 
-use qs_objects::Op;
+ghost use Rattle.qs_language.specs.Language.{IsHead, IsTail, IsWithinLine};
 
-pub const HEAD: &[u8] = b"\
+use qs_objects::{Kind, Op};
+
+const HEAD: &[u8] = b"\
 The language of scripts
 
 A script declares objects, and clients that use them. A # begins a comment, up to the end of its line. A script in the
@@ -36,15 +38,7 @@ refused.
 Kinds of objects, and their operations:
 ";
 
-pub const ACCOUNT: &[u8] = b"\n  account N, with a balance N from 0 to 1000000000000000\n";
-
-pub const BUFFER: &[u8] =
-    b"\n  buffer N, which starts empty and has room for N numbers, 1 to 1024\n";
-
-pub const GRID: &[u8] =
-    b"\n  grid R C, with R rows and C columns of numbers, 1 to 16 each, all 0; rows and columns are counted from 0\n";
-
-pub const TAIL: &[u8] = b"
+const TAIL: &[u8] = b"
 Which client comes first is for the schedule to say, and blocks of others may come between two blocks of a client. A
 block waits for nothing but its objects: a `put` on a full buffer is refused. The language has no wait conditions, no
 separate blocks inside one another, no loops around blocks, no `while`, no `else if`, no queries inside expressions, no
@@ -52,8 +46,37 @@ numbers as formals, no texts, and no objects of your own kinds.
 `qs --help` says what can be done with a script, and `qs WORD --help` its limits.
 ";
 
+/// What stands before the kinds.
+pub fn head() -> &'static [u8]
+    ensures head { IsHead result.now }
+{
+    HEAD
+}
+
+/// What stands after them.
+pub fn tail() -> &'static [u8]
+    ensures tail { IsTail result.now }
+{
+    TAIL
+}
+
+/// What a declaration's numbers say of an object of a kind.
+pub fn about(kind: Kind) -> &'static [u8]
+    ensures within_line { IsWithinLine result.now }
+{
+    match kind {
+        Kind::Account { .. } => b"with a balance N from 0 to 1000000000000000",
+        Kind::Buffer { .. } => b"which starts empty and has room for N numbers, 1 to 1024",
+        Kind::Grid { .. } => {
+            b"with R rows and C columns of numbers, 1 to 16 each, all 0; rows and columns are counted from 0"
+        }
+    }
+}
+
 /// What an operation does, in a few words.
-pub fn does(op: Op) -> &'static [u8] {
+pub fn does(op: Op) -> &'static [u8]
+    ensures within_line { IsWithinLine result.now }
+{
     match op {
         Op::Deposit => b"adds n; refused where n < 0, or the balance would pass 1000000000000000",
         Op::Withdraw => b"takes n away; refused where n < 0, or where the balance is less",

@@ -1,6 +1,5 @@
--- A text of one letter, `c` or `h`, and one digit has no `*` and no `@` at its front, so it is read as its actor, once;
--- a list of such texts is read as these actors, and names them. It goes by cases of the letter, and by induction on the
--- list.
+-- A text of one letter, `c` or `h`, and one digit has no `@` at its front, so it is read as its actor, once; a list of
+-- such texts is read as these actors, and names them. It goes by cases of the letter, and by induction on the list.
 use Rattle.std.proofs.Common.{◌≡◌, ◌≤◌, ◌+◌, ◌-◌, ◌==◌, ◌&&◌, ℕ, suc, Bool, true, false, List, [], ◌∷◌, length, map, Option, Some, None, Ok, Result, refl, sym, ap, ap₂, ◌∙◌, arith, nat_le, if◌then◌else◌, option_map, option_and_then, unwrap_or}
 use Rattle.std.specs.List.{fold, position, slice_split}
 use Rattle.std.proofs.lemmas.List.{length-map}
@@ -14,54 +13,38 @@ use Rattle.qs_line.specs.declared.parts.Who.TheVariants.{Number}
 use Rattle.qs_line.specs.declared.fault.ListFault.{ListFault}
 use Rattle.qs_line.specs.Limits.{most_actors}
 use Rattle.qs_line.specs.Named.{actor_of, named_client, listed_from, repeated}
-use Rattle.qs_line.specs.Numbers.{ClientNumbersStay, NumbersStay, numbers_of, once}
-use Rattle.qs_line.specs.Parts.{actor_by, actor_in, has_handler, name_in, part_by, part_in, parts_of, times, within_limit, without_handlers}
+use Rattle.qs_line.specs.Numbers.{ClientNumbersStay, NumbersStay, numbers_of}
+use Rattle.qs_line.specs.Parts.{actor_by, actor_in, has_handler, named_in, once, part_in, parts_of, within_limit, without_handlers}
 
 other : (n m : ℕ) → (n ≡ m → ⊥) → (n == m) ≡ false
 other n m h = false_from_ne_true (n == m) (λ e. h (eqb-true n m e))
 
-star_free : (l d : ℕ) → (l == 42) ≡ false → (d == 42) ≡ false → position (λ byte. byte == 42) (l ∷ d ∷ []) ≡ None
-star_free l d h k = rw (h, k) refl
+by_letter : (isc ish : Bool) (l d : ℕ) (a : Actor) → (l == 99) ≡ isc → (l == 104) ≡ ish
+    → (if isc then Some (Client (d - 48)) else if ish then Some (Handler (d - 48)) else None) ≡ Some a
+    → (l == 64) ≡ false
+by_letter true ish l d a c h e = other l 64 (λ q. omega (arith, q, eqb-true l 99 c))
+by_letter false true l d a c h e = other l 64 (λ q. omega (arith, q, eqb-true l 104 h))
+by_letter false false l d a c h e = absurd (cc e)
 
-digit_free : (d : ℕ) → is_digit d ≡ true → (d == 42) ≡ false
-digit_free d h =
-    let low : 48 ≤ d = leb-true 48 d (both_first (nat_le 48 d) (nat_le d 57) h) in
-    other d 42 (λ e. omega (arith, e, low))
-  where
-    both_first : (b c : Bool) → (b && c) ≡ true → b ≡ true
-    both_first true c h = refl
-    both_first false c h = h
-
-by_letter : (m : ℕ) → (m ≡ 99 → ⊥) → (m ≡ 104 → ⊥) → (isc ish : Bool) (l d : ℕ) (a : Actor) → (l == 99) ≡ isc → (l == 104) ≡ ish
-    → (if isc then Some (Client (d - 48)) else if ish then Some (Handler (d - 48)) else None) ≡ Some a → (l == m) ≡ false
-by_letter m no_c no_h true ish l d a c h e = other l m (λ q. no_c (sym q ∙ eqb-true l 99 c))
-by_letter m no_c no_h false true l d a c h e = other l m (λ q. no_h (sym q ∙ eqb-true l 104 h))
-by_letter m no_c no_h false false l d a c h e = absurd (cc e)
-
--- there is no `*`, and no `@` at the front
+-- there is no `@` at the front
 abbrev IsPlain : List ℕ → Type 0
 IsPlain [] = ⊥
-IsPlain (l ∷ rest) = (position (λ byte. byte == 42) (l ∷ rest) ≡ None) × ((l == 64) ≡ false)
+IsPlain (l ∷ rest) = (l == 64) ≡ false
 
-by_digit : (b : Bool) (l d : ℕ) (a : Actor) → is_digit d ≡ b → (if b then actor_by l (d - 48) else None) ≡ Some a → IsPlain (l ∷ d ∷ [])
-by_digit true l d a h e = (
-  star_free l d (by_letter 42 (λ q. omega (arith, q)) (λ q. omega (arith, q)) (l == 99) (l == 104) l d a refl refl e) (digit_free d h),
-  by_letter 64 (λ q. omega (arith, q)) (λ q. omega (arith, q)) (l == 99) (l == 104) l d a refl refl e,
-)
-by_digit false l d a h e = absurd (cc e)
+by_digit : (b : Bool) (l d : ℕ) (a : Actor) → (if b then actor_by l (d - 48) else None) ≡ Some a → IsPlain (l ∷ d ∷ [])
+by_digit true l d a e = by_letter (l == 99) (l == 104) l d a refl refl e
+by_digit false l d a e = absurd (cc e)
 
 plain : (text : List ℕ) (a : Actor) → actor_in text ≡ Some a → IsPlain text
 plain [] a e = absurd (cc e)
 plain (x ∷ []) a e = absurd (cc e)
-plain (x ∷ y ∷ []) a e = by_digit (is_digit y) x y a refl e
+plain (x ∷ y ∷ []) a e = by_digit (is_digit y) x y a e
 plain (x ∷ y ∷ z ∷ rest) a e = absurd (cc e)
 
 part_by_plain : (text : List ℕ) (a : Actor) → IsPlain text → actor_in text ≡ Some a → part_in text ≡ Some (once a)
 part_by_plain [] a plain e = absurd plain
 part_by_plain (l ∷ rest) a plain e =
-    ap (part_by (l ∷ rest)) plain.0
-    ∙ ap (λ b. option_map (times 1) (if b then name_in rest else option_map Number (actor_in (l ∷ rest)))) plain.1
-    ∙ ap (λ o. option_map (times 1) (option_map Number o)) e
+    ap (λ b. if b then named_in rest else option_map once (actor_in (l ∷ rest))) plain ∙ ap (option_map once) e
 
 part_is : (text : List ℕ) (a : Actor) → actor_in text ≡ Some a → part_in text ≡ Some (once a)
 part_is text a e = part_by_plain text a (plain text a e) e

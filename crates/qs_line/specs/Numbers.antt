@@ -5,20 +5,15 @@ use Rattle.std.specs.List.{slice_split}
 use Rattle.qs_played.specs.declared.schedule.actor.Actor.{Actor}
 use Rattle.qs_played.specs.declared.schedule.actor.Actor.TheVariants.{Client}
 use Rattle.qs_program.specs.Program.{ProgramShape}
-use Rattle.qs_line.specs.declared.parts.Part.{Part}
-use Rattle.qs_line.specs.declared.parts.Who.TheVariants.{Number}
 use Rattle.qs_line.specs.Limits.{most_actors}
 use Rattle.qs_line.specs.Named.{actors_of, clients_of}
-use Rattle.qs_line.specs.Parts.{actor_in, clients_in, list_in}
+use Rattle.qs_line.specs.Parts.{actor_in, clients_in, list_in, once}
 
 -- the actors of some texts, where each is an actor by its number
 abbrev pub numbers_of : List (List ℕ) → Option (List Actor)
 numbers_of [] = Some []
 numbers_of (text ∷ texts) =
     option_and_then (λ actor. option_map (λ actors. actor ∷ actors) (numbers_of texts)) (actor_in text)
-
-abbrev pub once : Actor → Part
-once actor = record { who = Number actor; count = 1 }
 
 abbrev pub NumbersStay : Type 0
 NumbersStay = (p : ProgramShape) (text : List ℕ) (actors : List Actor)

@@ -1,5 +1,5 @@
--- A list as it is written: parts that are joined by commas, each an actor by its number, or a name after an `@`, and
--- how often.
+-- A list as it is written: parts that are joined by commas, each an actor by its number, or after an `@` a name and how
+-- often.
 use Rattle.std.specs.Prelude.{ℕ, Bool, true, false, ◌==◌, ◌&&◌, ◌+◌, ◌-◌, if◌then◌else◌, not, nat_le, List, [], ◌∷◌, length, take, drop, Option, Some, None, option_map, option_and_then, sum_by, position}
 use Rattle.std.specs.List.{list_all, list_any, slice_split}
 use Rattle.qs_tokens.specs.Limits.{longest_name}
@@ -33,15 +33,6 @@ is_name (b ∷ bs) =
 abbrev pub name_in : List ℕ → Option Who
 name_in text = if is_name text then Some (Name text) else None
 
--- an `@`
-abbrev at_sign : ℕ
-at_sign = 64
-
--- a name after an `@`, or else an actor by its number
-abbrev pub who_in : List ℕ → Option Who
-who_in [] = None
-who_in (b ∷ bs) = if b == at_sign then name_in bs else option_map Number (actor_in (b ∷ bs))
-
 -- decimal digits that write a number from 1 to the limit
 abbrev pub is_count : List ℕ → Bool
 is_count text = list_all is_digit text && nat_le 1 (value_of text) && nat_le (value_of text) most_repeats
@@ -52,15 +43,28 @@ count_in text = if is_count text then Some (value_of text) else None
 abbrev pub times : ℕ → Who → Part
 times count who = record { who = who; count = count }
 
--- the part of a text that has a `*` at a place, or none
-abbrev pub part_by : List ℕ → Option ℕ → Option Part
-part_by text None = option_map (times 1) (who_in text)
-part_by text (Some i) =
-    option_and_then (λ count. option_map (times count) (who_in (take i text))) (count_in (drop (i + 1) text))
+-- the name of a text that has a `*` at a place, or none, and how often
+abbrev pub named_by : List ℕ → Option ℕ → Option Part
+named_by text None = option_map (times 1) (name_in text)
+named_by text (Some i) =
+    option_and_then (λ count. option_map (times count) (name_in (take i text))) (count_in (drop (i + 1) text))
 
--- an actor by its number or after an `@` by its name, and after a `*` how often
+-- a name, and after a `*` how often
+abbrev pub named_in : List ℕ → Option Part
+named_in text = named_by text (position (λ byte. byte == 42) text)
+
+-- an actor by its number, which stands for itself once
+abbrev pub once : Actor → Part
+once actor = record { who = Number actor; count = 1 }
+
+-- an `@`
+abbrev at_sign : ℕ
+at_sign = 64
+
+-- after an `@` a name and how often; without it an actor by its number, and nothing else
 abbrev pub part_in : List ℕ → Option Part
-part_in text = part_by text (position (λ byte. byte == 42) text)
+part_in [] = None
+part_in (b ∷ bs) = if b == at_sign then named_in bs else option_map once (actor_in (b ∷ bs))
 
 -- what some texts stand for, where each stands for one
 module _ {A : Type 0} (one : List ℕ → Option A) where

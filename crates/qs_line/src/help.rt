@@ -70,7 +70,7 @@ Example:
 First the actors of LIST step, one after another; then, N times, every client steps once and every handler once.
 With --order, a whole block of bob runs first, and then one of ann.
 An actor is a client or an object, by number or by name with an @ before it: c1 or @bob, h0 or @a. `@bob*2` stands
-for `@bob,@bob`."
+for `@bob,@bob`; after a number there is no `*`."
 );
 
 pub const PLAY: &str = "Plays the script on the optimised machine: lanes of chunks, and coalescing";
@@ -84,7 +84,7 @@ Example:
 First the actors of LIST step, one after another; then, N times, every client steps once and every handler once.
 With --order, a whole block of bob runs first, and then one of ann.
 An actor is a client or an object, by number or by name with an @ before it: c1 or @bob, h0 or @a. `@bob*2` stands
-for `@bob,@bob`.
+for `@bob,@bob`; after a number there is no `*`.
 Along one order of reservations neither the mode nor the size of chunks changes what a block sees. They change how many
 synchronisations are sent, and may change who comes first."
 );

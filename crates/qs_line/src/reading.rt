@@ -5,7 +5,7 @@ ghost use Rattle.std.specs.List.{list_all, slice_split};
 ghost use Rattle.qs_tokens.specs.Limits.{longest_name};
 ghost use Rattle.qs_tokens.specs.Tokens.{is_digit, is_name_byte, same, value_of};
 ghost use Rattle.qs_line.specs.Limits.{most_actors, most_repeats};
-ghost use Rattle.qs_line.specs.Parts.{actor_in, clients_in as clients_due, count_in, has_handler as some_handler, is_handler, is_name, is_reserved as is_reserved_word, length_of, list_in as list_due, name_in, orders_in as orders_due, part_in, parts_of as parts_due, times, who_in};
+ghost use Rattle.qs_line.specs.Parts.{actor_in, clients_in as clients_due, count_in, has_handler as some_handler, is_handler, is_name, is_reserved as is_reserved_word, length_of, list_in as list_due, name_in, named_in, once, orders_in as orders_due, part_in, parts_of as parts_due, times};
 
 use crate::limits::{LONGEST_NAME, MOST_ACTORS, MOST_REPEATS};
 use crate::parts::{Part, Who};
@@ -84,16 +84,6 @@ fn name_of(text: &[u8]) -> Option<Who>
     None
 }
 
-// A name stands after an `@`; what has none is an actor by its number.
-fn who_of(text: &[u8]) -> Option<Who>
-    ensures who { result ≡ who_in text.now }
-{
-    match text {
-        [b'@', name @ ..] => name_of(name),
-        _ => Some(Who::Number(actor_at(text)?)),
-    }
-}
-
 fn are_digits(text: &[u8]) -> bool
     ensures exact { result ≡ list_all is_digit text.now }
 {
@@ -124,10 +114,10 @@ fn count_of(text: &[u8]) -> Option<u32>
     None
 }
 
-fn part_times(count: u32, text: &[u8]) -> Option<Part>
-    ensures part { result ≡ option_map (times count) (who_in text.now) }
+fn name_times(count: u32, text: &[u8]) -> Option<Part>
+    ensures part { result ≡ option_map (times count) (name_in text.now) }
 {
-    let who = who_of(text)?;
+    let who = name_of(text)?;
     Some(Part { who, count })
 }
 
@@ -139,17 +129,34 @@ fn star_of(text: &[u8]) -> Option<usize>
     text.iter().position(|byte| *byte == b'*')
 }
 
-/// The part of a text: an actor by its number, or after an `@` by its name, and after a `*` how often; None exactly
-/// where the text is no part.
+// A name, and after a `*` how often.
+fn named_part(text: &[u8]) -> Option<Part>
+    ensures part { result ≡ named_in text.now }
+{
+    match star_of(text) {
+        None => name_times(1, text),
+        Some(place) => {
+            let count = count_of(&text[place + 1..])?;
+            name_times(count, &text[..place])
+        }
+    }
+}
+
+fn number_part(text: &[u8]) -> Option<Part>
+    ensures part { result ≡ option_map once (actor_in text.now) }
+{
+    let who = Who::Number(actor_at(text)?);
+    Some(Part { who, count: 1 })
+}
+
+/// The part of a text: after an `@` a name and, after a `*`, how often; without it an actor by its number and nothing
+/// else; None exactly where the text is no part.
 pub fn part_of(text: &[u8]) -> Option<Part>
     ensures part { result ≡ part_in text.now }
 {
-    match star_of(text) {
-        None => part_times(1, text),
-        Some(place) => {
-            let count = count_of(&text[place + 1..])?;
-            part_times(count, &text[..place])
-        }
+    match text {
+        [b'@', name @ ..] => named_part(name),
+        _ => number_part(text),
     }
 }
 

@@ -288,6 +288,9 @@ const NO_CLIENT: &[u8] =
 
 const NO_TIMES: &[u8] = b"has no number from 1 to 1000000 after its `*`\n";
 
+const REPEATED_NUMBER: &[u8] =
+    b"has a `*` after a number\n  = help: how often an actor stands there is said after a name alone, as in `@bob*2`\n";
+
 const TOO_MANY: &[u8] = b"brings the list to more than 1000000\n";
 
 // Whether a text is an actor that may stand in a list: a client by its number, a handler where handlers may, or a name
@@ -299,15 +302,19 @@ fn may_stand(actor: &str, may_be_handler: bool) -> bool {
     }
 }
 
-// What is wrong with a part of a list: before its `*` stands no actor that may stand there, or it says by no number how
-// often.
+// What is wrong with a part of a list: before its `*` stands no actor that may stand there, or one by its number, or it
+// says by no number how often.
 fn fault_of_part(part: &str, may_be_handler: bool) -> Option<&'static [u8]> {
     let actor = part.split('*').next().unwrap_or("");
     if !may_stand(actor, may_be_handler) {
         return Some(if may_be_handler { NO_ACTOR } else { NO_CLIENT });
     }
     if part_of(part.as_bytes()).is_none() {
-        return Some(NO_TIMES);
+        return Some(if part.starts_with("@") {
+            NO_TIMES
+        } else {
+            REPEATED_NUMBER
+        });
     }
     None
 }

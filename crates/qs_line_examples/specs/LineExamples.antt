@@ -4,8 +4,7 @@ use Rattle.clap.specs.Words.{Text}
 use Rattle.qs_played.specs.declared.schedule.actor.Actor.TheVariants.{Client, Handler}
 use Rattle.qs_line.specs.declared.parts.Part.{Part}
 use Rattle.qs_line.specs.declared.parts.Who.TheVariants.{Name, Number}
-use Rattle.qs_line.specs.Numbers.{once}
-use Rattle.qs_line.specs.Parts.{times}
+use Rattle.qs_line.specs.Parts.{once, times}
 use Rattle.qs_tree.specs.declared.tree.Relation.TheVariants as relation
 use Rattle.qs_conditions.specs.declared.claim.Claim.{Claim}
 use Rattle.qs_conditions.specs.declared.claim.Quantifier.{Quantifier}
@@ -352,23 +351,37 @@ pub record UncountedLines : Type 0 where
   pub of_check : line (codes "check" ∷ codes "--counts" ∷ []) ≡ refused
   pub of_graph : line (codes "graph" ∷ codes "--counts" ∷ []) ≡ refused
 
--- a part is an actor by its number or a name after an `@`, and after a `*` how often
+-- a part is an actor by its number, or after an `@` a name, and after a `*` how often
 pub record ListLines : Type 0 where
-  pub names : line (codes "rules" ∷ codes "--pick=@ann*3,@a,h0*2" ∷ [])
+  pub names : line (codes "rules" ∷ codes "--pick=@ann*3,@a,h0" ∷ [])
       ≡ asks (rules plain (by_schedule 1000000 (times 3 (Name (codes "ann")) ∷ named (codes "a")
-      ∷ times 2 (Number (Handler 0)) ∷ [])))
+      ∷ times 1 (Number (Handler 0)) ∷ [])))
   pub called_c10 : line (codes "play" ∷ codes "--pick" ∷ codes "@c10" ∷ [])
       ≡ asks (play plain Both 8 (by_schedule 1000000 (named (codes "c10") ∷ [])))
-  pub most : line (codes "rules" ∷ codes "--pick=c0*1000000" ∷ [])
-      ≡ asks (rules plain (by_schedule 1000000 (times 1000000 (Number (Client 0)) ∷ [])))
-  pub one_more : line (codes "rules" ∷ codes "--pick=c0*1000001" ∷ []) ≡ refused
-  pub more_in_all : line (codes "rules" ∷ codes "--pick=c0*1000000,h0" ∷ []) ≡ refused
-  pub no_times : line (codes "rules" ∷ codes "--pick=c0*0" ∷ []) ≡ refused
-  pub no_number : line (codes "rules" ∷ codes "--pick=c0*" ∷ []) ≡ refused
-  pub two_numbers : line (codes "rules" ∷ codes "--pick=c0*2*2" ∷ []) ≡ refused
+  pub called_c1 : line (codes "play" ∷ codes "--pick" ∷ codes "@c1*2" ∷ [])
+      ≡ asks (play plain Both 8 (by_schedule 1000000 (times 2 (Name (codes "c1")) ∷ [])))
+  pub most : line (codes "rules" ∷ codes "--pick=@a*1000000" ∷ [])
+      ≡ asks (rules plain (by_schedule 1000000 (times 1000000 (Name (codes "a")) ∷ [])))
+  pub one_more : line (codes "rules" ∷ codes "--pick=@a*1000001" ∷ []) ≡ refused
+  pub more_in_all : line (codes "rules" ∷ codes "--pick=@a*1000000,h0" ∷ []) ≡ refused
+  pub no_times : line (codes "rules" ∷ codes "--pick=@a*0" ∷ []) ≡ refused
+  pub no_number : line (codes "rules" ∷ codes "--pick=@a*" ∷ []) ≡ refused
+  pub two_numbers : line (codes "rules" ∷ codes "--pick=@a*2*2" ∷ []) ≡ refused
   pub longest_name : line (codes "rules" ∷ codes "--order=@abcdefghijklmnop" ∷ [])
       ≡ asks (rules plain (by_order (named (codes "abcdefghijklmnop") ∷ [])))
-  pub handlers_in_an_order : line (codes "rules" ∷ codes "--order=@ann,h0*2" ∷ []) ≡ refused
+  pub handlers_in_an_order : line (codes "rules" ∷ codes "--order=@ann,h0" ∷ []) ≡ refused
+
+-- behind a number nothing stands, so that it is once in its place
+pub record OnceLines : Type 0 where
+  pub client_twice : line (codes "rules" ∷ codes "--pick=c1*2" ∷ []) ≡ refused
+  pub handler_often : line (codes "play" ∷ codes "--pick" ∷ codes "h0*9" ∷ []) ≡ refused
+  pub client_once : line (codes "play" ∷ codes "--pick" ∷ codes "c0*1" ∷ []) ≡ refused
+  pub after_others : line (codes "rules" ∷ codes "--pick=@ann*2,c0,h0*2" ∷ []) ≡ refused
+  pub of_an_order : line (codes "rules" ∷ codes "--order=c0,c1*2" ∷ []) ≡ refused
+  pub of_a_front : line (codes "outcomes" ∷ codes "--after=c0*2" ∷ []) ≡ refused
+  pub of_leads : line (codes "outcomes" ∷ codes "--front=1" ∷ codes "--leads=c0:c0*2" ∷ []) ≡ refused
+  pub one_after_another : line (codes "rules" ∷ codes "--pick=c1,c1,h0" ∷ [])
+      ≡ asks (rules plain (by_schedule 1000000 (once (Client 1) ∷ once (Client 1) ∷ once (Handler 0) ∷ [])))
 
 -- parts that are neither
 pub record NoPartLines : Type 0 where
@@ -445,6 +458,7 @@ pub record LineExamples : Type 0 where
   pub counted : CountedLines
   pub uncounted : UncountedLines
   pub lists : ListLines
+  pub numbered : OnceLines
   pub no_parts : NoPartLines
   pub warned : WarnedLines
   pub verbose : VerboseLines

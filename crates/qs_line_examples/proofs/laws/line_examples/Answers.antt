@@ -186,6 +186,7 @@ returns c = record {
     lists = record {
       names = refl;
       called_c10 = refl;
+      called_c1 = refl;
       most = refl;
       one_more = refl;
       more_in_all = refl;
@@ -194,6 +195,16 @@ returns c = record {
       two_numbers = refl;
       longest_name = refl;
       handlers_in_an_order = refl;
+    };
+    numbered = record {
+      client_twice = refl;
+      handler_often = refl;
+      client_once = refl;
+      after_others = refl;
+      of_an_order = refl;
+      of_a_front = refl;
+      of_leads = refl;
+      one_after_another = refl;
     };
     no_parts = record {
       another_letter = refl;
