@@ -7,3 +7,4 @@ pub mod Merged
 pub mod Crossing
 pub mod Jobs
 pub mod GoingAgain
+pub mod MoreFronts

@@ -11,6 +11,7 @@ ghost use Rattle.qs_level_laws.specs.Fronts.{AreFrontsAfter};
 ghost use Rattle.qs_level_laws.specs.Onward.{HasMoreOnward};
 ghost use Rattle.qs_level_laws.specs.Levels.{IsNextOf, IsSomeLevel};
 ghost use Rattle.qs_levels.specs.Founds.{found_in, found_of};
+ghost use Rattle.qs_levels.specs.MoreFronts.{HasMoreFronts};
 ghost use Rattle.qs_levels.specs.Shares.{AreGoing};
 
 use crate::leading::led_on;
@@ -143,7 +144,8 @@ fn fronts_from(
     requires first { IsFirst program.now front.now first }
     ensures fronts { IfOk result (λ found. AreFrontsAfter program.now front.now blocks found.items) }
     ensures within { IfOk result (λ found. length found.items ≤ limit) }
-    ensures limit { IsErrOf result OutcomesFault.Limit → HasMoreThanAfter program.now front.now limit }
+    ensures few { IfOk result (λ _. ¬ HasMoreFronts program.now front.now blocks limit) }
+    ensures many { IsErrOf result OutcomesFault.Limit → HasMoreFronts program.now front.now blocks limit }
     ensures order { ¬ IsErrOf result OutcomesFault.Order }
 {
     program.keeps_sound();
@@ -171,8 +173,10 @@ fn fronts_from(
 
 /// The configurations to which orders lead that are reduced after the blocks that a list of clients names, each
 /// client's in turn, and go on from these by so many blocks: each once, with its least order, and sorted by these
-/// orders. `Order` comes exactly where no legal order is named, `Limit` only where there are more configurations than
-/// the limit, `Memory` where memory was refused.
+/// orders. `Order` comes exactly where no legal order is named, `Memory` where memory was refused. `Limit` comes where
+/// there are more configurations than the limit after some number of blocks, of so many at most, and only there: what
+/// lies beyond is not counted.
+#[tactic(auto, using(crate::proofs::MoreFronts::more_than_fronts))]
 pub fn fronts_after(
     alloc: Global,
     program: &Program,
@@ -182,6 +186,8 @@ pub fn fronts_after(
 ) -> Result<Vec<Standing>, OutcomesFault>
     ensures fronts { IfOk result (λ found. AreFrontsAfter program.now (order_of front.now) blocks found.items) }
     ensures within { IfOk result (λ found. length found.items ≤ limit) }
+    ensures few { IfOk result (λ _. ¬ HasMoreFronts program.now (order_of front.now) blocks limit) }
+    ensures many { IsErrOf result OutcomesFault.Limit → HasMoreFronts program.now (order_of front.now) blocks limit }
     ensures limit { IsErrOf result OutcomesFault.Limit → HasMoreThanAfter program.now (order_of front.now) limit }
     ensures order { IsErrOf result OutcomesFault.Order → ¬ IsLegal program.now (order_of front.now) }
 {

@@ -1,1 +1,3 @@
+mod Comings
+mod Refusing
 mod Tallying

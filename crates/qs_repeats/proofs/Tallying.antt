@@ -9,10 +9,11 @@ use Rattle.qs_syncset.specs.declared.mode.Mode.{Mode}
 use Rattle.qs_played.specs.Played.{Played}
 use Rattle.qs_run_laws.specs.Outcomes.{IsOutcome}
 use Rattle.qs_tally.specs.Counting.{IsBegun, IsCounted}
-use Rattle.qs_repeats.specs.Repeats.{IsTallyBy}
-use Rattle.qs_tally.specs.Tallies.{CountedShape, IsCountOf}
+use Rattle.qs_repeats.specs.Repeats.{AreAsTheyCame, IsTallyBy}
+use Rattle.qs_tally.specs.Tallies.{CountedShape, IsCountOf, standings_in}
 use Rattle.qs_tally.proofs.Counts.{counted_on, times_within}
 use Rattle.qs_tally.proofs.Goes.{listed_on, unlisted_on}
+use Rattle.qs_repeats.proofs.Comings.{came_none, came_on}
 
 abbrev pub order_shown : Played → List Ticket
 order_shown o = o.order
@@ -29,6 +30,7 @@ tally_begun p mode size limit listed ends begun = record {
   counted = begun.counted;
   listed = begun.listed_all;
   unlisted = begun.unlisted;
+  as_they_came = λ e. came_none p ends begun.counted (begun.unlisted e).1;
 }
 
 -- each end has come at most as often as there were runs
@@ -49,4 +51,6 @@ tally_on p mode size many limit listed before after o tally is counted = record 
   counted = subst (λ orders. IsCountOf p orders after) (sym (map-append order_shown tally.runs (o ∷ []))) (counted_on p o.order (map order_shown tally.runs) before after tally.counted counted);
   listed = λ e. listed_on p o.order before after counted limit (complete_of p mode size o is) (tally.listed e);
   unlisted = λ e. unlisted_on p o.order before after counted limit (tally.unlisted e);
+  as_they_came = λ e. subst (λ orders. AreAsTheyCame p orders (standings_in after)) (sym (map-append order_shown tally.runs (o ∷ [])))
+      (came_on p o.order (map order_shown tally.runs) before after tally.counted counted (tally.as_they_came e));
 }

@@ -1,2 +1,3 @@
 -- What an auditor reads: the promise of the call of the surface is said with these.
 pub mod Repeats
+pub mod Refusals

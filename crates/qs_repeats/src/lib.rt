@@ -3,4 +3,4 @@
 
 mod repeats;
 
-pub use repeats::run_times;
+pub use repeats::{run_times, run_times_with};

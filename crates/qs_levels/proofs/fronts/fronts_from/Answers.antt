@@ -1,27 +1,36 @@
-use Rattle.std.proofs.Common.{◌≡◌, ◌+◌, Err, [], ap, arith, length, subst, suc, sym}
+use Rattle.std.proofs.Common.{◌≡◌, ◌≤◌, ◌+◌, Err, [], ap, arith, length, subst, suc, sym}
 use Rattle.std.proofs.lemmas.Result.{err_from_is_err_and}
 use Rattle.qs_meaning.specs.Serial.{IsLegal}
-use Rattle.qs_outcomes.specs.Outcomes.{HasMoreThanAfter}
 use Rattle.qs_outcomes.specs.declared.fault.OutcomesFault.TheVariants.{Limit}
 use Rattle.qs_level_laws.specs.Fronts.{AreFrontsAfter}
 use Rattle.qs_level_laws.specs.Levels.{IsLevel}
 use Rattle.qs_level_laws.proofs.Lists.{nothing}
-use Rattle.qs_level_laws.proofs.Reaching.{fronts_of, level_first, level_on, more_than_none, none_later}
+use Rattle.qs_level_laws.proofs.Reaching.{fronts_of, level_first, level_on, none_later}
+use Rattle.qs_levels.specs.MoreFronts.{HasMoreFronts}
+use Rattle.qs_levels.proofs.MoreFronts.{few_first, few_later, few_next, more_on, more_than_no_fronts}
 use Rattle.qs_levels.proofs.fronts.fronts_from.Goals as goal
-use Rattle.qs_levels.proofs.fronts.fronts_from.Goals.{In_ok-level-2}
+use Rattle.qs_levels.proofs.fronts.fronts_from.Goals.{In_ok-level, In_ok-level-2}
 
-pub returns-in_err-level-clause-limit : goal.returns-in_err-level-clause-limit
-returns-in_err-level-clause-limit c = λ is.
+pub returns-in_err-level-clause-many : goal.returns-in_err-level-clause-many
+returns-in_err-level-clause-many c = λ is.
     let p = err_from_is_err_and c.from_residual-in_err-level.result c.from_residual-in_err-level.ensures.1 in
     let same : c.in_err-level.field-0.0 ≡ Limit = cc (p.1, p.2) in
     let none = c.in_err-level.ensures.limit (ap (λ e. Err e) same) in
-    subst (HasMoreThanAfter c.args.program.now c.args.front.now) (sym none) (more_than_none c.args.program.now c.args.front.now c.args.first c.requires.first)
+    subst (HasMoreFronts c.args.program.now c.args.front.now c.args.blocks) (sym none)
+    (more_than_no_fronts c.args.program.now c.args.front.now c.args.first c.args.blocks c.requires.first)
+
+first_is : (c : In_ok-level) → IsLevel c.args.program.now c.args.front.now 0 c.in_ok-level.level.standings
+first_is c = subst (IsLevel c.args.program.now c.args.front.now 0) (sym c.in_ok-level.ensures.first) (level_first c.args.program.now c.args.front.now c.args.first c.requires.first)
+
+small_first : (c : In_ok-level) → length c.in_ok-level.level.standings ≤ c.args.limit
+small_first c = let one = ap length c.in_ok-level.ensures.first in let within = c.in_ok-level.ensures.within in omega (arith, one, within)
 
 pub loop-done-init : goal.loop-done-init
 loop-done-init c = record {
-  level = subst (IsLevel c.args.program.now c.args.front.now 0) (sym c.in_ok-level.ensures.first) (level_first c.args.program.now c.args.front.now c.args.first c.requires.first);
+  level = first_is (goal.at.loop-done-init c).In_ok-level;
   going = c.in_ok-level.ensures.going;
-  small = (let one = ap length c.in_ok-level.ensures.first in let within = c.in_ok-level.ensures.within in omega (arith, one, within));
+  small = small_first (goal.at.loop-done-init c).In_ok-level;
+  few = few_first c.args.program.now c.args.front.now c.args.limit c.in_ok-level.level.standings (first_is (goal.at.loop-done-init c).In_ok-level) (small_first (goal.at.loop-done-init c).In_ok-level);
 }
 
 pub after_level-requires-clause-level : goal.after_level-requires-clause-level
@@ -33,12 +42,24 @@ next_is c =
     level_on c.args.program.now c.args.front.now c.loop-done.done c.loop-done.level.standings c.loop-done.invariant.level c.in_ok-level-2.level.standings
     c.in_ok-level-2.ensures.next
 
+next_few : (c : In_ok-level-2) → HasMoreFronts c.args.program.now c.args.front.now (suc c.loop-done.done) c.args.limit → ⊥
+next_few c = few_next c.args.program.now c.args.front.now c.loop-done.done c.args.limit c.in_ok-level-2.level.standings (next_is c) c.in_ok-level-2.ensures.small c.loop-done.invariant.few
+
+pub returns-in_err-level-2-clause-many : goal.returns-in_err-level-2-clause-many
+returns-in_err-level-2-clause-many c = λ is.
+    let p = err_from_is_err_and c.from_residual-in_err-level-2.result c.from_residual-in_err-level-2.ensures.1 in
+    let same : c.in_err-level-2.field-0.0 ≡ Limit = cc (p.1, p.2) in
+    more_on c.args.program.now c.args.front.now c.loop-done.done c.args.blocks c.args.limit c.loop-done.level.standings c.loop-done.invariant.level c.loop-done-test.true
+    (c.in_err-level-2.ensures.limit (ap (λ e. Err e) same))
+
 pub loop-done-preserved : goal.loop-done-preserved
 loop-done-preserved c = record {
   level = subst (λ k. IsLevel c.args.program.now c.args.front.now k c.in_ok-level-2.level.standings) {x = suc c.loop-done.done} {y = c.loop-done.done + 1} (omega arith)
       (next_is (goal.at.loop-done-preserved c).In_ok-level-2);
   going = c.in_ok-level-2.ensures.going;
   small = c.in_ok-level-2.ensures.small;
+  few = subst (λ k. HasMoreFronts c.args.program.now c.args.front.now k c.args.limit → ⊥) {x = suc c.loop-done.done} {y = c.loop-done.done + 1} (omega arith)
+      (next_few (goal.at.loop-done-preserved c).In_ok-level-2);
 }
 
 pub returns-then-len-eq0-clause-fronts : goal.returns-then-len-eq0-clause-fronts
@@ -53,9 +74,25 @@ returns-then-len-eq0-clause-fronts c =
     (none_later p front (suc c.loop-done.done) c.args.blocks (let more = c.loop-done-test.true in omega (arith, more))
     (subst (IsLevel p front (suc c.loop-done.done)) none (next_is (goal.at.returns-then-len-eq0-clause-fronts c).In_ok-level-2))))
 
+pub returns-then-len-eq0-clause-few : goal.returns-then-len-eq0-clause-few
+returns-then-len-eq0-clause-few c =
+    let p = c.args.program.now in
+    let front = c.args.front.now in
+    let found = c.in_ok-level-2.level.standings in
+    let none : found ≡ [] = nothing found
+    (let n = c.if-len-eq0.true in let e = c.len.ensures.len in omega (arith, n, e)) in
+    few_later p front (suc c.loop-done.done) c.args.blocks c.args.limit
+    (subst (IsLevel p front (suc c.loop-done.done)) none (next_is (goal.at.returns-then-len-eq0-clause-few c).In_ok-level-2))
+    (next_few (goal.at.returns-then-len-eq0-clause-few c).In_ok-level-2)
+
 pub returns-clause-fronts : goal.returns-clause-fronts
 returns-clause-fronts c =
     subst (AreFrontsAfter c.args.program.now c.args.front.now c.args.blocks) (sym c.in_ok-found.ensures.all)
     (fronts_of c.args.program.now c.args.front.now c.args.blocks c.loop-done.level.standings (subst (IsLegal c.args.program.now) c.requires.first.order c.requires.first.standing.legal)
     (subst (λ k. IsLevel c.args.program.now c.args.front.now k c.loop-done.level.standings) {x = c.loop-done.done} {y = c.args.blocks}
     (let e = c.loop-done.auto.done-end in let o = c.loop-done-test.false in omega (arith, e, o)) c.loop-done.invariant.level))
+
+pub returns-clause-few : goal.returns-clause-few
+returns-clause-few c =
+    subst (λ k. HasMoreFronts c.args.program.now c.args.front.now k c.args.limit → ⊥) {x = c.loop-done.done} {y = c.args.blocks}
+    (let e = c.loop-done.auto.done-end in let o = c.loop-done-test.false in omega (arith, e, o)) c.loop-done.invariant.few

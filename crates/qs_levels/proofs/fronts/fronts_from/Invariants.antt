@@ -1,5 +1,6 @@
 use Rattle.std.proofs.Common.{◌≤◌, length}
 use Rattle.qs_level_laws.specs.Levels.{IsLevel}
+use Rattle.qs_levels.specs.MoreFronts.{HasMoreFronts}
 use Rattle.qs_levels.specs.Shares.{AreGoing}
 use Rattle.qs_levels.proofs.fronts.fronts_from.Given as goal
 
@@ -8,4 +9,5 @@ invariant-loop-done l = record {
   level : IsLevel l.program l.front l.done l.level.standings;
   going : AreGoing l.program 1 l.level.standings l.level.going;
   small : length l.level.standings ≤ l.limit;
+  few : HasMoreFronts l.program l.front l.done l.limit → ⊥;
 }
