@@ -4,7 +4,7 @@
 ghost use Rattle.std.specs.Prelude.{◌≡◌, ◌⊎◌, map, string_bytes, IfErr, IfOk};
 ghost use Rattle.qs_report.specs.declared.faults.Fault.TheVariants as fault;
 
-use qs_serve::{Counted, Fault, Watch, refuse, serve};
+use qs_serve::{Counted, Fault, Terminals, Watch, refuse, serve};
 use std::alloc::{AllocError, Global};
 use std::io::IsTerminal;
 use std::process::ExitCode;
@@ -42,19 +42,20 @@ fn main(rt: HostRuntime) -> ExitCode {
         Ok(words) => words,
         Err(fault) => return ExitCode::from(refuse(fault, &mut out, &mut Watch::new(), &mut err)),
     };
-    let is_terminal = err.is_terminal();
+    let terminals = Terminals {
+        input: from_terminal,
+        err: err.is_terminal(),
+    };
     let Ok(texts) = texts(rt.alloc(), &words) else {
         return ExitCode::from(refuse(Fault::Memory, &mut out, &mut Watch::new(), &mut err));
     };
     ExitCode::from(serve(
         &rt,
-        rt.alloc(),
         texts.as_slice(),
         &mut input,
         &mut out,
         &mut Watch::new(),
-        from_terminal,
-        is_terminal,
+        terminals,
         &mut err,
     ))
 }

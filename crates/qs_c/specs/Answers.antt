@@ -1,11 +1,13 @@
 -- What a call answers: the text that is due, as much of it as there is room for, its length, and its status.
-use Rattle.std.specs.Prelude.{◌≡◌, ◌==◌, ◌⊎◌, ◌∷◌, ◌++◌, ℕ, IsUtf8, List, [], codes, drop, length, take}
+use Rattle.std.specs.Prelude.{◌≡◌, ◌==◌, ◌⊎◌, ◌∷◌, ◌++◌, ℕ, IsUtf8, List, [], Some, codes, drop, length, take}
 use Rattle.std.specs.List.{slice_split}
 use Rattle.qs_report.specs.declared.faults.Fault.TheVariants as fault
 use Rattle.qs_line.specs.declared.line.Format.{Format}
 use Rattle.qs_line.specs.declared.line.Format.TheVariants as format
-use Rattle.qs_line.specs.Line.{Line, line_in}
+use Rattle.qs_line.specs.declared.line.ReportStyle.{ReportStyle}
+use Rattle.qs_line.specs.Line.{Line, Request, asks, line_in}
 use Rattle.qs_serve.specs.Due.{IsDueOfLine, IsFormatOfLine, IsRefusedBy, due_status, due_text}
+use Rattle.qs_serve.specs.Headline.{IsReported, style_of}
 use Rattle.qs_serve.specs.declared.due.Due.{Due}
 
 -- the words of a text, one on each of its lines; an empty text has none
@@ -37,3 +39,12 @@ abbrev pub IsAnswered : (word words script before after : List ℕ) → (status 
 IsAnswered word words script before after status answer =
     (due : Due) × (how : Format) × IsDueOfWords word words script due how
     × (after ≡ cut_into (due_text how due) before) × (answer ≡ length (due_text how due)) × (status ≡ due_status due)
+
+-- Where the status is 0 and the words ask for a run, the text reports a run of the script's program that is as if its
+-- blocks had been run one after another, each whole and alone; as much of it is written as there is room for.
+abbrev pub IsHeadlineOfCall : (word words script before after : List ℕ) → (status answer : ℕ) → Type 0
+IsHeadlineOfCall word words script before after status answer =
+    status ≡ 0 → (request : Request) (style : ReportStyle) → line_in (line_words word words) ≡ asks request
+    → style_of request ≡ Some style
+    → (text : List ℕ) × (after ≡ cut_into text before) × (answer ≡ length text)
+    × IsReported request style script (Some []) (Some text)

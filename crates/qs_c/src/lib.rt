@@ -5,7 +5,7 @@
 mod answering;
 
 ghost use Rattle.std.specs.Prelude.{codes};
-ghost use Rattle.qs_c.specs.Answers.{IsAnswered};
+ghost use Rattle.qs_c.specs.Answers.{IsAnswered, IsHeadlineOfCall};
 
 use crate::answering::answered;
 use std::alloc::Global;
@@ -48,6 +48,7 @@ pub extern "C" fn qs_rules(
     status: &mut u8,
 ) -> usize
     ensures answer { IsAnswered (codes "rules") words.now script.now room.old room.new status.new result }
+    ensures headline { IsHeadlineOfCall (codes "rules") words.now script.now room.old room.new status.new result }
 {
     answered(alloc, "rules", script, words, room, status)
 }
@@ -62,6 +63,7 @@ pub extern "C" fn qs_play(
     status: &mut u8,
 ) -> usize
     ensures answer { IsAnswered (codes "play") words.now script.now room.old room.new status.new result }
+    ensures headline { IsHeadlineOfCall (codes "play") words.now script.now room.old room.new status.new result }
 {
     answered(alloc, "play", script, words, room, status)
 }

@@ -21,7 +21,13 @@ use Rattle.qs_throughout.specs.Courses.{IsCourseAnswerAfter, IsCourseWitnessAfte
 use Rattle.qs_questions.specs.Claims.{IsAnswerBy, is_sought}
 use Rattle.qs_questions.specs.Questions.{holds_at}
 use Rattle.qs_questions.proofs.Sought.{steps_answer}
-use Rattle.qs_promises.specs.Answers.{AnswersAreOfRuns, AtEveryEnd, AtSomeEnd, OnEveryWay, OnSomeWay, Says}
+use Rattle.qs_plain_orders.proofs.BlockReached.{orders_played}
+use Rattle.qs_core_orders.proofs.BlocksPlayed.{core_orders_played}
+use Rattle.qs_core_laws.proofs.ProgramCodes.{program_codes}
+use Rattle.qs_syncset.specs.declared.mode.Mode.{Mode}
+use Rattle.qs_played.specs.declared.schedule.actor.Actor.{Actor}
+use Rattle.qs_promises.specs.Answers.{AnswersAreOfRuns, AtEveryEnd, AtSomeEnd, ComesTo, OnEveryWay, OnSomeWay, Says}
+use Rattle.qs_promises.specs.Runs.{by_rules, on_machine}
 use Rattle.qs_promises.proofs.Ending.{finished_covered, machine_reaches, rules_reach}
 use Rattle.qs_promises.proofs.SerialPlaces.{serial_order}
 
@@ -32,6 +38,22 @@ not_true false e = refl
 not_false : (b : Bool) → not b ≡ false → b ≡ true
 not_false true e = refl
 not_false false e = absurd (cc e)
+
+-- each legal order is come to
+rules_come : (p : ProgramShape) → IsSound p → (order : List Ticket) → IsLegal p order
+    → (picks : List Actor) × ComesTo p (by_rules picks 0) order
+rules_come p sound order legal =
+    let found = orders_played p sound order legal in
+    let there = found.1 in
+    (there.picks, record { shown = found.0; run = there.played; order = there.order; ended = there.ended })
+
+machine_comes : (p : ProgramShape) → IsSound p → (mode : Mode) (size : ℕ) (order : List Ticket) → IsLegal p order
+    → (picks : List Actor) × ComesTo p (on_machine mode size picks 0) order
+machine_comes p sound mode size order legal =
+    let codes = program_codes p sound mode in
+    let found = core_orders_played p sound mode codes.0 codes.1 size order legal in
+    let there = found.1 in
+    (there.picks, record { shown = found.0; run = there.played; order = there.order; ended = there.ended })
 
 module _ (p : ProgramShape) (sound : IsSound p) (c : Tree) (front : List Ticket) (asked : OrderOutcome → Bool) where
   -- what no complete order comes to, no finished run does
@@ -66,10 +88,14 @@ module _ (p : ProgramShape) (sound : IsSound p) (c : Tree) (front : List Ticket)
       → (s : StandingShape) → IsCourseWitnessAfter p front asked s → OnSomeWay p c front
   some_way turn s is =
       let whole = is.on_the_way.whole in
+      let order = front ++ is.on_the_way.rest in
+      let legal = subst (IsLegal p) whole is.on_the_way.legal in
       record {
         rest = is.on_the_way.rest;
-        legal = subst (IsLegal p) whole is.on_the_way.legal;
-        stands = turn (passed p (front ++ is.on_the_way.rest)) (ap asked (ap (passed p) (sym whole) ∙ sym (ap outcome_in is.on_the_way.there)) ∙ is.met);
+        legal = legal;
+        stands = turn (passed p order) (ap asked (ap (passed p) (sym whole) ∙ sym (ap outcome_in is.on_the_way.there)) ∙ is.met);
+        rules = rules_come p sound order legal;
+        machine = λ mode size. machine_comes p sound mode size order legal;
       }
 
   -- by the quantifier, and by whether there is a witness

@@ -3,6 +3,7 @@ pub mod SerialPlaces
 pub mod Between
 pub mod Done
 pub mod Ending
+pub mod AsSerial
 pub mod Asked
 pub mod GoingOn
 pub mod Rounds

@@ -24,7 +24,7 @@ place_starts p ls st (t ∷ ts) (suc i) e less =
     let o = solo (text_of p t).body (ls t.client) st in
     place_starts p (put ls t.client o.locals) o.states ts i e (omega (arith, less))
 
-place_trace : (p : ProgramShape) (ls : ℕ → Locals) (st : States) (ts : List Ticket) (i : ℕ) (d : Ticket)
+pub place_trace : (p : ProgramShape) (ls : ℕ → Locals) (st : States) (ts : List Ticket) (i : ℕ) (d : Ticket)
     (e : SerialBlock) → i < length ts
     → (get_or (serial_from p ls st ts).places i e).trace
     ≡ (solo (text_of p (get_or ts i d)).body (get_or (serial_from p ls st ts).places i e).entry
@@ -52,7 +52,7 @@ in_serial_order p r waits isolated = record {
   blocks = λ i less. let b = isolated.places i less in record { entry = b.entry; beginning = b.front; done = b.whole };
 }
 
-place_of : (p : ProgramShape) (r : Played) (waits : ℕ → Ticket → List Request) → IsIsolated p r waits → (i : ℕ)
+pub place_of : (p : ProgramShape) (r : Played) (waits : ℕ → Ticket → List Request) → IsIsolated p r waits → (i : ℕ)
     → i < length r.order → IsIsolatedBlock p r i
 unfolding IsIsolated
 place_of p r waits isolated i less = isolated.places i less

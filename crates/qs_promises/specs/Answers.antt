@@ -1,5 +1,6 @@
 -- What the answer to a claim says of the runs of a program.
 use Rattle.std.specs.Prelude.{◌≡◌, Bool, true, false, List, ◌++◌, ℕ, is_some}
+use Rattle.std.specs.List.{AllByRecursion}
 use Rattle.qs_objects.specs.declared.held.Ticket.{Ticket}
 use Rattle.qs_program.specs.Program.{ProgramShape}
 use Rattle.qs_program.specs.Sound.{IsSound}
@@ -16,9 +17,10 @@ use Rattle.qs_questions.specs.Claims.{IsAnswerTo}
 use Rattle.qs_questions.specs.Questions.{holds_at}
 use Rattle.qs_syncset.specs.declared.mode.Mode.{Mode}
 use Rattle.qs_played.specs.Played.{Played}
+use Rattle.qs_played.specs.declared.schedule.actor.Actor.{Actor}
 use Rattle.qs_promises.specs.Finished.{ShowsStates}
 use Rattle.qs_promises.specs.Outcomes.{MachineReaches, RulesReach}
-use Rattle.qs_promises.specs.Runs.{IsRun, Way}
+use Rattle.qs_promises.specs.Runs.{IsRun, Way, by_rules, on_machine}
 
 -- At the end of every finished run whose order begins with the front, in whichever way it is run, the condition holds,
 -- or it does not; and the run shows the objects of this end.
@@ -42,11 +44,21 @@ OnEveryWay p c front =
     (way : Way) (r : Played) → IsRun p way r → (before later : List Ticket) → r.order ≡ (front ++ before) ++ later
     → holds_at p c (passed p (front ++ before)) ≡ true
 
--- There is a legal order that begins with the front and leads to where the condition does not hold.
+-- A run in this way has exactly this order, and each of its blocks has ended.
+pub record ComesTo (p : ProgramShape) (way : Way) (due : List Ticket) : Type 0 where
+  pub shown : Played
+  pub run : IsRun p way shown
+  pub order : shown.order ≡ due
+  pub ended : AllByRecursion (λ e. e ≡ true) shown.ended
+
+-- There is a legal order that begins with the front and leads to where the condition does not hold; and some picks lead
+-- the plain rules there, and the optimised machine in every mode and with every size of chunks.
 pub record OnSomeWay (p : ProgramShape) (c : Tree) (front : List Ticket) : Type 0 where
   pub rest : List Ticket
   pub legal : IsLegal p (front ++ rest)
   pub stands : holds_at p c (passed p (front ++ rest)) ≡ false
+  pub rules : (picks : List Actor) × ComesTo p (by_rules picks 0) (front ++ rest)
+  pub machine : (mode : Mode) (size : ℕ) → (picks : List Actor) × ComesTo p (on_machine mode size picks 0) (front ++ rest)
 
 -- what yes or no says
 abbrev pub Says : Quantifier → (answer : Bool) → ProgramShape → Tree → List Ticket → Type 0

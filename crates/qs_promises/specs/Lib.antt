@@ -1,5 +1,6 @@
 -- What is promised, sentence by sentence: whoever relies on it has to read these.
 pub mod Runs
+pub mod AsIfSerial
 pub mod SerialOrder
 pub mod BlockAlone
 pub mod Undisturbed

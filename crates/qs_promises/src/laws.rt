@@ -4,6 +4,7 @@
 ghost use Rattle.qs_core_progress.specs.CoreSteps.{CoreStepsAreBounded};
 ghost use Rattle.qs_plain_progress.specs.Steps.{StepsAreBounded};
 ghost use Rattle.qs_promises.specs.Answers.{AnswersAreOfRuns};
+ghost use Rattle.qs_promises.specs.AsIfSerial.{RunsAreAsIfSerial};
 ghost use Rattle.qs_promises.specs.AsAsked.{RunsAreAsAsked};
 ghost use Rattle.qs_promises.specs.BlockAlone.{BlocksAreAsIfAlone, BlocksThatAgreeDoTheSame, OnlyTheOrderDecides};
 ghost use Rattle.qs_promises.specs.EnoughRounds.{
@@ -63,7 +64,7 @@ pub fn outcomes_leave_nothing_out()
 /// The answer to a claim is of runs. `always yes` says that its condition holds at the end of every finished run, and
 /// `throughout yes` that it holds wherever the order of a run has come; `always no`, `some yes` and `throughout no`
 /// come with an order that shows it, and some picks lead the plain rules, and the optimised machine in each mode, to
-/// the end of a complete one. It does nothing.
+/// its end, with each of its blocks ended. It does nothing.
 pub fn answers_are_of_runs()
     ensures answers { AnswersAreOfRuns }
 {}
@@ -98,6 +99,12 @@ pub fn enough_rounds_finish()
 /// It does nothing.
 pub fn every_beginning_leads_to_an_outcome()
     ensures leads { EveryBeginningLeadsToAnOutcome }
+{}
+
+/// Every run is as if its blocks had been run one after another, each whole and alone: the first four promises of a run
+/// in one definition, which the headline of the whole program says of what is written. It does nothing.
+pub fn runs_are_as_if_serial()
+    ensures serial { RunsAreAsIfSerial }
 {}
 
 /// Every run is isolated, by one definition for the plain rules, the optimised machine and threads; the first four laws

@@ -95,7 +95,7 @@ status_of_input (fault.Outcomes outcomes_fault.Limit) e = absurd (cc e)
 status_of_input (fault.Outcomes outcomes_fault.Order) e = absurd (cc e)
 
 -- no fault has the status 0
-zero_is_none : (f : Fault) → fault_status f ≡ 0 → ⊥
+pub zero_is_none : (f : Fault) → fault_status f ≡ 0 → ⊥
 zero_is_none fault.Input e = absurd (cc e)
 zero_is_none fault.CommandLine e = absurd (cc e)
 zero_is_none fault.Memory e = absurd (cc e)
@@ -111,6 +111,24 @@ zero_is_none (fault.Run _) e = absurd (cc e)
 zero_is_none (fault.Outcomes outcomes_fault.Memory) e = absurd (cc e)
 zero_is_none (fault.Outcomes outcomes_fault.Limit) e = absurd (cc e)
 zero_is_none (fault.Outcomes outcomes_fault.Order) e = absurd (cc e)
+
+-- and none has the status 1
+pub one_is_none : (f : Fault) → fault_status f ≡ 1 → ⊥
+one_is_none fault.Input e = absurd (cc e)
+one_is_none fault.CommandLine e = absurd (cc e)
+one_is_none fault.Memory e = absurd (cc e)
+one_is_none (fault.Read read.Memory) e = absurd (cc e)
+one_is_none (fault.Read _) e = absurd (cc e)
+one_is_none (fault.Check check_fault.Memory) e = absurd (cc e)
+one_is_none (fault.Check _) e = absurd (cc e)
+one_is_none (fault.Play play_fault.Memory) e = absurd (cc e)
+one_is_none (fault.Play _) e = absurd (cc e)
+one_is_none (fault.Order order_fault.Memory) e = absurd (cc e)
+one_is_none (fault.Order order_fault.Order) e = absurd (cc e)
+one_is_none (fault.Run _) e = absurd (cc e)
+one_is_none (fault.Outcomes outcomes_fault.Memory) e = absurd (cc e)
+one_is_none (fault.Outcomes outcomes_fault.Limit) e = absurd (cc e)
+one_is_none (fault.Outcomes outcomes_fault.Order) e = absurd (cc e)
 
 -- so what is due with it is a text
 pub zero_is_text : (due : Due) → due_status due ≡ 0 → IsSomeText due

@@ -10,7 +10,7 @@ use Rattle.qs_standings.specs.Standings.{StandingShape}
 use Rattle.qs_outcomes.specs.Outcomes.{HasPlaces, outcome_at}
 use Rattle.qs_outcomes.specs.declared.fault.OutcomesFault.{OutcomesFault}
 use Rattle.qs_outcomes.specs.declared.fault.OutcomesFault.TheVariants as outcomes_fault
-use Rattle.qs_alike.specs.AlikeOutcomes.{AlikeShape, AreAlikeOutcomes, HasMoreUnlike, IsEnd, StandsFor}
+use Rattle.qs_alike.specs.AlikeOutcomes.{AlikeShape, AreAlikeOutcomes, CanBeAtExactly, HasMoreUnlike, IsEnd, StandsFor}
 use Rattle.qs_alike.specs.Changes.{Classes}
 use Rattle.qs_report.specs.declared.faults.Fault.TheVariants as fault
 use Rattle.qs_conditions.specs.declared.claim.Claim.{Claim}
@@ -35,12 +35,13 @@ pub alike_counted : (p : ProgramShape) (k : Classes) (all : AlikeShape) → AreA
 alike_counted p k all are = AllZip-long (λ s count. StandsFor k (outcome_at s) count) all.found all.counts are.counted
 
 pub due_by_alike : {E : Type 0} (how : Format) (p : ProgramShape) (k : Classes) (limit : ℕ) (all : AlikeShape) (text : Result (Vec ℕ Global) E) (due : Due)
-    → AreTheClasses p k → AreAlikeOutcomes p k all → all.configurations ≤ limit → IfOk text (λ bytes. bytes.items ≡ alike_in how p all) → IsTextOf text due
+    → AreTheClasses p k → AreAlikeOutcomes p k all → CanBeAtExactly p k all.configurations → all.configurations ≤ limit
+    → IfOk text (λ bytes. bytes.items ≡ alike_in how p all) → IsTextOf text due
     → IsOutOfMemory due ⊎ IsDueOfProgram (alike how limit) [] p due
 unfolding IsAlikeText
-due_by_alike how p k limit all (Ok bytes) due classes are within is e =
-    inr (subst (IsDueOfProgram (alike how limit) [] p) (sym e) (k, classes, (all, are, within, is)))
-due_by_alike how p k limit all (Err e) due classes are within is f = inl (subst IsOutOfMemory (sym f) tt)
+due_by_alike how p k limit all (Ok bytes) due classes are exact within is e =
+    inr (subst (IsDueOfProgram (alike how limit) [] p) (sym e) (k, classes, (all, are, exact, within, is)))
+due_by_alike how p k limit all (Err e) due classes are exact within is f = inl (subst IsOutOfMemory (sym f) tt)
 
 -- why a search for them was given up is why they are not listed
 pub unlisted_alike : (p : ProgramShape) (k : Classes) (limit : ℕ) (f : OutcomesFault) → AreTheClasses p k

@@ -15,7 +15,7 @@ use Rattle.qs_outcomes.specs.declared.fault.OutcomesFault.TheVariants as outcome
 use Rattle.qs_standings.specs.Lists.{HasOne}
 use Rattle.qs_standings.specs.Standings.{StandingShape}
 use Rattle.qs_level_laws.specs.Fronts.{AreFrontsAfter}
-use Rattle.qs_alike.specs.AlikeOutcomes.{AlikeShape, AreAlikeOutcomes, HasMoreUnlike}
+use Rattle.qs_alike.specs.AlikeOutcomes.{AlikeShape, AreAlikeOutcomes, CanBeAtExactly, HasMoreUnlike}
 use Rattle.qs_alike.specs.Changes.{AreAllAlike, AreClasses, Classes}
 use Rattle.qs_dot.specs.ChartDot.{IsChartDot}
 use Rattle.qs_report.specs.declared.faults.Fault.{Fault}
@@ -49,6 +49,7 @@ use Rattle.qs_report.specs.EstimateText.{estimate_text}
 use Rattle.qs_report.specs.TallyText.{tally_text}
 use Rattle.qs_estimate.specs.Estimates.{IsEstimateAfter}
 use Rattle.qs_estimate.specs.declared.estimate.Estimate.{Estimate}
+use Rattle.qs_repeats.specs.Refusals.{IsRefusedTally, LetRunsStart}
 use Rattle.qs_repeats.specs.Repeats.{IsTallyBy}
 use Rattle.qs_tally.specs.Tallies.{TallyShape}
 use Rattle.qs_report.specs.OutcomesText.{IsOutcomesText, listed_text}
@@ -65,6 +66,7 @@ use Rattle.qs_core_orders.specs.CoreOrders.{IsPlayedInOrderOn}
 use Rattle.qs_plain_laws.specs.PlainSchedule.{IsPlayed}
 use Rattle.qs_plain_orders.specs.PlainOrders.{IsPlayedInOrder}
 use Rattle.qs_played.specs.declared.fault.PlayFault.{PlayFault}
+use Rattle.qs_played.specs.declared.fault.RunFault.{RunFault}
 use Rattle.qs_played.specs.Played.{Played}
 use Rattle.qs_played.specs.Schedule.{most_rounds}
 use Rattle.qs_syncset.specs.declared.mode.Mode.{Mode}
@@ -225,11 +227,12 @@ abbrev pub AreTheClasses : ProgramShape → Classes → Type 0
 AreTheClasses p k = AreClasses p k × AreAllAlike p k
 
 -- There is a list of one of all outcomes that differ by alike clients in each other's places, where all clients with
--- the same text are alike, over no more configurations than the limit, whose text this is.
+-- the same text are alike, with exactly the number of configurations that the search can be at, which is within the
+-- limit, whose text this is.
 unfoldable pub IsAlikeText : Format → ProgramShape → (limit : ℕ) → List ℕ → Type 0
 IsAlikeText how p limit text =
-    (k : Classes) × AreTheClasses p k × ((all : AlikeShape) × AreAlikeOutcomes p k all × (all.configurations ≤ limit)
-    × (text ≡ alike_in how p all))
+    (k : Classes) × AreTheClasses p k × ((all : AlikeShape) × AreAlikeOutcomes p k all
+    × CanBeAtExactly p k all.configurations × (all.configurations ≤ limit) × (text ≡ alike_in how p all))
 
 -- There is an answer to a claim, yes or no, where alike clients may change places but for those that its condition
 -- names, over no more configurations than the limit, whose text this is.
@@ -609,6 +612,10 @@ IsDueOfTextAlone request text due =
     IsOutOfMemory due
     ⊎ MatchBool (takes_threads request) (IsRefusedBy fault.CommandLine due) (IsDueOfText request text due)
 
+-- no more of the input than this is read
+abbrev pub longest : ℕ
+longest = 65537
+
 -- What a run on threads has asked its starter: its report is due, or an allocation failed in writing it, only where all
 -- workers were let start; and the run is refused only as a refused run asks.
 abbrev pub HasAsked : {S : Type 0} → (S → ℕ → Bool → S → Type 0) → ProgramShape → S → S → Due → Type 0
@@ -617,32 +624,95 @@ HasAsked Answers p before after (No bytes) = ⊥
 HasAsked Answers p before after (Refused (fault.Run f)) = IsRefusal Answers (worker_count p) f before after
 HasAsked Answers p before after (Refused f) = LetAllStart Answers 0 (worker_count p) before after
 
--- no more of the input than this is read
-abbrev pub longest : ℕ
-longest = 65537
+-- what the runs of a tally have asked their starter, one after another: each was let start, or one was refused
+abbrev pub HasAskedTimes : {S : Type 0} → (S → ℕ → Bool → S → Type 0) → (times : ℕ) → ProgramShape → S → S → Due → Type 0
+HasAskedTimes Answers times p before after (Text bytes) = LetRunsStart Answers times (worker_count p) before after
+HasAskedTimes Answers times p before after (No bytes) = ⊥
+HasAskedTimes Answers times p before after (Refused (fault.Run f)) =
+    IsRefusedTally Answers times (worker_count p) f before after
+HasAskedTimes Answers times p before after (Refused f) = ⊤
 
--- a text is due, such as that of help or of the version
+-- what is asked of a starter, where runs on threads are asked for; nothing else asks it
+abbrev pub HasAskedFor : {S : Type 0} → (S → ℕ → Bool → S → Type 0) → Request → ProgramShape → S → S → Due → Type 0
+HasAskedFor Answers (run style mode size) p before after due = HasAsked Answers p before after due
+HasAskedFor Answers (tally how mode size times) p before after due = HasAskedTimes Answers times p before after due
+HasAskedFor Answers _ p before after due = ⊤
+
+-- the text is a script that is accepted, and this is so of its program
+abbrev pub IsOfScript : List ℕ → (ProgramShape → Type 0) → Type 0
+IsOfScript text Is = (s : List Item) × IsScriptText text s × (fault_of s ≡ None) × Is (program_of_items s)
+
+-- So it is of the input's script: a text is due only where all starts were let, and a refusal of a run only where one
+-- was refused so.
+abbrev pub HasStarted : (Let : ProgramShape → Type 0) → (Failed : RunFault → ProgramShape → Type 0) → Option (List ℕ) → Due → Type 0
+HasStarted Let Failed known (Text bytes) = IfSome known (λ input. IsOfScript (take longest input) Let)
+HasStarted Let Failed known (Refused (fault.Run f)) = IfSome known (λ input. IsOfScript (take longest input) (Failed f))
+HasStarted Let Failed known _ = ⊤
+
+-- by the line and the input
+abbrev pub IsStartedBy : {S : Type 0} → (S → ℕ → Bool → S → Type 0) → Line → Option (List ℕ) → S → S → Due → Type 0
+IsStartedBy Answers (asks (run style mode size)) known before after due =
+    HasStarted (λ p. LetAllStart Answers 0 (worker_count p) before after)
+    (λ f p. IsRefusal Answers (worker_count p) f before after) known due
+IsStartedBy Answers (asks (tally how mode size times)) known before after due =
+    HasStarted (λ p. LetRunsStart Answers times (worker_count p) before after)
+    (λ f p. IsRefusedTally Answers times (worker_count p) f before after) known due
+IsStartedBy Answers _ known before after due = ⊤
+
+-- a text is due: that of a result, or that of an answer that is no
 abbrev pub IsSomeText : Due → Type 0
 IsSomeText (Text bytes) = ⊤
 IsSomeText (No bytes) = ⊤
 IsSomeText (Refused f) = ⊥
 
+-- the text of a result is due, whose status is 0, such as that of help or of the version
+abbrev pub IsResultText : Due → Type 0
+IsResultText (Text bytes) = ⊤
+IsResultText (No bytes) = ⊥
+IsResultText (Refused f) = ⊥
+
 -- what is due, by the line, the input's bytes where they are known, and whether a read has failed; the texts of help
 -- and of the version are clap's, and the page on the language is that of `qs_language`
 abbrev pub IsDue : Line → Option (List ℕ) → Bool → Due → Type 0
 IsDue refused known failed due = IsRefusedBy fault.Memory due ⊎ IsRefusedBy fault.CommandLine due
-IsDue help known failed due = IsRefusedBy fault.Memory due ⊎ IsSomeText due
-IsDue version known failed due = IsRefusedBy fault.Memory due ⊎ IsSomeText due
+IsDue help known failed due = IsRefusedBy fault.Memory due ⊎ IsResultText due
+IsDue version known failed due = IsRefusedBy fault.Memory due ⊎ IsResultText due
 IsDue (asks request) known true due = IsRefusedBy fault.Input due
 IsDue (asks request) known false due =
     (¬ IsRefusedBy fault.Input due)
     × (IsOutOfMemory due ⊎ IfSome known (λ bytes. IsDueOfText request (take longest bytes) due))
 
+-- no read has failed, and the input's bytes are a script that is accepted, with this program and, where its graphs are to
+-- be drawn, these lines for their nodes
+abbrev pub IsProgramRead : Request → Option (List ℕ) → Bool → Lines → ProgramShape → Type 0
+IsProgramRead request known failed lines p =
+    (failed ≡ false) × IfSome known (λ bytes. IsProgramOf request (take longest bytes) lines p)
+
+-- so it is for the settings of a line
+abbrev pub IsAsked : Line → Option (List ℕ) → Bool → Settings → Lines → ProgramShape → Type 0
+IsAsked line known failed settings lines p =
+    (line ≡ asks (request_of settings)) × IsProgramRead (request_of settings) known failed lines p
+
+-- a fault that is found before anything is made of a program
+abbrev pub IsFoundBefore : Fault → Type 0
+IsFoundBefore (fault.Play f) = ⊥
+IsFoundBefore (fault.Order f) = ⊥
+IsFoundBefore (fault.Run f) = ⊥
+IsFoundBefore (fault.Outcomes f) = ⊥
+IsFoundBefore _ = ⊤
+
+-- a fault of this kind is due where a line asks for something
+abbrev pub IsUnbegun : Line → Due → Type 0
+IsUnbegun (asks request) (Refused f) = IsFoundBefore f
+IsUnbegun (asks request) (Text bytes) = ⊥
+IsUnbegun (asks request) (No bytes) = ⊥
+IsUnbegun _ due = ⊤
+
 -- what is due by the fault of a line that gave no settings
 abbrev pub IsDueOfFault : LineFault → Due → Type 0
 IsDueOfFault line_fault.Refused due = IsRefusedBy fault.CommandLine due
-IsDueOfFault (line_fault.Help text) due = IsSomeText due
-IsDueOfFault (line_fault.Version text) due = IsSomeText due
+IsDueOfFault (line_fault.Help text) due = IsResultText due
+IsDueOfFault (line_fault.Version text) due = IsResultText due
 IsDueOfFault line_fault.Memory due = IsRefusedBy fault.Memory due
 
 -- the format of what is due by the answer of reading a line: text, where it gave no settings
@@ -659,8 +729,8 @@ IsTextOfMemory due format.Json = ⊥
 -- and the page on the language is that of `qs_language`
 abbrev pub IsDueOfLine : Line → List ℕ → Due → Type 0
 IsDueOfLine refused text due = IsRefusedBy fault.Memory due ⊎ IsRefusedBy fault.CommandLine due
-IsDueOfLine help text due = IsRefusedBy fault.Memory due ⊎ IsSomeText due
-IsDueOfLine version text due = IsRefusedBy fault.Memory due ⊎ IsSomeText due
+IsDueOfLine help text due = IsRefusedBy fault.Memory due ⊎ IsResultText due
+IsDueOfLine version text due = IsRefusedBy fault.Memory due ⊎ IsResultText due
 IsDueOfLine (asks request) text due = IsDueOfTextAlone request text due
 
 -- it is written in the format that the line asks for; or that memory ran out is said as text, before the line was read
@@ -671,6 +741,10 @@ IsFormatOfLine line due how = (how ≡ format_by line) ⊎ IsTextOfMemory due ho
 -- was read, so that nothing of the input was read
 abbrev pub IsFormat : Line → (before after : Reading) → Due → Format → Type 0
 IsFormat line before after due how = (how ≡ format_by line) ⊎ (IsTextOfMemory due how × (after ≡ before))
+
+-- the input's text was read, and is kept
+abbrev pub IsTextRead : Option (List ℕ) → List ℕ → Type 0
+IsTextRead known kept = IfSome known (λ all. kept ≡ take longest all)
 
 -- the text that was read is kept, by which a fault is told; unless a read failed, or memory ran out
 abbrev pub IsTextKept : Option (List ℕ) → Due → List ℕ → Type 0
@@ -696,4 +770,12 @@ abbrev pub Serves : List (List ℕ) → (before after : Reading) → Option (Lis
 Serves words before after old new write_failed status =
     (due : Due) × (how : Format) × IsDue (line_in words) before.remaining after.has_failed due
     × IsFormat (line_in words) before after due how
+    × AppendsFront old new (due_text how due) × MatchBool write_failed (status ≡ 4) (IsDone how old new due status)
+
+-- the same, with what a run on threads has asked its starter
+abbrev pub ServesStarting : {S : Type 0} → (S → ℕ → Bool → S → Type 0) → S → S → List (List ℕ)
+    → (before after : Reading) → Option (List ℕ) → Option (List ℕ) → Bool → ℕ → Type 0
+ServesStarting Answers unasked asked words before after old new write_failed status =
+    (due : Due) × (how : Format) × IsDue (line_in words) before.remaining after.has_failed due
+    × IsFormat (line_in words) before after due how × IsStartedBy Answers (line_in words) before.remaining unasked asked due
     × AppendsFront old new (due_text how due) × MatchBool write_failed (status ≡ 4) (IsDone how old new due status)

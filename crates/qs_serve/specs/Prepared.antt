@@ -5,7 +5,7 @@ use Rattle.qs_program.specs.Program.{ProgramShape}
 use Rattle.qs_report.specs.declared.faults.Fault.{Fault}
 use Rattle.qs_report.specs.declared.faults.Fault.TheVariants as fault
 use Rattle.qs_serve.specs.Due.{Lines}
-use Rattle.qs_serve.specs.declared.due.PreparedText.{PreparedText}
+use Rattle.qs_serve.specs.declared.asking.PreparedText.{PreparedText}
 
 -- the program with the lines that were found, or the fault by which the script was refused
 abbrev pub prepared_by : Lines → Result ProgramShape CheckFault → Result PreparedText Fault

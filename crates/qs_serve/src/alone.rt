@@ -4,7 +4,8 @@ ghost use Rattle.std.specs.Prelude.{◌≡◌, IfErr, IfOk, map};
 ghost use Rattle.qs_line.specs.Line.{line_in, request_of};
 ghost use Rattle.qs_serve.specs.Due.{IsDueOfFault, IsDueOfLine, IsDueOfTextAlone, IsFormatOfLine, due_text, format_of_answer, refusal_in, takes_threads as takes_threads_in};
 
-use crate::due::{Due, due_of_fault, due_of_program, prepared};
+use crate::asking::prepared;
+use crate::due::{Due, due_of_fault, due_of_program};
 use crate::output::write_refusal;
 use qs_line::{Format, LineFault, Settings, read_line};
 use qs_outcomes::Unwatched;

@@ -1,46 +1,36 @@
 // What a run has to write.
 
-ghost use Rattle.std.specs.Prelude.{◌≡◌, ◌+◌, ◌≤◌, ◌⊎◌, [], false, length, Err, IfErr, IfOk, IfSome, OnErr, OnOk, None, map};
+ghost use Rattle.std.specs.Prelude.{◌≡◌, ◌⊎◌, [], IfSome};
 ghost use Rattle.qs_report.specs.declared.faults.Fault.TheVariants as fault;
 ghost use Rattle.qs_line.specs.declared.line.OutcomesFormat.TheVariants as outcomes_format;
-ghost use Rattle.qs_line.specs.Line.{ask, asks, check, graph, line_in, outcomes, request_by, request_of, run};
-ghost use Rattle.qs_serve.specs.Due.{AreLinesFor, HasAsked, IsAnswerAfterDue, IsAnswered, IsDue, IsDueAfter, IsDueOfFault, IsDueOfList, IsDueOfProgram, IsDueOfText, IsDueWithoutThreads, IsFormat, IsTextKept, IsKeptBy, IsProgramOf, IsRefusedBy, IsListOf, IsTextOf, IsOutOfMemory, IsUnreadable, due_status, format_of_answer, listed_as, longest};
-ghost use Rattle.qs_serve.specs.Prepared.{prepared_by};
-ghost use Rattle.qs_node_lines.specs.NodeLines.{node_lines};
-ghost use Rattle.qs_tree.specs.Limits.{longest_text};
-ghost use Rattle.qs_script.specs.Reads.{IsReadOf, IsScriptText};
+ghost use Rattle.qs_line.specs.Line.{ask, check, graph, outcomes, request_of, run};
+ghost use Rattle.qs_serve.specs.Due.{HasAsked, IsAnswerAfterDue, IsAnswered, IsDueAfter, IsDueOfFault, IsDueOfList, IsDueOfProgram, IsDueWithoutThreads, IsRefusedBy, IsListOf, IsTextOf, IsOutOfMemory, due_status, listed_as};
 ghost use Rattle.std.specs.List.{AllByRecursion};
 ghost use Rattle.qs_outcomes.specs.Outcomes.{HasPlaces};
 
 use crate::estimates::due_of_estimate;
 use crate::fronts::due_of_fronts;
-use crate::input::{Counted, InputFault, gather};
 use crate::plays::{due_of_play, due_of_rules};
 use crate::reports::due_of_outcome;
 use crate::searches::{due_by_threads, due_of_alike, due_of_alike_claim};
-use crate::tallies::due_of_tally;
-use qs_check::{CheckFault, Program, check};
+use qs_check::Program;
 use qs_chunk::ChunkSize;
 use qs_conditions::{Claim, Quantifier};
 use qs_dot::{MOST_PLACES, chart_dot, dot_text};
 use qs_json::{answer_json, counts_json, ends_json, graph_json, outcomes_json};
 use qs_line::{
     Format, GraphFormat, LineFault, ListFault, OutcomesFormat, Part, ReportStyle, Settings,
-    clients_of, read_line,
+    clients_of,
 };
-use qs_node_lines::{NodeLines, node_lines};
+use qs_node_lines::NodeLines;
 use qs_outcomes::{AllOutcomes, Answer, Watcher, outcomes_watched};
 use qs_questions::{answer, first_unknown};
 use qs_report::{
     Fault, answer_text, check_text, ends_text, graph_text, is_yes, outcomes_text, status,
 };
-use qs_run::{FreeGate, FreeStart, Starter, execute_with};
-use qs_script::{ReadFault, read};
+use qs_run::{FreeGate, Starter, execute_with};
 use qs_syncset::Mode;
-use qs_tree::{LONGEST_TEXT, Script};
 use std::alloc::{AllocError, Global};
-use std::io::Read;
-use std::mem;
 use std::sync::Wait;
 use std::thread::Threads;
 
@@ -113,8 +103,8 @@ fn due_of_graphs(alloc: Global, program: &Program, lines: &NodeLines, format: Gr
     }
 }
 
-// A run on threads. Where it is told to be refused, it was: its starter was asked what a refused run asks, and no more.
-fn due_of_run<S: Starter, T: Threads + Wait + Sync>(
+/// A run on threads. Where it is told to be refused, it was: its starter was asked what a refused run asks, and no more.
+pub(crate) fn due_of_run<S: Starter, T: Threads + Wait + Sync>(
     rt: &T,
     alloc: Global,
     program: &Program,
@@ -366,96 +356,9 @@ pub(crate) fn due_of_program<P: Watcher>(
     }
 }
 
-/// The program of a script's text, and the lines of the text for the nodes of its graphs, where these are to be drawn.
-#[derive(Drop)]
-pub(crate) struct PreparedText {
-    pub program: Program,
-    pub lines: NodeLines,
-}
-
-// The lines of a script's text for the nodes of its graphs, where these are to be drawn; else none are looked for.
-fn lines_for(
-    alloc: Global,
-    settings: &Settings,
-    text: &[u8],
-    script: &Script,
-) -> Result<NodeLines, AllocError>
-    requires short { length text.now ≤ longest_text }
-    ensures lines { IfOk result (λ lines. AreLinesFor (request_of settings.now) lines (node_lines text.now script.now)) }
-{
-    match settings {
-        Settings::Graph {
-            format: GraphFormat::Dot,
-        } => node_lines(alloc, text, script),
-        _ => Ok(NodeLines::none(alloc)),
-    }
-}
-
-// The program of a script that was checked with the lines for its nodes, or the fault by which it was refused.
-fn prepared_checked(
-    lines: NodeLines,
-    checked: Result<Program, CheckFault>,
-) -> Result<PreparedText, Fault>
-    ensures exact { result ≡ prepared_by lines checked }
-{
-    match checked {
-        Ok(program) => Ok(PreparedText { program, lines }),
-        Err(fault) => Err(Fault::Check(fault)),
-    }
-}
-
-// The program of a script.
-fn prepared_script(
-    alloc: Global,
-    settings: &Settings,
-    text: &[u8],
-    script: Script,
-) -> Result<PreparedText, Fault>
-    requires script { IsScriptText text.now script }
-    ensures program { IfOk result (λ it. IsProgramOf (request_of settings.now) text.now it.lines it.program) }
-    ensures fault { IfErr result (IsUnreadable text.now) }
-{
-    let Ok(lines) = lines_for(alloc, settings, text, &script) else {
-        return Err(Fault::Memory);
-    };
-    let checked = check(alloc, script);
-    prepared_checked(lines, checked)
-}
-
-// The program of a text that was read, or the fault by which it was refused.
-fn prepared_read(
-    alloc: Global,
-    settings: &Settings,
-    text: &[u8],
-    script: Result<Script, ReadFault>,
-) -> Result<PreparedText, Fault>
-    requires read { IsReadOf text.now script }
-    ensures program { IfOk result (λ it. IsProgramOf (request_of settings.now) text.now it.lines it.program) }
-    ensures fault { IfErr result (IsUnreadable text.now) }
-    ensures unread { IfErr script (λ f. result ≡ Err (fault.Read f)) }
-{
-    match script {
-        Ok(script) => prepared_script(alloc, settings, text, script),
-        Err(fault) => Err(Fault::Read(fault)),
-    }
-}
-
-/// The program of a script's text, and the lines for the nodes of its graphs, where the settings ask for a drawing of
-/// these. An error says why the text is no script, why its script is refused, or that an allocation failed.
-pub(crate) fn prepared(
-    alloc: Global,
-    settings: &Settings,
-    text: &[u8],
-) -> Result<PreparedText, Fault>
-    ensures program { IfOk result (λ it. IsProgramOf (request_of settings.now) text.now it.lines it.program) }
-    ensures fault { IfErr result (IsUnreadable text.now) }
-{
-    let script = read(alloc, text);
-    prepared_read(alloc, settings, text, script)
-}
-
-// What settings make of a program: one run on threads or many, outcomes by many threads, or what takes none.
-fn due_of_prepared<T: Threads + Wait + Sync, P: Watcher>(
+/// What settings make of a program where they ask for no run on threads: outcomes by many threads, or what takes none.
+/// A run on threads is refused, as a fault of the command line. It never waits.
+pub(crate) fn due_of_search<T: Threads + Sync, P: Watcher>(
     rt: &T,
     alloc: Global,
     settings: &Settings,
@@ -464,18 +367,9 @@ fn due_of_prepared<T: Threads + Wait + Sync, P: Watcher>(
     watcher: &mut P,
 ) -> Due
     ensures not_input { ¬ IsRefusedBy fault.Input result }
-    ensures due { IsOutOfMemory result ⊎ IsDueOfProgram (request_of settings.now) lines.now program.now result }
+    ensures due { IsDueWithoutThreads (request_of settings.now) lines.now program.now result }
 {
     match settings {
-        Settings::Run { style, mode, chunk } => {
-            due_of_run(rt, alloc, program, *style, *mode, *chunk, &mut FreeStart)
-        }
-        Settings::Tally {
-            format,
-            mode,
-            chunk,
-            times,
-        } => due_of_tally(rt, alloc, program, *format, *mode, *chunk, *times),
         Settings::Outcomes {
             format,
             limit,
@@ -495,51 +389,6 @@ fn due_of_prepared<T: Threads + Wait + Sync, P: Watcher>(
     }
 }
 
-// What settings make of a text.
-fn due_of_text<T: Threads + Wait + Sync, P: Watcher>(
-    rt: &T,
-    alloc: Global,
-    settings: &Settings,
-    text: &[u8],
-    watcher: &mut P,
-) -> Due
-    ensures not_input { ¬ IsRefusedBy fault.Input result }
-    ensures due { IsOutOfMemory result ⊎ IsDueOfText (request_of settings.now) text.now result }
-{
-    match prepared(alloc, settings, text) {
-        Ok(it) => due_of_prepared(rt, alloc, settings, &it.program, &it.lines, watcher),
-        Err(fault) => Due::Refused(fault),
-    }
-}
-
-// One byte more than a script may have shows that a text is longer.
-const LONGEST: usize = LONGEST_TEXT + 1;
-
-// What the input's text gives by settings. The text is kept, where it was read.
-fn due_of_input<T: Threads + Wait + Sync, R: Read, P: Watcher>(
-    rt: &T,
-    alloc: Global,
-    settings: &Settings,
-    input: &mut Counted<R>,
-    kept: &mut Vec<u8>,
-    watcher: &mut P,
-) -> Due
-    requires fine { input.old.has_failed ≡ false }
-    ensures due { IsDue (asks (request_of settings.now)) input.old.remaining input.new.has_failed result }
-    ensures kept { IsTextKept input.old.remaining result kept.new.items }
-    ensures reads { input.new.reads ≤ input.old.reads + longest }
-{
-    match gather(alloc, input, LONGEST) {
-        Ok(text) => {
-            let due = due_of_text(rt, alloc, settings, text.as_slice(), watcher);
-            drop(mem::replace(kept, text));
-            due
-        }
-        Err(InputFault::Read) => Due::Refused(Fault::Input),
-        Err(InputFault::Memory) => Due::Refused(Fault::Memory),
-    }
-}
-
 /// What is due by the fault of a line that gave no settings: the text of help or of the version, or the fault.
 pub(crate) fn due_of_fault(fault: LineFault) -> Due
     ensures due { IsDueOfFault fault result }
@@ -550,56 +399,4 @@ pub(crate) fn due_of_fault(fault: LineFault) -> Due
         LineFault::Version(text) => Due::Text(text.into_bytes()),
         LineFault::Memory => Due::Refused(Fault::Memory),
     }
-}
-
-// What is due by settings and an input, or by the fault of the line that gave none; and the format in which it is due.
-fn due_of_line<T: Threads + Wait + Sync, R: Read, P: Watcher>(
-    rt: &T,
-    alloc: Global,
-    line: Result<Settings, LineFault>,
-    input: &mut Counted<R>,
-    kept: &mut Vec<u8>,
-    watcher: &mut P,
-) -> (Due, Format)
-    requires fine { input.old.has_failed ≡ false }
-    ensures due { IfOk line (λ settings. IsDue (asks (request_of settings)) input.old.remaining input.new.has_failed result.0) }
-    ensures fault { IfErr line (λ f. IsDueOfFault f result.0) }
-    ensures format { result.1 ≡ format_of_answer line }
-    ensures kept { OnOk line (IsTextKept input.old.remaining result.0 kept.new.items) }
-    ensures unread { OnErr line (input.new ≡ input.old) }
-    ensures reads { input.new.reads ≤ input.old.reads + longest }
-{
-    match line {
-        Ok(settings) => {
-            let due = due_of_input(rt, alloc, &settings, input, kept, watcher);
-            let format = settings.format();
-            drop(settings);
-            (due, format)
-        }
-        Err(fault) => (due_of_fault(fault), Format::Text),
-    }
-}
-
-/// What is due by a command line and an input. The line comes first: where it is refused nothing is read. Else the
-/// input is read up to its end or 65,537 bytes, by at most 65,537 reads, and a read that fails is the input's fault.
-/// The text that was read is kept. A watcher is told how far a search for outcomes is; nothing that it does changes
-/// what is due. The format is the one that the line asks for, and text where it asks for none or where memory ran out
-/// before the line was read.
-pub fn due_of<'a, T: Threads + Wait + Sync, R: Read, P: Watcher>(
-    rt: &T,
-    alloc: Global,
-    words: &'a [&'a str],
-    input: &mut Counted<R>,
-    kept: &mut Vec<u8>,
-    watcher: &mut P,
-) -> (Due, Format)
-    requires fine { input.old.has_failed ≡ false }
-    ensures due { IsDue (line_in (map (λ word. word.now) words.entry.now)) input.old.remaining input.new.has_failed result.0 }
-    ensures format { IsFormat (line_in (map (λ word. word.now) words.entry.now)) input.old input.new result.0 result.1 }
-    ensures kept { IsKeptBy (line_in (map (λ word. word.now) words.entry.now)) input.old.remaining result.0 kept.new.items }
-    ensures unread { request_by (line_in (map (λ word. word.now) words.entry.now)) ≡ None → input.new ≡ input.old }
-    ensures reads { input.new.reads ≤ input.old.reads + longest }
-{
-    let line = read_line(alloc, words);
-    due_of_line(rt, alloc, line, input, kept, watcher)
 }

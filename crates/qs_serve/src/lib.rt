@@ -2,7 +2,9 @@
 #![tactic(auto)]
 
 mod alone;
+mod asking;
 mod beside;
+mod choosing;
 mod due;
 mod estimates;
 mod fronts;
@@ -21,4 +23,4 @@ pub use due::Due;
 pub use input::Counted;
 pub use qs_report::Fault;
 pub use qs_text::Watch;
-pub use serving::{refuse, serve};
+pub use serving::{Terminals, refuse, serve, serve_with};

@@ -1,20 +1,20 @@
 // The line that shows how far a long search is.
 
-ghost use Rattle.std.specs.Prelude.{◌≡◌, ◌+◌, ◌≤◌, false, None, map};
+ghost use Rattle.std.specs.Prelude.{◌≡◌, false};
 ghost use Rattle.std.specs.Io.KnownBytes.{Keeps};
-ghost use Rattle.qs_line.specs.Line.{line_in, request_by};
-ghost use Rattle.qs_serve.specs.Due.{IsDue, IsFormat, IsKeptBy, longest};
+ghost use Rattle.qs_line.specs.Line.{request_of};
+ghost use Rattle.qs_report.specs.declared.faults.Fault.TheVariants as fault;
+ghost use Rattle.qs_serve.specs.Due.{IsDueWithoutThreads, IsRefusedBy};
 
-use crate::due::{Due, due_of};
-use crate::input::Counted;
+use crate::asking::PreparedText;
+use crate::due::{Due, due_of_search};
 use itoa::Buffer;
-use qs_line::Format;
+use qs_line::Settings;
 use qs_outcomes::{Unwatched, Watcher};
 use qs_text::{Watch, write_text};
 use std::alloc::Global;
 use std::io::{Read, Write};
 use std::rt::Files;
-use std::sync::Wait;
 use std::thread::Threads;
 use std::time::{Clock, Duration, Instant};
 use std::{fs, str};
@@ -126,31 +126,26 @@ impl<C: Clock + Files, W: Write> Watcher for Progress<'_, C, W> {
     }
 }
 
-/// What is due by a command line and an input, and in which format, as `due_of` says it. While outcomes are searched
-/// for, `err` shows how far the search is, where it is a terminal; the line is blank again in the end. Where it is
-/// none, nothing is written to it.
-pub(crate) fn due_shown<'a, T: Threads + Wait + Clock + Files + Sync, R: Read, W: Write>(
+/// What settings make of a program, where they ask for no run on threads. While outcomes are searched for, `err` shows how
+/// far the search is, where it is a terminal; the line is blank again in the end. Where it is none, nothing is written to
+/// it. It never waits.
+pub(crate) fn due_shown<T: Threads + Clock + Files + Sync, W: Write>(
     rt: &T,
     alloc: Global,
-    words: &'a [&'a str],
-    input: &mut Counted<R>,
-    kept: &mut Vec<u8>,
+    settings: &Settings,
+    it: &PreparedText,
     is_terminal: bool,
     err: &mut W,
-) -> (Due, Format)
-    requires fine { input.old.has_failed ≡ false }
-    ensures due { IsDue (line_in (map (λ word. word.now) words.entry.now)) input.old.remaining input.new.has_failed result.0 }
-    ensures format { IsFormat (line_in (map (λ word. word.now) words.entry.now)) input.old input.new result.0 result.1 }
-    ensures kept { IsKeptBy (line_in (map (λ word. word.now) words.entry.now)) input.old.remaining result.0 kept.new.items }
-    ensures unread { request_by (line_in (map (λ word. word.now) words.entry.now)) ≡ None → input.new ≡ input.old }
-    ensures reads { input.new.reads ≤ input.old.reads + longest }
+) -> Due
+    ensures not_input { ¬ IsRefusedBy fault.Input result }
+    ensures due { IsDueWithoutThreads (request_of settings.now) it.now.lines it.now.program result }
     ensures silent { is_terminal ≡ false → Keeps (W.contents err.old) (W.contents err.new) }
 {
     if !is_terminal {
-        return due_of(rt, alloc, words, input, kept, &mut Unwatched);
+        return due_of_search(rt, alloc, settings, &it.program, &it.lines, &mut Unwatched);
     }
     let mut progress = Progress::new(rt, err);
-    let shown = due_of(rt, alloc, words, input, kept, &mut progress);
+    let due = due_of_search(rt, alloc, settings, &it.program, &it.lines, &mut progress);
     progress.clear();
-    shown
+    due
 }

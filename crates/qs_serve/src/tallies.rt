@@ -5,15 +5,16 @@ ghost use Rattle.std.specs.List.{AllByRecursion};
 ghost use Rattle.qs_outcomes.specs.Outcomes.{HasPlaces};
 ghost use Rattle.qs_report.specs.declared.faults.Fault.TheVariants as fault;
 ghost use Rattle.qs_line.specs.Line.{tally};
-ghost use Rattle.qs_serve.specs.Due.{IsCounted, IsDueOfProgram, IsOutOfMemory, IsRefusedBy};
+ghost use Rattle.qs_serve.specs.Due.{HasAskedTimes, IsCounted, IsDueOfProgram, IsOutOfMemory, IsRefusedBy};
 
 use crate::due::{Due, due_of_bytes};
 use qs_check::Program;
 use qs_chunk::ChunkSize;
 use qs_json::tally_json;
 use qs_line::Format;
-use qs_repeats::run_times;
+use qs_repeats::run_times_with;
 use qs_report::{Fault, tally_text};
+use qs_run::Starter;
 use qs_syncset::Mode;
 use qs_tally::Tally;
 use std::alloc::Global;
@@ -36,8 +37,9 @@ fn due_of_counted(alloc: Global, program: &Program, format: Format, times: u32, 
     due_of_bytes(text)
 }
 
-/// How often each end came in so many runs on threads, in a format.
-pub(crate) fn due_of_tally<T: Threads + Wait + Sync>(
+/// How often each end came in so many runs on threads, in a format. Where it is told to be refused, one of the runs was:
+/// its starter was asked what a refused run asks, and no more.
+pub(crate) fn due_of_tally<S: Starter, T: Threads + Wait + Sync>(
     rt: &T,
     alloc: Global,
     program: &Program,
@@ -45,11 +47,22 @@ pub(crate) fn due_of_tally<T: Threads + Wait + Sync>(
     mode: Mode,
     chunk: ChunkSize,
     times: u32,
+    starter: &mut S,
 ) -> Due
     ensures not_input { ¬ IsRefusedBy fault.Input result }
     ensures due { IsOutOfMemory result ⊎ IsDueOfProgram (tally format mode chunk times) [] program.now result }
+    ensures started { HasAskedTimes S.answers times program.now starter.old starter.new result }
 {
-    match run_times(rt, alloc, program, mode, chunk, times, MOST_NUMBERED) {
+    match run_times_with(
+        rt,
+        alloc,
+        program,
+        mode,
+        chunk,
+        times,
+        MOST_NUMBERED,
+        starter,
+    ) {
         Ok(tally) => due_of_counted(alloc, program, format, times, tally),
         Err(fault) => Due::Refused(Fault::Run(fault)),
     }

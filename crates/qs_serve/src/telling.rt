@@ -5,6 +5,7 @@ ghost use Rattle.std.specs.Io.KnownBytes.{Keeps};
 ghost use Rattle.qs_serve.specs.Due.{IsSomeText};
 
 use crate::due::Due;
+use crate::serving::Terminals;
 use qs_line::read_line;
 use qs_report::Fault;
 use qs_said::tell_fault;
@@ -22,13 +23,12 @@ const WAITING: &[u8] =
 pub(crate) fn tell_waiting<'a, W: Write>(
     alloc: Global,
     words: &'a [&'a str],
-    from_terminal: bool,
-    is_terminal: bool,
+    terminals: Terminals,
     err: &mut W,
 )
-    ensures silent { is_terminal ≡ false → Keeps (W.contents err.old) (W.contents err.new) }
+    ensures silent { terminals.err ≡ false → Keeps (W.contents err.old) (W.contents err.new) }
 {
-    if !is_terminal || !from_terminal {
+    if !terminals.err || !terminals.input {
         return;
     }
     if let Ok(settings) = read_line(alloc, words) {

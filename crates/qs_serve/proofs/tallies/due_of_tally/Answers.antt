@@ -1,3 +1,4 @@
+use Rattle.qs_serve.proofs.AskedDues.{asked_times}
 use Rattle.qs_serve.proofs.Dues.{due_by_tally, tally_is_no_input, tally_places}
 use Rattle.qs_serve.specs.Due.{most_numbered}
 use Rattle.qs_serve.proofs.tallies.due_of_tally.Goals as goal
@@ -13,3 +14,7 @@ returns-in-Ok-clause-due g c =
 
 pub returns-in-Ok-clause-not_input : goal.returns-in-Ok-clause-not_input
 returns-in-Ok-clause-not_input g c = tally_is_no_input c.args.format c.args.program.now c.args.times c.in-Ok.tally _ c.due_of_counted.ensures.due
+
+pub returns-in-Ok-clause-started : goal.returns-in-Ok-clause-started
+returns-in-Ok-clause-started g c =
+    asked_times _ _ _ c.args.format c.args.program.now c.args.times c.in-Ok.tally _ c.due_of_counted.ensures.due c.in-Ok.ensures.started
