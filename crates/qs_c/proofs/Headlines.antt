@@ -4,6 +4,7 @@ use Rattle.std.proofs.Common.{◌≡◌, ◌∙◌, ℕ, List, sym, inl, inr}
 use Rattle.qs_report.specs.declared.faults.Fault.{Fault}
 use Rattle.qs_report.specs.declared.faults.Fault.TheVariants as fault
 use Rattle.qs_line.specs.Line.{line_in}
+use Rattle.qs_line.proofs.Claims.{runs_are_lines}
 use Rattle.qs_serve.specs.Due.{IsRefusedBy, due_status, due_text}
 use Rattle.qs_serve.specs.declared.due.Due.{Due}
 use Rattle.qs_serve.specs.declared.due.Due.TheVariants.{Text, No, Refused}
@@ -20,8 +21,13 @@ refused_is_not_zero f (Refused g) is e = zero_is_none g (sym e)
 pub headline_of_call : (word words script before after : List ℕ) (status answer : ℕ)
     → IsAnswered word words script before after status answer
     → IsHeadlineOfCall word words script before after status answer
-headline_of_call word words script before after status answer (due, how, inl (utf8, (of, formatted)), cut, long, e) zero request style asked is =
-    (due_text how due, cut, long, headline_alone (line_in (line_words word words)) script due how of (sym zero ∙ e) request style asked is)
+headline_of_call word words script before after status answer (due, how, inl (utf8, (of, formatted)), cut, long, e) zero request style asked is = (
+  due_text how due,
+  cut,
+  long,
+  headline_alone (line_in (line_words word words)) script due how of (sym zero ∙ e) request style
+      (runs_are_lines (line_words word words) request asked) is,
+)
 headline_of_call word words script before after status answer (due, how, inr (text, inl memory), cut, long, e) zero request style asked is =
     absurd (refused_is_not_zero fault.Memory due memory (sym zero ∙ e))
 headline_of_call word words script before after status answer (due, how, inr (text, inr (utf8, line)), cut, long, e) zero request style asked is =

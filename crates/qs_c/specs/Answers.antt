@@ -5,9 +5,10 @@ use Rattle.qs_report.specs.declared.faults.Fault.TheVariants as fault
 use Rattle.qs_line.specs.declared.line.Format.{Format}
 use Rattle.qs_line.specs.declared.line.Format.TheVariants as format
 use Rattle.qs_line.specs.declared.line.ReportStyle.{ReportStyle}
-use Rattle.qs_line.specs.Line.{Line, Request, asks, line_in}
+use Rattle.qs_line.specs.Line.{Line, Request, line_in}
+use Rattle.qs_line.specs.RunLines.{run_in, style_of}
 use Rattle.qs_serve.specs.Due.{IsDueOfLine, IsFormatOfLine, IsRefusedBy, due_status, due_text}
-use Rattle.qs_serve.specs.Headline.{IsReported, style_of}
+use Rattle.qs_serve.specs.Headline.{IsReported}
 use Rattle.qs_serve.specs.declared.due.Due.{Due}
 
 -- the words of a text, one on each of its lines; an empty text has none
@@ -44,7 +45,7 @@ IsAnswered word words script before after status answer =
 -- blocks had been run one after another, each whole and alone; as much of it is written as there is room for.
 abbrev pub IsHeadlineOfCall : (word words script before after : List ℕ) → (status answer : ℕ) → Type 0
 IsHeadlineOfCall word words script before after status answer =
-    status ≡ 0 → (request : Request) (style : ReportStyle) → line_in (line_words word words) ≡ asks request
+    status ≡ 0 → (request : Request) (style : ReportStyle) → run_in (line_words word words) ≡ Some request
     → style_of request ≡ Some style
     → (text : List ℕ) × (after ≡ cut_into text before) × (answer ≡ length text)
     × IsReported request style script (Some []) (Some text)

@@ -24,7 +24,7 @@ same_end p s t (order, e) = λ i.
 
 pub one_ends_json : EndsJsonIsUnique
 unfolding IsEndsJson
-one_ends_json p limit bound front text other (all, are, within, is) (every, too, below, one) =
+one_ends_json p limit bound front text other (all, are, within, words, is) (every, too, below, others, one) =
     let (zip, counts) = same_lists p (order_of front) all every are too in
     one_order (ends_json p all.found) (ends_json p every.found) text other
     (subst (λ (texts : List (List ℕ)). IsPermutation (ends_json p all.found) texts) (same_each (end_json p) (same_end p) all.found every.found zip)

@@ -1,7 +1,7 @@
 //! Worked examples of texts for machines, and what holds of them.
 
 ghost use Rattle.qs_json.specs.AnswerJsonExamples.{AnswerJsonExamples};
-ghost use Rattle.qs_json.specs.EndsJson.{EndsJsonIsUnique};
+ghost use Rattle.qs_json.specs.EndsJson.{EndsJsonIsUnique, EndsJsonTellApart};
 ghost use Rattle.qs_json.specs.EndsJsonExamples.{EndsJsonExamples};
 ghost use Rattle.qs_json.specs.EstimateJsonExamples.{EstimateJsonExamples};
 ghost use Rattle.qs_json.specs.GraphJson.{GraphJsonIsUnique};
@@ -45,6 +45,12 @@ pub fn ends_json_examples()
 /// A program has one text of its ends after a front, also where the limit is another one; it does nothing.
 pub fn ends_json_is_unique()
     ensures unique { EndsJsonIsUnique }
+{}
+
+/// Different ends of a checked program have different lines, whichever blocks came first. So where the lines of several
+/// lists are sorted with each once, each end is there once. It does nothing.
+pub fn ends_tell_apart()
+    ensures apart { EndsJsonTellApart }
 {}
 
 /// The texts of two answers, worked out by hand; it does nothing.

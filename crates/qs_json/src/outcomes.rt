@@ -4,7 +4,11 @@ ghost use Rattle.std.specs.Prelude.{◌≡◌, ◌<◌, [], IfOk, OnOk, codes, l
 ghost use Rattle.std.specs.Fmt.{signed_decimal};
 ghost use Rattle.std.specs.List.{AllByRecursion, join_by};
 ghost use Rattle.qs_outcomes.specs.Outcomes.{HasPlaces};
+ghost use Rattle.qs_meaning.specs.Serial.{zeros};
+ghost use Rattle.qs_program.specs.Program.{client_at};
+ghost use Rattle.qs_text.specs.TellApart.{AreClientsOfWords, AreObjectsOfWords, AreWords, IsOfWords, IsWord};
 ghost use Rattle.qs_text.specs.Texts.{texts_up_to, Puts};
+ghost use Rattle.qs_text.specs.Words.{no_state};
 ghost use Rattle.qs_json.specs.Pieces.{array, element, field, first_field, quoted};
 ghost use Rattle.qs_json.specs.OutcomesJson.{client_json, head_json, listed_json, next_client_json, object_json, outcome_json, outcome_json_at, standing_fields};
 ghost use Rattle.qs_json.specs.Variables.{variable_json, variables_json};
@@ -72,6 +76,7 @@ fn put_variable_name(out: &mut Vec<u8>, variables: &Names, number: usize) -> Res
 // The value of a variable, as a field.
 fn put_value(out: &mut Vec<u8>, locals: &Locals, number: usize) -> Result<(), AllocError>
     ensures ok { OnOk result (Puts (field (codes "value") (signed_decimal (slice_index_or locals.now number (pos 0)))) out.old.items out.new.items) }
+    ensures word { OnOk result (IsWord (slice_index_or locals.now number (pos 0))) }
 {
     let value = locals.get(number).copied().unwrap_or(0);
     put_integer(out, b",\"value\":", value)
@@ -85,6 +90,7 @@ fn put_variable(
     number: usize,
 ) -> Result<(), AllocError>
     ensures ok { OnOk result (Puts (variable_json variables.now locals.now number) out.old.items out.new.items) }
+    ensures word { OnOk result (IsWord (slice_index_or locals.now number (pos 0))) }
 {
     put_variable_name(out, variables, number)?;
     put_value(out, locals, number)?;
@@ -94,6 +100,7 @@ fn put_variable(
 // All variables of a client, with a comma between each two.
 fn put_values(out: &mut Vec<u8>, variables: &Names, locals: &Locals) -> Result<(), AllocError>
     ensures ok { OnOk result (Puts (texts_up_to (length variables.now) (element (variable_json variables.now locals.now))) out.old.items out.new.items) }
+    ensures words { OnOk result (AreWords (length variables.now) locals.now) }
 {
     for number in 0..variables.len() {
         put_comma(out, number)?;
@@ -105,6 +112,7 @@ fn put_values(out: &mut Vec<u8>, variables: &Names, locals: &Locals) -> Result<(
 // All variables of a client, as a field.
 fn put_variables(out: &mut Vec<u8>, variables: &Names, locals: &Locals) -> Result<(), AllocError>
     ensures ok { OnOk result (Puts (variables_json variables.now locals.now) out.old.items out.new.items) }
+    ensures words { OnOk result (AreWords (length variables.now) locals.now) }
 {
     put_word(out, b",\"variables\":[")?;
     put_values(out, variables, locals)?;
@@ -121,6 +129,7 @@ fn put_client(
     requires client { client < length program.now.clients }
     requires place { client < length standing.now.locals }
     ensures ok { OnOk result (Puts (client_json program.now standing.now client) out.old.items out.new.items) }
+    ensures words { OnOk result (AreWords (length (client_at program.now client).variables) (slice_index_or standing.now.locals client zeros)) }
 {
     put_client_name(out, program, client)?;
     put_variables(out, program.variables(client), &standing.locals(client))?;
@@ -136,6 +145,7 @@ fn put_object(
 ) -> Result<(), AllocError>
     requires place { object < length standing.now.states }
     ensures ok { OnOk result (Puts (object_json program.now standing.now object) out.old.items out.new.items) }
+    ensures words { OnOk result (IsOfWords (slice_index_or standing.now.states object no_state)) }
 {
     let name = object_name(program, usize::from(object));
     put_state(out, name, standing.object(object))
@@ -149,6 +159,7 @@ pub(crate) fn put_clients(
 ) -> Result<(), AllocError>
     requires places { HasPlaces program.now standing.now }
     ensures ok { OnOk result (Puts (texts_up_to (length program.now.clients) (element (client_json program.now standing.now))) out.old.items out.new.items) }
+    ensures words { OnOk result (AreClientsOfWords program.now (length program.now.clients) standing.now) }
 {
     program.keeps_sound();
     for client in 0..program.clients() as u8 {
@@ -166,6 +177,7 @@ pub(crate) fn put_objects(
 ) -> Result<(), AllocError>
     requires places { HasPlaces program.now standing.now }
     ensures ok { OnOk result (Puts (texts_up_to (length program.now.objects) (element (object_json program.now standing.now))) out.old.items out.new.items) }
+    ensures words { OnOk result (AreObjectsOfWords (length program.now.objects) standing.now) }
 {
     program.keeps_sound();
     for object in 0..program.objects() as u8 {

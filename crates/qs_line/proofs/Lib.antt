@@ -4,3 +4,4 @@ pub mod Alike
 pub mod Answering
 pub mod Entries
 pub mod Numbers
+pub mod Claims

@@ -1,15 +1,14 @@
 -- A text of one letter, `c` or `h`, and one digit has no `@` at its front, so it is read as its actor, once; a list of
 -- such texts is read as these actors, and names them. It goes by cases of the letter, and by induction on the list.
-use Rattle.std.proofs.Common.{◌≡◌, ◌≤◌, ◌+◌, ◌-◌, ◌==◌, ◌&&◌, ℕ, suc, Bool, true, false, List, [], ◌∷◌, length, map, Option, Some, None, Ok, Result, refl, sym, ap, ap₂, ◌∙◌, arith, nat_le, if◌then◌else◌, option_map, option_and_then, unwrap_or}
-use Rattle.std.specs.List.{fold, position, slice_split}
+use Rattle.std.proofs.Common.{◌≡◌, ◌≤◌, ◌+◌, ◌-◌, ◌==◌, ℕ, suc, Bool, true, false, List, [], ◌∷◌, length, map, Option, Some, None, Ok, Result, refl, ap, ap₂, ◌∙◌, arith, nat_le, if◌then◌else◌, option_map, option_and_then, unwrap_or}
+use Rattle.std.specs.List.{fold, slice_split}
 use Rattle.std.proofs.lemmas.List.{length-map}
-use Rattle.std.proofs.lemmas.Bool.{eqb-true, false_from_ne_true, le-leb, leb-true}
+use Rattle.std.proofs.lemmas.Bool.{eqb-true, false_from_ne_true, le-leb}
 use Rattle.qs_tokens.specs.Tokens.{is_digit}
 use Rattle.qs_played.specs.declared.schedule.actor.Actor.{Actor}
 use Rattle.qs_played.specs.declared.schedule.actor.Actor.TheVariants.{Client, Handler}
 use Rattle.qs_program.specs.Program.{ProgramShape}
 use Rattle.qs_line.specs.declared.parts.Part.{Part}
-use Rattle.qs_line.specs.declared.parts.Who.TheVariants.{Number}
 use Rattle.qs_line.specs.declared.fault.ListFault.{ListFault}
 use Rattle.qs_line.specs.Limits.{most_actors}
 use Rattle.qs_line.specs.Named.{actor_of, named_client, listed_from, repeated}

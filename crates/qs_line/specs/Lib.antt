@@ -4,5 +4,7 @@ pub mod Parts
 pub mod Named
 pub mod Command
 pub mod Line
+pub mod RunLines
+pub mod Claims
 -- What crates promise one another, what proofs use, and worked examples.
 pub mod Numbers

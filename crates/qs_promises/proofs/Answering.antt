@@ -1,7 +1,8 @@
 -- What the answer to a claim says of runs: a finished run's order is complete, so what no complete order comes to is
 -- not what the run shows; and each complete order is reached by some picks. A run's order is legal, and so is each
--- beginning of it.
-use Rattle.std.proofs.Common.{◌≡◌, ◌∙◌, ℕ, Bool, true, false, not, List, ◌++◌, Option, Some, None, refl, sym, ap, subst}
+-- beginning of it. Of an answer no more is used than what it says of the witness, or of there being none: so it is the
+-- same where alike clients stand for one another.
+use Rattle.std.proofs.Common.{◌≡◌, ◌∙◌, ℕ, Bool, true, false, not, List, [], ◌++◌, Option, Some, None, refl, sym, ap, subst}
 use Rattle.std.specs.Prelude.{IfSome, is_some}
 use Rattle.qs_objects.specs.declared.held.Ticket.{Ticket}
 use Rattle.qs_program.specs.Program.{ProgramShape}
@@ -10,14 +11,14 @@ use Rattle.qs_meaning.specs.Configurations.{IsComplete, OrderOutcome, first_conf
 use Rattle.qs_meaning.specs.Serial.{IsLegal}
 use Rattle.qs_meaning.proofs.Orders.{legal-front}
 use Rattle.qs_conditions.specs.Claims.{answer_by, seeks}
-use Rattle.qs_conditions.specs.Conditions.{Tree, steps_of}
-use Rattle.qs_conditions.specs.declared.claim.Claim.{Claim}
+use Rattle.qs_conditions.specs.Conditions.{Tree}
 use Rattle.qs_conditions.specs.declared.claim.Quantifier.{Quantifier}
 use Rattle.qs_conditions.specs.declared.claim.Quantifier.TheVariants as q
-use Rattle.qs_outcomes.specs.Answers.{AnswerShape, IsAnswerAfter, IsWitnessAfter}
-use Rattle.qs_outcomes.specs.Outcomes.{outcome_at}
-use Rattle.qs_standings.specs.Standings.{StandingShape, configuration_in}
-use Rattle.qs_throughout.specs.Courses.{IsCourseAnswerAfter, IsCourseWitnessAfter, passed}
+use Rattle.qs_outcomes.specs.Answers.{AnswerShape, IsWitnessAfter, NoneMeets}
+use Rattle.qs_standings.specs.Standings.{StandingShape}
+use Rattle.qs_throughout.specs.Courses.{IsCourseWitnessAfter, NoneMeetsOnTheWay, passed}
+use Rattle.qs_alike.specs.Changes.{Classes}
+use Rattle.qs_questions.specs.AlikeClaims.{IsAlikeAnswerBy, IsEndMet}
 use Rattle.qs_questions.specs.Claims.{IsAnswerBy, is_sought}
 use Rattle.qs_questions.specs.Questions.{holds_at}
 use Rattle.qs_questions.proofs.Sought.{steps_answer}
@@ -26,8 +27,9 @@ use Rattle.qs_core_orders.proofs.BlocksPlayed.{core_orders_played}
 use Rattle.qs_core_laws.proofs.ProgramCodes.{program_codes}
 use Rattle.qs_syncset.specs.declared.mode.Mode.{Mode}
 use Rattle.qs_played.specs.declared.schedule.actor.Actor.{Actor}
-use Rattle.qs_promises.specs.Answers.{AnswersAreOfRuns, AtEveryEnd, AtSomeEnd, ComesTo, OnEveryWay, OnSomeWay, Says}
+use Rattle.qs_promises.specs.Answers.{AlikeAnswersAreOfRuns, AnswersAreOfRuns, AtEveryEnd, AtSomeEnd, ComesTo, OnEveryWay, OnSomeWay, Says}
 use Rattle.qs_promises.specs.Runs.{by_rules, on_machine}
+use Rattle.qs_promises.proofs.Calls.{run_of_played, run_of_played_in}
 use Rattle.qs_promises.proofs.Ending.{finished_covered, machine_reaches, rules_reach}
 use Rattle.qs_promises.proofs.SerialPlaces.{serial_order}
 
@@ -45,7 +47,7 @@ rules_come : (p : ProgramShape) → IsSound p → (order : List Ticket) → IsLe
 rules_come p sound order legal =
     let found = orders_played p sound order legal in
     let there = found.1 in
-    (there.picks, record { shown = found.0; run = there.played; order = there.order; ended = there.ended })
+    (there.picks, record { shown = found.0; run = run_of_played p there.picks 0 found.0 there.played; order = there.order; ended = there.ended })
 
 machine_comes : (p : ProgramShape) → IsSound p → (mode : Mode) (size : ℕ) (order : List Ticket) → IsLegal p order
     → (picks : List Actor) × ComesTo p (on_machine mode size picks 0) order
@@ -53,36 +55,91 @@ machine_comes p sound mode size order legal =
     let codes = program_codes p sound mode in
     let found = core_orders_played p sound mode codes.0 codes.1 size order legal in
     let there = found.1 in
-    (there.picks, record { shown = found.0; run = there.played; order = there.order; ended = there.ended })
+    (there.picks, record { shown = found.0; run = run_of_played_in p mode size there.picks 0 found.0 there.played; order = there.order; ended = there.ended })
+
+-- ---- what an answer gives
+
+-- what is known of the witness, or where there is none
+abbrev Gives : (none : Type 0) → (some : StandingShape → Type 0) → Option StandingShape → Type 0
+Gives none some None = none
+Gives none some (Some s) = some s
+
+gives : {N : Type 0} {P Q : StandingShape → Type 0} → ((s : StandingShape) → P s → Q s) → (w : Option StandingShape)
+    → (w ≡ None → N) → IfSome w P → Gives N Q w
+gives f None none some = none refl
+gives f (Some s) none some = f s some
+
+module _ (p : ProgramShape) (front : List Ticket) (asked : OrderOutcome → Bool) where
+  -- a complete order that begins with the front and comes to what is asked for
+  record IsMetEnd (s : StandingShape) : Type 0 where
+    pub rest : List Ticket
+    pub whole : s.order ≡ front ++ rest
+    pub complete : IsComplete p s.order
+    pub met : asked (outcome_of p s.order) ≡ true
+
+  abbrev Given : Quantifier → Option StandingShape → Type 0
+  Given q.Always w = Gives (NoneMeets p front asked) IsMetEnd w
+  Given q.Some w = Gives (NoneMeets p front asked) IsMetEnd w
+  Given q.Throughout w = Gives (NoneMeetsOnTheWay p front asked) (IsCourseWitnessAfter p front asked) w
+
+  met_end : (s : StandingShape) → IsWitnessAfter p front asked s → IsMetEnd s
+  met_end s is = record {
+    rest = is.listed.reduced.rest;
+    whole = is.listed.reduced.whole;
+    complete = is.listed.complete;
+    met = ap asked (sym is.listed.outcome) ∙ is.met;
+  }
+
+  given : (kind : Quantifier) (a : AnswerShape) → IsAnswerBy kind p front asked a → Given kind a.witness
+  given q.Always a is = gives met_end a.witness (λ e. (is.none e).0) is.witness
+  given q.Some a is = gives met_end a.witness (λ e. (is.none e).0) is.witness
+  given q.Throughout a is = gives (λ s way. way) a.witness (λ e. (is.none e).0) is.witness
+
+module _ (p : ProgramShape) (asked : OrderOutcome → Bool) where
+  met_alike : (s : StandingShape) → IsEndMet p asked s → IsMetEnd p [] asked s
+  met_alike s is = record {
+    rest = s.order;
+    whole = refl;
+    complete = is.end.complete;
+    met = ap asked (sym is.end.outcome) ∙ is.met;
+  }
+
+  given_alike : (kind : Quantifier) (k : Classes) (a : AnswerShape) → IsAlikeAnswerBy kind p k asked a
+      → Given p [] asked kind a.witness
+  given_alike q.Always k a is = gives met_alike a.witness is.none is.witness
+  given_alike q.Some k a is = gives met_alike a.witness is.none is.witness
+  given_alike q.Throughout k a is = gives (λ s way. way) a.witness (λ e. (is.none e).0) is.witness
+
+-- ---- what it says of runs
 
 module _ (p : ProgramShape) (sound : IsSound p) (c : Tree) (front : List Ticket) (asked : OrderOutcome → Bool) where
   -- what no complete order comes to, no finished run does
   every_end : (holds : Bool) → ((o : OrderOutcome) → asked o ≡ false → holds_at p c o ≡ holds)
-      → (a : AnswerShape) → IsAnswerAfter p front asked a → a.witness ≡ None → AtEveryEnd holds p c front
-  every_end holds turn a is none way r run finished rest order =
+      → NoneMeets p front asked → AtEveryEnd holds p c front
+  every_end holds turn none way r run finished rest order =
       let covered = finished_covered p sound way r run finished in
-      let met : asked (outcome_of p (front ++ rest)) ≡ false = (is.none none).0 rest (subst (IsComplete p) order covered.complete) in
+      let met : asked (outcome_of p (front ++ rest)) ≡ false = none rest (subst (IsComplete p) order covered.complete) in
       (turn (outcome_of p r.order) (ap (λ o. asked (outcome_of p o)) order ∙ met), covered.states)
 
-  -- the order of a witness is complete, and reached
+  -- a complete order is reached
   some_end : (holds : Bool) → ((o : OrderOutcome) → asked o ≡ true → holds_at p c o ≡ holds)
-      → (s : StandingShape) → IsWitnessAfter p front asked s → AtSomeEnd holds p c front
+      → (s : StandingShape) → IsMetEnd p front asked s → AtSomeEnd holds p c front
   some_end holds turn s is =
-      let whole = is.listed.reduced.whole in
-      let complete = subst (IsComplete p) whole is.listed.complete in
+      let order = front ++ is.rest in
+      let complete = subst (IsComplete p) is.whole is.complete in
       record {
-        rest = is.listed.reduced.rest;
+        rest = is.rest;
         complete = complete;
-        end = turn (outcome_of p (front ++ is.listed.reduced.rest)) (ap asked (ap (outcome_of p) (sym whole) ∙ sym is.listed.outcome) ∙ is.met);
-        rules = rules_reach p sound (front ++ is.listed.reduced.rest) complete;
-        machine = λ mode size. machine_reaches p sound mode size (front ++ is.listed.reduced.rest) complete;
+        end = turn (outcome_of p order) (ap (λ o. asked (outcome_of p o)) (sym is.whole) ∙ is.met);
+        rules = rules_reach p sound order complete;
+        machine = λ mode size. machine_reaches p sound mode size order complete;
       }
 
   every_way : ((o : OrderOutcome) → asked o ≡ false → holds_at p c o ≡ true)
-      → (a : AnswerShape) → IsCourseAnswerAfter p front asked a → a.witness ≡ None → OnEveryWay p c front
-  every_way turn a is none way r run before later order =
+      → NoneMeetsOnTheWay p front asked → OnEveryWay p c front
+  every_way turn none way r run before later order =
       let legal : IsLegal p ((front ++ before) ++ later) = subst (IsLegal p) order (serial_order p sound way r run).legal in
-      turn (passed p (front ++ before)) ((is.none none).0 before (legal-front p (first_configuration p) (front ++ before) later legal))
+      turn (passed p (front ++ before)) (none before (legal-front p (first_configuration p) (front ++ before) later legal))
 
   some_way : ((o : OrderOutcome) → asked o ≡ true → holds_at p c o ≡ false)
       → (s : StandingShape) → IsCourseWitnessAfter p front asked s → OnSomeWay p c front
@@ -100,18 +157,20 @@ module _ (p : ProgramShape) (sound : IsSound p) (c : Tree) (front : List Ticket)
 
   -- by the quantifier, and by whether there is a witness
   says : (kind : Quantifier) → ((o : OrderOutcome) → asked o ≡ seeks kind (holds_at p c o))
-      → (a : AnswerShape) → IsAnswerBy kind p front asked a → (w : Option StandingShape) → a.witness ≡ w
-      → Says kind (answer_by kind (is_some w)) p c front
-  says q.Always means a is None none = every_end true (λ o e. not_false (holds_at p c o) (sym (means o) ∙ e)) a is none
-  says q.Always means a is (Some s) there =
-      some_end false (λ o e. not_true (holds_at p c o) (sym (means o) ∙ e)) s (subst (λ w. IfSome w (IsWitnessAfter p front asked)) there is.witness)
-  says q.Some means a is None none = every_end false (λ o e. sym (means o) ∙ e) a is none
-  says q.Some means a is (Some s) there =
-      some_end true (λ o e. sym (means o) ∙ e) s (subst (λ w. IfSome w (IsWitnessAfter p front asked)) there is.witness)
-  says q.Throughout means a is None none = every_way (λ o e. not_false (holds_at p c o) (sym (means o) ∙ e)) a is none
-  says q.Throughout means a is (Some s) there =
-      some_way (λ o e. not_true (holds_at p c o) (sym (means o) ∙ e)) s (subst (λ w. IfSome w (IsCourseWitnessAfter p front asked)) there is.witness)
+      → (w : Option StandingShape) → Given p front asked kind w → Says kind (answer_by kind (is_some w)) p c front
+  says q.Always means None none = every_end true (λ o e. not_false (holds_at p c o) (sym (means o) ∙ e)) none
+  says q.Always means (Some s) end = some_end false (λ o e. not_true (holds_at p c o) (sym (means o) ∙ e)) s end
+  says q.Some means None none = every_end false (λ o e. sym (means o) ∙ e) none
+  says q.Some means (Some s) end = some_end true (λ o e. sym (means o) ∙ e) s end
+  says q.Throughout means None none = every_way (λ o e. not_false (holds_at p c o) (sym (means o) ∙ e)) none
+  says q.Throughout means (Some s) way = some_way (λ o e. not_true (holds_at p c o) (sym (means o) ∙ e)) s way
 
 pub answers_of_runs : AnswersAreOfRuns
 answers_of_runs p sound claim c steps front a is =
-    says p sound c front (is_sought claim p) claim.quantifier (λ o. steps_answer p o claim c steps) a is a.witness refl
+    says p sound c front (is_sought claim p) claim.quantifier (λ o. steps_answer p o claim c steps) a.witness
+    (given p front (is_sought claim p) claim.quantifier a is)
+
+pub alike_answers_of_runs : AlikeAnswersAreOfRuns
+alike_answers_of_runs p sound claim c steps a (k, classes, is) =
+    says p sound c [] (is_sought claim p) claim.quantifier (λ o. steps_answer p o claim c steps) a.witness
+    (given_alike p (is_sought claim p) claim.quantifier k a is)

@@ -1,6 +1,6 @@
 -- In a finished run each block has ended: each client stands between two blocks and has none to come, so it is past
 -- each block of the order.
-use Rattle.std.proofs.Common.{◌≡◌, ◌∙◌, ◌<◌, ◌≤◌, ◌||◌, ◌&&◌, ℕ, zero, suc, ◌+◌, arith, Bool, true, false, nat_eq, nat_lt, List, [], ◌∷◌, Ok, get_or, length, refl, sym, subst}
+use Rattle.std.proofs.Common.{◌≡◌, ◌∙◌, ◌<◌, ◌≤◌, ◌||◌, ◌&&◌, ℕ, zero, suc, ◌+◌, arith, Bool, true, false, nat_eq, nat_lt, List, [], ◌∷◌, get_or, length, refl, sym, subst}
 use Rattle.std.proofs.lemmas.Bool.Decides.{nat_tests}
 use Rattle.std.proofs.lemmas.List.{get_or-map}
 use Rattle.std.specs.List.{range_with_len}
@@ -12,19 +12,20 @@ use Rattle.qs_meaning.specs.Serial.{IsLegal, LegalFrom}
 use Rattle.qs_meaning.specs.Solo.{put}
 use Rattle.qs_syncset.specs.declared.mode.Mode.{Mode}
 use Rattle.qs_played.specs.Isolation.{ended_of}
+use Rattle.qs_played.specs.Outcomes.{IsOver}
 use Rattle.qs_played.specs.Played.{Played, ticket}
 use Rattle.qs_played.specs.Schedule.{schedule}
 use Rattle.qs_played.specs.declared.schedule.actor.Actor.{Actor}
 use Rattle.qs_played.proofs.JournalRooms.{no_block_beyond}
 use Rattle.qs_plain_laws.specs.Plain.{Client, Plain, begin, begun_blocks, client_at, no_client}
-use Rattle.qs_plain_laws.specs.PlainSchedule.{IsPlayed, all_done, all_idle, ended_at, is_done, is_out, played_of, plays, scheduled}
+use Rattle.qs_plain_laws.specs.PlainSchedule.{all_done, all_idle, ended_at, is_done, is_out, played_of, plays}
 use Rattle.qs_plain_laws.proofs.PlainPreserved.{RunInvariant, run_kept}
 use Rattle.qs_client.specs.ClientModel.{has_ended, is_between}
 use Rattle.qs_core_laws.specs.Core.{Core, core_begin}
-use Rattle.qs_core_laws.specs.CoreSchedule.{IsPlayedIn, all_of, core_played, core_plays, core_scheduled, is_idle}
+use Rattle.qs_core_laws.specs.CoreSchedule.{all_of, core_played, core_plays, is_idle}
 use Rattle.qs_core_laws.specs.CoreSchedule as machine
-use Rattle.qs_run_laws.specs.Outcomes.{IsOutcome}
 use Rattle.qs_promises.specs.Runs.{IsRun, Way, by_rules, on_machine, on_threads}
+use Rattle.qs_promises.proofs.Calls.{over_on_threads}
 
 -- if it is finished, each block has ended
 abbrev pub EndsWhole : ProgramShape → Played → Type 0
@@ -106,25 +107,23 @@ machine_ends p s legal finished i less =
     (is_between (s.client t.client).stage) own both.1 both.0
 
 rules_whole : (p : ProgramShape) → IsSound p → (picks : List Actor) (rounds : ℕ) (r : Played)
-    → IsPlayed p picks rounds (Ok r) → EndsWhole p r
-unfolding scheduled
+    → IsRun p (by_rules picks rounds) r → EndsWhole p r
 rules_whole p sound picks rounds r (few, named, shows) =
     let s : Plain = plays p (schedule p picks rounds) (begin p) in
     subst (EndsWhole p) (sym shows) (rules_end p sound s (run_kept p sound (schedule p picks rounds)))
 
 machine_whole : (p : ProgramShape) (mode : Mode) (size : ℕ) (picks : List Actor) (rounds : ℕ) (r : Played)
-    → IsPlayedIn p mode size picks rounds (Ok r) → EndsWhole p r
-unfolding core_scheduled
+    → IsRun p (on_machine mode size picks rounds) r → EndsWhole p r
 machine_whole p mode size picks rounds r (few, named, (code, are, shows)) =
     let s : Core = core_plays code size (schedule p picks rounds) (core_begin p) in
     subst (EndsWhole p) (sym shows) (machine_ends p s)
 
-threads_whole : (p : ProgramShape) (mode : Mode) (size : ℕ) (r : Played) → IsOutcome p mode size r → EndsWhole p r
-threads_whole p mode size r outcome legal finished i less =
-    subst (λ es. get_or es i false ≡ true) (sym outcome.ended)
+threads_whole : (p : ProgramShape) (r : Played) → IsOver r → EndsWhole p r
+threads_whole p r over legal finished i less =
+    subst (λ es. get_or es i false ≡ true) (sym over.ended)
     (get_or-map (λ (t : Ticket). true) r.order i (ticket 0 0) false less)
 
 pub ends_whole : (p : ProgramShape) → IsSound p → (way : Way) (r : Played) → IsRun p way r → EndsWhole p r
 ends_whole p sound (by_rules picks rounds) r run = rules_whole p sound picks rounds r run
 ends_whole p sound (on_machine mode size picks rounds) r run = machine_whole p mode size picks rounds r run
-ends_whole p sound (on_threads mode size) r run = threads_whole p mode size r run
+ends_whole p sound (on_threads mode size) r run = threads_whole p r (over_on_threads p mode size r run)

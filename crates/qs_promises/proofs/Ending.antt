@@ -1,16 +1,18 @@
 -- A finished run that is isolated shows what the serial run of its order leaves, and this order is complete; so what
 -- the run shows is an outcome of the program. What is left to say is that an outcome to which the order comes has the
 -- states that the order leaves. That each complete order is reached follows from the law that each legal order is
--- played one block after another; and each outcome that is listed has a complete order.
+-- played one block after another; and each outcome that is listed has a complete order. So a list of all of them is one
+-- of all finished runs.
 use Rattle.std.proofs.Common.{refl, subst, ◌++◌, ◌≡◌, ◌∙◌, ℕ, true, List, sym, ap}
 use Rattle.qs_objects.specs.declared.Request.{Request}
 use Rattle.qs_objects.specs.declared.held.Ticket.{Ticket}
 use Rattle.qs_program.specs.Program.{ProgramShape}
 use Rattle.qs_program.specs.Sound.{IsSound}
-use Rattle.qs_meaning.specs.Configurations.{IsComplete, outcome_of}
-use Rattle.qs_meaning.proofs.Each.{each_both}
+use Rattle.qs_meaning.specs.Configurations.{IsComplete, OrderOutcome, outcome_of}
+use Rattle.qs_meaning.proofs.Each.{each_both, each_map}
+use Rattle.qs_meaning.proofs.Orders.{configurations_follow_orders}
 use Rattle.qs_standings.specs.Lists.{HasOne}
-use Rattle.qs_outcomes.specs.Outcomes.{IsLeast, IsListed, outcome_at}
+use Rattle.qs_outcomes.specs.Outcomes.{IsLeast, IsListed, IsListedAfter, outcome_at}
 use Rattle.qs_standings.specs.Standings.{StandingShape}
 use Rattle.qs_standings.proofs.Lists.{has_map}
 use Rattle.qs_played.specs.Isolation.{IsIsolated}
@@ -18,9 +20,10 @@ use Rattle.qs_played.specs.Played.{Played}
 use Rattle.qs_plain_orders.proofs.BlockReached.{orders_played}
 use Rattle.qs_core_orders.proofs.BlocksPlayed.{core_orders_played}
 use Rattle.qs_promises.specs.Finished.{FinishedRunsAreWhole, IsWholeRun, ShowsStates}
-use Rattle.qs_promises.specs.Outcomes.{CanHappen, IsAmong, FinishedRunsAreCovered, IsCovered, ListedOutcomesCanHappen, MachineReachesCompleteOrders, RulesReachCompleteOrders}
+use Rattle.qs_promises.specs.Outcomes.{CanHappen, FinishedRunsAreCovered, Happens, IsAmong, IsCovered, ListedOutcomesCanHappen, ListsAreOfRuns, MachineReachesCompleteOrders, RulesReachCompleteOrders}
 use Rattle.qs_promises.specs.Runs.{by_rules, on_machine}
 use Rattle.qs_core_laws.proofs.ProgramCodes.{program_codes}
+use Rattle.qs_promises.proofs.Calls.{run_of_played, run_of_played_in}
 use Rattle.qs_promises.proofs.Done.{EndsWhole, ends_whole}
 use Rattle.qs_promises.proofs.Isolating.{all_isolated}
 
@@ -32,7 +35,8 @@ isolated_whole p r waits isolated finished ends =
     record {
       complete = record { legal = isolated.legal; once = whole.once };
       done = ends isolated.legal finished;
-      states = whole.states;
+      states = λ h within. whole.states h within
+          ∙ ap (λ (o : OrderOutcome). o.states h) (sym (configurations_follow_orders p r.order isolated.legal));
     }
 
 pub finished_whole : FinishedRunsAreWhole
@@ -51,13 +55,17 @@ among p r states order is found has =
     found has
 
 whole_covered : (p : ProgramShape) (r : Played) → IsWholeRun p r → IsCovered p r
-whole_covered p r whole = record {
-  complete = whole.complete;
-  states = whole.states;
-  listed = λ found all. among p r whole.states r.order refl found (all r.order whole.complete);
-  after = λ front rest begins found all.
-      among p r whole.states (front ++ rest) begins found (all rest (subst (IsComplete p) begins whole.complete));
-}
+whole_covered p r whole =
+    let states : ShowsStates p r (outcome_of p r.order).states =
+    λ h within. whole.states h within
+    ∙ ap (λ (o : OrderOutcome). o.states h) (configurations_follow_orders p r.order whole.complete.legal) in
+    record {
+      complete = whole.complete;
+      states = states;
+      listed = λ found all. among p r states r.order refl found (all r.order whole.complete);
+      after = λ front rest begins found all.
+          among p r states (front ++ rest) begins found (all rest (subst (IsComplete p) begins whole.complete));
+    }
 
 pub finished_covered : FinishedRunsAreCovered
 finished_covered p sound way r run finished = whole_covered p r (finished_whole p sound way r run finished)
@@ -66,15 +74,16 @@ pub rules_reach : RulesReachCompleteOrders
 rules_reach p sound order complete =
     let found = orders_played p sound order complete.legal in
     let shown = found.1 in
+    let run = run_of_played p shown.picks 0 found.0 shown.played in
     let finished : found.0.finished ≡ true = shown.finished complete in (
       shown.picks,
       (
         found.0,
         record {
-          run = shown.played;
+          run = run;
           order = shown.order;
           finished = finished;
-          covered = finished_covered p sound (by_rules shown.picks 0) found.0 shown.played finished;
+          covered = finished_covered p sound (by_rules shown.picks 0) found.0 run finished;
         },
       ),
     )
@@ -84,27 +93,39 @@ machine_reaches p sound mode size order complete =
     let codes = program_codes p sound mode in
     let found = core_orders_played p sound mode codes.0 codes.1 size order complete.legal in
     let shown = found.1 in
+    let run = run_of_played_in p mode size shown.picks 0 found.0 shown.played in
     let finished : found.0.finished ≡ true = shown.finished complete in (
       shown.picks,
       (
         found.0,
         record {
-          run = shown.played;
+          run = run;
           order = shown.order;
           finished = finished;
-          covered = finished_covered p sound (on_machine mode size shown.picks 0) found.0 shown.played finished;
+          covered = finished_covered p sound (on_machine mode size shown.picks 0) found.0 run finished;
         },
       ),
     )
 
-can_happen : (p : ProgramShape) → IsSound p → (s : StandingShape) → IsListed p s → IsLeast p s → CanHappen p s
-can_happen p sound s listed least = record {
-  listed = listed;
-  least = least;
-  rules = rules_reach p sound s.order listed.complete;
-  machine = λ mode size. machine_reaches p sound mode size s.order listed.complete;
+happens : (p : ProgramShape) → IsSound p → (s : StandingShape) → IsComplete p s.order → outcome_at s ≡ outcome_of p s.order → Happens p s
+happens p sound s complete outcome = record {
+  outcome = outcome;
+  rules = rules_reach p sound s.order complete;
+  machine = λ mode size. machine_reaches p sound mode size s.order complete;
 }
+
+can_happen : (p : ProgramShape) → IsSound p → (s : StandingShape) → IsListed p s → IsLeast p s → CanHappen p s
+can_happen p sound s listed least =
+    record { listed = listed; least = least; happens = happens p sound s listed.complete listed.outcome }
 
 pub listed_happen : ListedOutcomesCanHappen
 listed_happen p sound found listed least =
     each_both {P = IsListed p} {Q = IsLeast p} {R = CanHappen p} (can_happen p sound) found listed least
+
+pub lists_of_runs : ListsAreOfRuns
+lists_of_runs p sound front all are = record {
+  every = λ way r run finished rest begins.
+      (finished_covered p sound way r run finished).after front rest begins all.found are.complete;
+  each = each_map {P = IsListedAfter p front} {Q = Happens p} (λ s listed. happens p sound s listed.complete listed.outcome) all.found
+      are.sound;
+}

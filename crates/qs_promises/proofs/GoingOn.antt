@@ -1,6 +1,6 @@
 -- A run goes on until it is finished: the laws of both machines are put together. Where nobody has a step it is
 -- finished, for else somebody had one.
-use Rattle.std.proofs.Common.{◌≡◌, ◌∙◌, ◌⊎◌, inl, inr, ℕ, Bool, true, true≢false, List, Ok, Option, None, is_some, sym, ap, subst}
+use Rattle.std.proofs.Common.{◌≡◌, ◌∙◌, ◌⊎◌, inl, inr, ℕ, Bool, true, true≢false, List, Option, None, is_some, sym, ap, subst}
 use Rattle.qs_program.specs.Program.{ProgramShape}
 use Rattle.qs_program.specs.Sound.{IsSound}
 use Rattle.qs_syncset.specs.declared.mode.Mode.{Mode}
@@ -8,16 +8,17 @@ use Rattle.qs_played.specs.Played.{Played}
 use Rattle.qs_played.specs.Schedule.{schedule}
 use Rattle.qs_played.specs.declared.schedule.actor.Actor.{Actor}
 use Rattle.qs_plain_laws.specs.Plain.{begin, step}
-use Rattle.qs_plain_laws.specs.PlainSchedule.{IsPlayed, is_finished, plays, scheduled}
+use Rattle.qs_plain_laws.specs.PlainSchedule.{is_finished, plays}
 use Rattle.qs_plain_progress.proofs.Finished.{finished_stay}
 use Rattle.qs_plain_progress.proofs.Stuck.{runs_never_stuck}
 use Rattle.qs_core_laws.specs.Core.{core_begin, core_step}
-use Rattle.qs_core_laws.specs.CoreSchedule.{IsPlayedIn, core_plays, core_scheduled}
+use Rattle.qs_core_laws.specs.CoreSchedule.{core_plays}
 use Rattle.qs_core_laws.specs.CoreSchedule as machine
 use Rattle.qs_core_progress.proofs.Finished.{core_finished_stay}
 use Rattle.qs_core_progress.proofs.Stuck.{core_runs_never_stuck}
 use Rattle.qs_promises.specs.GoesOn.{GoesOnOrEnds, MachinesGoOn, RulesGoOn, RunGoesOn, RunsGoOn, SomebodyHasStep}
-use Rattle.qs_promises.specs.Runs.{by_rules, on_machine, on_threads}
+use Rattle.qs_promises.specs.Runs.{IsRun, by_rules, on_machine, on_threads}
+use Rattle.qs_promises.proofs.Calls.{over_on_threads}
 use Rattle.qs_core_laws.proofs.ProgramCodes.{program_codes}
 
 goes_on : {S : Type 0} (p : ProgramShape) (finished : Bool) (step_of : Actor → Option S)
@@ -49,16 +50,14 @@ machines_go_on p sound mode = record {
 }
 
 rules_run : (p : ProgramShape) → IsSound p → (picks : List Actor) (rounds : ℕ) (r : Played)
-    → IsPlayed p picks rounds (Ok r) → RunGoesOn p (by_rules picks rounds) r
-unfolding scheduled
+    → IsRun p (by_rules picks rounds) r → RunGoesOn p (by_rules picks rounds) r
 rules_run p sound picks rounds r (few, named, shows) =
     let s = plays p (schedule p picks rounds) (begin p) in
     subst (λ finished. GoesOnOrEnds p finished (step p s)) (sym (ap (λ r. r.finished) shows))
     (rules_go_on p sound (schedule p picks rounds))
 
 machine_run : (p : ProgramShape) → IsSound p → (mode : Mode) (size : ℕ) (picks : List Actor) (rounds : ℕ) (r : Played)
-    → IsPlayedIn p mode size picks rounds (Ok r) → RunGoesOn p (on_machine mode size picks rounds) r
-unfolding core_scheduled
+    → IsRun p (on_machine mode size picks rounds) r → RunGoesOn p (on_machine mode size picks rounds) r
 machine_run p sound mode size picks rounds r (few, named, (code, are, shows)) =
     let s = core_plays code size (schedule p picks rounds) (core_begin p) in (
       code,
@@ -71,4 +70,4 @@ machine_run p sound mode size picks rounds r (few, named, (code, are, shows)) =
 pub runs_go_on : RunsGoOn
 runs_go_on p sound (by_rules picks rounds) r run = rules_run p sound picks rounds r run
 runs_go_on p sound (on_machine mode size picks rounds) r run = machine_run p sound mode size picks rounds r run
-runs_go_on p sound (on_threads mode size) r run = run.finished
+runs_go_on p sound (on_threads mode size) r run = (over_on_threads p mode size r run).finished

@@ -1,3 +1,4 @@
+pub mod Calls
 pub mod Isolating
 pub mod SerialPlaces
 pub mod Between

@@ -1,6 +1,6 @@
 -- Enough rounds finish each run, by the laws of both machines. So whatever was picked, the rounds that are still wanted
 -- can be picked one actor after another: then the run has finished, and a finished run is covered.
-use Rattle.std.proofs.Common.{◌≡◌, ◌<◌, ◌≤◌, ◌+◌, ℕ, zero, suc, true, List, [], Ok, append-nil, length, map, refl, sym, ap, subst, arith}
+use Rattle.std.proofs.Common.{◌≡◌, ◌<◌, ◌≤◌, ◌+◌, ℕ, zero, suc, true, List, [], append-nil, length, map, refl, sym, ap, subst, arith}
 use Rattle.std.proofs.lemmas.Bool.{lt-ltb}
 use Rattle.std.specs.List.{range_with_len}
 use Rattle.qs_program.specs.Program.{ProgramShape}
@@ -11,29 +11,31 @@ use Rattle.qs_played.specs.Schedule.{actors_of, all_named, most_rounds, names_ac
 use Rattle.qs_played.specs.declared.schedule.actor.Actor.{Actor}
 use Rattle.qs_played.specs.declared.schedule.actor.Actor.TheVariants as actor
 use Rattle.qs_plain_laws.specs.Plain.{begin}
-use Rattle.qs_plain_laws.specs.PlainSchedule.{IsPlayed, played_of, plays, scheduled}
+use Rattle.qs_plain_laws.specs.PlainSchedule.{played_of, plays}
 use Rattle.qs_plain_orders.proofs.AloneSteps.{named_append}
 use Rattle.qs_plain_progress.specs.Steps.{most_steps_of}
 use Rattle.qs_plain_progress.proofs.Finished.{rounds_finish}
 use Rattle.qs_plain_progress.proofs.SmallBounds.{bounds_small}
 use Rattle.qs_core_laws.specs.Core.{core_begin}
-use Rattle.qs_core_laws.specs.CoreSchedule.{IsPlayedIn, core_played, core_plays, core_scheduled}
+use Rattle.qs_core_laws.specs.CoreSchedule.{core_played, core_plays}
 use Rattle.qs_core_progress.specs.CoreSteps.{most_core_steps_of}
 use Rattle.qs_core_progress.proofs.Finished.{core_rounds_finish}
 use Rattle.qs_core_progress.proofs.SmallBounds.{core_bounds_small}
 use Rattle.qs_promises.specs.EnoughRounds.{DefaultRoundsAreEnough, DefaultRoundsFinish, EnoughRoundsFinish}
 use Rattle.qs_promises.specs.EveryBeginning.{EveryBeginningLeadsToAnOutcome}
 use Rattle.qs_promises.specs.Outcomes.{IsReached}
-use Rattle.qs_promises.specs.Runs.{by_rules, on_machine, on_threads}
+use Rattle.qs_promises.specs.Runs.{IsRun, by_rules, on_machine, on_threads}
 use Rattle.qs_core_laws.proofs.ProgramCodes.{program_codes}
+use Rattle.qs_promises.proofs.Calls.{over_on_threads, played_in_of_run, played_of_run}
 use Rattle.qs_promises.proofs.Ending.{finished_covered}
 
 -- ---- enough rounds
 
 pub enough_finish : EnoughRoundsFinish
-enough_finish p sound (by_rules picks rounds) r run enough = rounds_finish p sound picks rounds enough r run
+enough_finish p sound (by_rules picks rounds) r run enough =
+    rounds_finish p sound picks rounds enough r (played_of_run p picks rounds r run)
 enough_finish p sound (on_machine mode size picks rounds) r run enough =
-    core_rounds_finish p sound mode size picks rounds enough r run
+    core_rounds_finish p sound mode size picks rounds enough r (played_in_of_run p mode size picks rounds r run)
 enough_finish p sound (on_threads mode size) r run enough = absurd enough
 
 machine_few : (p : ProgramShape) → IsSound p → most_core_steps_of p ≤ most_rounds
@@ -80,18 +82,18 @@ module _ (p : ProgramShape) where
 
 module _ (p : ProgramShape) (sound : IsSound p) (picks : List Actor) (named : all_named p picks ≡ true) where
   rules_ended : (r : Played) × IsReached p (by_rules (schedule p picks (most_steps_of p)) 0) r.order r
-  unfolding scheduled
   rules_ended =
       let few = rules_few p sound in
       let all = schedule p picks (most_steps_of p) in
       let r = played_of p (plays p all (begin p)) in
-      let run : IsPlayed p all 0 (Ok r) = (
+      let run : IsRun p (by_rules all 0) r = (
         omega arith,
         schedule_named p picks (most_steps_of p) named,
         ap (λ actors. played_of p (plays p actors (begin p))) (sym (append-nil all)),
       ) in
       let finished : r.finished ≡ true =
-      rounds_finish p sound picks (most_steps_of p) (omega arith) r (few, named, refl) in (
+      rounds_finish p sound picks (most_steps_of p) (omega arith) r
+      (played_of_run p picks (most_steps_of p) r (few, named, refl)) in (
         r,
         record {
           run = run;
@@ -104,13 +106,12 @@ module _ (p : ProgramShape) (sound : IsSound p) (picks : List Actor) (named : al
   module _ (mode : Mode) (size : ℕ) where
     machine_ended : (r : Played)
         × IsReached p (on_machine mode size (schedule p picks (most_core_steps_of p)) 0) r.order r
-    unfolding core_scheduled
     machine_ended =
         let few = machine_few p sound in
         let codes = program_codes p sound mode in
         let all = schedule p picks (most_core_steps_of p) in
         let r = core_played p (core_plays codes.0 size all (core_begin p)) in
-        let run : IsPlayedIn p mode size all 0 (Ok r) = (
+        let run : IsRun p (on_machine mode size all 0) r = (
           omega arith,
           schedule_named p picks (most_core_steps_of p) named,
           (
@@ -121,7 +122,7 @@ module _ (p : ProgramShape) (sound : IsSound p) (picks : List Actor) (named : al
         ) in
         let finished : r.finished ≡ true =
         core_rounds_finish p sound mode size picks (most_core_steps_of p) (omega arith) r
-        (few, named, (codes.0, codes.1, refl)) in (
+        (played_in_of_run p mode size picks (most_core_steps_of p) r (few, named, (codes.0, codes.1, refl))) in (
           r,
           record {
             run = run;
@@ -147,8 +148,8 @@ every_beginning p sound (on_threads mode size) begun run = (
     record {
       run = run;
       order = refl;
-      finished = run.finished;
-      covered = finished_covered p sound (on_threads mode size) begun run run.finished;
+      finished = (over_on_threads p mode size begun run).finished;
+      covered = finished_covered p sound (on_threads mode size) begun run (over_on_threads p mode size begun run).finished;
     },
   ),
 )

@@ -4,7 +4,8 @@ use Rattle.qs_objects.specs.Parts.{IsFront}
 use Rattle.qs_objects.specs.declared.held.Event.{Event}
 use Rattle.qs_program.specs.Program.{ProgramShape, text_of}
 use Rattle.qs_program.specs.Sound.{IsSound}
-use Rattle.qs_meaning.specs.Serial.{IsLegal, serial}
+use Rattle.qs_meaning.specs.Configurations.{configuration_after}
+use Rattle.qs_meaning.specs.Serial.{IsLegal}
 use Rattle.qs_meaning.specs.Solo.{solo}
 use Rattle.qs_played.specs.Isolation.{ended_of, ticket_at, trace_of}
 use Rattle.qs_played.specs.Played.{Played}
@@ -18,7 +19,7 @@ use Rattle.qs_promises.specs.Undisturbed.{IsUndisturbed}
 abbrev pub alone_at : ProgramShape → Played → ℕ → List Event
 alone_at p r i =
     let t = ticket_at r i in
-    let before = serial p (take i r.order) in
+    let before = configuration_after p (take i r.order) in
     (solo (text_of p t).body (before.locals t.client) before.states).trace
 
 -- the block at the i-th place has a beginning of these, and all of them if it has ended

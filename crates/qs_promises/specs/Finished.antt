@@ -2,8 +2,7 @@
 use Rattle.std.specs.Prelude.{◌≡◌, ◌<◌, ℕ, true, length}
 use Rattle.qs_program.specs.Program.{ProgramShape}
 use Rattle.qs_program.specs.Sound.{IsSound}
-use Rattle.qs_meaning.specs.Configurations.{IsComplete}
-use Rattle.qs_meaning.specs.Serial.{serial}
+use Rattle.qs_meaning.specs.Configurations.{IsComplete, configuration_after}
 use Rattle.qs_meaning.specs.Solo.{States}
 use Rattle.qs_played.specs.Isolation.{ended_of, state_of}
 use Rattle.qs_played.specs.Played.{Played}
@@ -13,12 +12,12 @@ use Rattle.qs_promises.specs.Runs.{IsRun, Way}
 abbrev pub ShowsStates : ProgramShape → Played → States → Type 0
 ShowsStates p r states = (h : ℕ) → h < length p.objects → state_of r h ≡ states h
 
--- its order is legal and has each block once, each of them is done, and it shows the states that the serial run of this
--- order leaves
+-- its order is legal and has each block once, each of them is done, and it shows the states that the blocks leave when
+-- they run one after another in this order
 pub record IsWholeRun (p : ProgramShape) (r : Played) : Type 0 where
   pub complete : IsComplete p r.order
   pub done : (i : ℕ) → i < length r.order → ended_of r i ≡ true
-  pub states : ShowsStates p r (serial p r.order).states
+  pub states : ShowsStates p r (configuration_after p r.order).states
 
 -- for every checked program, in whichever way it is run
 abbrev pub FinishedRunsAreWhole : Type 0

@@ -6,7 +6,8 @@ use Rattle.qs_program.specs.Program.{ProgramShape}
 use Rattle.qs_program.specs.Sound.{IsSound}
 use Rattle.qs_meaning.specs.Configurations.{IsComplete, outcome_of}
 use Rattle.qs_standings.specs.Lists.{HasOne}
-use Rattle.qs_outcomes.specs.Outcomes.{AreAllOutcomes, AreAllOutcomesAfter, IsLeast, IsListed, outcome_at}
+use Rattle.qs_outcomes.specs.Outcomes.{AreAllOutcomes, AreAllOutcomesAfter, AreOutcomesAfter, IsLeast, IsListed}
+use Rattle.qs_outcomes.specs.Outcomes.{OutcomesShape, outcome_at}
 use Rattle.qs_standings.specs.Standings.{StandingShape}
 use Rattle.qs_syncset.specs.declared.mode.Mode.{Mode}
 use Rattle.qs_played.specs.Played.{Played}
@@ -60,16 +61,36 @@ MachineReachesCompleteOrders =
     (p : ProgramShape) → IsSound p → (mode : Mode) (size : ℕ) (order : List Ticket) → IsComplete p order
     → MachineReaches p mode size order
 
+-- It can happen: its variables and its states are those to which the order leads with which it is listed, and some
+-- picks lead to the end of this order, under the plain rules, and on the optimised machine in every mode and with every
+-- size of chunks.
+pub record Happens (p : ProgramShape) (s : StandingShape) : Type 0 where
+  pub outcome : outcome_at s ≡ outcome_of p s.order
+  pub rules : RulesReach p s.order
+  pub machine : (mode : Mode) (size : ℕ) → MachineReaches p mode size s.order
+
 -- What `outcomes` lists, as its clauses `sound` and `least` say it: with an order that comes to it, the least of the
--- reduced ones. It can happen: by this order, under the plain rules, and on the optimised machine in every mode.
+-- reduced ones. And it can happen.
 pub record CanHappen (p : ProgramShape) (s : StandingShape) : Type 0 where
   pub listed : IsListed p s
   pub least : IsLeast p s
-  pub rules : RulesReach p s.order
-  pub machine : (mode : Mode) (size : ℕ) → MachineReaches p mode size s.order
+  pub happens : Happens p s
 
 -- for every checked program and every list of which these clauses hold
 abbrev pub ListedOutcomesCanHappen : Type 0
 ListedOutcomesCanHappen =
     (p : ProgramShape) → IsSound p → (found : List StandingShape)
     → AllByRecursion (IsListed p) found → AllByRecursion (IsLeast p) found → AllByRecursion (CanHappen p) found
+
+-- A list of what a program can come to after a front. Every finished run whose order begins with the front, in
+-- whichever way it is run, comes to one of these; and each of these can happen.
+pub record IsWholeList (p : ProgramShape) (front : List Ticket) (found : List StandingShape) : Type 0 where
+  pub every : (way : Way) (r : Played) → IsRun p way r → r.finished ≡ true
+      → (rest : List Ticket) → r.order ≡ front ++ rest → IsAmong p r found
+  pub each : AllByRecursion (Happens p) found
+
+-- for every checked program, every front, and what `outcomes_after` answers
+abbrev pub ListsAreOfRuns : Type 0
+ListsAreOfRuns =
+    (p : ProgramShape) → IsSound p → (front : List Ticket) (all : OutcomesShape) → AreOutcomesAfter p front all
+    → IsWholeList p front all.found

@@ -1,12 +1,17 @@
 -- A run of a program: what a public call has shown of it, in whichever way the program was run.
-use Rattle.std.specs.Prelude.{ℕ, List, Ok}
+use Rattle.std.specs.Prelude.{◌≡◌, ◌≤◌, ◌↔◌, ℕ, true, List, Ok}
 use Rattle.qs_program.specs.Program.{ProgramShape}
+use Rattle.qs_program.specs.Sound.{IsSound}
+use Rattle.qs_syncset.specs.Codes.{ClientCode, AreCodes}
 use Rattle.qs_syncset.specs.declared.mode.Mode.{Mode}
 use Rattle.qs_played.specs.Played.{Played}
+use Rattle.qs_played.specs.Schedule.{all_named, most_rounds, schedule}
 use Rattle.qs_played.specs.declared.schedule.actor.Actor.{Actor}
-use Rattle.qs_plain_laws.specs.PlainSchedule.{IsPlayed}
-use Rattle.qs_core_laws.specs.CoreSchedule.{IsPlayedIn}
-use Rattle.qs_run_laws.specs.Outcomes.{IsOutcome}
+use Rattle.qs_plain_laws.specs.Plain.{begin}
+use Rattle.qs_plain_laws.specs.PlainSchedule.{IsPlayed, played_of, plays}
+use Rattle.qs_core_laws.specs.Core.{core_begin}
+use Rattle.qs_core_laws.specs.CoreSchedule.{IsPlayedIn, core_played, core_plays}
+use Rattle.qs_run_laws.specs.Outcomes.{IsOutcome, IsShownByThreads}
 
 -- A program is run by the plain rules, by some picks and then so many rounds; on the optimised machine, by the same, in
 -- a mode and with chunks of a size; or on threads, in a mode and with chunks of a size.
@@ -15,9 +20,35 @@ pub data Way : Type 0 where
   on_machine : (mode : Mode) → (size : ℕ) → (picks : List Actor) → (rounds : ℕ) → Way
   on_threads : (mode : Mode) → (size : ℕ) → Way
 
--- This is shown of the program, run in this way: each case is what the contract of the call promises that answers it,
--- which is `play_plain`, `play` and `execute`.
+-- This is shown of the program, run in this way. By the plain rules it is the state to which the program comes from its
+-- beginning, once each actor of the schedule was asked for a step: the picks, which name clients and handlers that the
+-- program has, and then the rounds, no more than may be played. On the optimised machine it is the same, by that
+-- machine's steps, with the program compiled in the mode. On threads it is what threads have shown that ran the program,
+-- compiled in the mode, with chunks of the size, once each client and each handler had ended.
 abbrev pub IsRun : ProgramShape → Way → Played → Type 0
-IsRun p (by_rules picks rounds) r = IsPlayed p picks rounds (Ok r)
-IsRun p (on_machine mode size picks rounds) r = IsPlayedIn p mode size picks rounds (Ok r)
-IsRun p (on_threads mode size) r = IsOutcome p mode size r
+IsRun p (by_rules picks rounds) r =
+    (rounds ≤ most_rounds) × (all_named p picks ≡ true)
+    × (r ≡ played_of p (plays p (schedule p picks rounds) (begin p)))
+IsRun p (on_machine mode size picks rounds) r =
+    (rounds ≤ most_rounds) × (all_named p picks ≡ true)
+    × ((code : ℕ → ClientCode) × AreCodes p mode code
+    × (r ≡ core_played p (core_plays code size (schedule p picks rounds) (core_begin p))))
+IsRun p (on_threads mode size) r = IsShownByThreads p mode size r
+
+-- What `play_plain` promises of what it shows is exactly this, for every program;
+abbrev pub PlayedAreRuns : Type 0
+PlayedAreRuns =
+    (p : ProgramShape) (picks : List Actor) (rounds : ℕ) (r : Played)
+    → IsPlayed p picks rounds (Ok r) ↔ IsRun p (by_rules picks rounds) r
+
+-- what `play` promises, too;
+abbrev pub PlayedInAreRuns : Type 0
+PlayedInAreRuns =
+    (p : ProgramShape) (mode : Mode) (size : ℕ) (picks : List Actor) (rounds : ℕ) (r : Played)
+    → IsPlayedIn p mode size picks rounds (Ok r) ↔ IsRun p (on_machine mode size picks rounds) r
+
+-- and what `execute` promises, for every checked program: all else that it says of an outcome follows.
+abbrev pub OutcomesAreRuns : Type 0
+OutcomesAreRuns =
+    (p : ProgramShape) → IsSound p → (mode : Mode) (size : ℕ) (r : Played)
+    → IsOutcome p mode size r ↔ IsRun p (on_threads mode size) r

@@ -3,7 +3,7 @@
 
 ghost use Rattle.qs_core_progress.specs.CoreSteps.{CoreStepsAreBounded};
 ghost use Rattle.qs_plain_progress.specs.Steps.{StepsAreBounded};
-ghost use Rattle.qs_promises.specs.Answers.{AnswersAreOfRuns};
+ghost use Rattle.qs_promises.specs.Answers.{AlikeAnswersAreOfRuns, AnswersAreOfRuns};
 ghost use Rattle.qs_promises.specs.AsIfSerial.{RunsAreAsIfSerial};
 ghost use Rattle.qs_promises.specs.AsAsked.{RunsAreAsAsked};
 ghost use Rattle.qs_promises.specs.BlockAlone.{BlocksAreAsIfAlone, BlocksThatAgreeDoTheSame, OnlyTheOrderDecides};
@@ -19,11 +19,21 @@ ghost use Rattle.qs_promises.specs.Isolated.{RunsAreIsolated};
 ghost use Rattle.qs_promises.specs.Outcomes.{
   FinishedRunsAreCovered,
   ListedOutcomesCanHappen,
+  ListsAreOfRuns,
   MachineReachesCompleteOrders,
   RulesReachCompleteOrders,
 };
+ghost use Rattle.qs_promises.specs.Runs.{OutcomesAreRuns, PlayedAreRuns, PlayedInAreRuns};
 ghost use Rattle.qs_promises.specs.SerialOrder.{RunsAreInSerialOrder};
 ghost use Rattle.qs_promises.specs.Undisturbed.{BlocksAreUndisturbed};
+
+/// What is said of every run is said of all that the calls show: what `play_plain`, `play` and `execute` promise of it
+/// is exactly that it is a run of the program, made in the way that was asked for. It does nothing.
+pub fn calls_show_runs()
+    ensures rules { PlayedAreRuns }
+    ensures machine { PlayedInAreRuns }
+    ensures threads { OutcomesAreRuns }
+{}
 
 /// The order of a run's tickets is one in which its blocks can be run one after another, each whole and alone: a block
 /// that is done has done what it does in that serial run, and an open one a beginning of that. It does nothing.
@@ -61,12 +71,21 @@ pub fn outcomes_leave_nothing_out()
     ensures listed { ListedOutcomesCanHappen }
 {}
 
+/// A list of outcomes is of runs, also of those after a front: every finished run whose order begins with the front
+/// comes to one of them, and to each of them some picks lead the plain rules, and the optimised machine in each mode
+/// and with each size of chunks. It does nothing.
+pub fn lists_are_of_runs()
+    ensures lists { ListsAreOfRuns }
+{}
+
 /// The answer to a claim is of runs. `always yes` says that its condition holds at the end of every finished run, and
 /// `throughout yes` that it holds wherever the order of a run has come; `always no`, `some yes` and `throughout no`
 /// come with an order that shows it, and some picks lead the plain rules, and the optimised machine in each mode, to
-/// its end, with each of its blocks ended. It does nothing.
+/// its end, with each of its blocks ended. An answer that looks at one only of all changes of alike clients says
+/// the same. It does nothing.
 pub fn answers_are_of_runs()
     ensures answers { AnswersAreOfRuns }
+    ensures alike { AlikeAnswersAreOfRuns }
 {}
 
 /// By the plain rules and on the optimised machine a run shows the state after exactly the picks and the rounds that

@@ -6,3 +6,4 @@ pub mod UniqueOutcomes
 pub mod UniqueEnds
 pub mod WorkedTexts
 pub mod MarkedLines
+mod EndsApart

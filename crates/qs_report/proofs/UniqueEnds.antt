@@ -31,7 +31,7 @@ same_each text same (x ∷ xs) (y ∷ ys) (first, zip) =
 
 pub one_ends_text : EndsTextsAreUnique
 unfolding IsEndsText
-one_ends_text p limit bound front text other (all, are, within, is) (every, too, below, one) =
+one_ends_text p limit bound front text other (all, are, within, words, is) (every, too, below, others, one) =
     let (zip, counts) = same_lists p (order_of front) all every are too in
     one_order (end_texts p all.found) (end_texts p every.found) text other
     (subst (λ (texts : List (List ℕ)). IsPermutation (end_texts p all.found) texts) (same_each (end_text p) (same_end p) all.found every.found zip)

@@ -1,7 +1,7 @@
 //! Worked examples of the texts, and what holds of the texts of graphs and of outcomes.
 
 ghost use Rattle.qs_report.specs.AnswerTextExamples.{AnswerTextExamples};
-ghost use Rattle.qs_report.specs.EndsText.{EndsTextsAreUnique};
+ghost use Rattle.qs_report.specs.EndsText.{EndsTellApart, EndsTextsAreUnique};
 ghost use Rattle.qs_report.specs.EndsTextExamples.{EndsTextExamples};
 ghost use Rattle.qs_report.specs.EstimateTextExamples.{EstimateTextExamples};
 ghost use Rattle.qs_report.specs.Examples.{Examples};
@@ -44,6 +44,12 @@ pub fn ends_text_examples()
 /// A program has one text of its ends after a front, also where the limit is another one; it does nothing.
 pub fn ends_texts_are_unique()
     ensures unique { EndsTextsAreUnique }
+{}
+
+/// Different ends of a checked program have different texts, whichever blocks came first. So where two texts of all ends
+/// differ, the ends do, and each text once is each end once. It does nothing.
+pub fn ends_tell_apart()
+    ensures apart { EndsTellApart }
 {}
 
 /// The texts of a few answers, worked out by hand; it does nothing.

@@ -4,7 +4,11 @@ ghost use Rattle.std.specs.Prelude.{◌≡◌, ◌<◌, ◌++◌, codes, flat_ma
 ghost use Rattle.std.specs.List.{AllByRecursion};
 ghost use Rattle.qs_outcomes.specs.Outcomes.{HasPlaces};
 ghost use Rattle.qs_report.specs.OutcomesText.{client_line, clients_text, listed_text, next_client_text, no_standing, numbered, object_line, outcome_line, outcome_text, outcome_text_at};
+ghost use Rattle.qs_meaning.specs.Serial.{zeros};
+ghost use Rattle.qs_program.specs.Program.{client_at};
+ghost use Rattle.qs_text.specs.TellApart.{AreClientsOfWords, AreObjectsOfWords, AreWords, IsOfWords};
 ghost use Rattle.qs_text.specs.Texts.{texts_up_to};
+ghost use Rattle.qs_text.specs.Words.{no_state};
 
 use crate::states::put_state_line;
 use itoa::Buffer;
@@ -79,6 +83,7 @@ fn put_client(
     requires client { client < length program.now.clients }
     requires place { client < length standing.now.locals }
     ensures ok { OnOk result (out.new.items ≡ out.old.items ++ client_line program.now standing.now client) }
+    ensures words { OnOk result (AreWords (length (client_at program.now client).variables) (slice_index_or standing.now.locals client zeros)) }
 {
     put(out, client_name(program, client))?;
     put_variables(out, program.variables(client), &standing.locals(client))?;
@@ -94,6 +99,7 @@ fn put_object(
 ) -> Result<(), AllocError>
     requires place { object < length standing.now.states }
     ensures ok { OnOk result (out.new.items ≡ out.old.items ++ object_line program.now standing.now object) }
+    ensures words { OnOk result (IsOfWords (slice_index_or standing.now.states object no_state)) }
 {
     let name = object_name(program, usize::from(object));
     put_state_line(out, name, standing.object(object))
@@ -107,6 +113,7 @@ pub(crate) fn put_clients(
 ) -> Result<(), AllocError>
     requires places { HasPlaces program.now standing.now }
     ensures ok { OnOk result (out.new.items ≡ out.old.items ++ texts_up_to (length program.now.clients) (client_line program.now standing.now)) }
+    ensures words { OnOk result (AreClientsOfWords program.now (length program.now.clients) standing.now) }
 {
     program.keeps_sound();
     for client in 0..program.clients() as u8 {
@@ -123,6 +130,7 @@ pub(crate) fn put_objects(
 ) -> Result<(), AllocError>
     requires places { HasPlaces program.now standing.now }
     ensures ok { OnOk result (out.new.items ≡ out.old.items ++ texts_up_to (length program.now.objects) (object_line program.now standing.now)) }
+    ensures words { OnOk result (AreObjectsOfWords (length program.now.objects) standing.now) }
 {
     program.keeps_sound();
     for object in 0..program.objects() as u8 {

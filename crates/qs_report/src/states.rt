@@ -2,6 +2,7 @@
 
 ghost use Rattle.std.specs.Prelude.{◌≡◌, ◌<◌, ◌++◌, length, OnOk};
 ghost use Rattle.qs_report.specs.Report.{state_line, object_text, states_text};
+ghost use Rattle.qs_text.specs.TellApart.{IsOfWords};
 
 use qs_objects::Object;
 use qs_played::Played;
@@ -16,6 +17,7 @@ pub(crate) fn put_state_line(
     object: &Object,
 ) -> Result<(), AllocError>
     ensures ok { OnOk result (out.new.items ≡ out.old.items ++ state_line name.now object.now) }
+    ensures words { OnOk result (IsOfWords object.now) }
 {
     put_state(out, name, object)?;
     put(out, b"\n")

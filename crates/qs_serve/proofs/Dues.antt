@@ -212,8 +212,8 @@ due_by_list : (ends : Bool) (how : Format) (p : ProgramShape) (limit : ℕ) (cli
 unfolding IsOutcomesText IsOutcomesJson IsEndsText IsEndsJson
 due_by_list false format.Text p limit clients all text are within is = (all, are, within, is)
 due_by_list false format.Json p limit clients all text are within is = (all, are, within, is)
-due_by_list true format.Text p limit clients all text are within is = (all, are, within, is)
-due_by_list true format.Json p limit clients all text are within is = (all, are, within, is)
+due_by_list true format.Text p limit clients all text are within (words, is) = (all, are, within, words, is)
+due_by_list true format.Json p limit clients all text are within (words, is) = (all, are, within, words, is)
 
 pub due_after_list : (ends : Bool) (how : Format) (p : ProgramShape) (limit : ℕ) (clients : List ℕ) (all : OutcomesShape) (due : Due)
     → AreOutcomesAfter p (order_of clients) all → all.configurations ≤ limit → IsListOf ends how p all due

@@ -10,6 +10,9 @@ use Rattle.qs_check.proofs.SoundTexts.{sound_accepted}
 use Rattle.qs_conditions.specs.Conditions.{Tree, steps_of}
 use Rattle.qs_conditions.specs.declared.claim.Claim.{Claim}
 use Rattle.qs_grammar.proofs.Form.{formed}
+use Rattle.qs_line.proofs.Claims.{claims_have_conditions, runs_are_lines}
+use Rattle.qs_line.specs.Claims.{HasCondition}
+use Rattle.qs_line.specs.RunLines.{style_of}
 use Rattle.qs_line.specs.Line.{Line, Request, alike, ask, ask_alike, asks, by_order, by_schedule, check, estimate, fronts, graph, outcomes, play, rules, run, tally}
 use Rattle.qs_line.specs.Named.{actors_of, clients_of}
 use Rattle.qs_line.specs.declared.line.Format.{Format}
@@ -19,10 +22,23 @@ use Rattle.qs_line.specs.declared.parts.Part.{Part}
 use Rattle.qs_node_lines.specs.NodeLines.{node_lines}
 use Rattle.qs_played.specs.Played.{Played}
 use Rattle.qs_played.specs.declared.schedule.actor.Actor.{Actor}
+use Rattle.qs_program.specs.Program.{ProgramShape}
 use Rattle.qs_program.specs.Sound.{IsSound}
 use Rattle.qs_promises.specs.Answers.{Says}
 use Rattle.qs_promises.specs.Runs.{IsRun, Way, by_rules, on_machine, on_threads}
-use Rattle.qs_promises.proofs.Answering.{answers_of_runs}
+use Rattle.qs_promises.specs.Outcomes.{IsWholeList}
+use Rattle.qs_promises.proofs.Calls.{run_of_outcome, run_of_played, run_of_played_in}
+use Rattle.qs_promises.proofs.Answering.{alike_answers_of_runs, answers_of_runs}
+use Rattle.qs_promises.proofs.Ending.{lists_of_runs}
+use Rattle.qs_outcomes.specs.Answers.{AnswerShape}
+use Rattle.qs_outcomes.specs.Outcomes.{AreOutcomesAfter, OutcomesShape}
+use Rattle.qs_questions.specs.AlikeClaims.{IsAlikeAnswer}
+use Rattle.qs_questions.specs.Claims.{IsAnswerTo}
+use Rattle.qs_report.specs.AnswerText.{is_yes}
+use Rattle.qs_report.specs.EndsText.{IsEndsText}
+use Rattle.qs_report.specs.OutcomesText.{IsOutcomesText}
+use Rattle.qs_json.specs.EndsJson.{IsEndsJson}
+use Rattle.qs_json.specs.OutcomesJson.{IsOutcomesJson}
 use Rattle.qs_promises.proofs.AsSerial.{as_if_serial}
 use Rattle.qs_report.specs.AnswerText.{IsAnswerText}
 use Rattle.qs_json.specs.AnswerJson.{IsAnswerJson}
@@ -31,8 +47,8 @@ use Rattle.qs_resolution.specs.Resolve.{program_of_items}
 use Rattle.qs_run_report.specs.RunReports.{report_by}
 use Rattle.qs_script.specs.Reads.{IsScriptText}
 use Rattle.qs_serial.specs.NamedOrders.{order_of}
-use Rattle.qs_serve.specs.Due.{AreLinesWhere, IsAnswerBy, IsAnswerTextTo, IsDue, IsDueOfLine, IsDueOfText, IsDueOfTextAlone, IsTextBy, Serves, due_status, due_text, longest, takes_threads, told_report}
-use Rattle.qs_serve.specs.Headline.{AreAnswersTrue, IsAskedFor, IsHeadline, IsReported, IsToTheEnd, IsTrueAnswer, style_of}
+use Rattle.qs_serve.specs.Due.{AreLinesWhere, IsAlikeAnswerText, IsAnswerBy, IsAnswerTextTo, IsDue, IsDueOfLine, IsDueOfText, IsDueOfTextAlone, IsTextBy, IsTextOfList, IsTextOfOutcomes, Lines, Serves, answer_in, due_status, due_text, listed_as, longest, takes_threads, told_report}
+use Rattle.qs_serve.specs.Headline.{AreAnswersTrue, AreListsTrue, IsAskedFor, IsHeadline, IsReported, IsToTheEnd, IsTrueAnswer, IsTrueList, asked_claim}
 use Rattle.qs_serve.specs.Reading.{Reading}
 use Rattle.qs_serve.specs.declared.due.Due.{Due}
 use Rattle.qs_serve.specs.declared.due.Due.TheVariants.{Text, No, Refused}
@@ -89,7 +105,8 @@ by_request (rules own (by_schedule rounds picks)) style text bytes old new s e s
     let who = named (actors_of (program_of_items s) picks) _ shown.0 in
     subst (λ it. IsReported (rules own (by_schedule rounds picks)) it text old new) is_own
     (reports (rules own (by_schedule rounds picks)) own text old new s script accepted (by_rules who.0 rounds) r
-    (of_named (λ actors. by_rules who.0 rounds ≡ by_rules actors rounds) _ who.0 who.1 refl) who.2 steps queues bytes
+    (of_named (λ actors. by_rules who.0 rounds ≡ by_rules actors rounds) _ who.0 who.1 refl)
+    (run_of_played (program_of_items s) who.0 rounds r who.2) steps queues bytes
     (none_beside own.steps _ steps are) (none_beside own.queues _ queues lie) is written shown.1)
 by_request (rules own (by_order list)) style text bytes old new s e script accepted (r, steps, queues, shown, are, lie, is) written =
     let is_own : own ≡ style = cc e in
@@ -97,7 +114,7 @@ by_request (rules own (by_order list)) style text bytes old new s e script accep
     subst (λ it. IsReported (rules own (by_order list)) it text old new) is_own
     (reports (rules own (by_order list)) own text old new s script accepted (by_rules who.2.1.picks 0) r
     (of_named (λ clients. (r.order ≡ order_of clients) × ((picks : List Actor) × (by_rules who.2.1.picks 0 ≡ by_rules picks 0))) _
-    who.0 who.1 (who.2.1.order, (who.2.1.picks, refl))) who.2.1.played steps queues bytes
+    who.0 who.1 (who.2.1.order, (who.2.1.picks, refl))) (run_of_played (program_of_items s) who.2.1.picks 0 r who.2.1.played) steps queues bytes
     (none_beside own.steps _ steps are) (none_beside own.queues _ queues lie) is written (λ none. absurd none))
 by_request (play own mode size (by_schedule rounds picks)) style text bytes old new s e script accepted (r, steps, queues, shown, are, lie, is) written =
     let is_own : own ≡ style = cc e in
@@ -105,7 +122,8 @@ by_request (play own mode size (by_schedule rounds picks)) style text bytes old 
     subst (λ it. IsReported (play own mode size (by_schedule rounds picks)) it text old new) is_own
     (reports (play own mode size (by_schedule rounds picks)) own text old new s script accepted
     (on_machine mode size who.0 rounds) r
-    (of_named (λ actors. on_machine mode size who.0 rounds ≡ on_machine mode size actors rounds) _ who.0 who.1 refl) who.2
+    (of_named (λ actors. on_machine mode size who.0 rounds ≡ on_machine mode size actors rounds) _ who.0 who.1 refl)
+    (run_of_played_in (program_of_items s) mode size who.0 rounds r who.2)
     steps queues bytes (none_beside own.steps _ steps are) (none_beside own.queues _ queues lie) is written shown.1)
 by_request (play own mode size (by_order list)) style text bytes old new s e script accepted (r, steps, queues, shown, are, lie, is) written =
     let is_own : own ≡ style = cc e in
@@ -114,12 +132,13 @@ by_request (play own mode size (by_order list)) style text bytes old new s e scr
     (reports (play own mode size (by_order list)) own text old new s script accepted (on_machine mode size who.2.1.picks 0) r
     (of_named (λ clients. (r.order ≡ order_of clients) × ((picks : List Actor)
     × (on_machine mode size who.2.1.picks 0 ≡ on_machine mode size picks 0))) _ who.0 who.1
-    (who.2.1.order, (who.2.1.picks, refl))) who.2.1.played steps queues bytes
+    (who.2.1.order, (who.2.1.picks, refl))) (run_of_played_in (program_of_items s) mode size who.2.1.picks 0 r who.2.1.played) steps queues bytes
     (none_beside own.steps _ steps are) (none_beside own.queues _ queues lie) is written (λ none. absurd none))
 by_request (run own mode size) style text bytes old new s e script accepted (r, outcome, is) written =
     let is_own : own ≡ style = cc e in
     subst (λ it. IsReported (run own mode size) it text old new) is_own
-    (reports (run own mode size) own text old new s script accepted (on_threads mode size) r refl outcome [] [] bytes
+    (reports (run own mode size) own text old new s script accepted (on_threads mode size) r refl
+    (run_of_outcome (program_of_items s) mode size r outcome) [] [] bytes
     (λ unasked. refl) (λ unasked. refl) (alone bytes _ is) written (λ all. outcome.finished))
 by_request (check how) style text bytes old new s e script accepted is written = absurd (cc e)
 by_request (graph how) style text bytes old new s e script accepted is written = absurd (cc e)
@@ -172,65 +191,101 @@ pub headline : (words : List (List ℕ)) (before after : Reading) (old new : Opt
 headline words before after old new failed status (due, how, is_due, formatted, front, ending) zero request style asked e =
     let all = done _ failed status (due_status due) ending (λ four. absurd (cc (zero, four))) in
     let none = not_refused 0 due (λ f z. zero_is_none f (sym z)) (sym zero ∙ all.1) in
-    let of_line = subst (λ l. IsDue l before.remaining after.has_failed due) asked is_due in
+    let of_line = subst (λ l. IsDue l before.remaining after.has_failed due) (runs_are_lines words request asked) is_due in
     of_known before.remaining _ _
     (λ bytes is. by_due request style (take longest bytes) old new how due e (sym zero ∙ all.1) is all.0)
     (text_due request before.remaining after.has_failed due of_line none)
 
--- an answer that is written is true of all runs
-truly : (claim : Claim) (how : Format) (limit : ℕ) (front : List Part) (holds : Bool) (text bytes : List ℕ)
-    (old new : Option (List ℕ)) (s : List Item) → IsScriptText text s → fault_of s ≡ None → (clients : List ℕ)
-    → clients_of (program_of_items s) front ≡ Ok clients
-    → IsAnswerTextTo how (program_of_items s) claim limit clients holds bytes → Appends old new bytes
-    → IsTrueAnswer claim how front holds text old new
+-- an answer of either kind, as text or as JSON
+an_answer : (claim : Claim) (how : Format) (limit : ℕ) (clients : List ℕ) (holds : Bool) (p : ProgramShape) (bytes : List ℕ)
+    → IsAnswerTextTo how p claim limit clients holds bytes
+    → (a : AnswerShape) × IsAnswerTo claim p (order_of clients) a × (holds ≡ is_yes claim.quantifier a) × (bytes ≡ answer_in how p claim.quantifier a)
 unfolding IsAnswerText IsAnswerJson
-truly claim format.Text limit front holds text bytes old new s script accepted clients e (a, are, within, holding, is) written =
-    record {
-      script = s;
-      read = script;
-      accepted = accepted;
-      answer = a;
-      is = sym holding;
-      written = subst (Appends old new) is written;
-      of_runs = of_named (λ xs. (c : Tree) → claim.condition ≡ steps_of c
-          → Says claim.quantifier holds (program_of_items s) c (order_of xs)) _ clients e
-          (λ c steps. subst (λ b. Says claim.quantifier b (program_of_items s) c (order_of clients)) (sym holding)
-          (answers_of_runs (program_of_items s) (sound_script text s script accepted) claim c steps (order_of clients) a are));
-    }
-truly claim format.Json limit front holds text bytes old new s script accepted clients e (a, are, within, holding, is) written =
-    record {
-      script = s;
-      read = script;
-      accepted = accepted;
-      answer = a;
-      is = sym holding;
-      written = subst (Appends old new) is written;
-      of_runs = of_named (λ xs. (c : Tree) → claim.condition ≡ steps_of c
-          → Says claim.quantifier holds (program_of_items s) c (order_of xs)) _ clients e
-          (λ c steps. subst (λ b. Says claim.quantifier b (program_of_items s) c (order_of clients)) (sym holding)
-          (answers_of_runs (program_of_items s) (sound_script text s script accepted) claim c steps (order_of clients) a are));
-    }
+an_answer claim format.Text limit clients holds p bytes (a, are, within, holding, is) = (a, are, holding, is)
+an_answer claim format.Json limit clients holds p bytes (a, are, within, holding, is) = (a, are, holding, is)
 
-by_answer : (claim : Claim) (how : Format) (limit : ℕ) (front : List Part) (holds : Bool) (text bytes : List ℕ)
-    (old new : Option (List ℕ)) (s : List Item) → IsScriptText text s → fault_of s ≡ None
-    → IsAnswerBy (ask claim how limit front) (program_of_items s) holds bytes → Appends old new bytes
-    → IsTrueAnswer claim how front holds text old new
-by_answer claim how limit front holds text bytes old new s script accepted (known, is) written =
-    let who = named (clients_of (program_of_items s) front) _ is in
-    truly claim how limit front holds text bytes old new s script accepted who.0 who.1 who.2 written
+an_alike_answer : (claim : Claim) (how : Format) (limit : ℕ) (holds : Bool) (p : ProgramShape) (bytes : List ℕ)
+    → IsAlikeAnswerText how p claim limit holds bytes
+    → (a : AnswerShape) × IsAlikeAnswer claim p a × (holds ≡ is_yes claim.quantifier a) × (bytes ≡ answer_in how p claim.quantifier a)
+unfolding IsAlikeAnswerText
+an_alike_answer claim how limit holds p bytes (a, are, within, holding, is) = (a, are, holding, is)
 
-answered_due : (claim : Claim) (how shown : Format) (limit : ℕ) (front : List Part) (holds : Bool) (text : List ℕ)
-    (old new : Option (List ℕ)) (due : Due) → (if holds then 0 else 1) ≡ due_status due
-    → IsDueOfText (ask claim how limit front) text due → Appends old new (due_text shown due)
+-- an answer that is written is true of all runs
+module _ (text bytes : List ℕ) (old new : Option (List ℕ)) (s : List Item) (script : IsScriptText text s) (accepted : fault_of s ≡ None)
+    (written : Appends old new bytes) where
+  truly : (claim : Claim) (how : Format) (front : List Part) (holds : Bool) (clients : List ℕ) → clients_of (program_of_items s) front ≡ Ok clients
+      → (c : Tree) → claim.condition ≡ steps_of c → (a : AnswerShape) → holds ≡ is_yes claim.quantifier a
+      → bytes ≡ answer_in how (program_of_items s) claim.quantifier a
+      → Says claim.quantifier (is_yes claim.quantifier a) (program_of_items s) c (order_of clients) → IsTrueAnswer claim how front holds text old new
+  truly claim how front holds clients e c steps a holding is says = record {
+    script = s;
+    read = script;
+    accepted = accepted;
+    answer = a;
+    is = sym holding;
+    written = subst (Appends old new) is written;
+    condition = c;
+    steps = steps;
+    of_runs = of_named (λ xs. Says claim.quantifier holds (program_of_items s) c (order_of xs)) _ clients e
+        (subst (λ b. Says claim.quantifier b (program_of_items s) c (order_of clients)) (sym holding) says);
+  }
+
+  by_answer : (request : Request) (claim : Claim) (how : Format) (front : List Part) (holds : Bool)
+      → asked_claim request ≡ Some (claim, how, front) → HasCondition request → IsAnswerBy request (program_of_items s) holds bytes
+      → IsTrueAnswer claim how front holds text old new
+  by_answer (ask own its limit list) claim how front holds e (c, steps) (known, is) =
+      let who = named (clients_of (program_of_items s) list) _ is in
+      let found = an_answer own its limit who.0 holds (program_of_items s) bytes who.2 in
+      let same : (own, its, list) ≡ (claim, how, front) = cc e in
+      subst (λ (t : Claim × Format × List Part). IsTrueAnswer t.0 t.1 t.2 holds text old new) same
+      (truly own its list holds who.0 who.1 c steps found.0 found.2 found.3
+      (answers_of_runs (program_of_items s) (sound_script text s script accepted) own c steps (order_of who.0) found.0 found.1))
+  by_answer (ask_alike own its limit) claim how front holds e (c, steps) (known, is) =
+      let found = an_alike_answer own its limit holds (program_of_items s) bytes is in
+      let same : (own, its, []) ≡ (claim, how, front) = cc e in
+      subst (λ (t : Claim × Format × List Part). IsTrueAnswer t.0 t.1 t.2 holds text old new) same
+      (truly own its [] holds [] refl c steps found.0 found.2 found.3
+      (alike_answers_of_runs (program_of_items s) (sound_script text s script accepted) own c steps found.0 found.1))
+  by_answer (check how) claim its front holds e has is = absurd is
+  by_answer (graph how) claim its front holds e has is = absurd is
+  by_answer (rules style plan) claim its front holds e has is = absurd is
+  by_answer (play style mode size plan) claim its front holds e has is = absurd is
+  by_answer (run style mode size) claim its front holds e has is = absurd is
+  by_answer (tally how mode size times) claim its front holds e has is = absurd is
+  by_answer (estimate how list) claim its front holds e has is = absurd is
+  by_answer (fronts how blocks limit orders) claim its front holds e has is = absurd is
+  by_answer (alike how limit) claim its front holds e has is = absurd is
+  by_answer (outcomes how limit threads list) claim its front holds e has is = absurd is
+
+-- a text of a request with a claim is an answer of yes
+yes_by : (request : Request) (claim : Claim) (how : Format) (front : List Part) (lines : Lines) (p : ProgramShape) (text : List ℕ)
+    → asked_claim request ≡ Some (claim, how, front) → IsTextBy request lines p text → IsAnswerBy request p true text
+yes_by (ask own its limit list) claim how front lines p text e is = is
+yes_by (ask_alike own its limit) claim how front lines p text e is = is
+yes_by (check own) claim how front lines p text e is = absurd (cc e)
+yes_by (graph own) claim how front lines p text e is = absurd (cc e)
+yes_by (rules style plan) claim how front lines p text e is = absurd (cc e)
+yes_by (play style mode size plan) claim how front lines p text e is = absurd (cc e)
+yes_by (run style mode size) claim how front lines p text e is = absurd (cc e)
+yes_by (tally own mode size times) claim how front lines p text e is = absurd (cc e)
+yes_by (estimate own list) claim how front lines p text e is = absurd (cc e)
+yes_by (fronts own blocks limit orders) claim how front lines p text e is = absurd (cc e)
+yes_by (alike own limit) claim how front lines p text e is = absurd (cc e)
+yes_by (outcomes own limit threads list) claim how front lines p text e is = absurd (cc e)
+
+answered_due : (request : Request) (claim : Claim) (how shown : Format) (front : List Part) (holds : Bool) (text : List ℕ)
+    (old new : Option (List ℕ)) (due : Due) → asked_claim request ≡ Some (claim, how, front) → HasCondition request
+    → (if holds then 0 else 1) ≡ due_status due → IsDueOfText request text due → Appends old new (due_text shown due)
     → IsTrueAnswer claim how front holds text old new
-answered_due claim how shown limit front true text old new (Text bytes) e (s, script, accepted, is) written =
-    by_answer claim how limit front true text bytes.items old new s script accepted is written
-answered_due claim how shown limit front true text old new (No bytes) e is written = absurd (cc e)
-answered_due claim how shown limit front true text old new (Refused f) e is written = absurd (zero_is_none f (sym e))
-answered_due claim how shown limit front false text old new (Text bytes) e is written = absurd (cc e)
-answered_due claim how shown limit front false text old new (No bytes) e (s, script, accepted, is) written =
-    by_answer claim how limit front false text bytes.items old new s script accepted is written
-answered_due claim how shown limit front false text old new (Refused f) e is written = absurd (one_is_none f (sym e))
+answered_due request claim how shown front true text old new (Text bytes) asked has e (s, script, accepted, is) written =
+    by_answer text bytes.items old new s script accepted written request claim how front true asked has
+    (yes_by request claim how front (node_lines text s) (program_of_items s) bytes.items asked is)
+answered_due request claim how shown front true text old new (No bytes) asked has e is written = absurd (cc e)
+answered_due request claim how shown front true text old new (Refused f) asked has e is written = absurd (zero_is_none f (sym e))
+answered_due request claim how shown front false text old new (Text bytes) asked has e is written = absurd (cc e)
+answered_due request claim how shown front false text old new (No bytes) asked has e (s, script, accepted, is) written =
+    by_answer text bytes.items old new s script accepted written request claim how front false asked has is
+answered_due request claim how shown front false text old new (Refused f) asked has e is written = absurd (one_is_none f (sym e))
 
 -- a status of yes or no is not that of a fault, and not that of a failed write
 no_fault : (holds : Bool) (f : Fault) → (if holds then 0 else 1) ≡ due_status (Refused f) → ⊥
@@ -243,13 +298,54 @@ no_four false status e four = absurd (cc (e, four))
 
 pub answers : (words : List (List ℕ)) (before after : Reading) (old new : Option (List ℕ)) (failed : Bool) (status : ℕ)
     → Serves words before after old new failed status → AreAnswersTrue words before.remaining old new status
-answers words before after old new failed status (due, how, is_due, formatted, front, ending) claim shown limit clients asked holds e =
+answers words before after old new failed status (due, how, is_due, formatted, front, ending) request claim shown clients line asked holds e =
     let all = done _ failed status (due_status due) ending (no_four holds status e) in
     let none = not_refused (if holds then 0 else 1) due (no_fault holds) (sym e ∙ all.1) in
-    let of_line = subst (λ l. IsDue l before.remaining after.has_failed due) asked is_due in
+    let of_line = subst (λ l. IsDue l before.remaining after.has_failed due) line is_due in
     of_known before.remaining _ _
-    (λ bytes is. answered_due claim shown how limit clients holds (take longest bytes) old new due (sym e ∙ all.1) is all.0)
-    (text_due (ask claim shown limit clients) before.remaining after.has_failed due of_line none)
+    (λ bytes is. answered_due request claim shown how clients holds (take longest bytes) old new due asked (claims_have_conditions words request line)
+    (sym e ∙ all.1) is all.0)
+    (text_due request before.remaining after.has_failed due of_line none)
+
+-- the outcomes of a list, as it was asked for
+an_outcome_list : (ends : Bool) (how : Format) (limit : ℕ) (clients : List ℕ) (p : ProgramShape) (bytes : List ℕ)
+    → IsTextOfOutcomes (listed_as ends how) p limit clients bytes
+    → (all : OutcomesShape) × AreOutcomesAfter p (order_of clients) all × IsTextOfList ends how p all bytes
+unfolding IsOutcomesText IsOutcomesJson IsEndsText IsEndsJson
+an_outcome_list false format.Text limit clients p bytes (all, are, within, is) = (all, are, is)
+an_outcome_list false format.Json limit clients p bytes (all, are, within, is) = (all, are, is)
+an_outcome_list true format.Text limit clients p bytes (all, are, within, words, is) = (all, are, (words, is))
+an_outcome_list true format.Json limit clients p bytes (all, are, within, words, is) = (all, are, (words, is))
+
+listed_due : (ends : Bool) (how shown : Format) (limit threads : ℕ) (front : List Part) (text : List ℕ) (old new : Option (List ℕ)) (due : Due)
+    → 0 ≡ due_status due → IsDueOfText (outcomes (listed_as ends how) limit threads front) text due → Appends old new (due_text shown due)
+    → IsTrueList ends how front text old new
+listed_due ends how shown limit threads front text old new (Text bytes) e (s, script, accepted, is) written =
+    let who = named (clients_of (program_of_items s) front) _ is in
+    let found = an_outcome_list ends how limit who.0 (program_of_items s) bytes.items who.2 in
+    record {
+      script = s;
+      read = script;
+      accepted = accepted;
+      all = found.0;
+      bytes = bytes.items;
+      list = found.2;
+      written = written;
+      of_runs = of_named (λ xs. IsWholeList (program_of_items s) (order_of xs) found.0.found) _ who.0 who.1
+          (lists_of_runs (program_of_items s) (sound_script text s script accepted) (order_of who.0) found.0 found.1);
+    }
+listed_due ends how shown limit threads front text old new (No bytes) e is written = absurd (cc e)
+listed_due ends how shown limit threads front text old new (Refused f) e is written = absurd (zero_is_none f (sym e))
+
+pub lists : (words : List (List ℕ)) (before after : Reading) (old new : Option (List ℕ)) (failed : Bool) (status : ℕ)
+    → Serves words before after old new failed status → status ≡ 0 → AreListsTrue words before.remaining old new
+lists words before after old new failed status (due, how, is_due, formatted, front, ending) zero ends shown limit threads clients line =
+    let all = done _ failed status (due_status due) ending (λ four. absurd (cc (zero, four))) in
+    let none = not_refused 0 due (λ f z. zero_is_none f (sym z)) (sym zero ∙ all.1) in
+    let of_line = subst (λ l. IsDue l before.remaining after.has_failed due) line is_due in
+    of_known before.remaining _ _
+    (λ bytes is. listed_due ends shown how limit threads clients (take longest bytes) old new due (sym zero ∙ all.1) is all.0)
+    (text_due (outcomes (listed_as ends shown) limit threads clients) before.remaining after.has_failed due of_line none)
 
 -- Where there are no threads, a text that is due is due of the script's text.
 picked : (b : Bool) (P : Type 0) → MatchBool b ⊥ P → P

@@ -53,7 +53,9 @@ use Rattle.qs_repeats.specs.Refusals.{IsRefusedTally, LetRunsStart}
 use Rattle.qs_repeats.specs.Repeats.{IsTallyBy}
 use Rattle.qs_tally.specs.Tallies.{TallyShape}
 use Rattle.qs_report.specs.OutcomesText.{IsOutcomesText, listed_text}
+use Rattle.std.specs.List.{AllByRecursion}
 use Rattle.qs_text.specs.SortedTexts.{IsInOrder}
+use Rattle.qs_text.specs.TellApart.{IsEndOfWords}
 use Rattle.qs_text.specs.Texts.{AppendsFront}
 use Rattle.qs_script.specs.Reads.{IsRefused, IsScriptText}
 use Rattle.qs_tree.specs.declared.tree.Item.{Item}
@@ -164,10 +166,11 @@ abbrev pub ends_in : Format → ProgramShape → OutcomesShape → List (List �
 ends_in format.Text p all = end_texts p all.found
 ends_in format.Json p all = ends_json p all.found
 
--- this list, or the ends alone in the order of their texts
+-- this list, or the ends alone in the order of their texts, all of them of numbers of 64 bits, by which a text tells its
+-- end
 abbrev pub IsTextOfList : (ends : Bool) → Format → ProgramShape → OutcomesShape → List ℕ → Type 0
 IsTextOfList false how p all text = text ≡ listed_in how p all
-IsTextOfList true how p all text = IsInOrder (ends_in how p all) text
+IsTextOfList true how p all text = AllByRecursion (IsEndOfWords p) all.found × IsInOrder (ends_in how p all) text
 
 -- such a text; or that an allocation failed
 abbrev pub IsListOf : (ends : Bool) → Format → ProgramShape → OutcomesShape → Due → Type 0

@@ -1,38 +1,34 @@
 -- What is written, where the word is `rules`, `play` or `run` and the status is 0: the report of a run of the script that
--- the input's bytes are, in which every block had what it would have had alone. And where a claim is asked: an answer
--- that is true of every run.
+-- the input's bytes are, in which every block had what it would have had alone. And where a claim is asked, or all
+-- outcomes: an answer, or a list, that is true of every run.
 use Rattle.std.specs.Prelude.{◌≡◌, ℕ, List, [], take, Bool, true, false, if◌then◌else◌, Option, Some, None, IfSome, IsOkAnd, ⊤}
 use Rattle.std.specs.Io.KnownBytes.{Appends}
 use Rattle.qs_check.specs.Checked.{fault_of}
 use Rattle.qs_conditions.specs.Conditions.{Tree, steps_of}
 use Rattle.qs_conditions.specs.declared.claim.Claim.{Claim}
-use Rattle.qs_line.specs.Line.{Request, ask, asks, by_order, by_schedule, line_in, play, rules, run}
+use Rattle.qs_line.specs.Line.{Request, ask, ask_alike, asks, by_order, by_schedule, line_in, outcomes, play, rules, run}
+use Rattle.qs_line.specs.RunLines.{run_in, style_of}
 use Rattle.qs_line.specs.Named.{actors_of, clients_of}
 use Rattle.qs_line.specs.declared.line.Format.{Format}
 use Rattle.qs_line.specs.declared.line.ReportStyle.{ReportStyle}
 use Rattle.qs_line.specs.declared.parts.Part.{Part}
 use Rattle.qs_outcomes.specs.Answers.{AnswerShape}
+use Rattle.qs_outcomes.specs.Outcomes.{OutcomesShape}
 use Rattle.qs_played.specs.Played.{Played}
 use Rattle.qs_played.specs.Schedule.{most_rounds}
 use Rattle.qs_played.specs.declared.schedule.actor.Actor.{Actor}
 use Rattle.qs_program.specs.Program.{ProgramShape}
 use Rattle.qs_promises.specs.Answers.{Says}
 use Rattle.qs_promises.specs.AsIfSerial.{IsAsIfSerial}
+use Rattle.qs_promises.specs.Outcomes.{IsWholeList}
 use Rattle.qs_promises.specs.Runs.{IsRun, Way, by_rules, on_machine, on_threads}
 use Rattle.qs_report.specs.AnswerText.{is_yes}
 use Rattle.qs_resolution.specs.Resolve.{program_of_items}
 use Rattle.qs_run_report.specs.RunReports.{report_by}
 use Rattle.qs_script.specs.Reads.{IsScriptText}
 use Rattle.qs_serial.specs.NamedOrders.{order_of}
-use Rattle.qs_serve.specs.Due.{answer_in, longest, told_report}
+use Rattle.qs_serve.specs.Due.{IsTextOfList, answer_in, listed_as, longest, told_report}
 use Rattle.qs_tree.specs.declared.tree.Item.{Item}
-
--- A line asks for a run by its word `rules`, `play` or `run`, which says in which style the report is written.
-abbrev pub style_of : Request → Option ReportStyle
-style_of (rules style plan) = Some style
-style_of (play style mode size plan) = Some style
-style_of (run style mode size) = Some style
-style_of _ = None
 
 -- It has the run made as its settings say. By a schedule these are the picks that its list names and then so many
 -- rounds; by an order some picks that have the blocks follow one another in it. So it is under the plain rules, and so
@@ -77,15 +73,21 @@ pub record IsReported (request : Request) (style : ReportStyle) (text : List ℕ
   pub finished : IsToTheEnd request → shown.finished ≡ true
 
 -- Whatever the words, the input's bytes (where they are known, and as far as a script may be read) and the streams are:
--- where the line asks for a run, what was written reports one that is as if serial.
+-- where the words ask for a run, by `rules`, `play` or `run`, what was written reports one that is as if serial.
 abbrev pub IsHeadline : List (List ℕ) → Option (List ℕ) → (old new : Option (List ℕ)) → Type 0
 IsHeadline words known old new =
-    (request : Request) (style : ReportStyle) → line_in words ≡ asks request → style_of request ≡ Some style
+    (request : Request) (style : ReportStyle) → run_in words ≡ Some request → style_of request ≡ Some style
     → IfSome known (λ bytes. IsReported request style (take longest bytes) old new)
 
+-- the claim that a request asks, in which format, and after the blocks of which clients
+abbrev pub asked_claim : Request → Option (Claim × Format × List Part)
+asked_claim (ask claim how limit front) = Some (claim, how, front)
+asked_claim (ask_alike claim how limit) = Some (claim, how, [])
+asked_claim _ = None
+
 -- The text is a script, which is accepted; what was written is an answer to the claim on its program, yes or no; and
--- that is true of every run whose order begins with the blocks of the clients that the front names (`Says`), whatever
--- condition the claim's steps are those of.
+-- that is true of every run whose order begins with the blocks of the clients that the front names (`Says`), by the
+-- condition whose steps are the claim's.
 pub record IsTrueAnswer (claim : Claim) (how : Format) (front : List Part) (holds : Bool) (text : List ℕ)
     (old new : Option (List ℕ)) : Type 0 where
   pub script : List Item
@@ -94,13 +96,36 @@ pub record IsTrueAnswer (claim : Claim) (how : Format) (front : List Part) (hold
   pub answer : AnswerShape
   pub is : is_yes claim.quantifier answer ≡ holds
   pub written : Appends old new (answer_in how (program_of_items script) claim.quantifier answer)
+  pub condition : Tree
+  pub steps : claim.condition ≡ steps_of condition
   pub of_runs : IsOkAnd (clients_of (program_of_items script) front)
-      (λ clients. (c : Tree) → claim.condition ≡ steps_of c
-      → Says claim.quantifier holds (program_of_items script) c (order_of clients))
+      (λ clients. Says claim.quantifier holds (program_of_items script) condition (order_of clients))
 
 -- Where the line asks a claim, the status 0 says yes and the status 1 says no, and what was written says so truly.
 abbrev pub AreAnswersTrue : List (List ℕ) → Option (List ℕ) → (old new : Option (List ℕ)) → (status : ℕ) → Type 0
 AreAnswersTrue words known old new status =
-    (claim : Claim) (how : Format) (limit : ℕ) (front : List Part)
-    → line_in words ≡ asks (ask claim how limit front) → (holds : Bool) → status ≡ (if holds then 0 else 1)
+    (request : Request) (claim : Claim) (how : Format) (front : List Part) → line_in words ≡ asks request
+    → asked_claim request ≡ Some (claim, how, front) → (holds : Bool) → status ≡ (if holds then 0 else 1)
     → IfSome known (λ bytes. IsTrueAnswer claim how front holds (take longest bytes) old new)
+
+-- The text is a script, which is accepted; what was written lists outcomes of its program, or their ends alone; and these
+-- are all to which finished runs come whose order begins with the blocks of the clients that the front names, and each
+-- of them can happen (`IsWholeList`).
+pub record IsTrueList (ends : Bool) (how : Format) (front : List Part) (text : List ℕ)
+    (old new : Option (List ℕ)) : Type 0 where
+  pub script : List Item
+  pub read : IsScriptText text script
+  pub accepted : fault_of script ≡ None
+  pub all : OutcomesShape
+  pub bytes : List ℕ
+  pub list : IsTextOfList ends how (program_of_items script) all bytes
+  pub written : Appends old new bytes
+  pub of_runs : IsOkAnd (clients_of (program_of_items script) front)
+      (λ clients. IsWholeList (program_of_items script) (order_of clients) all.found)
+
+-- Where the line asks for all outcomes, as a list and in no drawing, and the status is 0, the list is true of every run.
+abbrev pub AreListsTrue : List (List ℕ) → Option (List ℕ) → (old new : Option (List ℕ)) → Type 0
+AreListsTrue words known old new =
+    (ends : Bool) (how : Format) (limit threads : ℕ) (front : List Part)
+    → line_in words ≡ asks (outcomes (listed_as ends how) limit threads front)
+    → IfSome known (λ bytes. IsTrueList ends how front (take longest bytes) old new)

@@ -7,7 +7,7 @@ ghost use Rattle.qs_line.specs.declared.line.Format.TheVariants as format;
 ghost use Rattle.qs_report.specs.Faults.{fault_text};
 ghost use Rattle.qs_text.specs.Texts.{AppendsFront};
 ghost use Rattle.qs_serve.specs.Due.{IsDone, Serves, ServesStarting, longest};
-ghost use Rattle.qs_serve.specs.Headline.{AreAnswersTrue, IsHeadline};
+ghost use Rattle.qs_serve.specs.Headline.{AreAnswersTrue, AreListsTrue, IsHeadline};
 
 use crate::beside::tell_beside;
 use crate::choosing::due_of_words;
@@ -46,7 +46,7 @@ pub struct Terminals {
 ///
 /// The headline: where the status is 0 and the line asks for a run by `rules`, `play` or `run`, what is written is the
 /// report of a run of the input's script in which every block had what it would have had alone. Where it asks a claim,
-/// the answer that is written is true of every run.
+/// or for all outcomes as a list, what is written is true of every run.
 pub fn serve_with<
     'a,
     T: Threads + Wait + Clock + Files + Alloc<A = Global> + Sync,
@@ -70,6 +70,8 @@ pub fn serve_with<
         (W.contents out.old) (W.contents out.new) }
     ensures answers { AreAnswersTrue (map (λ word. word.now) words.entry.now) input.old.remaining
         (W.contents out.old) (W.contents out.new) result }
+    ensures lists { result ≡ 0 → AreListsTrue (map (λ word. word.now) words.entry.now) input.old.remaining
+        (W.contents out.old) (W.contents out.new) }
     ensures serves { ServesStarting S.answers starter.old starter.new (map (λ word. word.now) words.entry.now) input.old input.new
         (W.contents out.old) (W.contents out.new) watch.new.has_failed result }
     ensures gives_up { result ≡ 4 → IsTrue input.new.has_failed ⊎ IsTrue watch.new.has_failed }
@@ -128,6 +130,8 @@ pub fn serve<
         (W.contents out.old) (W.contents out.new) }
     ensures answers { AreAnswersTrue (map (λ word. word.now) words.entry.now) input.old.remaining
         (W.contents out.old) (W.contents out.new) result }
+    ensures lists { result ≡ 0 → AreListsTrue (map (λ word. word.now) words.entry.now) input.old.remaining
+        (W.contents out.old) (W.contents out.new) }
     ensures serves { Serves (map (λ word. word.now) words.entry.now) input.old input.new
         (W.contents out.old) (W.contents out.new) watch.new.has_failed result }
     ensures gives_up { result ≡ 4 → IsTrue input.new.has_failed ⊎ IsTrue watch.new.has_failed }

@@ -8,3 +8,5 @@ pub mod BlockTexts
 pub mod CheckedSets
 pub mod WorkedSets
 pub mod SameOrders
+pub mod TellApart
+pub mod SameEnds

@@ -4,6 +4,7 @@ pub mod Blocks
 pub mod Words
 pub mod Variables
 pub mod SortedTexts
+pub mod TellApart
 -- What crates promise one another, what proofs use, and worked examples.
 pub mod Watched
 pub mod Worked

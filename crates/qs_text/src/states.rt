@@ -1,9 +1,10 @@
 // What an object holds, and how many commands it refused.
 
-ghost use Rattle.std.specs.Prelude.{◌≡◌, ◌<◌, ◌++◌, length, codes, OnOk};
+ghost use Rattle.std.specs.Prelude.{◌≡◌, ◌<◌, ◌++◌, length, codes, pos, slice_index_or, OnOk};
 ghost use Rattle.std.specs.Fmt.{signed_decimal};
-ghost use Rattle.std.specs.List.{join_by};
+ghost use Rattle.std.specs.List.{AllByRecursion, join_by};
 ghost use Rattle.qs_objects.specs.Objects.{kind_of, values_of};
+ghost use Rattle.qs_text.specs.TellApart.{IsOfWords, IsWord};
 ghost use Rattle.qs_text.specs.Texts.{spaced_value};
 ghost use Rattle.qs_text.specs.Words.{values_text, content_text, state_text};
 
@@ -15,6 +16,7 @@ use std::alloc::AllocError;
 fn put_value(out: &mut Vec<u8>, object: &Object, place: usize) -> Result<(), AllocError>
     requires { place < length (values_of object.now.content) }
     ensures ok { OnOk result (out.new.items ≡ out.old.items ++ spaced_value (values_of object.now.content) place) }
+    ensures word { OnOk result (IsWord (slice_index_or (values_of object.now.content) place (pos 0))) }
 {
     if place > 0 {
         put(out, b" ")?;
@@ -26,6 +28,7 @@ fn put_value(out: &mut Vec<u8>, object: &Object, place: usize) -> Result<(), All
 fn put_joined(out: &mut Vec<u8>, object: &Object) -> Result<(), AllocError>
     ensures ok { OnOk result (out.new.items
         ≡ out.old.items ++ join_by signed_decimal (codes " ") (values_of object.now.content)) }
+    ensures words { OnOk result (AllByRecursion IsWord (values_of object.now.content)) }
 {
     for place in 0..object.len() {
         put_value(out, object, place)?;
@@ -35,6 +38,7 @@ fn put_joined(out: &mut Vec<u8>, object: &Object) -> Result<(), AllocError>
 
 fn put_values(out: &mut Vec<u8>, object: &Object) -> Result<(), AllocError>
     ensures ok { OnOk result (out.new.items ≡ out.old.items ++ values_text (values_of object.now.content)) }
+    ensures words { OnOk result (AllByRecursion IsWord (values_of object.now.content)) }
 {
     put(out, b"[")?;
     put_joined(out, object)?;
@@ -53,6 +57,7 @@ fn put_size(out: &mut Vec<u8>, word: &[u8], size: i64) -> Result<(), AllocError>
 fn put_content(out: &mut Vec<u8>, object: &Object) -> Result<(), AllocError>
     ensures ok { OnOk result (out.new.items
         ≡ out.old.items ++ content_text (kind_of object.now.content) (values_of object.now.content)) }
+    ensures words { OnOk result (AllByRecursion IsWord (values_of object.now.content)) }
 {
     match object.kind() {
         Kind::Account { balance } => put_size(out, b" account ", balance),
@@ -70,10 +75,11 @@ fn put_content(out: &mut Vec<u8>, object: &Object) -> Result<(), AllocError>
     }
 }
 
-/// Puts an object's name at the end, with what it holds and how many commands it refused. An error says that an
-/// allocation failed.
+/// Puts an object's name at the end, with what it holds and how many commands it refused: numbers of 64 bits, by which
+/// the text tells the object (`texts_tell_apart`). An error says that an allocation failed.
 pub fn put_state(out: &mut Vec<u8>, name: &[u8], object: &Object) -> Result<(), AllocError>
     ensures ok { OnOk result (out.new.items ≡ out.old.items ++ state_text name.now object.now) }
+    ensures words { OnOk result (IsOfWords object.now) }
 {
     put(out, name)?;
     put_content(out, object)?;

@@ -1,7 +1,9 @@
-use Rattle.std.proofs.Common.{ap₂, List}
+use Rattle.std.proofs.Common.{ap₂, length, List, subst}
 use Rattle.std.proofs.lemmas.Result.{on_ok_weaker}
 use Rattle.qs_program.specs.Numbering.{Name}
+use Rattle.qs_program.specs.Program.{client_at}
 use Rattle.qs_program.specs.Values.{Locals}
+use Rattle.qs_text.specs.TellApart.{AreWords}
 use Rattle.qs_json.specs.Variables.{variables_json}
 use Rattle.qs_text.proofs.Parts.{named, then}
 use Rattle.qs_json.proofs.outcomes.put_client.Goals as goal
@@ -12,5 +14,9 @@ returns c =
     record {
       ok = on_ok_weaker c.put_word.result
           (λ e. then (then c.in_ok-put_client_name.ensures.ok (named variables c.in_ok-put_variables.ensures.ok)) e)
+          c.put_word.ensures.ok;
+      words = on_ok_weaker c.put_word.result
+          (λ e. subst (λ l. AreWords (length (client_at c.args.program.now c.args.client).variables) l) c.locals.ensures.locals
+          (subst (λ (names : List Name). AreWords (length names) c.locals.result) c.variables.ensures.value c.in_ok-put_variables.ensures.words))
           c.put_word.ensures.ok;
     }

@@ -1,17 +1,25 @@
-use Rattle.std.proofs.Common.{◌≡◌, ap, arith, length}
+use Rattle.std.proofs.Common.{◌≡◌, ap, arith, get_or, length}
+use Rattle.qs_text.specs.TellApart.{IsOfWords}
+use Rattle.qs_text.specs.Words.{no_state}
 use Rattle.qs_text.specs.Texts.{texts_up_to}
 use Rattle.qs_json.specs.Pieces.{comma_at, element}
 use Rattle.qs_json.specs.OutcomesJson.{object_json}
 use Rattle.qs_json.proofs.Elements.{one_element_more}
+use Rattle.qs_text.proofs.Joined.{each_place_more}
 use Rattle.qs_text.proofs.Parts.{named}
 use Rattle.qs_json.proofs.outcomes.put_objects.Goals as goal
 
 pub loop-object-preserved : goal.loop-object-preserved
-loop-object-preserved c =
-    one_element_more (object_json c.args.program.now c.args.standing.now) c.loop-object.object c.loop-object.invariant
-    (named (ap comma_at c.from.ensures) c.in_ok-put_comma.ensures.ok) c.in_ok-put_object.ensures.ok
+loop-object-preserved c = (
+  one_element_more (object_json c.args.program.now c.args.standing.now) c.loop-object.object c.loop-object.invariant.0
+      (named (ap comma_at c.from.ensures) c.in_ok-put_comma.ensures.ok) c.in_ok-put_object.ensures.ok,
+  each_place_more (λ i. IsOfWords (get_or c.args.standing.now.states i no_state)) c.loop-object.object c.loop-object.invariant.1 c.in_ok-put_object.ensures.words,
+)
 
 pub returns : goal.returns
 returns c =
     let all : c.loop-object.object ≡ length c.args.program.now.objects = omega arith in
-    record { ok = named (ap (λ n. texts_up_to n (element (object_json c.args.program.now c.args.standing.now))) all) c.loop-object.invariant }
+    record {
+      ok = named (ap (λ n. texts_up_to n (element (object_json c.args.program.now c.args.standing.now))) all) c.loop-object.invariant.0;
+      words = λ i less. c.loop-object.invariant.1 i (omega (arith, all, less));
+    }

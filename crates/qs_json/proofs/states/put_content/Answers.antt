@@ -17,6 +17,7 @@ returns-in_ok-put_integer-in-Buffer c =
           (λ e. named (ap (λ (k : Kind). content_json k (values_of c.args.object.now.content)) c.in-Buffer.ensures.kind)
           (then (named (ap (λ z. kind_json (codes "buffer") ++ field (codes "capacity") (signed_decimal z)) capacity) c.in_ok-put_integer-in-Buffer.ensures.ok) e))
           c.put_values.ensures.ok;
+      words = c.put_values.ensures.words;
     }
 
 pub returns-in_ok-put_integer-in-Grid-2 : goal.returns-in_ok-put_integer-in-Grid-2
@@ -29,4 +30,5 @@ returns-in_ok-put_integer-in-Grid-2 c =
           (then (then (named (ap (λ z. kind_json (codes "grid") ++ field (codes "rows") (signed_decimal z)) rows) c.in_ok-put_integer-in-Grid.ensures.ok)
           (named (ap (λ z. field (codes "columns") (signed_decimal z)) columns) c.in_ok-put_integer-in-Grid-2.ensures.ok)) e))
           c.put_values-in-Grid.ensures.ok;
+      words = c.put_values-in-Grid.ensures.words;
     }

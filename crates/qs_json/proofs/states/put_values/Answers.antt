@@ -7,4 +7,5 @@ returns c = record {
   ok = on_ok_weaker c.put_word-2.result
       (λ e. then (then c.in_ok-put_word.ensures.ok c.in_ok-put_joined.ensures.ok) e)
       c.put_word-2.ensures.ok;
+  words = on_ok_weaker c.put_word-2.result (λ e. c.in_ok-put_joined.ensures.words) c.put_word-2.ensures.ok;
 }

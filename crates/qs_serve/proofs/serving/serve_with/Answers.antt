@@ -2,7 +2,7 @@ use Rattle.std.proofs.Common.{◌≡◌, ◌⊎◌, ◌∙◌, Bool, Bor, List, 
 use Rattle.std.specs.Prelude.{MatchBool, IsTrue}
 use Rattle.std.proofs.KnownBytes.{Keeps-trans}
 use Rattle.qs_serve.proofs.Dues.{four_is_due, zero_is_text}
-use Rattle.qs_serve.proofs.Headlines.{answers, headline}
+use Rattle.qs_serve.proofs.Headlines.{answers, headline, lists}
 use Rattle.qs_serve.proofs.serving.serve_with.Goals as goal
 
 -- a status of 4 is that of a failed write, or what is due
@@ -45,6 +45,18 @@ returns-clause-headline g c =
 pub returns-clause-answers : goal.returns-clause-answers
 returns-clause-answers g c =
     answers (map {A = Bor (List ℕ)} {B = List ℕ} (λ word. word.now) c.args.words.now) c.args.input.now
+    c.due_of_words-due.new.input _ _ c.finish-status.new.watch.has_failed c.finish-status.result (
+      c.due_of_words-due.result.0,
+      c.due_of_words-due.result.1,
+      c.due_of_words-due.ensures.due,
+      c.due_of_words-due.ensures.format,
+      c.finish-status.ensures.front,
+      c.finish-status.ensures.status,
+    )
+
+pub returns-clause-lists : goal.returns-clause-lists
+returns-clause-lists g c =
+    lists (map {A = Bor (List ℕ)} {B = List ℕ} (λ word. word.now) c.args.words.now) c.args.input.now
     c.due_of_words-due.new.input _ _ c.finish-status.new.watch.has_failed c.finish-status.result (
       c.due_of_words-due.result.0,
       c.due_of_words-due.result.1,

@@ -1,0 +1,282 @@
+-- A line's claim is that of a text which was read as a condition, whichever words stand beside it: what a word asks for
+-- is found test by test, and each request with a claim comes of one place.
+use Rattle.std.proofs.Common.{◌≡◌, ◌∙◌, Bool, true, false, ℕ, List, [], ◌∷◌, codes, Option, Some, None, Result, Ok, Err, if◌then◌else◌, ◌&&◌, ◌⊎◌, not, inl, inr, refl, sym, ap, subst}
+use Rattle.std.specs.Prelude.{option_and_then, option_map}
+use Rattle.std.specs.Option.{option_map_or}
+use Rattle.std.specs.Str.{bytes_eq}
+use Rattle.std.proofs.lemmas.Slice.Eq.{bytes_eq-Decides}
+use Rattle.clap.specs.Faults.{fault_of}
+use Rattle.clap.specs.Kinds.{Kinds}
+use Rattle.clap.specs.Words.{Row, Text, first_of, subcommand_of}
+use Rattle.clap.specs.declared.error.kind.ErrorKind.TheVariants.{DisplayHelp, DisplayVersion}
+use Rattle.clap.specs.declared.error.kind.ErrorKind.{ErrorKind}
+use Rattle.qs_conditions.specs.Conditions.{Tree, steps_of}
+use Rattle.qs_conditions.specs.Reading.{tree_of}
+use Rattle.qs_conditions.specs.Reads.{condition_in, steps_by_signs, steps_by_tree}
+use Rattle.qs_conditions.specs.Signs.{signs_of}
+use Rattle.qs_conditions.specs.declared.claim.Claim.{Claim}
+use Rattle.qs_conditions.specs.declared.claim.Quantifier.{Quantifier}
+use Rattle.qs_conditions.specs.declared.claim.Quantifier.TheVariants as quantifier
+use Rattle.qs_conditions.specs.declared.condition.Step.{Step}
+use Rattle.qs_conditions.specs.declared.fault.ConditionFault.{ConditionFault}
+use Rattle.qs_conditions.specs.declared.signs.Placed.{Placed}
+use Rattle.qs_line.proofs.Answering.{other_line}
+use Rattle.qs_line.specs.Claims.{ClaimsHaveConditions, HasCondition}
+use Rattle.qs_line.specs.RunLines.{LinesOfRunsAreThese, RunsAreLines, run_by, run_in, runs_at, style_of}
+use Rattle.qs_line.specs.declared.line.ReportStyle.{ReportStyle}
+use Rattle.qs_line.specs.Command.{qs_app}
+use Rattle.qs_line.specs.Parts.{orders_in}
+use Rattle.qs_line.specs.Line.{Request, alike, alike_at, alike_list_at, alike_or_list_at, answer_or_list_at, ask, ask_alike, ask_alike_at, ask_at, asks, asks_language, blocks_at, check, check_at, chunk_at, claim_at, claim_in, estimate, estimate_at, estimate_or_list_at, flag_at, format_at, front_at, fronts, fronts_at, fronts_or_list_at, graph, graph_at, graph_format_at, has_blocks, has_claim, has_times, help, leads_at, limit_at, line_by, line_in, line_met, line_of_kind, list_at, mode_at, one_claim, outcomes, outcomes_at, outcomes_format_at, play, play_at, request_at, request_met, rules, rules_at, run, single_run_at, style_at, styled_plan_at, tally, tally_at, threads_beside, times_at}
+
+-- a claim whose steps are those of a condition
+abbrev IsOfCondition : Claim → Type 0
+IsOfCondition claim = (c : Tree) × (claim.condition ≡ steps_of c)
+
+by_tree : (t : Result Tree ℕ) (steps : List Step) → steps_by_tree t ≡ Some steps → (c : Tree) × (steps ≡ steps_of c)
+by_tree (Ok c) steps e = (c, (let h : steps_of c ≡ steps = cc e in sym h))
+by_tree (Err left) steps e = absurd (cc e)
+
+by_signs : (ts : Result (List Placed) ConditionFault) (steps : List Step) → steps_by_signs ts ≡ Some steps → (c : Tree) × (steps ≡ steps_of c)
+by_signs (Ok ts) steps e = by_tree (tree_of ts) steps e
+by_signs (Err f) steps e = absurd (cc e)
+
+of_steps : (q : Quantifier) (o : Option (List Step)) (claim : Claim) → ((steps : List Step) → o ≡ Some steps → (c : Tree) × (steps ≡ steps_of c))
+    → option_map (λ steps. record { quantifier = q; condition = steps }) o ≡ Some claim → IsOfCondition claim
+of_steps q None claim are e = absurd (cc e)
+of_steps q (Some steps) claim are e = let h : record { quantifier = q; condition = steps } ≡ claim = cc e in subst IsOfCondition h (are steps refl)
+
+in_text : (q : Quantifier) (text : Text) (claim : Claim) → claim_in q text ≡ Some claim → IsOfCondition claim
+in_text q text claim e = of_steps q (condition_in text) claim (by_signs (signs_of text)) e
+
+of_one : (always some throughout : Option Text) (claim : Claim) → one_claim always some throughout ≡ Some claim → IsOfCondition claim
+of_one (Some text) None None claim e = in_text quantifier.Always text claim e
+of_one None (Some text) None claim e = in_text quantifier.Some text claim e
+of_one None None (Some text) claim e = in_text quantifier.Throughout text claim e
+of_one None None None claim e = absurd (cc e)
+of_one None (Some a) (Some b) claim e = absurd (cc e)
+of_one (Some a) None (Some b) claim e = absurd (cc e)
+of_one (Some a) (Some b) None claim e = absurd (cc e)
+of_one (Some a) (Some b) (Some c) claim e = absurd (cc e)
+
+of_rows : (rows : List Row) (claim : Claim) → claim_at rows ≡ Some claim → IsOfCondition claim
+of_rows rows claim e = of_one (first_of (codes "always") rows) (first_of (codes "some") rows) (first_of (codes "throughout") rows) claim e
+
+-- a request that is of no run and has its condition, if it asks a claim
+abbrev IsPlain : Request → Type 0
+IsPlain q = HasCondition q × (style_of q ≡ None)
+
+-- what is asked for is such a request, where something is
+abbrev Has : Option Request → Type 0
+Has r = (q : Request) → r ≡ Some q → IsPlain q
+
+none : Has None
+none q e = absurd (cc e)
+
+test : (b : Bool) (x y : Option Request) → Has x → Has y → Has (if b then x else y)
+test true x y a b = a
+test false x y a b = b
+
+each : {A : Type 0} (f : A → Request) (o : Option A) → ((a : A) → IsPlain (f a)) → Has (option_map f o)
+each f None all q e = absurd (cc e)
+each f (Some a) all q e = let h : f a ≡ q = cc e in subst IsPlain h (all a)
+
+next : {A : Type 0} (f : A → Option Request) (o : Option A) → ((a : A) → o ≡ Some a → Has (f a)) → Has (option_and_then f o)
+next f None all q e = absurd (cc e)
+next f (Some a) all q e = all a refl q e
+
+either : {A : Type 0} (f : A → Option Request) (o : Option A) (d : Option Request) → ((a : A) → Has (f a)) → Has d → Has (option_map_or f o d)
+either f None d all other = other
+either f (Some a) d all other = all a
+
+module _ (word : Text) (rows : List Row) where
+  checks : Has (check_at rows)
+  checks = each check (format_at rows) (λ how. (tt, refl))
+
+  graphs : Has (graph_at rows)
+  graphs = each graph (graph_format_at rows) (λ how. (tt, refl))
+
+  tallies : Has (tally_at rows)
+  tallies = test _ None _ none (next _ (format_at rows) (λ how e. next _ (mode_at rows) (λ mode f. next _ (chunk_at rows) (λ chunk g. each (tally how mode chunk) (times_at rows) (λ times. (tt, refl))))))
+
+  answers : Has (ask_at rows)
+  answers = test _ None _ none (next _ (claim_at rows) (λ claim is. next _ (format_at rows) (λ how e. next _ (limit_at rows) (λ limit f. each (ask claim how limit) (front_at rows) (λ front. (of_rows rows claim is, refl))))))
+
+  lists : Has (list_at rows)
+  lists = next _ (outcomes_format_at rows) (λ how e. next _ (limit_at rows) (λ limit f. next _ (threads_beside how rows) (λ threads g. each (outcomes how limit threads) (front_at rows) (λ front. (tt, refl)))))
+
+  estimates : Has (estimate_at rows)
+  estimates = test _ None _ none (next _ (format_at rows) (λ how e. each (estimate how) (front_at rows) (λ front. (tt, refl))))
+
+  alike_answers : Has (ask_alike_at rows)
+  alike_answers = next _ (claim_at rows) (λ claim is. next _ (format_at rows) (λ how e. each (ask_alike claim how) (limit_at rows) (λ limit. (of_rows rows claim is, refl))))
+
+  alike_lists : Has (alike_list_at rows)
+  alike_lists = next _ (format_at rows) (λ how e. each (alike how) (limit_at rows) (λ limit. (tt, refl)))
+
+  those_alike : Has (alike_at rows)
+  those_alike = test _ None _ none (test (has_claim rows) (ask_alike_at rows) (alike_list_at rows) alike_answers alike_lists)
+
+  fronts_of : Has (fronts_at rows)
+  fronts_of = test _ None _ none (next _ (format_at rows) (λ how e. next _ (blocks_at rows) (λ blocks f. next _ (limit_at rows) (λ limit g. each (λ front. fronts how blocks limit (front ∷ [])) (front_at rows) (λ front. (tt, refl))))))
+
+  leads : (text : Text) → Has (leads_at text rows)
+  leads text = test _ None _ none (next _ (format_at rows) (λ how e. next _ (blocks_at rows) (λ blocks f. next _ (limit_at rows) (λ limit g. each (fronts how blocks limit) (orders_in text) (λ orders. (tt, refl))))))
+
+  of_outcomes : Has (outcomes_at rows)
+  of_outcomes =
+      either (λ text. leads_at text rows) (first_of (codes "leads") rows) (estimate_or_list_at rows) leads
+      (test (flag_at (codes "estimate") rows) (estimate_at rows) (alike_or_list_at rows) estimates
+      (test (flag_at (codes "alike") rows) (alike_at rows) (fronts_or_list_at rows) those_alike
+      (test (has_blocks rows) (fronts_at rows) (answer_or_list_at rows) fronts_of (test (has_claim rows) (ask_at rows) (list_at rows) answers lists))))
+
+  -- what is asked for is plain, or it is the run that is asked for
+  abbrev Either : (r s : Option Request) → Type 0
+  Either r s = (q : Request) → r ≡ Some q → IsPlain q ⊎ (s ≡ Some q)
+
+  plain : (r s : Option Request) → Has r → Either r s
+  plain r s has q e = inl (has q e)
+
+  same : (r : Option Request) → Either r r
+  same r q e = inr e
+
+  choose : (b : Bool) (r x y : Option Request) → Either x y → Either (if b then r else x) (if b then r else y)
+  choose true r x y p = same r
+  choose false r x y p = p
+
+  past : (b : Bool) (r x s : Option Request) → Has r → Either x s → Either (if b then r else x) s
+  past true r x s p q = plain r s p
+  past false r x s p q = q
+
+  abbrev last : Option Request
+  last = if bytes_eq word (codes "outcomes") then outcomes_at rows else None
+
+  of_run : (named timed : Bool) → Either (if named then (if timed then tally_at rows else single_run_at rows) else last)
+      (if named && not timed then single_run_at rows else None)
+  of_run true true = plain (tally_at rows) None tallies
+  of_run true false = same (single_run_at rows)
+  of_run false timed = plain last None (test (bytes_eq word (codes "outcomes")) (outcomes_at rows) None of_outcomes none)
+
+  of_word : Either (request_at word rows) (runs_at word rows)
+  of_word =
+      past (bytes_eq word (codes "check")) (check_at rows) _ (runs_at word rows) checks
+      (past (bytes_eq word (codes "graph")) (graph_at rows) _ (runs_at word rows) graphs
+      (choose (bytes_eq word (codes "rules")) (rules_at rows) _ _
+      (choose (bytes_eq word (codes "play")) (play_at rows) _ _ (of_run (bytes_eq word (codes "run")) (has_times rows)))))
+
+  -- a run has a style
+  abbrev HasStyle : Option Request → Type 0
+  HasStyle r = (q : Request) → r ≡ Some q → (style : ReportStyle) × (style_of q ≡ Some style)
+
+  styled : (b : Bool) (x y : Option Request) → HasStyle x → HasStyle y → HasStyle (if b then x else y)
+  styled true x y p q = p
+  styled false x y p q = q
+
+  each_styled : {A : Type 0} (style : ReportStyle) (f : A → Request) (o : Option A) → ((a : A) → style_of (f a) ≡ Some style) → HasStyle (option_map f o)
+  each_styled style f None all q e = absurd (cc e)
+  each_styled style f (Some a) all q e = let h : f a ≡ q = cc e in (style, subst (λ q. style_of q ≡ Some style) h (all a))
+
+  next_styled : {A : Type 0} (f : A → Option Request) (o : Option A) → ((a : A) → HasStyle (f a)) → HasStyle (option_and_then f o)
+  next_styled f None all q e = absurd (cc e)
+  next_styled f (Some a) all q e = all a q e
+
+  runs_styled : HasStyle (runs_at word rows)
+  runs_styled =
+      styled (bytes_eq word (codes "rules")) (rules_at rows) _
+      (next_styled _ (style_at rows) (λ style. each_styled style (rules style) (styled_plan_at style rows) (λ plan. refl)))
+      (styled (bytes_eq word (codes "play")) (play_at rows) _
+      (next_styled _ (style_at rows) (λ style. next_styled _ (mode_at rows) (λ mode. next_styled _ (chunk_at rows) (λ chunk. each_styled style (play style mode chunk) (styled_plan_at style rows) (λ plan. refl)))))
+      (styled (bytes_eq word (codes "run") && not (has_times rows)) (single_run_at rows) None
+      (next_styled _ (style_at rows) (λ style. next_styled _ (mode_at rows) (λ mode. each_styled style (run style mode) (chunk_at rows) (λ chunk. refl)))) (λ q e. absurd (cc e))))
+
+-- a run that is asked for is what the word asks for
+is_word : (word : Text) (bytes : List ℕ) → bytes_eq word bytes ≡ true → word ≡ bytes
+is_word word bytes e = (bytes_eq-Decides word bytes).0 e
+
+not_timed : (timed : Bool) (rows : List Row) (q : Request) → (if not timed then single_run_at rows else None) ≡ Some q
+    → (if timed then tally_at rows else single_run_at rows) ≡ Some q
+not_timed true rows q e = absurd (cc e)
+not_timed false rows q e = e
+
+abbrev Leads : List Row → Request → Text → Type 0
+Leads rows q word = runs_at word rows ≡ Some q → request_at word rows ≡ Some q
+
+of_runs : (word : Text) (rows : List Row) (q : Request) → Leads rows q word
+of_runs word rows q = by (bytes_eq word (codes "rules")) refl (bytes_eq word (codes "play")) refl (bytes_eq word (codes "run")) refl
+  where
+    by : (a : Bool) → bytes_eq word (codes "rules") ≡ a → (b : Bool) → bytes_eq word (codes "play") ≡ b → (c : Bool) → bytes_eq word (codes "run") ≡ c → Leads rows q word
+    by true x b y c z = subst (Leads rows q) (sym (is_word word (codes "rules") x)) (λ e. e)
+    by false x true y c z = subst (Leads rows q) (sym (is_word word (codes "play") y)) (λ e. e)
+    by false x false y true z = subst (Leads rows q) (sym (is_word word (codes "run") z)) (not_timed (has_times rows) rows q)
+    by false x false y false z = λ e. absurd (let none : runs_at word rows ≡ None = rw (x, y, z) refl in let h : None ≡ Some q = sym none ∙ e in cc h)
+
+-- a run's request has no claim
+runs_have_none : (q : Request) (style : ReportStyle) → style_of q ≡ Some style → HasCondition q
+runs_have_none (rules style plan) own e = tt
+runs_have_none (play style mode size plan) own e = tt
+runs_have_none (run style mode size) own e = tt
+runs_have_none (check how) own e = absurd (cc e)
+runs_have_none (graph how) own e = absurd (cc e)
+runs_have_none (tally how mode size times) own e = absurd (cc e)
+runs_have_none (ask claim how limit list) own e = absurd (cc e)
+runs_have_none (estimate how list) own e = absurd (cc e)
+runs_have_none (fronts how blocks limit orders) own e = absurd (cc e)
+runs_have_none (alike how limit) own e = absurd (cc e)
+runs_have_none (ask_alike claim how limit) own e = absurd (cc e)
+runs_have_none (outcomes how limit threads list) own e = absurd (cc e)
+
+of_request : (r : Option Request) (request : Request) → line_met r ≡ asks request → r ≡ Some request
+of_request None request e = absurd (cc e)
+of_request (Some q) request e = let h : q ≡ request = cc e in ap Some h
+
+no_kind : (kind : ErrorKind) (request : Request) → line_of_kind kind ≡ asks request → ⊥
+no_kind DisplayHelp request e = cc e
+no_kind DisplayVersion request e = cc e
+no_kind _ request e = cc e
+
+of_kinds : (kinds : Kinds) (r : Option Request) (request : Request) → line_by kinds r ≡ asks request → (kinds ≡ []) × (r ≡ Some request)
+of_kinds [] r request e = (refl, of_request r request e)
+of_kinds (kind ∷ kinds) r request e = absurd (no_kind kind request e)
+
+of_met : (entry : Option (Text × List Row)) (request : Request) → request_met entry ≡ Some request → HasCondition request × ((style : ReportStyle) → style_of request ≡ Some style → run_by [] entry ≡ Some request)
+of_met None request e = absurd (cc e)
+of_met (Some entry) request e = by_case (of_word entry.0 entry.1 request e)
+  where
+    by_case : IsPlain request ⊎ (runs_at entry.0 entry.1 ≡ Some request) → HasCondition request × ((style : ReportStyle) → style_of request ≡ Some style → runs_at entry.0 entry.1 ≡ Some request)
+    by_case (inl plain) = (plain.0, λ style own. absurd (let h : None ≡ Some style = sym plain.1 ∙ own in cc h))
+    by_case (inr is) = let own = runs_styled entry.0 entry.1 request is in (runs_have_none request own.0 own.1, λ style own. is)
+
+the_page : (words : List Text) → asks_language words ≡ true → line_in words ≡ help
+the_page words asked = rw asked refl
+
+-- what a line that asks for something asks for is what the word that clap meets does
+module _ (words : List Text) (request : Request) (e : line_in words ≡ asks request) where
+  no_page : (b : Bool) → asks_language words ≡ b → asks_language words ≡ false
+  no_page true language = absurd (let h : help ≡ asks request = sym (the_page words language) ∙ e in cc h)
+  no_page false language = language
+
+  other : asks_language words ≡ false
+  other = no_page (asks_language words) refl
+
+  met : (fault_of qs_app words ≡ []) × (request_met (subcommand_of qs_app words) ≡ Some request)
+  met = of_kinds (fault_of qs_app words) (request_met (subcommand_of qs_app words)) request (sym (other_line words other) ∙ e)
+
+pub claims_have_conditions : ClaimsHaveConditions
+claims_have_conditions words request e = (of_met (subcommand_of qs_app words) request (met words request e).1).0
+
+pub lines_of_runs_are_these : LinesOfRunsAreThese
+lines_of_runs_are_these words request style e own =
+    rw (other words request e, (met words request e).0) ((of_met (subcommand_of qs_app words) request (met words request e).1).1 style own)
+
+run_of : (kinds : Kinds) (entry : Option (Text × List Row)) (request : Request) → run_by kinds entry ≡ Some request → line_by kinds (request_met entry) ≡ asks request
+run_of [] None request e = absurd (cc e)
+run_of [] (Some entry) request e = ap line_met (of_runs entry.0 entry.1 request e)
+run_of (kind ∷ kinds) entry request e = absurd (cc e)
+
+pub runs_are_lines : RunsAreLines
+runs_are_lines words request e = by_case (asks_language words) refl
+  where
+    by_case : (b : Bool) → asks_language words ≡ b → line_in words ≡ asks request
+    by_case true language = absurd (let none : run_in words ≡ None = rw language refl in let h : None ≡ Some request = sym none ∙ e in cc h)
+    by_case false language =
+        let is : run_in words ≡ run_by (fault_of qs_app words) (subcommand_of qs_app words) = rw language refl in
+        other_line words language ∙ run_of (fault_of qs_app words) (subcommand_of qs_app words) request (sym is ∙ e)
