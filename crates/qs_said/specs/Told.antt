@@ -17,10 +17,10 @@ use Rattle.qs_serial.specs.declared.fault.OrderFault.TheVariants as order
 use Rattle.qs_outcomes.specs.declared.fault.OutcomesFault.TheVariants as outcomes
 use Rattle.qs_report.specs.declared.faults.Fault.{Fault}
 use Rattle.qs_report.specs.declared.faults.Fault.TheVariants.{Input, Read, Check, Play, Order, Run, Outcomes, Memory}
-use Rattle.qs_causes.specs.CheckTold.{IsCheckTold}
-use Rattle.qs_causes.specs.ReadTold.{IsFormTold, IsTokenTold}
-use Rattle.qs_limit_use.specs.LimitsText.{limits_text}
-use Rattle.qs_limit_use.specs.Templates.{template_use}
+use Rattle.qs_said.specs.CheckTold.{IsCheckTold}
+use Rattle.qs_said.specs.ReadTold.{IsFormTold, IsTokenTold}
+use Rattle.qs_said.specs.LimitsText.{limits_text}
+use Rattle.qs_said.specs.Templates.{template_use}
 use Rattle.qs_text.specs.Texts.{AppendsFront}
 
 -- the words of a fault that has no place in the script and is of no part of the line; none of another

@@ -1,13 +1,13 @@
 // What is said of a fault.
 
 ghost use Rattle.std.specs.Prelude.{◌≡◌, [], None, IfOk, option_map};
-ghost use Rattle.qs_causes.specs.CheckTold.{IsCheckTold};
+ghost use Rattle.qs_said.specs.CheckTold.{IsCheckTold};
 ghost use Rattle.qs_report.specs.declared.faults.Fault.TheVariants.{Input};
 ghost use Rattle.qs_said.specs.Told.{IsDueOf, IsReadTold, IsFaultTold, IsInputTold, IsToldBy, plain_words as words_of};
 
-use qs_causes::{tell_check, tell_read};
+use crate::causes::{tell_check, tell_read};
+use crate::line_causes::{put_front, put_order, put_pick, put_refused};
 use qs_check::CheckFault;
-use qs_line_causes::{put_front, put_order, put_pick, put_refused};
 use qs_outcomes::OutcomesFault;
 use qs_played::{PlayFault, RunFault};
 use qs_report::Fault;

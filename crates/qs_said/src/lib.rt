@@ -1,8 +1,12 @@
 //! What is said on standard error: of a fault, and beside a result.
 #![tactic(auto)]
 
+mod causes;
 mod fault;
+mod limit_use;
 mod limits;
+mod line_causes;
+mod warned;
 mod warnings;
 
 pub use fault::tell_fault;

@@ -4,8 +4,8 @@ ghost use Rattle.std.specs.Prelude.{◌≡◌, false, IfOk};
 ghost use Rattle.std.specs.Io.KnownBytes.{Keeps};
 ghost use Rattle.qs_said.specs.Told.{AreLimitsTold, IsLimitsText};
 
+use crate::limit_use::{limits_text, template_use};
 use qs_check::check;
-use qs_limit_use::{limits_text, template_use};
 use qs_script::read;
 use qs_text::{Watch, write_text};
 use std::alloc::{AllocError, Global};

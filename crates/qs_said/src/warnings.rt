@@ -3,10 +3,10 @@
 ghost use Rattle.std.specs.Prelude.{◌≡◌, false};
 ghost use Rattle.std.specs.Io.KnownBytes.{Keeps};
 
+use crate::warned::warnings_text;
 use qs_check::check;
 use qs_script::read;
 use qs_text::{Watch, write_text};
-use qs_warnings::warnings_text;
 use std::alloc::{AllocError, Global};
 use std::io::Write;
 

@@ -62,7 +62,7 @@ use Rattle.qs_syncset.specs.declared.mode.Mode.{Mode}
 use Rattle.qs_played.specs.declared.schedule.actor.Actor.{Actor}
 use Rattle.qs_core_state.specs.CoreState.{IsShownIsolated}
 use Rattle.qs_played.specs.Isolation.{IsIsolated}
-use Rattle.qs_run_report.specs.RunReports.{report_by}
+use Rattle.qs_serve.specs.RunReports.{report_by}
 use Rattle.qs_serve.specs.Due.{AreLinesFor, AreLinesWhere, IsAnswerAfterDue, IsAnswerTextTo, IsAnswered, IsCounted, IsDue, IsDueAfter, IsEstimateText, IsEstimated, answer_in, most_numbered, IsDueOfProgram, IsDueOfText, IsDueOfTextAlone, IsDueWithoutThreads, IsListOf, IsOutOfMemory, IsProgramOf, IsRefusedBy, IsReportBetween, IsReportOf, IsSomeText, IsTextBy, IsTextOfOutcomes, Lines, IsUnanswered, IsUnlisted, IsUnreadable, due_status, limit_in, listed_as, IsTextOfList, takes_threads, told_report}
 use Rattle.qs_serve.specs.Prepared.{prepared_by}
 use Rattle.qs_serve.specs.declared.due.Due.{Due}

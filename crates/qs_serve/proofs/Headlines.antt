@@ -44,7 +44,7 @@ use Rattle.qs_report.specs.AnswerText.{IsAnswerText}
 use Rattle.qs_json.specs.AnswerJson.{IsAnswerJson}
 use Rattle.qs_report.specs.declared.faults.Fault.{Fault}
 use Rattle.qs_resolution.specs.Resolve.{program_of_items}
-use Rattle.qs_run_report.specs.RunReports.{report_by}
+use Rattle.qs_serve.specs.RunReports.{report_by}
 use Rattle.qs_script.specs.Reads.{IsScriptText}
 use Rattle.qs_serial.specs.NamedOrders.{order_of}
 use Rattle.qs_serve.specs.Due.{AreLinesWhere, IsAlikeAnswerText, IsAnswerBy, IsAnswerTextTo, IsDue, IsDueOfLine, IsDueOfText, IsDueOfTextAlone, IsTextBy, IsTextOfList, IsTextOfOutcomes, Lines, Serves, answer_in, due_status, due_text, listed_as, longest, takes_threads, told_report}

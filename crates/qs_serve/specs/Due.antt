@@ -93,7 +93,7 @@ use Rattle.qs_line.specs.declared.line.ReportStyle.{ReportStyle}
 use Rattle.qs_line.specs.declared.line.Settings.{Settings}
 use Rattle.qs_line.specs.declared.parts.Part.{Part}
 use Rattle.qs_line.specs.Line.{Line, PlanShape, Request, alike, ask, ask_alike, asks, by_order, by_schedule, check, estimate, format_by, format_of_request, fronts, graph, help, line_in, outcomes, play, refused, request_of, rules, run, tally, version}
-use Rattle.qs_run_report.specs.RunReports.{report_by}
+use Rattle.qs_serve.specs.RunReports.{report_by}
 use Rattle.qs_serve.specs.Reading.{Reading}
 use Rattle.qs_serve.specs.declared.due.Due.{Due}
 use Rattle.qs_serve.specs.declared.due.Due.TheVariants.{Text, No, Refused}

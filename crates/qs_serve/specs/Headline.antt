@@ -24,7 +24,7 @@ use Rattle.qs_promises.specs.Outcomes.{IsWholeList}
 use Rattle.qs_promises.specs.Runs.{IsRun, Way, by_rules, on_machine, on_threads}
 use Rattle.qs_report.specs.AnswerText.{is_yes}
 use Rattle.qs_resolution.specs.Resolve.{program_of_items}
-use Rattle.qs_run_report.specs.RunReports.{report_by}
+use Rattle.qs_serve.specs.RunReports.{report_by}
 use Rattle.qs_script.specs.Reads.{IsScriptText}
 use Rattle.qs_serial.specs.NamedOrders.{order_of}
 use Rattle.qs_serve.specs.Due.{IsTextOfList, answer_in, listed_as, longest, told_report}

@@ -13,6 +13,7 @@ mod output;
 mod plays;
 mod progress;
 mod reports;
+mod run_report;
 mod searches;
 mod serving;
 mod tallies;

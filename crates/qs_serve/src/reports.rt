@@ -2,14 +2,14 @@
 
 ghost use Rattle.std.specs.Prelude.{◌≡◌, IfOk};
 ghost use Rattle.qs_meaning.specs.Serial.{IsLegal};
-ghost use Rattle.qs_run_report.specs.RunReports.{report_by};
+ghost use Rattle.qs_serve.specs.RunReports.{report_by};
 ghost use Rattle.qs_serve.specs.Due.{IsReportBetween, IsReportOf, told_report};
 
 use crate::due::{Due, due_of_bytes};
+use crate::run_report::{styled_report, styled_run_report};
 use qs_check::Program;
 use qs_line::ReportStyle;
 use qs_played::{Outcome, Played};
-use qs_run_report::{styled_report, styled_run_report};
 use qs_steps::Told;
 use std::alloc::{AllocError, Global};
 

@@ -1,5 +1,5 @@
 use Rattle.std.proofs.Common.{subst}
-use Rattle.qs_causes.specs.CheckTold.{IsCheckTold}
+use Rattle.qs_said.specs.CheckTold.{IsCheckTold}
 use Rattle.qs_said.proofs.fault.told_check.Goals as goal
 
 pub returns : goal.returns

@@ -1,3 +1,0 @@
-mod Standing
-mod Anchored
-mod FormTold

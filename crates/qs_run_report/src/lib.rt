@@ -1,7 +1,0 @@
-//! The report of a run, in the style that a line asks for.
-#![tactic(auto)]
-
-mod ends;
-mod reports;
-
-pub use reports::{styled_report, styled_run_report};

@@ -1,0 +1,23 @@
+//! Where a script is at fault, and what is wrong there.
+
+mod bytes;
+mod excess;
+mod expected;
+mod finding;
+mod foreign;
+mod form;
+mod known;
+mod operations;
+mod refusal;
+mod said;
+mod shape;
+mod source;
+mod spans;
+mod telling;
+mod usual;
+mod words;
+
+pub use source::Source;
+pub use spans::{PlacedToken, SpanFault, placed_tokens};
+pub use telling::{actors, tell_check, tell_read};
+pub use words::is_near;

@@ -1,0 +1,13 @@
+//! Why a command line is refused, in words: of its settings, its lists and its conditions.
+
+mod condition;
+mod line;
+mod lists;
+mod order;
+mod pick;
+mod program;
+mod refused;
+
+pub use order::{put_front, put_order};
+pub use pick::put_pick;
+pub use refused::put_refused;

@@ -1,0 +1,13 @@
+//! What is warned of in a script that is accepted, and its words.
+
+mod certainties;
+mod doings;
+mod finding;
+pub mod laws;
+mod places;
+mod warning;
+mod words;
+
+pub use finding::warnings;
+pub use warning::Warning;
+pub use words::warnings_text;
