@@ -7,3 +7,7 @@ pub mod AlikeOutcomes
 pub mod Texts
 pub mod AlikeSearch
 pub mod AlikeCounts
+pub mod totals
+pub mod noted
+pub mod throughout
+pub mod witness

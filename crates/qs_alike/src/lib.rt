@@ -6,9 +6,13 @@ mod apart;
 mod classes;
 mod counts;
 pub mod laws;
+pub mod noted;
 mod placing;
 mod search;
 mod texts;
+pub mod throughout;
+pub mod totals;
+pub mod witness;
 
 pub use apart::classes_apart;
 pub use classes::{Classes, classes_of};

@@ -3,7 +3,7 @@
 ghost use Rattle.std.specs.Prelude.{◌≡◌, ◌<◌, ◌≤◌, ◌+◌, IfOk, OnOk, IsErrOf, [], ◌∷◌, ◌++◌, length};
 ghost use Rattle.qs_meaning.specs.Reduced.{goes_on};
 ghost use Rattle.qs_outcomes.specs.Search.{IsNoted, work_left};
-ghost use Rattle.qs_going.specs.Going.{AreLast, in_byte};
+ghost use Rattle.qs_standings.specs.going.Going.{AreLast, in_byte};
 ghost use Rattle.qs_standings.specs.Lists.{HasOne};
 ghost use Rattle.qs_standings.specs.Rows.{rows_in};
 ghost use Rattle.qs_standings.specs.Standings.{IsStanding, configuration_in, row_of};

@@ -3,17 +3,17 @@
 -- `forget`, goes by induction on the items: an object looks at no variables, and a client begins with none.
 use Rattle.std.proofs.Common.{◌≡◌, ℕ, suc, ◌+◌, ◌<◌, Bool, true, false, ◌||◌, nat_lt, List, [], ◌∷◌, ◌++◌, length, get_or, drop, refl, ap, sym, ◌∙◌, add-one, append_assoc, Option, Some, None, Ok, Err, if◌then◌else◌}
 use Rattle.std.proofs.Math.Seq.{drop-cons}
-use Rattle.qs_tree.specs.declared.tree.KindText.{KindText}
-use Rattle.qs_tree.specs.declared.tree.KindText.TheVariants.{Account, Buffer, Grid}
-use Rattle.qs_tree.specs.declared.tree.Item.{Item}
-use Rattle.qs_tree.specs.declared.tree.Item.TheVariants.{Object, Client, Template, Started}
-use Rattle.qs_fault_places.specs.declared.fault.CheckFault.{CheckFault}
-use Rattle.qs_fault_places.specs.declared.fault.CheckFault.TheVariants as f
+use Rattle.qs_script.specs.declared.tree.tree.KindText.{KindText}
+use Rattle.qs_script.specs.declared.tree.tree.KindText.TheVariants.{Account, Buffer, Grid}
+use Rattle.qs_script.specs.declared.tree.tree.Item.{Item}
+use Rattle.qs_script.specs.declared.tree.tree.Item.TheVariants.{Object, Client, Template, Started}
+use Rattle.qs_check.specs.declared.fault_places.fault.CheckFault.{CheckFault}
+use Rattle.qs_check.specs.declared.fault_places.fault.CheckFault.TheVariants as f
 use Rattle.qs_program.specs.Numbering.{Name, is_among}
 use Rattle.qs_program.specs.Limits.{most_objects}
-use Rattle.qs_fault_places.specs.Places.{Scope, TextPlace, ScopeOrFault, number, text, fault_of_text, formal_kinds, most_templates, unless_fault, with_template, scope_or_fault, then_at, over, without_variables, with_object, kind_of, kind_places, script_places, Fails}
-use Rattle.qs_resolution.specs.Resolve.{variable_lists}
-use Rattle.qs_fault_places.proofs.Walks.{met-then, fails_first}
+use Rattle.qs_check.specs.fault_places.Places.{Scope, TextPlace, ScopeOrFault, number, text, fault_of_text, formal_kinds, most_templates, unless_fault, with_template, scope_or_fault, then_at, over, without_variables, with_object, kind_of, kind_places, script_places, Fails}
+use Rattle.qs_check.specs.resolution.Resolve.{variable_lists}
+use Rattle.qs_check.proofs.fault_places.Walks.{met-then, fails_first}
 
 -- a walk that has come from s to t, but for the variables of the clients that are over
 module _ (s t : Scope) (all left here later : List TextPlace) (so_far : over (scope_or_fault s all) ≡ over (scope_or_fault t left)) (parts : left ≡ here ++ later) where

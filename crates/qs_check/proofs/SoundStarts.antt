@@ -6,11 +6,11 @@ use Rattle.std.proofs.Math.ListN.{get_or-append}
 use Rattle.std.proofs.lemmas.List.{length-map}
 use Rattle.std.specs.List.{AllByRecursion, Contains, IsDistinct}
 use Rattle.qs_objects.specs.declared.object.Kind.TheVariants.{Account}
-use Rattle.qs_tree.specs.declared.tree.Formal.{Formal}
-use Rattle.qs_tree.specs.declared.tree.StartedItem.{StartedItem}
-use Rattle.qs_tree.specs.declared.tree.TemplateItem.{TemplateItem}
-use Rattle.qs_tree.specs.declared.tree.Item.{Item}
-use Rattle.qs_tree.specs.declared.tree.Item.TheVariants.{Object, Client, Template, Started}
+use Rattle.qs_script.specs.declared.tree.tree.Formal.{Formal}
+use Rattle.qs_script.specs.declared.tree.tree.StartedItem.{StartedItem}
+use Rattle.qs_script.specs.declared.tree.tree.TemplateItem.{TemplateItem}
+use Rattle.qs_script.specs.declared.tree.tree.Item.{Item}
+use Rattle.qs_script.specs.declared.tree.tree.Item.TheVariants.{Object, Client, Template, Started}
 use Rattle.qs_program.specs.declared.program.Declared.{Declared}
 use Rattle.qs_program.specs.Binding.{bound_block}
 use Rattle.qs_program.specs.Kinds.{same_kind}
@@ -18,17 +18,17 @@ use Rattle.qs_program.specs.Numbering.{Name, same_name, found_at}
 use Rattle.qs_program.specs.Program.{no_object}
 use Rattle.qs_program.specs.Sound.{IsSoundBlock, IsSoundClient}
 use Rattle.qs_program.proofs.Found.{found_within}
-use Rattle.qs_fault_places.specs.Places.{formal_kind, kind_of}
-use Rattle.qs_fault_places.specs.Variables.{variables_of}
-use Rattle.qs_resolution.specs.Resolve.{as_client, binding_of, block_shape, declared_formals, objects_of, own_client, started_of, template_called, templates_in}
+use Rattle.qs_check.specs.fault_places.Places.{formal_kind, kind_of}
+use Rattle.qs_check.specs.fault_places.Variables.{variables_of}
+use Rattle.qs_check.specs.resolution.Resolve.{as_client, binding_of, block_shape, declared_formals, objects_of, own_client, started_of, template_called, templates_in}
 use Rattle.qs_check.specs.WellFormed.{AreGiven, AreItems, IsWellFormedTemplate}
-use Rattle.qs_binding.proofs.BoundTexts.{sound_bounds}
+use Rattle.qs_check.proofs.binding.BoundTexts.{sound_bounds}
 use Rattle.qs_check.proofs.SoundStatements.{Known}
-use Rattle.qs_resolution.proofs.Scopes.{names, kinds}
+use Rattle.qs_check.proofs.resolution.Scopes.{names, kinds}
 use Rattle.qs_check.proofs.Soundness.{AreStartsSound, sound_blocks}
 use Rattle.qs_check.proofs.Starts.{one_match, given_to}
 use Rattle.qs_check.proofs.TemplateTexts.{text_to, text_walked}
-use Rattle.qs_resolution.proofs.TemplateFormals.{formals_scope}
+use Rattle.qs_check.proofs.resolution.TemplateFormals.{formals_scope}
 
 kind_at : (D : List Declared) (i : ℕ) → (slice_index_or D i no_object).kind ≡ slice_index_or (kinds D) i (Account (pos 0))
 kind_at [] i = refl

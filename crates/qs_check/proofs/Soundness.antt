@@ -8,27 +8,27 @@ use Rattle.std.specs.Cmp.Lexicographic.{same_text}
 use Rattle.std.specs.List.{AllByRecursion, IsDistinct}
 use Rattle.qs_objects.specs.declared.object.Kind.{Kind}
 use Rattle.qs_objects.specs.declared.object.Kind.TheVariants.{Account}
-use Rattle.qs_tree.specs.declared.tree.Block.{Block}
-use Rattle.qs_tree.specs.declared.tree.ClientItem.{ClientItem}
-use Rattle.qs_tree.specs.declared.tree.TemplateItem.{TemplateItem}
-use Rattle.qs_tree.specs.declared.tree.Item.{Item}
-use Rattle.qs_tree.specs.declared.tree.Item.TheVariants.{Object, Client, Template, Started}
+use Rattle.qs_script.specs.declared.tree.tree.Block.{Block}
+use Rattle.qs_script.specs.declared.tree.tree.ClientItem.{ClientItem}
+use Rattle.qs_script.specs.declared.tree.tree.TemplateItem.{TemplateItem}
+use Rattle.qs_script.specs.declared.tree.tree.Item.{Item}
+use Rattle.qs_script.specs.declared.tree.tree.Item.TheVariants.{Object, Client, Template, Started}
 use Rattle.qs_program.specs.declared.program.Declared.{Declared}
 use Rattle.qs_program.specs.Numbering.{Name, same_name, is_among, found_at}
-use Rattle.qs_fault_places.specs.Places.{Scope, ScopeOrFault, separate, listed, scope_or_fault, places, listed_places, block_places, blocks_places, item_places, script_places, start, scope_of_block, with_listed, with_client, kind_of, over, without_variables}
+use Rattle.qs_check.specs.fault_places.Places.{Scope, ScopeOrFault, separate, listed, scope_or_fault, places, listed_places, block_places, blocks_places, item_places, script_places, start, scope_of_block, with_listed, with_client, kind_of, over, without_variables}
 use Rattle.qs_program.specs.Program.{whole_load, whole_weight}
-use Rattle.qs_fault_places.specs.Variables.{variables_of}
-use Rattle.qs_resolution.specs.Resolve.{block_shape, client_shape, clients_of, objects_of, names_of, kinds_of, variable_lists, started_of, template_called, templates_in, program_of_items}
+use Rattle.qs_check.specs.fault_places.Variables.{variables_of}
+use Rattle.qs_check.specs.resolution.Resolve.{block_shape, client_shape, clients_of, objects_of, names_of, kinds_of, variable_lists, started_of, template_called, templates_in, program_of_items}
 use Rattle.qs_check.specs.WellFormed.{client_names}
 use Rattle.qs_program.specs.Sound.{IsSoundBlock, IsSoundClient, IsFormedProgram, IsSound, is_in}
 use Rattle.qs_program.proofs.Found.{apart, same, false_not_true, or_true, is_among-append, is_among-last, found_within, found_append, found_apart}
 use Rattle.qs_program.specs.Limits.{most_objects, most_requests, most_steps, most_variables}
-use Rattle.qs_fault_places.proofs.Inner.{parted}
-use Rattle.qs_fault_places.proofs.ScopesInBlocks.{block_stays, blocks_stay}
+use Rattle.qs_check.proofs.fault_places.Inner.{parted}
+use Rattle.qs_check.proofs.fault_places.ScopesInBlocks.{block_stays, blocks_stay}
 use Rattle.qs_check.proofs.Scripts.{object_stays, client_stays, few_variables, scripted, started_stays, template_stays}
 use Rattle.qs_check.proofs.SoundStatements.{Known, Here, sound_body}
-use Rattle.qs_resolution.proofs.Scopes.{names, kinds}
-use Rattle.qs_fault_places.proofs.Steps.{split, ok_same}
+use Rattle.qs_check.proofs.resolution.Scopes.{names, kinds}
+use Rattle.qs_check.proofs.fault_places.Steps.{split, ok_same}
 
 abbrev pub with_list : Scope → List Name → Scope
 with_list s r = record s { reserved = r }

@@ -7,20 +7,20 @@ use Rattle.std.proofs.lemmas.List.{length-map}
 use Rattle.std.specs.List.{IsDistinct, position_or_len}
 use Rattle.qs_objects.specs.declared.object.Kind.{Kind}
 use Rattle.qs_objects.specs.declared.object.Kind.TheVariants.{Account}
-use Rattle.qs_tree.specs.declared.tree.Formal.{Formal}
-use Rattle.qs_tree.specs.declared.tree.StartedItem.{StartedItem}
-use Rattle.qs_tree.specs.declared.tree.TemplateItem.{TemplateItem}
+use Rattle.qs_script.specs.declared.tree.tree.Formal.{Formal}
+use Rattle.qs_script.specs.declared.tree.tree.StartedItem.{StartedItem}
+use Rattle.qs_script.specs.declared.tree.tree.TemplateItem.{TemplateItem}
 use Rattle.qs_program.specs.declared.program.Declared.{Declared}
 use Rattle.qs_program.specs.Kinds.{same_kind}
 use Rattle.qs_program.specs.Numbering.{Name, same_name, is_among, found_at}
 use Rattle.qs_program.proofs.Found.{found_is, found_within, name_at}
-use Rattle.qs_fault_places.specs.declared.fault.CheckFault.TheVariants as f
-use Rattle.qs_fault_places.specs.Places.{Scope, TextPlace, scope_or_fault, given, starts, formal_kind, formal_kinds, formals_at, given_places, is_given, kind_in}
-use Rattle.qs_resolution.specs.Resolve.{template_called}
+use Rattle.qs_check.specs.declared.fault_places.fault.CheckFault.TheVariants as f
+use Rattle.qs_check.specs.fault_places.Places.{Scope, TextPlace, scope_or_fault, given, starts, formal_kind, formal_kinds, formals_at, given_places, is_given, kind_in}
+use Rattle.qs_check.specs.resolution.Resolve.{template_called}
 use Rattle.qs_check.specs.WellFormed.{AreGiven, IsGiven, IsWellFormedStart}
-use Rattle.qs_fault_places.proofs.FinePlaces.{then_step, leads}
+use Rattle.qs_check.proofs.fault_places.FinePlaces.{then_step, leads}
 use Rattle.qs_check.proofs.Scripts.{AllMatch}
-use Rattle.qs_resolution.proofs.Scopes.{names, kinds, scope, template_names, template_formals}
+use Rattle.qs_check.proofs.resolution.Scopes.{names, kinds, scope, template_names, template_formals}
 use Rattle.qs_check.proofs.TextRequests.{among_at, at_number, found_only, place_here, place_later}
 
 -- ---- the template of a name

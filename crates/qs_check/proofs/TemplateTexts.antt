@@ -4,29 +4,29 @@
 use Rattle.std.proofs.Common.{◌≡◌, ℕ, ◌+◌, ◌<◌, ◌≤◌, false, true, nat_lt, List, [], ◌∷◌, ◌++◌, length, None, refl, ap, sym, ◌∙◌, subst, arith, append_assoc, append-nil, Ok, Err, if◌then◌else◌}
 use Rattle.std.proofs.lemmas.Map.Made.{is_member-Decides}
 use Rattle.std.specs.List.{AllByRecursion, IsDistinct}
-use Rattle.qs_tree.specs.Form.{IsFormed}
-use Rattle.qs_tree.specs.declared.tree.Block.{Block}
-use Rattle.qs_tree.specs.declared.tree.Formal.{Formal}
-use Rattle.qs_tree.specs.declared.tree.TemplateItem.{TemplateItem}
+use Rattle.qs_script.specs.tree.Form.{IsFormed}
+use Rattle.qs_script.specs.declared.tree.tree.Block.{Block}
+use Rattle.qs_script.specs.declared.tree.tree.Formal.{Formal}
+use Rattle.qs_script.specs.declared.tree.tree.TemplateItem.{TemplateItem}
 use Rattle.qs_program.specs.declared.program.Declared.{Declared}
 use Rattle.qs_program.specs.Limits.{most_formals, most_objects, most_variables}
 use Rattle.qs_program.specs.Numbering.{Name, same_name, is_among}
-use Rattle.qs_fault_places.specs.declared.fault.CheckFault.TheVariants as f
-use Rattle.qs_fault_places.specs.Places.{Scope, ScopeOrFault, object, scope_or_fault, start, fault_in, fault_of_text, formal_kind, formal_kinds, formals_places, blocks_places, text_places, with_object, with_template}
-use Rattle.qs_fault_places.specs.Variables.{variables_of}
-use Rattle.qs_resolution.specs.Resolve.{as_client, declared_formals}
+use Rattle.qs_check.specs.declared.fault_places.fault.CheckFault.TheVariants as f
+use Rattle.qs_check.specs.fault_places.Places.{Scope, ScopeOrFault, object, scope_or_fault, start, fault_in, fault_of_text, formal_kind, formal_kinds, formals_places, blocks_places, text_places, with_object, with_template}
+use Rattle.qs_check.specs.fault_places.Variables.{variables_of}
+use Rattle.qs_check.specs.resolution.Resolve.{as_client, declared_formals}
 use Rattle.qs_check.specs.WellFormed.{IsDeclared, IsWellFormedBlock, IsWellFormedTemplate}
-use Rattle.qs_fault_places.proofs.FinePlaces.{then_step, else_step, below, again, leads}
-use Rattle.qs_fault_places.proofs.Inner.{parted}
-use Rattle.qs_fault_places.proofs.ScopesInBlocks.{blocks_stay}
-use Rattle.qs_resolution.proofs.Scopes.{names, kinds, scope, template_names, template_formals, names_with, grown}
-use Rattle.qs_fault_places.proofs.Steps.{variables_met}
+use Rattle.qs_check.proofs.fault_places.FinePlaces.{then_step, else_step, below, again, leads}
+use Rattle.qs_check.proofs.fault_places.Inner.{parted}
+use Rattle.qs_check.proofs.fault_places.ScopesInBlocks.{blocks_stay}
+use Rattle.qs_check.proofs.resolution.Scopes.{names, kinds, scope, template_names, template_formals, names_with, grown}
+use Rattle.qs_check.proofs.fault_places.Steps.{variables_met}
 use Rattle.qs_check.proofs.TextBlocks.{IsRight, blocks_from, blocks_to}
-use Rattle.qs_resolution.proofs.FreshNames.{Fresh, fresh_rest}
+use Rattle.qs_check.proofs.resolution.FreshNames.{Fresh, fresh_rest}
 use Rattle.qs_check.proofs.TextNames.{count_variables}
-use Rattle.qs_resolution.proofs.TemplateFormals.{declared, formal_names, formals_from, formals_scope}
+use Rattle.qs_check.proofs.resolution.TemplateFormals.{declared, formal_names, formals_from, formals_scope}
 use Rattle.qs_check.proofs.TextRequests.{same_decides}
-use Rattle.qs_fault_places.proofs.Walks.{met-then}
+use Rattle.qs_check.proofs.fault_places.Walks.{met-then}
 
 -- one more template
 pub template_names_with : (T : List TemplateItem) (t : TemplateItem) → template_names T ++ t.name ∷ [] ≡ template_names (T ++ t ∷ [])

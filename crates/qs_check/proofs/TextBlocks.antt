@@ -2,24 +2,24 @@
 -- variables.
 use Rattle.std.proofs.Common.{◌≡◌, ℕ, ◌+◌, ◌<◌, ◌≤◌, true, false, nat_lt, List, [], ◌∷◌, ◌++◌, length, refl, ap, sym, ◌∙◌, arith, append_assoc, append-nil, Ok, Err, if◌then◌else◌}
 use Rattle.std.specs.List.{AllByRecursion, IsDistinct}
-use Rattle.qs_tree.specs.declared.tree.Block.{Block}
-use Rattle.qs_tree.specs.declared.tree.TemplateItem.{TemplateItem}
-use Rattle.qs_fault_places.specs.declared.fault.CheckFault.TheVariants as f
+use Rattle.qs_script.specs.declared.tree.tree.Block.{Block}
+use Rattle.qs_script.specs.declared.tree.tree.TemplateItem.{TemplateItem}
+use Rattle.qs_check.specs.declared.fault_places.fault.CheckFault.TheVariants as f
 use Rattle.qs_program.specs.declared.program.Declared.{Declared}
 use Rattle.qs_program.specs.Numbering.{Name, same_name, is_among, with_name}
 use Rattle.qs_program.specs.Limits.{most_blocks, most_variables}
-use Rattle.qs_fault_places.specs.Places.{Scope, listed, separate, scope_or_fault, places, listed_places, block_places, blocks_places, with_listed}
-use Rattle.qs_fault_places.specs.Variables.{variables_at}
+use Rattle.qs_check.specs.fault_places.Places.{Scope, listed, separate, scope_or_fault, places, listed_places, block_places, blocks_places, with_listed}
+use Rattle.qs_check.specs.fault_places.Variables.{variables_at}
 use Rattle.qs_check.specs.WellFormed.{AreStatements, variables_in_all}
-use Rattle.qs_fault_places.proofs.FinePlaces.{then_step, else_step, below, again, leads, named_more, are_fine, fine_met}
-use Rattle.qs_fault_places.proofs.Inner.{parted, inner_body, kept}
-use Rattle.qs_resolution.proofs.Scopes.{names, scope}
+use Rattle.qs_check.proofs.fault_places.FinePlaces.{then_step, else_step, below, again, leads, named_more, are_fine, fine_met}
+use Rattle.qs_check.proofs.fault_places.Inner.{parted, inner_body, kept}
+use Rattle.qs_check.proofs.resolution.Scopes.{names, scope}
 use Rattle.qs_check.proofs.Soundness.{with_list, listed_first, list_kept}
-use Rattle.qs_fault_places.proofs.Steps.{with_names, split, variables_met}
+use Rattle.qs_check.proofs.fault_places.Steps.{with_names, split, variables_met}
 use Rattle.qs_check.proofs.TextNames.{all_named, variables_at-append, tell_list, tell_blocks}
-use Rattle.qs_resolution.proofs.FreshNames.{Fresh, fresh_more, fresh_rest, no_fresh}
+use Rattle.qs_check.proofs.resolution.FreshNames.{Fresh, fresh_more, fresh_rest, no_fresh}
 use Rattle.qs_check.proofs.TextRequests.{statements_from, statements_to}
-use Rattle.qs_fault_places.proofs.Walks.{met-then}
+use Rattle.qs_check.proofs.fault_places.Walks.{met-then}
 
 -- a block's list
 list_from : (ns : List Name) (s t : Scope) → scope_or_fault s (listed_places ns) ≡ Ok t → AllByRecursion (λ o. is_among s.objects o ≡ true) ns

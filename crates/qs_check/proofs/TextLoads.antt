@@ -5,17 +5,17 @@ use Rattle.std.proofs.lemmas.List.Sums.{sum_by-cons}
 use Rattle.std.specs.Cmp.Lexicographic.{same_text}
 use Rattle.std.specs.List.{AllByRecursion, Contains}
 use Rattle.qs_objects.specs.declared.object.Kind.{Kind}
-use Rattle.qs_tree.specs.declared.tree.Block.{Block}
-use Rattle.qs_tree.specs.Tree as tree
+use Rattle.qs_script.specs.declared.tree.tree.Block.{Block}
+use Rattle.qs_script.specs.tree.Tree as tree
 use Rattle.qs_program.specs.declared.program.Declared.{Declared}
 use Rattle.qs_program.specs.Loads.{load_of, weight_of}
 use Rattle.qs_program.specs.Numbering.{Name, same_name, is_among, found_at}
 use Rattle.qs_program.specs.Program.{BlockShape, block_load}
-use Rattle.qs_resolution.specs.Resolve.{body_of, block_shape}
+use Rattle.qs_check.specs.resolution.Resolve.{body_of, block_shape}
 use Rattle.qs_check.specs.TextLoads.{requests_on, steps_in, text_block_load}
 use Rattle.qs_check.specs.WellFormed.{AreStatements}
 use Rattle.qs_program.proofs.Found.{apart, same, found_apart, is_among-append, false_not_true, same_name-refl}
-use Rattle.qs_resolution.proofs.Scopes.{names}
+use Rattle.qs_check.proofs.resolution.Scopes.{names}
 use Rattle.qs_check.proofs.TextBlocks.{IsRight}
 use Rattle.qs_check.proofs.TextRequests.{among_at, at_number}
 

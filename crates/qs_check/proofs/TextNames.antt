@@ -9,20 +9,20 @@ use Rattle.std.proofs.lemmas.Map.Made.{length-from_keys}
 use Rattle.std.specs.Cmp.Lexicographic.{same_text}
 use Rattle.std.specs.List.{AllByRecursion, IsDistinct}
 use Rattle.std.specs.Set.{distinct_count}
-use Rattle.qs_tree.specs.declared.tree.Atom.{Atom}
-use Rattle.qs_tree.specs.declared.tree.Atom.TheVariants.{Variable, Number}
-use Rattle.qs_tree.specs.declared.tree.Expr.{Expr}
-use Rattle.qs_tree.specs.declared.tree.Expr.TheVariants.{Plain, Binary}
-use Rattle.qs_tree.specs.declared.tree.Test.{Test}
-use Rattle.qs_tree.specs.declared.tree.Call.{Call}
-use Rattle.qs_tree.specs.declared.tree.Block.{Block}
-use Rattle.qs_tree.specs.declared.tree.ClientItem.{ClientItem}
-use Rattle.qs_tree.specs.Tree as tree
+use Rattle.qs_script.specs.declared.tree.tree.Atom.{Atom}
+use Rattle.qs_script.specs.declared.tree.tree.Atom.TheVariants.{Variable, Number}
+use Rattle.qs_script.specs.declared.tree.tree.Expr.{Expr}
+use Rattle.qs_script.specs.declared.tree.tree.Expr.TheVariants.{Plain, Binary}
+use Rattle.qs_script.specs.declared.tree.tree.Test.{Test}
+use Rattle.qs_script.specs.declared.tree.tree.Call.{Call}
+use Rattle.qs_script.specs.declared.tree.tree.Block.{Block}
+use Rattle.qs_script.specs.declared.tree.tree.ClientItem.{ClientItem}
+use Rattle.qs_script.specs.tree.Tree as tree
 use Rattle.qs_program.specs.Numbering.{Name, same_name, is_among, with_name}
-use Rattle.qs_fault_places.specs.Places.{TextPlace, object, number, client, separate, listed, target, operation, arguments, variable, leaves, template, text, starts, given, places, atom_places, atoms_places, expr_places, test_places, call_places, listed_places, block_places, blocks_places}
-use Rattle.qs_fault_places.specs.Variables.{variables_at, variables_of}
+use Rattle.qs_check.specs.fault_places.Places.{TextPlace, object, number, client, separate, listed, target, operation, arguments, variable, leaves, template, text, starts, given, places, atom_places, atoms_places, expr_places, test_places, call_places, listed_places, block_places, blocks_places}
+use Rattle.qs_check.specs.fault_places.Variables.{variables_at, variables_of}
 use Rattle.qs_check.specs.WellFormed.{atom_names, atoms_names, expr_names, test_names, variables_in, variables_in_all}
-use Rattle.qs_resolution.proofs.FreshNames.{or_false, or_false_first, or_false_later}
+use Rattle.qs_check.proofs.resolution.FreshNames.{or_false, or_false_first, or_false_later}
 
 -- more names, each where it is new
 abbrev pub all_named : List Name → List Name → List Name

@@ -9,40 +9,40 @@ use Rattle.std.proofs.lemmas.List.Sums.{sum_by-cons}
 use Rattle.std.specs.List.{AllByRecursion, IsDistinct}
 use Rattle.qs_objects.specs.declared.object.Kind.{Kind}
 use Rattle.qs_objects.specs.Limits.{most_lines}
-use Rattle.qs_tree.specs.Form.{IsFormed, HasForm}
-use Rattle.qs_tree.specs.declared.tree.Block.{Block}
-use Rattle.qs_tree.specs.declared.tree.Item.{Item}
-use Rattle.qs_tree.specs.declared.tree.Item.TheVariants.{Object, Client, Template, Started}
-use Rattle.qs_tree.specs.declared.tree.KindText.{KindText}
-use Rattle.qs_tree.specs.declared.tree.KindText.TheVariants.{Account, Buffer, Grid}
-use Rattle.qs_tree.specs.declared.tree.ObjectItem.{ObjectItem}
-use Rattle.qs_tree.specs.declared.tree.TemplateItem.{TemplateItem}
-use Rattle.qs_fault_places.specs.declared.fault.CheckFault.{CheckFault}
-use Rattle.qs_fault_places.specs.declared.fault.CheckFault.TheVariants as f
+use Rattle.qs_script.specs.tree.Form.{IsFormed, HasForm}
+use Rattle.qs_script.specs.declared.tree.tree.Block.{Block}
+use Rattle.qs_script.specs.declared.tree.tree.Item.{Item}
+use Rattle.qs_script.specs.declared.tree.tree.Item.TheVariants.{Object, Client, Template, Started}
+use Rattle.qs_script.specs.declared.tree.tree.KindText.{KindText}
+use Rattle.qs_script.specs.declared.tree.tree.KindText.TheVariants.{Account, Buffer, Grid}
+use Rattle.qs_script.specs.declared.tree.tree.ObjectItem.{ObjectItem}
+use Rattle.qs_script.specs.declared.tree.tree.TemplateItem.{TemplateItem}
+use Rattle.qs_check.specs.declared.fault_places.fault.CheckFault.{CheckFault}
+use Rattle.qs_check.specs.declared.fault_places.fault.CheckFault.TheVariants as f
 use Rattle.qs_program.specs.declared.program.Declared.{Declared}
 use Rattle.qs_check.specs.Checked.{excess_of, first_fault, fault_of, IsCheckOf}
 use Rattle.qs_program.specs.Loads.{weight_of}
 use Rattle.qs_program.specs.Numbering.{Name, same_name, is_among}
-use Rattle.qs_fault_places.specs.Places.{Scope, ScopeOrFault, number, object, client, template, text, starts, scope_or_fault, start, formal_kinds, fault_of_text, given_places, most_templates, unless_fault, with_template, kind_of, kind_places, item_places, blocks_places, script_places, with_object}
+use Rattle.qs_check.specs.fault_places.Places.{Scope, ScopeOrFault, number, object, client, template, text, starts, scope_or_fault, start, formal_kinds, fault_of_text, given_places, most_templates, unless_fault, with_template, kind_of, kind_places, item_places, blocks_places, script_places, with_object}
 use Rattle.qs_program.specs.Program.{BlockShape, ClientShape, ProgramShape, block_load, whole_load, whole_weight}
 use Rattle.qs_program.specs.Limits.{most_clients, most_objects, most_requests, most_steps, most_variables}
-use Rattle.qs_fault_places.specs.Variables.{variables_of}
-use Rattle.qs_resolution.specs.Resolve.{objects_of, names_of, kinds_of, clients_of, client_shape, declared_formals, started_of, template_called, templates_in, program_of_items}
+use Rattle.qs_check.specs.fault_places.Variables.{variables_of}
+use Rattle.qs_check.specs.resolution.Resolve.{objects_of, names_of, kinds_of, clients_of, client_shape, declared_formals, started_of, template_called, templates_in, program_of_items}
 use Rattle.qs_check.specs.TextLoads.{text_load, text_weight}
 use Rattle.qs_check.specs.WellFormed.{IsKindInRange, IsWellFormedBlock, IsWellFormedClient, AreItems, client_names, IsWellFormed, FaultlessAreWellFormed, AcceptsWellFormed}
-use Rattle.qs_fault_places.proofs.FinePlaces.{then_step, else_step, between, below, again, leads}
-use Rattle.qs_fault_places.proofs.Inner.{parted}
-use Rattle.qs_fault_places.proofs.ScopesInBlocks.{blocks_stay}
+use Rattle.qs_check.proofs.fault_places.FinePlaces.{then_step, else_step, between, below, again, leads}
+use Rattle.qs_check.proofs.fault_places.Inner.{parted}
+use Rattle.qs_check.proofs.fault_places.ScopesInBlocks.{blocks_stay}
 use Rattle.qs_check.proofs.Scripts.{few_variables, scripted, started_stays, template_stays}
-use Rattle.qs_resolution.proofs.Scopes.{grown, names, names_with, scope, template_names}
-use Rattle.qs_fault_places.proofs.Steps.{split, ok_same}
+use Rattle.qs_check.proofs.resolution.Scopes.{grown, names, names_with, scope, template_names}
+use Rattle.qs_check.proofs.fault_places.Steps.{split, ok_same}
 use Rattle.qs_check.proofs.TextBlocks.{blocks_from, blocks_to}
-use Rattle.qs_resolution.proofs.FreshNames.{Fresh, fresh_more, fresh_rest, no_fresh}
+use Rattle.qs_check.proofs.resolution.FreshNames.{Fresh, fresh_more, fresh_rest, no_fresh}
 use Rattle.qs_check.proofs.TemplateTexts.{right_blocks, well_blocks, template_from, template_to, template_names_with, with_last}
 use Rattle.qs_check.proofs.Starts.{started_from, started_met}
 use Rattle.qs_check.proofs.TextLoads.{blocks_loads, blocks_weights}
 use Rattle.qs_check.proofs.TextNames.{count_variables, distinct_last, no_names}
-use Rattle.qs_fault_places.proofs.Walks.{met-then}
+use Rattle.qs_check.proofs.fault_places.Walks.{met-then}
 
 -- one more object
 abbrev declared_as : ObjectItem → Declared

@@ -1,21 +1,21 @@
 -- Scripts with their faults, computed by the definitions.
 use Rattle.std.specs.Prelude.{◌≡◌, ℕ, zero, suc, List, [], ◌∷◌, Some, None, codes, pos}
-use Rattle.qs_tree.specs.Tree.{Stmts, end, command, query, assign, choose_else, again, leave}
-use Rattle.qs_tree.specs.declared.tree.Atom.TheVariants.{Variable, Number}
-use Rattle.qs_tree.specs.declared.tree.Expr.TheVariants.{Plain}
-use Rattle.qs_tree.specs.declared.tree.Relation.TheVariants.{Less}
-use Rattle.qs_tree.specs.declared.tree.Call.{Call}
-use Rattle.qs_tree.specs.declared.tree.Test.{Test}
-use Rattle.qs_tree.specs.declared.tree.KindText.{KindText}
-use Rattle.qs_tree.specs.declared.tree.KindText.TheVariants.{Account, Buffer, Grid}
-use Rattle.qs_tree.specs.declared.tree.KindWord.TheVariants as kind
-use Rattle.qs_tree.specs.declared.tree.Formal.{Formal}
-use Rattle.qs_tree.specs.declared.tree.Item.{Item}
-use Rattle.qs_tree.specs.declared.tree.Item.TheVariants.{Object, Client, Template, Started}
-use Rattle.qs_fault_places.specs.declared.fault.CheckFault.TheVariants as f
+use Rattle.qs_script.specs.tree.Tree.{Stmts, end, command, query, assign, choose_else, again, leave}
+use Rattle.qs_script.specs.declared.tree.tree.Atom.TheVariants.{Variable, Number}
+use Rattle.qs_script.specs.declared.tree.tree.Expr.TheVariants.{Plain}
+use Rattle.qs_script.specs.declared.tree.tree.Relation.TheVariants.{Less}
+use Rattle.qs_script.specs.declared.tree.tree.Call.{Call}
+use Rattle.qs_script.specs.declared.tree.tree.Test.{Test}
+use Rattle.qs_script.specs.declared.tree.tree.KindText.{KindText}
+use Rattle.qs_script.specs.declared.tree.tree.KindText.TheVariants.{Account, Buffer, Grid}
+use Rattle.qs_script.specs.declared.tree.tree.KindWord.TheVariants as kind
+use Rattle.qs_script.specs.declared.tree.tree.Formal.{Formal}
+use Rattle.qs_script.specs.declared.tree.tree.Item.{Item}
+use Rattle.qs_script.specs.declared.tree.tree.Item.TheVariants.{Object, Client, Template, Started}
+use Rattle.qs_check.specs.declared.fault_places.fault.CheckFault.TheVariants as f
 use Rattle.qs_program.specs.Numbering.{Name}
 use Rattle.qs_program.specs.Program.{whole_load, whole_weight}
-use Rattle.qs_resolution.specs.Resolve.{program_of_items}
+use Rattle.qs_check.specs.resolution.Resolve.{program_of_items}
 use Rattle.qs_check.specs.Checked.{fault_of}
 
 abbrev pub a : Name

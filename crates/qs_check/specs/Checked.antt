@@ -1,13 +1,13 @@
 -- Which scripts are accepted, and why the others are not.
 use Rattle.std.specs.Prelude.{◌≡◌, ◌≢◌, nat_lt, if◌then◌else◌, List, Option, Some, None, Result, Ok, Err}
-use Rattle.qs_tree.specs.declared.tree.Item.{Item}
+use Rattle.qs_script.specs.declared.tree.tree.Item.{Item}
 use Rattle.qs_program.specs.Limits.{most_requests, most_steps}
-use Rattle.qs_fault_places.specs.declared.fault.CheckFault.{CheckFault}
-use Rattle.qs_fault_places.specs.declared.fault.CheckFault.TheVariants as f
+use Rattle.qs_check.specs.declared.fault_places.fault.CheckFault.{CheckFault}
+use Rattle.qs_check.specs.declared.fault_places.fault.CheckFault.TheVariants as f
 use Rattle.qs_check.specs.declared.checker.Resolved.{Resolved}
-use Rattle.qs_fault_places.specs.Places.{ScopeOrFault, scope_or_fault, start, script_places}
+use Rattle.qs_check.specs.fault_places.Places.{ScopeOrFault, scope_or_fault, start, script_places}
 use Rattle.qs_program.specs.Program.{ProgramShape, whole_load, whole_weight}
-use Rattle.qs_resolution.specs.Resolve.{program_of_items}
+use Rattle.qs_check.specs.resolution.Resolve.{program_of_items}
 
 -- what is wrong with a program whose text is right
 abbrev pub excess_of : ProgramShape → Option CheckFault

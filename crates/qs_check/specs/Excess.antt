@@ -1,8 +1,8 @@
 -- The block with which a script passes the limit of its load, or of its weight.
 use Rattle.std.specs.Prelude.{◌≡◌, ◌<◌, ◌≤◌, ◌+◌, ℕ, min, List, Option, Some, None, length, take, slice_index_or, sum_by}
-use Rattle.qs_tree.specs.declared.tree.Item.{Item}
-use Rattle.qs_fault_places.specs.declared.fault.CheckFault.{CheckFault}
-use Rattle.qs_fault_places.specs.declared.fault.CheckFault.TheVariants as f
+use Rattle.qs_script.specs.declared.tree.tree.Item.{Item}
+use Rattle.qs_check.specs.declared.fault_places.fault.CheckFault.{CheckFault}
+use Rattle.qs_check.specs.declared.fault_places.fault.CheckFault.TheVariants as f
 use Rattle.qs_program.specs.Limits.{most_requests, most_steps}
 use Rattle.qs_program.specs.Loads.{weight_of}
 use Rattle.qs_program.specs.Program.{BlockShape, ClientShape, ProgramShape, block_load, no_block, no_client}
@@ -10,7 +10,7 @@ use Rattle.qs_check.specs.declared.excess.Measure.{Measure}
 use Rattle.qs_check.specs.declared.excess.Measure.TheVariants.{Load, Weight}
 use Rattle.qs_check.specs.declared.excess.Excess.{Excess}
 use Rattle.qs_check.specs.Checked.{excess_of, text_fault}
-use Rattle.qs_resolution.specs.Resolve.{program_of_items}
+use Rattle.qs_check.specs.resolution.Resolve.{program_of_items}
 
 -- what is counted of a block
 abbrev pub counted_by : Measure → BlockShape → ℕ

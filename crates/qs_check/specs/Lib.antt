@@ -5,3 +5,6 @@ pub mod WellFormed
 -- What crates promise one another, what proofs use, and worked examples.
 pub mod Excess
 pub mod CheckExamples
+pub mod fault_places
+pub mod resolution
+pub mod anchors

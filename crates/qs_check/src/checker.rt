@@ -2,23 +2,23 @@
 
 ghost use Rattle.std.specs.List.{AllByRecursion};
 ghost use Rattle.std.specs.Prelude.{◌≡◌, ◌≢◌, ◌≤◌, [], ◌∷◌, ◌++◌, length, IfOk, OnOk, MatchResult};
-ghost use Rattle.qs_tree.specs.Form.{HasForm};
+ghost use Rattle.qs_script.specs.tree.Form.{HasForm};
 ghost use Rattle.qs_program.specs.Limits.{most_objects, most_requests, most_steps, most_variables};
 ghost use Rattle.qs_check.specs.Checked.{IsCheckOf, text_fault, excess_of, shape_of};
-ghost use Rattle.qs_fault_places.specs.Places.{Meets, scope_or_fault, over, start, without_variables, script_places};
-ghost use Rattle.qs_resolution.specs.Resolve.{AreFaultless, program_of_items as resolved_of, clients_of, variable_lists, objects_of, templates_in};
+ghost use Rattle.qs_check.specs.fault_places.Places.{Meets, scope_or_fault, over, start, without_variables, script_places};
+ghost use Rattle.qs_check.specs.resolution.Resolve.{AreFaultless, program_of_items as resolved_of, clients_of, variable_lists, objects_of, templates_in};
 ghost use Rattle.qs_program.specs.Program.{whole_load, whole_weight};
 ghost use Rattle.qs_program.specs.Sound.{IsSound};
 ghost use Rattle.qs_check.specs.WellFormed.{AcceptsWellFormed};
 
-use qs_fault_places::{
+use crate::fault_places::{
     CheckFault, Scope, check_client, check_object, check_started, check_template,
 };
+use crate::resolution::{resolve_clients, resolve_objects};
 use qs_program::{
     Client, Declared, MOST_REQUESTS, MOST_STEPS, Names, Program, all_load, all_weight,
 };
-use qs_resolution::{resolve_clients, resolve_objects};
-use qs_tree::{Item, Script};
+use qs_script::tree::{Item, Script};
 use std::alloc::{AllocError, Global};
 use std::collections::VecDeque;
 

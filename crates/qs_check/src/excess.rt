@@ -1,15 +1,15 @@
 //! The block with which a script passes the limit of its load, or of its weight.
 
 ghost use Rattle.std.specs.Prelude.{◌≡◌, ◌≤◌, ◌+◌, min, IfOk, IfErr, MatchOption, None, sum_by};
-ghost use Rattle.qs_tree.specs.Form.{HasForm};
+ghost use Rattle.qs_script.specs.tree.Form.{HasForm};
 ghost use Rattle.qs_program.specs.Limits.{most_steps};
 ghost use Rattle.qs_check.specs.Checked.{shape_of};
 ghost use Rattle.qs_check.specs.Excess.{counted_by, counted_in, limit_by, IsPassedIn, IsPassedBy, IsFirstExcess, IsExcessOf};
 
 use crate::checker::{Resolved, resolve};
-use qs_fault_places::CheckFault;
+use crate::fault_places::CheckFault;
 use qs_program::{Block, Client, MOST_REQUESTS, MOST_STEPS, block_load};
-use qs_tree::{Item, Script};
+use qs_script::tree::{Item, Script};
 use std::alloc::{AllocError, Global};
 
 /// What is counted of a program, and has a limit.

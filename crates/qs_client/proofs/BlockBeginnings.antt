@@ -23,25 +23,25 @@ use Rattle.qs_graph.specs.Synced.{Synced, Done, Call, Sync, Query, without_syncs
 use Rattle.qs_graph.specs.Walk.{entry, walk, Within}
 use Rattle.qs_syncset.specs.Codes.{BlockCode, ClientCode, IsCode, IsBlockCode, code_at, load_at}
 use Rattle.qs_syncset.specs.CodeLaws.{IsSoundWalk}
-use Rattle.qs_held_sets.specs.Flow.{nothing}
+use Rattle.qs_syncset.specs.held.Flow.{nothing}
 use Rattle.qs_syncset.specs.SoundSynced.{IsOnReserved, IsSoundSynced}
 use Rattle.qs_syncset.proofs.CodeWalks.{walks_are_sound}
-use Rattle.qs_client_run.specs.Beginning.{at_beginning}
-use Rattle.qs_client_rules.specs.Client.{Settlement, between, begin, settle}
-use Rattle.qs_client_run.specs.Holdings.{chunk_at, holding_at}
-use Rattle.qs_client_run.specs.BlockSizes.{room_for, sum_below}
-use Rattle.qs_client_run.specs.ClientOfRun.{HasSettled, items_of, progress_after, stage_by}
-use Rattle.qs_client_run.specs.Running.{MakesAtMost, IsRunning}
-use Rattle.qs_client_run.specs.BetweenActs.{HasCome, IsStanding}
+use Rattle.qs_client.specs.run.Beginning.{at_beginning}
+use Rattle.qs_client.specs.rules.Client.{Settlement, between, begin, settle}
+use Rattle.qs_client.specs.run.Holdings.{chunk_at, holding_at}
+use Rattle.qs_client.specs.run.BlockSizes.{room_for, sum_below}
+use Rattle.qs_client.specs.run.ClientOfRun.{HasSettled, items_of, progress_after, stage_by}
+use Rattle.qs_client.specs.run.Running.{MakesAtMost, IsRunning}
+use Rattle.qs_client.specs.run.BetweenActs.{HasCome, IsStanding}
 use Rattle.qs_objects.specs.Traces.{AreEmptyAfter, TraceState, trace_at, trace_state}
 use Rattle.qs_program.specs.Limits.{most_handlers, most_objects}
-use Rattle.qs_client_run.specs.RunState.{RunState}
+use Rattle.qs_client.specs.run.RunState.{RunState}
 use Rattle.qs_client.proofs.ReservedLists.{reserved_below_eight}
-use Rattle.qs_client_run.proofs.CodeBounds.{longest_covers}
-use Rattle.qs_client_run.proofs.ArrivalRefinement.{reserves_here}
-use Rattle.qs_client_run.proofs.StepRefinement.{standing_of}
-use Rattle.qs_client_rules.specs.declared.act.Act.TheVariants as acts
-use Rattle.qs_client_run.specs.declared.stage.Stage.TheVariants as stages
+use Rattle.qs_client.proofs.run.CodeBounds.{longest_covers}
+use Rattle.qs_client.proofs.run.ArrivalRefinement.{reserves_here}
+use Rattle.qs_client.proofs.run.StepRefinement.{standing_of}
+use Rattle.qs_client.specs.declared.rules.act.Act.TheVariants as acts
+use Rattle.qs_client.specs.declared.run.stage.Stage.TheVariants as stages
 use Rattle.qs_client.specs.SoundMind.{IsSoundMind}
 use Rattle.qs_client.specs.ClientModel.{Asks, mind_after_begin, mind_after_begin_with, locals_at, tree_at}
 use Rattle.qs_client.specs.MindState.{MindState, block_of, client_in, mind_of, settings_in}

@@ -14,15 +14,15 @@ use Rattle.qs_sync_counts.specs.SyncRows.{AreFew, CountsState, counts_state, fre
 use Rattle.qs_sync_counts.proofs.CountRows.{few_none}
 use Rattle.qs_syncset.specs.Codes.{BlockCode, ClientCode, IsCode, no_code}
 use Rattle.qs_chunk.specs.Batch.{Batch}
-use Rattle.qs_client_run.specs.Beginning.{fresh_run}
-use Rattle.qs_client_rules.specs.Client.{between}
-use Rattle.qs_client_run.specs.BlockSizes.{empty_rows, room_for, longest}
-use Rattle.qs_client_run.specs.ClientOfRun.{items_of}
-use Rattle.qs_client_run.specs.Running.{IsOpen}
+use Rattle.qs_client.specs.run.Beginning.{fresh_run}
+use Rattle.qs_client.specs.rules.Client.{between}
+use Rattle.qs_client.specs.run.BlockSizes.{empty_rows, room_for, longest}
+use Rattle.qs_client.specs.run.ClientOfRun.{items_of}
+use Rattle.qs_client.specs.run.Running.{IsOpen}
 use Rattle.qs_objects.specs.Traces.{empty_trace, events_of, trace_state}
 use Rattle.qs_chunk.specs.Limits.{largest_chunk}
-use Rattle.qs_client_run.specs.RunState.{RunState}
-use Rattle.qs_client_rules.specs.declared.outgoing.Outgoing.TheVariants as outgoings
+use Rattle.qs_client.specs.run.RunState.{RunState}
+use Rattle.qs_client.specs.declared.rules.outgoing.Outgoing.TheVariants as outgoings
 use Rattle.qs_client.specs.SoundMind.{IsSoundMind}
 use Rattle.qs_client.specs.ClientModel.{lists_of_code, fresh_mind}
 use Rattle.qs_client.specs.MindState.{MindState, mind_of}

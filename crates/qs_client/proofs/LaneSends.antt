@@ -15,14 +15,14 @@ use Rattle.qs_chunk.specs.Lanes.{MayFollow, is_asked, is_sync}
 use Rattle.qs_chunk.proofs.LaneFronts.{asked_last}
 use Rattle.qs_chunk.specs.declared.parcel.Parcel.{Parcel}
 use Rattle.qs_chunk.specs.declared.parcel.Parcel.TheVariants as parcels
-use Rattle.qs_client_rules.specs.Client.{Client, ClientStage, Settings, Settlement, between, runs, full, awaits, leaves, act_at, call_act, clear, rest_act, work, stop_at, set_held, set_chunk, end_block, call, query, settle, after_parcel, after_home, after_work, after_sync, after_end, take_object, take_chunk}
-use Rattle.qs_client_run.specs.NextActs.{SendsNothing}
-use Rattle.qs_client_rules.specs.declared.act.Act.{Act}
-use Rattle.qs_client_rules.specs.declared.act.Act.TheVariants as acts
-use Rattle.qs_client_rules.proofs.CarriedValues.{sends_are_parted}
+use Rattle.qs_client.specs.rules.Client.{Client, ClientStage, Settings, Settlement, between, runs, full, awaits, leaves, act_at, call_act, clear, rest_act, work, stop_at, set_held, set_chunk, end_block, call, query, settle, after_parcel, after_home, after_work, after_sync, after_end, take_object, take_chunk}
+use Rattle.qs_client.specs.run.NextActs.{SendsNothing}
+use Rattle.qs_client.specs.declared.rules.act.Act.{Act}
+use Rattle.qs_client.specs.declared.rules.act.Act.TheVariants as acts
+use Rattle.qs_client.proofs.rules.CarriedValues.{sends_are_parted}
 use Rattle.qs_client.specs.ClientLanes.{is_awaited, IsFree, ClientFitsLane, BeginsAtLanes, SendsMayFollow, SendsKeepOtherLanes, QuietActsKeepLanes, TicketsKeepLanes, ObjectsKeepLanes, ChunksKeepLanes, ClientLaneLaws}
 use Rattle.qs_client.specs.ClientModel.{Asks, ClientModel, finish, locals_at, next_act, next_mind, reserved_by, settings_of, tree_at}
-use Rattle.qs_client_rules.specs.Outgoings.{after_send, without_act, outgoing_of}
+use Rattle.qs_client.specs.rules.Outgoings.{after_send, without_act, outgoing_of}
 use Rattle.qs_syncset.specs.Codes.{code_at}
 
 -- the object of h is held or not, nothing is awaited, and a full chunk is for an object that is not held

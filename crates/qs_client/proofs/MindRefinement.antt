@@ -16,24 +16,24 @@ use Rattle.qs_sync_counts.specs.SyncRows.{AreFew, CountsState, counts_state, wit
 use Rattle.qs_sync_counts.specs.declared.sync_counts.SyncCount.{SyncCount}
 use Rattle.qs_sync_counts.proofs.CountRows.{few_in, few_more}
 use Rattle.qs_syncset.specs.Codes.{BlockCode, IsCode, code_at}
-use Rattle.qs_client_run.specs.NextActs.{HasActed, Wants, SendsNothing}
-use Rattle.qs_client_rules.specs.Client.{Settlement, take_object, take_chunk}
-use Rattle.qs_client_run.specs.BlockSizes.{room_for, longest}
-use Rattle.qs_client_run.specs.BetweenActs.{HasCome, HasGot, HasSent, HasTaken, IsOutgoingAt, IsStanding, nodes_left}
-use Rattle.qs_client_rules.specs.Outgoings.{count_sync, after_send, outgoing_of}
-use Rattle.qs_client_run.specs.ClientOfRun.{ClientProgress, stage_by}
-use Rattle.qs_client_run.specs.Running.{KeepsRows}
+use Rattle.qs_client.specs.run.NextActs.{HasActed, Wants, SendsNothing}
+use Rattle.qs_client.specs.rules.Client.{Settlement, take_object, take_chunk}
+use Rattle.qs_client.specs.run.BlockSizes.{room_for, longest}
+use Rattle.qs_client.specs.run.BetweenActs.{HasCome, HasGot, HasSent, HasTaken, IsOutgoingAt, IsStanding, nodes_left}
+use Rattle.qs_client.specs.rules.Outgoings.{count_sync, after_send, outgoing_of}
+use Rattle.qs_client.specs.run.ClientOfRun.{ClientProgress, stage_by}
+use Rattle.qs_client.specs.run.Running.{KeepsRows}
 use Rattle.qs_objects.specs.Traces.{TraceState, empty_trace, events_of, trace_at, trace_state}
 use Rattle.qs_chunk.specs.Limits.{largest_chunk}
-use Rattle.qs_client_rules.specs.declared.act.Act.{Act}
-use Rattle.qs_client_run.specs.RunState.{RunState}
-use Rattle.qs_client_rules.specs.declared.outgoing.Outgoing.{Outgoing}
-use Rattle.qs_client_run.specs.declared.stage.Stage.{Stage}
-use Rattle.qs_client_run.proofs.CodeBounds.{few_blocks}
-use Rattle.qs_client_run.proofs.ArrivalRefinement.{at_call, awaits_here, nothing_between}
-use Rattle.qs_client_rules.specs.declared.act.Act.TheVariants as acts
-use Rattle.qs_client_rules.specs.declared.outgoing.Outgoing.TheVariants as outgoings
-use Rattle.qs_client_run.specs.declared.stage.Stage.TheVariants as stages
+use Rattle.qs_client.specs.declared.rules.act.Act.{Act}
+use Rattle.qs_client.specs.run.RunState.{RunState}
+use Rattle.qs_client.specs.declared.rules.outgoing.Outgoing.{Outgoing}
+use Rattle.qs_client.specs.declared.run.stage.Stage.{Stage}
+use Rattle.qs_client.proofs.run.CodeBounds.{few_blocks}
+use Rattle.qs_client.proofs.run.ArrivalRefinement.{at_call, awaits_here, nothing_between}
+use Rattle.qs_client.specs.declared.rules.act.Act.TheVariants as acts
+use Rattle.qs_client.specs.declared.rules.outgoing.Outgoing.TheVariants as outgoings
+use Rattle.qs_client.specs.declared.run.stage.Stage.TheVariants as stages
 use Rattle.qs_client.specs.SoundMind.{IsSoundMind}
 use Rattle.qs_client.specs.ClientModel.{Asks, ClientModel, act_due, mind_after_chunk, comes_to, finish, extend, mind_after_object, hands_out, is_between, tally}
 use Rattle.qs_client.specs.MindState.{MindState, IsMind, block_of, client_in, mind_of, settings_in}

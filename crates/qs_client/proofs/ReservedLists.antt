@@ -9,7 +9,7 @@ use Rattle.qs_program.proofs.Bounds.{sound_block}
 use Rattle.qs_program.specs.Limits.{most_handlers}
 use Rattle.qs_syncset.proofs.ShortLists.{few_reserved}
 use Rattle.qs_syncset.specs.Codes.{ClientCode, IsCode, code_at}
-use Rattle.qs_client_run.proofs.CodeBounds.{client_inside}
+use Rattle.qs_client.proofs.run.CodeBounds.{client_inside}
 
 in_each : (P : ℕ → Type 0) (xs : List ℕ) (x : ℕ) → is_in xs x ≡ true → AllByRecursion P xs → P x
 in_each P [] x member each = cc

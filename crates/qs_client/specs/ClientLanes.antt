@@ -5,9 +5,9 @@ use Rattle.qs_objects.specs.declared.held.Ticket.{Ticket}
 use Rattle.qs_syncset.specs.Codes.{ClientCode}
 use Rattle.qs_chunk.specs.Lanes.{MayFollow, is_asked}
 use Rattle.qs_chunk.specs.declared.parcel.Parcel.{Parcel}
-use Rattle.qs_client_run.specs.NextActs.{SendsNothing}
-use Rattle.qs_client_rules.specs.Client.{Client, ClientStage, between, runs, full, awaits, leaves}
-use Rattle.qs_client_rules.specs.declared.act.Act.TheVariants as acts
+use Rattle.qs_client.specs.run.NextActs.{SendsNothing}
+use Rattle.qs_client.specs.rules.Client.{Client, ClientStage, between, runs, full, awaits, leaves}
+use Rattle.qs_client.specs.declared.rules.act.Act.TheVariants as acts
 use Rattle.qs_client.specs.ClientModel.{Asks, ClientModel, mind_after_begin, mind_after_chunk, finish, fresh_mind, mind_after_object, next_act, next_mind}
 
 -- whether a client waits for the object of a handler

@@ -13,13 +13,13 @@ use Rattle.qs_graph.specs.Walk.{entry, walk}
 use Rattle.qs_syncset.specs.Codes.{BlockCode, ClientCode, code_at}
 use Rattle.qs_sync_counts.specs.SyncRows.{fresh_rows, with_sync}
 use Rattle.qs_sync_counts.specs.declared.sync_counts.SyncCount.{SyncCount}
-use Rattle.qs_client_rules.specs.Client.{Client, ClientStage, Settings, Settlement, act_of, between, runs, full, awaits, leaves, begin, first_client, take_object, take_chunk}
-use Rattle.qs_client_rules.specs.ClientLaws.{with_act}
-use Rattle.qs_client_rules.specs.Outgoings.{after_send, without_act, outgoing_of, count_sync}
-use Rattle.qs_client_rules.specs.declared.act.Act.{Act}
-use Rattle.qs_client_rules.specs.declared.outgoing.Outgoing.{Outgoing}
-use Rattle.qs_client_run.specs.BlockSizes.{longest}
-use Rattle.qs_client_rules.specs.declared.outgoing.Outgoing.TheVariants as outgoings
+use Rattle.qs_client.specs.rules.Client.{Client, ClientStage, Settings, Settlement, act_of, between, runs, full, awaits, leaves, begin, first_client, take_object, take_chunk}
+use Rattle.qs_client.specs.rules.ClientLaws.{with_act}
+use Rattle.qs_client.specs.rules.Outgoings.{after_send, without_act, outgoing_of, count_sync}
+use Rattle.qs_client.specs.declared.rules.act.Act.{Act}
+use Rattle.qs_client.specs.declared.rules.outgoing.Outgoing.{Outgoing}
+use Rattle.qs_client.specs.run.BlockSizes.{longest}
+use Rattle.qs_client.specs.declared.rules.outgoing.Outgoing.TheVariants as outgoings
 
 -- a block as a tree with the synchronisations that are left in it, from these variables; each repeat sets its count as
 -- it begins

@@ -5,3 +5,5 @@ pub mod ClientRuns
 -- What crates promise one another, what proofs use, and worked examples.
 pub mod SoundMind
 pub mod ClientLanes
+pub mod rules
+pub mod run

@@ -5,12 +5,12 @@ use Rattle.qs_program.specs.Values.{Locals}
 use Rattle.qs_graph.specs.Steps.{limit}
 use Rattle.qs_sync_counts.specs.SyncRows.{CountsState}
 use Rattle.qs_syncset.specs.Codes.{BlockCode, ClientCode, IsCode, code_at}
-use Rattle.qs_client_rules.specs.Client.{Client, Settings}
-use Rattle.qs_client_run.specs.ClientOfRun.{client_of_run}
+use Rattle.qs_client.specs.rules.Client.{Client, Settings}
+use Rattle.qs_client.specs.run.ClientOfRun.{client_of_run}
 use Rattle.qs_objects.specs.Traces.{events_of}
 use Rattle.qs_chunk.specs.Limits.{largest_chunk}
-use Rattle.qs_client_run.specs.RunState.{RunState}
-use Rattle.qs_client_rules.specs.declared.outgoing.Outgoing.{Outgoing}
+use Rattle.qs_client.specs.run.RunState.{RunState}
+use Rattle.qs_client.specs.declared.rules.outgoing.Outgoing.{Outgoing}
 use Rattle.qs_client.specs.ClientModel.{ClientModel, is_between}
 
 -- the code and the chunks' size; the ticket of the block that was begun last, and where the client stands in it; the

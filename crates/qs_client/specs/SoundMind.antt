@@ -3,12 +3,12 @@ use Rattle.std.specs.Prelude.{◌≡◌, ◌<◌, ◌≤◌, ℕ, suc, ◌+◌, 
 use Rattle.qs_graph.specs.Steps.{limit}
 use Rattle.qs_sync_counts.specs.SyncRows.{AreFew}
 use Rattle.qs_syncset.specs.Codes.{IsCode, code_at}
-use Rattle.qs_client_run.specs.BlockSizes.{longest, room_for}
-use Rattle.qs_client_run.specs.BetweenActs.{IsOutgoingAt, IsStanding}
+use Rattle.qs_client.specs.run.BlockSizes.{longest, room_for}
+use Rattle.qs_client.specs.run.BetweenActs.{IsOutgoingAt, IsStanding}
 use Rattle.qs_objects.specs.Traces.{empty_trace, trace_at}
 use Rattle.qs_chunk.specs.Limits.{largest_chunk}
-use Rattle.qs_client_rules.specs.declared.outgoing.Outgoing.TheVariants as outgoings
-use Rattle.qs_client_run.specs.declared.stage.Stage.TheVariants as stages
+use Rattle.qs_client.specs.declared.rules.outgoing.Outgoing.TheVariants as outgoings
+use Rattle.qs_client.specs.declared.run.stage.Stage.TheVariants as stages
 use Rattle.qs_client.specs.MindState.{MindState, block_of}
 
 pub record IsSoundMind (m : MindState) : Type 0 where

@@ -8,6 +8,8 @@
 
 pub mod laws;
 mod mind;
+pub mod rules;
+pub mod run;
 
+pub use crate::rules::Act;
 pub use mind::Mind;
-pub use qs_client_rules::Act;

@@ -4,15 +4,15 @@ ghost use Rattle.std.specs.Prelude.{◌≡◌, ◌<◌, ℕ, [], IfOk, IsErr, le
 ghost use Rattle.qs_chunk.specs.Batch.{batch};
 ghost use Rattle.qs_client.specs.ClientModel.{Asks, lists_of_code, tally, mind_after_begin, mind_after_chunk, finish, blocks_ended, fresh_mind, mind_after_object, is_between, next_act, next_mind};
 ghost use Rattle.qs_sync_counts.specs.SyncRows.{AreFew, all_counts, counts_state, fresh_rows, greatest_count};
-ghost use Rattle.qs_client_run.specs.NextActs.{SendsNothing};
+ghost use Rattle.qs_client.specs.run.NextActs.{SendsNothing};
 ghost use Rattle.qs_client.specs.MindState.{IsMind, mind_of};
 ghost use Rattle.qs_objects.specs.Rows.{join_rows};
 ghost use Rattle.qs_objects.specs.Traces.{events_of};
 ghost use Rattle.qs_program.specs.Limits.{most_handlers};
 
+use crate::rules::{Act, Outgoing};
+use crate::run::{Run, Stage};
 use qs_chunk::{Chunk, ChunkSize};
-use qs_client_rules::{Act, Outgoing};
-use qs_client_run::{Run, Stage};
 use qs_objects::{Event, Held, Request, Ticket, Traces};
 use qs_program::{Locals, MOST_HANDLERS};
 use qs_sync_counts::SyncCounts;

@@ -4,11 +4,11 @@ use Rattle.std.proofs.Common.{◌≡◌, ℕ, zero, suc, ◌+◌, ◌-◌, ◌<�
 use Rattle.std.proofs.lemmas.List.{drop_more, drop-drop, take-take}
 use Rattle.std.proofs.Math.Dec.{ltb}
 use Rattle.qs_conditions.specs.SignResults.{IsFaultOf}
-use Rattle.qs_tokens.proofs.Lexemes.{run_take}
+use Rattle.qs_script.proofs.tokens.Lexemes.{run_take}
 use Rattle.qs_conditions.specs.declared.signs.Sign.TheVariants as s
 use Rattle.qs_conditions.specs.declared.fault.ConditionFault.TheVariants as f
-use Rattle.qs_tokens.specs.Tokens.{is_letter, is_digit, is_space, is_name_byte, at, value_of}
-use Rattle.qs_tokens.specs.Cutting.{run_of}
+use Rattle.qs_script.specs.tokens.Tokens.{is_letter, is_digit, is_space, is_name_byte, at, value_of}
+use Rattle.qs_script.specs.tokens.Cutting.{run_of}
 use Rattle.qs_conditions.specs.declared.signs.Sign.{Sign}
 use Rattle.qs_conditions.specs.declared.signs.Placed.{Placed}
 use Rattle.qs_conditions.specs.declared.fault.ConditionFault.{ConditionFault}

@@ -2,7 +2,7 @@
 -- reader that its result belongs to the text stands on `condition_sound`. There is a lemma for each construct; the
 -- chains go by induction on their steps, and parts by induction on how many may stand one inside another.
 use Rattle.std.proofs.Common.{◌≡◌, ◌⊎◌, ℕ, zero, suc, ◌≤◌, inl, inr, Bool, true, false, List, [], ◌∷◌, ◌++◌, length, refl, ap, sym, subst, ◌∙◌, arith, append_assoc, append-nil, Option, Some, None, Result, Ok, Err, ℤ, pos, neg_ℤ}
-use Rattle.qs_tree.specs.declared.tree.Relation.{Relation}
+use Rattle.qs_script.specs.declared.tree.tree.Relation.{Relation}
 use Rattle.qs_conditions.specs.declared.signs.Sign.{Sign}
 use Rattle.qs_conditions.specs.declared.signs.Sign.TheVariants as s
 use Rattle.qs_conditions.specs.declared.signs.Placed.{Placed}

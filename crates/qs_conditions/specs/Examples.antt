@@ -1,7 +1,7 @@
 -- Texts, their signs and their conditions.
 use Rattle.std.specs.Prelude.{◌≡◌, ℕ, true, false, List, [], ◌∷◌, ◌++◌, Ok, Err, codes, replicate, pos}
 use Rattle.std.proofs.Common.{neg_ℤ}
-use Rattle.qs_tree.specs.declared.tree.Relation.TheVariants as r
+use Rattle.qs_script.specs.declared.tree.tree.Relation.TheVariants as r
 use Rattle.qs_conditions.specs.declared.signs.Sign.TheVariants as s
 use Rattle.qs_conditions.specs.declared.condition.Value.{Value}
 use Rattle.qs_conditions.specs.declared.condition.Value.TheVariants as v

@@ -2,7 +2,7 @@
 -- goes on.
 use Rattle.std.specs.Prelude.{ℕ, zero, suc, Bool, true, false, length, List, [], ◌∷◌, ◌++◌, Option, Some, None, Result, Ok, Err, ℤ, pos}
 use Rattle.std.proofs.Common.{neg_ℤ}
-use Rattle.qs_tree.specs.declared.tree.Relation.{Relation}
+use Rattle.qs_script.specs.declared.tree.tree.Relation.{Relation}
 use Rattle.qs_conditions.specs.declared.signs.Sign.{Sign}
 use Rattle.qs_conditions.specs.declared.signs.Sign.TheVariants as s
 use Rattle.qs_conditions.specs.declared.signs.Placed.{Placed}

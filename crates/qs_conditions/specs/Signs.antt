@@ -1,9 +1,9 @@
 -- The signs of a condition's text, or its first fault.
 use Rattle.std.specs.Prelude.{ℕ, zero, suc, ◌-◌, nat_lt, nat_eq, if◌then◌else◌, List, [], ◌∷◌, take, Option, Some, None, Result, Ok, Err}
-use Rattle.qs_tokens.specs.Limits.{longest_name, most_digits}
-use Rattle.qs_tokens.specs.Tokens.{is_letter, is_digit, is_space, is_name_byte, at, value_of}
-use Rattle.qs_tokens.specs.Cutting.{run_of}
-use Rattle.qs_tree.specs.declared.tree.Relation.TheVariants as r
+use Rattle.qs_script.specs.tokens.Limits.{longest_name, most_digits}
+use Rattle.qs_script.specs.tokens.Tokens.{is_letter, is_digit, is_space, is_name_byte, at, value_of}
+use Rattle.qs_script.specs.tokens.Cutting.{run_of}
+use Rattle.qs_script.specs.declared.tree.tree.Relation.TheVariants as r
 use Rattle.qs_conditions.specs.declared.signs.Sign.{Sign}
 use Rattle.qs_conditions.specs.declared.signs.Sign.TheVariants as s
 use Rattle.qs_conditions.specs.declared.signs.Placed.{Placed}

@@ -3,8 +3,8 @@
 ghost use Rattle.std.specs.Prelude.{◌≡◌, [], ◌∷◌, ◌++◌, OnOk};
 
 use qs_objects::Args;
-use qs_tokens::Name;
-use qs_tree::{Relation, add};
+use qs_script::tokens::Name;
+use qs_script::tree::{Relation, add};
 use std::alloc::{AllocError, Global};
 use std::marker::Model;
 

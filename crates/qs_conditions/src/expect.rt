@@ -7,8 +7,8 @@ ghost use Rattle.qs_conditions.specs.Results.{Gives, Finds};
 
 use crate::fault::Fault;
 use crate::signs::{Placed, Sign};
-use qs_tokens::Name;
-use qs_tree::Relation;
+use qs_script::tokens::Name;
+use qs_script::tree::Relation;
 
 // The place of the first sign, or that of the end.
 pub(crate) fn first_place(end: usize, signs: &[Placed]) -> usize

@@ -11,7 +11,7 @@ use crate::expect::{
 use crate::fault::Fault;
 use crate::signs::{Placed, Sign};
 use qs_objects::Args;
-use qs_tokens::Name;
+use qs_script::tokens::Name;
 use std::alloc::Global;
 
 // A number that may have a minus.

@@ -29,13 +29,13 @@ use Rattle.qs_core_laws.specs.Core.{Core}
 use Rattle.qs_syncset.specs.Codes.{AreCodes}
 use Rattle.qs_core_laws.specs.CoreSchedule.{core_played, core_plays}
 use Rattle.qs_core_laws.proofs.CoreSteps.{HasInvariant, plays_kept, run_kept}
-use Rattle.qs_core_orders.specs.CoreOrders.{IsPlayedInOrderOn}
-use Rattle.qs_core_orders.specs.CoreQuiet.{IsCoreQuiet, turn_of}
-use Rattle.qs_core_orders.proofs.BlocksPlayed.{begin_quiet, has_begun, named_append, shown_in_order, turn_in, turn_named, turn_on}
-use Rattle.qs_core_orders.proofs.Entering.{block_over, most_turns}
-use Rattle.qs_core_orders.proofs.Turns.{IsWithin}
+use Rattle.qs_core_laws.specs.orders.CoreOrders.{IsPlayedInOrderOn}
+use Rattle.qs_core_laws.specs.orders.CoreQuiet.{IsCoreQuiet, turn_of}
+use Rattle.qs_core_laws.proofs.orders.BlocksPlayed.{begin_quiet, has_begun, named_append, shown_in_order, turn_in, turn_named, turn_on}
+use Rattle.qs_core_laws.proofs.orders.Entering.{block_over, most_turns}
+use Rattle.qs_core_laws.proofs.orders.Turns.{IsWithin}
 use Rattle.qs_core.specs.CoreOrders.{CoreGoes, IsOneBlockOn, IsQuietNow, blocks_begun}
-use Rattle.qs_core_state.specs.CoreState.{CoreState, IsCoreState, IsFreshCore, IsPlayedOn, IsReachedCore, codes_of, core_of, client_part_at}
+use Rattle.qs_core.specs.state.CoreState.{CoreState, IsCoreState, IsFreshCore, IsPlayedOn, IsReachedCore, codes_of, core_of, client_part_at}
 use Rattle.qs_core.proofs.CoreGoing.{goes_join, goes_played}
 use Rattle.qs_core.proofs.CorePlaying.{fresh_played}
 

@@ -14,8 +14,8 @@ use Rattle.qs_played.specs.Played.{Played}
 use Rattle.qs_syncset.specs.Codes.{AreCodes}
 use Rattle.qs_core_laws.specs.CoreSchedule.{core_played}
 use Rattle.qs_core_laws.proofs.CoreSyncs.{core_syncs_counted}
-use Rattle.qs_core_state.specs.CoreState.{CoreState, CoreSteps, IsPlayedOn, IsReachedCore, codes_of, core_of, CoreIsCounted}
-use Rattle.qs_core_state.proofs.CoreReaching.{core_next}
+use Rattle.qs_core.specs.state.CoreState.{CoreState, CoreSteps, IsPlayedOn, IsReachedCore, codes_of, core_of, CoreIsCounted}
+use Rattle.qs_core.proofs.state.CoreReaching.{core_next}
 
 pub core_is_counted : (s : CoreState) → IsSound s.program → IsReachedCore s → CoreIsCounted s
 core_is_counted s sound reached mode codes =

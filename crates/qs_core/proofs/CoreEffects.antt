@@ -6,15 +6,15 @@ use Rattle.qs_chunk.specs.declared.parcel.Parcel.{Parcel}
 use Rattle.qs_handler.specs.Handler.{Handler, act_of, away, closed, free, gives, serves, spares}
 use Rattle.qs_handler.specs.declared.mind.Act.TheVariants as acts
 use Rattle.qs_client.specs.ClientModel.{act_due}
-use Rattle.qs_client_rules.specs.Client.{act_of as client_act}
+use Rattle.qs_client.specs.rules.Client.{act_of as client_act}
 use Rattle.qs_played.specs.declared.schedule.actor.Actor.TheVariants as actor
 use Rattle.qs_core_laws.specs.CoreReached.{ReachedCore}
-use Rattle.qs_core_parts.specs.CarriedRequests.{first_requests, sent_requests}
-use Rattle.qs_core_parts.specs.CoreHandlers.{core_handler_at, handler_with_act}
-use Rattle.qs_core_parts.specs.LaneStates.{lane_at}
-use Rattle.qs_core_state.specs.CoreState.{CoreKeeps, CoreState, IsCoreState, codes_of, core_of, client_part_at}
+use Rattle.qs_core.specs.parts.CarriedRequests.{first_requests, sent_requests}
+use Rattle.qs_core.specs.parts.CoreHandlers.{core_handler_at, handler_with_act}
+use Rattle.qs_core.specs.parts.LaneStates.{lane_at}
+use Rattle.qs_core.specs.state.CoreState.{CoreKeeps, CoreState, IsCoreState, codes_of, core_of, client_part_at}
 use Rattle.qs_core.specs.CoreEffects.{act_at, core_effect, core_requests, effect_of_client, effect_of_handler, requests_of_handler}
-use Rattle.qs_core_shown.proofs.CoreReadings.{handler_is, tickets_are}
+use Rattle.qs_core.proofs.shown.CoreReadings.{handler_is, tickets_are}
 
 -- a handler that takes a parcel takes the first one of its client's lane
 pub requests_taken : (down : ℕ → List Parcel) (h : Handler) (c : ℕ) → act_of h ≡ acts.TakeParcel c → requests_of_handler down h ≡ first_requests (down c)

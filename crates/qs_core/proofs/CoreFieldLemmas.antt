@@ -10,24 +10,24 @@ use Rattle.qs_objects.specs.declared.held.Ticket.{Ticket}
 use Rattle.qs_objects.proofs.Elements.{AllByRecursion-get_or}
 use Rattle.qs_program.specs.Program.{block_at, blocks_of}
 use Rattle.qs_program.specs.Sound.{IsSound}
-use Rattle.qs_client_rules.specs.Client.{act_of as client_act}
+use Rattle.qs_client.specs.rules.Client.{act_of as client_act}
 use Rattle.qs_client.specs.ClientModel.{act_due, mind_after_begin}
 use Rattle.qs_client.specs.MindState.{IsMind, mind_of}
-use Rattle.qs_client_rules.specs.declared.act.Act.{Act}
-use Rattle.qs_client_rules.specs.declared.act.Act.TheVariants as wants
+use Rattle.qs_client.specs.declared.rules.act.Act.{Act}
+use Rattle.qs_client.specs.declared.rules.act.Act.TheVariants as wants
 use Rattle.qs_played.specs.Played.{ticket}
 use Rattle.qs_played.proofs.Lists.{get_or-any}
 use Rattle.qs_played.specs.declared.schedule.actor.Actor.TheVariants as actor
 use Rattle.qs_core_laws.specs.Core.{core_step, settings_of}
 use Rattle.qs_syncset.specs.Codes.{blocks_in}
 use Rattle.qs_core_laws.specs.CoreReached.{ReachedCore}
-use Rattle.qs_core_parts.specs.CoreClients.{AreStocked, CoreClientState, HasLane, IsCoreClient, LaneStays, LaneSteps, turns_to, whole_of}
-use Rattle.qs_core_parts.specs.CoreHandlers.{CanEnterAll, CoreHandlerState, with_ticket_at_all}
-use Rattle.qs_core_parts.proofs.ClientModels.{IsFormedOf}
-use Rattle.qs_core_state.specs.CoreState.{CoreKeeps, CoreState, CoreSteps, StepsAreReached, IsCoreState, ClientPart, all_blocks, codes_of, core_of, no_client_part, client_part_at, client_part}
-use Rattle.qs_core_state.proofs.CoreLists.{map_here}
-use Rattle.qs_core_state.proofs.CoreMoves.{client_kept, client_rests, client_steps, with_clients}
-use Rattle.qs_core_state.proofs.CoreBooking as booking
+use Rattle.qs_core.specs.parts.CoreClients.{AreStocked, CoreClientState, HasLane, IsCoreClient, LaneStays, LaneSteps, turns_to, whole_of}
+use Rattle.qs_core.specs.parts.CoreHandlers.{CanEnterAll, CoreHandlerState, with_ticket_at_all}
+use Rattle.qs_core.proofs.parts.ClientModels.{IsFormedOf}
+use Rattle.qs_core.specs.state.CoreState.{CoreKeeps, CoreState, CoreSteps, StepsAreReached, IsCoreState, ClientPart, all_blocks, codes_of, core_of, no_client_part, client_part_at, client_part}
+use Rattle.qs_core.proofs.state.CoreLists.{map_here}
+use Rattle.qs_core.proofs.state.CoreMoves.{client_kept, client_rests, client_steps, with_clients}
+use Rattle.qs_core.proofs.state.CoreBooking as booking
 
 pub client_here : (cs : List CoreClientState) (c n : ℕ) (d : CoreClientState) → n ≡ c → c < length cs → d ≡ get_or cs n d → client_part_at cs c ≡ client_part d
 client_here cs c n d number less value = map_here client_part cs c d no_client_part less ∙ ap client_part (sym (value ∙ ap (λ m. get_or cs m d) number))

@@ -13,10 +13,10 @@ use Rattle.qs_played.proofs.Playing.{plays_by-append, step_at_end}
 use Rattle.qs_core_laws.specs.Core.{core_begin, core_step}
 use Rattle.qs_syncset.specs.Codes.{AreCodes}
 use Rattle.qs_core_laws.specs.CoreSchedule.{core_plays}
-use Rattle.qs_core_orders.specs.CoreQuiet.{two_of_each}
+use Rattle.qs_core_laws.specs.orders.CoreQuiet.{two_of_each}
 use Rattle.qs_core.specs.CoreOrders.{CoreGoes}
-use Rattle.qs_core_state.specs.CoreState.{CoreState, CoreSteps, IsPlayedOn, codes_of, core_of}
-use Rattle.qs_core_state.proofs.CoreReaching.{core_plays_more}
+use Rattle.qs_core.specs.state.CoreState.{CoreState, CoreSteps, IsPlayedOn, codes_of, core_of}
+use Rattle.qs_core.proofs.state.CoreReaching.{core_plays_more}
 
 pub goes_none : (s : CoreState) → CoreGoes s [] s
 goes_none s = record { program = refl; size = refl; codes = refl; played = refl }

@@ -3,15 +3,15 @@
 -- `client` promise it.
 use Rattle.std.proofs.Common.{◌≡◌, ◌<◌, ℕ, length, Some, refl, ap, sym, subst, ◌∙◌, arith}
 use Rattle.qs_client.specs.ClientModel.{act_due}
-use Rattle.qs_client_rules.specs.declared.act.Act.{Act}
-use Rattle.qs_client_rules.specs.declared.act.Act.TheVariants as wants
+use Rattle.qs_client.specs.declared.rules.act.Act.{Act}
+use Rattle.qs_client.specs.declared.rules.act.Act.TheVariants as wants
 use Rattle.qs_core_laws.specs.CoreReached.{ReachedCore}
-use Rattle.qs_core_parts.specs.CoreClients.{CoreClientState, IsCoreClient, turns_to, whole_of}
-use Rattle.qs_core_parts.specs.CoreHandlers.{CoreHandlerState, core_handler_at, handler_with_act}
-use Rattle.qs_core_state.specs.CoreState.{CoreKeeps, CoreState, IsCoreState, codes_of, core_of, client_part_at}
+use Rattle.qs_core.specs.parts.CoreClients.{CoreClientState, IsCoreClient, turns_to, whole_of}
+use Rattle.qs_core.specs.parts.CoreHandlers.{CoreHandlerState, core_handler_at, handler_with_act}
+use Rattle.qs_core.specs.state.CoreState.{CoreKeeps, CoreState, IsCoreState, codes_of, core_of, client_part_at}
 use Rattle.qs_core.specs.CoreEffects.{AreLanesOf, act_at}
 use Rattle.qs_core.proofs.CoreEffects.{act_is}
-use Rattle.qs_core_shown.proofs.CoreReadings.{handler_is, tickets_are}
+use Rattle.qs_core.proofs.shown.CoreReadings.{handler_is, tickets_are}
 
 module _ (s : CoreState) (kept : IsCoreState s) where
   module _ (h : ℕ) (inside : h < length s.handlers) (d : CoreHandlerState) (formed : d ≡ core_handler_at s.handlers h) where

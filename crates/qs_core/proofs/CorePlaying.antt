@@ -12,8 +12,8 @@ use Rattle.qs_played.specs.declared.schedule.actor.Actor.{Actor}
 use Rattle.qs_core_laws.specs.Core.{core_begin, core_step}
 use Rattle.qs_syncset.specs.Codes.{AreCodes}
 use Rattle.qs_core_laws.specs.CoreSchedule.{IsShown, core_played, core_plays, core_scheduled, on_way}
-use Rattle.qs_core_state.specs.CoreState.{CoreIsIsolated, CoreState, CoreSteps, IsFreshCore, IsPlayedOn, IsShownIsolated, codes_of, core_of}
-use Rattle.qs_core_state.proofs.CoreReaching.{core_plays_more}
+use Rattle.qs_core.specs.state.CoreState.{CoreIsIsolated, CoreState, CoreSteps, IsFreshCore, IsPlayedOn, IsShownIsolated, codes_of, core_of}
+use Rattle.qs_core.proofs.state.CoreReaching.{core_plays_more}
 
 -- one actor more
 pub played_more : (p : ProgramShape) (mode : Mode) (size : ℕ) (actors : List Actor) (old new : CoreState) (a : Actor) (b : Bool) → IsPlayedOn p mode size actors old → OnTrue b (CoreSteps old a new)

@@ -17,13 +17,13 @@ use Rattle.qs_handler.specs.declared.mind.Act.TheVariants as acts
 use Rattle.qs_played.specs.declared.schedule.actor.Actor.TheVariants as actor
 use Rattle.qs_core_laws.specs.Core.{core_step}
 use Rattle.qs_core_laws.specs.CoreReached.{ReachedCore}
-use Rattle.qs_core_parts.specs.CoreClients.{AreStocked, CoreClientState, Meets, whole_of}
-use Rattle.qs_core_parts.specs.CoreHandlers.{CoreHandlerState, IsCoreHandler, MayCome, TakesTicket, handler_with_act, lane_step_of_handler, turns_to}
-use Rattle.qs_core_parts.specs.LaneStates.{lane_at}
-use Rattle.qs_core_state.specs.CoreState.{CoreKeeps, CoreState, CoreSteps, IsCoreState, ClientPart, all_blocks, codes_of, core_of, core_handler_of, client_part_at, client_part, tickets_at}
-use Rattle.qs_core_state.proofs.CoreBooking.{ticket_kept, ticket_rests, ticket_steps}
-use Rattle.qs_core_state.proofs.CoreLists.{map_here}
-use Rattle.qs_core_state.proofs.CoreMoves.{handler_kept, handler_rests, handler_steps, with_handlers}
+use Rattle.qs_core.specs.parts.CoreClients.{AreStocked, CoreClientState, Meets, whole_of}
+use Rattle.qs_core.specs.parts.CoreHandlers.{CoreHandlerState, IsCoreHandler, MayCome, TakesTicket, handler_with_act, lane_step_of_handler, turns_to}
+use Rattle.qs_core.specs.parts.LaneStates.{lane_at}
+use Rattle.qs_core.specs.state.CoreState.{CoreKeeps, CoreState, CoreSteps, IsCoreState, ClientPart, all_blocks, codes_of, core_of, core_handler_of, client_part_at, client_part, tickets_at}
+use Rattle.qs_core.proofs.state.CoreBooking.{ticket_kept, ticket_rests, ticket_steps}
+use Rattle.qs_core.proofs.state.CoreLists.{map_here}
+use Rattle.qs_core.proofs.state.CoreMoves.{handler_kept, handler_rests, handler_steps, with_handlers}
 use Rattle.qs_core.proofs.CoreFieldLemmas.{client_here}
 
 module _ (r s : CoreState) (view : r ≡ s) (kept : IsCoreState r) (keeps : CoreKeeps s) (h n : ℕ) (number : n ≡ h) (less : h < length s.handlers)

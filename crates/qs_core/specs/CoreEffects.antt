@@ -6,15 +6,15 @@ use Rattle.qs_syncset.specs.Codes.{ClientCode, blocks_in}
 use Rattle.qs_chunk.specs.declared.parcel.Parcel.{Parcel}
 use Rattle.qs_chunk.specs.declared.parcel.Parcel.TheVariants.{Work, Sync, Home, End}
 use Rattle.qs_handler.specs.Handler.{Handler, free, serves, spares, gives, away, closed}
-use Rattle.qs_client_rules.specs.Client.{act_of}
-use Rattle.qs_client_rules.specs.declared.act.Act.{Act}
-use Rattle.qs_client_rules.specs.declared.act.Act.TheVariants as wants
+use Rattle.qs_client.specs.rules.Client.{act_of}
+use Rattle.qs_client.specs.declared.rules.act.Act.{Act}
+use Rattle.qs_client.specs.declared.rules.act.Act.TheVariants as wants
 use Rattle.qs_played.specs.Played.{ticket}
 use Rattle.qs_played.specs.declared.schedule.actor.Actor.{Actor}
 use Rattle.qs_played.specs.declared.schedule.actor.Actor.TheVariants as actor
 use Rattle.qs_core_laws.specs.Core.{Core, settings_of}
-use Rattle.qs_core_parts.specs.CarriedRequests.{first_requests, sent_requests}
-use Rattle.qs_core_parts.specs.LaneStates.{LaneState, lane_at}
+use Rattle.qs_core.specs.parts.CarriedRequests.{first_requests, sent_requests}
+use Rattle.qs_core.specs.parts.LaneStates.{LaneState, lane_at}
 use Rattle.qs_core.specs.declared.core_effect.CoreEffect.{CoreEffect}
 use Rattle.qs_core.specs.declared.core_effect.CoreEffect.TheVariants.{Reserves, TakesChunk, Sends, WaitsFor, Gets, Returns, EndsAt, Serves, Runs, GivesChunk, SeesWaiting, GivesItself, ComesBack, Leaves}
 

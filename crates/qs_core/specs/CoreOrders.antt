@@ -4,8 +4,8 @@ use Rattle.qs_meaning.specs.Solo.{put}
 use Rattle.qs_played.specs.Schedule.{all_named}
 use Rattle.qs_played.specs.declared.schedule.actor.Actor.{Actor}
 use Rattle.qs_core_laws.specs.CoreSchedule.{core_plays}
-use Rattle.qs_core_orders.specs.CoreQuiet.{IsCoreQuiet}
-use Rattle.qs_core_state.specs.CoreState.{CoreState, codes_of, core_of}
+use Rattle.qs_core_laws.specs.orders.CoreQuiet.{IsCoreQuiet}
+use Rattle.qs_core.specs.state.CoreState.{CoreState, codes_of, core_of}
 
 -- these actors lead from one to the other, of the same program, codes and chunk size
 pub record CoreGoes (old : CoreState) (actors : List Actor) (new : CoreState) : Type 0 where

@@ -2,3 +2,6 @@
 pub mod CoreEffects
 -- What crates promise one another, what proofs use, and worked examples.
 pub mod CoreOrders
+pub mod parts
+pub mod state
+pub mod shown

@@ -2,19 +2,19 @@
 
 ghost use Rattle.std.specs.Prelude.{◌≡◌, ◌<◌, IfOk, length, vec_len};
 ghost use Rattle.qs_client.specs.ClientModel.{act_due};
-ghost use Rattle.qs_core_parts.specs.CarriedRequests.{sent_requests};
-ghost use Rattle.qs_core_parts.specs.CoreClients.{whole_of};
-ghost use Rattle.qs_core_parts.specs.CoreHandlers.{core_handler_at, handler_with_act};
-ghost use Rattle.qs_core_parts.specs.LaneStates.{lane_at};
-ghost use Rattle.qs_core_state.specs.CoreState.{client_part_at};
+ghost use Rattle.qs_core.specs.parts.CarriedRequests.{sent_requests};
+ghost use Rattle.qs_core.specs.parts.CoreClients.{whole_of};
+ghost use Rattle.qs_core.specs.parts.CoreHandlers.{core_handler_at, handler_with_act};
+ghost use Rattle.qs_core.specs.parts.LaneStates.{lane_at};
+ghost use Rattle.qs_core.specs.state.CoreState.{client_part_at};
 ghost use Rattle.qs_core.specs.CoreEffects.{effect_of_client, effect_of_handler, effect_of_lane, effect_of_parcel, effect_of_sent, effect_of_tickets, requests_of_handler};
-ghost use Rattle.qs_core_shown.specs.CoreShown.{HaveLane, TurnsTo};
+ghost use Rattle.qs_core.specs.shown.CoreShown.{HaveLane, TurnsTo};
 
 use crate::core_effect::CoreEffect;
+use crate::parts::{CoreClient, CoreHandler, Lane};
+use crate::shown::{client_at, handler_at};
 use qs_chunk::Parcel;
 use qs_client::Act;
-use qs_core_parts::{CoreClient, CoreHandler, Lane};
-use qs_core_shown::{client_at, handler_at};
 use qs_handler::Act as HandlerAct;
 use qs_objects::{Request, Ticket};
 use std::alloc::{AllocError, Global};

@@ -5,12 +5,12 @@ ghost use Rattle.std.specs.Bool.{OnTrue};
 ghost use Rattle.qs_core_laws.specs.Core.{core_step};
 ghost use Rattle.qs_core_laws.specs.CoreSchedule.{core_played};
 ghost use Rattle.qs_client.specs.ClientModel.{has_ended};
-ghost use Rattle.qs_core_state.specs.CoreState.{AreFreshClients, AreFreshHandlers, CoreKeeps, CoreSteps, StepsAreReached, IsCoreState, IsFreshClient, IsFreshCore, core_of, codes_of, client_part_at};
-ghost use Rattle.qs_core_parts.specs.CoreClients.{CoreClientState};
-ghost use Rattle.qs_core_parts.specs.CoreHandlers.{CanEnterAll, CoreHandlerState, with_ticket_at_all, with_ticket_at, core_handler_at, turns_to};
-ghost use Rattle.qs_client_rules.specs.declared.act.Act.TheVariants as wants;
+ghost use Rattle.qs_core.specs.state.CoreState.{AreFreshClients, AreFreshHandlers, CoreKeeps, CoreSteps, StepsAreReached, IsCoreState, IsFreshClient, IsFreshCore, core_of, codes_of, client_part_at};
+ghost use Rattle.qs_core.specs.parts.CoreClients.{CoreClientState};
+ghost use Rattle.qs_core.specs.parts.CoreHandlers.{CanEnterAll, CoreHandlerState, with_ticket_at_all, with_ticket_at, core_handler_at, turns_to};
+ghost use Rattle.qs_client.specs.declared.rules.act.Act.TheVariants as wants;
 ghost use Rattle.qs_core.specs.CoreEffects.{act_at, core_effect, core_requests};
-ghost use Rattle.qs_core_parts.specs.CoreClients.{turns_to as lane_wanted};
+ghost use Rattle.qs_core.specs.parts.CoreClients.{turns_to as lane_wanted};
 ghost use Rattle.qs_handler.specs.Handler.{act_of};
 ghost use Rattle.qs_played.specs.declared.schedule.actor.Actor.TheVariants as actors;
 
@@ -18,9 +18,9 @@ mod reading;
 
 use crate::core_effect::CoreEffect;
 use crate::core_effects::{client_effect, client_requests, handler_effect, handler_requests};
+use crate::parts::{CoreClient, CoreHandler};
+use crate::shown::shown;
 use qs_chunk::ChunkSize;
-use qs_core_parts::{CoreClient, CoreHandler};
-use qs_core_shown::shown;
 use qs_objects::{Request, Ticket};
 use qs_played::{Actor, Played, declared_held};
 use qs_program::Program;
@@ -41,7 +41,7 @@ pub(crate) struct CoreMachine<'p> {
 
 impl<'p> Model for CoreMachine<'p> {
     ghost use Rattle.std.specs.Prelude.{◌≤◌, vec_capacity};
-    ghost use Rattle.qs_core_state.specs.CoreState.{CoreState, IsCoreState, all_blocks, core_code};
+    ghost use Rattle.qs_core.specs.state.CoreState.{CoreState, IsCoreState, all_blocks, core_code};
 
     ghost Value = { CoreState };
 

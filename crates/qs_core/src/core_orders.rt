@@ -3,7 +3,7 @@
 ghost use Rattle.std.specs.Prelude.{IfOk, IsErrOf};
 ghost use Rattle.qs_meaning.specs.Serial.{IsLegal};
 ghost use Rattle.qs_serial.specs.NamedOrders.{order_of};
-ghost use Rattle.qs_core_orders.specs.CoreOrders.{IsPlayedInOrderOn};
+ghost use Rattle.qs_core_laws.specs.orders.CoreOrders.{IsPlayedInOrderOn};
 
 use crate::optimised::Core;
 use qs_chunk::ChunkSize;

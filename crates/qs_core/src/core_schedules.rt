@@ -2,7 +2,7 @@
 
 ghost use Rattle.std.specs.Prelude.{IfOk};
 ghost use Rattle.qs_core_laws.specs.CoreSchedule.{IsPlayedIn, IsShown};
-ghost use Rattle.qs_core_state.specs.CoreState.{IsShownIsolated};
+ghost use Rattle.qs_core.specs.state.CoreState.{IsShownIsolated};
 ghost use Rattle.qs_played.specs.SyncSums.{AreSyncsCounted};
 
 use crate::optimised::Core;

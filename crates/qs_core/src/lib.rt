@@ -13,6 +13,9 @@ mod core_orders;
 mod core_schedules;
 pub mod laws;
 mod optimised;
+pub mod parts;
+pub mod shown;
+pub mod state;
 mod stuck;
 
 pub use core_effect::CoreEffect;
@@ -22,5 +25,5 @@ pub use optimised::Core;
 pub use qs_objects::Traces;
 pub use qs_plain::{Awaited, Effect, Rules, play_plain, play_plain_in_order};
 pub use qs_plain_laws::QueueItem;
+pub use qs_played::twin::{Twin, twin};
 pub use qs_played::{Actor, PlayFault, Played, Row};
-pub use qs_twin::{Twin, twin};

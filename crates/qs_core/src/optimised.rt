@@ -8,10 +8,10 @@ ghost use Rattle.std.specs.Bool.{OnTrue};
 ghost use Rattle.qs_core_laws.specs.Core.{core_step};
 ghost use Rattle.qs_core.specs.CoreEffects.{core_effect, core_requests};
 ghost use Rattle.qs_program.specs.Program.{blocks_of};
-ghost use Rattle.qs_core_orders.specs.CoreQuiet.{turn_of};
+ghost use Rattle.qs_core_laws.specs.orders.CoreQuiet.{turn_of};
 ghost use Rattle.qs_core.specs.CoreOrders.{CoreGoes, IsOneBlockOn, IsQuietNow, blocks_begun};
-ghost use Rattle.qs_core_state.specs.CoreState.{CoreIsCounted};
-ghost use Rattle.qs_core_state.specs.CoreState.{CoreIsIsolated, CoreSteps, IsFreshCore, codes_of, core_of};
+ghost use Rattle.qs_core.specs.state.CoreState.{CoreIsCounted};
+ghost use Rattle.qs_core.specs.state.CoreState.{CoreIsIsolated, CoreSteps, IsFreshCore, codes_of, core_of};
 
 mod reading;
 
@@ -43,7 +43,7 @@ impl Drop for Core<'_> {
 }
 
 impl<'p> Model for Core<'p> {
-    ghost use Rattle.qs_core_state.specs.CoreState.{CoreState, IsReachedCore, core_code};
+    ghost use Rattle.qs_core.specs.state.CoreState.{CoreState, IsReachedCore, core_code};
 
     ghost Value = { CoreState };
 
@@ -51,7 +51,7 @@ impl<'p> Model for Core<'p> {
 
     ghost view = { λ c. c.machine };
 
-    ghost use Rattle.qs_core_state.specs.CoreStuck.{AreStuck};
+    ghost use Rattle.qs_core.specs.state.CoreStuck.{AreStuck};
 
     ghost invariant = { λ c. IsReachedCore c.machine × AreStuck c.stuck c.machine };
 }

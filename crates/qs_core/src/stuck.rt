@@ -2,7 +2,7 @@
 
 ghost use Rattle.std.specs.Prelude.{◌≡◌, ◌<◌, ℕ, false, slice_index_or, slice_set};
 ghost use Rattle.qs_program.specs.Limits.{most_clients, most_handlers};
-ghost use Rattle.qs_core_state.specs.CoreStuck.{IsNobody};
+ghost use Rattle.qs_core.specs.state.CoreStuck.{IsNobody};
 
 use qs_program::{MOST_CLIENTS, MOST_HANDLERS};
 use std::marker::Model;
@@ -16,7 +16,7 @@ pub(crate) struct Stuck {
 }
 
 impl Model for Stuck {
-    ghost use Rattle.qs_core_state.specs.CoreStuck.{StuckFlags};
+    ghost use Rattle.qs_core.specs.state.CoreStuck.{StuckFlags};
 
     ghost Value = { StuckFlags };
 

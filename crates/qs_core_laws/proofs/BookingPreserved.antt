@@ -20,15 +20,15 @@ use Rattle.qs_graph.specs.Synced.{Synced, without_syncs}
 use Rattle.qs_syncset.specs.SoundSynced.{IsSoundSynced, IsOnReserved}
 use Rattle.qs_chunk.specs.LaneViews.{ObjectStance, sends, gone}
 use Rattle.qs_chunk.specs.declared.parcel.Parcel.{Parcel}
-use Rattle.qs_client_rules.specs.Client.{Client, Settings, Settlement, between, begin}
+use Rattle.qs_client.specs.rules.Client.{Client, Settings, Settlement, between, begin}
 use Rattle.qs_played.proofs.FunctionUpdate.{put_at, put_at_here, put_at_there, put_all, put_field, put_at_field}
 use Rattle.qs_played.specs.Played.{ticket}
 use Rattle.qs_played.proofs.Orders.{legal-more, counts-more}
-use Rattle.qs_protocol.proofs.ObjectViews.{as_list, HandlerLog, ahead, IsObject}
-use Rattle.qs_protocol.proofs.ClientInvariants.{objects_of_block, Lined, Leaving, PlaceOk, standing_at}
-use Rattle.qs_protocol.proofs.ClientLogs.{books_ok}
-use Rattle.qs_protocol.proofs.ObjectSteps.{enter_ok}
-use Rattle.qs_protocol.proofs.ActObjects.{settle_begun}
+use Rattle.qs_core_laws.proofs.protocol.ObjectViews.{as_list, HandlerLog, ahead, IsObject}
+use Rattle.qs_core_laws.proofs.protocol.ClientInvariants.{objects_of_block, Lined, Leaving, PlaceOk, standing_at}
+use Rattle.qs_core_laws.proofs.protocol.ClientLogs.{books_ok}
+use Rattle.qs_core_laws.proofs.protocol.ObjectSteps.{enter_ok}
+use Rattle.qs_core_laws.proofs.protocol.ActObjects.{settle_begun}
 use Rattle.qs_played.specs.JournalRooms.{fresh_held}
 use Rattle.qs_core_laws.specs.Core.{Core}
 use Rattle.qs_core_laws.proofs.CoreInvariant.{LaneHistory, post, deeds, TicketOk, CoreInvariant}

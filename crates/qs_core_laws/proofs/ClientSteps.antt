@@ -18,13 +18,13 @@ use Rattle.qs_meaning.specs.Serial.{zeros}
 use Rattle.qs_meaning.specs.BlockRecords.{BlockRecord, IsDone}
 use Rattle.qs_chunk.specs.LaneViews.{ObjectStance, asks, gone, ClientLane}
 use Rattle.qs_chunk.specs.declared.parcel.Parcel.{Parcel}
-use Rattle.qs_client_rules.specs.Client.{Client, ClientStage, between, runs, full, awaits, leaves}
+use Rattle.qs_client.specs.rules.Client.{Client, ClientStage, between, runs, full, awaits, leaves}
 use Rattle.qs_played.proofs.FunctionUpdate.{put_at, put_at_here, put_at_there, put_all, put_at_field, put_at_kept, put_kept}
 use Rattle.qs_played.specs.Played.{ticket}
-use Rattle.qs_protocol.proofs.ObjectViews.{HandlerLog, IsObject}
-use Rattle.qs_protocol.proofs.ClientInvariants.{in_hand, PlaceOk, standing_at}
-use Rattle.qs_protocol.specs.ClientHistories.{IsOpenRecord}
-use Rattle.qs_protocol.proofs.ActKinds.{in_hand_gone}
+use Rattle.qs_core_laws.proofs.protocol.ObjectViews.{HandlerLog, IsObject}
+use Rattle.qs_core_laws.proofs.protocol.ClientInvariants.{in_hand, PlaceOk, standing_at}
+use Rattle.qs_core_laws.specs.protocol.ClientHistories.{IsOpenRecord}
+use Rattle.qs_core_laws.proofs.protocol.ActKinds.{in_hand_gone}
 use Rattle.qs_played.specs.JournalRooms.{fresh_held}
 use Rattle.qs_core_laws.specs.Core.{Core}
 use Rattle.qs_core_laws.proofs.CoreInvariant.{LaneHistory, post, deeds, TicketOk, CoreInvariant}

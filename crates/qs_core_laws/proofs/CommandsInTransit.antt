@@ -23,13 +23,13 @@ use Rattle.qs_chunk.specs.declared.parcel.Parcel.{Parcel}
 use Rattle.qs_chunk.specs.LaneParts.{commands_in, lane_of}
 use Rattle.qs_chunk.specs.LaneViews as views
 use Rattle.qs_handler.specs.Handler.{Handler, free, serves, spares, gives, away, closed, serving}
-use Rattle.qs_client_rules.specs.Client.{Client, ClientStage, between, runs, full, awaits, leaves}
+use Rattle.qs_client.specs.rules.Client.{Client, ClientStage, between, runs, full, awaits, leaves}
 use Rattle.qs_played.proofs.Orders.{each_among, apart_kept, apart_both}
-use Rattle.qs_protocol.proofs.ClientInvariants.{in_hand, PlaceOk, standing_at}
-use Rattle.qs_protocol.proofs.ObjectViews.{stance, Rising, HandlerLog, ahead}
-use Rattle.qs_protocol.proofs.LaneParts.{IsEnded, AreCut, ended_back, gone_ended, lane_of_other, lane_of_own}
-use Rattle.qs_protocol.proofs.LaneWays.{gone_over}
-use Rattle.qs_protocol.proofs.LaneWholes.{IsCut, chunk_of, cut_back, sent_cut}
+use Rattle.qs_core_laws.proofs.protocol.ClientInvariants.{in_hand, PlaceOk, standing_at}
+use Rattle.qs_core_laws.proofs.protocol.ObjectViews.{stance, Rising, HandlerLog, ahead}
+use Rattle.qs_core_laws.proofs.protocol.LaneParts.{IsEnded, AreCut, ended_back, gone_ended, lane_of_other, lane_of_own}
+use Rattle.qs_core_laws.proofs.protocol.LaneWays.{gone_over}
+use Rattle.qs_core_laws.proofs.protocol.LaneWholes.{IsCut, chunk_of, cut_back, sent_cut}
 use Rattle.qs_played.specs.JournalRooms.{fresh_held}
 use Rattle.qs_core_laws.specs.Core.{Core}
 use Rattle.qs_core_laws.specs.CoreSchedule.{in_chunk, on_way, or_none}

@@ -27,22 +27,22 @@ use Rattle.qs_chunk.specs.declared.parcel.Parcel.{Parcel}
 use Rattle.qs_chunk.specs.declared.parcel.Parcel.TheVariants as parcels
 use Rattle.qs_handler.specs.Handler.{Handler, free, serves, spares, gives, away, closed, accept_next, accept_parcel, gave}
 use Rattle.qs_handler.specs.Handler as handlers
-use Rattle.qs_client_rules.specs.Client.{Client, ClientStage, Settings, Settlement, act_at, act_of, between, runs, full, awaits, leaves, begin, call_act, clear, first_client, take_object, after_parcel, take_chunk, work}
-use Rattle.qs_client_rules.specs.declared.act.Act.{Act}
-use Rattle.qs_client_rules.specs.declared.act.Act.TheVariants.{Reserve, Send, Await, NeedChunk, Finished}
+use Rattle.qs_client.specs.rules.Client.{Client, ClientStage, Settings, Settlement, act_at, act_of, between, runs, full, awaits, leaves, begin, call_act, clear, first_client, take_object, after_parcel, take_chunk, work}
+use Rattle.qs_client.specs.declared.rules.act.Act.{Act}
+use Rattle.qs_client.specs.declared.rules.act.Act.TheVariants.{Reserve, Send, Await, NeedChunk, Finished}
 use Rattle.qs_played.specs.Played.{ticket}
 use Rattle.qs_played.specs.declared.schedule.actor.Actor.{Actor}
 use Rattle.qs_played.proofs.ReservedObjects.{none_beyond}
 use Rattle.qs_played.proofs.FunctionUpdate.{put_all, put_at, put_at_there, put_kept}
 use Rattle.qs_played.specs.declared.schedule.actor.Actor.TheVariants as actor
-use Rattle.qs_protocol.proofs.ActKinds.{outside_not_send}
-use Rattle.qs_protocol.proofs.ActObjects.{sent_begun, got_begun, chunk_begun, settle_begun, not_send, not_await, not_need}
+use Rattle.qs_core_laws.proofs.protocol.ActKinds.{outside_not_send}
+use Rattle.qs_core_laws.proofs.protocol.ActObjects.{sent_begun, got_begun, chunk_begun, settle_begun, not_send, not_await, not_need}
 use Rattle.qs_chunk.specs.Limits.{lane_room, spare_room}
 use Rattle.qs_core_laws.specs.Core.{Core, client_step, core_begin, core_step, gets, gives_chunk, after_handler, handler_step, put_lane, reserves_from, settings_of, takes_chunk, takes_parcel, takes_ticket, with_down, with_tickets}
 use Rattle.qs_client.specs.ClientModel.{synced_block}
 use Rattle.qs_core_laws.specs.CoreSchedule.{core_plays}
 use Rattle.qs_played.specs.Schedule.{or_stay}
-use Rattle.qs_protocol.proofs.ProgramTrees.{blocks_are}
+use Rattle.qs_core_laws.proofs.protocol.ProgramTrees.{blocks_are}
 use Rattle.qs_core_laws.proofs.HandlerSteps.{some_is}
 use Rattle.qs_core_laws.proofs.CoreSteps.{HasInvariant, begin_kept, begun_by, is_between, step_kept}
 use Rattle.qs_core_laws.specs.Core as core

@@ -32,10 +32,10 @@ use Rattle.qs_handler.specs.Handler.{Handler, gave, accept_parcel, accept_next}
 use Rattle.qs_handler.specs.Handler as handlers
 use Rattle.qs_handler.specs.declared.mind.Act as handler_acts
 use Rattle.qs_handler.specs.declared.mind.Act.TheVariants as acts
-use Rattle.qs_client_rules.specs.Client.{Client, Settlement, between, begin, take_object, after_parcel, take_chunk}
-use Rattle.qs_client_run.specs.BlockSizes.{longest}
-use Rattle.qs_client_rules.specs.declared.act.Act.{Act}
-use Rattle.qs_client_rules.specs.declared.act.Act.TheVariants.{Reserve, Send, Await, NeedChunk, Finished}
+use Rattle.qs_client.specs.rules.Client.{Client, Settlement, between, begin, take_object, after_parcel, take_chunk}
+use Rattle.qs_client.specs.run.BlockSizes.{longest}
+use Rattle.qs_client.specs.declared.rules.act.Act.{Act}
+use Rattle.qs_client.specs.declared.rules.act.Act.TheVariants.{Reserve, Send, Await, NeedChunk, Finished}
 use Rattle.qs_played.specs.Played.{ticket}
 use Rattle.qs_played.specs.declared.schedule.actor.Actor.{Actor}
 use Rattle.qs_played.proofs.ReservedObjects.{distinct_objects, reserved_inside}
@@ -45,16 +45,16 @@ use Rattle.qs_played.proofs.FunctionUpdate.{put_all, put_at_here, put_at_there}
 use Rattle.qs_played.proofs.JournalRooms.{no_block_beyond}
 use Rattle.qs_played.proofs.SyncLists.{legal_blocks, sum_tickets, sum_up, sum_zero, sum_of, total_of}
 use Rattle.qs_played.specs.declared.schedule.actor.Actor.TheVariants as actor
-use Rattle.qs_protocol.proofs.ActObjects.{not_send, not_await, not_need, send_at, settle_begun, sent_begun, got_begun, chunk_begun}
-use Rattle.qs_protocol.proofs.ClientCounts.{CountAt, Counts, Even, Over, chunk_counts, count_up, got_counts, send_counts, settle_counts}
-use Rattle.qs_protocol.proofs.ClientInvariants.{PlaceOk, Leaving}
-use Rattle.qs_protocol.proofs.ObjectViews.{HandlerLog}
+use Rattle.qs_core_laws.proofs.protocol.ActObjects.{not_send, not_await, not_need, send_at, settle_begun, sent_begun, got_begun, chunk_begun}
+use Rattle.qs_core_laws.proofs.protocol.ClientCounts.{CountAt, Counts, Even, Over, chunk_counts, count_up, got_counts, send_counts, settle_counts}
+use Rattle.qs_core_laws.proofs.protocol.ClientInvariants.{PlaceOk, Leaving}
+use Rattle.qs_core_laws.proofs.protocol.ObjectViews.{HandlerLog}
 use Rattle.qs_chunk.specs.Limits.{lane_room, spare_room}
 use Rattle.qs_core_laws.specs.Core.{Core, client_step, core_begin, core_step, gets, gives, gives_chunk, after_handler, handler_step, handles, lies, put_ticket, after_reserve, reserves_from, sends, settings_of, after_act, takes_chunk, takes_parcel, takes_ticket, with_down, with_spare, with_tickets, with_up}
 use Rattle.qs_client.specs.ClientModel.{synced_block}
 use Rattle.qs_core_laws.specs.CoreSchedule.{core_plays}
 use Rattle.qs_played.specs.Schedule.{or_stay}
-use Rattle.qs_client_run.proofs.CodeBounds.{longest_covers}
+use Rattle.qs_client.proofs.run.CodeBounds.{longest_covers}
 use Rattle.qs_core_laws.proofs.CoreInvariant.{LaneHistory, CoreInvariant}
 use Rattle.qs_core_laws.proofs.CoreSteps.{HasInvariant, begin_kept, begun_by, has_more, is_between, next_of, step_kept}
 use Rattle.qs_core_laws.proofs.HandlerSteps.{some_is}

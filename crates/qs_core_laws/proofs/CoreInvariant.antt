@@ -13,12 +13,12 @@ use Rattle.qs_meaning.specs.Serial.{IsLegal, zeros}
 use Rattle.qs_meaning.specs.BlockRecords.{BlockRecord, Begins, IsDone}
 use Rattle.qs_chunk.specs.LaneViews.{ObjectStance, gone, ClientLane}
 use Rattle.qs_chunk.specs.declared.parcel.Parcel.{Parcel}
-use Rattle.qs_client_rules.specs.Client.{between}
+use Rattle.qs_client.specs.rules.Client.{between}
 use Rattle.qs_played.specs.Played.{ticket}
 use Rattle.qs_played.proofs.Orders.{counts_after}
-use Rattle.qs_protocol.proofs.ClientInvariants.{PlaceOk, standing_at}
-use Rattle.qs_protocol.specs.ClientHistories.{HasNone, IsOpenRecord}
-use Rattle.qs_protocol.proofs.ObjectViews.{as_list, ObjectView, ClientLog, HandlerLog, IsObject}
+use Rattle.qs_core_laws.proofs.protocol.ClientInvariants.{PlaceOk, standing_at}
+use Rattle.qs_core_laws.specs.protocol.ClientHistories.{HasNone, IsOpenRecord}
+use Rattle.qs_core_laws.proofs.protocol.ObjectViews.{as_list, ObjectView, ClientLog, HandlerLog, IsObject}
 use Rattle.qs_played.specs.JournalRooms.{fresh_held}
 use Rattle.qs_core_laws.specs.Core.{Core}
 

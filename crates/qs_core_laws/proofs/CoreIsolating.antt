@@ -18,7 +18,7 @@ use Rattle.qs_meaning.specs.BlockRecords.{IsDone}
 use Rattle.qs_meaning.proofs.SerialRuns.{line}
 use Rattle.qs_meaning.specs.Interaction as tree
 use Rattle.qs_handler.specs.Handler.{Handler, free, serves, spares, gives, away, closed, is_free, serving}
-use Rattle.qs_client_rules.specs.Client.{ClientStage, between, runs, full, awaits, leaves}
+use Rattle.qs_client.specs.rules.Client.{ClientStage, between, runs, full, awaits, leaves}
 use Rattle.qs_client.specs.ClientModel.{is_between, has_ended}
 use Rattle.qs_played.specs.Isolation.{IsIsolated, journal_of, state_of, ticket_at, trace_of}
 use Rattle.qs_played.specs.Played.{ticket}
@@ -26,11 +26,11 @@ use Rattle.qs_played.specs.Played.{Played}
 use Rattle.qs_played.proofs.Orders.{each_among, legal_among}
 use Rattle.qs_played.proofs.AbstractRun.{IsRun, run_isolated}
 use Rattle.qs_played.proofs.JournalRooms.{no_block_beyond}
-use Rattle.qs_protocol.proofs.ClientInvariants.{PlaceOk}
-use Rattle.qs_protocol.proofs.ObjectViews.{HandlerLog, ahead}
+use Rattle.qs_core_laws.proofs.protocol.ClientInvariants.{PlaceOk}
+use Rattle.qs_core_laws.proofs.protocol.ObjectViews.{HandlerLog, ahead}
 use Rattle.qs_core_laws.specs.Core.{Core, core_begin}
 use Rattle.qs_core_laws.specs.CoreSchedule.{CoreRunsAreIsolated, all_of, core_played, core_plays, held_now, held_or_none, is_done, is_finished, is_idle, on_way}
-use Rattle.qs_protocol.proofs.ReservedLists.{lined}
+use Rattle.qs_core_laws.proofs.protocol.ReservedLists.{lined}
 use Rattle.qs_core_laws.proofs.JournalOrder.{goes}
 use Rattle.qs_core_laws.proofs.CoreInvariant.{LaneHistory, post, TicketOk, CoreInvariant}
 use Rattle.qs_core_laws.proofs.CoreObjects.{now, object_found}

@@ -19,10 +19,10 @@ use Rattle.qs_chunk.specs.LaneParts.{away_at}
 use Rattle.qs_chunk.specs.LaneViews as views
 use Rattle.qs_chunk.specs.declared.parcel.Parcel.TheVariants as parcels
 use Rattle.qs_handler.specs.Handler.{Handler, free, serves, spares, gives, away, closed, serving}
-use Rattle.qs_client_rules.specs.Client.{Client, ClientStage, between, runs, full, awaits, leaves}
-use Rattle.qs_protocol.proofs.ObjectViews.{stance, as_list, HandlerLog, ahead}
-use Rattle.qs_protocol.proofs.ClientInvariants.{in_hand, objects_of_block, Lined, standing_at}
-use Rattle.qs_protocol.proofs.LaneWays.{LastOf, none_of}
+use Rattle.qs_client.specs.rules.Client.{Client, ClientStage, between, runs, full, awaits, leaves}
+use Rattle.qs_core_laws.proofs.protocol.ObjectViews.{stance, as_list, HandlerLog, ahead}
+use Rattle.qs_core_laws.proofs.protocol.ClientInvariants.{in_hand, objects_of_block, Lined, standing_at}
+use Rattle.qs_core_laws.proofs.protocol.LaneWays.{LastOf, none_of}
 use Rattle.qs_core_laws.specs.Core.{Core}
 use Rattle.qs_core_laws.proofs.CoreInvariant.{LaneHistory, post, CoreInvariant}
 use Rattle.qs_core_laws.specs.CoreSchedule.{found_by}

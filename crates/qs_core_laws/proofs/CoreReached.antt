@@ -30,23 +30,23 @@ use Rattle.qs_chunk.specs.declared.parcel.Parcel.TheVariants as parcels
 use Rattle.qs_handler.specs.Handler.{Handler, free, serves, spares, gives, away, closed, is_away, serving}
 use Rattle.qs_handler.specs.Handler as handlers
 use Rattle.qs_handler.specs.declared.mind.Act.TheVariants as acts
-use Rattle.qs_client_rules.specs.Client.{act_of, between}
-use Rattle.qs_client_rules.specs.declared.act.Act.{Act}
-use Rattle.qs_client_rules.specs.declared.act.Act.TheVariants as wants
+use Rattle.qs_client.specs.rules.Client.{act_of, between}
+use Rattle.qs_client.specs.declared.rules.act.Act.{Act}
+use Rattle.qs_client.specs.declared.rules.act.Act.TheVariants as wants
 use Rattle.qs_played.specs.Played.{ticket}
 use Rattle.qs_played.specs.declared.schedule.actor.Actor.{Actor}
 use Rattle.qs_played.proofs.ReservedObjects.{reserved_inside}
 use Rattle.qs_played.proofs.Orders.{apart_kept, counts_after}
 use Rattle.qs_played.proofs.JournalRooms.{no_block_beyond, sum_changed, sum_same}
-use Rattle.qs_protocol.proofs.ActObjects.{await_at, need_at, not_await, not_need, not_send, send_at}
-use Rattle.qs_protocol.proofs.LaneWays.{MayCome}
-use Rattle.qs_protocol.proofs.ObjectViews.{HandlerLog, PastOf}
+use Rattle.qs_core_laws.proofs.protocol.ActObjects.{await_at, need_at, not_await, not_need, not_send, send_at}
+use Rattle.qs_core_laws.proofs.protocol.LaneWays.{MayCome}
+use Rattle.qs_core_laws.proofs.protocol.ObjectViews.{HandlerLog, PastOf}
 use Rattle.qs_played.specs.JournalRooms.{fresh_held}
 use Rattle.qs_core_laws.specs.Core.{Core, client_step, core_begin, settings_of}
 use Rattle.qs_core_laws.specs.CoreSchedule.{before_it, core_plays, found_by}
 use Rattle.qs_core_laws.specs.CoreReached.{NextStands, IsBegun, HandlersServe, ClientsAsk, TicketsStand, OthersRest, CoreStands, ReachedCore}
 use Rattle.qs_core_laws.proofs.CoreBounds.{CoreBounded, run_both}
-use Rattle.qs_protocol.proofs.ReservedLists.{lined}
+use Rattle.qs_core_laws.proofs.protocol.ReservedLists.{lined}
 use Rattle.qs_core_laws.proofs.CoreInvariant.{LaneHistory, CoreInvariant}
 use Rattle.qs_core_laws.proofs.CoreObjects.{object_found}
 use Rattle.qs_core_laws.proofs.CoreSteps.{begun_by}

@@ -19,14 +19,14 @@ use Rattle.qs_chunk.specs.LaneViews.{sends}
 use Rattle.qs_chunk.specs.declared.parcel.Parcel.{Parcel}
 use Rattle.qs_handler.specs.Handler.{Handler, free, serves, spares, gives, away, closed, accept_next, accept_parcel, gave}
 use Rattle.qs_handler.specs.Handler as handlers
-use Rattle.qs_client_rules.specs.Client.{Settlement, act_of, act_at, between, after_parcel, take_object, take_chunk, begin}
-use Rattle.qs_client_rules.specs.declared.act.Act.{Act}
-use Rattle.qs_client_rules.specs.declared.act.Act.TheVariants.{Reserve, Send, Await, NeedChunk, Finished}
+use Rattle.qs_client.specs.rules.Client.{Settlement, act_of, act_at, between, after_parcel, take_object, take_chunk, begin}
+use Rattle.qs_client.specs.declared.rules.act.Act.{Act}
+use Rattle.qs_client.specs.declared.rules.act.Act.TheVariants.{Reserve, Send, Await, NeedChunk, Finished}
 use Rattle.qs_played.specs.Played.{ticket}
 use Rattle.qs_played.specs.declared.schedule.actor.Actor.{Actor}
 use Rattle.qs_played.specs.declared.schedule.actor.Actor.TheVariants as actor
-use Rattle.qs_protocol.proofs.ObjectViews.{HandlerLog}
-use Rattle.qs_protocol.proofs.ActObjects.{not_send, not_await, not_need, reserve_at}
+use Rattle.qs_core_laws.proofs.protocol.ObjectViews.{HandlerLog}
+use Rattle.qs_core_laws.proofs.protocol.ActObjects.{not_send, not_await, not_need, reserve_at}
 use Rattle.qs_played.specs.JournalRooms.{fresh_held}
 use Rattle.qs_chunk.specs.Limits.{lane_room, spare_room}
 use Rattle.qs_core_laws.specs.Core.{Core, client_step, core_begin, core_step, gets, gives_chunk, after_handler, handler_step, handles, lies, put_lane, reserves_from, settings_of, after_act, syncs_after, takes_chunk, takes_parcel, takes_ticket, with_down, with_spare, with_tickets, with_up}
@@ -34,8 +34,8 @@ use Rattle.qs_client.specs.ClientModel.{synced_block}
 use Rattle.qs_core_laws.specs.CoreSchedule.{core_plays}
 use Rattle.qs_played.specs.Schedule.{or_stay}
 use Rattle.qs_core_laws.proofs.CoreInvariant.{LaneHistory, CoreInvariant}
-use Rattle.qs_protocol.proofs.ReservedLists.{lined}
-use Rattle.qs_protocol.proofs.ProgramTrees.{blocks_are, reserved_is, block_walk}
+use Rattle.qs_core_laws.proofs.protocol.ReservedLists.{lined}
+use Rattle.qs_core_laws.proofs.protocol.ProgramTrees.{blocks_are, reserved_is, block_walk}
 use Rattle.qs_core_laws.proofs.HandlerSteps.{some_is, take_kept, serves_kept, away_kept, give_kept, spare_kept}
 use Rattle.qs_core_laws.proofs.SendingPreserved.{send_kept, get_kept, chunk_kept}
 use Rattle.qs_core_laws.proofs.BookingPreserved.{reserve_kept}

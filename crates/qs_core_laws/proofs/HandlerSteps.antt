@@ -19,10 +19,10 @@ use Rattle.qs_chunk.specs.declared.parcel.Parcel.TheVariants as parcels
 use Rattle.qs_handler.specs.Handler.{Handler, free, serves, spares, gives, away, serving, accept_parcel}
 use Rattle.qs_played.proofs.FunctionUpdate.{put_at, put_field}
 use Rattle.qs_played.proofs.Orders.{each_among}
-use Rattle.qs_protocol.proofs.ObjectViews.{stance, as_list, ObjectView, HandlerLog, ahead, IsObject, IsClientLog}
-use Rattle.qs_protocol.proofs.LaneMoves.{HandlerGoes, handler_work, handler_sync, handler_home}
-use Rattle.qs_protocol.proofs.LaneWays.{MayCome}
-use Rattle.qs_protocol.proofs.ObjectSteps.{take_ok, give_ok, spare_ok, way_head, may_come, parcel_on, parcel_end}
+use Rattle.qs_core_laws.proofs.protocol.ObjectViews.{stance, as_list, ObjectView, HandlerLog, ahead, IsObject, IsClientLog}
+use Rattle.qs_core_laws.proofs.protocol.LaneMoves.{HandlerGoes, handler_work, handler_sync, handler_home}
+use Rattle.qs_core_laws.proofs.protocol.LaneWays.{MayCome}
+use Rattle.qs_core_laws.proofs.protocol.ObjectSteps.{take_ok, give_ok, spare_ok, way_head, may_come, parcel_on, parcel_end}
 use Rattle.qs_played.specs.JournalRooms.{fresh_held}
 use Rattle.qs_core_laws.specs.Core.{Core, put_lane}
 use Rattle.qs_core_laws.proofs.CoreInvariant.{LaneHistory, post, deeds, TicketOk, CoreInvariant}

@@ -24,9 +24,9 @@ use Rattle.qs_chunk.specs.LaneParts.{commands_in}
 use Rattle.qs_handler.specs.Handler.{Handler, free, serves, spares, gives, away, closed, serving}
 use Rattle.qs_played.specs.JournalRooms.{fresh_held, room_of}
 use Rattle.qs_played.proofs.JournalRooms.{all_left, cost, leads_within, order_fits, total, total_less}
-use Rattle.qs_protocol.proofs.LaneWholes.{chunk_of, match_over, match_whole, waits_are}
-use Rattle.qs_protocol.proofs.ObjectViews.{stance, as_list, HandlerLog, PastOf, ahead}
-use Rattle.qs_protocol.proofs.GrownJournals.{grown, grown_room, stamped_honest, stamped_replay}
+use Rattle.qs_core_laws.proofs.protocol.LaneWholes.{chunk_of, match_over, match_whole, waits_are}
+use Rattle.qs_core_laws.proofs.protocol.ObjectViews.{stance, as_list, HandlerLog, PastOf, ahead}
+use Rattle.qs_core_laws.proofs.protocol.GrownJournals.{grown, grown_room, stamped_honest, stamped_replay}
 use Rattle.qs_core_laws.specs.Core.{Core}
 use Rattle.qs_core_laws.specs.CoreSchedule.{on_way}
 use Rattle.qs_core_laws.proofs.CoreInvariant.{LaneHistory, post, TicketOk, CoreInvariant}

@@ -15,7 +15,7 @@ use Rattle.qs_chunk.specs.LaneViews.{ObjectStance, gone, ClientLane}
 use Rattle.qs_chunk.specs.declared.parcel.Parcel.{Parcel}
 use Rattle.qs_played.specs.Played.{ticket}
 use Rattle.qs_played.proofs.FunctionUpdate.{put_at, put_at_here, put_at_there}
-use Rattle.qs_protocol.specs.ClientHistories.{IsOpenRecord}
+use Rattle.qs_core_laws.specs.protocol.ClientHistories.{IsOpenRecord}
 use Rattle.qs_core_laws.proofs.CoreInvariant.{LaneHistory, TicketOk}
 
 -- a client's last ticket comes before none of its tickets

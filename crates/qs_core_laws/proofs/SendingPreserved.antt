@@ -21,19 +21,19 @@ use Rattle.qs_program.specs.Program.{ProgramShape}
 use Rattle.qs_chunk.specs.LaneViews.{ObjectStance, asks, gone, ClientLane}
 use Rattle.qs_chunk.specs.declared.parcel.Parcel.{Parcel}
 use Rattle.qs_handler.specs.Handler.{serving}
-use Rattle.qs_client_rules.specs.Client.{Client, Settings, Settlement, act_of, after_parcel, take_chunk}
-use Rattle.qs_client_rules.specs.declared.act.Act.TheVariants.{Send, Await, NeedChunk}
-use Rattle.qs_client_rules.specs.Client as clients
+use Rattle.qs_client.specs.rules.Client.{Client, Settings, Settlement, act_of, after_parcel, take_chunk}
+use Rattle.qs_client.specs.declared.rules.act.Act.TheVariants.{Send, Await, NeedChunk}
+use Rattle.qs_client.specs.rules.Client as clients
 use Rattle.qs_played.proofs.FunctionUpdate.{put_at, put_at_here, put_at_there}
 use Rattle.qs_played.specs.Played.{ticket}
 use Rattle.qs_played.proofs.Orders.{legal_among}
-use Rattle.qs_protocol.proofs.ObjectViews.{as_list, PastOf, ObjectView, ClientLog, HandlerLog, ahead, IsObject}
-use Rattle.qs_protocol.proofs.ClientInvariants.{objects_of_block, Lined, PlaceOk}
-use Rattle.qs_protocol.proofs.LaneWays.{LastOf}
-use Rattle.qs_protocol.proofs.LaneWholes.{match_over}
-use Rattle.qs_protocol.proofs.ClientLogs.{sends_ok, gets_ok, chunks_ok}
-use Rattle.qs_protocol.proofs.ActObjects.{send_at, await_at, sent_begun, got_begun, chunk_begun}
-use Rattle.qs_protocol.proofs.ObjectSteps.{send_ok, got_ok, last_of, up_serving}
+use Rattle.qs_core_laws.proofs.protocol.ObjectViews.{as_list, PastOf, ObjectView, ClientLog, HandlerLog, ahead, IsObject}
+use Rattle.qs_core_laws.proofs.protocol.ClientInvariants.{objects_of_block, Lined, PlaceOk}
+use Rattle.qs_core_laws.proofs.protocol.LaneWays.{LastOf}
+use Rattle.qs_core_laws.proofs.protocol.LaneWholes.{match_over}
+use Rattle.qs_core_laws.proofs.protocol.ClientLogs.{sends_ok, gets_ok, chunks_ok}
+use Rattle.qs_core_laws.proofs.protocol.ActObjects.{send_at, await_at, sent_begun, got_begun, chunk_begun}
+use Rattle.qs_core_laws.proofs.protocol.ObjectSteps.{send_ok, got_ok, last_of, up_serving}
 use Rattle.qs_played.specs.JournalRooms.{fresh_held}
 use Rattle.qs_core_laws.specs.Core.{Core, put_lane}
 use Rattle.qs_core_laws.proofs.CoreInvariant.{LaneHistory, post, deeds, TicketOk, CoreInvariant}

@@ -20,10 +20,10 @@ use Rattle.qs_handler.specs.Handler.{Handler, free, gave, accept_parcel, accept_
 use Rattle.qs_handler.specs.Handler as handlers
 use Rattle.qs_handler.specs.declared.mind.Act as handler_acts
 use Rattle.qs_handler.specs.declared.mind.Act.TheVariants as acts
-use Rattle.qs_client_rules.specs.Client.{Client, ClientStage, Settings, Settlement, act_of, between, runs, full, awaits, leaves, begin, first_client, take_object, after_parcel, take_chunk}
+use Rattle.qs_client.specs.rules.Client.{Client, ClientStage, Settings, Settlement, act_of, between, runs, full, awaits, leaves, begin, first_client, take_object, after_parcel, take_chunk}
 use Rattle.qs_client.specs.ClientModel.{synced_block}
-use Rattle.qs_client_rules.specs.declared.act.Act as client_acts
-use Rattle.qs_client_rules.specs.declared.act.Act.TheVariants as wants
+use Rattle.qs_client.specs.declared.rules.act.Act as client_acts
+use Rattle.qs_client.specs.declared.rules.act.Act.TheVariants as wants
 use Rattle.qs_played.specs.JournalRooms.{fresh_held}
 use Rattle.qs_played.specs.Played.{ticket}
 use Rattle.qs_played.specs.declared.schedule.actor.Actor.{Actor}

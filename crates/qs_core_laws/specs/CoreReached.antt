@@ -14,8 +14,8 @@ use Rattle.qs_chunk.specs.declared.parcel.Parcel.{Parcel}
 use Rattle.qs_handler.specs.Handler.{free, closed, is_away}
 use Rattle.qs_handler.specs.Handler as handlers
 use Rattle.qs_handler.specs.declared.mind.Act.TheVariants as acts
-use Rattle.qs_client_rules.specs.Client.{act_of, first_client}
-use Rattle.qs_client_rules.specs.declared.act.Act.TheVariants as wants
+use Rattle.qs_client.specs.rules.Client.{act_of, first_client}
+use Rattle.qs_client.specs.declared.rules.act.Act.TheVariants as wants
 use Rattle.qs_played.specs.declared.schedule.actor.Actor.TheVariants as actor
 use Rattle.qs_played.specs.JournalRooms.{fresh_held}
 use Rattle.qs_core_laws.specs.Core.{Core, core_step, settings_of}

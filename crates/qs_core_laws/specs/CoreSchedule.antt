@@ -11,7 +11,7 @@ use Rattle.qs_syncset.specs.declared.mode.Mode.{Mode}
 use Rattle.qs_syncset.specs.Codes.{ClientCode, AreCodes}
 use Rattle.qs_chunk.specs.LaneParts.{away_at, commands_in, lane_of}
 use Rattle.qs_handler.specs.Handler.{Handler, free, serves, spares, gives, away, closed, serving, is_free}
-use Rattle.qs_client_rules.specs.Client.{Client}
+use Rattle.qs_client.specs.rules.Client.{Client}
 use Rattle.qs_client.specs.ClientModel.{is_between, has_ended}
 use Rattle.qs_played.specs.Isolation.{IsIsolated}
 use Rattle.qs_played.specs.Schedule.{schedule, plays_by, IsPlayedAs}

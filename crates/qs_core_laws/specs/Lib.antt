@@ -6,3 +6,6 @@ pub mod CoalescedExamples
 pub mod CoreExamples
 pub mod CoreReached
 pub mod CoreSyncSums
+pub mod protocol
+pub mod orders
+pub mod progress

@@ -3,3 +3,6 @@
 #![tactic(auto)]
 
 pub mod laws;
+pub mod orders;
+pub mod progress;
+pub mod protocol;

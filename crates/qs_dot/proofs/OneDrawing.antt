@@ -4,8 +4,8 @@ use Rattle.std.proofs.Common.{◌≡◌, ℕ, Bool, List, ◌++◌, codes, sym, 
 use Rattle.qs_program.specs.Program.{ProgramShape, own_block}
 use Rattle.qs_program.specs.Sound.{IsSound}
 use Rattle.qs_graph.specs.Names.{graph_of}
-use Rattle.qs_held_sets.specs.Table.{AreSetsOf}
-use Rattle.qs_node_lines.specs.NodeLines.{lines_of_block}
+use Rattle.qs_syncset.specs.held.Table.{AreSetsOf}
+use Rattle.qs_dot.specs.node_lines.NodeLines.{lines_of_block}
 use Rattle.qs_text.proofs.BlockTexts.{one_block, one_of_blocks, same_nodes}
 use Rattle.qs_dot.specs.DotText.{node_text, frame_text, graph_nodes_drawn, IsBlockDrawn, IsDotText, DotTextsAreUnique}
 

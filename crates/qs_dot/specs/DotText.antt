@@ -9,7 +9,7 @@ use Rattle.qs_graph.specs.Nodes.{GraphNode}
 use Rattle.qs_text.specs.Blocks.{AreBlocks, IsBlock, NodeText, NodesText, node_at}
 use Rattle.qs_text.specs.Texts.{list_text, texts_up_to}
 use Rattle.qs_text.specs.Words.{name_of}
-use Rattle.qs_node_lines.specs.NodeLines.{lines_of_block}
+use Rattle.qs_dot.specs.node_lines.NodeLines.{lines_of_block}
 use Rattle.qs_dot.specs.Written.{written}
 
 -- the outline of a node, by its kind

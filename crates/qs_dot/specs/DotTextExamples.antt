@@ -2,8 +2,8 @@
 use Rattle.std.specs.Prelude.{◌≡◌, List, [], ◌∷◌, codes, pos, negsuc, None}
 use Rattle.qs_objects.specs.declared.Op.TheVariants.{SetCell}
 use Rattle.qs_objects.specs.declared.object.Kind.TheVariants.{Account}
-use Rattle.qs_tree.specs.declared.tree.Operator.TheVariants.{Minus}
-use Rattle.qs_tree.specs.declared.tree.Relation.TheVariants.{AtLeast}
+use Rattle.qs_script.specs.declared.tree.tree.Operator.TheVariants.{Minus}
+use Rattle.qs_script.specs.declared.tree.tree.Relation.TheVariants.{AtLeast}
 use Rattle.qs_program.specs.declared.code.Atom.TheVariants.{Variable, Number}
 use Rattle.qs_program.specs.declared.code.Call as calls
 use Rattle.qs_program.specs.declared.code.Expr.TheVariants.{Binary}

@@ -7,3 +7,4 @@ pub mod ChartDot
 -- What crates promise one another, what proofs use, and worked examples.
 pub mod DotTextExamples
 pub mod ChartLaws
+pub mod node_lines

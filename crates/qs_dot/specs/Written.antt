@@ -3,10 +3,10 @@ use Rattle.std.specs.Prelude.{ℕ, List, [], ◌++◌, codes, decimal, slice_ind
 use Rattle.std.specs.Fmt.{signed_decimal}
 use Rattle.std.specs.List.{join_by}
 use Rattle.qs_objects.specs.declared.Op.{Op}
-use Rattle.qs_tree.specs.declared.tree.Operator.{Operator}
-use Rattle.qs_tree.specs.declared.tree.Operator.TheVariants.{Plus, Minus, Times}
-use Rattle.qs_tree.specs.declared.tree.Relation.{Relation}
-use Rattle.qs_tree.specs.declared.tree.Relation.TheVariants.{Equal, Unequal, Less, AtMost, Greater, AtLeast}
+use Rattle.qs_script.specs.declared.tree.tree.Operator.{Operator}
+use Rattle.qs_script.specs.declared.tree.tree.Operator.TheVariants.{Plus, Minus, Times}
+use Rattle.qs_script.specs.declared.tree.tree.Relation.{Relation}
+use Rattle.qs_script.specs.declared.tree.tree.Relation.TheVariants.{Equal, Unequal, Less, AtMost, Greater, AtLeast}
 use Rattle.qs_program.specs.declared.code.Atom.{Atom}
 use Rattle.qs_program.specs.declared.code.Atom.TheVariants.{Variable, Number}
 use Rattle.qs_program.specs.declared.code.Expr.{Expr}

@@ -1,12 +1,12 @@
 // The drawing of a program: each block in a frame of its own.
 
 ghost use Rattle.std.specs.Prelude.{◌≡◌, ◌++◌, codes, decimal, IfOk, OnOk};
-ghost use Rattle.qs_node_lines.specs.NodeLines.{lines_of_block};
+ghost use Rattle.qs_dot.specs.node_lines.NodeLines.{lines_of_block};
 ghost use Rattle.qs_dot.specs.DotText.{IsDotText, block_name, frame_head, frame_text, graph_nodes_drawn};
 
+use crate::node_lines::NodeLines;
 use crate::nodes::put_all_nodes;
 use itoa::Buffer;
-use qs_node_lines::NodeLines;
 use qs_objects::Ticket;
 use qs_program::Program;
 use qs_text::{Block, BlockWriter, client_name, put, put_all, put_blocks};

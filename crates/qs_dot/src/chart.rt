@@ -5,7 +5,7 @@ ghost use Rattle.qs_serial.specs.NamedOrders.{order_of};
 ghost use Rattle.qs_meaning.specs.Serial.{IsLegal};
 ghost use Rattle.qs_meaning.specs.Reduced.{goes_on};
 ghost use Rattle.qs_dot.specs.Charts.{AreCharted, AreLeads, AreLeadsUpTo, AreMore, ArePlaces, IsPlaced, IsRowPlaced};
-ghost use Rattle.qs_going.specs.Going.{AreLast, in_byte};
+ghost use Rattle.qs_standings.specs.going.Going.{AreLast, in_byte};
 ghost use Rattle.qs_outcomes.specs.Outcomes.{HasMoreThanAfter};
 ghost use Rattle.qs_standings.specs.Rows.{rows_in, shape_of};
 ghost use Rattle.qs_standings.specs.Standings.{GoesOn, IsFirst, IsNext, IsStanding, StandingShape, configuration_in};

@@ -10,6 +10,7 @@ mod chart;
 mod chart_text;
 mod end_text;
 pub mod laws;
+pub mod node_lines;
 mod nodes;
 mod written;
 

@@ -8,8 +8,8 @@ use itoa::Buffer;
 use qs_graph::{Action, Choice, Node};
 use qs_objects::Op;
 use qs_program::{Atom, Atoms, Call, Expr, Names, Program, Test};
+use qs_script::tree::{Operator, Relation};
 use qs_text::{declared_name, put, put_all, put_number, variable_name};
-use qs_tree::{Operator, Relation};
 use std::alloc::AllocError;
 
 fn operator_word(operator: Operator) -> &'static [u8]

@@ -1,7 +1,7 @@
 -- Blocks and their graphs.
 use Rattle.std.specs.Prelude.{◌≡◌, [], ◌∷◌, pos, true, false}
 use Rattle.qs_objects.specs.declared.Op.TheVariants.{Balance, Deposit}
-use Rattle.qs_tree.specs.declared.tree.Relation.TheVariants.{Less}
+use Rattle.qs_script.specs.declared.tree.tree.Relation.TheVariants.{Less}
 use Rattle.qs_program.specs.declared.code.Call as calls
 use Rattle.qs_program.specs.declared.code.Test as tests
 use Rattle.qs_program.specs.declared.code.Expr.{Expr}

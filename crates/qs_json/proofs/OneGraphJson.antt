@@ -4,7 +4,7 @@ use Rattle.std.proofs.Common.{◌≡◌, ℕ, Bool, List, ◌++◌, codes, ap}
 use Rattle.qs_program.specs.Program.{ProgramShape, own_block}
 use Rattle.qs_program.specs.Sound.{IsSound}
 use Rattle.qs_graph.specs.Names.{graph_of}
-use Rattle.qs_held_sets.specs.Table.{AreSetsOf}
+use Rattle.qs_syncset.specs.held.Table.{AreSetsOf}
 use Rattle.qs_text.proofs.BlockTexts.{one_block, one_of_blocks, same_nodes}
 use Rattle.qs_json.specs.Pieces.{comma_at, field}
 use Rattle.qs_json.specs.GraphJson.{graph_nodes_json, node_json, owner_json, IsBlockJson, IsGraphJson, GraphJsonIsUnique}

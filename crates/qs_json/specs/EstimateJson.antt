@@ -1,6 +1,6 @@
 -- How many configurations a search can have: one object on a line.
 use Rattle.std.specs.Prelude.{ℕ, List, ◌++◌, codes, decimal, Option, Some, None}
-use Rattle.qs_estimate.specs.declared.estimate.Estimate.{Estimate}
+use Rattle.qs_outcomes.specs.declared.estimate.estimate.Estimate.{Estimate}
 use Rattle.qs_json.specs.Pieces.{field, first_field}
 
 -- a bound; null where it is over the greatest that is told

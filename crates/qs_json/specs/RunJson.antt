@@ -11,9 +11,9 @@ use Rattle.qs_objects.specs.declared.object.Kind.TheVariants as kinds
 use Rattle.qs_program.specs.Values.{Locals}
 use Rattle.qs_program.specs.Program.{ClientShape, ProgramShape, object_at, client_at, whole_load, whole_weight}
 use Rattle.qs_played.specs.Played.{Played}
-use Rattle.qs_fates.specs.Fates.{trace_fates}
-use Rattle.qs_fates.specs.declared.fate.Fate.{Fate}
-use Rattle.qs_fates.specs.declared.fate.Fate.TheVariants.{Done, Refused, NoValue}
+use Rattle.qs_text.specs.fates.Fates.{trace_fates}
+use Rattle.qs_text.specs.declared.fates.fate.Fate.{Fate}
+use Rattle.qs_text.specs.declared.fates.fate.Fate.TheVariants.{Done, Refused, NoValue}
 use Rattle.qs_sync_counts.specs.declared.sync_counts.SyncCount.{SyncCount}
 use Rattle.qs_text.specs.Words.{first_ticket, no_state}
 use Rattle.qs_objects.specs.Operations.{word}

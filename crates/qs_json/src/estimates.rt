@@ -5,7 +5,7 @@ ghost use Rattle.qs_text.specs.Texts.{Puts};
 ghost use Rattle.qs_json.specs.Pieces.{first_field};
 ghost use Rattle.qs_json.specs.EstimateJson.{bound_or_null, estimate_json as json_of_estimate};
 
-use qs_estimate::Estimate;
+use qs_outcomes::estimate::Estimate;
 use qs_text::{put_count, put_word};
 use std::alloc::{AllocError, Global};
 

@@ -9,9 +9,9 @@ ghost use Rattle.qs_json.specs.Pieces.{array, element, field, quoted};
 ghost use Rattle.qs_json.specs.RunJson.{event_json, fate_json, reply_json, request_json, trace_json};
 
 use crate::pieces::{put_comma, put_integer, put_object_name, put_string};
-use qs_fates::Fate;
 use qs_objects::{Event, Op};
 use qs_program::Program;
+use qs_text::fates::Fate;
 use qs_text::put_word;
 use std::alloc::AllocError;
 

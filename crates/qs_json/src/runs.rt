@@ -3,7 +3,7 @@
 ghost use Rattle.std.specs.Prelude.{◌≡◌, ◌<◌, [], IfOk, IfSome, OnOk, codes, false, length, option_map, slice_index_or};
 ghost use Rattle.std.specs.List.{join_by};
 ghost use Rattle.qs_sync_counts.specs.SyncRows.{sync_count};
-ghost use Rattle.qs_fates.specs.Fates.{all_fates, trace_fates as fates_in};
+ghost use Rattle.qs_text.specs.fates.Fates.{all_fates, trace_fates as fates_in};
 ghost use Rattle.qs_outcomes.specs.Outcomes.{HasPlaces};
 ghost use Rattle.qs_standings.specs.Standings.{configuration_in};
 ghost use Rattle.qs_text.specs.Words.{first_ticket};
@@ -17,11 +17,11 @@ use crate::events::put_trace;
 use crate::outcomes::put_clients;
 use crate::pieces::{put_client_name, put_comma, put_object_name, put_truth};
 use crate::states::put_state;
-use qs_fates::{JournalFates, journal_fates, trace_fates};
 use qs_objects::Ticket;
 use qs_played::Played;
 use qs_program::Program;
 use qs_standings::Standing;
+use qs_text::fates::{JournalFates, journal_fates, trace_fates};
 use qs_text::{object_name, put_count, put_word};
 use std::alloc::{AllocError, Global};
 

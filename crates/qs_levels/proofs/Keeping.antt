@@ -15,10 +15,10 @@ use Rattle.qs_standings.specs.Standings.{IsNext, IsStanding, StandingShape, conf
 use Rattle.qs_standings.proofs.Lists.{has_back, has_front, has_of, none_of, pairs_join, two_snoc}
 use Rattle.qs_standings.proofs.RowTells.{row_tells}
 use Rattle.qs_levels.specs.Founds.{Found, found_in, no_standing}
-use Rattle.qs_level_laws.specs.Onward.{IsReached, StandsFor, order_on}
+use Rattle.qs_levels.specs.meaning.Onward.{IsReached, StandsFor, order_on}
 use Rattle.qs_levels.specs.Leads.{AreKept, IsLead, IsLedOn, IsLedUpTo, IsTableOf, TableShape, leads_below, with_lead}
 use Rattle.qs_levels.specs.Shares.{is_taken}
-use Rattle.qs_level_laws.proofs.Lists.{has_mapped, map_snoc, mapped_has}
+use Rattle.qs_levels.proofs.meaning.Lists.{has_mapped, map_snoc, mapped_has}
 
 module _ (p : ProgramShape) (front : List Ticket) (sound : IsSound p) where
   -- of an order that is after all that are kept, and the standing to which it leads

@@ -9,7 +9,7 @@ use Rattle.std.specs.Int.{bit_at}
 use Rattle.qs_program.specs.Limits.{most_clients}
 use Rattle.qs_program.specs.Program.{ProgramShape}
 use Rattle.qs_program.specs.Sound.{IsSound}
-use Rattle.qs_going.specs.Going.{in_byte}
+use Rattle.qs_standings.specs.going.Going.{in_byte}
 use Rattle.qs_standings.specs.Standings.{StandingShape, configuration_in}
 use Rattle.qs_levels.specs.Shares.{AreMasks, AreTaken, IsGoing, mark_of, weight}
 use Rattle.qs_levels.specs.declared.level.Going.{Going}

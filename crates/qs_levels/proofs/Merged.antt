@@ -22,19 +22,19 @@ use Rattle.qs_standings.specs.Lists.{EachTwo, HasOne}
 use Rattle.qs_standings.specs.Standings.{GoesOn, IsNext, IsStanding, StandingShape, configuration_in}
 use Rattle.qs_standings.proofs.Lists.{has_back, has_front, has_map, has_some, pairs_front, pairs_join, same_list}
 use Rattle.qs_standings.proofs.Stands.{below_or_past, goes_left, in_program}
-use Rattle.qs_level_laws.specs.Fronts.{AreDistinct}
+use Rattle.qs_levels.specs.meaning.Fronts.{AreDistinct}
 use Rattle.qs_levels.specs.Founds.{Found, found_in, level_in, no_found, no_standing, standing_at}
 use Rattle.qs_levels.specs.declared.level.Spot.{Spot}
-use Rattle.qs_level_laws.specs.Onward.{HasMoreOnward, IsOneLonger, IsReached, StandsFor, order_on}
+use Rattle.qs_levels.specs.meaning.Onward.{HasMoreOnward, IsOneLonger, IsReached, StandsFor, order_on}
 use Rattle.qs_levels.specs.Leads.{IsLead, IsPartOf, leads, leads_below}
-use Rattle.qs_level_laws.specs.Levels.{IsNextOf}
+use Rattle.qs_levels.specs.meaning.Levels.{IsNextOf}
 use Rattle.qs_levels.specs.Merging.{AreParts, IsLeastPart, IsLess, IsNoMore, IsNoMoreThanFirst, first_lead, rests_of, spot_of}
 use Rattle.qs_levels.specs.Shares.{AreGoing, IsGoing, is_taken, mark_of, weight}
 use Rattle.qs_levels.specs.declared.level.Going.{Going}
-use Rattle.qs_going.specs.Going.{in_byte}
-use Rattle.qs_level_laws.proofs.Lists.{all_among, each_at, map_snoc, mapped_has, two_of, zip_snoc}
+use Rattle.qs_standings.specs.going.Going.{in_byte}
+use Rattle.qs_levels.proofs.meaning.Lists.{all_among, each_at, map_snoc, mapped_has, two_of, zip_snoc}
 use Rattle.qs_levels.proofs.NextLevels.{among_below, each_lead, kept_distinct, kept_onward, lead_each, one_longer, taken_goes}
-use Rattle.qs_level_laws.proofs.Weights.{weighted_more}
+use Rattle.qs_levels.proofs.meaning.Weights.{weighted_more}
 
 -- ---- lists of lists
 

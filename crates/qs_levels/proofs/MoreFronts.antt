@@ -12,10 +12,10 @@ use Rattle.qs_standings.specs.Standings.{IsFirst, StandingShape, configuration_i
 use Rattle.qs_standings.proofs.Lists.{has_map}
 use Rattle.qs_standings.proofs.Pigeonhole.{at_most}
 use Rattle.qs_standings.proofs.Stands.{below_or_past}
-use Rattle.qs_level_laws.specs.Fronts.{AreDistinct, IsAfter, IsOnward}
-use Rattle.qs_level_laws.specs.Levels.{IsLevel}
-use Rattle.qs_level_laws.specs.Onward.{HasMoreOnward, StandsFor}
-use Rattle.qs_level_laws.proofs.Reaching.{level_first, longer_each, none_later, onward_of}
+use Rattle.qs_levels.specs.meaning.Fronts.{AreDistinct, IsAfter, IsOnward}
+use Rattle.qs_levels.specs.meaning.Levels.{IsLevel}
+use Rattle.qs_levels.specs.meaning.Onward.{HasMoreOnward, StandsFor}
+use Rattle.qs_levels.proofs.meaning.Reaching.{level_first, longer_each, none_later, onward_of}
 use Rattle.qs_levels.specs.MoreFronts.{HasMoreFronts}
 
 module _ (p : ProgramShape) (front : List Ticket) where

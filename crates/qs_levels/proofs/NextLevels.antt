@@ -16,13 +16,13 @@ use Rattle.qs_standings.specs.Lists.{HasOne}
 use Rattle.qs_standings.specs.Standings.{GoesOn, IsStanding, StandingShape, configuration_in, row_of}
 use Rattle.qs_standings.proofs.Lists.{has_map, has_some, pairs_front, pairs_last}
 use Rattle.qs_standings.proofs.RowTells.{same_configurations}
-use Rattle.qs_level_laws.specs.Fronts.{AreDistinct}
+use Rattle.qs_levels.specs.meaning.Fronts.{AreDistinct}
 use Rattle.qs_levels.specs.Founds.{found_in, no_standing}
-use Rattle.qs_level_laws.specs.Onward.{HasMoreOnward, IsOneLonger, order_on}
+use Rattle.qs_levels.specs.meaning.Onward.{HasMoreOnward, IsOneLonger, order_on}
 use Rattle.qs_levels.specs.Leads.{AreKept, IsLedUpTo, IsOverfull, IsTableOf, TableShape, leads, leads_below}
 use Rattle.qs_levels.specs.Shares.{is_taken, mark_of, weight}
 use Rattle.qs_levels.proofs.Keeping.{up_to}
-use Rattle.qs_level_laws.proofs.Lists.{all_among, cut_at, flat_map_snoc, two_of}
+use Rattle.qs_levels.proofs.meaning.Lists.{all_among, cut_at, flat_map_snoc, two_of}
 
 -- who leads to a configuration of a share goes on
 pub taken_goes : (p : ProgramShape) (number count : ℕ) (s : StandingShape) (c : ℕ) → is_taken p number count s c ≡ true → GoesOn p s c

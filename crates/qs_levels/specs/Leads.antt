@@ -10,8 +10,8 @@ use Rattle.qs_standings.specs.Lists.{HasOne, NoTwo}
 use Rattle.qs_standings.specs.Rows.{rows_in}
 use Rattle.qs_standings.specs.Standings.{IsNext, IsStanding, RowShape, StandingShape, configuration_in, row_of}
 use Rattle.qs_meaning.specs.Reduced.{goes_on}
-use Rattle.qs_going.specs.Going.{in_byte}
-use Rattle.qs_level_laws.specs.Onward.{IsReached, order_on}
+use Rattle.qs_standings.specs.going.Going.{in_byte}
+use Rattle.qs_levels.specs.meaning.Onward.{IsReached, order_on}
 use Rattle.qs_levels.specs.Shares.{is_taken}
 use Rattle.qs_levels.specs.Founds.{Found, found_in, no_standing, zipped}
 use Rattle.qs_levels.specs.declared.table.Lead.{Lead}

@@ -5,3 +5,4 @@ pub mod Founds
 pub mod Shares
 pub mod Leads
 pub mod Merging
+pub mod meaning

@@ -3,7 +3,7 @@ use Rattle.std.specs.Prelude.{◌≡◌, ◌<◌, ◌⊎◌, ℕ, List, [], ◌�
 use Rattle.qs_objects.specs.declared.held.Ticket.{Ticket}
 use Rattle.qs_program.specs.Program.{ProgramShape}
 use Rattle.qs_standings.specs.Standings.{StandingShape}
-use Rattle.qs_level_laws.specs.Onward.{HasMoreOnward}
+use Rattle.qs_levels.specs.meaning.Onward.{HasMoreOnward}
 use Rattle.qs_levels.specs.Leads.{IsPartOf}
 use Rattle.qs_levels.specs.declared.merging.Candidate.{Candidate}
 use Rattle.qs_levels.specs.Founds.{Found, no_found}

@@ -4,7 +4,7 @@ use Rattle.std.specs.List.{AllByRecursion}
 use Rattle.qs_objects.specs.declared.held.Ticket.{Ticket}
 use Rattle.qs_program.specs.Program.{ProgramShape}
 use Rattle.qs_standings.specs.Standings.{StandingShape}
-use Rattle.qs_level_laws.specs.Fronts.{AreDistinct, IsAfter}
+use Rattle.qs_levels.specs.meaning.Fronts.{AreDistinct, IsAfter}
 
 -- After some number of blocks, of so many at most, there are more configurations than the limit: one more, no two of
 -- them the same, each with an order that goes on from the front by that number of blocks.

@@ -5,9 +5,9 @@ use Rattle.std.specs.List.{AllZip}
 use Rattle.qs_program.specs.Limits.{most_clients}
 use Rattle.qs_program.specs.Program.{ProgramShape, block_at, blocks_of}
 use Rattle.qs_meaning.specs.Reduced.{Counts, goes_on}
-use Rattle.qs_going.specs.Going.{in_byte}
+use Rattle.qs_standings.specs.going.Going.{in_byte}
 use Rattle.qs_standings.specs.Standings.{StandingShape, configuration_in}
-use Rattle.qs_level_laws.specs.Weights.{weighted}
+use Rattle.qs_levels.specs.meaning.Weights.{weighted}
 use Rattle.qs_levels.specs.declared.level.Going.{Going}
 
 -- what a block of a client counts for: 0, 1, 1, 0, 0, 1, 1, 0

@@ -4,12 +4,12 @@ ghost use Rattle.std.specs.Prelude.{◌≡◌, ◌<◌, ◌≤◌, IfOk, IsErrOf
 ghost use Rattle.qs_meaning.specs.Serial.{IsLegal};
 ghost use Rattle.qs_outcomes.specs.Outcomes.{HasMoreThanAfter};
 ghost use Rattle.qs_serial.specs.NamedOrders.{order_of};
-ghost use Rattle.qs_going.specs.Going.{AreLast};
+ghost use Rattle.qs_standings.specs.going.Going.{AreLast};
 ghost use Rattle.qs_standings.specs.Rows.{AreStarts};
 ghost use Rattle.qs_standings.specs.Standings.{IsFirst};
-ghost use Rattle.qs_level_laws.specs.Fronts.{AreFrontsAfter};
-ghost use Rattle.qs_level_laws.specs.Onward.{HasMoreOnward};
-ghost use Rattle.qs_level_laws.specs.Levels.{IsNextOf, IsSomeLevel};
+ghost use Rattle.qs_levels.specs.meaning.Fronts.{AreFrontsAfter};
+ghost use Rattle.qs_levels.specs.meaning.Onward.{HasMoreOnward};
+ghost use Rattle.qs_levels.specs.meaning.Levels.{IsNextOf, IsSomeLevel};
 ghost use Rattle.qs_levels.specs.Founds.{found_in, found_of};
 ghost use Rattle.qs_levels.specs.MoreFronts.{HasMoreFronts};
 ghost use Rattle.qs_levels.specs.Shares.{AreGoing};

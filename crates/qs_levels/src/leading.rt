@@ -4,12 +4,12 @@ ghost use Rattle.std.specs.Prelude.{◌≡◌, ◌<◌, ◌≤◌, true, IfOk, O
 ghost use Rattle.std.specs.List.{AllByRecursion};
 ghost use Rattle.qs_outcomes.specs.LeastOrders.{AreSorted};
 ghost use Rattle.qs_meaning.specs.Reduced.{goes_on};
-ghost use Rattle.qs_going.specs.Going.{AreLast, in_byte};
+ghost use Rattle.qs_standings.specs.going.Going.{AreLast, in_byte};
 ghost use Rattle.qs_standings.specs.Rows.{AreStarts, drafted};
 ghost use Rattle.qs_standings.specs.Standings.{GoesOn, HasNext, IsNext, IsStanding, configuration_in, row_of};
 ghost use Rattle.qs_levels.specs.Shares.{AreGoing, AreMasks, AreTaken, ReservesAgain};
 ghost use Rattle.qs_levels.specs.Founds.{no_standing};
-ghost use Rattle.qs_level_laws.specs.Onward.{HasMoreOnward};
+ghost use Rattle.qs_levels.specs.meaning.Onward.{HasMoreOnward};
 ghost use Rattle.qs_levels.specs.Leads.{AreEven, AreKnown, IsLedOn, IsLedTooFar, IsLedUpTo, IsOverfull, IsPartOf, TableShape, tabled};
 
 use crate::level::Level;

@@ -5,6 +5,7 @@ mod fronts;
 pub mod laws;
 mod leading;
 mod level;
+pub mod meaning;
 mod merging;
 mod part;
 mod parts;

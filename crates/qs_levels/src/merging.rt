@@ -1,8 +1,8 @@
 //! Parts of a level are merged, in the order of their leads.
 
 ghost use Rattle.std.specs.Prelude.{◌≡◌, ◌<◌, ◌≤◌, true, false, suc, [], ◌∷◌, ◌++◌, IfOk, OnOk, IsErrOf, length, slice_index_or, slice_set};
-ghost use Rattle.qs_level_laws.specs.Onward.{HasMoreOnward};
-ghost use Rattle.qs_level_laws.specs.Levels.{IsNextOf, IsSomeLevel};
+ghost use Rattle.qs_levels.specs.meaning.Onward.{HasMoreOnward};
+ghost use Rattle.qs_levels.specs.meaning.Levels.{IsNextOf, IsSomeLevel};
 ghost use Rattle.qs_levels.specs.Merging.{AreParts, IsBetter, IsLeastPart, IsLess, IsNoMore, rests_of, spot_of};
 ghost use Rattle.qs_levels.specs.Shares.{AreGoing};
 

@@ -1,10 +1,10 @@
 //! A level is led on by threads, each to the configurations of its share.
 
 ghost use Rattle.std.specs.Prelude.{◌≡◌, ◌<◌, ◌≤◌, ◌∷◌, ◌++◌, [], ℕ, IfOk, OnOk, IsErrOf, length, slice_index_or, vec_len};
-ghost use Rattle.qs_going.specs.Going.{AreLast};
+ghost use Rattle.qs_standings.specs.going.Going.{AreLast};
 ghost use Rattle.qs_standings.specs.Rows.{AreStarts};
-ghost use Rattle.qs_level_laws.specs.Onward.{HasMoreOnward};
-ghost use Rattle.qs_level_laws.specs.Levels.{IsNextOf, IsSomeLevel};
+ghost use Rattle.qs_levels.specs.meaning.Onward.{HasMoreOnward};
+ghost use Rattle.qs_levels.specs.meaning.Levels.{IsNextOf, IsSomeLevel};
 ghost use Rattle.qs_levels.specs.Merging.{AreParts, IsPartLed};
 ghost use Rattle.qs_levels.specs.Shares.{AreGoing};
 

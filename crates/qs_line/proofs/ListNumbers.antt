@@ -4,7 +4,7 @@ use Rattle.std.proofs.Common.{◌≡◌, ◌≤◌, ◌+◌, ◌-◌, ◌==◌, 
 use Rattle.std.specs.List.{fold, slice_split}
 use Rattle.std.proofs.lemmas.List.{length-map}
 use Rattle.std.proofs.lemmas.Bool.{eqb-true, false_from_ne_true, le-leb}
-use Rattle.qs_tokens.specs.Tokens.{is_digit}
+use Rattle.qs_script.specs.tokens.Tokens.{is_digit}
 use Rattle.qs_played.specs.declared.schedule.actor.Actor.{Actor}
 use Rattle.qs_played.specs.declared.schedule.actor.Actor.TheVariants.{Client, Handler}
 use Rattle.qs_program.specs.Program.{ProgramShape}

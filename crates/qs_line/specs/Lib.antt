@@ -8,3 +8,4 @@ pub mod RunLines
 pub mod Claims
 -- What crates promise one another, what proofs use, and worked examples.
 pub mod Numbers
+pub mod language

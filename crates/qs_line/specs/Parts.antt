@@ -2,8 +2,8 @@
 -- often.
 use Rattle.std.specs.Prelude.{ℕ, Bool, true, false, ◌==◌, ◌&&◌, ◌+◌, ◌-◌, if◌then◌else◌, not, nat_le, List, [], ◌∷◌, length, take, drop, Option, Some, None, option_map, option_and_then, sum_by, position}
 use Rattle.std.specs.List.{list_all, list_any, slice_split}
-use Rattle.qs_tokens.specs.Limits.{longest_name}
-use Rattle.qs_tokens.specs.Tokens.{is_digit, is_letter, is_name_byte, reserved_words, same, value_of}
+use Rattle.qs_script.specs.tokens.Limits.{longest_name}
+use Rattle.qs_script.specs.tokens.Tokens.{is_digit, is_letter, is_name_byte, reserved_words, same, value_of}
 use Rattle.qs_played.specs.declared.schedule.actor.Actor.{Actor}
 use Rattle.qs_played.specs.declared.schedule.actor.Actor.TheVariants.{Client, Handler}
 use Rattle.qs_line.specs.declared.parts.Part.{Part}

@@ -5,6 +5,7 @@ mod command;
 mod fault;
 mod found;
 mod help;
+pub mod language;
 pub mod laws;
 mod limits;
 mod line;

@@ -8,6 +8,7 @@ ghost use Rattle.qs_line.specs.Line.{IsAnswer, IsFault, IsFaultAmong, alike_at, 
 
 use crate::command::command;
 use crate::found::text_at;
+use crate::language::language_page;
 use crate::limits::{MOST_FRONT, MOST_THREADS, MOST_TIMES};
 use crate::parts::Part;
 use crate::plan::{Plan, given_plan};
@@ -16,7 +17,6 @@ use clap::error::ErrorKind;
 use clap::{ArgMatches, Error};
 use qs_chunk::ChunkSize;
 use qs_conditions::{Claim, ConditionFault, Quantifier, read_condition};
-use qs_language::language_page;
 use qs_syncset::Mode;
 use std::alloc::{AllocError, Global};
 

@@ -10,7 +10,7 @@ use crate::fault::{ListFault, Why};
 use crate::parts::{Part, Who};
 use qs_played::Actor;
 use qs_program::Program;
-use qs_tokens::Name;
+use qs_script::tokens::Name;
 use std::alloc::{AllocError, Global};
 
 // The number of the client of a name.

@@ -1,7 +1,7 @@
 //! The parts of a list.
 
 use qs_played::Actor;
-use qs_tokens::Name;
+use qs_script::tokens::Name;
 
 /// Whom a part names: an actor by its number, or a client or an object by its name.
 #[derive(Drop)]

@@ -2,15 +2,15 @@
 
 ghost use Rattle.std.specs.Prelude.{◌≡◌, ◌<◌, ◌≤◌, ◌==◌, ◌+◌, IfOk, IfSome, IsTrue, length, map, min, nat_le, option_map, position};
 ghost use Rattle.std.specs.List.{list_all, slice_split};
-ghost use Rattle.qs_tokens.specs.Limits.{longest_name};
-ghost use Rattle.qs_tokens.specs.Tokens.{is_digit, is_name_byte, same, value_of};
+ghost use Rattle.qs_script.specs.tokens.Limits.{longest_name};
+ghost use Rattle.qs_script.specs.tokens.Tokens.{is_digit, is_name_byte, same, value_of};
 ghost use Rattle.qs_line.specs.Limits.{most_actors, most_repeats};
 ghost use Rattle.qs_line.specs.Parts.{actor_in, clients_in as clients_due, count_in, has_handler as some_handler, is_handler, is_name, is_reserved as is_reserved_word, length_of, list_in as list_due, name_in, named_in, once, orders_in as orders_due, part_in, parts_of as parts_due, times};
 
 use crate::limits::{LONGEST_NAME, MOST_ACTORS, MOST_REPEATS};
 use crate::parts::{Part, Who};
 use qs_played::Actor;
-use qs_tokens::Name;
+use qs_script::tokens::Name;
 use std::alloc::{AllocError, Global};
 
 // An actor is `c` or `h` and one digit.

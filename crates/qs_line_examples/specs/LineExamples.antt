@@ -5,7 +5,7 @@ use Rattle.qs_played.specs.declared.schedule.actor.Actor.TheVariants.{Client, Ha
 use Rattle.qs_line.specs.declared.parts.Part.{Part}
 use Rattle.qs_line.specs.declared.parts.Who.TheVariants.{Name, Number}
 use Rattle.qs_line.specs.Parts.{once, times}
-use Rattle.qs_tree.specs.declared.tree.Relation.TheVariants as relation
+use Rattle.qs_script.specs.declared.tree.tree.Relation.TheVariants as relation
 use Rattle.qs_conditions.specs.declared.claim.Claim.{Claim}
 use Rattle.qs_conditions.specs.declared.claim.Quantifier.{Quantifier}
 use Rattle.qs_conditions.specs.declared.claim.Quantifier.TheVariants as quantifier

@@ -6,8 +6,8 @@ use Rattle.qs_objects.specs.declared.Op.TheVariants.{Deposit, Withdraw, Balance,
 use Rattle.qs_objects.specs.declared.object.Kind.{Kind}
 use Rattle.qs_objects.specs.declared.object.Kind.TheVariants as kinds
 use Rattle.qs_objects.specs.declared.held.Ticket.{Ticket}
-use Rattle.qs_tree.specs.declared.tree.Operator.TheVariants.{Times}
-use Rattle.qs_tree.specs.declared.tree.Relation.TheVariants.{Unequal}
+use Rattle.qs_script.specs.declared.tree.tree.Operator.TheVariants.{Times}
+use Rattle.qs_script.specs.declared.tree.tree.Relation.TheVariants.{Unequal}
 use Rattle.qs_program.specs.declared.code.Atom.{Atom}
 use Rattle.qs_program.specs.declared.code.Atom.TheVariants.{Variable, Number}
 use Rattle.qs_program.specs.declared.code.Expr.TheVariants.{Binary}

@@ -4,3 +4,5 @@ pub mod Outcomes
 pub mod Answers
 -- What crates promise one another, what proofs use, and worked examples.
 pub mod Search
+pub mod throughout
+pub mod estimate

@@ -6,9 +6,11 @@
 #![tactic(auto)]
 
 mod answer;
+pub mod estimate;
 mod fault;
 mod question;
 mod search;
+pub mod throughout;
 mod watcher;
 
 pub use answer::Answer;

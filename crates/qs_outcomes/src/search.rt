@@ -9,7 +9,7 @@ ghost use Rattle.qs_standings.specs.Lists.{HasOne};
 ghost use Rattle.qs_standings.specs.Rows.{AreStarts, drafted, rows_in, shape_of, IsInserted};
 ghost use Rattle.qs_outcomes.specs.Search.{IsExplored, IsLonger, IsNoted, IsPushed, work_left};
 ghost use Rattle.qs_meaning.specs.Reduced.{goes_on};
-ghost use Rattle.qs_going.specs.Going.{AreLast, in_byte};
+ghost use Rattle.qs_standings.specs.going.Going.{AreLast, in_byte};
 ghost use Rattle.qs_standings.specs.Standings.{IsFirst, IsStanding, configuration_in, row_of};
 
 use crate::answer::Answer;

@@ -19,11 +19,11 @@ use Rattle.qs_played.specs.declared.schedule.actor.Actor.{Actor}
 use Rattle.qs_played.specs.declared.schedule.actor.Actor.TheVariants as actors
 use Rattle.qs_plain_laws.specs.Plain.{Plain, begin, client_at, step}
 use Rattle.qs_plain_laws.specs.PlainSchedule.{is_out, played_of, plays}
-use Rattle.qs_plain_orders.specs.PlainOrders.{IsPlayedInOrder}
-use Rattle.qs_plain_orders.specs.Quiet.{IsQuiet}
-use Rattle.qs_plain_orders.proofs.AloneSteps.{IsWithin, left_of, named_append}
-use Rattle.qs_plain_orders.proofs.BlockAlone.{named_turn, turn_on}
-use Rattle.qs_plain_orders.proofs.BlockReached.{begin_quiet, comes_in, has_client, out_is, shown_in_order}
+use Rattle.qs_plain_laws.specs.orders.PlainOrders.{IsPlayedInOrder}
+use Rattle.qs_plain_laws.specs.orders.Quiet.{IsQuiet}
+use Rattle.qs_plain_laws.proofs.orders.AloneSteps.{IsWithin, left_of, named_append}
+use Rattle.qs_plain_laws.proofs.orders.BlockAlone.{named_turn, turn_on}
+use Rattle.qs_plain_laws.proofs.orders.BlockReached.{begin_quiet, comes_in, has_client, out_is, shown_in_order}
 use Rattle.qs_plain.specs.Blocks.{IsOneBlockOn, IsQuietNow, blocks_begun}
 use Rattle.qs_plain.specs.Rules.{RulesState, plain_of}
 use Rattle.qs_plain.proofs.Playing.{plays-append}

@@ -4,7 +4,7 @@
 use Rattle.std.proofs.Common.{◌≡◌, ◌<◌, ℕ, zero, suc, List, [], ◌∷◌, ◌++◌, length, get_or, get_or-take, map, refl, sym, ap, ◌∙◌, arith}
 use Rattle.qs_objects.specs.declared.held.Ticket.{Ticket}
 use Rattle.qs_played.specs.Played.{ClientRows, HaveRows, counts_of_ticket, entry_in, rows_at, trace_in}
-use Rattle.qs_plain_client.specs.Clients.{AreRowsOf, ClientState, client_state_at, client_of_state}
+use Rattle.qs_plain.specs.client.Clients.{AreRowsOf, ClientState, client_state_at, client_of_state}
 use Rattle.qs_plain.specs.BegunBlocks.{AreBegun, AreRows}
 
 pub rows_push : (rows : List ClientRows) (cs : List ClientState) (r : ClientRows) (d : ClientState) → AreRows rows cs → AreRowsOf r (client_of_state d) → AreRows (rows ++ r ∷ []) (cs ++ d ∷ [])

@@ -7,8 +7,8 @@ use Rattle.std.proofs.lemmas.List.Sums.{sum_by-cons}
 use Rattle.qs_program.specs.Program.{ProgramShape}
 use Rattle.qs_plain_laws.specs.Plain.{Handler, no_client}
 use Rattle.qs_plain_laws.specs.PlainSchedule.{all_done, is_done, syncs_of}
-use Rattle.qs_plain_client.specs.Clients.{ClientState, client_of_state, client_state_at}
-use Rattle.qs_plain_handler.specs.Served.{HandlerState, handler_of_state}
+use Rattle.qs_plain.specs.client.Clients.{ClientState, client_of_state, client_state_at}
+use Rattle.qs_plain.specs.handler.Served.{HandlerState, handler_of_state}
 
 pub at_client : (cs : List ClientState) (c : ℕ) → client_of_state (client_state_at cs c) ≡ get_or (map client_of_state cs) c no_client
 at_client [] c = refl

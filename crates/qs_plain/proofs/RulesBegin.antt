@@ -17,19 +17,19 @@ use Rattle.qs_played.specs.Played.{ticket}
 use Rattle.qs_played.specs.declared.schedule.actor.Actor.TheVariants as actor
 use Rattle.qs_plain_laws.specs.Plain.{Client, step, client_step, at_each, enter}
 use Rattle.qs_plain_laws.specs.Plain as plain
-use Rattle.qs_plain_client.specs.ClientMoves.{Begins}
-use Rattle.qs_plain_client.specs.Clients.{ClientState, IsClient, IsStaged, IsReady, block_of_state, client_of_state, stage_of, absent, client_state_at}
-use Rattle.qs_plain_client.specs.Frames.{rest, next_of, load_left}
+use Rattle.qs_plain.specs.client.ClientMoves.{Begins}
+use Rattle.qs_plain.specs.client.Clients.{ClientState, IsClient, IsStaged, IsReady, block_of_state, client_of_state, stage_of, absent, client_state_at}
+use Rattle.qs_plain.specs.client.Frames.{rest, next_of, load_left}
 use Rattle.qs_objects.specs.Traces.{TraceState}
-use Rattle.qs_plain_client.specs.Queues.{AreApart, QueueState}
-use Rattle.qs_plain_client.specs.PreparedBlock.{IsReadyQueue}
-use Rattle.qs_plain_client.proofs.FrameMoves.{AllByRecursion-push}
-use Rattle.qs_plain_client.specs.declared.stage.Stage.TheVariants as stage
-use Rattle.qs_plain_handler.specs.Handlers.{handler_state_at, with_queue, entered_all, CanEnter, CanEnterAll}
+use Rattle.qs_plain.specs.client.Queues.{AreApart, QueueState}
+use Rattle.qs_plain.specs.client.PreparedBlock.{IsReadyQueue}
+use Rattle.qs_plain.proofs.client.FrameMoves.{AllByRecursion-push}
+use Rattle.qs_plain.specs.declared.client.stage.Stage.TheVariants as stage
+use Rattle.qs_plain.specs.handler.Handlers.{handler_state_at, with_queue, entered_all, CanEnter, CanEnterAll}
 use Rattle.qs_plain.specs.Rules.{RulesState, IsRules, IsOpen, to_come, is_in_block, plain_of}
-use Rattle.qs_plain_handler.specs.Served.{handler_of_state}
-use Rattle.qs_plain_handler.proofs.HandlersPreserved.{entered_each, length-entered_all}
-use Rattle.qs_plain_client.proofs.OnePlace.{apart_push}
+use Rattle.qs_plain.specs.handler.Served.{handler_of_state}
+use Rattle.qs_plain.proofs.handler.HandlersPreserved.{entered_each, length-entered_all}
+use Rattle.qs_plain.proofs.client.OnePlace.{apart_push}
 use Rattle.qs_plain.proofs.RulesPreserved.{set_cases, own_after, same_client}
 use Rattle.qs_plain.proofs.RulesSteps.{IsEmptyOf, plain_client, plain-entered_all}
 

@@ -17,15 +17,15 @@ use Rattle.qs_plain_laws.specs.Plain.{Client, Handler, Plain, Private, item_step
 use Rattle.qs_plain_laws.specs.Plain as plain
 use Rattle.qs_plain_laws.specs.declared.item.QueueItem.{QueueItem}
 use Rattle.qs_plain_laws.specs.declared.item.QueueItem.TheVariants as item
-use Rattle.qs_plain_client.specs.Clients.{ClientState, absent, client_state_at, client_of_state, stage_of}
-use Rattle.qs_plain_client.specs.Frames.{next_of}
-use Rattle.qs_plain_client.specs.declared.stage.Stage.TheVariants as stage
-use Rattle.qs_plain_handler.specs.Effects.{answered, effect_of_client, effect_of_queue, effect_of_queues, effect_of_rest, plain_effect, reply_in, reply_of, unanswered}
-use Rattle.qs_plain_handler.specs.Handlers.{handler_state_at}
+use Rattle.qs_plain.specs.client.Clients.{ClientState, absent, client_state_at, client_of_state, stage_of}
+use Rattle.qs_plain.specs.client.Frames.{next_of}
+use Rattle.qs_plain.specs.declared.client.stage.Stage.TheVariants as stage
+use Rattle.qs_plain.specs.handler.Effects.{answered, effect_of_client, effect_of_queue, effect_of_queues, effect_of_rest, plain_effect, reply_in, reply_of, unanswered}
+use Rattle.qs_plain.specs.handler.Handlers.{handler_state_at}
 use Rattle.qs_plain.specs.Rules.{RulesState, Steps, plain_of}
-use Rattle.qs_plain_handler.specs.declared.effect.Effect.{Effect}
-use Rattle.qs_plain_handler.specs.declared.effect.Effect.TheVariants as effect
-use Rattle.qs_plain_handler.specs.Served.{HandlerState}
+use Rattle.qs_plain.specs.declared.handler.effect.Effect.{Effect}
+use Rattle.qs_plain.specs.declared.handler.effect.Effect.TheVariants as effect
+use Rattle.qs_plain.specs.handler.Served.{HandlerState}
 use Rattle.qs_plain.specs.StepEffects.{HasDone, IsShortStep, effect_of_did, last_ticket}
 use Rattle.qs_plain.specs.declared.did.Did.{Did}
 use Rattle.qs_plain.proofs.RulesFieldLemmas.{new_rules}

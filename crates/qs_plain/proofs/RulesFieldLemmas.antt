@@ -9,11 +9,11 @@ use Rattle.qs_played.specs.declared.schedule.actor.Actor.{Actor}
 use Rattle.qs_played.proofs.Lists.{get_or-any}
 use Rattle.qs_plain_laws.specs.declared.item.QueueItem.{QueueItem}
 use Rattle.qs_plain_laws.specs.Plain.{step}
-use Rattle.qs_plain_client.specs.Clients.{ClientState, absent, client_state_at}
-use Rattle.qs_plain_client.specs.declared.stage.Stage.{Stage}
-use Rattle.qs_plain_handler.specs.Handlers.{CanLogAll, logged_all, handler_state_at, nobody}
+use Rattle.qs_plain.specs.client.Clients.{ClientState, absent, client_state_at}
+use Rattle.qs_plain.specs.declared.client.stage.Stage.{Stage}
+use Rattle.qs_plain.specs.handler.Handlers.{CanLogAll, logged_all, handler_state_at, nobody}
 use Rattle.qs_plain.specs.Rules.{RulesState, IsRules, plain_of}
-use Rattle.qs_plain_handler.specs.Served.{HandlerState}
+use Rattle.qs_plain.specs.handler.Served.{HandlerState}
 
 pub within_of : (r s : RulesState) (c : ℕ) → r ≡ s → c < length s.clients → c < length r.clients
 within_of r s c same less = rw same less

@@ -8,12 +8,12 @@ use Rattle.qs_objects.specs.declared.held.Ticket.{Ticket}
 use Rattle.qs_program.specs.Program.{ProgramShape, ClientShape, no_client}
 use Rattle.qs_plain_laws.specs.Plain.{begin, fresh_client, fresh_handler}
 use Rattle.qs_plain_laws.specs.Plain as plain
-use Rattle.qs_plain_client.specs.FreshClients.{AreFresh}
-use Rattle.qs_plain_client.specs.Clients.{ClientState, IsFresh, client_of_state, stage_of, absent, client_state_at}
-use Rattle.qs_plain_handler.specs.Beginning.{AreIdle}
-use Rattle.qs_plain_handler.specs.Handlers.{nobody}
+use Rattle.qs_plain.specs.client.FreshClients.{AreFresh}
+use Rattle.qs_plain.specs.client.Clients.{ClientState, IsFresh, client_of_state, stage_of, absent, client_state_at}
+use Rattle.qs_plain.specs.handler.Beginning.{AreIdle}
+use Rattle.qs_plain.specs.handler.Handlers.{nobody}
 use Rattle.qs_plain.specs.Rules.{RulesState, IsRules, plain_of, to_come}
-use Rattle.qs_plain_handler.specs.Served.{HandlerState, handler_of_state}
+use Rattle.qs_plain.specs.handler.Served.{HandlerState, handler_of_state}
 
 -- a list whose elements are given by their numbers
 listed : {X Y : Type 0} (f : X → Y) (g : ℕ → Y) (xs : List X) (d : X) (a : ℕ) → ((i : ℕ) → i < length xs → f (get_or xs i d) ≡ g (a + i)) → map f xs ≡ map g (range_with_len a (length xs))

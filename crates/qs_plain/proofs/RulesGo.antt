@@ -20,20 +20,20 @@ use Rattle.qs_plain_laws.specs.Plain.{Client, step, client_step, moves_on}
 use Rattle.qs_plain_laws.specs.declared.item.QueueItem.{QueueItem}
 use Rattle.qs_plain_laws.specs.Plain as plain
 use Rattle.qs_plain_laws.specs.declared.item.QueueItem.TheVariants as item
-use Rattle.qs_plain_client.specs.ClientMoves.{after_moves}
-use Rattle.qs_plain_client.specs.Clients.{ClientState, IsClient, IsWithin, current_block, client_of_state, stage_of, absent, client_state_at}
-use Rattle.qs_plain_client.specs.Frames.{Frame, next_of, load_left}
-use Rattle.qs_plain_client.specs.TraceMoves.{counted_in, noted_in, last_of, no_trace}
+use Rattle.qs_plain.specs.client.ClientMoves.{after_moves}
+use Rattle.qs_plain.specs.client.Clients.{ClientState, IsClient, IsWithin, current_block, client_of_state, stage_of, absent, client_state_at}
+use Rattle.qs_plain.specs.client.Frames.{Frame, next_of, load_left}
+use Rattle.qs_plain.specs.client.TraceMoves.{counted_in, noted_in, last_of, no_trace}
 use Rattle.qs_sync_counts.specs.SyncRows.{with_sync}
 use Rattle.qs_sync_counts.specs.declared.sync_counts.SyncCount.{SyncCount}
 use Rattle.qs_objects.specs.Traces.{TraceState, trace_state}
 use Rattle.qs_objects.proofs.Elements.{AllByRecursion-get_or}
-use Rattle.qs_plain_client.specs.declared.stage.Stage.{Stage}
-use Rattle.qs_plain_client.proofs.ClientPreserved.{within_of}
-use Rattle.qs_plain_client.specs.declared.stage.Stage.TheVariants as stage
-use Rattle.qs_plain_handler.specs.Handlers.{handler_state_at, nobody, with_logged_item, logged_at, logged_all, CanLog, CanLogAll}
+use Rattle.qs_plain.specs.declared.client.stage.Stage.{Stage}
+use Rattle.qs_plain.proofs.client.ClientPreserved.{within_of}
+use Rattle.qs_plain.specs.declared.client.stage.Stage.TheVariants as stage
+use Rattle.qs_plain.specs.handler.Handlers.{handler_state_at, nobody, with_logged_item, logged_at, logged_all, CanLog, CanLogAll}
 use Rattle.qs_plain.specs.Rules.{RulesState, IsRules, IsOpen, to_come, is_in_block, plain_of}
-use Rattle.qs_plain_handler.proofs.HandlersPreserved.{equal_or_not, logged_each, length-logged_all}
+use Rattle.qs_plain.proofs.handler.HandlersPreserved.{equal_or_not, logged_each, length-logged_all}
 use Rattle.qs_plain.proofs.RulesBegin.{each_implies}
 use Rattle.qs_plain.proofs.RulesPreserved.{Continues, logged_kept}
 use Rattle.qs_plain.proofs.RulesSteps.{plain_client, plain-logged_at, plain-logged_all}

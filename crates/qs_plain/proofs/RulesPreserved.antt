@@ -9,14 +9,14 @@ use Rattle.qs_objects.specs.declared.held.Ticket.{Ticket}
 use Rattle.qs_objects.specs.Parts.{same}
 use Rattle.qs_played.specs.Played.{ticket}
 use Rattle.qs_plain_laws.specs.declared.item.QueueItem.{QueueItem}
-use Rattle.qs_plain_client.specs.Clients.{ClientState, absent, client_state_at}
-use Rattle.qs_plain_client.specs.Frames.{load_left}
-use Rattle.qs_plain_client.specs.Queues.{AreApart, QueueState, after_put}
-use Rattle.qs_plain_handler.specs.Handlers.{handler_state_at, nobody, with_logged_item}
+use Rattle.qs_plain.specs.client.Clients.{ClientState, absent, client_state_at}
+use Rattle.qs_plain.specs.client.Frames.{load_left}
+use Rattle.qs_plain.specs.client.Queues.{AreApart, QueueState, after_put}
+use Rattle.qs_plain.specs.handler.Handlers.{handler_state_at, nobody, with_logged_item}
 use Rattle.qs_plain.specs.Rules.{RulesState, IsRules, IsOpen, to_come, is_in_block}
-use Rattle.qs_plain_handler.specs.Served.{HandlerState}
-use Rattle.qs_plain_handler.proofs.HandlersPreserved.{equal_or_not}
-use Rattle.qs_plain_client.proofs.OnePlace.{apart_put}
+use Rattle.qs_plain.specs.handler.Served.{HandlerState}
+use Rattle.qs_plain.proofs.handler.HandlersPreserved.{equal_or_not}
+use Rattle.qs_plain.proofs.client.OnePlace.{apart_put}
 
 -- what holds of each client still holds with another at c
 pub set_cases : (P : ℕ → ClientState → Type 0) (cs : List ClientState) (c : ℕ) (new : ClientState) → c < length cs → P c new → ((k : ℕ) → k ≢ c → k < length cs → P k (client_state_at cs k))

@@ -17,20 +17,20 @@ use Rattle.qs_plain_laws.specs.Plain.{Plain, Client, step, client_step, handler_
 use Rattle.qs_plain_laws.specs.declared.item.QueueItem.{QueueItem}
 use Rattle.qs_plain_laws.specs.Plain as plain
 use Rattle.qs_plain_laws.specs.declared.item.QueueItem.TheVariants as item
-use Rattle.qs_plain_client.specs.ClientMoves.{Replies, RepliesAt}
-use Rattle.qs_plain_client.specs.Clients.{ClientState, IsClient, client_of_state, stage_of, client_state_at}
-use Rattle.qs_plain_client.specs.Frames.{next_of}
-use Rattle.qs_plain_client.specs.TraceMoves.{noted_in, last_of, no_trace}
-use Rattle.qs_plain_client.specs.Queues.{AreApart, QueueState}
+use Rattle.qs_plain.specs.client.ClientMoves.{Replies, RepliesAt}
+use Rattle.qs_plain.specs.client.Clients.{ClientState, IsClient, client_of_state, stage_of, client_state_at}
+use Rattle.qs_plain.specs.client.Frames.{next_of}
+use Rattle.qs_plain.specs.client.TraceMoves.{noted_in, last_of, no_trace}
+use Rattle.qs_plain.specs.client.Queues.{AreApart, QueueState}
 use Rattle.qs_objects.specs.Traces.{TraceState, trace_state}
-use Rattle.qs_plain_client.specs.declared.stage.Stage.{Stage}
-use Rattle.qs_plain_client.specs.ReplyDelivery.{Hears}
-use Rattle.qs_plain_client.specs.declared.stage.Stage.TheVariants as stage
-use Rattle.qs_plain_handler.specs.Handlers.{handler_state_at}
+use Rattle.qs_plain.specs.declared.client.stage.Stage.{Stage}
+use Rattle.qs_plain.specs.client.ReplyDelivery.{Hears}
+use Rattle.qs_plain.specs.declared.client.stage.Stage.TheVariants as stage
+use Rattle.qs_plain.specs.handler.Handlers.{handler_state_at}
 use Rattle.qs_plain.specs.Rules.{RulesState, IsRules, IsOpen, plain_of, to_come}
-use Rattle.qs_plain_handler.specs.Served.{HandlerState, handler_of_state, ServesFirst, ServesItem}
-use Rattle.qs_plain_handler.specs.declared.handler.Served.{Served}
-use Rattle.qs_plain_handler.specs.declared.handler.Served.TheVariants.{Nothing, Done, Replied}
+use Rattle.qs_plain.specs.handler.Served.{HandlerState, handler_of_state, ServesFirst, ServesItem}
+use Rattle.qs_plain.specs.declared.handler.handler.Served.{Served}
+use Rattle.qs_plain.specs.declared.handler.handler.Served.TheVariants.{Nothing, Done, Replied}
 use Rattle.qs_plain.proofs.RulesPreserved.{Continues, client_kept, served_kept, same_to_come}
 use Rattle.qs_plain.proofs.RulesSteps.{plain_client, plain_handler}
 

@@ -9,10 +9,10 @@ use Rattle.qs_objects.specs.declared.held.Ticket.{Ticket}
 use Rattle.qs_plain_laws.specs.declared.item.QueueItem.{QueueItem}
 use Rattle.qs_plain_laws.specs.Plain.{log_in, enter, at_each, at_handler, put_item}
 use Rattle.qs_plain_laws.specs.Plain as plain
-use Rattle.qs_plain_client.specs.Clients.{ClientState, client_of_state, absent, client_state_at}
-use Rattle.qs_plain_client.specs.Queues.{QueueState, after_put}
-use Rattle.qs_plain_handler.specs.Handlers.{handler_state_at, nobody, with_logged_item, logged_at, logged_all, with_queue, entered_at, entered_all}
-use Rattle.qs_plain_handler.specs.Served.{HandlerState, handler_of_state}
+use Rattle.qs_plain.specs.client.Clients.{ClientState, client_of_state, absent, client_state_at}
+use Rattle.qs_plain.specs.client.Queues.{QueueState, after_put}
+use Rattle.qs_plain.specs.handler.Handlers.{handler_state_at, nobody, with_logged_item, logged_at, logged_all, with_queue, entered_at, entered_all}
+use Rattle.qs_plain.specs.handler.Served.{HandlerState, handler_of_state}
 
 pub plain_client : (cs : List ClientState) (c : ℕ) → get_or (map client_of_state cs) c plain.no_client ≡ client_of_state (client_state_at cs c)
 plain_client cs c = get_or-map client_of_state cs c absent

@@ -3,7 +3,7 @@ use Rattle.std.specs.Prelude.{◌≡◌, ◌<◌, ℕ, List, [], ◌∷◌, leng
 use Rattle.qs_objects.specs.declared.held.Ticket.{Ticket}
 use Rattle.qs_program.specs.Program.{ProgramShape}
 use Rattle.qs_played.specs.Played.{ClientRows}
-use Rattle.qs_plain_client.specs.Clients.{AreRowsOf, ClientState, client_state_at, client_of_state}
+use Rattle.qs_plain.specs.client.Clients.{AreRowsOf, ClientState, client_state_at, client_of_state}
 
 -- each ticket names a block that was begun
 abbrev pub AreBegun : List ClientState → List Ticket → Type 0

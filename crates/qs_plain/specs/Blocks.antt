@@ -5,7 +5,7 @@ use Rattle.qs_played.specs.Schedule.{all_named}
 use Rattle.qs_played.specs.declared.schedule.actor.Actor.{Actor}
 use Rattle.qs_plain_laws.specs.Plain.{begun_blocks, client_at}
 use Rattle.qs_plain_laws.specs.PlainSchedule.{plays}
-use Rattle.qs_plain_orders.specs.Quiet.{IsQuiet}
+use Rattle.qs_plain_laws.specs.orders.Quiet.{IsQuiet}
 use Rattle.qs_plain.specs.Rules.{RulesState, plain_of}
 
 -- how many blocks each client has begun

@@ -5,3 +5,5 @@ pub mod BegunBlocks
 pub mod Blocks
 pub mod Awaiting
 pub mod StepEffects
+pub mod client
+pub mod handler

@@ -14,13 +14,13 @@ use Rattle.qs_plain_laws.specs.PlainIsolation.{commands_in_queue}
 use Rattle.qs_plain_laws.specs.Plain.{Plain, begin, step}
 use Rattle.qs_plain_laws.specs.PlainSchedule.{played_of, plays}
 use Rattle.qs_plain_laws.specs.PlainSyncSums.{AreQueriesCounted}
-use Rattle.qs_plain_client.specs.Clients.{ClientState, client_of_state, client_code, client_state_at}
-use Rattle.qs_plain_client.specs.Frames.{load_left}
-use Rattle.qs_plain_client.specs.Queues.{AreApart, QueueState}
-use Rattle.qs_plain_client.specs.declared.stage.Stage.{Stage}
-use Rattle.qs_plain_client.specs.declared.stage.Stage.TheVariants as stage
-use Rattle.qs_plain_handler.specs.Handlers.{handler_state_at}
-use Rattle.qs_plain_handler.specs.Served.{HandlerState, handler_of_state}
+use Rattle.qs_plain.specs.client.Clients.{ClientState, client_of_state, client_code, client_state_at}
+use Rattle.qs_plain.specs.client.Frames.{load_left}
+use Rattle.qs_plain.specs.client.Queues.{AreApart, QueueState}
+use Rattle.qs_plain.specs.declared.client.stage.Stage.{Stage}
+use Rattle.qs_plain.specs.declared.client.stage.Stage.TheVariants as stage
+use Rattle.qs_plain.specs.handler.Handlers.{handler_state_at}
+use Rattle.qs_plain.specs.handler.Served.{HandlerState, handler_of_state}
 
 pub record RulesState : Type 0 where
   pub program : ProgramShape

@@ -5,11 +5,11 @@ use Rattle.qs_program.specs.Values.{Locals, request_of}
 use Rattle.qs_played.specs.Played.{ticket}
 use Rattle.qs_played.specs.declared.schedule.actor.Actor.TheVariants as actor
 use Rattle.qs_plain_laws.specs.Plain.{Plain}
-use Rattle.qs_plain_client.specs.Clients.{ClientState, client_state_at}
-use Rattle.qs_plain_handler.specs.Effects.{plain_effect}
+use Rattle.qs_plain.specs.client.Clients.{ClientState, client_state_at}
+use Rattle.qs_plain.specs.handler.Effects.{plain_effect}
 use Rattle.qs_plain.specs.Rules.{RulesState}
-use Rattle.qs_plain_handler.specs.declared.effect.Effect.{Effect}
-use Rattle.qs_plain_handler.specs.declared.effect.Effect.TheVariants.{Reserves, Logs, Asks, Ends}
+use Rattle.qs_plain.specs.declared.handler.effect.Effect.{Effect}
+use Rattle.qs_plain.specs.declared.handler.effect.Effect.TheVariants.{Reserves, Logs, Asks, Ends}
 use Rattle.qs_plain.specs.declared.did.Did.{Did}
 use Rattle.qs_plain.specs.declared.did.Did.TheVariants as did
 

@@ -3,15 +3,17 @@
 #![tactic(auto)]
 
 mod awaited;
+pub mod client;
 mod did;
+pub mod handler;
 mod machine;
 mod orders;
 mod rules;
 mod schedules;
 mod showing;
 
+pub use crate::handler::Effect;
 pub use awaited::Awaited;
 pub use orders::play_plain_in_order;
-pub use qs_plain_handler::Effect;
 pub use rules::Rules;
 pub use schedules::play_plain;

@@ -4,21 +4,21 @@ ghost use Rattle.std.specs.Prelude.{◌≡◌, ◌<◌, ◌∷◌, None, Some, f
 ghost use Rattle.std.specs.Bool.{OnTrue};
 ghost use Rattle.qs_plain_laws.specs.Plain.{begin, step as the_step};
 ghost use Rattle.qs_played.specs.declared.schedule.actor.Actor.TheVariants as actors;
-ghost use Rattle.qs_plain_client.specs.declared.stage.Stage.TheVariants as stages;
-ghost use Rattle.qs_plain_handler.specs.Effects.{plain_effect, reply_in};
+ghost use Rattle.qs_plain.specs.declared.client.stage.Stage.TheVariants as stages;
+ghost use Rattle.qs_plain.specs.handler.Effects.{plain_effect, reply_in};
 ghost use Rattle.qs_plain.specs.declared.did.Did.TheVariants as dids;
 ghost use Rattle.qs_plain.specs.StepEffects.{HasDone, IsShortStep, effect_of_did, has_stepped, last_ticket};
-ghost use Rattle.qs_plain_handler.specs.Handlers.{handler_state_at};
+ghost use Rattle.qs_plain.specs.handler.Handlers.{handler_state_at};
 
 mod reading;
 
+use crate::client::{Asked, ClientState, Stage, answer, fresh_clients};
 use crate::did::Did;
-use crate::showing;
-use qs_objects::Ticket;
-use qs_plain_client::{Asked, ClientState, Stage, answer, fresh_clients};
-use qs_plain_handler::{
+use crate::handler::{
     Effect, HandlerState, Served, enter_all, fresh_handlers, log_all, log_command, log_query,
 };
+use crate::showing;
+use qs_objects::Ticket;
 use qs_plain_laws::QueueItem;
 use qs_played::{Actor, Endings, Played, Row};
 use qs_program::Program;
@@ -52,7 +52,7 @@ impl<'p> Model for Machine<'p> {
 }
 
 impl<'p> Machine<'p> {
-    ghost use Rattle.qs_plain_client.specs.Clients.{client_state_at};
+    ghost use Rattle.qs_plain.specs.client.Clients.{client_state_at};
     ghost use Rattle.qs_plain.specs.Rules.{Steps, plain_of};
     ghost use Rattle.qs_played.specs.Schedule.{HasStep, actors_of, rounds_of};
     ghost use Rattle.qs_plain_laws.specs.PlainSchedule.{is_out, played_of, plays};

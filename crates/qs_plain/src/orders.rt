@@ -3,7 +3,7 @@
 ghost use Rattle.std.specs.Prelude.{IfOk, IsErrOf};
 ghost use Rattle.qs_meaning.specs.Serial.{IsLegal};
 ghost use Rattle.qs_serial.specs.NamedOrders.{order_of};
-ghost use Rattle.qs_plain_orders.specs.PlainOrders.{IsPlayedInOrder};
+ghost use Rattle.qs_plain_laws.specs.orders.PlainOrders.{IsPlayedInOrder};
 
 use crate::machine::Machine;
 use qs_played::Played;

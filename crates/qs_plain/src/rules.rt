@@ -5,15 +5,15 @@ ghost use Rattle.std.specs.Bool.{OnTrue};
 ghost use Rattle.qs_plain_laws.specs.Plain.{begin, step as the_step};
 ghost use Rattle.qs_plain.specs.Rules.{AreIsolated, Steps, plain_of};
 ghost use Rattle.qs_plain.specs.Rules.{AreRulesCounted};
-ghost use Rattle.qs_plain_handler.specs.Effects.{plain_effect};
+ghost use Rattle.qs_plain.specs.handler.Effects.{plain_effect};
 ghost use Rattle.qs_meaning.specs.Serial.{IsLegal};
 ghost use Rattle.qs_plain_laws.specs.PlainSchedule.{played_of};
 
 mod playing;
 mod reading;
 
+use crate::handler::Effect;
 use crate::machine::Machine;
-use qs_plain_handler::Effect;
 use qs_played::{Actor, Played};
 use qs_program::Program;
 use std::alloc::{AllocError, Global};

@@ -4,15 +4,15 @@ ghost use Rattle.std.specs.Prelude.{◌≡◌, ◌≤◌, IfOk, length, map, sum
 ghost use Rattle.qs_objects.specs.declared.held.Ticket.{Ticket as TicketShape};
 ghost use Rattle.qs_program.specs.Program.{ProgramShape};
 ghost use Rattle.qs_program.specs.Limits.{most_clients};
-ghost use Rattle.qs_plain_client.specs.Clients.{ClientState as State, client_of_state};
-ghost use Rattle.qs_plain_client.specs.Clients.{client_state_at};
+ghost use Rattle.qs_plain.specs.client.Clients.{ClientState as State, client_of_state};
+ghost use Rattle.qs_plain.specs.client.Clients.{client_state_at};
 ghost use Rattle.qs_plain_laws.specs.PlainSchedule.{all_done, all_idle, has_ended, syncs_of};
-ghost use Rattle.qs_plain_handler.specs.Served.{HandlerState as Serving, handler_of_state};
+ghost use Rattle.qs_plain.specs.handler.Served.{HandlerState as Serving, handler_of_state};
 ghost use Rattle.qs_plain.specs.BegunBlocks.{AreBegun, AreOwn, AreRows};
 
+use crate::client::ClientState;
+use crate::handler::HandlerState;
 use qs_objects::{Journal, Object, Ticket};
-use qs_plain_client::ClientState;
-use qs_plain_handler::HandlerState;
 use qs_played::{ClientRows, Row};
 use std::alloc::{AllocError, Global};
 

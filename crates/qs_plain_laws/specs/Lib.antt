@@ -6,3 +6,5 @@ pub mod PlainSyncSums
 -- What crates promise one another, what proofs use, and worked examples.
 pub mod IsolationExamples
 pub mod PlayExamples
+pub mod orders
+pub mod progress

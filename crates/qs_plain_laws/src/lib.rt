@@ -3,5 +3,7 @@
 
 mod item;
 pub mod laws;
+pub mod orders;
+pub mod progress;
 
 pub use item::QueueItem;

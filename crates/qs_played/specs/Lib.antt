@@ -7,3 +7,4 @@ pub mod Schedule
 pub mod SyncSums
 -- What crates promise one another, what proofs use, and worked examples.
 pub mod ExampleRuns
+pub mod twin

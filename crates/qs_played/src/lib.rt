@@ -9,6 +9,7 @@ mod fault;
 mod journal_rooms;
 mod schedule;
 mod shown;
+pub mod twin;
 
 pub use fault::{PlayFault, RunFault};
 pub use journal_rooms::declared_held;

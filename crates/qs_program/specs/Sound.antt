@@ -3,7 +3,7 @@ use Rattle.std.specs.Prelude.{◌≡◌, ◌≤◌, ◌<◌, ℕ, ◌+◌, max, 
 use Rattle.std.specs.List.{AllByRecursion, IsDistinct, list_any}
 use Rattle.qs_objects.specs.Objects.{starts}
 use Rattle.qs_objects.specs.Operations.{is_query, arity, fits}
-use Rattle.qs_tree.specs.Limits.{most_levels}
+use Rattle.qs_script.specs.tree.Limits.{most_levels}
 use Rattle.qs_program.specs.Limits.{most_blocks, most_clients, most_formals, most_objects, most_requests, most_steps, most_turns, most_variables}
 use Rattle.qs_program.specs.declared.code.Atom.{Atom}
 use Rattle.qs_program.specs.declared.code.Atom.TheVariants.{Variable, Number}

@@ -2,10 +2,10 @@
 use Rattle.std.specs.Prelude.{Bool, not, ◌||◌, List, map, slice_index_or, ℤ, pos, ◌+ℤ◌, ◌-ℤ◌, ◌*ℤ◌, int_lt}
 use Rattle.qs_objects.specs.Act.{clamp_to_word}
 use Rattle.qs_objects.specs.declared.Request.{Request}
-use Rattle.qs_tree.specs.declared.tree.Operator.{Operator}
-use Rattle.qs_tree.specs.declared.tree.Operator.TheVariants.{Plus, Minus, Times}
-use Rattle.qs_tree.specs.declared.tree.Relation.{Relation}
-use Rattle.qs_tree.specs.declared.tree.Relation.TheVariants.{Equal, Unequal, Less, AtMost, Greater, AtLeast}
+use Rattle.qs_script.specs.declared.tree.tree.Operator.{Operator}
+use Rattle.qs_script.specs.declared.tree.tree.Operator.TheVariants.{Plus, Minus, Times}
+use Rattle.qs_script.specs.declared.tree.tree.Relation.{Relation}
+use Rattle.qs_script.specs.declared.tree.tree.Relation.TheVariants.{Equal, Unequal, Less, AtMost, Greater, AtLeast}
 use Rattle.qs_program.specs.declared.code.Atom.{Atom}
 use Rattle.qs_program.specs.declared.code.Atom.TheVariants.{Variable, Number}
 use Rattle.qs_program.specs.declared.code.Expr.{Expr}

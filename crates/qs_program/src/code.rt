@@ -1,7 +1,7 @@
 //! Statements with each name replaced by its number.
 
 ghost use Rattle.std.specs.Prelude.{◌≡◌, ◌≤◌, ◌<◌, ◌+◌, ◌*◌, ℕ, [], ◌∷◌, ◌++◌, OnOk, OnErr, IfOk, max, min, slice_index_or, take, if◌then◌else◌, ◌==◌};
-ghost use Rattle.qs_tree.specs.Limits.{most_levels};
+ghost use Rattle.qs_script.specs.tree.Limits.{most_levels};
 ghost use Rattle.qs_program.specs.Limits.{most_objects, most_requests, most_steps};
 ghost use Rattle.qs_program.specs.Loads.{load_of, weight_of, AreLoads};
 ghost use Rattle.qs_program.specs.Sound.{levels_of};
@@ -10,7 +10,7 @@ ghost use Rattle.qs_program.specs.Views.{single, statements_of};
 
 use crate::limits::{MOST_OBJECTS, PAST_REQUESTS, PAST_STEPS};
 use qs_objects::Op;
-use qs_tree::{Operator, Relation};
+use qs_script::tree::{Operator, Relation};
 use smallvec::SmallVec;
 use std::alloc::{AllocError, Global};
 use std::marker::Model;

@@ -5,7 +5,7 @@ ghost use Rattle.qs_program.specs.Numbering.{with_name, number_of, found_at, is_
 
 use crate::hashing::NameHasher;
 use indexmap::IndexSet;
-use qs_tree::Name;
+use qs_script::tree::Name;
 use std::alloc::{AllocError, Global};
 use std::hash::BuildHasherDefault;
 use std::marker::Model;

@@ -14,7 +14,7 @@ use crate::code::{Body, Loads};
 use crate::limits::MOST_OBJECTS;
 use crate::names::Names;
 use qs_objects::{Kind, Object, ObjectFault};
-use qs_tree::Name;
+use qs_script::tree::Name;
 use std::alloc::{AllocError, Global};
 use std::marker::Model;
 

@@ -7,7 +7,7 @@ ghost use Rattle.qs_objects.specs.Act.{clamp_to_word};
 use crate::code::{Atom, Call, Expr, Test};
 use crate::limits::MOST_VARIABLES;
 use qs_objects::{Args, Request};
-use qs_tree::{Operator, Relation};
+use qs_script::tree::{Operator, Relation};
 use std::alloc::Global;
 
 /// The values of a client's variables by their numbers, 0 where a number is not used.

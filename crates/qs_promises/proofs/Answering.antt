@@ -16,14 +16,14 @@ use Rattle.qs_conditions.specs.declared.claim.Quantifier.{Quantifier}
 use Rattle.qs_conditions.specs.declared.claim.Quantifier.TheVariants as q
 use Rattle.qs_outcomes.specs.Answers.{AnswerShape, IsWitnessAfter, NoneMeets}
 use Rattle.qs_standings.specs.Standings.{StandingShape}
-use Rattle.qs_throughout.specs.Courses.{IsCourseWitnessAfter, NoneMeetsOnTheWay, passed}
+use Rattle.qs_outcomes.specs.throughout.Courses.{IsCourseWitnessAfter, NoneMeetsOnTheWay, passed}
 use Rattle.qs_alike.specs.Changes.{Classes}
 use Rattle.qs_questions.specs.AlikeClaims.{IsAlikeAnswerBy, IsEndMet}
 use Rattle.qs_questions.specs.Claims.{IsAnswerBy, is_sought}
 use Rattle.qs_questions.specs.Questions.{holds_at}
 use Rattle.qs_questions.proofs.Sought.{steps_answer}
-use Rattle.qs_plain_orders.proofs.BlockReached.{orders_played}
-use Rattle.qs_core_orders.proofs.BlocksPlayed.{core_orders_played}
+use Rattle.qs_plain_laws.proofs.orders.BlockReached.{orders_played}
+use Rattle.qs_core_laws.proofs.orders.BlocksPlayed.{core_orders_played}
 use Rattle.qs_core_laws.proofs.ProgramCodes.{program_codes}
 use Rattle.qs_syncset.specs.declared.mode.Mode.{Mode}
 use Rattle.qs_played.specs.declared.schedule.actor.Actor.{Actor}

@@ -17,8 +17,8 @@ use Rattle.qs_standings.specs.Standings.{StandingShape}
 use Rattle.qs_standings.proofs.Lists.{has_map}
 use Rattle.qs_played.specs.Isolation.{IsIsolated}
 use Rattle.qs_played.specs.Played.{Played}
-use Rattle.qs_plain_orders.proofs.BlockReached.{orders_played}
-use Rattle.qs_core_orders.proofs.BlocksPlayed.{core_orders_played}
+use Rattle.qs_plain_laws.proofs.orders.BlockReached.{orders_played}
+use Rattle.qs_core_laws.proofs.orders.BlocksPlayed.{core_orders_played}
 use Rattle.qs_promises.specs.Finished.{FinishedRunsAreWhole, IsWholeRun, ShowsStates}
 use Rattle.qs_promises.specs.Outcomes.{CanHappen, FinishedRunsAreCovered, Happens, IsAmong, IsCovered, ListedOutcomesCanHappen, ListsAreOfRuns, MachineReachesCompleteOrders, RulesReachCompleteOrders}
 use Rattle.qs_promises.specs.Runs.{by_rules, on_machine}

@@ -9,13 +9,13 @@ use Rattle.qs_played.specs.Schedule.{schedule}
 use Rattle.qs_played.specs.declared.schedule.actor.Actor.{Actor}
 use Rattle.qs_plain_laws.specs.Plain.{begin, step}
 use Rattle.qs_plain_laws.specs.PlainSchedule.{is_finished, plays}
-use Rattle.qs_plain_progress.proofs.Finished.{finished_stay}
-use Rattle.qs_plain_progress.proofs.Stuck.{runs_never_stuck}
+use Rattle.qs_plain_laws.proofs.progress.Finished.{finished_stay}
+use Rattle.qs_plain_laws.proofs.progress.Stuck.{runs_never_stuck}
 use Rattle.qs_core_laws.specs.Core.{core_begin, core_step}
 use Rattle.qs_core_laws.specs.CoreSchedule.{core_plays}
 use Rattle.qs_core_laws.specs.CoreSchedule as machine
-use Rattle.qs_core_progress.proofs.Finished.{core_finished_stay}
-use Rattle.qs_core_progress.proofs.Stuck.{core_runs_never_stuck}
+use Rattle.qs_core_laws.proofs.progress.Finished.{core_finished_stay}
+use Rattle.qs_core_laws.proofs.progress.Stuck.{core_runs_never_stuck}
 use Rattle.qs_promises.specs.GoesOn.{GoesOnOrEnds, MachinesGoOn, RulesGoOn, RunGoesOn, RunsGoOn, SomebodyHasStep}
 use Rattle.qs_promises.specs.Runs.{IsRun, by_rules, on_machine, on_threads}
 use Rattle.qs_promises.proofs.Calls.{over_on_threads}

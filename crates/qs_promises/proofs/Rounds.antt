@@ -12,15 +12,15 @@ use Rattle.qs_played.specs.declared.schedule.actor.Actor.{Actor}
 use Rattle.qs_played.specs.declared.schedule.actor.Actor.TheVariants as actor
 use Rattle.qs_plain_laws.specs.Plain.{begin}
 use Rattle.qs_plain_laws.specs.PlainSchedule.{played_of, plays}
-use Rattle.qs_plain_orders.proofs.AloneSteps.{named_append}
-use Rattle.qs_plain_progress.specs.Steps.{most_steps_of}
-use Rattle.qs_plain_progress.proofs.Finished.{rounds_finish}
-use Rattle.qs_plain_progress.proofs.SmallBounds.{bounds_small}
+use Rattle.qs_plain_laws.proofs.orders.AloneSteps.{named_append}
+use Rattle.qs_plain_laws.specs.progress.Steps.{most_steps_of}
+use Rattle.qs_plain_laws.proofs.progress.Finished.{rounds_finish}
+use Rattle.qs_plain_laws.proofs.progress.SmallBounds.{bounds_small}
 use Rattle.qs_core_laws.specs.Core.{core_begin}
 use Rattle.qs_core_laws.specs.CoreSchedule.{core_played, core_plays}
-use Rattle.qs_core_progress.specs.CoreSteps.{most_core_steps_of}
-use Rattle.qs_core_progress.proofs.Finished.{core_rounds_finish}
-use Rattle.qs_core_progress.proofs.SmallBounds.{core_bounds_small}
+use Rattle.qs_core_laws.specs.progress.CoreSteps.{most_core_steps_of}
+use Rattle.qs_core_laws.proofs.progress.Finished.{core_rounds_finish}
+use Rattle.qs_core_laws.proofs.progress.SmallBounds.{core_bounds_small}
 use Rattle.qs_promises.specs.EnoughRounds.{DefaultRoundsAreEnough, DefaultRoundsFinish, EnoughRoundsFinish}
 use Rattle.qs_promises.specs.EveryBeginning.{EveryBeginningLeadsToAnOutcome}
 use Rattle.qs_promises.specs.Outcomes.{IsReached}

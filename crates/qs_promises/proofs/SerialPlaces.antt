@@ -10,7 +10,7 @@ use Rattle.qs_meaning.specs.Serial.{SerialBlock, declared_states, serial_from, z
 use Rattle.qs_meaning.specs.Solo.{States, put, solo}
 use Rattle.qs_played.specs.Isolation.{IsIsolated, IsIsolatedBlock, no_block, serial_block, ticket_at, trace_of}
 use Rattle.qs_played.specs.Played.{Played, ticket}
-use Rattle.qs_twin.proofs.AgreedFronts.{agreed_fronts}
+use Rattle.qs_played.proofs.twin.AgreedFronts.{agreed_fronts}
 use Rattle.qs_promises.specs.BlockAlone.{BlocksAreAsIfAlone, BlocksThatAgreeDoTheSame, IsAsIfAlone, OnlyTheOrderDecides, ShowTheSame, alone, left_before}
 use Rattle.qs_promises.specs.SerialOrder.{IsInSerialOrder, RunsAreInSerialOrder}
 use Rattle.qs_promises.proofs.Isolating.{all_isolated}

@@ -12,7 +12,7 @@ use Rattle.qs_conditions.specs.declared.claim.Claim.{Claim}
 use Rattle.qs_conditions.specs.declared.claim.Quantifier.{Quantifier}
 use Rattle.qs_conditions.specs.declared.claim.Quantifier.TheVariants as q
 use Rattle.qs_outcomes.specs.Answers.{AnswerShape}
-use Rattle.qs_throughout.specs.Courses.{passed}
+use Rattle.qs_outcomes.specs.throughout.Courses.{passed}
 use Rattle.qs_questions.specs.AlikeClaims.{IsAlikeAnswer}
 use Rattle.qs_questions.specs.Claims.{IsAnswerTo}
 use Rattle.qs_questions.specs.Questions.{holds_at}

@@ -10,7 +10,7 @@ use Rattle.qs_meaning.specs.Serial.{serial}
 use Rattle.qs_meaning.specs.Solo.{States, solo}
 use Rattle.qs_played.specs.Isolation.{ended_of, entry_of, ticket_at, trace_of}
 use Rattle.qs_played.specs.Played.{Played}
-use Rattle.qs_twin.specs.Twins.{Agreement, HasEntryOn, shorter, start_of}
+use Rattle.qs_played.specs.twin.Twins.{Agreement, HasEntryOn, shorter, start_of}
 use Rattle.qs_promises.specs.Runs.{IsRun, Way}
 
 -- the states in which the blocks before the i-th place of the order leave the objects, run one after another

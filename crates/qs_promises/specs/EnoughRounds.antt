@@ -4,8 +4,8 @@ use Rattle.qs_program.specs.Program.{ProgramShape}
 use Rattle.qs_program.specs.Sound.{IsSound}
 use Rattle.qs_played.specs.Played.{Played}
 use Rattle.qs_played.specs.Schedule.{most_rounds}
-use Rattle.qs_plain_progress.specs.Steps.{most_steps_of}
-use Rattle.qs_core_progress.specs.CoreSteps.{most_core_steps_of}
+use Rattle.qs_plain_laws.specs.progress.Steps.{most_steps_of}
+use Rattle.qs_core_laws.specs.progress.CoreSteps.{most_core_steps_of}
 use Rattle.qs_promises.specs.Runs.{IsRun, Way, by_rules, on_machine, on_threads}
 
 -- There are at least as many rounds as the program's blocks have steps, by the plain rules or on the optimised machine.

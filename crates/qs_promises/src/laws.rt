@@ -1,8 +1,8 @@
 //! The seven promises of the project, one law for each, of every run by the plain rules, on the optimised machine and
 //! on threads. The seventh has two more laws, and claims nothing of threads.
 
-ghost use Rattle.qs_core_progress.specs.CoreSteps.{CoreStepsAreBounded};
-ghost use Rattle.qs_plain_progress.specs.Steps.{StepsAreBounded};
+ghost use Rattle.qs_core_laws.specs.progress.CoreSteps.{CoreStepsAreBounded};
+ghost use Rattle.qs_plain_laws.specs.progress.Steps.{StepsAreBounded};
 ghost use Rattle.qs_promises.specs.Answers.{AlikeAnswersAreOfRuns, AnswersAreOfRuns};
 ghost use Rattle.qs_promises.specs.AsIfSerial.{RunsAreAsIfSerial};
 ghost use Rattle.qs_promises.specs.AsAsked.{RunsAreAsAsked};

@@ -25,7 +25,7 @@ use Rattle.qs_standings.proofs.Lists.{has_some}
 use Rattle.qs_standings.proofs.RowSteps.{take_more}
 use Rattle.qs_outcomes.specs.Answers.{AnswerShape, AreUnmet, IsWitnessAfter, NoneMeets}
 use Rattle.qs_outcomes.specs.Outcomes.{outcome_at}
-use Rattle.qs_throughout.specs.Courses.{IsCourseWitnessAfter, NoneMeetsOnTheWay}
+use Rattle.qs_outcomes.specs.throughout.Courses.{IsCourseWitnessAfter, NoneMeetsOnTheWay}
 use Rattle.qs_alike.specs.AlikeOutcomes.{AlikeShape, AreAlikeOutcomes, AreAllBecoming, AreUnlike, BecomesOutcome, IsEnd}
 use Rattle.qs_alike.specs.Changes.{AreAllAlike, AreClasses, Change, Classes, IsChange, changed_outcome}
 use Rattle.qs_alike.specs.Apart.{AreSetApart}

@@ -16,16 +16,16 @@ use Rattle.qs_outcomes.specs.Answers.{AnswerShape, HasNoted, IsWitnessAfter}
 use Rattle.qs_standings.specs.Lists.{HasOne, NoTwo}
 use Rattle.qs_standings.specs.Standings.{IsReducedAfter, IsStanding, NoneNext, StandingShape, configuration_in}
 use Rattle.qs_standings.proofs.Lists.{has_some}
-use Rattle.qs_throughout.specs.Courses.{HasNotedOnTheWay, IsCourseWitnessAfter, IsOnTheWayAfter}
+use Rattle.qs_outcomes.specs.throughout.Courses.{HasNotedOnTheWay, IsCourseWitnessAfter, IsOnTheWayAfter}
 use Rattle.qs_alike.specs.Changes.{Classes}
 use Rattle.qs_alike.proofs.Lengths.{equally_long}
-use Rattle.qs_level_laws.proofs.Reaching.{counted, equally_long as as_long}
-use Rattle.qs_alike_noted.specs.Noted.{HasNotedBy, IsLeastToItsEnd, IsNotedBy, LeadAlike}
-use Rattle.qs_alike_totals.specs.Totals.{HasInAll, IsFollowed}
-use Rattle.qs_alike_totals.specs.declared.followed.Orders.{Orders}
-use Rattle.qs_alike_totals.specs.declared.followed.Orders.TheVariants as o
-use Rattle.qs_alike_totals.proofs.InAll.{follow_reduced, reduced_follow}
-use Rattle.qs_alike_witness.specs.LeastMet.{IsLeastMet}
+use Rattle.qs_levels.proofs.meaning.Reaching.{counted, equally_long as as_long}
+use Rattle.qs_alike.specs.noted.Noted.{HasNotedBy, IsLeastToItsEnd, IsNotedBy, LeadAlike}
+use Rattle.qs_alike.specs.totals.Totals.{HasInAll, IsFollowed}
+use Rattle.qs_alike.specs.declared.totals.followed.Orders.{Orders}
+use Rattle.qs_alike.specs.declared.totals.followed.Orders.TheVariants as o
+use Rattle.qs_alike.proofs.totals.InAll.{follow_reduced, reduced_follow}
+use Rattle.qs_alike.specs.witness.LeastMet.{IsLeastMet}
 use Rattle.qs_questions.specs.AlikeClaims.{IsAlikeAnswerBy, IsEndMet, IsLeastAnswer, orders_for}
 use Rattle.qs_questions.specs.Claims.{IsAnswerBy}
 

@@ -14,9 +14,9 @@ use Rattle.qs_outcomes.specs.Outcomes.{HasMoreThanAfter}
 use Rattle.qs_standings.specs.Lists.{NoTwo}
 use Rattle.qs_standings.specs.Standings.{IsStanding, StandingShape, configuration_in}
 use Rattle.qs_standings.proofs.Lists.{pairs_front}
-use Rattle.qs_throughout.specs.Courses.{HasMoreOnTheWayAfter, HasNotedOnTheWay, IsOnTheWayAfter}
+use Rattle.qs_outcomes.specs.throughout.Courses.{HasMoreOnTheWayAfter, HasNotedOnTheWay, IsOnTheWayAfter}
 use Rattle.qs_alike.specs.Changes.{Classes}
-use Rattle.qs_alike_totals.specs.Totals.{HasInAll}
+use Rattle.qs_alike.specs.totals.Totals.{HasInAll}
 use Rattle.qs_questions.specs.AlikeClaims.{IsAlikeAnswerBy, orders_for}
 use Rattle.qs_questions.specs.Claims.{HasMoreFor, IsAnswerBy}
 

@@ -17,11 +17,11 @@ use Rattle.qs_outcomes.specs.Answers.{AnswerShape, AreUnmet, NoneMeets}
 use Rattle.qs_outcomes.specs.Outcomes.{outcome_at}
 use Rattle.qs_alike.specs.AlikeOutcomes.{AreUnlike, HasMoreUnlike, IsEnd}
 use Rattle.qs_alike.specs.Changes.{AreClasses, Change, Classes, HaveSameText, IsChange, changed_outcome}
-use Rattle.qs_throughout_alike.specs.AlikeCourses.{IsAlikeCourseAnswer}
-use Rattle.qs_alike_noted.specs.Noted.{HasNotedBy}
-use Rattle.qs_alike_witness.specs.LeastMet.{IsLeastMet}
-use Rattle.qs_alike_totals.specs.declared.followed.Orders.{Orders}
-use Rattle.qs_alike_totals.specs.declared.followed.Orders.TheVariants as o
+use Rattle.qs_alike.specs.throughout.AlikeCourses.{IsAlikeCourseAnswer}
+use Rattle.qs_alike.specs.noted.Noted.{HasNotedBy}
+use Rattle.qs_alike.specs.witness.LeastMet.{IsLeastMet}
+use Rattle.qs_alike.specs.declared.totals.followed.Orders.{Orders}
+use Rattle.qs_alike.specs.declared.totals.followed.Orders.TheVariants as o
 use Rattle.qs_questions.specs.Claims.{IsAnswerTo, is_sought}
 use Rattle.qs_questions.specs.Questions.{client_of, summands_of}
 

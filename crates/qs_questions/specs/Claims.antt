@@ -10,7 +10,7 @@ use Rattle.qs_conditions.specs.declared.claim.Quantifier.{Quantifier}
 use Rattle.qs_conditions.specs.declared.claim.Quantifier.TheVariants as q
 use Rattle.qs_outcomes.specs.Answers.{AnswerShape, IsAnswerAfter}
 use Rattle.qs_outcomes.specs.Outcomes.{HasMoreThanAfter}
-use Rattle.qs_throughout.specs.Courses.{HasMoreOnTheWayAfter, IsCourseAnswerAfter}
+use Rattle.qs_outcomes.specs.throughout.Courses.{HasMoreOnTheWayAfter, IsCourseAnswerAfter}
 use Rattle.qs_questions.specs.Answering.{answer_of}
 use Rattle.qs_questions.specs.Questions.{holds_at, value_at}
 

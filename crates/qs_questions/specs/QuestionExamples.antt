@@ -4,7 +4,7 @@ use Rattle.std.specs.Prelude.{◌≡◌, ℕ, Bool, true, false, List, [], ◌�
 use Rattle.qs_objects.specs.declared.Op.TheVariants.{Withdraw}
 use Rattle.qs_objects.specs.declared.held.Ticket.{Ticket}
 use Rattle.qs_objects.specs.declared.object.Kind.TheVariants as kinds
-use Rattle.qs_tree.specs.declared.tree.Relation.TheVariants.{Equal, Greater}
+use Rattle.qs_script.specs.declared.tree.tree.Relation.TheVariants.{Equal, Greater}
 use Rattle.qs_program.specs.Numbering.{Name}
 use Rattle.qs_program.specs.Program.{ClientShape, ProgramShape}
 use Rattle.qs_program.specs.Statements.{command, end, query}

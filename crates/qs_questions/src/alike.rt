@@ -15,11 +15,11 @@ ghost use Rattle.qs_questions.specs.Claims.{is_sought};
 
 use crate::claims::Sought;
 use crate::clients::named_clients;
+use qs_alike::throughout::ask_throughout_alike;
 use qs_alike::{Classes, classes_apart, classes_of, outcomes_alike};
 use qs_conditions::{Claim, Condition, Quantifier};
 use qs_outcomes::{Answer, OutcomesFault, Question, Standing, Unwatched};
 use qs_program::Program;
-use qs_throughout_alike::ask_throughout_alike;
 use std::alloc::{AllocError, Global};
 
 /// The classes of a program's clients, where each client whose variable a condition names is alone.

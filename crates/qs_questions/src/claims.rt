@@ -9,9 +9,9 @@ ghost use Rattle.qs_serial.specs.NamedOrders.{order_of};
 use crate::among::answer_among;
 use crate::asking::holds;
 use qs_conditions::{Claim, Quantifier};
+use qs_outcomes::throughout::ask_throughout;
 use qs_outcomes::{Answer, OutcomesFault, Question, Standing, Watcher, ask_watched};
 use qs_program::Program;
-use qs_throughout::ask_throughout;
 use std::alloc::{AllocError, Global};
 
 // So many configurations are looked at before alike clients are asked: about a millisecond's.

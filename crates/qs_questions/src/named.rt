@@ -5,7 +5,7 @@ ghost use Rattle.qs_questions.specs.Questions.{asked_of, client_of, object_of, o
 
 use qs_objects::{Kind, Op};
 use qs_program::Program;
-use qs_tokens::Name;
+use qs_script::tokens::Name;
 
 /// A client's variable: the client's number, and the variable's.
 #[derive(Clone, Copy, Debug)]

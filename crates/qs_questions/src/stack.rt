@@ -3,7 +3,7 @@
 ghost use Rattle.std.specs.Prelude.{◌≡◌, [], ◌∷◌, OnOk, drop};
 ghost use Rattle.qs_questions.specs.Answering.{last_of};
 
-use qs_tree::add;
+use qs_script::tree::add;
 use std::alloc::{AllocError, Global};
 use std::marker::Model;
 

@@ -5,7 +5,7 @@ use Rattle.qs_objects.specs.declared.held.Event.{Event}
 use Rattle.qs_program.specs.Program.{ProgramShape}
 use Rattle.qs_played.specs.Isolation.{trace_of}
 use Rattle.qs_played.specs.Played.{Played}
-use Rattle.qs_fates.specs.Fates.{fates_along, trace_fates}
+use Rattle.qs_text.specs.fates.Fates.{fates_along, trace_fates}
 
 along : (p : ProgramShape) (run : Played) (i : ℕ) (before rest : List Event) → length (fates_along p run i before rest) ≡ length rest
 along p run i before [] = refl

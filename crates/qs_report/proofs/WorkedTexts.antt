@@ -8,7 +8,7 @@ use Rattle.qs_program.specs.Statements.{end}
 use Rattle.qs_graph.specs.GraphExamples.{query_in_repeat, empty_bodies, leave_first, two_bodies}
 use Rattle.qs_graph.specs.Graphs.{block_graph}
 use Rattle.qs_graph.specs.Names.{graph_of}
-use Rattle.qs_held_sets.specs.Table.{AreSetsOf}
+use Rattle.qs_syncset.specs.held.Table.{AreSetsOf}
 use Rattle.qs_text.specs.Worked.{by_ann, on_a, on_b_and_a}
 use Rattle.qs_text.proofs.CheckedSets.{sets_in}
 use Rattle.qs_text.proofs.WorkedSets.{ann_twice, in_repeat, in_repeat_sets, sets_left, left_sets, sets_met, met_sets, nowhere, nowhere_sets, neither, neither_sets, either, either_sets}

@@ -1,6 +1,6 @@
 -- How many configurations a search can have, as bytes.
 use Rattle.std.specs.Prelude.{ℕ, List, ◌++◌, codes, Option, Some, None}
-use Rattle.qs_estimate.specs.declared.estimate.Estimate.{Estimate}
+use Rattle.qs_outcomes.specs.declared.estimate.estimate.Estimate.{Estimate}
 use Rattle.qs_text.specs.Texts.{count_line}
 
 -- at most so many, or a bound that is over the greatest that is told

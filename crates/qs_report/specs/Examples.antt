@@ -2,7 +2,7 @@
 use Rattle.std.specs.Prelude.{◌≡◌, ℕ, pos, negsuc, true, false, List, [], ◌∷◌, codes}
 use Rattle.qs_objects.specs.Act.{buffer, grid}
 use Rattle.qs_script.specs.declared.fault.ReadFault.TheVariants as read
-use Rattle.qs_fault_places.specs.declared.fault.CheckFault.TheVariants as check
+use Rattle.qs_check.specs.declared.fault_places.fault.CheckFault.TheVariants as check
 use Rattle.qs_played.specs.declared.fault.PlayFault.TheVariants as play
 use Rattle.qs_serial.specs.declared.fault.OrderFault.TheVariants as order_fault
 use Rattle.qs_outcomes.specs.declared.fault.OutcomesFault.TheVariants as outcomes
@@ -12,7 +12,7 @@ use Rattle.qs_report.specs.Report.{report_text, counted_report_text, counts_text
 use Rattle.qs_report.specs.Faults.{fault_text, fault_status}
 use Rattle.qs_played.specs.Played.{Played}
 use Rattle.qs_sync_counts.specs.SyncRows.{sync_count}
-use Rattle.qs_fates.specs.FateExamples.{two_withdrew}
+use Rattle.qs_text.specs.fates.FateExamples.{two_withdrew}
 use Rattle.qs_text.specs.Worked.{after_deposit, after_reservation, before, counted_syncs, deposited_once, deposits, state, three, two_clients_played, withdrawals}
 
 pub record RunExamples : Type 0 where

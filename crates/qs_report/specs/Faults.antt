@@ -2,8 +2,8 @@
 use Rattle.std.specs.Prelude.{ℕ, List, [], ◌++◌, codes, decimal, Option, Some, None}
 use Rattle.qs_script.specs.declared.fault.ReadFault.{ReadFault}
 use Rattle.qs_script.specs.declared.fault.ReadFault.TheVariants as read
-use Rattle.qs_fault_places.specs.declared.fault.CheckFault.{CheckFault}
-use Rattle.qs_fault_places.specs.declared.fault.CheckFault.TheVariants as check
+use Rattle.qs_check.specs.declared.fault_places.fault.CheckFault.{CheckFault}
+use Rattle.qs_check.specs.declared.fault_places.fault.CheckFault.TheVariants as check
 use Rattle.qs_played.specs.declared.fault.PlayFault.{PlayFault}
 use Rattle.qs_played.specs.declared.fault.PlayFault.TheVariants as play
 use Rattle.qs_played.specs.declared.fault.RunFault.{RunFault}

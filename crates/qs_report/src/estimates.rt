@@ -3,7 +3,7 @@
 ghost use Rattle.std.specs.Prelude.{◌≡◌, ◌++◌, IfOk, OnOk};
 ghost use Rattle.qs_report.specs.EstimateText.{estimate_text as text_of_estimate, most_line};
 
-use qs_estimate::Estimate;
+use qs_outcomes::estimate::Estimate;
 use qs_text::{put, put_count_line};
 use std::alloc::{AllocError, Global};
 

@@ -6,7 +6,7 @@ ghost use Rattle.qs_text.specs.Texts.{AppendsFront};
 ghost use Rattle.qs_report.specs.Faults.{fault_place, fault_status, fault_text, fault_words, read_words, read_place, check_words, play_words, order_words, run_words, outcomes_words};
 
 use itoa::Buffer;
-use qs_fault_places::CheckFault;
+use qs_check::fault_places::CheckFault;
 use qs_outcomes::OutcomesFault;
 use qs_played::{PlayFault, RunFault};
 use qs_script::ReadFault;

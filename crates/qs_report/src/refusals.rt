@@ -1,14 +1,14 @@
 // The order of a run, where each line says whether its request was refused or found nothing.
 
 ghost use Rattle.std.specs.Prelude.{◌≡◌, ◌<◌, ◌++◌, length, OnOk, true};
-ghost use Rattle.qs_fates.specs.Fates.{all_fates};
+ghost use Rattle.qs_text.specs.fates.Fates.{all_fates};
 ghost use Rattle.qs_report.specs.Report.{fate_text, order_text, shown_ticket, ticket_text, marked_line, marked_lines, trace_text};
 
 use crate::tickets::{put_syncs, put_ticket_line};
-use qs_fates::{Fate, JournalFates, trace_fates};
 use qs_objects::Event;
 use qs_played::Played;
 use qs_program::Program;
+use qs_text::fates::{Fate, JournalFates, trace_fates};
 use qs_text::{put, put_count_line, put_reply, put_whole_request};
 use std::alloc::AllocError;
 

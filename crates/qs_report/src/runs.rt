@@ -7,9 +7,9 @@ ghost use Rattle.qs_text.specs.Texts.{count_line};
 use crate::refusals::put_marked_order;
 use crate::states::put_states;
 use crate::tickets::put_order;
-use qs_fates::journal_fates;
 use qs_played::{Outcome, Played};
 use qs_program::Program;
+use qs_text::fates::journal_fates;
 use qs_text::{put, put_count_line};
 use std::alloc::{AllocError, Global};
 

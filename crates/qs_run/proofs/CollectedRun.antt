@@ -23,10 +23,10 @@ use Rattle.qs_handler.proofs.RunTurns.{handlers_take_turns}
 use Rattle.qs_client.specs.ClientRuns.{Deed, RunsTo, got_from, reservations, sent_to}
 use Rattle.qs_client.specs.ClientModel.{ClientModel, fresh_mind}
 use Rattle.qs_client.specs.MindState.{mind_of}
-use Rattle.qs_client_thread.specs.ClientThreads as running
+use Rattle.qs_run.specs.client.ClientThreads as running
 use Rattle.qs_desk.specs.Tickets.{of_client, pushed_to}
 use Rattle.qs_desk.specs.Views.{ShareView, TicketsView}
-use Rattle.qs_handler_thread.specs.HandlerThreads as handling
+use Rattle.qs_run.specs.handler.HandlerThreads as handling
 use Rattle.qs_lane.specs.Views.{InView, OutView}
 use Rattle.qs_played.specs.Played.{ticket}
 use Rattle.qs_played.specs.JournalRooms.{fresh_held}

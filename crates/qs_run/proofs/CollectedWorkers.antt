@@ -15,10 +15,10 @@ use Rattle.qs_meaning.specs.Serial.{IsLegal}
 use Rattle.qs_syncset.specs.declared.mode.Mode.{Mode}
 use Rattle.qs_handler.specs.HandlerRuns.{Task}
 use Rattle.qs_client.specs.ClientRuns.{Deed}
-use Rattle.qs_client_thread.specs.ClientThreads as running
+use Rattle.qs_run.specs.client.ClientThreads as running
 use Rattle.qs_desk.specs.Tickets.{pushed_to}
 use Rattle.qs_desk.specs.Views.{TicketsView}
-use Rattle.qs_handler_thread.specs.HandlerThreads as handling
+use Rattle.qs_run.specs.handler.HandlerThreads as handling
 use Rattle.qs_lane.specs.Views.{InView, OutView}
 use Rattle.qs_run.specs.Workers.{AreOneLane, ClientHasRun, HandlerHasServed, HaveRun}
 use Rattle.qs_run.specs.declared.worker.ClientWorker.{ClientWorker}

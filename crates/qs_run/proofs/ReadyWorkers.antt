@@ -10,8 +10,8 @@ use Rattle.qs_syncset.specs.declared.mode.Mode.{Mode}
 use Rattle.qs_syncset.specs.Codes.{IsCodeOf}
 use Rattle.qs_client.specs.ClientModel as minds
 use Rattle.qs_client.specs.MindState.{mind_of}
-use Rattle.qs_client_thread.specs.ClientThreads as running
-use Rattle.qs_handler_thread.specs.HandlerThreads as handling
+use Rattle.qs_run.specs.client.ClientThreads as running
+use Rattle.qs_run.specs.handler.HandlerThreads as handling
 use Rattle.qs_desk.specs.Tickets.{ticket}
 use Rattle.qs_desk.specs.Views.{ShareView, TicketsView}
 use Rattle.qs_lane.specs.Views.{InView, OutView}

@@ -13,8 +13,8 @@ use Rattle.qs_program.specs.Program.{ProgramShape}
 use Rattle.qs_sync_counts.specs.SyncRows.{syncs_of}
 use Rattle.qs_chunk.specs.LaneRun.{IsLaneRun}
 use Rattle.qs_client.specs.MindState.{MindState, mind_of}
-use Rattle.qs_client_thread.specs.ClientThreads as running
-use Rattle.qs_handler_thread.specs.HandlerThreads as handling
+use Rattle.qs_run.specs.client.ClientThreads as running
+use Rattle.qs_run.specs.handler.HandlerThreads as handling
 use Rattle.qs_desk.specs.Tickets.{of_client, pushed_to}
 use Rattle.qs_lane.specs.Views.{InView, OutView}
 use Rattle.qs_played.specs.Played.{ClientRows, Played, counts_of_ticket, shown_with}

@@ -4,3 +4,6 @@ pub mod Prepared
 pub mod Collected
 pub mod Starts
 pub mod Groups
+pub mod client
+pub mod handler
+pub mod many

@@ -4,8 +4,8 @@ use Rattle.std.specs.List.{list_any}
 use Rattle.qs_program.specs.Program.{BlockShape, ProgramShape, client_at}
 use Rattle.qs_program.specs.Sound.{is_in}
 use Rattle.qs_syncset.specs.declared.mode.Mode.{Mode}
-use Rattle.qs_client_thread.specs.ClientThreads as running
-use Rattle.qs_handler_thread.specs.HandlerThreads as handling
+use Rattle.qs_run.specs.client.ClientThreads as running
+use Rattle.qs_run.specs.handler.HandlerThreads as handling
 use Rattle.qs_lane.specs.Views.{InView, OutView}
 use Rattle.qs_run.specs.Workers.{AreOneLane, IsClientAtStart, IsClientReady, IsHandlerAtStart, IsHandlerReady, IsListOf, IsMindAtStart, IsObjectAtStart}
 use Rattle.qs_run.specs.declared.prepare.parts.RunParts.{RunParts}

@@ -13,11 +13,11 @@ use Rattle.qs_syncset.specs.Codes.{IsCodeOf}
 use Rattle.qs_syncset.specs.declared.mode.Mode.{Mode}
 use Rattle.qs_handler.specs.Handler.{closed}
 use Rattle.qs_handler.specs.HandlerRuns.{Task}
-use Rattle.qs_handler_thread.specs.HandlerThreads as handling
+use Rattle.qs_run.specs.handler.HandlerThreads as handling
 use Rattle.qs_client.specs.ClientRuns.{Deed, RunsTo}
 use Rattle.qs_client.specs.ClientModel.{fresh_mind}
 use Rattle.qs_client.specs.MindState.{MindState, mind_of}
-use Rattle.qs_client_thread.specs.ClientThreads as running
+use Rattle.qs_run.specs.client.ClientThreads as running
 use Rattle.qs_played.specs.JournalRooms.{fresh_held}
 use Rattle.qs_desk.specs.Tickets.{ticket}
 use Rattle.qs_lane.specs.Views.{InView, OutView}

@@ -8,13 +8,13 @@ ghost use Rattle.qs_run.specs.Workers.{AreReady};
 ghost use Rattle.qs_run_laws.specs.Outcomes.{IsOutcome};
 
 use crate::collect::{OutcomeRoom, collect_outcome};
+use crate::handler::Gate;
 use crate::prepare::{RunParts, make_parts, make_workers};
 use crate::start::run_workers;
 use crate::starter::{FreeStart, LentStarter, Starter};
 use crate::worker::{ClientWorker, HandlerWorker, Ready};
 use qs_chunk::ChunkSize;
 use qs_desk::{Desk, DeskName, DeskParts, Front, RawDesk};
-use qs_handler_thread::Gate;
 use qs_played::{Outcome, RunFault};
 use qs_program::Program;
 use qs_syncset::Mode;

@@ -9,15 +9,18 @@
 //! ```
 #![tactic(auto)]
 
+pub mod client;
 mod collect;
 mod execution;
+pub mod handler;
 pub mod laws;
+pub mod many;
 mod prepare;
 mod start;
 mod starter;
 mod worker;
 
+pub use crate::handler::{FreeGate, Gate};
 pub use execution::{execute, execute_with};
-pub use qs_handler_thread::{FreeGate, Gate};
 pub use qs_played::{Outcome, RunFault};
 pub use starter::{FreeStart, Starter};

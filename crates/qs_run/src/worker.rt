@@ -2,10 +2,10 @@
 
 ghost use Rattle.std.specs.Prelude.{◌≡◌};
 
+use crate::client::Lanes as ClientLanes;
+use crate::handler::Lanes as HandlerLanes;
 use qs_client::Mind;
-use qs_client_thread::Lanes as ClientLanes;
 use qs_desk::{DeskName, Share, Tickets};
-use qs_handler_thread::Lanes as HandlerLanes;
 use qs_objects::Held;
 use std::marker::Model;
 

@@ -12,7 +12,7 @@ use Rattle.qs_meaning.proofs.TreeWalks.{put_here, put_there}
 use Rattle.qs_handler.specs.HandlerTurns.{Turn, turns_for}
 use Rattle.qs_played.specs.Played.{ticket}
 use Rattle.qs_played.proofs.Orders.{counts_after}
-use Rattle.qs_protocol.specs.ClientHistories.{upto}
+use Rattle.qs_core_laws.specs.protocol.ClientHistories.{upto}
 use Rattle.qs_desk.specs.Tickets.{of_client}
 
 -- the d tickets of client c from the a-th on

@@ -15,10 +15,10 @@ use Rattle.qs_meaning.specs.BlockRecords.{IsDone, BlockRecord}
 use Rattle.qs_chunk.specs.LaneViews.{ClientLane, Extends, gone, sends}
 use Rattle.qs_chunk.specs.declared.parcel.Parcel.{Parcel}
 use Rattle.qs_played.proofs.JournalRooms.{total}
-use Rattle.qs_protocol.specs.ClientHistories.{apart_from}
-use Rattle.qs_protocol.proofs.LaneWholes.{match_over}
-use Rattle.qs_protocol.proofs.ObjectViews.{PastOf}
-use Rattle.qs_protocol.proofs.GrownJournals.{Grown, grown, grown_room, stamped_honest, stamped_replay}
+use Rattle.qs_core_laws.specs.protocol.ClientHistories.{apart_from}
+use Rattle.qs_core_laws.proofs.protocol.LaneWholes.{match_over}
+use Rattle.qs_core_laws.proofs.protocol.ObjectViews.{PastOf}
+use Rattle.qs_core_laws.proofs.protocol.GrownJournals.{Grown, grown, grown_room, stamped_honest, stamped_replay}
 
 -- nothing passes between a block and an object that it does not reserve
 no_requests : (t : Ticket) (sent : List Parcel) (got : List HeldState) (es : List Event) → sent ≡ [] → got ≡ [] → ClientLane t false sent got es (sends []) → es ≡ []

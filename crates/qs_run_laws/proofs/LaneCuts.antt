@@ -15,8 +15,8 @@ use Rattle.qs_chunk.specs.Runs.{ran_all}
 use Rattle.qs_chunk.specs.declared.parcel.Parcel.{Parcel}
 use Rattle.qs_chunk.specs.declared.parcel.Parcel.TheVariants.{Work, Sync, Home, End}
 use Rattle.qs_handler.specs.HandlerTurns.{Turn, TurnsLead, turns_for}
-use Rattle.qs_protocol.proofs.LaneFronts.{front_rest}
-use Rattle.qs_protocol.proofs.LaneParts.{IsEnded, gone_ended}
+use Rattle.qs_core_laws.proofs.protocol.LaneFronts.{front_rest}
+use Rattle.qs_core_laws.proofs.protocol.LaneParts.{IsEnded, gone_ended}
 
 -- how often the object was asked for
 abbrev syncs : List Parcel → ℕ

@@ -23,8 +23,8 @@ use Rattle.qs_client.specs.ClientRuns.{got_from, reservations, sent_to}
 use Rattle.qs_played.specs.Played.{ticket}
 use Rattle.qs_played.proofs.JournalRooms.{no_block_beyond}
 use Rattle.qs_played.proofs.ReservedObjects.{reserved_inside}
-use Rattle.qs_protocol.specs.ClientHistories.{upto}
-use Rattle.qs_protocol.proofs.ObjectViews.{PastOf}
+use Rattle.qs_core_laws.specs.protocol.ClientHistories.{upto}
+use Rattle.qs_core_laws.proofs.protocol.ObjectViews.{PastOf}
 use Rattle.qs_played.specs.JournalRooms.{fresh_held}
 use Rattle.qs_desk.specs.Tickets.{of_client, of_handler}
 use Rattle.qs_run_laws.specs.ThreadRuns.{IsThreadRun, ThreadRun}

@@ -23,9 +23,9 @@ use Rattle.qs_played.specs.Played.{ticket}
 use Rattle.qs_played.specs.SyncSums.{AreSent, AreSyncsCounted, IsCounted, counts_at, syncs_at}
 use Rattle.qs_played.proofs.JournalRooms.{no_block_beyond}
 use Rattle.qs_played.proofs.Orders.{among_once}
-use Rattle.qs_protocol.proofs.ClientInvariants.{objects_of_block}
-use Rattle.qs_protocol.proofs.HistoryCounts.{IsTallied}
-use Rattle.qs_protocol.proofs.CountedTraces.{trace_counted, tree_count}
+use Rattle.qs_core_laws.proofs.protocol.ClientInvariants.{objects_of_block}
+use Rattle.qs_core_laws.proofs.protocol.HistoryCounts.{IsTallied}
+use Rattle.qs_core_laws.proofs.protocol.CountedTraces.{trace_counted, tree_count}
 use Rattle.qs_run_laws.specs.Outcomes.{IsOutcome, ThreadRunsHaveOutcomes, part_at}
 use Rattle.qs_run_laws.specs.ThreadRuns.{IsThreadRun, ThreadRun, counts_by, entry_by, shown_by, trace_by}
 use Rattle.qs_run_laws.proofs.ThreadHistories.{block_begun, inside, tale, tale_counts}

@@ -17,8 +17,8 @@ use Rattle.qs_syncset.specs.SoundSynced.{IsSoundSynced, IsOnReserved}
 use Rattle.qs_syncset.specs.declared.mode.Mode.{Mode}
 use Rattle.qs_syncset.proofs.CountedSyncs.{code_asks}
 use Rattle.qs_syncset.proofs.SyncTrees.{IsAsking}
-use Rattle.qs_client_run.specs.BlockSizes.{longest}
-use Rattle.qs_client_rules.specs.declared.act.Act.TheVariants as acts
+use Rattle.qs_client.specs.run.BlockSizes.{longest}
+use Rattle.qs_client.specs.declared.rules.act.Act.TheVariants as acts
 use Rattle.qs_handler.specs.Handler.{free, closed}
 use Rattle.qs_handler.specs.HandlerRuns.{Task, takes, TasksLead, taken_by}
 use Rattle.qs_handler.specs.HandlerTurns.{HasTurns, Turn}
@@ -29,14 +29,14 @@ use Rattle.qs_played.specs.Played.{ticket}
 use Rattle.qs_played.proofs.JournalRooms.{no_block_beyond}
 use Rattle.qs_played.proofs.ReservedObjects.{reserved_inside}
 use Rattle.qs_played.proofs.SyncLists.{legal_blocks}
-use Rattle.qs_protocol.proofs.ClientInvariants.{objects_of_block}
-use Rattle.qs_protocol.proofs.ClientHistories.{client_history}
-use Rattle.qs_protocol.specs.ClientHistories.{ClientHistory}
-use Rattle.qs_protocol.proofs.HistoryCounts.{HistoryCounts, history_counts, in_counts}
+use Rattle.qs_core_laws.proofs.protocol.ClientInvariants.{objects_of_block}
+use Rattle.qs_core_laws.proofs.protocol.ClientHistories.{client_history}
+use Rattle.qs_core_laws.specs.protocol.ClientHistories.{ClientHistory}
+use Rattle.qs_core_laws.proofs.protocol.HistoryCounts.{HistoryCounts, history_counts, in_counts}
 use Rattle.qs_played.specs.JournalRooms.{fresh_held}
-use Rattle.qs_protocol.proofs.ReservedLists.{lined}
-use Rattle.qs_client_run.proofs.CodeBounds.{longest_covers}
-use Rattle.qs_protocol.proofs.ProgramTrees.{block_walk, blocks_are, reserved_is}
+use Rattle.qs_core_laws.proofs.protocol.ReservedLists.{lined}
+use Rattle.qs_client.proofs.run.CodeBounds.{longest_covers}
+use Rattle.qs_core_laws.proofs.protocol.ProgramTrees.{block_walk, blocks_are, reserved_is}
 use Rattle.qs_desk.specs.Tickets.{of_handler}
 use Rattle.qs_run_laws.specs.ThreadRuns.{IsThreadRun, ThreadRun}
 

@@ -1,13 +1,13 @@
 -- A script has fewer statements than its text has bytes: it has fewer of them than tokens, and a text has at least a
 -- byte for each of its tokens. The law that bounds the statements of a script is proved here.
 use Rattle.std.proofs.Common.{ℕ, ◌<◌, List, [], ◌∷◌, length, arith}
-use Rattle.qs_tokens.specs.declared.token.Token.{Token}
-use Rattle.qs_tree.specs.declared.tree.Item.{Item}
+use Rattle.qs_script.specs.declared.tokens.token.Token.{Token}
+use Rattle.qs_script.specs.declared.tree.tree.Item.{Item}
 use Rattle.qs_script.specs.Reads.{IsScriptText}
-use Rattle.qs_tree.specs.Sizes.{statements}
-use Rattle.qs_grammar.specs.Grammar.{IsScript}
-use Rattle.qs_tokens.proofs.TokenCounts.{tokens_within}
-use Rattle.qs_grammar.proofs.Counts.{item_counted, items_counted}
+use Rattle.qs_script.specs.tree.Sizes.{statements}
+use Rattle.qs_script.specs.grammar.Grammar.{IsScript}
+use Rattle.qs_script.proofs.tokens.TokenCounts.{tokens_within}
+use Rattle.qs_script.proofs.grammar.Counts.{item_counted, items_counted}
 
 strictly : (s : List Item) (ts : List Token) → 0 < statements s → IsScript s ts → statements s < length ts
 strictly [] ts some h = absurd (omega arith)

@@ -2,14 +2,14 @@
 -- The functions that read arguments, names, blocks, statements and items stand on it. Their invariant is `Continues`:
 -- what is done, joined with what the rest is read as, is what the whole is read as.
 use Rattle.std.proofs.Common.{◌≡◌, ℕ, zero, suc, ◌<◌, List, [], ◌∷◌, ◌++◌, length, refl, ap, sym, ◌∙◌, arith, append_assoc, append-nil, Option, Some, None, Ok, Err}
-use Rattle.qs_tokens.specs.declared.token.Token.{Token}
+use Rattle.qs_script.specs.declared.tokens.token.Token.{Token}
 use Rattle.qs_script.specs.declared.fault.Fault.{Fault}
 use Rattle.qs_script.specs.declared.fault.Fault.TheVariants.{Form, Memory}
-use Rattle.qs_grammar.specs.Reading.{Loop, onto, stmt_in, close_brace_at, Read, after, many_at, run, body_loop, list_loop, one, end_at}
+use Rattle.qs_script.specs.grammar.Reading.{Loop, onto, stmt_in, close_brace_at, Read, after, many_at, run, body_loop, list_loop, one, end_at}
 use Rattle.qs_script.specs.Results.{Fails}
-use Rattle.qs_tree.specs.Tree.{Stmts, join_statements}
-use Rattle.qs_grammar.proofs.Loops.{Runs, run_is, runs_stop, runs_no_element, runs_element}
-use Rattle.qs_tree.proofs.Trees.{joined_assoc, joined-end}
+use Rattle.qs_script.specs.tree.Tree.{Stmts, join_statements}
+use Rattle.qs_script.proofs.grammar.Loops.{Runs, run_is, runs_stop, runs_no_element, runs_element}
+use Rattle.qs_script.proofs.tree.Trees.{joined_assoc, joined-end}
 
 -- the code has read done from start and tokens, and the tokens from rest on are left
 pub record Continues {M : Type 0} (loop : Loop M) (start : M) (tokens rest : List Token) (done : M) : Type 0 where

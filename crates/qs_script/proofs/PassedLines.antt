@@ -5,11 +5,11 @@ use Rattle.std.proofs.lemmas.List.{take-append-drop, take_all, length-take-le, g
 use Rattle.std.proofs.lemmas.List.Sums.{fold_more}
 use Rattle.std.proofs.Math.Seq.{take-append_seam}
 use Rattle.qs_diagnosis.specs.Spots.{begin, line_length, line_end_at, moved, spot_at}
-use Rattle.qs_tokens.specs.declared.token.Token.{Token}
-use Rattle.qs_tokens.specs.declared.lex.TokenFault.{TokenFault}
-use Rattle.qs_tokens.specs.Tokens.{after, tokens_of}
-use Rattle.qs_tokens.proofs.Lexemes.{then_tokens, after-after, after-nil}
-use Rattle.qs_tokens.proofs.ByLine.{by_line}
+use Rattle.qs_script.specs.declared.tokens.token.Token.{Token}
+use Rattle.qs_script.specs.declared.tokens.lex.TokenFault.{TokenFault}
+use Rattle.qs_script.specs.tokens.Tokens.{after, tokens_of}
+use Rattle.qs_script.proofs.tokens.Lexemes.{then_tokens, after-after, after-nil}
+use Rattle.qs_script.proofs.tokens.ByLine.{by_line}
 use Rattle.qs_script.specs.Lines.{IsLine, IsFaultLine, IsTokenLine, line_from}
 
 abbrev Tokens : Type 0

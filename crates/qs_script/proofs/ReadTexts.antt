@@ -2,20 +2,20 @@
 -- contract of `read` and the worked examples stand on it. It joins the two directions that are proved of the grammar:
 -- whatever is read is a script, and every script is read.
 use Rattle.std.proofs.Common.{◌≡◌, ℕ, ◌≤◌, List, [], length, refl, sym, subst, arith, Bool, Result, Ok, Err, true, false}
-use Rattle.qs_tokens.specs.declared.token.Token.{Token}
-use Rattle.qs_tree.specs.declared.tree.Item.{Item}
+use Rattle.qs_script.specs.declared.tokens.token.Token.{Token}
+use Rattle.qs_script.specs.declared.tree.tree.Item.{Item}
 use Rattle.qs_script.specs.declared.fault.ReadFault.{ReadFault}
 use Rattle.qs_script.specs.declared.fault.ReadFault.TheVariants as f
-use Rattle.qs_tokens.specs.declared.lex.TokenFault.{TokenFault}
-use Rattle.qs_tokens.specs.declared.lex.TokenFault.TheVariants as e
+use Rattle.qs_script.specs.declared.tokens.lex.TokenFault.{TokenFault}
+use Rattle.qs_script.specs.declared.tokens.lex.TokenFault.TheVariants as e
 use Rattle.std.proofs.Math.Dec.{ltb}
-use Rattle.qs_tokens.specs.Tokens.{tokens_of}
-use Rattle.qs_grammar.specs.Reading.{run, items_loop, Read}
-use Rattle.qs_grammar.specs.Grammar.{IsScript}
+use Rattle.qs_script.specs.tokens.Tokens.{tokens_of}
+use Rattle.qs_script.specs.grammar.Reading.{run, items_loop, Read}
+use Rattle.qs_script.specs.grammar.Grammar.{IsScript}
 use Rattle.qs_script.specs.Reads.{IsScriptText, IsRefused}
-use Rattle.qs_grammar.proofs.Complete.{one_tree}
-use Rattle.qs_grammar.proofs.Readings.{both_ok, not_both, is_script, is_no_script}
-use Rattle.qs_tree.specs.Limits.{longest_text}
+use Rattle.qs_script.proofs.grammar.Complete.{one_tree}
+use Rattle.qs_script.proofs.grammar.Readings.{both_ok, not_both, is_script, is_no_script}
+use Rattle.qs_script.specs.tree.Limits.{longest_text}
 
 -- a text has at most one list of tokens
 same_tokens : (text : List ℕ) (ts us : List Token) → tokens_of text ≡ Ok ts → tokens_of text ≡ Ok us → ts ≡ us

@@ -1,18 +1,18 @@
 -- Texts, their tokens and their scripts.
 use Rattle.std.specs.Prelude.{◌≡◌, ℕ, List, [], ◌∷◌, ◌++◌, Ok, Err, codes, replicate, pos}
 use Rattle.std.proofs.Common.{neg_ℤ}
-use Rattle.qs_tokens.specs.declared.lex.TokenFault.TheVariants.{Byte, Number, Name}
-use Rattle.qs_tokens.specs.declared.token.Token.TheVariants as t
-use Rattle.qs_tree.specs.declared.tree.Atom.TheVariants as a
-use Rattle.qs_tree.specs.declared.tree.Expr.TheVariants.{Plain, Binary}
-use Rattle.qs_tree.specs.declared.tree.Operator.TheVariants.{Times}
-use Rattle.qs_tree.specs.declared.tree.Relation.TheVariants.{Less}
-use Rattle.qs_tree.specs.declared.tree.Item.{Item}
-use Rattle.qs_tree.specs.declared.tree.Item.TheVariants.{Object, Client, Template, Started}
-use Rattle.qs_tree.specs.declared.tree.KindText.TheVariants.{Account, Grid}
-use Rattle.qs_tree.specs.declared.tree.KindWord.TheVariants as kind
-use Rattle.qs_tree.specs.Tree.{Stmts, end, command, query, assign, choose, choose_else, again, leave}
-use Rattle.qs_tokens.specs.Tokens.{tokens_of}
+use Rattle.qs_script.specs.declared.tokens.lex.TokenFault.TheVariants.{Byte, Number, Name}
+use Rattle.qs_script.specs.declared.tokens.token.Token.TheVariants as t
+use Rattle.qs_script.specs.declared.tree.tree.Atom.TheVariants as a
+use Rattle.qs_script.specs.declared.tree.tree.Expr.TheVariants.{Plain, Binary}
+use Rattle.qs_script.specs.declared.tree.tree.Operator.TheVariants.{Times}
+use Rattle.qs_script.specs.declared.tree.tree.Relation.TheVariants.{Less}
+use Rattle.qs_script.specs.declared.tree.tree.Item.{Item}
+use Rattle.qs_script.specs.declared.tree.tree.Item.TheVariants.{Object, Client, Template, Started}
+use Rattle.qs_script.specs.declared.tree.tree.KindText.TheVariants.{Account, Grid}
+use Rattle.qs_script.specs.declared.tree.tree.KindWord.TheVariants as kind
+use Rattle.qs_script.specs.tree.Tree.{Stmts, end, command, query, assign, choose, choose_else, again, leave}
+use Rattle.qs_script.specs.tokens.Tokens.{tokens_of}
 use Rattle.qs_script.specs.Reads.{IsScriptText}
 
 pub record TokenExamples : Type 0 where

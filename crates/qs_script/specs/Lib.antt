@@ -4,3 +4,6 @@ pub mod Reads
 -- What crates promise one another, what proofs use, and worked examples.
 pub mod Results
 pub mod Examples
+pub mod tokens
+pub mod tree
+pub mod grammar

@@ -1,16 +1,16 @@
 -- What reading a text answers.
 use Rattle.std.specs.Prelude.{◌≡◌, ℕ, ◌≤◌, ◌<◌, List, length, Result, Ok, Err}
-use Rattle.qs_tokens.specs.declared.token.Token.{Token}
-use Rattle.qs_tree.specs.declared.tree.Item.{Item}
+use Rattle.qs_script.specs.declared.tokens.token.Token.{Token}
+use Rattle.qs_script.specs.declared.tree.tree.Item.{Item}
 use Rattle.qs_script.specs.declared.fault.ReadFault.{ReadFault}
 use Rattle.qs_script.specs.declared.fault.ReadFault.TheVariants as f
-use Rattle.qs_tokens.specs.declared.lex.TokenFault.{TokenFault}
-use Rattle.qs_tokens.specs.declared.lex.TokenFault.TheVariants as token
-use Rattle.qs_tokens.specs.Tokens.{tokens_of}
-use Rattle.qs_grammar.specs.Grammar.{IsScript}
-use Rattle.qs_grammar.specs.FormPlaces.{IsFormPlace}
+use Rattle.qs_script.specs.declared.tokens.lex.TokenFault.{TokenFault}
+use Rattle.qs_script.specs.declared.tokens.lex.TokenFault.TheVariants as token
+use Rattle.qs_script.specs.tokens.Tokens.{tokens_of}
+use Rattle.qs_script.specs.grammar.Grammar.{IsScript}
+use Rattle.qs_script.specs.grammar.FormPlaces.{IsFormPlace}
 use Rattle.qs_script.specs.Lines.{IsFaultLine, IsTokenLine, last_line}
-use Rattle.qs_tree.specs.Limits.{longest_text}
+use Rattle.qs_script.specs.tree.Limits.{longest_text}
 
 -- the text has at most 65,536 bytes, and its tokens are the script's
 pub record IsScriptText (text : List ℕ) (script : List Item) : Type 0 where

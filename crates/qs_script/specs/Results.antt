@@ -1,11 +1,11 @@
 -- That the code's results are what is read.
 use Rattle.std.specs.Borrow.{Bor}
 use Rattle.std.specs.Prelude.{◌≡◌, ℕ, List, Option, Some, None, Result, Ok, Err}
-use Rattle.qs_tokens.specs.declared.token.Token.{Token}
+use Rattle.qs_script.specs.declared.tokens.token.Token.{Token}
 use Rattle.qs_script.specs.declared.fault.Fault.{Fault}
 use Rattle.qs_script.specs.declared.fault.Fault.TheVariants.{Form, Memory}
-use Rattle.qs_tree.specs.Tree.{Stmts}
-use Rattle.qs_grammar.specs.Reading.{Read, onto}
+use Rattle.qs_script.specs.tree.Tree.{Stmts}
+use Rattle.qs_script.specs.grammar.Reading.{Read, onto}
 
 -- no reading goes on at a token, and so many are left there; unless memory ran out
 abbrev pub Fails : {Y : Type 0} → Fault → Result Y ℕ → Type 0

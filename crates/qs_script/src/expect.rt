@@ -1,11 +1,11 @@
 // Single tokens.
 
 ghost use Rattle.std.specs.Prelude.{◌<◌, length, IfOk, IfSome};
-ghost use Rattle.qs_grammar.specs.Reading.{name_at, open_brace_at, close_brace_at, close_paren_at};
+ghost use Rattle.qs_script.specs.grammar.Reading.{name_at, open_brace_at, close_brace_at, close_paren_at};
 ghost use Rattle.qs_script.specs.Results.{Gives, Finds};
 
 use crate::fault::Fault;
-use qs_tokens::{Name, Token};
+use crate::tokens::{Name, Token};
 
 pub(crate) fn name(tokens: &[Token]) -> Result<(Name, &[Token]), Fault>
     ensures exact { Gives (λ x. (x.0, x.1.now)) result (name_at tokens.now) }

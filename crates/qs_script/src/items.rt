@@ -1,7 +1,7 @@
 // Items: objects, and clients with their blocks.
 
 ghost use Rattle.std.specs.Prelude.{◌<◌, [], ◌∷◌, length, IfOk};
-ghost use Rattle.qs_grammar.specs.Reading.{after, run, names_loop, block_at, separate_at, blocks_loop, object_at, object_called_at, client_at, client_called_at, own_blocks_at, item_at, items_loop};
+ghost use Rattle.qs_script.specs.grammar.Reading.{after, run, names_loop, block_at, separate_at, blocks_loop, object_at, object_called_at, client_at, client_called_at, own_blocks_at, item_at, items_loop};
 ghost use Rattle.qs_script.specs.Results.{Gives};
 
 use crate::expect::{name, past_close_brace, past_open_brace};
@@ -9,8 +9,8 @@ use crate::fault::Fault;
 use crate::lists::{Listing, list};
 use crate::statements::body;
 use crate::templates::{started, template};
-use qs_tokens::{Name, Token};
-use qs_tree::{
+use crate::tokens::{Name, Token};
+use crate::tree::{
     Block, Blocks, ClientItem, Item, KindText, MOST_LEVELS, NameList, ObjectItem, Script, add,
 };
 use std::alloc::Global;
@@ -24,7 +24,7 @@ struct Reserved;
 impl Listing for Reserved {
     type Element = Name;
 
-    ghost use Rattle.qs_grammar.specs.Reading.{name_at, open_brace_at};
+    ghost use Rattle.qs_script.specs.grammar.Reading.{name_at, open_brace_at};
 
     ghost stop_at = { open_brace_at };
 
@@ -78,7 +78,7 @@ struct Separates;
 impl Listing for Separates {
     type Element = Block;
 
-    ghost use Rattle.qs_grammar.specs.Reading.{close_brace_at, separate_at};
+    ghost use Rattle.qs_script.specs.grammar.Reading.{close_brace_at, separate_at};
 
     ghost stop_at = { close_brace_at };
 

@@ -1,14 +1,14 @@
 // Laws of texts, and what is passed on of those of the grammar.
 
 ghost use Rattle.std.specs.Prelude.{◌≡◌, ◌<◌, ℕ, List, length};
-ghost use Rattle.qs_tree.specs.declared.tree.Item.{Item};
+ghost use Rattle.qs_script.specs.declared.tree.tree.Item.{Item};
 ghost use Rattle.qs_script.specs.declared.fault.ReadFault.{ReadFault};
 ghost use Rattle.qs_script.specs.declared.fault.ReadFault.TheVariants.{Memory};
 ghost use Rattle.qs_script.specs.Reads.{IsScriptText, IsRefused};
-ghost use Rattle.qs_tree.specs.Sizes.{statements};
+ghost use Rattle.qs_script.specs.tree.Sizes.{statements};
 ghost use Rattle.qs_script.specs.Examples.{TokenExamples, ScriptExamples};
 
-pub use qs_grammar::laws::{one_place, one_tree};
+pub use crate::grammar::laws::{one_place, one_tree};
 
 /// Worked examples: texts with their tokens or their first token fault, texts with their scripts, and texts that are
 /// none.

@@ -2,15 +2,15 @@
 
 ghost use Rattle.std.specs.Prelude.{◌≡◌, ◌<◌, ◌≤◌, ◌+◌, length, Ok, Err, IfOk, IfErr, List};
 ghost use Rattle.qs_diagnosis.specs.Spots.{spot_at};
-ghost use Rattle.qs_tokens.specs.declared.token.Token.{Token};
-ghost use Rattle.qs_tokens.specs.declared.lex.TokenFault.{TokenFault as Fault};
-ghost use Rattle.qs_tokens.specs.Tokens.{tokens_of};
-ghost use Rattle.qs_tokens.specs.Cutting.{tokens_in};
-ghost use Rattle.qs_tree.specs.Limits.{longest_text};
+ghost use Rattle.qs_script.specs.declared.tokens.token.Token.{Token};
+ghost use Rattle.qs_script.specs.declared.tokens.lex.TokenFault.{TokenFault as Fault};
+ghost use Rattle.qs_script.specs.tokens.Tokens.{tokens_of};
+ghost use Rattle.qs_script.specs.tokens.Cutting.{tokens_in};
+ghost use Rattle.qs_script.specs.tree.Limits.{longest_text};
 ghost use Rattle.qs_script.specs.Lines.{IsFaultLine, IsTokenLine, last_line};
 
+use crate::tokens::{Piece, TokenFault, front};
 use qs_diagnosis::{line_end, spot_of};
-use qs_tokens::{Piece, TokenFault, front};
 
 // How many tokens a piece is.
 fn count_of(piece: Piece) -> usize

@@ -1,13 +1,13 @@
 // Lists, read element by element.
 
 ghost use Rattle.std.specs.Prelude.{◌<◌, length, IfOk, IfSome, List, Option};
-ghost use Rattle.qs_tokens.specs.declared.token.Token.{Token as token};
-ghost use Rattle.qs_grammar.specs.Reading.{Read, after, run, list_loop};
+ghost use Rattle.qs_script.specs.declared.tokens.token.Token.{Token as token};
+ghost use Rattle.qs_script.specs.grammar.Reading.{Read, after, run, list_loop};
 ghost use Rattle.qs_script.specs.Results.{Gives, Finds};
 
 use crate::fault::Fault;
-use qs_tokens::Token;
-use qs_tree::add;
+use crate::tokens::Token;
+use crate::tree::add;
 use std::alloc::Global;
 
 // How a list is read: what ends it, and what each of its elements is.

@@ -1,16 +1,16 @@
 // From a text to a script.
 
 ghost use Rattle.std.specs.Prelude.{◌≡◌, ◌<◌, ◌≤◌, ◌↔◌, length, Ok, IfOk, IfErr, IsErrOf, IsTrue};
-ghost use Rattle.qs_tokens.specs.Tokens.{tokens_of};
+ghost use Rattle.qs_script.specs.tokens.Tokens.{tokens_of};
 ghost use Rattle.qs_script.specs.Reads.{HasFault, IsReadOf, IsPlaced};
-ghost use Rattle.qs_grammar.specs.FormPlaces.{BeginsScript, IsFormPlaceOf};
-ghost use Rattle.qs_tree.specs.Limits.{longest_text};
+ghost use Rattle.qs_script.specs.grammar.FormPlaces.{BeginsScript, IsFormPlaceOf};
+ghost use Rattle.qs_script.specs.tree.Limits.{longest_text};
 
 use crate::fault::{Fault, ReadFault};
 use crate::items::script;
 use crate::lines::line_of;
-use qs_tokens::{ListFault, Token, TokenFault, list_tokens};
-use qs_tree::{LONGEST_TEXT, Script};
+use crate::tokens::{ListFault, Token, TokenFault, list_tokens};
+use crate::tree::{LONGEST_TEXT, Script};
 use std::alloc::{AllocError, Global};
 
 // The fault at that line.

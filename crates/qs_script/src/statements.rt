@@ -1,17 +1,17 @@
 // Statements. Each is added to its body as soon as it is read.
 
 ghost use Rattle.std.specs.Prelude.{◌≡◌, ◌<◌, ◌≤◌, [], ◌∷◌, length, Ok, IfOk};
-ghost use Rattle.qs_tree.specs.Views.{single};
-ghost use Rattle.qs_grammar.specs.Reading.{run, body_loop, stmt_in, stmt_at, choice_at, other_at, repeat_at, braced_at, named_at, command_at, with_args, args_at, after, more_loop, assigned_at, query_at, assign_at, computed_at, semicolon_at, ended_at};
-ghost use Rattle.qs_tree.specs.Tree.{call_of};
+ghost use Rattle.qs_script.specs.tree.Views.{single};
+ghost use Rattle.qs_script.specs.grammar.Reading.{run, body_loop, stmt_in, stmt_at, choice_at, other_at, repeat_at, braced_at, named_at, command_at, with_args, args_at, after, more_loop, assigned_at, query_at, assign_at, computed_at, semicolon_at, ended_at};
+ghost use Rattle.qs_script.specs.tree.Tree.{call_of};
 ghost use Rattle.qs_script.specs.Results.{Gives, Puts};
-ghost use Rattle.qs_tree.specs.Tree.{end, leave, command};
+ghost use Rattle.qs_script.specs.tree.Tree.{end, leave, command};
 
 use crate::expect::{past_close_brace, past_close_paren};
 use crate::fault::Fault;
+use crate::tokens::{Name, Token};
+use crate::tree::{ArgumentList, Atom, Body, Expr, MOST_LEVELS, Operator, Stmt};
 use crate::values::{args, atom, operator, request, several, test};
-use qs_tokens::{Name, Token};
-use qs_tree::{ArgumentList, Atom, Body, Expr, MOST_LEVELS, Operator, Stmt};
 use std::alloc::Global;
 
 // How many statements a body may well have: that of a block more than one inside it.

@@ -1,15 +1,15 @@
 // Templates, and clients of templates.
 
 ghost use Rattle.std.specs.Prelude.{◌<◌, [], ◌∷◌, length, IfOk};
-ghost use Rattle.qs_grammar.specs.Reading.{after, run, formal_at, further_formal_at, formals_loop, further_name_at, given_loop, template_at, template_called_at, template_blocks_at, started_at, started_with_at};
+ghost use Rattle.qs_script.specs.grammar.Reading.{after, run, formal_at, further_formal_at, formals_loop, further_name_at, given_loop, template_at, template_called_at, template_blocks_at, started_at, started_with_at};
 ghost use Rattle.qs_script.specs.Results.{Gives};
 
 use crate::expect::{name as expect_name, past_close_paren};
 use crate::fault::Fault;
 use crate::items::blocks;
 use crate::lists::{Listing, list};
-use qs_tokens::{Name, Token};
-use qs_tree::{Formal, Formals, Item, KindWord, NameList, StartedItem, TemplateItem, add};
+use crate::tokens::{Name, Token};
+use crate::tree::{Formal, Formals, Item, KindWord, NameList, StartedItem, TemplateItem, add};
 use std::alloc::Global;
 
 // A formal: its kind and its name.
@@ -55,7 +55,7 @@ struct FurtherFormals;
 impl Listing for FurtherFormals {
     type Element = Formal;
 
-    ghost use Rattle.qs_grammar.specs.Reading.{close_paren_at, further_formal_at};
+    ghost use Rattle.qs_script.specs.grammar.Reading.{close_paren_at, further_formal_at};
 
     ghost stop_at = { close_paren_at };
 
@@ -98,7 +98,7 @@ struct FurtherNames;
 impl Listing for FurtherNames {
     type Element = Name;
 
-    ghost use Rattle.qs_grammar.specs.Reading.{close_paren_at, further_name_at};
+    ghost use Rattle.qs_script.specs.grammar.Reading.{close_paren_at, further_name_at};
 
     ghost stop_at = { close_paren_at };
 

@@ -1,14 +1,14 @@
 // Values, expressions and requests.
 
 ghost use Rattle.std.specs.Prelude.{◌<◌, [], ◌∷◌, length, ℕ, List, IfOk, IfSome};
-ghost use Rattle.qs_grammar.specs.Reading.{after, run, atom_at, further_at, more_loop, args_at, call_at, operator_at, relation_at, test_at};
-ghost use Rattle.qs_tree.specs.Tree.{call_of};
+ghost use Rattle.qs_script.specs.grammar.Reading.{after, run, atom_at, further_at, more_loop, args_at, call_at, operator_at, relation_at, test_at};
+ghost use Rattle.qs_script.specs.tree.Tree.{call_of};
 ghost use Rattle.qs_script.specs.Results.{Gives, Finds};
 
 use crate::expect::past_close_paren;
 use crate::fault::Fault;
-use qs_tokens::{Name, Token};
-use qs_tree::{ArgumentList, Atom, Operator, Relation, Test};
+use crate::tokens::{Name, Token};
+use crate::tree::{ArgumentList, Atom, Operator, Relation, Test};
 use std::alloc::Global;
 
 #[inline(always)]

@@ -9,7 +9,7 @@ use Rattle.qs_program.specs.Program.{ProgramShape}
 use Rattle.qs_report.specs.declared.faults.Fault.{Fault}
 use Rattle.qs_report.specs.declared.faults.Fault.TheVariants as fault
 use Rattle.qs_run.specs.Starts.{IsRefusal, LetAllStart, worker_count}
-use Rattle.qs_repeats.specs.Refusals.{IsRefusedTally, LetRunsStart}
+use Rattle.qs_run.specs.many.Refusals.{IsRefusedTally, LetRunsStart}
 use Rattle.qs_tally.specs.Tallies.{TallyShape}
 use Rattle.qs_played.specs.declared.fault.RunFault.{RunFault}
 use Rattle.qs_line.specs.declared.line.Format.{Format}

@@ -10,7 +10,7 @@ use Rattle.qs_report.specs.declared.faults.Fault.{Fault}
 use Rattle.qs_report.specs.declared.faults.Fault.TheVariants as fault
 use Rattle.qs_report.specs.Faults.{fault_status}
 use Rattle.qs_script.specs.declared.fault.ReadFault.TheVariants as read
-use Rattle.qs_fault_places.specs.declared.fault.CheckFault.TheVariants as check_fault
+use Rattle.qs_check.specs.declared.fault_places.fault.CheckFault.TheVariants as check_fault
 use Rattle.qs_played.specs.declared.fault.PlayFault.TheVariants as play_fault
 use Rattle.qs_program.specs.Program.{ProgramShape}
 use Rattle.qs_serial.specs.NamedOrders.{order_of}
@@ -18,13 +18,13 @@ use Rattle.qs_serial.specs.declared.fault.OrderFault.TheVariants as order_fault
 use Rattle.qs_outcomes.specs.Outcomes.{AreOutcomesAfter, OutcomesShape}
 use Rattle.qs_outcomes.specs.declared.fault.OutcomesFault.{OutcomesFault}
 use Rattle.qs_outcomes.specs.declared.fault.OutcomesFault.TheVariants as outcomes_fault
-use Rattle.qs_tree.specs.declared.tree.Item.{Item}
+use Rattle.qs_script.specs.declared.tree.tree.Item.{Item}
 use Rattle.qs_script.specs.declared.fault.ReadFault.{ReadFault}
 use Rattle.qs_script.specs.Reads.{IsRefused, IsScriptText}
-use Rattle.qs_fault_places.specs.declared.fault.CheckFault.{CheckFault}
+use Rattle.qs_check.specs.declared.fault_places.fault.CheckFault.{CheckFault}
 use Rattle.qs_check.specs.Checked.{IsCheckOf, fault_of}
-use Rattle.qs_resolution.specs.Resolve.{program_of_items}
-use Rattle.qs_node_lines.specs.NodeLines.{node_lines}
+use Rattle.qs_check.specs.resolution.Resolve.{program_of_items}
+use Rattle.qs_dot.specs.node_lines.NodeLines.{node_lines}
 use Rattle.qs_report.specs.EndsText.{IsEndsText}
 use Rattle.qs_report.specs.OutcomesText.{IsOutcomesText}
 use Rattle.qs_json.specs.EndsJson.{IsEndsJson}
@@ -49,18 +49,18 @@ use Rattle.qs_conditions.specs.declared.claim.Quantifier.TheVariants as quantifi
 use Rattle.qs_outcomes.specs.Answers.{IsWitnessAfter}
 use Rattle.qs_outcomes.specs.Outcomes.{HasPlaces}
 use Rattle.qs_standings.specs.Standings.{StandingShape}
-use Rattle.qs_throughout.specs.Courses.{IsCourseWitnessAfter}
+use Rattle.qs_outcomes.specs.throughout.Courses.{IsCourseWitnessAfter}
 use Rattle.qs_questions.specs.Claims.{HasMoreFor, IsAnswerBy, IsAnswerTo}
 use Rattle.qs_questions.specs.Questions.{first_unknown_in}
 use Rattle.qs_report.specs.AnswerText.{IsAnswerText, is_yes}
 use Rattle.qs_json.specs.AnswerJson.{IsAnswerJson}
-use Rattle.qs_estimate.specs.Estimates.{IsEstimateAfter}
-use Rattle.qs_estimate.specs.declared.estimate.Estimate.{Estimate}
-use Rattle.qs_repeats.specs.Repeats.{IsTallyBy}
+use Rattle.qs_outcomes.specs.estimate.Estimates.{IsEstimateAfter}
+use Rattle.qs_outcomes.specs.declared.estimate.estimate.Estimate.{Estimate}
+use Rattle.qs_run.specs.many.Repeats.{IsTallyBy}
 use Rattle.qs_tally.specs.Tallies.{CountedShape, IsEnd, TallyShape, standings_in}
 use Rattle.qs_syncset.specs.declared.mode.Mode.{Mode}
 use Rattle.qs_played.specs.declared.schedule.actor.Actor.{Actor}
-use Rattle.qs_core_state.specs.CoreState.{IsShownIsolated}
+use Rattle.qs_core.specs.state.CoreState.{IsShownIsolated}
 use Rattle.qs_played.specs.Isolation.{IsIsolated}
 use Rattle.qs_serve.specs.RunReports.{report_by}
 use Rattle.qs_serve.specs.Due.{AreLinesFor, AreLinesWhere, IsAnswerAfterDue, IsAnswerTextTo, IsAnswered, IsCounted, IsDue, IsDueAfter, IsEstimateText, IsEstimated, answer_in, most_numbered, IsDueOfProgram, IsDueOfText, IsDueOfTextAlone, IsDueWithoutThreads, IsListOf, IsOutOfMemory, IsProgramOf, IsRefusedBy, IsReportBetween, IsReportOf, IsSomeText, IsTextBy, IsTextOfOutcomes, Lines, IsUnanswered, IsUnlisted, IsUnreadable, due_status, limit_in, listed_as, IsTextOfList, takes_threads, told_report}

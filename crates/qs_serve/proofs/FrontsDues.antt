@@ -14,7 +14,7 @@ use Rattle.qs_standings.specs.Standings.{StandingShape}
 use Rattle.qs_outcomes.specs.Outcomes.{HasMoreThanAfter, HasPlaces}
 use Rattle.qs_outcomes.specs.declared.fault.OutcomesFault.{OutcomesFault}
 use Rattle.qs_outcomes.specs.declared.fault.OutcomesFault.TheVariants as outcomes_fault
-use Rattle.qs_level_laws.specs.Fronts.{AreFrontsAfter, IsAfter}
+use Rattle.qs_levels.specs.meaning.Fronts.{AreFrontsAfter, IsAfter}
 use Rattle.qs_report.specs.declared.faults.Fault.{Fault}
 use Rattle.qs_report.specs.declared.faults.Fault.TheVariants as fault
 use Rattle.qs_line.specs.Line.{fronts}

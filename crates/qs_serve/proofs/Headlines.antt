@@ -9,7 +9,7 @@ use Rattle.qs_check.specs.Checked.{fault_of}
 use Rattle.qs_check.proofs.SoundTexts.{sound_accepted}
 use Rattle.qs_conditions.specs.Conditions.{Tree, steps_of}
 use Rattle.qs_conditions.specs.declared.claim.Claim.{Claim}
-use Rattle.qs_grammar.proofs.Form.{formed}
+use Rattle.qs_script.proofs.grammar.Form.{formed}
 use Rattle.qs_line.proofs.Claims.{claims_have_conditions, runs_are_lines}
 use Rattle.qs_line.specs.Claims.{HasCondition}
 use Rattle.qs_line.specs.RunLines.{style_of}
@@ -19,7 +19,7 @@ use Rattle.qs_line.specs.declared.line.Format.{Format}
 use Rattle.qs_line.specs.declared.line.Format.TheVariants as format
 use Rattle.qs_line.specs.declared.line.ReportStyle.{ReportStyle}
 use Rattle.qs_line.specs.declared.parts.Part.{Part}
-use Rattle.qs_node_lines.specs.NodeLines.{node_lines}
+use Rattle.qs_dot.specs.node_lines.NodeLines.{node_lines}
 use Rattle.qs_played.specs.Played.{Played}
 use Rattle.qs_played.specs.declared.schedule.actor.Actor.{Actor}
 use Rattle.qs_program.specs.Program.{ProgramShape}
@@ -43,7 +43,7 @@ use Rattle.qs_promises.proofs.AsSerial.{as_if_serial}
 use Rattle.qs_report.specs.AnswerText.{IsAnswerText}
 use Rattle.qs_json.specs.AnswerJson.{IsAnswerJson}
 use Rattle.qs_report.specs.declared.faults.Fault.{Fault}
-use Rattle.qs_resolution.specs.Resolve.{program_of_items}
+use Rattle.qs_check.specs.resolution.Resolve.{program_of_items}
 use Rattle.qs_serve.specs.RunReports.{report_by}
 use Rattle.qs_script.specs.Reads.{IsScriptText}
 use Rattle.qs_serial.specs.NamedOrders.{order_of}
@@ -53,7 +53,7 @@ use Rattle.qs_serve.specs.Reading.{Reading}
 use Rattle.qs_serve.specs.declared.due.Due.{Due}
 use Rattle.qs_serve.specs.declared.due.Due.TheVariants.{Text, No, Refused}
 use Rattle.qs_serve.proofs.Dues.{alone, of_named, one_is_none, zero_is_none}
-use Rattle.qs_tree.specs.declared.tree.Item.{Item}
+use Rattle.qs_script.specs.declared.tree.tree.Item.{Item}
 
 -- the program of an accepted script is sound
 sound_script : (text : List ℕ) (s : List Item) → IsScriptText text s → fault_of s ≡ None → IsSound (program_of_items s)

@@ -3,7 +3,7 @@ use Rattle.std.specs.Prelude.{◌≡◌, ◌≤◌, ℕ, ◌⊎◌, List, [], �
 use Rattle.std.specs.Global.{Global}
 use Rattle.std.specs.Io.KnownBytes.{Appends}
 use Rattle.qs_script.specs.declared.fault.ReadFault.TheVariants as read
-use Rattle.qs_fault_places.specs.declared.fault.CheckFault.TheVariants as check_fault
+use Rattle.qs_check.specs.declared.fault_places.fault.CheckFault.TheVariants as check_fault
 use Rattle.qs_played.specs.declared.fault.PlayFault.TheVariants as play_fault
 use Rattle.qs_serial.specs.NamedOrders.{order_of}
 use Rattle.qs_meaning.specs.Serial.{IsLegal}
@@ -14,7 +14,7 @@ use Rattle.qs_outcomes.specs.declared.fault.OutcomesFault.{OutcomesFault}
 use Rattle.qs_outcomes.specs.declared.fault.OutcomesFault.TheVariants as outcomes_fault
 use Rattle.qs_standings.specs.Lists.{HasOne}
 use Rattle.qs_standings.specs.Standings.{StandingShape}
-use Rattle.qs_level_laws.specs.Fronts.{AreFrontsAfter}
+use Rattle.qs_levels.specs.meaning.Fronts.{AreFrontsAfter}
 use Rattle.qs_alike.specs.AlikeOutcomes.{AlikeShape, AreAlikeOutcomes, CanBeAtExactly, HasMoreUnlike}
 use Rattle.qs_alike.specs.Changes.{AreAllAlike, AreClasses, Classes}
 use Rattle.qs_dot.specs.ChartDot.{IsChartDot}
@@ -24,7 +24,7 @@ use Rattle.qs_report.specs.Faults.{fault_text, fault_status}
 use Rattle.qs_report.specs.Report.{counts_text}
 use Rattle.qs_report.specs.GraphText.{IsGraphText}
 use Rattle.qs_dot.specs.DotText.{IsDotText}
-use Rattle.qs_node_lines.specs.NodeLines.{node_lines}
+use Rattle.qs_dot.specs.node_lines.NodeLines.{node_lines}
 use Rattle.qs_conditions.specs.declared.claim.Claim.{Claim}
 use Rattle.qs_conditions.specs.declared.claim.Quantifier.{Quantifier}
 use Rattle.qs_outcomes.specs.Answers.{AnswerShape}
@@ -47,10 +47,10 @@ use Rattle.qs_report.specs.AnswerText.{IsAnswerText, is_yes, text_of_answer}
 use Rattle.qs_report.specs.EndsText.{IsEndsText, end_texts}
 use Rattle.qs_report.specs.EstimateText.{estimate_text}
 use Rattle.qs_report.specs.TallyText.{tally_text}
-use Rattle.qs_estimate.specs.Estimates.{IsEstimateAfter}
-use Rattle.qs_estimate.specs.declared.estimate.Estimate.{Estimate}
-use Rattle.qs_repeats.specs.Refusals.{IsRefusedTally, LetRunsStart}
-use Rattle.qs_repeats.specs.Repeats.{IsTallyBy}
+use Rattle.qs_outcomes.specs.estimate.Estimates.{IsEstimateAfter}
+use Rattle.qs_outcomes.specs.declared.estimate.estimate.Estimate.{Estimate}
+use Rattle.qs_run.specs.many.Refusals.{IsRefusedTally, LetRunsStart}
+use Rattle.qs_run.specs.many.Repeats.{IsTallyBy}
 use Rattle.qs_tally.specs.Tallies.{TallyShape}
 use Rattle.qs_report.specs.OutcomesText.{IsOutcomesText, listed_text}
 use Rattle.std.specs.List.{AllByRecursion}
@@ -58,15 +58,15 @@ use Rattle.qs_text.specs.SortedTexts.{IsInOrder}
 use Rattle.qs_text.specs.TellApart.{IsEndOfWords}
 use Rattle.qs_text.specs.Texts.{AppendsFront}
 use Rattle.qs_script.specs.Reads.{IsRefused, IsScriptText}
-use Rattle.qs_tree.specs.declared.tree.Item.{Item}
+use Rattle.qs_script.specs.declared.tree.tree.Item.{Item}
 use Rattle.qs_check.specs.Checked.{fault_of}
-use Rattle.qs_resolution.specs.Resolve.{program_of_items}
+use Rattle.qs_check.specs.resolution.Resolve.{program_of_items}
 use Rattle.qs_program.specs.Program.{ProgramShape}
 use Rattle.qs_syncset.specs.Codes.{AreCodes, ClientCode}
 use Rattle.qs_core_laws.specs.CoreSchedule.{IsPlayedIn}
-use Rattle.qs_core_orders.specs.CoreOrders.{IsPlayedInOrderOn}
+use Rattle.qs_core_laws.specs.orders.CoreOrders.{IsPlayedInOrderOn}
 use Rattle.qs_plain_laws.specs.PlainSchedule.{IsPlayed}
-use Rattle.qs_plain_orders.specs.PlainOrders.{IsPlayedInOrder}
+use Rattle.qs_plain_laws.specs.orders.PlainOrders.{IsPlayedInOrder}
 use Rattle.qs_played.specs.declared.fault.PlayFault.{PlayFault}
 use Rattle.qs_played.specs.declared.fault.RunFault.{RunFault}
 use Rattle.qs_played.specs.Played.{Played}
@@ -675,7 +675,7 @@ IsResultText (No bytes) = ⊥
 IsResultText (Refused f) = ⊥
 
 -- what is due, by the line, the input's bytes where they are known, and whether a read has failed; the texts of help
--- and of the version are clap's, and the page on the language is that of `qs_language`
+-- and of the version are clap's, and the page on the language is that of `language_page`
 abbrev pub IsDue : Line → Option (List ℕ) → Bool → Due → Type 0
 IsDue refused known failed due = IsRefusedBy fault.Memory due ⊎ IsRefusedBy fault.CommandLine due
 IsDue help known failed due = IsRefusedBy fault.Memory due ⊎ IsResultText due
@@ -729,7 +729,7 @@ IsTextOfMemory due format.Text = IsRefusedBy fault.Memory due
 IsTextOfMemory due format.Json = ⊥
 
 -- what is due by a line and a script's text where there are no threads; the texts of help and of the version are clap's,
--- and the page on the language is that of `qs_language`
+-- and the page on the language is that of `language_page`
 abbrev pub IsDueOfLine : Line → List ℕ → Due → Type 0
 IsDueOfLine refused text due = IsRefusedBy fault.Memory due ⊎ IsRefusedBy fault.CommandLine due
 IsDueOfLine help text due = IsRefusedBy fault.Memory due ⊎ IsResultText due

@@ -23,12 +23,12 @@ use Rattle.qs_promises.specs.AsIfSerial.{IsAsIfSerial}
 use Rattle.qs_promises.specs.Outcomes.{IsWholeList}
 use Rattle.qs_promises.specs.Runs.{IsRun, Way, by_rules, on_machine, on_threads}
 use Rattle.qs_report.specs.AnswerText.{is_yes}
-use Rattle.qs_resolution.specs.Resolve.{program_of_items}
+use Rattle.qs_check.specs.resolution.Resolve.{program_of_items}
 use Rattle.qs_serve.specs.RunReports.{report_by}
 use Rattle.qs_script.specs.Reads.{IsScriptText}
 use Rattle.qs_serial.specs.NamedOrders.{order_of}
 use Rattle.qs_serve.specs.Due.{IsTextOfList, answer_in, listed_as, longest, told_report}
-use Rattle.qs_tree.specs.declared.tree.Item.{Item}
+use Rattle.qs_script.specs.declared.tree.tree.Item.{Item}
 
 -- It has the run made as its settings say. By a schedule these are the picks that its list names and then so many
 -- rounds; by an order some picks that have the blocks follow one another in it. So it is under the plain rules, and so

@@ -1,6 +1,6 @@
 -- What is made of the answer of checking a script.
 use Rattle.std.specs.Prelude.{Ok, Err, Result}
-use Rattle.qs_fault_places.specs.declared.fault.CheckFault.{CheckFault}
+use Rattle.qs_check.specs.declared.fault_places.fault.CheckFault.{CheckFault}
 use Rattle.qs_program.specs.Program.{ProgramShape}
 use Rattle.qs_report.specs.declared.faults.Fault.{Fault}
 use Rattle.qs_report.specs.declared.faults.Fault.TheVariants as fault

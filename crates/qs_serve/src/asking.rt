@@ -2,10 +2,10 @@
 
 ghost use Rattle.std.specs.Prelude.{◌≡◌, ◌+◌, ◌≤◌, false, length, map, Err, IfErr, IfOk, None};
 ghost use Rattle.qs_line.specs.Line.{asks, line_in, request_by, request_of};
-ghost use Rattle.qs_node_lines.specs.NodeLines.{node_lines};
+ghost use Rattle.qs_dot.specs.node_lines.NodeLines.{node_lines};
 ghost use Rattle.qs_report.specs.declared.faults.Fault.TheVariants as fault;
 ghost use Rattle.qs_script.specs.Reads.{IsReadOf, IsScriptText};
-ghost use Rattle.qs_tree.specs.Limits.{longest_text};
+ghost use Rattle.qs_script.specs.tree.Limits.{longest_text};
 ghost use Rattle.qs_serve.specs.Prepared.{prepared_by};
 ghost use Rattle.qs_serve.specs.Due.{AreLinesFor, IsAsked, IsDue, IsFormat, IsFoundBefore, IsKeptBy, IsProgramOf, IsProgramRead, IsTextKept, IsTextRead, IsUnbegun, IsUnreadable, longest};
 ghost use Rattle.qs_serve.specs.declared.due.Due.TheVariants.{Refused};
@@ -13,11 +13,11 @@ ghost use Rattle.qs_serve.specs.declared.due.Due.TheVariants.{Refused};
 use crate::due::{Due, due_of_fault};
 use crate::input::{Counted, InputFault, gather};
 use qs_check::{CheckFault, Program, check};
+use qs_dot::node_lines::{NodeLines, node_lines};
 use qs_line::{Format, GraphFormat, Settings, read_line};
-use qs_node_lines::{NodeLines, node_lines};
 use qs_report::Fault;
+use qs_script::tree::{LONGEST_TEXT, Script};
 use qs_script::{ReadFault, read};
-use qs_tree::{LONGEST_TEXT, Script};
 use std::alloc::{AllocError, Global};
 use std::io::Read;
 use std::mem;

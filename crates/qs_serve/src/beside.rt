@@ -7,7 +7,7 @@ ghost use Rattle.qs_serve.specs.Due.{IsSomeText};
 
 use crate::due::Due;
 use qs_line::asked_for;
-use qs_said::{tell_limits, tell_warnings};
+use qs_messages::{tell_limits, tell_warnings};
 use std::alloc::Global;
 use std::io::Write;
 

@@ -16,13 +16,13 @@ use crate::searches::{due_by_threads, due_of_alike, due_of_alike_claim};
 use qs_check::Program;
 use qs_chunk::ChunkSize;
 use qs_conditions::{Claim, Quantifier};
+use qs_dot::node_lines::NodeLines;
 use qs_dot::{MOST_PLACES, chart_dot, dot_text};
 use qs_json::{answer_json, counts_json, ends_json, graph_json, outcomes_json};
 use qs_line::{
     Format, GraphFormat, LineFault, ListFault, OutcomesFormat, Part, ReportStyle, Settings,
     clients_of,
 };
-use qs_node_lines::NodeLines;
 use qs_outcomes::{AllOutcomes, Answer, Watcher, outcomes_watched};
 use qs_questions::{answer, first_unknown};
 use qs_report::{

@@ -7,10 +7,10 @@ ghost use Rattle.qs_serve.specs.Due.{IsDueOfProgram, IsEstimated, IsOutOfMemory,
 
 use crate::due::{Due, due_of_bytes, due_of_list};
 use qs_check::Program;
-use qs_estimate::{Estimate, estimate_after};
 use qs_json::estimate_json;
 use qs_line::{Format, Part, clients_of};
 use qs_outcomes::OutcomesFault;
+use qs_outcomes::estimate::{Estimate, estimate_after};
 use qs_report::{Fault, estimate_text};
 use std::alloc::Global;
 

@@ -5,3 +5,4 @@ pub mod Lists
 pub mod Packed
 pub mod Rows
 pub mod Variables
+pub mod going

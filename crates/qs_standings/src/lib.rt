@@ -4,6 +4,7 @@
 
 mod copies;
 mod front;
+pub mod going;
 mod hints;
 mod packed;
 mod rows;
@@ -12,11 +13,11 @@ mod standing;
 mod table;
 mod variables;
 
+pub use crate::going::{Last, last_blocks};
 pub use copies::copied;
 pub use front::{placed, standing_after};
 pub use hints::Hints;
 pub use packed::Packed;
-pub use qs_going::{Last, last_blocks};
 pub use rows::{Draft, Row, row_starts};
 pub use scratch::{Scratch, put_by, spare_standing};
 pub use standing::Standing;

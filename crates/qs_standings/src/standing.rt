@@ -7,9 +7,9 @@ ghost use Rattle.qs_serial.specs.Alone.{AreCallsWithin, states_in};
 ghost use Rattle.qs_program.specs.Program.{blocks_of};
 ghost use Rattle.qs_standings.specs.Standings.{flipped, flipped_ticket};
 
+use crate::going::{Last, goes_on};
 use crate::rows::{Draft, Row, add_locals, add_objects, padded, put_stem};
 use crate::variables::Variables;
-use qs_going::{Last, goes_on};
 use qs_objects::{Object, Ticket};
 use qs_program::{Block, Locals, MOST_VARIABLES, Program};
 use qs_serial::run_body;
@@ -137,7 +137,7 @@ fn flip_order(one: u8, other: u8, order: &mut [Ticket])
 
 impl Standing {
     ghost use Rattle.qs_meaning.specs.Reduced.{goes_on};
-    ghost use Rattle.qs_going.specs.Going.{AreLast, in_byte};
+    ghost use Rattle.qs_standings.specs.going.Going.{AreLast, in_byte};
     ghost use Rattle.qs_standings.specs.Rows.{AreStarts, drafted, shape_of};
     ghost use Rattle.qs_standings.specs.Standings.{exchanged, NoneNext, HasNext, HasRun, IsFirst, IsOneOn, IsStanding, configuration_in, row_of, standing_with_block};
 

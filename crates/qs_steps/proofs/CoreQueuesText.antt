@@ -15,8 +15,8 @@ use Rattle.qs_played.specs.Schedule.{schedule}
 use Rattle.qs_played.specs.declared.schedule.actor.Actor.{Actor}
 use Rattle.qs_played.proofs.Lists.{get_or-any}
 use Rattle.qs_core_laws.specs.CoreSchedule.{core_played, core_scheduled}
-use Rattle.qs_core_parts.specs.CarriedRequests.{first_requests, requests_in}
-use Rattle.qs_core_state.specs.CoreState.{CoreState, IsPlayedOn, codes_of, core_of}
+use Rattle.qs_core.specs.parts.CarriedRequests.{first_requests, requests_in}
+use Rattle.qs_core.specs.state.CoreState.{CoreState, IsPlayedOn, codes_of, core_of}
 use Rattle.qs_steps.specs.CoreQueues.{core_queues, lane_line, parcel_text, queues_text, wait_for_chunk, wait_for_object}
 use Rattle.qs_steps.specs.CoreSteps.{core_steps, requests_text}
 use Rattle.qs_steps.specs.Telling.{IsToldIn}

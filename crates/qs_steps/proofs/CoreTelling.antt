@@ -7,7 +7,7 @@ use Rattle.qs_played.specs.declared.schedule.actor.Actor.{Actor}
 use Rattle.qs_core_laws.specs.Core.{core_step}
 use Rattle.qs_syncset.specs.Codes.{AreCodes}
 use Rattle.qs_core_laws.specs.CoreSchedule.{core_plays}
-use Rattle.qs_core_state.specs.CoreState.{CoreState, IsFreshCore, IsPlayedOn, codes_of}
+use Rattle.qs_core.specs.state.CoreState.{CoreState, IsFreshCore, IsPlayedOn, codes_of}
 use Rattle.qs_steps.specs.Told.{steps_by}
 use Rattle.qs_steps.specs.CoreSteps.{core_steps, core_told}
 use Rattle.qs_steps.specs.Telling.{CoreKept, LeadTo, core_view, steps_from}

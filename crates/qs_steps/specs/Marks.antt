@@ -5,7 +5,7 @@ use Rattle.qs_objects.specs.Act.{State}
 use Rattle.qs_objects.specs.Journals.{after}
 use Rattle.qs_objects.specs.declared.Request.{Request}
 use Rattle.qs_program.specs.Program.{ProgramShape}
-use Rattle.qs_fates.specs.Fates.{fate_of}
+use Rattle.qs_text.specs.fates.Fates.{fate_of}
 use Rattle.qs_report.specs.Report.{fate_text}
 use Rattle.qs_text.specs.Words.{reply_text, request_text}
 

@@ -13,10 +13,10 @@ use Rattle.qs_plain_laws.specs.Plain.{Plain, step}
 use Rattle.qs_plain.specs.Rules.{RulesState, plain_of}
 use Rattle.qs_plain.specs.declared.awaited.Awaited.{Awaited}
 use Rattle.qs_plain.specs.declared.awaited.Awaited.TheVariants.{Nothing, Reply, Done}
-use Rattle.qs_plain_handler.specs.declared.effect.Effect.{Effect}
+use Rattle.qs_plain.specs.declared.handler.effect.Effect.{Effect}
 use Rattle.qs_core_laws.specs.Core.{Core, core_step}
 use Rattle.qs_core_laws.specs.CoreSchedule.{core_played, core_scheduled}
-use Rattle.qs_core_state.specs.CoreState.{CoreState, codes_of, core_of}
+use Rattle.qs_core.specs.state.CoreState.{CoreState, codes_of, core_of}
 use Rattle.qs_core.specs.declared.core_effect.CoreEffect.{CoreEffect}
 use Rattle.qs_steps.specs.declared.wanted.Wanted.{Wanted}
 use Rattle.qs_steps.specs.declared.wanted.Told.{Told}

@@ -3,7 +3,7 @@
 ghost use Rattle.std.specs.Prelude.{◌≡◌, IfOk};
 ghost use Rattle.qs_played.specs.SyncSums.{AreSyncsCounted};
 ghost use Rattle.qs_core_laws.specs.CoreSchedule.{IsPlayedIn};
-ghost use Rattle.qs_core_state.specs.CoreState.{IsShownIsolated, core_of};
+ghost use Rattle.qs_core.specs.state.CoreState.{IsShownIsolated, core_of};
 ghost use Rattle.qs_steps.specs.CoreSteps.{core_object};
 ghost use Rattle.qs_steps.specs.Telling.{IsToldIn, played_in};
 

@@ -5,9 +5,9 @@ ghost use Rattle.qs_objects.specs.Journals.{after};
 ghost use Rattle.qs_report.specs.Report.{fate_text};
 ghost use Rattle.qs_steps.specs.Marks.{mark, marked, marked_others, marked_requests, next};
 
-use qs_fates::{Fate, run_and_tell};
 use qs_objects::{Object, Request};
 use qs_program::Program;
+use qs_text::fates::{Fate, run_and_tell};
 use qs_text::{put, put_reply, put_whole_request};
 use std::alloc::AllocError;
 

@@ -10,8 +10,8 @@ use Rattle.qs_program.specs.Program.{ProgramShape}
 use Rattle.qs_played.specs.Played.{Played}
 use Rattle.qs_objects.specs.Act.{State}
 use Rattle.qs_program.specs.Program.{object_at}
-use Rattle.qs_fates.specs.declared.fate.Fate.{Fate}
-use Rattle.qs_fates.specs.declared.fate.Fate.TheVariants.{Done}
+use Rattle.qs_text.specs.declared.fates.fate.Fate.{Fate}
+use Rattle.qs_text.specs.declared.fates.fate.Fate.TheVariants.{Done}
 use Rattle.qs_svg.specs.declared.layout.Layout.{Layout}
 use Rattle.qs_svg.specs.Shapes.{Shape, shapes_up_to, text_at}
 use Rattle.qs_svg.specs.Stretches.{all_columns, columns_of, ended_at, journal_of, most_columns, most_symbols, no_entry, queries_in, reserves, sent_for, stretch, stretch_fates, stretch_start, syncs_at, ticket_at}

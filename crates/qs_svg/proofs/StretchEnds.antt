@@ -7,8 +7,8 @@ use Rattle.qs_objects.specs.declared.held.Entry.{Entry}
 use Rattle.qs_objects.specs.declared.held.Ticket.{Ticket}
 use Rattle.qs_program.specs.Program.{ProgramShape}
 use Rattle.qs_played.specs.Played.{Played}
-use Rattle.qs_fates.specs.Fates.{fates_from, fates_of}
-use Rattle.qs_fates.specs.declared.fate.Fate.{Fate}
+use Rattle.qs_text.specs.fates.Fates.{fates_from, fates_of}
+use Rattle.qs_text.specs.declared.fates.fate.Fate.{Fate}
 use Rattle.qs_svg.specs.Stretches.{entries_for, journal_of, ticket_at, stretch, stretch_fates, stretch_start}
 
 pub stretch_ends : (run : Played) (h i : ℕ) (journal : List Entry) (t : Ticket) (start count least : ℕ)

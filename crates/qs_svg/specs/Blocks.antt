@@ -6,8 +6,8 @@ use Rattle.qs_objects.specs.declared.held.Entry.{Entry}
 use Rattle.qs_objects.specs.declared.held.Ticket.{Ticket}
 use Rattle.qs_program.specs.Program.{ProgramShape, client_at, object_at}
 use Rattle.qs_played.specs.Played.{Played}
-use Rattle.qs_fates.specs.declared.fate.Fate.{Fate}
-use Rattle.qs_fates.specs.declared.fate.Fate.TheVariants.{Done, Refused, NoValue}
+use Rattle.qs_text.specs.declared.fates.fate.Fate.{Fate}
+use Rattle.qs_text.specs.declared.fates.fate.Fate.TheVariants.{Done, Refused, NoValue}
 use Rattle.qs_svg.specs.declared.layout.Layout.{Layout}
 use Rattle.qs_svg.specs.Shapes.{Shape, fitted_text, path_end, path_start, shapes_up_to, text_at, with_number}
 use Rattle.qs_svg.specs.Stretches.{all_columns, columns_of, ended_at, journal_of, most_columns, no_entry, objects_at, queries_in, reserves, sent_for, stretch_fates, syncs_at, ticket_at, stretch, stretch_start}

@@ -8,7 +8,7 @@ use Rattle.qs_objects.specs.declared.held.Ticket.{Ticket}
 use Rattle.qs_played.specs.Played.{Played}
 use Rattle.qs_sync_counts.specs.SyncRows.{sync_count}
 use Rattle.qs_text.specs.Worked.{before, command, deposited_once, deposits, query, state, three, ticket}
-use Rattle.qs_fates.specs.declared.fate.Fate.TheVariants as fates
+use Rattle.qs_text.specs.declared.fates.fate.Fate.TheVariants as fates
 use Rattle.qs_svg.specs.Shapes.{fitted_text}
 use Rattle.qs_svg.specs.Words.{counted, line_words, state_words}
 use Rattle.qs_svg.specs.Places.{bands_of, column_x, layout_with, picture_width, row_y}

@@ -12,8 +12,8 @@ use Rattle.qs_objects.specs.declared.held.Ticket.{Ticket}
 use Rattle.qs_program.specs.Program.{ProgramShape}
 use Rattle.qs_program.specs.Sound.{is_in}
 use Rattle.qs_played.specs.Played.{Played}
-use Rattle.qs_fates.specs.Fates.{fates_of}
-use Rattle.qs_fates.specs.declared.fate.Fate.{Fate}
+use Rattle.qs_text.specs.fates.Fates.{fates_of}
+use Rattle.qs_text.specs.declared.fates.fate.Fate.{Fate}
 use Rattle.qs_sync_counts.specs.SyncRows.{object_of}
 use Rattle.qs_sync_counts.specs.declared.sync_counts.SyncCount.{SyncCount}
 use Rattle.qs_text.specs.Words.{first_ticket}

@@ -11,8 +11,8 @@ use Rattle.qs_objects.specs.declared.object.Kind.{Kind}
 use Rattle.qs_objects.specs.declared.object.Kind.TheVariants as kinds
 use Rattle.qs_program.specs.Program.{ProgramShape, client_at, object_at}
 use Rattle.qs_played.specs.Played.{Played}
-use Rattle.qs_fates.specs.declared.fate.Fate.{Fate}
-use Rattle.qs_fates.specs.declared.fate.Fate.TheVariants.{Done, Refused, NoValue}
+use Rattle.qs_text.specs.declared.fates.fate.Fate.{Fate}
+use Rattle.qs_text.specs.declared.fates.fate.Fate.TheVariants.{Done, Refused, NoValue}
 use Rattle.qs_text.specs.Words.{args_text, ended_text, reply_text, request_text}
 use Rattle.qs_text.specs.Texts.{spaced_value, texts_up_to}
 use Rattle.qs_svg.specs.Shapes.{with_number}

@@ -1,7 +1,7 @@
 // The row of an object.
 
 ghost use Rattle.std.specs.Prelude.{◌≡◌, ◌<◌, ◌-◌, IfOk, OnOk, [], ◌∷◌, length, slice_get};
-ghost use Rattle.qs_fates.specs.Fates.{all_fates, fates_of};
+ghost use Rattle.qs_text.specs.fates.Fates.{all_fates, fates_of};
 ghost use Rattle.qs_svg.specs.Shapes.{Draws, fitted_text, shapes_up_to};
 ghost use Rattle.qs_svg.specs.Stretches.{all_columns as columns_in_all, columns_of as columns_in, stretch, stretch_fates, stretch_start};
 ghost use Rattle.qs_svg.specs.Places.{bands_of as bands_for};
@@ -15,10 +15,10 @@ use crate::layout::{Layout, Spot, bands_of, column_edge, row_edge};
 use crate::pieces::{put_fitted, put_name, put_things};
 use crate::stretches::put_stretch;
 use crate::words::put_state_words;
-use qs_fates::{Fate, JournalFates};
 use qs_objects::{Entry, Object};
 use qs_played::Played;
 use qs_program::Program;
+use qs_text::fates::{Fate, JournalFates};
 use qs_text::object_name;
 use std::alloc::{AllocError, Global};
 

@@ -10,9 +10,9 @@ use crate::head::{put_head, put_title};
 use crate::layout::{Layout, layout_of};
 use crate::legend::{put_clients, put_signs};
 use crate::rows::put_row;
-use qs_fates::journal_fates;
 use qs_played::Played;
 use qs_program::Program;
+use qs_text::fates::journal_fates;
 use qs_text::put_word;
 use std::alloc::{AllocError, Global};
 

@@ -1,7 +1,7 @@
 // The stretch of a ticket at an object: its frame, its requests and its synchronisations.
 
 ghost use Rattle.std.specs.Prelude.{◌≡◌, ◌+◌, ◌^◌, ◌<◌, OnOk, length, slice_index_or};
-ghost use Rattle.qs_fates.specs.declared.fate.Fate.TheVariants.{Done};
+ghost use Rattle.qs_text.specs.declared.fates.fate.Fate.TheVariants.{Done};
 ghost use Rattle.qs_svg.specs.Shapes.{Draws, fitted_text};
 ghost use Rattle.qs_text.specs.Texts.{Puts};
 ghost use Rattle.qs_svg.specs.Places.{symbol_x, symbol_y};
@@ -12,10 +12,10 @@ use crate::facts::{has_ended, queries_in, sent_for, ticket_at};
 use crate::layout::{Spot, column_edge, row_edge, symbol_left, symbol_top};
 use crate::pieces::{put_counted, put_fitted, put_path, put_text};
 use crate::words::{put_entry, put_line, put_stretch_words};
-use qs_fates::Fate;
 use qs_objects::{Entry, Ticket};
 use qs_played::Played;
 use qs_program::Program;
+use qs_text::fates::Fate;
 use qs_text::{put_count, put_word};
 use std::alloc::{AllocError, Global};
 

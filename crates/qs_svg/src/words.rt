@@ -7,9 +7,9 @@ ghost use Rattle.qs_text.specs.Texts.{Puts, spaced_value, texts_up_to};
 ghost use Rattle.qs_svg.specs.Words.{args_words, gap_words, block_words, content_words, entry_words, fate_words, line_words, state_words, ticket_words, told_in, stretch_words, value_room, value_size, values_end, values_words, with_integer};
 
 use itoa::Buffer;
-use qs_fates::Fate;
 use qs_objects::{Entry, Kind, Object, Ticket};
 use qs_program::Program;
+use qs_text::fates::Fate;
 use qs_text::{
     client_name, ended_word, object_name, put_args, put_count, put_number, put_reply,
     put_whole_request, put_word,

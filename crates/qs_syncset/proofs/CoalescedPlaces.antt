@@ -3,7 +3,7 @@
 use Rattle.std.proofs.Common.{◌≡◌, ℕ, zero, suc, ◌+◌, ◌<◌, List, [], ◌∷◌, length, refl, sym, ap, subst, arith}
 use Rattle.qs_graph.specs.Nodes.{ControlGraph, GraphNode, place_at}
 use Rattle.qs_syncset.specs.Coalesced.{IsRemovedIfHeld, IsCoalesced}
-use Rattle.qs_held_sets.specs.Held.{IsHeld}
+use Rattle.qs_syncset.specs.held.Held.{IsHeld}
 
 -- the places from the number m on, one after another
 abbrev pub AreCoalesced : ControlGraph → ℕ → (old new : List GraphNode) → Type 0

@@ -17,10 +17,10 @@ use Rattle.qs_graph.proofs.Along.{walks_go_along_paths}
 use Rattle.qs_graph.proofs.Saying.{next_up}
 use Rattle.qs_syncset.specs.Coalesced.{IsRemovedIfHeld}
 use Rattle.qs_syncset.specs.CodeLaws.{CoalescingIsUnique}
-use Rattle.qs_held_sets.specs.Flow.{Holding, held_along}
-use Rattle.qs_held_sets.specs.Held.{IsHeld}
+use Rattle.qs_syncset.specs.held.Flow.{Holding, held_along}
+use Rattle.qs_syncset.specs.held.Held.{IsHeld}
 use Rattle.qs_syncset.specs.SoundSynced.{IsSoundSynced}
-use Rattle.qs_held_sets.proofs.Paths.{put_same, put_other, synced_along}
+use Rattle.qs_syncset.proofs.held.Paths.{put_same, put_other, synced_along}
 use Rattle.qs_syncset.proofs.Removals.{IsSoundRemoval}
 use Rattle.qs_syncset.proofs.Moves.{after_move, after_is, move_same, move_here, next_three, sound_next, sound_said, erased_said}
 

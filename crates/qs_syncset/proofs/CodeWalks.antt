@@ -24,7 +24,7 @@ use Rattle.qs_graph.proofs.Ranges.{blocks_have_graphs}
 use Rattle.qs_syncset.specs.Codes.{IsBoundGraphOf, code_at}
 use Rattle.qs_syncset.specs.SyncCounts.{Decides}
 use Rattle.qs_syncset.specs.CodeLaws.{WalksAreSound, NodesStaySound}
-use Rattle.qs_held_sets.specs.Flow.{nothing}
+use Rattle.qs_syncset.specs.held.Flow.{nothing}
 use Rattle.qs_syncset.specs.Modes.{is_static}
 use Rattle.qs_syncset.specs.SoundSynced.{IsSoundSynced}
 use Rattle.qs_syncset.proofs.SoundTrees.{block_sound, walk_reserved}

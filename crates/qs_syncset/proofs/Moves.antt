@@ -11,7 +11,7 @@ use Rattle.qs_graph.specs.declared.node.Node.TheVariants.{Entry, Local, Branch, 
 use Rattle.qs_graph.specs.Nodes.{GraphNode, over_objects, place_at}
 use Rattle.qs_graph.specs.Synced.{Synced, without_syncs}
 use Rattle.qs_graph.specs.Walk.{Spot, Move, Ends, Goes, Calls, Syncs, Queries, move, move_by, move_at, tree_of_move, EachNext}
-use Rattle.qs_held_sets.specs.Flow.{Holding, held_after}
+use Rattle.qs_syncset.specs.held.Flow.{Holding, held_after}
 use Rattle.qs_syncset.specs.SoundSynced.{IsSoundSynced}
 
 abbrev pub after_move : Move → Holding → Holding

@@ -16,8 +16,8 @@ use Rattle.qs_graph.specs.Names.{graph_of}
 use Rattle.qs_graph.specs.Nodes.{ControlGraph, GraphNode, made_local}
 use Rattle.qs_graph.specs.WellFormed.{IsGraph, IsGraphNode, IsInRange}
 use Rattle.qs_graph.proofs.Ranges.{blocks_have_graphs}
-use Rattle.qs_held_sets.specs.Held.{IsHeld}
-use Rattle.qs_held_sets.proofs.HeldOrNot.{held_or_not}
+use Rattle.qs_syncset.specs.held.Held.{IsHeld}
+use Rattle.qs_syncset.proofs.held.HeldOrNot.{held_or_not}
 use Rattle.qs_syncset.specs.declared.mode.Mode.{Mode}
 use Rattle.qs_syncset.specs.Coalesced.{IsCoalesced, IsRemovedIfHeld}
 use Rattle.qs_syncset.specs.Codes.{BlockCode, ClientCode, IsBlockCode, IsCodeOf, IsGraphOf, no_code}

@@ -16,7 +16,7 @@ use Rattle.qs_graph.specs.Names.{may_be_one}
 use Rattle.qs_graph.specs.Nodes.{ControlGraph, GraphNode, made_local, over_objects, place_at}
 use Rattle.qs_graph.proofs.Bindings.{path_back, place_bound}
 use Rattle.qs_syncset.specs.Coalesced.{IsCoalesced, IsRemovedIfHeld}
-use Rattle.qs_held_sets.specs.Held.{IsCallOf, IsHeld, IsSynced}
+use Rattle.qs_syncset.specs.held.Held.{IsCallOf, IsHeld, IsSynced}
 use Rattle.qs_syncset.specs.SyncCounts.{Decides}
 
 -- a synchronisation that is removed where its object is held

@@ -6,7 +6,7 @@ use Rattle.std.proofs.lemmas.List.{length-set, get_or-set_same, get_or-set_other
 use Rattle.qs_graph.specs.declared.node.Node.{Node}
 use Rattle.qs_graph.specs.declared.node.Node.TheVariants.{Entry, Local, Branch, Sync, Query, Call, Exit}
 use Rattle.qs_graph.specs.Nodes.{ControlGraph, GraphNode, place_at, exit, made_local}
-use Rattle.qs_held_sets.specs.Held.{IsHeld}
+use Rattle.qs_syncset.specs.held.Held.{IsHeld}
 use Rattle.qs_syncset.specs.Coalesced.{IsRemovedIfHeld, IsCoalesced}
 
 -- what becomes of a node's place

@@ -11,9 +11,9 @@ use Rattle.qs_graph.specs.SoundNodes.{IsSoundNode, AreSoundNodes}
 use Rattle.qs_graph.specs.Synced.{Synced, Done, Next, turns, meaning, synced_of}
 use Rattle.qs_graph.specs.Walk.{Spot, move, move_by, tree_of_move, walk}
 use Rattle.qs_graph.proofs.Ranges.{all_at}
-use Rattle.qs_held_sets.specs.Flow.{Holding}
+use Rattle.qs_syncset.specs.held.Flow.{Holding}
 use Rattle.qs_syncset.specs.SoundSynced.{IsSoundSynced, IsOnReserved}
-use Rattle.qs_held_sets.proofs.Paths.{put_same}
+use Rattle.qs_syncset.proofs.held.Paths.{put_same}
 
 -- whatever is held and whatever the variables are
 abbrev Always : Next → Type 0

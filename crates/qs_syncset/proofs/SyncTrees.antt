@@ -13,7 +13,7 @@ use Rattle.qs_meaning.specs.Solo.{put, value_of}
 use Rattle.qs_program.specs.Statements.{Statements, end, command, query, assign, choose, again, leave}
 use Rattle.qs_program.specs.Values.{Locals, expr_value, test_value}
 use Rattle.qs_graph.specs.Synced.{Synced, Done, Call, Sync, Query, Next, turns, meaning, synced_of, without_syncs}
-use Rattle.qs_held_sets.specs.Flow.{Holding}
+use Rattle.qs_syncset.specs.held.Flow.{Holding}
 use Rattle.qs_syncset.specs.SoundSynced.{IsSoundSynced}
 use Rattle.qs_syncset.specs.SyncCounts.{asks, first_queries, queries, syncs_along}
 

@@ -9,7 +9,7 @@ use Rattle.qs_graph.specs.declared.node.Node.TheVariants.{Entry, Local, Branch, 
 use Rattle.qs_graph.specs.Nodes.{ControlGraph, GraphNode, over_objects, place_at}
 use Rattle.qs_syncset.specs.Codes.{IsGraphOf}
 use Rattle.qs_syncset.specs.Coalesced.{IsRemovedIfHeld}
-use Rattle.qs_held_sets.specs.Held.{IsCallOf, IsHeld, IsSynced}
+use Rattle.qs_syncset.specs.held.Held.{IsCallOf, IsHeld, IsSynced}
 
 module _ (g : List GraphNode) where
   abbrev pub named : List Named → ControlGraph

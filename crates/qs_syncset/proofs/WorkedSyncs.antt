@@ -7,9 +7,9 @@ use Rattle.qs_graph.specs.Nodes.{over_objects}
 use Rattle.qs_graph.specs.Steps.{limit}
 use Rattle.qs_graph.specs.Walk.{move}
 use Rattle.qs_syncset.specs.Coalesced.{IsCoalesced}
-use Rattle.qs_held_sets.specs.Held.{IsHeld}
+use Rattle.qs_syncset.specs.held.Held.{IsHeld}
 use Rattle.qs_syncset.specs.SyncExamples.{SyncExamples, either, first_alone, repeated_query, three}
-use Rattle.qs_held_sets.proofs.Tables.{Table, held_by_table, missed}
+use Rattle.qs_syncset.proofs.held.Tables.{Table, held_by_table, missed}
 use Rattle.qs_syncset.proofs.CoalescedPlaces.{coalesced_one_by_one}
 use Rattle.qs_syncset.proofs.WorkedGraphs.{held_examples}
 

@@ -3,7 +3,7 @@ use Rattle.std.specs.Prelude.{◌≡◌, ◌⊎◌, ℕ, ◌<◌, List, length}
 use Rattle.qs_graph.specs.declared.node.Node.{Node}
 use Rattle.qs_graph.specs.declared.node.Node.TheVariants.{Sync}
 use Rattle.qs_graph.specs.Nodes.{ControlGraph, GraphNode, place_at, made_local}
-use Rattle.qs_held_sets.specs.Held.{IsHeld}
+use Rattle.qs_syncset.specs.held.Held.{IsHeld}
 
 -- a synchronisation becomes a local node that does nothing exactly where its handler is held, and every other place
 -- stays

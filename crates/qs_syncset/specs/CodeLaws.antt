@@ -12,7 +12,7 @@ use Rattle.qs_graph.specs.Walk.{entry, walk, Within}
 use Rattle.qs_syncset.specs.declared.mode.Mode.{Mode}
 use Rattle.qs_syncset.specs.Coalesced.{IsCoalesced}
 use Rattle.qs_syncset.specs.Codes.{ClientCode, IsCodeOf, code_at}
-use Rattle.qs_held_sets.specs.Flow.{nothing}
+use Rattle.qs_syncset.specs.held.Flow.{nothing}
 use Rattle.qs_syncset.specs.SoundSynced.{IsSoundSynced, IsOnReserved}
 
 -- from Entry, with these variables and any counts: within the limit the walk is at Exit; without its synchronisations

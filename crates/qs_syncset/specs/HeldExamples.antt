@@ -16,8 +16,8 @@ use Rattle.qs_graph.specs.GraphExamples.{balance, deposit, query_in_repeat, leav
 use Rattle.qs_graph.specs.Synced as tree
 use Rattle.qs_graph.specs.SyncedExamples.{balance_of_a, deposit_1}
 use Rattle.qs_syncset.specs.Coalesced.{IsCoalesced}
-use Rattle.qs_held_sets.specs.Flow.{nothing, held_along}
-use Rattle.qs_held_sets.specs.Held.{IsHeld}
+use Rattle.qs_syncset.specs.held.Flow.{nothing, held_along}
+use Rattle.qs_syncset.specs.held.Held.{IsHeld}
 use Rattle.qs_syncset.specs.SoundSynced.{IsSoundSynced}
 
 -- x = a.balance(); repeat 2 { x = a.balance(); a.deposit(1); }

@@ -10,3 +10,4 @@ pub mod CodeLaws
 pub mod CodeExamples
 pub mod HeldExamples
 pub mod SyncExamples
+pub mod held

@@ -3,7 +3,7 @@ use Rattle.std.specs.Prelude.{◌≡◌, ℕ, ℤ, true, false, List}
 use Rattle.qs_meaning.specs.Solo.{put}
 use Rattle.qs_program.specs.Sound.{is_in}
 use Rattle.qs_graph.specs.Synced.{Synced, Done, Call, Sync, Query}
-use Rattle.qs_held_sets.specs.Flow.{Holding}
+use Rattle.qs_syncset.specs.held.Flow.{Holding}
 
 -- from what the client holds, each query is on an object that it holds then: a synchronisation gives the object, and a
 -- call sends it home

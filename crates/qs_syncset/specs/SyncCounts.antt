@@ -22,9 +22,9 @@ use Rattle.qs_graph.specs.WellFormed.{IsGraph}
 use Rattle.qs_syncset.specs.declared.mode.Mode.{Mode}
 use Rattle.qs_syncset.specs.declared.mode.Mode.TheVariants.{Plain, Static}
 use Rattle.qs_syncset.specs.Codes.{ClientCode, IsCodeOf, code_at}
-use Rattle.qs_held_sets.specs.Held.{IsHeld}
+use Rattle.qs_syncset.specs.held.Held.{IsHeld}
 use Rattle.qs_syncset.specs.Modes.{is_dynamic, is_static}
-use Rattle.qs_held_sets.specs.Table.{AreSetsOf, has}
+use Rattle.qs_syncset.specs.held.Table.{AreSetsOf, has}
 
 abbrev pub asks : Event → Bool
 asks e = is_query e.request.op

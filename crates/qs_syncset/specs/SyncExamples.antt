@@ -3,7 +3,7 @@ use Rattle.std.specs.Prelude.{◌≡◌, ℕ, Bool, true, false, List, [], ◌�
 use Rattle.qs_objects.specs.Act.{account}
 use Rattle.qs_objects.specs.Objects.{fresh}
 use Rattle.qs_objects.specs.declared.held.Event.{Event}
-use Rattle.qs_tree.specs.declared.tree.Relation.TheVariants.{Unequal}
+use Rattle.qs_script.specs.declared.tree.tree.Relation.TheVariants.{Unequal}
 use Rattle.qs_meaning.specs.Solo.{solo}
 use Rattle.qs_program.specs.Binding.{bound_statements}
 use Rattle.qs_program.specs.Statements.{Statements, end, command, query, choose, again}
@@ -22,7 +22,7 @@ use Rattle.qs_graph.specs.declared.node.Action.TheVariants.{Nothing}
 use Rattle.qs_graph.specs.declared.node.Node.TheVariants.{Entry, Local, Query, Sync}
 use Rattle.qs_syncset.specs.Coalesced.{IsCoalesced}
 use Rattle.qs_syncset.specs.HeldExamples.{deposit_between, f_and_g, template_graph, without_inner, without_last, without_second}
-use Rattle.qs_held_sets.specs.Flow.{nothing}
+use Rattle.qs_syncset.specs.held.Flow.{nothing}
 use Rattle.qs_syncset.specs.SoundSynced.{IsSoundSynced}
 use Rattle.qs_syncset.specs.SyncCounts.{entry_with, kept, queries, runs, syncs_along}
 

@@ -8,10 +8,10 @@ ghost use Rattle.qs_graph.specs.Names.{graph_of};
 ghost use Rattle.qs_syncset.specs.Codes.{IsCode, IsCodeOf, IsBlockCode, IsBoundGraphOf, code_at, load_at};
 ghost use Rattle.qs_syncset.specs.Modes.{is_static};
 
+use crate::held::held_sets;
 use crate::mode::Mode;
 use crate::removal::coalesce;
 use qs_graph::{Graph, Named, graph_in};
-use qs_held_sets::held_sets;
 use qs_program::{MOST_HANDLERS, Program};
 use smallvec::SmallVec;
 use std::alloc::{AllocError, Global};

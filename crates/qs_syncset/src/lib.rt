@@ -3,11 +3,12 @@
 #![tactic(auto)]
 
 mod code;
+pub mod held;
 pub mod laws;
 mod mode;
 mod removal;
 
+pub use crate::held::{Sets, Turns, held_sets, held_sets_counted};
 pub use code::{Code, compile};
 pub use mode::Mode;
-pub use qs_held_sets::{Sets, Turns, held_sets, held_sets_counted};
 pub use removal::coalesce;

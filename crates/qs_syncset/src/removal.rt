@@ -2,10 +2,10 @@
 
 ghost use Rattle.std.specs.Prelude.{◌≡◌};
 ghost use Rattle.qs_syncset.specs.Coalesced.{IsCoalesced};
-ghost use Rattle.qs_held_sets.specs.Table.{AreSetsOf};
+ghost use Rattle.qs_syncset.specs.held.Table.{AreSetsOf};
 
+use crate::held::Sets;
 use qs_graph::{Graph, Node};
-use qs_held_sets::Sets;
 
 /// Removes each synchronisation whose own handler, by its name, is held as it is reached; takes no memory.
 pub fn coalesce(mut graph: Graph, sets: &Sets) -> Graph

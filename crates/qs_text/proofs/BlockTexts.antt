@@ -13,8 +13,8 @@ use Rattle.qs_graph.specs.Names.{graph_of}
 use Rattle.qs_graph.specs.Nodes.{ControlGraph, place_at, exit}
 use Rattle.qs_graph.specs.WellFormed.{IsGraphNode, IsInRange}
 use Rattle.qs_graph.proofs.Ranges.{blocks_have_graphs, sound_own}
-use Rattle.qs_held_sets.specs.Flow.{Holding}
-use Rattle.qs_held_sets.specs.Table.{AreSetsOf, has}
+use Rattle.qs_syncset.specs.held.Flow.{Holding}
+use Rattle.qs_syncset.specs.held.Table.{AreSetsOf, has}
 use Rattle.qs_text.specs.Blocks.{AreBlocks, AreBlocksOf, IsBlock, NodeText, NodesText, is_removed, node_at}
 use Rattle.qs_text.specs.Texts.{IsAdded, texts_up_to}
 use Rattle.qs_text.proofs.SameTexts.{one_up_to, same_filter, same_sets, same_texts}

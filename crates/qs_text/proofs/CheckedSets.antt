@@ -8,10 +8,10 @@ use Rattle.std.proofs.lemmas.Bool.{agree_below, agree_below_at}
 use Rattle.std.proofs.lemmas.List.{length-map}
 use Rattle.qs_graph.specs.Nodes.{ControlGraph, GraphNode, place_at}
 use Rattle.qs_graph.specs.Paths.{IsAmong, IsPath}
-use Rattle.qs_held_sets.specs.Flow.{held_along}
-use Rattle.qs_held_sets.specs.Held.{IsHeld}
-use Rattle.qs_held_sets.specs.Table.{AreSetsOf, has}
-use Rattle.qs_held_sets.proofs.Tables.{Table, fits, held_by_table, held_where_no_path, missed}
+use Rattle.qs_syncset.specs.held.Flow.{held_along}
+use Rattle.qs_syncset.specs.held.Held.{IsHeld}
+use Rattle.qs_syncset.specs.held.Table.{AreSetsOf, has}
+use Rattle.qs_syncset.proofs.held.Tables.{Table, fits, held_by_table, held_where_no_path, missed}
 
 -- for each node what is held there, or that no path leads there
 abbrev pub Rows : Type 0

@@ -6,8 +6,8 @@ use Rattle.qs_graph.specs.declared.node.Node.{Node}
 use Rattle.qs_graph.specs.declared.node.Node.TheVariants.{Sync}
 use Rattle.qs_graph.specs.Names.{graph_of}
 use Rattle.qs_graph.specs.Nodes.{ControlGraph, GraphNode, place_at}
-use Rattle.qs_held_sets.specs.Flow.{Holding}
-use Rattle.qs_held_sets.specs.Table.{AreSetsOf, has}
+use Rattle.qs_syncset.specs.held.Flow.{Holding}
+use Rattle.qs_syncset.specs.held.Table.{AreSetsOf, has}
 use Rattle.qs_text.specs.Texts.{AreTextsUpTo}
 
 -- a synchronisation is removed exactly where its own name is held

@@ -4,7 +4,7 @@ ghost use Rattle.std.specs.Prelude.{◌≡◌, ◌<◌, IfOk, length};
 ghost use Rattle.std.specs.List.{AllByRecursion, filter};
 ghost use Rattle.qs_program.specs.Limits.{most_handlers};
 ghost use Rattle.qs_program.specs.Program.{blocks_of, own_block};
-ghost use Rattle.qs_held_sets.specs.Table.{has};
+ghost use Rattle.qs_syncset.specs.held.Table.{has};
 
 use qs_program::Program;
 use qs_syncset::Sets;

@@ -4,6 +4,7 @@
 
 mod blocks;
 mod bytes;
+pub mod fates;
 mod held;
 pub mod laws;
 mod names;

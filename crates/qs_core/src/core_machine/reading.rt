@@ -1,12 +1,12 @@
 //! The parts of the optimised machine, for those who read what lies where.
 
 ghost use Rattle.std.specs.Prelude.{◌≡◌, ◌<◌, IfOk, drop, length, vec_len};
-ghost use Rattle.qs_core_parts.specs.CarriedRequests.{first_requests};
-ghost use Rattle.qs_core_parts.specs.LaneStates.{lane_at};
-ghost use Rattle.qs_core_state.specs.CoreState.{core_of, client_part_at};
+ghost use Rattle.qs_core.specs.parts.CarriedRequests.{first_requests};
+ghost use Rattle.qs_core.specs.parts.LaneStates.{lane_at};
+ghost use Rattle.qs_core.specs.state.CoreState.{core_of, client_part_at};
 
 use super::CoreMachine;
-use qs_core_parts::{CoreClient, CoreHandler};
+use crate::parts::{CoreClient, CoreHandler};
 use qs_objects::Request;
 use std::alloc::{AllocError, Global};
 

@@ -2,15 +2,15 @@
 
 ghost use Rattle.std.specs.Prelude.{◌≡◌, ◌<◌, ℕ, IfOk, Some, drop, length};
 ghost use Rattle.qs_core_laws.specs.CoreSchedule.{is_finished};
-ghost use Rattle.qs_core_parts.specs.CarriedRequests.{first_requests};
-ghost use Rattle.qs_core_parts.specs.CoreClients.{turns_to};
-ghost use Rattle.qs_core_parts.specs.CoreHandlers.{handler_with_act};
-ghost use Rattle.qs_core_state.specs.CoreState.{codes_of, core_of};
+ghost use Rattle.qs_core.specs.parts.CarriedRequests.{first_requests};
+ghost use Rattle.qs_core.specs.parts.CoreClients.{turns_to};
+ghost use Rattle.qs_core.specs.parts.CoreHandlers.{handler_with_act};
+ghost use Rattle.qs_core.specs.state.CoreState.{codes_of, core_of};
 ghost use Rattle.qs_core.specs.CoreEffects.{AreLanesOf, act_at};
 
 use super::Core;
-use qs_core_parts::{CoreClient, CoreHandler};
-use qs_core_shown::{are_finished, client_at, handler_at};
+use crate::parts::{CoreClient, CoreHandler};
+use crate::shown::{are_finished, client_at, handler_at};
 use qs_objects::Request;
 use std::alloc::{AllocError, Global};
 

@@ -1,7 +1,7 @@
 //! What lies where in the machine of the plain rules, and what its clients wait for.
 
 ghost use Rattle.std.specs.Prelude.{◌≡◌, map, option_copied, option_map, slice_get};
-ghost use Rattle.qs_plain_client.specs.Queues.{QueueState};
+ghost use Rattle.qs_plain.specs.client.Queues.{QueueState};
 ghost use Rattle.qs_plain_laws.specs.Plain.{Handler, handler_at as the_handler};
 ghost use Rattle.qs_plain_laws.specs.PlainSchedule.{is_finished};
 ghost use Rattle.qs_plain.specs.Awaiting.{awaited_at};
@@ -9,9 +9,9 @@ ghost use Rattle.qs_plain.specs.Rules.{plain_of};
 
 use super::Machine;
 use crate::awaited::Awaited;
+use crate::client::{PrivateQueue, Stage};
 use crate::showing;
 use qs_objects::Held;
-use qs_plain_client::{PrivateQueue, Stage};
 
 impl Machine<'_> {
     /// Whether the run is finished.

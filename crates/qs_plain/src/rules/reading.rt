@@ -1,7 +1,7 @@
 //! What lies where under the plain rules, and what the clients wait for.
 
 ghost use Rattle.std.specs.Prelude.{◌≡◌, map, option_copied, option_map, slice_get};
-ghost use Rattle.qs_plain_client.specs.Queues.{QueueState};
+ghost use Rattle.qs_plain.specs.client.Queues.{QueueState};
 ghost use Rattle.qs_plain_laws.specs.Plain.{Handler, handler_at};
 ghost use Rattle.qs_plain_laws.specs.PlainSchedule.{is_finished};
 ghost use Rattle.qs_plain.specs.Awaiting.{awaited_at};
@@ -9,8 +9,8 @@ ghost use Rattle.qs_plain.specs.Rules.{plain_of};
 
 use super::Rules;
 use crate::awaited::Awaited;
+use crate::client::PrivateQueue;
 use qs_objects::Held;
-use qs_plain_client::PrivateQueue;
 
 impl Rules<'_> {
     /// Whether the run is finished: no block is to come or goes on, and no private queue is there.

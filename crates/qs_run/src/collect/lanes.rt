@@ -2,13 +2,13 @@
 
 ghost use Rattle.std.specs.Prelude.{◌≡◌, ◌<◌, ◌≤◌, length, map, slice_set, None};
 ghost use Rattle.qs_program.specs.Limits.{most_clients, most_handlers};
-ghost use Rattle.qs_client_thread.specs.ClientThreads as running;
-ghost use Rattle.qs_handler_thread.specs.HandlerThreads as handling;
+ghost use Rattle.qs_run.specs.client.ClientThreads as running;
+ghost use Rattle.qs_run.specs.handler.HandlerThreads as handling;
 ghost use Rattle.qs_run.specs.Collected.{AreEndsJoined, AreLanesJoined, AreLanesPaired, without_lane_of};
 ghost use Rattle.qs_run.specs.Workers.{AreOneLane};
 
+use crate::client::Lanes as ClientLanes;
 use crate::worker::HandlerWorker;
-use qs_client_thread::Lanes as ClientLanes;
 use qs_desk::DeskName;
 use qs_lane::laws::agree;
 use qs_lane::{LaneIn, LaneOut};

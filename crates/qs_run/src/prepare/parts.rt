@@ -4,11 +4,11 @@ ghost use Rattle.std.specs.Prelude.{◌<◌, length, IfOk};
 ghost use Rattle.qs_run.specs.Prepared.{AreRunParts};
 ghost use Rattle.qs_run.specs.Workers.{IsListOf, IsMindAtStart, IsObjectAtStart};
 
+use crate::client::Lanes as ClientLanes;
+use crate::handler::Lanes as HandlerLanes;
 use crate::prepare::lanes::make_lanes;
 use qs_chunk::ChunkSize;
 use qs_client::Mind;
-use qs_client_thread::Lanes as ClientLanes;
-use qs_handler_thread::Lanes as HandlerLanes;
 use qs_objects::Held;
 use qs_played::declared_held;
 use qs_program::Program;

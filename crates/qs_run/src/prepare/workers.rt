@@ -7,13 +7,13 @@ ghost use Rattle.qs_desk.specs.Places.{places, share_at};
 ghost use Rattle.qs_run.specs.Prepared.{AreRunParts, IsClientOf, IsHandlerOf, IsNewIn, IsNewOut, ever_reserves, in_at, out_at};
 ghost use Rattle.qs_run.specs.Workers.{AreReady, IsListOf, IsMindAtStart, IsObjectAtStart};
 
+use crate::client::Lanes as ClientLanes;
+use crate::handler::Lanes as HandlerLanes;
 use crate::prepare::RunParts;
 use crate::worker::{ClientWorker, HandlerWorker, Ready};
 use qs_chunk::ChunkSize;
 use qs_client::Mind;
-use qs_client_thread::Lanes as ClientLanes;
 use qs_desk::{DeskName, Share, Tickets};
-use qs_handler_thread::Lanes as HandlerLanes;
 use qs_objects::Held;
 use qs_program::{MOST_CLIENTS, MOST_HANDLERS};
 use qs_syncset::Mode;

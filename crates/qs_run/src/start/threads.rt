@@ -6,13 +6,13 @@ ghost use Rattle.qs_run.specs.Groups.{IsDecided, WasAskedFrom};
 ghost use Rattle.qs_run.specs.Starts.{IsRefusedAStart, LetAllStart};
 ghost use Rattle.qs_run.specs.Workers.{ClientHasRun, HandlerHasServed, HasFollowed};
 
+use crate::client::run;
+use crate::handler::{Gate, serve};
 use crate::start::group::{Ended, Group, WorkerEnd, start_group};
 use crate::start::latch::{Deciding, Decision, Latch};
 use crate::starter::Starter;
 use crate::worker::{ClientWorker, HandlerWorker, Ready};
-use qs_client_thread::run;
 use qs_desk::{Desk, DeskName, Front};
-use qs_handler_thread::{Gate, serve};
 use std::sync::Wait;
 use std::thread::Threads;
 

@@ -1,6 +1,6 @@
 use Rattle.std.proofs.Common.{◌≤◌, arith, inl, length, subst, sym, ◌∙◌}
 use Rattle.qs_standings.specs.Standings.{configuration_in}
-use Rattle.qs_going.proofs.GoingSets.{in_set}
+use Rattle.qs_standings.proofs.going.GoingSets.{in_set}
 use Rattle.qs_standings.proofs.Stands.{goes_left}
 use Rattle.qs_alike.specs.AlikeOutcomes.{Becomes}
 use Rattle.qs_alike.specs.Texts.{classes_in}

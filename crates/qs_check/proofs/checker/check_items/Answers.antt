@@ -1,9 +1,9 @@
 use Rattle.std.proofs.Common.{◌≡◌, ap, ◌∙◌, drop, ◌+◌, ◌∷◌, [], ◌++◌, Ok}
 use Rattle.std.proofs.lemmas.Result.{err_from_is_err_and}
-use Rattle.qs_fault_places.specs.Places.{scope_or_fault, over, without_variables, item_places, script_places, Fails}
-use Rattle.qs_fault_places.specs.Variables.{variables_of}
-use Rattle.qs_resolution.specs.Resolve.{variable_lists}
-use Rattle.qs_fault_places.proofs.Walks.{parts_at, meets_err}
+use Rattle.qs_check.specs.fault_places.Places.{scope_or_fault, over, without_variables, item_places, script_places, Fails}
+use Rattle.qs_check.specs.fault_places.Variables.{variables_of}
+use Rattle.qs_check.specs.resolution.Resolve.{variable_lists}
+use Rattle.qs_check.proofs.fault_places.Walks.{parts_at, meets_err}
 use Rattle.qs_check.proofs.Items.{over_fails, over_goes_on, forget, lists_at, list_added, list_kept}
 use Rattle.qs_check.proofs.checker.check_items.Goals as goal
 use Rattle.qs_check.proofs.checker.check_items.Goals.{in-Object+in_ok-check_object-in-Object, in-Client+in_ok-check_client-in-Client+in_ok-add_variables-in-Client, in-Template+in_ok-check_template-in-Template, in-Started+in_ok-check_started-in-Started}

@@ -3,8 +3,8 @@ use Rattle.std.specs.List.{AllByRecursion}
 use Rattle.qs_objects.specs.declared.object.Kind.{Kind}
 use Rattle.qs_program.specs.Numbering.{Name}
 use Rattle.qs_program.specs.Limits.{most_variables}
-use Rattle.qs_fault_places.specs.Places.{scope_or_fault, start, script_places}
-use Rattle.qs_resolution.specs.Resolve.{clients_of, variable_lists, names_of, templates_in}
+use Rattle.qs_check.specs.fault_places.Places.{scope_or_fault, start, script_places}
+use Rattle.qs_check.specs.resolution.Resolve.{clients_of, variable_lists, names_of, templates_in}
 use Rattle.qs_check.specs.Checked.{first_fault}
 use Rattle.qs_check.proofs.Scripts.{texts_faultless}
 use Rattle.qs_check.proofs.Soundness.{walked}

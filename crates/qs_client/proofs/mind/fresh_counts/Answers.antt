@@ -5,7 +5,7 @@ use Rattle.qs_sync_counts.specs.SyncRows.{CountsState, begun_rows, no_syncs}
 use Rattle.qs_sync_counts.specs.declared.sync_counts.SyncCount.{SyncCount}
 use Rattle.qs_sync_counts.proofs.CountRows.{begun_all, begun_beyond, begun_next, begun_none, length_begun}
 use Rattle.qs_client.proofs.ReservedLists.{few_objects}
-use Rattle.qs_client_run.proofs.CodeBounds.{few_blocks}
+use Rattle.qs_client.proofs.run.CodeBounds.{few_blocks}
 use Rattle.qs_client.specs.ClientModel.{lists_of_code}
 use Rattle.qs_client.proofs.mind.fresh_counts.Goals as goal
 

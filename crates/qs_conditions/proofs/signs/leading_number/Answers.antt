@@ -1,5 +1,5 @@
 use Rattle.std.proofs.Common.{arith}
-use Rattle.qs_tokens.proofs.Powers.{ten_mono}
+use Rattle.qs_script.proofs.tokens.Powers.{ten_mono}
 use Rattle.qs_conditions.proofs.signs.leading_number.Goals as goal
 
 pub overflow_mul-value : goal.overflow_mul-value

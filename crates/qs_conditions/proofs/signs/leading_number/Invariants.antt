@@ -1,6 +1,6 @@
 use Rattle.std.proofs.Common.{◌≡◌, ◌+◌, ◌<◌, ◌^◌, take, drop}
-use Rattle.qs_tokens.specs.Tokens.{is_digit, value_of}
-use Rattle.qs_tokens.specs.Cutting.{run_of}
+use Rattle.qs_script.specs.tokens.Tokens.{is_digit, value_of}
+use Rattle.qs_script.specs.tokens.Cutting.{run_of}
 use Rattle.qs_conditions.proofs.signs.leading_number.Given as goal
 
 abbrev pub invariant-loop-i : goal.invariant-loop-i

@@ -1,6 +1,6 @@
 use Rattle.std.proofs.Common.{◌≡◌, ◌+◌, drop}
-use Rattle.qs_tokens.specs.Tokens.{is_name_byte}
-use Rattle.qs_tokens.specs.Cutting.{run_of}
+use Rattle.qs_script.specs.tokens.Tokens.{is_name_byte}
+use Rattle.qs_script.specs.tokens.Cutting.{run_of}
 use Rattle.qs_conditions.proofs.signs.name_length.Given as goal
 
 abbrev pub invariant-loop-i : goal.invariant-loop-i

@@ -1,6 +1,6 @@
 use Rattle.std.proofs.Common.{◌∙◌, arith, ap, take}
 use Rattle.std.proofs.lemmas.List.{take_min}
-use Rattle.qs_tokens.proofs.Powers.{ten_mono}
+use Rattle.qs_script.proofs.tokens.Powers.{ten_mono}
 use Rattle.qs_conditions.proofs.Lexer.{long_number, short_number}
 use Rattle.qs_conditions.proofs.signs.number_sign.Goals as goal
 

@@ -1,7 +1,7 @@
 use Rattle.std.proofs.Common.{◌<◌, length, sym, ap, subst, ◌∙◌, arith}
-use Rattle.qs_core_parts.specs.CoreHandlers.{turns_to}
-use Rattle.qs_core_shown.specs.CoreShown.{TurnsTo}
-use Rattle.qs_core_shown.proofs.CoreShowing.{turned_inside}
+use Rattle.qs_core.specs.parts.CoreHandlers.{turns_to}
+use Rattle.qs_core.specs.shown.CoreShown.{TurnsTo}
+use Rattle.qs_core.proofs.shown.CoreShowing.{turned_inside}
 use Rattle.qs_core.proofs.core_effects.handler_effect.Goals as goal
 
 pub client_at-client-requires : goal.client_at-client-requires

@@ -1,14 +1,14 @@
 use Rattle.std.proofs.Common.{◌≡◌, length, sym, ap, subst, ◌∙◌, arith}
 use Rattle.std.specs.Prelude.{IfOk}
 use Rattle.qs_handler.specs.Handler.{act_of}
-use Rattle.qs_core_parts.specs.CarriedRequests.{first_requests}
-use Rattle.qs_core_parts.specs.CoreHandlers.{CoreHandlerState, core_handler_at, handler_with_act, turns_to}
-use Rattle.qs_core_parts.specs.LaneStates.{lane_at}
-use Rattle.qs_core_state.specs.CoreState.{ClientPart, client_part_at}
+use Rattle.qs_core.specs.parts.CarriedRequests.{first_requests}
+use Rattle.qs_core.specs.parts.CoreHandlers.{CoreHandlerState, core_handler_at, handler_with_act, turns_to}
+use Rattle.qs_core.specs.parts.LaneStates.{lane_at}
+use Rattle.qs_core.specs.state.CoreState.{ClientPart, client_part_at}
 use Rattle.qs_core.proofs.CoreEffects.{requests_taken}
 use Rattle.qs_core.proofs.CoreFieldLemmas.{client_here}
-use Rattle.qs_core_shown.specs.CoreShown.{TurnsTo}
-use Rattle.qs_core_shown.proofs.CoreShowing.{turned_inside}
+use Rattle.qs_core.specs.shown.CoreShown.{TurnsTo}
+use Rattle.qs_core.proofs.shown.CoreShowing.{turned_inside}
 use Rattle.qs_core.proofs.core_effects.handler_requests.Goals as goal
 
 pub index_mut-client-requires : goal.index_mut-client-requires

@@ -1,6 +1,6 @@
 use Rattle.std.proofs.Common.{drop, ◌+◌, ap, sym, subst, ◌∙◌}
 use Rattle.qs_played.proofs.Lists.{from_here}
-use Rattle.qs_core_parts.specs.CoreHandlers.{CanEnterAll, with_ticket_at_all}
+use Rattle.qs_core.specs.parts.CoreHandlers.{CanEnterAll, with_ticket_at_all}
 use Rattle.qs_core.proofs.core_machine.enter_all.Goals as goal
 
 pub loop-object-preserved : goal.loop-object-preserved

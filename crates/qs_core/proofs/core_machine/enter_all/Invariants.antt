@@ -1,5 +1,5 @@
 use Rattle.std.proofs.Common.{◌≡◌, drop}
-use Rattle.qs_core_parts.specs.CoreHandlers.{CanEnterAll, with_ticket_at_all}
+use Rattle.qs_core.specs.parts.CoreHandlers.{CanEnterAll, with_ticket_at_all}
 use Rattle.qs_core.proofs.core_machine.enter_all.Given as goal
 
 abbrev pub invariant-loop-object : goal.invariant-loop-object

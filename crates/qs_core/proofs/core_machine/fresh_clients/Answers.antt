@@ -1,6 +1,6 @@
 use Rattle.std.proofs.Common.{get_or, subst, sym, arith}
 use Rattle.qs_played.proofs.Lists.{each_more}
-use Rattle.qs_core_state.specs.CoreState.{IsFreshClient}
+use Rattle.qs_core.specs.state.CoreState.{IsFreshClient}
 use Rattle.qs_core.proofs.core_machine.fresh_clients.Goals as goal
 
 pub loop-number-preserved : goal.loop-number-preserved

@@ -1,6 +1,6 @@
 use Rattle.std.proofs.Common.{◌≡◌, ◌<◌, ℕ, length, get_or}
-use Rattle.qs_core_parts.specs.CoreClients.{CoreClientState}
-use Rattle.qs_core_state.specs.CoreState.{IsFreshClient}
+use Rattle.qs_core.specs.parts.CoreClients.{CoreClientState}
+use Rattle.qs_core.specs.state.CoreState.{IsFreshClient}
 use Rattle.qs_core.proofs.core_machine.fresh_clients.Given as goal
 
 abbrev pub invariant-loop-number : goal.invariant-loop-number

@@ -1,7 +1,7 @@
 use Rattle.std.proofs.Common.{◌≡◌, ◌<◌, ℕ, [], length, get_or}
 use Rattle.qs_handler.specs.Handler.{free}
 use Rattle.qs_played.specs.JournalRooms.{fresh_held}
-use Rattle.qs_core_parts.specs.CoreHandlers.{CoreHandlerState, handler_with}
+use Rattle.qs_core.specs.parts.CoreHandlers.{CoreHandlerState, handler_with}
 use Rattle.qs_core.proofs.core_machine.fresh_handlers.Given as goal
 
 abbrev pub invariant-loop-object : goal.invariant-loop-object

@@ -4,8 +4,8 @@ use Rattle.std.proofs.lemmas.List.{drop_all}
 use Rattle.qs_serial.specs.NamedOrders.{order_of}
 use Rattle.qs_played.proofs.ShownRuns.{if_shown}
 use Rattle.qs_core_laws.specs.CoreSchedule.{core_played}
-use Rattle.qs_core_orders.specs.CoreOrders.{IsPlayedInOrderOn}
-use Rattle.qs_core_state.specs.CoreState.{core_of}
+use Rattle.qs_core_laws.specs.orders.CoreOrders.{IsPlayedInOrderOn}
+use Rattle.qs_core.specs.state.CoreState.{core_of}
 use Rattle.qs_core.proofs.CoreBlocks.{ArePlayed, all_played, next_left, one_more, own_order, played_first, quiet_now}
 use Rattle.qs_core.proofs.core_orders.play_clients.Goals as goal
 use Rattle.qs_core.proofs.core_orders.play_clients.Goals.{In-loop-client}

@@ -3,7 +3,7 @@ use Rattle.std.proofs.lemmas.List.{take_all}
 use Rattle.qs_played.specs.SyncSums.{AreSyncsCounted}
 use Rattle.qs_played.proofs.ShownRuns.{if_shown}
 use Rattle.qs_core_laws.specs.CoreSchedule.{IsShown, core_played}
-use Rattle.qs_core_state.specs.CoreState.{IsPlayedOn, IsShownIsolated, core_of}
+use Rattle.qs_core.specs.state.CoreState.{IsPlayedOn, IsShownIsolated, core_of}
 use Rattle.qs_core.proofs.CoreCounted.{schedule_counted}
 use Rattle.qs_core.proofs.CoreGoing.{rounds_played}
 use Rattle.qs_core.proofs.CorePlaying.{played_more, schedule_isolated, schedule_shown, take_more}

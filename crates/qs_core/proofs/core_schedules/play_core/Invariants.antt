@@ -1,5 +1,5 @@
 use Rattle.std.proofs.Common.{take}
-use Rattle.qs_core_state.specs.CoreState.{IsPlayedOn}
+use Rattle.qs_core.specs.state.CoreState.{IsPlayedOn}
 use Rattle.qs_core.proofs.core_schedules.play_core.Given as goal
 
 abbrev pub invariant-loop-pick : goal.invariant-loop-pick

@@ -1,7 +1,7 @@
 use Rattle.std.proofs.Common.{◌∙◌, Bool, ap, codes, sym}
 use Rattle.std.proofs.lemmas.Result.{on_ok_weaker}
 use Rattle.qs_graph.specs.declared.node.Node.{Node}
-use Rattle.qs_held_sets.specs.Table.{has}
+use Rattle.qs_syncset.specs.held.Table.{has}
 use Rattle.qs_text.specs.Blocks.{is_removed}
 use Rattle.qs_json.specs.Pieces.{field, truth}
 use Rattle.qs_json.specs.GraphJson.{label_json}

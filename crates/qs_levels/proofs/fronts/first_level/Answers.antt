@@ -1,7 +1,7 @@
 use Rattle.std.proofs.Common.{◌≡◌, ◌%◌, [], ◌∷◌, ap, length, subst, sym, ◌∙◌}
-use Rattle.qs_going.specs.Going.{begun_counts}
+use Rattle.qs_standings.specs.going.Going.{begun_counts}
 use Rattle.qs_levels.specs.Founds.{found_in}
-use Rattle.qs_level_laws.specs.Weights.{weighted}
+use Rattle.qs_levels.specs.meaning.Weights.{weighted}
 use Rattle.qs_levels.specs.Shares.{AreGoing, weight}
 use Rattle.qs_levels.specs.declared.level.Going.{Going}
 use Rattle.qs_levels.proofs.fronts.first_level.Goals as goal

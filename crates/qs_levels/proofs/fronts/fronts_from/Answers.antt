@@ -2,10 +2,10 @@ use Rattle.std.proofs.Common.{◌≡◌, ◌≤◌, ◌+◌, Err, [], ap, arith,
 use Rattle.std.proofs.lemmas.Result.{err_from_is_err_and}
 use Rattle.qs_meaning.specs.Serial.{IsLegal}
 use Rattle.qs_outcomes.specs.declared.fault.OutcomesFault.TheVariants.{Limit}
-use Rattle.qs_level_laws.specs.Fronts.{AreFrontsAfter}
-use Rattle.qs_level_laws.specs.Levels.{IsLevel}
-use Rattle.qs_level_laws.proofs.Lists.{nothing}
-use Rattle.qs_level_laws.proofs.Reaching.{fronts_of, level_first, level_on, none_later}
+use Rattle.qs_levels.specs.meaning.Fronts.{AreFrontsAfter}
+use Rattle.qs_levels.specs.meaning.Levels.{IsLevel}
+use Rattle.qs_levels.proofs.meaning.Lists.{nothing}
+use Rattle.qs_levels.proofs.meaning.Reaching.{fronts_of, level_first, level_on, none_later}
 use Rattle.qs_levels.specs.MoreFronts.{HasMoreFronts}
 use Rattle.qs_levels.proofs.MoreFronts.{few_first, few_later, few_next, more_on, more_than_no_fronts}
 use Rattle.qs_levels.proofs.fronts.fronts_from.Goals as goal

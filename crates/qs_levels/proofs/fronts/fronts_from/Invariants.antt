@@ -1,5 +1,5 @@
 use Rattle.std.proofs.Common.{◌≤◌, length}
-use Rattle.qs_level_laws.specs.Levels.{IsLevel}
+use Rattle.qs_levels.specs.meaning.Levels.{IsLevel}
 use Rattle.qs_levels.specs.MoreFronts.{HasMoreFronts}
 use Rattle.qs_levels.specs.Shares.{AreGoing}
 use Rattle.qs_levels.proofs.fronts.fronts_from.Given as goal

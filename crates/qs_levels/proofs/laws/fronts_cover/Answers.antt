@@ -1,4 +1,4 @@
-use Rattle.qs_level_laws.proofs.Reaching.{fronts_cover}
+use Rattle.qs_levels.proofs.meaning.Reaching.{fronts_cover}
 use Rattle.qs_levels.proofs.laws.fronts_cover.Goals as goal
 
 pub returns : goal.returns

@@ -8,7 +8,7 @@ use Rattle.qs_standings.proofs.Lists.{has_map}
 use Rattle.qs_standings.proofs.Stands.{block_next, goes_left}
 use Rattle.qs_meaning.specs.Reduced.{goes_on}
 use Rattle.qs_meaning.proofs.Each.{each_snoc}
-use Rattle.qs_going.specs.Going.{in_byte}
+use Rattle.qs_standings.specs.going.Going.{in_byte}
 use Rattle.qs_levels.specs.Leads.{AreKnown, tabled}
 use Rattle.qs_levels.specs.Founds.{Found}
 use Rattle.qs_levels.proofs.leading.lead_client.Goals as goal

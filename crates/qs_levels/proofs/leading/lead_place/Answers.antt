@@ -1,15 +1,15 @@
 use Rattle.std.proofs.Common.{◌∙◌, ap, length, slice_index_or, subst, sym}
-use Rattle.qs_going.specs.Going.{in_byte}
+use Rattle.qs_standings.specs.going.Going.{in_byte}
 use Rattle.qs_meaning.specs.Reduced.{goes_on}
 use Rattle.qs_meaning.proofs.Each.{zip_at}
 use Rattle.qs_standings.specs.Standings.{IsStanding, StandingShape, configuration_in}
-use Rattle.qs_going.proofs.GoingSets.{in_none}
+use Rattle.qs_standings.proofs.going.GoingSets.{in_none}
 use Rattle.qs_levels.specs.Founds.{no_standing}
 use Rattle.qs_levels.specs.Leads.{tabled}
 use Rattle.qs_levels.specs.Shares.{AreTaken, IsGoing}
 use Rattle.qs_levels.specs.declared.level.Going.{Going}
 use Rattle.qs_levels.proofs.Keeping.{none_up_to}
-use Rattle.qs_level_laws.proofs.Lists.{each_at}
+use Rattle.qs_levels.proofs.meaning.Lists.{each_at}
 use Rattle.qs_levels.proofs.leading.lead_place.Goals as goal
 
 pub returns-then-taken-eq0-clause-led : goal.returns-then-taken-eq0-clause-led

@@ -2,7 +2,7 @@ use Rattle.std.proofs.Common.{◌≡◌, ◌<◌, ◌+◌, ◌≤◌, Err, ap, a
 use Rattle.std.proofs.lemmas.Result.{err_from_is_err_and}
 use Rattle.qs_outcomes.specs.declared.fault.OutcomesFault.TheVariants.{Limit}
 use Rattle.qs_standings.specs.Rows.{drafted}
-use Rattle.qs_going.proofs.GoingSets.{in_set, out_of_set}
+use Rattle.qs_standings.proofs.going.GoingSets.{in_set, out_of_set}
 use Rattle.qs_levels.specs.Leads.{AreEven, AreKnown, IsLedOn, IsLedUpTo, tabled}
 use Rattle.qs_levels.specs.Shares.{is_taken}
 use Rattle.qs_levels.proofs.NextLevels.{taken_goes}

@@ -5,7 +5,7 @@ use Rattle.qs_outcomes.specs.declared.fault.OutcomesFault.TheVariants.{Limit}
 use Rattle.qs_levels.specs.Leads.{AreKnown, IsPartOf, IsTableOf, TableShape, leads, tabled}
 use Rattle.qs_levels.specs.Founds.{no_standing}
 use Rattle.qs_levels.proofs.NextLevels.{led_at, no_table, too_many}
-use Rattle.qs_level_laws.proofs.Lists.{own_default}
+use Rattle.qs_levels.proofs.meaning.Lists.{own_default}
 use Rattle.qs_levels.proofs.leading.led_on.Goals as goal
 
 pub loop-place-init : goal.loop-place-init

@@ -4,7 +4,7 @@ use Rattle.std.specs.List.{AllByRecursion}
 use Rattle.std.specs.Prelude.{slice_set}
 use Rattle.qs_meaning.proofs.Each.{each_snoc}
 use Rattle.qs_levels.specs.Founds.{IsSpot, LevelShape, level_in}
-use Rattle.qs_level_laws.specs.Levels.{IsNextOf}
+use Rattle.qs_levels.specs.meaning.Levels.{IsNextOf}
 use Rattle.qs_levels.specs.Shares.{AreGoing}
 use Rattle.qs_levels.specs.Merging.{IsLeastPart, rests_of, spot_of}
 use Rattle.qs_levels.proofs.Merged.{IsMerging, IsNextTaken, all_in, left_in, merging_begins, merging_ends, next_taken, none_taken, taking_goes_on, taking_shrinks}

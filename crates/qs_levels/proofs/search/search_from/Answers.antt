@@ -3,11 +3,11 @@ use Rattle.std.proofs.lemmas.Result.{err_from_is_err_and}
 use Rattle.qs_meaning.specs.Serial.{IsLegal}
 use Rattle.qs_outcomes.specs.Outcomes.{AreOutcomesAfter, HasMoreThanAfter}
 use Rattle.qs_outcomes.specs.declared.fault.OutcomesFault.TheVariants.{Limit}
-use Rattle.qs_level_laws.specs.Onward.{HasMoreOnward}
-use Rattle.qs_level_laws.specs.Levels.{IsLevel, IsSearched}
-use Rattle.qs_level_laws.proofs.Ends.{no_room, no_room_first, outcomes_of_level, search_begins, search_goes_on}
-use Rattle.qs_level_laws.proofs.Lists.{nothing}
-use Rattle.qs_level_laws.proofs.Reaching.{level_first, more_than_none}
+use Rattle.qs_levels.specs.meaning.Onward.{HasMoreOnward}
+use Rattle.qs_levels.specs.meaning.Levels.{IsLevel, IsSearched}
+use Rattle.qs_levels.proofs.meaning.Ends.{no_room, no_room_first, outcomes_of_level, search_begins, search_goes_on}
+use Rattle.qs_levels.proofs.meaning.Lists.{nothing}
+use Rattle.qs_levels.proofs.meaning.Reaching.{level_first, more_than_none}
 use Rattle.qs_levels.proofs.search.search_from.Goals as goal
 
 pub returns-in_err-level-clause-limit : goal.returns-in_err-level-clause-limit

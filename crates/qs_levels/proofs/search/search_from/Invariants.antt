@@ -1,5 +1,5 @@
 use Rattle.std.proofs.Common.{◌≤◌, ◌+◌, ◌-◌, length}
-use Rattle.qs_level_laws.specs.Levels.{IsSearched}
+use Rattle.qs_levels.specs.meaning.Levels.{IsSearched}
 use Rattle.qs_levels.specs.Shares.{AreGoing}
 use Rattle.qs_levels.proofs.search.search_from.Given as goal
 

@@ -1,5 +1,5 @@
 use Rattle.std.proofs.Common.{◌≡◌, ◌+◌, ◌%◌, ◌==◌, ◌&&◌, ℕ, nat_lt}
-use Rattle.qs_going.specs.Going.{in_byte}
+use Rattle.qs_standings.specs.going.Going.{in_byte}
 use Rattle.qs_levels.specs.Shares.{weight}
 use Rattle.qs_levels.proofs.share.mask.Given as goal
 

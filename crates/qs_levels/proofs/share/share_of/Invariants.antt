@@ -1,6 +1,6 @@
 use Rattle.std.proofs.Common.{◌≡◌, ◌≤◌, ◌*◌}
-use Rattle.qs_going.specs.Going.{begun_counts}
-use Rattle.qs_level_laws.specs.Weights.{weighted}
+use Rattle.qs_standings.specs.going.Going.{begun_counts}
+use Rattle.qs_levels.specs.meaning.Weights.{weighted}
 use Rattle.qs_levels.specs.Shares.{weight}
 use Rattle.qs_levels.proofs.share.share_of.Given as goal
 

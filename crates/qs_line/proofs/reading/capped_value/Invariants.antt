@@ -1,6 +1,6 @@
 -- The number so far is that of the digits before this one, cut at the limit.
 use Rattle.std.proofs.Common.{◌≡◌, ◌+◌, ◌≤◌, min, take}
-use Rattle.qs_tokens.specs.Tokens.{value_of}
+use Rattle.qs_script.specs.tokens.Tokens.{value_of}
 use Rattle.qs_line.specs.Limits.{most_repeats}
 use Rattle.qs_line.proofs.reading.capped_value.Given as goal
 

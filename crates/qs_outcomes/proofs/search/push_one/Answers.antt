@@ -1,7 +1,7 @@
 use Rattle.std.proofs.Common.{◌≡◌, ◌++◌, ◌∷◌, [], ap, inl, inr, sym, ◌∙◌, true≢false, refl}
 use Rattle.qs_standings.specs.Rows.{drafted, rows_in}
 use Rattle.qs_standings.specs.Standings.{GoesOn, HasNext, IsNext, row_of, standing_with_block}
-use Rattle.qs_going.proofs.GoingSets.{in_set, out_of_set}
+use Rattle.qs_standings.proofs.going.GoingSets.{in_set, out_of_set}
 use Rattle.qs_standings.proofs.Lists.{has_map}
 use Rattle.qs_standings.proofs.Stands.{block_next, goes_left}
 use Rattle.qs_outcomes.proofs.search.push_one.Goals as goal

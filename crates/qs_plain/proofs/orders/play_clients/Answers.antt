@@ -6,8 +6,8 @@ use Rattle.qs_played.proofs.ShownRuns.{if_shown}
 use Rattle.qs_plain_laws.specs.Plain.{begin, begun_blocks}
 use Rattle.qs_plain_laws.specs.PlainSchedule.{played_of}
 use Rattle.qs_plain_laws.proofs.Ordering.{IsOrdered, ordered_begin, ordered_plays, tickets_begun}
-use Rattle.qs_plain_orders.specs.PlainOrders.{IsPlayedInOrder}
-use Rattle.qs_plain_client.specs.Clients.{client_of_state}
+use Rattle.qs_plain_laws.specs.orders.PlainOrders.{IsPlayedInOrder}
+use Rattle.qs_plain.specs.client.Clients.{client_of_state}
 use Rattle.qs_plain.specs.Rules.{plain_of}
 use Rattle.qs_plain.proofs.Blocks.{ArePlayed, all_played, next_left, one_more, played_first}
 use Rattle.qs_plain.proofs.ReadingOff.{at_client}

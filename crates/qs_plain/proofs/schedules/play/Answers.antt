@@ -13,7 +13,7 @@ use Rattle.qs_plain_laws.proofs.Ordering.{IsOrdered, ordered_begin, ordered_play
 use Rattle.qs_plain_laws.specs.PlainSyncSums.{AreQueriesCounted}
 use Rattle.qs_plain_laws.proofs.Isolating.{runs_isolated}
 use Rattle.qs_plain_laws.proofs.PlainSyncs.{plain_syncs_counted}
-use Rattle.qs_plain_client.specs.Clients.{client_of_state}
+use Rattle.qs_plain.specs.client.Clients.{client_of_state}
 use Rattle.qs_plain.specs.Rules.{plain_of}
 use Rattle.qs_plain.proofs.Playing.{plays-schedule, shown-as}
 use Rattle.qs_plain.proofs.ReadingOff.{at_client}

@@ -1,6 +1,6 @@
 use Rattle.std.proofs.Common.{◌≡◌, ◌&&◌, map, drop}
 use Rattle.qs_plain_laws.specs.PlainSchedule.{all_idle}
-use Rattle.qs_plain_handler.specs.Served.{handler_of_state}
+use Rattle.qs_plain.specs.handler.Served.{handler_of_state}
 use Rattle.qs_plain.proofs.showing.are_idle.Given as goal
 
 abbrev pub invariant-loop-handler : goal.invariant-loop-handler

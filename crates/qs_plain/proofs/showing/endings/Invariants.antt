@@ -1,7 +1,7 @@
 use Rattle.std.proofs.Common.{◌≡◌, map, take}
 use Rattle.qs_objects.specs.declared.held.Ticket.{Ticket}
 use Rattle.qs_plain_laws.specs.PlainSchedule.{has_ended}
-use Rattle.qs_plain_client.specs.Clients.{client_of_state, client_state_at}
+use Rattle.qs_plain.specs.client.Clients.{client_of_state, client_state_at}
 use Rattle.qs_plain.proofs.showing.endings.Given as goal
 
 abbrev pub invariant-loop-ticket : goal.invariant-loop-ticket

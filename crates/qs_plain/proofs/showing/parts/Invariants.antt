@@ -1,5 +1,5 @@
 use Rattle.std.proofs.Common.{◌≡◌, map}
-use Rattle.qs_plain_handler.specs.Served.{HandlerState}
+use Rattle.qs_plain.specs.handler.Served.{HandlerState}
 use Rattle.qs_plain.proofs.showing.parts.Given as goal
 
 abbrev pub invariant-loop-handler : goal.invariant-loop-handler

@@ -1,7 +1,7 @@
 use Rattle.std.proofs.Common.{◌≡◌, ◌≤◌, ◌*◌, suc, take, sum_by}
 use Rattle.qs_program.specs.Limits.{most_blocks, most_requests}
 use Rattle.qs_plain_laws.specs.PlainSchedule.{syncs_of}
-use Rattle.qs_plain_client.specs.Clients.{ClientState, client_of_state}
+use Rattle.qs_plain.specs.client.Clients.{ClientState, client_of_state}
 use Rattle.qs_plain.proofs.showing.syncs.Given as goal
 
 abbrev pub invariant-loop-client : goal.invariant-loop-client

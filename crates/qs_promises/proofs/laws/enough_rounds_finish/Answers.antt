@@ -1,5 +1,5 @@
-use Rattle.qs_plain_progress.proofs.Bounded.{steps_bounded}
-use Rattle.qs_core_progress.proofs.Bounded.{core_steps_bounded}
+use Rattle.qs_plain_laws.proofs.progress.Bounded.{steps_bounded}
+use Rattle.qs_core_laws.proofs.progress.Bounded.{core_steps_bounded}
 use Rattle.qs_promises.proofs.Rounds.{default_enough, default_finish, enough_finish}
 use Rattle.qs_promises.proofs.laws.enough_rounds_finish.Goals as goal
 

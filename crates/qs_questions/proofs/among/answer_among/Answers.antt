@@ -1,7 +1,7 @@
 use Rattle.std.proofs.Common.{subst}
 use Rattle.std.specs.Prelude.{IfSome}
 use Rattle.qs_alike.specs.Texts.{classes_in}
-use Rattle.qs_alike_totals.specs.Totals.{HasInAll}
+use Rattle.qs_alike.specs.totals.Totals.{HasInAll}
 use Rattle.qs_questions.specs.Claims.{is_sought}
 use Rattle.qs_questions.proofs.WithWitness.{met_at}
 use Rattle.qs_questions.proofs.among.answer_among.Goals as goal

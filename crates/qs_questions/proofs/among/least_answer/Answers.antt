@@ -1,8 +1,8 @@
 use Rattle.std.proofs.Common.{subst, sym}
 use Rattle.qs_alike.specs.Texts.{classes_in}
 use Rattle.std.specs.Prelude.{IfSome}
-use Rattle.qs_alike_noted.specs.Noted.{IsLeastToItsEnd}
-use Rattle.qs_alike_witness.specs.LeastMet.{IsLeastMet}
+use Rattle.qs_alike.specs.noted.Noted.{IsLeastToItsEnd}
+use Rattle.qs_alike.specs.witness.LeastMet.{IsLeastMet}
 use Rattle.qs_questions.specs.Claims.{is_sought}
 use Rattle.qs_questions.proofs.AlikeAnswers.{changes_keep_sought}
 use Rattle.qs_questions.proofs.WithWitness.{least_to_end}

@@ -1,5 +1,5 @@
 use Rattle.std.proofs.Common.{◌<◌, arith, ap, sym, ◌∙◌}
-use Rattle.qs_going.proofs.GoingSets.{in_one}
+use Rattle.qs_standings.proofs.going.GoingSets.{in_one}
 use Rattle.qs_questions.specs.AlikeClaims.{is_client, names}
 use Rattle.qs_questions.proofs.clients.named_by.Goals as goal
 

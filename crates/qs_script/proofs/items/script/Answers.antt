@@ -1,8 +1,8 @@
 use Rattle.std.proofs.Common.{◌≡◌, ◌<◌, length, arith, [], Ok}
 use Rattle.std.proofs.lemmas.Result.{err_from_is_err_and}
-use Rattle.qs_grammar.specs.Reading.{run, end_at, item_at, items_loop}
-use Rattle.qs_grammar.proofs.Form.{formed}
-use Rattle.qs_grammar.proofs.Readings.{is_script}
+use Rattle.qs_script.specs.grammar.Reading.{run, end_at, item_at, items_loop}
+use Rattle.qs_script.proofs.grammar.Form.{formed}
+use Rattle.qs_script.proofs.grammar.Readings.{is_script}
 use Rattle.qs_script.proofs.Loops.{list_begins, list_goes_on, whole_list_closes, whole_list_fails, at_end, before_end}
 use Rattle.qs_script.proofs.items.script.Goals as goal
 

@@ -1,5 +1,5 @@
 use Rattle.std.proofs.Common.{refl}
-use Rattle.qs_grammar.specs.Reading.{run}
+use Rattle.qs_script.specs.grammar.Reading.{run}
 use Rattle.qs_script.proofs.ReadTexts.{reads_to, reads_nothing}
 use Rattle.qs_script.proofs.laws.examples.Goals as goal
 

@@ -1,6 +1,6 @@
 -- The place begins a line; the tokens before it are counted, and there are no more than bytes.
 use Rattle.std.proofs.Common.{◌≡◌, ◌≤◌, ◌+◌, ◌-◌, List, length}
-use Rattle.qs_tokens.specs.declared.token.Token.{Token}
+use Rattle.qs_script.specs.declared.tokens.token.Token.{Token}
 use Rattle.qs_diagnosis.specs.Spots.{spot_at}
 use Rattle.qs_script.proofs.PassedLines.{IsFront}
 use Rattle.qs_script.proofs.lines.line_of.Given as goal

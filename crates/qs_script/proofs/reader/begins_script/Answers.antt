@@ -1,6 +1,6 @@
 use Rattle.std.proofs.Common.{Some, None, refl}
-use Rattle.qs_grammar.specs.FormPlaces.{IsFormPlaceOf}
-use Rattle.qs_grammar.proofs.Places.{begins_where, script_begins}
+use Rattle.qs_script.specs.grammar.FormPlaces.{IsFormPlaceOf}
+use Rattle.qs_script.proofs.grammar.Places.{begins_where, script_begins}
 use Rattle.qs_script.proofs.reader.begins_script.Goals as goal
 
 pub returns-in-Some : goal.returns-in-Some

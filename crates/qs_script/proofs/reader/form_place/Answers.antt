@@ -1,8 +1,8 @@
 use Rattle.std.proofs.Common.{◌≡◌, ◌-◌, length, arith, subst, sym, Err}
-use Rattle.qs_grammar.specs.Reading.{items_loop, run}
-use Rattle.qs_grammar.specs.FormPlaces.{IsFormPlace}
-use Rattle.qs_grammar.proofs.Places.{form_place}
-use Rattle.qs_grammar.proofs.Readings.{is_script, is_no_script}
+use Rattle.qs_script.specs.grammar.Reading.{items_loop, run}
+use Rattle.qs_script.specs.grammar.FormPlaces.{IsFormPlace}
+use Rattle.qs_script.proofs.grammar.Places.{form_place}
+use Rattle.qs_script.proofs.grammar.Readings.{is_script, is_no_script}
 use Rattle.qs_script.proofs.reader.form_place.Goals as goal
 
 pub returns-in-Ok : goal.returns-in-Ok

@@ -1,10 +1,10 @@
 use Rattle.std.proofs.Common.{◌≡◌, ◌-◌, length, subst, arith, Ok, Err}
-use Rattle.qs_tokens.specs.Tokens.{tokens_of}
+use Rattle.qs_script.specs.tokens.Tokens.{tokens_of}
 use Rattle.qs_script.specs.Lines.{IsTokenLine}
-use Rattle.qs_grammar.specs.Reading.{items_loop, run}
+use Rattle.qs_script.specs.grammar.Reading.{items_loop, run}
 use Rattle.qs_script.specs.Reads.{IsFormLine}
-use Rattle.qs_grammar.proofs.Readings.{is_script, is_no_script}
-use Rattle.qs_grammar.proofs.Places.{form_place}
+use Rattle.qs_script.proofs.grammar.Readings.{is_script, is_no_script}
+use Rattle.qs_script.proofs.grammar.Places.{form_place}
 use Rattle.qs_script.proofs.reader.read.Goals as goal
 
 pub returns-in-Ok-clause-exact : goal.returns-in-Ok-clause-exact

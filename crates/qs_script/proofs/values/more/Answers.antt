@@ -1,5 +1,5 @@
 use Rattle.std.proofs.Common.{[], ◌∷◌}
-use Rattle.qs_grammar.specs.Reading.{close_paren_at, further_at}
+use Rattle.qs_script.specs.grammar.Reading.{close_paren_at, further_at}
 use Rattle.qs_script.proofs.Loops.{list_begins, list_closes}
 use Rattle.qs_script.proofs.values.more.Goals as goal
 

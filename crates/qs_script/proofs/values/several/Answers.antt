@@ -1,6 +1,6 @@
 use Rattle.std.proofs.Common.{arith, [], ◌∷◌}
 use Rattle.std.proofs.lemmas.Result.{err_from_is_err_and}
-use Rattle.qs_grammar.specs.Reading.{close_paren_at, further_at}
+use Rattle.qs_script.specs.grammar.Reading.{close_paren_at, further_at}
 use Rattle.qs_script.proofs.Loops.{list_begins, list_goes_on, list_closes, list_fails}
 use Rattle.qs_script.proofs.values.several.Goals as goal
 

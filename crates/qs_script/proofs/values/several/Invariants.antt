@@ -1,5 +1,5 @@
 use Rattle.std.proofs.Common.{◌≤◌, length, [], ◌∷◌}
-use Rattle.qs_grammar.specs.Reading.{more_loop}
+use Rattle.qs_script.specs.grammar.Reading.{more_loop}
 use Rattle.qs_script.proofs.Loops.{Continues}
 use Rattle.qs_script.proofs.values.several.Given as goal
 

@@ -1,7 +1,7 @@
 use Rattle.std.proofs.Common.{[], refl, ap, sym, ◌∙◌, Ok}
 use Rattle.qs_meaning.specs.Serial.{IsLegal}
 use Rattle.qs_serial.specs.NamedOrders.{order_of}
-use Rattle.qs_core_orders.specs.CoreOrders.{IsPlayedInOrderOn}
+use Rattle.qs_core_laws.specs.orders.CoreOrders.{IsPlayedInOrderOn}
 use Rattle.qs_line.specs.Named.{clients_of}
 use Rattle.qs_line.specs.Line.{by_order, play}
 use Rattle.qs_serve.specs.Due.{AreQueuesOfPlay, AreStepsOfPlay}

@@ -1,7 +1,7 @@
 use Rattle.std.proofs.Common.{[], refl, ap, sym, ◌∙◌, Ok}
 use Rattle.qs_meaning.specs.Serial.{IsLegal}
 use Rattle.qs_serial.specs.NamedOrders.{order_of}
-use Rattle.qs_plain_orders.specs.PlainOrders.{IsPlayedInOrder}
+use Rattle.qs_plain_laws.specs.orders.PlainOrders.{IsPlayedInOrder}
 use Rattle.qs_line.specs.Named.{clients_of}
 use Rattle.qs_line.specs.Line.{by_order, rules}
 use Rattle.qs_serve.specs.Due.{AreQueuesOfRules, AreStepsOfRules}

@@ -1,7 +1,7 @@
 use Rattle.std.proofs.Common.{◌≡◌, ◌⊎◌, inr, ℕ, [], refl, ap, sym, subst, ◌∙◌, Ok, Err, if◌then◌else◌}
 use Rattle.qs_syncset.specs.Codes.{ClientCode, AreCodes}
 use Rattle.qs_core_laws.specs.CoreSchedule.{IsPlayedIn}
-use Rattle.qs_core_progress.proofs.Finished.{core_default_rounds_finish}
+use Rattle.qs_core_laws.proofs.progress.Finished.{core_default_rounds_finish}
 use Rattle.qs_steps.specs.CoreQueues.{core_queues}
 use Rattle.qs_steps.specs.CoreSteps.{core_steps}
 use Rattle.qs_steps.specs.Telling.{played_in}

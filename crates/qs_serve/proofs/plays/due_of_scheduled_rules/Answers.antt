@@ -1,6 +1,6 @@
 use Rattle.std.proofs.Common.{◌≡◌, ◌⊎◌, inr, [], refl, ap, sym, subst, ◌∙◌, Ok, Err, if◌then◌else◌}
 use Rattle.qs_plain_laws.specs.PlainSchedule.{IsPlayed}
-use Rattle.qs_plain_progress.proofs.Finished.{default_rounds_finish}
+use Rattle.qs_plain_laws.proofs.progress.Finished.{default_rounds_finish}
 use Rattle.qs_steps.specs.PlainQueues.{plain_queues}
 use Rattle.qs_steps.specs.PlainSteps.{plain_steps}
 use Rattle.qs_steps.specs.Telling.{played_in}

@@ -1,6 +1,6 @@
 use Rattle.std.proofs.Common.{ap, arith, subst, sym, ◌∙◌}
-use Rattle.qs_core_parts.specs.LaneStates.{lane_at}
-use Rattle.qs_core_state.specs.CoreState.{core_of}
+use Rattle.qs_core.specs.parts.LaneStates.{lane_at}
+use Rattle.qs_core.specs.state.CoreState.{core_of}
 use Rattle.qs_core.specs.CoreEffects.{IsLaneOf}
 use Rattle.qs_steps.proofs.core_queues.lane_of.Goals as goal
 

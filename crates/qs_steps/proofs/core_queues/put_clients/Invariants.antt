@@ -1,7 +1,7 @@
 -- The clients before this one are there.
 use Rattle.std.proofs.Common.{◌≡◌, ◌++◌, flat_map}
 use Rattle.std.specs.List.{range_with_len}
-use Rattle.qs_core_state.specs.CoreState.{codes_of, core_of}
+use Rattle.qs_core.specs.state.CoreState.{codes_of, core_of}
 use Rattle.qs_steps.specs.CoreQueues.{client_line}
 use Rattle.qs_steps.proofs.core_queues.put_clients.Given as goal
 

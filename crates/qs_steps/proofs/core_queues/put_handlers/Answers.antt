@@ -1,6 +1,6 @@
 use Rattle.std.proofs.Common.{◌≡◌, ◌++◌, ap, arith, flat_map, length, ◌∙◌}
 use Rattle.std.specs.List.{range_with_len}
-use Rattle.qs_core_state.specs.CoreState.{CoreState, core_of}
+use Rattle.qs_core.specs.state.CoreState.{CoreState, core_of}
 use Rattle.qs_steps.specs.CoreQueues.{handler_lines}
 use Rattle.qs_steps.proofs.Queues.{numbers_more}
 use Rattle.qs_steps.proofs.core_queues.put_handlers.Goals as goal

@@ -1,7 +1,7 @@
 -- The lanes of the clients before this one are there, and the machine is as it was.
 use Rattle.std.proofs.Common.{◌≡◌, ◌++◌, flat_map}
 use Rattle.std.specs.List.{range_with_len}
-use Rattle.qs_core_state.specs.CoreState.{core_of}
+use Rattle.qs_core.specs.state.CoreState.{core_of}
 use Rattle.qs_steps.specs.CoreQueues.{lane_line}
 use Rattle.qs_steps.proofs.core_queues.put_lanes.Given as goal
 

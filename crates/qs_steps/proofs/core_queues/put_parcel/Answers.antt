@@ -1,5 +1,5 @@
 use Rattle.std.proofs.Common.{◌++◌, ap, arith, get_or, length, sym, ◌∙◌}
-use Rattle.qs_core_state.specs.CoreState.{core_of}
+use Rattle.qs_core.specs.state.CoreState.{core_of}
 use Rattle.qs_steps.specs.CoreQueues.{parcel_text}
 use Rattle.qs_steps.proofs.CoreQueuesText.{chunk_is, parcel_is}
 use Rattle.qs_steps.proofs.TellingRuns.{on_ok}

@@ -1,7 +1,7 @@
 use Rattle.std.proofs.Common.{◌<◌, ◌≤◌, ◌++◌, ap, arith, codes, flat_map, get_or, length, subst, sym, ◌∙◌}
 use Rattle.std.proofs.lemmas.List.{take_all}
 use Rattle.qs_chunk.specs.declared.parcel.Parcel.TheVariants.{End}
-use Rattle.qs_core_state.specs.CoreState.{CoreState, core_of}
+use Rattle.qs_core.specs.state.CoreState.{CoreState, core_of}
 use Rattle.qs_steps.specs.CoreQueues.{parcel_text}
 use Rattle.qs_steps.proofs.Queues.{elements_more, joined}
 use Rattle.qs_steps.proofs.core_queues.put_parcels.Goals as goal

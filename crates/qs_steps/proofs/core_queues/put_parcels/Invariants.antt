@@ -1,6 +1,6 @@
 -- The parcels before this place are there, and the machine is as it was.
 use Rattle.std.proofs.Common.{◌≡◌, ◌++◌, codes, flat_map, take}
-use Rattle.qs_core_state.specs.CoreState.{core_of}
+use Rattle.qs_core.specs.state.CoreState.{core_of}
 use Rattle.qs_steps.specs.CoreQueues.{parcel_text}
 use Rattle.qs_steps.proofs.core_queues.put_parcels.Given as goal
 

@@ -2,8 +2,8 @@ use Rattle.std.proofs.Common.{◌≡◌, ◌++◌, ap, arith, codes, decimal, fl
 use Rattle.qs_handler.specs.Handler.{serving}
 use Rattle.qs_program.specs.Program.{object_at}
 use Rattle.qs_core_laws.specs.CoreSchedule.{before_it}
-use Rattle.qs_core_parts.specs.CoreHandlers.{handler_with_act}
-use Rattle.qs_core_state.specs.CoreState.{core_of}
+use Rattle.qs_core.specs.parts.CoreHandlers.{handler_with_act}
+use Rattle.qs_core.specs.state.CoreState.{core_of}
 use Rattle.qs_steps.specs.CoreQueues.{waiting_line}
 use Rattle.qs_steps.proofs.Queues.{joined, one_of}
 use Rattle.qs_steps.proofs.TellingRuns.{on_ok}

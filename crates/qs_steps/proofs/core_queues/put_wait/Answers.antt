@@ -2,8 +2,8 @@ use Rattle.std.proofs.Common.{◌++◌, ap, codes, cond, length, nat_lt, sym, �
 use Rattle.std.specs.Prelude.{is_some}
 use Rattle.qs_chunk.specs.Limits.{lane_room}
 use Rattle.qs_program.specs.Program.{object_at}
-use Rattle.qs_core_parts.specs.CoreClients.{turns_to}
-use Rattle.qs_core_state.specs.CoreState.{core_of}
+use Rattle.qs_core.specs.parts.CoreClients.{turns_to}
+use Rattle.qs_core.specs.state.CoreState.{core_of}
 use Rattle.qs_steps.specs.CoreQueues.{wait_text}
 use Rattle.qs_steps.proofs.CoreQueuesText.{chunk_wait, object_wait}
 use Rattle.qs_steps.proofs.TellingRuns.{on_ok}

@@ -1,7 +1,7 @@
 use Rattle.std.proofs.Common.{[], ap, cond, subst, sym, ◌∙◌}
 use Rattle.qs_played.specs.Schedule.{schedule}
 use Rattle.qs_core_laws.specs.CoreSchedule.{core_played}
-use Rattle.qs_core_state.specs.CoreState.{CoreState, IsPlayedOn, codes_of, core_of}
+use Rattle.qs_core.specs.state.CoreState.{CoreState, IsPlayedOn, codes_of, core_of}
 use Rattle.qs_core.proofs.CoreCounted.{schedule_counted}
 use Rattle.qs_core.proofs.CorePlaying.{schedule_isolated}
 use Rattle.qs_steps.specs.CoreQueues.{queues_text}

@@ -1,6 +1,6 @@
 -- The lines of the private queues before this one are there.
 use Rattle.std.proofs.Common.{◌≡◌, ◌++◌, flat_map, take}
-use Rattle.qs_plain_client.specs.Queues.{QueueState}
+use Rattle.qs_plain.specs.client.Queues.{QueueState}
 use Rattle.qs_steps.specs.PlainQueues.{private_line}
 use Rattle.qs_steps.proofs.plain_queues.put_privates.Given as goal
 

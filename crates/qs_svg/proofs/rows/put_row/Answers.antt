@@ -1,7 +1,7 @@
 use Rattle.std.proofs.Common.{◌-◌, ◌∙◌, [], List, ap, ap₂, arith, get_or, length}
 use Rattle.std.proofs.lemmas.Result.{on_ok_weaker}
 use Rattle.qs_objects.specs.declared.held.Entry.{Entry}
-use Rattle.qs_fates.specs.declared.fate.Fate.{Fate}
+use Rattle.qs_text.specs.declared.fates.fate.Fate.{Fate}
 use Rattle.qs_svg.specs.Stretches.{journal_of}
 use Rattle.qs_svg.specs.Blocks.{row_left}
 use Rattle.qs_svg.proofs.FatesOfRows.{row_of_fates, rows_of_fates}

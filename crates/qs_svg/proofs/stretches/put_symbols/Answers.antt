@@ -1,8 +1,8 @@
 use Rattle.std.proofs.Common.{ℕ, ◌∙◌, ap, ap₂, arith, get_or, length, ◌<◌}
 use Rattle.std.proofs.lemmas.List.{get_or_default}
 use Rattle.qs_objects.specs.declared.held.Entry.{Entry}
-use Rattle.qs_fates.specs.declared.fate.Fate.{Fate}
-use Rattle.qs_fates.specs.declared.fate.Fate.TheVariants.{Done}
+use Rattle.qs_text.specs.declared.fates.fate.Fate.{Fate}
+use Rattle.qs_text.specs.declared.fates.fate.Fate.TheVariants.{Done}
 use Rattle.qs_svg.specs.Stretches.{no_entry}
 use Rattle.qs_svg.specs.Places.{symbol_x, symbol_y}
 use Rattle.qs_svg.specs.Blocks.{request_shapes}

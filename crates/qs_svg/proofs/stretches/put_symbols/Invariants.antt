@@ -1,6 +1,6 @@
 -- The requests before this one are there.
 use Rattle.std.proofs.Common.{get_or}
-use Rattle.qs_fates.specs.declared.fate.Fate.TheVariants.{Done}
+use Rattle.qs_text.specs.declared.fates.fate.Fate.TheVariants.{Done}
 use Rattle.qs_svg.specs.Shapes.{Draws, shapes_up_to}
 use Rattle.qs_svg.specs.Stretches.{no_entry}
 use Rattle.qs_svg.specs.Places.{symbol_x, symbol_y}

@@ -6,8 +6,8 @@ use Rattle.qs_graph.specs.Nodes.{ControlGraph, GraphNode, place_at}
 use Rattle.qs_graph.specs.WellFormed.{IsInRange, IsGraphNode}
 use Rattle.qs_graph.specs.Nodes.{exit}
 use Rattle.qs_program.specs.Limits.{most_handlers}
-use Rattle.qs_held_sets.specs.Held.{IsHeld}
-use Rattle.qs_held_sets.specs.Table.{has}
+use Rattle.qs_syncset.specs.held.Held.{IsHeld}
+use Rattle.qs_syncset.specs.held.Table.{has}
 use Rattle.qs_syncset.proofs.Removing.{IsDone, done_kept, done_set, removed, not_held, no_sync}
 use Rattle.qs_syncset.proofs.removal.coalesce.Goals as goal
 use Rattle.qs_syncset.proofs.removal.coalesce.Goals.{in-Sync+then-holds, in-Sync+else-holds, in_default}

@@ -1,7 +1,7 @@
 use Rattle.std.proofs.Common.{◌++◌, ℕ, Vec, List, [], ◌∷◌, ap, append-nil, cond, filter, get_or, take, sym, ◌∙◌}
 use Rattle.std.specs.Global.{Global}
 use Rattle.std.proofs.lemmas.List.Elements.{filter_more}
-use Rattle.qs_held_sets.specs.Table.{has}
+use Rattle.qs_syncset.specs.held.Table.{has}
 use Rattle.qs_text.proofs.held.held_at.Goals as goal
 use Rattle.qs_text.proofs.held.held_at.Goals.{then-holds+in_ok-push, else-holds}
 

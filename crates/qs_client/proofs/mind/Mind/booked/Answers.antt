@@ -1,8 +1,8 @@
 use Rattle.std.proofs.Common.{◌≡◌, List, [], ◌∷◌, ◌++◌, refl, sym, ap, ◌∙◌, subst, length, arith}
 use Rattle.qs_program.specs.Values.{Locals}
 use Rattle.qs_graph.specs.Steps.{limit}
-use Rattle.qs_client_rules.specs.Client.{between}
-use Rattle.qs_client_rules.specs.declared.act.Act.TheVariants as acts
+use Rattle.qs_client.specs.rules.Client.{between}
+use Rattle.qs_client.specs.declared.rules.act.Act.TheVariants as acts
 use Rattle.qs_client.specs.SoundMind.{IsSoundMind}
 use Rattle.qs_client.specs.ClientModel.{Asks, mind_after_begin}
 use Rattle.qs_client.specs.MindState.{MindState, mind_of, settings_in}

@@ -1,6 +1,6 @@
 use Rattle.std.proofs.Common.{refl, sym, ap, ◌∙◌, subst, length}
-use Rattle.qs_client_rules.specs.Client.{take_object}
-use Rattle.qs_client_rules.specs.declared.act.Act.TheVariants as acts
+use Rattle.qs_client.specs.rules.Client.{take_object}
+use Rattle.qs_client.specs.declared.rules.act.Act.TheVariants as acts
 use Rattle.qs_client.specs.SoundMind.{IsSoundMind}
 use Rattle.qs_client.specs.ClientModel.{Asks, mind_after_object}
 use Rattle.qs_client.specs.MindState.{MindState, block_of, client_in, mind_of, settings_in}

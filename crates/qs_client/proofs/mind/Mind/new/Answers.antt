@@ -1,7 +1,7 @@
 use Rattle.std.proofs.Common.{◌≡◌, ◌≤◌, sym, ◌∙◌, subst, arith}
 use Rattle.qs_sync_counts.specs.SyncRows.{counts_state}
 use Rattle.qs_chunk.specs.Limits.{largest_chunk}
-use Rattle.qs_client_run.specs.Beginning.{fresh_run}
+use Rattle.qs_client.specs.run.Beginning.{fresh_run}
 use Rattle.qs_client.specs.SoundMind.{IsSoundMind}
 use Rattle.qs_client.specs.MindState.{mind_of}
 use Rattle.qs_client.proofs.FreshMinds.{fresh_is, fresh_sound, fresh_with}

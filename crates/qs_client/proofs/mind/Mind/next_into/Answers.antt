@@ -1,6 +1,6 @@
 use Rattle.std.proofs.Common.{◌≡◌, sym, ap, ◌∙◌, subst, length, arith}
-use Rattle.qs_client_run.specs.NextActs.{HasActed}
-use Rattle.qs_client_rules.specs.declared.outgoing.Outgoing.{Outgoing}
+use Rattle.qs_client.specs.run.NextActs.{HasActed}
+use Rattle.qs_client.specs.declared.rules.outgoing.Outgoing.{Outgoing}
 use Rattle.qs_client.specs.SoundMind.{IsSoundMind}
 use Rattle.qs_client.specs.ClientModel.{Asks, ClientModel, act_due, finish, hands_out}
 use Rattle.qs_client.specs.MindState.{MindState, block_of, mind_of, settings_in}

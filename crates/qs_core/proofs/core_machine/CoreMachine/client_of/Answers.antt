@@ -1,8 +1,8 @@
 use Rattle.std.proofs.Common.{◌<◌, length, get_or, ap, sym, subst, ◌∙◌}
 use Rattle.qs_handler.specs.Handler.{act_of}
 use Rattle.qs_played.proofs.Lists.{get_or-any}
-use Rattle.qs_core_parts.specs.CoreHandlers.{no_core_handler, turns_to}
-use Rattle.qs_core_state.specs.CoreState.{CoreState, core_of}
+use Rattle.qs_core.specs.parts.CoreHandlers.{no_core_handler, turns_to}
+use Rattle.qs_core.specs.state.CoreState.{CoreState, core_of}
 use Rattle.qs_core.proofs.CorePlaces.{mind_is}
 use Rattle.qs_core.proofs.core_machine.CoreMachine.client_of.Goals as goal
 

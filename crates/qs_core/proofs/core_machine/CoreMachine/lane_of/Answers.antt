@@ -1,6 +1,6 @@
 use Rattle.std.proofs.Common.{◌<◌, length, ap, sym, subst, ◌∙◌}
-use Rattle.qs_core_parts.specs.CoreClients.{turns_to}
-use Rattle.qs_core_state.specs.CoreState.{CoreState, ClientPart, codes_of, core_of}
+use Rattle.qs_core.specs.parts.CoreClients.{turns_to}
+use Rattle.qs_core.specs.state.CoreState.{CoreState, ClientPart, codes_of, core_of}
 use Rattle.qs_core.specs.CoreEffects.{act_at}
 use Rattle.qs_core.proofs.CoreFieldLemmas.{client_here}
 use Rattle.qs_core.proofs.CorePlaces.{wanted_is}

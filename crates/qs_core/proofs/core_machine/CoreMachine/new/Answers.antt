@@ -1,7 +1,7 @@
 use Rattle.std.proofs.Common.{◌≡◌, List, [], refl, sym, subst, ◌∙◌, arith}
 use Rattle.qs_objects.specs.declared.held.Ticket.{Ticket}
-use Rattle.qs_core_state.specs.CoreState.{CoreState, IsCoreState, IsFreshCore}
-use Rattle.qs_core_state.proofs.CoreFresh.{begins, blocks_listed, codes_are, kept}
+use Rattle.qs_core.specs.state.CoreState.{CoreState, IsCoreState, IsFreshCore}
+use Rattle.qs_core.proofs.state.CoreFresh.{begins, blocks_listed, codes_are, kept}
 use Rattle.qs_core.proofs.core_machine.CoreMachine.new.Goals as goal
 
 pub invariant_of-result : goal.invariant_of-result

@@ -1,7 +1,7 @@
 use Rattle.std.proofs.Common.{◌<◌, ap, arith, length, sym, subst, ◌∙◌}
 use Rattle.qs_program.specs.Sound.{IsSound}
-use Rattle.qs_core_state.specs.CoreState.{CoreState, codes_of, core_of, client_part_at}
-use Rattle.qs_core_state.proofs.CoreReaching.{core_keeps}
+use Rattle.qs_core.specs.state.CoreState.{CoreState, codes_of, core_of, client_part_at}
+use Rattle.qs_core.proofs.state.CoreReaching.{core_keeps}
 use Rattle.qs_core.specs.CoreEffects.{AreLanesOf, act_at}
 use Rattle.qs_core.proofs.CorePlaces.{lanes_are, turned_is, wanted_is}
 use Rattle.qs_core.proofs.optimised.Core.client.Goals as goal

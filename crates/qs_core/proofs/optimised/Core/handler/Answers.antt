@@ -1,6 +1,6 @@
 use Rattle.std.proofs.Common.{◌<◌, ap, arith, length, ◌∙◌}
-use Rattle.qs_core_parts.specs.CoreHandlers.{core_handler_at}
-use Rattle.qs_core_state.specs.CoreState.{CoreState, core_of}
+use Rattle.qs_core.specs.parts.CoreHandlers.{core_handler_at}
+use Rattle.qs_core.specs.state.CoreState.{CoreState, core_of}
 use Rattle.qs_core.proofs.CorePlaces.{mind_is, queue_is}
 use Rattle.qs_core.proofs.optimised.Core.handler.Goals as goal
 

@@ -1,8 +1,8 @@
 use Rattle.std.proofs.Common.{subst}
 use Rattle.qs_program.specs.Sound.{IsSound}
-use Rattle.qs_core_state.specs.CoreState.{CoreIsIsolated, CoreIsCounted}
+use Rattle.qs_core.specs.state.CoreState.{CoreIsIsolated, CoreIsCounted}
 use Rattle.qs_core.proofs.CoreCounted.{core_is_counted}
-use Rattle.qs_core_state.proofs.CoreReaching.{core_is_isolated, core_keeps}
+use Rattle.qs_core.proofs.state.CoreReaching.{core_is_isolated, core_keeps}
 use Rattle.qs_core.proofs.optimised.Core.into_played.Goals as goal
 
 pub into_played-requires : goal.into_played-requires

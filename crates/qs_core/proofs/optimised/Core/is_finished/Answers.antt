@@ -1,8 +1,8 @@
 use Rattle.std.proofs.Common.{◌&&◌, ap, sym, subst, ◌∙◌}
 use Rattle.qs_core_laws.specs.CoreSchedule.{is_finished}
-use Rattle.qs_core_shown.specs.CoreShown.{HaveLanes, are_through, are_waiting, shown_by}
-use Rattle.qs_core_state.specs.CoreState.{CoreState, core_of}
-use Rattle.qs_core_shown.proofs.CoreReadings.{finished_is, lanes_in}
+use Rattle.qs_core.specs.shown.CoreShown.{HaveLanes, are_through, are_waiting, shown_by}
+use Rattle.qs_core.specs.state.CoreState.{CoreState, core_of}
+use Rattle.qs_core.proofs.shown.CoreReadings.{finished_is, lanes_in}
 use Rattle.qs_core.proofs.optimised.Core.is_finished.Goals as goal
 
 pub are_finished-requires : goal.are_finished-requires

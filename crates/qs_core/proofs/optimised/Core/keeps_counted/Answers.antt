@@ -1,6 +1,6 @@
 use Rattle.std.proofs.Common.{subst}
 use Rattle.qs_program.specs.Sound.{IsSound}
-use Rattle.qs_core_state.specs.CoreState.{CoreIsCounted}
+use Rattle.qs_core.specs.state.CoreState.{CoreIsCounted}
 use Rattle.qs_core.proofs.CoreCounted.{core_is_counted}
 use Rattle.qs_core.proofs.optimised.Core.keeps_counted.Goals as goal
 

@@ -1,7 +1,7 @@
 use Rattle.std.proofs.Common.{subst}
 use Rattle.qs_program.specs.Sound.{IsSound}
-use Rattle.qs_core_state.specs.CoreState.{CoreIsIsolated}
-use Rattle.qs_core_state.proofs.CoreReaching.{core_is_isolated}
+use Rattle.qs_core.specs.state.CoreState.{CoreIsIsolated}
+use Rattle.qs_core.proofs.state.CoreReaching.{core_is_isolated}
 use Rattle.qs_core.proofs.optimised.Core.keeps_isolated.Goals as goal
 
 pub returns : goal.returns

@@ -1,6 +1,6 @@
 use Rattle.std.proofs.Common.{subst}
 use Rattle.qs_program.specs.Sound.{IsSound}
-use Rattle.qs_core_state.proofs.CoreReaching.{core_keeps}
+use Rattle.qs_core.proofs.state.CoreReaching.{core_keeps}
 use Rattle.qs_core.proofs.optimised.Core.next_effect.Goals as goal
 
 pub next_effect-requires : goal.next_effect-requires

@@ -7,7 +7,7 @@ use Rattle.qs_played.specs.declared.schedule.actor.Actor.{Actor}
 use Rattle.qs_played.specs.declared.schedule.actor.Actor.TheVariants as actors
 use Rattle.qs_played.proofs.Playing.{row_more, step_in_front}
 use Rattle.qs_core_laws.specs.Core.{core_step}
-use Rattle.qs_core_state.specs.CoreState.{CoreState, codes_of, core_of}
+use Rattle.qs_core.specs.state.CoreState.{CoreState, codes_of, core_of}
 use Rattle.qs_core.specs.CoreOrders.{CoreGoes}
 use Rattle.qs_core.proofs.CoreGoing.{goes_more, goes_none, has_stepped}
 use Rattle.qs_core.proofs.optimised.Core.round.Goals.{then-step_client, else-step_client, then-step_handler, else-step_handler}

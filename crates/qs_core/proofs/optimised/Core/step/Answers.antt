@@ -1,9 +1,9 @@
 use Rattle.std.proofs.Common.{◌≤◌, length, ap, arith, sym, subst, ◌∙◌}
 use Rattle.qs_program.specs.Sound.{IsSound}
 use Rattle.qs_core_laws.specs.Core.{core_step}
-use Rattle.qs_core_state.specs.CoreState.{CoreKeeps, codes_of, core_of}
-use Rattle.qs_core_state.proofs.CoreAbsent.{absent_client, absent_handler}
-use Rattle.qs_core_state.proofs.CoreReaching.{core_keeps}
+use Rattle.qs_core.specs.state.CoreState.{CoreKeeps, codes_of, core_of}
+use Rattle.qs_core.proofs.state.CoreAbsent.{absent_client, absent_handler}
+use Rattle.qs_core.proofs.state.CoreReaching.{core_keeps}
 use Rattle.qs_core.proofs.optimised.Core.step.Goals.{in-Client+then-from-clients, in-Client+else-from-clients, in-Handler+then-from-handlers, in-Handler+else-from-handlers}
 use Rattle.qs_core.proofs.optimised.Core.step.Goals as goal
 

@@ -1,10 +1,10 @@
 use Rattle.std.proofs.Common.{◌<◌, length, ap, arith, sym, subst, ◌∙◌, Some, None}
 use Rattle.qs_program.specs.Sound.{IsSound}
 use Rattle.qs_played.specs.declared.schedule.actor.Actor.TheVariants as actors
-use Rattle.qs_core_state.specs.CoreState.{CoreState}
-use Rattle.qs_core_state.proofs.CoreReaching.{core_goes_on, core_keeps, core_next}
+use Rattle.qs_core.specs.state.CoreState.{CoreState}
+use Rattle.qs_core.proofs.state.CoreReaching.{core_goes_on, core_keeps, core_next}
 use Rattle.qs_core.proofs.CorePlaces.{wanted_inside}
-use Rattle.qs_core_state.proofs.StuckActors.{client_rests, client_stepped}
+use Rattle.qs_core.proofs.state.StuckActors.{client_rests, client_stepped}
 use Rattle.qs_core.proofs.optimised.Core.step_client.Goals as goal
 
 pub step_client-requires-clause-keeps : goal.step_client-requires-clause-keeps

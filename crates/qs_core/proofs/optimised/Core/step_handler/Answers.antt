@@ -1,9 +1,9 @@
 use Rattle.std.proofs.Common.{arith, refl, sym, subst, ◌∙◌, Some, None}
 use Rattle.qs_program.specs.Sound.{IsSound}
 use Rattle.qs_played.specs.declared.schedule.actor.Actor.TheVariants as actors
-use Rattle.qs_core_state.proofs.CoreReaching.{core_keeps, core_next}
-use Rattle.qs_core_shown.proofs.CoreReadings.{turned_inside}
-use Rattle.qs_core_state.proofs.StuckActors.{handler_rests, handler_stepped}
+use Rattle.qs_core.proofs.state.CoreReaching.{core_keeps, core_next}
+use Rattle.qs_core.proofs.shown.CoreReadings.{turned_inside}
+use Rattle.qs_core.proofs.state.StuckActors.{handler_rests, handler_stepped}
 use Rattle.qs_core.proofs.optimised.Core.step_handler.Goals as goal
 
 pub step_handler-requires-clause-keeps : goal.step_handler-requires-clause-keeps

@@ -1,6 +1,6 @@
 use Rattle.std.proofs.Common.{◌∷◌}
 use Rattle.qs_played.specs.declared.schedule.actor.Actor.TheVariants as actors
-use Rattle.qs_core_orders.specs.CoreQuiet.{two_of_each}
+use Rattle.qs_core_laws.specs.orders.CoreQuiet.{two_of_each}
 use Rattle.qs_core.specs.CoreOrders.{CoreGoes}
 use Rattle.qs_core.proofs.optimised.Core.turn.Given as goal
 

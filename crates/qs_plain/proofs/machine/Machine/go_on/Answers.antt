@@ -7,15 +7,15 @@ use Rattle.qs_program.specs.Values.{request_of}
 use Rattle.qs_played.specs.Played.{ticket}
 use Rattle.qs_played.specs.declared.schedule.actor.Actor.TheVariants as actor
 use Rattle.qs_plain_laws.specs.declared.item.QueueItem.TheVariants as item
-use Rattle.qs_plain_client.specs.ClientMoves.{AsksNext}
-use Rattle.qs_plain_client.specs.Clients.{ClientState, IsClient, client_state_at, current_block}
-use Rattle.qs_plain_client.specs.Frames.{load_left}
-use Rattle.qs_plain_client.specs.declared.client.Asked.TheVariants as asked
-use Rattle.qs_plain_client.specs.declared.stage.Stage.TheVariants as stage
-use Rattle.qs_plain_handler.specs.Effects.{plain_effect}
-use Rattle.qs_plain_handler.specs.declared.effect.Effect.TheVariants as effects
+use Rattle.qs_plain.specs.client.ClientMoves.{AsksNext}
+use Rattle.qs_plain.specs.client.Clients.{ClientState, IsClient, client_state_at, current_block}
+use Rattle.qs_plain.specs.client.Frames.{load_left}
+use Rattle.qs_plain.specs.declared.client.client.Asked.TheVariants as asked
+use Rattle.qs_plain.specs.declared.client.stage.Stage.TheVariants as stage
+use Rattle.qs_plain.specs.handler.Effects.{plain_effect}
+use Rattle.qs_plain.specs.declared.handler.effect.Effect.TheVariants as effects
 use Rattle.qs_plain.specs.declared.did.Did.TheVariants as dids
-use Rattle.qs_plain_handler.specs.Handlers.{CanLog, logged_at}
+use Rattle.qs_plain.specs.handler.Handlers.{CanLog, logged_at}
 use Rattle.qs_plain.specs.Rules.{IsRules, RulesState, plain_of, to_come}
 use Rattle.qs_plain.specs.StepEffects.{last_ticket}
 use Rattle.qs_plain.proofs.RulesEffects.{effect_is_read, effect_within}

@@ -1,6 +1,6 @@
 use Rattle.std.proofs.Common.{◌≡◌, ◌++◌, ◌∷◌, [], suc}
 use Rattle.qs_meaning.specs.Solo.{put}
-use Rattle.qs_plain_orders.proofs.AloneSteps.{left_of}
+use Rattle.qs_plain_laws.proofs.orders.AloneSteps.{left_of}
 use Rattle.qs_plain.specs.Blocks.{blocks_begun}
 use Rattle.qs_plain.specs.Rules.{plain_of}
 use Rattle.qs_plain.proofs.Blocks.{Stands}

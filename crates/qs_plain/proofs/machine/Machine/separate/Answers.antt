@@ -2,14 +2,14 @@ use Rattle.std.proofs.Common.{◌≡◌, ◌+◌, ◌-◌, [], ◌∷◌, Some, 
 use Rattle.std.proofs.lemmas.List.{length-append}
 use Rattle.std.proofs.Math.ListN.{set}
 use Rattle.qs_played.specs.declared.schedule.actor.Actor.TheVariants as actor
-use Rattle.qs_plain_client.specs.ClientMoves.{Begins}
+use Rattle.qs_plain.specs.client.ClientMoves.{Begins}
 use Rattle.qs_played.specs.Played.{ticket}
-use Rattle.qs_plain_client.specs.Clients.{ClientState, IsClient, client_state_at}
-use Rattle.qs_plain_client.specs.declared.stage.Stage.TheVariants as stage
-use Rattle.qs_plain_handler.specs.Effects.{plain_effect}
+use Rattle.qs_plain.specs.client.Clients.{ClientState, IsClient, client_state_at}
+use Rattle.qs_plain.specs.declared.client.stage.Stage.TheVariants as stage
+use Rattle.qs_plain.specs.handler.Effects.{plain_effect}
 use Rattle.qs_plain.specs.Rules.{to_come, RulesState, plain_of}
 use Rattle.qs_plain.specs.StepEffects.{last_ticket}
-use Rattle.qs_plain_handler.specs.declared.effect.Effect.TheVariants as effects
+use Rattle.qs_plain.specs.declared.handler.effect.Effect.TheVariants as effects
 use Rattle.qs_plain.specs.declared.did.Did.TheVariants as dids
 use Rattle.qs_plain.proofs.RulesEffects.{effect_is_read, effect_out}
 use Rattle.qs_plain.proofs.RulesBegin.{can_enter, begun_rules, fewer, separate_steps}

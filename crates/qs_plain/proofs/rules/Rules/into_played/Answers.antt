@@ -8,7 +8,7 @@ use Rattle.qs_played.proofs.ShownRuns.{if_shown}
 use Rattle.qs_plain_laws.specs.Plain.{begin, begun_blocks}
 use Rattle.qs_plain_laws.specs.PlainSchedule.{played_of}
 use Rattle.qs_plain_laws.proofs.Ordering.{IsOrdered, ordered_begin, ordered_plays, tickets_begun}
-use Rattle.qs_plain_client.specs.Clients.{client_of_state}
+use Rattle.qs_plain.specs.client.Clients.{client_of_state}
 use Rattle.qs_plain.specs.Rules.{AreIsolated, AreRulesCounted, RulesState, plain_of}
 use Rattle.qs_plain.proofs.Reaching.{reached_counted, reached_isolated}
 use Rattle.qs_plain.proofs.ReadingOff.{at_client}

@@ -3,8 +3,8 @@
 use Rattle.std.proofs.Common.{◌≡◌, ◌≢◌, ◌<◌, None, Some, length, slice_get, ap, ◌∙◌, arith, below_more}
 use Rattle.std.proofs.lemmas.List.{get_or-set_other}
 use Rattle.std.proofs.lemmas.Option.{slice_get_within}
-use Rattle.qs_client_thread.specs.ClientThreads as running
-use Rattle.qs_handler_thread.specs.HandlerThreads as handling
+use Rattle.qs_run.specs.client.ClientThreads as running
+use Rattle.qs_run.specs.handler.HandlerThreads as handling
 use Rattle.qs_run.specs.declared.worker.HandlerWorker.{HandlerWorker}
 use Rattle.qs_run.specs.Collected.{AreEndsJoined, without_lane_of}
 use Rattle.qs_run.proofs.LanesTaken.{joined_here, paired_here, taken_here}

@@ -1,7 +1,7 @@
 -- The lanes to the handlers so far are joined and taken out of their places; the later ones are as they were.
 use Rattle.std.proofs.Common.{◌≡◌, ◌<◌, ◌≤◌, ℕ, Some, slice_get}
-use Rattle.qs_client_thread.specs.ClientThreads as running
-use Rattle.qs_handler_thread.specs.HandlerThreads as handling
+use Rattle.qs_run.specs.client.ClientThreads as running
+use Rattle.qs_run.specs.handler.HandlerThreads as handling
 use Rattle.qs_run.specs.declared.worker.HandlerWorker.{HandlerWorker}
 use Rattle.qs_run.specs.Collected.{AreEndsJoined, without_lane_of}
 use Rattle.qs_run.proofs.ListPlaces.{map_front}

@@ -1,7 +1,0 @@
-use Rattle.std.proofs.Common.{◌≡◌, [], drop, map}
-use Rattle.qs_program.specs.Binding.{bound}
-use Rattle.qs_binding.proofs.Binds.{with_firsts}
-use Rattle.qs_binding.proofs.bind.bind_list.Given as goal
-
-abbrev pub invariant-loop-name : goal.invariant-loop-name
-invariant-loop-name l = with_firsts [] (map (bound l.binding) l.names) ≡ with_firsts l.reserved.items (map (bound l.binding) (drop l.name-index l.names))

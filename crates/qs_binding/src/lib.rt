@@ -1,6 +1,0 @@
-//! The blocks of a template, with each formal replaced by the object that is given for it.
-#![tactic(auto)]
-
-mod bind;
-
-pub use bind::bind_blocks;

@@ -1,0 +1,71 @@
+-- What is known after a template's text was walked without a fault: its formals are declared as objects, and they and
+-- its variables are few. So its blocks can be resolved. It goes by induction on the formals.
+use Rattle.std.proofs.Common.{◌≡◌, ◌+◌, ◌<◌, ◌≤◌, List, [], ◌∷◌, ◌++◌, length, map, ap, sym, ◌∙◌, subst, arith, append_assoc, append-nil, refl, Ok}
+use Rattle.std.proofs.lemmas.List.{length-map}
+use Rattle.qs_script.specs.declared.tree.tree.Formal.{Formal}
+use Rattle.qs_script.specs.declared.tree.tree.TemplateItem.{TemplateItem}
+use Rattle.qs_program.specs.declared.program.Declared.{Declared}
+use Rattle.qs_program.specs.Limits.{most_objects, most_variables}
+use Rattle.qs_program.specs.Numbering.{Name}
+use Rattle.qs_check.specs.fault_places.Places.{Scope, object, scope_or_fault, start, formal_kind, formals_places, blocks_places, text_places}
+use Rattle.qs_check.specs.fault_places.Variables.{variables_of}
+use Rattle.qs_check.proofs.fault_places.FinePlaces.{again}
+use Rattle.qs_check.proofs.fault_places.Inner.{parted}
+use Rattle.qs_check.proofs.fault_places.ScopesInBlocks.{blocks_stay}
+use Rattle.qs_check.proofs.fault_places.Steps.{split, ok_same, variables_met}
+use Rattle.qs_check.specs.resolution.Resolve.{as_client, declared_formals}
+use Rattle.qs_check.proofs.resolution.Scopes.{names, kinds, scope, names_with, grown}
+use Rattle.qs_check.proofs.resolution.FreshNames.{Fresh, fresh_more, no_fresh}
+
+abbrev pub formal_names : List Formal → List Name
+formal_names fs = map (λ (x : Formal). x.name) fs
+
+abbrev pub declared : Formal → Declared
+declared x = record { name = x.name; kind = formal_kind x.kind }
+
+abbrev pub formals_scope : List Declared → Scope
+formals_scope D = scope D [] [] 0 [] []
+
+pub formals_from : (fs : List Formal) (D : List Declared) (t : Scope) → scope_or_fault (formals_scope D) (formals_places fs) ≡ Ok t → (t ≡ formals_scope (D ++ declared_formals fs)) × Fresh (names D) (formal_names fs) × (length D ≤ most_objects → length D + length fs ≤ most_objects)
+formals_from [] D t h = (ok_same (formals_scope D) t h ∙ ap formals_scope (sym (append-nil D)), no_fresh (names D), λ l. omega arith)
+formals_from (x ∷ fs) D t h =
+    let s = formals_scope D in
+    let w = split s t (object x.name (formal_kind x.kind)) (formals_places fs) h in
+    let E = D ++ declared x ∷ [] in
+    let e : w.0 ≡ formals_scope E = w.1.2 ∙ grown D [] [] 0 [] [] (declared x) in
+    let more = formals_from fs E t (again (formals_scope E) t w.0 (formals_places fs) e w.2) in
+    let P : List Name → Type 0 = λ ns. Fresh ns (formal_names fs) in
+    let longer : length E ≡ length D + 1 = length_last D (declared x) in
+    let here : length D < most_objects = omega (arith, w.1.1, length-map D (λ (o : Declared). o.name)) in (
+      more.0 ∙ ap formals_scope (append_assoc D (declared x ∷ []) (declared_formals fs)),
+      fresh_more (names D) x.name (formal_names fs) w.1.0 (subst P (sym (names_with D (declared x))) more.1),
+      λ l. omega (arith, longer, more.2 (omega (arith, longer, here))),
+    )
+  where
+    length_last : (ds : List Declared) (d : Declared) → length (ds ++ d ∷ []) ≡ length ds + 1
+    length_last [] d = refl
+    length_last (e ∷ ds) d = omega (arith, length_last ds d)
+
+-- what is known after a template's text
+pub record TextKnown (t : TemplateItem) (u : Scope) : Type 0 where
+  pub objects : u.objects ≡ names (declared_formals t.formals)
+  pub kinds : u.kinds ≡ kinds (declared_formals t.formals)
+  pub variables : u.variables ≡ variables_of (as_client t)
+  pub few_objects : length u.objects ≤ most_objects
+  pub few_variables : length u.variables ≤ most_variables
+
+pub text_known : (t : TemplateItem) (u : Scope) → scope_or_fault start (text_places t) ≡ Ok u → TextKnown t u
+text_known t u h =
+    let w = parted start u (formals_places t.formals) (blocks_places t.blocks) h in
+    let g = formals_from t.formals [] w.0 w.1 in
+    let F = declared_formals t.formals in
+    let s = formals_scope F in
+    let walk = again s u w.0 (blocks_places t.blocks) g.0 w.2 in
+    let stay = blocks_stay s u t.blocks walk in
+    record {
+      objects = stay.objects;
+      kinds = stay.kinds;
+      variables = variables_met s u (blocks_places t.blocks) walk;
+      few_objects = omega (arith, ap length stay.objects, length-map F (λ (o : Declared). o.name), length-map t.formals declared, g.2 (omega arith));
+      few_variables = stay.few (omega arith);
+    }

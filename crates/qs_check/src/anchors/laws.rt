@@ -1,0 +1,31 @@
+//! What the definitions of anchors promise; and worked examples of them.
+
+ghost use Rattle.qs_check.specs.anchors.Examples.{AnchorExamples};
+ghost use Rattle.qs_check.specs.anchors.Laws.{AnchorsAreTokens, BlocksHaveAnchors, FirstIsFirst, FirstIsAnAnchor};
+
+/// The anchors of a script are the names, the numbers, each `separate` and each `leave` of any tokens that are written
+/// for it, in their order. It does nothing.
+pub fn anchors_are_tokens()
+    ensures same { AnchorsAreTokens }
+{}
+
+/// The fault at the first anchor with one is the first fault of the script's places, by which `check` of `qs_check` is
+/// exact, and there is none where these have none. It does nothing.
+pub fn first_is_first()
+    ensures same { FirstIsFirst }
+{}
+
+/// The first anchor with a fault is one of the anchors of the script. It does nothing.
+pub fn first_is_an_anchor()
+    ensures within { FirstIsAnAnchor }
+{}
+
+/// The anchor of a block is one of the anchors of the script. It does nothing.
+pub fn blocks_have_anchors()
+    ensures within { BlocksHaveAnchors }
+{}
+
+/// Scripts with the anchors of their first faults, computed by the definitions; it does nothing.
+pub fn anchor_examples()
+    ensures examples { AnchorExamples }
+{}

@@ -1,9 +1,0 @@
-//! What a client does next, as a definition; the laws of its acts; and worked examples.
-#![tactic(auto)]
-
-mod act;
-pub mod laws;
-mod outgoing;
-
-pub use act::Act;
-pub use outgoing::Outgoing;

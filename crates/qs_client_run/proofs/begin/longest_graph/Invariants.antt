@@ -1,6 +1,0 @@
-use Rattle.std.proofs.Common.{◌≡◌, take}
-use Rattle.qs_client_run.specs.BlockSizes.{longest}
-use Rattle.qs_client_run.proofs.begin.longest_graph.Given as goal
-
-abbrev pub invariant-loop-block : goal.invariant-loop-block
-invariant-loop-block l = l.most ≡ longest (take l.block l.code.blocks)

@@ -1,0 +1,314 @@
+-- What a client and a handler share, its *corner*: the handler, its queue of tickets, and the lane between the two.
+-- While a client has its block alone, each corner is one of a few (`Due`), and each step of the handler leads it on to
+-- one where the handler waits for the client again. A step changes one corner, and keeps all others as they are.
+use Rattle.std.proofs.Common.{◌≡◌, ◌∙◌, ◌==◌, ℕ, false, List, [], ◌∷◌, Option, Some, None, refl, sym, ap, subst}
+use Rattle.qs_objects.specs.Journals.{HeldState}
+use Rattle.qs_objects.specs.declared.held.Ticket.{Ticket}
+use Rattle.qs_objects.specs.declared.Request.{Request}
+use Rattle.qs_meaning.specs.Solo.{put}
+use Rattle.qs_meaning.proofs.TreeWalks.{put_here, put_there}
+use Rattle.qs_syncset.specs.Codes.{ClientCode}
+use Rattle.qs_chunk.specs.Batch.{Batch}
+use Rattle.qs_chunk.specs.Runs.{ran_all}
+use Rattle.qs_chunk.specs.declared.parcel.Parcel.{Parcel}
+use Rattle.qs_chunk.specs.declared.parcel.Parcel.TheVariants as parcels
+use Rattle.qs_handler.specs.Handler.{Handler, away, free, gives, serves, spares}
+use Rattle.qs_played.specs.Schedule.{or_stay}
+use Rattle.qs_played.specs.declared.schedule.actor.Actor.TheVariants as actor
+use Rattle.qs_core_laws.specs.Core.{Core, core_step, handles, put_lane, with_down, with_spare, with_tickets, with_up}
+use Rattle.qs_core_laws.proofs.orders.Settling.{Asks, Gone, Holds, Sends, Stance}
+
+pub lane_here : {A : Type 0} (f : ℕ → ℕ → A) (c h : ℕ) (a : A) → put_lane f c h a c h ≡ a
+lane_here f c h a = ap (λ g. g h) (put_here f c (put (f c) h a)) ∙ put_here (f c) h a
+
+pub lane_elsewhere : {A : Type 0} (f : ℕ → ℕ → A) (c h : ℕ) (a : A) (g : ℕ) → (h == g) ≡ false → put_lane f c h a c g ≡ f c g
+lane_elsewhere f c h a g other = ap (λ k. k g) (put_here f c (put (f c) h a)) ∙ put_there (f c) h a g other
+
+pub lane_of_others : {A : Type 0} (f : ℕ → ℕ → A) (c h : ℕ) (a : A) (d g : ℕ) → (c == d) ≡ false → put_lane f c h a d g ≡ f d g
+lane_of_others f c h a d g other = ap (λ k. k g) (put_there f c (put (f c) h a) d other)
+
+pub record Corner : Type 0 where
+  pub handler : Handler
+  pub tickets : List Ticket
+  pub down : List Parcel
+  pub up : Option HeldState
+  pub spare : ℕ
+
+-- of a client and a handler
+abbrev pub corner : Core → ℕ → ℕ → Corner
+corner s c h = record { handler = s.handler h; tickets = s.tickets h; down = s.down c h; up = s.up c h; spare = s.spare c h }
+
+-- where the handler waits: free; serving the block; without its object; and with its object on the way up. Where it has
+-- a step: a ticket has come to it, or a parcel; and halfway with an empty chunk or the object to give.
+pub data Due : Type 0 where
+  Free : (held : HeldState) → (spare : ℕ) → Due
+  Serves : (held : HeldState) → (spare : ℕ) → Due
+  Away : (spare : ℕ) → Due
+  Lent : (held : HeldState) → (spare : ℕ) → Due
+  Booked : (held : HeldState) → (spare : ℕ) → Due
+  ComesHome : (held : HeldState) → (spare : ℕ) → Due
+  Works : (held : HeldState) → (chunk : Batch Request) → Due
+  Syncs : (held : HeldState) → (spare : ℕ) → Due
+  Ends : (held : HeldState) → (spare : ℕ) → Due
+  Sparing : (held : HeldState) → (capacity : ℕ) → Due
+  Giving : (held : HeldState) → (spare : ℕ) → Due
+
+-- how the client stands to the object once the handler waits
+abbrev pub stance_of : Due → Stance
+stance_of (Free x n) = Gone
+stance_of (Serves x n) = Sends
+stance_of (Away n) = Holds
+stance_of (Lent x n) = Asks
+stance_of (Booked x n) = Sends
+stance_of (ComesHome x n) = Sends
+stance_of (Works x chunk) = Sends
+stance_of (Syncs x n) = Asks
+stance_of (Ends x n) = Gone
+stance_of (Sparing x n) = Sends
+stance_of (Giving x n) = Asks
+
+-- how many empty chunks lie ready then
+abbrev pub spare_of : Due → ℕ
+spare_of (Free x n) = n
+spare_of (Serves x n) = n
+spare_of (Away n) = n
+spare_of (Lent x n) = n
+spare_of (Booked x n) = n
+spare_of (ComesHome x n) = n
+spare_of (Works x chunk) = 4
+spare_of (Syncs x n) = n
+spare_of (Ends x n) = n
+spare_of (Sparing x n) = 4
+spare_of (Giving x n) = n
+
+-- the handler waits
+abbrev pub Waits : Due → Type 0
+Waits (Free x n) = Unit {0}
+Waits (Serves x n) = Unit {0}
+Waits (Away n) = Unit {0}
+Waits (Lent x n) = Unit {0}
+Waits (Booked x n) = ⊥
+Waits (ComesHome x n) = ⊥
+Waits (Works x chunk) = ⊥
+Waits (Syncs x n) = ⊥
+Waits (Ends x n) = ⊥
+Waits (Sparing x n) = ⊥
+Waits (Giving x n) = ⊥
+
+-- after one step of the handler
+abbrev pub once : Ticket → Due → Due
+once t (Free x n) = Free x n
+once t (Serves x n) = Serves x n
+once t (Away n) = Away n
+once t (Lent x n) = Lent x n
+once t (Booked x n) = Serves x n
+once t (ComesHome x n) = Serves x n
+once t (Works x chunk) = Sparing (ran_all x t chunk.items) chunk.capacity
+once t (Syncs x n) = Giving x n
+once t (Ends x n) = Free x n
+once t (Sparing x n) = Serves x 4
+once t (Giving x n) = Lent x n
+
+pub once_stance : (t : Ticket) (d : Due) → stance_of (once t d) ≡ stance_of d
+once_stance t (Free x n) = refl
+once_stance t (Serves x n) = refl
+once_stance t (Away n) = refl
+once_stance t (Lent x n) = refl
+once_stance t (Booked x n) = refl
+once_stance t (ComesHome x n) = refl
+once_stance t (Works x chunk) = refl
+once_stance t (Syncs x n) = refl
+once_stance t (Ends x n) = refl
+once_stance t (Sparing x n) = refl
+once_stance t (Giving x n) = refl
+
+pub once_spare : (t : Ticket) (d : Due) → spare_of (once t d) ≡ spare_of d
+once_spare t (Free x n) = refl
+once_spare t (Serves x n) = refl
+once_spare t (Away n) = refl
+once_spare t (Lent x n) = refl
+once_spare t (Booked x n) = refl
+once_spare t (ComesHome x n) = refl
+once_spare t (Works x chunk) = refl
+once_spare t (Syncs x n) = refl
+once_spare t (Ends x n) = refl
+once_spare t (Sparing x n) = refl
+once_spare t (Giving x n) = refl
+
+-- two steps are enough
+pub twice_waits : (t : Ticket) (d : Due) → Waits (once t (once t d))
+twice_waits t (Free x n) = tt
+twice_waits t (Serves x n) = tt
+twice_waits t (Away n) = tt
+twice_waits t (Lent x n) = tt
+twice_waits t (Booked x n) = tt
+twice_waits t (ComesHome x n) = tt
+twice_waits t (Works x chunk) = tt
+twice_waits t (Syncs x n) = tt
+twice_waits t (Ends x n) = tt
+twice_waits t (Sparing x n) = tt
+twice_waits t (Giving x n) = tt
+
+-- which corner that is, of the client of this ticket
+abbrev pub corner_of : Ticket → Due → Corner
+corner_of t (Free x n) = record { handler = free x; tickets = []; down = []; up = None; spare = n }
+corner_of t (Serves x n) = record { handler = serves t x; tickets = []; down = []; up = None; spare = n }
+corner_of t (Away n) = record { handler = away t; tickets = []; down = []; up = None; spare = n }
+corner_of t (Lent x n) = record { handler = away t; tickets = []; down = []; up = Some x; spare = n }
+corner_of t (Booked x n) = record { handler = free x; tickets = t ∷ []; down = []; up = None; spare = n }
+corner_of t (ComesHome x n) = record { handler = away t; tickets = []; down = parcels.Home x ∷ []; up = None; spare = n }
+corner_of t (Works x chunk) = record { handler = serves t x; tickets = []; down = parcels.Work chunk ∷ []; up = None; spare = 3 }
+corner_of t (Syncs x n) = record { handler = serves t x; tickets = []; down = parcels.Sync ∷ []; up = None; spare = n }
+corner_of t (Ends x n) = record { handler = serves t x; tickets = []; down = parcels.End ∷ []; up = None; spare = n }
+corner_of t (Sparing x n) = record { handler = spares t x n; tickets = []; down = []; up = None; spare = 3 }
+corner_of t (Giving x n) = record { handler = gives t x; tickets = []; down = []; up = None; spare = n }
+
+-- The lanes of a client are the same in two states.
+pub record HasSameLanes (s n : Core) (d : ℕ) : Type 0 where
+  pub down : (g : ℕ) → n.down d g ≡ s.down d g
+  pub up : (g : ℕ) → n.up d g ≡ s.up d g
+  pub spare : (g : ℕ) → n.spare d g ≡ s.spare d g
+
+-- From one state to another only one corner has changed, and it is this one now.
+pub record IsChangedAt (c h : ℕ) (q : Corner) (s n : Core) : Type 0 where
+  pub here : corner n c h ≡ q
+  pub elsewhere : (g : ℕ) → (h == g) ≡ false → corner n c g ≡ corner s c g
+  pub lanes : (d : ℕ) → (c == d) ≡ false → HasSameLanes s n d
+
+-- and beside it nothing
+pub record IsServedAt (c h : ℕ) (q : Corner) (s n : Core) : Type 0 where
+  pub order : n.order ≡ s.order
+  pub client : n.client ≡ s.client
+  pub changed : IsChangedAt c h q s n
+
+module _ (code : ℕ → ClientCode) (size : ℕ) (s : Core) (c h : ℕ) (q : Corner) (e : corner s c h ≡ q) where
+  served_none : IsServedAt c h q s s
+  served_none = record {
+    order = refl;
+    client = refl;
+    changed = record { here = e; elsewhere = λ g other. refl; lanes = λ d other. record { down = λ g. refl; up = λ g. refl; spare = λ g. refl } };
+  }
+
+  served_ticket : (ts : List Ticket) (v : Handler)
+      → IsServedAt c h (record { handler = v; tickets = ts; down = q.down; up = q.up; spare = q.spare }) s (handles code size (with_tickets code size s h ts) h v)
+  served_ticket ts v = record {
+    order = refl;
+    client = refl;
+    changed = record {
+      here = λ k. record { handler = put_here s.handler h v k; tickets = put_here s.tickets h ts k; down = (e k).down; up = (e k).up; spare = (e k).spare };
+      elsewhere = λ g other k. record { handler = put_there s.handler h v g other k; tickets = put_there s.tickets h ts g other k; down = s.down c g; up = s.up c g; spare = s.spare c g };
+      lanes = λ d other. record { down = λ g. refl; up = λ g. refl; spare = λ g. refl };
+    };
+  }
+
+  served_parcel : (ps : List Parcel) (v : Handler)
+      → IsServedAt c h (record { handler = v; tickets = q.tickets; down = ps; up = q.up; spare = q.spare }) s (handles code size (with_down code size s c h ps) h v)
+  served_parcel ps v = record {
+    order = refl;
+    client = refl;
+    changed = record {
+      here = λ k. record { handler = put_here s.handler h v k; tickets = (e k).tickets; down = lane_here s.down c h ps k; up = (e k).up; spare = (e k).spare };
+      elsewhere = λ g other k. record { handler = put_there s.handler h v g other k; tickets = s.tickets g; down = lane_elsewhere s.down c h ps g other k; up = s.up c g; spare = s.spare c g };
+      lanes = λ d other. record { down = λ g. lane_of_others s.down c h ps d g other; up = λ g. refl; spare = λ g. refl };
+    };
+  }
+
+  served_up : (x : Option HeldState) (v : Handler)
+      → IsServedAt c h (record { handler = v; tickets = q.tickets; down = q.down; up = x; spare = q.spare }) s (handles code size (with_up code size s c h x) h v)
+  served_up x v = record {
+    order = refl;
+    client = refl;
+    changed = record {
+      here = λ k. record { handler = put_here s.handler h v k; tickets = (e k).tickets; down = (e k).down; up = lane_here s.up c h x k; spare = (e k).spare };
+      elsewhere = λ g other k. record { handler = put_there s.handler h v g other k; tickets = s.tickets g; down = s.down c g; up = lane_elsewhere s.up c h x g other k; spare = s.spare c g };
+      lanes = λ d other. record { down = λ g. refl; up = λ g. lane_of_others s.up c h x d g other; spare = λ g. refl };
+    };
+  }
+
+  served_spare : (n : ℕ) (v : Handler)
+      → IsServedAt c h (record { handler = v; tickets = q.tickets; down = q.down; up = q.up; spare = n }) s (handles code size (with_spare code size s c h n) h v)
+  served_spare n v = record {
+    order = refl;
+    client = refl;
+    changed = record {
+      here = λ k. record { handler = put_here s.handler h v k; tickets = (e k).tickets; down = (e k).down; up = (e k).up; spare = lane_here s.spare c h n k };
+      elsewhere = λ g other k. record { handler = put_there s.handler h v g other k; tickets = s.tickets g; down = s.down c g; up = s.up c g; spare = lane_elsewhere s.spare c h n g other k };
+      lanes = λ d other. record { down = λ g. refl; up = λ g. refl; spare = λ g. lane_of_others s.spare c h n d g other };
+    };
+  }
+
+module _ (code : ℕ → ClientCode) (size : ℕ) where
+  -- where it goes from a step that is known
+  went : (P : Core → Type 0) (s : Core) (o r : Option Core) → o ≡ r → P (or_stay s r) → P (or_stay s o)
+  went P s o r is p = subst (λ x. P (or_stay s x)) (sym is) p
+
+  -- one step of a handler
+  pub serve_once : (t : Ticket) (s : Core) (h : ℕ) (d : Due) → corner s t.client h ≡ corner_of t d
+      → IsServedAt t.client h (corner_of t (once t d)) s (or_stay s (core_step code size s (actor.Handler h)))
+  serve_once t s h (Free x n) e =
+      let v : s.handler h ≡ free x = ap (λ (q : Corner). q.handler) e in
+      let ts : s.tickets h ≡ [] = ap (λ (q : Corner). q.tickets) e in
+      let step : core_step code size s (actor.Handler h) ≡ None = rw (v, ts) refl in
+      went (IsServedAt t.client h (corner_of t (Free x n)) s) s (core_step code size s (actor.Handler h)) None step
+      (served_none code size s t.client h (corner_of t (Free x n)) e)
+  serve_once t s h (Serves x n) e =
+      let v : s.handler h ≡ serves t x = ap (λ (q : Corner). q.handler) e in
+      let ps : s.down t.client h ≡ [] = ap (λ (q : Corner). q.down) e in
+      let step : core_step code size s (actor.Handler h) ≡ None = rw (v, ps) refl in
+      went (IsServedAt t.client h (corner_of t (Serves x n)) s) s (core_step code size s (actor.Handler h)) None step
+      (served_none code size s t.client h (corner_of t (Serves x n)) e)
+  serve_once t s h (Away n) e =
+      let v : s.handler h ≡ away t = ap (λ (q : Corner). q.handler) e in
+      let ps : s.down t.client h ≡ [] = ap (λ (q : Corner). q.down) e in
+      let step : core_step code size s (actor.Handler h) ≡ None = rw (v, ps) refl in
+      went (IsServedAt t.client h (corner_of t (Away n)) s) s (core_step code size s (actor.Handler h)) None step
+      (served_none code size s t.client h (corner_of t (Away n)) e)
+  serve_once t s h (Lent x n) e =
+      let v : s.handler h ≡ away t = ap (λ (q : Corner). q.handler) e in
+      let ps : s.down t.client h ≡ [] = ap (λ (q : Corner). q.down) e in
+      let step : core_step code size s (actor.Handler h) ≡ None = rw (v, ps) refl in
+      went (IsServedAt t.client h (corner_of t (Lent x n)) s) s (core_step code size s (actor.Handler h)) None step
+      (served_none code size s t.client h (corner_of t (Lent x n)) e)
+  serve_once t s h (Booked x n) e =
+      let v : s.handler h ≡ free x = ap (λ (q : Corner). q.handler) e in
+      let ts : s.tickets h ≡ t ∷ [] = ap (λ (q : Corner). q.tickets) e in
+      let step : core_step code size s (actor.Handler h) ≡ Some (handles code size (with_tickets code size s h []) h (serves t x)) = rw (v, ts, v) refl in
+      went (IsServedAt t.client h (corner_of t (Serves x n)) s) s (core_step code size s (actor.Handler h)) _ step
+      (served_ticket code size s t.client h (corner_of t (Booked x n)) e [] (serves t x))
+  serve_once t s h (ComesHome x n) e =
+      let v : s.handler h ≡ away t = ap (λ (q : Corner). q.handler) e in
+      let ps : s.down t.client h ≡ parcels.Home x ∷ [] = ap (λ (q : Corner). q.down) e in
+      let step : core_step code size s (actor.Handler h) ≡ Some (handles code size (with_down code size s t.client h []) h (serves t x)) = rw (v, ps, v) refl in
+      went (IsServedAt t.client h (corner_of t (Serves x n)) s) s (core_step code size s (actor.Handler h)) _ step
+      (served_parcel code size s t.client h (corner_of t (ComesHome x n)) e [] (serves t x))
+  serve_once t s h (Works x chunk) e =
+      let v : s.handler h ≡ serves t x = ap (λ (q : Corner). q.handler) e in
+      let ps : s.down t.client h ≡ parcels.Work chunk ∷ [] = ap (λ (q : Corner). q.down) e in
+      let w : Handler = spares t (ran_all x t chunk.items) chunk.capacity in
+      let step : core_step code size s (actor.Handler h) ≡ Some (handles code size (with_down code size s t.client h []) h w) = rw (v, ps, v) refl in
+      went (IsServedAt t.client h (corner_of t (once t (Works x chunk))) s) s (core_step code size s (actor.Handler h)) _ step
+      (served_parcel code size s t.client h (corner_of t (Works x chunk)) e [] w)
+  serve_once t s h (Syncs x n) e =
+      let v : s.handler h ≡ serves t x = ap (λ (q : Corner). q.handler) e in
+      let ps : s.down t.client h ≡ parcels.Sync ∷ [] = ap (λ (q : Corner). q.down) e in
+      let step : core_step code size s (actor.Handler h) ≡ Some (handles code size (with_down code size s t.client h []) h (gives t x)) = rw (v, ps, v) refl in
+      went (IsServedAt t.client h (corner_of t (Giving x n)) s) s (core_step code size s (actor.Handler h)) _ step
+      (served_parcel code size s t.client h (corner_of t (Syncs x n)) e [] (gives t x))
+  serve_once t s h (Ends x n) e =
+      let v : s.handler h ≡ serves t x = ap (λ (q : Corner). q.handler) e in
+      let ps : s.down t.client h ≡ parcels.End ∷ [] = ap (λ (q : Corner). q.down) e in
+      let step : core_step code size s (actor.Handler h) ≡ Some (handles code size (with_down code size s t.client h []) h (free x)) = rw (v, ps, v) refl in
+      went (IsServedAt t.client h (corner_of t (Free x n)) s) s (core_step code size s (actor.Handler h)) _ step
+      (served_parcel code size s t.client h (corner_of t (Ends x n)) e [] (free x))
+  serve_once t s h (Sparing x n) e =
+      let v : s.handler h ≡ spares t x n = ap (λ (q : Corner). q.handler) e in
+      let few : s.spare t.client h ≡ 3 = ap (λ (q : Corner). q.spare) e in
+      let step : core_step code size s (actor.Handler h) ≡ Some (handles code size (with_spare code size s t.client h 4) h (serves t x)) = rw (v, few, v) refl in
+      went (IsServedAt t.client h (corner_of t (Serves x 4)) s) s (core_step code size s (actor.Handler h)) _ step
+      (served_spare code size s t.client h (corner_of t (Sparing x n)) e 4 (serves t x))
+  serve_once t s h (Giving x n) e =
+      let v : s.handler h ≡ gives t x = ap (λ (q : Corner). q.handler) e in
+      let none : s.up t.client h ≡ None = ap (λ (q : Corner). q.up) e in
+      let step : core_step code size s (actor.Handler h) ≡ Some (handles code size (with_up code size s t.client h (Some x)) h (away t)) = rw (v, none, v) refl in
+      went (IsServedAt t.client h (corner_of t (Lent x n)) s) s (core_step code size s (actor.Handler h)) _ step
+      (served_up code size s t.client h (corner_of t (Giving x n)) e (Some x) (away t))

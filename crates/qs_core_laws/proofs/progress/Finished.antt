@@ -1,0 +1,125 @@
+-- Where all is finished nobody has a step: each client stands behind its last block, and each handler is free with no
+-- ticket before it. So enough rounds finish, as for every machine that is never stuck and makes few steps (`Rounds` of
+-- `qs_plain_laws`).
+use Rattle.std.proofs.Common.{◌≡◌, ◌<◌, ◌≤◌, ◌∙◌, ◌&&◌, ⊎_elim, ℕ, zero, suc, ◌+◌, ◌==◌, Bool, true, false, true≢false, if◌then◌else◌, nat_eq, nat_lt, List, [], ◌∷◌, None, Ok, length, refl, sym, ap, subst, arith}
+use Rattle.std.specs.List.{range_with_len}
+use Rattle.qs_objects.specs.declared.held.Ticket.{Ticket}
+use Rattle.qs_objects.proofs.Choices.{and_cases, apart_eqb, num_cases}
+use Rattle.qs_program.specs.Program.{ProgramShape, blocks_of}
+use Rattle.qs_program.specs.Sound.{IsSound}
+use Rattle.qs_syncset.specs.declared.mode.Mode.{Mode}
+use Rattle.qs_syncset.specs.Codes.{ClientCode, AreCodes, blocks_in}
+use Rattle.qs_handler.specs.Handler.{Handler, free, serves, spares, gives, away, closed, is_free}
+use Rattle.qs_handler.specs.Handler as handlers
+use Rattle.qs_client.specs.ClientModel.{is_between}
+use Rattle.qs_client.specs.rules.Client.{ClientStage, between, runs, full, awaits, leaves, act_of}
+use Rattle.qs_client.specs.declared.rules.act.Act.{Act}
+use Rattle.qs_client.specs.declared.rules.act.Act.TheVariants.{Reserve, Finished}
+use Rattle.qs_played.specs.Played.{Played}
+use Rattle.qs_played.specs.Schedule.{most_rounds}
+use Rattle.qs_played.specs.declared.schedule.actor.Actor.{Actor}
+use Rattle.qs_played.specs.declared.schedule.actor.Actor.TheVariants as actor
+use Rattle.qs_plain_laws.proofs.progress.Rounds.{enough_rounds}
+use Rattle.qs_core_laws.proofs.protocol.ActObjects.{between_acts}
+use Rattle.qs_core_laws.specs.Core.{Core, client_step, core_begin, core_step, handler_step, settings_of, takes_ticket}
+use Rattle.qs_core_laws.specs.CoreReached.{CoreStands}
+use Rattle.qs_core_laws.specs.CoreSchedule.{IsPlayedIn, all_of, core_plays, core_scheduled, is_done, is_finished, is_idle}
+use Rattle.qs_core_laws.proofs.protocol.ProgramTrees.{blocks_are}
+use Rattle.qs_core_laws.proofs.CoreReached.{reached_keeps}
+use Rattle.qs_core_laws.specs.progress.CoreFinishing.{CoreEnoughRoundsFinish, CoreFinishedRunsStay}
+use Rattle.qs_core_laws.specs.progress.CoreSteps.{most_core_steps_of}
+use Rattle.qs_core_laws.proofs.progress.Bounded.{core_steps_bounded}
+use Rattle.qs_core_laws.proofs.progress.SmallBounds.{core_bounds_small}
+use Rattle.qs_core_laws.proofs.progress.Stuck.{core_runs_never_stuck, stands_of}
+
+-- ---- where all is finished
+
+all_at : (is : ℕ → Bool) (a n i : ℕ) → all_of is (range_with_len a n) ≡ true → a ≤ i → i < a + n → is i ≡ true
+all_at is a zero i all low high = absurd (omega (arith, low, high))
+all_at is a (suc n) i all low high =
+    let both = and_cases (is a) (all_of is (range_with_len (a + 1) n)) all in
+    ⊎_elim
+    (λ (same : i ≡ a). subst (λ i. is i ≡ true) (sym same) both.0)
+    (λ (other : (i == a) ≡ false). all_at is (a + 1) n i both.1 (let differs = apart_eqb i a other in omega (arith, low, differs)) (omega (arith, high)))
+    (num_cases i a)
+
+no_tickets : (ts : List Ticket) → nat_eq (length ts) 0 ≡ true → ts ≡ []
+no_tickets [] e = refl
+no_tickets (t ∷ ts) e = absurd (let long : length (t ∷ ts) ≡ 0 = grind (arith, e) in omega (arith, long))
+
+module _ (p : ProgramShape) (sound : IsSound p) (mode : Mode) (code : ℕ → ClientCode) (codes : AreCodes p mode code) (size : ℕ) where
+  module _ (s : Core) (st : CoreStands p code size s) (finished : is_finished p s ≡ true) where
+    abbrev both : (all_of (is_done p s) (range_with_len 0 (length p.clients)) ≡ true) × (all_of (is_idle p s) (range_with_len 0 (length p.objects)) ≡ true)
+    both =
+        and_cases (all_of (is_done p s) (range_with_len 0 (length p.clients))) (all_of (is_idle p s) (range_with_len 0 (length p.objects))) finished
+
+    abbrev asks_for : ℕ → Act
+    asks_for c = act_of (settings_of code size c) (blocks_in code c) (s.client c)
+
+    done_asks : (c : ℕ) (pl : ClientStage) → (s.client c).stage ≡ pl → is_between pl ≡ true
+        → (s.client c).begun ≡ blocks_of p c → asks_for c ≡ Finished
+    done_asks c (between l) at out all =
+        let long = blocks_are p sound mode code codes c in
+        let over : nat_lt (s.client c).begun (blocks_in code c) ≡ false = rw (all, long) (grind arith) in
+        between_acts (settings_of code size c) (blocks_in code c) (s.client c) l at ∙ ap (λ b. if b then Reserve else Finished) over
+    done_asks c (runs rest) at out all = absurd (true≢false (sym out))
+    done_asks c (full h rest) at out all = absurd (true≢false (sym out))
+    done_asks c (awaits h rest) at out all = absurd (true≢false (sym out))
+    done_asks c (leaves h hs l) at out all = absurd (true≢false (sym out))
+
+    client_none : (c : ℕ) (b : Bool) → nat_lt c (length p.clients) ≡ b → core_step code size s (actor.Client c) ≡ None
+    client_none c false out = st.others.steps c (grind (arith, out))
+    client_none c true less =
+        let done = all_at (is_done p s) 0 (length p.clients) c both.0 (omega arith) (let l : c < length p.clients = grind (arith, less) in omega (arith, l)) in
+        let parts = and_cases (is_between (s.client c).stage) (nat_eq (s.client c).begun (blocks_of p c)) done in
+        let number = parts.1 in
+        ap (client_step code size s c) (done_asks c (s.client c).stage refl parts.0 (grind (arith, number)))
+
+    free_none : (h : ℕ) (v : Handler) → s.handler h ≡ v → is_free v ≡ true → s.tickets h ≡ []
+        → core_step code size s (actor.Handler h) ≡ None
+    free_none h (free x) is whole none =
+        ap (λ v. handler_step code size s h (handlers.act_of v)) is ∙ ap (takes_ticket code size s h) none
+    free_none h (serves t x) is never none = absurd (true≢false (sym never))
+    free_none h (spares t x n) is never none = absurd (true≢false (sym never))
+    free_none h (gives t x) is never none = absurd (true≢false (sym never))
+    free_none h (away t) is never none = absurd (true≢false (sym never))
+    free_none h (closed x) is never none = absurd (true≢false (sym never))
+
+    handler_none : (h : ℕ) (b : Bool) → nat_lt h (length p.objects) ≡ b → core_step code size s (actor.Handler h) ≡ None
+    handler_none h false out =
+        free_none h _ (st.others.handler h (grind (arith, out))) refl (st.others.tickets h (grind (arith, out)))
+    handler_none h true less =
+        let idle = all_at (is_idle p s) 0 (length p.objects) h both.1 (omega arith) (let l : h < length p.objects = grind (arith, less) in omega (arith, l)) in
+        let parts = and_cases (is_free (s.handler h) && nat_eq (length (s.tickets h)) 0) (all_of (λ c. nat_eq (length (s.down c h)) 0) (range_with_len 0 (length p.clients))) idle in
+        let first = and_cases (is_free (s.handler h)) (nat_eq (length (s.tickets h)) 0) parts.0 in
+        free_none h (s.handler h) refl first.0 (no_tickets (s.tickets h) first.1)
+
+    nobody_steps : (a : Actor) → core_step code size s a ≡ None
+    nobody_steps (actor.Client c) = client_none c (nat_lt c (length p.clients)) refl
+    nobody_steps (actor.Handler h) = handler_none h (nat_lt h (length p.objects)) refl
+
+pub core_finished_stay : CoreFinishedRunsStay
+core_finished_stay p sound mode code codes size actors finished a =
+    let s = core_plays code size actors (core_begin p) in
+    let stands = stands_of p code size s (reached_keeps p sound mode code codes size actors) in
+    nobody_steps p sound mode code codes size s stands finished a
+
+pub core_rounds_finish : CoreEnoughRoundsFinish
+unfolding core_scheduled
+core_rounds_finish p sound mode size picks rounds many shown played =
+    let run = played.2 in
+    let code = run.0 in
+    let codes = run.1 in
+    ap (λ r. r.finished) run.2
+    ∙ enough_rounds p (core_step code size) (core_begin p) (is_finished p)
+    (λ actors over. core_finished_stay p sound mode code codes size actors over)
+    (core_runs_never_stuck p sound mode code codes size)
+    (most_core_steps_of p) (core_steps_bounded p sound mode code codes size) picks rounds many
+
+-- as many rounds as a command line plays by default are enough
+pub core_default_rounds_finish : (p : ProgramShape) → IsSound p → (mode : Mode) (size : ℕ) (picks : List Actor)
+    (rounds : ℕ) (shown : Played) → IsPlayedIn p mode size picks rounds (Ok shown) → rounds ≡ most_rounds
+    → shown.finished ≡ true
+core_default_rounds_finish p sound mode size picks rounds shown played all =
+    let few = core_bounds_small p sound in
+    core_rounds_finish p sound mode size picks rounds (omega (arith, few, all)) shown played

@@ -1,0 +1,60 @@
+-- The codes of a program's clients have as many blocks as the program, with the same lists of objects, and the walk
+-- through a block's graph says the block's interaction tree. The machine and the threads go along these walks, while
+-- what is said of them speaks of the program's blocks. It is the law on sound walks where client and block are in
+-- range, and elsewhere there is no block.
+use Rattle.std.proofs.Common.{◌≡◌, ◌<◌, ◌≤◌, ℕ, nat_lt, Bool, true, false, List, length, replicate, refl, sym, ap, ◌∙◌, arith}
+use Rattle.std.proofs.lemmas.List.{get_or_past, length-replicate}
+use Rattle.qs_objects.specs.declared.held.Ticket.{Ticket}
+use Rattle.qs_meaning.specs.Following.{block_tree}
+use Rattle.qs_program.specs.Program.{BlockShape, ProgramShape, blocks_of}
+use Rattle.qs_program.specs.Sound.{IsSound}
+use Rattle.qs_program.specs.Values.{Locals}
+use Rattle.qs_graph.specs.Synced.{without_syncs}
+use Rattle.qs_syncset.specs.declared.mode.Mode.{Mode}
+use Rattle.qs_syncset.specs.Codes.{BlockCode, ClientCode, no_code, AreCodes, blocks_in, reserved_of}
+use Rattle.qs_syncset.specs.SoundSynced.{IsSoundSynced, IsOnReserved}
+use Rattle.qs_syncset.proofs.CodeWalks.{walks_are_sound}
+use Rattle.qs_client.specs.run.BlockSizes.{longest}
+use Rattle.qs_client.proofs.run.CodeBounds.{longest_covers}
+use Rattle.qs_played.proofs.ReservedObjects.{none_beyond, no_text}
+use Rattle.qs_core_laws.proofs.protocol.ClientInvariants.{objects_of_block}
+use Rattle.qs_client.specs.ClientModel.{synced_block}
+
+module _ (program : ProgramShape) (sound : IsSound program) (mode : Mode) (code : ℕ → ClientCode) (codes : AreCodes program mode code) where
+  pub blocks_are : (c : ℕ) → blocks_in code c ≡ blocks_of program c
+  blocks_are c = by_client (nat_lt c (length program.clients)) refl
+    where
+      by_client : (b : Bool) → nat_lt c (length program.clients) ≡ b → blocks_in code c ≡ blocks_of program c
+      by_client true e = (codes.own c (grind (arith, e))).count
+      by_client false e = ap length (codes.none c (grind (arith, e))) ∙ sym (none_beyond program sound c (grind (arith, e)))
+
+  pub reserved_is : (t : Ticket) → reserved_of code t ≡ objects_of_block program t
+  reserved_is t = by_block (nat_lt t.index (blocks_of program t.client)) refl
+    where
+      by_block : (b : Bool) → nat_lt t.index (blocks_of program t.client) ≡ b → reserved_of code t ≡ objects_of_block program t
+      by_block true e =
+          let some : t.index < blocks_of program t.client = grind (arith, e) in
+          by_client some (nat_lt t.client (length program.clients)) refl
+        where
+          by_client : t.index < blocks_of program t.client → (b : Bool) → nat_lt t.client (length program.clients) ≡ b → reserved_of code t ≡ objects_of_block program t
+          by_client some true e = ((codes.own t.client (grind (arith, e))).blocks t.index some).reserved
+          by_client some false e = let n = none_beyond program sound t.client (grind (arith, e)) in absurd (omega (arith, n, some))
+      by_block false e =
+          let out : blocks_of program t.client ≤ t.index = grind (arith, e) in
+          let long = blocks_are t.client in
+          ap (λ (b : BlockCode). b.reserved) (get_or_past (code t.client).blocks t.index no_code (omega (arith, out, long)))
+          ∙ sym (ap (λ (b : BlockShape). b.reserved) (no_text program sound t out))
+
+  -- a block's tree with its synchronisations
+  pub block_walk : (t : Ticket) (l : Locals) → t.index < blocks_of program t.client
+      → (without_syncs (synced_block code t l) ≡ block_tree program t l) × IsSoundSynced (λ h. false) (synced_block code t l) × IsOnReserved (objects_of_block program t) (synced_block code t l)
+  block_walk t l some = by_client (nat_lt t.client (length program.clients)) refl
+    where
+      by_client : (b : Bool) → nat_lt t.client (length program.clients) ≡ b
+          → (without_syncs (synced_block code t l) ≡ block_tree program t l) × IsSoundSynced (λ h. false) (synced_block code t l) × IsOnReserved (objects_of_block program t) (synced_block code t l)
+      by_client true e =
+          let counts : List ℕ = replicate (longest (code t.client).blocks) 0 in
+          let long : length counts ≡ longest (code t.client).blocks = length-replicate (longest (code t.client).blocks) 0 in
+          let w = walks_are_sound program mode t.client (code t.client) sound (codes.own t.client (grind (arith, e))) t.index l counts some (omega (arith, long, longest_covers (code t.client).blocks t.index)) in
+          (w.tree, w.sound, w.reserved)
+      by_client false e = let n = none_beyond program sound t.client (grind (arith, e)) in absurd (omega (arith, n, some))

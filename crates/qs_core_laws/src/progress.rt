@@ -1,0 +1,3 @@
+//! That runs of the optimised machine go on until they are finished.
+
+pub mod laws;

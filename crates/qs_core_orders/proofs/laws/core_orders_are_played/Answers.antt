@@ -1,5 +1,0 @@
-use Rattle.qs_core_orders.proofs.BlocksPlayed.{core_orders_played}
-use Rattle.qs_core_orders.proofs.laws.core_orders_are_played.Goals as goal
-
-pub returns : goal.returns
-returns c = record { played = core_orders_played }

@@ -1,5 +1,0 @@
-use Rattle.qs_core_progress.proofs.Finished.{core_finished_stay}
-use Rattle.qs_core_progress.proofs.laws.core_finished_runs_stay.Goals as goal
-
-pub returns : goal.returns
-returns c = record { stay = core_finished_stay }

@@ -1,5 +1,0 @@
-use Rattle.qs_core_progress.proofs.Stuck.{core_runs_never_stuck}
-use Rattle.qs_core_progress.proofs.laws.core_never_stuck.Goals as goal
-
-pub returns : goal.returns
-returns c = record { goes_on = core_runs_never_stuck }

@@ -1,5 +1,0 @@
-use Rattle.qs_core_progress.proofs.Bounded.{core_steps_bounded}
-use Rattle.qs_core_progress.proofs.laws.core_steps_are_bounded.Goals as goal
-
-pub returns : goal.returns
-returns c = record { bounded = core_steps_bounded }

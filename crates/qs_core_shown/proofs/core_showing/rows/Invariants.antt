@@ -1,9 +1,0 @@
-use Rattle.std.proofs.Common.{◌≡◌}
-use Rattle.qs_core_shown.specs.CoreShown.{AreMinds, rows_by}
-use Rattle.qs_core_shown.proofs.core_showing.rows.Given as goal
-
-abbrev pub invariant-loop-client : goal.invariant-loop-client
-invariant-loop-client l = record {
-  rows : l.rows.items ≡ rows_by l.yielded;
-  minds : AreMinds l.yielded;
-}

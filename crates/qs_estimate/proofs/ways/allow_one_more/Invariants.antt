@@ -1,7 +1,0 @@
-use Rattle.std.proofs.Common.{ℕ}
-use Rattle.qs_estimate.specs.Estimates.{IsRow}
-use Rattle.qs_estimate.proofs.Rows.{IsRowUpTo}
-use Rattle.qs_estimate.proofs.ways.allow_one_more.Given as goal
-
-abbrev pub invariant-loop-ways : goal.invariant-loop-ways
-invariant-loop-ways l = (b : ℕ) → IsRow b l.initial.row → IsRowUpTo b l.ways-index l.before l.row

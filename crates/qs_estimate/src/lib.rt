@@ -1,9 +1,0 @@
-//! How many configurations a search can have at most, and how many it has at least, before it is made.
-#![tactic(auto)]
-
-mod estimate;
-mod laws;
-mod ways;
-
-pub use estimate::{Estimate, MOST_TOLD, estimate_after};
-pub use laws::{estimate_examples, least_is_there, most_suffices};

@@ -1,6 +1,0 @@
-use Rattle.std.proofs.Common.{◌≡◌, ◌++◌, drop}
-use Rattle.qs_fates.specs.Fates.{fates_from}
-use Rattle.qs_fates.proofs.journals.fates_in.Given as goal
-
-abbrev pub invariant-loop-entry : goal.invariant-loop-entry
-invariant-loop-entry l = l.fates.items ++ fates_from l.state (drop l.entry-index l.journal) ≡ fates_from l.fn.state l.journal

@@ -1,6 +1,0 @@
-use Rattle.std.proofs.Common.{◌≡◌, ◌++◌, drop}
-use Rattle.qs_fault_places.specs.Places.{formal_kinds}
-use Rattle.qs_fault_places.proofs.scope.kinds_of_formals.Given as goal
-
-abbrev pub invariant-loop-formal : goal.invariant-loop-formal
-invariant-loop-formal l = formal_kinds l.formals ≡ l.kinds.items ++ formal_kinds (drop l.formal-index l.formals)

@@ -1,6 +1,0 @@
-use Rattle.std.proofs.Common.{◌≡◌, drop}
-use Rattle.qs_fault_places.specs.Places.{scope_or_fault, atoms_places}
-use Rattle.qs_fault_places.proofs.walk.check_atoms.Given as goal
-
-abbrev pub invariant-loop-atom : goal.invariant-loop-atom
-invariant-loop-atom l = scope_or_fault l.initial.scope (atoms_places l.atoms) ≡ scope_or_fault l.scope (atoms_places (drop l.atom-index l.atoms))

@@ -1,5 +1,0 @@
-use Rattle.qs_going.proofs.GoingSets.{RowsUpTo}
-use Rattle.qs_going.proofs.going.all_comers.Given as goal
-
-abbrev pub invariant-loop-client : goal.invariant-loop-client
-invariant-loop-client l = RowsUpTo l.program l.begun l.rows l.client

@@ -1,9 +1,0 @@
-use Rattle.std.proofs.Common.{◌≡◌, ℕ, take}
-use Rattle.std.specs.List.{list_any}
-use Rattle.qs_meaning.specs.Reduced.{still_reserves}
-use Rattle.qs_going.specs.Going.{begun_counts, in_byte}
-use Rattle.qs_going.proofs.going.comers.Given as goal
-
-abbrev pub invariant-loop-object : goal.invariant-loop-object
-invariant-loop-object l =
-    (d : ℕ) → in_byte l.set d ≡ list_any (still_reserves l.program (begun_counts l.begun) d) (take l.object-index l.reserved)

@@ -1,6 +1,0 @@
-//! Who goes on at a configuration, found in bytes and without memory.
-#![tactic(auto)]
-
-mod going;
-
-pub use going::{Last, goes_on, groups, last_blocks, size};

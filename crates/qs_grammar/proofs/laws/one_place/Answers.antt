@@ -1,8 +1,0 @@
-use Rattle.qs_grammar.proofs.Places.{some_place, one_place}
-use Rattle.qs_grammar.proofs.laws.one_place.Goals as goal
-
-pub returns-clause-some : goal.returns-clause-some
-returns-clause-some c = some_place
-
-pub returns-clause-one : goal.returns-clause-one
-returns-clause-one c = one_place

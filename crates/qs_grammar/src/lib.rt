@@ -1,4 +1,0 @@
-//! The grammar of scripts: which tokens are a script's, what reading makes of them, and where no script goes on.
-#![tactic(auto)]
-
-pub mod laws;

@@ -1,8 +1,0 @@
-use Rattle.qs_held_sets.proofs.Visits.{work_taken}
-use Rattle.qs_held_sets.proofs.dataflow.run.Goals as goal
-
-pub visit-requires : goal.visit-requires
-visit-requires g c = record {
-  taken = work_taken c.args.graph.now c.turns.reached c.turns.sets c.turns.list c.pop.new.self c.in-Some.node c.in-Some.ensures.last
-      c.turns.invariant.work;
-}

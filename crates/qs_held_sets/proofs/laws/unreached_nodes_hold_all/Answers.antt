@@ -1,4 +1,0 @@
-use Rattle.qs_held_sets.proofs.laws.unreached_nodes_hold_all.Goals as goal
-
-pub returns : goal.returns
-returns c = record { all = λ g sets a n h inside below none. (a.exact n h inside below).1 (λ before path. absurd (none before path)) }

@@ -1,7 +1,0 @@
-use Rattle.qs_held_sets.proofs.Transfer.{has_bit}
-use Rattle.qs_held_sets.proofs.sets.Sets.holds.Goals as goal
-
-pub returns : goal.returns
-returns c =
-    let inside = rw (← c.self.view_is) at c.requires.node in
-    rw (← c.self.view_is, c.deref.ensures) (record { value = has_bit c.self.inside.bytes.items c.args.node c.args.handler inside c.requires.handler })

@@ -1,0 +1,65 @@
+-- What is told of a text that can't be read: a diagnosis of its first token at fault, or of the place of its fault of
+-- form. And what a text's tokens declare.
+use Rattle.std.specs.Prelude.{◌≡◌, ◌⊎◌, ◌↔◌, ℕ, ◌-◌, Bool, true, false, IsTrue, List, [], ◌∷◌, ◌++◌, take, Option, Some, None, Result, Ok, Err}
+use Rattle.std.specs.List.{count_by}
+use Rattle.qs_script.specs.declared.tokens.token.Token.{Token}
+use Rattle.qs_script.specs.declared.tokens.token.Token.TheVariants as t
+use Rattle.qs_script.specs.declared.tokens.lex.TokenFault.{TokenFault}
+use Rattle.qs_script.specs.declared.tree.tree.Item.{Item}
+use Rattle.qs_script.specs.grammar.Grammar.{IsScript}
+use Rattle.qs_script.specs.grammar.FormPlaces.{BeginsScript, IsFormPlace}
+use Rattle.qs_diagnosis.specs.declared.told.Span.{Span}
+use Rattle.qs_messages.specs.declared.causes.finding.FormFault.{FormFault}
+use Rattle.qs_messages.specs.declared.causes.spans.PlacedToken.{PlacedToken}
+use Rattle.qs_messages.specs.declared.causes.spans.SpanFault.TheVariants as f
+use Rattle.qs_messages.specs.CheckTold.{IsSaidAt}
+use Rattle.qs_messages.specs.Sources.{end_in, span_in}
+use Rattle.qs_messages.specs.Spans.{ArePlaced, IsFaultAt, tokens_in}
+
+-- a `;` may stand at a place
+abbrev pub MayEnd : List Token → ℕ → Type 0
+MayEnd ts place = BeginsScript (take place ts ++ t.Semicolon ∷ [])
+
+-- the fault of form of tokens that no script has: its place, and whether a `;` may stand there; none, where a script
+-- has them
+abbrev pub IsFormFaultOf : List Token → Option FormFault → Type 0
+IsFormFaultOf ts None = (script : List Item) × IsScript script ts
+IsFormFaultOf ts (Some found) =
+    ((script : List Item) → IsScript script ts → ⊥) × IsFormPlace ts found.place
+    × (IsTrue found.ends ↔ MayEnd ts found.place)
+
+-- what is told of the token at a place, or of the text's end; or, where that may be, of the place right after the token
+-- before
+abbrev pub IsSpot : List ℕ → List PlacedToken → ℕ → Type 0 → Span → Type 0
+IsSpot text tokens place after span =
+    (span ≡ span_in text tokens place) ⊎ (after × (span ≡ end_in text tokens (place - 1)))
+
+-- a diagnosis of the text's fault of form was put at the end
+pub record IsFormTold (text : List ℕ) (old new : List ℕ) : Type 0 where
+  pub tokens : List PlacedToken
+  pub placed : ArePlaced text tokens
+  pub place : ℕ
+  pub there : IsFormPlace (tokens_in tokens) place
+  pub span : Span
+  pub spot : IsSpot text tokens place (MayEnd (tokens_in tokens) place) span
+  pub said : IsSaidAt text span old new
+
+-- a diagnosis of the text's first token at fault was put at the end
+pub record IsTokenTold (text : List ℕ) (fault : TokenFault) (old new : List ℕ) : Type 0 where
+  pub span : Span
+  pub there : IsFaultAt text (f.Token fault span.start)
+  pub said : IsSaidAt text span old new
+
+-- whether a token begins a client, or an object
+abbrev pub is_client : Token → Bool
+is_client t.Client = true
+is_client _ = false
+
+abbrev pub is_object : Token → Bool
+is_object t.Object = true
+is_object _ = false
+
+-- how many clients and how many objects the tokens of a text declare
+abbrev pub declared_in : Result (List Token) TokenFault → ℕ × ℕ
+declared_in (Ok ts) = (count_by is_client ts, count_by is_object ts)
+declared_in (Err f) = (0, 0)

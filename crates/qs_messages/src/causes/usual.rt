@@ -1,0 +1,482 @@
+// What new users write, and what to write instead.
+
+use crate::causes::foreign::is_around_block;
+use crate::causes::form::FormStage;
+use crate::causes::source::Source;
+use qs_script::tokens::Token;
+
+/// A usual mistake: what is wrong, and what to write.
+#[derive(Clone, Copy)]
+pub(crate) struct Usual {
+    pub(crate) cause: &'static [u8],
+    pub(crate) help: &'static [u8],
+}
+
+pub(crate) fn mistake(cause: &'static [u8], help: &'static [u8]) -> Option<Usual> {
+    Some(Usual { cause, help })
+}
+
+/// The usual mistake at a place, where it is one.
+pub(crate) fn usual_at(
+    source: Source<'_>,
+    stage: FormStage,
+    is_deep: bool,
+    place: usize,
+) -> Option<Usual> {
+    let token = source.token(place)?;
+    if matches!(token, Token::Minus) && is_between(stage) {
+        return mistake(
+            b"a comment begins with `#`, and nothing else begins with a `-` here",
+            b"write `# ..`",
+        );
+    }
+    if let Some(usual) = at_name(source, stage, token, place) {
+        return Some(usual);
+    }
+    match stage {
+        FormStage::Item => at_item(token),
+        FormStage::Block => at_block(source, token, place),
+        FormStage::Statement | FormStage::AfterIf if is_deep => mistake(
+            b"a statement stands inside at most eight `if`s and `repeat`s",
+            b"one `if` on a variable that was computed before often does for several",
+        ),
+        FormStage::Statement | FormStage::AfterIf => at_statement(token),
+        FormStage::AfterName => at_subject(source, token, place),
+        FormStage::ArgumentsOpen
+        | FormStage::ArgumentFirst
+        | FormStage::ArgumentNext
+        | FormStage::ArgumentMore => at_arguments(stage, token),
+        FormStage::Left | FormStage::Relation | FormStage::Right | FormStage::BodyBrace => at_test(
+            stage, token,
+        ),
+        FormStage::ElseBrace | FormStage::Count | FormStage::TurnsBrace => at_body(stage, token),
+        FormStage::ListFirst | FormStage::ListNext => at_list(token),
+        stage => at_value(stage, token).or(at_declaration(stage, token)),
+    }
+}
+
+// Where a name stands or is due: it is no word of the language, begins with a letter and has no `-`; and a number is
+// digits alone.
+fn at_name(source: Source<'_>, stage: FormStage, token: &Token, place: usize) -> Option<Usual> {
+    let before = place.saturating_sub(1);
+    let touches = place > 0 && source.end_of(before).start == source.span(place).start;
+    match token {
+        Token::Name(_) if touches && matches!(source.token(before), Some(Token::Number(_))) =>
+            mistake(
+                b"a number is decimal digits alone",
+                b"write 1000 for `1_000`, and 16 for `0x10`; a name begins with a letter",
+            ),
+        Token::Number(_) if is_due(stage) => mistake(
+            b"a name begins with a letter",
+            b"write the digits behind the letters, as in `a1`",
+        ),
+        Token::Minus if ends_name(stage) && touches => mistake(
+            b"a `-` is a minus, and stands in no name",
+            b"names have small letters, digits and `_`",
+        ),
+        _ if is_word(token) && (is_used(stage) || is_subject(source, stage, place)) => {
+            mistake(b"a word of the language is no name", b"take another name")
+        }
+        _ => None,
+    }
+}
+
+// Whether a new name is due at a place.
+fn is_due(stage: FormStage) -> bool {
+    matches!(
+        stage,
+        FormStage::ObjectName
+            | FormStage::ClientName
+            | FormStage::TemplateName
+            | FormStage::FormalName
+            | FormStage::TemplateOf
+    )
+}
+
+// Whether a name of an object or a variable is due there, and none of the words that begin something may stand there.
+fn is_used(stage: FormStage) -> bool {
+    matches!(
+        stage,
+        FormStage::ListFirst
+            | FormStage::GivenFirst
+            | FormStage::GivenMore
+            | FormStage::Operation
+            | FormStage::Value
+            | FormStage::Second
+            | FormStage::Left
+            | FormStage::Right
+            | FormStage::ArgumentFirst
+            | FormStage::ArgumentMore
+    ) || is_due(stage)
+}
+
+// Whether a statement begins there that gives to or asks what is named.
+fn is_subject(source: Source<'_>, stage: FormStage, place: usize) -> bool {
+    let next = source.token(place.saturating_add(1));
+    matches!(stage, FormStage::Statement | FormStage::AfterIf)
+        && matches!(next, Some(Token::Assign | Token::Dot))
+}
+
+// Whether a name has just ended.
+fn ends_name(stage: FormStage) -> bool {
+    matches!(
+        stage,
+        FormStage::ClientNext
+            | FormStage::FormalsOpen
+            | FormStage::FormalNext
+            | FormStage::GivenOpen
+            | FormStage::GivenNext
+            | FormStage::ListNext
+    )
+}
+
+// Whether nothing has begun at a place.
+fn is_between(stage: FormStage) -> bool {
+    matches!(
+        stage,
+        FormStage::Item | FormStage::Block | FormStage::Statement | FormStage::AfterIf
+    )
+}
+
+fn at_item(token: &Token) -> Option<Usual> {
+    match token {
+        Token::Semicolon => mistake(
+            b"no `;` stands after a declaration or a `}`",
+            b"leave it out",
+        ),
+        Token::CloseBrace => mistake(b"no `{` is open that this `}` closes", b"leave it out"),
+        Token::Comma => mistake(
+            b"no comma stands in a declaration or after it; a number is digits alone",
+            b"leave it out",
+        ),
+        Token::Dot => mistake(b"numbers are whole", b"write the number without a point"),
+        Token::Separate => mistake(
+            b"a block stands in a client or a template",
+            b"write `client ann { separate a { .. } }`",
+        ),
+        Token::If | Token::Repeat | Token::Leave | Token::Else => mistake(
+            b"a statement stands in a block of a client",
+            b"write `client ann { separate a { .. } }` around it",
+        ),
+        _ => None,
+    }
+}
+
+fn at_block(source: Source<'_>, token: &Token, place: usize) -> Option<Usual> {
+    match token {
+        Token::Name(_) | Token::If | Token::Repeat if is_around_block(source, place) => mistake(
+            b"no loop and no test stands around a block",
+            b"write the blocks out, one after another; what is repeated inside a block stands in it",
+        ),
+        Token::Name(_) | Token::If | Token::Repeat | Token::Leave | Token::Else => mistake(
+            b"every statement stands inside a block",
+            b"write `separate a { .. }` around it, with the objects that it uses",
+        ),
+        Token::Semicolon => mistake(b"no `;` stands after a `}`", b"leave it out"),
+        Token::Object | Token::Client | Token::Template => mistake(
+            b"the client or template before this is not closed",
+            b"",
+        ),
+        Token::OpenBrace => mistake(
+            b"a block begins with `separate` and its objects",
+            b"write `separate a { .. }`",
+        ),
+        _ => None,
+    }
+}
+
+fn at_statement(token: &Token) -> Option<Usual> {
+    match token {
+        Token::Separate => mistake(
+            b"a block stands in no other block",
+            b"reserve all at once, as in `separate a b { .. }`, or close the block before with a `}`",
+        ),
+        Token::Semicolon => mistake(
+            b"no `;` stands after a `}`, and there is no empty statement",
+            b"leave it out",
+        ),
+        Token::Else => mistake(
+            b"an `else` stands right after the `}` of an `if`",
+            b"write `if x == 0 { .. } else { .. }`",
+        ),
+        Token::OpenBrace => mistake(
+            b"braces stand only after `if`, `else`, `repeat`, a block's list and a client's name",
+            b"leave them out",
+        ),
+        Token::Object | Token::Client | Token::Template => mistake(
+            b"the block before this is not closed",
+            b"",
+        ),
+        _ => None,
+    }
+}
+
+// After a name that begins a statement.
+fn at_subject(source: Source<'_>, token: &Token, place: usize) -> Option<Usual> {
+    let next = source.token(place.saturating_add(1));
+    match token {
+        Token::Equal => mistake(b"an assignment is written `=`", b"write `x = 1;`"),
+        Token::Plus | Token::Minus | Token::Times => match next {
+            Some(Token::Assign) => mistake(
+                b"an assignment is written `=` alone",
+                b"write `x = x + 1;`",
+            ),
+            _ => mistake(
+                b"a name that begins a statement is a variable that is set, or an object",
+                b"write `x = x + 1;`",
+            ),
+        },
+        Token::OpenParen => mistake(b"a request names its object", b"write `a.put(1);`"),
+        _ => None,
+    }
+}
+
+fn at_arguments(stage: FormStage, token: &Token) -> Option<Usual> {
+    match token {
+        Token::Plus | Token::Minus | Token::Times => mistake(
+            b"an argument is a number or a variable, and no sum",
+            b"give the sum to a variable before, as in `x = 1 + 2;`",
+        ),
+        Token::Dot if stage == FormStage::ArgumentNext => mistake(
+            b"an argument is a number or a variable, and no query",
+            b"ask before, as in `x = b.take();`",
+        ),
+        Token::CloseParen if stage == FormStage::ArgumentMore => {
+            mistake(
+                b"no comma stands after the last argument",
+                b"leave the comma out",
+            )
+        }
+        Token::Name(_) | Token::Number(_) if stage == FormStage::ArgumentNext => {
+            mistake(
+                b"a comma stands between two arguments",
+                b"write `g.set(0, 1, 5);`",
+            )
+        }
+        _ if stage == FormStage::ArgumentsOpen => mistake(
+            b"the arguments of a request stand in parentheses, which stand there without arguments, too",
+            b"write `a.deposit(1);` and `x = a.balance();`",
+        ),
+        _ => None,
+    }
+}
+
+fn at_test(stage: FormStage, token: &Token) -> Option<Usual> {
+    match token {
+        Token::OpenParen => mistake(
+            b"a condition has no parentheses",
+            b"write `if x == 0 { .. }`",
+        ),
+        Token::Assign if stage == FormStage::Relation => {
+            mistake(b"equality is written `==`", b"write `if x == 0 { .. }`")
+        }
+        Token::Dot => mistake(
+            b"a condition compares numbers and variables, and no queries",
+            b"ask before, as in `x = a.balance();`, and compare x",
+        ),
+        Token::Plus | Token::Minus | Token::Times => mistake(
+            b"a condition compares numbers and variables, and no sums",
+            b"give the sum to a variable before, as in `z = x + 1;`",
+        ),
+        Token::OpenBrace if stage == FormStage::Relation => mistake(
+            b"a condition compares two numbers or variables",
+            b"write `if x != 0 { .. }`",
+        ),
+        _ if stage == FormStage::BodyBrace => mistake(
+            b"a body stands in braces",
+            b"write `if x == 0 { .. }`",
+        ),
+        _ => None,
+    }
+}
+
+fn at_body(stage: FormStage, token: &Token) -> Option<Usual> {
+    match token {
+        Token::If if stage == FormStage::ElseBrace => mistake(
+            b"there is no `else if`",
+            b"write `else { if .. { .. } }`",
+        ),
+        Token::Name(_) if stage == FormStage::Count => mistake(
+            b"the number of a `repeat` is no variable",
+            b"write a number, and end the loop by `leave;`",
+        ),
+        Token::Minus if stage == FormStage::Count => {
+            mistake(
+                b"the number of a `repeat` has no sign",
+                b"write the number alone",
+            )
+        }
+        Token::OpenBrace if stage == FormStage::Count => mistake(
+            b"a `repeat` says how often it turns at most",
+            b"write `repeat 1000 { .. }`, and end the loop by `leave;`",
+        ),
+        _ if stage == FormStage::Count => None,
+        _ => mistake(b"a body stands in braces", b"write `{ .. }`"),
+    }
+}
+
+fn at_list(token: &Token) -> Option<Usual> {
+    match token {
+        Token::Comma => mistake(
+            b"the list of a block has no commas",
+            b"write `separate a b { .. }`",
+        ),
+        Token::OpenParen | Token::CloseParen => mistake(
+            b"the list of a block has no parentheses",
+            b"write `separate a b { .. }`",
+        ),
+        Token::OpenBrace => mistake(
+            b"the list of a block names at least one object",
+            b"write `separate a { .. }`",
+        ),
+        _ => None,
+    }
+}
+
+fn at_value(stage: FormStage, token: &Token) -> Option<Usual> {
+    match stage {
+        FormStage::Value | FormStage::Second => match token {
+            Token::OpenParen => mistake(
+                b"an expression has no parentheses",
+                b"write `x = a + b;`, with one operator at most",
+            ),
+            Token::Plus => mistake(b"a number has no sign `+`", b"write the number alone"),
+            _ => None,
+        },
+        FormStage::ValueNumber
+        | FormStage::ArgumentNumber
+        | FormStage::SecondNumber
+        | FormStage::LeftNumber
+        | FormStage::RightNumber => match token {
+            Token::Name(_) => mistake(
+                b"a minus before a variable is not there",
+                b"write `y = 0 - x;`, and use y",
+            ),
+            Token::Minus => mistake(b"a number has at most one sign", b"write `x = -5;`"),
+            _ => None,
+        },
+        FormStage::AfterVariable
+        | FormStage::AfterNumber
+        | FormStage::ExpressionEnd
+        | FormStage::QueryEnd => { after_value(stage, token) }
+        _ => None,
+    }
+}
+
+fn after_value(stage: FormStage, token: &Token) -> Option<Usual> {
+    match token {
+        Token::Plus | Token::Minus | Token::Times if stage == FormStage::QueryEnd => mistake(
+            b"a query stands alone at the right of `=`",
+            b"write `x = a.balance(); x = x + 1;`",
+        ),
+        Token::Plus | Token::Minus | Token::Times => mistake(
+            b"an expression has at most one operator",
+            b"write `x = a + b; x = x + c;`",
+        ),
+        Token::Dot if stage == FormStage::ExpressionEnd => mistake(
+            b"a query stands alone at the right of `=`",
+            b"ask before, as in `y = a.balance();`, and use y",
+        ),
+        Token::Dot if stage == FormStage::AfterNumber => {
+            mistake(b"numbers are whole", b"write the number without a point")
+        }
+        Token::OpenParen => mistake(b"a query names its object", b"write `x = a.balance();`"),
+        _ => None,
+    }
+}
+
+// Whether a token is a word of the language.
+fn is_word(token: &Token) -> bool {
+    matches!(
+        token,
+        Token::Object
+            | Token::Client
+            | Token::Template
+            | Token::Separate
+            | Token::If
+            | Token::Else
+            | Token::Repeat
+            | Token::Leave
+            | Token::Account
+            | Token::Buffer
+            | Token::Grid
+    )
+}
+
+fn at_declaration(stage: FormStage, token: &Token) -> Option<Usual> {
+    match stage {
+        FormStage::ObjectKind => at_kind(token),
+        FormStage::Balance | FormStage::Capacity | FormStage::Rows | FormStage::Columns =>
+            at_number(token),
+        FormStage::ClientNext => match token {
+            Token::OpenParen => mistake(
+                b"a client has no parameters",
+                b"write `client ann { .. }`, or a template with formals",
+            ),
+            Token::Name(_) => mistake(
+                b"a client has its blocks in braces, or is started with a template",
+                b"write `client ann { .. }` or `client ann = pay(a)`",
+            ),
+            _ => None,
+        },
+        FormStage::GivenOpen => mistake(
+            b"the objects for the formals stand in parentheses",
+            b"write `client ann = pay(a)`",
+        ),
+        FormStage::FormalKind => match token {
+            Token::CloseParen => mistake(
+                b"a template has at least one formal",
+                b"write `template pay(account f) { .. }`",
+            ),
+            _ => mistake(b"a formal has a kind", b"write `account f`"),
+        },
+        FormStage::FormalNext => match token {
+            Token::Number(_) => mistake(
+                b"a formal has a kind and a name, and no number",
+                b"write `account f`",
+            ),
+            _ => None,
+        },
+        _ => None,
+    }
+}
+
+fn at_kind(token: &Token) -> Option<Usual> {
+    match token {
+        Token::Assign => mistake(
+            b"no `=` stands in a declaration",
+            b"write `object a account 100`",
+        ),
+        Token::Minus => mistake(
+            b"a `-` is a minus, and stands in no name",
+            b"names have small letters, digits and `_`",
+        ),
+        Token::Number(_) => mistake(
+            b"an object has a kind before its number",
+            b"write `object a account 100`",
+        ),
+        Token::Name(_) => mistake(
+            b"there are accounts, buffers and grids, and no other kinds",
+            b"write `object a account 100`",
+        ),
+        _ => None,
+    }
+}
+
+fn at_number(token: &Token) -> Option<Usual> {
+    match token {
+        Token::Minus => mistake(
+            b"the numbers of a declaration have no sign",
+            b"write the number alone",
+        ),
+        Token::OpenParen => mistake(
+            b"a declaration has no parentheses",
+            b"write `object a account 100`",
+        ),
+        Token::Comma => mistake(
+            b"no comma stands between the numbers of a grid",
+            b"write `object g grid 2 3`",
+        ),
+        _ => None,
+    }
+}

@@ -1,7 +1,0 @@
--- With the lines of the blocks that are left, all lines are there.
-use Rattle.std.proofs.Common.{◌≡◌, ◌++◌, drop}
-use Rattle.qs_node_lines.specs.NodeLines.{blocks_nodes}
-use Rattle.qs_node_lines.proofs.lines.lines_of_blocks.Given as goal
-
-abbrev pub invariant-loop-block : goal.invariant-loop-block
-invariant-loop-block l = l.all.items ++ blocks_nodes l.rest (drop l.block-index l.blocks) ≡ blocks_nodes l.entries l.blocks

@@ -1,7 +1,0 @@
--- The template is the first of its name among the items that are left.
-use Rattle.std.proofs.Common.{◌≡◌, drop}
-use Rattle.qs_node_lines.specs.NodeLines.{template_nodes}
-use Rattle.qs_node_lines.proofs.lines.lines_of_template.Given as goal
-
-abbrev pub invariant-loop-item : goal.invariant-loop-item
-invariant-loop-item l = template_nodes l.rest (drop l.item-index l.items) l.name ≡ template_nodes l.entries l.items l.name

@@ -1,0 +1,144 @@
+-- A search over all that is on the way comes to each choice of how many of its blocks each client has run: there is a
+-- legal order for each choice, client by client, and where it leads tells the choice.
+use Rattle.std.proofs.Common.{◌≡◌, ◌==◌, ◌<◌, ◌≤◌, ◌+◌, ℕ, zero, suc, false, List, [], ◌∷◌, ◌++◌, length, get_or, replicate, refl, sym, ap, ◌∙◌, subst, arith, ⊎_elim}
+use Rattle.std.specs.List.{AllZip}
+use Rattle.qs_objects.specs.declared.held.Ticket.{Ticket}
+use Rattle.qs_objects.proofs.Choices.{eqb_apart, num_cases}
+use Rattle.qs_program.specs.Program.{ProgramShape, blocks_of}
+use Rattle.qs_meaning.specs.Configurations.{Configuration, configuration_after, first_configuration}
+use Rattle.qs_meaning.specs.Reduced.{Counts}
+use Rattle.qs_meaning.specs.Serial.{IsLegal, LegalFrom}
+use Rattle.qs_meaning.specs.Solo.{put}
+use Rattle.qs_meaning.proofs.Each.{each_map}
+use Rattle.qs_meaning.proofs.Orders.{configuration-append, legal-join}
+use Rattle.qs_meaning.proofs.TreeWalks.{put_here, put_there}
+use Rattle.qs_serial.specs.NamedOrders.{order_from}
+use Rattle.qs_standings.specs.Lists.{HasOne}
+use Rattle.qs_standings.specs.Standings.{StandingShape, configuration_in}
+use Rattle.qs_standings.proofs.Lists.{has_map, same_list}
+use Rattle.qs_outcomes.specs.estimate.Estimates.{left}
+use Rattle.qs_outcomes.specs.estimate.Laws.{LeastIsThere}
+use Rattle.qs_outcomes.proofs.estimate.BlocksLeft.{begun_few, begun_more, left-long, left_of, word_named}
+use Rattle.qs_outcomes.proofs.estimate.Choosing.{vectors, vectors-long, vectors_apart, vectors_within}
+use Rattle.qs_standings.proofs.Pigeonhole.{at_most}
+use Rattle.qs_outcomes.proofs.estimate.Words.{times, times-append, times-here, times-there}
+
+-- ---- an order for a choice
+
+-- so many blocks of each client from a number on
+abbrev runs_from : ℕ → List ℕ → List ℕ
+runs_from c [] = []
+runs_from c (k ∷ ks) = replicate k c ++ runs_from (suc c) ks
+
+times-same : (c k : ℕ) → times c (replicate k c) ≡ k
+times-same c zero = refl
+times-same c (suc k) = times-here c c (replicate k c) refl ∙ ap suc (times-same c k)
+
+times-other : (d c k : ℕ) → (c == d) ≡ false → times d (replicate k c) ≡ 0
+times-other d c zero other = refl
+times-other d c (suc k) other = times-there d c (replicate k c) other ∙ times-other d c k other
+
+runs_before : (d c : ℕ) (ks : List ℕ) → d < c → times d (runs_from c ks) ≡ 0
+runs_before d c [] less = refl
+runs_before d c (k ∷ ks) less =
+    let joined = times-append d (replicate k c) (runs_from (suc c) ks) in
+    let first = times-other d c k (eqb_apart c d (λ e. omega (arith, e, less))) in
+    let rest = runs_before d (suc c) ks (omega (arith, less)) in omega (arith, joined, first, rest)
+
+runs_at : (c i : ℕ) (ks : List ℕ) → times (c + i) (runs_from c ks) ≡ get_or ks i 0
+runs_at c i [] = refl
+runs_at c zero (k ∷ ks) =
+    let e : c + 0 ≡ c = omega arith in
+    let joined = times-append c (replicate k c) (runs_from (suc c) ks) in
+    let first = times-same c k in
+    let rest = runs_before c (suc c) ks (omega arith) in
+    ap (λ d. times d (runs_from c (k ∷ ks))) e ∙ omega (arith, joined, first, rest)
+runs_at c (suc i) (k ∷ ks) =
+    let e : c + suc i ≡ suc c + i = omega arith in
+    let joined = times-append (suc c + i) (replicate k c) (runs_from (suc c) ks) in
+    let first = times-other (suc c + i) c k (eqb_apart c (suc c + i) (λ same. omega (arith, same))) in
+    let rest = runs_at (suc c) i ks in
+    ap (λ d. times d (runs_from c (k ∷ ks))) e ∙ omega (arith, joined, first, rest)
+
+-- a word with no more of a client than it has blocks left names a legal order
+named_legal : (p : ProgramShape) (begun : Counts) (cs : List ℕ) → ((d : ℕ) → begun d + times d cs ≤ blocks_of p d) → LegalFrom p begun (order_from begun cs)
+named_legal p begun [] within = tt
+named_legal p begun (c ∷ cs) within = (
+  refl,
+  (let few = within c in let more = times-here c c cs refl in omega (arith, few, more)),
+  named_legal p (put begun c (suc (begun c))) cs
+      (λ d. ⊎_elim
+      (λ (is : c ≡ d).
+      let on : put begun c (suc (begun c)) d ≡ suc (begun d) = subst (λ e. put begun c (suc (begun c)) e ≡ suc (begun e)) is (put_here begun c (suc (begun c))) in
+      let more = times-here d c cs is in let few = within d in omega (arith, on, more, few))
+      (λ (other : (c == d) ≡ false).
+      let on = put_there begun c (suc (begun c)) d other in let same = times-there d c cs other in let few = within d in omega (arith, on, same, few))
+      (num_cases c d)),
+)
+
+-- ---- choices, place by place
+
+zip_long : (v bs : List ℕ) → AllZip ◌≤◌ v bs → length v ≡ length bs
+zip_long [] [] h = refl
+zip_long [] (b ∷ bs) h = absurd h
+zip_long (x ∷ v) [] h = absurd h
+zip_long (x ∷ v) (b ∷ bs) h = ap suc (zip_long v bs h.1)
+
+zip_within : (v bs : List ℕ) (i : ℕ) → AllZip ◌≤◌ v bs → get_or v i 0 ≤ get_or bs i 0
+zip_within [] [] i h = omega arith
+zip_within [] (b ∷ bs) i h = absurd h
+zip_within (x ∷ v) [] i h = absurd h
+zip_within (x ∷ v) (b ∷ bs) zero h = h.0
+zip_within (x ∷ v) (b ∷ bs) (suc i) h = zip_within v bs i h.1
+
+module _ (p : ProgramShape) (front : List Ticket) (legal : IsLegal p front) where
+  -- where a choice was made: a number for each client, and each has begun so many more
+  record HasChosen (v : List ℕ) (s : StandingShape) : Type 0 where
+    long : length v ≡ length p.clients
+    begun : (c : ℕ) → (configuration_in s).begun c ≡ (configuration_after p front).begun c + get_or v c 0
+
+  one_choice : (v w : List ℕ) (s : StandingShape) → HasChosen v s → HasChosen w s → v ≡ w
+  one_choice v w s h k = same_list 0 v w (h.long ∙ sym k.long) (λ c. (let a = h.begun c in let b = k.begun c in let same : get_or v c 0 ≡ get_or w c 0 = omega (arith, a, b) in same))
+
+  rest_of : List ℕ → List Ticket
+  rest_of v = order_from (configuration_after p front).begun (runs_from 0 v)
+
+  within_left : (v : List ℕ) (d : ℕ) → AllZip ◌≤◌ v (left p front) → (configuration_after p front).begun d + times d (runs_from 0 v) ≤ blocks_of p d
+  within_left v d h =
+      let at : times d (runs_from 0 v) ≡ get_or v d 0 = ap (λ e. times e (runs_from 0 v)) (let e : d ≡ 0 + d = omega arith in e) ∙ runs_at 0 d v in
+      let few = zip_within v (left p front) d h in
+      let all = left_of p front d in
+      let begun = begun_few p front d legal in omega (arith, at, few, all, begun)
+
+  rest_legal : (v : List ℕ) → AllZip ◌≤◌ v (left p front) → IsLegal p (front ++ rest_of v)
+  unfolding rest_of
+  rest_legal v h = legal-join p (first_configuration p) front (order_from (configuration_after p front).begun (runs_from 0 v)) legal
+      (named_legal p (configuration_after p front).begun (runs_from 0 v) (λ d. within_left v d h))
+
+  rest_begun : (v : List ℕ) (c : ℕ) → (configuration_after p (front ++ rest_of v)).begun c ≡ (configuration_after p front).begun c + get_or v c 0
+  unfolding rest_of
+  rest_begun v c =
+      let g = configuration_after p front in
+      let rest = order_from g.begun (runs_from 0 v) in
+      ap (λ (h : Configuration). h.begun c) (configuration-append p (first_configuration p) front rest)
+      ∙ begun_more p g rest c
+      ∙ ap (λ u. g.begun c + times c u) (word_named g.begun (runs_from 0 v))
+      ∙ ap (λ n. g.begun c + n) (ap (λ e. times e (runs_from 0 v)) (let e : c ≡ 0 + c = omega arith in e) ∙ runs_at 0 c v)
+
+  chosen : (ss : List StandingShape) → ((rest : List Ticket) → IsLegal p (front ++ rest) → HasOne (λ s. configuration_in s ≡ configuration_after p (front ++ rest)) ss)
+      → (v : List ℕ) → AllZip ◌≤◌ v (left p front) → HasOne (HasChosen v) ss
+  chosen ss all v h =
+      has_map {P = λ s. configuration_in s ≡ configuration_after p (front ++ rest_of v)}
+      (λ s e. record {
+        long = zip_long v (left p front) h ∙ left-long (configuration_after p front).begun 0 p.clients;
+        begun = λ c. ap (λ (g : Configuration). g.begun c) e ∙ rest_begun v c;
+      })
+      ss (all (rest_of v) (rest_legal v h))
+
+pub least_is_there : LeastIsThere
+least_is_there p front legal count found =
+    let few : length (vectors (left p front)) ≤ length found.0 =
+    at_most (HasChosen p front legal) ◌≡◌ (one_choice p front legal) (vectors (left p front)) found.0 (vectors_apart (left p front))
+    (each_map (λ v h. chosen p front legal found.0 found.2 v h) (vectors (left p front)) (vectors_within (left p front))) in
+    let long = vectors-long (left p front) in
+    let all = found.1.count in omega (arith, few, long, all)

@@ -1,0 +1,14 @@
+use Rattle.std.proofs.Common.{◌≡◌, ◌<◌, ◌≤◌, ℕ, List, [], length, get_or, vec_capacity}
+use Rattle.qs_program.specs.Program.{block_at}
+use Rattle.qs_plain.specs.client.Frames.{rest, places_of}
+use Rattle.qs_plain.specs.client.PreparedBlock.{AreQueues}
+use Rattle.qs_plain.specs.client.Queues.{QueueState}
+use Rattle.qs_plain.proofs.client.client.ClientState.new.Given as goal
+
+abbrev pub invariant-loop-index : goal.invariant-loop-index
+invariant-loop-index l = record {
+  frames : l.frames.items ≡ [];
+  fits : (j : ℕ) → j < l.index → places_of (rest (block_at l.program l.number j).body) ≤ vec_capacity l.frames;
+  many : length l.prepared.items ≡ l.index;
+  stocked : (j : ℕ) (x : List (ℕ × QueueState)) → j < l.index → AreQueues l.number j (block_at l.program l.number j) (get_or l.prepared.items j x);
+}

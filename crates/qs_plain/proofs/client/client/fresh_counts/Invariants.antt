@@ -1,0 +1,12 @@
+use Rattle.std.proofs.Common.{◌≡◌, ◌≤◌, ◌+◌, ◌*◌}
+use Rattle.qs_program.specs.Limits.{most_objects}
+use Rattle.qs_program.specs.Program.{blocks_of}
+use Rattle.qs_sync_counts.specs.SyncRows.{begun_rows}
+use Rattle.qs_plain.specs.client.PreparedBlock.{reserved_lists}
+use Rattle.qs_plain.proofs.client.client.fresh_counts.Given as goal
+
+abbrev pub invariant-loop-index : goal.invariant-loop-index
+invariant-loop-index l = record {
+  rows : l.counts.rows ≡ begun_rows l.index (reserved_lists l.program l.number);
+  room : blocks_of l.program l.number * most_objects ≤ l.counts.room + l.index * most_objects;
+}

@@ -1,0 +1,8 @@
+use Rattle.std.proofs.Common.{arith, ap}
+use Rattle.qs_program.specs.Views.{single, size_of}
+use Rattle.qs_program.proofs.StatementLists.{size_at}
+use Rattle.qs_plain.proofs.client.frames.+grow.Goals as goal
+
+pub grow-grow_stmt-requires : goal.grow-grow_stmt-requires
+grow-grow_stmt-requires t c =
+    (omega (arith, size_at c.as_slice-stmt-items.result.now c.loop-stmt.stmt-index c.stmt-item.result c.loop-stmt-test.true, ap size_of c.as_slice-stmt-items.ensures.value, ap (λ s. size_of (single s)) c.stmt-item.is, c.decreases), tt)

@@ -1,9 +1,0 @@
-use Rattle.std.proofs.Common.{◌≡◌, ◌≤◌, take}
-use Rattle.qs_played.specs.Schedule.{queries_in}
-use Rattle.qs_plain_client.proofs.client.queries.Given as goal
-
-abbrev pub invariant-loop-event : goal.invariant-loop-event
-invariant-loop-event l = record {
-  value : l.queries ≡ queries_in (take l.event-index l.events);
-  limit : l.queries ≤ l.event-index;
-}

@@ -1,0 +1,3 @@
+//! That runs by the plain rules go on until they are finished.
+
+pub mod laws;

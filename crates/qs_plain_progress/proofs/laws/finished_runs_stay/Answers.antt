@@ -1,5 +1,0 @@
-use Rattle.qs_plain_progress.proofs.Finished.{finished_stay}
-use Rattle.qs_plain_progress.proofs.laws.finished_runs_stay.Goals as goal
-
-pub returns : goal.returns
-returns c = record { stay = finished_stay }

@@ -1,5 +1,0 @@
-use Rattle.qs_plain_progress.proofs.Stuck.{runs_never_stuck}
-use Rattle.qs_plain_progress.proofs.laws.never_stuck.Goals as goal
-
-pub returns : goal.returns
-returns c = record { goes_on = runs_never_stuck }

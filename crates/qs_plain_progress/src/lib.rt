@@ -1,4 +1,0 @@
-//! That runs by the plain rules go on until they are finished.
-#![tactic(auto)]
-
-pub mod laws;

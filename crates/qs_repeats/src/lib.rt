@@ -1,6 +1,0 @@
-//! Many runs of a program on threads, and how often each end came.
-#![tactic(auto)]
-
-mod repeats;
-
-pub use repeats::{run_times, run_times_with};

@@ -1,7 +1,0 @@
-//! From names to numbers: the objects and the clients of a script whose text has no fault.
-#![tactic(auto)]
-
-mod resolve;
-mod start;
-
-pub use resolve::{resolve_clients, resolve_objects};

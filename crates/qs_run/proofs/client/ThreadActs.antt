@@ -1,0 +1,213 @@
+-- What each act of a client's thread keeps: its deeds grow by one, and its share and its ends of lanes show it; and
+-- what each call needs.
+use Rattle.std.proofs.Common.{◌≡◌, ◌<◌, arith, ℕ, ◌+◌, true, true≢false, false, List, [], ◌∷◌, ◌++◌, refl, sym, ap, ◌∙◌, subst}
+use Rattle.std.proofs.Common.{add-zero, append-nil, Option, Some, None}
+use Rattle.std.specs.Prelude.{IsSome, slice_set}
+use Rattle.qs_objects.specs.Journals.{HeldState}
+use Rattle.qs_objects.specs.declared.Request.{Request}
+use Rattle.qs_objects.specs.declared.held.Ticket.{Ticket}
+use Rattle.qs_objects.proofs.Choices.{eqb_self}
+use Rattle.qs_program.specs.Program.{ProgramShape, blocks_of}
+use Rattle.qs_program.specs.Sound.{IsSound}
+use Rattle.qs_program.specs.Limits.{most_handlers}
+use Rattle.qs_meaning.specs.Following.{reserves}
+use Rattle.qs_syncset.specs.Codes.{IsCodeOf}
+use Rattle.qs_syncset.specs.declared.mode.Mode.{Mode}
+use Rattle.qs_chunk.specs.Batch.{Batch, batch}
+use Rattle.qs_chunk.specs.Lanes.{MayFollow, is_asked}
+use Rattle.qs_chunk.specs.declared.parcel.Parcel.{Parcel}
+use Rattle.qs_client.specs.declared.rules.act.Act.{Act}
+use Rattle.qs_client.specs.declared.rules.act.Act.TheVariants as acts
+use Rattle.qs_client.specs.ClientRuns.{Deed, DeedsLead, RunsTo, next_ticket, reservations, sent_to}
+use Rattle.qs_client.specs.ClientRuns as deeds
+use Rattle.qs_client.specs.ClientModel.{ClientModel, mind_after_begin, mind_after_chunk, finish, fresh_mind, mind_after_object, hands_out, next_act, next_mind}
+use Rattle.qs_desk.specs.Tickets.{ticket}
+use Rattle.qs_desk.specs.Views.{ShareView}
+use Rattle.qs_lane.specs.Views.{OutView}
+use Rattle.qs_played.proofs.ReservedObjects.{reserved_inside}
+use Rattle.qs_core_laws.proofs.protocol.DeedJoins.{deeds_join, reservations_join}
+use Rattle.qs_run.specs.client.ClientThreads.{AreDone, HasDone, IsFresh, out_lane_at}
+use Rattle.qs_run.specs.client.RunActs.{IsMidRun, lane_of}
+use Rattle.qs_run.proofs.client.DoneDeeds.{as_before, at_one_lane}
+use Rattle.qs_run.proofs.client.RunActs.{act_reserved, begun_is, block_left, send_follows, size_is}
+
+-- where there was a lane there is one
+still_there : (h : ℕ) (done : List Deed) (a b : Option OutView) → HasDone h done a b → IsSome a → IsSome b
+still_there h done None b was some = absurd (true≢false (sym some))
+still_there h done (Some l) None was some = absurd was
+still_there h done (Some l) (Some k) was some = refl
+
+some_lane : (o : Option OutView) → IsSome o → (k : OutView) × (o ≡ Some k)
+some_lane None some = absurd (true≢false (sym some))
+some_lane (Some k) some = (k, refl)
+
+-- what is known of a lane that began fresh
+lane_shows : (size h : ℕ) (done : List Deed) (start : Option OutView) (lane : OutView) → IsFresh size start → HasDone h done start (Some lane)
+    → (lane.size ≡ size) × (lane.sent ≡ sent_to h done)
+lane_shows size h done None lane fresh was = absurd was
+lane_shows size h done (Some first) lane fresh was = (was.1 ∙ fresh.0, was.2)
+
+-- before its first deed a lane is as it was
+nothing_done : (size h : ℕ) (start : Option OutView) → IsFresh size start → HasDone h [] start start
+nothing_done size h None fresh = tt
+nothing_done size h (Some lane) fresh = (refl, refl, fresh.1, fresh.2, sym (add-zero lane.taken))
+
+share_path : (s : ShareView) (c n : ℕ) → s.client ≡ c → s.count ≡ n → s ≡ record { client = c; count = n }
+share_path s c n a b = λ i. record { client = a i; count = b i }
+
+module _ (p : ProgramShape) (c : ℕ) (first : ClientModel) (start : List (Option OutView)) where
+  -- what the thread has done so far, whatever it was
+  abbrev pub HasDeeds : ClientModel → ShareView → List (Option OutView) → Type 0
+  HasDeeds m share lanes = (done : List Deed) × DeedsLead c first done m × AreDone c start done share lanes
+
+  -- before its first block
+  pub begins : (share : ShareView) → share.client ≡ c → share.count ≡ 0 → ((h : ℕ) → IsFresh first.size (out_lane_at start h)) → HasDeeds first share start
+  begins share client none fresh =
+      ([], refl, record { booked = share_path share c 0 client none; ends = λ h. nothing_done first.size h (out_lane_at start h) (fresh h) })
+
+  module _ (sound : IsSound p) (code : (mode : Mode) × IsCodeOf p mode c first.code) (at_first : first ≡ fresh_mind first.code first.size)
+      (fresh : (h : ℕ) → IsFresh first.size (out_lane_at start h))
+      (reached : (k h : ℕ) → k < blocks_of p c → reserves p (ticket c k) h ≡ true → IsSome (out_lane_at start h))
+      (m n : ClientModel) (share : ShareView) (lanes : List (Option OutView)) (kept : HasDeeds m share lanes) (at : n ≡ next_mind m) where
+    mid : IsMidRun p c first.code first.size kept.0 m
+    mid = record { sound = sound; mode = code.0; of = code.1; lead = subst (λ (x : ClientModel). DeedsLead c x kept.0 m) at_first kept.1 }
+
+    -- a lane is there for what the mind asks for
+    pub reaches : (h : ℕ) (act : Act) → next_act m ≡ act → lane_of act ≡ Some h → (h < most_handlers) × IsSome (out_lane_at lanes h)
+    reaches h act is uses =
+        let own = act_reserved p c first.code first.size kept.0 m mid h act is uses in
+        let object = reserved_inside p sound (ticket c own.0) h own.2 in
+        let few = sound.objects in
+        (omega (arith, object, few), still_there h kept.0 (out_lane_at start h) (out_lane_at lanes h) (kept.2.ends h) (reached own.0 h own.1 own.2))
+
+    shows : (h : ℕ) (lane : OutView) → out_lane_at lanes h ≡ Some lane → (lane.size ≡ first.size) × (lane.sent ≡ sent_to h kept.0)
+    shows h lane is =
+        lane_shows first.size h kept.0 (out_lane_at start h) lane (fresh h) (subst (HasDone h kept.0 (out_lane_at start h)) is (kept.2.ends h))
+
+    -- it reserves where a block is left
+    pub has_left : next_act m ≡ acts.Reserve → share.count < blocks_of p share.client
+    has_left is =
+        subst (λ (s : ShareView). s.count < blocks_of p s.client) (sym kept.2.booked) (block_left p c first.code first.size kept.0 m mid is)
+
+    pub count_is : next_act m ≡ acts.Reserve → share.count ≡ n.client.begun
+    count_is is =
+        ap (λ (s : ShareView). s.count) kept.2.booked ∙ (sym (begun_is p c first.code first.size kept.0 m mid)
+        ∙ (ap (λ act. (hands_out (finish m) act).client.begun) (sym is) ∙ ap (λ (n : ClientModel). n.client.begun) (sym at)))
+
+    pub kept_by_ticket : (m' : ClientModel) (t : Ticket) (share' : ShareView) → next_act m ≡ acts.Reserve → t ≡ ticket share.client share.count
+        → share' ≡ record share { count = share.count + 1 } → m' ≡ mind_after_begin n t → HasDeeds m' share' lanes
+    kept_by_ticket m' t share' is ticket_is share_is books =
+        let d = deeds.reserves in
+        let mine : t ≡ next_ticket c n =
+        ticket_is ∙ (λ i. ticket ((ap (λ (s : ShareView). s.client) kept.2.booked) i) (count_is is i)) in
+        let lead : mind_after_begin (next_mind m) (next_ticket c (next_mind m)) ≡ m' =
+        sym (books ∙ (ap (mind_after_begin n) mine ∙ ap (λ (n : ClientModel). mind_after_begin n (next_ticket c n)) at)) in (
+          kept.0 ++ d ∷ [],
+          deeds_join c kept.0 (d ∷ []) first m m' kept.1 (is, lead),
+          record {
+            booked = share_is ∙ share_path (record share { count = share.count + 1 }) c (reservations (kept.0 ++ d ∷ []))
+                (ap (λ (s : ShareView). s.client) kept.2.booked)
+                (let before = ap (λ (s : ShareView). s.count) kept.2.booked in let all = reservations_join kept.0 (d ∷ []) in omega (arith, before, all));
+            ends = λ h. as_before h kept.0 d (out_lane_at start h) (out_lane_at lanes h) (refl, refl, refl) (kept.2.ends h);
+          },
+        )
+
+    -- a deed that reserves nothing
+    same_share : (d : Deed) → reservations (d ∷ []) ≡ 0 → share ≡ record { client = c; count = reservations (kept.0 ++ d ∷ []) }
+    same_share d none =
+        kept.2.booked
+        ∙ ap (λ n. record { client = c; count = n }) (let all = reservations_join kept.0 (d ∷ []) in omega (arith, all, none))
+
+    -- what it sends may follow
+    pub may_follow : (h : ℕ) (parcel : Parcel) → next_act m ≡ acts.Send h parcel → (lane : OutView) → out_lane_at lanes h ≡ Some lane
+        → MayFollow lane.size (is_asked false lane.sent) parcel
+    may_follow h parcel is lane here =
+        let s = shows h lane here in
+        subst (λ size. MayFollow size (is_asked false lane.sent) parcel) (sym s.0)
+        (subst (λ ps. MayFollow first.size (is_asked false ps) parcel) (sym s.1) (send_follows p c first.code first.size kept.0 m mid h parcel is))
+
+    pub kept_by_parcel : (h : ℕ) (parcel : Parcel) (lanes' : List (Option OutView)) → next_act m ≡ acts.Send h parcel
+        → ((lane : OutView) → out_lane_at lanes h ≡ Some lane → lanes' ≡ slice_set lanes h (Some (record lane { sent = lane.sent ++ parcel ∷ [] })))
+        → HasDeeds n share lanes'
+    kept_by_parcel h parcel lanes' is did =
+        let d = deeds.sends h parcel in
+        let found = some_lane (out_lane_at lanes h) (reaches h (acts.Send h parcel) is refl).1 in
+        let lane = found.0 in (
+          kept.0 ++ d ∷ [],
+          deeds_join c kept.0 (d ∷ []) first m n kept.1 (is, sym at),
+          record {
+            booked = same_share d refl;
+            ends = at_one_lane start lanes lanes' kept.0 d h lane (record lane { sent = lane.sent ++ parcel ∷ [] }) kept.2.ends found.1 (did lane found.1)
+                (record {
+                  name = refl;
+                  size = refl;
+                  sent = rw (eqb_self h) refl;
+                  got = sym (append-nil lane.got);
+                  taken = sym (add-zero lane.taken);
+                })
+                (λ a other. (rw other refl, refl, refl));
+          },
+        )
+
+    pub kept_by_object : (m' : ClientModel) (h : ℕ) (x : HeldState) (lanes' : List (Option OutView)) → next_act m ≡ acts.Await h → m' ≡ mind_after_object n x
+        → ((lane : OutView) → out_lane_at lanes h ≡ Some lane → lanes' ≡ slice_set lanes h (Some (record lane { got = lane.got ++ x ∷ [] })))
+        → HasDeeds m' share lanes'
+    kept_by_object m' h x lanes' is gets did =
+        let d = deeds.gets h x in
+        let found = some_lane (out_lane_at lanes h) (reaches h (acts.Await h) is refl).1 in
+        let lane = found.0 in (
+          kept.0 ++ d ∷ [],
+          deeds_join c kept.0 (d ∷ []) first m m' kept.1 (is, sym (gets ∙ ap (λ (n : ClientModel). mind_after_object n x) at)),
+          record {
+            booked = same_share d refl;
+            ends = at_one_lane start lanes lanes' kept.0 d h lane (record lane { got = lane.got ++ x ∷ [] }) kept.2.ends found.1 (did lane found.1)
+                (record {
+                  name = refl;
+                  size = refl;
+                  sent = sym (append-nil lane.sent);
+                  got = rw (eqb_self h) refl;
+                  taken = sym (add-zero lane.taken);
+                })
+                (λ a other. (refl, rw other refl, refl));
+          },
+        )
+
+    -- by what the call says of the lane that is there: a chunk was taken, and it is empty
+    abbrev pub Took : ℕ → Batch Request → List (Option OutView) → Type 0
+    Took h chunk lanes' =
+        (lane : OutView) → out_lane_at lanes h ≡ Some lane
+        → (lanes' ≡ slice_set lanes h (Some (record lane { taken = lane.taken + 1 }))) × (chunk ≡ batch [] lane.size)
+
+    pub is_empty : (h : ℕ) (chunk : Batch Request) (lanes' : List (Option OutView)) → next_act m ≡ acts.NeedChunk h → Took h chunk lanes'
+        → chunk ≡ batch [] n.size
+    is_empty h chunk lanes' is took =
+        let found = some_lane (out_lane_at lanes h) (reaches h (acts.NeedChunk h) is refl).1 in
+        (took found.0 found.1).1
+        ∙ ap (batch [])
+        ((shows h found.0 found.1).0 ∙ (sym (size_is p c first.code first.size kept.0 m mid) ∙ ap (λ (n : ClientModel). n.size) (sym at)))
+
+    pub kept_by_chunk : (m' : ClientModel) (h : ℕ) (chunk : Batch Request) (lanes' : List (Option OutView)) → next_act m ≡ acts.NeedChunk h
+        → m' ≡ mind_after_chunk n h → Took h chunk lanes' → HasDeeds m' share lanes'
+    kept_by_chunk m' h chunk lanes' is takes took =
+        let d = deeds.takes_chunk h in
+        let found = some_lane (out_lane_at lanes h) (reaches h (acts.NeedChunk h) is refl).1 in
+        let lane = found.0 in (
+          kept.0 ++ d ∷ [],
+          deeds_join c kept.0 (d ∷ []) first m m' kept.1 (is, sym (takes ∙ ap (λ (n : ClientModel). mind_after_chunk n h) at)),
+          record {
+            booked = same_share d refl;
+            ends = at_one_lane start lanes lanes' kept.0 d h lane (record lane { taken = lane.taken + 1 }) kept.2.ends found.1 (took lane found.1).0
+                (record {
+                  name = refl;
+                  size = refl;
+                  sent = sym (append-nil lane.sent);
+                  got = sym (append-nil lane.got);
+                  taken = rw (eqb_self h) refl;
+                })
+                (λ a other. (refl, refl, rw other refl));
+          },
+        )
+
+    -- a client that asks for nothing more has ended
+    pub kept_to_end : next_act m ≡ acts.Finished → (done : List Deed) × RunsTo c first done n × AreDone c start done share lanes
+    kept_to_end is = (kept.0, record { last = m; deeds_lead = kept.1; finished = is; end_is = at }, kept.2)

@@ -1,0 +1,56 @@
+-- One more run: what is said of a tally of so many runs is said of one more, once its order was counted.
+use Rattle.std.proofs.Common.{◌≡◌, ◌≤◌, ℕ, suc, Bool, Some, List, [], ◌∷◌, ◌++◌, length, map, slice_get, refl, sym, subst, arith, length-append}
+use Rattle.std.proofs.lemmas.List.{length-map, map-append}
+use Rattle.qs_objects.specs.declared.held.Ticket.{Ticket}
+use Rattle.qs_program.specs.Program.{ProgramShape}
+use Rattle.qs_meaning.specs.Configurations.{IsComplete}
+use Rattle.qs_meaning.proofs.Each.{each_snoc}
+use Rattle.qs_syncset.specs.declared.mode.Mode.{Mode}
+use Rattle.qs_played.specs.Played.{Played}
+use Rattle.qs_run_laws.specs.Outcomes.{IsOutcome}
+use Rattle.qs_tally.specs.Counting.{IsBegun, IsCounted}
+use Rattle.qs_run.specs.many.Repeats.{AreAsTheyCame, IsTallyBy}
+use Rattle.qs_tally.specs.Tallies.{CountedShape, IsCountOf, standings_in}
+use Rattle.qs_tally.proofs.Counts.{counted_on, times_within}
+use Rattle.qs_tally.proofs.Goes.{listed_on, unlisted_on}
+use Rattle.qs_run.proofs.many.Comings.{came_none, came_on}
+
+abbrev pub order_shown : Played → List Ticket
+order_shown o = o.order
+
+pub complete_of : (p : ProgramShape) (mode : Mode) (size : ℕ) (o : Played) → IsOutcome p mode size o → IsComplete p o.order
+complete_of p mode size o is = record { legal = is.legal; once = is.once }
+
+pub tally_begun : (p : ProgramShape) (mode : Mode) (size limit : ℕ) (listed : Bool) (ends : List CountedShape) → IsBegun p limit listed ends
+    → IsTallyBy p mode size 0 limit (record { ends = ends; listed = listed })
+tally_begun p mode size limit listed ends begun = record {
+  runs = [];
+  all_runs = refl;
+  each = tt;
+  counted = begun.counted;
+  listed = begun.listed_all;
+  unlisted = begun.unlisted;
+  as_they_came = λ e. came_none p ends begun.counted (begun.unlisted e).1;
+}
+
+-- each end has come at most as often as there were runs
+pub few_times : (p : ProgramShape) (mode : Mode) (size many limit : ℕ) (listed : Bool) (ends : List CountedShape) → IsTallyBy p mode size many limit (record { ends = ends; listed = listed })
+    → (k : ℕ) (e : CountedShape) → slice_get ends k ≡ Some e → e.times ≤ many
+few_times p mode size many limit listed ends tally k e at =
+    let few = times_within p (map order_shown tally.runs) ends k e tally.counted at in
+    let long : length (map order_shown tally.runs) ≡ length tally.runs = length-map tally.runs order_shown in
+    let all = tally.all_runs in omega (arith, few, long, all)
+
+pub tally_on : (p : ProgramShape) (mode : Mode) (size many limit : ℕ) (listed : Bool) (before after : List CountedShape) (o : Played)
+    → IsTallyBy p mode size many limit (record { ends = before; listed = listed }) → IsOutcome p mode size o → IsCounted p o.order before after
+    → IsTallyBy p mode size (suc many) limit (record { ends = after; listed = listed })
+tally_on p mode size many limit listed before after o tally is counted = record {
+  runs = tally.runs ++ o ∷ [];
+  all_runs = (let long = length-append tally.runs (o ∷ []) in let all = tally.all_runs in omega (arith, long, all));
+  each = each_snoc (IsOutcome p mode size) tally.runs o tally.each is;
+  counted = subst (λ orders. IsCountOf p orders after) (sym (map-append order_shown tally.runs (o ∷ []))) (counted_on p o.order (map order_shown tally.runs) before after tally.counted counted);
+  listed = λ e. listed_on p o.order before after counted limit (complete_of p mode size o is) (tally.listed e);
+  unlisted = λ e. unlisted_on p o.order before after counted limit (tally.unlisted e);
+  as_they_came = λ e. subst (λ orders. AreAsTheyCame p orders (standings_in after)) (sym (map-append order_shown tally.runs (o ∷ [])))
+      (came_on p o.order (map order_shown tally.runs) before after tally.counted counted (tally.as_they_came e));
+}

@@ -1,0 +1,5 @@
+//! Many runs of a program on threads, and how often each end came.
+
+mod repeats;
+
+pub use repeats::{run_times, run_times_with};

@@ -1,8 +1,0 @@
-use Rattle.std.proofs.Common.{inr, subst, sym}
-use Rattle.qs_said.specs.Told.{IsLimitsText}
-use Rattle.qs_said.proofs.limits.tell_limits.Goals as goal
-
--- a front of these lines was written
-pub returns-in-Ok-clause-told : goal.returns-in-Ok-clause-told
-returns-in-Ok-clause-told g c =
-    inr (c.as_slice.result.now, subst (IsLimitsText c.args.text.now) (sym c.as_slice.ensures.value) c.in-Ok.ensures.text, c.write_text.ensures.front)

@@ -1,7 +1,0 @@
--- The warnings of the requests before this block's are there.
-use Rattle.std.proofs.Common.{◌≡◌, ◌++◌, flat_map}
-use Rattle.qs_said.specs.Warnings.{below, request_warnings}
-use Rattle.qs_said.proofs.warned.finding.add_requests.Given as goal
-
-abbrev pub invariant-loop-block : goal.invariant-loop-block
-invariant-loop-block l = l.out.items ≡ l.initial.out.items ++ flat_map (request_warnings l.program l.client) (below l.block)

@@ -1,0 +1,3 @@
+//! The grammar of scripts: which tokens are a script's, what reading makes of them, and where no script goes on.
+
+pub mod laws;

@@ -1,6 +1,0 @@
-//! Questions to all that a program passes: a search over the configurations between whole blocks to which orders lead.
-#![tactic(auto)]
-
-mod search;
-
-pub use search::ask_throughout;

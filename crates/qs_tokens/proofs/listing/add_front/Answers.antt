@@ -1,9 +1,0 @@
-use Rattle.std.proofs.Common.{ap, ◌∙◌, refl, arith}
-use Rattle.qs_tokens.specs.Tokens.{after}
-use Rattle.qs_tokens.proofs.Lexemes.{front_comment, after-nil}
-use Rattle.qs_tokens.proofs.listing.add_front.Goals as goal
-
-pub returns-in-35-clause-exact : goal.returns-in-35-clause-exact
-returns-in-35-clause-exact c =
-    ap (after c.args.tokens.now.items)
-    (front_comment c.args.text.now _ c.run_end.result (omega arith) c.in-35.is c.run_end.ensures.run refl ∙ after-nil _)
