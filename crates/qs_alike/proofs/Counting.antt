@@ -11,7 +11,7 @@ use Rattle.std.specs.Cmp.Rules.{signed_items}
 use Rattle.std.proofs.lemmas.Bool.{cases_lt}
 use Rattle.indexmap.proofs.ReorderLemmas.{exchange-twice}
 use Rattle.qs_objects.proofs.Choices.{eqb_self, num_cases}
-use Rattle.qs_program.specs.Program.{ProgramShape}
+use Rattle.qs_program.specs.audit.Program.{ProgramShape}
 use Rattle.qs_meaning.specs.Configurations.{OrderOutcome}
 use Rattle.qs_meaning.proofs.Each.{each_join, each_map}
 use Rattle.qs_standings.specs.Lists.{HasOne, NoTwo}

@@ -8,9 +8,9 @@ use Rattle.std.proofs.lemmas.List.Edits.{length-swap}
 use Rattle.std.proofs.lemmas.Bool.{cases_lt, cases_order}
 use Rattle.indexmap.proofs.ReorderLemmas.{exchange-twice, get_or-swap}
 use Rattle.qs_objects.proofs.Choices.{eqb_apart, eqb_self, num_cases}
-use Rattle.qs_program.specs.Program.{ProgramShape}
-use Rattle.qs_meaning.specs.Configurations.{Configuration}
-use Rattle.qs_meaning.specs.Serial.{zeros}
+use Rattle.qs_program.specs.audit.Program.{ProgramShape}
+use Rattle.qs_meaning.specs.audit.Configurations.{Configuration}
+use Rattle.qs_meaning.specs.audit.Serial.{zeros}
 use Rattle.qs_standings.specs.Standings.{IsStanding, StandingShape, configuration_in, exchanged, flipped}
 use Rattle.qs_alike.specs.AlikeOutcomes.{Becomes}
 use Rattle.qs_alike.specs.Arranged.{IsArranged, IsArrangedBelow, compared, place_of}

@@ -3,9 +3,9 @@
 -- blocks before the last one led, and went on from there with the last one, so what this leads to became a standing
 -- whose row was seen. Both are arranged, so that they are the same.
 use Rattle.std.proofs.Common.{◌≡◌, ℕ, List, [], ◌∷◌, true, length, sym, ap, ◌∙◌, subst}
-use Rattle.qs_program.specs.Program.{ProgramShape}
+use Rattle.qs_program.specs.audit.Program.{ProgramShape}
 use Rattle.qs_program.specs.Sound.{IsSound}
-use Rattle.qs_meaning.specs.Configurations.{Configuration, first_configuration, one_block_on}
+use Rattle.qs_meaning.specs.audit.Configurations.{Configuration, first_configuration, one_block_on}
 use Rattle.qs_meaning.specs.Reduced.{goes_on}
 use Rattle.qs_standings.specs.Standings.{RowShape, StandingShape, configuration_in}
 use Rattle.qs_standings.proofs.Lists.{has_map}

@@ -3,10 +3,11 @@
 use Rattle.std.proofs.Common.{◌≡◌, ℕ, suc, ◌<◌, true, false, ◌==◌, List, [], ◌∷◌, length, slice_index_or, refl, sym, ap, ◌∙◌, subst, ⊎_elim}
 use Rattle.qs_objects.specs.declared.held.Ticket.{Ticket}
 use Rattle.qs_objects.proofs.Choices.{eqb_apart, eqb_self, num_cases}
-use Rattle.qs_program.specs.Program.{BlockShape, ProgramShape, blocks_of, client_at, no_block}
-use Rattle.qs_meaning.specs.Configurations.{Configuration, IsComplete, configuration_after, configuration_from, first_configuration, one_block_on, outcome_in, outcome_of}
-use Rattle.qs_meaning.specs.Serial.{IsLegal, LegalFrom}
-use Rattle.qs_meaning.specs.Solo.{put, solo}
+use Rattle.qs_program.specs.audit.Program.{BlockShape, ProgramShape, blocks_of, client_at, no_block}
+use Rattle.qs_meaning.specs.audit.Configurations.{Configuration, IsComplete, configuration_after, configuration_from, first_configuration, one_block_on}
+use Rattle.qs_meaning.specs.Configurations.{outcome_in, outcome_of}
+use Rattle.qs_meaning.specs.audit.Serial.{IsLegal, LegalFrom}
+use Rattle.qs_meaning.specs.audit.Solo.{put, solo}
 use Rattle.qs_meaning.proofs.Orders.{complete_orders_leave_none, configurations_follow_orders}
 use Rattle.qs_meaning.proofs.TreeWalks.{put_here, put_there}
 use Rattle.qs_alike.specs.Changes.{AreClasses, Change, ChangesKeepOrders, ChangesKeepOutcomes, Classes, IsChange, changed, changed_order, changed_outcome}

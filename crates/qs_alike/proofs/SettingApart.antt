@@ -2,7 +2,7 @@
 -- outside of the set, the clients of the set are alone, and the others are of one class exactly where they were.
 use Rattle.std.proofs.Common.{◌≡◌, ℕ, ◌<◌, ◌≤◌, arith, Bool, true, false, true≢false, length, refl, sym, ap, ◌∙◌, ⊎_elim}
 use Rattle.std.proofs.lemmas.Bool.{cases_lt, cases_order}
-use Rattle.qs_program.specs.Program.{ProgramShape}
+use Rattle.qs_program.specs.audit.Program.{ProgramShape}
 use Rattle.qs_alike.specs.Apart.{AreApartUpTo, AreSetApart}
 use Rattle.qs_alike.specs.Changes.{AreClasses, Classes}
 

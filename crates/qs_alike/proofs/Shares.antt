@@ -8,7 +8,7 @@ use Rattle.std.proofs.Math.Nat.{mul-div_cancel, mul-le-mul, pow-le-pow_right, po
 use Rattle.std.proofs.lemmas.Bool.{cases_lt}
 use Rattle.indexmap.proofs.ReorderLemmas.{exchange-twice}
 use Rattle.qs_standings.proofs.Pigeonhole.{at_most}
-use Rattle.qs_program.specs.Program.{ProgramShape}
+use Rattle.qs_program.specs.audit.Program.{ProgramShape}
 use Rattle.qs_meaning.specs.Configurations.{OrderOutcome}
 use Rattle.qs_meaning.proofs.Each.{each_map}
 use Rattle.qs_standings.specs.Lists.{HasOne}

@@ -1,8 +1,9 @@
 -- What the list of a program's outcomes says that has one of all changes of alike clients.
 use Rattle.std.specs.Prelude.{◌≡◌, ℕ, suc, List, [], ◌∷◌, true, length}
 use Rattle.std.specs.List.{AllByRecursion, AllZip, sum}
-use Rattle.qs_program.specs.Program.{ProgramShape}
-use Rattle.qs_meaning.specs.Configurations.{Configuration, IsComplete, IsProgramOutcome, OrderOutcome, first_configuration, one_block_on, outcome_of}
+use Rattle.qs_program.specs.audit.Program.{ProgramShape}
+use Rattle.qs_meaning.specs.audit.Configurations.{Configuration, IsComplete, first_configuration, one_block_on}
+use Rattle.qs_meaning.specs.Configurations.{IsProgramOutcome, OrderOutcome, outcome_of}
 use Rattle.qs_meaning.specs.Reduced.{goes_on}
 use Rattle.qs_standings.specs.Lists.{HasOne, NoTwo}
 use Rattle.qs_standings.specs.Standings.{IsStanding, StandingShape, configuration_in}

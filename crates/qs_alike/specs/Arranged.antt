@@ -4,7 +4,8 @@ use Rattle.std.specs.Ordering.{int_cmp}
 use Rattle.std.specs.declared.cmp.Ordering.{Ordering}
 use Rattle.std.specs.declared.cmp.Ordering.TheVariants.{Less}
 use Rattle.std.specs.Cmp.Lexicographic.{slice_cmp}
-use Rattle.qs_meaning.specs.Configurations.{Configuration, OrderOutcome}
+use Rattle.qs_meaning.specs.audit.Configurations.{Configuration}
+use Rattle.qs_meaning.specs.Configurations.{OrderOutcome}
 use Rattle.qs_alike.specs.Changes.{Change, Classes, IsChange, changed}
 
 -- what changes places with a client: how many blocks it has begun, and its variables

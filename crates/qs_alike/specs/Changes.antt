@@ -1,9 +1,10 @@
 -- Alike clients may change places: what they do there is what they did, by their new numbers.
 use Rattle.std.specs.Prelude.{◌≡◌, ◌<◌, ◌≤◌, ℕ, List, length, map}
 use Rattle.qs_objects.specs.declared.held.Ticket.{Ticket}
-use Rattle.qs_program.specs.Program.{ProgramShape, client_at}
-use Rattle.qs_meaning.specs.Configurations.{Configuration, IsComplete, IsProgramOutcome, OrderOutcome, configuration_after}
-use Rattle.qs_meaning.specs.Serial.{IsLegal}
+use Rattle.qs_program.specs.audit.Program.{ProgramShape, client_at}
+use Rattle.qs_meaning.specs.audit.Configurations.{Configuration, IsComplete, configuration_after}
+use Rattle.qs_meaning.specs.Configurations.{IsProgramOutcome, OrderOutcome}
+use Rattle.qs_meaning.specs.audit.Serial.{IsLegal}
 
 -- which clients are taken to be alike: those of one class
 abbrev pub Classes : Type 0

@@ -1,6 +1,6 @@
 -- The classes of a program's clients, as code has them.
 use Rattle.std.specs.Prelude.{◌≡◌, ◌<◌, ◌≤◌, ℕ, List, slice_index_or}
-use Rattle.qs_program.specs.Program.{ProgramShape}
+use Rattle.qs_program.specs.audit.Program.{ProgramShape}
 use Rattle.qs_alike.specs.Changes.{Classes, HaveSameText}
 
 -- the class of each client by a list; a number past its end is in a class of its own

@@ -5,10 +5,11 @@ use Rattle.qs_report.specs.declared.faults.Fault.TheVariants as fault
 use Rattle.qs_line.specs.declared.line.Format.{Format}
 use Rattle.qs_line.specs.declared.line.Format.TheVariants as format
 use Rattle.qs_line.specs.declared.line.ReportStyle.{ReportStyle}
-use Rattle.qs_line.specs.Line.{Line, Request, line_in}
-use Rattle.qs_line.specs.RunLines.{run_in, style_of}
+use Rattle.qs_line.specs.audit.Line.{Line, Request}
+use Rattle.qs_line.specs.Line.{line_in}
+use Rattle.qs_line.specs.audit.RunLines.{run_in, style_of}
 use Rattle.qs_serve.specs.Due.{IsDueOfLine, IsFormatOfLine, IsRefusedBy, due_status, due_text}
-use Rattle.qs_serve.specs.Headline.{IsReported}
+use Rattle.qs_serve.specs.audit.Headline.{IsReported}
 use Rattle.qs_serve.specs.declared.due.Due.{Due}
 
 -- the words of a text, one on each of its lines; an empty text has none

@@ -9,9 +9,10 @@ use Rattle.qs_script.specs.declared.tree.tree.Item.{Item}
 use Rattle.qs_script.specs.declared.tree.tree.Item.TheVariants.{Object, Client, Template, Started}
 use Rattle.qs_check.specs.declared.fault_places.fault.CheckFault.{CheckFault}
 use Rattle.qs_check.specs.declared.fault_places.fault.CheckFault.TheVariants as f
-use Rattle.qs_program.specs.Numbering.{Name, is_among}
-use Rattle.qs_program.specs.Limits.{most_objects}
-use Rattle.qs_check.specs.fault_places.Places.{Scope, TextPlace, ScopeOrFault, number, text, fault_of_text, formal_kinds, most_templates, unless_fault, with_template, scope_or_fault, then_at, over, without_variables, with_object, kind_of, kind_places, script_places, Fails}
+use Rattle.qs_program.specs.audit.Numbering.{Name, is_among}
+use Rattle.qs_program.specs.audit.Limits.{most_objects}
+use Rattle.qs_check.specs.audit.fault_places.Places.{Scope, TextPlace, ScopeOrFault, number, text, fault_of_text, formal_kinds, most_templates, unless_fault, with_template, scope_or_fault, then_at, with_object, kind_of, kind_places, script_places}
+use Rattle.qs_check.specs.fault_places.Places.{over, without_variables, Fails}
 use Rattle.qs_check.specs.resolution.Resolve.{variable_lists}
 use Rattle.qs_check.proofs.fault_places.Walks.{met-then, fails_first}
 

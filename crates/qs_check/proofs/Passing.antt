@@ -5,12 +5,12 @@ use Rattle.std.proofs.lemmas.Bool.Decides.{nat_tests}
 use Rattle.std.specs.Prelude.{MatchOption}
 use Rattle.std.proofs.lemmas.List.Sums.{sum_by_more_le}
 use Rattle.qs_check.specs.declared.fault_places.fault.CheckFault.TheVariants as f
-use Rattle.qs_program.specs.Limits.{most_requests, most_steps}
-use Rattle.qs_program.specs.Program.{BlockShape, ClientShape, ProgramShape, no_block, no_client, whole_load, whole_weight}
+use Rattle.qs_program.specs.audit.Limits.{most_requests, most_steps}
+use Rattle.qs_program.specs.audit.Program.{BlockShape, ClientShape, ProgramShape, no_block, no_client, whole_load, whole_weight}
 use Rattle.qs_check.specs.declared.excess.Measure.{Measure}
 use Rattle.qs_check.specs.declared.excess.Measure.TheVariants.{Load, Weight}
 use Rattle.qs_check.specs.declared.excess.Excess.{Excess}
-use Rattle.qs_check.specs.Checked.{excess_of}
+use Rattle.qs_check.specs.audit.Checked.{excess_of}
 use Rattle.qs_check.specs.Excess.{counted_by, counted_in, limit_by, fault_by, IsPassedBy, IsFirstExcess}
 use Rattle.qs_check.proofs.WellFormed.{no_fault_left}
 

@@ -4,7 +4,7 @@
 use Rattle.std.proofs.Common.{◌≡◌, ℕ, suc, ◌+◌, ◌<◌, ◌≤◌, Bool, true, false, ◌&&◌, nat_le, List, [], ◌∷◌, ◌++◌, length, IsSome, Some, None, refl, ap, sym, ◌∙◌, subst, arith, append_assoc, append-nil, length-append, Ok, if◌then◌else◌}
 use Rattle.std.proofs.lemmas.Bool.Decides.{nat_tests}
 use Rattle.std.specs.List.{AllByRecursion}
-use Rattle.qs_objects.specs.Objects.{starts}
+use Rattle.qs_objects.specs.audit.Objects.{starts}
 use Rattle.qs_script.specs.declared.tree.tree.KindText.{KindText}
 use Rattle.qs_script.specs.declared.tree.tree.KindText.TheVariants.{Account, Buffer, Grid}
 use Rattle.qs_script.specs.declared.tree.tree.ClientItem.{ClientItem}
@@ -15,12 +15,13 @@ use Rattle.qs_script.specs.declared.tree.tree.TemplateItem.{TemplateItem}
 use Rattle.qs_script.specs.declared.tree.tree.Item.{Item}
 use Rattle.qs_script.specs.declared.tree.tree.Item.TheVariants.{Object, Client, Template, Started}
 use Rattle.qs_program.specs.declared.program.Declared.{Declared}
-use Rattle.qs_program.specs.Limits.{most_clients, most_objects, most_variables}
-use Rattle.qs_program.specs.Kinds.{same_kind}
-use Rattle.qs_program.specs.Numbering.{Name, is_among, found_at}
-use Rattle.qs_check.specs.fault_places.Places.{Scope, object, number, client, template, text, starts as begins, given, scope_or_fault, formal_kinds, formals_at, fault_of_text, given_places, kind_in, most_templates, with_template, kind_of, kind_places, item_places, blocks_places, script_places, with_object, with_client}
-use Rattle.qs_check.specs.fault_places.Variables.{variables_of}
-use Rattle.qs_check.specs.resolution.Resolve.{AreFaultless, objects_of, names_of, kinds_of, variable_lists, templates_in}
+use Rattle.qs_program.specs.audit.Limits.{most_clients, most_objects, most_variables}
+use Rattle.qs_program.specs.audit.Kinds.{same_kind}
+use Rattle.qs_program.specs.audit.Numbering.{Name, is_among, found_at}
+use Rattle.qs_check.specs.audit.fault_places.Places.{Scope, object, number, client, template, text, starts as begins, given, scope_or_fault, formal_kinds, formals_at, fault_of_text, given_places, kind_in, most_templates, with_template, kind_of, kind_places, item_places, blocks_places, script_places, with_object, with_client}
+use Rattle.qs_check.specs.audit.fault_places.Variables.{variables_of}
+use Rattle.qs_check.specs.audit.resolution.Resolve.{objects_of, names_of, kinds_of, templates_in}
+use Rattle.qs_check.specs.resolution.Resolve.{AreFaultless, variable_lists}
 use Rattle.qs_check.specs.WellFormed.{client_names}
 use Rattle.qs_check.proofs.fault_places.Steps.{split, variables_met, ok_same}
 use Rattle.qs_check.proofs.fault_places.Inner.{parted}

@@ -12,15 +12,15 @@ use Rattle.qs_script.specs.declared.tree.tree.TemplateItem.{TemplateItem}
 use Rattle.qs_script.specs.declared.tree.tree.Item.{Item}
 use Rattle.qs_script.specs.declared.tree.tree.Item.TheVariants.{Object, Client, Template, Started}
 use Rattle.qs_program.specs.declared.program.Declared.{Declared}
-use Rattle.qs_program.specs.Binding.{bound_block}
-use Rattle.qs_program.specs.Kinds.{same_kind}
-use Rattle.qs_program.specs.Numbering.{Name, same_name, found_at}
-use Rattle.qs_program.specs.Program.{no_object}
+use Rattle.qs_program.specs.audit.Binding.{bound_block}
+use Rattle.qs_program.specs.audit.Kinds.{same_kind}
+use Rattle.qs_program.specs.audit.Numbering.{Name, same_name, found_at}
+use Rattle.qs_program.specs.audit.Program.{no_object}
 use Rattle.qs_program.specs.Sound.{IsSoundBlock, IsSoundClient}
 use Rattle.qs_program.proofs.Found.{found_within}
-use Rattle.qs_check.specs.fault_places.Places.{formal_kind, kind_of}
-use Rattle.qs_check.specs.fault_places.Variables.{variables_of}
-use Rattle.qs_check.specs.resolution.Resolve.{as_client, binding_of, block_shape, declared_formals, objects_of, own_client, started_of, template_called, templates_in}
+use Rattle.qs_check.specs.audit.fault_places.Places.{formal_kind, kind_of}
+use Rattle.qs_check.specs.audit.fault_places.Variables.{variables_of}
+use Rattle.qs_check.specs.audit.resolution.Resolve.{as_client, binding_of, block_shape, declared_formals, objects_of, own_client, started_of, template_called, templates_in}
 use Rattle.qs_check.specs.WellFormed.{AreGiven, AreItems, IsWellFormedTemplate}
 use Rattle.qs_check.proofs.binding.BoundTexts.{sound_bounds}
 use Rattle.qs_check.proofs.SoundStatements.{Known}

@@ -9,23 +9,25 @@ use Rattle.std.specs.List.{AllByRecursion}
 use Rattle.qs_objects.specs.declared.Op.{Op}
 use Rattle.qs_objects.specs.declared.object.Kind.{Kind}
 use Rattle.qs_objects.specs.declared.object.Kind.TheVariants.{Account}
-use Rattle.qs_objects.specs.Operations.{is_query, arity, fits, operations_of, word}
+use Rattle.qs_objects.specs.audit.Operations.{is_query, arity, operations_of, word}
+use Rattle.qs_objects.specs.Operations.{fits}
 use Rattle.qs_script.specs.declared.tree.tree.Atom as text
 use Rattle.qs_script.specs.declared.tree.tree.Atom.TheVariants.{Variable, Number}
 use Rattle.qs_script.specs.declared.tree.tree.Expr as text_expr
 use Rattle.qs_script.specs.declared.tree.tree.Expr.TheVariants.{Plain, Binary}
 use Rattle.qs_script.specs.declared.tree.tree.Test as text_test
 use Rattle.qs_script.specs.declared.tree.tree.Call as text_call
-use Rattle.qs_script.specs.tree.Tree as tree
+use Rattle.qs_script.specs.audit.tree.Tree as tree
 use Rattle.qs_program.specs.declared.program.Declared.{Declared}
-use Rattle.qs_program.specs.Numbering.{Name, same_name, is_among, found_at}
-use Rattle.qs_check.specs.fault_places.Operators.{called, is_meant, op_of, op_or_refused}
-use Rattle.qs_check.specs.fault_places.Places.{Scope, TextPlace, number, target, operation, arguments, variable, leaves, scope_or_fault, places, atoms_places, expr_places, test_places, call_places, op_at, is_known, takes}
-use Rattle.qs_program.specs.Program.{no_object}
-use Rattle.qs_check.specs.resolution.Resolve.{atom_of, expr_of, test_of, call_of, body_of}
-use Rattle.qs_program.specs.Sound.{IsSoundAtom, IsSoundExpr, IsSoundTest, IsSoundCall, IsSoundBody, is_in}
+use Rattle.qs_program.specs.audit.Numbering.{Name, same_name, is_among, found_at}
+use Rattle.qs_check.specs.audit.fault_places.Operators.{called, is_meant, op_of, op_or_refused}
+use Rattle.qs_check.specs.audit.fault_places.Places.{Scope, TextPlace, number, target, operation, arguments, variable, leaves, scope_or_fault, places, atoms_places, expr_places, test_places, call_places, op_at, is_known, takes}
+use Rattle.qs_program.specs.audit.Program.{no_object}
+use Rattle.qs_check.specs.audit.resolution.Resolve.{atom_of, expr_of, test_of, call_of, body_of}
+use Rattle.qs_program.specs.audit.Sound.{is_in}
+use Rattle.qs_program.specs.Sound.{IsSoundAtom, IsSoundExpr, IsSoundTest, IsSoundCall, IsSoundBody}
 use Rattle.qs_program.proofs.Found.{found_small}
-use Rattle.qs_program.specs.Limits.{most_variables}
+use Rattle.qs_program.specs.audit.Limits.{most_variables}
 use Rattle.qs_check.proofs.fault_places.Inner.{Inner, kept, parted, inner_body, inner_call, inner_expr, inner_test}
 use Rattle.qs_check.proofs.resolution.Scopes.{kinds, names}
 use Rattle.qs_check.proofs.fault_places.Steps.{split}

@@ -14,18 +14,19 @@ use Rattle.qs_script.specs.declared.tree.tree.Expr as text_expr
 use Rattle.qs_script.specs.declared.tree.tree.Expr.TheVariants.{Plain, Binary}
 use Rattle.qs_script.specs.declared.tree.tree.Item.{Item}
 use Rattle.qs_script.specs.declared.tree.tree.Item.TheVariants.{Object, Client, Template, Started}
-use Rattle.qs_script.specs.tree.Tree as tree
+use Rattle.qs_script.specs.audit.tree.Tree as tree
 use Rattle.qs_program.specs.declared.program.Declared.{Declared}
-use Rattle.qs_check.specs.Checked.{first_fault, text_fault, fault_of, excess_of}
-use Rattle.qs_program.specs.Numbering.{Name, same_name, is_among, found_at}
-use Rattle.qs_check.specs.fault_places.Places.{Scope, ScopeOrFault, scope_or_fault, start, script_places}
-use Rattle.qs_program.specs.Program.{ClientShape, ProgramShape, whole_load, whole_weight}
-use Rattle.qs_check.specs.fault_places.Variables.{variables_of}
-use Rattle.qs_check.specs.resolution.Resolve.{as_client, atom_of, binding_of, expr_of, body_of, block_shape, clients_of, declared_formals, names_of, kinds_of, objects_of, own_client, started_of, template_called, templates_in, program_of_items}
+use Rattle.qs_check.specs.audit.Checked.{first_fault, fault_of, excess_of}
+use Rattle.qs_check.specs.Checked.{text_fault}
+use Rattle.qs_program.specs.audit.Numbering.{Name, same_name, is_among, found_at}
+use Rattle.qs_check.specs.audit.fault_places.Places.{Scope, ScopeOrFault, scope_or_fault, start, script_places}
+use Rattle.qs_program.specs.audit.Program.{ClientShape, ProgramShape, whole_load, whole_weight}
+use Rattle.qs_check.specs.audit.fault_places.Variables.{variables_of}
+use Rattle.qs_check.specs.audit.resolution.Resolve.{as_client, atom_of, binding_of, expr_of, body_of, block_shape, clients_of, declared_formals, names_of, kinds_of, objects_of, own_client, started_of, template_called, templates_in, program_of_items}
 use Rattle.qs_program.specs.Sound.{IsAtomBelow, IsExprBelow, AreVariablesBelow, AreLeavesInside, IsFormedBlock, IsFormedClient, AreNamesApart, IsFormedProgram, IsSound}
 use Rattle.qs_check.specs.WellFormed.{atom_names, atoms_names, expr_names, test_names, variables_in, variables_in_all, AreStatements, AreItems, IsWellFormedBlock, IsWellFormedTemplate, client_names, IsWellFormed}
 use Rattle.qs_program.proofs.Found.{found_within, or_true, same_name-refl}
-use Rattle.qs_program.specs.Limits.{most_requests, most_steps}
+use Rattle.qs_program.specs.audit.Limits.{most_requests, most_steps}
 use Rattle.qs_check.proofs.resolution.Resolving.{levels_same}
 use Rattle.qs_check.proofs.binding.BoundTexts.{formed_bounds}
 use Rattle.qs_check.proofs.Soundness.{sound}

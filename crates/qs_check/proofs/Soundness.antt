@@ -14,15 +14,18 @@ use Rattle.qs_script.specs.declared.tree.tree.TemplateItem.{TemplateItem}
 use Rattle.qs_script.specs.declared.tree.tree.Item.{Item}
 use Rattle.qs_script.specs.declared.tree.tree.Item.TheVariants.{Object, Client, Template, Started}
 use Rattle.qs_program.specs.declared.program.Declared.{Declared}
-use Rattle.qs_program.specs.Numbering.{Name, same_name, is_among, found_at}
-use Rattle.qs_check.specs.fault_places.Places.{Scope, ScopeOrFault, separate, listed, scope_or_fault, places, listed_places, block_places, blocks_places, item_places, script_places, start, scope_of_block, with_listed, with_client, kind_of, over, without_variables}
-use Rattle.qs_program.specs.Program.{whole_load, whole_weight}
-use Rattle.qs_check.specs.fault_places.Variables.{variables_of}
-use Rattle.qs_check.specs.resolution.Resolve.{block_shape, client_shape, clients_of, objects_of, names_of, kinds_of, variable_lists, started_of, template_called, templates_in, program_of_items}
+use Rattle.qs_program.specs.audit.Numbering.{Name, same_name, is_among, found_at}
+use Rattle.qs_check.specs.audit.fault_places.Places.{Scope, ScopeOrFault, separate, listed, scope_or_fault, places, listed_places, block_places, blocks_places, item_places, script_places, start, scope_of_block, with_listed, with_client, kind_of}
+use Rattle.qs_check.specs.fault_places.Places.{over, without_variables}
+use Rattle.qs_program.specs.audit.Program.{whole_load, whole_weight}
+use Rattle.qs_check.specs.audit.fault_places.Variables.{variables_of}
+use Rattle.qs_check.specs.audit.resolution.Resolve.{block_shape, client_shape, clients_of, objects_of, names_of, kinds_of, started_of, template_called, templates_in, program_of_items}
+use Rattle.qs_check.specs.resolution.Resolve.{variable_lists}
 use Rattle.qs_check.specs.WellFormed.{client_names}
-use Rattle.qs_program.specs.Sound.{IsSoundBlock, IsSoundClient, IsFormedProgram, IsSound, is_in}
+use Rattle.qs_program.specs.audit.Sound.{is_in}
+use Rattle.qs_program.specs.Sound.{IsSoundBlock, IsSoundClient, IsFormedProgram, IsSound}
 use Rattle.qs_program.proofs.Found.{apart, same, false_not_true, or_true, is_among-append, is_among-last, found_within, found_append, found_apart}
-use Rattle.qs_program.specs.Limits.{most_objects, most_requests, most_steps, most_variables}
+use Rattle.qs_program.specs.audit.Limits.{most_objects, most_requests, most_steps, most_variables}
 use Rattle.qs_check.proofs.fault_places.Inner.{parted}
 use Rattle.qs_check.proofs.fault_places.ScopesInBlocks.{block_stays, blocks_stay}
 use Rattle.qs_check.proofs.Scripts.{object_stays, client_stays, few_variables, scripted, started_stays, template_stays}

@@ -11,12 +11,12 @@ use Rattle.qs_script.specs.declared.tree.tree.Formal.{Formal}
 use Rattle.qs_script.specs.declared.tree.tree.StartedItem.{StartedItem}
 use Rattle.qs_script.specs.declared.tree.tree.TemplateItem.{TemplateItem}
 use Rattle.qs_program.specs.declared.program.Declared.{Declared}
-use Rattle.qs_program.specs.Kinds.{same_kind}
-use Rattle.qs_program.specs.Numbering.{Name, same_name, is_among, found_at}
+use Rattle.qs_program.specs.audit.Kinds.{same_kind}
+use Rattle.qs_program.specs.audit.Numbering.{Name, same_name, is_among, found_at}
 use Rattle.qs_program.proofs.Found.{found_is, found_within, name_at}
 use Rattle.qs_check.specs.declared.fault_places.fault.CheckFault.TheVariants as f
-use Rattle.qs_check.specs.fault_places.Places.{Scope, TextPlace, scope_or_fault, given, starts, formal_kind, formal_kinds, formals_at, given_places, is_given, kind_in}
-use Rattle.qs_check.specs.resolution.Resolve.{template_called}
+use Rattle.qs_check.specs.audit.fault_places.Places.{Scope, TextPlace, scope_or_fault, given, starts, formal_kind, formal_kinds, formals_at, given_places, is_given, kind_in}
+use Rattle.qs_check.specs.audit.resolution.Resolve.{template_called}
 use Rattle.qs_check.specs.WellFormed.{AreGiven, IsGiven, IsWellFormedStart}
 use Rattle.qs_check.proofs.fault_places.FinePlaces.{then_step, leads}
 use Rattle.qs_check.proofs.Scripts.{AllMatch}

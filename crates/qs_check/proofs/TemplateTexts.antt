@@ -9,12 +9,13 @@ use Rattle.qs_script.specs.declared.tree.tree.Block.{Block}
 use Rattle.qs_script.specs.declared.tree.tree.Formal.{Formal}
 use Rattle.qs_script.specs.declared.tree.tree.TemplateItem.{TemplateItem}
 use Rattle.qs_program.specs.declared.program.Declared.{Declared}
-use Rattle.qs_program.specs.Limits.{most_formals, most_objects, most_variables}
-use Rattle.qs_program.specs.Numbering.{Name, same_name, is_among}
+use Rattle.qs_program.specs.audit.Limits.{most_objects, most_variables}
+use Rattle.qs_program.specs.Limits.{most_formals}
+use Rattle.qs_program.specs.audit.Numbering.{Name, same_name, is_among}
 use Rattle.qs_check.specs.declared.fault_places.fault.CheckFault.TheVariants as f
-use Rattle.qs_check.specs.fault_places.Places.{Scope, ScopeOrFault, object, scope_or_fault, start, fault_in, fault_of_text, formal_kind, formal_kinds, formals_places, blocks_places, text_places, with_object, with_template}
-use Rattle.qs_check.specs.fault_places.Variables.{variables_of}
-use Rattle.qs_check.specs.resolution.Resolve.{as_client, declared_formals}
+use Rattle.qs_check.specs.audit.fault_places.Places.{Scope, ScopeOrFault, object, scope_or_fault, start, fault_in, fault_of_text, formal_kind, formal_kinds, formals_places, blocks_places, text_places, with_object, with_template}
+use Rattle.qs_check.specs.audit.fault_places.Variables.{variables_of}
+use Rattle.qs_check.specs.audit.resolution.Resolve.{as_client, declared_formals}
 use Rattle.qs_check.specs.WellFormed.{IsDeclared, IsWellFormedBlock, IsWellFormedTemplate}
 use Rattle.qs_check.proofs.fault_places.FinePlaces.{then_step, else_step, below, again, leads}
 use Rattle.qs_check.proofs.fault_places.Inner.{parted}

@@ -6,10 +6,10 @@ use Rattle.qs_script.specs.declared.tree.tree.Block.{Block}
 use Rattle.qs_script.specs.declared.tree.tree.TemplateItem.{TemplateItem}
 use Rattle.qs_check.specs.declared.fault_places.fault.CheckFault.TheVariants as f
 use Rattle.qs_program.specs.declared.program.Declared.{Declared}
-use Rattle.qs_program.specs.Numbering.{Name, same_name, is_among, with_name}
-use Rattle.qs_program.specs.Limits.{most_blocks, most_variables}
-use Rattle.qs_check.specs.fault_places.Places.{Scope, listed, separate, scope_or_fault, places, listed_places, block_places, blocks_places, with_listed}
-use Rattle.qs_check.specs.fault_places.Variables.{variables_at}
+use Rattle.qs_program.specs.audit.Numbering.{Name, same_name, is_among, with_name}
+use Rattle.qs_program.specs.audit.Limits.{most_blocks, most_variables}
+use Rattle.qs_check.specs.audit.fault_places.Places.{Scope, listed, separate, scope_or_fault, places, listed_places, block_places, blocks_places, with_listed}
+use Rattle.qs_check.specs.audit.fault_places.Variables.{variables_at}
 use Rattle.qs_check.specs.WellFormed.{AreStatements, variables_in_all}
 use Rattle.qs_check.proofs.fault_places.FinePlaces.{then_step, else_step, below, again, leads, named_more, are_fine, fine_met}
 use Rattle.qs_check.proofs.fault_places.Inner.{parted, inner_body, kept}

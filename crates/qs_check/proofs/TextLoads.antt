@@ -6,12 +6,12 @@ use Rattle.std.specs.Cmp.Lexicographic.{same_text}
 use Rattle.std.specs.List.{AllByRecursion, Contains}
 use Rattle.qs_objects.specs.declared.object.Kind.{Kind}
 use Rattle.qs_script.specs.declared.tree.tree.Block.{Block}
-use Rattle.qs_script.specs.tree.Tree as tree
+use Rattle.qs_script.specs.audit.tree.Tree as tree
 use Rattle.qs_program.specs.declared.program.Declared.{Declared}
-use Rattle.qs_program.specs.Loads.{load_of, weight_of}
-use Rattle.qs_program.specs.Numbering.{Name, same_name, is_among, found_at}
-use Rattle.qs_program.specs.Program.{BlockShape, block_load}
-use Rattle.qs_check.specs.resolution.Resolve.{body_of, block_shape}
+use Rattle.qs_program.specs.audit.Loads.{load_of, weight_of}
+use Rattle.qs_program.specs.audit.Numbering.{Name, same_name, is_among, found_at}
+use Rattle.qs_program.specs.audit.Program.{BlockShape, block_load}
+use Rattle.qs_check.specs.audit.resolution.Resolve.{body_of, block_shape}
 use Rattle.qs_check.specs.TextLoads.{requests_on, steps_in, text_block_load}
 use Rattle.qs_check.specs.WellFormed.{AreStatements}
 use Rattle.qs_program.proofs.Found.{apart, same, found_apart, is_among-append, false_not_true, same_name-refl}

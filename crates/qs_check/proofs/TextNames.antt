@@ -17,10 +17,10 @@ use Rattle.qs_script.specs.declared.tree.tree.Test.{Test}
 use Rattle.qs_script.specs.declared.tree.tree.Call.{Call}
 use Rattle.qs_script.specs.declared.tree.tree.Block.{Block}
 use Rattle.qs_script.specs.declared.tree.tree.ClientItem.{ClientItem}
-use Rattle.qs_script.specs.tree.Tree as tree
-use Rattle.qs_program.specs.Numbering.{Name, same_name, is_among, with_name}
-use Rattle.qs_check.specs.fault_places.Places.{TextPlace, object, number, client, separate, listed, target, operation, arguments, variable, leaves, template, text, starts, given, places, atom_places, atoms_places, expr_places, test_places, call_places, listed_places, block_places, blocks_places}
-use Rattle.qs_check.specs.fault_places.Variables.{variables_at, variables_of}
+use Rattle.qs_script.specs.audit.tree.Tree as tree
+use Rattle.qs_program.specs.audit.Numbering.{Name, same_name, is_among, with_name}
+use Rattle.qs_check.specs.audit.fault_places.Places.{TextPlace, object, number, client, separate, listed, target, operation, arguments, variable, leaves, template, text, starts, given, places, atom_places, atoms_places, expr_places, test_places, call_places, listed_places, block_places, blocks_places}
+use Rattle.qs_check.specs.audit.fault_places.Variables.{variables_at, variables_of}
 use Rattle.qs_check.specs.WellFormed.{atom_names, atoms_names, expr_names, test_names, variables_in, variables_in_all}
 use Rattle.qs_check.proofs.resolution.FreshNames.{or_false, or_false_first, or_false_later}
 

@@ -12,7 +12,7 @@ use Rattle.std.specs.Cmp.Lexicographic.{same_text}
 use Rattle.std.specs.List.{AllByRecursion, IsDistinct, position_or_len}
 use Rattle.qs_objects.specs.declared.Op.{Op}
 use Rattle.qs_objects.specs.declared.object.Kind.TheVariants.{Account}
-use Rattle.qs_objects.specs.Operations.{arity}
+use Rattle.qs_objects.specs.audit.Operations.{arity}
 use Rattle.qs_objects.proofs.Elements.{AllByRecursion-get_or}
 use Rattle.qs_script.specs.declared.tree.tree.Atom.{Atom}
 use Rattle.qs_script.specs.declared.tree.tree.Atom.TheVariants.{Variable, Number}
@@ -20,11 +20,11 @@ use Rattle.qs_script.specs.declared.tree.tree.Expr.{Expr}
 use Rattle.qs_script.specs.declared.tree.tree.Expr.TheVariants.{Plain, Binary}
 use Rattle.qs_script.specs.declared.tree.tree.Test.{Test}
 use Rattle.qs_script.specs.declared.tree.tree.Call.{Call}
-use Rattle.qs_script.specs.tree.Tree as tree
+use Rattle.qs_script.specs.audit.tree.Tree as tree
 use Rattle.qs_program.specs.declared.program.Declared.{Declared}
-use Rattle.qs_program.specs.Numbering.{Name, same_name, is_among, found_at}
-use Rattle.qs_check.specs.fault_places.Operators.{op_of}
-use Rattle.qs_check.specs.fault_places.Places.{TextPlace, places, atom_places, atoms_places, expr_places, test_places, request_places, call_places, op_at, is_known, takes}
+use Rattle.qs_program.specs.audit.Numbering.{Name, same_name, is_among, found_at}
+use Rattle.qs_check.specs.audit.fault_places.Operators.{op_of}
+use Rattle.qs_check.specs.audit.fault_places.Places.{TextPlace, places, atom_places, atoms_places, expr_places, test_places, request_places, call_places, op_at, is_known, takes}
 use Rattle.qs_check.specs.WellFormed.{IsRequest, AreStatements}
 use Rattle.qs_program.proofs.Found.{name_at, found_is, found_within, or_true, same_name-refl}
 use Rattle.qs_check.proofs.fault_places.FinePlaces.{IsFine}

@@ -8,7 +8,7 @@ use Rattle.std.proofs.lemmas.List.{length-map}
 use Rattle.std.proofs.lemmas.List.Sums.{sum_by-cons}
 use Rattle.std.specs.List.{AllByRecursion, IsDistinct}
 use Rattle.qs_objects.specs.declared.object.Kind.{Kind}
-use Rattle.qs_objects.specs.Limits.{most_lines}
+use Rattle.qs_objects.specs.audit.Limits.{most_lines}
 use Rattle.qs_script.specs.tree.Form.{IsFormed, HasForm}
 use Rattle.qs_script.specs.declared.tree.tree.Block.{Block}
 use Rattle.qs_script.specs.declared.tree.tree.Item.{Item}
@@ -20,14 +20,15 @@ use Rattle.qs_script.specs.declared.tree.tree.TemplateItem.{TemplateItem}
 use Rattle.qs_check.specs.declared.fault_places.fault.CheckFault.{CheckFault}
 use Rattle.qs_check.specs.declared.fault_places.fault.CheckFault.TheVariants as f
 use Rattle.qs_program.specs.declared.program.Declared.{Declared}
-use Rattle.qs_check.specs.Checked.{excess_of, first_fault, fault_of, IsCheckOf}
-use Rattle.qs_program.specs.Loads.{weight_of}
-use Rattle.qs_program.specs.Numbering.{Name, same_name, is_among}
-use Rattle.qs_check.specs.fault_places.Places.{Scope, ScopeOrFault, number, object, client, template, text, starts, scope_or_fault, start, formal_kinds, fault_of_text, given_places, most_templates, unless_fault, with_template, kind_of, kind_places, item_places, blocks_places, script_places, with_object}
-use Rattle.qs_program.specs.Program.{BlockShape, ClientShape, ProgramShape, block_load, whole_load, whole_weight}
-use Rattle.qs_program.specs.Limits.{most_clients, most_objects, most_requests, most_steps, most_variables}
-use Rattle.qs_check.specs.fault_places.Variables.{variables_of}
-use Rattle.qs_check.specs.resolution.Resolve.{objects_of, names_of, kinds_of, clients_of, client_shape, declared_formals, started_of, template_called, templates_in, program_of_items}
+use Rattle.qs_check.specs.audit.Checked.{excess_of, first_fault, fault_of}
+use Rattle.qs_check.specs.Checked.{IsCheckOf}
+use Rattle.qs_program.specs.audit.Loads.{weight_of}
+use Rattle.qs_program.specs.audit.Numbering.{Name, same_name, is_among}
+use Rattle.qs_check.specs.audit.fault_places.Places.{Scope, ScopeOrFault, number, object, client, template, text, starts, scope_or_fault, start, formal_kinds, fault_of_text, given_places, most_templates, unless_fault, with_template, kind_of, kind_places, item_places, blocks_places, script_places, with_object}
+use Rattle.qs_program.specs.audit.Program.{BlockShape, ClientShape, ProgramShape, block_load, whole_load, whole_weight}
+use Rattle.qs_program.specs.audit.Limits.{most_clients, most_objects, most_requests, most_steps, most_variables}
+use Rattle.qs_check.specs.audit.fault_places.Variables.{variables_of}
+use Rattle.qs_check.specs.audit.resolution.Resolve.{objects_of, names_of, kinds_of, clients_of, client_shape, declared_formals, started_of, template_called, templates_in, program_of_items}
 use Rattle.qs_check.specs.TextLoads.{text_load, text_weight}
 use Rattle.qs_check.specs.WellFormed.{IsKindInRange, IsWellFormedBlock, IsWellFormedClient, AreItems, client_names, IsWellFormed, FaultlessAreWellFormed, AcceptsWellFormed}
 use Rattle.qs_check.proofs.fault_places.FinePlaces.{then_step, else_step, between, below, again, leads}

@@ -1,6 +1,6 @@
 -- Scripts with their faults, computed by the definitions.
 use Rattle.std.specs.Prelude.{◌≡◌, ℕ, zero, suc, List, [], ◌∷◌, Some, None, codes, pos}
-use Rattle.qs_script.specs.tree.Tree.{Stmts, end, command, query, assign, choose_else, again, leave}
+use Rattle.qs_script.specs.audit.tree.Tree.{Stmts, end, command, query, assign, choose_else, again, leave}
 use Rattle.qs_script.specs.declared.tree.tree.Atom.TheVariants.{Variable, Number}
 use Rattle.qs_script.specs.declared.tree.tree.Expr.TheVariants.{Plain}
 use Rattle.qs_script.specs.declared.tree.tree.Relation.TheVariants.{Less}
@@ -13,10 +13,10 @@ use Rattle.qs_script.specs.declared.tree.tree.Formal.{Formal}
 use Rattle.qs_script.specs.declared.tree.tree.Item.{Item}
 use Rattle.qs_script.specs.declared.tree.tree.Item.TheVariants.{Object, Client, Template, Started}
 use Rattle.qs_check.specs.declared.fault_places.fault.CheckFault.TheVariants as f
-use Rattle.qs_program.specs.Numbering.{Name}
-use Rattle.qs_program.specs.Program.{whole_load, whole_weight}
-use Rattle.qs_check.specs.resolution.Resolve.{program_of_items}
-use Rattle.qs_check.specs.Checked.{fault_of}
+use Rattle.qs_program.specs.audit.Numbering.{Name}
+use Rattle.qs_program.specs.audit.Program.{whole_load, whole_weight}
+use Rattle.qs_check.specs.audit.resolution.Resolve.{program_of_items}
+use Rattle.qs_check.specs.audit.Checked.{fault_of}
 
 abbrev pub a : Name
 a = codes "a"

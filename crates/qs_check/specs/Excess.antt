@@ -3,14 +3,15 @@ use Rattle.std.specs.Prelude.{◌≡◌, ◌<◌, ◌≤◌, ◌+◌, ℕ, min, 
 use Rattle.qs_script.specs.declared.tree.tree.Item.{Item}
 use Rattle.qs_check.specs.declared.fault_places.fault.CheckFault.{CheckFault}
 use Rattle.qs_check.specs.declared.fault_places.fault.CheckFault.TheVariants as f
-use Rattle.qs_program.specs.Limits.{most_requests, most_steps}
-use Rattle.qs_program.specs.Loads.{weight_of}
-use Rattle.qs_program.specs.Program.{BlockShape, ClientShape, ProgramShape, block_load, no_block, no_client}
+use Rattle.qs_program.specs.audit.Limits.{most_requests, most_steps}
+use Rattle.qs_program.specs.audit.Loads.{weight_of}
+use Rattle.qs_program.specs.audit.Program.{BlockShape, ClientShape, ProgramShape, block_load, no_block, no_client}
 use Rattle.qs_check.specs.declared.excess.Measure.{Measure}
 use Rattle.qs_check.specs.declared.excess.Measure.TheVariants.{Load, Weight}
 use Rattle.qs_check.specs.declared.excess.Excess.{Excess}
-use Rattle.qs_check.specs.Checked.{excess_of, text_fault}
-use Rattle.qs_check.specs.resolution.Resolve.{program_of_items}
+use Rattle.qs_check.specs.audit.Checked.{excess_of}
+use Rattle.qs_check.specs.Checked.{text_fault}
+use Rattle.qs_check.specs.audit.resolution.Resolve.{program_of_items}
 
 -- what is counted of a block
 abbrev pub counted_by : Measure → BlockShape → ℕ

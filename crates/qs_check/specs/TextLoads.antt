@@ -4,11 +4,11 @@ use Rattle.qs_script.specs.declared.tree.tree.Block.{Block}
 use Rattle.qs_script.specs.declared.tree.tree.TemplateItem.{TemplateItem}
 use Rattle.qs_script.specs.declared.tree.tree.Item.{Item}
 use Rattle.qs_script.specs.declared.tree.tree.Item.TheVariants.{Object, Client, Template, Started}
-use Rattle.qs_script.specs.tree.Tree.{Stmts, end, command, query, assign, choose, choose_else, again, leave}
-use Rattle.qs_program.specs.Loads.{weight_of}
-use Rattle.qs_program.specs.Numbering.{Name, same_name}
-use Rattle.qs_program.specs.Program.{block_load}
-use Rattle.qs_check.specs.resolution.Resolve.{started_of, template_called}
+use Rattle.qs_script.specs.audit.tree.Tree.{Stmts, end, command, query, assign, choose, choose_else, again, leave}
+use Rattle.qs_program.specs.audit.Loads.{weight_of}
+use Rattle.qs_program.specs.audit.Numbering.{Name, same_name}
+use Rattle.qs_program.specs.audit.Program.{block_load}
+use Rattle.qs_check.specs.audit.resolution.Resolve.{started_of, template_called}
 
 -- the most requests on an object
 abbrev pub requests_on : Name → Stmts → ℕ

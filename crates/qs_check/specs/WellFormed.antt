@@ -4,7 +4,7 @@ use Rattle.std.specs.List.{AllByRecursion, Contains, IsDistinct}
 use Rattle.std.specs.Set.{distinct_count}
 use Rattle.qs_objects.specs.declared.Op.{Op}
 use Rattle.qs_objects.specs.declared.object.Kind.{Kind}
-use Rattle.qs_objects.specs.Operations.{arity}
+use Rattle.qs_objects.specs.audit.Operations.{arity}
 use Rattle.qs_script.specs.declared.tree.tree.Atom.{Atom}
 use Rattle.qs_script.specs.declared.tree.tree.Atom.TheVariants.{Variable, Number}
 use Rattle.qs_script.specs.declared.tree.tree.Expr.{Expr}
@@ -20,22 +20,23 @@ use Rattle.qs_script.specs.declared.tree.tree.StartedItem.{StartedItem}
 use Rattle.qs_script.specs.declared.tree.tree.TemplateItem.{TemplateItem}
 use Rattle.qs_script.specs.declared.tree.tree.Item.{Item}
 use Rattle.qs_script.specs.declared.tree.tree.Item.TheVariants.{Object, Client, Template, Started}
-use Rattle.qs_script.specs.tree.Tree.{Stmts, end, command, query, assign, choose, choose_else, again, leave}
+use Rattle.qs_script.specs.audit.tree.Tree.{Stmts, end, command, query, assign, choose, choose_else, again, leave}
 use Rattle.qs_script.specs.tree.Form.{levels_of, HasForm}
-use Rattle.qs_objects.specs.Limits.{greatest_balance, most_lines, most_values}
-use Rattle.qs_script.specs.tree.Limits.{most_levels}
-use Rattle.qs_program.specs.Limits.{most_blocks, most_clients, most_formals, most_objects, most_requests, most_steps, most_turns, most_variables}
+use Rattle.qs_objects.specs.audit.Limits.{greatest_balance, most_lines, most_values}
+use Rattle.qs_script.specs.audit.tree.Limits.{most_levels}
+use Rattle.qs_program.specs.audit.Limits.{most_blocks, most_clients, most_objects, most_requests, most_steps, most_turns, most_variables}
+use Rattle.qs_program.specs.Limits.{most_formals}
 use Rattle.qs_check.specs.declared.fault_places.fault.CheckFault.{CheckFault}
 use Rattle.qs_check.specs.declared.fault_places.fault.CheckFault.TheVariants as f
 use Rattle.qs_program.specs.declared.program.Declared.{Declared}
-use Rattle.qs_program.specs.Kinds.{same_kind}
-use Rattle.qs_program.specs.Numbering.{Name, same_name}
-use Rattle.qs_check.specs.fault_places.Operators.{op_of}
-use Rattle.qs_check.specs.fault_places.Places.{formal_kind, kind_of, most_templates}
-use Rattle.qs_program.specs.Program.{ProgramShape}
-use Rattle.qs_check.specs.resolution.Resolve.{as_client, declared_formals, names_of, objects_of, template_called, templates_in}
+use Rattle.qs_program.specs.audit.Kinds.{same_kind}
+use Rattle.qs_program.specs.audit.Numbering.{Name, same_name}
+use Rattle.qs_check.specs.audit.fault_places.Operators.{op_of}
+use Rattle.qs_check.specs.audit.fault_places.Places.{formal_kind, kind_of, most_templates}
+use Rattle.qs_program.specs.audit.Program.{ProgramShape}
+use Rattle.qs_check.specs.audit.resolution.Resolve.{as_client, declared_formals, names_of, objects_of, template_called, templates_in}
 use Rattle.qs_check.specs.TextLoads.{text_load, text_weight}
-use Rattle.qs_check.specs.Checked.{fault_of}
+use Rattle.qs_check.specs.audit.Checked.{fault_of}
 
 abbrev pub IsBetween : (low high : ℕ) → ℕ → Type 0
 IsBetween low high n = (low ≤ n) × (n ≤ high)

@@ -3,11 +3,14 @@
 ghost use Rattle.std.specs.List.{AllByRecursion};
 ghost use Rattle.std.specs.Prelude.{◌≡◌, ◌≢◌, ◌≤◌, [], ◌∷◌, ◌++◌, length, IfOk, OnOk, MatchResult};
 ghost use Rattle.qs_script.specs.tree.Form.{HasForm};
-ghost use Rattle.qs_program.specs.Limits.{most_objects, most_requests, most_steps, most_variables};
-ghost use Rattle.qs_check.specs.Checked.{IsCheckOf, text_fault, excess_of, shape_of};
-ghost use Rattle.qs_check.specs.fault_places.Places.{Meets, scope_or_fault, over, start, without_variables, script_places};
-ghost use Rattle.qs_check.specs.resolution.Resolve.{AreFaultless, program_of_items as resolved_of, clients_of, variable_lists, objects_of, templates_in};
-ghost use Rattle.qs_program.specs.Program.{whole_load, whole_weight};
+ghost use Rattle.qs_program.specs.audit.Limits.{most_objects, most_requests, most_steps, most_variables};
+ghost use Rattle.qs_check.specs.audit.Checked.{excess_of};
+ghost use Rattle.qs_check.specs.Checked.{IsCheckOf, text_fault, shape_of};
+ghost use Rattle.qs_check.specs.audit.fault_places.Places.{scope_or_fault, start, script_places};
+ghost use Rattle.qs_check.specs.fault_places.Places.{Meets, over, without_variables};
+ghost use Rattle.qs_check.specs.audit.resolution.Resolve.{program_of_items as resolved_of, clients_of, objects_of, templates_in};
+ghost use Rattle.qs_check.specs.resolution.Resolve.{AreFaultless, variable_lists};
+ghost use Rattle.qs_program.specs.audit.Program.{whole_load, whole_weight};
 ghost use Rattle.qs_program.specs.Sound.{IsSound};
 ghost use Rattle.qs_check.specs.WellFormed.{AcceptsWellFormed};
 

@@ -2,7 +2,7 @@
 
 ghost use Rattle.std.specs.Prelude.{◌≡◌, ◌≤◌, ◌+◌, min, IfOk, IfErr, MatchOption, None, sum_by};
 ghost use Rattle.qs_script.specs.tree.Form.{HasForm};
-ghost use Rattle.qs_program.specs.Limits.{most_steps};
+ghost use Rattle.qs_program.specs.audit.Limits.{most_steps};
 ghost use Rattle.qs_check.specs.Checked.{shape_of};
 ghost use Rattle.qs_check.specs.Excess.{counted_by, counted_in, limit_by, IsPassedIn, IsPassedBy, IsFirstExcess, IsExcessOf};
 

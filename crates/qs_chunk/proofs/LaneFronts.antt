@@ -4,12 +4,13 @@
 -- their rounds.
 use Rattle.std.proofs.Common.{◌≡◌, ℕ, Bool, true, false, pos, List, [], ◌∷◌, ◌++◌, map, flat_map, refl, sym, ap, ◌∙◌, subst, append_assoc}
 use Rattle.std.specs.List.{AllByRecursion}
-use Rattle.qs_objects.specs.Act.{account}
-use Rattle.qs_objects.specs.Objects.{fresh}
-use Rattle.qs_objects.specs.Journals.{HeldState}
+use Rattle.qs_objects.specs.audit.Act.{account}
+use Rattle.qs_objects.specs.audit.Objects.{fresh}
+use Rattle.qs_objects.specs.audit.Journals.{HeldState}
 use Rattle.qs_objects.specs.declared.Request.{Request}
-use Rattle.qs_chunk.specs.Batch.{Batch}
-use Rattle.qs_chunk.specs.Lanes.{Round, Sending, round_parcels, block_parcels, HasSize, BeginsLane, is_sync, is_asked, MayFollow, StandsFrom, IsLane}
+use Rattle.qs_chunk.specs.audit.Batch.{Batch}
+use Rattle.qs_chunk.specs.audit.Lanes.{Round, Sending, round_parcels, block_parcels, HasSize, is_sync, is_asked}
+use Rattle.qs_chunk.specs.Lanes.{BeginsLane, MayFollow, StandsFrom, IsLane}
 use Rattle.qs_chunk.specs.LaneLaws.{LanesAreFronts, NextKeepsForm, LaneLaws}
 use Rattle.qs_chunk.specs.declared.parcel.Parcel.{Parcel}
 use Rattle.qs_chunk.specs.declared.parcel.Parcel.TheVariants.{Work, Sync, Home, End}

@@ -4,14 +4,14 @@
 -- given away.
 use Rattle.std.proofs.Common.{◌≡◌, Bool, true, false, if◌then◌else◌, None, List, [], ◌∷◌, ◌++◌, map, refl, sym, ap, ◌∙◌, subst, append_assoc, append-nil}
 use Rattle.std.proofs.lemmas.List.{map-append}
-use Rattle.qs_objects.specs.Act.{act}
-use Rattle.qs_objects.specs.Journals.{HeldState, has_room, with_entry, run_one}
+use Rattle.qs_objects.specs.audit.Act.{act}
+use Rattle.qs_objects.specs.audit.Journals.{HeldState, has_room, with_entry, run_one}
 use Rattle.qs_objects.specs.Laws.{IsCommand}
 use Rattle.qs_objects.specs.declared.Request.{Request}
 use Rattle.qs_objects.specs.declared.held.Event.{Event}
 use Rattle.qs_objects.specs.declared.held.Ticket.{Ticket}
-use Rattle.qs_chunk.specs.Runs.{ran_all}
-use Rattle.qs_objects.specs.Parts.{IsFront, command_event}
+use Rattle.qs_chunk.specs.audit.Runs.{ran_all}
+use Rattle.qs_objects.specs.audit.Parts.{IsFront, command_event}
 use Rattle.qs_chunk.specs.LaneViews.{AllCommands, Extends, ObjectStance, ClientLane, Serving, lent, HandlerGives, object_of, IsMatched, LanesMatch}
 use Rattle.qs_chunk.specs.declared.parcel.Parcel.{Parcel}
 use Rattle.qs_chunk.specs.declared.parcel.Parcel.TheVariants.{Work, Sync, Home, End}

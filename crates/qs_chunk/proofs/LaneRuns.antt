@@ -5,9 +5,10 @@ use Rattle.std.specs.Prelude.{count_by}
 use Rattle.std.specs.List.{AllByRecursion}
 use Rattle.std.proofs.Math.Nat.{eq-or-lt_of_le}
 use Rattle.std.proofs.lemmas.List.Sums.{sum_by-append, sum_by-cons}
-use Rattle.qs_objects.specs.Journals.{HeldState}
-use Rattle.qs_chunk.specs.Lanes.{HasSize, StandsFrom, IsLane, is_asked, is_sync}
-use Rattle.qs_chunk.specs.LaneRun.{IsLaneRun, AreServed, homes, is_home, syncs}
+use Rattle.qs_objects.specs.audit.Journals.{HeldState}
+use Rattle.qs_chunk.specs.audit.Lanes.{HasSize, is_asked, is_sync}
+use Rattle.qs_chunk.specs.Lanes.{StandsFrom, IsLane}
+use Rattle.qs_chunk.specs.audit.LaneRun.{IsLaneRun, AreServed, homes, is_home, syncs}
 use Rattle.qs_chunk.specs.LaneRunLaws.{IsRunByParcels, RunsByParcels, ChunksHaveSize, NextMayStand, LaneRunLaws}
 use Rattle.qs_chunk.proofs.LaneFronts.{MayFollow-last, StandsFrom-front, front_of_lane, lane_of_front}
 use Rattle.qs_chunk.specs.declared.parcel.Parcel.{Parcel}

@@ -1,12 +1,13 @@
 -- Lanes that were worked out by hand.
 use Rattle.std.specs.Prelude.{◌≡◌, true, false, List, [], ◌∷◌, replicate, flat_map, pos}
-use Rattle.qs_objects.specs.Act.{account}
-use Rattle.qs_objects.specs.Objects.{fresh}
-use Rattle.qs_objects.specs.Journals.{HeldState}
+use Rattle.qs_objects.specs.audit.Act.{account}
+use Rattle.qs_objects.specs.audit.Objects.{fresh}
+use Rattle.qs_objects.specs.audit.Journals.{HeldState}
 use Rattle.qs_objects.specs.declared.Op.TheVariants.{Deposit}
 use Rattle.qs_objects.specs.declared.Request.{Request}
-use Rattle.qs_chunk.specs.Batch.{Batch, batch}
-use Rattle.qs_chunk.specs.Lanes.{HasForm, IsLane, block_parcels, is_asked, may_stand}
+use Rattle.qs_chunk.specs.audit.Batch.{Batch, batch}
+use Rattle.qs_chunk.specs.audit.Lanes.{HasForm, block_parcels, is_asked}
+use Rattle.qs_chunk.specs.Lanes.{IsLane, may_stand}
 use Rattle.qs_chunk.specs.declared.parcel.Parcel.{Parcel}
 use Rattle.qs_chunk.specs.declared.parcel.Parcel.TheVariants.{Work, Sync, Home, End}
 

@@ -1,6 +1,7 @@
 -- What the form of a lane promises.
 use Rattle.std.specs.Prelude.{ℕ, false, List, [], ◌∷◌, ◌++◌, ◌↔◌}
-use Rattle.qs_chunk.specs.Lanes.{BeginsLane, is_asked, MayFollow, IsLane}
+use Rattle.qs_chunk.specs.audit.Lanes.{is_asked}
+use Rattle.qs_chunk.specs.Lanes.{BeginsLane, MayFollow, IsLane}
 use Rattle.qs_chunk.specs.declared.parcel.Parcel.{Parcel}
 
 -- where each parcel may follow those before it, and only there, the list is the beginning of one of the form

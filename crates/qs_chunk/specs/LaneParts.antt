@@ -1,23 +1,10 @@
--- What lies in a lane, cut by tickets: the commands in parcels, and each ticket's own parcels.
-use Rattle.std.specs.Prelude.{if◌then◌else◌, List, [], ◌∷◌, ◌++◌, Option, Some, None}
-use Rattle.qs_objects.specs.Journals.{HeldState}
-use Rattle.qs_objects.specs.Parts.{same}
+-- Beside what the headline reaches (`audit/LaneParts.antt`): what else contracts and proofs use.
+use Rattle.std.specs.Prelude.{if◌then◌else◌, List, [], ◌∷◌, ◌++◌}
+use Rattle.qs_objects.specs.audit.Parts.{same}
 use Rattle.qs_objects.specs.declared.held.Ticket.{Ticket}
 use Rattle.qs_objects.specs.declared.Request.{Request}
 use Rattle.qs_chunk.specs.declared.parcel.Parcel.{Parcel}
 use Rattle.qs_chunk.specs.declared.parcel.Parcel.TheVariants.{Work, Sync, Home, End}
-
--- the object that its handler gave away: on its way to the client, on its way home, or with the client
-abbrev pub home_of : Parcel → Option HeldState
-home_of (Home x) = Some x
-home_of (Work chunk) = None
-home_of Sync = None
-home_of End = None
-
-abbrev pub away_at : Option HeldState → List Parcel → Option HeldState → Option HeldState
-away_at (Some x) down held = Some x
-away_at None (parcel ∷ down) held = home_of parcel
-away_at None [] held = held
 
 -- the commands in parcels
 abbrev pub commands_in : List Parcel → List Request

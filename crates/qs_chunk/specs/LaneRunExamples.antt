@@ -1,7 +1,7 @@
 -- Runs of a lane that were worked out by hand: a command and a query.
 use Rattle.std.specs.Prelude.{[], ◌∷◌}
 use Rattle.qs_chunk.specs.LaneExamples.{chunk, deposit_and_ask, account_of_100, two_blocks}
-use Rattle.qs_chunk.specs.LaneRun.{IsLaneRun, AreServed}
+use Rattle.qs_chunk.specs.audit.LaneRun.{IsLaneRun, AreServed}
 use Rattle.qs_chunk.specs.declared.parcel.Parcel.TheVariants.{Work, Sync, Home}
 
 pub record LaneRunExamples : Type 0 where

@@ -1,9 +1,10 @@
 -- What holds of every run of a lane.
 use Rattle.std.specs.Prelude.{◌≡◌, ◌≤◌, ◌↔◌, ℕ, false, List, [], ◌∷◌, ◌++◌, length}
 use Rattle.std.specs.List.{AllByRecursion}
-use Rattle.qs_objects.specs.Journals.{HeldState}
-use Rattle.qs_chunk.specs.Lanes.{HasSize, IsLane, MayFollow, is_asked}
-use Rattle.qs_chunk.specs.LaneRun.{IsLaneRun, syncs}
+use Rattle.qs_objects.specs.audit.Journals.{HeldState}
+use Rattle.qs_chunk.specs.audit.Lanes.{HasSize, is_asked}
+use Rattle.qs_chunk.specs.Lanes.{IsLane, MayFollow}
+use Rattle.qs_chunk.specs.audit.LaneRun.{IsLaneRun, syncs}
 use Rattle.qs_chunk.specs.declared.parcel.Parcel.{Parcel}
 
 -- the same by steps: each parcel that was sent may follow those before it, and no more objects were given than asked

@@ -1,15 +1,15 @@
 -- One lane in one block, worked out by hand: a deposit of 5 to an account of 100, and then a query of its balance.
 use Rattle.std.specs.Prelude.{◌≡◌, false, List, [], ◌∷◌, Option, Some, None, ℤ, pos}
-use Rattle.qs_objects.specs.Act.{account}
-use Rattle.qs_objects.specs.Objects.{fresh}
-use Rattle.qs_objects.specs.Journals.{HeldState}
+use Rattle.qs_objects.specs.audit.Act.{account}
+use Rattle.qs_objects.specs.audit.Objects.{fresh}
+use Rattle.qs_objects.specs.audit.Journals.{HeldState}
 use Rattle.qs_objects.specs.declared.Op.TheVariants.{Balance}
 use Rattle.qs_objects.specs.declared.Request.{Request}
 use Rattle.qs_objects.specs.declared.held.Entry.{Entry}
 use Rattle.qs_objects.specs.declared.held.Event.{Event}
 use Rattle.qs_objects.specs.declared.held.Ticket.{Ticket}
 use Rattle.qs_chunk.specs.LaneExamples.{deposit, chunk}
-use Rattle.qs_objects.specs.Parts.{command_event}
+use Rattle.qs_objects.specs.audit.Parts.{command_event}
 use Rattle.qs_chunk.specs.LaneViews.{Extends, ClientLane, HandlerLane, object_of, sends, asks, holds, gone, serves, gives, lent, over}
 use Rattle.qs_chunk.specs.declared.parcel.Parcel.{Parcel}
 use Rattle.qs_chunk.specs.declared.parcel.Parcel.TheVariants.{Work, Sync, Home, End}

@@ -1,10 +1,9 @@
+-- What has to be believed for the headline.
+pub mod audit
 -- What an auditor reads: the promises and the calls of the surface are said with these.
 pub mod Limits
-pub mod Batch
-pub mod Runs
 pub mod Lanes
 pub mod LaneParts
-pub mod LaneRun
 -- What crates promise one another, what proofs use, and worked examples.
 pub mod LaneLaws
 pub mod LaneExamples

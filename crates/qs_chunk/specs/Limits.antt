@@ -1,14 +1,6 @@
--- The limits of chunks and lanes.
+-- Beside what the headline reaches (`audit/Limits.antt`): what else contracts and proofs use.
 use Rattle.std.specs.Prelude.{ℕ}
 
 -- requests in a chunk
 abbrev pub largest_chunk : ℕ
 largest_chunk = 32
-
--- parcels that a lane takes
-abbrev pub lane_room : ℕ
-lane_room = 16
-
--- a lane's empty chunks
-abbrev pub spare_room : ℕ
-spare_room = 4

@@ -1,7 +1,7 @@
 //! The chunk: values in order, in a ring of places.
 
 ghost use Rattle.std.specs.Prelude.{◌≡◌, ◌==◌, ◌<◌, ◌≤◌, ◌↔◌, [], ◌∷◌, ◌++◌, length, IfNone, IfSome, IfOk, IfErr, IsOk};
-ghost use Rattle.qs_chunk.specs.Batch.{batch};
+ghost use Rattle.qs_chunk.specs.audit.Batch.{batch};
 ghost use Rattle.qs_chunk.specs.Limits.{largest_chunk};
 ghost use Rattle.std.specs.Vec.Ownership.{FitsInBlock};
 
@@ -27,7 +27,7 @@ const _: () = prove!(size_of::<Chunk<u8>>() == 32);
 
 impl<T> Model for Chunk<T> {
     ghost use Rattle.std.specs.Prelude.{◌≡◌, ◌≤◌};
-    ghost use Rattle.qs_chunk.specs.Batch.{Batch, batch, batch_code};
+    ghost use Rattle.qs_chunk.specs.audit.Batch.{Batch, batch, batch_code};
     ghost use Rattle.qs_chunk.specs.Limits.{largest_chunk};
     ghost use Rattle.qs_chunk.specs.Ring.{ring_values, IsRing};
 

@@ -9,32 +9,35 @@ use Rattle.std.proofs.Math.ListN.{get_or-eq_default}
 use Rattle.qs_objects.specs.declared.held.Ticket.{Ticket}
 use Rattle.qs_objects.specs.declared.Request.{Request}
 use Rattle.qs_objects.proofs.Choices.{eqb_self, apart_eqb, num_cases}
-use Rattle.qs_program.specs.Loads.{load_of}
-use Rattle.qs_program.specs.Program.{block_at, blocks_of}
-use Rattle.qs_program.specs.Sound.{is_in}
-use Rattle.qs_program.specs.Values.{Locals}
-use Rattle.qs_meaning.specs.Interaction.{Interaction}
+use Rattle.qs_program.specs.audit.Loads.{load_of}
+use Rattle.qs_program.specs.audit.Program.{block_at, blocks_of}
+use Rattle.qs_program.specs.audit.Sound.{is_in}
+use Rattle.qs_program.specs.audit.Values.{Locals}
+use Rattle.qs_meaning.specs.audit.Interaction.{Interaction}
 use Rattle.qs_meaning.specs.Paths.{counts}
-use Rattle.qs_meaning.specs.Solo.{put}
+use Rattle.qs_meaning.specs.audit.Solo.{put}
 use Rattle.qs_meaning.proofs.RequestPaths.{requests_within}
 use Rattle.qs_meaning.specs.Paths as paths
-use Rattle.qs_graph.specs.Steps.{limit}
-use Rattle.qs_graph.specs.Synced.{Synced, Done, Call, Sync, Query, without_syncs}
-use Rattle.qs_graph.specs.Walk.{entry, walk, Within}
-use Rattle.qs_syncset.specs.Codes.{BlockCode, ClientCode, IsCode, IsBlockCode, code_at, load_at}
+use Rattle.qs_graph.specs.audit.Steps.{limit}
+use Rattle.qs_graph.specs.audit.Synced.{Synced, Done, Call, Sync, Query}
+use Rattle.qs_graph.specs.Synced.{without_syncs}
+use Rattle.qs_graph.specs.audit.Walk.{entry, walk}
+use Rattle.qs_graph.specs.Walk.{Within}
+use Rattle.qs_syncset.specs.audit.Codes.{BlockCode, ClientCode, IsBlockCode, code_at, load_at}
+use Rattle.qs_syncset.specs.Codes.{IsCode}
 use Rattle.qs_syncset.specs.CodeLaws.{IsSoundWalk}
 use Rattle.qs_syncset.specs.held.Flow.{nothing}
 use Rattle.qs_syncset.specs.SoundSynced.{IsOnReserved, IsSoundSynced}
 use Rattle.qs_syncset.proofs.CodeWalks.{walks_are_sound}
 use Rattle.qs_client.specs.run.Beginning.{at_beginning}
-use Rattle.qs_client.specs.rules.Client.{Settlement, between, begin, settle}
+use Rattle.qs_client.specs.audit.rules.Client.{Settlement, between, begin, settle}
 use Rattle.qs_client.specs.run.Holdings.{chunk_at, holding_at}
 use Rattle.qs_client.specs.run.BlockSizes.{room_for, sum_below}
 use Rattle.qs_client.specs.run.ClientOfRun.{HasSettled, items_of, progress_after, stage_by}
 use Rattle.qs_client.specs.run.Running.{MakesAtMost, IsRunning}
 use Rattle.qs_client.specs.run.BetweenActs.{HasCome, IsStanding}
 use Rattle.qs_objects.specs.Traces.{AreEmptyAfter, TraceState, trace_at, trace_state}
-use Rattle.qs_program.specs.Limits.{most_handlers, most_objects}
+use Rattle.qs_program.specs.audit.Limits.{most_handlers, most_objects}
 use Rattle.qs_client.specs.run.RunState.{RunState}
 use Rattle.qs_client.proofs.ReservedLists.{reserved_below_eight}
 use Rattle.qs_client.proofs.run.CodeBounds.{longest_covers}
@@ -43,7 +46,8 @@ use Rattle.qs_client.proofs.run.StepRefinement.{standing_of}
 use Rattle.qs_client.specs.declared.rules.act.Act.TheVariants as acts
 use Rattle.qs_client.specs.declared.run.stage.Stage.TheVariants as stages
 use Rattle.qs_client.specs.SoundMind.{IsSoundMind}
-use Rattle.qs_client.specs.ClientModel.{Asks, mind_after_begin, mind_after_begin_with, locals_at, tree_at}
+use Rattle.qs_client.specs.audit.ClientModel.{mind_after_begin, mind_after_begin_with, locals_at, tree_at}
+use Rattle.qs_client.specs.ClientModel.{Asks}
 use Rattle.qs_client.specs.MindState.{MindState, block_of, client_in, mind_of, settings_in}
 use Rattle.qs_client.proofs.MindRefinement.{IsSteady, asks_nothing, come_sound, comes_mind, hands_over, nothing_left, wants_of}
 

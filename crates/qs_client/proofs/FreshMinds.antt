@@ -4,19 +4,22 @@
 use Rattle.std.proofs.Common.{◌≡◌, ℕ, zero, suc, ◌+◌, ◌*◌, ◌≤◌, List, [], ◌∷◌, Option, None, length, map, replicate, get_or, refl, sym, ap, ◌∙◌, subst, arith}
 use Rattle.std.proofs.Math.Path.{fun_ext}
 use Rattle.std.proofs.lemmas.List.{get_or-map, length-map, length-replicate}
-use Rattle.qs_objects.specs.Journals.{HeldState}
+use Rattle.qs_objects.specs.audit.Journals.{HeldState}
 use Rattle.qs_objects.specs.declared.held.Event.{Event}
 use Rattle.qs_objects.specs.declared.Request.{Request}
-use Rattle.qs_program.specs.Values.{Locals}
-use Rattle.qs_meaning.specs.Serial.{zeros}
-use Rattle.qs_graph.specs.Steps.{limit}
-use Rattle.qs_sync_counts.specs.SyncRows.{AreFew, CountsState, counts_state, fresh_rows, no_syncs}
+use Rattle.qs_program.specs.audit.Values.{Locals}
+use Rattle.qs_meaning.specs.audit.Serial.{zeros}
+use Rattle.qs_graph.specs.audit.Steps.{limit}
+use Rattle.qs_sync_counts.specs.audit.SyncRows.{fresh_rows, no_syncs}
+use Rattle.qs_sync_counts.specs.SyncRows.{AreFew, CountsState, counts_state}
 use Rattle.qs_sync_counts.proofs.CountRows.{few_none}
-use Rattle.qs_syncset.specs.Codes.{BlockCode, ClientCode, IsCode, no_code}
-use Rattle.qs_chunk.specs.Batch.{Batch}
+use Rattle.qs_syncset.specs.audit.Codes.{BlockCode, ClientCode, no_code}
+use Rattle.qs_syncset.specs.Codes.{IsCode}
+use Rattle.qs_chunk.specs.audit.Batch.{Batch}
 use Rattle.qs_client.specs.run.Beginning.{fresh_run}
-use Rattle.qs_client.specs.rules.Client.{between}
-use Rattle.qs_client.specs.run.BlockSizes.{empty_rows, room_for, longest}
+use Rattle.qs_client.specs.audit.rules.Client.{between}
+use Rattle.qs_client.specs.audit.run.BlockSizes.{longest}
+use Rattle.qs_client.specs.run.BlockSizes.{empty_rows, room_for}
 use Rattle.qs_client.specs.run.ClientOfRun.{items_of}
 use Rattle.qs_client.specs.run.Running.{IsOpen}
 use Rattle.qs_objects.specs.Traces.{empty_trace, events_of, trace_state}
@@ -24,7 +27,7 @@ use Rattle.qs_chunk.specs.Limits.{largest_chunk}
 use Rattle.qs_client.specs.run.RunState.{RunState}
 use Rattle.qs_client.specs.declared.rules.outgoing.Outgoing.TheVariants as outgoings
 use Rattle.qs_client.specs.SoundMind.{IsSoundMind}
-use Rattle.qs_client.specs.ClientModel.{lists_of_code, fresh_mind}
+use Rattle.qs_client.specs.audit.ClientModel.{lists_of_code, fresh_mind}
 use Rattle.qs_client.specs.MindState.{MindState, mind_of}
 
 none_at : {X : Type 0} (n i : ℕ) (d : X) → get_or (replicate n d) i d ≡ d

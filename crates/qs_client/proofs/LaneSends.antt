@@ -3,27 +3,29 @@
 -- where the client waits for the object or holds it. All quiet work leaves it as it is, since that awaits nothing, and
 -- neither takes an object up nor gives one away.
 use Rattle.std.proofs.Common.{◌≡◌, ◌≢◌, ℕ, suc, Bool, true, false, ◌==◌, ◌&&◌, ◌||◌, if◌then◌else◌, is_some, nat_lt, List, [], ◌∷◌, ◌++◌, length, Option, Some, None, ℤ, refl, sym, ap, ◌∙◌, subst, ⊎_elim}
-use Rattle.qs_objects.specs.Journals.{HeldState, run_one}
+use Rattle.qs_objects.specs.audit.Journals.{HeldState, run_one}
 use Rattle.qs_objects.specs.declared.held.Ticket.{Ticket}
 use Rattle.qs_objects.specs.declared.Request.{Request}
 use Rattle.qs_objects.proofs.Choices.{eqb_apart, eqb_self, num_cases}
-use Rattle.qs_program.specs.Values.{Locals}
-use Rattle.qs_meaning.specs.Solo.{put, value_of}
+use Rattle.qs_program.specs.audit.Values.{Locals}
+use Rattle.qs_meaning.specs.audit.Solo.{put, value_of}
 use Rattle.qs_meaning.proofs.TreeWalks.{put_here, put_there}
-use Rattle.qs_graph.specs.Synced.{Synced, Done, Call, Sync, Query}
-use Rattle.qs_chunk.specs.Lanes.{MayFollow, is_asked, is_sync}
+use Rattle.qs_graph.specs.audit.Synced.{Synced, Done, Call, Sync, Query}
+use Rattle.qs_chunk.specs.audit.Lanes.{is_asked, is_sync}
+use Rattle.qs_chunk.specs.Lanes.{MayFollow}
 use Rattle.qs_chunk.proofs.LaneFronts.{asked_last}
 use Rattle.qs_chunk.specs.declared.parcel.Parcel.{Parcel}
 use Rattle.qs_chunk.specs.declared.parcel.Parcel.TheVariants as parcels
-use Rattle.qs_client.specs.rules.Client.{Client, ClientStage, Settings, Settlement, between, runs, full, awaits, leaves, act_at, call_act, clear, rest_act, work, stop_at, set_held, set_chunk, end_block, call, query, settle, after_parcel, after_home, after_work, after_sync, after_end, take_object, take_chunk}
+use Rattle.qs_client.specs.audit.rules.Client.{Client, ClientStage, Settings, Settlement, between, runs, full, awaits, leaves, act_at, call_act, clear, rest_act, work, stop_at, set_held, set_chunk, end_block, call, query, settle, after_parcel, after_home, after_work, after_sync, after_end, take_object, take_chunk}
 use Rattle.qs_client.specs.run.NextActs.{SendsNothing}
 use Rattle.qs_client.specs.declared.rules.act.Act.{Act}
 use Rattle.qs_client.specs.declared.rules.act.Act.TheVariants as acts
 use Rattle.qs_client.proofs.rules.CarriedValues.{sends_are_parted}
 use Rattle.qs_client.specs.ClientLanes.{is_awaited, IsFree, ClientFitsLane, BeginsAtLanes, SendsMayFollow, SendsKeepOtherLanes, QuietActsKeepLanes, TicketsKeepLanes, ObjectsKeepLanes, ChunksKeepLanes, ClientLaneLaws}
-use Rattle.qs_client.specs.ClientModel.{Asks, ClientModel, finish, locals_at, next_act, next_mind, reserved_by, settings_of, tree_at}
-use Rattle.qs_client.specs.rules.Outgoings.{after_send, without_act, outgoing_of}
-use Rattle.qs_syncset.specs.Codes.{code_at}
+use Rattle.qs_client.specs.audit.ClientModel.{ClientModel, finish, locals_at, next_act, next_mind, reserved_by, settings_of, tree_at}
+use Rattle.qs_client.specs.ClientModel.{Asks}
+use Rattle.qs_client.specs.audit.rules.Outgoings.{after_send, without_act, outgoing_of}
+use Rattle.qs_syncset.specs.audit.Codes.{code_at}
 
 -- the object of h is held or not, nothing is awaited, and a full chunk is for an object that is not held
 record Rests (m : Client) (h : ℕ) (held : Bool) : Type 0 where

@@ -6,21 +6,25 @@ use Rattle.std.proofs.Common.{◌≡◌, inl, inr, ℕ, zero, suc, ◌+◌, ◌*
 use Rattle.std.proofs.Math.ListN.{get_or-map}
 use Rattle.std.proofs.lemmas.Bool.{cases_lt, ne_eqb}
 use Rattle.std.proofs.lemmas.List.{ext_get_or, length-map, set-get_or}
-use Rattle.qs_objects.specs.Journals.{HeldState}
+use Rattle.qs_objects.specs.audit.Journals.{HeldState}
 use Rattle.qs_objects.specs.declared.held.Event.{Event}
 use Rattle.qs_objects.proofs.Choices.{apart_eqb, eqb_self, num_cases}
-use Rattle.qs_graph.specs.Steps.{limit}
-use Rattle.qs_graph.specs.Walk.{Spot, walk, Within}
-use Rattle.qs_graph.specs.Nodes as places
-use Rattle.qs_sync_counts.specs.SyncRows.{AreFew, CountsState, counts_state, with_sync}
+use Rattle.qs_graph.specs.audit.Steps.{limit}
+use Rattle.qs_graph.specs.audit.Walk.{Spot, walk}
+use Rattle.qs_graph.specs.Walk.{Within}
+use Rattle.qs_graph.specs.audit.Nodes as places
+use Rattle.qs_sync_counts.specs.audit.SyncRows.{with_sync}
+use Rattle.qs_sync_counts.specs.SyncRows.{AreFew, CountsState, counts_state}
 use Rattle.qs_sync_counts.specs.declared.sync_counts.SyncCount.{SyncCount}
 use Rattle.qs_sync_counts.proofs.CountRows.{few_in, few_more}
-use Rattle.qs_syncset.specs.Codes.{BlockCode, IsCode, code_at}
+use Rattle.qs_syncset.specs.audit.Codes.{BlockCode, code_at}
+use Rattle.qs_syncset.specs.Codes.{IsCode}
 use Rattle.qs_client.specs.run.NextActs.{HasActed, Wants, SendsNothing}
-use Rattle.qs_client.specs.rules.Client.{Settlement, take_object, take_chunk}
-use Rattle.qs_client.specs.run.BlockSizes.{room_for, longest}
+use Rattle.qs_client.specs.audit.rules.Client.{Settlement, take_object, take_chunk}
+use Rattle.qs_client.specs.audit.run.BlockSizes.{longest}
+use Rattle.qs_client.specs.run.BlockSizes.{room_for}
 use Rattle.qs_client.specs.run.BetweenActs.{HasCome, HasGot, HasSent, HasTaken, IsOutgoingAt, IsStanding, nodes_left}
-use Rattle.qs_client.specs.rules.Outgoings.{count_sync, after_send, outgoing_of}
+use Rattle.qs_client.specs.audit.rules.Outgoings.{count_sync, after_send, outgoing_of}
 use Rattle.qs_client.specs.run.ClientOfRun.{ClientProgress, stage_by}
 use Rattle.qs_client.specs.run.Running.{KeepsRows}
 use Rattle.qs_objects.specs.Traces.{TraceState, empty_trace, events_of, trace_at, trace_state}
@@ -35,7 +39,8 @@ use Rattle.qs_client.specs.declared.rules.act.Act.TheVariants as acts
 use Rattle.qs_client.specs.declared.rules.outgoing.Outgoing.TheVariants as outgoings
 use Rattle.qs_client.specs.declared.run.stage.Stage.TheVariants as stages
 use Rattle.qs_client.specs.SoundMind.{IsSoundMind}
-use Rattle.qs_client.specs.ClientModel.{Asks, ClientModel, act_due, mind_after_chunk, comes_to, finish, extend, mind_after_object, hands_out, is_between, tally}
+use Rattle.qs_client.specs.audit.ClientModel.{ClientModel, act_due, mind_after_chunk, comes_to, finish, extend, mind_after_object, hands_out, is_between, tally}
+use Rattle.qs_client.specs.ClientModel.{Asks}
 use Rattle.qs_client.specs.MindState.{MindState, IsMind, block_of, client_in, mind_of, settings_in}
 
 events_at : (rows : List TraceState) (j : ℕ) → get_or (events_of rows) j [] ≡ (trace_at rows j).events

@@ -3,12 +3,14 @@
 use Rattle.std.proofs.Common.{◌≡◌, ℕ, ◌<◌, ◌≤◌, true, false, ◌==◌, ◌||◌, List, [], ◌∷◌, length, sym, ap, ◌∙◌, subst, arith, ⊎_elim}
 use Rattle.std.specs.List.{AllByRecursion}
 use Rattle.qs_objects.proofs.Choices.{num_cases}
-use Rattle.qs_program.specs.Program.{ProgramShape, block_at, blocks_of}
-use Rattle.qs_program.specs.Sound.{IsSound, IsSoundBlock, is_in}
+use Rattle.qs_program.specs.audit.Program.{ProgramShape, block_at, blocks_of}
+use Rattle.qs_program.specs.audit.Sound.{is_in}
+use Rattle.qs_program.specs.Sound.{IsSound, IsSoundBlock}
 use Rattle.qs_program.proofs.Bounds.{sound_block}
-use Rattle.qs_program.specs.Limits.{most_handlers}
+use Rattle.qs_program.specs.audit.Limits.{most_handlers}
 use Rattle.qs_syncset.proofs.ShortLists.{few_reserved}
-use Rattle.qs_syncset.specs.Codes.{ClientCode, IsCode, code_at}
+use Rattle.qs_syncset.specs.audit.Codes.{ClientCode, code_at}
+use Rattle.qs_syncset.specs.Codes.{IsCode}
 use Rattle.qs_client.proofs.run.CodeBounds.{client_inside}
 
 in_each : (P : ℕ → Type 0) (xs : List ℕ) (x : ℕ) → is_in xs x ≡ true → AllByRecursion P xs → P x

@@ -1,14 +1,16 @@
 -- How a client stands to the lane of a handler, by the parcels that it sent there.
 use Rattle.std.specs.Prelude.{◌≡◌, ◌≢◌, ℕ, ◌==◌, ◌||◌, Bool, false, is_some, List, [], ◌∷◌, ◌++◌, None}
-use Rattle.qs_objects.specs.Journals.{HeldState}
+use Rattle.qs_objects.specs.audit.Journals.{HeldState}
 use Rattle.qs_objects.specs.declared.held.Ticket.{Ticket}
-use Rattle.qs_syncset.specs.Codes.{ClientCode}
-use Rattle.qs_chunk.specs.Lanes.{MayFollow, is_asked}
+use Rattle.qs_syncset.specs.audit.Codes.{ClientCode}
+use Rattle.qs_chunk.specs.audit.Lanes.{is_asked}
+use Rattle.qs_chunk.specs.Lanes.{MayFollow}
 use Rattle.qs_chunk.specs.declared.parcel.Parcel.{Parcel}
 use Rattle.qs_client.specs.run.NextActs.{SendsNothing}
-use Rattle.qs_client.specs.rules.Client.{Client, ClientStage, between, runs, full, awaits, leaves}
+use Rattle.qs_client.specs.audit.rules.Client.{Client, ClientStage, between, runs, full, awaits, leaves}
 use Rattle.qs_client.specs.declared.rules.act.Act.TheVariants as acts
-use Rattle.qs_client.specs.ClientModel.{Asks, ClientModel, mind_after_begin, mind_after_chunk, finish, fresh_mind, mind_after_object, next_act, next_mind}
+use Rattle.qs_client.specs.audit.ClientModel.{ClientModel, mind_after_begin, mind_after_chunk, finish, fresh_mind, mind_after_object, next_act, next_mind}
+use Rattle.qs_client.specs.ClientModel.{Asks}
 
 -- whether a client waits for the object of a handler
 abbrev pub is_awaited : ClientStage → ℕ → Bool

@@ -1,17 +1,18 @@
 -- The data that a mind keeps, the model that they stand for, and what holds of every mind.
 use Rattle.std.specs.Prelude.{◌≡◌, ◌<◌, ◌≤◌, ℕ, ◌+◌, ◌*◌, List, length, true}
 use Rattle.qs_objects.specs.declared.held.Ticket.{Ticket}
-use Rattle.qs_program.specs.Values.{Locals}
-use Rattle.qs_graph.specs.Steps.{limit}
+use Rattle.qs_program.specs.audit.Values.{Locals}
+use Rattle.qs_graph.specs.audit.Steps.{limit}
 use Rattle.qs_sync_counts.specs.SyncRows.{CountsState}
-use Rattle.qs_syncset.specs.Codes.{BlockCode, ClientCode, IsCode, code_at}
-use Rattle.qs_client.specs.rules.Client.{Client, Settings}
+use Rattle.qs_syncset.specs.audit.Codes.{BlockCode, ClientCode, code_at}
+use Rattle.qs_syncset.specs.Codes.{IsCode}
+use Rattle.qs_client.specs.audit.rules.Client.{Client, Settings}
 use Rattle.qs_client.specs.run.ClientOfRun.{client_of_run}
 use Rattle.qs_objects.specs.Traces.{events_of}
 use Rattle.qs_chunk.specs.Limits.{largest_chunk}
 use Rattle.qs_client.specs.run.RunState.{RunState}
 use Rattle.qs_client.specs.declared.rules.outgoing.Outgoing.{Outgoing}
-use Rattle.qs_client.specs.ClientModel.{ClientModel, is_between}
+use Rattle.qs_client.specs.audit.ClientModel.{ClientModel, is_between}
 
 -- the code and the chunks' size; the ticket of the block that was begun last, and where the client stands in it; the
 -- variables at entry of the blocks that were begun; the Syncs that were sent, all and for each block and each object of

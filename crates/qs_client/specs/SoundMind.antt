@@ -1,9 +1,11 @@
 -- The invariant of a mind: what holds of its data whenever it is whole.
 use Rattle.std.specs.Prelude.{◌≡◌, ◌<◌, ◌≤◌, ℕ, suc, ◌+◌, ◌*◌, [], length, slice_index_or}
-use Rattle.qs_graph.specs.Steps.{limit}
+use Rattle.qs_graph.specs.audit.Steps.{limit}
 use Rattle.qs_sync_counts.specs.SyncRows.{AreFew}
-use Rattle.qs_syncset.specs.Codes.{IsCode, code_at}
-use Rattle.qs_client.specs.run.BlockSizes.{longest, room_for}
+use Rattle.qs_syncset.specs.audit.Codes.{code_at}
+use Rattle.qs_syncset.specs.Codes.{IsCode}
+use Rattle.qs_client.specs.audit.run.BlockSizes.{longest}
+use Rattle.qs_client.specs.run.BlockSizes.{room_for}
 use Rattle.qs_client.specs.run.BetweenActs.{IsOutgoingAt, IsStanding}
 use Rattle.qs_objects.specs.Traces.{empty_trace, trace_at}
 use Rattle.qs_chunk.specs.Limits.{largest_chunk}

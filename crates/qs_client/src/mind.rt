@@ -1,14 +1,16 @@
 //! A client's mind: what its run keeps, with its code, its tickets and its counts.
 
 ghost use Rattle.std.specs.Prelude.{◌≡◌, ◌<◌, ℕ, [], IfOk, IsErr, length, option_copied, slice_index_or};
-ghost use Rattle.qs_chunk.specs.Batch.{batch};
-ghost use Rattle.qs_client.specs.ClientModel.{Asks, lists_of_code, tally, mind_after_begin, mind_after_chunk, finish, blocks_ended, fresh_mind, mind_after_object, is_between, next_act, next_mind};
-ghost use Rattle.qs_sync_counts.specs.SyncRows.{AreFew, all_counts, counts_state, fresh_rows, greatest_count};
+ghost use Rattle.qs_chunk.specs.audit.Batch.{batch};
+ghost use Rattle.qs_client.specs.audit.ClientModel.{lists_of_code, tally, mind_after_begin, mind_after_chunk, finish, fresh_mind, mind_after_object, is_between, next_act, next_mind};
+ghost use Rattle.qs_client.specs.ClientModel.{Asks, blocks_ended};
+ghost use Rattle.qs_sync_counts.specs.audit.SyncRows.{fresh_rows};
+ghost use Rattle.qs_sync_counts.specs.SyncRows.{AreFew, all_counts, counts_state, greatest_count};
 ghost use Rattle.qs_client.specs.run.NextActs.{SendsNothing};
 ghost use Rattle.qs_client.specs.MindState.{IsMind, mind_of};
-ghost use Rattle.qs_objects.specs.Rows.{join_rows};
+ghost use Rattle.qs_objects.specs.audit.Rows.{join_rows};
 ghost use Rattle.qs_objects.specs.Traces.{events_of};
-ghost use Rattle.qs_program.specs.Limits.{most_handlers};
+ghost use Rattle.qs_program.specs.audit.Limits.{most_handlers};
 
 use crate::rules::{Act, Outgoing};
 use crate::run::{Run, Stage};

@@ -7,7 +7,7 @@ use Rattle.qs_conditions.specs.SignResults.{IsFaultOf}
 use Rattle.qs_script.proofs.tokens.Lexemes.{run_take}
 use Rattle.qs_conditions.specs.declared.signs.Sign.TheVariants as s
 use Rattle.qs_conditions.specs.declared.fault.ConditionFault.TheVariants as f
-use Rattle.qs_script.specs.tokens.Tokens.{is_letter, is_digit, is_space, is_name_byte, at, value_of}
+use Rattle.qs_script.specs.audit.tokens.Tokens.{is_letter, is_digit, is_space, is_name_byte, at, value_of}
 use Rattle.qs_script.specs.tokens.Cutting.{run_of}
 use Rattle.qs_conditions.specs.declared.signs.Sign.{Sign}
 use Rattle.qs_conditions.specs.declared.signs.Placed.{Placed}

@@ -1,7 +1,7 @@
 -- What a condition is, what it means, and the steps by which it is answered.
 use Rattle.std.specs.Prelude.{◌≡◌, Bool, not, ◌&&◌, ◌||◌, if◌then◌else◌, List, [], ◌∷◌, ◌++◌, ℤ, pos, ◌+ℤ◌, ◌-ℤ◌}
 use Rattle.qs_script.specs.declared.tree.tree.Relation.{Relation}
-use Rattle.qs_program.specs.Values.{relates}
+use Rattle.qs_program.specs.audit.Values.{relates}
 use Rattle.qs_conditions.specs.declared.condition.Value.{Value}
 use Rattle.qs_conditions.specs.declared.condition.Summand.{Summand}
 use Rattle.qs_conditions.specs.declared.condition.Step.{Step}

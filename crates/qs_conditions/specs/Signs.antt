@@ -1,7 +1,7 @@
 -- The signs of a condition's text, or its first fault.
 use Rattle.std.specs.Prelude.{ℕ, zero, suc, ◌-◌, nat_lt, nat_eq, if◌then◌else◌, List, [], ◌∷◌, take, Option, Some, None, Result, Ok, Err}
-use Rattle.qs_script.specs.tokens.Limits.{longest_name, most_digits}
-use Rattle.qs_script.specs.tokens.Tokens.{is_letter, is_digit, is_space, is_name_byte, at, value_of}
+use Rattle.qs_script.specs.audit.tokens.Limits.{longest_name, most_digits}
+use Rattle.qs_script.specs.audit.tokens.Tokens.{is_letter, is_digit, is_space, is_name_byte, at, value_of}
 use Rattle.qs_script.specs.tokens.Cutting.{run_of}
 use Rattle.qs_script.specs.declared.tree.tree.Relation.TheVariants as r
 use Rattle.qs_conditions.specs.declared.signs.Sign.{Sign}

@@ -1,7 +1,7 @@
 // From bytes to signs.
 
 ghost use Rattle.std.specs.Prelude.{◌≡◌, ◌<◌, ◌≤◌, ◌+◌, ◌^◌, length, take, drop, slice_index, Ok, Err, IfOk, IfErr};
-ghost use Rattle.qs_script.specs.tokens.Tokens.{is_digit as digit, is_name_byte, is_space, at, value_of};
+ghost use Rattle.qs_script.specs.audit.tokens.Tokens.{is_digit as digit, is_name_byte, is_space, at, value_of};
 ghost use Rattle.qs_script.specs.tokens.Cutting.{run_of};
 ghost use Rattle.qs_conditions.specs.Signs.{pairs, singles, pair_of, name_sign as name_by, number_sign as number_by, byte_at, sign_at, signs_of};
 ghost use Rattle.qs_conditions.specs.SignResults.{IsFaultOf};

@@ -7,27 +7,27 @@ use Rattle.std.proofs.lemmas.Bool.Decides.{nat_tests}
 use Rattle.std.specs.Bool.{OnTrue}
 use Rattle.qs_objects.specs.declared.held.Ticket.{Ticket}
 use Rattle.std.specs.List.{AllByRecursion}
-use Rattle.qs_program.specs.Limits.{most_blocks}
-use Rattle.qs_program.specs.Program.{ClientShape, ProgramShape, blocks_of, no_client}
+use Rattle.qs_program.specs.audit.Limits.{most_blocks}
+use Rattle.qs_program.specs.audit.Program.{ClientShape, ProgramShape, blocks_of, no_client}
 use Rattle.qs_program.specs.declared.program.Declared.{Declared}
 use Rattle.qs_program.specs.Sound.{IsSound, IsSoundClient}
-use Rattle.qs_meaning.specs.Configurations.{Configuration, configuration_after, first_configuration, one_block_on}
-use Rattle.qs_meaning.specs.Reduced.{Counts}
-use Rattle.qs_meaning.specs.Serial.{IsLegal, LegalFrom}
-use Rattle.qs_meaning.specs.Solo.{put}
+use Rattle.qs_meaning.specs.audit.Configurations.{Configuration, configuration_after, first_configuration, one_block_on}
+use Rattle.qs_meaning.specs.audit.Reduced.{Counts}
+use Rattle.qs_meaning.specs.audit.Serial.{IsLegal, LegalFrom}
+use Rattle.qs_meaning.specs.audit.Solo.{put}
 use Rattle.qs_meaning.proofs.Orders.{configuration-append, legal-rest}
-use Rattle.qs_serial.specs.NamedOrders.{order_from, order_of}
-use Rattle.qs_graph.specs.Steps.{limit}
+use Rattle.qs_serial.specs.audit.NamedOrders.{order_from, order_of}
+use Rattle.qs_graph.specs.audit.Steps.{limit}
 use Rattle.qs_syncset.specs.declared.mode.Mode.{Mode}
 use Rattle.qs_syncset.proofs.ShortLists.{few_reserved}
-use Rattle.qs_client.specs.ClientModel.{has_ended, is_between}
-use Rattle.qs_played.specs.Schedule.{all_named}
+use Rattle.qs_client.specs.audit.ClientModel.{has_ended, is_between}
+use Rattle.qs_played.specs.audit.Schedule.{all_named}
 use Rattle.qs_played.specs.declared.schedule.actor.Actor.{Actor}
 use Rattle.qs_played.specs.declared.schedule.actor.Actor.TheVariants as actor
 use Rattle.qs_played.proofs.JournalRooms.{no_block_beyond}
-use Rattle.qs_core_laws.specs.Core.{Core}
-use Rattle.qs_syncset.specs.Codes.{AreCodes}
-use Rattle.qs_core_laws.specs.CoreSchedule.{core_played, core_plays}
+use Rattle.qs_core_laws.specs.audit.Core.{Core}
+use Rattle.qs_syncset.specs.audit.Codes.{AreCodes}
+use Rattle.qs_core_laws.specs.audit.CoreSchedule.{core_played, core_plays}
 use Rattle.qs_core_laws.proofs.CoreSteps.{HasInvariant, plays_kept, run_kept}
 use Rattle.qs_core_laws.specs.orders.CoreOrders.{IsPlayedInOrderOn}
 use Rattle.qs_core_laws.specs.orders.CoreQuiet.{IsCoreQuiet, turn_of}

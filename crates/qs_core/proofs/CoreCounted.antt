@@ -4,15 +4,15 @@
 -- list.
 use Rattle.std.proofs.Common.{◌≡◌, ℕ, Bool, true, false, List, refl, sym, subst}
 use Rattle.std.specs.Bool.{OnTrue}
-use Rattle.qs_program.specs.Program.{ProgramShape}
+use Rattle.qs_program.specs.audit.Program.{ProgramShape}
 use Rattle.qs_program.specs.Sound.{IsSound}
 use Rattle.qs_syncset.specs.declared.mode.Mode.{Mode}
-use Rattle.qs_played.specs.Schedule.{schedule}
+use Rattle.qs_played.specs.audit.Schedule.{schedule}
 use Rattle.qs_played.specs.SyncSums.{AreSyncsCounted}
 use Rattle.qs_played.specs.declared.schedule.actor.Actor.{Actor}
-use Rattle.qs_played.specs.Played.{Played}
-use Rattle.qs_syncset.specs.Codes.{AreCodes}
-use Rattle.qs_core_laws.specs.CoreSchedule.{core_played}
+use Rattle.qs_played.specs.audit.Played.{Played}
+use Rattle.qs_syncset.specs.audit.Codes.{AreCodes}
+use Rattle.qs_core_laws.specs.audit.CoreSchedule.{core_played}
 use Rattle.qs_core_laws.proofs.CoreSyncs.{core_syncs_counted}
 use Rattle.qs_core.specs.state.CoreState.{CoreState, CoreSteps, IsPlayedOn, IsReachedCore, codes_of, core_of, CoreIsCounted}
 use Rattle.qs_core.proofs.state.CoreReaching.{core_next}

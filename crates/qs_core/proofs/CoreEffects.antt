@@ -3,10 +3,10 @@
 -- those of the machine; an actor beyond the lists does nothing.
 use Rattle.std.proofs.Common.{◌≡◌, ◌<◌, ◌≤◌, ℕ, List, [], length, None, refl, sym, ap, arith}
 use Rattle.qs_chunk.specs.declared.parcel.Parcel.{Parcel}
-use Rattle.qs_handler.specs.Handler.{Handler, act_of, away, closed, free, gives, serves, spares}
+use Rattle.qs_handler.specs.audit.Handler.{Handler, act_of, away, closed, free, gives, serves, spares}
 use Rattle.qs_handler.specs.declared.mind.Act.TheVariants as acts
-use Rattle.qs_client.specs.ClientModel.{act_due}
-use Rattle.qs_client.specs.rules.Client.{act_of as client_act}
+use Rattle.qs_client.specs.audit.ClientModel.{act_due}
+use Rattle.qs_client.specs.audit.rules.Client.{act_of as client_act}
 use Rattle.qs_played.specs.declared.schedule.actor.Actor.TheVariants as actor
 use Rattle.qs_core_laws.specs.CoreReached.{ReachedCore}
 use Rattle.qs_core.specs.parts.CarriedRequests.{first_requests, sent_requests}

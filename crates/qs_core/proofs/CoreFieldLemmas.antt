@@ -8,18 +8,18 @@ use Rattle.std.proofs.Math.ListN.{set}
 use Rattle.std.proofs.lemmas.List.{set-get_or}
 use Rattle.qs_objects.specs.declared.held.Ticket.{Ticket}
 use Rattle.qs_objects.proofs.Elements.{AllByRecursion-get_or}
-use Rattle.qs_program.specs.Program.{block_at, blocks_of}
+use Rattle.qs_program.specs.audit.Program.{block_at, blocks_of}
 use Rattle.qs_program.specs.Sound.{IsSound}
-use Rattle.qs_client.specs.rules.Client.{act_of as client_act}
-use Rattle.qs_client.specs.ClientModel.{act_due, mind_after_begin}
+use Rattle.qs_client.specs.audit.rules.Client.{act_of as client_act}
+use Rattle.qs_client.specs.audit.ClientModel.{act_due, mind_after_begin}
 use Rattle.qs_client.specs.MindState.{IsMind, mind_of}
 use Rattle.qs_client.specs.declared.rules.act.Act.{Act}
 use Rattle.qs_client.specs.declared.rules.act.Act.TheVariants as wants
-use Rattle.qs_played.specs.Played.{ticket}
+use Rattle.qs_played.specs.audit.Played.{ticket}
 use Rattle.qs_played.proofs.Lists.{get_or-any}
 use Rattle.qs_played.specs.declared.schedule.actor.Actor.TheVariants as actor
-use Rattle.qs_core_laws.specs.Core.{core_step, settings_of}
-use Rattle.qs_syncset.specs.Codes.{blocks_in}
+use Rattle.qs_core_laws.specs.audit.Core.{core_step, settings_of}
+use Rattle.qs_syncset.specs.audit.Codes.{blocks_in}
 use Rattle.qs_core_laws.specs.CoreReached.{ReachedCore}
 use Rattle.qs_core.specs.parts.CoreClients.{AreStocked, CoreClientState, HasLane, IsCoreClient, LaneStays, LaneSteps, turns_to, whole_of}
 use Rattle.qs_core.specs.parts.CoreHandlers.{CanEnterAll, CoreHandlerState, with_ticket_at_all}

@@ -4,15 +4,15 @@
 -- ones, by induction on their number.
 use Rattle.std.proofs.Common.{◌≡◌, ◌∙◌, ◌+◌, ◌++◌, ◌∷◌, [], ℕ, zero, suc, Bool, true, false, IsSome, None, List, is_some, refl, sym, ap, subst, add-one, append_assoc, arith}
 use Rattle.std.specs.Bool.{OnTrue}
-use Rattle.qs_program.specs.Program.{ProgramShape}
+use Rattle.qs_program.specs.audit.Program.{ProgramShape}
 use Rattle.qs_syncset.specs.declared.mode.Mode.{Mode}
-use Rattle.qs_played.specs.Schedule.{HasStep, actors_of, or_stay, rounds_of, schedule}
+use Rattle.qs_played.specs.audit.Schedule.{HasStep, actors_of, or_stay, rounds_of, schedule}
 use Rattle.qs_played.specs.declared.schedule.actor.Actor.{Actor}
 use Rattle.qs_played.specs.declared.schedule.actor.Actor.TheVariants as actor
 use Rattle.qs_played.proofs.Playing.{plays_by-append, step_at_end}
-use Rattle.qs_core_laws.specs.Core.{core_begin, core_step}
-use Rattle.qs_syncset.specs.Codes.{AreCodes}
-use Rattle.qs_core_laws.specs.CoreSchedule.{core_plays}
+use Rattle.qs_core_laws.specs.audit.Core.{core_begin, core_step}
+use Rattle.qs_syncset.specs.audit.Codes.{AreCodes}
+use Rattle.qs_core_laws.specs.audit.CoreSchedule.{core_plays}
 use Rattle.qs_core_laws.specs.orders.CoreQuiet.{two_of_each}
 use Rattle.qs_core.specs.CoreOrders.{CoreGoes}
 use Rattle.qs_core.specs.state.CoreState.{CoreState, CoreSteps, IsPlayedOn, codes_of, core_of}

@@ -2,7 +2,7 @@
 -- lanes, and what a client wants next, which is at the lane to a handler of the program. The contracts of `handler` and
 -- `client` promise it.
 use Rattle.std.proofs.Common.{◌≡◌, ◌<◌, ℕ, length, Some, refl, ap, sym, subst, ◌∙◌, arith}
-use Rattle.qs_client.specs.ClientModel.{act_due}
+use Rattle.qs_client.specs.audit.ClientModel.{act_due}
 use Rattle.qs_client.specs.declared.rules.act.Act.{Act}
 use Rattle.qs_client.specs.declared.rules.act.Act.TheVariants as wants
 use Rattle.qs_core_laws.specs.CoreReached.{ReachedCore}

@@ -3,15 +3,16 @@
 -- nothing.
 use Rattle.std.proofs.Common.{◌≡◌, ◌<◌, ℕ, zero, suc, ◌+◌, Bool, true, false, length, get_or, take, arith, List, [], ◌∷◌, ◌++◌, None, refl, ap, sym, subst, ◌∙◌, add-one}
 use Rattle.std.specs.Bool.{OnTrue}
-use Rattle.qs_program.specs.Program.{ProgramShape}
+use Rattle.qs_program.specs.audit.Program.{ProgramShape}
 use Rattle.qs_syncset.specs.declared.mode.Mode.{Mode}
 use Rattle.qs_played.specs.Isolation.{IsIsolated}
-use Rattle.qs_played.specs.Schedule.{schedule, or_stay}
-use Rattle.qs_played.specs.Played.{Played}
+use Rattle.qs_played.specs.audit.Schedule.{schedule, or_stay}
+use Rattle.qs_played.specs.audit.Played.{Played}
 use Rattle.qs_played.specs.declared.schedule.actor.Actor.{Actor}
-use Rattle.qs_core_laws.specs.Core.{core_begin, core_step}
-use Rattle.qs_syncset.specs.Codes.{AreCodes}
-use Rattle.qs_core_laws.specs.CoreSchedule.{IsShown, core_played, core_plays, core_scheduled, on_way}
+use Rattle.qs_core_laws.specs.audit.Core.{core_begin, core_step}
+use Rattle.qs_syncset.specs.audit.Codes.{AreCodes}
+use Rattle.qs_core_laws.specs.audit.CoreSchedule.{core_played, core_plays}
+use Rattle.qs_core_laws.specs.CoreSchedule.{IsShown, core_scheduled, on_way}
 use Rattle.qs_core.specs.state.CoreState.{CoreIsIsolated, CoreState, CoreSteps, IsFreshCore, IsPlayedOn, IsShownIsolated, codes_of, core_of}
 use Rattle.qs_core.proofs.state.CoreReaching.{core_plays_more}
 

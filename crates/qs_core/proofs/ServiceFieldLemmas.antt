@@ -9,13 +9,14 @@ use Rattle.std.proofs.lemmas.List.{set-get_or}
 use Rattle.std.specs.Prelude.{IsTrue}
 use Rattle.qs_objects.specs.declared.Request.{Request}
 use Rattle.qs_objects.proofs.Elements.{AllByRecursion-get_or}
-use Rattle.qs_chunk.specs.Batch.{Batch, batch}
+use Rattle.qs_chunk.specs.audit.Batch.{Batch, batch}
 use Rattle.qs_chunk.specs.Lanes.{may_stand}
-use Rattle.qs_handler.specs.Handler.{Handler, act_of, away, closed, free, gives, is_away, serves, spares}
+use Rattle.qs_handler.specs.audit.Handler.{Handler, act_of, away, closed, free, gives, serves, spares}
+use Rattle.qs_handler.specs.Handler.{is_away}
 use Rattle.qs_handler.specs.declared.mind.Act.{Act}
 use Rattle.qs_handler.specs.declared.mind.Act.TheVariants as acts
 use Rattle.qs_played.specs.declared.schedule.actor.Actor.TheVariants as actor
-use Rattle.qs_core_laws.specs.Core.{core_step}
+use Rattle.qs_core_laws.specs.audit.Core.{core_step}
 use Rattle.qs_core_laws.specs.CoreReached.{ReachedCore}
 use Rattle.qs_core.specs.parts.CoreClients.{AreStocked, CoreClientState, Meets, whole_of}
 use Rattle.qs_core.specs.parts.CoreHandlers.{CoreHandlerState, IsCoreHandler, MayCome, TakesTicket, handler_with_act, lane_step_of_handler, turns_to}

@@ -2,17 +2,17 @@
 use Rattle.std.specs.Prelude.{◌≡◌, ℕ, ◌-◌, length, List, [], ◌∷◌, Option, Some, None}
 use Rattle.qs_objects.specs.declared.held.Ticket.{Ticket}
 use Rattle.qs_objects.specs.declared.Request.{Request}
-use Rattle.qs_syncset.specs.Codes.{ClientCode, blocks_in}
+use Rattle.qs_syncset.specs.audit.Codes.{ClientCode, blocks_in}
 use Rattle.qs_chunk.specs.declared.parcel.Parcel.{Parcel}
 use Rattle.qs_chunk.specs.declared.parcel.Parcel.TheVariants.{Work, Sync, Home, End}
-use Rattle.qs_handler.specs.Handler.{Handler, free, serves, spares, gives, away, closed}
-use Rattle.qs_client.specs.rules.Client.{act_of}
+use Rattle.qs_handler.specs.audit.Handler.{Handler, free, serves, spares, gives, away, closed}
+use Rattle.qs_client.specs.audit.rules.Client.{act_of}
 use Rattle.qs_client.specs.declared.rules.act.Act.{Act}
 use Rattle.qs_client.specs.declared.rules.act.Act.TheVariants as wants
-use Rattle.qs_played.specs.Played.{ticket}
+use Rattle.qs_played.specs.audit.Played.{ticket}
 use Rattle.qs_played.specs.declared.schedule.actor.Actor.{Actor}
 use Rattle.qs_played.specs.declared.schedule.actor.Actor.TheVariants as actor
-use Rattle.qs_core_laws.specs.Core.{Core, settings_of}
+use Rattle.qs_core_laws.specs.audit.Core.{Core, settings_of}
 use Rattle.qs_core.specs.parts.CarriedRequests.{first_requests, sent_requests}
 use Rattle.qs_core.specs.parts.LaneStates.{LaneState, lane_at}
 use Rattle.qs_core.specs.declared.core_effect.CoreEffect.{CoreEffect}

@@ -1,9 +1,9 @@
 -- Whole blocks on the optimised machine, as the code runs them.
 use Rattle.std.specs.Prelude.{◌≡◌, ℕ, suc, true, List, [], ◌∷◌, ◌++◌}
-use Rattle.qs_meaning.specs.Solo.{put}
-use Rattle.qs_played.specs.Schedule.{all_named}
+use Rattle.qs_meaning.specs.audit.Solo.{put}
+use Rattle.qs_played.specs.audit.Schedule.{all_named}
 use Rattle.qs_played.specs.declared.schedule.actor.Actor.{Actor}
-use Rattle.qs_core_laws.specs.CoreSchedule.{core_plays}
+use Rattle.qs_core_laws.specs.audit.CoreSchedule.{core_plays}
 use Rattle.qs_core_laws.specs.orders.CoreQuiet.{IsCoreQuiet}
 use Rattle.qs_core.specs.state.CoreState.{CoreState, codes_of, core_of}
 

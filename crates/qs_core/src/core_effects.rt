@@ -1,7 +1,7 @@
 //! What an actor of the optimised machine does next, read off its clients and handlers.
 
 ghost use Rattle.std.specs.Prelude.{◌≡◌, ◌<◌, IfOk, length, vec_len};
-ghost use Rattle.qs_client.specs.ClientModel.{act_due};
+ghost use Rattle.qs_client.specs.audit.ClientModel.{act_due};
 ghost use Rattle.qs_core.specs.parts.CarriedRequests.{sent_requests};
 ghost use Rattle.qs_core.specs.parts.CoreClients.{whole_of};
 ghost use Rattle.qs_core.specs.parts.CoreHandlers.{core_handler_at, handler_with_act};

@@ -2,16 +2,16 @@
 
 ghost use Rattle.std.specs.Prelude.{◌≡◌, ◌<◌, None, Some, false, length, slice_index_or, vec_len, IfOk};
 ghost use Rattle.std.specs.Bool.{OnTrue};
-ghost use Rattle.qs_core_laws.specs.Core.{core_step};
-ghost use Rattle.qs_core_laws.specs.CoreSchedule.{core_played};
-ghost use Rattle.qs_client.specs.ClientModel.{has_ended};
+ghost use Rattle.qs_core_laws.specs.audit.Core.{core_step};
+ghost use Rattle.qs_core_laws.specs.audit.CoreSchedule.{core_played};
+ghost use Rattle.qs_client.specs.audit.ClientModel.{has_ended};
 ghost use Rattle.qs_core.specs.state.CoreState.{AreFreshClients, AreFreshHandlers, CoreKeeps, CoreSteps, StepsAreReached, IsCoreState, IsFreshClient, IsFreshCore, core_of, codes_of, client_part_at};
 ghost use Rattle.qs_core.specs.parts.CoreClients.{CoreClientState};
 ghost use Rattle.qs_core.specs.parts.CoreHandlers.{CanEnterAll, CoreHandlerState, with_ticket_at_all, with_ticket_at, core_handler_at, turns_to};
 ghost use Rattle.qs_client.specs.declared.rules.act.Act.TheVariants as wants;
 ghost use Rattle.qs_core.specs.CoreEffects.{act_at, core_effect, core_requests};
 ghost use Rattle.qs_core.specs.parts.CoreClients.{turns_to as lane_wanted};
-ghost use Rattle.qs_handler.specs.Handler.{act_of};
+ghost use Rattle.qs_handler.specs.audit.Handler.{act_of};
 ghost use Rattle.qs_played.specs.declared.schedule.actor.Actor.TheVariants as actors;
 
 mod reading;

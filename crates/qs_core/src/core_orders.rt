@@ -1,8 +1,8 @@
 //! Orders of blocks on the optimised machine.
 
 ghost use Rattle.std.specs.Prelude.{IfOk, IsErrOf};
-ghost use Rattle.qs_meaning.specs.Serial.{IsLegal};
-ghost use Rattle.qs_serial.specs.NamedOrders.{order_of};
+ghost use Rattle.qs_meaning.specs.audit.Serial.{IsLegal};
+ghost use Rattle.qs_serial.specs.audit.NamedOrders.{order_of};
 ghost use Rattle.qs_core_laws.specs.orders.CoreOrders.{IsPlayedInOrderOn};
 
 use crate::optimised::Core;

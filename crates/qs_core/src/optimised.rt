@@ -1,17 +1,16 @@
 //! The optimised machine, from its beginning on.
 
 ghost use Rattle.std.specs.Prelude.{◌≡◌, ◌<◌, None, true, false, length, IfOk};
-ghost use Rattle.qs_core_laws.specs.CoreSchedule.{core_played};
-ghost use Rattle.qs_played.specs.Schedule.{HasStep, actors_of, rounds_of};
+ghost use Rattle.qs_core_laws.specs.audit.CoreSchedule.{core_played};
+ghost use Rattle.qs_played.specs.audit.Schedule.{HasStep, actors_of, rounds_of};
 ghost use Rattle.qs_played.specs.declared.schedule.actor.Actor.TheVariants as actors;
 ghost use Rattle.std.specs.Bool.{OnTrue};
-ghost use Rattle.qs_core_laws.specs.Core.{core_step};
+ghost use Rattle.qs_core_laws.specs.audit.Core.{core_step};
 ghost use Rattle.qs_core.specs.CoreEffects.{core_effect, core_requests};
-ghost use Rattle.qs_program.specs.Program.{blocks_of};
+ghost use Rattle.qs_program.specs.audit.Program.{blocks_of};
 ghost use Rattle.qs_core_laws.specs.orders.CoreQuiet.{turn_of};
 ghost use Rattle.qs_core.specs.CoreOrders.{CoreGoes, IsOneBlockOn, IsQuietNow, blocks_begun};
-ghost use Rattle.qs_core.specs.state.CoreState.{CoreIsCounted};
-ghost use Rattle.qs_core.specs.state.CoreState.{CoreIsIsolated, CoreSteps, IsFreshCore, codes_of, core_of};
+ghost use Rattle.qs_core.specs.state.CoreState.{CoreIsCounted, CoreIsIsolated, CoreSteps, IsFreshCore, codes_of, core_of};
 
 mod reading;
 

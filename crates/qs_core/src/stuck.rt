@@ -1,7 +1,7 @@
 //! Of which actors it is known that they have no step.
 
 ghost use Rattle.std.specs.Prelude.{◌≡◌, ◌<◌, ℕ, false, slice_index_or, slice_set};
-ghost use Rattle.qs_program.specs.Limits.{most_clients, most_handlers};
+ghost use Rattle.qs_program.specs.audit.Limits.{most_clients, most_handlers};
 ghost use Rattle.qs_core.specs.state.CoreStuck.{IsNobody};
 
 use qs_program::{MOST_CLIENTS, MOST_HANDLERS};

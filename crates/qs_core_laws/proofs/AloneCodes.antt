@@ -4,15 +4,16 @@
 -- client has any blocks.
 use Rattle.std.proofs.Common.{◌≡◌, ◌<◌, ◌≤◌, ℕ, zero, suc, arith, List, [], refl, sym}
 use Rattle.std.proofs.lemmas.List.FromFn.{get_or-map-range_with_len}
-use Rattle.qs_program.specs.Loads.{load_of}
-use Rattle.qs_program.specs.Program.{binding_of, block_at}
-use Rattle.qs_program.specs.Statements.{Statements}
-use Rattle.qs_graph.specs.Graphs.{block_graph}
-use Rattle.qs_graph.specs.Names.{graph_of}
-use Rattle.qs_graph.specs.Nodes.{GraphNode, over_objects}
+use Rattle.qs_program.specs.audit.Loads.{load_of}
+use Rattle.qs_program.specs.audit.Program.{binding_of, block_at}
+use Rattle.qs_program.specs.audit.Statements.{Statements}
+use Rattle.qs_graph.specs.audit.Graphs.{block_graph}
+use Rattle.qs_graph.specs.audit.Names.{graph_of}
+use Rattle.qs_graph.specs.audit.Nodes.{GraphNode}
+use Rattle.qs_graph.specs.Nodes.{over_objects}
 use Rattle.qs_syncset.specs.declared.mode.Mode.{Mode}
-use Rattle.qs_syncset.specs.Codes.{IsBlockCode, IsCodeOf, IsGraphOf, code_at, AreCodes}
-use Rattle.qs_syncset.specs.Modes.{is_dynamic, is_static}
+use Rattle.qs_syncset.specs.audit.Codes.{IsBlockCode, IsCodeOf, IsGraphOf, code_at, AreCodes}
+use Rattle.qs_syncset.specs.audit.Modes.{is_dynamic, is_static}
 use Rattle.qs_graph.proofs.Bindings.{unbound}
 use Rattle.qs_syncset.proofs.Unaliased.{graph_named}
 use Rattle.qs_core_laws.specs.CoalescedExamples.{alone, codes_with}

@@ -4,33 +4,35 @@ use Rattle.std.proofs.Common.{◌≡◌, ◌<◌, ◌≤◌, arith, ℕ, zero, s
 use Rattle.std.specs.List.{AllByRecursion}
 use Rattle.std.proofs.Math.Path.{fun_ext}
 use Rattle.std.proofs.lemmas.List.Elements.{filter-append}
-use Rattle.qs_objects.specs.Journals.{HeldState}
-use Rattle.qs_objects.specs.Parts.{same}
+use Rattle.qs_objects.specs.audit.Journals.{HeldState}
+use Rattle.qs_objects.specs.audit.Parts.{same}
 use Rattle.qs_objects.specs.declared.held.Ticket.{Ticket}
 use Rattle.qs_objects.proofs.Choices.{apart_eqb, num_cases, ticket_cases}
-use Rattle.qs_meaning.specs.Solo.{put}
+use Rattle.qs_meaning.specs.audit.Solo.{put}
 use Rattle.qs_meaning.proofs.Each.{each_map, each_both, each_snoc, each_front, each_kept}
 use Rattle.qs_meaning.proofs.TreeWalks.{put_here, put_there}
-use Rattle.qs_meaning.specs.Following.{reserves, block_tree, AsksOnly}
-use Rattle.qs_program.specs.Program.{ProgramShape, blocks_of}
-use Rattle.qs_meaning.specs.Serial.{zeros}
-use Rattle.qs_program.specs.Values.{Locals}
+use Rattle.qs_meaning.specs.audit.Following.{reserves}
+use Rattle.qs_meaning.specs.Following.{block_tree, AsksOnly}
+use Rattle.qs_program.specs.audit.Program.{ProgramShape, blocks_of}
+use Rattle.qs_meaning.specs.audit.Serial.{zeros}
+use Rattle.qs_program.specs.audit.Values.{Locals}
 use Rattle.qs_meaning.specs.BlockRecords.{BlockRecord, Begins}
-use Rattle.qs_graph.specs.Synced.{Synced, without_syncs}
+use Rattle.qs_graph.specs.audit.Synced.{Synced}
+use Rattle.qs_graph.specs.Synced.{without_syncs}
 use Rattle.qs_syncset.specs.SoundSynced.{IsSoundSynced, IsOnReserved}
 use Rattle.qs_chunk.specs.LaneViews.{ObjectStance, sends, gone}
 use Rattle.qs_chunk.specs.declared.parcel.Parcel.{Parcel}
-use Rattle.qs_client.specs.rules.Client.{Client, Settings, Settlement, between, begin}
+use Rattle.qs_client.specs.audit.rules.Client.{Client, Settings, Settlement, between, begin}
 use Rattle.qs_played.proofs.FunctionUpdate.{put_at, put_at_here, put_at_there, put_all, put_field, put_at_field}
-use Rattle.qs_played.specs.Played.{ticket}
+use Rattle.qs_played.specs.audit.Played.{ticket}
 use Rattle.qs_played.proofs.Orders.{legal-more, counts-more}
 use Rattle.qs_core_laws.proofs.protocol.ObjectViews.{as_list, HandlerLog, ahead, IsObject}
 use Rattle.qs_core_laws.proofs.protocol.ClientInvariants.{objects_of_block, Lined, Leaving, PlaceOk, standing_at}
 use Rattle.qs_core_laws.proofs.protocol.ClientLogs.{books_ok}
 use Rattle.qs_core_laws.proofs.protocol.ObjectSteps.{enter_ok}
 use Rattle.qs_core_laws.proofs.protocol.ActObjects.{settle_begun}
-use Rattle.qs_played.specs.JournalRooms.{fresh_held}
-use Rattle.qs_core_laws.specs.Core.{Core}
+use Rattle.qs_played.specs.audit.JournalRooms.{fresh_held}
+use Rattle.qs_core_laws.specs.audit.Core.{Core}
 use Rattle.qs_core_laws.proofs.CoreInvariant.{LaneHistory, post, deeds, TicketOk, CoreInvariant}
 use Rattle.qs_core_laws.proofs.HandlerSteps.{of_ahead}
 use Rattle.qs_core_laws.proofs.ClientSteps.{place_record, place_lane, place_gone}

@@ -4,15 +4,17 @@
 -- ticket that was served has none left.
 use Rattle.std.proofs.Common.{◌≡◌, ◌<◌, ◌≤◌, arith, ℕ, suc, Bool, true, false, true≢false, if◌then◌else◌, ◌==◌, List, [], ◌∷◌, ◌++◌, map, filter, refl, sym, ap, ap₂, ◌∙◌, subst, ◌⊎◌, inl, inr, ⊎_elim, append-nil, Option, Some, None}
 use Rattle.std.specs.List.{AllByRecursion}
-use Rattle.qs_objects.specs.Journals.{HeldState}
-use Rattle.qs_objects.specs.Parts.{command_event, part, same}
+use Rattle.qs_objects.specs.audit.Journals.{HeldState}
+use Rattle.qs_objects.specs.audit.Parts.{command_event, part, same}
 use Rattle.qs_objects.specs.declared.held.Event.{Event}
 use Rattle.qs_objects.specs.declared.held.Ticket.{Ticket}
 use Rattle.qs_objects.specs.declared.Request.{Request}
 use Rattle.qs_objects.proofs.Choices.{apart_eqb, eqb_self, eqb_true, num_cases, not_same}
-use Rattle.qs_meaning.specs.Following.{reserves, block_tree}
-use Rattle.qs_program.specs.Program.{ProgramShape}
-use Rattle.qs_program.specs.Sound.{IsSound, is_in}
+use Rattle.qs_meaning.specs.audit.Following.{reserves}
+use Rattle.qs_meaning.specs.Following.{block_tree}
+use Rattle.qs_program.specs.audit.Program.{ProgramShape}
+use Rattle.qs_program.specs.audit.Sound.{is_in}
+use Rattle.qs_program.specs.Sound.{IsSound}
 use Rattle.qs_meaning.proofs.Each.{each_map, each_both, each_join, each_front, each_back, each_kept, each_passes}
 use Rattle.qs_meaning.proofs.Histories.{Among, Apart, parts_of}
 use Rattle.qs_meaning.proofs.SerialRuns.{legal_apart}
@@ -22,16 +24,17 @@ use Rattle.qs_chunk.specs.LaneViews.{ObjectStance, sends, asks, gone, ClientLane
 use Rattle.qs_chunk.specs.declared.parcel.Parcel.{Parcel}
 use Rattle.qs_chunk.specs.LaneParts.{commands_in, lane_of}
 use Rattle.qs_chunk.specs.LaneViews as views
-use Rattle.qs_handler.specs.Handler.{Handler, free, serves, spares, gives, away, closed, serving}
-use Rattle.qs_client.specs.rules.Client.{Client, ClientStage, between, runs, full, awaits, leaves}
+use Rattle.qs_handler.specs.audit.Handler.{Handler, free, serves, spares, gives, away, closed}
+use Rattle.qs_handler.specs.Handler.{serving}
+use Rattle.qs_client.specs.audit.rules.Client.{Client, ClientStage, between, runs, full, awaits, leaves}
 use Rattle.qs_played.proofs.Orders.{each_among, apart_kept, apart_both}
 use Rattle.qs_core_laws.proofs.protocol.ClientInvariants.{in_hand, PlaceOk, standing_at}
 use Rattle.qs_core_laws.proofs.protocol.ObjectViews.{stance, Rising, HandlerLog, ahead}
 use Rattle.qs_core_laws.proofs.protocol.LaneParts.{IsEnded, AreCut, ended_back, gone_ended, lane_of_other, lane_of_own}
 use Rattle.qs_core_laws.proofs.protocol.LaneWays.{gone_over}
 use Rattle.qs_core_laws.proofs.protocol.LaneWholes.{IsCut, chunk_of, cut_back, sent_cut}
-use Rattle.qs_played.specs.JournalRooms.{fresh_held}
-use Rattle.qs_core_laws.specs.Core.{Core}
+use Rattle.qs_played.specs.audit.JournalRooms.{fresh_held}
+use Rattle.qs_core_laws.specs.audit.Core.{Core}
 use Rattle.qs_core_laws.specs.CoreSchedule.{in_chunk, on_way, or_none}
 use Rattle.qs_core_laws.proofs.CoreInvariant.{LaneHistory, post, TicketOk, CoreInvariant}
 use Rattle.qs_core_laws.proofs.HandlerSteps.{deeds_ok, may_ahead}

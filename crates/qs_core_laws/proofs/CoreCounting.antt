@@ -6,37 +6,39 @@ use Rattle.std.proofs.Common.{◌≡◌, ◌<◌, ◌≤◌, ℕ, zero, suc, ◌
 use Rattle.std.specs.Prelude.{sum_by}
 use Rattle.std.specs.List.{IsDistinct, range_with_len}
 use Rattle.std.proofs.lemmas.List.Sums.{sum_by_push}
-use Rattle.qs_objects.specs.Journals.{HeldState}
-use Rattle.qs_objects.specs.Parts.{same}
+use Rattle.qs_objects.specs.audit.Journals.{HeldState}
+use Rattle.qs_objects.specs.audit.Parts.{same}
 use Rattle.qs_objects.specs.declared.held.Event.{Event}
 use Rattle.qs_objects.specs.declared.held.Ticket.{Ticket}
 use Rattle.qs_objects.proofs.Choices.{apart_eqb, num_cases, ticket_cases}
 use Rattle.qs_objects.specs.declared.held.Next.TheVariants as nexts
-use Rattle.qs_program.specs.Program.{ProgramShape, blocks_of, text_of}
-use Rattle.qs_meaning.specs.Solo.{put}
-use Rattle.qs_program.specs.Sound.{IsSound, is_in}
-use Rattle.qs_meaning.specs.Following.{reserves}
-use Rattle.qs_program.specs.Values.{Locals}
+use Rattle.qs_program.specs.audit.Program.{ProgramShape, blocks_of, text_of}
+use Rattle.qs_meaning.specs.audit.Solo.{put}
+use Rattle.qs_program.specs.audit.Sound.{is_in}
+use Rattle.qs_program.specs.Sound.{IsSound}
+use Rattle.qs_meaning.specs.audit.Following.{reserves}
+use Rattle.qs_program.specs.audit.Values.{Locals}
 use Rattle.qs_meaning.proofs.Histories.{Among}
 use Rattle.qs_meaning.proofs.SerialRuns.{legal_apart}
 use Rattle.qs_syncset.specs.declared.mode.Mode.{Mode}
-use Rattle.qs_syncset.specs.Codes.{ClientCode, AreCodes, blocks_in, reserved_of}
+use Rattle.qs_syncset.specs.audit.Codes.{ClientCode, AreCodes, blocks_in, reserved_of}
 use Rattle.qs_syncset.specs.SyncCounts.{syncs_along}
-use Rattle.qs_sync_counts.specs.SyncRows.{object_of, syncs_for, with_sync}
+use Rattle.qs_sync_counts.specs.audit.SyncRows.{object_of, with_sync}
+use Rattle.qs_sync_counts.specs.SyncRows.{syncs_for}
 use Rattle.qs_sync_counts.specs.declared.sync_counts.SyncCount.{SyncCount}
 use Rattle.qs_syncset.proofs.CountedSyncs.{code_asks}
 use Rattle.qs_syncset.proofs.SyncTrees.{IsAsking}
 use Rattle.qs_chunk.specs.declared.parcel.Parcel.{Parcel}
 use Rattle.qs_chunk.specs.declared.parcel.Parcel.TheVariants as parcels
-use Rattle.qs_handler.specs.Handler.{Handler, gave, accept_parcel, accept_next}
-use Rattle.qs_handler.specs.Handler as handlers
+use Rattle.qs_handler.specs.audit.Handler.{Handler, gave, accept_parcel, accept_next}
+use Rattle.qs_handler.specs.audit.Handler as handlers
 use Rattle.qs_handler.specs.declared.mind.Act as handler_acts
 use Rattle.qs_handler.specs.declared.mind.Act.TheVariants as acts
-use Rattle.qs_client.specs.rules.Client.{Client, Settlement, between, begin, take_object, after_parcel, take_chunk}
-use Rattle.qs_client.specs.run.BlockSizes.{longest}
+use Rattle.qs_client.specs.audit.rules.Client.{Client, Settlement, between, begin, take_object, after_parcel, take_chunk}
+use Rattle.qs_client.specs.audit.run.BlockSizes.{longest}
 use Rattle.qs_client.specs.declared.rules.act.Act.{Act}
 use Rattle.qs_client.specs.declared.rules.act.Act.TheVariants.{Reserve, Send, Await, NeedChunk, Finished}
-use Rattle.qs_played.specs.Played.{ticket}
+use Rattle.qs_played.specs.audit.Played.{ticket}
 use Rattle.qs_played.specs.declared.schedule.actor.Actor.{Actor}
 use Rattle.qs_played.proofs.ReservedObjects.{distinct_objects, reserved_inside}
 use Rattle.qs_played.proofs.SyncTallies.{none_for, objects_none, objects_stay, sent_for}
@@ -49,11 +51,11 @@ use Rattle.qs_core_laws.proofs.protocol.ActObjects.{not_send, not_await, not_nee
 use Rattle.qs_core_laws.proofs.protocol.ClientCounts.{CountAt, Counts, Even, Over, chunk_counts, count_up, got_counts, send_counts, settle_counts}
 use Rattle.qs_core_laws.proofs.protocol.ClientInvariants.{PlaceOk, Leaving}
 use Rattle.qs_core_laws.proofs.protocol.ObjectViews.{HandlerLog}
-use Rattle.qs_chunk.specs.Limits.{lane_room, spare_room}
-use Rattle.qs_core_laws.specs.Core.{Core, client_step, core_begin, core_step, gets, gives, gives_chunk, after_handler, handler_step, handles, lies, put_ticket, after_reserve, reserves_from, sends, settings_of, after_act, takes_chunk, takes_parcel, takes_ticket, with_down, with_spare, with_tickets, with_up}
-use Rattle.qs_client.specs.ClientModel.{synced_block}
-use Rattle.qs_core_laws.specs.CoreSchedule.{core_plays}
-use Rattle.qs_played.specs.Schedule.{or_stay}
+use Rattle.qs_chunk.specs.audit.Limits.{lane_room, spare_room}
+use Rattle.qs_core_laws.specs.audit.Core.{Core, client_step, core_begin, core_step, gets, gives, gives_chunk, after_handler, handler_step, handles, lies, put_ticket, after_reserve, reserves_from, sends, settings_of, after_act, takes_chunk, takes_parcel, takes_ticket, with_down, with_spare, with_tickets, with_up}
+use Rattle.qs_client.specs.audit.ClientModel.{synced_block}
+use Rattle.qs_core_laws.specs.audit.CoreSchedule.{core_plays}
+use Rattle.qs_played.specs.audit.Schedule.{or_stay}
 use Rattle.qs_client.proofs.run.CodeBounds.{longest_covers}
 use Rattle.qs_core_laws.proofs.CoreInvariant.{LaneHistory, CoreInvariant}
 use Rattle.qs_core_laws.proofs.CoreSteps.{HasInvariant, begin_kept, begun_by, has_more, is_between, next_of, step_kept}

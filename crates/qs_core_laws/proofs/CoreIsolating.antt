@@ -4,32 +4,34 @@ use Rattle.std.proofs.Common.{◌≡◌, ◌<◌, ◌≤◌, ℕ, zero, suc, ◌
 use Rattle.std.proofs.lemmas.List.{get_or-map, get_or_past, length-map}
 use Rattle.std.proofs.lemmas.List.FromFn.{get_or-map-range_with_len, length-range_with_len}
 use Rattle.std.specs.List.{range_with_len}
-use Rattle.qs_objects.specs.Journals.{HeldState, replay, without_tickets, IsHonest}
+use Rattle.qs_objects.specs.audit.Journals.{HeldState, replay, without_tickets, IsHonest}
 use Rattle.qs_objects.specs.Parts.{HasEntry}
 use Rattle.qs_objects.specs.declared.held.Ticket.{Ticket}
 use Rattle.qs_objects.proofs.Choices.{and_cases}
-use Rattle.qs_meaning.specs.Following.{reserves}
-use Rattle.qs_program.specs.Program.{ProgramShape, blocks_of}
-use Rattle.qs_meaning.specs.Serial.{declared_states, no_state}
+use Rattle.qs_meaning.specs.audit.Following.{reserves}
+use Rattle.qs_program.specs.audit.Program.{ProgramShape, blocks_of}
+use Rattle.qs_meaning.specs.audit.Serial.{declared_states, no_state}
 use Rattle.qs_program.specs.Sound.{IsSound}
 use Rattle.qs_meaning.proofs.Each.{each_map}
 use Rattle.qs_meaning.proofs.Histories.{Among, Flow, ObjectCourse, done_of, parts_of}
 use Rattle.qs_meaning.specs.BlockRecords.{IsDone}
 use Rattle.qs_meaning.proofs.SerialRuns.{line}
-use Rattle.qs_meaning.specs.Interaction as tree
-use Rattle.qs_handler.specs.Handler.{Handler, free, serves, spares, gives, away, closed, is_free, serving}
-use Rattle.qs_client.specs.rules.Client.{ClientStage, between, runs, full, awaits, leaves}
-use Rattle.qs_client.specs.ClientModel.{is_between, has_ended}
-use Rattle.qs_played.specs.Isolation.{IsIsolated, journal_of, state_of, ticket_at, trace_of}
-use Rattle.qs_played.specs.Played.{ticket}
-use Rattle.qs_played.specs.Played.{Played}
+use Rattle.qs_meaning.specs.audit.Interaction as tree
+use Rattle.qs_handler.specs.audit.Handler.{Handler, free, serves, spares, gives, away, closed, is_free}
+use Rattle.qs_handler.specs.Handler.{serving}
+use Rattle.qs_client.specs.audit.rules.Client.{ClientStage, between, runs, full, awaits, leaves}
+use Rattle.qs_client.specs.audit.ClientModel.{is_between, has_ended}
+use Rattle.qs_played.specs.audit.Isolation.{journal_of, state_of, ticket_at, trace_of}
+use Rattle.qs_played.specs.Isolation.{IsIsolated}
+use Rattle.qs_played.specs.audit.Played.{ticket, Played}
 use Rattle.qs_played.proofs.Orders.{each_among, legal_among}
 use Rattle.qs_played.proofs.AbstractRun.{IsRun, run_isolated}
 use Rattle.qs_played.proofs.JournalRooms.{no_block_beyond}
 use Rattle.qs_core_laws.proofs.protocol.ClientInvariants.{PlaceOk}
 use Rattle.qs_core_laws.proofs.protocol.ObjectViews.{HandlerLog, ahead}
-use Rattle.qs_core_laws.specs.Core.{Core, core_begin}
-use Rattle.qs_core_laws.specs.CoreSchedule.{CoreRunsAreIsolated, all_of, core_played, core_plays, held_now, held_or_none, is_done, is_finished, is_idle, on_way}
+use Rattle.qs_core_laws.specs.audit.Core.{Core, core_begin}
+use Rattle.qs_core_laws.specs.audit.CoreSchedule.{all_of, core_played, core_plays, held_now, held_or_none, is_done, is_finished, is_idle}
+use Rattle.qs_core_laws.specs.CoreSchedule.{CoreRunsAreIsolated, on_way}
 use Rattle.qs_core_laws.proofs.protocol.ReservedLists.{lined}
 use Rattle.qs_core_laws.proofs.JournalOrder.{goes}
 use Rattle.qs_core_laws.proofs.CoreInvariant.{LaneHistory, post, TicketOk, CoreInvariant}

@@ -4,28 +4,29 @@
 -- received.
 use Rattle.std.proofs.Common.{◌≡◌, ◌≤◌, arith, ℕ, suc, Bool, true, false, true≢false, if◌then◌else◌, ◌==◌, ◌&&◌, List, [], ◌∷◌, ◌++◌, filter, flat_map, refl, sym, ap, ap₂, ◌∙◌, subst, ◌⊎◌, inl, inr, ⊎_elim, Option, Some, None}
 use Rattle.std.specs.List.{AllByRecursion}
-use Rattle.qs_objects.specs.Journals.{HeldState}
-use Rattle.qs_objects.specs.Parts.{part}
+use Rattle.qs_objects.specs.audit.Journals.{HeldState}
+use Rattle.qs_objects.specs.audit.Parts.{part}
 use Rattle.qs_objects.specs.declared.held.Event.{Event}
 use Rattle.qs_objects.specs.declared.held.Ticket.{Ticket}
 use Rattle.qs_objects.specs.declared.Request.{Request}
 use Rattle.qs_objects.proofs.Choices.{eqb_self, apart_eqb, num_cases}
-use Rattle.qs_meaning.specs.Following.{reserves}
-use Rattle.qs_program.specs.Program.{ProgramShape}
-use Rattle.qs_program.specs.Sound.{is_in}
+use Rattle.qs_meaning.specs.audit.Following.{reserves}
+use Rattle.qs_program.specs.audit.Program.{ProgramShape}
+use Rattle.qs_program.specs.audit.Sound.{is_in}
 use Rattle.qs_chunk.specs.LaneViews.{ObjectStance, sends, asks, holds, gone, ClientLane, HandlerLane, HandlerGives, object_of}
 use Rattle.qs_chunk.specs.declared.parcel.Parcel.{Parcel}
-use Rattle.qs_chunk.specs.LaneParts.{away_at}
+use Rattle.qs_chunk.specs.audit.LaneParts.{away_at}
 use Rattle.qs_chunk.specs.LaneViews as views
 use Rattle.qs_chunk.specs.declared.parcel.Parcel.TheVariants as parcels
-use Rattle.qs_handler.specs.Handler.{Handler, free, serves, spares, gives, away, closed, serving}
-use Rattle.qs_client.specs.rules.Client.{Client, ClientStage, between, runs, full, awaits, leaves}
+use Rattle.qs_handler.specs.audit.Handler.{Handler, free, serves, spares, gives, away, closed}
+use Rattle.qs_handler.specs.Handler.{serving}
+use Rattle.qs_client.specs.audit.rules.Client.{Client, ClientStage, between, runs, full, awaits, leaves}
 use Rattle.qs_core_laws.proofs.protocol.ObjectViews.{stance, as_list, HandlerLog, ahead}
 use Rattle.qs_core_laws.proofs.protocol.ClientInvariants.{in_hand, objects_of_block, Lined, standing_at}
 use Rattle.qs_core_laws.proofs.protocol.LaneWays.{LastOf, none_of}
-use Rattle.qs_core_laws.specs.Core.{Core}
+use Rattle.qs_core_laws.specs.audit.Core.{Core}
 use Rattle.qs_core_laws.proofs.CoreInvariant.{LaneHistory, post, CoreInvariant}
-use Rattle.qs_core_laws.specs.CoreSchedule.{found_by}
+use Rattle.qs_core_laws.specs.audit.CoreSchedule.{found_by}
 use Rattle.qs_core_laws.proofs.HandlerSteps.{deeds_ok, of_ahead, may_ahead}
 use Rattle.qs_core_laws.proofs.SendingPreserved.{newest}
 

@@ -5,35 +5,36 @@
 use Rattle.std.proofs.Common.{◌≡◌, ◌≢◌, ◌<◌, ◌≤◌, ◌+◌, ◌-◌, arith, ℕ, suc, ◌==◌, Bool, true, false, if◌then◌else◌, List, [], ◌∷◌, ◌++◌, length, filter, sum_by, refl, sym, ap, ◌∙◌, subst, ⊎_elim, IsSome, IsTrue}
 use Rattle.std.specs.List.{AllByRecursion, range_with_len}
 use Rattle.std.proofs.lemmas.List.{length-append}
-use Rattle.qs_objects.specs.Journals.{HeldState}
-use Rattle.qs_objects.specs.Parts.{same}
+use Rattle.qs_objects.specs.audit.Journals.{HeldState}
+use Rattle.qs_objects.specs.audit.Parts.{same}
 use Rattle.qs_objects.specs.declared.held.Ticket.{Ticket}
 use Rattle.qs_objects.specs.declared.Request.{Request}
 use Rattle.qs_objects.proofs.Choices.{eqb_self, num_cases, not_same, same_self, ticket_cases}
-use Rattle.qs_meaning.specs.Following.{reserves}
-use Rattle.qs_program.specs.Program.{ProgramShape, blocks_of}
-use Rattle.qs_meaning.specs.Serial.{LegalFrom}
-use Rattle.qs_meaning.specs.Solo.{put}
+use Rattle.qs_meaning.specs.audit.Following.{reserves}
+use Rattle.qs_program.specs.audit.Program.{ProgramShape, blocks_of}
+use Rattle.qs_meaning.specs.audit.Serial.{LegalFrom}
+use Rattle.qs_meaning.specs.audit.Solo.{put}
 use Rattle.qs_program.specs.Sound.{IsSound}
-use Rattle.qs_program.specs.Values.{Locals}
+use Rattle.qs_program.specs.audit.Values.{Locals}
 use Rattle.qs_meaning.proofs.Each.{each_both}
 use Rattle.qs_meaning.proofs.Histories.{Apart}
 use Rattle.qs_meaning.proofs.SerialRuns.{legal_apart}
 use Rattle.qs_meaning.proofs.TreeWalks.{put_here, put_there}
 use Rattle.qs_syncset.specs.declared.mode.Mode.{Mode}
-use Rattle.qs_syncset.specs.Codes.{ClientCode, AreCodes, blocks_in}
-use Rattle.qs_chunk.specs.Batch.{Batch}
+use Rattle.qs_syncset.specs.audit.Codes.{ClientCode, AreCodes, blocks_in}
+use Rattle.qs_chunk.specs.audit.Batch.{Batch}
 use Rattle.qs_chunk.specs.Lanes.{may_stand}
 use Rattle.qs_chunk.specs.declared.parcel.Parcel.{Parcel}
 use Rattle.qs_chunk.specs.LaneViews as views
 use Rattle.qs_chunk.specs.declared.parcel.Parcel.TheVariants as parcels
-use Rattle.qs_handler.specs.Handler.{Handler, free, serves, spares, gives, away, closed, is_away, serving}
-use Rattle.qs_handler.specs.Handler as handlers
+use Rattle.qs_handler.specs.audit.Handler.{Handler, free, serves, spares, gives, away, closed}
+use Rattle.qs_handler.specs.Handler.{is_away, serving}
+use Rattle.qs_handler.specs.audit.Handler as handlers
 use Rattle.qs_handler.specs.declared.mind.Act.TheVariants as acts
-use Rattle.qs_client.specs.rules.Client.{act_of, between}
+use Rattle.qs_client.specs.audit.rules.Client.{act_of, between}
 use Rattle.qs_client.specs.declared.rules.act.Act.{Act}
 use Rattle.qs_client.specs.declared.rules.act.Act.TheVariants as wants
-use Rattle.qs_played.specs.Played.{ticket}
+use Rattle.qs_played.specs.audit.Played.{ticket}
 use Rattle.qs_played.specs.declared.schedule.actor.Actor.{Actor}
 use Rattle.qs_played.proofs.ReservedObjects.{reserved_inside}
 use Rattle.qs_played.proofs.Orders.{apart_kept, counts_after}
@@ -41,9 +42,10 @@ use Rattle.qs_played.proofs.JournalRooms.{no_block_beyond, sum_changed, sum_same
 use Rattle.qs_core_laws.proofs.protocol.ActObjects.{await_at, need_at, not_await, not_need, not_send, send_at}
 use Rattle.qs_core_laws.proofs.protocol.LaneWays.{MayCome}
 use Rattle.qs_core_laws.proofs.protocol.ObjectViews.{HandlerLog, PastOf}
-use Rattle.qs_played.specs.JournalRooms.{fresh_held}
-use Rattle.qs_core_laws.specs.Core.{Core, client_step, core_begin, settings_of}
-use Rattle.qs_core_laws.specs.CoreSchedule.{before_it, core_plays, found_by}
+use Rattle.qs_played.specs.audit.JournalRooms.{fresh_held}
+use Rattle.qs_core_laws.specs.audit.Core.{Core, client_step, core_begin, settings_of}
+use Rattle.qs_core_laws.specs.audit.CoreSchedule.{core_plays, found_by}
+use Rattle.qs_core_laws.specs.CoreSchedule.{before_it}
 use Rattle.qs_core_laws.specs.CoreReached.{NextStands, IsBegun, HandlersServe, ClientsAsk, TicketsStand, OthersRest, CoreStands, ReachedCore}
 use Rattle.qs_core_laws.proofs.CoreBounds.{CoreBounded, run_both}
 use Rattle.qs_core_laws.proofs.protocol.ReservedLists.{lined}

@@ -3,43 +3,44 @@
 -- proof goes by cases on the actor and on its act, where each kind of step has its own lemma in another file, and then
 -- by induction on the list.
 use Rattle.std.proofs.Common.{◌≡◌, ◌<◌, ◌-◌, ℕ, zero, suc, nat_lt, Bool, true, false, if◌then◌else◌, List, [], ◌∷◌, ◌++◌, length, refl, sym, ap, ◌∙◌, subst, Option, Some, None, arith}
-use Rattle.qs_objects.specs.Journals.{HeldState}
+use Rattle.qs_objects.specs.audit.Journals.{HeldState}
 use Rattle.qs_objects.specs.declared.held.Ticket.{Ticket}
 use Rattle.qs_objects.specs.declared.held.Next.TheVariants as nexts
 use Rattle.qs_meaning.specs.Following.{block_tree}
-use Rattle.qs_program.specs.Program.{ProgramShape, blocks_of}
-use Rattle.qs_meaning.specs.Serial.{zeros}
-use Rattle.qs_meaning.specs.Solo.{put}
-use Rattle.qs_program.specs.Sound.{IsSound, is_in}
-use Rattle.qs_program.specs.Values.{Locals}
+use Rattle.qs_program.specs.audit.Program.{ProgramShape, blocks_of}
+use Rattle.qs_meaning.specs.audit.Serial.{zeros}
+use Rattle.qs_meaning.specs.audit.Solo.{put}
+use Rattle.qs_program.specs.audit.Sound.{is_in}
+use Rattle.qs_program.specs.Sound.{IsSound}
+use Rattle.qs_program.specs.audit.Values.{Locals}
 use Rattle.qs_meaning.proofs.SoundTrees.{blocks_ask_only}
 use Rattle.qs_syncset.specs.declared.mode.Mode.{Mode}
-use Rattle.qs_syncset.specs.Codes.{ClientCode, AreCodes, blocks_in}
+use Rattle.qs_syncset.specs.audit.Codes.{ClientCode, AreCodes, blocks_in}
 use Rattle.qs_chunk.specs.LaneViews.{sends}
 use Rattle.qs_chunk.specs.declared.parcel.Parcel.{Parcel}
-use Rattle.qs_handler.specs.Handler.{Handler, free, serves, spares, gives, away, closed, accept_next, accept_parcel, gave}
-use Rattle.qs_handler.specs.Handler as handlers
-use Rattle.qs_client.specs.rules.Client.{Settlement, act_of, act_at, between, after_parcel, take_object, take_chunk, begin}
+use Rattle.qs_handler.specs.audit.Handler.{Handler, free, serves, spares, gives, away, closed, accept_next, accept_parcel, gave}
+use Rattle.qs_handler.specs.audit.Handler as handlers
+use Rattle.qs_client.specs.audit.rules.Client.{Settlement, act_of, act_at, between, after_parcel, take_object, take_chunk, begin}
 use Rattle.qs_client.specs.declared.rules.act.Act.{Act}
 use Rattle.qs_client.specs.declared.rules.act.Act.TheVariants.{Reserve, Send, Await, NeedChunk, Finished}
-use Rattle.qs_played.specs.Played.{ticket}
+use Rattle.qs_played.specs.audit.Played.{ticket}
 use Rattle.qs_played.specs.declared.schedule.actor.Actor.{Actor}
 use Rattle.qs_played.specs.declared.schedule.actor.Actor.TheVariants as actor
 use Rattle.qs_core_laws.proofs.protocol.ObjectViews.{HandlerLog}
 use Rattle.qs_core_laws.proofs.protocol.ActObjects.{not_send, not_await, not_need, reserve_at}
-use Rattle.qs_played.specs.JournalRooms.{fresh_held}
-use Rattle.qs_chunk.specs.Limits.{lane_room, spare_room}
-use Rattle.qs_core_laws.specs.Core.{Core, client_step, core_begin, core_step, gets, gives_chunk, after_handler, handler_step, handles, lies, put_lane, reserves_from, settings_of, after_act, syncs_after, takes_chunk, takes_parcel, takes_ticket, with_down, with_spare, with_tickets, with_up}
-use Rattle.qs_client.specs.ClientModel.{synced_block}
-use Rattle.qs_core_laws.specs.CoreSchedule.{core_plays}
-use Rattle.qs_played.specs.Schedule.{or_stay}
+use Rattle.qs_played.specs.audit.JournalRooms.{fresh_held}
+use Rattle.qs_chunk.specs.audit.Limits.{lane_room, spare_room}
+use Rattle.qs_core_laws.specs.audit.Core.{Core, client_step, core_begin, core_step, gets, gives_chunk, after_handler, handler_step, handles, lies, put_lane, reserves_from, settings_of, after_act, syncs_after, takes_chunk, takes_parcel, takes_ticket, with_down, with_spare, with_tickets, with_up}
+use Rattle.qs_client.specs.audit.ClientModel.{synced_block}
+use Rattle.qs_core_laws.specs.audit.CoreSchedule.{core_plays}
+use Rattle.qs_played.specs.audit.Schedule.{or_stay}
 use Rattle.qs_core_laws.proofs.CoreInvariant.{LaneHistory, CoreInvariant}
 use Rattle.qs_core_laws.proofs.protocol.ReservedLists.{lined}
 use Rattle.qs_core_laws.proofs.protocol.ProgramTrees.{blocks_are, reserved_is, block_walk}
 use Rattle.qs_core_laws.proofs.HandlerSteps.{some_is, take_kept, serves_kept, away_kept, give_kept, spare_kept}
 use Rattle.qs_core_laws.proofs.SendingPreserved.{send_kept, get_kept, chunk_kept}
 use Rattle.qs_core_laws.proofs.BookingPreserved.{reserve_kept}
-use Rattle.qs_core_laws.specs.Core as core
+use Rattle.qs_core_laws.specs.audit.Core as core
 
 positive : (n : ℕ) → (n ≡ 0 → ⊥) → n ≡ suc (n - 1)
 positive zero non = absurd (non refl)

@@ -10,16 +10,18 @@ use Rattle.std.proofs.lemmas.List.Sums.{sum_by-cons}
 use Rattle.qs_objects.specs.declared.held.Ticket.{Ticket}
 use Rattle.qs_objects.proofs.Elements.{AllByRecursion-get_or}
 use Rattle.qs_meaning.specs.Following.{Leads, block_tree}
-use Rattle.qs_program.specs.Program.{ProgramShape, blocks_of}
+use Rattle.qs_program.specs.audit.Program.{ProgramShape, blocks_of}
 use Rattle.qs_program.specs.Sound.{IsSound}
 use Rattle.qs_syncset.specs.declared.mode.Mode.{Mode}
-use Rattle.qs_syncset.specs.Codes.{ClientCode, AreCodes, reserved_of}
+use Rattle.qs_syncset.specs.audit.Codes.{ClientCode, AreCodes, reserved_of}
 use Rattle.qs_syncset.specs.SyncCounts.{syncs_along}
-use Rattle.qs_sync_counts.specs.SyncRows.{object_of, syncs_for, syncs_of}
-use Rattle.qs_client.specs.rules.Client.{Client, ClientStage, between, runs, full, awaits, leaves}
-use Rattle.qs_client.specs.ClientModel.{is_between, has_ended, synced_block}
-use Rattle.qs_played.specs.Isolation.{ended_of, entry_of, ticket_at, trace_of}
-use Rattle.qs_played.specs.Played.{ticket, Played}
+use Rattle.qs_sync_counts.specs.audit.SyncRows.{object_of, syncs_of}
+use Rattle.qs_sync_counts.specs.SyncRows.{syncs_for}
+use Rattle.qs_client.specs.audit.rules.Client.{Client, ClientStage, between, runs, full, awaits, leaves}
+use Rattle.qs_client.specs.audit.ClientModel.{is_between, has_ended, synced_block}
+use Rattle.qs_played.specs.audit.Isolation.{ended_of, ticket_at, trace_of}
+use Rattle.qs_played.specs.Isolation.{entry_of}
+use Rattle.qs_played.specs.audit.Played.{ticket, Played}
 use Rattle.qs_played.specs.SyncSums.{AreSent, AreSyncsCounted, IsCounted, counts_at, syncs_at}
 use Rattle.qs_played.proofs.ReservedObjects.{listed_inside}
 use Rattle.qs_played.proofs.SyncLists.{legal_blocks, sum_inside, sum_of, total_of}
@@ -27,8 +29,8 @@ use Rattle.qs_played.proofs.SyncTallies.{sent_of, total_for}
 use Rattle.qs_core_laws.proofs.protocol.ClientCounts.{CountAt, even_now}
 use Rattle.qs_core_laws.proofs.protocol.ClientInvariants.{holding}
 use Rattle.qs_core_laws.proofs.protocol.ObjectViews.{HandlerLog}
-use Rattle.qs_core_laws.specs.Core.{Core, core_begin, settings_of}
-use Rattle.qs_core_laws.specs.CoreSchedule.{core_played, core_plays}
+use Rattle.qs_core_laws.specs.audit.Core.{Core, core_begin, settings_of}
+use Rattle.qs_core_laws.specs.audit.CoreSchedule.{core_played, core_plays}
 use Rattle.qs_core_laws.specs.CoreSyncSums.{CoreSyncsAreCounted}
 use Rattle.qs_core_laws.proofs.protocol.CountedTraces.{sent_as, trace_counted, tree_count}
 use Rattle.qs_core_laws.proofs.CoreCounting.{CountedBy, HaveCounts, run_counted}

@@ -5,29 +5,32 @@
 use Rattle.std.proofs.Common.{◌≡◌, ◌+◌, ◌≤◌, arith, ℕ, suc, Bool, true, false, true≢false, if◌then◌else◌, List, [], ◌∷◌, ◌++◌, map, filter, length, refl, sym, ap, ◌∙◌, subst, inl, inr, append_assoc, append-nil, None}
 use Rattle.std.specs.List.{AllByRecursion}
 use Rattle.std.proofs.lemmas.List.{length-append, length-map, map-append}
-use Rattle.qs_objects.specs.Journals.{HeldState, replay, unstamp, without_tickets, IsHonest}
+use Rattle.qs_objects.specs.audit.Journals.{HeldState, replay, unstamp, without_tickets, IsHonest}
 use Rattle.qs_objects.specs.Laws.{IsCommand}
-use Rattle.qs_objects.specs.Parts.{command_event, stamp}
+use Rattle.qs_objects.specs.audit.Parts.{command_event}
+use Rattle.qs_objects.specs.Parts.{stamp}
 use Rattle.qs_objects.specs.declared.held.Entry.{Entry}
 use Rattle.qs_objects.specs.declared.held.Event.{Event}
 use Rattle.qs_objects.specs.declared.held.Ticket.{Ticket}
 use Rattle.qs_objects.specs.declared.Request.{Request}
 use Rattle.qs_objects.proofs.ObjectLaws.{command_is}
-use Rattle.qs_meaning.specs.Following.{reserves, block_tree}
-use Rattle.qs_program.specs.Program.{ProgramShape, text_of}
+use Rattle.qs_meaning.specs.audit.Following.{reserves}
+use Rattle.qs_meaning.specs.Following.{block_tree}
+use Rattle.qs_program.specs.audit.Program.{ProgramShape, text_of}
 use Rattle.qs_program.specs.Sound.{IsSound}
 use Rattle.qs_meaning.proofs.Each.{each_map, each_both, each_unfiltered}
 use Rattle.qs_meaning.proofs.Histories.{Among, Flow, ObjectCourse, NoQuery, OnlyCommands, done_of, parts_of, unstamp_all}
 use Rattle.qs_meaning.proofs.RequestPaths.{requests_within}
 use Rattle.qs_chunk.specs.LaneViews.{AllCommands, Extends, gone, ClientLane, HandlerLane, object_of}
 use Rattle.qs_chunk.specs.LaneParts.{commands_in}
-use Rattle.qs_handler.specs.Handler.{Handler, free, serves, spares, gives, away, closed, serving}
-use Rattle.qs_played.specs.JournalRooms.{fresh_held, room_of}
+use Rattle.qs_handler.specs.audit.Handler.{Handler, free, serves, spares, gives, away, closed}
+use Rattle.qs_handler.specs.Handler.{serving}
+use Rattle.qs_played.specs.audit.JournalRooms.{fresh_held, room_of}
 use Rattle.qs_played.proofs.JournalRooms.{all_left, cost, leads_within, order_fits, total, total_less}
 use Rattle.qs_core_laws.proofs.protocol.LaneWholes.{chunk_of, match_over, match_whole, waits_are}
 use Rattle.qs_core_laws.proofs.protocol.ObjectViews.{stance, as_list, HandlerLog, PastOf, ahead}
 use Rattle.qs_core_laws.proofs.protocol.GrownJournals.{grown, grown_room, stamped_honest, stamped_replay}
-use Rattle.qs_core_laws.specs.Core.{Core}
+use Rattle.qs_core_laws.specs.audit.Core.{Core}
 use Rattle.qs_core_laws.specs.CoreSchedule.{on_way}
 use Rattle.qs_core_laws.proofs.CoreInvariant.{LaneHistory, post, TicketOk, CoreInvariant}
 use Rattle.qs_core_laws.proofs.CoreObjects.{object_now}

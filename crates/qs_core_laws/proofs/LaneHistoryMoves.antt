@@ -3,17 +3,17 @@
 -- use this for the client's last ticket. A ticket is either this one or stays as it was; none begins with what this one
 -- left, as it is its client's last.
 use Rattle.std.proofs.Common.{◌≡◌, ◌≤◌, ℕ, zero, suc, false, List, arith, refl, sym, ap, ◌∙◌, subst, ⊎_elim}
-use Rattle.qs_objects.specs.Journals.{HeldState}
-use Rattle.qs_objects.specs.Parts.{part, same}
+use Rattle.qs_objects.specs.audit.Journals.{HeldState}
+use Rattle.qs_objects.specs.audit.Parts.{part, same}
 use Rattle.qs_objects.specs.declared.held.Ticket.{Ticket}
 use Rattle.qs_objects.proofs.Choices.{ticket_cases}
-use Rattle.qs_program.specs.Program.{ProgramShape}
-use Rattle.qs_program.specs.Values.{Locals}
+use Rattle.qs_program.specs.audit.Program.{ProgramShape}
+use Rattle.qs_program.specs.audit.Values.{Locals}
 use Rattle.qs_meaning.specs.BlockRecords.{BlockRecord, Begins, IsDone}
-use Rattle.qs_meaning.specs.Interaction as tree
+use Rattle.qs_meaning.specs.audit.Interaction as tree
 use Rattle.qs_chunk.specs.LaneViews.{ObjectStance, gone, ClientLane}
 use Rattle.qs_chunk.specs.declared.parcel.Parcel.{Parcel}
-use Rattle.qs_played.specs.Played.{ticket}
+use Rattle.qs_played.specs.audit.Played.{ticket}
 use Rattle.qs_played.proofs.FunctionUpdate.{put_at, put_at_here, put_at_there}
 use Rattle.qs_core_laws.specs.protocol.ClientHistories.{IsOpenRecord}
 use Rattle.qs_core_laws.proofs.CoreInvariant.{LaneHistory, TicketOk}

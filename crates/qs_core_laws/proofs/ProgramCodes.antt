@@ -1,10 +1,10 @@
 -- Each checked program has codes in each mode: each client has its own, and there are none beyond the clients. That
 -- every beginning of a run goes on, and to which end, is said of runs with such codes.
 use Rattle.std.proofs.Common.{◌≡◌, ◌∙◌, ℕ, zero, suc, ◌≤◌, arith, List, [], ◌∷◌, length, refl}
-use Rattle.qs_program.specs.Program.{ProgramShape, blocks_of}
+use Rattle.qs_program.specs.audit.Program.{ProgramShape, blocks_of}
 use Rattle.qs_program.specs.Sound.{IsSound}
 use Rattle.qs_syncset.specs.declared.mode.Mode.{Mode}
-use Rattle.qs_syncset.specs.Codes.{BlockCode, ClientCode, AreCodes}
+use Rattle.qs_syncset.specs.audit.Codes.{BlockCode, ClientCode, AreCodes}
 use Rattle.qs_syncset.proofs.ProgramCodes.{client_code, own_code}
 use Rattle.qs_played.proofs.JournalRooms.{no_block_beyond}
 

@@ -6,26 +6,26 @@ use Rattle.std.proofs.Common.{◌≡◌, ◌≢◌, ◌<◌, ◌≤◌, arith, �
 use Rattle.std.specs.List.{AllByRecursion}
 use Rattle.std.proofs.Math.Path.{fun_ext}
 use Rattle.qs_sync_counts.specs.declared.sync_counts.SyncCount.{SyncCount}
-use Rattle.qs_objects.specs.Journals.{HeldState}
-use Rattle.qs_objects.specs.Parts.{part, same}
+use Rattle.qs_objects.specs.audit.Journals.{HeldState}
+use Rattle.qs_objects.specs.audit.Parts.{part, same}
 use Rattle.qs_objects.specs.declared.held.Event.{Event}
 use Rattle.qs_objects.specs.declared.held.Ticket.{Ticket}
 use Rattle.qs_objects.proofs.Choices.{apart_eqb, num_cases, ticket_cases, ticket_path, same_self}
-use Rattle.qs_meaning.specs.Solo.{put}
+use Rattle.qs_meaning.specs.audit.Solo.{put}
 use Rattle.qs_meaning.proofs.Each.{each_map, each_front, each_kept}
 use Rattle.qs_meaning.proofs.Histories.{Among}
 use Rattle.qs_meaning.specs.BlockRecords.{BlockRecord}
 use Rattle.qs_meaning.proofs.TreeWalks.{put_here, put_there}
-use Rattle.qs_meaning.specs.Following.{reserves}
-use Rattle.qs_program.specs.Program.{ProgramShape}
+use Rattle.qs_meaning.specs.audit.Following.{reserves}
+use Rattle.qs_program.specs.audit.Program.{ProgramShape}
 use Rattle.qs_chunk.specs.LaneViews.{ObjectStance, asks, gone, ClientLane}
 use Rattle.qs_chunk.specs.declared.parcel.Parcel.{Parcel}
 use Rattle.qs_handler.specs.Handler.{serving}
-use Rattle.qs_client.specs.rules.Client.{Client, Settings, Settlement, act_of, after_parcel, take_chunk}
+use Rattle.qs_client.specs.audit.rules.Client.{Client, Settings, Settlement, act_of, after_parcel, take_chunk}
 use Rattle.qs_client.specs.declared.rules.act.Act.TheVariants.{Send, Await, NeedChunk}
-use Rattle.qs_client.specs.rules.Client as clients
+use Rattle.qs_client.specs.audit.rules.Client as clients
 use Rattle.qs_played.proofs.FunctionUpdate.{put_at, put_at_here, put_at_there}
-use Rattle.qs_played.specs.Played.{ticket}
+use Rattle.qs_played.specs.audit.Played.{ticket}
 use Rattle.qs_played.proofs.Orders.{legal_among}
 use Rattle.qs_core_laws.proofs.protocol.ObjectViews.{as_list, PastOf, ObjectView, ClientLog, HandlerLog, ahead, IsObject}
 use Rattle.qs_core_laws.proofs.protocol.ClientInvariants.{objects_of_block, Lined, PlaceOk}
@@ -34,8 +34,8 @@ use Rattle.qs_core_laws.proofs.protocol.LaneWholes.{match_over}
 use Rattle.qs_core_laws.proofs.protocol.ClientLogs.{sends_ok, gets_ok, chunks_ok}
 use Rattle.qs_core_laws.proofs.protocol.ActObjects.{send_at, await_at, sent_begun, got_begun, chunk_begun}
 use Rattle.qs_core_laws.proofs.protocol.ObjectSteps.{send_ok, got_ok, last_of, up_serving}
-use Rattle.qs_played.specs.JournalRooms.{fresh_held}
-use Rattle.qs_core_laws.specs.Core.{Core, put_lane}
+use Rattle.qs_played.specs.audit.JournalRooms.{fresh_held}
+use Rattle.qs_core_laws.specs.audit.Core.{Core, put_lane}
 use Rattle.qs_core_laws.proofs.CoreInvariant.{LaneHistory, post, deeds, TicketOk, CoreInvariant}
 use Rattle.qs_core_laws.proofs.HandlerSteps.{put_lane_at, put_lane_there, put_up_at, put_up_there, post_path, deeds_ok, of_ahead, may_ahead}
 use Rattle.qs_core_laws.proofs.ClientSteps.{client_moves, state_after, story}

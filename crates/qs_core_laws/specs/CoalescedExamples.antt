@@ -1,22 +1,23 @@
 -- A client with one block, in each mode, computed by the definitions.
 use Rattle.std.specs.Prelude.{◌≡◌, ℕ, zero, suc, Bool, true, List, [], ◌∷◌, map, Option, None, ℤ}
 use Rattle.std.specs.List.{range_with_len}
-use Rattle.qs_program.specs.Loads.{load_of}
+use Rattle.qs_program.specs.audit.Loads.{load_of}
 use Rattle.qs_meaning.specs.MeaningExamples.{hundred, on_one, some}
-use Rattle.qs_program.specs.Program.{ProgramShape}
-use Rattle.qs_program.specs.Statements.{Statements}
+use Rattle.qs_program.specs.audit.Program.{ProgramShape}
+use Rattle.qs_program.specs.audit.Statements.{Statements}
 use Rattle.qs_graph.specs.GraphExamples.{leave_first, query_in_repeat}
-use Rattle.qs_graph.specs.Graphs.{block_graph}
-use Rattle.qs_graph.specs.Nodes.{GraphNode}
+use Rattle.qs_graph.specs.audit.Graphs.{block_graph}
+use Rattle.qs_graph.specs.audit.Nodes.{GraphNode}
 use Rattle.qs_syncset.specs.declared.mode.Mode.{Mode}
 use Rattle.qs_syncset.specs.declared.mode.Mode.TheVariants.{Plain, Dynamic, Static, Both}
-use Rattle.qs_syncset.specs.Codes.{ClientCode, AreCodes}
+use Rattle.qs_syncset.specs.audit.Codes.{ClientCode, AreCodes}
 use Rattle.qs_syncset.specs.HeldExamples.{call_in_repeat, without_inner, without_last}
-use Rattle.qs_syncset.specs.Modes.{is_dynamic}
+use Rattle.qs_syncset.specs.audit.Modes.{is_dynamic}
 use Rattle.qs_played.specs.ExampleRuns.{answers}
-use Rattle.qs_played.specs.Played.{Played}
-use Rattle.qs_sync_counts.specs.SyncRows.{sync_count}
-use Rattle.qs_core_laws.specs.CoreSchedule.{core_played, core_scheduled}
+use Rattle.qs_played.specs.audit.Played.{Played}
+use Rattle.qs_sync_counts.specs.audit.SyncRows.{sync_count}
+use Rattle.qs_core_laws.specs.audit.CoreSchedule.{core_played}
+use Rattle.qs_core_laws.specs.CoreSchedule.{core_scheduled}
 
 -- an account of 100, and a client whose one block is this
 abbrev pub alone : Statements → ProgramShape

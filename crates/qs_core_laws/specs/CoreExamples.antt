@@ -1,21 +1,22 @@
 -- Runs of the optimised machine in the modes that remove no synchronisations, computed by the definitions.
 use Rattle.std.specs.Prelude.{◌≡◌, ℕ, List, [], ◌∷◌, map, replicate, Bool, true, false, Option, None, ℤ, pos}
-use Rattle.qs_objects.specs.Act.{State, account, buffer}
+use Rattle.qs_objects.specs.audit.Act.{State, account, buffer}
 use Rattle.qs_objects.specs.declared.Op.TheVariants.{Deposit}
 use Rattle.qs_objects.specs.declared.held.Ticket.{Ticket}
 use Rattle.qs_objects.specs.declared.Request.{Request}
 use Rattle.qs_meaning.specs.MeaningExamples.{block, call, client, deposit_of_5, full_buffer, hundred, left_at_once, left_with, n, only, program, some, ticket, transfer, withdrawals}
-use Rattle.qs_program.specs.Program.{ProgramShape}
-use Rattle.qs_program.specs.Statements.{end, command}
-use Rattle.qs_syncset.specs.Codes.{AreCodes}
+use Rattle.qs_program.specs.audit.Program.{ProgramShape}
+use Rattle.qs_program.specs.audit.Statements.{end, command}
+use Rattle.qs_syncset.specs.audit.Codes.{AreCodes}
 use Rattle.qs_syncset.specs.CodeExamples.{example_code}
-use Rattle.qs_sync_counts.specs.SyncRows.{sync_count}
+use Rattle.qs_sync_counts.specs.audit.SyncRows.{sync_count}
 use Rattle.qs_syncset.specs.declared.mode.Mode.TheVariants as modes
 use Rattle.qs_played.specs.ExampleRuns.{answers, holding, in_transfer}
 use Rattle.qs_played.specs.declared.schedule.actor.Actor.{Actor}
-use Rattle.qs_played.specs.Played.{Played}
+use Rattle.qs_played.specs.audit.Played.{Played}
 use Rattle.qs_played.specs.declared.schedule.actor.Actor.TheVariants as actor
-use Rattle.qs_core_laws.specs.CoreSchedule.{core_played, core_scheduled, on_way}
+use Rattle.qs_core_laws.specs.audit.CoreSchedule.{core_played}
+use Rattle.qs_core_laws.specs.CoreSchedule.{core_scheduled, on_way}
 
 abbrev pub core_shown : Bool → ProgramShape → List Actor → ℕ → Played
 core_shown dynamic p picks rounds = core_played p (core_scheduled p (example_code dynamic p) 8 picks rounds)

@@ -1,25 +1,28 @@
 -- What holds of the optimised machine after every schedule, and is needed to run it.
 use Rattle.std.specs.Prelude.{◌≡◌, ◌<◌, ◌≤◌, ◌==◌, ℕ, IsTrue, IsSome, List, [], ◌∷◌, length, filter, sum_by, None}
 use Rattle.std.specs.List.{AllByRecursion, range_with_len}
-use Rattle.qs_objects.specs.Journals.{HeldState}
-use Rattle.qs_objects.specs.Parts.{same}
+use Rattle.qs_objects.specs.audit.Journals.{HeldState}
+use Rattle.qs_objects.specs.audit.Parts.{same}
 use Rattle.qs_objects.specs.declared.held.Ticket.{Ticket}
 use Rattle.qs_objects.specs.declared.Request.{Request}
-use Rattle.qs_program.specs.Program.{ProgramShape, blocks_of}
-use Rattle.qs_meaning.specs.Serial.{zeros}
-use Rattle.qs_syncset.specs.Codes.{ClientCode, blocks_in}
-use Rattle.qs_chunk.specs.Batch.{Batch}
-use Rattle.qs_chunk.specs.Lanes.{HasSize, may_stand}
+use Rattle.qs_program.specs.audit.Program.{ProgramShape, blocks_of}
+use Rattle.qs_meaning.specs.audit.Serial.{zeros}
+use Rattle.qs_syncset.specs.audit.Codes.{ClientCode, blocks_in}
+use Rattle.qs_chunk.specs.audit.Batch.{Batch}
+use Rattle.qs_chunk.specs.audit.Lanes.{HasSize}
+use Rattle.qs_chunk.specs.Lanes.{may_stand}
 use Rattle.qs_chunk.specs.declared.parcel.Parcel.{Parcel}
-use Rattle.qs_handler.specs.Handler.{free, closed, is_away}
-use Rattle.qs_handler.specs.Handler as handlers
+use Rattle.qs_handler.specs.audit.Handler.{free, closed}
+use Rattle.qs_handler.specs.Handler.{is_away}
+use Rattle.qs_handler.specs.audit.Handler as handlers
 use Rattle.qs_handler.specs.declared.mind.Act.TheVariants as acts
-use Rattle.qs_client.specs.rules.Client.{act_of, first_client}
+use Rattle.qs_client.specs.audit.rules.Client.{act_of, first_client}
 use Rattle.qs_client.specs.declared.rules.act.Act.TheVariants as wants
 use Rattle.qs_played.specs.declared.schedule.actor.Actor.TheVariants as actor
-use Rattle.qs_played.specs.JournalRooms.{fresh_held}
-use Rattle.qs_core_laws.specs.Core.{Core, core_step, settings_of}
-use Rattle.qs_core_laws.specs.CoreSchedule.{before_it, found_by}
+use Rattle.qs_played.specs.audit.JournalRooms.{fresh_held}
+use Rattle.qs_core_laws.specs.audit.Core.{Core, core_step, settings_of}
+use Rattle.qs_core_laws.specs.audit.CoreSchedule.{found_by}
+use Rattle.qs_core_laws.specs.CoreSchedule.{before_it}
 
 -- what comes next in the lane that a handler takes from may stand there
 abbrev pub NextStands : Core → Type 0

@@ -4,14 +4,14 @@
 use Rattle.std.proofs.Common.{◌≡◌, ℕ, zero, suc, ◌+◌, ◌<◌, ◌≤◌, ◌==◌, Bool, true, false, List, [], ◌∷◌, ◌++◌, cond, length, slice_index_or, refl, ap, ◌∙◌, arith}
 use Rattle.std.specs.List.{AllByRecursion}
 use Rattle.qs_objects.specs.declared.held.Ticket.{Ticket}
-use Rattle.qs_program.specs.Program.{ClientShape, ProgramShape, no_client, blocks_of}
-use Rattle.qs_meaning.specs.Serial.{LegalFrom, IsLegal}
-use Rattle.qs_meaning.specs.Solo.{put}
+use Rattle.qs_program.specs.audit.Program.{ClientShape, ProgramShape, no_client, blocks_of}
+use Rattle.qs_meaning.specs.audit.Serial.{LegalFrom, IsLegal}
+use Rattle.qs_meaning.specs.audit.Solo.{put}
 use Rattle.qs_program.specs.Sound.{IsSound, IsSoundClient}
 use Rattle.qs_program.specs.declared.program.Declared.{Declared}
-use Rattle.qs_program.specs.Limits.{most_blocks, most_clients}
+use Rattle.qs_program.specs.audit.Limits.{most_blocks, most_clients}
 use Rattle.qs_desk.specs.Limits.{all_bookings}
-use Rattle.qs_desk.specs.Tickets.{of_client}
+use Rattle.qs_desk.specs.audit.Tickets.{of_client}
 
 eqb_true : (m n : ℕ) → (m == n) ≡ true → m ≡ n
 eqb_true m n e = grind (arith, e)

@@ -3,7 +3,7 @@
 -- mapping over the clients and their blocks, so the proof goes by induction on a mapped list.
 use Rattle.std.proofs.Common.{◌≡◌, ℕ, zero, suc, List, [], ◌∷◌, map, length, slice_index_or, refl, ap, ◌∙◌}
 use Rattle.qs_objects.specs.declared.held.Ticket.{Ticket}
-use Rattle.qs_program.specs.Program.{ProgramShape, no_block, no_client, client_at, blocks_of, text_of}
+use Rattle.qs_program.specs.audit.Program.{ProgramShape, no_block, no_client, client_at, blocks_of, text_of}
 use Rattle.qs_desk.specs.Plans.{list_of, lists_of_client, lists_of_program}
 
 pub index_map : {X Y : Type 0} (f : X → Y) (xs : List X) (i : ℕ) (d : X) → slice_index_or (map f xs) i (f d) ≡ f (slice_index_or xs i d)

@@ -8,11 +8,12 @@ use Rattle.atomic_table.specs.Seated.{TableId}
 use Rattle.qs_objects.specs.declared.held.Ticket as held
 use Rattle.qs_objects.specs.declared.held.Next.{Next}
 use Rattle.qs_objects.specs.declared.held.Next.TheVariants.{Ticket, Closed}
-use Rattle.qs_meaning.specs.Following.{reserves}
-use Rattle.qs_program.specs.Program.{ProgramShape}
+use Rattle.qs_meaning.specs.audit.Following.{reserves}
+use Rattle.qs_program.specs.audit.Program.{ProgramShape}
 use Rattle.qs_desk.specs.Limits.{all_bookings}
 use Rattle.qs_desk.specs.TicketQueues.{QueueView, IsQueueOf, with_ticket, closed_queue, MayGrow, MayClose}
-use Rattle.qs_desk.specs.Tickets.{of_handler, pushed_to, IsFor, AreFor, for_front}
+use Rattle.qs_desk.specs.audit.Tickets.{of_handler, pushed_to}
+use Rattle.qs_desk.specs.Tickets.{IsFor, AreFor, for_front}
 
 alone : (p : ProgramShape) (h : ℕ) (x : Next) → IsFor p h x → AreFor p h (x ∷ [])
 alone p h (Ticket t) is = (is, tt)

@@ -3,8 +3,8 @@
 -- induction on the queues made so far, or by cases on how many of the eight there are.
 use Rattle.std.proofs.Common.{◌≡◌, ℕ, zero, suc, ◌<◌, Some, List, [], ◌∷◌, ◌++◌, map, length, set, refl, ap, arith}
 use Rattle.atomic_table.specs.Seated.{TableId}
-use Rattle.qs_program.specs.Program.{ProgramShape}
-use Rattle.qs_program.specs.Limits.{most_handlers}
+use Rattle.qs_program.specs.audit.Program.{ProgramShape}
+use Rattle.qs_program.specs.audit.Limits.{most_handlers}
 use Rattle.qs_desk.specs.TicketQueues.{QueueView, queue_at, queue_name, new_end, end_at}
 use Rattle.qs_desk.specs.Places.{places}
 

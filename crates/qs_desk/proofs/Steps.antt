@@ -8,14 +8,15 @@ use Rattle.std.proofs.lemmas.List.Elements.{filter-append}
 use Rattle.std.specs.Prelude.{slice_index, slice_set, nat_eq}
 use Rattle.atomic_table.specs.Seated.{TableId}
 use Rattle.qs_objects.specs.declared.held.Ticket.{Ticket}
-use Rattle.qs_program.specs.Program.{ProgramShape, blocks_of}
-use Rattle.qs_meaning.specs.Serial.{IsLegal}
+use Rattle.qs_program.specs.audit.Program.{ProgramShape, blocks_of}
+use Rattle.qs_meaning.specs.audit.Serial.{IsLegal}
 use Rattle.qs_program.specs.Sound.{IsSound}
-use Rattle.qs_program.specs.Limits.{most_clients}
+use Rattle.qs_program.specs.audit.Limits.{most_clients}
 use Rattle.qs_desk.specs.Desks.{IsDesk}
 use Rattle.qs_desk.specs.Limits.{all_bookings}
 use Rattle.qs_desk.specs.TicketQueues.{QueueView, queue_at, queue_name, IsQueueOf, IsNewQueue, with_ticket, closed_queue, MayGrow, MayClose}
-use Rattle.qs_desk.specs.Tickets.{ticket, of_client}
+use Rattle.qs_desk.specs.audit.Tickets.{of_client}
+use Rattle.qs_desk.specs.Tickets.{ticket}
 use Rattle.qs_desk.proofs.Orders.{legal_more, short}
 use Rattle.qs_desk.proofs.Starts.{names_len}
 use Rattle.qs_desk.proofs.Pushing.{may_grow, may_close, is_grown, is_closed}

@@ -2,12 +2,12 @@
 use Rattle.std.specs.Prelude.{◌≡◌, ℕ, ◌<◌, Bool, List, length, slice_index}
 use Rattle.atomic_table.specs.Seated.{TableId}
 use Rattle.qs_objects.specs.declared.held.Ticket.{Ticket}
-use Rattle.qs_program.specs.Program.{ProgramShape}
-use Rattle.qs_meaning.specs.Serial.{IsLegal}
+use Rattle.qs_program.specs.audit.Program.{ProgramShape}
+use Rattle.qs_meaning.specs.audit.Serial.{IsLegal}
 use Rattle.qs_program.specs.Sound.{IsSound}
-use Rattle.qs_program.specs.Limits.{most_clients}
+use Rattle.qs_program.specs.audit.Limits.{most_clients}
 use Rattle.qs_desk.specs.TicketQueues.{QueueView, queue_at, IsQueueOf}
-use Rattle.qs_desk.specs.Tickets.{of_client}
+use Rattle.qs_desk.specs.audit.Tickets.{of_client}
 
 -- the history is a legal order; what was pushed to a handler are its tickets that reserve the handler, in that order;
 -- the books have each client's tickets

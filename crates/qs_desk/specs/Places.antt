@@ -1,6 +1,6 @@
 -- What a client's mark says, and the share that a client begins with.
 use Rattle.std.specs.Prelude.{ℕ, nat_lt, if◌then◌else◌, List, [], ◌∷◌, length, Option, Some, None}
-use Rattle.qs_program.specs.Program.{ProgramShape}
+use Rattle.qs_program.specs.audit.Program.{ProgramShape}
 use Rattle.qs_desk.specs.Views.{ShareView}
 use Rattle.qs_desk.specs.declared.share.LedgerShare.{LedgerShare}
 use Rattle.qs_desk.specs.declared.share.LedgerShare.TheVariants.{First, Second, Third, Fourth, Fifth, Sixth, Seventh, Eighth}

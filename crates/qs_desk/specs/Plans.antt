@@ -1,6 +1,6 @@
 -- The handlers that the blocks of a program reserve, as the desk keeps them.
 use Rattle.std.specs.Prelude.{ℕ, List, map}
-use Rattle.qs_program.specs.Program.{BlockShape, ClientShape, ProgramShape}
+use Rattle.qs_program.specs.audit.Program.{BlockShape, ClientShape, ProgramShape}
 
 abbrev pub list_of : BlockShape → List ℕ
 list_of b = b.reserved

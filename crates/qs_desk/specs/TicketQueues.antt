@@ -4,12 +4,13 @@ use Rattle.atomic_table.specs.Seated.{TableId}
 use Rattle.qs_objects.specs.declared.held.Ticket as held
 use Rattle.qs_objects.specs.declared.held.Next.{Next}
 use Rattle.qs_objects.specs.declared.held.Next.TheVariants.{Ticket, Closed}
-use Rattle.qs_meaning.specs.Following.{reserves}
-use Rattle.qs_program.specs.Program.{ProgramShape}
+use Rattle.qs_meaning.specs.audit.Following.{reserves}
+use Rattle.qs_program.specs.audit.Program.{ProgramShape}
 use Rattle.qs_queue.specs.Views.{SenderView, TakerView}
 use Rattle.qs_desk.specs.declared.queue.QueueOwner.{QueueOwner}
 use Rattle.qs_desk.specs.Limits.{queue_room}
-use Rattle.qs_desk.specs.Tickets.{pushed_to, AreFor}
+use Rattle.qs_desk.specs.audit.Tickets.{pushed_to}
+use Rattle.qs_desk.specs.Tickets.{AreFor}
 use Rattle.qs_desk.specs.Views.{TicketsView}
 
 abbrev pub owner : ProgramShape → ℕ → QueueOwner

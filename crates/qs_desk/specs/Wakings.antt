@@ -1,8 +1,8 @@
 -- Which handlers a ticket reserves, as a booking tells it, and which handlers were woken.
 use Rattle.std.specs.Prelude.{◌≡◌, ℕ, ◌<◌, Bool, true, false, List, [], ◌∷◌, length, slice_index_or}
 use Rattle.qs_objects.specs.declared.held.Ticket as held
-use Rattle.qs_meaning.specs.Following.{reserves}
-use Rattle.qs_program.specs.Program.{ProgramShape}
+use Rattle.qs_meaning.specs.audit.Following.{reserves}
+use Rattle.qs_program.specs.audit.Program.{ProgramShape}
 
 -- `told` says of each handler whether the ticket's block reserves it
 abbrev pub AreReserved : ProgramShape → held.Ticket → List Bool → Type 0

@@ -1,14 +1,15 @@
 //! The desk.
 
 ghost use Rattle.std.specs.Prelude.{◌≡◌, ℕ, ◌+◌, ◌<◌, ◌≤◌, false, true, List, [], ◌∷◌, ◌++◌, length, vec_capacity, map, replicate};
-ghost use Rattle.qs_program.specs.Limits.{most_clients};
-ghost use Rattle.qs_program.specs.Program.{blocks_of};
-ghost use Rattle.qs_meaning.specs.Serial.{IsLegal};
+ghost use Rattle.qs_program.specs.audit.Limits.{most_clients};
+ghost use Rattle.qs_program.specs.audit.Program.{blocks_of};
+ghost use Rattle.qs_meaning.specs.audit.Serial.{IsLegal};
 ghost use Rattle.qs_program.specs.Sound.{IsSound};
 ghost use Rattle.qs_desk.specs.Limits.{all_bookings};
 ghost use Rattle.qs_desk.specs.TicketQueues.{queue_at, queue_name, IsNewQueue};
 ghost use Rattle.qs_desk.specs.Plans.{lists_of_program};
-ghost use Rattle.qs_desk.specs.Tickets.{ticket, of_client, pushed_to};
+ghost use Rattle.qs_desk.specs.audit.Tickets.{of_client, pushed_to};
+ghost use Rattle.qs_desk.specs.Tickets.{ticket};
 ghost use Rattle.qs_objects.specs.declared.held.Next.{Next};
 
 use crate::bookings::Bookings;

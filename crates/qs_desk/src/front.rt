@@ -1,8 +1,8 @@
 //! The desk under its lock.
 
 ghost use Rattle.std.specs.Prelude.{◌≡◌, ◌+◌, ◌<◌, Bool, List, false, true, replicate};
-ghost use Rattle.qs_program.specs.Program.{blocks_of};
-ghost use Rattle.qs_program.specs.Limits.{most_handlers};
+ghost use Rattle.qs_program.specs.audit.Program.{blocks_of};
+ghost use Rattle.qs_program.specs.audit.Limits.{most_handlers};
 ghost use Rattle.qs_desk.specs.Tickets.{ticket};
 ghost use Rattle.qs_desk.specs.Wakings.{AreReserved, AreWoken};
 

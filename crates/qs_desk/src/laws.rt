@@ -3,7 +3,7 @@
 ghost use Rattle.std.specs.Prelude.{◌≡◌, List, [], ◌∷◌, ◌++◌, length};
 ghost use Rattle.qs_objects.specs.declared.held.Next.{Next};
 ghost use Rattle.qs_objects.specs.declared.held.Next.TheVariants.{Closed};
-ghost use Rattle.qs_desk.specs.Tickets.{of_client, pushed_to};
+ghost use Rattle.qs_desk.specs.audit.Tickets.{of_client, pushed_to};
 
 use crate::desk::Desk;
 use crate::name::DeskName;

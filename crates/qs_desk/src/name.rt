@@ -6,7 +6,7 @@ use std::marker::Brand;
 pub trait DeskName {
     ghost use Rattle.std.specs.Prelude.{List, ℕ};
     ghost use Rattle.atomic_table.specs.Seated.{TableId};
-    ghost use Rattle.qs_program.specs.Program.{ProgramShape};
+    ghost use Rattle.qs_program.specs.audit.Program.{ProgramShape};
 
     /// The program whose blocks are reserved.
     ghost program: { ProgramShape };

@@ -1,9 +1,9 @@
 //! Which handlers each block reserves.
 
 ghost use Rattle.std.specs.Prelude.{◌≡◌, ◌<◌, length, IfOk, slice_index_or, []};
-ghost use Rattle.qs_meaning.specs.Following.{reserves};
-ghost use Rattle.qs_program.specs.Program.{ProgramShape, blocks_of, client_at, block_at};
-ghost use Rattle.qs_program.specs.Sound.{is_in};
+ghost use Rattle.qs_meaning.specs.audit.Following.{reserves};
+ghost use Rattle.qs_program.specs.audit.Program.{ProgramShape, blocks_of, client_at, block_at};
+ghost use Rattle.qs_program.specs.audit.Sound.{is_in};
 ghost use Rattle.qs_desk.specs.Plans.{list_of, lists_of_client, lists_of_program};
 
 use qs_objects::Ticket;

@@ -47,7 +47,7 @@ pub type TicketWaker = Waker<Next, QueueOwner, Reserving>;
 /// A program and a handler that are known only as the queue is made.
 trait Chosen {
     ghost use Rattle.std.specs.Prelude.{ℕ};
-    ghost use Rattle.qs_program.specs.Program.{ProgramShape};
+    ghost use Rattle.qs_program.specs.audit.Program.{ProgramShape};
 
     ghost program: { ProgramShape };
 

@@ -1,8 +1,8 @@
 //! What a client has booked, as it knows and as the desk knows.
 
 ghost use Rattle.std.specs.Prelude.{◌≡◌, ◌+◌, ◌<◌, ◌∷◌, [], slice_index, slice_set, replicate, nat_lt, map};
-ghost use Rattle.qs_program.specs.Limits.{most_blocks, most_clients};
-ghost use Rattle.qs_program.specs.Program.{blocks_of};
+ghost use Rattle.qs_program.specs.audit.Limits.{most_blocks, most_clients};
+ghost use Rattle.qs_program.specs.audit.Program.{blocks_of};
 ghost use Rattle.qs_desk.specs.Places.{client_of_ledger, parts_of, amount_of, share_at, places};
 ghost use Rattle.qs_desk.specs.Plans.{lists_of_program};
 ghost use Rattle.qs_desk.specs.Tickets.{ticket};
@@ -61,7 +61,7 @@ impl<D: DeskName> Drop for Share<D> {
 
 impl<D: DeskName> Model for Share<D> {
     ghost use Rattle.std.specs.Prelude.{◌≡◌};
-    ghost use Rattle.qs_program.specs.Program.{blocks_of};
+    ghost use Rattle.qs_program.specs.audit.Program.{blocks_of};
     ghost use Rattle.qs_desk.specs.Places.{client_of_ledger, parts_of, amount_of};
     ghost use Rattle.qs_desk.specs.Views.{ShareView};
 

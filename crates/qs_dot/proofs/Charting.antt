@@ -5,9 +5,9 @@ use Rattle.std.proofs.Common.{◌≡◌, ◌<◌, ◌≤◌, ◌+◌, ℕ, zero,
 use Rattle.std.specs.List.{AllByRecursion}
 use Rattle.std.proofs.lemmas.List.{map-append}
 use Rattle.qs_objects.specs.declared.held.Ticket.{Ticket}
-use Rattle.qs_program.specs.Program.{ProgramShape}
+use Rattle.qs_program.specs.audit.Program.{ProgramShape}
 use Rattle.qs_program.specs.Sound.{IsSound}
-use Rattle.qs_meaning.specs.Configurations.{Configuration, configuration_after, configuration_from, first_configuration, one_block_on}
+use Rattle.qs_meaning.specs.audit.Configurations.{Configuration, configuration_after, configuration_from, first_configuration, one_block_on}
 use Rattle.qs_meaning.specs.Reduced.{IsReducedFrom, goes_on}
 use Rattle.qs_meaning.proofs.Each.{each_map, each_snoc}
 use Rattle.qs_meaning.proofs.Orders.{configuration-append}
@@ -16,8 +16,7 @@ use Rattle.qs_standings.specs.declared.rows.Row.{Row}
 use Rattle.qs_dot.specs.Charts.{AreCharted, AreLeads, AreLeadsUpTo, AreMore, ArePlaces, IsBehind, IsLead, IsLeadOf, IsPlaced, IsRowPlaced, IsSooner, HasPlaceFor}
 use Rattle.qs_standings.specs.Lists.{HasOne, NoTwo}
 use Rattle.qs_outcomes.specs.Outcomes.{HasMoreThanAfter}
-use Rattle.qs_standings.specs.Rows.{rows_in, shape_of}
-use Rattle.qs_standings.specs.Rows.{IsInserted}
+use Rattle.qs_standings.specs.Rows.{rows_in, shape_of, IsInserted}
 use Rattle.qs_standings.specs.Standings.{GoesOn, IsFirst, IsStanding, RowShape, StandingShape, configuration_in, row_of}
 use Rattle.qs_standings.proofs.Inserting.{same, tells}
 use Rattle.qs_standings.proofs.Lists.{has_back, has_front, has_some, pairs_join, two_snoc}

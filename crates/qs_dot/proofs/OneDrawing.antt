@@ -1,9 +1,9 @@
 -- A sound program has just one drawing of its graphs, although the definition lets the held sets be any that fit. The
 -- law on drawings, `DotTextsAreUnique`, is proved here. What is held at a node is fixed by the graph, so each node is.
 use Rattle.std.proofs.Common.{◌≡◌, ℕ, Bool, List, ◌++◌, codes, sym, ap, ◌∙◌}
-use Rattle.qs_program.specs.Program.{ProgramShape, own_block}
+use Rattle.qs_program.specs.audit.Program.{ProgramShape, own_block}
 use Rattle.qs_program.specs.Sound.{IsSound}
-use Rattle.qs_graph.specs.Names.{graph_of}
+use Rattle.qs_graph.specs.audit.Names.{graph_of}
 use Rattle.qs_syncset.specs.held.Table.{AreSetsOf}
 use Rattle.qs_dot.specs.node_lines.NodeLines.{lines_of_block}
 use Rattle.qs_text.proofs.BlockTexts.{one_block, one_of_blocks, same_nodes}

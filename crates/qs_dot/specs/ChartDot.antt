@@ -1,15 +1,15 @@
 -- The configurations of a program as a drawing in the DOT language, as bytes.
 use Rattle.std.specs.Prelude.{◌≡◌, ◌≤◌, ℕ, Bool, true, false, List, [], ◌++◌, codes, decimal, flat_map, length, if◌then◌else◌, nat_eq, nat_lt, slice_index_or}
 use Rattle.std.specs.List.{list_any}
-use Rattle.qs_program.specs.Program.{ProgramShape, client_at}
-use Rattle.qs_serial.specs.NamedOrders.{order_of}
-use Rattle.qs_meaning.specs.Serial.{IsLegal}
+use Rattle.qs_program.specs.audit.Program.{ProgramShape, client_at}
+use Rattle.qs_serial.specs.audit.NamedOrders.{order_of}
+use Rattle.qs_meaning.specs.audit.Serial.{IsLegal}
 use Rattle.qs_dot.specs.declared.chart.Lead.{Lead}
 use Rattle.qs_dot.specs.Charts.{AreLeads, ArePlaces, ChartShape}
 use Rattle.qs_dot.specs.EndText.{end_text, number_in, objects_text}
 use Rattle.qs_outcomes.specs.Outcomes.{AreOutcomesAfter, OutcomesShape}
 use Rattle.qs_standings.specs.Standings.{StandingShape}
-use Rattle.qs_text.specs.Texts.{texts_up_to}
+use Rattle.qs_text.specs.audit.Texts.{texts_up_to}
 
 -- whether a block leads on from a place
 abbrev pub leads_on : List Lead → ℕ → Bool

@@ -1,12 +1,11 @@
 -- What holds of every chart, and a drawing that was worked out by hand.
 use Rattle.std.specs.Prelude.{◌≡◌, ◌↔◌, ℕ, suc, false, Some, List, [], ◌∷◌, codes, nat_eq, slice_get, ℤ, pos, negsuc}
 use Rattle.std.specs.List.{list_any}
-use Rattle.qs_objects.specs.Act.{State, account, buffer}
-use Rattle.qs_program.specs.Program.{ProgramShape}
-use Rattle.qs_program.specs.Values.{Locals}
+use Rattle.qs_objects.specs.audit.Act.{State, account, buffer}
+use Rattle.qs_program.specs.audit.Program.{ProgramShape}
+use Rattle.qs_program.specs.audit.Values.{Locals}
 use Rattle.qs_dot.specs.declared.chart.Lead.{Lead}
-use Rattle.qs_standings.specs.Standings.{NoneNext}
-use Rattle.qs_standings.specs.Standings.{StandingShape}
+use Rattle.qs_standings.specs.Standings.{NoneNext, StandingShape}
 use Rattle.qs_text.specs.Worked.{state, unused, withdrawals}
 use Rattle.qs_dot.specs.Charts.{AreLeads, ArePlaces, ChartShape}
 use Rattle.qs_dot.specs.ChartDot.{chart_text, layout_text, leads_on}

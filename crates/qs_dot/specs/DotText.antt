@@ -1,13 +1,14 @@
 -- The control-flow graphs of a program as a drawing in the DOT language, as bytes.
 use Rattle.std.specs.Prelude.{◌≡◌, ℕ, List, [], ◌∷◌, ◌++◌, codes, decimal, length, Bool, if◌then◌else◌, nat_eq, slice_get, slice_index_or, Option, Some, None}
-use Rattle.qs_program.specs.Program.{ProgramShape, client_at}
+use Rattle.qs_program.specs.audit.Program.{ProgramShape, client_at}
 use Rattle.qs_program.specs.Sound.{IsSound}
 use Rattle.qs_graph.specs.declared.node.Choice.TheVariants.{If, Repeat}
 use Rattle.qs_graph.specs.declared.node.Node.{Node}
 use Rattle.qs_graph.specs.declared.node.Node.TheVariants.{Entry, Local, Branch, Sync, Query, Call, Exit}
-use Rattle.qs_graph.specs.Nodes.{GraphNode}
+use Rattle.qs_graph.specs.audit.Nodes.{GraphNode}
 use Rattle.qs_text.specs.Blocks.{AreBlocks, IsBlock, NodeText, NodesText, node_at}
-use Rattle.qs_text.specs.Texts.{list_text, texts_up_to}
+use Rattle.qs_text.specs.audit.Texts.{texts_up_to}
+use Rattle.qs_text.specs.Texts.{list_text}
 use Rattle.qs_text.specs.Words.{name_of}
 use Rattle.qs_dot.specs.node_lines.NodeLines.{lines_of_block}
 use Rattle.qs_dot.specs.Written.{written}

@@ -7,8 +7,8 @@ use Rattle.qs_script.specs.declared.tree.tree.Relation.TheVariants.{AtLeast}
 use Rattle.qs_program.specs.declared.code.Atom.TheVariants.{Variable, Number}
 use Rattle.qs_program.specs.declared.code.Call as calls
 use Rattle.qs_program.specs.declared.code.Expr.TheVariants.{Binary}
-use Rattle.qs_program.specs.Program.{ProgramShape, BlockShape}
-use Rattle.qs_program.specs.Statements.{end}
+use Rattle.qs_program.specs.audit.Program.{ProgramShape, BlockShape}
+use Rattle.qs_program.specs.audit.Statements.{end}
 use Rattle.qs_graph.specs.GraphExamples.{query_in_repeat, two_bodies}
 use Rattle.qs_graph.specs.declared.node.Action.TheVariants.{Assign, Nothing}
 use Rattle.qs_graph.specs.declared.node.Choice.TheVariants.{If}

@@ -1,13 +1,13 @@
 -- What an outcome holds, on lines of its own, and its number among all outcomes.
 use Rattle.std.specs.Prelude.{ℕ, suc, Bool, List, [], ◌∷◌, ◌++◌, codes, length, if◌then◌else◌, nat_eq, slice_index_or}
 use Rattle.std.specs.Cmp.Lexicographic.{pointwise}
-use Rattle.qs_objects.specs.Act.{State}
-use Rattle.qs_program.specs.Program.{ProgramShape, client_at, object_at}
-use Rattle.qs_meaning.specs.Serial.{zeros}
+use Rattle.qs_objects.specs.audit.Act.{State}
+use Rattle.qs_program.specs.audit.Program.{ProgramShape, client_at, object_at}
+use Rattle.qs_meaning.specs.audit.Serial.{zeros}
 use Rattle.qs_standings.specs.Standings.{StandingShape}
-use Rattle.qs_text.specs.Texts.{texts_up_to}
+use Rattle.qs_text.specs.audit.Texts.{texts_up_to}
 use Rattle.qs_text.specs.Variables.{variables_text}
-use Rattle.qs_text.specs.Words.{no_state, state_text}
+use Rattle.qs_text.specs.audit.Words.{no_state, state_text}
 
 -- an object with what it holds and how many commands it refused, on a line of its own in a label
 abbrev pub holds_text : List ℕ → State → List ℕ

@@ -13,8 +13,8 @@ use Rattle.qs_program.specs.declared.code.Expr.{Expr}
 use Rattle.qs_program.specs.declared.code.Expr.TheVariants.{Plain, Binary}
 use Rattle.qs_program.specs.declared.code.Call as calls
 use Rattle.qs_program.specs.declared.code.Test.{Test}
-use Rattle.qs_program.specs.Numbering.{Name}
-use Rattle.qs_program.specs.Program.{ProgramShape, client_at}
+use Rattle.qs_program.specs.audit.Numbering.{Name}
+use Rattle.qs_program.specs.audit.Program.{ProgramShape, client_at}
 use Rattle.qs_graph.specs.declared.node.Action.{Action}
 use Rattle.qs_graph.specs.declared.node.Action.TheVariants.{Assign, SetCount, Nothing}
 use Rattle.qs_graph.specs.declared.node.Choice.{Choice}
@@ -22,7 +22,7 @@ use Rattle.qs_graph.specs.declared.node.Choice.TheVariants.{If, Repeat}
 use Rattle.qs_graph.specs.declared.node.Node.{Node}
 use Rattle.qs_graph.specs.declared.node.Node.TheVariants.{Entry, Local, Branch, Sync, Query, Call, Exit}
 use Rattle.qs_text.specs.Words.{name_of}
-use Rattle.qs_objects.specs.Operations.{word}
+use Rattle.qs_objects.specs.audit.Operations.{word}
 
 abbrev pub operator_text : Operator → List ℕ
 operator_text Plus = codes "+"

@@ -1,8 +1,8 @@
 //! Where a program can stand between blocks, and which block leads from where to where.
 
 ghost use Rattle.std.specs.Prelude.{◌≡◌, ◌+◌, ◌<◌, ◌≤◌, ◌++◌, ◌∷◌, [], IfOk, OnOk, IsErrOf, Some, length, slice_get};
-ghost use Rattle.qs_serial.specs.NamedOrders.{order_of};
-ghost use Rattle.qs_meaning.specs.Serial.{IsLegal};
+ghost use Rattle.qs_serial.specs.audit.NamedOrders.{order_of};
+ghost use Rattle.qs_meaning.specs.audit.Serial.{IsLegal};
 ghost use Rattle.qs_meaning.specs.Reduced.{goes_on};
 ghost use Rattle.qs_dot.specs.Charts.{AreCharted, AreLeads, AreLeadsUpTo, AreMore, ArePlaces, IsPlaced, IsRowPlaced};
 ghost use Rattle.qs_standings.specs.going.Going.{AreLast, in_byte};

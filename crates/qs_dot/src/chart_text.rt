@@ -2,10 +2,10 @@
 
 ghost use Rattle.std.specs.Prelude.{◌≡◌, ◌<◌, ◌++◌, codes, decimal, flat_map, length, slice_index_or, IfOk, OnOk, IsErrOf};
 ghost use Rattle.std.specs.List.{AllByRecursion};
-ghost use Rattle.qs_serial.specs.NamedOrders.{order_of};
-ghost use Rattle.qs_meaning.specs.Serial.{IsLegal};
+ghost use Rattle.qs_serial.specs.audit.NamedOrders.{order_of};
+ghost use Rattle.qs_meaning.specs.audit.Serial.{IsLegal};
 ghost use Rattle.qs_outcomes.specs.Outcomes.{HasMoreThanAfter, HasPlaces};
-ghost use Rattle.qs_text.specs.Texts.{texts_up_to};
+ghost use Rattle.qs_text.specs.audit.Texts.{texts_up_to};
 ghost use Rattle.qs_dot.specs.ChartDot.{IsChartDot, chart_text, colours_text, label_text, layout_text, lead_line, leads_on, mark_text, name_end, name_start, no_place, place_line, place_text};
 ghost use Rattle.qs_dot.specs.EndText.{end_text, number_in, objects_text};
 

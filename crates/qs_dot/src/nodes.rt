@@ -2,9 +2,9 @@
 
 ghost use Rattle.std.specs.Prelude.{◌≡◌, ◌<◌, ◌++◌, length, slice_get, OnOk};
 ghost use Rattle.std.specs.List.{filter};
-ghost use Rattle.qs_graph.specs.Nodes.{place_at};
+ghost use Rattle.qs_graph.specs.audit.Nodes.{place_at};
 ghost use Rattle.qs_text.specs.Blocks.{node_at, removed_at};
-ghost use Rattle.qs_text.specs.Texts.{texts_up_to};
+ghost use Rattle.qs_text.specs.audit.Texts.{texts_up_to};
 ghost use Rattle.qs_syncset.specs.held.Table.{has};
 ghost use Rattle.qs_dot.specs.DotText.{edge_line, edge_text, head_text, held_text, line_text, node_line, node_name, node_text, nodes_text, outline_text, place_text};
 

@@ -4,38 +4,41 @@
 -- by induction on the statements.
 use Rattle.std.proofs.Common.{◌≡◌, ℕ, zero, suc, Bool, true, false, if◌then◌else◌, List, slice_set, refl, sym, ap, ◌∙◌, None}
 use Rattle.std.proofs.Math.Path.{fun_ext}
-use Rattle.qs_objects.specs.Journals.{answer}
-use Rattle.qs_program.specs.Statements.{Statements, end, command, query, assign, choose, again, leave}
-use Rattle.qs_program.specs.Values.{Locals, test_value, request_of}
-use Rattle.qs_meaning.specs.Solo.{States, BlockResult, states_after, value_of, event, solo}
-use Rattle.qs_meaning.specs.Interaction.{Interaction, after_event, run, tree_of}
+use Rattle.qs_objects.specs.audit.Journals.{answer}
+use Rattle.qs_program.specs.audit.Statements.{Statements, end, command, query, assign, choose, again, leave}
+use Rattle.qs_program.specs.audit.Values.{Locals, test_value, request_of}
+use Rattle.qs_meaning.specs.audit.Solo.{States, BlockResult, states_after, value_of, event, solo}
+use Rattle.qs_meaning.specs.audit.Interaction.{Interaction, tree_of}
+use Rattle.qs_meaning.specs.Interaction.{after_event, run}
 use Rattle.qs_meaning.specs.Interaction as tree
+use Rattle.qs_meaning.specs.audit.Interaction as tree_audit
 use Rattle.qs_meaning.proofs.Trees.{trees_agree}
-use Rattle.qs_graph.specs.Nodes.{GraphNode}
-use Rattle.qs_graph.specs.Synced.{Synced, Done, Next, turns, meaning, synced_of, without_syncs}
-use Rattle.qs_graph.specs.Walk.{Spot, Move, Ends, Goes, Calls, Syncs, Queries, move, tree_of_move, walk}
+use Rattle.qs_graph.specs.audit.Nodes.{GraphNode}
+use Rattle.qs_graph.specs.audit.Synced.{Synced, Done}
+use Rattle.qs_graph.specs.Synced.{Next, turns, meaning, synced_of, without_syncs}
+use Rattle.qs_graph.specs.audit.Walk.{Spot, Move, Ends, Goes, Calls, Syncs, Queries, move, tree_of_move, walk}
 use Rattle.qs_graph.specs.WalkAlone.{result_of_move, walk_alone}
 use Rattle.qs_graph.specs.WalkLaws.{SyncsErased}
 
 -- what a tree with its synchronisations does, is what it does without them
-abbrev Erases : Next → tree.Next → Type 0
+abbrev Erases : Next → tree_audit.Next → Type 0
 Erases f k = (l : Locals) → without_syncs (f l) ≡ k l
 
 erases_if : (b : Bool) (p q : Synced) (u v : Interaction) → without_syncs p ≡ u → without_syncs q ≡ v → without_syncs (if b then p else q) ≡ (if b then u else v)
 erases_if true p q u v h w = h
 erases_if false p q u v h w = w
 
-erases_turns : (n : ℕ) (f : Next → Next) (k : tree.Next → tree.Next) (next : Next) (plain : tree.Next)
-    → ((a : Next) (b : tree.Next) → Erases a b → Erases (f a) (k b)) → Erases next plain → Erases (turns n f next) (tree.turns n k plain)
+erases_turns : (n : ℕ) (f : Next → Next) (k : tree_audit.Next → tree_audit.Next) (next : Next) (plain : tree_audit.Next)
+    → ((a : Next) (b : tree_audit.Next) → Erases a b → Erases (f a) (k b)) → Erases next plain → Erases (turns n f next) (tree.turns n k plain)
 erases_turns zero f k next plain h w = w
 erases_turns (suc n) f k next plain h w = h (turns n f next) (tree.turns n k plain) (erases_turns n f k next plain h w)
 
-erases : (b : Statements) (next leaves : Next) (plain out : tree.Next) → Erases next plain → Erases leaves out
-    → Erases (meaning b next leaves) (tree.meaning b plain out)
+erases : (b : Statements) (next leaves : Next) (plain out : tree_audit.Next) → Erases next plain → Erases leaves out
+    → Erases (meaning b next leaves) (tree_audit.meaning b plain out)
 erases end next leaves plain out h w l = h l
-erases (command c rest) next leaves plain out h w l = ap (tree.Call (request_of l c)) (erases rest next leaves plain out h w l)
+erases (command c rest) next leaves plain out h w l = ap (tree_audit.Call (request_of l c)) (erases rest next leaves plain out h w l)
 erases (query x c rest) next leaves plain out h w l =
-    ap (tree.Query (request_of l c)) (fun_ext (λ v. erases rest next leaves plain out h w (slice_set l x v)))
+    ap (tree_audit.Query (request_of l c)) (fun_ext (λ v. erases rest next leaves plain out h w (slice_set l x v)))
 erases (assign x e rest) next leaves plain out h w l = erases rest next leaves plain out h w _
 erases (choose t b first other rest) next leaves plain out h w l =
     let later = erases rest next leaves plain out h w in
@@ -46,7 +49,7 @@ erases (again n body rest) next leaves plain out h w l =
 erases (leave rest) next leaves plain out h w l = w l
 
 pub syncs_erased : SyncsErased
-syncs_erased b l = erases b Done Done tree.Done tree.Done (λ l. refl) (λ l. refl) l
+syncs_erased b l = erases b Done Done tree_audit.Done tree_audit.Done (λ l. refl) (λ l. refl) l
 
 done_is_run : (go : Spot → States → BlockResult) (say : Spot → Synced) → ((s : Spot) (st : States) → go s st ≡ run (without_syncs (say s)) st)
     → (l : Locals) (st : States) (m : Move) → result_of_move go l st m ≡ run (without_syncs (tree_of_move say l m)) st

@@ -3,15 +3,16 @@
 -- which the walk stands, and then puts that node in front of the path.
 use Rattle.std.proofs.Common.{◌≡◌, ℕ, zero, suc, ◌<◌, Bool, true, false, if◌then◌else◌, inl, inr, List, [], ◌∷◌, length, slice_index_or, refl, arith}
 use Rattle.qs_objects.proofs.Elements.{AllByRecursion-get_or}
-use Rattle.qs_program.specs.Values.{test_value}
+use Rattle.qs_program.specs.audit.Values.{test_value}
 use Rattle.qs_graph.specs.declared.node.Node.{Node}
 use Rattle.qs_graph.specs.declared.node.Node.TheVariants.{Entry, Local, Branch, Sync, Query, Call, Exit}
 use Rattle.qs_graph.specs.declared.node.Action.TheVariants.{Assign, SetCount, Nothing}
 use Rattle.qs_graph.specs.declared.node.Choice.TheVariants.{If, Repeat}
-use Rattle.qs_graph.specs.Nodes.{GraphNode, place_at, exit}
-use Rattle.qs_graph.specs.Paths.{IsAmong, HasEdge, IsPath}
+use Rattle.qs_graph.specs.audit.Nodes.{GraphNode, place_at, exit}
+use Rattle.qs_graph.specs.audit.Paths.{IsAmong, HasEdge, IsPath}
 use Rattle.qs_graph.specs.WellFormed.{edge_count, IsGraphNode, IsGraph}
-use Rattle.qs_graph.specs.Walk.{Spot, EachNext, move, move_by, after_repeat}
+use Rattle.qs_graph.specs.audit.Walk.{Spot, move, move_by, after_repeat}
+use Rattle.qs_graph.specs.Walk.{EachNext}
 use Rattle.qs_graph.specs.WalkLaws.{WalksGoAlongPaths}
 use Rattle.qs_graph.proofs.Saying.{next_up}
 

@@ -5,19 +5,19 @@ use Rattle.std.proofs.Common.{◌≡◌, ℕ, zero, suc, ◌+◌, ◌<◌, ◌�
 use Rattle.std.specs.List.{AllByRecursion}
 use Rattle.std.proofs.lemmas.List.{ext_get_or, get_or-set_other, get_or-set_same, length-map, length-set, map-append}
 use Rattle.qs_objects.proofs.Elements.{AllByRecursion-get_or}
-use Rattle.qs_program.specs.Binding.{bound_call, bound_statements}
+use Rattle.qs_program.specs.audit.Binding.{bound_call, bound_statements}
 use Rattle.qs_program.specs.declared.code.Call as calls
-use Rattle.qs_program.specs.Limits.{most_handlers, most_objects}
-use Rattle.qs_program.specs.Program.{BlockShape, ProgramShape, StartShape, binding_in, binding_of, client_at, no_client}
+use Rattle.qs_program.specs.audit.Limits.{most_handlers, most_objects}
+use Rattle.qs_program.specs.audit.Program.{BlockShape, ProgramShape, StartShape, binding_in, binding_of, client_at, no_client}
 use Rattle.qs_program.specs.Sound.{IsSound, IsSoundClient, IsStartSound}
 use Rattle.qs_program.specs.declared.program.Declared.{Declared}
-use Rattle.qs_program.specs.Statements.{Statements, end, command, query, assign, choose, again, leave}
-use Rattle.qs_graph.specs.Bound.{bound_node, bound_place, bound_nodes}
+use Rattle.qs_program.specs.audit.Statements.{Statements, end, command, query, assign, choose, again, leave}
+use Rattle.qs_graph.specs.audit.Bound.{bound_node, bound_place, bound_nodes}
 use Rattle.qs_graph.specs.declared.node.Node.{Node}
 use Rattle.qs_graph.specs.declared.node.Node.TheVariants.{Entry, Local, Branch, Sync, Query, Call, Exit}
-use Rattle.qs_graph.specs.Graphs.{block_graph, first_node, node_count, places_of}
-use Rattle.qs_graph.specs.Nodes.{GraphNode, exit, place_at}
-use Rattle.qs_graph.specs.Paths.{HasEdge, IsAmong, IsPath}
+use Rattle.qs_graph.specs.audit.Graphs.{block_graph, first_node, node_count, places_of}
+use Rattle.qs_graph.specs.audit.Nodes.{GraphNode, exit, place_at}
+use Rattle.qs_graph.specs.audit.Paths.{HasEdge, IsAmong, IsPath}
 use Rattle.qs_graph.specs.WellFormed.{IsCallInRange, IsGraph, IsGraphNode, IsInRange, edge_count}
 
 pub place_bound : (binding : List ℕ) (g : List GraphNode) (n : ℕ) → place_at (bound_nodes binding g) n ≡ bound_place binding (place_at g n)

@@ -7,14 +7,14 @@ use Rattle.std.proofs.Math.Seq.{drop-cons}
 use Rattle.qs_program.specs.declared.code.Test.{Test}
 use Rattle.qs_program.specs.declared.code.Stmt.{Stmt}
 use Rattle.qs_program.specs.declared.code.Stmt.TheVariants.{Command, Query, Assign, If, Repeat, Leave}
-use Rattle.qs_program.specs.Statements.{Statements, end, choose, again}
+use Rattle.qs_program.specs.audit.Statements.{Statements, end, choose, again}
 use Rattle.qs_program.specs.Views.{statements_of, single}
 use Rattle.std.specs.Prelude.{Bool}
 use Rattle.qs_graph.specs.declared.node.Node.TheVariants.{Local, Branch}
 use Rattle.qs_graph.specs.declared.node.Action.TheVariants.{SetCount}
 use Rattle.qs_graph.specs.declared.node.Choice.TheVariants as by
-use Rattle.qs_graph.specs.Nodes.{GraphNode, to, to_either}
-use Rattle.qs_graph.specs.Graphs.{node_count, first_node, places_of}
+use Rattle.qs_graph.specs.audit.Nodes.{GraphNode, to, to_either}
+use Rattle.qs_graph.specs.audit.Graphs.{node_count, first_node, places_of}
 use Rattle.qs_graph.proofs.StatementPlaces.{length_places}
 
 pub count_cons : (s : Stmt) (xs : List Stmt) → node_count (statements_of (s ∷ xs)) ≡ node_count (single s) + node_count (statements_of xs)

@@ -1,12 +1,12 @@
 -- The graph of a block, as it is numbered, is the only one that is drawn from the block: the places of statements stand
 -- in a graph exactly where the statements are drawn there.
 use Rattle.std.proofs.Common.{◌≡◌, ℕ, ◌+◌, List, [], ◌∷◌, ◌++◌, length, refl, sym, ap, ◌∙◌, arith, subst, append_assoc, length-append}
-use Rattle.qs_program.specs.Statements.{Statements, end, command, query, assign, choose, again, leave}
+use Rattle.qs_program.specs.audit.Statements.{Statements, end, command, query, assign, choose, again, leave}
 use Rattle.qs_graph.specs.declared.node.Node.TheVariants.{Entry, Local, Branch, Query, Call}
 use Rattle.qs_graph.specs.declared.node.Action.TheVariants.{Assign}
 use Rattle.qs_graph.specs.declared.node.Choice.TheVariants.{If, Repeat}
-use Rattle.qs_graph.specs.Nodes.{GraphNode, place_at, to, to_either, exit}
-use Rattle.qs_graph.specs.Graphs.{node_count, first_node, places_of, block_graph}
+use Rattle.qs_graph.specs.audit.Nodes.{GraphNode, place_at, to, to_either, exit}
+use Rattle.qs_graph.specs.audit.Graphs.{node_count, first_node, places_of, block_graph}
 use Rattle.qs_graph.specs.Drawn.{AreDrawn, IsDrawing, GraphsAreDrawings}
 use Rattle.qs_graph.proofs.StatementPlaces.{Stands, at_end, length_places, stands_first, stands_rest, stands_in}
 

@@ -5,14 +5,15 @@
 use Rattle.std.proofs.Common.{◌≡◌, ℕ, zero, suc, ◌+◌, ◌*◌, ◌<◌, ◌≤◌, max, ℤ, Bool, true, false, if◌then◌else◌, List, [], ◌∷◌, ◌++◌, length, slice_index_or, slice_set, refl, ap, ◌∙◌, arith, subst, length-append}
 use Rattle.std.proofs.Math.ListN.{length-set}
 use Rattle.std.proofs.lemmas.List.{get_or-set_same, get_or-set_other}
-use Rattle.qs_program.specs.Statements.{Statements, end, assign, command, query, choose, again, leave}
-use Rattle.qs_program.specs.Values.{Locals, expr_value, test_value, request_of}
+use Rattle.qs_program.specs.audit.Statements.{Statements, end, assign, command, query, choose, again, leave}
+use Rattle.qs_program.specs.audit.Values.{Locals, expr_value, test_value, request_of}
 use Rattle.qs_graph.specs.declared.node.Node.TheVariants as node
 use Rattle.qs_graph.specs.declared.node.Choice.TheVariants.{Repeat}
-use Rattle.qs_graph.specs.Nodes.{GraphNode, to, to_either, exit, place_at}
-use Rattle.qs_graph.specs.Graphs.{node_count, first_node, places_of, block_graph}
-use Rattle.qs_graph.specs.Synced.{Synced, Done, Next, turns, meaning, synced_of}
-use Rattle.qs_graph.specs.Walk.{Spot, Goes, entry, move, after_repeat}
+use Rattle.qs_graph.specs.audit.Nodes.{GraphNode, to, to_either, exit, place_at}
+use Rattle.qs_graph.specs.audit.Graphs.{node_count, first_node, places_of, block_graph}
+use Rattle.qs_graph.specs.audit.Synced.{Synced, Done}
+use Rattle.qs_graph.specs.Synced.{Next, turns, meaning, synced_of}
+use Rattle.qs_graph.specs.audit.Walk.{Spot, Goes, entry, move, after_repeat}
 use Rattle.qs_graph.specs.Steps.{steps, whole_steps}
 use Rattle.qs_graph.proofs.StatementPlaces.{Stands, length_places, stands_first, stands_rest, stands_in}
 use Rattle.qs_graph.proofs.Weights.{product}

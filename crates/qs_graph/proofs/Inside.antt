@@ -3,8 +3,8 @@
 use Rattle.std.proofs.Common.{◌≡◌, ℕ, ◌<◌, inl, inr, List, [], ◌∷◌, length, arith, subst, sym}
 use Rattle.std.specs.List.{AllByRecursion}
 use Rattle.qs_graph.specs.declared.node.Node.TheVariants.{Entry}
-use Rattle.qs_graph.specs.Nodes.{GraphNode, place_at, exit}
-use Rattle.qs_graph.specs.Paths.{IsAmong, HasEdge}
+use Rattle.qs_graph.specs.audit.Nodes.{GraphNode, place_at, exit}
+use Rattle.qs_graph.specs.audit.Paths.{IsAmong, HasEdge}
 use Rattle.qs_graph.specs.WellFormed.{IsGraphNode, IsGraph}
 use Rattle.qs_graph.specs.WalkLaws.{PathsStayInside}
 use Rattle.qs_graph.proofs.Ranges.{all_at}

@@ -3,15 +3,16 @@
 -- whole program, and a walk takes at most three nodes for each unit of weight.
 use Rattle.std.proofs.Common.{◌≡◌, ℕ, zero, suc, ◌+◌, ◌*◌, ◌≤◌, List, [], ◌∷◌, get_or, arith, sum_by, refl}
 use Rattle.std.proofs.lemmas.List.Sums.{sum_by-cons}
-use Rattle.qs_program.specs.Statements.{Statements}
-use Rattle.qs_program.specs.Values.{Locals}
-use Rattle.qs_program.specs.Loads.{weight_of}
-use Rattle.qs_program.specs.Program.{BlockShape, ClientShape, ProgramShape, no_block, no_client, client_at, block_at, whole_weight}
-use Rattle.qs_program.specs.Limits.{most_steps}
-use Rattle.qs_graph.specs.Graphs.{block_graph}
+use Rattle.qs_program.specs.audit.Statements.{Statements}
+use Rattle.qs_program.specs.audit.Values.{Locals}
+use Rattle.qs_program.specs.audit.Loads.{weight_of}
+use Rattle.qs_program.specs.audit.Program.{BlockShape, ClientShape, ProgramShape, no_block, no_client, client_at, block_at, whole_weight}
+use Rattle.qs_program.specs.audit.Limits.{most_steps}
+use Rattle.qs_graph.specs.audit.Graphs.{block_graph}
 use Rattle.qs_graph.specs.Synced.{synced_of}
-use Rattle.qs_graph.specs.Walk.{entry}
-use Rattle.qs_graph.specs.Steps.{steps, whole_steps, limit}
+use Rattle.qs_graph.specs.audit.Walk.{entry}
+use Rattle.qs_graph.specs.audit.Steps.{limit}
+use Rattle.qs_graph.specs.Steps.{steps, whole_steps}
 use Rattle.qs_graph.specs.WalkLaws.{FollowsBlock, WalksFollowBlocks, WalksWithinLimit}
 use Rattle.qs_graph.proofs.Saying.{Says, says_up}
 use Rattle.qs_graph.proofs.Following.{block_says}

@@ -7,17 +7,18 @@ use Rattle.std.specs.List.{AllByRecursion}
 use Rattle.qs_objects.proofs.Arities.{arity_small}
 use Rattle.qs_program.specs.declared.code.Call as calls
 use Rattle.qs_program.specs.declared.program.Declared.{Declared}
-use Rattle.qs_program.specs.Statements.{Statements, end, command, query, assign, choose, again, leave}
-use Rattle.qs_program.specs.Program.{BlockShape, ClientShape, ProgramShape, StartShape, binding_in, client_at, declarations_in, declarations_of, own_block, own_in, no_block, no_client, block_at}
-use Rattle.qs_program.specs.Sound.{IsSound, IsSoundBlock, IsSoundBody, IsSoundCall, IsSoundClient, IsStartSound, is_in}
-use Rattle.qs_program.specs.Limits.{most_handlers, most_objects}
+use Rattle.qs_program.specs.audit.Statements.{Statements, end, command, query, assign, choose, again, leave}
+use Rattle.qs_program.specs.audit.Program.{BlockShape, ClientShape, ProgramShape, StartShape, binding_in, client_at, declarations_in, declarations_of, own_block, own_in, no_block, no_client, block_at}
+use Rattle.qs_program.specs.audit.Sound.{is_in}
+use Rattle.qs_program.specs.Sound.{IsSound, IsSoundBlock, IsSoundBody, IsSoundCall, IsSoundClient, IsStartSound}
+use Rattle.qs_program.specs.audit.Limits.{most_handlers, most_objects}
 use Rattle.qs_graph.specs.declared.node.Node.{Node}
 use Rattle.qs_graph.specs.declared.node.Node.TheVariants.{Entry, Local, Branch, Sync, Query, Call, Exit}
 use Rattle.qs_graph.specs.declared.node.Action.TheVariants.{Assign, SetCount, Nothing}
-use Rattle.qs_program.specs.Binding.{bound_block}
-use Rattle.qs_graph.specs.Bound.{bound_nodes}
-use Rattle.qs_graph.specs.Nodes.{GraphNode, exit}
-use Rattle.qs_graph.specs.Graphs.{node_count, first_node, places_of, block_graph}
+use Rattle.qs_program.specs.audit.Binding.{bound_block}
+use Rattle.qs_graph.specs.audit.Bound.{bound_nodes}
+use Rattle.qs_graph.specs.audit.Nodes.{GraphNode, exit}
+use Rattle.qs_graph.specs.audit.Graphs.{node_count, first_node, places_of, block_graph}
 use Rattle.qs_graph.specs.WellFormed.{edge_count, IsCallInRange, IsGraph, IsInRange, IsGraphNode}
 use Rattle.qs_graph.specs.SoundNodes.{AreSoundNodes, IsSoundNode}
 use Rattle.qs_graph.specs.WalkLaws.{BlocksHaveGraphs}

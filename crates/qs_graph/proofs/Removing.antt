@@ -3,14 +3,17 @@
 -- take; at a removed synchronisation the walk goes on silently to the same spot.
 use Rattle.std.proofs.Common.{◌≡◌, inl, inr, ℕ, zero, suc, ◌<◌, List, length, refl, sym, ap, subst, ◌∙◌, arith}
 use Rattle.std.proofs.Math.Path.{fun_ext}
-use Rattle.qs_meaning.specs.Interaction as tree
-use Rattle.qs_program.specs.Values.{Locals}
+use Rattle.qs_meaning.specs.audit.Interaction as tree
+use Rattle.qs_program.specs.audit.Values.{Locals}
 use Rattle.qs_graph.specs.declared.node.Node.{Node}
 use Rattle.qs_graph.specs.declared.node.Node.TheVariants.{Entry, Local, Branch, Sync, Query, Call, Exit}
 use Rattle.qs_graph.specs.declared.node.Action.TheVariants.{Nothing}
-use Rattle.qs_graph.specs.Nodes.{GraphNode, place_at, first_target, second_target, IsSync}
-use Rattle.qs_graph.specs.Synced.{Synced, without_syncs}
-use Rattle.qs_graph.specs.Walk.{Spot, Move, Ends, Goes, Calls, Syncs, Queries, move, move_at, move_by, tree_of_move, walk, EachNext, Within}
+use Rattle.qs_graph.specs.audit.Nodes.{GraphNode, place_at, first_target, second_target}
+use Rattle.qs_graph.specs.Nodes.{IsSync}
+use Rattle.qs_graph.specs.audit.Synced.{Synced}
+use Rattle.qs_graph.specs.Synced.{without_syncs}
+use Rattle.qs_graph.specs.audit.Walk.{Spot, Move, Ends, Goes, Calls, Syncs, Queries, move, move_at, move_by, tree_of_move, walk}
+use Rattle.qs_graph.specs.Walk.{EachNext, Within}
 use Rattle.qs_graph.specs.Removal.{IsKeptOrRemoved, IsRemoval, RemovalsKeepWalks}
 use Rattle.qs_graph.proofs.Saying.{next_up}
 

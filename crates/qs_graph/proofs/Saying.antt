@@ -4,10 +4,11 @@
 use Rattle.std.proofs.Common.{◌≡◌, ℕ, zero, suc, ◌<◌, ◌≤◌, ℤ, List, length, refl, ap, ◌∙◌, arith}
 use Rattle.std.proofs.Math.Path.{fun_ext}
 use Rattle.qs_objects.specs.declared.Request.{Request}
-use Rattle.qs_program.specs.Values.{Locals}
-use Rattle.qs_graph.specs.Nodes.{GraphNode, place_at}
-use Rattle.qs_graph.specs.Synced.{Synced, Done, Call, Sync, Query}
-use Rattle.qs_graph.specs.Walk.{Spot, Move, Ends, Goes, Calls, Syncs, Queries, move, move_at, tree_of_move, walk, EachNext, Within}
+use Rattle.qs_program.specs.audit.Values.{Locals}
+use Rattle.qs_graph.specs.audit.Nodes.{GraphNode, place_at}
+use Rattle.qs_graph.specs.audit.Synced.{Synced, Done, Call, Sync, Query}
+use Rattle.qs_graph.specs.audit.Walk.{Spot, Move, Ends, Goes, Calls, Syncs, Queries, move, move_at, tree_of_move, walk}
+use Rattle.qs_graph.specs.Walk.{EachNext, Within}
 
 pub next_up : (P Q : Spot → Type 0) → ((s : Spot) → P s → Q s) → (m : Move) → EachNext P m → EachNext Q m
 next_up P Q h Ends w = tt

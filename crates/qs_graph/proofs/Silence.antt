@@ -2,9 +2,10 @@
 -- silent moves before the next act. The law `WalksUnfold` is proved here, with which a walk can be followed step by
 -- step. It goes by induction on the limit, since the walk is the same for each limit within which it ends.
 use Rattle.std.proofs.Common.{◌≡◌, ℕ, zero, suc, ◌<◌, ◌≤◌, List, refl, sym, ap, arith, subst}
-use Rattle.qs_graph.specs.Nodes.{GraphNode}
-use Rattle.qs_graph.specs.Walk.{Spot, Move, Ends, Goes, Calls, Syncs, Queries, move, tree_of_move, walk, EachNext, Within, silent_by, silent}
-use Rattle.qs_graph.specs.Steps.{limit}
+use Rattle.qs_graph.specs.audit.Nodes.{GraphNode}
+use Rattle.qs_graph.specs.audit.Walk.{Spot, Move, Ends, Goes, Calls, Syncs, Queries, move, tree_of_move, walk}
+use Rattle.qs_graph.specs.Walk.{EachNext, Within, silent_by, silent}
+use Rattle.qs_graph.specs.audit.Steps.{limit}
 use Rattle.qs_graph.specs.WalkLaws.{WalksUnfold}
 use Rattle.qs_graph.proofs.Saying.{next_up, said_same, within_up, walk_up}
 

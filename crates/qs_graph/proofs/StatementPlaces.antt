@@ -2,9 +2,9 @@
 -- that is cut in two. The proofs on building a graph and on walking through it find each node by this. It goes by
 -- induction on the list of nodes.
 use Rattle.std.proofs.Common.{◌≡◌, ℕ, ◌+◌, ◌<◌, List, [], ◌∷◌, ◌++◌, length, refl, arith, append_assoc, length-append, subst}
-use Rattle.qs_program.specs.Statements.{Statements, end, command, query, assign, choose, again, leave}
-use Rattle.qs_graph.specs.Nodes.{GraphNode, place_at}
-use Rattle.qs_graph.specs.Graphs.{node_count, first_node, places_of}
+use Rattle.qs_program.specs.audit.Statements.{Statements, end, command, query, assign, choose, again, leave}
+use Rattle.qs_graph.specs.audit.Nodes.{GraphNode, place_at}
+use Rattle.qs_graph.specs.audit.Graphs.{node_count, first_node, places_of}
 
 -- the places stand in the graph from a number on
 abbrev pub Stands : List GraphNode → ℕ → List GraphNode → Type 0

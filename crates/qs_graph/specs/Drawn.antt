@@ -1,11 +1,11 @@
 -- The graph of a block as a relation from its statements: which numbers they have, and what comes next after each.
 use Rattle.std.specs.Prelude.{◌≡◌, ◌<◌, ℕ, ◌+◌, List, length}
-use Rattle.qs_program.specs.Statements.{Statements, end, command, query, assign, choose, again, leave}
+use Rattle.qs_program.specs.audit.Statements.{Statements, end, command, query, assign, choose, again, leave}
 use Rattle.qs_graph.specs.declared.node.Node.TheVariants.{Entry, Local, Branch, Sync, Query, Call}
 use Rattle.qs_graph.specs.declared.node.Action.TheVariants.{Assign, SetCount, Nothing}
 use Rattle.qs_graph.specs.declared.node.Choice.TheVariants.{If, Repeat}
-use Rattle.qs_graph.specs.Nodes.{GraphNode, place_at, to, to_either, exit}
-use Rattle.qs_graph.specs.Graphs.{block_graph}
+use Rattle.qs_graph.specs.audit.Nodes.{GraphNode, place_at, to, to_either, exit}
+use Rattle.qs_graph.specs.audit.Graphs.{block_graph}
 
 module _ (g : List GraphNode) where
   -- the node of a number, with its edges

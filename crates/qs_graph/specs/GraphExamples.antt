@@ -7,12 +7,12 @@ use Rattle.qs_program.specs.declared.code.Test as tests
 use Rattle.qs_program.specs.declared.code.Expr.{Expr}
 use Rattle.qs_program.specs.declared.code.Expr.TheVariants.{Plain}
 use Rattle.qs_program.specs.declared.code.Atom.TheVariants.{Variable, Number}
-use Rattle.qs_program.specs.Statements.{Statements, end, command, query, assign, choose, again, leave}
+use Rattle.qs_program.specs.audit.Statements.{Statements, end, command, query, assign, choose, again, leave}
 use Rattle.qs_graph.specs.declared.node.Node.TheVariants.{Entry, Local, Branch, Sync, Query, Call}
 use Rattle.qs_graph.specs.declared.node.Action.TheVariants.{Assign, SetCount, Nothing}
 use Rattle.qs_graph.specs.declared.node.Choice.TheVariants.{If, Repeat}
-use Rattle.qs_graph.specs.Nodes.{to, to_either, exit}
-use Rattle.qs_graph.specs.Graphs.{block_graph}
+use Rattle.qs_graph.specs.audit.Nodes.{to, to_either, exit}
+use Rattle.qs_graph.specs.audit.Graphs.{block_graph}
 
 -- a.balance() and a.deposit(1)
 abbrev pub balance : calls.Call

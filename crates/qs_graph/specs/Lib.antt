@@ -1,10 +1,8 @@
+-- What has to be believed for the headline.
+pub mod audit
 -- What an auditor reads: the promises and the calls of the surface are said with these.
 pub mod Nodes
-pub mod Graphs
-pub mod Names
-pub mod Bound
 pub mod Drawn
-pub mod Paths
 pub mod Synced
 pub mod Walk
 pub mod Steps

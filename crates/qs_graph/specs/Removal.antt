@@ -1,8 +1,10 @@
 -- A graph with some of its synchronisations removed, and what its walks do.
 use Rattle.std.specs.Prelude.{◌≡◌, ◌⊎◌, ℕ, List, length}
-use Rattle.qs_graph.specs.Nodes.{GraphNode, place_at, made_local, IsSync}
+use Rattle.qs_graph.specs.audit.Nodes.{GraphNode, place_at, made_local}
+use Rattle.qs_graph.specs.Nodes.{IsSync}
 use Rattle.qs_graph.specs.Synced.{without_syncs}
-use Rattle.qs_graph.specs.Walk.{Spot, walk, Within}
+use Rattle.qs_graph.specs.audit.Walk.{Spot, walk}
+use Rattle.qs_graph.specs.Walk.{Within}
 
 -- the same place, or a synchronisation's that does nothing now
 abbrev pub IsKeptOrRemoved : GraphNode → GraphNode → Type 0

@@ -2,7 +2,7 @@
 use Rattle.std.specs.Prelude.{◌≡◌, ◌≤◌, ℕ, List, length, refl, slice_index_or, take}
 use Rattle.std.specs.Coded.{Coded, code_by, coded×, coded_list, coded_ℕ, codes}
 use Rattle.qs_graph.specs.declared.node.Node.{Node}
-use Rattle.qs_graph.specs.Nodes.{GraphNode}
+use Rattle.qs_graph.specs.audit.Nodes.{GraphNode}
 
 -- so many of two targets are edges, and those behind them are 0: so a target is what the edge of its place is, and 0
 -- where there is none

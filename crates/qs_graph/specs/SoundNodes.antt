@@ -2,15 +2,16 @@
 use Rattle.std.specs.Prelude.{◌≡◌, ◌<◌, ℕ, true, false, List}
 use Rattle.std.specs.List.{AllByRecursion}
 use Rattle.qs_program.specs.declared.program.Declared.{Declared}
-use Rattle.qs_program.specs.Sound.{IsSoundExpr, IsSoundTest, IsSoundCall, is_in}
-use Rattle.qs_program.specs.Limits.{most_variables}
+use Rattle.qs_program.specs.audit.Sound.{is_in}
+use Rattle.qs_program.specs.Sound.{IsSoundExpr, IsSoundTest, IsSoundCall}
+use Rattle.qs_program.specs.audit.Limits.{most_variables}
 use Rattle.qs_graph.specs.declared.node.Node.{Node}
 use Rattle.qs_graph.specs.declared.node.Node.TheVariants.{Local, Branch, Sync, Query, Call}
 use Rattle.qs_graph.specs.declared.node.Action.{Action}
 use Rattle.qs_graph.specs.declared.node.Action.TheVariants.{Assign}
 use Rattle.qs_graph.specs.declared.node.Choice.{Choice}
 use Rattle.qs_graph.specs.declared.node.Choice.TheVariants.{If, Repeat}
-use Rattle.qs_graph.specs.Nodes.{GraphNode}
+use Rattle.qs_graph.specs.audit.Nodes.{GraphNode}
 
 abbrev pub IsSoundAction : Action → Type 0
 IsSoundAction (Assign x e) = (x < most_variables) × IsSoundExpr e

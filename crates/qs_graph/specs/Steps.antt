@@ -1,6 +1,6 @@
--- How many nodes a walk takes.
+-- Beside what the headline reaches (`audit/Steps.antt`): what else contracts and proofs use.
 use Rattle.std.specs.Prelude.{ℕ, ◌+◌, ◌*◌, max}
-use Rattle.qs_program.specs.Statements.{Statements, end, command, query, assign, choose, again, leave}
+use Rattle.qs_program.specs.audit.Statements.{Statements, end, command, query, assign, choose, again, leave}
 
 -- no walk through statements takes more nodes than this
 abbrev pub steps : Statements → ℕ
@@ -15,7 +15,3 @@ steps (leave rest) = 1 + steps rest
 -- Entry, the statements' nodes and Exit
 abbrev pub whole_steps : Statements → ℕ
 whole_steps body = 2 + steps body
-
--- no walk through a block of a checked program takes more nodes than this
-unfoldable pub limit : ℕ
-limit = 3000002

@@ -1,18 +1,11 @@
--- A block as an interaction tree with its synchronisations: one with the handler before each query.
+-- Beside what the headline reaches (`audit/Synced.antt`): what else contracts and proofs use.
 use Rattle.std.specs.Prelude.{ℕ, ℤ}
 use Rattle.qs_objects.specs.declared.Request.{Request}
-use Rattle.qs_program.specs.Statements.{Statements}
-use Rattle.qs_program.specs.Values.{Locals}
-use Rattle.qs_meaning.specs.Interaction.{Interaction}
-use Rattle.qs_meaning.specs.Interaction as tree
-
--- over, with these variables; a command, and the rest; a synchronisation, and the rest; a query, and for each reply the
--- rest
-pub data Synced : Type 0 where
-  Done : (locals : Locals) → Synced
-  Call : (request : Request) → (next : Synced) → Synced
-  Sync : (handler : ℕ) → (next : Synced) → Synced
-  Query : (request : Request) → (next : ℤ → Synced) → Synced
+use Rattle.qs_program.specs.audit.Statements.{Statements}
+use Rattle.qs_program.specs.audit.Values.{Locals}
+use Rattle.qs_meaning.specs.audit.Interaction.{Interaction}
+use Rattle.qs_meaning.specs.audit.Interaction as tree
+use Rattle.qs_graph.specs.audit.Synced.{Synced, Done, Call, Sync, Query}
 
 -- what comes next, by the variables
 abbrev pub Next : Type 0

@@ -2,9 +2,10 @@
 use Rattle.std.specs.Prelude.{◌≡◌, [], ◌∷◌, ℤ, pos}
 use Rattle.qs_objects.specs.declared.Op.TheVariants.{Balance, Deposit}
 use Rattle.qs_objects.specs.declared.Request.{Request}
-use Rattle.qs_program.specs.Values.{Locals}
+use Rattle.qs_program.specs.audit.Values.{Locals}
 use Rattle.qs_graph.specs.GraphExamples.{query_in_repeat, empty_bodies, leave_first, two_bodies}
-use Rattle.qs_graph.specs.Synced.{Synced, Done, Call, Sync, Query, synced_of}
+use Rattle.qs_graph.specs.audit.Synced.{Synced, Done, Call, Sync, Query}
+use Rattle.qs_graph.specs.Synced.{synced_of}
 use Rattle.qs_graph.specs.Steps.{whole_steps}
 
 abbrev pub balance_of_a : Request

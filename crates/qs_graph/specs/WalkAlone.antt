@@ -1,11 +1,11 @@
 -- A walk by itself: each request is done at once.
 use Rattle.std.specs.Prelude.{ℕ, zero, suc, List, [], None}
-use Rattle.qs_objects.specs.Journals.{answer}
-use Rattle.qs_program.specs.Values.{Locals}
-use Rattle.qs_meaning.specs.Solo.{States, BlockResult, states_after, value_of, event}
+use Rattle.qs_objects.specs.audit.Journals.{answer}
+use Rattle.qs_program.specs.audit.Values.{Locals}
+use Rattle.qs_meaning.specs.audit.Solo.{States, BlockResult, states_after, value_of, event}
 use Rattle.qs_meaning.specs.Interaction.{after_event}
-use Rattle.qs_graph.specs.Nodes.{GraphNode}
-use Rattle.qs_graph.specs.Walk.{Spot, Move, Ends, Goes, Calls, Syncs, Queries, move}
+use Rattle.qs_graph.specs.audit.Nodes.{GraphNode}
+use Rattle.qs_graph.specs.audit.Walk.{Spot, Move, Ends, Goes, Calls, Syncs, Queries, move}
 
 -- what a move does and what `go` does after it
 abbrev pub result_of_move : (Spot → States → BlockResult) → Locals → States → Move → BlockResult

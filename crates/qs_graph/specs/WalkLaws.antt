@@ -1,24 +1,26 @@
 -- What walks through the graph of a block do.
 use Rattle.std.specs.Prelude.{◌≡◌, ◌<◌, ◌≤◌, ℕ, ◌*◌, List, ◌∷◌, length}
-use Rattle.qs_program.specs.Statements.{Statements}
-use Rattle.qs_program.specs.Values.{Locals}
-use Rattle.qs_meaning.specs.Solo.{States, solo}
-use Rattle.qs_meaning.specs.Interaction.{tree_of}
-use Rattle.qs_program.specs.Loads.{weight_of}
-use Rattle.qs_program.specs.Program.{ProgramShape, binding_of, block_at, declarations_of, own_block}
+use Rattle.qs_program.specs.audit.Statements.{Statements}
+use Rattle.qs_program.specs.audit.Values.{Locals}
+use Rattle.qs_meaning.specs.audit.Solo.{States, solo}
+use Rattle.qs_meaning.specs.audit.Interaction.{tree_of}
+use Rattle.qs_program.specs.audit.Loads.{weight_of}
+use Rattle.qs_program.specs.audit.Program.{ProgramShape, binding_of, block_at, declarations_of, own_block}
 use Rattle.qs_program.specs.Sound.{IsSound}
-use Rattle.qs_program.specs.Binding.{bound_statements}
-use Rattle.qs_graph.specs.Bound.{bound_nodes}
-use Rattle.qs_graph.specs.Names.{graph_of}
-use Rattle.qs_graph.specs.Nodes.{GraphNode}
-use Rattle.qs_graph.specs.Graphs.{block_graph}
-use Rattle.qs_graph.specs.Paths.{IsPath}
+use Rattle.qs_program.specs.audit.Binding.{bound_statements}
+use Rattle.qs_graph.specs.audit.Bound.{bound_nodes}
+use Rattle.qs_graph.specs.audit.Names.{graph_of}
+use Rattle.qs_graph.specs.audit.Nodes.{GraphNode}
+use Rattle.qs_graph.specs.audit.Graphs.{block_graph}
+use Rattle.qs_graph.specs.audit.Paths.{IsPath}
 use Rattle.qs_graph.specs.WellFormed.{IsGraph}
 use Rattle.qs_graph.specs.SoundNodes.{AreSoundNodes}
 use Rattle.qs_graph.specs.Synced.{synced_of, without_syncs}
-use Rattle.qs_graph.specs.Walk.{Spot, Goes, entry, move, tree_of_move, walk, EachNext, Within, silent}
+use Rattle.qs_graph.specs.audit.Walk.{Spot, Goes, entry, move, tree_of_move, walk}
+use Rattle.qs_graph.specs.Walk.{EachNext, Within, silent}
 use Rattle.qs_graph.specs.WalkAlone.{walk_alone}
-use Rattle.qs_graph.specs.Steps.{steps, whole_steps, limit}
+use Rattle.qs_graph.specs.audit.Steps.{limit}
+use Rattle.qs_graph.specs.Steps.{steps, whole_steps}
 
 -- from Entry, with these variables and any counts: within n nodes the walk is at Exit, it says what the block's tree
 -- with its synchronisations says, and with each request done at once it makes the trace, the variables and the states

@@ -2,12 +2,12 @@
 use Rattle.std.specs.Prelude.{◌≡◌, ◌<◌, ◌≤◌, ℕ, List, length}
 use Rattle.std.specs.List.{AllByRecursion}
 use Rattle.qs_program.specs.declared.code.Call as calls
-use Rattle.qs_program.specs.Limits.{most_handlers, most_objects, most_variables}
+use Rattle.qs_program.specs.audit.Limits.{most_handlers, most_objects, most_variables}
 use Rattle.qs_graph.specs.declared.node.Node.{Node}
 use Rattle.qs_graph.specs.declared.node.Node.TheVariants.{Entry, Local, Branch, Sync, Query, Call, Exit}
 use Rattle.qs_graph.specs.declared.node.Action.{Action}
 use Rattle.qs_graph.specs.declared.node.Action.TheVariants.{Assign}
-use Rattle.qs_graph.specs.Nodes.{GraphNode, place_at}
+use Rattle.qs_graph.specs.audit.Nodes.{GraphNode, place_at}
 
 -- how many edges a node has
 abbrev pub edge_count : Node → ℕ

@@ -1,8 +1,8 @@
 //! Names of nodes, replaced by the objects that they stand for.
 
 ghost use Rattle.std.specs.Prelude.{◌≡◌, ◌<◌, length};
-ghost use Rattle.qs_program.specs.Program.{binding_of};
-ghost use Rattle.qs_graph.specs.Bound.{bound_node, bound_nodes};
+ghost use Rattle.qs_program.specs.audit.Program.{binding_of};
+ghost use Rattle.qs_graph.specs.audit.Bound.{bound_node, bound_nodes};
 
 use crate::graphs::GraphNode;
 use crate::node::Node;

@@ -1,14 +1,14 @@
 //! The graph of a block, made in one pass: where a statement leads is known from how many nodes there are before it.
 
 ghost use Rattle.std.specs.Prelude.{◌≡◌, ◌<◌, ◌≤◌, ◌+◌, ◌++◌, ◌∷◌, [], length, vec_capacity, IfOk, OnOk};
-ghost use Rattle.qs_program.specs.Program.{blocks_of, declarations_of, own_block};
+ghost use Rattle.qs_program.specs.audit.Program.{blocks_of, declarations_of, own_block};
 ghost use Rattle.qs_program.specs.Views.{single};
 ghost use Rattle.qs_graph.specs.declared.node.Node.TheVariants.{Branch, Call, Query, Sync};
-ghost use Rattle.qs_graph.specs.Names.{graph_of, names_of};
-ghost use Rattle.qs_graph.specs.Nodes.{to, to_either};
+ghost use Rattle.qs_graph.specs.audit.Names.{graph_of, names_of};
+ghost use Rattle.qs_graph.specs.audit.Nodes.{to, to_either};
 ghost use Rattle.std.specs.List.{AllByRecursion};
 ghost use Rattle.qs_graph.specs.Drawn.{IsDrawing};
-ghost use Rattle.qs_graph.specs.Graphs.{node_count, first_node as first_of, places_of, block_graph};
+ghost use Rattle.qs_graph.specs.audit.Graphs.{node_count, first_node as first_of, places_of, block_graph};
 
 use crate::copies::copied;
 use crate::counts::{nodes_of, nodes_of_stmt};

@@ -1,7 +1,7 @@
 //! How many nodes statements have.
 
 ghost use Rattle.std.specs.Prelude.{◌≡◌, min, ◌^◌, ◌-◌};
-ghost use Rattle.qs_graph.specs.Graphs.{node_count};
+ghost use Rattle.qs_graph.specs.audit.Graphs.{node_count};
 ghost use Rattle.qs_program.specs.Views.{single};
 
 use qs_program::{Body, Stmt};

@@ -1,13 +1,14 @@
 //! Graphs as they are kept.
 
 ghost use Rattle.std.specs.Prelude.{◌≡◌, ◌<◌, [], false, length, slice_set};
-ghost use Rattle.qs_program.specs.Program.{binding_of};
-ghost use Rattle.qs_graph.specs.Bound.{bound_nodes};
+ghost use Rattle.qs_program.specs.audit.Program.{binding_of};
+ghost use Rattle.qs_graph.specs.audit.Bound.{bound_nodes};
 ghost use Rattle.std.specs.List.{list_any};
 ghost use Rattle.std.specs.Prelude.{◌==◌, ◌&&◌};
-ghost use Rattle.qs_program.specs.Kinds.{same_kind as are_alike};
-ghost use Rattle.qs_graph.specs.Names.{may_be_one, are_of_one_kind};
-ghost use Rattle.qs_graph.specs.Nodes.{to, to_either, exit, place_at, first_target, second_target, made_local, IsSync};
+ghost use Rattle.qs_program.specs.audit.Kinds.{same_kind as are_alike};
+ghost use Rattle.qs_graph.specs.audit.Names.{may_be_one, are_of_one_kind};
+ghost use Rattle.qs_graph.specs.audit.Nodes.{to, to_either, exit, place_at, first_target, second_target, made_local};
+ghost use Rattle.qs_graph.specs.Nodes.{IsSync};
 ghost use Rattle.qs_graph.specs.WellFormed.{IsGraph};
 
 use crate::binding::bind_places;
@@ -27,7 +28,7 @@ pub(crate) struct GraphNode {
 
 impl Model for GraphNode {
     ghost use Rattle.std.specs.Prelude.{take};
-    ghost use Rattle.qs_graph.specs.Nodes as nodes;
+    ghost use Rattle.qs_graph.specs.audit.Nodes as nodes;
     ghost use Rattle.qs_graph.specs.Shapes.{place_code, AreEdges};
 
     ghost Value = { nodes.GraphNode };
@@ -111,7 +112,7 @@ impl Drop for Graph {
 }
 
 impl Model for Graph {
-    ghost use Rattle.qs_graph.specs.Nodes.{ControlGraph};
+    ghost use Rattle.qs_graph.specs.audit.Nodes.{ControlGraph};
     ghost use Rattle.qs_graph.specs.WellFormed.{IsGraph};
 
     ghost Value = { ControlGraph };

@@ -3,16 +3,16 @@
 -- its thread stand on these laws. Each goes by cases on the handler's state and on the parcel.
 use Rattle.std.proofs.Common.{◌≡◌, ◌+◌, if◌then◌else◌, false, List, [], ◌∷◌, ◌++◌, length, Some, refl, sym, ap, ◌∙◌, subst, arith, length-append}
 use Rattle.std.proofs.lemmas.List.Sums.{sum_by-append}
-use Rattle.qs_objects.specs.Journals.{HeldState}
+use Rattle.qs_objects.specs.audit.Journals.{HeldState}
 use Rattle.qs_objects.specs.declared.held.Next.TheVariants as nexts
-use Rattle.qs_chunk.specs.Batch.{batch}
-use Rattle.qs_chunk.specs.Lanes.{is_sync}
-use Rattle.qs_chunk.specs.LaneRun.{syncs}
-use Rattle.qs_chunk.specs.Runs.{ran_all}
+use Rattle.qs_chunk.specs.audit.Batch.{batch}
+use Rattle.qs_chunk.specs.audit.Lanes.{is_sync}
+use Rattle.qs_chunk.specs.audit.LaneRun.{syncs}
+use Rattle.qs_chunk.specs.audit.Runs.{ran_all}
 use Rattle.qs_chunk.proofs.LaneFronts.{asked_last}
 use Rattle.qs_chunk.specs.declared.parcel.Parcel.{Parcel}
 use Rattle.qs_chunk.specs.declared.parcel.Parcel.TheVariants.{Work, Sync, Home, End}
-use Rattle.qs_handler.specs.Handler.{Handler, free, serves, spares, gives, away, closed}
+use Rattle.qs_handler.specs.audit.Handler.{Handler, free, serves, spares, gives, away, closed}
 use Rattle.qs_handler.specs.HandlerLanes.{OwesNothing, HandlerFitsLane, BeginsAtLanes, TicketsKeepLanes, AsksForWhatFollows, ParcelsKeepLanes, ParcelsKeepOtherLanes, GivesAreAskedFor, GivesKeepOtherLanes, SparesAreEmpty, SparesKeepLanes, EndsAtLanes, HandlerLaneLaws}
 
 syncs_with : (ps : List Parcel) (p : Parcel) → syncs (ps ++ p ∷ []) ≡ syncs ps + (if is_sync p then 1 else 0)

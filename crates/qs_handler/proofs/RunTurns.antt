@@ -2,16 +2,16 @@
 -- block is served, what is to come is the rest of its turn, by the state that the handler is in, and then the turns of
 -- the tickets after it.
 use Rattle.std.proofs.Common.{◌≡◌, ℕ, Bool, true, false, ◌==◌, if◌then◌else◌, List, [], ◌∷◌, ◌++◌, map, flat_map, refl, sym, ap, ◌∙◌, subst, Some}
-use Rattle.qs_objects.specs.Journals.{HeldState}
+use Rattle.qs_objects.specs.audit.Journals.{HeldState}
 use Rattle.qs_objects.specs.declared.held.Next.TheVariants.{Ticket, Closed}
 use Rattle.qs_objects.specs.declared.held.Ticket as tickets
 use Rattle.qs_chunk.specs.LaneViews.{HandlerLane, over}
-use Rattle.qs_chunk.specs.Runs.{ran_all}
+use Rattle.qs_chunk.specs.audit.Runs.{ran_all}
 use Rattle.qs_chunk.specs.declared.parcel.Parcel.{Parcel}
 use Rattle.qs_chunk.specs.declared.parcel.Parcel.TheVariants.{Work, Sync, Home, End}
-use Rattle.qs_handler.specs.Handler as handlers
-use Rattle.qs_handler.specs.Handler.{Handler, free, serves, away, closed, act_of, gave, accept_next, accept_parcel}
-use Rattle.qs_handler.specs.HandlerRuns.{Task, takes, receives, gives, spares, TasksLead, received_from, given_to, taken_by}
+use Rattle.qs_handler.specs.audit.Handler as handlers
+use Rattle.qs_handler.specs.audit.Handler.{Handler, free, serves, away, closed, act_of, gave, accept_next, accept_parcel}
+use Rattle.qs_handler.specs.audit.HandlerRuns.{Task, takes, receives, gives, spares, TasksLead, received_from, given_to, taken_by}
 use Rattle.qs_handler.specs.HandlerTurns.{Turn, TurnsLead, turns_for, HasTurns, HandlersTakeTurns}
 
 -- what is left of a ticket's turn, and the turns after it; the rest of the turn leads as the handler's state says

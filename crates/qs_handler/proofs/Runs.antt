@@ -4,13 +4,14 @@
 -- this client or with another.
 use Rattle.std.proofs.Common.{◌≡◌, ℕ, true, false, ◌==◌, if◌then◌else◌, List, [], ◌∷◌, ◌++◌, refl, sym, subst, ⊎_elim, append_assoc, append-nil}
 use Rattle.std.specs.List.{AllByRecursion}
-use Rattle.qs_objects.specs.Journals.{HeldState}
+use Rattle.qs_objects.specs.audit.Journals.{HeldState}
 use Rattle.qs_objects.proofs.Choices.{apart_eqb, eqb_self, num_cases}
-use Rattle.qs_chunk.specs.Lanes.{HasSize}
+use Rattle.qs_chunk.specs.audit.Lanes.{HasSize}
 use Rattle.qs_chunk.specs.declared.parcel.Parcel.{Parcel}
-use Rattle.qs_handler.specs.Handler.{Handler, free, act_of, gave}
+use Rattle.qs_handler.specs.audit.Handler.{Handler, free, act_of, gave}
 use Rattle.qs_handler.specs.HandlerLanes.{HandlerFitsLane}
-use Rattle.qs_handler.specs.HandlerRuns.{Task, takes, receives, gives, spares, TasksLead, received_from, given_to, RunsKeepLanes, GivesFollowSyncs, SparesFollowChunks, HandlerRunLaws}
+use Rattle.qs_handler.specs.audit.HandlerRuns.{Task, takes, receives, gives, spares, TasksLead, received_from, given_to}
+use Rattle.qs_handler.specs.HandlerRuns.{RunsKeepLanes, GivesFollowSyncs, SparesFollowChunks, HandlerRunLaws}
 use Rattle.qs_handler.specs.declared.mind.Act.TheVariants as acts
 use Rattle.qs_handler.proofs.LaneTurns.{handler_lane_laws}
 

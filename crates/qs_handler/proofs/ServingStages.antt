@@ -1,10 +1,10 @@
 -- A handler that serves a block is in that stage in the code, and has its object.
 use Rattle.std.proofs.Common.{◌≡◌, Option, Some, None}
-use Rattle.qs_objects.specs.Journals.{HeldState}
+use Rattle.qs_objects.specs.audit.Journals.{HeldState}
 use Rattle.qs_objects.specs.declared.Request.{Request}
 use Rattle.qs_objects.specs.declared.held.Ticket.{Ticket}
-use Rattle.qs_chunk.specs.Batch.{Batch}
-use Rattle.qs_handler.specs.Handler.{serves}
+use Rattle.qs_chunk.specs.audit.Batch.{Batch}
+use Rattle.qs_handler.specs.audit.Handler.{serves}
 use Rattle.qs_handler.specs.Stages.{staged_handler}
 use Rattle.qs_handler.specs.declared.mind.HandlerStage.{HandlerStage}
 use Rattle.qs_handler.specs.declared.mind.HandlerStage.TheVariants as stages

@@ -1,18 +1,18 @@
 -- A handler's turns that were worked out by hand: an account of 100, of which a block asks a deposit of 5 and the
 -- balance.
 use Rattle.std.specs.Prelude.{◌≡◌, ℕ, List, [], ◌∷◌, Option, Some, None, ℤ, pos}
-use Rattle.qs_objects.specs.Act.{account}
-use Rattle.qs_objects.specs.Journals.{HeldState}
+use Rattle.qs_objects.specs.audit.Act.{account}
+use Rattle.qs_objects.specs.audit.Journals.{HeldState}
 use Rattle.qs_objects.specs.declared.Op.{Op}
 use Rattle.qs_objects.specs.declared.Op.TheVariants.{Deposit, Withdraw, Balance}
 use Rattle.qs_objects.specs.declared.Request.{Request}
 use Rattle.qs_objects.specs.declared.held.Entry.{Entry}
 use Rattle.qs_objects.specs.declared.held.Next.TheVariants as nexts
 use Rattle.qs_objects.specs.declared.held.Ticket.{Ticket}
-use Rattle.qs_chunk.specs.Batch.{batch}
+use Rattle.qs_chunk.specs.audit.Batch.{batch}
 use Rattle.qs_chunk.specs.declared.parcel.Parcel.{Parcel}
 use Rattle.qs_chunk.specs.declared.parcel.Parcel.TheVariants.{Work, Sync, Home, End}
-use Rattle.qs_handler.specs.Handler.{free, serves, spares, gives, away, closed, act_of, gave, accept_next, accept_parcel}
+use Rattle.qs_handler.specs.audit.Handler.{free, serves, spares, gives, away, closed, act_of, gave, accept_next, accept_parcel}
 use Rattle.qs_handler.specs.declared.mind.Act.TheVariants as acts
 
 abbrev pub request : Op → List ℤ → Request

@@ -1,7 +1,7 @@
 -- A handler at the lanes of two clients, worked out by hand: client 1's block asks a deposit and the balance.
 use Rattle.std.specs.Prelude.{[], ◌∷◌}
 use Rattle.qs_chunk.specs.declared.parcel.Parcel.TheVariants.{Sync, Home, End}
-use Rattle.qs_handler.specs.Handler.{free, serves, spares, gives, away, closed}
+use Rattle.qs_handler.specs.audit.Handler.{free, serves, spares, gives, away, closed}
 use Rattle.qs_handler.specs.HandlerExamples.{deposit, end, middle, start, ticket}
 use Rattle.qs_handler.specs.HandlerLanes.{HandlerFitsLane}
 

@@ -1,13 +1,14 @@
 -- How a handler stands to its clients' lanes: the parcels that it received from each, and the objects that it gave.
 use Rattle.std.specs.Prelude.{◌≡◌, ◌≢◌, ℕ, ◌+◌, true, false, List, [], ◌∷◌, ◌++◌, length, Some}
-use Rattle.qs_objects.specs.Journals.{HeldState}
+use Rattle.qs_objects.specs.audit.Journals.{HeldState}
 use Rattle.qs_objects.specs.declared.held.Next.{Next}
 use Rattle.qs_objects.specs.declared.Request.{Request}
-use Rattle.qs_chunk.specs.Batch.{Batch, batch}
-use Rattle.qs_chunk.specs.Lanes.{HasSize, is_asked}
-use Rattle.qs_chunk.specs.LaneRun.{syncs}
+use Rattle.qs_chunk.specs.audit.Batch.{Batch, batch}
+use Rattle.qs_chunk.specs.audit.Lanes.{HasSize, is_asked}
+use Rattle.qs_chunk.specs.audit.LaneRun.{syncs}
 use Rattle.qs_chunk.specs.declared.parcel.Parcel.{Parcel}
-use Rattle.qs_handler.specs.Handler.{Handler, free, serves, spares, gives, away, closed, act_of, gave, accept_next, accept_parcel, is_away}
+use Rattle.qs_handler.specs.audit.Handler.{Handler, free, serves, spares, gives, away, closed, act_of, gave, accept_next, accept_parcel}
+use Rattle.qs_handler.specs.Handler.{is_away}
 use Rattle.qs_handler.specs.declared.mind.Act.TheVariants as acts
 
 -- the last parcel is no Sync, and each Sync was served

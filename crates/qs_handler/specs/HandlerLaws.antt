@@ -1,9 +1,11 @@
 -- What holds of every handler.
 use Rattle.std.specs.Prelude.{◌≡◌, ◌↔◌, ℕ, IsTrue, IsSome, Some}
 use Rattle.qs_objects.specs.declared.held.Next.{Next}
-use Rattle.qs_chunk.specs.Lanes.{is_sync, may_stand}
+use Rattle.qs_chunk.specs.audit.Lanes.{is_sync}
+use Rattle.qs_chunk.specs.Lanes.{may_stand}
 use Rattle.qs_chunk.specs.declared.parcel.Parcel.{Parcel}
-use Rattle.qs_handler.specs.Handler.{Handler, act_of, gave, with_act, accept_next, accept_parcel, is_away}
+use Rattle.qs_handler.specs.audit.Handler.{Handler, act_of, gave, accept_next, accept_parcel}
+use Rattle.qs_handler.specs.Handler.{with_act, is_away}
 use Rattle.qs_handler.specs.declared.mind.Act.TheVariants as acts
 
 -- what an act carries and what stays behind are the handler that it was

@@ -1,11 +1,11 @@
 -- A handler's whole run, worked out by hand: the one block of HandlerExamples, and then no further ticket.
 use Rattle.std.specs.Prelude.{◌≡◌, List, [], ◌∷◌}
 use Rattle.qs_objects.specs.declared.held.Next.TheVariants.{Ticket, Closed}
-use Rattle.qs_chunk.specs.Batch.{batch}
+use Rattle.qs_chunk.specs.audit.Batch.{batch}
 use Rattle.qs_chunk.specs.declared.parcel.Parcel.TheVariants.{Sync, Home, End}
-use Rattle.qs_handler.specs.Handler.{free, closed}
+use Rattle.qs_handler.specs.audit.Handler.{free, closed}
 use Rattle.qs_handler.specs.HandlerExamples.{deposit, end, middle, start, ticket}
-use Rattle.qs_handler.specs.HandlerRuns.{Task, takes, receives, gives, spares, TasksLead, received_from, given_to, taken_by}
+use Rattle.qs_handler.specs.audit.HandlerRuns.{Task, takes, receives, gives, spares, TasksLead, received_from, given_to, taken_by}
 use Rattle.qs_handler.specs.HandlerTurns.{Turn, TurnsLead, turns_for}
 
 -- all that the handler did

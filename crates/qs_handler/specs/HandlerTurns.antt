@@ -1,12 +1,12 @@
 -- A handler's whole run, from its first ticket until no further one comes: a turn for each ticket, one after another.
 use Rattle.std.specs.Prelude.{◌≡◌, ℕ, ◌==◌, false, List, [], ◌∷◌, ◌++◌, map, filter, flat_map}
-use Rattle.qs_objects.specs.Journals.{HeldState}
+use Rattle.qs_objects.specs.audit.Journals.{HeldState}
 use Rattle.qs_objects.specs.declared.held.Next.TheVariants.{Ticket, Closed}
 use Rattle.qs_objects.specs.declared.held.Ticket as tickets
 use Rattle.qs_chunk.specs.LaneViews.{HandlerLane, over}
 use Rattle.qs_chunk.specs.declared.parcel.Parcel.{Parcel}
-use Rattle.qs_handler.specs.Handler.{free, closed}
-use Rattle.qs_handler.specs.HandlerRuns.{Task, TasksLead, received_from, given_to, taken_by}
+use Rattle.qs_handler.specs.audit.Handler.{free, closed}
+use Rattle.qs_handler.specs.audit.HandlerRuns.{Task, TasksLead, received_from, given_to, taken_by}
 
 -- what a handler did for one ticket: the parcels that it received, and the objects that it gave
 pub record Turn : Type 0 where

@@ -1,10 +1,10 @@
 -- What a handler's parts in the code mean together: its stage, its object and the chunk that it gives back.
 use Rattle.std.specs.Prelude.{◌≡◌, [], Option, Some, None, IsSome}
-use Rattle.qs_objects.specs.Journals.{HeldState}
+use Rattle.qs_objects.specs.audit.Journals.{HeldState}
 use Rattle.qs_objects.specs.declared.Request.{Request}
 use Rattle.qs_objects.specs.declared.held.Ticket.{Ticket}
-use Rattle.qs_chunk.specs.Batch.{Batch}
-use Rattle.qs_handler.specs.Handler.{Handler, free, serves, spares, gives, away, closed}
+use Rattle.qs_chunk.specs.audit.Batch.{Batch}
+use Rattle.qs_handler.specs.audit.Handler.{Handler, free, serves, spares, gives, away, closed}
 use Rattle.qs_handler.specs.declared.mind.HandlerStage.{HandlerStage}
 use Rattle.qs_handler.specs.declared.mind.HandlerStage.TheVariants as stages
 

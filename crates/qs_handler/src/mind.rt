@@ -1,12 +1,13 @@
 //! A handler's mind.
 
 ghost use Rattle.std.specs.Prelude.{◌≡◌, ◌∷◌, ℕ, [], IsTrue, MatchOption, false, true, Some, option_copied};
-ghost use Rattle.qs_objects.specs.Journals.{HeldState};
+ghost use Rattle.qs_objects.specs.audit.Journals.{HeldState};
 ghost use Rattle.qs_chunk.specs.declared.parcel.Parcel.TheVariants as Parcel;
-ghost use Rattle.qs_chunk.specs.Batch.{batch};
+ghost use Rattle.qs_chunk.specs.audit.Batch.{batch};
 ghost use Rattle.qs_chunk.specs.Lanes.{may_stand};
-ghost use Rattle.qs_chunk.specs.Runs.{ran_all};
-ghost use Rattle.qs_handler.specs.Handler.{Handler as HandlerShape, free, serves, spares, gives, away, closed, act_of, gave, accept_next, accept_parcel, is_away, held_of, serving};
+ghost use Rattle.qs_chunk.specs.audit.Runs.{ran_all};
+ghost use Rattle.qs_handler.specs.audit.Handler.{Handler as HandlerShape, free, serves, spares, gives, away, closed, act_of, gave, accept_next, accept_parcel};
+ghost use Rattle.qs_handler.specs.Handler.{is_away, held_of, serving};
 
 use qs_chunk::{Chunk, Parcel};
 use qs_objects::{Held, Next, Request, Ticket};
@@ -53,7 +54,7 @@ impl Drop for Mind {
 }
 
 impl Model for Mind {
-    ghost use Rattle.qs_handler.specs.Handler.{Handler};
+    ghost use Rattle.qs_handler.specs.audit.Handler.{Handler};
 
     ghost Value = { Handler };
 

@@ -4,27 +4,28 @@ use Rattle.std.proofs.Common.{◌≡◌, ◌<◌, ◌≤◌, ◌++◌, ℕ, List
 use Rattle.std.specs.Fmt.{signed_decimal}
 use Rattle.std.specs.List.{AllByRecursion}
 use Rattle.qs_objects.specs.declared.held.Ticket.{Ticket}
-use Rattle.qs_objects.specs.Act.{Content, State, account, buffer, grid}
-use Rattle.qs_objects.specs.Objects.{AreRowsOf, IsInRange, kind_of, values_of}
-use Rattle.qs_objects.specs.Rows.{join_rows}
+use Rattle.qs_objects.specs.audit.Act.{Content, State, account, buffer, grid}
+use Rattle.qs_objects.specs.audit.Objects.{kind_of, values_of}
+use Rattle.qs_objects.specs.Objects.{AreRowsOf, IsInRange}
+use Rattle.qs_objects.specs.audit.Rows.{join_rows}
 use Rattle.qs_objects.proofs.GridRows.{rows_tell}
-use Rattle.qs_program.specs.Numbering.{Name}
-use Rattle.qs_program.specs.Program.{ProgramShape, client_at, object_at}
+use Rattle.qs_program.specs.audit.Numbering.{Name}
+use Rattle.qs_program.specs.audit.Program.{ProgramShape, client_at, object_at}
 use Rattle.qs_program.specs.Sound.{IsSound}
-use Rattle.qs_program.specs.Values.{Locals}
-use Rattle.qs_meaning.specs.Serial.{zeros}
+use Rattle.qs_program.specs.audit.Values.{Locals}
+use Rattle.qs_meaning.specs.audit.Serial.{zeros}
 use Rattle.qs_outcomes.specs.Outcomes.{IsListedAfter}
 use Rattle.qs_standings.specs.Standings.{StandingShape}
 use Rattle.qs_text.specs.TellApart.{AreSame, AreWords, IsEndOfWords, IsOfWords, IsWord}
-use Rattle.qs_text.specs.Texts.{texts_up_to}
-use Rattle.qs_text.specs.Words.{no_state}
+use Rattle.qs_text.specs.audit.Texts.{texts_up_to}
+use Rattle.qs_text.specs.audit.Words.{no_state}
 use Rattle.qs_text.proofs.SameEnds.{in_range, same_outcome}
 use Rattle.qs_text.proofs.TellApart.{IsBehind, cancel, number_tells, regroup, texts_tell, values_tell}
 use Rattle.qs_json.specs.EndsJson.{EndsJsonTellApart}
 use Rattle.qs_json.specs.OutcomesJson.{client_json, object_json}
-use Rattle.qs_json.specs.Pieces.{array_up_to, comma_at, element, field, first_field, quoted}
-use Rattle.qs_json.specs.RunJson.{content_json, kind_json, state_json, values_json}
-use Rattle.qs_json.specs.Variables.{variable_json, variables_json}
+use Rattle.qs_json.specs.audit.Pieces.{array_up_to, comma_at, element, field, first_field, quoted}
+use Rattle.qs_json.specs.audit.RunJson.{content_json, kind_json, state_json, values_json}
+use Rattle.qs_json.specs.audit.Variables.{variable_json, variables_json}
 
 -- the byte at a place of both
 byte : (n : ℕ) (us vs : List ℕ) → us ≡ vs → get_or us n 0 ≡ get_or vs n 0

@@ -4,15 +4,15 @@
 use Rattle.std.proofs.Common.{◌≡◌, ℕ, List, ◌++◌, codes, length, subst}
 use Rattle.std.specs.List.Sorted.{IsPermutation}
 use Rattle.std.proofs.lemmas.List.Sorted.{IsPermutation-refl}
-use Rattle.qs_program.specs.Program.{ProgramShape, client_at, object_at}
-use Rattle.qs_serial.specs.NamedOrders.{order_of}
+use Rattle.qs_program.specs.audit.Program.{ProgramShape, client_at, object_at}
+use Rattle.qs_serial.specs.audit.NamedOrders.{order_of}
 use Rattle.qs_standings.specs.Standings.{StandingShape}
 use Rattle.qs_report.proofs.UniqueOutcomes.{IsSame, same_lists}
 use Rattle.qs_report.proofs.UniqueEnds.{same_each}
 use Rattle.qs_text.proofs.SameOrders.{one_order}
-use Rattle.qs_json.specs.Pieces.{array_up_to, field, first_field, quoted}
-use Rattle.qs_json.specs.RunJson.{state_json}
-use Rattle.qs_json.specs.Variables.{variables_json}
+use Rattle.qs_json.specs.audit.Pieces.{array_up_to, field, first_field, quoted}
+use Rattle.qs_json.specs.audit.RunJson.{state_json}
+use Rattle.qs_json.specs.audit.Variables.{variables_json}
 use Rattle.qs_json.specs.EndsJson.{EndsJsonIsUnique, IsEndsJson, end_json, ends_json}
 
 same_end : (p : ProgramShape) (s t : StandingShape) → IsSame s t → end_json p s ≡ end_json p t

@@ -3,17 +3,17 @@
 -- count; so their texts are the same.
 use Rattle.std.proofs.Common.{◌≡◌, ◌+◌, ℕ, ◌++◌, codes, decimal, length, get_or, sym, ap, ◌∙◌}
 use Rattle.std.proofs.lemmas.List.Elements.{AllZip-get_or, length_all_zip}
-use Rattle.qs_program.specs.Program.{ProgramShape, client_at, object_at}
-use Rattle.qs_serial.specs.NamedOrders.{order_of}
+use Rattle.qs_program.specs.audit.Program.{ProgramShape, client_at, object_at}
+use Rattle.qs_serial.specs.audit.NamedOrders.{order_of}
 use Rattle.qs_standings.specs.Standings.{StandingShape}
 use Rattle.qs_report.specs.OutcomesText.{no_standing}
-use Rattle.qs_text.specs.Texts.{texts_up_to}
+use Rattle.qs_text.specs.audit.Texts.{texts_up_to}
 use Rattle.qs_report.proofs.UniqueOutcomes.{IsSame, same_lists}
 use Rattle.qs_text.proofs.SameTexts.{same_texts}
-use Rattle.qs_json.specs.Pieces.{array_up_to, field, first_field, quoted}
-use Rattle.qs_json.specs.RunJson.{state_json}
+use Rattle.qs_json.specs.audit.Pieces.{array_up_to, field, first_field, quoted}
+use Rattle.qs_json.specs.audit.RunJson.{state_json}
 use Rattle.qs_json.specs.OutcomesJson.{head_json, listed_json, outcome_json, outcome_json_at, IsOutcomesJson, OutcomesJsonIsUnique}
-use Rattle.qs_json.specs.Variables.{variables_json}
+use Rattle.qs_json.specs.audit.Variables.{variables_json}
 
 same_outcome : (p : ProgramShape) (n : ℕ) (s t : StandingShape) → IsSame s t → outcome_json p n s ≡ outcome_json p n t
 same_outcome p n s t (order, e) = λ i.

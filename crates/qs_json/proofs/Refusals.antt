@@ -4,7 +4,7 @@ use Rattle.std.proofs.Common.{◌≡◌, ℕ, List, ◌++◌, Option, codes, sym
 use Rattle.qs_report.specs.declared.faults.Fault.{Fault}
 use Rattle.qs_report.specs.Faults.{fault_place, fault_words}
 use Rattle.qs_json.specs.FaultJson.{fault_json, line_json}
-use Rattle.qs_json.specs.Pieces.{first_field, quoted}
+use Rattle.qs_json.specs.audit.Pieces.{first_field, quoted}
 
 pub refusal : (words line : List ℕ)
     → codes "{\"refused\":{\"fault\":\"" ++ (words ++ (codes "\"" ++ (line ++ codes "}}\n")))

@@ -1,12 +1,12 @@
 -- One of all outcomes that differ by alike clients in each other's places: an object on a line for each, and one for how
 -- many there are.
 use Rattle.std.specs.Prelude.{ℕ, ◌+◌, List, ◌++◌, codes, decimal, length, slice_index_or, sum}
-use Rattle.qs_program.specs.Program.{ProgramShape}
+use Rattle.qs_program.specs.audit.Program.{ProgramShape}
 use Rattle.qs_standings.specs.Standings.{StandingShape}
 use Rattle.qs_report.specs.OutcomesText.{no_standing}
-use Rattle.qs_text.specs.Texts.{texts_up_to}
+use Rattle.qs_text.specs.audit.Texts.{texts_up_to}
 use Rattle.qs_json.specs.OutcomesJson.{head_json, standing_fields}
-use Rattle.qs_json.specs.Pieces.{field, first_field}
+use Rattle.qs_json.specs.audit.Pieces.{field, first_field}
 
 -- an outcome: its number, an order that comes to it, for how many it stands, the objects and the clients
 abbrev pub alike_json : ProgramShape → ℕ → StandingShape → (count : ℕ) → List ℕ

@@ -1,8 +1,8 @@
 -- The answer to a claim on a program: one object on a line.
 use Rattle.std.specs.Prelude.{◌≡◌, ◌≤◌, ℕ, Bool, List, ◌++◌, codes, decimal, Option, Some, None}
 use Rattle.qs_objects.specs.declared.held.Ticket.{Ticket}
-use Rattle.qs_program.specs.Program.{ProgramShape}
-use Rattle.qs_serial.specs.NamedOrders.{order_of}
+use Rattle.qs_program.specs.audit.Program.{ProgramShape}
+use Rattle.qs_serial.specs.audit.NamedOrders.{order_of}
 use Rattle.qs_conditions.specs.Claims.{word}
 use Rattle.qs_conditions.specs.declared.claim.Claim.{Claim}
 use Rattle.qs_conditions.specs.declared.claim.Quantifier.{Quantifier}
@@ -11,7 +11,7 @@ use Rattle.qs_outcomes.specs.Answers.{AnswerShape}
 use Rattle.qs_questions.specs.Claims.{IsAnswerTo}
 use Rattle.qs_standings.specs.Standings.{StandingShape}
 use Rattle.qs_report.specs.AnswerText.{is_yes}
-use Rattle.qs_json.specs.Pieces.{array, field, first_field, truth}
+use Rattle.qs_json.specs.audit.Pieces.{array, field, first_field, truth}
 use Rattle.qs_json.specs.OutcomesJson.{next_client_json, standing_fields}
 
 -- the quantifier with true or false

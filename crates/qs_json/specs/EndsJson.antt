@@ -2,14 +2,14 @@
 use Rattle.std.specs.Prelude.{◌≡◌, ◌≤◌, ℕ, List, ◌++◌, codes, length, map}
 use Rattle.std.specs.List.{AllByRecursion}
 use Rattle.qs_objects.specs.declared.held.Ticket.{Ticket}
-use Rattle.qs_program.specs.Program.{ProgramShape}
+use Rattle.qs_program.specs.audit.Program.{ProgramShape}
 use Rattle.qs_program.specs.Sound.{IsSound}
-use Rattle.qs_serial.specs.NamedOrders.{order_of}
+use Rattle.qs_serial.specs.audit.NamedOrders.{order_of}
 use Rattle.qs_outcomes.specs.Outcomes.{AreOutcomesAfter, IsListedAfter, OutcomesShape, outcome_at}
 use Rattle.qs_standings.specs.Standings.{StandingShape}
 use Rattle.qs_text.specs.SortedTexts.{IsInOrder}
 use Rattle.qs_text.specs.TellApart.{IsEndOfWords}
-use Rattle.qs_json.specs.Pieces.{array_up_to, field, first_field}
+use Rattle.qs_json.specs.audit.Pieces.{array_up_to, field, first_field}
 use Rattle.qs_json.specs.OutcomesJson.{client_json, object_json}
 
 -- an end: the objects and the clients

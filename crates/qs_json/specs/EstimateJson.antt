@@ -1,7 +1,7 @@
 -- How many configurations a search can have: one object on a line.
 use Rattle.std.specs.Prelude.{ℕ, List, ◌++◌, codes, decimal, Option, Some, None}
 use Rattle.qs_outcomes.specs.declared.estimate.estimate.Estimate.{Estimate}
-use Rattle.qs_json.specs.Pieces.{field, first_field}
+use Rattle.qs_json.specs.audit.Pieces.{field, first_field}
 
 -- a bound; null where it is over the greatest that is told
 abbrev pub bound_or_null : Option ℕ → List ℕ

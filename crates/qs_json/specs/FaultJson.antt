@@ -2,7 +2,7 @@
 use Rattle.std.specs.Prelude.{ℕ, List, [], ◌++◌, codes, decimal, Option, Some, None}
 use Rattle.qs_report.specs.declared.faults.Fault.{Fault}
 use Rattle.qs_report.specs.Faults.{fault_place, fault_words}
-use Rattle.qs_json.specs.Pieces.{field, first_field, quoted}
+use Rattle.qs_json.specs.audit.Pieces.{field, first_field, quoted}
 
 -- the line of the script, of a fault that has one
 abbrev pub line_json : Option ℕ → List ℕ

@@ -1,11 +1,11 @@
 -- Where a program can stand after so many blocks: an object on a line for each front, and one for how many there are.
 use Rattle.std.specs.Prelude.{ℕ, ◌+◌, List, ◌++◌, codes, decimal, length, slice_index_or}
-use Rattle.qs_program.specs.Program.{ProgramShape}
+use Rattle.qs_program.specs.audit.Program.{ProgramShape}
 use Rattle.qs_standings.specs.Standings.{StandingShape}
 use Rattle.qs_report.specs.OutcomesText.{no_standing}
-use Rattle.qs_text.specs.Texts.{texts_up_to}
+use Rattle.qs_text.specs.audit.Texts.{texts_up_to}
 use Rattle.qs_json.specs.OutcomesJson.{next_client_json, standing_fields}
-use Rattle.qs_json.specs.Pieces.{array, field, first_field}
+use Rattle.qs_json.specs.audit.Pieces.{array, field, first_field}
 
 -- a front: its number, from 1, its order, the objects and the clients
 abbrev pub front_json : ProgramShape → ℕ → StandingShape → List ℕ

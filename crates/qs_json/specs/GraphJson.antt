@@ -1,13 +1,13 @@
 -- The control-flow graphs of a program: one object on a line for each block.
 use Rattle.std.specs.Prelude.{◌≡◌, ℕ, List, ◌++◌, codes, decimal, length, Bool}
-use Rattle.qs_program.specs.Program.{ProgramShape, client_at}
+use Rattle.qs_program.specs.audit.Program.{ProgramShape, client_at}
 use Rattle.qs_program.specs.Sound.{IsSound}
 use Rattle.qs_graph.specs.declared.node.Node.{Node}
 use Rattle.qs_graph.specs.declared.node.Node.TheVariants.{Entry, Local, Branch, Sync, Query, Call, Exit}
-use Rattle.qs_graph.specs.Nodes.{GraphNode}
+use Rattle.qs_graph.specs.audit.Nodes.{GraphNode}
 use Rattle.qs_text.specs.Blocks.{AreBlocks, IsBlock, NodeText, NodesText, node_at}
 use Rattle.qs_text.specs.Words.{name_of}
-use Rattle.qs_json.specs.Pieces.{array, array_up_to, field, first_field, quoted, truth}
+use Rattle.qs_json.specs.audit.Pieces.{array, array_up_to, field, first_field, quoted, truth}
 
 -- a name of a client's own text, as a string
 abbrev pub name_json : ProgramShape → (c : ℕ) → ℕ → List ℕ

@@ -1,6 +1,6 @@
+-- What has to be believed for the headline.
+pub mod audit
 -- What an auditor reads: the promises and the calls of the surface are said with these.
-pub mod Pieces
-pub mod Variables
 pub mod RunJson
 pub mod FaultJson
 pub mod OutcomesJson

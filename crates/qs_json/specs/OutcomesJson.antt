@@ -1,16 +1,16 @@
 -- All outcomes of a program: one object on a line for each, and one for how many there are.
 use Rattle.std.specs.Prelude.{◌≡◌, ◌≤◌, ◌+◌, ℕ, List, ◌++◌, codes, decimal, length, slice_index_or}
 use Rattle.qs_objects.specs.declared.held.Ticket.{Ticket}
-use Rattle.qs_program.specs.Program.{ProgramShape, object_at}
-use Rattle.qs_serial.specs.NamedOrders.{order_of}
+use Rattle.qs_program.specs.audit.Program.{ProgramShape, object_at}
+use Rattle.qs_serial.specs.audit.NamedOrders.{order_of}
 use Rattle.qs_outcomes.specs.Outcomes.{AreOutcomesAfter, OutcomesShape}
 use Rattle.qs_standings.specs.Standings.{StandingShape, configuration_in}
 use Rattle.qs_report.specs.OutcomesText.{next_client_text, no_standing}
-use Rattle.qs_text.specs.Words.{no_state}
-use Rattle.qs_text.specs.Texts.{texts_up_to}
-use Rattle.qs_json.specs.Pieces.{array, array_up_to, field, first_field, quoted}
-use Rattle.qs_json.specs.RunJson.{state_json}
-use Rattle.qs_json.specs.Variables.{client_with}
+use Rattle.qs_text.specs.audit.Words.{no_state}
+use Rattle.qs_text.specs.audit.Texts.{texts_up_to}
+use Rattle.qs_json.specs.audit.Pieces.{array, array_up_to, field, first_field, quoted}
+use Rattle.qs_json.specs.audit.RunJson.{state_json}
+use Rattle.qs_json.specs.audit.Variables.{client_with}
 
 -- the client whose block comes next, as a part of a list for `--order`
 abbrev pub next_client_json : Ticket → List ℕ

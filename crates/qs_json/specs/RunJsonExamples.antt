@@ -3,18 +3,19 @@ use Rattle.std.specs.Prelude.{◌≡◌, ℕ, List, [], ◌∷◌, pos, codes, t
 use Rattle.qs_objects.specs.Parts.{stamp}
 use Rattle.qs_objects.specs.declared.Op.TheVariants.{Balance, Deposit}
 use Rattle.qs_objects.specs.declared.held.Entry.{Entry}
-use Rattle.qs_program.specs.Values.{Locals}
+use Rattle.qs_program.specs.audit.Values.{Locals}
 use Rattle.qs_script.specs.declared.fault.ReadFault.TheVariants as read
 use Rattle.qs_check.specs.declared.fault_places.fault.CheckFault.TheVariants as check
 use Rattle.qs_serial.specs.declared.fault.OrderFault.TheVariants as order_fault
 use Rattle.qs_outcomes.specs.declared.fault.OutcomesFault.TheVariants as outcomes
-use Rattle.qs_played.specs.Played.{Played}
+use Rattle.qs_played.specs.audit.Played.{Played}
 use Rattle.qs_text.specs.fates.FateExamples.{two_withdrew}
 use Rattle.qs_text.specs.Worked.{after_deposit, before, command, counted_syncs, deposited_once, deposits, query, three, ticket, two_clients_played, withdrawals}
 use Rattle.qs_report.specs.declared.faults.Fault.TheVariants.{CommandLine, Read, Check, Order, Outcomes, Memory}
 use Rattle.qs_json.specs.FaultJson.{fault_json}
-use Rattle.qs_json.specs.RunJson.{counts_json, run_json}
-use Rattle.qs_json.specs.Variables.{clients_or_null}
+use Rattle.qs_json.specs.audit.RunJson.{run_json}
+use Rattle.qs_json.specs.RunJson.{counts_json}
+use Rattle.qs_json.specs.audit.Variables.{clients_or_null}
 
 -- the run of a deposit, with the journal of its account
 abbrev pub deposit_journal : List Entry

@@ -1,10 +1,10 @@
 -- How often each end came in many runs: one object on a line for each end that came, and one for how many there were.
 use Rattle.std.specs.Prelude.{ℕ, ◌+◌, Bool, List, [], ◌++◌, codes, decimal, if◌then◌else◌, length, nat_eq, slice_index_or}
-use Rattle.qs_program.specs.Program.{ProgramShape}
+use Rattle.qs_program.specs.audit.Program.{ProgramShape}
 use Rattle.qs_tally.specs.Tallies.{CountedShape, TallyShape}
 use Rattle.qs_report.specs.TallyText.{came_up_to, no_end}
-use Rattle.qs_text.specs.Texts.{texts_up_to}
-use Rattle.qs_json.specs.Pieces.{array, field, first_field}
+use Rattle.qs_text.specs.audit.Texts.{texts_up_to}
+use Rattle.qs_json.specs.audit.Pieces.{array, field, first_field}
 use Rattle.qs_json.specs.OutcomesJson.{next_client_json, standing_fields}
 
 -- a number, where the ends are all outcomes in their order

@@ -3,9 +3,10 @@
 ghost use Rattle.std.specs.Prelude.{◌≡◌, ◌++◌, codes, decimal, length, IfOk, OnOk};
 ghost use Rattle.std.specs.List.{AllByRecursion};
 ghost use Rattle.qs_outcomes.specs.Outcomes.{HasPlaces};
-ghost use Rattle.qs_text.specs.Texts.{texts_up_to, Puts};
+ghost use Rattle.qs_text.specs.audit.Texts.{texts_up_to};
+ghost use Rattle.qs_text.specs.Texts.{Puts};
 ghost use Rattle.qs_json.specs.AlikeJson.{alike_counts, alike_json as json_of_alike, alike_json_at, all_alike_json};
-ghost use Rattle.qs_json.specs.Pieces.{field};
+ghost use Rattle.qs_json.specs.audit.Pieces.{field};
 
 use crate::outcomes::{put_outcome_head, put_standing};
 use itoa::Buffer;

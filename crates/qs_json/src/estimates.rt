@@ -2,7 +2,7 @@
 
 ghost use Rattle.std.specs.Prelude.{◌≡◌, IfOk, OnOk, codes};
 ghost use Rattle.qs_text.specs.Texts.{Puts};
-ghost use Rattle.qs_json.specs.Pieces.{first_field};
+ghost use Rattle.qs_json.specs.audit.Pieces.{first_field};
 ghost use Rattle.qs_json.specs.EstimateJson.{bound_or_null, estimate_json as json_of_estimate};
 
 use qs_outcomes::estimate::Estimate;

@@ -3,10 +3,11 @@
 ghost use Rattle.std.specs.Prelude.{◌≡◌, ◌<◌, ◌++◌, None, OnOk, codes, length, slice_index_or};
 ghost use Rattle.std.specs.Fmt.{signed_decimal};
 ghost use Rattle.std.specs.List.{join_by};
-ghost use Rattle.qs_objects.specs.Operations.{word};
-ghost use Rattle.qs_text.specs.Texts.{Puts, texts_up_to};
-ghost use Rattle.qs_json.specs.Pieces.{array, element, field, quoted};
-ghost use Rattle.qs_json.specs.RunJson.{event_json, fate_json, reply_json, request_json, trace_json};
+ghost use Rattle.qs_objects.specs.audit.Operations.{word};
+ghost use Rattle.qs_text.specs.audit.Texts.{texts_up_to};
+ghost use Rattle.qs_text.specs.Texts.{Puts};
+ghost use Rattle.qs_json.specs.audit.Pieces.{array, element, field, quoted};
+ghost use Rattle.qs_json.specs.audit.RunJson.{event_json, fate_json, reply_json, request_json, trace_json};
 
 use crate::pieces::{put_comma, put_integer, put_object_name, put_string};
 use qs_objects::{Event, Op};

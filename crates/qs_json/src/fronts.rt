@@ -3,7 +3,8 @@
 ghost use Rattle.std.specs.Prelude.{◌≡◌, length, IfOk, OnOk};
 ghost use Rattle.std.specs.List.{AllByRecursion};
 ghost use Rattle.qs_outcomes.specs.Outcomes.{HasPlaces};
-ghost use Rattle.qs_text.specs.Texts.{texts_up_to, Puts};
+ghost use Rattle.qs_text.specs.audit.Texts.{texts_up_to};
+ghost use Rattle.qs_text.specs.Texts.{Puts};
 ghost use Rattle.qs_json.specs.FrontsJson.{all_fronts_json, front_json, front_json_at};
 
 use crate::outcomes::{put_order, put_standing};

@@ -2,11 +2,12 @@
 
 ghost use Rattle.std.specs.Prelude.{◌≡◌, ◌<◌, ◌++◌, IfOk, OnOk, codes, decimal, length};
 ghost use Rattle.std.specs.List.{filter, join_by};
-ghost use Rattle.qs_graph.specs.Nodes.{place_at};
+ghost use Rattle.qs_graph.specs.audit.Nodes.{place_at};
 ghost use Rattle.qs_text.specs.Blocks.{node_at, removed_at};
-ghost use Rattle.qs_text.specs.Texts.{texts_up_to, Puts};
+ghost use Rattle.qs_text.specs.audit.Texts.{texts_up_to};
+ghost use Rattle.qs_text.specs.Texts.{Puts};
 ghost use Rattle.qs_syncset.specs.held.Table.{has};
-ghost use Rattle.qs_json.specs.Pieces.{array, element};
+ghost use Rattle.qs_json.specs.audit.Pieces.{array, element};
 ghost use Rattle.qs_json.specs.GraphJson.{IsGraphJson, graph_nodes_json, label_json, name_json, node_json, owner_json, step_json};
 
 use crate::pieces::{put_client_name, put_comma, put_string, put_truth};

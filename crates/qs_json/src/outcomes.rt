@@ -4,14 +4,15 @@ ghost use Rattle.std.specs.Prelude.{◌≡◌, ◌<◌, [], IfOk, OnOk, codes, l
 ghost use Rattle.std.specs.Fmt.{signed_decimal};
 ghost use Rattle.std.specs.List.{AllByRecursion, join_by};
 ghost use Rattle.qs_outcomes.specs.Outcomes.{HasPlaces};
-ghost use Rattle.qs_meaning.specs.Serial.{zeros};
-ghost use Rattle.qs_program.specs.Program.{client_at};
+ghost use Rattle.qs_meaning.specs.audit.Serial.{zeros};
+ghost use Rattle.qs_program.specs.audit.Program.{client_at};
 ghost use Rattle.qs_text.specs.TellApart.{AreClientsOfWords, AreObjectsOfWords, AreWords, IsOfWords, IsWord};
-ghost use Rattle.qs_text.specs.Texts.{texts_up_to, Puts};
-ghost use Rattle.qs_text.specs.Words.{no_state};
-ghost use Rattle.qs_json.specs.Pieces.{array, element, field, first_field, quoted};
+ghost use Rattle.qs_text.specs.audit.Texts.{texts_up_to};
+ghost use Rattle.qs_text.specs.Texts.{Puts};
+ghost use Rattle.qs_text.specs.audit.Words.{no_state};
+ghost use Rattle.qs_json.specs.audit.Pieces.{array, element, field, first_field, quoted};
 ghost use Rattle.qs_json.specs.OutcomesJson.{client_json, head_json, listed_json, next_client_json, object_json, outcome_json, outcome_json_at, standing_fields};
-ghost use Rattle.qs_json.specs.Variables.{variable_json, variables_json};
+ghost use Rattle.qs_json.specs.audit.Variables.{variable_json, variables_json};
 
 use crate::pieces::{put_client_name, put_comma, put_integer, put_string};
 use crate::states::put_state;

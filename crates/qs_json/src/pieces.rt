@@ -2,9 +2,9 @@
 
 ghost use Rattle.std.specs.Prelude.{◌≡◌, ◌++◌, OnOk, codes};
 ghost use Rattle.std.specs.Fmt.{signed_decimal};
-ghost use Rattle.qs_program.specs.Program.{client_at, object_at};
+ghost use Rattle.qs_program.specs.audit.Program.{client_at, object_at};
 ghost use Rattle.qs_text.specs.Texts.{Puts};
-ghost use Rattle.qs_json.specs.Pieces.{comma_at, first_field, quoted, truth};
+ghost use Rattle.qs_json.specs.audit.Pieces.{comma_at, first_field, quoted, truth};
 
 use qs_program::Program;
 use qs_text::{client_name, object_name, put, put_all, put_number};

@@ -2,16 +2,18 @@
 
 ghost use Rattle.std.specs.Prelude.{◌≡◌, ◌<◌, [], IfOk, IfSome, OnOk, codes, false, length, option_map, slice_index_or};
 ghost use Rattle.std.specs.List.{join_by};
-ghost use Rattle.qs_sync_counts.specs.SyncRows.{sync_count};
-ghost use Rattle.qs_text.specs.fates.Fates.{all_fates, trace_fates as fates_in};
+ghost use Rattle.qs_sync_counts.specs.audit.SyncRows.{sync_count};
+ghost use Rattle.qs_text.specs.audit.fates.Fates.{trace_fates as fates_in};
+ghost use Rattle.qs_text.specs.fates.Fates.{all_fates};
 ghost use Rattle.qs_outcomes.specs.Outcomes.{HasPlaces};
 ghost use Rattle.qs_standings.specs.Standings.{configuration_in};
-ghost use Rattle.qs_text.specs.Words.{first_ticket};
-ghost use Rattle.qs_text.specs.Texts.{texts_up_to, Puts};
-ghost use Rattle.qs_json.specs.Pieces.{array, element, field};
-ghost use Rattle.qs_json.specs.RunJson as definitions;
-ghost use Rattle.qs_json.specs.RunJson.{block_json, object_json, sync_json, syncs_json, ticket_json, trace_json};
-ghost use Rattle.qs_json.specs.Variables.{clients_or_null};
+ghost use Rattle.qs_text.specs.audit.Words.{first_ticket};
+ghost use Rattle.qs_text.specs.audit.Texts.{texts_up_to};
+ghost use Rattle.qs_text.specs.Texts.{Puts};
+ghost use Rattle.qs_json.specs.audit.Pieces.{array, element, field};
+ghost use Rattle.qs_json.specs.audit.RunJson as definitions;
+ghost use Rattle.qs_json.specs.audit.RunJson.{block_json, object_json, sync_json, syncs_json, ticket_json, trace_json};
+ghost use Rattle.qs_json.specs.audit.Variables.{clients_or_null};
 
 use crate::events::put_trace;
 use crate::outcomes::put_clients;

@@ -3,11 +3,11 @@
 ghost use Rattle.std.specs.Prelude.{◌<◌, ◌++◌, OnOk, codes, length, pos, slice_index_or};
 ghost use Rattle.std.specs.Fmt.{signed_decimal};
 ghost use Rattle.std.specs.List.{AllByRecursion, join_by};
-ghost use Rattle.qs_objects.specs.Objects.{kind_of, values_of};
+ghost use Rattle.qs_objects.specs.audit.Objects.{kind_of, values_of};
 ghost use Rattle.qs_text.specs.TellApart.{IsOfWords, IsWord};
 ghost use Rattle.qs_text.specs.Texts.{Puts};
-ghost use Rattle.qs_json.specs.Pieces.{array};
-ghost use Rattle.qs_json.specs.RunJson.{content_json, state_json};
+ghost use Rattle.qs_json.specs.audit.Pieces.{array};
+ghost use Rattle.qs_json.specs.audit.RunJson.{content_json, state_json};
 
 use crate::pieces::{put_comma, put_integer, put_string};
 use qs_objects::{Kind, Object};

@@ -3,7 +3,8 @@
 ghost use Rattle.std.specs.Prelude.{◌≡◌, ◌<◌, ◌++◌, length, IfOk, OnOk};
 ghost use Rattle.std.specs.List.{AllByRecursion};
 ghost use Rattle.qs_outcomes.specs.Outcomes.{HasPlaces};
-ghost use Rattle.qs_text.specs.Texts.{texts_up_to, Puts};
+ghost use Rattle.qs_text.specs.audit.Texts.{texts_up_to};
+ghost use Rattle.qs_text.specs.Texts.{Puts};
 ghost use Rattle.qs_json.specs.TallyJson.{came_json, counted_json, counted_json_at, end_head_json, number_or_null, tally_json as json_of_tally};
 
 use crate::outcomes::{put_joined, put_standing};

@@ -2,7 +2,7 @@
 -- back. The test that sends the end of a block, `send_end`, promises this. It goes by cases on the result of sending.
 use Rattle.std.proofs.Common.{◌≡◌, false, [], ◌∷◌, ◌++◌, Ok, Err, ap, ◌∙◌}
 use Rattle.std.specs.Prelude.{Result, IfOk, IfErr}
-use Rattle.qs_chunk.specs.Lanes.{is_asked, is_sync}
+use Rattle.qs_chunk.specs.audit.Lanes.{is_asked, is_sync}
 use Rattle.qs_chunk.proofs.LaneFronts.{asked_last}
 use Rattle.qs_chunk.specs.declared.parcel.Parcel.{Parcel}
 use Rattle.qs_lane.specs.Views.{OutView}

@@ -4,7 +4,7 @@
 use Rattle.std.proofs.Common.{◌≡◌, ℕ, List, [], ◌∷◌, ◌++◌, Ok, Err, sym, ap, subst}
 use Rattle.std.specs.Prelude.{Result, IfOk, IfErr}
 use Rattle.qs_objects.specs.declared.Request.{Request}
-use Rattle.qs_chunk.specs.Batch.{Batch, batch}
+use Rattle.qs_chunk.specs.audit.Batch.{Batch, batch}
 use Rattle.qs_queue.specs.Views.{SenderView}
 use Rattle.qs_lane.specs.Spares.{AllEmpty}
 

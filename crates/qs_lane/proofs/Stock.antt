@@ -2,7 +2,7 @@
 -- The loop of `fill`, which makes these chunks, stands on it. It goes by induction on how many chunks there are.
 use Rattle.std.proofs.Common.{◌≡◌, ℕ, zero, suc, List, [], ◌∷◌, ◌++◌, replicate, refl, sym, ap, ◌∙◌, subst}
 use Rattle.qs_objects.specs.declared.Request.{Request}
-use Rattle.qs_chunk.specs.Batch.{Batch, batch}
+use Rattle.qs_chunk.specs.audit.Batch.{Batch, batch}
 use Rattle.qs_lane.specs.Spares.{AllEmpty}
 use Rattle.qs_lane.proofs.Spared.{empty_more}
 

@@ -1,7 +1,7 @@
 -- The empty chunks that come back to a client.
 use Rattle.std.specs.Prelude.{◌≡◌, ℕ, List, [], ◌∷◌, ◌++◌}
 use Rattle.qs_objects.specs.declared.Request.{Request}
-use Rattle.qs_chunk.specs.Batch.{Batch, batch}
+use Rattle.qs_chunk.specs.audit.Batch.{Batch, batch}
 
 -- all are empty and of one size
 abbrev pub AllEmpty : ℕ → List (Batch Request) → Type 0

@@ -1,7 +1,7 @@
 -- The two ends of a lane, as contracts see them.
 use Rattle.std.specs.Prelude.{ℕ, List}
 use Rattle.atomic_table.specs.Seated.{TableId}
-use Rattle.qs_objects.specs.Journals.{HeldState}
+use Rattle.qs_objects.specs.audit.Journals.{HeldState}
 use Rattle.qs_chunk.specs.declared.parcel.Parcel.{Parcel}
 
 -- a lane's name: those of its queues of parcels, of objects and of empty chunks

@@ -1,12 +1,13 @@
 //! The two ends of a lane.
 
 ghost use Rattle.std.specs.Prelude.{◌≡◌, ◌+◌, ◌<◌, ◌≤◌, ◌⊎◌, List, [], ◌∷◌, ◌++◌, length, replicate, true, false, IfOk, IfErr, IfSome, IfNone};
-ghost use Rattle.qs_objects.specs.Journals.{HeldState};
-ghost use Rattle.qs_chunk.specs.Batch.{batch};
-ghost use Rattle.qs_chunk.specs.LaneRun.{AreServed, IsLaneRun, homes, syncs};
-ghost use Rattle.qs_chunk.specs.Lanes.{IsLane, MayFollow, is_asked};
+ghost use Rattle.qs_objects.specs.audit.Journals.{HeldState};
+ghost use Rattle.qs_chunk.specs.audit.Batch.{batch};
+ghost use Rattle.qs_chunk.specs.audit.LaneRun.{AreServed, IsLaneRun, homes, syncs};
+ghost use Rattle.qs_chunk.specs.audit.Lanes.{is_asked};
+ghost use Rattle.qs_chunk.specs.Lanes.{IsLane, MayFollow};
 ghost use Rattle.qs_chunk.specs.declared.parcel.Parcel.{Parcel};
-ghost use Rattle.qs_chunk.specs.Limits.{lane_room, spare_room};
+ghost use Rattle.qs_chunk.specs.audit.Limits.{lane_room, spare_room};
 
 use crate::protocols::{AnyObjects, EmptyChunks, InLane, Keyless, KnownSize, SizeKey};
 use qs_chunk::{Chunk, ChunkSize, LANE_ROOM, Parcel, SPARE_ROOM};
@@ -33,7 +34,7 @@ pub struct LaneOut {
 impl Model for LaneOut {
     ghost use Rattle.std.specs.Prelude.{◌≡◌, length};
     ghost use Rattle.qs_chunk.specs.Lanes.{IsLane};
-    ghost use Rattle.qs_chunk.specs.Limits.{lane_room, spare_room};
+    ghost use Rattle.qs_chunk.specs.audit.Limits.{lane_room, spare_room};
     ghost use Rattle.qs_lane.specs.Views.{OutView};
 
     ghost Value = { OutView };
@@ -61,8 +62,8 @@ pub struct LaneIn {
 impl Model for LaneIn {
     ghost use Rattle.std.specs.Prelude.{◌≡◌, ◌≤◌, length};
     ghost use Rattle.qs_lane.specs.Spares.{AllEmpty};
-    ghost use Rattle.qs_chunk.specs.LaneRun.{syncs};
-    ghost use Rattle.qs_chunk.specs.Limits.{spare_room};
+    ghost use Rattle.qs_chunk.specs.audit.LaneRun.{syncs};
+    ghost use Rattle.qs_chunk.specs.audit.Limits.{spare_room};
     ghost use Rattle.qs_lane.specs.Views.{InView};
 
     ghost Value = { InView };

@@ -1,8 +1,8 @@
 //! One lane from end to end: an object, parcels until the lane is full, and chunks.
 
 ghost use Rattle.std.specs.Prelude.{◌≡◌, ◌+◌, ◌<◌, ◌≤◌, IsTrue, IfSome, true, false, [], length};
-ghost use Rattle.qs_chunk.specs.LaneRun.{syncs};
-ghost use Rattle.qs_chunk.specs.Lanes.{is_asked};
+ghost use Rattle.qs_chunk.specs.audit.LaneRun.{syncs};
+ghost use Rattle.qs_chunk.specs.audit.Lanes.{is_asked};
 
 use crate::laws::agree;
 use crate::{LaneIn, LaneOut, lane};

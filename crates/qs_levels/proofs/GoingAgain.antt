@@ -5,10 +5,11 @@ use Rattle.std.proofs.Common.{◌≡◌, ◌<◌, ℕ, zero, suc, Bool, true, fa
 use Rattle.std.proofs.lemmas.Bool.Decides.{nat_tests}
 use Rattle.std.specs.List.{list_any}
 use Rattle.qs_objects.proofs.Choices.{num_cases}
-use Rattle.qs_program.specs.Program.{BlockShape, ProgramShape, block_at, blocks_of, client_at, no_block}
-use Rattle.qs_program.specs.Sound.{is_in}
-use Rattle.qs_meaning.specs.Reduced.{Clients, Counts, block_reserves, comes_in, first_smallest, goes_on, has_block_left, smaller, some_below, still_reserves, widened, wider}
-use Rattle.qs_meaning.specs.Solo.{put}
+use Rattle.qs_program.specs.audit.Program.{BlockShape, ProgramShape, block_at, blocks_of, client_at, no_block}
+use Rattle.qs_program.specs.audit.Sound.{is_in}
+use Rattle.qs_meaning.specs.audit.Reduced.{Counts}
+use Rattle.qs_meaning.specs.Reduced.{Clients, block_reserves, comes_in, first_smallest, goes_on, has_block_left, smaller, some_below, still_reserves, widened, wider}
+use Rattle.qs_meaning.specs.audit.Solo.{put}
 use Rattle.qs_meaning.proofs.TreeWalks.{put_here, put_there}
 use Rattle.qs_levels.specs.Shares.{ReservesAgain}
 

@@ -2,19 +2,18 @@
 -- and two parts have no lead in common, as each is in the share of one; so what is taken is before all that is left.
 -- What was taken and what is left are together what all parts had: nothing is lost, and whatever holds of what the
 -- parts had holds of what was merged.
-use Rattle.std.proofs.Common.{◌≡◌, ◌<◌, ◌≤◌, ◌+◌, ◌%◌, ◌==◌, ◌&&◌, ℕ, zero, suc, Bool, true, List, [], ◌∷◌, ◌++◌, length, get_or, take, drop, map, flat_map, replicate, slice_index_or, refl, sym, ap, ap₂, ◌∙◌, subst, arith, ◌⊎◌, inl, inr, Some}
-use Rattle.std.proofs.Common.{get_or-set_same, get_or-set_other}
+use Rattle.std.proofs.Common.{◌≡◌, ◌<◌, ◌≤◌, ◌+◌, ◌%◌, ◌==◌, ◌&&◌, ℕ, zero, suc, Bool, true, List, [], ◌∷◌, ◌++◌, length, get_or, take, drop, map, flat_map, replicate, slice_index_or, refl, sym, ap, ap₂, ◌∙◌, subst, arith, ◌⊎◌, inl, inr, Some, get_or-set_same, get_or-set_other}
 use Rattle.std.proofs.lemmas.Bool.{cases_eq}
 use Rattle.std.proofs.lemmas.List.{length-append, length-set, length-take-le, take-append-drop}
 use Rattle.std.specs.List.{AllByRecursion}
 use Rattle.std.specs.Prelude.{slice_set}
 use Rattle.qs_objects.specs.declared.held.Ticket.{Ticket}
 use Rattle.qs_objects.proofs.Choices.{and_cases, eqb_self, eqb_true}
-use Rattle.qs_program.specs.Program.{ProgramShape}
+use Rattle.qs_program.specs.audit.Program.{ProgramShape}
 use Rattle.qs_program.specs.Sound.{IsSound}
-use Rattle.qs_meaning.specs.Configurations.{Configuration, one_block_on}
+use Rattle.qs_meaning.specs.audit.Configurations.{Configuration, one_block_on}
 use Rattle.qs_meaning.specs.Reduced.{goes_on}
-use Rattle.qs_meaning.specs.Serial.{no_state, zeros}
+use Rattle.qs_meaning.specs.audit.Serial.{no_state, zeros}
 use Rattle.qs_meaning.proofs.Each.{each_both, each_front, each_join, each_map, each_snoc}
 use Rattle.qs_outcomes.specs.LeastOrders.{AreSorted, IsBefore, IsLongerBy}
 use Rattle.qs_outcomes.proofs.Before.{before_both, before_longer, before_onward, fork, not_before}

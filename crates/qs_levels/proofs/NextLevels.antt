@@ -6,7 +6,7 @@ use Rattle.qs_objects.proofs.Choices.{and_cases}
 use Rattle.std.proofs.lemmas.List.{length-map, take_more}
 use Rattle.std.specs.List.{AllByRecursion}
 use Rattle.qs_objects.specs.declared.held.Ticket.{Ticket}
-use Rattle.qs_program.specs.Program.{ProgramShape}
+use Rattle.qs_program.specs.audit.Program.{ProgramShape}
 use Rattle.qs_program.specs.Sound.{IsSound}
 use Rattle.qs_meaning.specs.Reduced.{goes_on}
 use Rattle.qs_meaning.proofs.Each.{each_back, each_front, each_join, each_map, each_snoc}

@@ -1,7 +1,7 @@
 -- Parts of a level are merged: again and again the one is taken whose first lead is the least.
 use Rattle.std.specs.Prelude.{◌≡◌, ◌<◌, ◌⊎◌, ℕ, List, [], ◌∷◌, Option, None, Some, drop, length, slice_index_or, Result, IfOk, IsErrOf}
 use Rattle.qs_objects.specs.declared.held.Ticket.{Ticket}
-use Rattle.qs_program.specs.Program.{ProgramShape}
+use Rattle.qs_program.specs.audit.Program.{ProgramShape}
 use Rattle.qs_standings.specs.Standings.{StandingShape}
 use Rattle.qs_levels.specs.meaning.Onward.{HasMoreOnward}
 use Rattle.qs_levels.specs.Leads.{IsPartOf}

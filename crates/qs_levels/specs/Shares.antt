@@ -2,9 +2,10 @@
 -- division, says whose share a configuration is in; so each is in exactly one.
 use Rattle.std.specs.Prelude.{◌≡◌, ◌<◌, ◌+◌, ◌*◌, ◌/◌, ◌%◌, ◌==◌, ◌&&◌, ℕ, suc, Bool, List, length, slice_index_or}
 use Rattle.std.specs.List.{AllZip}
-use Rattle.qs_program.specs.Limits.{most_clients}
-use Rattle.qs_program.specs.Program.{ProgramShape, block_at, blocks_of}
-use Rattle.qs_meaning.specs.Reduced.{Counts, goes_on}
+use Rattle.qs_program.specs.audit.Limits.{most_clients}
+use Rattle.qs_program.specs.audit.Program.{ProgramShape, block_at, blocks_of}
+use Rattle.qs_meaning.specs.audit.Reduced.{Counts}
+use Rattle.qs_meaning.specs.Reduced.{goes_on}
 use Rattle.qs_standings.specs.going.Going.{in_byte}
 use Rattle.qs_standings.specs.Standings.{StandingShape, configuration_in}
 use Rattle.qs_levels.specs.meaning.Weights.{weighted}

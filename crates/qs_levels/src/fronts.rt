@@ -1,9 +1,9 @@
 //! The configurations after so many blocks.
 
 ghost use Rattle.std.specs.Prelude.{◌≡◌, ◌<◌, ◌≤◌, IfOk, IsErrOf, [], ◌∷◌, length};
-ghost use Rattle.qs_meaning.specs.Serial.{IsLegal};
+ghost use Rattle.qs_meaning.specs.audit.Serial.{IsLegal};
 ghost use Rattle.qs_outcomes.specs.Outcomes.{HasMoreThanAfter};
-ghost use Rattle.qs_serial.specs.NamedOrders.{order_of};
+ghost use Rattle.qs_serial.specs.audit.NamedOrders.{order_of};
 ghost use Rattle.qs_standings.specs.going.Going.{AreLast};
 ghost use Rattle.qs_standings.specs.Rows.{AreStarts};
 ghost use Rattle.qs_standings.specs.Standings.{IsFirst};

@@ -1,9 +1,9 @@
 //! The search level by level.
 
 ghost use Rattle.std.specs.Prelude.{◌<◌, ◌≤◌, IfOk, IsErrOf};
-ghost use Rattle.qs_meaning.specs.Serial.{IsLegal};
+ghost use Rattle.qs_meaning.specs.audit.Serial.{IsLegal};
 ghost use Rattle.qs_outcomes.specs.Outcomes.{AreOutcomesAfter, HasMoreThanAfter};
-ghost use Rattle.qs_serial.specs.NamedOrders.{order_of};
+ghost use Rattle.qs_serial.specs.audit.NamedOrders.{order_of};
 ghost use Rattle.qs_standings.specs.Standings.{IsFirst};
 
 use crate::fronts::first_level;

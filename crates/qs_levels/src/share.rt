@@ -2,7 +2,7 @@
 //! the same one.
 
 ghost use Rattle.std.specs.Prelude.{◌≡◌, ◌<◌, ◌≤◌, ◌+◌, ◌%◌, ◌==◌, ℕ, IfOk, OnOk, ◌∷◌, ◌++◌, [], length, slice_index_or};
-ghost use Rattle.qs_program.specs.Limits.{most_clients};
+ghost use Rattle.qs_program.specs.audit.Limits.{most_clients};
 ghost use Rattle.qs_standings.specs.going.Going.{begun_counts, in_byte};
 ghost use Rattle.qs_levels.specs.Founds.{no_standing};
 ghost use Rattle.qs_levels.specs.meaning.Weights.{weighted};

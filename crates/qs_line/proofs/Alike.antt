@@ -16,7 +16,7 @@ use Rattle.clap.specs.declared.builder.ArgAction.TheVariants as action
 use Rattle.clap.specs.declared.builder.ValueParser.{ValueParser}
 use Rattle.clap.specs.declared.error.kind.ErrorKind.{ErrorKind}
 use Rattle.clap.specs.declared.error.kind.ErrorKind.TheVariants as kind
-use Rattle.qs_line.specs.Command.{qs_app}
+use Rattle.qs_line.specs.audit.Command.{qs_app}
 use Rattle.qs_line.specs.Line.{line_of_kind}
 
 -- each kind comes to what the first comes to

@@ -10,8 +10,9 @@ use Rattle.clap.specs.Values.{kind_of}
 use Rattle.clap.specs.declared.error.Error.{Error}
 use Rattle.clap.specs.declared.error.kind.ErrorKind.{ErrorKind}
 use Rattle.clap.specs.declared.error.kind.ErrorKind.TheVariants.{DisplayHelp, DisplayVersion}
-use Rattle.qs_line.specs.Command.{qs_app}
-use Rattle.qs_line.specs.Line.{IsAnswer, IsFault, IsFaultAmong, Request, asks_language, line_by, line_in, line_of_kind, refused, request_met}
+use Rattle.qs_line.specs.audit.Command.{qs_app}
+use Rattle.qs_line.specs.audit.Line.{Request, asks_language, refused}
+use Rattle.qs_line.specs.Line.{IsAnswer, IsFault, IsFaultAmong, line_by, line_in, line_of_kind, request_met}
 use Rattle.qs_line.specs.declared.line.LineFault.{LineFault}
 use Rattle.qs_line.specs.declared.line.LineFault.TheVariants as fault
 use Rattle.qs_line.proofs.Alike.{Alike}

@@ -22,11 +22,13 @@ use Rattle.qs_conditions.specs.declared.fault.ConditionFault.{ConditionFault}
 use Rattle.qs_conditions.specs.declared.signs.Placed.{Placed}
 use Rattle.qs_line.proofs.Answering.{other_line}
 use Rattle.qs_line.specs.Claims.{ClaimsHaveConditions, HasCondition}
-use Rattle.qs_line.specs.RunLines.{LinesOfRunsAreThese, RunsAreLines, run_by, run_in, runs_at, style_of}
+use Rattle.qs_line.specs.audit.RunLines.{run_by, run_in, runs_at, style_of}
+use Rattle.qs_line.specs.RunLines.{LinesOfRunsAreThese, RunsAreLines}
 use Rattle.qs_line.specs.declared.line.ReportStyle.{ReportStyle}
-use Rattle.qs_line.specs.Command.{qs_app}
+use Rattle.qs_line.specs.audit.Command.{qs_app}
 use Rattle.qs_line.specs.Parts.{orders_in}
-use Rattle.qs_line.specs.Line.{Request, alike, alike_at, alike_list_at, alike_or_list_at, answer_or_list_at, ask, ask_alike, ask_alike_at, ask_at, asks, asks_language, blocks_at, check, check_at, chunk_at, claim_at, claim_in, estimate, estimate_at, estimate_or_list_at, flag_at, format_at, front_at, fronts, fronts_at, fronts_or_list_at, graph, graph_at, graph_format_at, has_blocks, has_claim, has_times, help, leads_at, limit_at, line_by, line_in, line_met, line_of_kind, list_at, mode_at, one_claim, outcomes, outcomes_at, outcomes_format_at, play, play_at, request_at, request_met, rules, rules_at, run, single_run_at, style_at, styled_plan_at, tally, tally_at, threads_beside, times_at}
+use Rattle.qs_line.specs.audit.Line.{Request, alike, ask, ask_alike, asks, asks_language, check, chunk_at, estimate, flag_at, fronts, graph, has_times, help, mode_at, outcomes, play, play_at, rules, rules_at, run, single_run_at, style_at, styled_plan_at, tally}
+use Rattle.qs_line.specs.Line.{alike_at, alike_list_at, alike_or_list_at, answer_or_list_at, ask_alike_at, ask_at, blocks_at, check_at, claim_at, claim_in, estimate_at, estimate_or_list_at, format_at, front_at, fronts_at, fronts_or_list_at, graph_at, graph_format_at, has_blocks, has_claim, leads_at, limit_at, line_by, line_in, line_met, line_of_kind, list_at, one_claim, outcomes_at, outcomes_format_at, request_at, request_met, tally_at, threads_beside, times_at}
 
 -- a claim whose steps are those of a condition
 abbrev IsOfCondition : Claim → Type 0

@@ -4,7 +4,7 @@ use Rattle.std.proofs.Common.{◌≡◌, true, refl}
 use Rattle.clap.specs.Faults.{is_simple_and_free}
 use Rattle.clap.specs.Words.{is_simple}
 use Rattle.clap.proofs.OnLiterals.{clap_on_literals}
-use Rattle.qs_line.specs.Command.{qs_app}
+use Rattle.qs_line.specs.audit.Command.{qs_app}
 
 pub qs_is_simple : is_simple qs_app ≡ true
 unfolding clap_on_literals

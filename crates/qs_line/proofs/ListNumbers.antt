@@ -4,16 +4,16 @@ use Rattle.std.proofs.Common.{◌≡◌, ◌≤◌, ◌+◌, ◌-◌, ◌==◌, 
 use Rattle.std.specs.List.{fold, slice_split}
 use Rattle.std.proofs.lemmas.List.{length-map}
 use Rattle.std.proofs.lemmas.Bool.{eqb-true, false_from_ne_true, le-leb}
-use Rattle.qs_script.specs.tokens.Tokens.{is_digit}
+use Rattle.qs_script.specs.audit.tokens.Tokens.{is_digit}
 use Rattle.qs_played.specs.declared.schedule.actor.Actor.{Actor}
 use Rattle.qs_played.specs.declared.schedule.actor.Actor.TheVariants.{Client, Handler}
-use Rattle.qs_program.specs.Program.{ProgramShape}
+use Rattle.qs_program.specs.audit.Program.{ProgramShape}
 use Rattle.qs_line.specs.declared.parts.Part.{Part}
 use Rattle.qs_line.specs.declared.fault.ListFault.{ListFault}
-use Rattle.qs_line.specs.Limits.{most_actors}
-use Rattle.qs_line.specs.Named.{actor_of, named_client, listed_from, repeated}
+use Rattle.qs_line.specs.audit.Limits.{most_actors}
+use Rattle.qs_line.specs.audit.Named.{actor_of, named_client, listed_from, repeated}
 use Rattle.qs_line.specs.Numbers.{ClientNumbersStay, NumbersStay, numbers_of}
-use Rattle.qs_line.specs.Parts.{actor_by, actor_in, has_handler, named_in, once, part_in, parts_of, within_limit, without_handlers}
+use Rattle.qs_line.specs.audit.Parts.{actor_by, actor_in, has_handler, named_in, once, part_in, parts_of, within_limit, without_handlers}
 
 other : (n m : ℕ) → (n ≡ m → ⊥) → (n == m) ≡ false
 other n m h = false_from_ne_true (n == m) (λ e. h (eqb-true n m e))

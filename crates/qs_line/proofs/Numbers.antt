@@ -9,7 +9,7 @@ use Rattle.std.specs.Str.Parse.{ParsesUnsigned, IsNumeral, digits_value, without
 use Rattle.clap.specs.ValueTests.{is_unsigned_in}
 use Rattle.clap.specs.declared.builder.ValueParser.TheVariants as parser
 use Rattle.clap.proofs.ValueTestLemmas.{accepts-Accepts, Accepts-accepts}
-use Rattle.qs_line.specs.Line.{number_in}
+use Rattle.qs_line.specs.audit.Line.{number_in}
 
 -- a numeral in the range is its number
 pub number_in-some : (low high : ℕ) (text : List ℕ) → IsNumeral 10 (without_leading_plus text)

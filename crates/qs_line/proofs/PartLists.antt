@@ -2,7 +2,7 @@
 -- text that stands for nothing spoils the list. The loops of `parts_of` and `orders_in` have this as their invariant,
 -- `read_with`. It goes by cases on what the next text stands for.
 use Rattle.std.proofs.Common.{◌≡◌, ℕ, List, [], ◌∷◌, ◌++◌, Option, Some, None, refl, sym, ap, append_assoc, option_map}
-use Rattle.qs_line.specs.Parts.{each_in}
+use Rattle.qs_line.specs.audit.Parts.{each_in}
 
 module _ {A : Type 0} (one : List ℕ → Option A) where
   -- what was read so far, and then the texts that are left

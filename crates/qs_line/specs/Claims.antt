@@ -2,7 +2,8 @@
 use Rattle.std.specs.Prelude.{◌≡◌, List, ⊤}
 use Rattle.clap.specs.Words.{Text}
 use Rattle.qs_conditions.specs.Conditions.{Tree, steps_of}
-use Rattle.qs_line.specs.Line.{Request, ask, ask_alike, asks, line_in}
+use Rattle.qs_line.specs.audit.Line.{Request, ask, ask_alike, asks}
+use Rattle.qs_line.specs.Line.{line_in}
 
 -- where a claim is asked, its steps are those of a condition
 abbrev pub HasCondition : Request → Type 0

@@ -1,8 +1,9 @@
+-- What has to be believed for the headline.
+pub mod audit
 -- What an auditor reads: the promises and the calls of the surface are said with these.
 pub mod Limits
 pub mod Parts
 pub mod Named
-pub mod Command
 pub mod Line
 pub mod RunLines
 pub mod Claims

@@ -1,13 +1,5 @@
--- The limits of a list of actors, of a number of runs, and of a search.
+-- Beside what the headline reaches (`audit/Limits.antt`): what else contracts and proofs use.
 use Rattle.std.specs.Prelude.{ℕ}
-
--- how often one part may stand for its actor
-abbrev pub most_repeats : ℕ
-most_repeats = 1000000
-
--- actors of a list, each as often as its part says
-abbrev pub most_actors : ℕ
-most_actors = 1000000
 
 -- runs on threads whose ends are counted
 abbrev pub most_times : ℕ

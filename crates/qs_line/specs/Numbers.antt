@@ -4,10 +4,10 @@ use Rattle.std.specs.Prelude.{◌≡◌, ◌≤◌, ◌==◌, ℕ, List, [], ◌
 use Rattle.std.specs.List.{slice_split}
 use Rattle.qs_played.specs.declared.schedule.actor.Actor.{Actor}
 use Rattle.qs_played.specs.declared.schedule.actor.Actor.TheVariants.{Client}
-use Rattle.qs_program.specs.Program.{ProgramShape}
-use Rattle.qs_line.specs.Limits.{most_actors}
-use Rattle.qs_line.specs.Named.{actors_of, clients_of}
-use Rattle.qs_line.specs.Parts.{actor_in, clients_in, list_in, once}
+use Rattle.qs_program.specs.audit.Program.{ProgramShape}
+use Rattle.qs_line.specs.audit.Limits.{most_actors}
+use Rattle.qs_line.specs.audit.Named.{actors_of, clients_of}
+use Rattle.qs_line.specs.audit.Parts.{actor_in, clients_in, list_in, once}
 
 -- the actors of some texts, where each is an actor by its number
 abbrev pub numbers_of : List (List ℕ) → Option (List Actor)

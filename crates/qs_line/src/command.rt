@@ -3,7 +3,7 @@
 ghost use Rattle.std.specs.Prelude.{◌≡◌, IfOk, codes, false};
 ghost use Rattle.clap.specs.Words.{app_of, new_app, rule_of, with_rule, with_subcommand};
 ghost use Rattle.clap.specs.declared.Command.TheViews.{out-Command as fields_of};
-ghost use Rattle.qs_line.specs.Command.{check_app, chunk_rule, claimed_app, defaulted_rule, flag_rule, front_rule, graph_app, limit_rule, listing_app, machine_app, named_app, option_rule, outcomes_app, planned_app, play_app, qs_app, rules_app, run_app, scheduled_app, searched_app, shared_app, shown_app, texts_app, threads_rule, times_rule};
+ghost use Rattle.qs_line.specs.audit.Command.{check_app, chunk_rule, claimed_app, defaulted_rule, flag_rule, front_rule, graph_app, limit_rule, listing_app, machine_app, named_app, option_rule, outcomes_app, planned_app, play_app, qs_app, rules_app, run_app, scheduled_app, searched_app, shared_app, shown_app, texts_app, threads_rule, times_rule};
 
 use crate::help;
 use clap::{Arg, ArgAction, Command, value_parser};

@@ -3,8 +3,9 @@
 ghost use Rattle.std.specs.Prelude.{◌≡◌, [], ◌∷◌, Err, IfOk, IfErr, map, option_and_then, option_map};
 ghost use Rattle.clap.specs.Words.{found_of, kind_of, rows_of, subcommand_of, subcommand_rows_of};
 ghost use Rattle.clap.specs.Faults.{fault_of};
-ghost use Rattle.qs_line.specs.Command.{qs_app};
-ghost use Rattle.qs_line.specs.Line.{IsAnswer, IsFault, IsFaultAmong, alike_at, alike_list_at, alike_or_list_at, answer_or_list_at, ask_alike_at, ask_at, asks_language, blocks_at, help, check_at, chunk_at, claim_at, claim_in, estimate_at, estimate_or_list_at, fronts_at, fronts_or_list_at, has_blocks, has_claim, has_front, has_threads, has_times, is_of_list, list_at, flag_at, format_at, front_at, graph_at, graph_format_at, is_verbose_in, is_verbose_met, leads_at, limit_at, line_in, mode_at, number_in, outcomes_at, outcomes_format_at, plan_of, play_at, report_format_at, request_at, request_met, request_of, rules_at, run_at, single_run_at, style_at, styled_plan, can_tell, tally_at, threads_at, threads_beside, times_at, warns_in, warns_met};
+ghost use Rattle.qs_line.specs.audit.Command.{qs_app};
+ghost use Rattle.qs_line.specs.audit.Line.{asks_language, help, chunk_at, has_times, flag_at, mode_at, number_in, play_at, report_format_at, rules_at, single_run_at, style_at, styled_plan, can_tell};
+ghost use Rattle.qs_line.specs.Line.{IsAnswer, IsFault, IsFaultAmong, alike_at, alike_list_at, alike_or_list_at, answer_or_list_at, ask_alike_at, ask_at, blocks_at, check_at, claim_at, claim_in, estimate_at, estimate_or_list_at, fronts_at, fronts_or_list_at, has_blocks, has_claim, has_front, has_threads, is_of_list, list_at, format_at, front_at, graph_at, graph_format_at, is_verbose_in, is_verbose_met, leads_at, limit_at, line_in, outcomes_at, outcomes_format_at, plan_of, request_at, request_met, request_of, run_at, tally_at, threads_at, threads_beside, times_at, warns_in, warns_met};
 
 use crate::command::command;
 use crate::found::text_at;

@@ -1,10 +1,11 @@
 //! Whom a list names in a program.
 
 ghost use Rattle.std.specs.Prelude.{◌≡◌, ◌++◌, IfErr, IfOk, Ok, OnOk, Result, replicate};
-ghost use Rattle.qs_program.specs.Program.{ProgramShape};
+ghost use Rattle.qs_program.specs.audit.Program.{ProgramShape};
 ghost use Rattle.qs_line.specs.declared.fault.Why.{Why as WhyOf};
 ghost use Rattle.qs_line.specs.declared.parts.Who.{Who as WhoOf};
-ghost use Rattle.qs_line.specs.Named.{IsListFault, actor_of as actor_due, actors_of as actors_due, client_called as called_client, named_client as client_due, clients_of as clients_due, listed_from, object_called as called_object, one_of as either_of};
+ghost use Rattle.qs_line.specs.audit.Named.{actor_of as actor_due, actors_of as actors_due, client_called as called_client, named_client as client_due, clients_of as clients_due, listed_from, object_called as called_object, one_of as either_of};
+ghost use Rattle.qs_line.specs.Named.{IsListFault};
 
 use crate::fault::{ListFault, Why};
 use crate::parts::{Part, Who};

@@ -2,7 +2,8 @@
 
 ghost use Rattle.std.specs.Prelude.{◌≡◌, IfOk, option_map};
 ghost use Rattle.clap.specs.Words.{found_of, rows_of};
-ghost use Rattle.qs_line.specs.Line.{has_schedule, order_at, picks_at, plan_at, plan_of, rounds_at, schedule_at};
+ghost use Rattle.qs_line.specs.audit.Line.{has_schedule, order_at, picks_at, plan_at, rounds_at, schedule_at};
+ghost use Rattle.qs_line.specs.Line.{plan_of};
 
 use crate::found::text_at;
 use crate::parts::Part;

@@ -2,10 +2,11 @@
 
 ghost use Rattle.std.specs.Prelude.{◌≡◌, ◌<◌, ◌≤◌, ◌==◌, ◌+◌, IfOk, IfSome, IsTrue, length, map, min, nat_le, option_map, position};
 ghost use Rattle.std.specs.List.{list_all, slice_split};
-ghost use Rattle.qs_script.specs.tokens.Limits.{longest_name};
-ghost use Rattle.qs_script.specs.tokens.Tokens.{is_digit, is_name_byte, same, value_of};
-ghost use Rattle.qs_line.specs.Limits.{most_actors, most_repeats};
-ghost use Rattle.qs_line.specs.Parts.{actor_in, clients_in as clients_due, count_in, has_handler as some_handler, is_handler, is_name, is_reserved as is_reserved_word, length_of, list_in as list_due, name_in, named_in, once, orders_in as orders_due, part_in, parts_of as parts_due, times};
+ghost use Rattle.qs_script.specs.audit.tokens.Limits.{longest_name};
+ghost use Rattle.qs_script.specs.audit.tokens.Tokens.{is_digit, is_name_byte, same, value_of};
+ghost use Rattle.qs_line.specs.audit.Limits.{most_actors, most_repeats};
+ghost use Rattle.qs_line.specs.audit.Parts.{actor_in, clients_in as clients_due, count_in, has_handler as some_handler, is_handler, is_name, is_reserved as is_reserved_word, length_of, list_in as list_due, name_in, named_in, once, part_in, parts_of as parts_due, times};
+ghost use Rattle.qs_line.specs.Parts.{orders_in as orders_due};
 
 use crate::limits::{LONGEST_NAME, MOST_ACTORS, MOST_REPEATS};
 use crate::parts::{Part, Who};

@@ -4,7 +4,7 @@ use Rattle.clap.specs.Words.{Text}
 use Rattle.qs_played.specs.declared.schedule.actor.Actor.TheVariants.{Client, Handler}
 use Rattle.qs_line.specs.declared.parts.Part.{Part}
 use Rattle.qs_line.specs.declared.parts.Who.TheVariants.{Name, Number}
-use Rattle.qs_line.specs.Parts.{once, times}
+use Rattle.qs_line.specs.audit.Parts.{once, times}
 use Rattle.qs_script.specs.declared.tree.tree.Relation.TheVariants as relation
 use Rattle.qs_conditions.specs.declared.claim.Claim.{Claim}
 use Rattle.qs_conditions.specs.declared.claim.Quantifier.{Quantifier}
@@ -19,7 +19,8 @@ use Rattle.qs_line.specs.declared.line.GraphFormat.TheVariants as graph_format
 use Rattle.qs_line.specs.declared.line.OutcomesFormat.TheVariants as outcomes_format
 use Rattle.qs_line.specs.declared.line.ReportFormat.TheVariants as report_format
 use Rattle.qs_line.specs.declared.line.ReportStyle.{ReportStyle}
-use Rattle.qs_line.specs.Line.{Line, alike, ask, ask_alike, asks, by_order, by_schedule, check, estimate, fronts, graph, help, is_verbose_in, line_in, outcomes, play, refused, rules, run, tally, version, warns_in}
+use Rattle.qs_line.specs.audit.Line.{Line, alike, ask, ask_alike, asks, by_order, by_schedule, check, estimate, fronts, graph, help, outcomes, play, refused, rules, run, tally, version}
+use Rattle.qs_line.specs.Line.{is_verbose_in, line_in, warns_in}
 
 -- the line of the words after the program's name
 abbrev pub line : List Text → Line

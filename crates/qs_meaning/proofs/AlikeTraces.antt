@@ -1,35 +1,37 @@
 -- Blocks of equal text make the same requests and get the same replies, up to a query on an object that started in
 -- another state. Two twin trees are run side by side: as long as all replies were equal, objects that started in the
 -- same state are in the same state, since both served the same requests.
-use Rattle.std.proofs.Common.{◌≡◌, ◌≢◌, ◌<◌, ◌≤◌, ℕ, zero, suc, ℤ, Bool, true, false, true≢false, ◌==◌, if◌then◌else◌, List, [], ◌∷◌, ◌++◌, length, map, get_or}
-use Rattle.std.proofs.Common.{slice_set, Option, Some, None, ◌⊎◌, inl, inr, ⊎_elim, refl, sym, ap, ◌∙◌, subst, arith}
+use Rattle.std.proofs.Common.{◌≡◌, ◌≢◌, ◌<◌, ◌≤◌, ℕ, zero, suc, ℤ, Bool, true, false, true≢false, ◌==◌, if◌then◌else◌, List, [], ◌∷◌, ◌++◌, length, map, get_or, slice_set, Option, Some, None, ◌⊎◌, inl, inr, ⊎_elim, refl, sym, ap, ◌∙◌, subst, arith}
 use Rattle.std.specs.List.{AllByRecursion, IsDistinct}
 use Rattle.std.specs.Cmp.Lexicographic.{other_text}
 use Rattle.std.proofs.Math.IntN.{ℤ_discrete}
 use Rattle.std.proofs.lemmas.List.{length-set, length-map, get_or-map}
-use Rattle.qs_objects.specs.Act.{State, act, ActResult}
-use Rattle.qs_objects.specs.Journals.{after, answer}
-use Rattle.qs_objects.specs.Operations.{is_query}
-use Rattle.qs_objects.specs.Parts.{IsFront, part}
+use Rattle.qs_objects.specs.audit.Act.{State, act, ActResult}
+use Rattle.qs_objects.specs.audit.Journals.{after, answer}
+use Rattle.qs_objects.specs.audit.Operations.{is_query}
+use Rattle.qs_objects.specs.audit.Parts.{IsFront, part}
 use Rattle.qs_objects.specs.declared.Request.{Request}
 use Rattle.qs_objects.specs.declared.held.Event.{Event}
 use Rattle.qs_objects.specs.declared.held.Ticket.{Ticket}
 use Rattle.qs_objects.proofs.Choices.{eqb_self, eqb_apart, apart_eqb, num_cases}
 use Rattle.qs_objects.proofs.Elements.{AllByRecursion-get_or}
-use Rattle.qs_program.specs.Numbering.{Name, same_name}
+use Rattle.qs_program.specs.audit.Numbering.{Name, same_name}
 use Rattle.qs_program.specs.declared.program.Declared.{Declared}
-use Rattle.qs_program.specs.Program.{BlockShape, ClientShape, ProgramShape, client_at, text_of, no_block, no_client, no_object}
-use Rattle.qs_program.specs.Sound.{AreVariablesBelow, IsFormedBlock, IsFormedClient, IsFormedProgram, IsSound, IsSoundBlock, IsSoundClient, is_in}
-use Rattle.qs_program.specs.Statements.{Statements, end, command, query, assign, choose, again, leave}
-use Rattle.qs_program.specs.Values.{Locals, expr_value, test_value}
-use Rattle.qs_program.specs.Limits.{most_variables}
-use Rattle.qs_meaning.specs.Alike.{SameStatements, SameText, SameValues, SameObject, SameRequest, SameEvent, SameTrace, StartAlike, AskAlike, AlikeFrom}
-use Rattle.qs_meaning.specs.Alike.{HasValues, BlocksAlike, PlacesAlike, ValuesByName, object_name, variable_name, value_at}
-use Rattle.qs_meaning.specs.Following.{AsksOnly, reserves}
-use Rattle.qs_meaning.specs.Interaction.{Interaction, Done, Call, Query, Next, turns, meaning, tree_of, run}
-use Rattle.qs_meaning.specs.Serial.{SerialBlock, serial, serial_from, declared_states, zeros}
-use Rattle.qs_meaning.specs.Solo as alone
-use Rattle.qs_meaning.specs.Solo.{States, states_after, event, put, solo, value_of}
+use Rattle.qs_program.specs.audit.Program.{BlockShape, ClientShape, ProgramShape, client_at, text_of, no_block, no_client, no_object}
+use Rattle.qs_program.specs.audit.Sound.{is_in}
+use Rattle.qs_program.specs.Sound.{AreVariablesBelow, IsFormedBlock, IsFormedClient, IsFormedProgram, IsSound, IsSoundBlock, IsSoundClient}
+use Rattle.qs_program.specs.audit.Statements.{Statements, end, command, query, assign, choose, again, leave}
+use Rattle.qs_program.specs.audit.Values.{Locals, expr_value, test_value}
+use Rattle.qs_program.specs.audit.Limits.{most_variables}
+use Rattle.qs_meaning.specs.Alike.{SameStatements, SameText, SameValues, SameObject, SameRequest, SameEvent, SameTrace, StartAlike, AskAlike, AlikeFrom, HasValues, BlocksAlike, PlacesAlike, ValuesByName, object_name, variable_name, value_at}
+use Rattle.qs_meaning.specs.audit.Following.{reserves}
+use Rattle.qs_meaning.specs.Following.{AsksOnly}
+use Rattle.qs_meaning.specs.audit.Interaction.{Interaction, Done, Call, Query, Next, meaning, tree_of}
+use Rattle.qs_meaning.specs.Interaction.{turns, run}
+use Rattle.qs_meaning.specs.audit.Serial.{declared_states, zeros}
+use Rattle.qs_meaning.specs.Serial.{SerialBlock, serial, serial_from}
+use Rattle.qs_meaning.specs.audit.Solo as alone
+use Rattle.qs_meaning.specs.audit.Solo.{States, states_after, event, put, solo, value_of}
 use Rattle.qs_meaning.proofs.Each.{each_map}
 use Rattle.qs_meaning.proofs.EqualTexts.{Below, Twin, all_below, both, tree_twin}
 use Rattle.qs_meaning.proofs.SoundTrees.{blocks_ask_only}

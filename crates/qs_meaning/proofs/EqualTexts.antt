@@ -1,11 +1,10 @@
 -- What equal texts are worth: the relations of two comparisons of the same statements hold together, and the
 -- interaction trees of blocks of equal text ask for the same, reply by reply. Variables of one name have one number in
 -- each client, so an assignment keeps equal values equal.
-use Rattle.std.proofs.Common.{◌≡◌, ◌<◌, ◌≤◌, ℕ, zero, suc, ℤ, pos, Bool, true, false, ◌==◌, if◌then◌else◌, List, [], ◌∷◌, length, map, slice_set, refl, sym}
-use Rattle.std.proofs.Common.{ap₂, ◌∙◌, subst, ⊎_elim, arith}
+use Rattle.std.proofs.Common.{◌≡◌, ◌<◌, ◌≤◌, ℕ, zero, suc, ℤ, pos, Bool, true, false, ◌==◌, if◌then◌else◌, List, [], ◌∷◌, length, map, slice_set, refl, sym, ap₂, ◌∙◌, subst, ⊎_elim, arith}
 use Rattle.std.specs.List.{AllByRecursion, AllZip}
 use Rattle.std.proofs.lemmas.List.{length-set, get_or-set_same, get_or-set_other}
-use Rattle.qs_objects.specs.Act.{clamp_to_word}
+use Rattle.qs_objects.specs.audit.Act.{clamp_to_word}
 use Rattle.qs_objects.proofs.Choices.{num_cases, apart_eqb}
 use Rattle.qs_program.specs.declared.code.Atom.{Atom}
 use Rattle.qs_program.specs.declared.code.Atom.TheVariants.{Variable, Number}
@@ -13,12 +12,13 @@ use Rattle.qs_program.specs.declared.code.Expr.{Expr}
 use Rattle.qs_program.specs.declared.code.Expr.TheVariants.{Plain, Binary}
 use Rattle.qs_program.specs.declared.code.Test.{Test}
 use Rattle.qs_program.specs.declared.code.Call.{Call as TextCall}
-use Rattle.qs_program.specs.Program.{ProgramShape}
+use Rattle.qs_program.specs.audit.Program.{ProgramShape}
 use Rattle.qs_program.specs.Sound.{IsAtomBelow, IsExprBelow, AreVariablesBelow}
-use Rattle.qs_program.specs.Statements.{Statements, end, command, query, assign, choose, again, leave}
-use Rattle.qs_program.specs.Values.{Locals, atom_value, exact, expr_value, relates, test_value, request_of}
+use Rattle.qs_program.specs.audit.Statements.{Statements, end, command, query, assign, choose, again, leave}
+use Rattle.qs_program.specs.audit.Values.{Locals, atom_value, exact, expr_value, relates, test_value, request_of}
 use Rattle.qs_meaning.specs.Alike.{SameAtom, SameExpr, SameTest, SameCall, SameStatements, SameRequest, object_name, value_at}
-use Rattle.qs_meaning.specs.Interaction.{Interaction, Done, Call, Query, Next, turns, meaning, tree_of}
+use Rattle.qs_meaning.specs.audit.Interaction.{Interaction, Done, Call, Query, Next, meaning, tree_of}
+use Rattle.qs_meaning.specs.Interaction.{turns}
 
 -- two comparisons of the same statements as one
 module _ (O P Q V W Z : ℕ → ℕ → Type 0) (objects : (h g : ℕ) → O h g → P h g → Q h g) (variables : (x y : ℕ) → V x y → W x y → Z x y) where

@@ -1,18 +1,18 @@
 -- Three blocks of two example programs meet the premises of the law on blocks of equal text, so that law speaks of real
 -- programs. The law on these examples, `AlikeExamples`, is proved here. It shows that both programs are sound and that
 -- the objects and variables match, and then computes the traces.
-use Rattle.std.proofs.Common.{◌≡◌, ◌≢◌, ◌<◌, ◌≤◌, ℕ, true, false, true≢false, ◌==◌, List, [], ◌∷◌, length, codes, slice_index_or, refl, sym, ap, ⊎_elim, subst}
-use Rattle.std.proofs.Common.{arith}
+use Rattle.std.proofs.Common.{◌≡◌, ◌≢◌, ◌<◌, ◌≤◌, ℕ, true, false, true≢false, ◌==◌, List, [], ◌∷◌, length, codes, slice_index_or, refl, sym, ap, ⊎_elim, subst, arith}
 use Rattle.std.specs.List.{IsDistinct}
 use Rattle.qs_objects.proofs.Choices.{eqb_self, num_cases}
 use Rattle.qs_objects.specs.Operations.{fits}
 use Rattle.qs_objects.specs.declared.Op.{Op}
 use Rattle.qs_objects.specs.declared.Op.TheVariants.{Deposit, Balance}
 use Rattle.qs_program.specs.declared.program.Declared.{Declared}
-use Rattle.qs_program.specs.Numbering.{Name, same_name}
-use Rattle.qs_program.specs.Program.{no_object, whole_load, whole_weight}
-use Rattle.qs_program.specs.Sound.{IsFormedClient, IsFormedProgram, IsSound, IsSoundClient, is_in}
-use Rattle.qs_program.specs.Limits.{most_variables}
+use Rattle.qs_program.specs.audit.Numbering.{Name, same_name}
+use Rattle.qs_program.specs.audit.Program.{no_object, whole_load, whole_weight}
+use Rattle.qs_program.specs.audit.Sound.{is_in}
+use Rattle.qs_program.specs.Sound.{IsFormedClient, IsFormedProgram, IsSound, IsSoundClient}
+use Rattle.qs_program.specs.audit.Limits.{most_variables}
 use Rattle.qs_meaning.specs.Alike.{SameTrace, StartAlike, object_name}
 use Rattle.qs_meaning.specs.AlikeExamples.{AlikeExamples, Match, depositor, first, second, ann, bob, carol}
 

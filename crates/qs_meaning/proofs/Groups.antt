@@ -8,9 +8,10 @@ use Rattle.std.proofs.lemmas.Bool.Decides.{nat_tests}
 use Rattle.std.proofs.lemmas.List.{get_or_past}
 use Rattle.std.specs.List.{list_any}
 use Rattle.qs_objects.proofs.Choices.{and_cases, eqb_self, eqb_true, num_cases}
-use Rattle.qs_program.specs.Program.{ProgramShape, block_at, blocks_of, client_at, no_client}
-use Rattle.qs_program.specs.Sound.{is_in}
-use Rattle.qs_meaning.specs.Reduced.{Clients, Counts, IsUndisturbed, SomeGoOn, block_reserves, comes_in, first_smallest, goes_on, group_of, has_block_left, many_below, size_of_set, smaller, some_below, still_reserves, widened, wider}
+use Rattle.qs_program.specs.audit.Program.{ProgramShape, block_at, blocks_of, client_at, no_client}
+use Rattle.qs_program.specs.audit.Sound.{is_in}
+use Rattle.qs_meaning.specs.audit.Reduced.{Counts}
+use Rattle.qs_meaning.specs.Reduced.{Clients, IsUndisturbed, SomeGoOn, block_reserves, comes_in, first_smallest, goes_on, group_of, has_block_left, many_below, size_of_set, smaller, some_below, still_reserves, widened, wider}
 
 pub or_left : (a b : Bool) → a ≡ true → (a || b) ≡ true
 or_left a b e = rw e refl

@@ -3,13 +3,15 @@
 -- by induction on the order: a legal ticket names its client's next block, so a client's tickets are those from its
 -- count of begun blocks up to its count at the end.
 use Rattle.std.proofs.Common.{◌≡◌, ℕ, suc, ◌<◌, ◌≤◌, arith, Bool, true, false, if◌then◌else◌, ◌==◌, ◌&&◌, List, [], ◌∷◌, ◌++◌, length, filter, refl, sym, ap, ◌∙◌, subst, ⊎_elim}
-use Rattle.qs_objects.specs.Parts.{same}
+use Rattle.qs_objects.specs.audit.Parts.{same}
 use Rattle.qs_objects.specs.declared.held.Ticket.{Ticket}
 use Rattle.qs_objects.proofs.Choices.{eqb_apart, eqb_self, num_cases}
-use Rattle.qs_program.specs.Program.{ProgramShape, block_at, blocks_of}
-use Rattle.qs_meaning.specs.Configurations.{Configuration, ConfigurationsFollowOrders, CompleteOrdersLeaveNone, IsComplete, OrderOutcome, configuration_from, first_configuration, one_block_on, outcome_in}
-use Rattle.qs_meaning.specs.Serial.{LegalFrom, Serial, serial_from}
-use Rattle.qs_meaning.specs.Solo.{put, solo}
+use Rattle.qs_program.specs.audit.Program.{ProgramShape, block_at, blocks_of}
+use Rattle.qs_meaning.specs.audit.Configurations.{Configuration, IsComplete, configuration_from, first_configuration, one_block_on}
+use Rattle.qs_meaning.specs.Configurations.{ConfigurationsFollowOrders, CompleteOrdersLeaveNone, OrderOutcome, outcome_in}
+use Rattle.qs_meaning.specs.audit.Serial.{LegalFrom}
+use Rattle.qs_meaning.specs.Serial.{Serial, serial_from}
+use Rattle.qs_meaning.specs.audit.Solo.{put, solo}
 use Rattle.qs_meaning.proofs.TreeWalks.{put_here, put_there}
 
 -- the counts after a legal ticket, by the ticket's number or by the client's count

@@ -5,12 +5,15 @@ use Rattle.std.proofs.Common.{◌≡◌, ◌<◌, ◌≤◌, ℕ, zero, suc, Boo
 use Rattle.std.specs.List.{list_any}
 use Rattle.qs_objects.specs.declared.held.Ticket.{Ticket}
 use Rattle.qs_objects.proofs.Choices.{eqb_apart, num_cases}
-use Rattle.qs_program.specs.Program.{ProgramShape, block_at, blocks_of, client_at, no_block}
-use Rattle.qs_program.specs.Sound.{IsSound, is_in}
-use Rattle.qs_meaning.specs.Configurations.{Configuration, configuration_from, first_configuration, one_block_on, outcome_in}
-use Rattle.qs_meaning.specs.Reduced.{Clients, Counts, IsReducedFrom, IsUndisturbed, ReducedOrdersSuffice, block_reserves, goes_on, still_reserves}
-use Rattle.qs_meaning.specs.Serial.{LegalFrom}
-use Rattle.qs_meaning.specs.Solo.{put}
+use Rattle.qs_program.specs.audit.Program.{ProgramShape, block_at, blocks_of, client_at, no_block}
+use Rattle.qs_program.specs.audit.Sound.{is_in}
+use Rattle.qs_program.specs.Sound.{IsSound}
+use Rattle.qs_meaning.specs.audit.Configurations.{Configuration, configuration_from, first_configuration, one_block_on}
+use Rattle.qs_meaning.specs.Configurations.{outcome_in}
+use Rattle.qs_meaning.specs.audit.Reduced.{Counts}
+use Rattle.qs_meaning.specs.Reduced.{Clients, IsReducedFrom, IsUndisturbed, ReducedOrdersSuffice, block_reserves, goes_on, still_reserves}
+use Rattle.qs_meaning.specs.audit.Serial.{LegalFrom}
+use Rattle.qs_meaning.specs.audit.Solo.{put}
 use Rattle.qs_meaning.proofs.Groups.{neither, some_go_on}
 use Rattle.qs_meaning.proofs.Orders.{complete_orders_leave_none, configurations_follow_orders, legal_on}
 use Rattle.qs_meaning.proofs.Swaps.{neighbours_swap}

@@ -5,22 +5,26 @@
 use Rattle.std.proofs.Common.{◌≡◌, ◌≢◌, ℕ, zero, suc, ◌≤◌, arith, Bool, true, false, ◌==◌, List, [], ◌∷◌, ◌++◌, map, refl, sym, ap, ◌∙◌, subst, ◌⊎◌, inl, inr, ⊎_elim, append_assoc, append-nil}
 use Rattle.std.proofs.lemmas.List.{map-append}
 use Rattle.std.specs.List.{AllByRecursion, AllZip}
-use Rattle.qs_objects.specs.Act.{State}
-use Rattle.qs_objects.specs.Journals.{replay, without_tickets, IsHonest}
-use Rattle.qs_objects.specs.Parts.{IsFront, command_event, stamp, part, same, HasEntry, before}
+use Rattle.qs_objects.specs.audit.Act.{State}
+use Rattle.qs_objects.specs.audit.Journals.{replay, without_tickets, IsHonest}
+use Rattle.qs_objects.specs.audit.Parts.{IsFront, command_event, part, same}
+use Rattle.qs_objects.specs.Parts.{stamp, HasEntry, before}
 use Rattle.qs_objects.specs.declared.held.Entry.{Entry}
 use Rattle.qs_objects.specs.declared.held.Event.{Event}
 use Rattle.qs_objects.specs.declared.held.Ticket.{Ticket}
 use Rattle.qs_objects.specs.declared.Request.{Request}
 use Rattle.qs_objects.proofs.Choices.{num_cases, not_same, same_self}
 use Rattle.qs_objects.proofs.Replays.{replay-append, IsHonest-append}
-use Rattle.qs_meaning.specs.Following.{AsksOnly, reserves, block_tree, changed_all, noted_all}
-use Rattle.qs_meaning.specs.Interaction.{Interaction, Done, Call, Query, run}
-use Rattle.qs_program.specs.Program.{ProgramShape, text_of}
-use Rattle.qs_meaning.specs.Serial.{LegalFrom, SerialBlock, serial_from, declared_states, zeros}
-use Rattle.qs_meaning.specs.Solo.{States, BlockResult, put, solo}
+use Rattle.qs_meaning.specs.audit.Following.{reserves}
+use Rattle.qs_meaning.specs.Following.{AsksOnly, block_tree, changed_all, noted_all}
+use Rattle.qs_meaning.specs.audit.Interaction.{Interaction, Done, Call, Query}
+use Rattle.qs_meaning.specs.Interaction.{run}
+use Rattle.qs_program.specs.audit.Program.{ProgramShape, text_of}
+use Rattle.qs_meaning.specs.audit.Serial.{LegalFrom, declared_states, zeros}
+use Rattle.qs_meaning.specs.Serial.{SerialBlock, serial_from}
+use Rattle.qs_meaning.specs.audit.Solo.{States, BlockResult, put, solo}
 use Rattle.qs_program.specs.Sound.{IsSound}
-use Rattle.qs_program.specs.Values.{Locals}
+use Rattle.qs_program.specs.audit.Values.{Locals}
 use Rattle.qs_meaning.proofs.Each.{each_map, each_both, each_join}
 use Rattle.qs_meaning.proofs.Histories.{parts_of, done_of, Apart, OnlyCommands, Piece, ObjectCourse, Flow, ClearOf, clear_stamped, clear_later, commands_honest, has_append, has_clear, unstamp_all}
 use Rattle.qs_meaning.specs.BlockRecords.{BlockRecord, IsBlockRecord, IsDone, Begins}

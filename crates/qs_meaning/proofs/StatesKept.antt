@@ -1,15 +1,16 @@
 -- What each request leaves true of an object's state stays true of all objects while a block runs alone. That states
 -- stay of their kinds and in their ranges stands on it. It goes by induction on the block's tree.
 use Rattle.std.proofs.Common.{◌≡◌, ℕ, false, ◌==◌, sym, subst, ⊎_elim}
-use Rattle.qs_objects.specs.Act.{State}
-use Rattle.qs_objects.specs.Journals.{after, answer}
+use Rattle.qs_objects.specs.audit.Act.{State}
+use Rattle.qs_objects.specs.audit.Journals.{after, answer}
 use Rattle.qs_objects.specs.declared.Request.{Request}
 use Rattle.qs_objects.proofs.Choices.{num_cases}
-use Rattle.qs_program.specs.Statements.{Statements}
-use Rattle.qs_program.specs.Values.{Locals}
-use Rattle.qs_meaning.specs.Interaction.{Interaction, Done, Call, Query, run, tree_of}
-use Rattle.qs_meaning.specs.Solo as alone
-use Rattle.qs_meaning.specs.Solo.{States, states_after, solo, value_of}
+use Rattle.qs_program.specs.audit.Statements.{Statements}
+use Rattle.qs_program.specs.audit.Values.{Locals}
+use Rattle.qs_meaning.specs.audit.Interaction.{Interaction, Done, Call, Query, tree_of}
+use Rattle.qs_meaning.specs.Interaction.{run}
+use Rattle.qs_meaning.specs.audit.Solo as alone
+use Rattle.qs_meaning.specs.audit.Solo.{States, states_after, solo, value_of}
 use Rattle.qs_meaning.proofs.Trees.{trees_agree}
 use Rattle.qs_meaning.proofs.TreeWalks.{put_here, put_there}
 

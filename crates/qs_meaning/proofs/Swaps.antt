@@ -3,17 +3,19 @@
 -- requests are on its objects.
 use Rattle.std.proofs.Common.{◌≡◌, ℕ, suc, Bool, true, false, true≢false, ◌==◌, refl, sym, ap, ◌∙◌, subst, ⊎_elim, inl, inr}
 use Rattle.std.proofs.lemmas.Bool.{cases_Bool}
-use Rattle.qs_objects.specs.Act.{State}
-use Rattle.qs_objects.specs.Journals.{after, answer}
+use Rattle.qs_objects.specs.audit.Act.{State}
+use Rattle.qs_objects.specs.audit.Journals.{after, answer}
 use Rattle.qs_objects.proofs.Choices.{eqb_apart, eqb_self, num_cases}
-use Rattle.qs_program.specs.Program.{BlockShape, ProgramShape, block_at}
-use Rattle.qs_program.specs.Sound.{IsSound, is_in}
-use Rattle.qs_program.specs.Values.{Locals}
-use Rattle.qs_meaning.specs.Configurations.{Configuration, one_block_on}
+use Rattle.qs_program.specs.audit.Program.{BlockShape, ProgramShape, block_at}
+use Rattle.qs_program.specs.audit.Sound.{is_in}
+use Rattle.qs_program.specs.Sound.{IsSound}
+use Rattle.qs_program.specs.audit.Values.{Locals}
+use Rattle.qs_meaning.specs.audit.Configurations.{Configuration, one_block_on}
 use Rattle.qs_meaning.specs.Following.{AsksOnly}
-use Rattle.qs_meaning.specs.Interaction.{Interaction, Done, Call, Query, run, tree_of}
+use Rattle.qs_meaning.specs.audit.Interaction.{Interaction, Done, Call, Query, tree_of}
+use Rattle.qs_meaning.specs.Interaction.{run}
 use Rattle.qs_meaning.specs.Reduced.{AreNextApart, NeighboursSwap}
-use Rattle.qs_meaning.specs.Solo.{BlockResult, States, put, solo, states_after, value_of}
+use Rattle.qs_meaning.specs.audit.Solo.{BlockResult, States, put, solo, states_after, value_of}
 use Rattle.qs_meaning.proofs.SoundTrees.{blocks_ask_only}
 use Rattle.qs_meaning.proofs.Trees.{trees_agree}
 use Rattle.qs_meaning.proofs.TreeWalks.{put_here, put_there, untouched}

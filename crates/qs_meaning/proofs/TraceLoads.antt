@@ -3,17 +3,19 @@
 -- and for a serial run by induction on the order.
 use Rattle.std.proofs.Common.{◌≡◌, ℕ, ◌-◌, ◌≤◌, Bool, true, false, ◌==◌, if◌then◌else◌, List, [], ◌∷◌, length, ap, arith, None}
 use Rattle.std.specs.List.{AllByRecursion}
-use Rattle.qs_objects.specs.Journals.{answer}
-use Rattle.qs_objects.specs.Parts.{part}
+use Rattle.qs_objects.specs.audit.Journals.{answer}
+use Rattle.qs_objects.specs.audit.Parts.{part}
 use Rattle.qs_objects.specs.declared.held.Event.{Event}
 use Rattle.qs_objects.specs.declared.held.Ticket.{Ticket}
-use Rattle.qs_program.specs.Loads.{load_of}
-use Rattle.qs_program.specs.Program.{ProgramShape, text_of}
-use Rattle.qs_program.specs.Values.{Locals}
-use Rattle.qs_meaning.specs.Interaction.{Interaction, Done, Call, Query, run, tree_of}
+use Rattle.qs_program.specs.audit.Loads.{load_of}
+use Rattle.qs_program.specs.audit.Program.{ProgramShape, text_of}
+use Rattle.qs_program.specs.audit.Values.{Locals}
+use Rattle.qs_meaning.specs.audit.Interaction.{Interaction, Done, Call, Query, tree_of}
+use Rattle.qs_meaning.specs.Interaction.{run}
 use Rattle.qs_meaning.specs.Paths.{counts, Within}
-use Rattle.qs_meaning.specs.Serial.{SerialBlock, serial_from, declared_states, zeros}
-use Rattle.qs_meaning.specs.Solo.{States, BlockResult, states_after, event, value_of, put, solo}
+use Rattle.qs_meaning.specs.audit.Serial.{declared_states, zeros}
+use Rattle.qs_meaning.specs.Serial.{SerialBlock, serial_from}
+use Rattle.qs_meaning.specs.audit.Solo.{States, BlockResult, states_after, event, value_of, put, solo}
 use Rattle.qs_meaning.specs.TraceLoads.{TracesWithinLoad, SerialWithinLoad}
 use Rattle.qs_meaning.proofs.RequestPaths.{requests_within}
 use Rattle.qs_meaning.proofs.Trees.{trees_agree}

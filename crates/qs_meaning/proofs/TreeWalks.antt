@@ -3,14 +3,15 @@
 -- facts about traces. They go by induction on the trace and on the tree along which it leads.
 use Rattle.std.proofs.Common.{◌≡◌, ℕ, Bool, false, true≢false, ◌==◌, List, [], ◌∷◌, ◌++◌, refl, ⊎_elim, sym, ap, ◌∙◌, subst, Option, ℤ, append-nil, if◌then◌else◌}
 use Rattle.std.proofs.lemmas.List.Elements.{filter-append}
-use Rattle.qs_objects.specs.Journals.{after, answer, replay, IsHonest}
-use Rattle.qs_objects.specs.Parts.{command_event, part}
+use Rattle.qs_objects.specs.audit.Journals.{after, answer, replay, IsHonest}
+use Rattle.qs_objects.specs.audit.Parts.{command_event, part}
 use Rattle.qs_objects.specs.declared.held.Event.{Event}
 use Rattle.qs_objects.specs.declared.Request.{Request}
 use Rattle.qs_objects.proofs.Choices.{eqb_self, num_cases}
-use Rattle.qs_meaning.specs.Interaction.{Interaction, Done, Call, Query, run, after_event}
+use Rattle.qs_meaning.specs.audit.Interaction.{Interaction, Done, Call, Query}
+use Rattle.qs_meaning.specs.Interaction.{run, after_event}
 use Rattle.qs_meaning.specs.Following.{Leads, changed_all, noted_all, HonestTracesRun, AsksOnly}
-use Rattle.qs_meaning.specs.Solo.{States, states_after, put, event, value_of}
+use Rattle.qs_meaning.specs.audit.Solo.{States, states_after, put, event, value_of}
 
 pub put_here : {A : Type 0} (f : ℕ → A) (n : ℕ) (a : A) → put f n a n ≡ a
 put_here f n a = rw (eqb_self n)

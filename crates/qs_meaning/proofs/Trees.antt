@@ -4,11 +4,12 @@
 use Rattle.std.proofs.Common.{◌≡◌, ℕ, zero, suc, Bool, true, false, if◌then◌else◌, List, [], ◌∷◌, ◌++◌, refl, sym, ap, ◌∙◌, None, append_assoc}
 use Rattle.std.proofs.lemmas.List.{append-nil}
 use Rattle.qs_objects.specs.declared.held.Event.{Event}
-use Rattle.qs_objects.specs.Journals.{answer}
-use Rattle.qs_program.specs.Statements.{Statements, end, command, query, assign, choose, again, leave}
-use Rattle.qs_program.specs.Values.{Locals, test_value, request_of}
-use Rattle.qs_meaning.specs.Solo.{States, BlockResult, Ending, Runs, states_after, event, with_trace, then_run, left_none, turns_run, exec}
-use Rattle.qs_meaning.specs.Interaction.{Next, Done, turns, meaning, after_event, run, TreesAgree}
+use Rattle.qs_objects.specs.audit.Journals.{answer}
+use Rattle.qs_program.specs.audit.Statements.{Statements, end, command, query, assign, choose, again, leave}
+use Rattle.qs_program.specs.audit.Values.{Locals, test_value, request_of}
+use Rattle.qs_meaning.specs.audit.Solo.{States, BlockResult, Ending, Runs, states_after, event, with_trace, then_run, left_none, turns_run, exec}
+use Rattle.qs_meaning.specs.audit.Interaction.{Next, Done, meaning}
+use Rattle.qs_meaning.specs.Interaction.{turns, after_event, run, TreesAgree}
 
 noted_all : List Event → BlockResult → BlockResult
 noted_all es o = record { trace = es ++ o.trace; locals = o.locals; states = o.states }

@@ -4,16 +4,17 @@
 use Rattle.std.proofs.Common.{◌≡◌, ◌<◌, ℕ, zero, suc, Bool, true, false, if◌then◌else◌, ◌==◌, List, [], ◌∷◌, ◌++◌, length, take, drop, refl, sym, ap, ◌∙◌, arith, slice_set, ⊎_elim, ℤ}
 use Rattle.std.proofs.lemmas.List.{length-set, length-replicate}
 use Rattle.std.proofs.Common.{pos}
-use Rattle.qs_program.specs.Limits.{most_variables}
-use Rattle.qs_objects.specs.Journals.{answer}
+use Rattle.qs_program.specs.audit.Limits.{most_variables}
+use Rattle.qs_objects.specs.audit.Journals.{answer}
 use Rattle.qs_objects.specs.declared.held.Ticket.{Ticket}
 use Rattle.qs_objects.proofs.Choices.{num_cases}
-use Rattle.qs_program.specs.Program.{ProgramShape, block_at, client_at}
+use Rattle.qs_program.specs.audit.Program.{ProgramShape, block_at, client_at}
 use Rattle.qs_program.specs.Sound.{AreVariablesBelow, IsSound}
-use Rattle.qs_program.specs.Statements.{Statements, end, command, query, assign, choose, again, leave}
-use Rattle.qs_program.specs.Values.{Locals, expr_value, request_of, test_value}
-use Rattle.qs_meaning.specs.Configurations.{Configuration, UnnamedStayZero, configuration_from, first_configuration, one_block_on}
-use Rattle.qs_meaning.specs.Solo.{Ending, Runs, States, exec, solo, states_after, then_run, turns_run, value_of}
+use Rattle.qs_program.specs.audit.Statements.{Statements, end, command, query, assign, choose, again, leave}
+use Rattle.qs_program.specs.audit.Values.{Locals, expr_value, request_of, test_value}
+use Rattle.qs_meaning.specs.audit.Configurations.{Configuration, configuration_from, first_configuration, one_block_on}
+use Rattle.qs_meaning.specs.Configurations.{UnnamedStayZero}
+use Rattle.qs_meaning.specs.audit.Solo.{Ending, Runs, States, exec, solo, states_after, then_run, turns_run, value_of}
 use Rattle.qs_meaning.proofs.AlikeTraces.{variables_below}
 use Rattle.qs_meaning.proofs.TreeWalks.{put_here, put_there}
 

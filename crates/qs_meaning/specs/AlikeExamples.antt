@@ -2,19 +2,20 @@
 -- and bob's blocks find the objects in the same states, and their traces are equal; carol's finds the account in
 -- another state, and its trace is equal to ann's before the query alone.
 use Rattle.std.specs.Prelude.{◌≡◌, ℕ, pos, List, [], ◌∷◌, codes, None, slice_index_or}
-use Rattle.qs_objects.specs.Act.{account}
+use Rattle.qs_objects.specs.audit.Act.{account}
 use Rattle.qs_objects.specs.declared.Op.TheVariants.{Deposit}
 use Rattle.qs_objects.specs.declared.held.Event.{Event}
 use Rattle.qs_objects.specs.declared.object.Kind.TheVariants as kinds
 use Rattle.qs_program.specs.declared.code.Atom.TheVariants.{Variable}
 use Rattle.qs_program.specs.declared.program.Declared.{Declared}
-use Rattle.qs_program.specs.Numbering.{Name}
-use Rattle.qs_program.specs.Program.{ClientShape, ProgramShape}
+use Rattle.qs_program.specs.audit.Numbering.{Name}
+use Rattle.qs_program.specs.audit.Program.{ClientShape, ProgramShape}
 use Rattle.qs_program.specs.Sound.{IsSound}
-use Rattle.qs_program.specs.Statements.{end, command, query}
+use Rattle.qs_program.specs.audit.Statements.{end, command, query}
 use Rattle.qs_meaning.specs.Alike.{SameText, SameValues, SameTrace, StartAlike, AskAlike}
 use Rattle.qs_meaning.specs.MeaningExamples.{n, call, balance, block, left_with, replies, some, ticket}
-use Rattle.qs_meaning.specs.Serial.{SerialBlock, serial, no_state, zeros}
+use Rattle.qs_meaning.specs.audit.Serial.{no_state, zeros}
+use Rattle.qs_meaning.specs.Serial.{SerialBlock, serial}
 
 abbrev pub account_of : Name → ℕ → Declared
 account_of name b = record { name = name; kind = kinds.Account (pos b) }

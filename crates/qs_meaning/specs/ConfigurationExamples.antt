@@ -1,11 +1,11 @@
 -- The two complete orders of two clients that withdraw from one account, and what they come to, computed by the
 -- definitions.
 use Rattle.std.specs.Prelude.{◌≡◌, ℕ, List, [], ◌∷◌, ℤ, pos, slice_index_or}
-use Rattle.qs_objects.specs.Act.{account}
+use Rattle.qs_objects.specs.audit.Act.{account}
 use Rattle.qs_objects.specs.declared.held.Ticket.{Ticket}
-use Rattle.qs_meaning.specs.Configurations.{Configuration, configuration_after, first_configuration}
+use Rattle.qs_meaning.specs.audit.Configurations.{Configuration, configuration_after, first_configuration}
 use Rattle.qs_meaning.specs.MeaningExamples.{left_with, only, ticket, withdrawals}
-use Rattle.qs_meaning.specs.Serial.{IsLegal}
+use Rattle.qs_meaning.specs.audit.Serial.{IsLegal}
 
 -- the first variable of a client
 abbrev pub answer_of : Configuration → ℕ → ℤ

@@ -1,15 +1,17 @@
--- Traces along interaction trees.
+-- Beside what the headline reaches (`audit/Following.antt`): what else contracts and proofs use.
 use Rattle.std.specs.Prelude.{◌≡◌, ℕ, ℤ, Bool, true, false, List, [], ◌∷◌, ◌++◌}
-use Rattle.qs_objects.specs.Journals.{IsHonest}
-use Rattle.qs_objects.specs.Operations.{is_query}
-use Rattle.qs_objects.specs.Parts.{command_event, part}
+use Rattle.qs_objects.specs.audit.Journals.{IsHonest}
+use Rattle.qs_objects.specs.audit.Operations.{is_query}
+use Rattle.qs_objects.specs.audit.Parts.{command_event, part}
 use Rattle.qs_objects.specs.declared.held.Event.{Event}
 use Rattle.qs_objects.specs.declared.held.Ticket.{Ticket}
-use Rattle.qs_meaning.specs.Interaction.{Interaction, Done, Call, Query, tree_of, run}
-use Rattle.qs_program.specs.Program.{ProgramShape, text_of}
-use Rattle.qs_meaning.specs.Solo.{States, BlockResult, states_after, value_of}
-use Rattle.qs_program.specs.Sound.{IsSound, is_in}
-use Rattle.qs_program.specs.Values.{Locals}
+use Rattle.qs_meaning.specs.audit.Interaction.{Interaction, Done, Call, Query, tree_of}
+use Rattle.qs_meaning.specs.Interaction.{run}
+use Rattle.qs_program.specs.audit.Program.{ProgramShape, text_of}
+use Rattle.qs_meaning.specs.audit.Solo.{States, BlockResult, states_after, value_of}
+use Rattle.qs_program.specs.Sound.{IsSound}
+use Rattle.qs_program.specs.audit.Values.{Locals}
+use Rattle.qs_meaning.specs.audit.Following.{reserves}
 
 -- these requests with their replies lead from a tree to the rest of it
 abbrev pub Leads : Interaction → List Event → Interaction → Type 0
@@ -40,10 +42,6 @@ abbrev pub AsksOnly : (ℕ → Bool) → Interaction → Type 0
 AsksOnly may (Done l) = Unit {0}
 AsksOnly may (Call r next) = (is_query r.op ≡ false) × (may r.object ≡ true) × AsksOnly may next
 AsksOnly may (Query r next) = (is_query r.op ≡ true) × (may r.object ≡ true) × ((v : ℤ) → AsksOnly may (next v))
-
--- whether a ticket's block reserves an object
-abbrev pub reserves : ProgramShape → Ticket → ℕ → Bool
-reserves p t h = is_in (text_of p t).reserved h
 
 -- a ticket's block as an interaction tree
 abbrev pub block_tree : ProgramShape → Ticket → Locals → Interaction

@@ -1,6 +1,6 @@
 -- Programs with the replies and the states of their serial runs, computed by the definitions.
 use Rattle.std.specs.Prelude.{◌≡◌, ℕ, List, [], ◌∷◌, map, true, Option, Some, None, ℤ, pos, negsuc}
-use Rattle.qs_objects.specs.Act.{State, Content, account, buffer, grid}
+use Rattle.qs_objects.specs.audit.Act.{State, Content, account, buffer, grid}
 use Rattle.qs_objects.specs.declared.Op.{Op}
 use Rattle.qs_objects.specs.declared.Op.TheVariants.{Deposit, Withdraw, Balance, Refused, Put, DropFirst, TakeFirst, First, SetCell, GetCell, RowSum}
 use Rattle.qs_objects.specs.declared.object.Kind.{Kind}
@@ -13,8 +13,8 @@ use Rattle.qs_program.specs.declared.code.Atom.TheVariants.{Variable, Number}
 use Rattle.qs_program.specs.declared.code.Expr.TheVariants.{Binary}
 use Rattle.qs_program.specs.declared.code.Call.{Call}
 use Rattle.qs_program.specs.declared.program.Declared.{Declared}
-use Rattle.qs_program.specs.Statements.{Statements, end, command, query, assign, choose, again, leave}
-use Rattle.qs_program.specs.Program.{BlockShape, ClientShape, ProgramShape}
+use Rattle.qs_program.specs.audit.Statements.{Statements, end, command, query, assign, choose, again, leave}
+use Rattle.qs_program.specs.audit.Program.{BlockShape, ClientShape, ProgramShape}
 use Rattle.qs_meaning.specs.Serial.{Serial, serial}
 
 abbrev pub n : ℕ → Atom

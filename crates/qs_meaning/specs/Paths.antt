@@ -1,10 +1,10 @@
 -- How many requests the paths of an interaction tree make.
 use Rattle.std.specs.Prelude.{ℕ, ◌≤◌, ◌-◌, ◌==◌, ℤ, if◌then◌else◌}
 use Rattle.qs_objects.specs.declared.Request.{Request}
-use Rattle.qs_program.specs.Statements.{Statements}
-use Rattle.qs_program.specs.Values.{Locals}
-use Rattle.qs_meaning.specs.Interaction.{Interaction, Done, Call, Query, tree_of}
-use Rattle.qs_program.specs.Loads.{load_of}
+use Rattle.qs_program.specs.audit.Statements.{Statements}
+use Rattle.qs_program.specs.audit.Values.{Locals}
+use Rattle.qs_meaning.specs.audit.Interaction.{Interaction, Done, Call, Query, tree_of}
+use Rattle.qs_program.specs.audit.Loads.{load_of}
 
 -- 1 for a request on the object, 0 for another
 abbrev pub counts : ℕ → Request → ℕ

@@ -1,16 +1,13 @@
--- Reduced orders: at each configuration only some clients go on, those for whom it can matter who comes first, and yet
--- every outcome is reached. They are a smallest set of clients of which nobody else comes in the way: nobody else has a
--- block left that shares an object with the next block of one of them.
+-- Beside what the headline reaches (`audit/Reduced.antt`): what else contracts and proofs use.
 use Rattle.std.specs.Prelude.{◌≡◌, ◌<◌, ◌↔◌, ◌++◌, ℕ, zero, suc, Bool, true, false, ◌==◌, ◌&&◌, ◌||◌, if◌then◌else◌, List, [], ◌∷◌, length, drop, nat_lt}
 use Rattle.std.specs.List.{list_any}
 use Rattle.qs_objects.specs.declared.held.Ticket.{Ticket}
-use Rattle.qs_program.specs.Program.{BlockShape, ProgramShape, block_at, blocks_of, client_at}
-use Rattle.qs_program.specs.Sound.{IsSound, is_in}
-use Rattle.qs_meaning.specs.Configurations.{Configuration, IsComplete, OrderOutcome, configuration_after, first_configuration, one_block_on, outcome_of}
-
--- how many blocks each client has begun
-abbrev pub Counts : Type 0
-Counts = ℕ → ℕ
+use Rattle.qs_program.specs.audit.Program.{BlockShape, ProgramShape, block_at, blocks_of, client_at}
+use Rattle.qs_program.specs.audit.Sound.{is_in}
+use Rattle.qs_program.specs.Sound.{IsSound}
+use Rattle.qs_meaning.specs.audit.Configurations.{Configuration, IsComplete, configuration_after, first_configuration, one_block_on}
+use Rattle.qs_meaning.specs.Configurations.{OrderOutcome, outcome_of}
+use Rattle.qs_meaning.specs.audit.Reduced.{Counts}
 
 -- a set of clients
 abbrev pub Clients : Type 0

@@ -1,13 +1,13 @@
 -- Who goes on in a program of two accounts, and one of its reduced orders, computed by the definitions. Client 0 has a
 -- block on account 0; client 1 has a block on account 1, and then one on account 0.
 use Rattle.std.specs.Prelude.{◌≡◌, Bool, true, false, List, [], ◌∷◌}
-use Rattle.qs_objects.specs.Act.{account}
+use Rattle.qs_objects.specs.audit.Act.{account}
 use Rattle.qs_objects.specs.declared.Op.TheVariants.{Deposit, Withdraw}
 use Rattle.qs_objects.specs.declared.held.Ticket.{Ticket}
-use Rattle.qs_program.specs.Program.{ProgramShape}
-use Rattle.qs_program.specs.Statements.{end, command, query}
+use Rattle.qs_program.specs.audit.Program.{ProgramShape}
+use Rattle.qs_program.specs.audit.Statements.{end, command, query}
 use Rattle.std.specs.Prelude.{pos}
-use Rattle.qs_meaning.specs.Configurations.{Configuration, configuration_after, first_configuration}
+use Rattle.qs_meaning.specs.audit.Configurations.{Configuration, configuration_after, first_configuration}
 use Rattle.qs_meaning.specs.MeaningExamples.{balance, block, call, client, hundred, left_with, n, program, ticket}
 use Rattle.qs_meaning.specs.Reduced.{IsReduced, goes_on, group_of}
 

@@ -1,16 +1,16 @@
 -- States of the declared kinds: they have the operations of their object's kind, and a serial run keeps them so.
 use Rattle.std.specs.Prelude.{◌≡◌, ℕ, List}
 use Rattle.std.specs.List.{AllByRecursion}
-use Rattle.qs_objects.specs.Act.{State}
-use Rattle.qs_objects.specs.Objects.{kind_of}
+use Rattle.qs_objects.specs.audit.Act.{State}
+use Rattle.qs_objects.specs.audit.Objects.{kind_of}
 use Rattle.qs_objects.specs.Operations.{fits}
 use Rattle.qs_objects.specs.declared.Op.{Op}
 use Rattle.qs_objects.specs.declared.held.Ticket.{Ticket}
 use Rattle.qs_objects.specs.declared.object.Kind.{Kind}
-use Rattle.qs_program.specs.Program.{ProgramShape, object_at}
+use Rattle.qs_program.specs.audit.Program.{ProgramShape, object_at}
 use Rattle.qs_program.specs.Sound.{IsSound}
 use Rattle.qs_meaning.specs.Serial.{SerialBlock, serial}
-use Rattle.qs_meaning.specs.Solo.{States}
+use Rattle.qs_meaning.specs.audit.Solo.{States}
 
 -- a state that has the operations of this kind, and no others
 abbrev pub IsOfKind : Kind → State → Type 0

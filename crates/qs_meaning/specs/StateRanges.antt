@@ -2,10 +2,10 @@
 use Rattle.std.specs.Prelude.{ℕ, List}
 use Rattle.qs_objects.specs.Objects.{IsInRange}
 use Rattle.qs_objects.specs.declared.held.Ticket.{Ticket}
-use Rattle.qs_program.specs.Program.{ProgramShape}
+use Rattle.qs_program.specs.audit.Program.{ProgramShape}
 use Rattle.qs_program.specs.Sound.{IsSound}
-use Rattle.qs_meaning.specs.Configurations.{configuration_after}
-use Rattle.qs_meaning.specs.Solo.{States}
+use Rattle.qs_meaning.specs.audit.Configurations.{configuration_after}
+use Rattle.qs_meaning.specs.audit.Solo.{States}
 
 abbrev pub AreInRange : States → Type 0
 AreInRange st = (h : ℕ) → IsInRange (st h).content

@@ -6,7 +6,7 @@ use Rattle.qs_script.specs.declared.tokens.token.Token.{Token}
 use Rattle.qs_script.specs.declared.tokens.token.Token.TheVariants.{Semicolon}
 use Rattle.qs_script.specs.declared.tokens.lex.TokenFault.{TokenFault}
 use Rattle.qs_script.specs.declared.tree.tree.Item.{Item}
-use Rattle.qs_script.specs.Reads.{IsScriptText}
+use Rattle.qs_script.specs.audit.Reads.{IsScriptText}
 use Rattle.qs_check.specs.declared.anchors.finding.Anchored.{Anchored}
 use Rattle.qs_check.specs.anchors.Anchors.{IsAnchorAt, anchor_token, anchors_in, is_anchor, script_anchors}
 use Rattle.qs_check.specs.anchors.Anchored.{first_anchored}

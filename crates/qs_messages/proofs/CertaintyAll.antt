@@ -5,14 +5,15 @@ use Rattle.std.proofs.Common.{◌≡◌, List, [], ◌∷◌, ℕ, zero, suc, po
 use Rattle.std.proofs.lemmas.Grind.{common_steps}
 use Rattle.std.proofs.lemmas.List.{length-replicate, get_or-replicate}
 use Rattle.qs_objects.proofs.GridRows.{even_filled}
-use Rattle.qs_objects.specs.Act.{State, account, act, buffer, exact_sum, greatest_balance, grid, refusing, replying, size_of}
-use Rattle.qs_objects.specs.Objects.{starts}
-use Rattle.qs_objects.specs.Operations.{arity, fits}
+use Rattle.qs_objects.specs.audit.Act.{State, account, act, buffer, exact_sum, greatest_balance, grid, refusing, replying, size_of}
+use Rattle.qs_objects.specs.audit.Objects.{starts}
+use Rattle.qs_objects.specs.audit.Operations.{arity}
+use Rattle.qs_objects.specs.Operations.{fits}
 use Rattle.qs_objects.specs.declared.Op.{Op}
 use Rattle.qs_objects.specs.declared.Op.TheVariants.{Withdraw, DropFirst}
 use Rattle.qs_objects.specs.declared.object.Kind.{Kind}
 use Rattle.qs_objects.specs.declared.object.Kind.TheVariants.{Account, Buffer, Grid}
-use Rattle.qs_program.specs.Values.{atom_value}
+use Rattle.qs_program.specs.audit.Values.{atom_value}
 use Rattle.qs_program.specs.declared.code.Atom.{Atom}
 use Rattle.qs_messages.proofs.CertaintyLaws.{refused as refused_is, zero as zero_is}
 use Rattle.qs_messages.specs.declared.warned.certainties.Certainty.{Certainty}

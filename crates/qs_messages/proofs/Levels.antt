@@ -4,10 +4,10 @@
 use Rattle.std.proofs.Common.{◌≡◌, ℕ, zero, suc, ◌+◌, ◌<◌, ◌≤◌, max, List, [], ◌∷◌, length, get_or, drop, arith, add-one}
 use Rattle.std.specs.List.{AllByRecursion}
 use Rattle.std.proofs.Math.Seq.{drop-cons}
-use Rattle.qs_script.specs.tree.Limits.{most_levels}
+use Rattle.qs_script.specs.audit.tree.Limits.{most_levels}
 use Rattle.qs_program.specs.declared.code.Stmt.{Stmt}
 use Rattle.qs_program.specs.declared.code.Stmt.TheVariants.{Command, Query, Assign, If, Repeat, Leave}
-use Rattle.qs_program.specs.Program.{BlockShape, ClientShape, ProgramShape, block_at, no_block, no_client}
+use Rattle.qs_program.specs.audit.Program.{BlockShape, ClientShape, ProgramShape, block_at, no_block, no_client}
 use Rattle.qs_program.specs.Sound.{IsFormedBlock, IsFormedClient, IsFormedProgram, IsSound, levels_of}
 use Rattle.qs_program.specs.Views.{single, statements_of}
 use Rattle.qs_messages.specs.Extents.{turns_of}

@@ -6,7 +6,7 @@ use Rattle.qs_script.specs.declared.tokens.token.Token.{Token}
 use Rattle.qs_script.specs.declared.tokens.lex.TokenFault.{TokenFault}
 use Rattle.qs_script.specs.declared.tokens.lex.Piece.{Piece}
 use Rattle.qs_script.specs.declared.tokens.lex.Piece.TheVariants as piece
-use Rattle.qs_script.specs.tokens.Tokens.{after, tokens_of}
+use Rattle.qs_script.specs.audit.tokens.Tokens.{after, tokens_of}
 use Rattle.qs_script.specs.tokens.Cutting as cutting
 use Rattle.qs_script.proofs.tokens.Lexemes.{after-after, after-nil}
 use Rattle.qs_messages.specs.declared.causes.spans.PlacedToken.{PlacedToken}

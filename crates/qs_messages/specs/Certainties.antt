@@ -1,16 +1,18 @@
 -- Requests of which it is known what becomes of them, whatever their object holds and whatever the variables are.
 use Rattle.std.specs.Prelude.{◌≡◌, Bool, true, false, not, ◌||◌, if◌then◌else◌, List, [], ◌∷◌, ◌++◌, length, map, Option, Some, None, IsSome}
 use Rattle.std.specs.Prelude.{ℤ, pos, int_lt}
-use Rattle.qs_objects.specs.Act.{State, act, below, greatest_balance, refusing, replying, size_of}
-use Rattle.qs_objects.specs.Objects.{IsInRange, kind_of, starts}
-use Rattle.qs_objects.specs.Operations.{arity, fits}
+use Rattle.qs_objects.specs.audit.Act.{State, act, below, greatest_balance, refusing, replying, size_of}
+use Rattle.qs_objects.specs.audit.Objects.{kind_of, starts}
+use Rattle.qs_objects.specs.Objects.{IsInRange}
+use Rattle.qs_objects.specs.audit.Operations.{arity}
+use Rattle.qs_objects.specs.Operations.{fits}
 use Rattle.qs_objects.specs.declared.Op.{Op}
 use Rattle.qs_objects.specs.declared.Op.TheVariants.{Deposit, Withdraw, SetCell, AddCell, GetCell, RowSum}
 use Rattle.qs_objects.specs.declared.object.Kind.{Kind}
 use Rattle.qs_objects.specs.declared.object.Kind.TheVariants.{Account, Buffer, Grid}
-use Rattle.qs_program.specs.Program.{ProgramShape, object_at}
-use Rattle.qs_program.specs.Statements.{Statements, end, command, query, assign, choose, again, leave}
-use Rattle.qs_program.specs.Values.{Locals, atom_value}
+use Rattle.qs_program.specs.audit.Program.{ProgramShape, object_at}
+use Rattle.qs_program.specs.audit.Statements.{Statements, end, command, query, assign, choose, again, leave}
+use Rattle.qs_program.specs.audit.Values.{Locals, atom_value}
 use Rattle.qs_program.specs.declared.code.Atom.{Atom}
 use Rattle.qs_program.specs.declared.code.Atom.TheVariants.{Variable, Number}
 use Rattle.qs_program.specs.declared.code.Call.{Call}

@@ -3,7 +3,7 @@
 use Rattle.std.specs.Prelude.{◌≡◌, ℕ, ◌-◌, List, get_or, Option, Some, None, option_map}
 use Rattle.qs_script.specs.declared.tokens.token.Token.TheVariants as t
 use Rattle.qs_script.specs.declared.tree.tree.Item.{Item}
-use Rattle.qs_script.specs.Reads.{IsScriptText}
+use Rattle.qs_script.specs.audit.Reads.{IsScriptText}
 use Rattle.qs_diagnosis.specs.declared.told.Span.{Span}
 use Rattle.qs_diagnosis.specs.declared.told.Diagnosis.{Diagnosis}
 use Rattle.qs_diagnosis.specs.Diagnoses.{IsTold}

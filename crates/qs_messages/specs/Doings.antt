@@ -7,7 +7,7 @@ use Rattle.qs_program.specs.declared.code.Call.{Call}
 use Rattle.qs_program.specs.declared.code.Expr.{Expr}
 use Rattle.qs_program.specs.declared.code.Expr.TheVariants.{Plain, Binary}
 use Rattle.qs_program.specs.declared.code.Test.{Test}
-use Rattle.qs_program.specs.Statements.{Statements, end, command, query, assign, choose, again, leave}
+use Rattle.qs_program.specs.audit.Statements.{Statements, end, command, query, assign, choose, again, leave}
 use Rattle.qs_messages.specs.declared.warned.doings.Doing.{Doing}
 use Rattle.qs_messages.specs.declared.warned.doings.Doing.TheVariants.{Assigns, Asks, Reads, Calls}
 

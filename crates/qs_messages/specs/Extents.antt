@@ -1,7 +1,7 @@
 -- How far statements go: how deep they are nested, and how often a repeat turns.
 use Rattle.std.specs.Prelude.{ℕ, ◌-◌, max}
 use Rattle.qs_program.specs.Sound.{levels_of}
-use Rattle.qs_program.specs.Statements.{Statements, end, command, query, assign, choose, again, leave}
+use Rattle.qs_program.specs.audit.Statements.{Statements, end, command, query, assign, choose, again, leave}
 
 -- how many `if`s and `repeat`s the innermost statement stands in
 abbrev pub nesting_of : Statements → ℕ

@@ -1,6 +1,6 @@
 -- Which client, or which block, uses the most of a limit.
 use Rattle.std.specs.Prelude.{ℕ, zero, suc, nat_lt, if◌then◌else◌, length}
-use Rattle.qs_program.specs.Program.{BlockShape, ClientShape, ProgramShape, block_at, blocks_of, client_at}
+use Rattle.qs_program.specs.audit.Program.{BlockShape, ClientShape, ProgramShape, block_at, blocks_of, client_at}
 use Rattle.qs_messages.specs.declared.limit_use.greatest.OfBlock.{OfBlock}
 use Rattle.qs_messages.specs.declared.limit_use.greatest.OfBlock.TheVariants.{Nesting, Turns}
 use Rattle.qs_messages.specs.declared.limit_use.greatest.OfClient.{OfClient}

@@ -3,7 +3,7 @@ use Rattle.std.specs.Prelude.{ℕ, ◌+◌, ◌-◌, ◌^◌, min, Bool, ◌&&�
 use Rattle.std.specs.List.{filter, find, position}
 use Rattle.qs_script.specs.declared.tokens.token.Token.{Token}
 use Rattle.qs_script.specs.declared.tokens.token.Token.TheVariants as t
-use Rattle.qs_script.specs.tokens.Tokens.{same}
+use Rattle.qs_script.specs.audit.tokens.Tokens.{same}
 use Rattle.qs_messages.specs.declared.causes.known.Declared.{Declared}
 use Rattle.qs_messages.specs.declared.causes.known.Known.{Known}
 use Rattle.qs_messages.specs.declared.causes.operations.Kind.{Kind}

@@ -6,9 +6,10 @@ use Rattle.qs_script.specs.declared.tree.tree.Relation.TheVariants.{Less}
 use Rattle.qs_program.specs.declared.code.Atom.TheVariants.{Variable, Number}
 use Rattle.qs_program.specs.declared.code.Test.{Test}
 use Rattle.qs_program.specs.declared.program.Declared.{Declared}
-use Rattle.qs_program.specs.Numbering.{Name}
-use Rattle.qs_program.specs.Program.{BlockShape, ClientShape, ProgramShape, program_of}
-use Rattle.qs_program.specs.Statements.{Statements, end, command, query, choose, again, leave}
+use Rattle.qs_program.specs.audit.Numbering.{Name}
+use Rattle.qs_program.specs.audit.Program.{BlockShape, ClientShape, ProgramShape}
+use Rattle.qs_program.specs.Program.{program_of}
+use Rattle.qs_program.specs.audit.Statements.{Statements, end, command, query, choose, again, leave}
 use Rattle.qs_messages.specs.declared.limit_use.greatest.OfBlock.TheVariants.{Nesting, Turns}
 use Rattle.qs_messages.specs.declared.limit_use.greatest.OfClient.TheVariants.{Blocks, Variables}
 use Rattle.qs_messages.specs.declared.limit_use.greatest.Use.{Use}

@@ -1,9 +1,10 @@
 -- What a script uses of each limit of the language, and how much is left, as lines of text.
 use Rattle.std.specs.Prelude.{ℕ, ◌-◌, List, ◌++◌, codes, decimal, length, nat_eq, if◌then◌else◌}
-use Rattle.qs_script.specs.tree.Limits.{longest_text, most_levels}
-use Rattle.qs_program.specs.Limits.{most_blocks, most_clients, most_formals, most_objects, most_requests, most_steps, most_turns, most_variables}
-use Rattle.qs_program.specs.Program.{ProgramShape, client_at, whole_load, whole_weight}
-use Rattle.qs_check.specs.fault_places.Places.{most_templates}
+use Rattle.qs_script.specs.audit.tree.Limits.{longest_text, most_levels}
+use Rattle.qs_program.specs.audit.Limits.{most_blocks, most_clients, most_objects, most_requests, most_steps, most_turns, most_variables}
+use Rattle.qs_program.specs.Limits.{most_formals}
+use Rattle.qs_program.specs.audit.Program.{ProgramShape, client_at, whole_load, whole_weight}
+use Rattle.qs_check.specs.audit.fault_places.Places.{most_templates}
 use Rattle.qs_messages.specs.declared.limit_use.greatest.OfBlock.TheVariants.{Nesting, Turns}
 use Rattle.qs_messages.specs.declared.limit_use.greatest.OfClient.TheVariants.{Blocks, Variables}
 use Rattle.qs_messages.specs.declared.limit_use.greatest.Use.{Use}

@@ -6,14 +6,14 @@ use Rattle.qs_script.specs.declared.tokens.token.Token.{Token}
 use Rattle.qs_script.specs.declared.tokens.token.Token.TheVariants as t
 use Rattle.qs_script.specs.declared.tokens.lex.TokenFault.{TokenFault}
 use Rattle.qs_script.specs.declared.tree.tree.Item.{Item}
-use Rattle.qs_script.specs.grammar.Grammar.{IsScript}
+use Rattle.qs_script.specs.audit.grammar.Grammar.{IsScript}
 use Rattle.qs_script.specs.grammar.FormPlaces.{BeginsScript, IsFormPlace}
 use Rattle.qs_diagnosis.specs.declared.told.Span.{Span}
 use Rattle.qs_messages.specs.declared.causes.finding.FormFault.{FormFault}
 use Rattle.qs_messages.specs.declared.causes.spans.PlacedToken.{PlacedToken}
 use Rattle.qs_messages.specs.declared.causes.spans.SpanFault.TheVariants as f
 use Rattle.qs_messages.specs.CheckTold.{IsSaidAt}
-use Rattle.qs_messages.specs.Sources.{end_in, span_in}
+use Rattle.qs_messages.specs.Sources.{end_in, span_in, token_in}
 use Rattle.qs_messages.specs.Spans.{ArePlaced, IsFaultAt, tokens_in}
 
 -- a `;` may stand at a place
@@ -28,11 +28,24 @@ IsFormFaultOf ts (Some found) =
     ((script : List Item) → IsScript script ts → ⊥) × IsFormPlace ts found.place
     × (IsTrue found.ends ↔ MayEnd ts found.place)
 
--- what is told of the token at a place, or of the text's end; or, where that may be, of the place right after the token
--- before
+-- a name, a number or a kind of object
+abbrev pub is_word : Option Token → Bool
+is_word (Some (t.Name name)) = true
+is_word (Some (t.Number number)) = true
+is_word (Some t.Account) = true
+is_word (Some t.Buffer) = true
+is_word (Some t.Grid) = true
+is_word token = false
+
+-- the bytes of the token at a place, or the text's end; or those of the token before, where that is such a word
+abbrev pub IsAt : List ℕ → List PlacedToken → ℕ → Span → Type 0
+IsAt text tokens place span =
+    (span ≡ span_in text tokens place)
+    ⊎ ((is_word (token_in tokens (place - 1)) ≡ true) × (span ≡ span_in text tokens (place - 1)))
+
+-- what is told of these; or, where that may be, of the place right after the token before
 abbrev pub IsSpot : List ℕ → List PlacedToken → ℕ → Type 0 → Span → Type 0
-IsSpot text tokens place after span =
-    (span ≡ span_in text tokens place) ⊎ (after × (span ≡ end_in text tokens (place - 1)))
+IsSpot text tokens place after span = IsAt text tokens place span ⊎ (after × (span ≡ end_in text tokens (place - 1)))
 
 -- a diagnosis of the text's fault of form was put at the end
 pub record IsFormTold (text : List ℕ) (old new : List ℕ) : Type 0 where

@@ -3,14 +3,14 @@ use Rattle.std.specs.Prelude.{◌≡◌, ◌⊎◌, ⊤, ℕ, List, [], ◌++◌
 use Rattle.std.specs.Io.KnownBytes.{Keeps}
 use Rattle.qs_script.specs.declared.tokens.token.Token.{Token}
 use Rattle.qs_script.specs.declared.tokens.lex.TokenFault.{TokenFault}
-use Rattle.qs_script.specs.tokens.Tokens.{tokens_of}
-use Rattle.qs_script.specs.grammar.Grammar.{IsScript}
-use Rattle.qs_script.specs.Reads.{IsScriptText}
+use Rattle.qs_script.specs.audit.tokens.Tokens.{tokens_of}
+use Rattle.qs_script.specs.audit.grammar.Grammar.{IsScript}
+use Rattle.qs_script.specs.audit.Reads.{IsScriptText}
 use Rattle.qs_script.specs.declared.fault.ReadFault.TheVariants as read
 use Rattle.qs_script.specs.declared.tree.tree.Item.{Item}
-use Rattle.qs_check.specs.Checked.{fault_of}
+use Rattle.qs_check.specs.audit.Checked.{fault_of}
 use Rattle.qs_check.specs.declared.fault_places.fault.CheckFault.TheVariants as check
-use Rattle.qs_check.specs.resolution.Resolve.{program_of_items}
+use Rattle.qs_check.specs.audit.resolution.Resolve.{program_of_items}
 use Rattle.qs_played.specs.declared.fault.PlayFault.TheVariants as play
 use Rattle.qs_played.specs.declared.fault.RunFault.TheVariants as run
 use Rattle.qs_serial.specs.declared.fault.OrderFault.TheVariants as order
@@ -40,6 +40,8 @@ plain_words (Outcomes outcomes.Memory) = Some (codes "error: memory ran out whil
 plain_words (Outcomes outcomes.Limit) =
     Some (codes "error: there are more configurations than the limit\n"
     ++ codes "  = help: `--limit N` sets another limit, up to 4294967295; without it, it is 1000000\n"
+    ++ codes "  = help: a drawing, by `--format dot`, has at most 200 configurations, whatever the limit is: draw what"
+    ++ codes " comes after some blocks, or a shorter script, or take another format\n"
     ++ codes "  = help: `--after LIST` looks only at what comes after some blocks, so that a search can be cut"
     ++ codes " into parts\n")
 plain_words fault = None

@@ -9,9 +9,10 @@ use Rattle.qs_program.specs.declared.code.Call.{Call}
 use Rattle.qs_program.specs.declared.code.Expr.TheVariants.{Plain}
 use Rattle.qs_program.specs.declared.code.Test.{Test}
 use Rattle.qs_program.specs.declared.program.Declared.{Declared}
-use Rattle.qs_program.specs.Numbering.{Name}
-use Rattle.qs_program.specs.Program.{BlockShape, ClientShape, ProgramShape, program_of}
-use Rattle.qs_program.specs.Statements.{Statements, end, command, query, assign, choose, again}
+use Rattle.qs_program.specs.audit.Numbering.{Name}
+use Rattle.qs_program.specs.audit.Program.{BlockShape, ClientShape, ProgramShape}
+use Rattle.qs_program.specs.Program.{program_of}
+use Rattle.qs_program.specs.audit.Statements.{Statements, end, command, query, assign, choose, again}
 use Rattle.qs_messages.specs.declared.warned.warning.Warning.TheVariants.{Empty, Unreserved, NeverSet, NeverRead, Unused, AlwaysRefused, AlwaysZero}
 use Rattle.qs_messages.specs.declared.warned.certainties.Certainty.TheVariants.{Refused, Zero}
 use Rattle.qs_messages.specs.Certainties.{certainty_of}

@@ -3,7 +3,7 @@ use Rattle.std.specs.Prelude.{ℕ, zero, suc, ◌+◌, ◌-◌, ◌^◌, min, Bo
 use Rattle.std.specs.List.{filter, find, range_with_len}
 use Rattle.qs_script.specs.declared.tokens.token.Token.{Token}
 use Rattle.qs_script.specs.declared.tokens.token.Token.TheVariants as t
-use Rattle.qs_script.specs.tokens.Tokens.{same}
+use Rattle.qs_script.specs.audit.tokens.Tokens.{same}
 use Rattle.qs_messages.specs.declared.causes.spans.PlacedToken.{PlacedToken}
 use Rattle.qs_messages.specs.Sources.{token_in, word_in}
 use Rattle.qs_messages.specs.declared.warned.places.TokenKind.{TokenKind}

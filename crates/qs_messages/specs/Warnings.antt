@@ -1,9 +1,9 @@
 -- What is warned of in a program.
 use Rattle.std.specs.Prelude.{ℕ, Bool, not, ◌==◌, ◌&&◌, ◌||◌, if◌then◌else◌, List, [], ◌∷◌, ◌++◌, length, flat_map, sum_by, Option, Some, None, slice_index_or}
 use Rattle.std.specs.List.{list_any, range_with_len}
-use Rattle.qs_program.specs.Program.{BlockShape, ClientShape, ProgramShape, block_at, blocks_of, client_at, own_block}
-use Rattle.qs_program.specs.Sound.{is_in}
-use Rattle.qs_program.specs.Statements.{Statements}
+use Rattle.qs_program.specs.audit.Program.{BlockShape, ClientShape, ProgramShape, block_at, blocks_of, client_at, own_block}
+use Rattle.qs_program.specs.audit.Sound.{is_in}
+use Rattle.qs_program.specs.audit.Statements.{Statements}
 use Rattle.qs_messages.specs.declared.warned.doings.Doing.{Doing}
 use Rattle.qs_messages.specs.declared.warned.doings.Doing.TheVariants.{Assigns, Asks, Reads, Calls}
 use Rattle.qs_messages.specs.declared.warned.certainties.Certainty.{Certainty}

@@ -17,7 +17,10 @@ mod telling;
 mod usual;
 mod words;
 
+pub(crate) use bytes::name_bytes;
+pub(crate) use said::{joined, part};
 pub use source::Source;
 pub use spans::{PlacedToken, SpanFault, placed_tokens};
 pub use telling::{actors, tell_check, tell_read};
+pub(crate) use usual::{Usual, mistake};
 pub use words::is_near;

@@ -46,7 +46,7 @@ fn plain_words(fault: &Fault) -> Option<&'static [u8]>
             b"error: memory ran out while outcomes were looked for\n",
         ),
         Fault::Outcomes(OutcomesFault::Limit) => Some(
-            b"error: there are more configurations than the limit\n  = help: `--limit N` sets another limit, up to 4294967295; without it, it is 1000000\n  = help: `--after LIST` looks only at what comes after some blocks, so that a search can be cut into parts\n",
+            b"error: there are more configurations than the limit\n  = help: `--limit N` sets another limit, up to 4294967295; without it, it is 1000000\n  = help: a drawing, by `--format dot`, has at most 200 configurations, whatever the limit is: draw what comes after some blocks, or a shorter script, or take another format\n  = help: `--after LIST` looks only at what comes after some blocks, so that a search can be cut into parts\n",
         ),
         _ => None,
     }

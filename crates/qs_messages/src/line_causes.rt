@@ -7,6 +7,7 @@ mod order;
 mod pick;
 mod program;
 mod refused;
+mod unknown;
 
 pub use order::{put_front, put_order};
 pub use pick::put_pick;

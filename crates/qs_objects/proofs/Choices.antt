@@ -4,7 +4,7 @@
 use Rattle.std.proofs.Common.{◌≡◌, ◌≢◌, ℕ, Bool, true, false, true≢false, ◌==◌, ◌&&◌, ◌⊎◌, inl, inr, ⊎_elim, refl, sym, ◌∙◌, subst, arith}
 use Rattle.std.proofs.lemmas.Bool.{cases_Bool}
 use Rattle.std.proofs.lemmas.Bool.Decides.{nat_tests}
-use Rattle.qs_objects.specs.Parts.{same}
+use Rattle.qs_objects.specs.audit.Parts.{same}
 use Rattle.qs_objects.specs.declared.held.Ticket.{Ticket}
 
 pub eqb_self : (n : ℕ) → (n == n) ≡ true

@@ -3,7 +3,8 @@
 use Rattle.std.proofs.Common.{◌≡◌, ◌<◌, ◌≤◌, ℕ, zero, suc, ◌+◌, ◌-◌, ◌==◌, false, List, [], ◌∷◌, ◌++◌, length, get_or, set, take, drop, replicate, refl, sym, ap, ◌∙◌, subst, ⊎_elim, arith, take-append-drop}
 use Rattle.std.proofs.lemmas.List.{take_all, take-append-le, drop-append-le, drop-drop, length-drop, length-set, length-take-le, length-append, get_or-set_same, get_or-set_other, take-set-le, drop-set-lt, drop-set-add}
 use Rattle.std.proofs.Math.Seq.{take-set-lt}
-use Rattle.qs_objects.specs.Rows.{AreStarts, FillList, IsLast, IsStart, rows_of_lengths, join_rows}
+use Rattle.qs_objects.specs.audit.Rows.{join_rows}
+use Rattle.qs_objects.specs.Rows.{IsLast, rows_of_lengths, AreStarts, FillList, IsStart}
 use Rattle.qs_objects.specs.Sums.{total}
 use Rattle.qs_objects.proofs.Choices.{apart_eqb, num_cases}
 

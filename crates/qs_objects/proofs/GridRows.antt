@@ -5,9 +5,10 @@ use Rattle.std.proofs.Common.{◌≡◌, ℕ, zero, suc, ◌+◌, ◌*◌, ◌-�
 use Rattle.std.proofs.lemmas.Bool.Decides.{nat_tests}
 use Rattle.std.proofs.lemmas.List.{take-replicate, drop-replicate, take-set-le, drop-set-lt, drop-set-add, length-drop, length-take-le, length-replicate, length-set, get_or-drop}
 use Rattle.std.proofs.Math.Seq.{take-set-lt}
-use Rattle.qs_objects.specs.Act.{Content, State, account, below, buffer, cell_at, clamp_to_word, grid, grid_act, outside, unless, row_at, size_of, with_cell}
-use Rattle.qs_objects.specs.Objects.{AreRowsOf, IsInRange, cut_rows, kind_of, place, values_of}
-use Rattle.qs_objects.specs.Rows.{join_rows}
+use Rattle.qs_objects.specs.audit.Act.{Content, State, account, below, buffer, cell_at, clamp_to_word, grid, grid_act, outside, unless, row_at, size_of, with_cell}
+use Rattle.qs_objects.specs.audit.Objects.{kind_of, values_of}
+use Rattle.qs_objects.specs.Objects.{AreRowsOf, IsInRange, cut_rows, place}
+use Rattle.qs_objects.specs.audit.Rows.{join_rows}
 use Rattle.qs_objects.specs.declared.Op.TheVariants.{AddCell}
 
 pub cut_length : (n k : ℕ) (cells : List ℤ) → length (cut_rows n k cells) ≡ n

@@ -5,9 +5,10 @@ use Rattle.std.proofs.Common.{◌≡◌, Bool, true, false, List, [], ℤ, pos, 
 use Rattle.std.proofs.lemmas.Grind.{common_steps}
 use Rattle.std.proofs.lemmas.List.{length-replicate, length-set}
 use Rattle.qs_objects.proofs.GridRows.{even_filled, even_with_cell}
-use Rattle.qs_objects.specs.Act.{State, account, buffer, grid}
-use Rattle.qs_objects.specs.Objects.{kind_of}
-use Rattle.qs_objects.specs.Operations.{is_query, arity, fits, is_of_account, is_of_buffer}
+use Rattle.qs_objects.specs.audit.Act.{State, account, buffer, grid}
+use Rattle.qs_objects.specs.audit.Objects.{kind_of}
+use Rattle.qs_objects.specs.audit.Operations.{is_query, arity, is_of_account, is_of_buffer}
+use Rattle.qs_objects.specs.Operations.{fits}
 use Rattle.qs_objects.specs.declared.Op.{Op}
 use Rattle.qs_objects.specs.Laws.{IsCommand, CommandsNeverAnswer, QueriesAnswer, MisfitsDoNothing, ShapesStay, RangesBegin, RangesStay}
 

@@ -3,8 +3,9 @@
 -- by it. It goes by induction on the first part.
 use Rattle.std.proofs.Common.{◌≡◌, Bool, Option, None, ℤ, if◌then◌else◌, true, false, List, [], ◌∷◌, ◌++◌, refl, sym, ap, ◌∙◌, subst}
 use Rattle.std.proofs.lemmas.List.{map-append}
-use Rattle.qs_objects.specs.Act.{State, act}
-use Rattle.qs_objects.specs.Journals.{HeldState, has_room, with_entry, after, answer, unstamp, without_tickets, replay, IsHonest, run_one, IsFaithful}
+use Rattle.qs_objects.specs.audit.Act.{State, act}
+use Rattle.qs_objects.specs.audit.Journals.{HeldState, has_room, with_entry, after, answer, unstamp, without_tickets, replay, IsHonest, run_one}
+use Rattle.qs_objects.specs.Journals.{IsFaithful}
 use Rattle.qs_objects.specs.declared.held.Entry.{Entry}
 use Rattle.qs_objects.specs.declared.held.Event.{Event}
 use Rattle.qs_objects.specs.declared.held.Ticket.{Ticket}

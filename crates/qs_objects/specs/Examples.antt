@@ -1,8 +1,8 @@
 -- What objects do in a few cases, worked out by hand.
 use Rattle.std.specs.Prelude.{◌≡◌, List, [], ◌∷◌, map, replicate, Option, Some, None, ℕ, ℤ, pos, negsuc}
-use Rattle.qs_objects.specs.Act.{State, Content, account, buffer, grid, act}
-use Rattle.qs_objects.specs.Objects.{starts, fresh}
-use Rattle.qs_objects.specs.Journals.{HeldState, run_one, replay, IsHonest}
+use Rattle.qs_objects.specs.audit.Act.{State, Content, account, buffer, grid, act}
+use Rattle.qs_objects.specs.audit.Objects.{starts, fresh}
+use Rattle.qs_objects.specs.audit.Journals.{HeldState, run_one, replay, IsHonest}
 use Rattle.qs_objects.specs.declared.Op.{Op}
 use Rattle.qs_objects.specs.declared.Op.TheVariants.{Deposit, Withdraw, Balance, Refused, Put, DropFirst, TakeFirst, First, Size, SetCell, AddCell, Fill, GetCell, RowSum}
 use Rattle.qs_objects.specs.declared.object.Kind.TheVariants as kinds

@@ -1,9 +1,12 @@
 -- What holds of every object, whatever it holds.
 use Rattle.std.specs.Prelude.{◌≡◌, ◌≢◌, ◌⊎◌, true, false, List, length, IsSome, Some, None, ℤ}
-use Rattle.qs_objects.specs.Act.{State, Content, account, buffer, grid, act, ignoring}
-use Rattle.qs_objects.specs.Objects.{kind_of, starts, IsInRange}
-use Rattle.qs_objects.specs.Operations.{is_query, arity, fits}
-use Rattle.qs_objects.specs.Journals.{HeldState, run_one, IsFaithful}
+use Rattle.qs_objects.specs.audit.Act.{State, Content, account, buffer, grid, act, ignoring}
+use Rattle.qs_objects.specs.audit.Objects.{kind_of, starts}
+use Rattle.qs_objects.specs.Objects.{IsInRange}
+use Rattle.qs_objects.specs.audit.Operations.{is_query, arity}
+use Rattle.qs_objects.specs.Operations.{fits}
+use Rattle.qs_objects.specs.audit.Journals.{HeldState, run_one}
+use Rattle.qs_objects.specs.Journals.{IsFaithful}
 use Rattle.qs_objects.specs.declared.Op.{Op}
 use Rattle.qs_objects.specs.declared.object.Kind.{Kind}
 use Rattle.qs_objects.specs.declared.held.Ticket.{Ticket}

@@ -1,6 +1,6 @@
+-- What has to be believed for the headline.
+pub mod audit
 -- What an auditor reads: the promises and the calls of the surface are said with these.
-pub mod Limits
-pub mod Act
 pub mod Objects
 pub mod Operations
 pub mod Journals

@@ -1,16 +1,15 @@
--- What an object of the code shows, and which objects there are at the start.
-use Rattle.std.specs.Prelude.{◌≡◌, ℕ, zero, suc, ◌+◌, ◌≤◌, ◌*◌, take, drop, ◌&&◌, [], ◌∷◌, replicate, nat_le, if◌then◌else◌, Bool, true, false, Option, Some, None, List, length, Vec, vec_len}
-use Rattle.std.specs.Prelude.{ℤ, pos, negsuc, ◌≤ℤ◌}
+-- Beside what the headline reaches (`audit/Objects.antt`): what else contracts and proofs use.
+use Rattle.std.specs.Prelude.{◌≡◌, ℕ, zero, suc, ◌+◌, ◌≤◌, ◌*◌, take, drop, [], ◌∷◌, Bool, true, false, List, length, Vec, vec_len}
+use Rattle.std.specs.Prelude.{ℤ, pos, ◌≤ℤ◌}
 use Rattle.std.specs.Global.{Global}
 use Rattle.std.specs.VecDeque.{deque_capacity}
 use Rattle.std.specs.declared.collections.VecDeque.{VecDeque}
-use Rattle.qs_objects.specs.Act.{State, Content, account, buffer, grid, greatest_balance, size_of}
+use Rattle.qs_objects.specs.audit.Act.{State, Content, account, buffer, grid, greatest_balance, size_of}
 use Rattle.qs_objects.specs.declared.object.Kind.{Kind}
 use Rattle.qs_objects.specs.declared.object.Kind.TheVariants as kinds
 use Rattle.qs_objects.specs.declared.object.Content as code
 use Rattle.qs_objects.specs.declared.object.Content.TheVariants.{Account, Buffer, Grid}
-use Rattle.qs_objects.specs.Limits.{most_lines, most_values}
-use Rattle.qs_objects.specs.Rows.{join_rows}
+use Rattle.qs_objects.specs.audit.Limits.{most_lines, most_values}
 
 -- The code keeps a grid's rows one after another in one list: so many rows of k cells each.
 abbrev pub cut_rows : ℕ → ℕ → List ℤ → List (List ℤ)
@@ -53,23 +52,6 @@ KeepsContent (Account b) = IsBalance b
 KeepsContent (Buffer v) = IsRoomy v
 KeepsContent (Grid r c v) = IsFull r c v
 
--- a number from low to high
-abbrev pub between : ℕ → ℤ → ℕ → Bool
-between low (pos n) high = nat_le low n && nat_le n high
-between low (negsuc n) high = false
-
-abbrev pub fresh : Content → State
-fresh c = record { content = c; refused = pos 0 }
-
--- a new object, where the numbers of its kind are in range
-abbrev pub starts : Kind → Option State
-starts (kinds.Account b) = if between 0 b 1000000000000000 then Some (fresh (account b)) else None
-starts (kinds.Buffer k) = if between 1 k most_values then Some (fresh (buffer (size_of k) [])) else None
-starts (kinds.Grid n k) =
-    if between 1 n most_lines && between 1 k most_lines
-    then Some (fresh (grid (size_of k) (replicate (size_of n) (replicate (size_of k) (pos 0)))))
-    else None
-
 -- an account needs no memory of its own
 abbrev pub needs_memory : Kind → Bool
 needs_memory (kinds.Account b) = false
@@ -80,18 +62,6 @@ abbrev pub has_memory : Content → Bool
 has_memory (account b) = false
 has_memory (buffer k xs) = true
 has_memory (grid k rows) = true
-
--- an account's kind has its balance now
-abbrev pub kind_of : Content → Kind
-kind_of (account b) = kinds.Account b
-kind_of (buffer k xs) = kinds.Buffer (pos k)
-kind_of (grid k rows) = kinds.Grid (pos (length rows)) (pos k)
-
--- an account's balance, a buffer's values from the front, or a grid's cells row by row
-abbrev pub values_of : Content → List ℤ
-values_of (account b) = b ∷ []
-values_of (buffer k xs) = xs
-values_of (grid k rows) = join_rows rows
 
 -- rows of so many cells each
 abbrev pub AreRowsOf : ℕ → List (List ℤ) → Type 0

@@ -2,7 +2,7 @@
 
 ghost use Rattle.std.specs.Prelude.{◌≡◌};
 ghost use Rattle.qs_objects.specs.Objects.{IsBalance, account_state};
-ghost use Rattle.qs_objects.specs.Act.{account_act};
+ghost use Rattle.qs_objects.specs.audit.Act.{account_act};
 
 use crate::Op;
 use crate::object::{GREATEST_BALANCE, count_refusal};

@@ -3,7 +3,7 @@
 ghost use Rattle.std.specs.Prelude.{◌≡◌};
 ghost use Rattle.std.specs.VecDeque.{deque_capacity};
 ghost use Rattle.qs_objects.specs.Objects.{IsRoomy, buffer_state};
-ghost use Rattle.qs_objects.specs.Act.{buffer_act};
+ghost use Rattle.qs_objects.specs.audit.Act.{buffer_act};
 
 use crate::Op;
 use crate::object::count_refusal;

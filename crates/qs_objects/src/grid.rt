@@ -2,8 +2,8 @@
 
 ghost use Rattle.std.specs.Prelude.{◌≡◌, ◌+◌, ◌*◌, ◌<◌, ◌≤◌, [], ◌∷◌, length, not, replicate, vec_len, IfSome, Some, None, if◌then◌else◌, pos, ◌+ℤ◌};
 ghost use Rattle.qs_objects.specs.Objects.{IsFull, cut_rows, grid_state, place as cell_place};
-ghost use Rattle.qs_objects.specs.Act.{grid_act, outside, below, cell_at, row_at, with_cell, exact_sum, clamp_to_word};
-ghost use Rattle.qs_objects.specs.Limits.{most_lines};
+ghost use Rattle.qs_objects.specs.audit.Act.{grid_act, outside, below, cell_at, row_at, with_cell, exact_sum, clamp_to_word};
+ghost use Rattle.qs_objects.specs.audit.Limits.{most_lines};
 
 use crate::Op;
 use crate::object::count_refusal;

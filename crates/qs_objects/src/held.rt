@@ -2,7 +2,7 @@
 
 ghost use Rattle.std.specs.Prelude.{◌≡◌, ◌<◌, ◌+◌, ◌⊎◌, [], length, IfOk, IsErr, IsTrue};
 ghost use Rattle.qs_objects.specs.Objects.{has_memory};
-ghost use Rattle.qs_objects.specs.Journals.{run_one, has_room as room_is_left};
+ghost use Rattle.qs_objects.specs.audit.Journals.{run_one, has_room as room_is_left};
 
 use crate::Request;
 use crate::memory::{Blank, touch};
@@ -165,7 +165,7 @@ impl Drop for Held {
 
 impl Model for Held {
     ghost use Rattle.std.specs.Prelude.{◌≤◌, vec_capacity};
-    ghost use Rattle.qs_objects.specs.Journals.{HeldState};
+    ghost use Rattle.qs_objects.specs.audit.Journals.{HeldState};
 
     ghost Value = { HeldState };
 

@@ -2,9 +2,10 @@
 
 ghost use Rattle.std.specs.Prelude.{◌≡◌, ◌↔◌, ◌≤◌, ◌+◌, ◌++◌, length, Some, None, IfOk, IsErr, IsErrOf, IsSome, IsTrue, slice_get, pos, ◌+ℤ◌, ℤ};
 ghost use Rattle.std.specs.VecDeque.{deque_capacity, deque_len};
-ghost use Rattle.qs_objects.specs.Objects.{IsInRange, KeepsContent, starts, has_memory, needs_memory, kind_of, state_of, values_of};
-ghost use Rattle.qs_objects.specs.Act.{act, clamp_to_word};
-ghost use Rattle.qs_objects.specs.Limits.{most_values};
+ghost use Rattle.qs_objects.specs.audit.Objects.{starts, kind_of, values_of};
+ghost use Rattle.qs_objects.specs.Objects.{IsInRange, KeepsContent, has_memory, needs_memory, state_of};
+ghost use Rattle.qs_objects.specs.audit.Act.{act, clamp_to_word};
+ghost use Rattle.qs_objects.specs.audit.Limits.{most_values};
 
 use crate::{Request, account, buffer, grid};
 use std::alloc::{AllocError, Global};
@@ -127,7 +128,7 @@ impl Drop for Object {
 }
 
 impl Model for Object {
-    ghost use Rattle.qs_objects.specs.Act.{State};
+    ghost use Rattle.qs_objects.specs.audit.Act.{State};
 
     ghost Value = { State };
 

@@ -1,7 +1,8 @@
 // The table of the operations.
 
 ghost use Rattle.std.specs.Prelude.{◌≡◌, ◌≤◌, ◌++◌, codes, length};
-ghost use Rattle.qs_objects.specs.Operations.{is_query as is_query_of, arity as arity_of, word as word_of, operations_of, parts};
+ghost use Rattle.qs_objects.specs.audit.Operations.{is_query as is_query_of, arity as arity_of, word as word_of, operations_of};
+ghost use Rattle.qs_objects.specs.Operations.{parts};
 
 use crate::{Kind, Op};
 

@@ -1,7 +1,8 @@
 //! Rows of values in one list.
 
 ghost use Rattle.std.specs.Prelude.{◌≡◌, ◌<◌, ◌≤◌, ◌+◌, ◌-◌, [], ◌∷◌, ◌++◌, IfOk, IsErr, drop, length, replicate, slice_index_or, slice_set, take};
-ghost use Rattle.qs_objects.specs.Rows.{IsLast, join_rows, rows_state};
+ghost use Rattle.qs_objects.specs.audit.Rows.{join_rows};
+ghost use Rattle.qs_objects.specs.Rows.{IsLast, rows_state};
 
 use crate::memory::{Blank, touch};
 use std::alloc::{AllocError, Global};
@@ -29,7 +30,7 @@ impl<T: Drop> Drop for Rows<T> {
 
 impl<T> Model for Rows<T> {
     ghost use Rattle.std.specs.Prelude.{length, vec_capacity};
-    ghost use Rattle.qs_objects.specs.Rows.{FillList, RowsState, room_left, rows_of_lengths, rows_code, rows_state};
+    ghost use Rattle.qs_objects.specs.Rows.{RowsState, room_left, rows_of_lengths, rows_code, rows_state, FillList};
 
     ghost Value = { RowsState T };
 

@@ -1,7 +1,7 @@
 //! The traces of a client's blocks.
 
 ghost use Rattle.std.specs.Prelude.{◌≡◌, ◌<◌, IfOk, IsErr, length, map};
-ghost use Rattle.qs_objects.specs.Rows.{join_rows};
+ghost use Rattle.qs_objects.specs.audit.Rows.{join_rows};
 ghost use Rattle.qs_objects.specs.Sums.{total};
 ghost use Rattle.qs_objects.specs.Traces.{AreEmptyAfter, empty_trace, events_of, noted_at, trace_at};
 

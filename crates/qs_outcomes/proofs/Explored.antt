@@ -5,10 +5,11 @@
 use Rattle.std.proofs.Common.{◌≡◌, ◌<◌, ◌≤◌, ℕ, suc, true, List, [], ◌∷◌, ◌++◌, length, get_or, refl, sym, ap, ◌∙◌, subst, arith, inl, inr, length-append}
 use Rattle.std.specs.List.{AllByRecursion}
 use Rattle.qs_objects.specs.declared.held.Ticket.{Ticket}
-use Rattle.qs_program.specs.Program.{ProgramShape, blocks_of}
+use Rattle.qs_program.specs.audit.Program.{ProgramShape, blocks_of}
 use Rattle.qs_program.specs.Sound.{IsSound}
-use Rattle.qs_meaning.specs.Configurations.{Configuration, OrderOutcome, configuration_after, configuration_from, first_configuration, one_block_on, outcome_in}
-use Rattle.qs_meaning.specs.Serial.{LegalFrom, no_state, zeros}
+use Rattle.qs_meaning.specs.audit.Configurations.{Configuration, configuration_after, configuration_from, first_configuration, one_block_on}
+use Rattle.qs_meaning.specs.Configurations.{OrderOutcome, outcome_in}
+use Rattle.qs_meaning.specs.audit.Serial.{LegalFrom, no_state, zeros}
 use Rattle.qs_meaning.specs.Reduced.{IsReducedFrom, goes_on}
 use Rattle.qs_meaning.proofs.Reductions.{reduced_from}
 use Rattle.qs_meaning.proofs.Each.{each_both, each_map, each_snoc}

@@ -3,9 +3,10 @@
 use Rattle.std.proofs.Common.{◌≡◌, ◌<◌, ℕ, suc, Bool, true, false, List, [], ◌∷◌, ◌++◌, length, refl, sym, ap, ◌∙◌, subst, arith, true≢false, Option, Some, None, length-append}
 use Rattle.std.specs.Prelude.{IfSome}
 use Rattle.qs_objects.specs.declared.held.Ticket.{Ticket}
-use Rattle.qs_program.specs.Program.{ProgramShape, blocks_of}
+use Rattle.qs_program.specs.audit.Program.{ProgramShape, blocks_of}
 use Rattle.qs_program.specs.Sound.{IsSound}
-use Rattle.qs_meaning.specs.Configurations.{Configuration, IsComplete, OrderOutcome, configuration_after, outcome_in, outcome_of}
+use Rattle.qs_meaning.specs.audit.Configurations.{Configuration, IsComplete, configuration_after}
+use Rattle.qs_meaning.specs.Configurations.{OrderOutcome, outcome_in, outcome_of}
 use Rattle.qs_meaning.proofs.Orders.{complete_orders_leave_none, configurations_follow_orders}
 use Rattle.qs_outcomes.specs.Answers.{AreUnmet, HasNoted, IsWitnessAfter, NoneMeets}
 use Rattle.qs_outcomes.specs.LeastOrders.{IsBefore, IsSeenAfter}

@@ -2,9 +2,10 @@
 use Rattle.std.specs.Prelude.{◌≡◌, ℕ, Bool, true, false, List, ◌++◌, Option, None, IfSome}
 use Rattle.std.specs.List.{AllByRecursion}
 use Rattle.qs_objects.specs.declared.held.Ticket.{Ticket}
-use Rattle.qs_program.specs.Program.{ProgramShape}
-use Rattle.qs_meaning.specs.Configurations.{IsComplete, OrderOutcome, outcome_of}
-use Rattle.qs_meaning.specs.Serial.{IsLegal}
+use Rattle.qs_program.specs.audit.Program.{ProgramShape}
+use Rattle.qs_meaning.specs.audit.Configurations.{IsComplete}
+use Rattle.qs_meaning.specs.Configurations.{OrderOutcome, outcome_of}
+use Rattle.qs_meaning.specs.audit.Serial.{IsLegal}
 use Rattle.qs_outcomes.specs.LeastOrders.{IsBefore}
 use Rattle.qs_outcomes.specs.Outcomes.{AreDifferent, HasConfigurationsAfter, IsListedAfter, outcome_at}
 use Rattle.qs_standings.specs.Standings.{IsReducedAfter, StandingShape}

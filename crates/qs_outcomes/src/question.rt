@@ -1,7 +1,7 @@
 //! What is asked of outcomes.
 
 ghost use Rattle.std.specs.Prelude.{◌≡◌, Bool, false, IfOk};
-ghost use Rattle.qs_program.specs.Program.{ProgramShape as program_shape};
+ghost use Rattle.qs_program.specs.audit.Program.{ProgramShape as program_shape};
 ghost use Rattle.qs_meaning.specs.Configurations.{OrderOutcome as order_outcome};
 ghost use Rattle.qs_outcomes.specs.Outcomes.{HasPlaces, outcome_at};
 

@@ -1,8 +1,8 @@
 //! The search over configurations.
 
 ghost use Rattle.std.specs.Prelude.{◌≡◌, ◌<◌, ◌≤◌, ◌+◌, true, false, None, IfOk, IfSome, OnOk, IsErrOf, [], ◌∷◌, ◌++◌, length};
-ghost use Rattle.qs_serial.specs.NamedOrders.{order_of};
-ghost use Rattle.qs_meaning.specs.Serial.{IsLegal};
+ghost use Rattle.qs_serial.specs.audit.NamedOrders.{order_of};
+ghost use Rattle.qs_meaning.specs.audit.Serial.{IsLegal};
 ghost use Rattle.qs_outcomes.specs.Answers.{AreUnmet, HasNoted, IsAnswerAfter, IsWitnessAfter};
 ghost use Rattle.qs_outcomes.specs.Outcomes.{AreOutcomes, AreOutcomesAfter, HasMoreThan, HasMoreThanAfter};
 ghost use Rattle.qs_standings.specs.Lists.{HasOne};

@@ -5,20 +5,20 @@
 use Rattle.std.proofs.Common.{◌≡◌, ◌<◌, ◌∙◌, ◌++◌, ◌∷◌, ◌⊎◌, [], ℕ, suc, true, false, true≢false, List, inl, refl, sym, ap, subst, length, map, append_assoc, append-nil, ⊎_elim}
 use Rattle.std.proofs.lemmas.Bool.{lt-ltb}
 use Rattle.qs_objects.specs.declared.held.Ticket.{Ticket}
-use Rattle.qs_program.specs.Program.{ProgramShape, blocks_of, text_of}
+use Rattle.qs_program.specs.audit.Program.{ProgramShape, blocks_of, text_of}
 use Rattle.qs_program.specs.Sound.{IsSound}
-use Rattle.qs_meaning.specs.Configurations.{Configuration, configuration_after, first_configuration, one_block_on}
-use Rattle.qs_meaning.specs.Reduced.{Counts}
-use Rattle.qs_meaning.specs.Serial.{IsLegal, LegalFrom}
-use Rattle.qs_meaning.specs.Solo.{put}
+use Rattle.qs_meaning.specs.audit.Configurations.{Configuration, configuration_after, first_configuration, one_block_on}
+use Rattle.qs_meaning.specs.audit.Reduced.{Counts}
+use Rattle.qs_meaning.specs.audit.Serial.{IsLegal, LegalFrom}
+use Rattle.qs_meaning.specs.audit.Solo.{put}
 use Rattle.qs_meaning.proofs.Orders.{configuration-append, legal-rest}
 use Rattle.qs_meaning.proofs.TreeWalks.{put_here}
-use Rattle.qs_serial.specs.NamedOrders.{order_from, order_of}
-use Rattle.qs_played.specs.Schedule.{all_named, or_stay}
+use Rattle.qs_serial.specs.audit.NamedOrders.{order_from, order_of}
+use Rattle.qs_played.specs.audit.Schedule.{all_named, or_stay}
 use Rattle.qs_played.specs.declared.schedule.actor.Actor.{Actor}
 use Rattle.qs_played.specs.declared.schedule.actor.Actor.TheVariants as actors
-use Rattle.qs_plain_laws.specs.Plain.{Plain, begin, client_at, step}
-use Rattle.qs_plain_laws.specs.PlainSchedule.{is_out, played_of, plays}
+use Rattle.qs_plain_laws.specs.audit.Plain.{Plain, begin, client_at, step}
+use Rattle.qs_plain_laws.specs.audit.PlainSchedule.{is_out, played_of, plays}
 use Rattle.qs_plain_laws.specs.orders.PlainOrders.{IsPlayedInOrder}
 use Rattle.qs_plain_laws.specs.orders.Quiet.{IsQuiet}
 use Rattle.qs_plain_laws.proofs.orders.AloneSteps.{IsWithin, left_of, named_append}

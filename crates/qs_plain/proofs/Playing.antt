@@ -7,14 +7,14 @@ use Rattle.std.proofs.lemmas.List.{drop_all}
 use Rattle.std.specs.Prelude.{Result, IfOk}
 use Rattle.std.specs.Bool.{OnTrue}
 use Rattle.std.specs.List.{range_with_len}
-use Rattle.qs_program.specs.Program.{ProgramShape}
-use Rattle.qs_played.specs.Schedule.{HasStep, actors_of, rounds_of, schedule}
-use Rattle.qs_played.specs.Played.{Played}
+use Rattle.qs_program.specs.audit.Program.{ProgramShape}
+use Rattle.qs_played.specs.audit.Schedule.{HasStep, actors_of, rounds_of, schedule}
+use Rattle.qs_played.specs.audit.Played.{Played}
 use Rattle.qs_played.specs.declared.schedule.actor.Actor.{Actor}
 use Rattle.qs_played.proofs.Playing.{plays_by-append, round_more, row_more, step_at_end, step_in_front}
-use Rattle.qs_plain_laws.specs.Plain.{Plain, step}
-use Rattle.qs_plain_laws.specs.PlainSchedule.{played_of, plays}
-use Rattle.qs_played.specs.Schedule.{or_stay}
+use Rattle.qs_plain_laws.specs.audit.Plain.{Plain, step}
+use Rattle.qs_plain_laws.specs.audit.PlainSchedule.{played_of, plays}
+use Rattle.qs_played.specs.audit.Schedule.{or_stay}
 use Rattle.qs_plain.specs.Rules.{RulesState, Steps, plain_of}
 
 pub plays-append : (p : ProgramShape) (xs ys : List Actor) (s : Plain) → plays p (xs ++ ys) s ≡ plays p ys (plays p xs s)

@@ -6,15 +6,15 @@ use Rattle.std.proofs.Common.{sym, subst, ◌≡◌, Bool, true, false, List, []
 use Rattle.std.specs.Bool.{OnTrue}
 use Rattle.std.specs.Prelude.{IfNone, IfSome}
 use Rattle.qs_program.specs.Sound.{IsSound}
-use Rattle.qs_program.specs.Program.{ProgramShape}
+use Rattle.qs_program.specs.audit.Program.{ProgramShape}
 use Rattle.qs_played.specs.Isolation.{IsIsolated}
 use Rattle.qs_played.specs.declared.schedule.actor.Actor.{Actor}
-use Rattle.qs_plain_laws.specs.PlainSchedule.{played_of, plays}
-use Rattle.qs_played.specs.Schedule.{or_stay}
+use Rattle.qs_plain_laws.specs.audit.PlainSchedule.{played_of, plays}
+use Rattle.qs_played.specs.audit.Schedule.{or_stay}
 use Rattle.qs_plain_laws.specs.PlainSyncSums.{AreQueriesCounted}
 use Rattle.qs_plain_laws.proofs.PlainSyncs.{plain_syncs_counted}
 use Rattle.qs_plain_laws.specs.PlainIsolation.{commands_in_queue}
-use Rattle.qs_plain_laws.specs.Plain.{Plain, begin, step}
+use Rattle.qs_plain_laws.specs.audit.Plain.{Plain, begin, step}
 use Rattle.qs_plain_laws.proofs.Isolating.{runs_isolated}
 use Rattle.qs_plain.specs.Rules.{IsSteppedTo, RulesState, AreRulesCounted, AreIsolated, Steps, plain_of}
 

@@ -4,9 +4,9 @@
 use Rattle.std.proofs.Common.{◌≡◌, ◌<◌, ℕ, zero, suc, ◌+◌, ◌&&◌, List, [], ◌∷◌, map, drop, length, get_or, sum_by, refl, ap, sym, ◌∙◌, add-one}
 use Rattle.std.proofs.Math.Seq.{drop-cons}
 use Rattle.std.proofs.lemmas.List.Sums.{sum_by-cons}
-use Rattle.qs_program.specs.Program.{ProgramShape}
-use Rattle.qs_plain_laws.specs.Plain.{Handler, no_client}
-use Rattle.qs_plain_laws.specs.PlainSchedule.{all_done, is_done, syncs_of}
+use Rattle.qs_program.specs.audit.Program.{ProgramShape}
+use Rattle.qs_plain_laws.specs.audit.Plain.{Handler, no_client}
+use Rattle.qs_plain_laws.specs.audit.PlainSchedule.{all_done, is_done, syncs_of}
 use Rattle.qs_plain.specs.client.Clients.{ClientState, client_of_state, client_state_at}
 use Rattle.qs_plain.specs.handler.Served.{HandlerState, handler_of_state}
 

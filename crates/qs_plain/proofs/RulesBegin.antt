@@ -7,16 +7,16 @@ use Rattle.std.proofs.Math.ListN.{set}
 use Rattle.std.proofs.lemmas.List.{length-append, length-map, map-append, map-set}
 use Rattle.std.proofs.lemmas.List.Sums.{sum_by-set}
 use Rattle.qs_objects.specs.declared.held.Ticket.{Ticket}
-use Rattle.qs_objects.specs.Parts.{same}
-use Rattle.qs_program.specs.Loads.{load_of}
-use Rattle.qs_program.specs.Program.{BlockShape, block_at, blocks_of}
+use Rattle.qs_objects.specs.audit.Parts.{same}
+use Rattle.qs_program.specs.audit.Loads.{load_of}
+use Rattle.qs_program.specs.audit.Program.{BlockShape, block_at, blocks_of}
 use Rattle.qs_program.specs.Sound.{IsSound, IsSoundBlock}
 use Rattle.qs_program.proofs.Bounds.{sound_block}
-use Rattle.qs_meaning.specs.Interaction.{tree_of}
-use Rattle.qs_played.specs.Played.{ticket}
+use Rattle.qs_meaning.specs.audit.Interaction.{tree_of}
+use Rattle.qs_played.specs.audit.Played.{ticket}
 use Rattle.qs_played.specs.declared.schedule.actor.Actor.TheVariants as actor
-use Rattle.qs_plain_laws.specs.Plain.{Client, step, client_step, at_each, enter}
-use Rattle.qs_plain_laws.specs.Plain as plain
+use Rattle.qs_plain_laws.specs.audit.Plain.{Client, step, client_step, at_each, enter}
+use Rattle.qs_plain_laws.specs.audit.Plain as plain
 use Rattle.qs_plain.specs.client.ClientMoves.{Begins}
 use Rattle.qs_plain.specs.client.Clients.{ClientState, IsClient, IsStaged, IsReady, block_of_state, client_of_state, stage_of, absent, client_state_at}
 use Rattle.qs_plain.specs.client.Frames.{rest, next_of, load_left}

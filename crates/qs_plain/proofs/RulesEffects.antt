@@ -4,17 +4,17 @@
 use Rattle.std.proofs.Common.{◌≡◌, ◌<◌, ℕ, ◌-◌, Bool, true, false, if◌then◌else◌, List, [], ◌∷◌, ◌++◌, map, length, drop, refl, ap, sym, subst, ◌∙◌, Option, Some, None, ℤ, get_or-set_same, length-set}
 use Rattle.std.proofs.Math.ListN.{set}
 use Rattle.std.proofs.lemmas.List.{length-map}
-use Rattle.qs_objects.specs.Act.{act}
-use Rattle.qs_objects.specs.Journals.{HeldState, has_room, run_one, with_entry}
+use Rattle.qs_objects.specs.audit.Act.{act}
+use Rattle.qs_objects.specs.audit.Journals.{HeldState, has_room, run_one, with_entry}
 use Rattle.qs_objects.specs.declared.held.Entry.{Entry}
 use Rattle.qs_objects.specs.declared.held.Ticket.{Ticket}
 use Rattle.qs_objects.specs.declared.Request.{Request}
-use Rattle.qs_meaning.specs.Interaction.{Interaction}
-use Rattle.qs_played.specs.Played.{ticket}
-use Rattle.qs_played.specs.Schedule.{or_stay}
+use Rattle.qs_meaning.specs.audit.Interaction.{Interaction}
+use Rattle.qs_played.specs.audit.Played.{ticket}
+use Rattle.qs_played.specs.audit.Schedule.{or_stay}
 use Rattle.qs_played.specs.declared.schedule.actor.Actor.TheVariants as actor
-use Rattle.qs_plain_laws.specs.Plain.{Client, Handler, Plain, Private, item_step, no_handler, queue_step, step}
-use Rattle.qs_plain_laws.specs.Plain as plain
+use Rattle.qs_plain_laws.specs.audit.Plain.{Client, Handler, Plain, Private, item_step, no_handler, queue_step, step}
+use Rattle.qs_plain_laws.specs.audit.Plain as plain
 use Rattle.qs_plain_laws.specs.declared.item.QueueItem.{QueueItem}
 use Rattle.qs_plain_laws.specs.declared.item.QueueItem.TheVariants as item
 use Rattle.qs_plain.specs.client.Clients.{ClientState, absent, client_state_at, client_of_state, stage_of}

@@ -4,11 +4,11 @@
 use Rattle.std.proofs.Common.{◌≡◌, ◌<◌, ℕ, List, [], ◌∷◌, ◌++◌, Some, length, get_or, ap, ◌∙◌, sym, subst}
 use Rattle.std.proofs.Math.ListN.{set}
 use Rattle.qs_objects.specs.declared.held.Ticket.{Ticket}
-use Rattle.qs_played.specs.Played.{ticket}
+use Rattle.qs_played.specs.audit.Played.{ticket}
 use Rattle.qs_played.specs.declared.schedule.actor.Actor.{Actor}
 use Rattle.qs_played.proofs.Lists.{get_or-any}
 use Rattle.qs_plain_laws.specs.declared.item.QueueItem.{QueueItem}
-use Rattle.qs_plain_laws.specs.Plain.{step}
+use Rattle.qs_plain_laws.specs.audit.Plain.{step}
 use Rattle.qs_plain.specs.client.Clients.{ClientState, absent, client_state_at}
 use Rattle.qs_plain.specs.declared.client.stage.Stage.{Stage}
 use Rattle.qs_plain.specs.handler.Handlers.{CanLogAll, logged_all, handler_state_at, nobody}

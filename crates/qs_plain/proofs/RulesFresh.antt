@@ -5,9 +5,9 @@ use Rattle.std.proofs.Common.{◌≡◌, ◌<◌, ℕ, suc, ◌+◌, List, [], �
 use Rattle.std.specs.List.{range_with_len}
 use Rattle.std.proofs.lemmas.List.Sums.{sum_by-cons}
 use Rattle.qs_objects.specs.declared.held.Ticket.{Ticket}
-use Rattle.qs_program.specs.Program.{ProgramShape, ClientShape, no_client}
-use Rattle.qs_plain_laws.specs.Plain.{begin, fresh_client, fresh_handler}
-use Rattle.qs_plain_laws.specs.Plain as plain
+use Rattle.qs_program.specs.audit.Program.{ProgramShape, ClientShape, no_client}
+use Rattle.qs_plain_laws.specs.audit.Plain.{begin, fresh_client, fresh_handler}
+use Rattle.qs_plain_laws.specs.audit.Plain as plain
 use Rattle.qs_plain.specs.client.FreshClients.{AreFresh}
 use Rattle.qs_plain.specs.client.Clients.{ClientState, IsFresh, client_of_state, stage_of, absent, client_state_at}
 use Rattle.qs_plain.specs.handler.Beginning.{AreIdle}

@@ -9,22 +9,23 @@ use Rattle.std.proofs.lemmas.List.Sums.{sum_by-set}
 use Rattle.qs_objects.specs.declared.held.Event.{Event}
 use Rattle.qs_objects.specs.declared.held.Ticket.{Ticket}
 use Rattle.qs_objects.specs.declared.Request.{Request}
-use Rattle.qs_meaning.specs.Interaction.{Interaction, Done, Call, Query}
-use Rattle.qs_program.specs.Program.{BlockShape, block_at, blocks_of}
-use Rattle.qs_meaning.specs.Solo.{event}
-use Rattle.qs_program.specs.Sound.{IsSound, IsSoundBlock, is_in}
+use Rattle.qs_meaning.specs.audit.Interaction.{Interaction, Done, Call, Query}
+use Rattle.qs_program.specs.audit.Program.{BlockShape, block_at, blocks_of}
+use Rattle.qs_meaning.specs.audit.Solo.{event}
+use Rattle.qs_program.specs.audit.Sound.{is_in}
+use Rattle.qs_program.specs.Sound.{IsSound, IsSoundBlock}
 use Rattle.qs_program.proofs.Bounds.{sound_block}
-use Rattle.qs_played.specs.Played.{ticket}
+use Rattle.qs_played.specs.audit.Played.{ticket}
 use Rattle.qs_played.specs.declared.schedule.actor.Actor.TheVariants as actor
-use Rattle.qs_plain_laws.specs.Plain.{Client, step, client_step, moves_on}
+use Rattle.qs_plain_laws.specs.audit.Plain.{Client, step, client_step, moves_on}
 use Rattle.qs_plain_laws.specs.declared.item.QueueItem.{QueueItem}
-use Rattle.qs_plain_laws.specs.Plain as plain
+use Rattle.qs_plain_laws.specs.audit.Plain as plain
 use Rattle.qs_plain_laws.specs.declared.item.QueueItem.TheVariants as item
 use Rattle.qs_plain.specs.client.ClientMoves.{after_moves}
 use Rattle.qs_plain.specs.client.Clients.{ClientState, IsClient, IsWithin, current_block, client_of_state, stage_of, absent, client_state_at}
 use Rattle.qs_plain.specs.client.Frames.{Frame, next_of, load_left}
 use Rattle.qs_plain.specs.client.TraceMoves.{counted_in, noted_in, last_of, no_trace}
-use Rattle.qs_sync_counts.specs.SyncRows.{with_sync}
+use Rattle.qs_sync_counts.specs.audit.SyncRows.{with_sync}
 use Rattle.qs_sync_counts.specs.declared.sync_counts.SyncCount.{SyncCount}
 use Rattle.qs_objects.specs.Traces.{TraceState, trace_state}
 use Rattle.qs_objects.proofs.Elements.{AllByRecursion-get_or}

@@ -6,8 +6,8 @@ use Rattle.std.specs.List.{AllByRecursion}
 use Rattle.std.proofs.Math.ListN.{set}
 use Rattle.std.proofs.lemmas.List.Sums.{sum_by-set}
 use Rattle.qs_objects.specs.declared.held.Ticket.{Ticket}
-use Rattle.qs_objects.specs.Parts.{same}
-use Rattle.qs_played.specs.Played.{ticket}
+use Rattle.qs_objects.specs.audit.Parts.{same}
+use Rattle.qs_played.specs.audit.Played.{ticket}
 use Rattle.qs_plain_laws.specs.declared.item.QueueItem.{QueueItem}
 use Rattle.qs_plain.specs.client.Clients.{ClientState, absent, client_state_at}
 use Rattle.qs_plain.specs.client.Frames.{load_left}

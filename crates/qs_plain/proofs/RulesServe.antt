@@ -6,16 +6,16 @@ use Rattle.std.proofs.Common.{◌≡◌, ◌<◌, ◌≤◌, ℕ, ◌+◌, ◌-�
 use Rattle.std.specs.List.{AllByRecursion}
 use Rattle.std.proofs.Math.ListN.{set, get_or-map}
 use Rattle.std.proofs.lemmas.List.{length-map, map-set, set_past}
-use Rattle.qs_objects.specs.Journals.{run_one}
+use Rattle.qs_objects.specs.audit.Journals.{run_one}
 use Rattle.qs_objects.specs.declared.held.Event.{Event}
 use Rattle.qs_objects.specs.declared.held.Ticket.{Ticket}
 use Rattle.qs_objects.specs.declared.Request.{Request}
-use Rattle.qs_program.specs.Program.{blocks_of}
-use Rattle.qs_meaning.specs.Solo.{event, value_of}
+use Rattle.qs_program.specs.audit.Program.{blocks_of}
+use Rattle.qs_meaning.specs.audit.Solo.{event, value_of}
 use Rattle.qs_played.specs.declared.schedule.actor.Actor.TheVariants as actor
-use Rattle.qs_plain_laws.specs.Plain.{Plain, Client, step, client_step, handler_step, queue_step, item_step, after_reply, reply_to}
+use Rattle.qs_plain_laws.specs.audit.Plain.{Plain, Client, step, client_step, handler_step, queue_step, item_step, after_reply, reply_to}
 use Rattle.qs_plain_laws.specs.declared.item.QueueItem.{QueueItem}
-use Rattle.qs_plain_laws.specs.Plain as plain
+use Rattle.qs_plain_laws.specs.audit.Plain as plain
 use Rattle.qs_plain_laws.specs.declared.item.QueueItem.TheVariants as item
 use Rattle.qs_plain.specs.client.ClientMoves.{Replies, RepliesAt}
 use Rattle.qs_plain.specs.client.Clients.{ClientState, IsClient, client_of_state, stage_of, client_state_at}

@@ -7,8 +7,8 @@ use Rattle.std.proofs.Math.ListN.{set, get_or-map}
 use Rattle.std.proofs.lemmas.List.{map-set, map-append}
 use Rattle.qs_objects.specs.declared.held.Ticket.{Ticket}
 use Rattle.qs_plain_laws.specs.declared.item.QueueItem.{QueueItem}
-use Rattle.qs_plain_laws.specs.Plain.{log_in, enter, at_each, at_handler, put_item}
-use Rattle.qs_plain_laws.specs.Plain as plain
+use Rattle.qs_plain_laws.specs.audit.Plain.{log_in, enter, at_each, at_handler, put_item}
+use Rattle.qs_plain_laws.specs.audit.Plain as plain
 use Rattle.qs_plain.specs.client.Clients.{ClientState, client_of_state, absent, client_state_at}
 use Rattle.qs_plain.specs.client.Queues.{QueueState, after_put}
 use Rattle.qs_plain.specs.handler.Handlers.{handler_state_at, nobody, with_logged_item, logged_at, logged_all, with_queue, entered_at, entered_all}

@@ -1,7 +1,7 @@
 -- What a client waits for under the plain rules.
 use Rattle.std.specs.Prelude.{ℕ, if◌then◌else◌, nat_lt}
-use Rattle.qs_program.specs.Program.{ProgramShape, blocks_of}
-use Rattle.qs_plain_laws.specs.Plain.{Client, Plain, StageOfClient, out, within, waiting, begun_blocks, client_at}
+use Rattle.qs_program.specs.audit.Program.{ProgramShape, blocks_of}
+use Rattle.qs_plain_laws.specs.audit.Plain.{Client, Plain, StageOfClient, out, within, waiting, begun_blocks, client_at}
 use Rattle.qs_plain.specs.declared.awaited.Awaited.{Awaited}
 use Rattle.qs_plain.specs.declared.awaited.Awaited.TheVariants.{Nothing, Reply, Done}
 

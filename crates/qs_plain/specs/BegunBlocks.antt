@@ -1,7 +1,7 @@
 -- What the code reads off when a run is over.
 use Rattle.std.specs.Prelude.{◌≡◌, ◌<◌, ℕ, List, [], ◌∷◌, length, slice_index_or}
 use Rattle.qs_objects.specs.declared.held.Ticket.{Ticket}
-use Rattle.qs_program.specs.Program.{ProgramShape}
+use Rattle.qs_program.specs.audit.Program.{ProgramShape}
 use Rattle.qs_played.specs.Played.{ClientRows}
 use Rattle.qs_plain.specs.client.Clients.{AreRowsOf, ClientState, client_state_at, client_of_state}
 

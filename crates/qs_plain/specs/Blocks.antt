@@ -1,10 +1,10 @@
 -- Whole blocks under the plain rules, as the code runs them.
 use Rattle.std.specs.Prelude.{◌≡◌, ℕ, suc, true, List, [], ◌∷◌, ◌++◌}
-use Rattle.qs_meaning.specs.Solo.{put}
-use Rattle.qs_played.specs.Schedule.{all_named}
+use Rattle.qs_meaning.specs.audit.Solo.{put}
+use Rattle.qs_played.specs.audit.Schedule.{all_named}
 use Rattle.qs_played.specs.declared.schedule.actor.Actor.{Actor}
-use Rattle.qs_plain_laws.specs.Plain.{begun_blocks, client_at}
-use Rattle.qs_plain_laws.specs.PlainSchedule.{plays}
+use Rattle.qs_plain_laws.specs.audit.Plain.{begun_blocks, client_at}
+use Rattle.qs_plain_laws.specs.audit.PlainSchedule.{plays}
 use Rattle.qs_plain_laws.specs.orders.Quiet.{IsQuiet}
 use Rattle.qs_plain.specs.Rules.{RulesState, plain_of}
 

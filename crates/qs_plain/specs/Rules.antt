@@ -4,15 +4,15 @@ use Rattle.std.specs.List.{AllByRecursion}
 use Rattle.std.specs.Coded.{Coded, codes, code_by, coded×, coded_list}
 use Rattle.qs_objects.specs.Journals.{ticket_code}
 use Rattle.qs_objects.specs.declared.held.Ticket.{Ticket}
-use Rattle.qs_objects.specs.Parts.{same}
-use Rattle.qs_program.specs.Program.{ProgramShape}
+use Rattle.qs_objects.specs.audit.Parts.{same}
+use Rattle.qs_program.specs.audit.Program.{ProgramShape}
 use Rattle.qs_program.specs.Shapes.{program_code}
 use Rattle.qs_played.specs.Isolation.{IsIsolated}
-use Rattle.qs_played.specs.Played.{ticket}
+use Rattle.qs_played.specs.audit.Played.{ticket}
 use Rattle.qs_played.specs.declared.schedule.actor.Actor.{Actor}
 use Rattle.qs_plain_laws.specs.PlainIsolation.{commands_in_queue}
-use Rattle.qs_plain_laws.specs.Plain.{Plain, begin, step}
-use Rattle.qs_plain_laws.specs.PlainSchedule.{played_of, plays}
+use Rattle.qs_plain_laws.specs.audit.Plain.{Plain, begin, step}
+use Rattle.qs_plain_laws.specs.audit.PlainSchedule.{played_of, plays}
 use Rattle.qs_plain_laws.specs.PlainSyncSums.{AreQueriesCounted}
 use Rattle.qs_plain.specs.client.Clients.{ClientState, client_of_state, client_code, client_state_at}
 use Rattle.qs_plain.specs.client.Frames.{load_left}

@@ -1,10 +1,10 @@
 -- What a client's step has done, read off after it.
 use Rattle.std.specs.Prelude.{◌≡◌, ◌<◌, ◌≤◌, ℕ, ◌-◌, Bool, true, false, length, Option, Some, None}
 use Rattle.qs_objects.specs.declared.held.Ticket.{Ticket}
-use Rattle.qs_program.specs.Values.{Locals, request_of}
-use Rattle.qs_played.specs.Played.{ticket}
+use Rattle.qs_program.specs.audit.Values.{Locals, request_of}
+use Rattle.qs_played.specs.audit.Played.{ticket}
 use Rattle.qs_played.specs.declared.schedule.actor.Actor.TheVariants as actor
-use Rattle.qs_plain_laws.specs.Plain.{Plain}
+use Rattle.qs_plain_laws.specs.audit.Plain.{Plain}
 use Rattle.qs_plain.specs.client.Clients.{ClientState, client_state_at}
 use Rattle.qs_plain.specs.handler.Effects.{plain_effect}
 use Rattle.qs_plain.specs.Rules.{RulesState}

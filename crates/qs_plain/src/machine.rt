@@ -2,7 +2,7 @@
 
 ghost use Rattle.std.specs.Prelude.{◌≡◌, ◌<◌, ◌∷◌, None, Some, false, true, length, map, IfNone, IfOk, IfSome};
 ghost use Rattle.std.specs.Bool.{OnTrue};
-ghost use Rattle.qs_plain_laws.specs.Plain.{begin, step as the_step};
+ghost use Rattle.qs_plain_laws.specs.audit.Plain.{begin, step as the_step};
 ghost use Rattle.qs_played.specs.declared.schedule.actor.Actor.TheVariants as actors;
 ghost use Rattle.qs_plain.specs.declared.client.stage.Stage.TheVariants as stages;
 ghost use Rattle.qs_plain.specs.handler.Effects.{plain_effect, reply_in};
@@ -54,12 +54,12 @@ impl<'p> Model for Machine<'p> {
 impl<'p> Machine<'p> {
     ghost use Rattle.qs_plain.specs.client.Clients.{client_state_at};
     ghost use Rattle.qs_plain.specs.Rules.{Steps, plain_of};
-    ghost use Rattle.qs_played.specs.Schedule.{HasStep, actors_of, rounds_of};
-    ghost use Rattle.qs_plain_laws.specs.PlainSchedule.{is_out, played_of, plays};
+    ghost use Rattle.qs_played.specs.audit.Schedule.{HasStep, actors_of, rounds_of};
+    ghost use Rattle.qs_plain_laws.specs.audit.PlainSchedule.{is_out, played_of, plays};
     ghost use Rattle.qs_plain.specs.BegunBlocks.{AreBegun};
     ghost use Rattle.qs_plain.specs.Blocks.{IsOneBlockOn, IsQuietNow, blocks_begun};
-    ghost use Rattle.qs_plain_laws.specs.Plain.{client_at as the_client};
-    ghost use Rattle.qs_program.specs.Program.{blocks_of};
+    ghost use Rattle.qs_plain_laws.specs.audit.Plain.{client_at as the_client};
+    ghost use Rattle.qs_program.specs.audit.Program.{blocks_of};
 
     /// A program before its first step. It takes all the memory that the run will need, by the loads; an allocation
     /// that fails leaves nothing.

@@ -1,8 +1,8 @@
 //! Orders of blocks under the plain rules.
 
 ghost use Rattle.std.specs.Prelude.{IfOk, IsErrOf};
-ghost use Rattle.qs_meaning.specs.Serial.{IsLegal};
-ghost use Rattle.qs_serial.specs.NamedOrders.{order_of};
+ghost use Rattle.qs_meaning.specs.audit.Serial.{IsLegal};
+ghost use Rattle.qs_serial.specs.audit.NamedOrders.{order_of};
 ghost use Rattle.qs_plain_laws.specs.orders.PlainOrders.{IsPlayedInOrder};
 
 use crate::machine::Machine;

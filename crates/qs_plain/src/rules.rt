@@ -2,12 +2,11 @@
 
 ghost use Rattle.std.specs.Prelude.{◌≡◌, None, Some, false, IfNone, IfOk, IfSome};
 ghost use Rattle.std.specs.Bool.{OnTrue};
-ghost use Rattle.qs_plain_laws.specs.Plain.{begin, step as the_step};
-ghost use Rattle.qs_plain.specs.Rules.{AreIsolated, Steps, plain_of};
-ghost use Rattle.qs_plain.specs.Rules.{AreRulesCounted};
+ghost use Rattle.qs_plain_laws.specs.audit.Plain.{begin, step as the_step};
+ghost use Rattle.qs_plain.specs.Rules.{AreIsolated, Steps, plain_of, AreRulesCounted};
 ghost use Rattle.qs_plain.specs.handler.Effects.{plain_effect};
-ghost use Rattle.qs_meaning.specs.Serial.{IsLegal};
-ghost use Rattle.qs_plain_laws.specs.PlainSchedule.{played_of};
+ghost use Rattle.qs_meaning.specs.audit.Serial.{IsLegal};
+ghost use Rattle.qs_plain_laws.specs.audit.PlainSchedule.{played_of};
 
 mod playing;
 mod reading;

@@ -1,11 +1,12 @@
 //! Schedules under the plain rules.
 
 ghost use Rattle.std.specs.Prelude.{◌≡◌, IfOk};
-ghost use Rattle.qs_meaning.specs.Serial.{IsLegal};
+ghost use Rattle.qs_meaning.specs.audit.Serial.{IsLegal};
 ghost use Rattle.qs_played.specs.Isolation.{IsIsolated};
 ghost use Rattle.qs_plain_laws.specs.PlainIsolation.{commands_in_queue};
 ghost use Rattle.qs_plain_laws.specs.PlainSyncSums.{AreQueriesCounted};
-ghost use Rattle.qs_plain_laws.specs.PlainSchedule.{IsPlayed, played_of, scheduled};
+ghost use Rattle.qs_plain_laws.specs.audit.PlainSchedule.{played_of};
+ghost use Rattle.qs_plain_laws.specs.PlainSchedule.{IsPlayed, scheduled};
 
 use crate::machine::Machine;
 use qs_played::{Actor, MOST_ROUNDS, PlayFault, Played, are_named};

@@ -2,11 +2,10 @@
 
 ghost use Rattle.std.specs.Prelude.{◌≡◌, ◌≤◌, IfOk, length, map, sum_by};
 ghost use Rattle.qs_objects.specs.declared.held.Ticket.{Ticket as TicketShape};
-ghost use Rattle.qs_program.specs.Program.{ProgramShape};
-ghost use Rattle.qs_program.specs.Limits.{most_clients};
-ghost use Rattle.qs_plain.specs.client.Clients.{ClientState as State, client_of_state};
-ghost use Rattle.qs_plain.specs.client.Clients.{client_state_at};
-ghost use Rattle.qs_plain_laws.specs.PlainSchedule.{all_done, all_idle, has_ended, syncs_of};
+ghost use Rattle.qs_program.specs.audit.Program.{ProgramShape};
+ghost use Rattle.qs_program.specs.audit.Limits.{most_clients};
+ghost use Rattle.qs_plain.specs.client.Clients.{ClientState as State, client_of_state, client_state_at};
+ghost use Rattle.qs_plain_laws.specs.audit.PlainSchedule.{all_done, all_idle, has_ended, syncs_of};
 ghost use Rattle.qs_plain.specs.handler.Served.{HandlerState as Serving, handler_of_state};
 ghost use Rattle.qs_plain.specs.BegunBlocks.{AreBegun, AreOwn, AreRows};
 

@@ -4,15 +4,16 @@ use Rattle.std.proofs.Common.{◌≡◌, ◌<◌, ℕ, zero, suc, ◌+◌, ◌&&
 use Rattle.std.proofs.Math.ListN.{get_or-map as get_or-map-any}
 use Rattle.std.proofs.lemmas.List.{get_or-map, length-map}
 use Rattle.std.specs.List.{AllByRecursion}
-use Rattle.qs_objects.specs.Parts.{command_event, same}
+use Rattle.qs_objects.specs.audit.Parts.{command_event, same}
 use Rattle.qs_objects.specs.declared.held.Ticket.{Ticket}
 use Rattle.qs_objects.specs.declared.Request.{Request}
 use Rattle.qs_objects.proofs.Choices.{and_cases, not_same}
-use Rattle.qs_meaning.specs.Following.{reserves, block_tree}
-use Rattle.qs_meaning.specs.Interaction.{Done}
-use Rattle.qs_program.specs.Program.{ProgramShape, blocks_of}
-use Rattle.qs_meaning.specs.Serial.{IsLegal, LegalFrom, declared_states}
-use Rattle.qs_meaning.specs.Solo.{put}
+use Rattle.qs_meaning.specs.audit.Following.{reserves}
+use Rattle.qs_meaning.specs.Following.{block_tree}
+use Rattle.qs_meaning.specs.audit.Interaction.{Done}
+use Rattle.qs_program.specs.audit.Program.{ProgramShape, blocks_of}
+use Rattle.qs_meaning.specs.audit.Serial.{IsLegal, LegalFrom, declared_states}
+use Rattle.qs_meaning.specs.audit.Solo.{put}
 use Rattle.qs_program.specs.Sound.{IsSound}
 use Rattle.qs_meaning.proofs.Each.{each_map, each_both, each_join}
 use Rattle.qs_meaning.proofs.Histories.{Among, Apart, Flow, ObjectCourse, NoQuery, done_of, parts_of}
@@ -20,15 +21,15 @@ use Rattle.qs_meaning.specs.BlockRecords.{Begins, IsDone, IsBlockRecord}
 use Rattle.qs_meaning.proofs.SerialRuns.{legal_apart, line}
 use Rattle.qs_meaning.proofs.SoundTrees.{blocks_ask_only}
 use Rattle.qs_meaning.proofs.TreeWalks.{unnamed}
-use Rattle.qs_played.specs.Isolation.{IsIsolated, journal_of, state_of, ticket_at, trace_of}
-use Rattle.qs_played.specs.Played.{ticket}
-use Rattle.qs_played.specs.Played.{Played}
+use Rattle.qs_played.specs.audit.Isolation.{journal_of, state_of, ticket_at, trace_of}
+use Rattle.qs_played.specs.Isolation.{IsIsolated}
+use Rattle.qs_played.specs.audit.Played.{ticket, Played}
 use Rattle.qs_played.proofs.Orders.{counts_after, legal_among, apart_kept, apart_both}
 use Rattle.qs_played.proofs.JournalRooms.{no_block_beyond}
 use Rattle.qs_played.proofs.AbstractRun.{IsRun, run_isolated}
 use Rattle.qs_plain_laws.specs.PlainIsolation.{PlainRunsAreIsolated, commands_of, commands_in, commands_in_queue}
-use Rattle.qs_plain_laws.specs.Plain.{Plain, Client, Handler, begun_blocks, client_at, handler_at, begin, no_client, no_handler}
-use Rattle.qs_plain_laws.specs.PlainSchedule.{all_done, all_idle, counts_of, ended_at, entry_at, has_ended, is_done, is_finished, is_out, played_of, plays, trace_at}
+use Rattle.qs_plain_laws.specs.audit.Plain.{Plain, Client, Handler, begun_blocks, client_at, handler_at, begin, no_client, no_handler}
+use Rattle.qs_plain_laws.specs.audit.PlainSchedule.{all_done, all_idle, counts_of, ended_at, entry_at, has_ended, is_done, is_finished, is_out, played_of, plays, trace_at}
 use Rattle.qs_plain_laws.proofs.ServedRuns.{ServedRun, Front, IsServedRun}
 use Rattle.qs_plain_laws.proofs.PlainPreserved.{RunInvariant, handlers_long, run_kept, sight_of}
 use Rattle.qs_plain_laws.proofs.ServiceFlows.{commands_private, flow, commands_found, found_each, found_none}

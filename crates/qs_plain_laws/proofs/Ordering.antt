@@ -9,20 +9,20 @@ use Rattle.std.proofs.lemmas.List.{length-append, length-map, map-set}
 use Rattle.std.specs.List.{range_with_len}
 use Rattle.std.specs.Prelude.{Option, ℤ}
 use Rattle.qs_objects.specs.declared.held.Ticket.{Ticket}
-use Rattle.qs_objects.specs.Journals.{run_one}
+use Rattle.qs_objects.specs.audit.Journals.{run_one}
 use Rattle.qs_objects.specs.declared.Request.{Request}
-use Rattle.qs_meaning.specs.Interaction.{Interaction, Done, Call, Query}
-use Rattle.qs_program.specs.Program.{ProgramShape, blocks_of}
-use Rattle.qs_meaning.specs.Serial.{LegalFrom, IsLegal}
-use Rattle.qs_meaning.specs.Solo.{put}
-use Rattle.qs_played.specs.Played.{ticket}
+use Rattle.qs_meaning.specs.audit.Interaction.{Interaction, Done, Call, Query}
+use Rattle.qs_program.specs.audit.Program.{ProgramShape, blocks_of}
+use Rattle.qs_meaning.specs.audit.Serial.{LegalFrom, IsLegal}
+use Rattle.qs_meaning.specs.audit.Solo.{put}
+use Rattle.qs_played.specs.audit.Played.{ticket}
 use Rattle.qs_played.proofs.Lists.{apart}
 use Rattle.qs_played.specs.declared.schedule.actor.Actor.{Actor}
 use Rattle.qs_played.proofs.Orders.{counts_after, legal-more, counts-more, counts_grow}
 use Rattle.qs_played.specs.declared.schedule.actor.Actor.TheVariants as actor
-use Rattle.qs_plain_laws.specs.Plain.{Plain, Client, Handler, Private, StageOfClient, out, within, waiting, begin, begun_blocks, client_at, handler_at, client_step, moves_on, separate, item_step, queue_step, after_reply, reply_to, step, fresh_client, no_client}
-use Rattle.qs_plain_laws.specs.PlainSchedule.{plays}
-use Rattle.qs_played.specs.Schedule.{or_stay}
+use Rattle.qs_plain_laws.specs.audit.Plain.{Plain, Client, Handler, Private, StageOfClient, out, within, waiting, begin, begun_blocks, client_at, handler_at, client_step, moves_on, separate, item_step, queue_step, after_reply, reply_to, step, fresh_client, no_client}
+use Rattle.qs_plain_laws.specs.audit.PlainSchedule.{plays}
+use Rattle.qs_played.specs.audit.Schedule.{or_stay}
 use Rattle.qs_plain_laws.specs.declared.item.QueueItem.{QueueItem}
 use Rattle.qs_plain_laws.specs.declared.item.QueueItem.TheVariants as item
 

@@ -11,40 +11,42 @@ use Rattle.std.proofs.lemmas.List.FromFn.{get_or-map-range_with_len, length-rang
 use Rattle.std.proofs.lemmas.Simd.{map-map}
 use Rattle.std.proofs.lemmas.Map.Keys.{IsDistinct-head, IsDistinct-tail}
 use Rattle.std.specs.List.{AllByRecursion, IsDistinct, range_with_len, list_any}
-use Rattle.qs_objects.specs.Journals.{HeldState, has_room, with_entry, run_one, answer}
-use Rattle.qs_objects.specs.Act.{act}
-use Rattle.qs_objects.specs.Objects.{starts}
-use Rattle.qs_objects.specs.Parts.{same}
+use Rattle.qs_objects.specs.audit.Journals.{HeldState, has_room, with_entry, run_one, answer}
+use Rattle.qs_objects.specs.audit.Act.{act}
+use Rattle.qs_objects.specs.audit.Objects.{starts}
+use Rattle.qs_objects.specs.audit.Parts.{same}
 use Rattle.qs_objects.specs.declared.held.Event.{Event}
 use Rattle.qs_objects.specs.declared.held.Ticket.{Ticket}
 use Rattle.qs_objects.specs.declared.Request.{Request}
 use Rattle.qs_objects.proofs.Choices.{num_cases, ticket_cases, ticket_path, same_self}
-use Rattle.qs_meaning.specs.Following.{reserves, block_tree}
-use Rattle.qs_meaning.specs.Interaction.{Interaction, Done, Call, Query}
-use Rattle.qs_program.specs.Program.{ProgramShape, BlockShape, text_of, blocks_of, client_at as shape_at, no_block, no_client as no_shape, no_object}
+use Rattle.qs_meaning.specs.audit.Following.{reserves}
+use Rattle.qs_meaning.specs.Following.{block_tree}
+use Rattle.qs_meaning.specs.audit.Interaction.{Interaction, Done, Call, Query}
+use Rattle.qs_program.specs.audit.Program.{ProgramShape, BlockShape, text_of, blocks_of, client_at as shape_at, no_block, no_client as no_shape, no_object}
 use Rattle.qs_program.specs.declared.program.Declared.{Declared}
-use Rattle.qs_meaning.specs.Serial.{zeros, declared_states, state_or_none}
-use Rattle.qs_meaning.specs.Solo.{put, event, value_of}
-use Rattle.qs_program.specs.Sound.{IsSound, is_in}
-use Rattle.qs_program.specs.Values.{Locals}
+use Rattle.qs_meaning.specs.audit.Serial.{zeros, declared_states, state_or_none}
+use Rattle.qs_meaning.specs.audit.Solo.{put, event, value_of}
+use Rattle.qs_program.specs.audit.Sound.{is_in}
+use Rattle.qs_program.specs.Sound.{IsSound}
+use Rattle.qs_program.specs.audit.Values.{Locals}
 use Rattle.qs_program.proofs.Bounds.{sound_block}
 use Rattle.qs_meaning.specs.BlockRecords.{Begins}
 use Rattle.qs_meaning.proofs.TreeWalks.{put_here, put_there}
-use Rattle.qs_played.specs.Played.{ticket}
-use Rattle.qs_played.specs.JournalRooms.{room_of}
+use Rattle.qs_played.specs.audit.Played.{ticket}
+use Rattle.qs_played.specs.audit.JournalRooms.{room_of}
 use Rattle.qs_played.specs.declared.schedule.actor.Actor.{Actor}
 use Rattle.qs_played.proofs.Lists.{apart}
 use Rattle.qs_played.proofs.FunctionUpdate.{put_at, put_at_here, put_at_there}
 use Rattle.qs_played.specs.declared.schedule.actor.Actor.TheVariants as actor
-use Rattle.qs_plain_laws.specs.Plain.{Plain, Client, with_query_counted, Handler, Private, StageOfClient, out, within, waiting, begin, begun_blocks, client_at, handler_at, client_step, moves_on, item_step, queue_step, at_handler, at_each, log_in, enter, serves, stands, with_trace_event, begins, after_reply, reply_to, step, fresh_client, fresh_handler, no_client, no_handler, calls, asks, ends, runs_command, runs_query, leaves_queue}
-use Rattle.qs_plain_laws.specs.PlainSchedule.{plays, entry_at, trace_at}
-use Rattle.qs_played.specs.Schedule.{or_stay}
+use Rattle.qs_plain_laws.specs.audit.Plain.{Plain, Client, with_query_counted, Handler, Private, StageOfClient, out, within, waiting, begin, begun_blocks, client_at, handler_at, client_step, moves_on, item_step, queue_step, at_handler, at_each, log_in, enter, serves, stands, with_trace_event, begins, after_reply, reply_to, step, fresh_client, fresh_handler, no_client, no_handler, calls, asks, ends, runs_command, runs_query, leaves_queue}
+use Rattle.qs_plain_laws.specs.audit.PlainSchedule.{plays, entry_at, trace_at}
+use Rattle.qs_played.specs.audit.Schedule.{or_stay}
 use Rattle.qs_plain_laws.specs.declared.item.QueueItem.{QueueItem}
 use Rattle.qs_plain_laws.proofs.PlainTallies.{Tallied, asked_of, tallied_ask, tallied_begin, tallied_call, tallied_reply, tallied_stand}
 use Rattle.qs_plain_laws.proofs.ServedRuns.{ServedRun}
 use Rattle.qs_plain_laws.proofs.RunViews.{PlainStage, Stands, Runs, Awaits, stage_of, ClientView, RunView, after_answer, noted_held, reserved_by}
 use Rattle.qs_plain_laws.proofs.Simulation.{IsSimulated, call_kept, query_kept, end_kept, separate_kept, call_commands, waits_for_query, do_kept, ask_kept, end_step_kept, Asking, asking, call_within, query_within, begun_some, do_room}
-use Rattle.qs_plain_laws.specs.Plain as plain
+use Rattle.qs_plain_laws.specs.audit.Plain as plain
 use Rattle.qs_plain_laws.specs.declared.item.QueueItem.TheVariants as item
 
 -- one place set, seen as a function

@@ -12,31 +12,33 @@ use Rattle.qs_objects.specs.declared.held.Ticket.{Ticket}
 use Rattle.qs_objects.specs.declared.Request.{Request}
 use Rattle.qs_objects.proofs.Choices.{apart_eqb, eqb_apart, eqb_self}
 use Rattle.qs_objects.proofs.Elements.{AllByRecursion-get_or}
-use Rattle.qs_meaning.specs.Following.{AsksOnly, Leads, block_tree, reserves}
-use Rattle.qs_meaning.specs.Interaction.{Interaction, Done, Call, Query}
-use Rattle.qs_program.specs.Program.{ProgramShape, blocks_of, text_of}
-use Rattle.qs_meaning.specs.Serial.{IsLegal}
-use Rattle.qs_meaning.specs.Solo.{value_of}
+use Rattle.qs_meaning.specs.audit.Following.{reserves}
+use Rattle.qs_meaning.specs.Following.{AsksOnly, Leads, block_tree}
+use Rattle.qs_meaning.specs.audit.Interaction.{Interaction, Done, Call, Query}
+use Rattle.qs_program.specs.audit.Program.{ProgramShape, blocks_of, text_of}
+use Rattle.qs_meaning.specs.audit.Serial.{IsLegal}
+use Rattle.qs_meaning.specs.audit.Solo.{value_of}
 use Rattle.qs_program.specs.Sound.{IsSound}
 use Rattle.qs_meaning.proofs.Histories.{Among}
 use Rattle.qs_meaning.specs.BlockRecords.{IsBlockRecord}
 use Rattle.qs_meaning.proofs.Each.{each_map}
 use Rattle.qs_meaning.proofs.SoundTrees.{blocks_ask_only}
 use Rattle.qs_syncset.specs.SyncCounts.{asks, queries}
-use Rattle.qs_sync_counts.specs.SyncRows.{object_of, syncs_for, syncs_of as syncs_of_row}
+use Rattle.qs_sync_counts.specs.audit.SyncRows.{object_of, syncs_of as syncs_of_row}
+use Rattle.qs_sync_counts.specs.SyncRows.{syncs_for}
 use Rattle.qs_syncset.proofs.SyncTrees.{command_asks_none, query_counts}
-use Rattle.qs_played.specs.Isolation.{ended_of, ticket_at, trace_of}
-use Rattle.qs_played.specs.Played.{ticket}
-use Rattle.qs_played.specs.Schedule.{queries_in}
+use Rattle.qs_played.specs.audit.Isolation.{ended_of, ticket_at, trace_of}
+use Rattle.qs_played.specs.audit.Played.{ticket}
+use Rattle.qs_played.specs.audit.Schedule.{queries_in}
 use Rattle.qs_played.specs.SyncSums.{AreSent, counts_at, syncs_at}
-use Rattle.qs_played.specs.Played.{Played}
+use Rattle.qs_played.specs.audit.Played.{Played}
 use Rattle.qs_played.proofs.ReservedObjects.{listed_inside, reserved_inside}
 use Rattle.qs_played.proofs.SyncTallies.{sent_of, total_for}
 use Rattle.qs_played.proofs.SyncLists.{sum_of, total_of, legal_blocks, sum_add, sum_at, sum_inside, sum_legal, sum_of_client, sum_one, sum_zero}
 use Rattle.qs_played.proofs.Orders.{each_among, counts_after, legal_among}
 use Rattle.qs_played.proofs.JournalRooms.{no_block_beyond}
-use Rattle.qs_plain_laws.specs.Plain.{Plain, Client, begin, begun_blocks, client_at, no_client}
-use Rattle.qs_plain_laws.specs.PlainSchedule.{counts_of, ended_at, has_ended, is_out, played_of, plays, syncs_of, trace_at, waits}
+use Rattle.qs_plain_laws.specs.audit.Plain.{Plain, Client, begin, begun_blocks, client_at, no_client}
+use Rattle.qs_plain_laws.specs.audit.PlainSchedule.{counts_of, ended_at, has_ended, is_out, played_of, plays, syncs_of, trace_at, waits}
 use Rattle.qs_plain_laws.specs.PlainSyncSums.{AreQueriesCounted, PlainSyncsAreCounted, waiting}
 use Rattle.qs_plain_laws.proofs.ServedRunMoves.{asks_left}
 use Rattle.qs_plain_laws.proofs.ServedRuns.{ServedRun, IsServedRun}
@@ -44,7 +46,7 @@ use Rattle.qs_plain_laws.proofs.PlainPreserved.{RunInvariant, run_kept, sight_of
 use Rattle.qs_plain_laws.proofs.PlainTallies.{asked_of}
 use Rattle.qs_plain_laws.proofs.RunViews.{RunView, PlainStage, Stands, Runs, Awaits, stage_of}
 use Rattle.qs_plain_laws.proofs.Simulation.{Simulates, StandsAt}
-use Rattle.qs_plain_laws.specs.Plain as plain
+use Rattle.qs_plain_laws.specs.audit.Plain as plain
 
 -- the objects of a trace along a tree are the tree's
 objects_among : (may : ℕ → Bool) (tree : Interaction) (es : List Event) (rest : Interaction) → AsksOnly may tree → Leads tree es rest

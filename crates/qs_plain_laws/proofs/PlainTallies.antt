@@ -6,23 +6,24 @@ use Rattle.std.specs.Prelude.{filter}
 use Rattle.std.specs.List.{IsDistinct}
 use Rattle.std.proofs.lemmas.List.{length-append}
 use Rattle.std.proofs.lemmas.List.Elements.{filter-append}
-use Rattle.qs_objects.specs.Operations.{is_query}
-use Rattle.qs_objects.specs.Parts.{part}
+use Rattle.qs_objects.specs.audit.Operations.{is_query}
+use Rattle.qs_objects.specs.audit.Parts.{part}
 use Rattle.qs_objects.specs.declared.held.Event.{Event}
 use Rattle.qs_objects.specs.declared.Request.{Request}
 use Rattle.qs_objects.proofs.Choices.{apart_eqb, eqb_apart, eqb_self, num_cases}
-use Rattle.qs_program.specs.Program.{ProgramShape, text_of}
-use Rattle.qs_program.specs.Sound.{is_in}
-use Rattle.qs_program.specs.Values.{Locals}
-use Rattle.qs_meaning.specs.Interaction.{Interaction}
-use Rattle.qs_meaning.specs.Solo.{event}
+use Rattle.qs_program.specs.audit.Program.{ProgramShape, text_of}
+use Rattle.qs_program.specs.audit.Sound.{is_in}
+use Rattle.qs_program.specs.audit.Values.{Locals}
+use Rattle.qs_meaning.specs.audit.Interaction.{Interaction}
+use Rattle.qs_meaning.specs.audit.Solo.{event}
 use Rattle.qs_syncset.specs.SyncCounts.{asks, queries}
-use Rattle.qs_sync_counts.specs.SyncRows.{no_syncs, object_of, syncs_for, with_sync}
+use Rattle.qs_sync_counts.specs.audit.SyncRows.{no_syncs, object_of, with_sync}
+use Rattle.qs_sync_counts.specs.SyncRows.{syncs_for}
 use Rattle.qs_sync_counts.specs.declared.sync_counts.SyncCount.{SyncCount}
 use Rattle.qs_syncset.proofs.SyncTrees.{command_asks_none, query_counts}
-use Rattle.qs_played.specs.Played.{ticket}
+use Rattle.qs_played.specs.audit.Played.{ticket}
 use Rattle.qs_played.proofs.SyncTallies.{none_for, objects_none, objects_stay, one_more_for}
-use Rattle.qs_plain_laws.specs.Plain.{Client, StageOfClient, begins, begun_blocks, with_query_counted, stands, with_trace_event, waiting, within}
+use Rattle.qs_plain_laws.specs.audit.Plain.{Client, StageOfClient, begins, begun_blocks, with_query_counted, stands, with_trace_event, waiting, within}
 use Rattle.qs_plain_laws.proofs.RunViews.{PlainStage, Stands, Runs, Awaits}
 
 -- the query that a client waits for, by its object

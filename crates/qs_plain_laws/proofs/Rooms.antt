@@ -2,20 +2,22 @@
 use Rattle.std.proofs.Common.{◌≡◌, ◌<◌, ◌≤◌, ◌+◌, arith, ℕ, suc, List, [], ◌∷◌, ◌++◌, length, map, flat_map, refl, ap, ap₂, ◌∙◌, subst, ℤ, None}
 use Rattle.std.specs.List.{AllByRecursion}
 use Rattle.std.proofs.lemmas.List.{length-append, length-map}
-use Rattle.qs_objects.specs.Parts.{command_event, stamp, part}
+use Rattle.qs_objects.specs.audit.Parts.{command_event, part}
+use Rattle.qs_objects.specs.Parts.{stamp}
 use Rattle.qs_objects.specs.declared.held.Event.{Event}
 use Rattle.qs_objects.specs.declared.held.Ticket.{Ticket}
 use Rattle.qs_objects.specs.declared.Request.{Request}
-use Rattle.qs_meaning.specs.Following.{Leads, reserves, block_tree}
-use Rattle.qs_meaning.specs.Interaction.{Interaction, Query}
-use Rattle.qs_program.specs.Program.{ProgramShape, text_of}
-use Rattle.qs_meaning.specs.Solo.{event, value_of}
+use Rattle.qs_meaning.specs.audit.Following.{reserves}
+use Rattle.qs_meaning.specs.Following.{Leads, block_tree}
+use Rattle.qs_meaning.specs.audit.Interaction.{Interaction, Query}
+use Rattle.qs_program.specs.audit.Program.{ProgramShape, text_of}
+use Rattle.qs_meaning.specs.audit.Solo.{event, value_of}
 use Rattle.qs_meaning.proofs.Each.{each_map, each_front, each_back, each_kept}
 use Rattle.qs_meaning.proofs.Histories.{parts_of}
 use Rattle.qs_meaning.specs.BlockRecords.{IsBlockRecord}
 use Rattle.qs_meaning.proofs.RequestPaths.{requests_within}
 use Rattle.qs_meaning.proofs.TreeWalks.{leads_query, part_snoc_here}
-use Rattle.qs_played.specs.JournalRooms.{room_of}
+use Rattle.qs_played.specs.audit.JournalRooms.{room_of}
 use Rattle.qs_played.proofs.JournalRooms.{total, total_less, total_append, total_filter, leads_within, cost, order_fits, all_left}
 use Rattle.qs_plain_laws.proofs.ServedRuns.{Service, ServedRun, Front, entries_shown, IsServedRun}
 

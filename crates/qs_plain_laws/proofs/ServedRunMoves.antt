@@ -4,19 +4,20 @@
 -- stay, and what is known of the service has its own lemmas.
 use Rattle.std.proofs.Common.{◌≡◌, ℕ, zero, suc, ◌<◌, ◌≤◌, arith, Bool, true, false, if◌then◌else◌, ◌==◌, List, [], ◌∷◌, ◌++◌, refl, sym, ap, ◌∙◌, subst, ⊎_elim, ℤ}
 use Rattle.std.specs.List.{AllByRecursion}
-use Rattle.qs_objects.specs.Journals.{answer}
-use Rattle.qs_objects.specs.Parts.{command_event, part, same}
+use Rattle.qs_objects.specs.audit.Journals.{answer}
+use Rattle.qs_objects.specs.audit.Parts.{command_event, part, same}
 use Rattle.qs_objects.specs.declared.held.Event.{Event}
 use Rattle.qs_objects.specs.declared.held.Ticket.{Ticket}
 use Rattle.qs_objects.specs.declared.Request.{Request}
 use Rattle.qs_objects.proofs.Choices.{num_cases, ticket_cases}
-use Rattle.qs_meaning.specs.Following.{Leads, AsksOnly, reserves, block_tree}
-use Rattle.qs_meaning.specs.Interaction.{Interaction, Done, Call, Query}
-use Rattle.qs_program.specs.Program.{ProgramShape, blocks_of}
-use Rattle.qs_meaning.specs.Serial.{declared_states}
-use Rattle.qs_meaning.specs.Solo.{put, event, value_of}
+use Rattle.qs_meaning.specs.audit.Following.{reserves}
+use Rattle.qs_meaning.specs.Following.{Leads, AsksOnly, block_tree}
+use Rattle.qs_meaning.specs.audit.Interaction.{Interaction, Done, Call, Query}
+use Rattle.qs_program.specs.audit.Program.{ProgramShape, blocks_of}
+use Rattle.qs_meaning.specs.audit.Serial.{declared_states}
+use Rattle.qs_meaning.specs.audit.Solo.{put, event, value_of}
 use Rattle.qs_program.specs.Sound.{IsSound}
-use Rattle.qs_program.specs.Values.{Locals}
+use Rattle.qs_program.specs.audit.Values.{Locals}
 use Rattle.qs_meaning.proofs.Each.{each_map, each_both, each_snoc}
 use Rattle.qs_meaning.proofs.Histories.{Among, parts_of, done_of, advance}
 use Rattle.qs_meaning.specs.BlockRecords.{BlockRecord, IsBlockRecord, IsDone, Begins}

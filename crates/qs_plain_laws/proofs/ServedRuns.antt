@@ -4,19 +4,21 @@
 -- what was run of the first in the queue.
 use Rattle.std.proofs.Common.{◌≡◌, ℕ, suc, ◌≤◌, ℤ, if◌then◌else◌, List, [], ◌∷◌, ◌++◌, map, filter, flat_map}
 use Rattle.std.specs.List.{AllByRecursion}
-use Rattle.qs_objects.specs.Act.{State}
-use Rattle.qs_objects.specs.Journals.{after, answer, replay, without_tickets, IsHonest}
-use Rattle.qs_objects.specs.Parts.{command_event, stamp}
+use Rattle.qs_objects.specs.audit.Act.{State}
+use Rattle.qs_objects.specs.audit.Journals.{after, answer, replay, without_tickets, IsHonest}
+use Rattle.qs_objects.specs.audit.Parts.{command_event}
+use Rattle.qs_objects.specs.Parts.{stamp}
 use Rattle.qs_objects.specs.declared.held.Entry.{Entry}
 use Rattle.qs_objects.specs.declared.held.Event.{Event}
 use Rattle.qs_objects.specs.declared.held.Ticket.{Ticket}
 use Rattle.qs_objects.specs.declared.Request.{Request}
-use Rattle.qs_meaning.specs.Following.{reserves, block_tree}
-use Rattle.qs_meaning.specs.Interaction.{Interaction}
-use Rattle.qs_program.specs.Program.{ProgramShape}
-use Rattle.qs_meaning.specs.Serial.{IsLegal, declared_states}
-use Rattle.qs_meaning.specs.Solo.{put, event, value_of}
-use Rattle.qs_program.specs.Values.{Locals}
+use Rattle.qs_meaning.specs.audit.Following.{reserves}
+use Rattle.qs_meaning.specs.Following.{block_tree}
+use Rattle.qs_meaning.specs.audit.Interaction.{Interaction}
+use Rattle.qs_program.specs.audit.Program.{ProgramShape}
+use Rattle.qs_meaning.specs.audit.Serial.{IsLegal, declared_states}
+use Rattle.qs_meaning.specs.audit.Solo.{put, event, value_of}
+use Rattle.qs_program.specs.audit.Values.{Locals}
 use Rattle.qs_meaning.proofs.Histories.{Apart, NoQuery, parts_of, done_of, advance}
 use Rattle.qs_meaning.specs.BlockRecords.{BlockRecord, IsBlockRecord, Begins}
 use Rattle.qs_played.proofs.Orders.{counts_after}

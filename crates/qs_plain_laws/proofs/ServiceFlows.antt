@@ -5,17 +5,18 @@
 use Rattle.std.proofs.Common.{◌≡◌, ◌≢◌, ℕ, suc, ◌==◌, Bool, true, false, true≢false, if◌then◌else◌, List, [], ◌∷◌, ◌++◌, map, filter, flat_map, refl, sym, ap, ap₂, ◌∙◌, subst, inl, inr, append_assoc, append-nil}
 use Rattle.std.specs.List.{AllByRecursion}
 use Rattle.std.proofs.lemmas.List.{map-append}
-use Rattle.qs_objects.specs.Act.{State}
-use Rattle.qs_objects.specs.Journals.{replay, unstamp, without_tickets, IsHonest}
-use Rattle.qs_objects.specs.Parts.{command_event, stamp, same}
+use Rattle.qs_objects.specs.audit.Act.{State}
+use Rattle.qs_objects.specs.audit.Journals.{replay, unstamp, without_tickets, IsHonest}
+use Rattle.qs_objects.specs.audit.Parts.{command_event, same}
+use Rattle.qs_objects.specs.Parts.{stamp}
 use Rattle.qs_objects.specs.declared.held.Entry.{Entry}
 use Rattle.qs_objects.specs.declared.held.Event.{Event}
 use Rattle.qs_objects.specs.declared.held.Ticket.{Ticket}
 use Rattle.qs_objects.specs.declared.Request.{Request}
 use Rattle.qs_objects.proofs.Choices.{not_same, same_self}
 use Rattle.qs_objects.proofs.Replays.{replay-append, IsHonest-front, IsHonest-back}
-use Rattle.qs_meaning.specs.Following.{reserves}
-use Rattle.qs_program.specs.Program.{ProgramShape}
+use Rattle.qs_meaning.specs.audit.Following.{reserves}
+use Rattle.qs_program.specs.audit.Program.{ProgramShape}
 use Rattle.qs_meaning.proofs.Each.{each_map, each_both, each_unfiltered}
 use Rattle.qs_meaning.proofs.Histories.{ObjectCourse, Flow, OnlyCommands, NoQuery, Apart, unstamp_all}
 use Rattle.qs_plain_laws.specs.PlainIsolation.{commands_in, commands_of}

@@ -7,18 +7,19 @@ use Rattle.std.proofs.lemmas.List.{map-append}
 use Rattle.std.proofs.lemmas.List.Elements.{filter-append}
 use Rattle.std.proofs.lemmas.List.Concat.{flat_map-append}
 use Rattle.std.proofs.Math.Path.{fun_ext}
-use Rattle.qs_objects.specs.Act.{State}
-use Rattle.qs_objects.specs.Journals.{after, answer, replay, unstamp, without_tickets, IsHonest}
-use Rattle.qs_objects.specs.Parts.{command_event, stamp, same}
+use Rattle.qs_objects.specs.audit.Act.{State}
+use Rattle.qs_objects.specs.audit.Journals.{after, answer, replay, unstamp, without_tickets, IsHonest}
+use Rattle.qs_objects.specs.audit.Parts.{command_event, same}
+use Rattle.qs_objects.specs.Parts.{stamp}
 use Rattle.qs_objects.specs.declared.held.Event.{Event}
 use Rattle.qs_objects.specs.declared.held.Ticket.{Ticket}
 use Rattle.qs_objects.specs.declared.Request.{Request}
 use Rattle.qs_objects.proofs.Choices.{ticket_cases, same_self}
 use Rattle.qs_objects.proofs.ObjectLaws.{never_answers}
 use Rattle.qs_objects.proofs.Replays.{replay-append, IsHonest-append}
-use Rattle.qs_meaning.specs.Following.{reserves}
-use Rattle.qs_program.specs.Program.{ProgramShape}
-use Rattle.qs_meaning.specs.Solo.{event}
+use Rattle.qs_meaning.specs.audit.Following.{reserves}
+use Rattle.qs_program.specs.audit.Program.{ProgramShape}
+use Rattle.qs_meaning.specs.audit.Solo.{event}
 use Rattle.qs_meaning.proofs.Each.{each_map, each_both, each_snoc, each_front, each_back, each_kept, flat_map_same}
 use Rattle.qs_meaning.proofs.Histories.{Apart, NoQuery}
 use Rattle.qs_played.proofs.FunctionUpdate.{put_at, put_at_here, put_at_there, put_at_holds}

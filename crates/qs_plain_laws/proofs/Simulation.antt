@@ -6,30 +6,32 @@ use Rattle.std.proofs.Common.{◌≡◌, ◌≢◌, ℕ, zero, suc, ◌-◌, ◌
 use Rattle.std.specs.List.{AllByRecursion}
 use Rattle.std.proofs.lemmas.List.{map-append}
 use Rattle.std.proofs.lemmas.Simd.{map-map}
-use Rattle.qs_objects.specs.Act.{State}
-use Rattle.qs_objects.specs.Journals.{after, answer}
-use Rattle.qs_objects.specs.Operations.{is_query}
-use Rattle.qs_objects.specs.Parts.{command_event, stamp, same}
+use Rattle.qs_objects.specs.audit.Act.{State}
+use Rattle.qs_objects.specs.audit.Journals.{after, answer}
+use Rattle.qs_objects.specs.audit.Operations.{is_query}
+use Rattle.qs_objects.specs.audit.Parts.{command_event, same}
+use Rattle.qs_objects.specs.Parts.{stamp}
 use Rattle.qs_objects.specs.declared.held.Entry.{Entry}
 use Rattle.qs_objects.specs.declared.held.Event.{Event}
 use Rattle.qs_objects.specs.declared.held.Ticket.{Ticket}
 use Rattle.qs_objects.specs.declared.Request.{Request}
 use Rattle.qs_objects.proofs.Choices.{eqb_self, eqb_true, eqb_apart, apart_eqb, num_cases, ticket_cases, ticket_path, same_self}
-use Rattle.qs_meaning.specs.Following.{AsksOnly, reserves, block_tree}
-use Rattle.qs_meaning.specs.Interaction.{Interaction, Done, Call, Query}
-use Rattle.qs_program.specs.Program.{ProgramShape, blocks_of}
-use Rattle.qs_meaning.specs.Solo.{put, event, value_of}
+use Rattle.qs_meaning.specs.audit.Following.{reserves}
+use Rattle.qs_meaning.specs.Following.{AsksOnly, block_tree}
+use Rattle.qs_meaning.specs.audit.Interaction.{Interaction, Done, Call, Query}
+use Rattle.qs_program.specs.audit.Program.{ProgramShape, blocks_of}
+use Rattle.qs_meaning.specs.audit.Solo.{put, event, value_of}
 use Rattle.qs_program.specs.Sound.{IsSound}
-use Rattle.qs_program.specs.Values.{Locals}
+use Rattle.qs_program.specs.audit.Values.{Locals}
 use Rattle.qs_meaning.proofs.Each.{each_map, each_kept, each_back, each_passes, every, map_same}
 use Rattle.qs_meaning.proofs.Histories.{Among, Apart, advance}
 use Rattle.qs_meaning.specs.BlockRecords.{BlockRecord, IsBlockRecord, IsDone, Begins}
 use Rattle.qs_meaning.proofs.TreeWalks.{put_here, put_there}
-use Rattle.qs_played.specs.Played.{ticket}
-use Rattle.qs_played.specs.JournalRooms.{room_of}
+use Rattle.qs_played.specs.audit.Played.{ticket}
+use Rattle.qs_played.specs.audit.JournalRooms.{room_of}
 use Rattle.qs_played.proofs.Orders.{counts_after, each_among, legal_among}
 use Rattle.qs_played.proofs.FunctionUpdate.{put_at, put_at_here, put_at_there, put_at_field, put_field, put_at_kept, put_kept, put_all, put_both}
-use Rattle.qs_plain_laws.specs.Plain.{Private, Handler, put_item, log_in, enter}
+use Rattle.qs_plain_laws.specs.audit.Plain.{Private, Handler, put_item, log_in, enter}
 use Rattle.qs_plain_laws.specs.declared.item.QueueItem.{QueueItem}
 use Rattle.qs_plain_laws.proofs.ServedRuns.{Service, ServedRun, log, reply, end_block, run_first, reserve, service_reserve, IsServedRun}
 use Rattle.qs_plain_laws.proofs.ServedRunMoves.{asks_left, log_ok, reply_ok, run_ok, leave_ok, reserve_ok, fresh, block_record', is_done_kept}

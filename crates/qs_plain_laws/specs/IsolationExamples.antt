@@ -1,8 +1,8 @@
 -- Two clients that meet on one object, in both orders: journals, start states and private queues, computed by the
 -- definitions.
 use Rattle.std.specs.Prelude.{◌≡◌, ℕ, List, [], ◌∷◌, map, pos}
-use Rattle.qs_objects.specs.Act.{State, account}
-use Rattle.qs_objects.specs.Journals.{replay, without_tickets}
+use Rattle.qs_objects.specs.audit.Act.{State, account}
+use Rattle.qs_objects.specs.audit.Journals.{replay, without_tickets}
 use Rattle.qs_objects.specs.Parts.{before}
 use Rattle.qs_objects.specs.declared.held.Entry.{Entry}
 use Rattle.qs_objects.specs.declared.held.Ticket.{Ticket}
@@ -10,8 +10,9 @@ use Rattle.qs_objects.specs.declared.Op.{Op}
 use Rattle.qs_objects.specs.declared.Op.TheVariants.{Withdraw}
 use Rattle.qs_objects.specs.declared.Request.{Request}
 use Rattle.qs_meaning.specs.MeaningExamples.{withdrawals, ticket, left_with}
-use Rattle.qs_meaning.specs.Serial.{declared_states}
-use Rattle.qs_played.specs.Isolation.{journal_of, serial_block}
+use Rattle.qs_meaning.specs.audit.Serial.{declared_states}
+use Rattle.qs_played.specs.audit.Isolation.{journal_of}
+use Rattle.qs_played.specs.Isolation.{serial_block}
 use Rattle.qs_played.specs.ExampleRuns.{holding}
 use Rattle.qs_played.specs.declared.schedule.actor.Actor.{Actor}
 use Rattle.qs_played.specs.declared.schedule.actor.Actor.TheVariants as actor

@@ -1,6 +1,7 @@
+-- What has to be believed for the headline.
+pub mod audit
 -- What an auditor reads: the promises and the calls of the surface are said with these.
 pub mod PlainIsolation
-pub mod Plain
 pub mod PlainSchedule
 pub mod PlainSyncSums
 -- What crates promise one another, what proofs use, and worked examples.

@@ -1,14 +1,14 @@
 -- Isolation under the plain rules: the commands on their way lie in the private queues.
 use Rattle.std.specs.Prelude.{ℕ, if◌then◌else◌, List, [], ◌∷◌, flat_map}
-use Rattle.qs_objects.specs.Parts.{same}
+use Rattle.qs_objects.specs.audit.Parts.{same}
 use Rattle.qs_objects.specs.declared.held.Ticket.{Ticket}
 use Rattle.qs_objects.specs.declared.Request.{Request}
-use Rattle.qs_program.specs.Program.{ProgramShape}
+use Rattle.qs_program.specs.audit.Program.{ProgramShape}
 use Rattle.qs_program.specs.Sound.{IsSound}
 use Rattle.qs_played.specs.declared.schedule.actor.Actor.{Actor}
 use Rattle.qs_played.specs.Isolation.{IsIsolated}
-use Rattle.qs_plain_laws.specs.Plain.{Plain, Private, begin, handler_at}
-use Rattle.qs_plain_laws.specs.PlainSchedule.{played_of, plays}
+use Rattle.qs_plain_laws.specs.audit.Plain.{Plain, Private, begin, handler_at}
+use Rattle.qs_plain_laws.specs.audit.PlainSchedule.{played_of, plays}
 use Rattle.qs_plain_laws.specs.declared.item.QueueItem.{QueueItem}
 use Rattle.qs_plain_laws.specs.declared.item.QueueItem.TheVariants as item
 

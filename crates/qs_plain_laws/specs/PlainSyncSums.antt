@@ -1,18 +1,18 @@
 -- Synchronisations under the plain rules: one for each query that was answered, and one for each that is waited for.
 use Rattle.std.specs.Prelude.{◌≡◌, ◌<◌, ℕ, suc, ◌+◌, ◌==◌, if◌then◌else◌, List, length}
 use Rattle.qs_objects.specs.declared.held.Ticket.{Ticket}
-use Rattle.qs_program.specs.Program.{ProgramShape}
+use Rattle.qs_program.specs.audit.Program.{ProgramShape}
 use Rattle.qs_program.specs.Sound.{IsSound}
 use Rattle.qs_syncset.specs.SyncCounts.{queries}
-use Rattle.qs_sync_counts.specs.SyncRows.{syncs_of}
-use Rattle.qs_played.specs.Isolation.{ended_of, ticket_at, trace_of}
-use Rattle.qs_played.specs.Schedule.{queries_in}
+use Rattle.qs_sync_counts.specs.audit.SyncRows.{syncs_of}
+use Rattle.qs_played.specs.audit.Isolation.{ended_of, ticket_at, trace_of}
+use Rattle.qs_played.specs.audit.Schedule.{queries_in}
 use Rattle.qs_played.specs.declared.schedule.actor.Actor.{Actor}
-use Rattle.qs_played.specs.Played.{Played}
+use Rattle.qs_played.specs.audit.Played.{Played}
 use Rattle.qs_played.specs.SyncSums.{AreAll, AreListed, AreSent, counts_at, syncs_at}
-use Rattle.qs_plain_laws.specs.Plain.{begin, begun_blocks, client_at}
-use Rattle.qs_plain_laws.specs.PlainSchedule.{played_of, plays, waits}
-use Rattle.qs_plain_laws.specs.Plain as rules
+use Rattle.qs_plain_laws.specs.audit.Plain.{begin, begun_blocks, client_at}
+use Rattle.qs_plain_laws.specs.audit.PlainSchedule.{played_of, plays, waits}
+use Rattle.qs_plain_laws.specs.audit.Plain as rules
 
 -- under the plain rules: 1 where a ticket's client waits in its block for an answer
 abbrev pub waiting : rules.Plain → Ticket → ℕ

@@ -1,14 +1,15 @@
 -- Runs under the plain rules, computed by the definitions.
 use Rattle.std.specs.Prelude.{◌≡◌, ℕ, List, [], ◌∷◌, Bool, true, false, Option, None, ℤ, pos}
-use Rattle.qs_objects.specs.Act.{State, account, buffer}
+use Rattle.qs_objects.specs.audit.Act.{State, account, buffer}
 use Rattle.qs_objects.specs.declared.held.Ticket.{Ticket}
 use Rattle.qs_meaning.specs.MeaningExamples.{deposit_of_5, withdrawals, full_buffer, left_at_once, transfer, ticket, only, some, left_with}
-use Rattle.qs_program.specs.Program.{ProgramShape}
+use Rattle.qs_program.specs.audit.Program.{ProgramShape}
 use Rattle.qs_played.specs.declared.schedule.actor.Actor.{Actor}
-use Rattle.qs_played.specs.Played.{Played}
+use Rattle.qs_played.specs.audit.Played.{Played}
 use Rattle.qs_played.specs.ExampleRuns.{answers, holding, in_transfer}
 use Rattle.qs_played.specs.declared.schedule.actor.Actor.TheVariants as actor
-use Rattle.qs_plain_laws.specs.PlainSchedule.{played_of, scheduled}
+use Rattle.qs_plain_laws.specs.audit.PlainSchedule.{played_of}
+use Rattle.qs_plain_laws.specs.PlainSchedule.{scheduled}
 
 abbrev pub shown_by_schedule : ProgramShape → List Actor → ℕ → Played
 shown_by_schedule p picks rounds = played_of p (scheduled p picks rounds)

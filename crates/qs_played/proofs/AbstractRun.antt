@@ -6,25 +6,27 @@
 use Rattle.std.proofs.Common.{◌≡◌, ◌<◌, ℕ, zero, suc, true, List, [], ◌∷◌, ◌++◌, map, flat_map, length, get_or, refl, ap, sym, subst, ◌∙◌, inl, inr, arith, append-nil}
 use Rattle.std.proofs.lemmas.List.Elements.{filter-append}
 use Rattle.std.specs.List.{AllByRecursion, AllZip}
-use Rattle.qs_objects.specs.Act.{State}
-use Rattle.qs_objects.specs.Journals.{replay, without_tickets, IsHonest}
-use Rattle.qs_objects.specs.Operations.{is_query}
-use Rattle.qs_objects.specs.Parts.{HasEntry, before, entries_of, command_event, part}
+use Rattle.qs_objects.specs.audit.Act.{State}
+use Rattle.qs_objects.specs.audit.Journals.{replay, without_tickets, IsHonest}
+use Rattle.qs_objects.specs.audit.Operations.{is_query}
+use Rattle.qs_objects.specs.audit.Parts.{entries_of, command_event, part}
+use Rattle.qs_objects.specs.Parts.{HasEntry, before}
 use Rattle.qs_objects.specs.declared.held.Entry.{Entry}
 use Rattle.qs_objects.specs.declared.held.Event.{Event}
 use Rattle.qs_objects.specs.declared.held.Ticket.{Ticket}
 use Rattle.qs_objects.specs.declared.Request.{Request}
 use Rattle.qs_objects.proofs.Elements.{AllByRecursion-get_or}
-use Rattle.qs_program.specs.Program.{ProgramShape, blocks_of}
-use Rattle.qs_meaning.specs.Serial.{IsLegal, serial, declared_states}
+use Rattle.qs_program.specs.audit.Program.{ProgramShape, blocks_of}
+use Rattle.qs_meaning.specs.audit.Serial.{IsLegal, declared_states}
+use Rattle.qs_meaning.specs.Serial.{serial}
 use Rattle.qs_program.specs.Sound.{IsSound}
 use Rattle.qs_meaning.proofs.Each.{each_map, zip_at}
 use Rattle.qs_meaning.proofs.Histories.{Among, Flow, InTurn, ObjectCourse, NoQuery, OnlyCommands, PartIs, Through, IsTicketByTicket, parts_of, ticket_by_ticket}
 use Rattle.qs_meaning.specs.BlockRecords.{Begins, IsDone, IsBlockRecord, BlockRecord}
 use Rattle.qs_meaning.proofs.SerialRuns.{Agrees, legal_apart, line, runs_serially}
-use Rattle.qs_played.specs.Isolation.{IsFitting, IsIsolated, IsIsolatedObject, IsIsolatedBlock, IsWhole, ended_of, entry_of, journal_of, no_block, serial_block, queries_of, state_of, ticket_at, trace_of}
-use Rattle.qs_played.specs.Played.{ticket}
-use Rattle.qs_played.specs.Played.{Played}
+use Rattle.qs_played.specs.audit.Isolation.{ended_of, journal_of, state_of, ticket_at, trace_of}
+use Rattle.qs_played.specs.Isolation.{IsFitting, IsIsolated, IsIsolatedObject, IsIsolatedBlock, IsWhole, entry_of, no_block, serial_block, queries_of}
+use Rattle.qs_played.specs.audit.Played.{ticket, Played}
 use Rattle.qs_played.proofs.Orders.{among_once}
 
 -- where a later ticket has an entry, an earlier one is through

@@ -2,10 +2,10 @@
 -- everywhere else. The invariants of both machines speak of such functions, and each step changes them at one place, so
 -- nearly every lemma on a step uses this. The proofs ask whether a place is the one that was changed.
 use Rattle.std.proofs.Common.{◌≡◌, ℕ, Bool, true, false, if◌then◌else◌, ◌==◌, sym, ap, ◌∙◌, subst, ⊎_elim}
-use Rattle.qs_objects.specs.Parts.{same}
+use Rattle.qs_objects.specs.audit.Parts.{same}
 use Rattle.qs_objects.specs.declared.held.Ticket.{Ticket}
 use Rattle.qs_objects.proofs.Choices.{num_cases, ticket_cases, same_self}
-use Rattle.qs_meaning.specs.Solo.{put}
+use Rattle.qs_meaning.specs.audit.Solo.{put}
 use Rattle.qs_meaning.proofs.TreeWalks.{put_here, put_there}
 
 -- f with another value at t

@@ -4,19 +4,19 @@ use Rattle.std.proofs.Common.{◌≡◌, ◌<◌, ◌≤◌, ◌+◌, ◌-◌, a
 use Rattle.std.specs.List.{AllByRecursion, range_with_len}
 use Rattle.std.proofs.lemmas.List.{get_or_past}
 use Rattle.std.proofs.lemmas.List.Sums.{sum_by-cons}
-use Rattle.qs_objects.specs.Parts.{part}
+use Rattle.qs_objects.specs.audit.Parts.{part}
 use Rattle.qs_objects.specs.declared.held.Event.{Event}
 use Rattle.qs_objects.specs.declared.held.Ticket.{Ticket}
 use Rattle.qs_objects.proofs.Choices.{num_cases, eqb_apart, apart_eqb}
 use Rattle.qs_meaning.specs.Following.{Leads}
-use Rattle.qs_meaning.specs.Interaction.{Interaction, Done, Call, Query}
-use Rattle.qs_program.specs.Loads.{load_of}
+use Rattle.qs_meaning.specs.audit.Interaction.{Interaction, Done, Call, Query}
+use Rattle.qs_program.specs.audit.Loads.{load_of}
 use Rattle.qs_meaning.specs.Paths.{counts, Within}
-use Rattle.qs_program.specs.Program.{ProgramShape, block_at, blocks_of, client_at, no_client, text_of}
-use Rattle.qs_meaning.specs.Serial.{LegalFrom}
-use Rattle.qs_meaning.specs.Solo.{put, value_of}
+use Rattle.qs_program.specs.audit.Program.{ProgramShape, block_at, blocks_of, client_at, no_client, text_of}
+use Rattle.qs_meaning.specs.audit.Serial.{LegalFrom}
+use Rattle.qs_meaning.specs.audit.Solo.{put, value_of}
 use Rattle.qs_meaning.proofs.TreeWalks.{put_here, put_there}
-use Rattle.qs_played.specs.JournalRooms.{room_in, room_of}
+use Rattle.qs_played.specs.audit.JournalRooms.{room_in, room_of}
 
 abbrev pub total : (Ticket → ℕ) → List Ticket → ℕ
 total f [] = 0

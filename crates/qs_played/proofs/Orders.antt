@@ -3,13 +3,13 @@
 use Rattle.std.proofs.Common.{List, [], ◌∷◌, sym, subst, inl, inr, ◌≡◌, ◌≢◌, suc, Bool, true, false, if◌then◌else◌, ◌++◌, filter, length, refl, ap, ◌<◌, ◌≤◌, ℕ, ◌==◌, arith, ⊎_elim}
 use Rattle.std.specs.List.{AllByRecursion}
 use Rattle.qs_objects.specs.declared.held.Ticket.{Ticket}
-use Rattle.qs_objects.specs.Parts.{same}
+use Rattle.qs_objects.specs.audit.Parts.{same}
 use Rattle.qs_objects.proofs.Choices.{not_same, same_self, apart_eqb, num_cases, ticket_path}
 use Rattle.qs_meaning.proofs.Histories.{Among, Apart, among_apart}
 use Rattle.qs_meaning.proofs.Each.{each_map, each_kept}
-use Rattle.qs_program.specs.Program.{ProgramShape, blocks_of}
-use Rattle.qs_meaning.specs.Serial.{LegalFrom}
-use Rattle.qs_meaning.specs.Solo.{put}
+use Rattle.qs_program.specs.audit.Program.{ProgramShape, blocks_of}
+use Rattle.qs_meaning.specs.audit.Serial.{LegalFrom}
+use Rattle.qs_meaning.specs.audit.Solo.{put}
 use Rattle.qs_meaning.proofs.TreeWalks.{put_here, put_there}
 
 pub each_among : (P : Ticket → Type 0) → (t : Ticket) (ts : List Ticket) → AllByRecursion P ts → Among t ts → P t

@@ -2,8 +2,8 @@
 -- machines' loops over actors and rounds keep their invariants by these.
 use Rattle.std.proofs.Common.{◌≡◌, ℕ, ◌+◌, List, [], ◌∷◌, ◌++◌, Option, IsSome, map, refl, ap, sym, ◌∙◌, add-one, zero-add, append_assoc, inl, inr}
 use Rattle.std.specs.List.{range_with_len}
-use Rattle.qs_program.specs.Program.{ProgramShape}
-use Rattle.qs_played.specs.Schedule.{HasStep, actors_of, or_stay, plays_by, rounds_of, schedule}
+use Rattle.qs_program.specs.audit.Program.{ProgramShape}
+use Rattle.qs_played.specs.audit.Schedule.{HasStep, actors_of, or_stay, plays_by, rounds_of, schedule}
 use Rattle.qs_played.specs.declared.schedule.actor.Actor.{Actor}
 use Rattle.qs_played.proofs.Lists.{range_more}
 

@@ -5,9 +5,10 @@ use Rattle.std.proofs.lemmas.List.{get_or_past}
 use Rattle.std.specs.List.{AllByRecursion, IsDistinct}
 use Rattle.qs_objects.specs.declared.held.Ticket.{Ticket}
 use Rattle.qs_objects.proofs.Choices.{num_cases}
-use Rattle.qs_meaning.specs.Following.{reserves}
-use Rattle.qs_program.specs.Program.{BlockShape, ProgramShape, blocks_of, client_at, no_block, no_client, text_of}
-use Rattle.qs_program.specs.Sound.{IsSound, is_in}
+use Rattle.qs_meaning.specs.audit.Following.{reserves}
+use Rattle.qs_program.specs.audit.Program.{BlockShape, ProgramShape, blocks_of, client_at, no_block, no_client, text_of}
+use Rattle.qs_program.specs.audit.Sound.{is_in}
+use Rattle.qs_program.specs.Sound.{IsSound}
 use Rattle.qs_program.proofs.Bounds.{sound_block}
 
 module _ (program : ProgramShape) (sound : IsSound program) where

@@ -7,10 +7,11 @@ use Rattle.std.specs.List.{AllByRecursion, IsDistinct, range_with_len}
 use Rattle.std.proofs.lemmas.List.Sums.{sum_by-cons}
 use Rattle.std.proofs.lemmas.Map.Keys.{IsDistinct-head, IsDistinct-tail}
 use Rattle.qs_objects.proofs.Choices.{eqb_self, num_cases}
-use Rattle.qs_meaning.specs.Solo.{put}
+use Rattle.qs_meaning.specs.audit.Solo.{put}
 use Rattle.qs_meaning.proofs.TreeWalks.{put_here, put_there}
-use Rattle.qs_program.specs.Sound.{is_in}
-use Rattle.qs_sync_counts.specs.SyncRows.{no_syncs, object_of, sync_count, syncs_for, syncs_of, with_sync}
+use Rattle.qs_program.specs.audit.Sound.{is_in}
+use Rattle.qs_sync_counts.specs.audit.SyncRows.{no_syncs, object_of, sync_count, syncs_of, with_sync}
+use Rattle.qs_sync_counts.specs.SyncRows.{syncs_for}
 use Rattle.qs_sync_counts.specs.declared.sync_counts.SyncCount.{SyncCount}
 use Rattle.qs_played.specs.SyncSums.{AreSent}
 use Rattle.qs_played.proofs.SyncLists.{sum_add, sum_inside, sum_one, sum_zero}

@@ -1,10 +1,10 @@
 -- What the worked runs of every machine are compared by: the replies of each reservation, and accounts with their
 -- balances.
 use Rattle.std.specs.Prelude.{ℕ, List, [], ◌∷◌, map, Option, ℤ, pos}
-use Rattle.qs_objects.specs.Act.{State, account}
+use Rattle.qs_objects.specs.audit.Act.{State, account}
 use Rattle.qs_objects.specs.declared.held.Event.{Event}
 use Rattle.qs_meaning.specs.MeaningExamples.{left_with}
-use Rattle.qs_played.specs.Played.{Played}
+use Rattle.qs_played.specs.audit.Played.{Played}
 
 abbrev pub answers : Played → List (List (Option ℤ))
 answers played = map (map (λ (e : Event). e.reply)) played.traces

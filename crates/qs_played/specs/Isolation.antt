@@ -1,41 +1,24 @@
--- Isolation: what each reservation did is what its block does alone, at its place in the order of reservations.
-use Rattle.std.specs.Prelude.{◌≡◌, ◌<◌, ℕ, Bool, true, false, List, [], ◌++◌, map, filter, flat_map, length, slice_index_or}
-use Rattle.qs_objects.specs.Act.{State}
-use Rattle.qs_objects.specs.Journals.{replay, without_tickets, IsHonest}
-use Rattle.qs_objects.specs.Operations.{is_query}
-use Rattle.qs_objects.specs.Parts.{IsFront, HasEntry, before, entries_of, command_event, part, same}
-use Rattle.qs_objects.specs.declared.held.Entry.{Entry}
+-- Beside what the headline reaches (`audit/Isolation.antt`): what else contracts and proofs use.
+use Rattle.std.specs.Prelude.{◌≡◌, ◌<◌, ℕ, true, List, [], ◌++◌, map, filter, flat_map, length, slice_index_or}
+use Rattle.qs_objects.specs.audit.Journals.{replay, without_tickets, IsHonest}
+use Rattle.qs_objects.specs.audit.Operations.{is_query}
+use Rattle.qs_objects.specs.audit.Parts.{IsFront, entries_of, command_event, part, same}
+use Rattle.qs_objects.specs.Parts.{HasEntry, before}
 use Rattle.qs_objects.specs.declared.held.Event.{Event}
 use Rattle.qs_objects.specs.declared.held.Ticket.{Ticket}
 use Rattle.qs_objects.specs.declared.Request.{Request}
-use Rattle.qs_program.specs.Program.{ProgramShape, blocks_of}
-use Rattle.qs_meaning.specs.Serial.{IsLegal, SerialBlock, serial, declared_states, no_state}
-use Rattle.qs_program.specs.Values.{Locals}
-use Rattle.qs_played.specs.Played.{ticket}
-use Rattle.qs_played.specs.Played.{Played}
+use Rattle.qs_program.specs.audit.Program.{ProgramShape, blocks_of}
+use Rattle.qs_meaning.specs.audit.Serial.{IsLegal, declared_states, no_state}
+use Rattle.qs_meaning.specs.Serial.{SerialBlock, serial}
+use Rattle.qs_program.specs.audit.Values.{Locals}
+use Rattle.qs_played.specs.audit.Played.{ticket, Played}
+use Rattle.qs_played.specs.audit.Isolation.{ticket_at, trace_of, ended_of, journal_of, state_of}
 
 abbrev pub no_block : SerialBlock
 no_block = record { ticket = ticket 0 0; entry = []; starts = λ h. no_state; trace = [] }
 
--- what a run shows of its i-th reservation
-abbrev pub ticket_at : Played → ℕ → Ticket
-ticket_at r i = slice_index_or r.order i (ticket 0 0)
-
 abbrev pub entry_of : Played → ℕ → Locals
 entry_of r i = slice_index_or r.entries i []
-
-abbrev pub trace_of : Played → ℕ → List Event
-trace_of r i = slice_index_or r.traces i []
-
-abbrev pub ended_of : Played → ℕ → Bool
-ended_of r i = slice_index_or r.ended i false
-
--- and of object h
-abbrev pub journal_of : Played → ℕ → List Entry
-journal_of r h = slice_index_or r.journals h []
-
-abbrev pub state_of : Played → ℕ → State
-state_of r h = slice_index_or r.states h no_state
 
 -- the i-th place of the serial run along the order of reservations
 abbrev pub serial_block : ProgramShape → Played → ℕ → SerialBlock

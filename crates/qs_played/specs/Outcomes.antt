@@ -1,6 +1,6 @@
 -- A run that is over.
 use Rattle.std.specs.Prelude.{◌≡◌, true, map}
-use Rattle.qs_played.specs.Played.{Played}
+use Rattle.qs_played.specs.audit.Played.{Played}
 
 -- each block has ended, and the run is finished
 pub record IsOver (o : Played) : Type 0 where

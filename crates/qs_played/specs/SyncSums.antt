@@ -1,17 +1,19 @@
 -- How many Syncs each reservation has sent for each object.
 use Rattle.std.specs.Prelude.{◌≡◌, ◌<◌, ◌≤◌, ◌⊎◌, ℕ, ◌+◌, Bool, true, false, ◌==◌, if◌then◌else◌, List, [], map, slice_index_or, sum_by, length}
-use Rattle.qs_program.specs.Program.{ProgramShape, text_of}
-use Rattle.qs_program.specs.Statements.{Statements}
-use Rattle.qs_graph.specs.Names.{graph_of}
-use Rattle.qs_graph.specs.Nodes.{ControlGraph}
+use Rattle.qs_program.specs.audit.Program.{ProgramShape, text_of}
+use Rattle.qs_program.specs.audit.Statements.{Statements}
+use Rattle.qs_graph.specs.audit.Names.{graph_of}
+use Rattle.qs_graph.specs.audit.Nodes.{ControlGraph}
 use Rattle.qs_syncset.specs.declared.mode.Mode.{Mode}
 use Rattle.qs_syncset.specs.declared.mode.Mode.TheVariants.{Plain, Static}
-use Rattle.qs_syncset.specs.Modes.{is_dynamic, is_static}
-use Rattle.qs_sync_counts.specs.SyncRows.{object_of, syncs_for, syncs_of}
+use Rattle.qs_syncset.specs.audit.Modes.{is_dynamic, is_static}
+use Rattle.qs_sync_counts.specs.audit.SyncRows.{object_of, syncs_of}
+use Rattle.qs_sync_counts.specs.SyncRows.{syncs_for}
 use Rattle.qs_sync_counts.specs.declared.sync_counts.SyncCount.{SyncCount}
 use Rattle.qs_syncset.specs.SyncCounts.{AreOrdered, Decides, HasTest, kept, queries, runs}
-use Rattle.qs_played.specs.Isolation.{ended_of, entry_of, ticket_at, trace_of}
-use Rattle.qs_played.specs.Played.{Played}
+use Rattle.qs_played.specs.audit.Isolation.{ended_of, ticket_at, trace_of}
+use Rattle.qs_played.specs.Isolation.{entry_of}
+use Rattle.qs_played.specs.audit.Played.{Played}
 
 -- for each object exactly so many, or, in a block that has not ended, one more for one object
 abbrev pub AreSent : (ended : Bool) → (sent counts : ℕ → ℕ) → Type 0

@@ -1,7 +1,7 @@
 //! Objects as declared, each with room for its journal.
 
 ghost use Rattle.std.specs.Prelude.{◌≡◌, ◌<◌, ◌≤◌, IfOk, length};
-ghost use Rattle.qs_played.specs.JournalRooms.{fresh_held, room_in, room_of};
+ghost use Rattle.qs_played.specs.audit.JournalRooms.{fresh_held, room_in, room_of};
 
 use qs_objects::Held;
 use qs_program::Program;

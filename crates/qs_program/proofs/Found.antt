@@ -7,8 +7,8 @@ use Rattle.std.proofs.lemmas.List.Folds.{list_any-append}
 use Rattle.std.proofs.lemmas.List.Sums.{prefix_len_stops}
 use Rattle.std.specs.Cmp.Lexicographic.{same_text, other_text}
 use Rattle.std.specs.List.{list_any, position, position_or_len}
-use Rattle.qs_program.specs.Numbering.{Name, same_name, is_among, found_at}
-use Rattle.qs_program.specs.Limits.{most_variables}
+use Rattle.qs_program.specs.audit.Numbering.{Name, same_name, is_among, found_at}
+use Rattle.qs_program.specs.audit.Limits.{most_variables}
 
 within_cons : (b : Bool) (i n : ℕ) (later : Bool) → (later ≡ true → i < n) → (b || later) ≡ true → cond (not b) (1 + i) 0 < suc n
 within_cons true i n later f h = omega arith

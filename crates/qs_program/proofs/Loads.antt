@@ -5,7 +5,7 @@ use Rattle.std.proofs.Common.{◌≡◌, ℕ, zero, suc, ◌+◌, ◌*◌, ◌<�
 use Rattle.std.proofs.Math.Seq.{drop-cons}
 use Rattle.qs_program.specs.declared.code.Stmt.{Stmt}
 use Rattle.qs_program.specs.declared.code.Stmt.TheVariants.{Command, Query, Assign, If, Repeat, Leave}
-use Rattle.qs_program.specs.Loads.{load_of, weight_of}
+use Rattle.qs_program.specs.audit.Loads.{load_of, weight_of}
 use Rattle.qs_program.specs.Views.{statements_of, single}
 
 pub load_of-cons : (s : Stmt) (xs : List Stmt) (h : ℕ) → load_of (statements_of (s ∷ xs)) h ≡ load_of (single s) h + load_of (statements_of xs) h

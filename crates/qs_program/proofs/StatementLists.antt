@@ -5,7 +5,8 @@
 use Rattle.std.proofs.Common.{◌≡◌, ◌≤◌, ◌<◌, ℕ, zero, suc, List, [], ◌∷◌, ◌++◌, length, get_or, refl, ap, arith}
 use Rattle.qs_program.specs.declared.code.Stmt.{Stmt}
 use Rattle.qs_program.specs.declared.code.Stmt.TheVariants.{Command, Query, Assign, If, Repeat, Leave}
-use Rattle.qs_program.specs.Statements.{Statements, end, command, query, assign, choose, again, leave, join_statements}
+use Rattle.qs_program.specs.audit.Statements.{Statements, end, command, query, assign, choose, again, leave}
+use Rattle.qs_program.specs.Statements.{join_statements}
 use Rattle.qs_program.specs.Views.{statements_of, single, size_of}
 
 pub statements_of-append : (xs : List Stmt) (s : Stmt) → statements_of (xs ++ s ∷ []) ≡ join_statements (statements_of xs) (single s)

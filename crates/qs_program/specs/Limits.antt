@@ -1,19 +1,6 @@
--- The limits of a program.
+-- Beside what the headline reaches (`audit/Limits.antt`): what else contracts and proofs use.
 use Rattle.std.specs.Prelude.{ℕ, ◌*◌}
-
-abbrev pub most_objects : ℕ
-most_objects = 8
-
--- each object has its own
-abbrev pub most_handlers : ℕ
-most_handlers = most_objects
-
-abbrev pub most_clients : ℕ
-most_clients = 8
-
--- of a client
-abbrev pub most_blocks : ℕ
-most_blocks = 64
+use Rattle.qs_program.specs.audit.Limits.{most_clients, most_blocks}
 
 -- of a template
 abbrev pub most_formals : ℕ
@@ -22,19 +9,3 @@ most_formals = 8
 -- of a program: one for each block of each client
 abbrev pub most_tickets : ℕ
 most_tickets = most_clients * most_blocks
-
--- of a client
-abbrev pub most_variables : ℕ
-most_variables = 16
-
--- of a repeat
-abbrev pub most_turns : ℕ
-most_turns = 1000
-
--- requests of a program
-abbrev pub most_requests : ℕ
-most_requests = 100000
-
--- steps of a program
-abbrev pub most_steps : ℕ
-most_steps = 1000000

@@ -1,11 +1,11 @@
 -- How a proof tells programs apart.
 use Rattle.std.specs.Prelude.{refl, ℕ, List, Option}
 use Rattle.std.specs.Coded.{Coded, code_by, codes, coded×, coded_list, coded_option, coded_ℕ}
-use Rattle.qs_program.specs.Statements.{Statements}
+use Rattle.qs_program.specs.audit.Statements.{Statements}
 use Rattle.qs_program.specs.StatementsCode.{statements_code}
 use Rattle.qs_program.specs.declared.program.Declared.{Declared}
-use Rattle.qs_program.specs.Numbering.{Name}
-use Rattle.qs_program.specs.Program.{BlockShape, ClientShape, ProgramShape, StartShape}
+use Rattle.qs_program.specs.audit.Numbering.{Name}
+use Rattle.qs_program.specs.audit.Program.{BlockShape, ClientShape, ProgramShape, StartShape}
 
 abbrev pub name_code : Coded Name
 name_code = coded_list coded_ℕ

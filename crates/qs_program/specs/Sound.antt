@@ -1,10 +1,12 @@
--- What holds of every checked program: numbers in range, requests on reserved objects that have the operation, limits.
+-- Beside what the headline reaches (`audit/Sound.antt`): what else contracts and proofs use.
 use Rattle.std.specs.Prelude.{◌≡◌, ◌≤◌, ◌<◌, ℕ, ◌+◌, max, Bool, true, false, ◌==◌, List, length, map, Option, Some, None, IsSome, slice_index_or}
-use Rattle.std.specs.List.{AllByRecursion, IsDistinct, list_any}
-use Rattle.qs_objects.specs.Objects.{starts}
-use Rattle.qs_objects.specs.Operations.{is_query, arity, fits}
-use Rattle.qs_script.specs.tree.Limits.{most_levels}
-use Rattle.qs_program.specs.Limits.{most_blocks, most_clients, most_formals, most_objects, most_requests, most_steps, most_turns, most_variables}
+use Rattle.std.specs.List.{AllByRecursion, IsDistinct}
+use Rattle.qs_objects.specs.audit.Objects.{starts}
+use Rattle.qs_objects.specs.audit.Operations.{is_query, arity}
+use Rattle.qs_objects.specs.Operations.{fits}
+use Rattle.qs_script.specs.audit.tree.Limits.{most_levels}
+use Rattle.qs_program.specs.audit.Limits.{most_blocks, most_clients, most_objects, most_requests, most_steps, most_turns, most_variables}
+use Rattle.qs_program.specs.Limits.{most_formals}
 use Rattle.qs_program.specs.declared.code.Atom.{Atom}
 use Rattle.qs_program.specs.declared.code.Atom.TheVariants.{Variable, Number}
 use Rattle.qs_program.specs.declared.code.Expr.{Expr}
@@ -12,11 +14,12 @@ use Rattle.qs_program.specs.declared.code.Expr.TheVariants.{Plain, Binary}
 use Rattle.qs_program.specs.declared.code.Test.{Test}
 use Rattle.qs_program.specs.declared.code.Call.{Call}
 use Rattle.qs_program.specs.declared.program.Declared.{Declared}
-use Rattle.qs_program.specs.Binding.{bound_block}
-use Rattle.qs_program.specs.Kinds.{same_kind}
-use Rattle.qs_program.specs.Numbering.{same_name}
-use Rattle.qs_program.specs.Statements.{Statements, end, command, query, assign, choose, again, leave}
-use Rattle.qs_program.specs.Program.{BlockShape, ClientShape, ProgramShape, StartShape, no_object, whole_load, whole_weight}
+use Rattle.qs_program.specs.audit.Binding.{bound_block}
+use Rattle.qs_program.specs.audit.Kinds.{same_kind}
+use Rattle.qs_program.specs.audit.Numbering.{same_name}
+use Rattle.qs_program.specs.audit.Statements.{Statements, end, command, query, assign, choose, again, leave}
+use Rattle.qs_program.specs.audit.Program.{BlockShape, ClientShape, ProgramShape, StartShape, no_object, whole_load, whole_weight}
+use Rattle.qs_program.specs.audit.Sound.{is_in}
 
 -- a variable of the client
 abbrev pub IsSoundAtom : Atom → Type 0
@@ -29,9 +32,6 @@ IsSoundExpr (Binary a op b) = IsSoundAtom a × IsSoundAtom b
 
 abbrev pub IsSoundTest : Test → Type 0
 IsSoundTest t = IsSoundAtom t.left × IsSoundAtom t.right
-
-abbrev pub is_in : List ℕ → ℕ → Bool
-is_in xs x = list_any (λ y. y == x) xs
 
 -- a request of the block's list, whose object has the operation, with its number of arguments
 pub record IsSoundCall (objects : List Declared) (reserved : List ℕ) (asks : Bool) (c : Call) : Type 0 where

@@ -1,11 +1,13 @@
 //! Statements with each name replaced by its number.
 
 ghost use Rattle.std.specs.Prelude.{◌≡◌, ◌≤◌, ◌<◌, ◌+◌, ◌*◌, ℕ, [], ◌∷◌, ◌++◌, OnOk, OnErr, IfOk, max, min, slice_index_or, take, if◌then◌else◌, ◌==◌};
-ghost use Rattle.qs_script.specs.tree.Limits.{most_levels};
-ghost use Rattle.qs_program.specs.Limits.{most_objects, most_requests, most_steps};
-ghost use Rattle.qs_program.specs.Loads.{load_of, weight_of, AreLoads};
+ghost use Rattle.qs_script.specs.audit.tree.Limits.{most_levels};
+ghost use Rattle.qs_program.specs.audit.Limits.{most_objects, most_requests, most_steps};
+ghost use Rattle.qs_program.specs.audit.Loads.{load_of, weight_of};
+ghost use Rattle.qs_program.specs.Loads.{AreLoads};
 ghost use Rattle.qs_program.specs.Sound.{levels_of};
-ghost use Rattle.qs_program.specs.Statements.{end, join_statements};
+ghost use Rattle.qs_program.specs.audit.Statements.{end};
+ghost use Rattle.qs_program.specs.Statements.{join_statements};
 ghost use Rattle.qs_program.specs.Views.{single, statements_of};
 
 use crate::limits::{MOST_OBJECTS, PAST_REQUESTS, PAST_STEPS};
@@ -175,7 +177,7 @@ impl Drop for Body {
 }
 
 impl Model for Body {
-    ghost use Rattle.qs_program.specs.Statements.{Statements};
+    ghost use Rattle.qs_program.specs.audit.Statements.{Statements};
     ghost use Rattle.qs_program.specs.StatementsCode.{statements_code};
 
     ghost Value = { Statements };

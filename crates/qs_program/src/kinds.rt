@@ -1,7 +1,7 @@
 //! When two objects are of one kind.
 
 ghost use Rattle.std.specs.Prelude.{◌≡◌};
-ghost use Rattle.qs_program.specs.Kinds.{same_kind as are_of_one_kind};
+ghost use Rattle.qs_program.specs.audit.Kinds.{same_kind as are_of_one_kind};
 
 use qs_objects::Kind;
 

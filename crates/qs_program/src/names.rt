@@ -1,7 +1,8 @@
 //! Names, numbered in the order of their first appearance.
 
 ghost use Rattle.std.specs.Prelude.{◌≡◌, [], OnOk, OnErr, IfOk, IfSome, is_some, length, slice_get, option_copied};
-ghost use Rattle.qs_program.specs.Numbering.{with_name, number_of, found_at, is_among};
+ghost use Rattle.qs_program.specs.audit.Numbering.{with_name, found_at, is_among};
+ghost use Rattle.qs_program.specs.Numbering.{number_of};
 
 use crate::hashing::NameHasher;
 use indexmap::IndexSet;

@@ -1,13 +1,13 @@
 //! Checked programs.
 
 ghost use Rattle.std.specs.Prelude.{◌≡◌, ◌<◌, ◌≤◌, ◌+◌, IfOk, length, min, slice_index_or, sum_by};
-ghost use Rattle.qs_objects.specs.Objects.{starts};
-ghost use Rattle.qs_program.specs.Limits.{most_requests, most_steps};
-ghost use Rattle.qs_program.specs.Loads.{load_of, weight_of};
+ghost use Rattle.qs_objects.specs.audit.Objects.{starts};
+ghost use Rattle.qs_program.specs.audit.Limits.{most_requests, most_steps};
+ghost use Rattle.qs_program.specs.audit.Loads.{load_of, weight_of};
 ghost use Rattle.std.specs.Prelude.{Some, None};
-ghost use Rattle.qs_program.specs.Binding.{bound};
-ghost use Rattle.qs_program.specs.Program.{binding_of, declarations_of, declared_as, is_started, own_block, no_object};
-ghost use Rattle.qs_program.specs.Program.{client_at, block_at, object_at, no_block, blocks_of, program_of, whole_load, whole_weight};
+ghost use Rattle.qs_program.specs.audit.Binding.{bound};
+ghost use Rattle.qs_program.specs.audit.Program.{binding_of, declarations_of, declared_as, is_started, own_block, no_object, client_at, block_at, object_at, no_block, blocks_of, whole_load, whole_weight};
+ghost use Rattle.qs_program.specs.Program.{program_of};
 ghost use Rattle.qs_program.specs.Sound.{IsSound};
 
 use crate::code::{Body, Loads};
@@ -52,7 +52,7 @@ impl Drop for Block {
 
 impl Model for Block {
     ghost use Rattle.qs_program.specs.Shapes.{block_code};
-    ghost use Rattle.qs_program.specs.Program.{BlockShape};
+    ghost use Rattle.qs_program.specs.audit.Program.{BlockShape};
 
     ghost Value = { BlockShape };
 
@@ -61,8 +61,9 @@ impl Model for Block {
     ghost view = { λ b. record { reserved = b.reserved.items; body = b.body } };
 
     ghost use Rattle.std.specs.Prelude.{◌≡◌, ◌+◌, min};
-    ghost use Rattle.qs_program.specs.Limits.{most_steps};
-    ghost use Rattle.qs_program.specs.Loads.{AreLoads, weight_of};
+    ghost use Rattle.qs_program.specs.audit.Limits.{most_steps};
+    ghost use Rattle.qs_program.specs.audit.Loads.{weight_of};
+    ghost use Rattle.qs_program.specs.Loads.{AreLoads};
 
     ghost invariant = { λ b. AreLoads b.body b.loads × (b.steps ≡ min (weight_of b.body) (most_steps + 1)) };
 }
@@ -136,7 +137,7 @@ impl Drop for Start {
 
 impl Model for Start {
     ghost use Rattle.qs_program.specs.Shapes.{start_code};
-    ghost use Rattle.qs_program.specs.Program.{StartShape};
+    ghost use Rattle.qs_program.specs.audit.Program.{StartShape};
 
     ghost Value = { StartShape };
 
@@ -201,7 +202,7 @@ impl Drop for Client {
 
 impl Model for Client {
     ghost use Rattle.qs_program.specs.Shapes.{client_code};
-    ghost use Rattle.qs_program.specs.Program.{ClientShape};
+    ghost use Rattle.qs_program.specs.audit.Program.{ClientShape};
 
     ghost Value = { ClientShape };
 
@@ -275,13 +276,13 @@ impl Drop for Program {
 impl Model for Program {
     ghost use Rattle.std.specs.Prelude.{◌≡◌};
     ghost use Rattle.qs_program.specs.Shapes.{program_code};
-    ghost use Rattle.qs_program.specs.Program.{ProgramShape};
+    ghost use Rattle.qs_program.specs.audit.Program.{ProgramShape};
 
     ghost Value = { ProgramShape };
 
     ghost coded = { program_code };
 
-    ghost use Rattle.qs_program.specs.Program.{whole_load, whole_weight};
+    ghost use Rattle.qs_program.specs.audit.Program.{whole_load, whole_weight};
     ghost use Rattle.qs_program.specs.Sound.{IsSound};
 
     ghost view = { λ p. record { objects = p.objects.items; clients = p.clients.items } };

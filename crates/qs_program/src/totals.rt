@@ -1,9 +1,9 @@
 //! Loads and weights of whole programs, counted no further than one past their limits.
 
 ghost use Rattle.std.specs.Prelude.{◌≡◌, ◌+◌, min, sum_by};
-ghost use Rattle.qs_program.specs.Limits.{most_requests, most_steps};
-ghost use Rattle.qs_program.specs.Loads.{weight_of};
-ghost use Rattle.qs_program.specs.Program.{block_load as block_load_of};
+ghost use Rattle.qs_program.specs.audit.Limits.{most_requests, most_steps};
+ghost use Rattle.qs_program.specs.audit.Loads.{weight_of};
+ghost use Rattle.qs_program.specs.audit.Program.{block_load as block_load_of};
 
 use crate::limits::{PAST_REQUESTS, PAST_STEPS};
 use crate::program::{Block, Client};

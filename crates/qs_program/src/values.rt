@@ -1,8 +1,8 @@
 //! What expressions, tests and requests are worth, by a client's variables.
 
 ghost use Rattle.std.specs.Prelude.{◌≡◌, ◌≤◌, length, map, pos, slice_index_or, slice_set};
-ghost use Rattle.qs_program.specs.Values.{atom_value, exact, expr_value, relates as holds, test_value, request_of};
-ghost use Rattle.qs_objects.specs.Act.{clamp_to_word};
+ghost use Rattle.qs_program.specs.audit.Values.{atom_value, exact, expr_value, relates as holds, test_value, request_of};
+ghost use Rattle.qs_objects.specs.audit.Act.{clamp_to_word};
 
 use crate::code::{Atom, Call, Expr, Test};
 use crate::limits::MOST_VARIABLES;

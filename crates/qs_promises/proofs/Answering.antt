@@ -5,10 +5,11 @@
 use Rattle.std.proofs.Common.{◌≡◌, ◌∙◌, ℕ, Bool, true, false, not, List, [], ◌++◌, Option, Some, None, refl, sym, ap, subst}
 use Rattle.std.specs.Prelude.{IfSome, is_some}
 use Rattle.qs_objects.specs.declared.held.Ticket.{Ticket}
-use Rattle.qs_program.specs.Program.{ProgramShape}
+use Rattle.qs_program.specs.audit.Program.{ProgramShape}
 use Rattle.qs_program.specs.Sound.{IsSound}
-use Rattle.qs_meaning.specs.Configurations.{IsComplete, OrderOutcome, first_configuration, outcome_in, outcome_of}
-use Rattle.qs_meaning.specs.Serial.{IsLegal}
+use Rattle.qs_meaning.specs.audit.Configurations.{IsComplete, first_configuration}
+use Rattle.qs_meaning.specs.Configurations.{OrderOutcome, outcome_in, outcome_of}
+use Rattle.qs_meaning.specs.audit.Serial.{IsLegal}
 use Rattle.qs_meaning.proofs.Orders.{legal-front}
 use Rattle.qs_conditions.specs.Claims.{answer_by, seeks}
 use Rattle.qs_conditions.specs.Conditions.{Tree}
@@ -28,7 +29,7 @@ use Rattle.qs_core_laws.proofs.ProgramCodes.{program_codes}
 use Rattle.qs_syncset.specs.declared.mode.Mode.{Mode}
 use Rattle.qs_played.specs.declared.schedule.actor.Actor.{Actor}
 use Rattle.qs_promises.specs.Answers.{AlikeAnswersAreOfRuns, AnswersAreOfRuns, AtEveryEnd, AtSomeEnd, ComesTo, OnEveryWay, OnSomeWay, Says}
-use Rattle.qs_promises.specs.Runs.{by_rules, on_machine}
+use Rattle.qs_promises.specs.audit.Runs.{by_rules, on_machine}
 use Rattle.qs_promises.proofs.Calls.{run_of_played, run_of_played_in}
 use Rattle.qs_promises.proofs.Ending.{finished_covered, machine_reaches, rules_reach}
 use Rattle.qs_promises.proofs.SerialPlaces.{serial_order}

@@ -3,17 +3,21 @@
 -- run and its places are.
 use Rattle.std.proofs.Common.{◌≡◌, ◌∙◌, ◌<◌, ℕ, zero, suc, arith, List, [], ◌∷◌, get_or, length, take, drop, refl, sym, ap, subst}
 use Rattle.std.proofs.lemmas.List.{take-append-drop}
-use Rattle.qs_objects.specs.Parts.{IsFront}
+use Rattle.qs_objects.specs.audit.Parts.{IsFront}
 use Rattle.qs_objects.specs.declared.held.Ticket.{Ticket}
-use Rattle.qs_program.specs.Program.{ProgramShape, text_of}
-use Rattle.qs_program.specs.Values.{Locals}
-use Rattle.qs_meaning.specs.Configurations.{OrderOutcome, first_configuration}
-use Rattle.qs_meaning.specs.Serial.{IsLegal, SerialBlock, declared_states, serial_from, zeros}
-use Rattle.qs_meaning.specs.Solo.{States, put, solo}
+use Rattle.qs_program.specs.audit.Program.{ProgramShape, text_of}
+use Rattle.qs_program.specs.audit.Values.{Locals}
+use Rattle.qs_meaning.specs.audit.Configurations.{first_configuration}
+use Rattle.qs_meaning.specs.Configurations.{OrderOutcome}
+use Rattle.qs_meaning.specs.audit.Serial.{IsLegal, declared_states, zeros}
+use Rattle.qs_meaning.specs.Serial.{SerialBlock, serial_from}
+use Rattle.qs_meaning.specs.audit.Solo.{States, put, solo}
 use Rattle.qs_meaning.proofs.Orders.{configurations_follow_orders, legal-front}
-use Rattle.qs_played.specs.Isolation.{IsIsolatedBlock, no_block, serial_block, ticket_at, trace_of}
-use Rattle.qs_played.specs.Played.{Played, ticket}
-use Rattle.qs_promises.specs.AsIfSerial.{HasItsOwn, RunsAreAsIfSerial, alone_at}
+use Rattle.qs_played.specs.audit.Isolation.{ticket_at, trace_of}
+use Rattle.qs_played.specs.Isolation.{IsIsolatedBlock, no_block, serial_block}
+use Rattle.qs_played.specs.audit.Played.{Played, ticket}
+use Rattle.qs_promises.specs.audit.AsIfSerial.{HasItsOwn, alone_at}
+use Rattle.qs_promises.specs.AsIfSerial.{RunsAreAsIfSerial}
 use Rattle.qs_promises.specs.BlockAlone.{left_before}
 use Rattle.qs_promises.proofs.Between.{undisturbed}
 use Rattle.qs_promises.proofs.Ending.{finished_whole}

@@ -1,6 +1,6 @@
 -- What a run shows was asked for: it is what a run is.
 use Rattle.qs_promises.specs.AsAsked.{RunsAreAsAsked}
-use Rattle.qs_promises.specs.Runs.{by_rules, on_machine, on_threads}
+use Rattle.qs_promises.specs.audit.Runs.{by_rules, on_machine, on_threads}
 use Rattle.qs_promises.proofs.Calls.{over_on_threads}
 
 pub as_asked : RunsAreAsAsked

@@ -4,18 +4,20 @@
 use Rattle.std.proofs.Common.{◌≡◌, ◌≢◌, ◌∙◌, ◌<◌, ℕ, zero, suc, arith, Bool, true, false, true≢false, ⊎_elim, if◌then◌else◌, List, [], ◌∷◌, ◌++◌, flat_map, length, map, refl, sym, subst}
 use Rattle.std.proofs.lemmas.List.{map-append}
 use Rattle.std.specs.List.{AllByRecursion}
-use Rattle.qs_objects.specs.Parts.{command_event, entries_of, same}
+use Rattle.qs_objects.specs.audit.Parts.{command_event, entries_of, same}
 use Rattle.qs_objects.specs.declared.Request.{Request}
 use Rattle.qs_objects.specs.declared.held.Entry.{Entry}
 use Rattle.qs_objects.specs.declared.held.Ticket.{Ticket}
 use Rattle.qs_objects.proofs.Choices.{ticket_cases}
-use Rattle.qs_program.specs.Program.{ProgramShape}
+use Rattle.qs_program.specs.audit.Program.{ProgramShape}
 use Rattle.qs_meaning.proofs.Each.{each_join, each_map}
 use Rattle.qs_meaning.proofs.Histories.{Apart}
 use Rattle.qs_meaning.proofs.SerialRuns.{legal_apart}
-use Rattle.qs_played.specs.Isolation.{IsIsolated, journal_of, ticket_at}
-use Rattle.qs_played.specs.Played.{Played}
-use Rattle.qs_promises.specs.Undisturbed.{BlocksAreUndisturbed, IsUndisturbed, NoOtherBetween, ticket_in, tickets_of}
+use Rattle.qs_played.specs.audit.Isolation.{journal_of, ticket_at}
+use Rattle.qs_played.specs.Isolation.{IsIsolated}
+use Rattle.qs_played.specs.audit.Played.{Played}
+use Rattle.qs_promises.specs.audit.Undisturbed.{IsUndisturbed, NoOtherBetween, ticket_in, tickets_of}
+use Rattle.qs_promises.specs.Undisturbed.{BlocksAreUndisturbed}
 use Rattle.qs_promises.proofs.Isolating.{all_isolated}
 
 never : (t : Ticket) (ts : List Ticket) → AllByRecursion (λ u. t ≢ u) ts → (c : ℕ) → c < length ts

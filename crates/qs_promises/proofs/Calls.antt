@@ -1,17 +1,18 @@
 -- What a call promises of what it shows is that this is a run, and each run is what a call promises: by the plain rules
 -- and on the optimised machine with the schedule in place of its name, on threads by the law of running threads.
 use Rattle.std.proofs.Common.{ℕ, List, Ok, refl, sym, subst}
-use Rattle.qs_program.specs.Program.{ProgramShape}
+use Rattle.qs_program.specs.audit.Program.{ProgramShape}
 use Rattle.qs_program.specs.Sound.{IsSound}
 use Rattle.qs_syncset.specs.declared.mode.Mode.{Mode}
 use Rattle.qs_played.specs.Outcomes.{IsOver}
-use Rattle.qs_played.specs.Played.{Played}
+use Rattle.qs_played.specs.audit.Played.{Played}
 use Rattle.qs_played.specs.declared.schedule.actor.Actor.{Actor}
 use Rattle.qs_plain_laws.specs.PlainSchedule.{IsPlayed, scheduled}
 use Rattle.qs_core_laws.specs.CoreSchedule.{IsPlayedIn, core_scheduled}
 use Rattle.qs_run_laws.specs.Outcomes.{IsOutcome}
 use Rattle.qs_run_laws.proofs.RunOutcomes.{runs_have_outcomes}
-use Rattle.qs_promises.specs.Runs.{IsRun, OutcomesAreRuns, PlayedAreRuns, PlayedInAreRuns, by_rules, on_machine, on_threads}
+use Rattle.qs_promises.specs.audit.Runs.{IsRun, by_rules, on_machine, on_threads}
+use Rattle.qs_promises.specs.Runs.{OutcomesAreRuns, PlayedAreRuns, PlayedInAreRuns}
 
 pub run_of_played : (p : ProgramShape) (picks : List Actor) (rounds : ℕ) (r : Played) → IsPlayed p picks rounds (Ok r)
     → IsRun p (by_rules picks rounds) r

@@ -6,25 +6,25 @@ use Rattle.std.proofs.lemmas.List.{get_or-map}
 use Rattle.std.specs.List.{range_with_len}
 use Rattle.qs_objects.specs.declared.held.Ticket.{Ticket}
 use Rattle.qs_objects.proofs.Choices.{and_cases}
-use Rattle.qs_program.specs.Program.{ProgramShape, blocks_of}
+use Rattle.qs_program.specs.audit.Program.{ProgramShape, blocks_of}
 use Rattle.qs_program.specs.Sound.{IsSound}
-use Rattle.qs_meaning.specs.Serial.{IsLegal, LegalFrom}
-use Rattle.qs_meaning.specs.Solo.{put}
+use Rattle.qs_meaning.specs.audit.Serial.{IsLegal, LegalFrom}
+use Rattle.qs_meaning.specs.audit.Solo.{put}
 use Rattle.qs_syncset.specs.declared.mode.Mode.{Mode}
-use Rattle.qs_played.specs.Isolation.{ended_of}
+use Rattle.qs_played.specs.audit.Isolation.{ended_of}
 use Rattle.qs_played.specs.Outcomes.{IsOver}
-use Rattle.qs_played.specs.Played.{Played, ticket}
-use Rattle.qs_played.specs.Schedule.{schedule}
+use Rattle.qs_played.specs.audit.Played.{Played, ticket}
+use Rattle.qs_played.specs.audit.Schedule.{schedule}
 use Rattle.qs_played.specs.declared.schedule.actor.Actor.{Actor}
 use Rattle.qs_played.proofs.JournalRooms.{no_block_beyond}
-use Rattle.qs_plain_laws.specs.Plain.{Client, Plain, begin, begun_blocks, client_at, no_client}
-use Rattle.qs_plain_laws.specs.PlainSchedule.{all_done, all_idle, ended_at, is_done, is_out, played_of, plays}
+use Rattle.qs_plain_laws.specs.audit.Plain.{Client, Plain, begin, begun_blocks, client_at, no_client}
+use Rattle.qs_plain_laws.specs.audit.PlainSchedule.{all_done, all_idle, ended_at, is_done, is_out, played_of, plays}
 use Rattle.qs_plain_laws.proofs.PlainPreserved.{RunInvariant, run_kept}
-use Rattle.qs_client.specs.ClientModel.{has_ended, is_between}
-use Rattle.qs_core_laws.specs.Core.{Core, core_begin}
-use Rattle.qs_core_laws.specs.CoreSchedule.{all_of, core_played, core_plays, is_idle}
-use Rattle.qs_core_laws.specs.CoreSchedule as machine
-use Rattle.qs_promises.specs.Runs.{IsRun, Way, by_rules, on_machine, on_threads}
+use Rattle.qs_client.specs.audit.ClientModel.{has_ended, is_between}
+use Rattle.qs_core_laws.specs.audit.Core.{Core, core_begin}
+use Rattle.qs_core_laws.specs.audit.CoreSchedule.{all_of, core_played, core_plays, is_idle}
+use Rattle.qs_core_laws.specs.audit.CoreSchedule as machine
+use Rattle.qs_promises.specs.audit.Runs.{IsRun, Way, by_rules, on_machine, on_threads}
 use Rattle.qs_promises.proofs.Calls.{over_on_threads}
 
 -- if it is finished, each block has ended

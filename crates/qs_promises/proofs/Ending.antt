@@ -6,9 +6,10 @@
 use Rattle.std.proofs.Common.{refl, subst, ◌++◌, ◌≡◌, ◌∙◌, ℕ, true, List, sym, ap}
 use Rattle.qs_objects.specs.declared.Request.{Request}
 use Rattle.qs_objects.specs.declared.held.Ticket.{Ticket}
-use Rattle.qs_program.specs.Program.{ProgramShape}
+use Rattle.qs_program.specs.audit.Program.{ProgramShape}
 use Rattle.qs_program.specs.Sound.{IsSound}
-use Rattle.qs_meaning.specs.Configurations.{IsComplete, OrderOutcome, outcome_of}
+use Rattle.qs_meaning.specs.audit.Configurations.{IsComplete}
+use Rattle.qs_meaning.specs.Configurations.{OrderOutcome, outcome_of}
 use Rattle.qs_meaning.proofs.Each.{each_both, each_map}
 use Rattle.qs_meaning.proofs.Orders.{configurations_follow_orders}
 use Rattle.qs_standings.specs.Lists.{HasOne}
@@ -16,12 +17,13 @@ use Rattle.qs_outcomes.specs.Outcomes.{IsLeast, IsListed, IsListedAfter, outcome
 use Rattle.qs_standings.specs.Standings.{StandingShape}
 use Rattle.qs_standings.proofs.Lists.{has_map}
 use Rattle.qs_played.specs.Isolation.{IsIsolated}
-use Rattle.qs_played.specs.Played.{Played}
+use Rattle.qs_played.specs.audit.Played.{Played}
 use Rattle.qs_plain_laws.proofs.orders.BlockReached.{orders_played}
 use Rattle.qs_core_laws.proofs.orders.BlocksPlayed.{core_orders_played}
-use Rattle.qs_promises.specs.Finished.{FinishedRunsAreWhole, IsWholeRun, ShowsStates}
+use Rattle.qs_promises.specs.audit.Finished.{IsWholeRun, ShowsStates}
+use Rattle.qs_promises.specs.Finished.{FinishedRunsAreWhole}
 use Rattle.qs_promises.specs.Outcomes.{CanHappen, FinishedRunsAreCovered, Happens, IsAmong, IsCovered, ListedOutcomesCanHappen, ListsAreOfRuns, MachineReachesCompleteOrders, RulesReachCompleteOrders}
-use Rattle.qs_promises.specs.Runs.{by_rules, on_machine}
+use Rattle.qs_promises.specs.audit.Runs.{by_rules, on_machine}
 use Rattle.qs_core_laws.proofs.ProgramCodes.{program_codes}
 use Rattle.qs_promises.proofs.Calls.{run_of_played, run_of_played_in}
 use Rattle.qs_promises.proofs.Done.{EndsWhole, ends_whole}

@@ -1,23 +1,23 @@
 -- A run goes on until it is finished: the laws of both machines are put together. Where nobody has a step it is
 -- finished, for else somebody had one.
 use Rattle.std.proofs.Common.{◌≡◌, ◌∙◌, ◌⊎◌, inl, inr, ℕ, Bool, true, true≢false, List, Option, None, is_some, sym, ap, subst}
-use Rattle.qs_program.specs.Program.{ProgramShape}
+use Rattle.qs_program.specs.audit.Program.{ProgramShape}
 use Rattle.qs_program.specs.Sound.{IsSound}
 use Rattle.qs_syncset.specs.declared.mode.Mode.{Mode}
-use Rattle.qs_played.specs.Played.{Played}
-use Rattle.qs_played.specs.Schedule.{schedule}
+use Rattle.qs_played.specs.audit.Played.{Played}
+use Rattle.qs_played.specs.audit.Schedule.{schedule}
 use Rattle.qs_played.specs.declared.schedule.actor.Actor.{Actor}
-use Rattle.qs_plain_laws.specs.Plain.{begin, step}
-use Rattle.qs_plain_laws.specs.PlainSchedule.{is_finished, plays}
+use Rattle.qs_plain_laws.specs.audit.Plain.{begin, step}
+use Rattle.qs_plain_laws.specs.audit.PlainSchedule.{is_finished, plays}
 use Rattle.qs_plain_laws.proofs.progress.Finished.{finished_stay}
 use Rattle.qs_plain_laws.proofs.progress.Stuck.{runs_never_stuck}
-use Rattle.qs_core_laws.specs.Core.{core_begin, core_step}
-use Rattle.qs_core_laws.specs.CoreSchedule.{core_plays}
-use Rattle.qs_core_laws.specs.CoreSchedule as machine
+use Rattle.qs_core_laws.specs.audit.Core.{core_begin, core_step}
+use Rattle.qs_core_laws.specs.audit.CoreSchedule.{core_plays}
+use Rattle.qs_core_laws.specs.audit.CoreSchedule as machine
 use Rattle.qs_core_laws.proofs.progress.Finished.{core_finished_stay}
 use Rattle.qs_core_laws.proofs.progress.Stuck.{core_runs_never_stuck}
 use Rattle.qs_promises.specs.GoesOn.{GoesOnOrEnds, MachinesGoOn, RulesGoOn, RunGoesOn, RunsGoOn, SomebodyHasStep}
-use Rattle.qs_promises.specs.Runs.{IsRun, by_rules, on_machine, on_threads}
+use Rattle.qs_promises.specs.audit.Runs.{IsRun, by_rules, on_machine, on_threads}
 use Rattle.qs_promises.proofs.Calls.{over_on_threads}
 use Rattle.qs_core_laws.proofs.ProgramCodes.{program_codes}
 

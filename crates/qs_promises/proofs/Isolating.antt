@@ -3,22 +3,23 @@
 use Rattle.std.proofs.Common.{ℕ, List, [], sym, subst}
 use Rattle.qs_objects.specs.declared.Request.{Request}
 use Rattle.qs_objects.specs.declared.held.Ticket.{Ticket}
-use Rattle.qs_program.specs.Program.{ProgramShape}
+use Rattle.qs_program.specs.audit.Program.{ProgramShape}
 use Rattle.qs_program.specs.Sound.{IsSound}
 use Rattle.qs_syncset.specs.declared.mode.Mode.{Mode}
 use Rattle.qs_played.specs.Isolation.{IsIsolated}
-use Rattle.qs_played.specs.Played.{Played}
-use Rattle.qs_played.specs.Schedule.{schedule}
+use Rattle.qs_played.specs.audit.Played.{Played}
+use Rattle.qs_played.specs.audit.Schedule.{schedule}
 use Rattle.qs_played.specs.declared.schedule.actor.Actor.{Actor}
-use Rattle.qs_plain_laws.specs.Plain.{begin}
+use Rattle.qs_plain_laws.specs.audit.Plain.{begin}
 use Rattle.qs_plain_laws.specs.PlainIsolation.{commands_in_queue}
-use Rattle.qs_plain_laws.specs.PlainSchedule.{plays}
+use Rattle.qs_plain_laws.specs.audit.PlainSchedule.{plays}
 use Rattle.qs_plain_laws.proofs.Isolating.{runs_isolated}
-use Rattle.qs_core_laws.specs.Core.{core_begin}
-use Rattle.qs_core_laws.specs.CoreSchedule.{core_plays, on_way}
+use Rattle.qs_core_laws.specs.audit.Core.{core_begin}
+use Rattle.qs_core_laws.specs.audit.CoreSchedule.{core_plays}
+use Rattle.qs_core_laws.specs.CoreSchedule.{on_way}
 use Rattle.qs_core_laws.proofs.CoreIsolating.{core_isolated}
 use Rattle.qs_promises.specs.Isolated.{RunsAreIsolated}
-use Rattle.qs_promises.specs.Runs.{IsRun, by_rules, on_machine, on_threads}
+use Rattle.qs_promises.specs.audit.Runs.{IsRun, by_rules, on_machine, on_threads}
 use Rattle.qs_promises.proofs.Calls.{outcome_of_run}
 
 -- with some commands on their way

@@ -3,28 +3,28 @@
 use Rattle.std.proofs.Common.{◌≡◌, ◌<◌, ◌≤◌, ◌+◌, ℕ, zero, suc, true, List, [], append-nil, length, map, refl, sym, ap, subst, arith}
 use Rattle.std.proofs.lemmas.Bool.{lt-ltb}
 use Rattle.std.specs.List.{range_with_len}
-use Rattle.qs_program.specs.Program.{ProgramShape}
+use Rattle.qs_program.specs.audit.Program.{ProgramShape}
 use Rattle.qs_program.specs.Sound.{IsSound}
 use Rattle.qs_syncset.specs.declared.mode.Mode.{Mode}
-use Rattle.qs_played.specs.Played.{Played}
-use Rattle.qs_played.specs.Schedule.{actors_of, all_named, most_rounds, names_actor, rounds_of, schedule}
+use Rattle.qs_played.specs.audit.Played.{Played}
+use Rattle.qs_played.specs.audit.Schedule.{actors_of, all_named, most_rounds, names_actor, rounds_of, schedule}
 use Rattle.qs_played.specs.declared.schedule.actor.Actor.{Actor}
 use Rattle.qs_played.specs.declared.schedule.actor.Actor.TheVariants as actor
-use Rattle.qs_plain_laws.specs.Plain.{begin}
-use Rattle.qs_plain_laws.specs.PlainSchedule.{played_of, plays}
+use Rattle.qs_plain_laws.specs.audit.Plain.{begin}
+use Rattle.qs_plain_laws.specs.audit.PlainSchedule.{played_of, plays}
 use Rattle.qs_plain_laws.proofs.orders.AloneSteps.{named_append}
 use Rattle.qs_plain_laws.specs.progress.Steps.{most_steps_of}
 use Rattle.qs_plain_laws.proofs.progress.Finished.{rounds_finish}
 use Rattle.qs_plain_laws.proofs.progress.SmallBounds.{bounds_small}
-use Rattle.qs_core_laws.specs.Core.{core_begin}
-use Rattle.qs_core_laws.specs.CoreSchedule.{core_played, core_plays}
+use Rattle.qs_core_laws.specs.audit.Core.{core_begin}
+use Rattle.qs_core_laws.specs.audit.CoreSchedule.{core_played, core_plays}
 use Rattle.qs_core_laws.specs.progress.CoreSteps.{most_core_steps_of}
 use Rattle.qs_core_laws.proofs.progress.Finished.{core_rounds_finish}
 use Rattle.qs_core_laws.proofs.progress.SmallBounds.{core_bounds_small}
 use Rattle.qs_promises.specs.EnoughRounds.{DefaultRoundsAreEnough, DefaultRoundsFinish, EnoughRoundsFinish}
 use Rattle.qs_promises.specs.EveryBeginning.{EveryBeginningLeadsToAnOutcome}
 use Rattle.qs_promises.specs.Outcomes.{IsReached}
-use Rattle.qs_promises.specs.Runs.{IsRun, by_rules, on_machine, on_threads}
+use Rattle.qs_promises.specs.audit.Runs.{IsRun, by_rules, on_machine, on_threads}
 use Rattle.qs_core_laws.proofs.ProgramCodes.{program_codes}
 use Rattle.qs_promises.proofs.Calls.{over_on_threads, played_in_of_run, played_of_run}
 use Rattle.qs_promises.proofs.Ending.{finished_covered}

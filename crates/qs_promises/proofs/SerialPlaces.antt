@@ -1,15 +1,17 @@
 -- A place of a serial run is its block, run alone on the states that the blocks before it leave; and it is settled by
 -- the order up to there. What a run shows of a block is isolated, so the same holds of it.
 use Rattle.std.proofs.Common.{◌≡◌, ◌∙◌, ◌<◌, ℕ, zero, suc, arith, List, [], ◌∷◌, get_or, length, take, refl, sym, ap, subst}
-use Rattle.qs_objects.specs.Parts.{IsFront}
+use Rattle.qs_objects.specs.audit.Parts.{IsFront}
 use Rattle.qs_objects.specs.declared.Request.{Request}
 use Rattle.qs_objects.specs.declared.held.Ticket.{Ticket}
-use Rattle.qs_program.specs.Program.{ProgramShape, text_of}
-use Rattle.qs_program.specs.Values.{Locals}
-use Rattle.qs_meaning.specs.Serial.{SerialBlock, declared_states, serial_from, zeros}
-use Rattle.qs_meaning.specs.Solo.{States, put, solo}
-use Rattle.qs_played.specs.Isolation.{IsIsolated, IsIsolatedBlock, no_block, serial_block, ticket_at, trace_of}
-use Rattle.qs_played.specs.Played.{Played, ticket}
+use Rattle.qs_program.specs.audit.Program.{ProgramShape, text_of}
+use Rattle.qs_program.specs.audit.Values.{Locals}
+use Rattle.qs_meaning.specs.audit.Serial.{declared_states, zeros}
+use Rattle.qs_meaning.specs.Serial.{SerialBlock, serial_from}
+use Rattle.qs_meaning.specs.audit.Solo.{States, put, solo}
+use Rattle.qs_played.specs.audit.Isolation.{ticket_at, trace_of}
+use Rattle.qs_played.specs.Isolation.{IsIsolated, IsIsolatedBlock, no_block, serial_block}
+use Rattle.qs_played.specs.audit.Played.{Played, ticket}
 use Rattle.qs_played.proofs.twin.AgreedFronts.{agreed_fronts}
 use Rattle.qs_promises.specs.BlockAlone.{BlocksAreAsIfAlone, BlocksThatAgreeDoTheSame, IsAsIfAlone, OnlyTheOrderDecides, ShowTheSame, alone, left_before}
 use Rattle.qs_promises.specs.SerialOrder.{IsInSerialOrder, RunsAreInSerialOrder}

@@ -2,10 +2,11 @@
 use Rattle.std.specs.Prelude.{◌≡◌, Bool, true, false, List, [], ◌++◌, ℕ, is_some}
 use Rattle.std.specs.List.{AllByRecursion}
 use Rattle.qs_objects.specs.declared.held.Ticket.{Ticket}
-use Rattle.qs_program.specs.Program.{ProgramShape}
+use Rattle.qs_program.specs.audit.Program.{ProgramShape}
 use Rattle.qs_program.specs.Sound.{IsSound}
-use Rattle.qs_meaning.specs.Configurations.{IsComplete, outcome_of}
-use Rattle.qs_meaning.specs.Serial.{IsLegal}
+use Rattle.qs_meaning.specs.audit.Configurations.{IsComplete}
+use Rattle.qs_meaning.specs.Configurations.{outcome_of}
+use Rattle.qs_meaning.specs.audit.Serial.{IsLegal}
 use Rattle.qs_conditions.specs.Claims.{answer_by}
 use Rattle.qs_conditions.specs.Conditions.{Tree, steps_of}
 use Rattle.qs_conditions.specs.declared.claim.Claim.{Claim}
@@ -17,11 +18,11 @@ use Rattle.qs_questions.specs.AlikeClaims.{IsAlikeAnswer}
 use Rattle.qs_questions.specs.Claims.{IsAnswerTo}
 use Rattle.qs_questions.specs.Questions.{holds_at}
 use Rattle.qs_syncset.specs.declared.mode.Mode.{Mode}
-use Rattle.qs_played.specs.Played.{Played}
+use Rattle.qs_played.specs.audit.Played.{Played}
 use Rattle.qs_played.specs.declared.schedule.actor.Actor.{Actor}
-use Rattle.qs_promises.specs.Finished.{ShowsStates}
+use Rattle.qs_promises.specs.audit.Finished.{ShowsStates}
 use Rattle.qs_promises.specs.Outcomes.{MachineReaches, RulesReach}
-use Rattle.qs_promises.specs.Runs.{IsRun, Way, by_rules, on_machine}
+use Rattle.qs_promises.specs.audit.Runs.{IsRun, Way, by_rules, on_machine}
 
 -- At the end of every finished run whose order begins with the front, in whichever way it is run, the condition holds,
 -- or it does not; and the run shows the objects of this end.

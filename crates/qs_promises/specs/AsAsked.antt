@@ -1,15 +1,15 @@
 -- A run shows what was asked for: the state after exactly the picks and the rounds, or, on threads, the end.
 use Rattle.std.specs.Prelude.{◌≡◌, ℕ}
-use Rattle.qs_program.specs.Program.{ProgramShape}
-use Rattle.qs_syncset.specs.Codes.{ClientCode, AreCodes}
+use Rattle.qs_program.specs.audit.Program.{ProgramShape}
+use Rattle.qs_syncset.specs.audit.Codes.{ClientCode, AreCodes}
 use Rattle.qs_played.specs.Outcomes.{IsOver}
-use Rattle.qs_played.specs.Played.{Played}
-use Rattle.qs_played.specs.Schedule.{schedule}
-use Rattle.qs_plain_laws.specs.Plain.{begin}
-use Rattle.qs_plain_laws.specs.PlainSchedule.{played_of, plays}
-use Rattle.qs_core_laws.specs.Core.{core_begin}
-use Rattle.qs_core_laws.specs.CoreSchedule.{core_played, core_plays}
-use Rattle.qs_promises.specs.Runs.{IsRun, Way, by_rules, on_machine, on_threads}
+use Rattle.qs_played.specs.audit.Played.{Played}
+use Rattle.qs_played.specs.audit.Schedule.{schedule}
+use Rattle.qs_plain_laws.specs.audit.Plain.{begin}
+use Rattle.qs_plain_laws.specs.audit.PlainSchedule.{played_of, plays}
+use Rattle.qs_core_laws.specs.audit.Core.{core_begin}
+use Rattle.qs_core_laws.specs.audit.CoreSchedule.{core_played, core_plays}
+use Rattle.qs_promises.specs.audit.Runs.{IsRun, Way, by_rules, on_machine, on_threads}
 
 -- By the plain rules and on the optimised machine, the state to which the machine comes from its beginning, once each
 -- actor of the schedule was asked for a step: the picks, and then the rounds. On threads each block has ended, and the

@@ -1,17 +1,18 @@
 -- What a block does follows from its text, its client's variables as it began, and the states in which the earlier
 -- blocks left its objects.
 use Rattle.std.specs.Prelude.{◌≡◌, ◌<◌, ℕ, suc, true, List, length, take}
-use Rattle.qs_objects.specs.Parts.{IsFront}
+use Rattle.qs_objects.specs.audit.Parts.{IsFront}
 use Rattle.qs_objects.specs.declared.held.Event.{Event}
-use Rattle.qs_program.specs.Program.{ProgramShape, text_of}
+use Rattle.qs_program.specs.audit.Program.{ProgramShape, text_of}
 use Rattle.qs_program.specs.Sound.{IsSound}
 use Rattle.qs_meaning.specs.Alike.{SameTrace}
 use Rattle.qs_meaning.specs.Serial.{serial}
-use Rattle.qs_meaning.specs.Solo.{States, solo}
-use Rattle.qs_played.specs.Isolation.{ended_of, entry_of, ticket_at, trace_of}
-use Rattle.qs_played.specs.Played.{Played}
+use Rattle.qs_meaning.specs.audit.Solo.{States, solo}
+use Rattle.qs_played.specs.audit.Isolation.{ended_of, ticket_at, trace_of}
+use Rattle.qs_played.specs.Isolation.{entry_of}
+use Rattle.qs_played.specs.audit.Played.{Played}
 use Rattle.qs_played.specs.twin.Twins.{Agreement, HasEntryOn, shorter, start_of}
-use Rattle.qs_promises.specs.Runs.{IsRun, Way}
+use Rattle.qs_promises.specs.audit.Runs.{IsRun, Way}
 
 -- the states in which the blocks before the i-th place of the order leave the objects, run one after another
 abbrev pub left_before : ProgramShape → Played → ℕ → States

@@ -1,12 +1,12 @@
 -- Enough rounds finish a run: the steps that can be made are few, and until it has finished each round makes one.
 use Rattle.std.specs.Prelude.{◌≡◌, ◌≤◌, true}
-use Rattle.qs_program.specs.Program.{ProgramShape}
+use Rattle.qs_program.specs.audit.Program.{ProgramShape}
 use Rattle.qs_program.specs.Sound.{IsSound}
-use Rattle.qs_played.specs.Played.{Played}
-use Rattle.qs_played.specs.Schedule.{most_rounds}
+use Rattle.qs_played.specs.audit.Played.{Played}
+use Rattle.qs_played.specs.audit.Schedule.{most_rounds}
 use Rattle.qs_plain_laws.specs.progress.Steps.{most_steps_of}
 use Rattle.qs_core_laws.specs.progress.CoreSteps.{most_core_steps_of}
-use Rattle.qs_promises.specs.Runs.{IsRun, Way, by_rules, on_machine, on_threads}
+use Rattle.qs_promises.specs.audit.Runs.{IsRun, Way, by_rules, on_machine, on_threads}
 
 -- There are at least as many rounds as the program's blocks have steps, by the plain rules or on the optimised machine.
 -- On threads there are no rounds.

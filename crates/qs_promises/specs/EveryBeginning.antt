@@ -1,12 +1,12 @@
 -- Every beginning leads to an outcome: whatever was picked, there are further picks after which the run has finished.
 use Rattle.std.specs.Prelude.{List, ◌++◌}
-use Rattle.qs_program.specs.Program.{ProgramShape}
+use Rattle.qs_program.specs.audit.Program.{ProgramShape}
 use Rattle.qs_program.specs.Sound.{IsSound}
-use Rattle.qs_played.specs.Played.{Played}
-use Rattle.qs_played.specs.Schedule.{schedule}
+use Rattle.qs_played.specs.audit.Played.{Played}
+use Rattle.qs_played.specs.audit.Schedule.{schedule}
 use Rattle.qs_played.specs.declared.schedule.actor.Actor.{Actor}
 use Rattle.qs_promises.specs.Outcomes.{IsReached}
-use Rattle.qs_promises.specs.Runs.{IsRun, Way, by_rules, on_machine, on_threads}
+use Rattle.qs_promises.specs.audit.Runs.{IsRun, Way, by_rules, on_machine, on_threads}
 
 -- The run goes on by further picks: behind all who were asked for a step so far, and without a round after them. On
 -- threads nobody picks.

@@ -1,23 +1,10 @@
--- A finished run holds each block of the program once, and leaves the objects as the serial run does.
-use Rattle.std.specs.Prelude.{◌≡◌, ◌<◌, ℕ, true, length}
-use Rattle.qs_program.specs.Program.{ProgramShape}
+-- Beside what the headline reaches (`audit/Finished.antt`): what else contracts and proofs use.
+use Rattle.std.specs.Prelude.{◌≡◌, true}
+use Rattle.qs_program.specs.audit.Program.{ProgramShape}
 use Rattle.qs_program.specs.Sound.{IsSound}
-use Rattle.qs_meaning.specs.Configurations.{IsComplete, configuration_after}
-use Rattle.qs_meaning.specs.Solo.{States}
-use Rattle.qs_played.specs.Isolation.{ended_of, state_of}
-use Rattle.qs_played.specs.Played.{Played}
-use Rattle.qs_promises.specs.Runs.{IsRun, Way}
-
--- what a run shows of the program's objects are these states
-abbrev pub ShowsStates : ProgramShape → Played → States → Type 0
-ShowsStates p r states = (h : ℕ) → h < length p.objects → state_of r h ≡ states h
-
--- its order is legal and has each block once, each of them is done, and it shows the states that the blocks leave when
--- they run one after another in this order
-pub record IsWholeRun (p : ProgramShape) (r : Played) : Type 0 where
-  pub complete : IsComplete p r.order
-  pub done : (i : ℕ) → i < length r.order → ended_of r i ≡ true
-  pub states : ShowsStates p r (configuration_after p r.order).states
+use Rattle.qs_played.specs.audit.Played.{Played}
+use Rattle.qs_promises.specs.audit.Runs.{IsRun, Way}
+use Rattle.qs_promises.specs.audit.Finished.{IsWholeRun}
 
 -- for every checked program, in whichever way it is run
 abbrev pub FinishedRunsAreWhole : Type 0

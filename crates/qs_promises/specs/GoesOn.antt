@@ -1,19 +1,19 @@
 -- A run can't hang: as long as it has not finished, some client or some handler of the program has a step. Of threads
 -- nothing of the kind is claimed.
 use Rattle.std.specs.Prelude.{◌≡◌, ◌⊎◌, ℕ, Bool, true, IsSome, List, Option, None}
-use Rattle.qs_program.specs.Program.{ProgramShape}
+use Rattle.qs_program.specs.audit.Program.{ProgramShape}
 use Rattle.qs_program.specs.Sound.{IsSound}
-use Rattle.qs_syncset.specs.Codes.{ClientCode, AreCodes}
+use Rattle.qs_syncset.specs.audit.Codes.{ClientCode, AreCodes}
 use Rattle.qs_syncset.specs.declared.mode.Mode.{Mode}
-use Rattle.qs_played.specs.Played.{Played}
-use Rattle.qs_played.specs.Schedule.{names_actor, schedule}
+use Rattle.qs_played.specs.audit.Played.{Played}
+use Rattle.qs_played.specs.audit.Schedule.{names_actor, schedule}
 use Rattle.qs_played.specs.declared.schedule.actor.Actor.{Actor}
-use Rattle.qs_plain_laws.specs.Plain.{begin, step}
-use Rattle.qs_plain_laws.specs.PlainSchedule.{is_finished, plays}
-use Rattle.qs_core_laws.specs.Core.{core_begin, core_step}
-use Rattle.qs_core_laws.specs.CoreSchedule.{core_played, core_plays}
-use Rattle.qs_core_laws.specs.CoreSchedule as machine
-use Rattle.qs_promises.specs.Runs.{IsRun, Way, by_rules, on_machine, on_threads}
+use Rattle.qs_plain_laws.specs.audit.Plain.{begin, step}
+use Rattle.qs_plain_laws.specs.audit.PlainSchedule.{is_finished, plays}
+use Rattle.qs_core_laws.specs.audit.Core.{core_begin, core_step}
+use Rattle.qs_core_laws.specs.audit.CoreSchedule.{core_played, core_plays}
+use Rattle.qs_core_laws.specs.audit.CoreSchedule as machine
+use Rattle.qs_promises.specs.audit.Runs.{IsRun, Way, by_rules, on_machine, on_threads}
 
 -- some client or some handler of the program has a step, by what each actor's step is
 abbrev pub SomebodyHasStep : {S : Type 0} → ProgramShape → (Actor → Option S) → Type 0

@@ -1,3 +1,5 @@
+-- What has to be believed for the headline.
+pub mod audit
 -- What is promised, sentence by sentence: whoever relies on it has to read these.
 pub mod Runs
 pub mod AsIfSerial

@@ -2,18 +2,18 @@
 use Rattle.std.specs.Prelude.{◌≡◌, ℕ, true, List, ◌++◌}
 use Rattle.std.specs.List.{AllByRecursion}
 use Rattle.qs_objects.specs.declared.held.Ticket.{Ticket}
-use Rattle.qs_program.specs.Program.{ProgramShape}
+use Rattle.qs_program.specs.audit.Program.{ProgramShape}
 use Rattle.qs_program.specs.Sound.{IsSound}
-use Rattle.qs_meaning.specs.Configurations.{IsComplete, outcome_of}
+use Rattle.qs_meaning.specs.audit.Configurations.{IsComplete}
+use Rattle.qs_meaning.specs.Configurations.{outcome_of}
 use Rattle.qs_standings.specs.Lists.{HasOne}
-use Rattle.qs_outcomes.specs.Outcomes.{AreAllOutcomes, AreAllOutcomesAfter, AreOutcomesAfter, IsLeast, IsListed}
-use Rattle.qs_outcomes.specs.Outcomes.{OutcomesShape, outcome_at}
+use Rattle.qs_outcomes.specs.Outcomes.{AreAllOutcomes, AreAllOutcomesAfter, AreOutcomesAfter, IsLeast, IsListed, OutcomesShape, outcome_at}
 use Rattle.qs_standings.specs.Standings.{StandingShape}
 use Rattle.qs_syncset.specs.declared.mode.Mode.{Mode}
-use Rattle.qs_played.specs.Played.{Played}
+use Rattle.qs_played.specs.audit.Played.{Played}
 use Rattle.qs_played.specs.declared.schedule.actor.Actor.{Actor}
-use Rattle.qs_promises.specs.Finished.{ShowsStates}
-use Rattle.qs_promises.specs.Runs.{IsRun, Way, by_rules, on_machine}
+use Rattle.qs_promises.specs.audit.Finished.{ShowsStates}
+use Rattle.qs_promises.specs.audit.Runs.{IsRun, Way, by_rules, on_machine}
 
 -- one of these comes from the order of the run, as its variables and its states say, and its states are what the run
 -- shows

@@ -1,12 +1,13 @@
 -- The order of a run's tickets is one in which its blocks can be run one after another, each whole and alone.
 use Rattle.std.specs.Prelude.{◌≡◌, ◌<◌, ℕ, true, length}
-use Rattle.qs_objects.specs.Parts.{IsFront}
-use Rattle.qs_program.specs.Program.{ProgramShape}
+use Rattle.qs_objects.specs.audit.Parts.{IsFront}
+use Rattle.qs_program.specs.audit.Program.{ProgramShape}
 use Rattle.qs_program.specs.Sound.{IsSound}
-use Rattle.qs_meaning.specs.Serial.{IsLegal}
-use Rattle.qs_played.specs.Isolation.{IsFitting, ended_of, entry_of, serial_block, trace_of}
-use Rattle.qs_played.specs.Played.{Played}
-use Rattle.qs_promises.specs.Runs.{IsRun, Way}
+use Rattle.qs_meaning.specs.audit.Serial.{IsLegal}
+use Rattle.qs_played.specs.audit.Isolation.{ended_of, trace_of}
+use Rattle.qs_played.specs.Isolation.{IsFitting, entry_of, serial_block}
+use Rattle.qs_played.specs.audit.Played.{Played}
+use Rattle.qs_promises.specs.audit.Runs.{IsRun, Way}
 
 -- The block at the i-th place of the order. It began with the variables that its client has there in the serial run;
 -- its trace so far is a beginning of what it does there, and all of that if it is done.

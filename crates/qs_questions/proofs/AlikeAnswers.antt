@@ -6,10 +6,11 @@ use Rattle.std.specs.Option.{is_some}
 use Rattle.std.proofs.lemmas.List.{get_or_default}
 use Rattle.qs_objects.specs.ByteSets.{in_byte}
 use Rattle.qs_objects.proofs.Choices.{eqb_self}
-use Rattle.qs_program.specs.Numbering.{Name, found_at, is_among}
-use Rattle.qs_program.specs.Program.{ProgramShape, client_at}
-use Rattle.qs_program.specs.Values.{relates}
-use Rattle.qs_meaning.specs.Configurations.{Configuration, OrderOutcome, outcome_in, outcome_of}
+use Rattle.qs_program.specs.audit.Numbering.{Name, found_at, is_among}
+use Rattle.qs_program.specs.audit.Program.{ProgramShape, client_at}
+use Rattle.qs_program.specs.audit.Values.{relates}
+use Rattle.qs_meaning.specs.audit.Configurations.{Configuration}
+use Rattle.qs_meaning.specs.Configurations.{OrderOutcome, outcome_in, outcome_of}
 use Rattle.qs_meaning.proofs.Each.{each_back, each_front, each_snoc}
 use Rattle.qs_conditions.specs.Claims.{seeks}
 use Rattle.qs_conditions.specs.Conditions.{sum_of}

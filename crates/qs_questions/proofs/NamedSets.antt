@@ -3,7 +3,7 @@ use Rattle.std.proofs.Common.{◌≡◌, ℕ, ◌+◌, ◌<◌, ◌≤◌, Bool,
 use Rattle.std.proofs.lemmas.List.{take_all}
 use Rattle.std.proofs.lemmas.List.Folds.{list_any-append}
 use Rattle.qs_objects.specs.ByteSets.{in_byte}
-use Rattle.qs_program.specs.Program.{ProgramShape}
+use Rattle.qs_program.specs.audit.Program.{ProgramShape}
 use Rattle.qs_conditions.specs.declared.condition.Summand.{Summand}
 use Rattle.qs_conditions.specs.declared.condition.Step.{Step}
 use Rattle.qs_conditions.specs.declared.condition.Step.TheVariants as s

@@ -3,15 +3,16 @@
 use Rattle.std.proofs.Common.{◌≡◌, ◌==◌, ◌&&◌, ℕ, Bool, true, false, cond, List, [], ◌∷◌, length, Option, Some, None, IfSome, IsSome, refl, sym, ◌∙◌, rules, arith, ℤ}
 use Rattle.std.proofs.lemmas.Bool.Decides.{nat_tests}
 use Rattle.std.specs.List.{filter, find}
-use Rattle.qs_objects.specs.Act.{act}
-use Rattle.qs_objects.specs.Operations.{all_operations, arity, fits, is_of_account, is_of_buffer, is_of_grid, is_query, operations_of, word}
+use Rattle.qs_objects.specs.audit.Act.{act}
+use Rattle.qs_objects.specs.audit.Operations.{all_operations, arity, is_of_account, is_of_buffer, is_of_grid, is_query, operations_of, word}
+use Rattle.qs_objects.specs.Operations.{fits}
 use Rattle.qs_objects.specs.declared.Op.{Op}
 use Rattle.qs_objects.specs.declared.object.Kind.{Kind}
 use Rattle.qs_objects.specs.declared.object.Kind.TheVariants as kinds
 use Rattle.qs_objects.proofs.ObjectLaws.{answers}
-use Rattle.qs_program.specs.Numbering.{Name, same_name}
-use Rattle.qs_program.specs.Program.{ProgramShape, object_at}
-use Rattle.qs_meaning.specs.Solo.{States}
+use Rattle.qs_program.specs.audit.Numbering.{Name, same_name}
+use Rattle.qs_program.specs.audit.Program.{ProgramShape, object_at}
+use Rattle.qs_meaning.specs.audit.Solo.{States}
 use Rattle.qs_meaning.specs.StateKinds.{AreOfKind}
 use Rattle.qs_questions.specs.Laws.{AskingChangesNothing, RepliesAreThere}
 use Rattle.qs_questions.specs.Questions.{asked_in, object_of, only_asks, query_of, query_to}

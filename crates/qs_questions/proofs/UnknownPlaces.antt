@@ -5,7 +5,7 @@ use Rattle.std.proofs.lemmas.List.{drop_all}
 use Rattle.std.proofs.Math.Seq.{drop-cons}
 use Rattle.std.specs.Option.{is_some, option_or}
 use Rattle.qs_script.specs.declared.tree.tree.Relation.{Relation}
-use Rattle.qs_program.specs.Program.{ProgramShape}
+use Rattle.qs_program.specs.audit.Program.{ProgramShape}
 use Rattle.qs_conditions.specs.Conditions.{Tree, compare, negation, both, either, steps_of}
 use Rattle.qs_conditions.specs.declared.condition.Summand.{Summand}
 use Rattle.qs_conditions.specs.declared.condition.Step.{Step}

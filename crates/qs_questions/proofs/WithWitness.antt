@@ -6,8 +6,9 @@ use Rattle.std.specs.Prelude.{IfSome, IsSomeAnd}
 use Rattle.std.specs.List.{AllByRecursion}
 use Rattle.std.proofs.lemmas.Bool.{cases_lt}
 use Rattle.qs_objects.specs.declared.held.Ticket.{Ticket}
-use Rattle.qs_program.specs.Program.{ProgramShape, blocks_of}
-use Rattle.qs_meaning.specs.Configurations.{Configuration, IsComplete, OrderOutcome, configuration_after, first_configuration, outcome_in}
+use Rattle.qs_program.specs.audit.Program.{ProgramShape, blocks_of}
+use Rattle.qs_meaning.specs.audit.Configurations.{Configuration, IsComplete, configuration_after, first_configuration}
+use Rattle.qs_meaning.specs.Configurations.{OrderOutcome, outcome_in}
 use Rattle.qs_meaning.proofs.Each.{each_map}
 use Rattle.qs_meaning.proofs.Orders.{begun_within, complete_orders_leave_none, configurations_follow_orders}
 use Rattle.qs_conditions.specs.declared.claim.Quantifier.{Quantifier}

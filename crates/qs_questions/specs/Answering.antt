@@ -1,6 +1,6 @@
 -- How steps answer a condition: with a stack of answers, the last one first.
 use Rattle.std.specs.Prelude.{Bool, false, not, ◌&&◌, ◌||◌, List, [], ◌∷◌, drop, ℤ}
-use Rattle.qs_program.specs.Values.{relates}
+use Rattle.qs_program.specs.audit.Values.{relates}
 use Rattle.qs_conditions.specs.Conditions.{sum_of}
 use Rattle.qs_conditions.specs.declared.condition.Value.{Value}
 use Rattle.qs_conditions.specs.declared.condition.Step.{Step}

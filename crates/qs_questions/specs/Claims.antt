@@ -1,7 +1,7 @@
 -- What a claim asks of the outcomes of a program.
 use Rattle.std.specs.Prelude.{◌≡◌, ℕ, Bool, List}
 use Rattle.qs_objects.specs.declared.held.Ticket.{Ticket}
-use Rattle.qs_program.specs.Program.{ProgramShape}
+use Rattle.qs_program.specs.audit.Program.{ProgramShape}
 use Rattle.qs_meaning.specs.Configurations.{OrderOutcome}
 use Rattle.qs_conditions.specs.Claims.{seeks}
 use Rattle.qs_conditions.specs.Conditions.{Tree, steps_of}

@@ -1,10 +1,10 @@
 -- What holds of the queries that a condition may ask, and of the replies.
 use Rattle.std.specs.Prelude.{◌≡◌, true, List, length, IfSome, IsSome, ℤ}
-use Rattle.qs_objects.specs.Act.{State, act}
+use Rattle.qs_objects.specs.audit.Act.{State, act}
 use Rattle.qs_objects.specs.declared.Op.{Op}
-use Rattle.qs_program.specs.Numbering.{Name}
-use Rattle.qs_program.specs.Program.{ProgramShape}
-use Rattle.qs_meaning.specs.Solo.{States}
+use Rattle.qs_program.specs.audit.Numbering.{Name}
+use Rattle.qs_program.specs.audit.Program.{ProgramShape}
+use Rattle.qs_meaning.specs.audit.Solo.{States}
 use Rattle.qs_meaning.specs.StateKinds.{AreOfKind}
 use Rattle.qs_questions.specs.Questions.{asked_of, only_asks}
 

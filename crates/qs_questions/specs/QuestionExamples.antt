@@ -5,9 +5,9 @@ use Rattle.qs_objects.specs.declared.Op.TheVariants.{Withdraw}
 use Rattle.qs_objects.specs.declared.held.Ticket.{Ticket}
 use Rattle.qs_objects.specs.declared.object.Kind.TheVariants as kinds
 use Rattle.qs_script.specs.declared.tree.tree.Relation.TheVariants.{Equal, Greater}
-use Rattle.qs_program.specs.Numbering.{Name}
-use Rattle.qs_program.specs.Program.{ClientShape, ProgramShape}
-use Rattle.qs_program.specs.Statements.{command, end, query}
+use Rattle.qs_program.specs.audit.Numbering.{Name}
+use Rattle.qs_program.specs.audit.Program.{ClientShape, ProgramShape}
+use Rattle.qs_program.specs.audit.Statements.{command, end, query}
 use Rattle.qs_meaning.specs.Configurations.{outcome_of}
 use Rattle.qs_meaning.specs.MeaningExamples.{balance, block, call, n, ticket}
 use Rattle.qs_conditions.specs.Conditions.{Tree, compare, negation, both, either, steps_of}

@@ -2,13 +2,13 @@
 -- end.
 use Rattle.std.specs.Prelude.{◌≡◌, ◌==◌, ◌&&◌, ℕ, Bool, true, false, if◌then◌else◌, List, [], ◌∷◌, ◌++◌, length, slice_index_or, Option, None, Some, is_some, unwrap_or, ℤ, pos}
 use Rattle.std.specs.List.{AllByRecursion, find, position}
-use Rattle.qs_objects.specs.Act.{State, act}
-use Rattle.qs_objects.specs.Operations.{arity, is_query, operations_of, word}
+use Rattle.qs_objects.specs.audit.Act.{State, act}
+use Rattle.qs_objects.specs.audit.Operations.{arity, is_query, operations_of, word}
 use Rattle.qs_objects.specs.declared.Op.{Op}
 use Rattle.qs_objects.specs.declared.Op.TheVariants.{TakeFirst}
 use Rattle.qs_objects.specs.declared.object.Kind.{Kind}
-use Rattle.qs_program.specs.Numbering.{Name, found_at, is_among, same_name}
-use Rattle.qs_program.specs.Program.{ClientShape, ProgramShape, client_at, object_at}
+use Rattle.qs_program.specs.audit.Numbering.{Name, found_at, is_among, same_name}
+use Rattle.qs_program.specs.audit.Program.{ClientShape, ProgramShape, client_at, object_at}
 use Rattle.qs_program.specs.declared.program.Declared.{Declared}
 use Rattle.qs_meaning.specs.Configurations.{OrderOutcome}
 use Rattle.qs_conditions.specs.Conditions.{Tree, compare, negation, both, either, holds}

@@ -1,7 +1,7 @@
 //! Whether a condition holds where an order has come to its end.
 
 ghost use Rattle.std.specs.Prelude.{◌≡◌, IfOk, OnOk, length};
-ghost use Rattle.qs_program.specs.Values.{relates};
+ghost use Rattle.qs_program.specs.audit.Values.{relates};
 ghost use Rattle.qs_conditions.specs.Conditions.{Tree, steps_of};
 ghost use Rattle.qs_meaning.specs.Configurations.{outcome_in};
 ghost use Rattle.qs_standings.specs.Standings.{configuration_in};

@@ -2,9 +2,9 @@
 
 ghost use Rattle.std.specs.Prelude.{◌≤◌, [], IfOk, IsErrOf};
 ghost use Rattle.qs_conditions.specs.Claims.{seeks};
-ghost use Rattle.qs_meaning.specs.Serial.{IsLegal};
+ghost use Rattle.qs_meaning.specs.audit.Serial.{IsLegal};
 ghost use Rattle.qs_questions.specs.Claims.{HasMoreFor, IsAnswerTo, is_sought};
-ghost use Rattle.qs_serial.specs.NamedOrders.{order_of};
+ghost use Rattle.qs_serial.specs.audit.NamedOrders.{order_of};
 
 use crate::among::answer_among;
 use crate::asking::holds;

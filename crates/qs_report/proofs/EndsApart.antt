@@ -2,15 +2,15 @@
 -- of which ends in a line's end.
 use Rattle.std.proofs.Common.{◌≡◌, ◌<◌, ◌++◌, ℕ, List, [], ◌∷◌, codes, length, get_or, ap, arith, inl}
 use Rattle.qs_objects.specs.declared.held.Ticket.{Ticket}
-use Rattle.qs_program.specs.Program.{ProgramShape, client_at, object_at}
+use Rattle.qs_program.specs.audit.Program.{ProgramShape, client_at, object_at}
 use Rattle.qs_program.specs.Sound.{IsSound}
-use Rattle.qs_meaning.specs.Serial.{zeros}
+use Rattle.qs_meaning.specs.audit.Serial.{zeros}
 use Rattle.qs_outcomes.specs.Outcomes.{IsListedAfter}
 use Rattle.qs_standings.specs.Standings.{StandingShape}
 use Rattle.qs_text.specs.TellApart.{AreSame, IsEndOfWords}
-use Rattle.qs_text.specs.Texts.{texts_up_to}
+use Rattle.qs_text.specs.audit.Texts.{texts_up_to}
 use Rattle.qs_text.specs.Variables.{variables_text}
-use Rattle.qs_text.specs.Words.{no_state, state_text}
+use Rattle.qs_text.specs.audit.Words.{no_state, state_text}
 use Rattle.qs_text.proofs.SameEnds.{in_range, same_outcome}
 use Rattle.qs_text.proofs.TellApart.{cancel, regroup, state_tells, texts_tell, variables_tell}
 use Rattle.qs_report.specs.EndsText.{EndsTellApart}

@@ -2,10 +2,10 @@
 -- which goes through them side by side. It follows the recursion by which the fates are defined.
 use Rattle.std.proofs.Common.{◌≡◌, ℕ, suc, List, [], ◌∷◌, ◌++◌, length, refl, ap}
 use Rattle.qs_objects.specs.declared.held.Event.{Event}
-use Rattle.qs_program.specs.Program.{ProgramShape}
-use Rattle.qs_played.specs.Isolation.{trace_of}
-use Rattle.qs_played.specs.Played.{Played}
-use Rattle.qs_text.specs.fates.Fates.{fates_along, trace_fates}
+use Rattle.qs_program.specs.audit.Program.{ProgramShape}
+use Rattle.qs_played.specs.audit.Isolation.{trace_of}
+use Rattle.qs_played.specs.audit.Played.{Played}
+use Rattle.qs_text.specs.audit.fates.Fates.{fates_along, trace_fates}
 
 along : (p : ProgramShape) (run : Played) (i : ℕ) (before rest : List Event) → length (fates_along p run i before rest) ≡ length rest
 along p run i before [] = refl

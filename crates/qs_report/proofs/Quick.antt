@@ -3,9 +3,9 @@ use Rattle.std.proofs.Common.{◌≡◌, List, [], ◌∷◌, ◌++◌, codes, l
 use Rattle.std.proofs.lemmas.List.{take_all}
 use Rattle.std.specs.Fmt.{signed_decimal}
 use Rattle.qs_objects.specs.declared.Request.{Request}
-use Rattle.qs_program.specs.Program.{ProgramShape, object_at}
-use Rattle.qs_text.specs.Words.{args_text, reply_text}
-use Rattle.qs_objects.specs.Operations.{word}
+use Rattle.qs_program.specs.audit.Program.{ProgramShape, object_at}
+use Rattle.qs_text.specs.audit.Words.{args_text, reply_text}
+use Rattle.qs_objects.specs.audit.Operations.{word}
 use Rattle.qs_report.specs.Lines.{line_text}
 
 no_argument : (xs : List ℤ) → length xs ≡ 0 → args_text xs ≡ []

@@ -3,10 +3,10 @@
 -- object and its count stand at one index of the rows, and then one more piece of the text is done.
 use Rattle.std.proofs.Common.{◌≡◌, ℕ, ◌<◌, ◌+◌, List, [], ◌∷◌, ◌++◌, flat_map, length, map, take, ap, ap₂, ◌∙◌, get_or, sym, arith}
 use Rattle.std.proofs.lemmas.List.{get_or-map, length-append, length-map}
-use Rattle.qs_program.specs.Program.{ProgramShape}
+use Rattle.qs_program.specs.audit.Program.{ProgramShape}
 use Rattle.qs_sync_counts.specs.declared.sync_counts.SyncCount.{SyncCount}
-use Rattle.qs_sync_counts.specs.SyncRows.{count_of, object_of, sync_count}
-use Rattle.qs_report.specs.Report.{sync_line}
+use Rattle.qs_sync_counts.specs.audit.SyncRows.{count_of, object_of, sync_count}
+use Rattle.qs_report.specs.audit.Report.{sync_line}
 use Rattle.qs_text.proofs.Joined.{one_item_more}
 
 -- an object with its count stands at its place among all

@@ -5,14 +5,14 @@ use Rattle.std.proofs.Common.{◌≡◌, ℕ, List, [], ◌∷◌, ◌++◌, cod
 use Rattle.std.specs.List.{AllZip}
 use Rattle.std.specs.List.Sorted.{IsPermutation}
 use Rattle.std.proofs.lemmas.List.Sorted.{IsPermutation-refl}
-use Rattle.qs_program.specs.Program.{ProgramShape, client_at, object_at}
-use Rattle.qs_serial.specs.NamedOrders.{order_of}
+use Rattle.qs_program.specs.audit.Program.{ProgramShape, client_at, object_at}
+use Rattle.qs_serial.specs.audit.NamedOrders.{order_of}
 use Rattle.qs_standings.specs.Standings.{StandingShape}
-use Rattle.qs_text.specs.Texts.{texts_up_to}
+use Rattle.qs_text.specs.audit.Texts.{texts_up_to}
 use Rattle.qs_text.proofs.SameOrders.{one_order}
 use Rattle.qs_report.specs.EndsText.{EndsTextsAreUnique, IsEndsText, end_text, end_texts}
 use Rattle.qs_text.specs.Variables.{variables_text}
-use Rattle.qs_report.specs.Report.{state_line}
+use Rattle.qs_report.specs.audit.Report.{state_line}
 use Rattle.qs_report.proofs.UniqueOutcomes.{IsSame, same_lists}
 
 same_end : (p : ProgramShape) (s t : StandingShape) → IsSame s t → end_text p s ≡ end_text p t

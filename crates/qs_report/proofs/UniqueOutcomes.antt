@@ -7,10 +7,11 @@ use Rattle.std.proofs.Common.{◌≡◌, ◌<◌, ◌≤◌, ◌+◌, ℕ, suc, 
 use Rattle.std.specs.List.{AllByRecursion, AllZip}
 use Rattle.std.proofs.lemmas.List.Elements.{AllZip-get_or, length_all_zip}
 use Rattle.qs_objects.specs.declared.held.Ticket.{Ticket}
-use Rattle.qs_program.specs.Program.{ProgramShape, blocks_of, client_at, object_at}
-use Rattle.qs_serial.specs.NamedOrders.{order_of}
-use Rattle.qs_meaning.specs.Configurations.{Configuration, IsComplete, configuration_after, configuration_from, first_configuration, one_block_on, outcome_of}
-use Rattle.qs_meaning.specs.Serial.{IsLegal, LegalFrom}
+use Rattle.qs_program.specs.audit.Program.{ProgramShape, blocks_of, client_at, object_at}
+use Rattle.qs_serial.specs.audit.NamedOrders.{order_of}
+use Rattle.qs_meaning.specs.audit.Configurations.{Configuration, IsComplete, configuration_after, configuration_from, first_configuration, one_block_on}
+use Rattle.qs_meaning.specs.Configurations.{outcome_of}
+use Rattle.qs_meaning.specs.audit.Serial.{IsLegal, LegalFrom}
 use Rattle.qs_meaning.proofs.Each.{each_both, each_map}
 use Rattle.qs_meaning.proofs.Orders.{complete_orders_leave_none, legal_on}
 use Rattle.qs_outcomes.specs.LeastOrders.{AreSorted, IsBefore}
@@ -22,8 +23,8 @@ use Rattle.qs_standings.proofs.Lists.{has_map, has_of, has_some}
 use Rattle.qs_standings.proofs.Stands.{below_or_past}
 use Rattle.qs_report.specs.OutcomesText.{IsOutcomesText, OutcomesTextsAreUnique, listed_text, no_standing, outcome_line, outcome_text, outcome_text_at}
 use Rattle.qs_text.specs.Variables.{variables_text}
-use Rattle.qs_report.specs.Report.{state_line}
-use Rattle.qs_text.specs.Texts.{count_line, texts_up_to}
+use Rattle.qs_report.specs.audit.Report.{state_line}
+use Rattle.qs_text.specs.audit.Texts.{count_line, texts_up_to}
 use Rattle.qs_text.proofs.SameTexts.{same_texts}
 
 same_client : (c d : ℕ) → (c < d → ⊥) → (d < c → ⊥) → c ≡ d

@@ -3,11 +3,11 @@
 -- computed.
 use Rattle.std.proofs.Common.{◌≡◌, ℕ, List, [], ◌∷◌, ◌++◌, Bool, refl}
 use Rattle.std.specs.Fmt.{digits}
-use Rattle.qs_program.specs.Program.{BlockShape}
-use Rattle.qs_program.specs.Statements.{end}
+use Rattle.qs_program.specs.audit.Program.{BlockShape}
+use Rattle.qs_program.specs.audit.Statements.{end}
 use Rattle.qs_graph.specs.GraphExamples.{query_in_repeat, empty_bodies, leave_first, two_bodies}
-use Rattle.qs_graph.specs.Graphs.{block_graph}
-use Rattle.qs_graph.specs.Names.{graph_of}
+use Rattle.qs_graph.specs.audit.Graphs.{block_graph}
+use Rattle.qs_graph.specs.audit.Names.{graph_of}
 use Rattle.qs_syncset.specs.held.Table.{AreSetsOf}
 use Rattle.qs_text.specs.Worked.{by_ann, on_a, on_b_and_a}
 use Rattle.qs_text.proofs.CheckedSets.{sets_in}

@@ -1,9 +1,9 @@
 -- One of all outcomes that differ by alike clients in each other's places, as bytes.
 use Rattle.std.specs.Prelude.{ℕ, ◌+◌, List, ◌++◌, codes, decimal, length, slice_index_or, sum}
 use Rattle.qs_objects.specs.declared.held.Ticket.{Ticket}
-use Rattle.qs_program.specs.Program.{ProgramShape}
+use Rattle.qs_program.specs.audit.Program.{ProgramShape}
 use Rattle.qs_standings.specs.Standings.{StandingShape}
-use Rattle.qs_text.specs.Texts.{count_line, texts_up_to}
+use Rattle.qs_text.specs.audit.Texts.{count_line, texts_up_to}
 use Rattle.qs_report.specs.OutcomesText.{client_line, no_standing, numbered, object_line}
 
 -- for how many outcomes one stands

@@ -1,7 +1,7 @@
 -- The answer to a claim on a program, as bytes.
 use Rattle.std.specs.Prelude.{◌≡◌, ◌≤◌, ℕ, Bool, List, [], ◌++◌, codes, if◌then◌else◌, length, Option, Some, None, is_some}
-use Rattle.qs_program.specs.Program.{ProgramShape}
-use Rattle.qs_serial.specs.NamedOrders.{order_of}
+use Rattle.qs_program.specs.audit.Program.{ProgramShape}
+use Rattle.qs_serial.specs.audit.NamedOrders.{order_of}
 use Rattle.qs_conditions.specs.Claims.{answer_by, word}
 use Rattle.qs_conditions.specs.declared.claim.Claim.{Claim}
 use Rattle.qs_conditions.specs.declared.claim.Quantifier.{Quantifier}
@@ -9,7 +9,7 @@ use Rattle.qs_conditions.specs.declared.claim.Quantifier.TheVariants as q
 use Rattle.qs_outcomes.specs.Answers.{AnswerShape}
 use Rattle.qs_questions.specs.Claims.{IsAnswerTo}
 use Rattle.qs_standings.specs.Standings.{StandingShape}
-use Rattle.qs_text.specs.Texts.{count_line, texts_up_to}
+use Rattle.qs_text.specs.audit.Texts.{count_line, texts_up_to}
 use Rattle.qs_report.specs.OutcomesText.{client_line, clients_text, object_line}
 
 -- the quantifier with yes or no

@@ -3,14 +3,14 @@
 use Rattle.std.specs.Prelude.{◌≡◌, ◌≤◌, ℕ, List, ◌++◌, codes, length, map}
 use Rattle.std.specs.List.{AllByRecursion}
 use Rattle.qs_objects.specs.declared.held.Ticket.{Ticket}
-use Rattle.qs_program.specs.Program.{ProgramShape}
+use Rattle.qs_program.specs.audit.Program.{ProgramShape}
 use Rattle.qs_program.specs.Sound.{IsSound}
-use Rattle.qs_serial.specs.NamedOrders.{order_of}
+use Rattle.qs_serial.specs.audit.NamedOrders.{order_of}
 use Rattle.qs_outcomes.specs.Outcomes.{AreOutcomesAfter, IsListedAfter, OutcomesShape, outcome_at}
 use Rattle.qs_standings.specs.Standings.{StandingShape}
 use Rattle.qs_text.specs.SortedTexts.{IsInOrder}
 use Rattle.qs_text.specs.TellApart.{IsEndOfWords}
-use Rattle.qs_text.specs.Texts.{texts_up_to}
+use Rattle.qs_text.specs.audit.Texts.{texts_up_to}
 use Rattle.qs_report.specs.OutcomesText.{client_line, object_line}
 
 -- an end: a line that begins it, the objects and the clients with their variables

@@ -1,7 +1,7 @@
 -- How many configurations a search can have, as bytes.
 use Rattle.std.specs.Prelude.{ℕ, List, ◌++◌, codes, Option, Some, None}
 use Rattle.qs_outcomes.specs.declared.estimate.estimate.Estimate.{Estimate}
-use Rattle.qs_text.specs.Texts.{count_line}
+use Rattle.qs_text.specs.audit.Texts.{count_line}
 
 -- at most so many, or a bound that is over the greatest that is told
 abbrev pub most_line : Option ℕ → List ℕ

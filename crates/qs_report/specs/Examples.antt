@@ -1,6 +1,6 @@
 -- A few texts, worked out by hand.
 use Rattle.std.specs.Prelude.{◌≡◌, ℕ, pos, negsuc, true, false, List, [], ◌∷◌, codes}
-use Rattle.qs_objects.specs.Act.{buffer, grid}
+use Rattle.qs_objects.specs.audit.Act.{buffer, grid}
 use Rattle.qs_script.specs.declared.fault.ReadFault.TheVariants as read
 use Rattle.qs_check.specs.declared.fault_places.fault.CheckFault.TheVariants as check
 use Rattle.qs_played.specs.declared.fault.PlayFault.TheVariants as play
@@ -8,10 +8,11 @@ use Rattle.qs_serial.specs.declared.fault.OrderFault.TheVariants as order_fault
 use Rattle.qs_outcomes.specs.declared.fault.OutcomesFault.TheVariants as outcomes
 use Rattle.qs_report.specs.declared.faults.Fault.{Fault}
 use Rattle.qs_report.specs.declared.faults.Fault.TheVariants.{CommandLine, Input, Read, Check, Play, Order, Outcomes, Memory}
-use Rattle.qs_report.specs.Report.{report_text, counted_report_text, counts_text, state_line, styled_run_text}
+use Rattle.qs_report.specs.audit.Report.{state_line, styled_run_text}
+use Rattle.qs_report.specs.Report.{report_text, counted_report_text, counts_text}
 use Rattle.qs_report.specs.Faults.{fault_text, fault_status}
-use Rattle.qs_played.specs.Played.{Played}
-use Rattle.qs_sync_counts.specs.SyncRows.{sync_count}
+use Rattle.qs_played.specs.audit.Played.{Played}
+use Rattle.qs_sync_counts.specs.audit.SyncRows.{sync_count}
 use Rattle.qs_text.specs.fates.FateExamples.{two_withdrew}
 use Rattle.qs_text.specs.Worked.{after_deposit, after_reservation, before, counted_syncs, deposited_once, deposits, state, three, two_clients_played, withdrawals}
 

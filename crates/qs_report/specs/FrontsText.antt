@@ -1,8 +1,8 @@
 -- Where a program can stand after so many blocks, as bytes.
 use Rattle.std.specs.Prelude.{ℕ, ◌+◌, List, ◌++◌, codes, length, slice_index_or}
-use Rattle.qs_program.specs.Program.{ProgramShape}
+use Rattle.qs_program.specs.audit.Program.{ProgramShape}
 use Rattle.qs_standings.specs.Standings.{StandingShape}
-use Rattle.qs_text.specs.Texts.{count_line, texts_up_to}
+use Rattle.qs_text.specs.audit.Texts.{count_line, texts_up_to}
 use Rattle.qs_report.specs.OutcomesText.{client_line, no_standing, numbered, object_line}
 
 -- a front: its number and its order, the lines of the objects, and those of the clients

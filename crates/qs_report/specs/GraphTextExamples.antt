@@ -1,6 +1,6 @@
 -- Programs with the texts of their graphs, worked out by hand.
 use Rattle.std.specs.Prelude.{[], ◌∷◌, codes}
-use Rattle.qs_program.specs.Statements.{end}
+use Rattle.qs_program.specs.audit.Statements.{end}
 use Rattle.qs_graph.specs.GraphExamples.{query_in_repeat, empty_bodies, leave_first, two_bodies}
 use Rattle.qs_text.specs.Worked.{by_ann, on_a, on_b_and_a}
 use Rattle.qs_report.specs.GraphText.{IsGraphText}

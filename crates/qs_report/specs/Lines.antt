@@ -1,8 +1,8 @@
 -- Lines of a trace whose numbers are short, so that room for the longest one is asked for at once.
 use Rattle.std.specs.Prelude.{ℕ, ℤ, pos, ◌<ℤ◌, ◌≤ℤ◌, List, ◌++◌, codes, Option}
 use Rattle.qs_objects.specs.declared.Request.{Request}
-use Rattle.qs_program.specs.Program.{ProgramShape}
-use Rattle.qs_text.specs.Words.{request_text, reply_text}
+use Rattle.qs_program.specs.audit.Program.{ProgramShape}
+use Rattle.qs_text.specs.audit.Words.{request_text, reply_text}
 
 -- a number of at most six digits, without a sign
 abbrev pub HasSixDigits : ℤ → Type 0

@@ -2,14 +2,14 @@
 use Rattle.std.specs.Prelude.{◌≡◌, ◌≤◌, ◌+◌, ℕ, List, [], ◌∷◌, ◌++◌, codes, decimal, length, slice_index_or}
 use Rattle.std.specs.List.{join_by}
 use Rattle.qs_objects.specs.declared.held.Ticket.{Ticket}
-use Rattle.qs_program.specs.Program.{ProgramShape, client_at, object_at}
-use Rattle.qs_serial.specs.NamedOrders.{order_of}
-use Rattle.qs_meaning.specs.Serial.{zeros}
+use Rattle.qs_program.specs.audit.Program.{ProgramShape, client_at, object_at}
+use Rattle.qs_serial.specs.audit.NamedOrders.{order_of}
+use Rattle.qs_meaning.specs.audit.Serial.{zeros}
 use Rattle.qs_outcomes.specs.Outcomes.{AreOutcomesAfter, OutcomesShape}
 use Rattle.qs_standings.specs.Standings.{StandingShape}
-use Rattle.qs_text.specs.Words.{no_state}
-use Rattle.qs_report.specs.Report.{state_line}
-use Rattle.qs_text.specs.Texts.{count_line, texts_up_to}
+use Rattle.qs_text.specs.audit.Words.{no_state}
+use Rattle.qs_report.specs.audit.Report.{state_line}
+use Rattle.qs_text.specs.audit.Texts.{count_line, texts_up_to}
 use Rattle.qs_text.specs.Variables.{variables_text}
 
 -- the client whose block comes next

@@ -1,6 +1,6 @@
 -- Lists of outcomes with their texts, worked out by hand.
 use Rattle.std.specs.Prelude.{◌≡◌, ℕ, pos, negsuc, List, [], ◌∷◌, codes}
-use Rattle.qs_objects.specs.Act.{account, buffer}
+use Rattle.qs_objects.specs.audit.Act.{account, buffer}
 use Rattle.qs_outcomes.specs.Outcomes.{OutcomesShape}
 use Rattle.qs_standings.specs.Standings.{StandingShape}
 use Rattle.qs_text.specs.Worked.{state, ticket, unused, withdrawals}

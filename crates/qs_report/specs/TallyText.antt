@@ -1,8 +1,8 @@
 -- How often each end came in many runs, as bytes.
 use Rattle.std.specs.Prelude.{ℕ, zero, suc, ◌+◌, Bool, List, [], ◌++◌, codes, decimal, if◌then◌else◌, length, nat_eq, slice_index_or}
-use Rattle.qs_program.specs.Program.{ProgramShape}
+use Rattle.qs_program.specs.audit.Program.{ProgramShape}
 use Rattle.qs_tally.specs.Tallies.{CountedShape, TallyShape}
-use Rattle.qs_text.specs.Texts.{count_line, texts_up_to}
+use Rattle.qs_text.specs.audit.Texts.{count_line, texts_up_to}
 use Rattle.qs_report.specs.OutcomesText.{client_line, clients_text, no_standing, object_line}
 
 -- the number of an outcome, where the ends are all outcomes in their order

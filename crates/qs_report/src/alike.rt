@@ -4,7 +4,7 @@ ghost use Rattle.std.specs.Prelude.{◌≡◌, ◌++◌, length, sum, IfOk, OnOk
 ghost use Rattle.std.specs.List.{AllByRecursion};
 ghost use Rattle.qs_outcomes.specs.Outcomes.{HasPlaces};
 ghost use Rattle.qs_report.specs.AlikeText.{alike_line, alike_outcome, alike_outcome_at, alike_text as text_of_alike, of_all_line, stands_for};
-ghost use Rattle.qs_text.specs.Texts.{texts_up_to};
+ghost use Rattle.qs_text.specs.audit.Texts.{texts_up_to};
 
 use crate::outcomes::{outcome_at, put_clients, put_numbered, put_objects};
 use itoa::Buffer;

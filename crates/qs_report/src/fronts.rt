@@ -4,7 +4,7 @@ ghost use Rattle.std.specs.Prelude.{◌≡◌, ◌++◌, length, IfOk, OnOk};
 ghost use Rattle.std.specs.List.{AllByRecursion};
 ghost use Rattle.qs_outcomes.specs.Outcomes.{HasPlaces};
 ghost use Rattle.qs_report.specs.FrontsText.{front_text, front_text_at, fronts_text as text_of_fronts};
-ghost use Rattle.qs_text.specs.Texts.{texts_up_to};
+ghost use Rattle.qs_text.specs.audit.Texts.{texts_up_to};
 
 use crate::outcomes::{outcome_at, put_clients, put_numbered, put_objects};
 use qs_outcomes::Standing;

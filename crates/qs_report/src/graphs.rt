@@ -2,7 +2,7 @@
 
 ghost use Rattle.std.specs.Prelude.{◌≡◌, ◌<◌, ◌++◌, decimal, length, IfOk, OnOk};
 ghost use Rattle.std.specs.List.{filter};
-ghost use Rattle.qs_graph.specs.Nodes.{place_at};
+ghost use Rattle.qs_graph.specs.audit.Nodes.{place_at};
 ghost use Rattle.qs_syncset.specs.held.Table.{has};
 ghost use Rattle.qs_text.specs.Blocks.{node_at, removed_at};
 ghost use Rattle.qs_text.specs.Texts.{list_text};

@@ -1,11 +1,11 @@
 // Lines of a trace, put where there is room for the longest one: no byte asks for room of its own.
 
 ghost use Rattle.std.specs.Prelude.{◌≡◌, ◌<◌, ◌≤◌, ◌+◌, ◌*◌, ◌++◌, ◌∷◌, [], None, Some, false, IsTrue, length, take, flat_map, codes, decimal, vec_capacity, vec_len};
-ghost use Rattle.qs_objects.specs.Operations.{word};
-ghost use Rattle.qs_program.specs.Program.{object_at};
+ghost use Rattle.qs_objects.specs.audit.Operations.{word};
+ghost use Rattle.qs_program.specs.audit.Program.{object_at};
 ghost use Rattle.std.specs.Fmt.{signed_decimal};
 ghost use Rattle.qs_report.specs.Lines.{HasSixDigits, line_text, longest_line};
-ghost use Rattle.qs_report.specs.Report.{event_line};
+ghost use Rattle.qs_report.specs.audit.Report.{event_line};
 
 use qs_objects::{Event, Request};
 use qs_program::Program;

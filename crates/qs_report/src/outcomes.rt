@@ -4,11 +4,11 @@ ghost use Rattle.std.specs.Prelude.{◌≡◌, ◌<◌, ◌++◌, codes, flat_ma
 ghost use Rattle.std.specs.List.{AllByRecursion};
 ghost use Rattle.qs_outcomes.specs.Outcomes.{HasPlaces};
 ghost use Rattle.qs_report.specs.OutcomesText.{client_line, clients_text, listed_text, next_client_text, no_standing, numbered, object_line, outcome_line, outcome_text, outcome_text_at};
-ghost use Rattle.qs_meaning.specs.Serial.{zeros};
-ghost use Rattle.qs_program.specs.Program.{client_at};
+ghost use Rattle.qs_meaning.specs.audit.Serial.{zeros};
+ghost use Rattle.qs_program.specs.audit.Program.{client_at};
 ghost use Rattle.qs_text.specs.TellApart.{AreClientsOfWords, AreObjectsOfWords, AreWords, IsOfWords};
-ghost use Rattle.qs_text.specs.Texts.{texts_up_to};
-ghost use Rattle.qs_text.specs.Words.{no_state};
+ghost use Rattle.qs_text.specs.audit.Texts.{texts_up_to};
+ghost use Rattle.qs_text.specs.audit.Words.{no_state};
 
 use crate::states::put_state_line;
 use itoa::Buffer;

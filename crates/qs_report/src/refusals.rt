@@ -2,7 +2,7 @@
 
 ghost use Rattle.std.specs.Prelude.{◌≡◌, ◌<◌, ◌++◌, length, OnOk, true};
 ghost use Rattle.qs_text.specs.fates.Fates.{all_fates};
-ghost use Rattle.qs_report.specs.Report.{fate_text, order_text, shown_ticket, ticket_text, marked_line, marked_lines, trace_text};
+ghost use Rattle.qs_report.specs.audit.Report.{fate_text, order_text, shown_ticket, ticket_text, marked_line, marked_lines, trace_text};
 
 use crate::tickets::{put_syncs, put_ticket_line};
 use qs_objects::Event;

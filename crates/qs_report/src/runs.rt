@@ -1,8 +1,9 @@
 // The report of a run.
 
 ghost use Rattle.std.specs.Prelude.{◌≡◌, ◌++◌, IfOk, OnOk, codes, true};
-ghost use Rattle.qs_report.specs.Report.{counted_report_text, report_text, run_text, styled_run_text, states_text, finished_text};
-ghost use Rattle.qs_text.specs.Texts.{count_line};
+ghost use Rattle.qs_report.specs.audit.Report.{styled_run_text, states_text, finished_text};
+ghost use Rattle.qs_report.specs.Report.{counted_report_text, report_text, run_text};
+ghost use Rattle.qs_text.specs.audit.Texts.{count_line};
 
 use crate::refusals::put_marked_order;
 use crate::states::put_states;

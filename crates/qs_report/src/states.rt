@@ -1,7 +1,7 @@
 // The states of the objects.
 
 ghost use Rattle.std.specs.Prelude.{◌≡◌, ◌<◌, ◌++◌, length, OnOk};
-ghost use Rattle.qs_report.specs.Report.{state_line, object_text, states_text};
+ghost use Rattle.qs_report.specs.audit.Report.{state_line, object_text, states_text};
 ghost use Rattle.qs_text.specs.TellApart.{IsOfWords};
 
 use qs_objects::Object;

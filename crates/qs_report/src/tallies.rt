@@ -4,7 +4,7 @@ ghost use Rattle.std.specs.Prelude.{◌≡◌, ◌<◌, ◌++◌, length, slice_
 ghost use Rattle.std.specs.List.{AllByRecursion};
 ghost use Rattle.qs_outcomes.specs.Outcomes.{HasPlaces};
 ghost use Rattle.qs_report.specs.TallyText.{came_line, came_text, came_up_to, counted_text, counted_text_at, end_line, end_name, no_end, of_all, tally_text as text_of_tally};
-ghost use Rattle.qs_text.specs.Texts.{texts_up_to};
+ghost use Rattle.qs_text.specs.audit.Texts.{texts_up_to};
 
 use crate::outcomes::{put_clients, put_clients_in, put_objects};
 use itoa::Buffer;

@@ -1,9 +1,9 @@
 // The order of a run: its tickets with their traces.
 
 ghost use Rattle.std.specs.Prelude.{◌≡◌, ◌<◌, ◌++◌, length, flat_map, OnOk, codes, false};
-ghost use Rattle.qs_sync_counts.specs.SyncRows.{sync_count};
-ghost use Rattle.qs_text.specs.Words.{reply_text};
-ghost use Rattle.qs_report.specs.Report.{event_line, ticket_line, ticket_text, sync_line, sync_lines, shown_ticket, order_text};
+ghost use Rattle.qs_sync_counts.specs.audit.SyncRows.{sync_count};
+ghost use Rattle.qs_text.specs.audit.Words.{reply_text};
+ghost use Rattle.qs_report.specs.audit.Report.{event_line, ticket_line, ticket_text, sync_line, sync_lines, shown_ticket, order_text};
 
 use crate::lines::put_lines;
 use itoa::Buffer;

@@ -7,32 +7,32 @@ use Rattle.std.proofs.Common.{◌≡◌, ◌<◌, ℕ, true, false, List, [], Op
 use Rattle.std.proofs.lemmas.List.Elements.{length_all_zip}
 use Rattle.std.proofs.lemmas.Option.{slice_get_past}
 use Rattle.std.specs.List.{AllByRecursion}
-use Rattle.qs_objects.specs.Journals.{HeldState}
+use Rattle.qs_objects.specs.audit.Journals.{HeldState}
 use Rattle.qs_objects.specs.declared.held.Ticket.{Ticket}
-use Rattle.qs_program.specs.Program.{ProgramShape, blocks_of}
+use Rattle.qs_program.specs.audit.Program.{ProgramShape, blocks_of}
 use Rattle.qs_program.specs.Sound.{IsSound}
-use Rattle.qs_meaning.specs.Following.{reserves}
-use Rattle.qs_meaning.specs.Serial.{IsLegal}
-use Rattle.qs_syncset.specs.Codes.{ClientCode, IsCodeOf, AreCodes}
+use Rattle.qs_meaning.specs.audit.Following.{reserves}
+use Rattle.qs_meaning.specs.audit.Serial.{IsLegal}
+use Rattle.qs_syncset.specs.audit.Codes.{ClientCode, IsCodeOf, AreCodes}
 use Rattle.qs_syncset.specs.declared.mode.Mode.{Mode}
-use Rattle.qs_chunk.specs.LaneRun.{IsLaneRun}
+use Rattle.qs_chunk.specs.audit.LaneRun.{IsLaneRun}
 use Rattle.qs_chunk.specs.declared.parcel.Parcel.{Parcel}
-use Rattle.qs_handler.specs.Handler.{free, closed}
-use Rattle.qs_handler.specs.HandlerRuns.{Task, TasksLead, given_to, received_from, taken_by}
+use Rattle.qs_handler.specs.audit.Handler.{free, closed}
+use Rattle.qs_handler.specs.audit.HandlerRuns.{Task, TasksLead, given_to, received_from, taken_by}
 use Rattle.qs_handler.proofs.RunTurns.{handlers_take_turns}
-use Rattle.qs_client.specs.ClientRuns.{Deed, RunsTo, got_from, reservations, sent_to}
-use Rattle.qs_client.specs.ClientModel.{ClientModel, fresh_mind}
+use Rattle.qs_client.specs.audit.ClientRuns.{Deed, RunsTo, got_from, reservations, sent_to}
+use Rattle.qs_client.specs.audit.ClientModel.{ClientModel, fresh_mind}
 use Rattle.qs_client.specs.MindState.{mind_of}
 use Rattle.qs_run.specs.client.ClientThreads as running
-use Rattle.qs_desk.specs.Tickets.{of_client, pushed_to}
+use Rattle.qs_desk.specs.audit.Tickets.{of_client, pushed_to}
 use Rattle.qs_desk.specs.Views.{ShareView, TicketsView}
 use Rattle.qs_run.specs.handler.HandlerThreads as handling
 use Rattle.qs_lane.specs.Views.{InView, OutView}
-use Rattle.qs_played.specs.Played.{ticket}
-use Rattle.qs_played.specs.JournalRooms.{fresh_held}
+use Rattle.qs_played.specs.audit.Played.{ticket}
+use Rattle.qs_played.specs.audit.JournalRooms.{fresh_held}
 use Rattle.qs_played.proofs.JournalRooms.{no_block_beyond}
 use Rattle.qs_played.proofs.ReservedObjects.{reserved_inside}
-use Rattle.qs_run_laws.specs.ThreadRuns.{IsThreadRun, ThreadRun}
+use Rattle.qs_run_laws.specs.audit.ThreadRuns.{IsThreadRun, ThreadRun}
 use Rattle.qs_run.specs.Workers.{AreOneLane, ClientHasRun, HandlerHasServed, HaveRun}
 use Rattle.qs_run.specs.declared.worker.ClientWorker.{ClientWorker}
 use Rattle.qs_run.specs.declared.worker.HandlerWorker.{HandlerWorker}

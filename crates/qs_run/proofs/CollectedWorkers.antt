@@ -4,19 +4,19 @@
 -- already, but their tickets, journals and states are as before.
 use Rattle.std.proofs.Common.{◌≡◌, ◌≤◌, ℕ, zero, suc, true, List, [], ◌∷◌, ◌++◌, Option, Some, None, length, map, refl, sym, ap, ◌∙◌, subst, arith}
 use Rattle.std.specs.List.{AllByRecursion}
-use Rattle.qs_objects.specs.Journals.{HeldState}
+use Rattle.qs_objects.specs.audit.Journals.{HeldState}
 use Rattle.qs_objects.specs.declared.held.Next.{Next}
 use Rattle.qs_objects.specs.declared.held.Next.TheVariants.{Closed}
 use Rattle.qs_objects.specs.declared.held.Ticket.{Ticket}
-use Rattle.qs_program.specs.Program.{ProgramShape}
+use Rattle.qs_program.specs.audit.Program.{ProgramShape}
 use Rattle.qs_program.specs.Sound.{IsSound}
-use Rattle.qs_program.specs.Limits.{most_clients, most_handlers}
-use Rattle.qs_meaning.specs.Serial.{IsLegal}
+use Rattle.qs_program.specs.audit.Limits.{most_clients, most_handlers}
+use Rattle.qs_meaning.specs.audit.Serial.{IsLegal}
 use Rattle.qs_syncset.specs.declared.mode.Mode.{Mode}
-use Rattle.qs_handler.specs.HandlerRuns.{Task}
-use Rattle.qs_client.specs.ClientRuns.{Deed}
+use Rattle.qs_handler.specs.audit.HandlerRuns.{Task}
+use Rattle.qs_client.specs.audit.ClientRuns.{Deed}
 use Rattle.qs_run.specs.client.ClientThreads as running
-use Rattle.qs_desk.specs.Tickets.{pushed_to}
+use Rattle.qs_desk.specs.audit.Tickets.{pushed_to}
 use Rattle.qs_desk.specs.Views.{TicketsView}
 use Rattle.qs_run.specs.handler.HandlerThreads as handling
 use Rattle.qs_lane.specs.Views.{InView, OutView}

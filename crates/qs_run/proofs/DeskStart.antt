@@ -3,8 +3,8 @@
 -- filled, by their numbers.
 use Rattle.std.proofs.Common.{◌≡◌, ℕ, zero, suc, ◌<◌, ◌≤◌, true, nat_lt, if◌then◌else◌, [], map, length, get_or, Some, None, refl, ap, ◌∙◌, arith, rules, tests}
 use Rattle.std.proofs.lemmas.List.{get_or-map}
-use Rattle.qs_program.specs.Program.{ProgramShape}
-use Rattle.qs_program.specs.Limits.{most_clients, most_handlers, most_objects}
+use Rattle.qs_program.specs.audit.Program.{ProgramShape}
+use Rattle.qs_program.specs.audit.Limits.{most_clients, most_handlers, most_objects}
 use Rattle.qs_desk.specs.TicketQueues.{tickets_at}
 use Rattle.qs_desk.specs.Places.{places, share_at}
 

@@ -6,10 +6,11 @@ use Rattle.std.specs.List.{AllByRecursion, list_any}
 use Rattle.std.proofs.lemmas.Bool.{false≢true}
 use Rattle.std.proofs.lemmas.List.{get_or_past}
 use Rattle.qs_objects.specs.declared.held.Ticket.{Ticket}
-use Rattle.qs_program.specs.Program.{BlockShape, ClientShape, ProgramShape, client_at, no_block, no_client}
-use Rattle.qs_program.specs.Sound.{IsSound, IsSoundBlock, IsSoundClient, is_in}
+use Rattle.qs_program.specs.audit.Program.{BlockShape, ClientShape, ProgramShape, client_at, no_block, no_client}
+use Rattle.qs_program.specs.audit.Sound.{is_in}
+use Rattle.qs_program.specs.Sound.{IsSound, IsSoundBlock, IsSoundClient}
 use Rattle.qs_program.specs.declared.program.Declared.{Declared}
-use Rattle.qs_meaning.specs.Following.{reserves}
+use Rattle.qs_meaning.specs.audit.Following.{reserves}
 use Rattle.qs_run.specs.Prepared.{ever_reserves}
 
 or_true : (a b : Bool) → b ≡ true → (a || b) ≡ true

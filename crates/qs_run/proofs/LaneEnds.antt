@@ -3,7 +3,7 @@
 -- own place alone. In the end all lanes of the program are there, and beyond its clients and handlers there is none.
 use Rattle.std.proofs.Common.{◌≡◌, ℕ, ◌+◌, ◌<◌, ◌≤◌, Bool, false, List, Option, None, length, sym, subst, ◌∙◌, inl, inr, below_more, arith}
 use Rattle.std.proofs.lemmas.Bool.{cases_lt}
-use Rattle.qs_program.specs.Program.{ProgramShape}
+use Rattle.qs_program.specs.audit.Program.{ProgramShape}
 use Rattle.qs_program.specs.Sound.{IsSound}
 use Rattle.qs_lane.specs.Views.{InView, OutView}
 use Rattle.qs_run.specs.Prepared.{AreNewEnds, ever_reserves, in_at, out_at}

@@ -3,19 +3,19 @@
 -- as there is a new lane wherever a block of a client reserves a handler, each worker has the lanes that its thread
 -- will ask for, and the two ends of each lane are in two workers.
 use Rattle.std.proofs.Common.{◌≡◌, ℕ, ◌<◌, true, List, [], Option, length, get_or, sym, ap, ◌∙◌, subst, arith}
-use Rattle.qs_program.specs.Program.{ProgramShape}
+use Rattle.qs_program.specs.audit.Program.{ProgramShape}
 use Rattle.qs_program.specs.Sound.{IsSound}
-use Rattle.qs_meaning.specs.Following.{reserves}
+use Rattle.qs_meaning.specs.audit.Following.{reserves}
 use Rattle.qs_syncset.specs.declared.mode.Mode.{Mode}
-use Rattle.qs_syncset.specs.Codes.{IsCodeOf}
-use Rattle.qs_client.specs.ClientModel as minds
+use Rattle.qs_syncset.specs.audit.Codes.{IsCodeOf}
+use Rattle.qs_client.specs.audit.ClientModel as minds
 use Rattle.qs_client.specs.MindState.{mind_of}
 use Rattle.qs_run.specs.client.ClientThreads as running
 use Rattle.qs_run.specs.handler.HandlerThreads as handling
 use Rattle.qs_desk.specs.Tickets.{ticket}
 use Rattle.qs_desk.specs.Views.{ShareView, TicketsView}
 use Rattle.qs_lane.specs.Views.{InView, OutView}
-use Rattle.qs_played.specs.JournalRooms.{fresh_held}
+use Rattle.qs_played.specs.audit.JournalRooms.{fresh_held}
 use Rattle.qs_run.specs.Workers.{AreOneLane, AreReady, IsListOf, IsMindAtStart}
 use Rattle.qs_run.specs.declared.worker.ClientWorker.{ClientWorker}
 use Rattle.qs_run.specs.declared.worker.HandlerWorker.{HandlerWorker}

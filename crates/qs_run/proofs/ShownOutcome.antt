@@ -7,25 +7,26 @@ use Rattle.std.proofs.lemmas.List.{get_or-map, length-map}
 use Rattle.std.proofs.lemmas.List.FromFn.{fill_by_all}
 use Rattle.std.specs.List.{range_with_len}
 use Rattle.std.specs.Prelude.{sum_by}
-use Rattle.qs_objects.specs.Journals.{HeldState}
+use Rattle.qs_objects.specs.audit.Journals.{HeldState}
 use Rattle.qs_objects.specs.declared.held.Ticket.{Ticket}
 use Rattle.qs_objects.proofs.Elements.{AllByRecursion-get_or}
-use Rattle.qs_program.specs.Program.{ProgramShape, blocks_of}
+use Rattle.qs_program.specs.audit.Program.{ProgramShape, blocks_of}
 use Rattle.qs_program.specs.Sound.{IsSound}
-use Rattle.qs_program.specs.Limits.{most_objects}
-use Rattle.qs_meaning.specs.Serial.{no_state}
-use Rattle.qs_sync_counts.specs.SyncRows.{object_of, syncs_of}
+use Rattle.qs_program.specs.audit.Limits.{most_objects}
+use Rattle.qs_meaning.specs.audit.Serial.{no_state}
+use Rattle.qs_sync_counts.specs.audit.SyncRows.{object_of, syncs_of}
 use Rattle.qs_syncset.specs.declared.mode.Mode.{Mode}
 use Rattle.qs_syncset.proofs.ShortLists.{few_reserved}
-use Rattle.qs_client.specs.ClientModel.{ClientModel}
-use Rattle.qs_played.specs.Isolation.{ticket_at}
-use Rattle.qs_played.specs.JournalRooms.{fresh_held}
-use Rattle.qs_played.specs.Played.{ClientRows, HaveRows, counts_of_ticket, rows_at, ticket}
+use Rattle.qs_client.specs.audit.ClientModel.{ClientModel}
+use Rattle.qs_played.specs.audit.Isolation.{ticket_at}
+use Rattle.qs_played.specs.audit.JournalRooms.{fresh_held}
+use Rattle.qs_played.specs.audit.Played.{ticket}
+use Rattle.qs_played.specs.Played.{ClientRows, HaveRows, counts_of_ticket, rows_at}
 use Rattle.qs_played.specs.SyncSums.{AreSyncsCounted, counts_at}
 use Rattle.qs_played.proofs.JournalRooms.{no_block_beyond}
 use Rattle.qs_played.proofs.SyncLists.{legal_blocks}
 use Rattle.qs_run_laws.specs.Outcomes.{IsOutcome}
-use Rattle.qs_run_laws.specs.ThreadRuns.{ThreadRun, counts_by, shown_by}
+use Rattle.qs_run_laws.specs.audit.ThreadRuns.{ThreadRun, counts_by, shown_by}
 use Rattle.qs_run_laws.proofs.ClientRowsEnd.{HasRow, rows_there}
 use Rattle.qs_run_laws.proofs.RunOutcomes.{runs_have_outcomes}
 use Rattle.qs_run.specs.Workers.{HaveRun}

@@ -3,21 +3,22 @@
 -- handlers' objects are what the run shows.
 use Rattle.std.specs.Prelude.{◌≡◌, ◌≤◌, ℕ, zero, suc, true, List, [], ◌∷◌, ◌++◌, Option, Some, None, length, map, slice_get, slice_set, sum_by}
 use Rattle.std.specs.List.{AllByRecursion}
-use Rattle.qs_objects.specs.Act.{State}
+use Rattle.qs_objects.specs.audit.Act.{State}
 use Rattle.qs_objects.specs.declared.held.Entry.{Entry}
 use Rattle.qs_objects.specs.declared.held.Next.{Next}
 use Rattle.qs_objects.specs.declared.held.Next.TheVariants.{Closed}
 use Rattle.qs_objects.specs.declared.held.Ticket.{Ticket}
-use Rattle.qs_program.specs.Limits.{most_objects}
-use Rattle.qs_program.specs.Program.{ProgramShape}
-use Rattle.qs_sync_counts.specs.SyncRows.{syncs_of}
-use Rattle.qs_chunk.specs.LaneRun.{IsLaneRun}
+use Rattle.qs_program.specs.audit.Limits.{most_objects}
+use Rattle.qs_program.specs.audit.Program.{ProgramShape}
+use Rattle.qs_sync_counts.specs.audit.SyncRows.{syncs_of}
+use Rattle.qs_chunk.specs.audit.LaneRun.{IsLaneRun}
 use Rattle.qs_client.specs.MindState.{MindState, mind_of}
 use Rattle.qs_run.specs.client.ClientThreads as running
 use Rattle.qs_run.specs.handler.HandlerThreads as handling
-use Rattle.qs_desk.specs.Tickets.{of_client, pushed_to}
+use Rattle.qs_desk.specs.audit.Tickets.{of_client, pushed_to}
 use Rattle.qs_lane.specs.Views.{InView, OutView}
-use Rattle.qs_played.specs.Played.{ClientRows, Played, counts_of_ticket, shown_with}
+use Rattle.qs_played.specs.audit.Played.{Played}
+use Rattle.qs_played.specs.Played.{ClientRows, counts_of_ticket, shown_with}
 use Rattle.qs_run.specs.Workers.{AreOneLane}
 use Rattle.qs_run.specs.declared.worker.ClientWorker.{ClientWorker}
 use Rattle.qs_run.specs.declared.worker.HandlerWorker.{HandlerWorker}

@@ -1,8 +1,8 @@
 -- What a run begins with: minds, objects as declared and lanes, and then the workers that are made of them.
 use Rattle.std.specs.Prelude.{◌≡◌, ℕ, Bool, List, [], Option, None, is_some, length, slice_index_or}
 use Rattle.std.specs.List.{list_any}
-use Rattle.qs_program.specs.Program.{BlockShape, ProgramShape, client_at}
-use Rattle.qs_program.specs.Sound.{is_in}
+use Rattle.qs_program.specs.audit.Program.{BlockShape, ProgramShape, client_at}
+use Rattle.qs_program.specs.audit.Sound.{is_in}
 use Rattle.qs_syncset.specs.declared.mode.Mode.{Mode}
 use Rattle.qs_run.specs.client.ClientThreads as running
 use Rattle.qs_run.specs.handler.HandlerThreads as handling

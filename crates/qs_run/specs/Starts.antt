@@ -1,7 +1,7 @@
 -- What a starter was asked before the workers of a run were started, one after another by their numbers, and what it
 -- answered.
 use Rattle.std.specs.Prelude.{◌≡◌, ◌+◌, ◌<◌, ℕ, suc, Bool, true, List, [], ◌∷◌, ◌++◌, length, replicate}
-use Rattle.qs_program.specs.Program.{ProgramShape}
+use Rattle.qs_program.specs.audit.Program.{ProgramShape}
 use Rattle.qs_played.specs.declared.fault.RunFault.{RunFault}
 use Rattle.qs_played.specs.declared.fault.RunFault.TheVariants.{Memory, Threads}
 

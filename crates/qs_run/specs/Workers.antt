@@ -3,22 +3,22 @@
 -- and its queue of tickets, and both have their ends of lanes.
 use Rattle.std.specs.Prelude.{◌≡◌, ◌<◌, ℕ, Bool, true, false, List, [], length, Option, Some, None, IsSome, Result, Ok, Err, slice_get}
 use Rattle.std.specs.List.{AllZip}
-use Rattle.qs_objects.specs.Journals.{HeldState}
+use Rattle.qs_objects.specs.audit.Journals.{HeldState}
 use Rattle.qs_objects.specs.declared.held.Ticket.{Ticket}
-use Rattle.qs_program.specs.Limits.{most_clients}
-use Rattle.qs_program.specs.Program.{ProgramShape, blocks_of}
+use Rattle.qs_program.specs.audit.Limits.{most_clients}
+use Rattle.qs_program.specs.audit.Program.{ProgramShape, blocks_of}
 use Rattle.qs_program.specs.Sound.{IsSound}
-use Rattle.qs_meaning.specs.Following.{reserves}
-use Rattle.qs_syncset.specs.Codes.{IsCodeOf}
+use Rattle.qs_meaning.specs.audit.Following.{reserves}
+use Rattle.qs_syncset.specs.audit.Codes.{IsCodeOf}
 use Rattle.qs_syncset.specs.declared.mode.Mode.{Mode}
-use Rattle.qs_handler.specs.Handler.{closed}
-use Rattle.qs_handler.specs.HandlerRuns.{Task}
+use Rattle.qs_handler.specs.audit.Handler.{closed}
+use Rattle.qs_handler.specs.audit.HandlerRuns.{Task}
 use Rattle.qs_run.specs.handler.HandlerThreads as handling
-use Rattle.qs_client.specs.ClientRuns.{Deed, RunsTo}
-use Rattle.qs_client.specs.ClientModel.{fresh_mind}
+use Rattle.qs_client.specs.audit.ClientRuns.{Deed, RunsTo}
+use Rattle.qs_client.specs.audit.ClientModel.{fresh_mind}
 use Rattle.qs_client.specs.MindState.{MindState, mind_of}
 use Rattle.qs_run.specs.client.ClientThreads as running
-use Rattle.qs_played.specs.JournalRooms.{fresh_held}
+use Rattle.qs_played.specs.audit.JournalRooms.{fresh_held}
 use Rattle.qs_desk.specs.Tickets.{ticket}
 use Rattle.qs_lane.specs.Views.{InView, OutView}
 use Rattle.qs_run.specs.declared.worker.ClientWorker.{ClientWorker}

@@ -4,14 +4,14 @@
 use Rattle.std.proofs.Common.{◌<◌, arith, ℕ, sym, subst, length}
 use Rattle.std.specs.List.{AllByRecursion}
 use Rattle.qs_objects.specs.declared.held.Ticket.{Ticket}
-use Rattle.qs_program.specs.Program.{ProgramShape, blocks_of}
+use Rattle.qs_program.specs.audit.Program.{ProgramShape, blocks_of}
 use Rattle.qs_program.specs.Sound.{IsSound}
 use Rattle.qs_meaning.proofs.Each.{each_map}
-use Rattle.qs_syncset.specs.Codes.{ClientCode, AreCodes}
+use Rattle.qs_syncset.specs.audit.Codes.{ClientCode, AreCodes}
 use Rattle.qs_syncset.specs.declared.mode.Mode.{Mode}
-use Rattle.qs_client.specs.ClientModel.{ClientModel}
+use Rattle.qs_client.specs.audit.ClientModel.{ClientModel}
 use Rattle.qs_played.proofs.JournalRooms.{no_block_beyond}
-use Rattle.qs_run_laws.specs.ThreadRuns.{IsThreadRun, ThreadRun}
+use Rattle.qs_run_laws.specs.audit.ThreadRuns.{IsThreadRun, ThreadRun}
 use Rattle.qs_run_laws.proofs.ThreadHistories.{count_is, inside, rows_end}
 use Rattle.qs_run_laws.proofs.ThreadsIsolated.{mind_is}
 

@@ -5,15 +5,15 @@ use Rattle.std.proofs.Common.{◌≡◌, ◌+◌, arith, ℕ, zero, suc, Bool, t
 use Rattle.std.specs.List.{AllByRecursion}
 use Rattle.qs_objects.specs.declared.held.Ticket.{Ticket}
 use Rattle.qs_objects.proofs.Choices.{eqb_self, num_cases, ticket_path}
-use Rattle.qs_program.specs.Program.{ProgramShape}
-use Rattle.qs_meaning.specs.Serial.{LegalFrom}
-use Rattle.qs_meaning.specs.Solo.{put}
+use Rattle.qs_program.specs.audit.Program.{ProgramShape}
+use Rattle.qs_meaning.specs.audit.Serial.{LegalFrom}
+use Rattle.qs_meaning.specs.audit.Solo.{put}
 use Rattle.qs_meaning.proofs.TreeWalks.{put_here, put_there}
 use Rattle.qs_handler.specs.HandlerTurns.{Turn, turns_for}
-use Rattle.qs_played.specs.Played.{ticket}
+use Rattle.qs_played.specs.audit.Played.{ticket}
 use Rattle.qs_played.proofs.Orders.{counts_after}
 use Rattle.qs_core_laws.specs.protocol.ClientHistories.{upto}
-use Rattle.qs_desk.specs.Tickets.{of_client}
+use Rattle.qs_desk.specs.audit.Tickets.{of_client}
 
 -- the d tickets of client c from the a-th on
 abbrev pub tickets_from : ℕ → ℕ → ℕ → List Ticket

@@ -3,13 +3,14 @@
 -- not reserve the object adds nothing. The room suffices, as no block's part is longer than its load.
 use Rattle.std.proofs.Common.{◌≡◌, ◌+◌, ◌≤◌, arith, ℕ, Bool, true, false, true≢false, if◌then◌else◌, List, [], ◌∷◌, ◌++◌, map, flat_map, filter, length, refl, sym, ap, ◌∙◌, subst, inl, append_assoc, append-nil}
 use Rattle.std.specs.List.{AllByRecursion}
-use Rattle.qs_objects.specs.Journals.{HeldState, replay, without_tickets, IsHonest}
-use Rattle.qs_objects.specs.Parts.{command_event, stamp}
+use Rattle.qs_objects.specs.audit.Journals.{HeldState, replay, without_tickets, IsHonest}
+use Rattle.qs_objects.specs.audit.Parts.{command_event}
+use Rattle.qs_objects.specs.Parts.{stamp}
 use Rattle.qs_objects.specs.declared.held.Entry.{Entry}
 use Rattle.qs_objects.specs.declared.held.Event.{Event}
 use Rattle.qs_objects.specs.declared.held.Ticket.{Ticket}
-use Rattle.qs_program.specs.Program.{ProgramShape}
-use Rattle.qs_meaning.specs.Following.{reserves}
+use Rattle.qs_program.specs.audit.Program.{ProgramShape}
+use Rattle.qs_meaning.specs.audit.Following.{reserves}
 use Rattle.qs_meaning.proofs.Histories.{Flow, ObjectCourse, done_of, parts_of}
 use Rattle.qs_meaning.specs.BlockRecords.{IsDone, BlockRecord}
 use Rattle.qs_chunk.specs.LaneViews.{ClientLane, Extends, gone, sends}

@@ -2,34 +2,34 @@
 -- Most of it is computed by the definitions, list by list; so the law says of it what `OutcomeExamples` shows.
 use Rattle.std.proofs.Common.{◌≡◌, ◌<◌, ◌==◌, arith, ℕ, zero, suc, true, false, true≢false, List, [], ◌∷◌, length, map, refl, sym, ap, append-nil}
 use Rattle.std.specs.List.{IsDistinct}
-use Rattle.qs_objects.specs.Journals.{HeldState}
+use Rattle.qs_objects.specs.audit.Journals.{HeldState}
 use Rattle.qs_objects.specs.declared.held.Event.{Event}
 use Rattle.qs_objects.specs.declared.held.Ticket.{Ticket}
-use Rattle.qs_program.specs.Numbering.{same_name}
-use Rattle.qs_program.specs.Program.{blocks_of, client_at, whole_load, whole_weight}
+use Rattle.qs_program.specs.audit.Numbering.{same_name}
+use Rattle.qs_program.specs.audit.Program.{blocks_of, client_at, whole_load, whole_weight}
 use Rattle.qs_program.specs.Sound.{AreNamesApart, IsFormedClient, IsFormedProgram, IsSound, IsSoundBody, IsSoundClient}
-use Rattle.qs_meaning.specs.Following.{reserves}
-use Rattle.qs_graph.specs.Steps.{limit}
-use Rattle.qs_graph.specs.Walk.{move}
+use Rattle.qs_meaning.specs.audit.Following.{reserves}
+use Rattle.qs_graph.specs.audit.Steps.{limit}
+use Rattle.qs_graph.specs.audit.Walk.{move}
 use Rattle.qs_syncset.specs.declared.mode.Mode.TheVariants as modes
-use Rattle.qs_chunk.specs.LaneRun.{IsLaneRun, syncs}
+use Rattle.qs_chunk.specs.audit.LaneRun.{IsLaneRun, syncs}
 use Rattle.qs_chunk.specs.Lanes.{IsLane}
 use Rattle.qs_chunk.specs.declared.parcel.Parcel.{Parcel}
 use Rattle.qs_chunk.proofs.LaneRuns.{run_of}
-use Rattle.qs_handler.specs.Handler.{free, closed}
-use Rattle.qs_handler.specs.HandlerRuns.{TasksLead, given_to, received_from, taken_by}
-use Rattle.qs_client.specs.ClientRuns.{RunsTo, got_from, reservations, sent_to}
-use Rattle.qs_client.specs.ClientModel.{fresh_mind}
-use Rattle.qs_played.specs.JournalRooms.{fresh_held}
-use Rattle.qs_played.specs.Played.{ticket}
+use Rattle.qs_handler.specs.audit.Handler.{free, closed}
+use Rattle.qs_handler.specs.audit.HandlerRuns.{TasksLead, given_to, received_from, taken_by}
+use Rattle.qs_client.specs.audit.ClientRuns.{RunsTo, got_from, reservations, sent_to}
+use Rattle.qs_client.specs.audit.ClientModel.{fresh_mind}
+use Rattle.qs_played.specs.audit.JournalRooms.{fresh_held}
+use Rattle.qs_played.specs.audit.Played.{ticket}
 use Rattle.qs_played.proofs.ReservedObjects.{reserved_inside}
-use Rattle.qs_syncset.specs.Codes.{AreCodes}
+use Rattle.qs_syncset.specs.audit.Codes.{AreCodes}
 use Rattle.qs_syncset.specs.CodeExamples.{example_code}
 use Rattle.qs_syncset.proofs.BuiltCodes.{built_codes}
-use Rattle.qs_desk.specs.Tickets.{of_client, pushed_to}
+use Rattle.qs_desk.specs.audit.Tickets.{of_client, pushed_to}
 use Rattle.qs_run_laws.specs.OutcomeExamples.{OutcomeExamples, bank, bank_deeds, bank_held, bank_run, bank_tasks, after_deposit, deposits_and_asks, depositor_deeds, mind_after, mover_deeds, moves_30, taker_more, withdrawn}
 use Rattle.qs_run_laws.specs.Outcomes.{IsOutcome}
-use Rattle.qs_run_laws.specs.ThreadRuns.{IsThreadRun, shown_by}
+use Rattle.qs_run_laws.specs.audit.ThreadRuns.{IsThreadRun, shown_by}
 use Rattle.qs_run_laws.proofs.RunOutcomes.{runs_have_outcomes}
 
 two_apart : IsDistinct ◌==◌ (0 ∷ 1 ∷ [])

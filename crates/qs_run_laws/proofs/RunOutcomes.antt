@@ -4,22 +4,25 @@
 use Rattle.std.proofs.Common.{◌≡◌, ◌<◌, ◌≤◌, ◌+◌, arith, ℕ, zero, suc, false, List, [], ◌∷◌, ◌++◌, map, flat_map, length, get_or, refl, sym, ap, ap₂, ◌∙◌, subst, inl}
 use Rattle.std.proofs.lemmas.List.{get_or-map}
 use Rattle.std.specs.List.{AllByRecursion, AllZip, range_with_len}
-use Rattle.qs_objects.specs.Journals.{HeldState}
-use Rattle.qs_objects.specs.Parts.{part, stamp}
+use Rattle.qs_objects.specs.audit.Journals.{HeldState}
+use Rattle.qs_objects.specs.audit.Parts.{part}
+use Rattle.qs_objects.specs.Parts.{stamp}
 use Rattle.qs_objects.specs.declared.held.Entry.{Entry}
 use Rattle.qs_objects.specs.declared.held.Ticket.{Ticket}
-use Rattle.qs_program.specs.Program.{ProgramShape, blocks_of}
+use Rattle.qs_program.specs.audit.Program.{ProgramShape, blocks_of}
 use Rattle.qs_program.specs.Sound.{IsSound}
 use Rattle.qs_meaning.specs.Following.{Leads, block_tree}
 use Rattle.qs_meaning.specs.Serial.{SerialBlock, serial}
 use Rattle.qs_meaning.proofs.SerialRuns.{Agrees, legal_apart, runs_serially}
-use Rattle.qs_syncset.specs.Codes.{ClientCode, AreCodes}
+use Rattle.qs_syncset.specs.audit.Codes.{ClientCode, AreCodes}
 use Rattle.qs_syncset.specs.SyncCounts.{syncs_along}
-use Rattle.qs_sync_counts.specs.SyncRows.{object_of, syncs_for}
+use Rattle.qs_sync_counts.specs.audit.SyncRows.{object_of}
+use Rattle.qs_sync_counts.specs.SyncRows.{syncs_for}
 use Rattle.qs_syncset.specs.declared.mode.Mode.{Mode}
-use Rattle.qs_client.specs.ClientModel.{ClientModel, synced_block}
-use Rattle.qs_played.specs.Isolation.{ended_of, entry_of, ticket_at, trace_of}
-use Rattle.qs_played.specs.Played.{ticket}
+use Rattle.qs_client.specs.audit.ClientModel.{ClientModel, synced_block}
+use Rattle.qs_played.specs.audit.Isolation.{ended_of, ticket_at, trace_of}
+use Rattle.qs_played.specs.Isolation.{entry_of}
+use Rattle.qs_played.specs.audit.Played.{ticket}
 use Rattle.qs_played.specs.SyncSums.{AreSent, AreSyncsCounted, IsCounted, counts_at, syncs_at}
 use Rattle.qs_played.proofs.JournalRooms.{no_block_beyond}
 use Rattle.qs_played.proofs.Orders.{among_once}
@@ -27,7 +30,7 @@ use Rattle.qs_core_laws.proofs.protocol.ClientInvariants.{objects_of_block}
 use Rattle.qs_core_laws.proofs.protocol.HistoryCounts.{IsTallied}
 use Rattle.qs_core_laws.proofs.protocol.CountedTraces.{trace_counted, tree_count}
 use Rattle.qs_run_laws.specs.Outcomes.{IsOutcome, ThreadRunsHaveOutcomes, part_at}
-use Rattle.qs_run_laws.specs.ThreadRuns.{IsThreadRun, ThreadRun, counts_by, entry_by, shown_by, trace_by}
+use Rattle.qs_run_laws.specs.audit.ThreadRuns.{IsThreadRun, ThreadRun, counts_by, entry_by, shown_by, trace_by}
 use Rattle.qs_run_laws.proofs.ThreadHistories.{block_begun, inside, tale, tale_counts}
 use Rattle.qs_run_laws.proofs.ThreadsIsolated.{abstract_run, end, end_is, entry_is, every, isolated, mind_is, journal_of_object, block_record, shown, ticket_inside, trace_is}
 

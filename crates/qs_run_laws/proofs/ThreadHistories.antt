@@ -3,29 +3,30 @@
 -- of the program nobody does anything, so that the later lemmas need not ask whether a number is one of them.
 use Rattle.std.proofs.Common.{◌≡◌, ◌<◌, ◌≤◌, arith, ℕ, Bool, true, false, if◌then◌else◌, nat_lt, List, [], ◌∷◌, ◌++◌, map, length, refl, sym, ap, ap₂, ◌∙◌, subst}
 use Rattle.std.specs.List.{AllByRecursion}
-use Rattle.qs_objects.specs.Journals.{HeldState}
+use Rattle.qs_objects.specs.audit.Journals.{HeldState}
 use Rattle.qs_objects.specs.declared.held.Next.TheVariants as nexts
 use Rattle.qs_objects.specs.declared.held.Ticket.{Ticket}
-use Rattle.qs_program.specs.Program.{ProgramShape, blocks_of}
+use Rattle.qs_program.specs.audit.Program.{ProgramShape, blocks_of}
 use Rattle.qs_program.specs.Sound.{IsSound}
-use Rattle.qs_program.specs.Values.{Locals}
-use Rattle.qs_meaning.specs.Following.{reserves, block_tree}
+use Rattle.qs_program.specs.audit.Values.{Locals}
+use Rattle.qs_meaning.specs.audit.Following.{reserves}
+use Rattle.qs_meaning.specs.Following.{block_tree}
 use Rattle.qs_meaning.proofs.SoundTrees.{blocks_ask_only}
 use Rattle.qs_graph.specs.Synced.{without_syncs}
-use Rattle.qs_syncset.specs.Codes.{BlockCode, ClientCode, code_at, AreCodes}
+use Rattle.qs_syncset.specs.audit.Codes.{BlockCode, ClientCode, code_at, AreCodes}
 use Rattle.qs_syncset.specs.SoundSynced.{IsSoundSynced, IsOnReserved}
 use Rattle.qs_syncset.specs.declared.mode.Mode.{Mode}
 use Rattle.qs_syncset.proofs.CountedSyncs.{code_asks}
 use Rattle.qs_syncset.proofs.SyncTrees.{IsAsking}
-use Rattle.qs_client.specs.run.BlockSizes.{longest}
+use Rattle.qs_client.specs.audit.run.BlockSizes.{longest}
 use Rattle.qs_client.specs.declared.rules.act.Act.TheVariants as acts
-use Rattle.qs_handler.specs.Handler.{free, closed}
-use Rattle.qs_handler.specs.HandlerRuns.{Task, takes, TasksLead, taken_by}
+use Rattle.qs_handler.specs.audit.Handler.{free, closed}
+use Rattle.qs_handler.specs.audit.HandlerRuns.{Task, takes, TasksLead, taken_by}
 use Rattle.qs_handler.specs.HandlerTurns.{HasTurns, Turn}
 use Rattle.qs_handler.proofs.RunTurns.{handlers_take_turns}
-use Rattle.qs_client.specs.ClientRuns.{Deed, RunsTo}
-use Rattle.qs_client.specs.ClientModel.{ClientModel, finish, fresh_mind, hands_out, next_act, next_mind, tree_at}
-use Rattle.qs_played.specs.Played.{ticket}
+use Rattle.qs_client.specs.audit.ClientRuns.{Deed, RunsTo}
+use Rattle.qs_client.specs.audit.ClientModel.{ClientModel, finish, fresh_mind, hands_out, next_act, next_mind, tree_at}
+use Rattle.qs_played.specs.audit.Played.{ticket}
 use Rattle.qs_played.proofs.JournalRooms.{no_block_beyond}
 use Rattle.qs_played.proofs.ReservedObjects.{reserved_inside}
 use Rattle.qs_played.proofs.SyncLists.{legal_blocks}
@@ -33,12 +34,12 @@ use Rattle.qs_core_laws.proofs.protocol.ClientInvariants.{objects_of_block}
 use Rattle.qs_core_laws.proofs.protocol.ClientHistories.{client_history}
 use Rattle.qs_core_laws.specs.protocol.ClientHistories.{ClientHistory}
 use Rattle.qs_core_laws.proofs.protocol.HistoryCounts.{HistoryCounts, history_counts, in_counts}
-use Rattle.qs_played.specs.JournalRooms.{fresh_held}
+use Rattle.qs_played.specs.audit.JournalRooms.{fresh_held}
 use Rattle.qs_core_laws.proofs.protocol.ReservedLists.{lined}
 use Rattle.qs_client.proofs.run.CodeBounds.{longest_covers}
 use Rattle.qs_core_laws.proofs.protocol.ProgramTrees.{block_walk, blocks_are, reserved_is}
-use Rattle.qs_desk.specs.Tickets.{of_handler}
-use Rattle.qs_run_laws.specs.ThreadRuns.{IsThreadRun, ThreadRun}
+use Rattle.qs_desk.specs.audit.Tickets.{of_handler}
+use Rattle.qs_run_laws.specs.audit.ThreadRuns.{IsThreadRun, ThreadRun}
 
 -- the tickets of turns, by what was taken up to the closing mark
 turned_tickets : (us : List Turn) (ts : List Ticket)

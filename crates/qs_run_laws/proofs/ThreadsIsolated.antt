@@ -5,30 +5,32 @@ use Rattle.std.proofs.Common.{◌≡◌, ◌<◌, ◌≤◌, arith, ℕ, zero, s
 use Rattle.std.proofs.lemmas.List.{get_or-map, get_or_past, length-map}
 use Rattle.std.proofs.lemmas.List.FromFn.{get_or-map-range_with_len, length-range_with_len}
 use Rattle.std.specs.List.{AllByRecursion, range_with_len}
-use Rattle.qs_objects.specs.Journals.{HeldState, replay, without_tickets, IsHonest}
-use Rattle.qs_objects.specs.Parts.{HasEntry, part}
+use Rattle.qs_objects.specs.audit.Journals.{HeldState, replay, without_tickets, IsHonest}
+use Rattle.qs_objects.specs.audit.Parts.{part}
+use Rattle.qs_objects.specs.Parts.{HasEntry}
 use Rattle.qs_objects.specs.declared.held.Ticket.{Ticket}
 use Rattle.qs_objects.proofs.Elements.{AllByRecursion-get_or}
-use Rattle.qs_program.specs.Program.{ProgramShape, blocks_of, text_of}
+use Rattle.qs_program.specs.audit.Program.{ProgramShape, blocks_of, text_of}
 use Rattle.qs_program.specs.Sound.{IsSound}
-use Rattle.qs_program.specs.Values.{Locals}
+use Rattle.qs_program.specs.audit.Values.{Locals}
 use Rattle.qs_meaning.specs.Following.{block_tree}
-use Rattle.qs_meaning.specs.Serial.{declared_states, no_state}
+use Rattle.qs_meaning.specs.audit.Serial.{declared_states, no_state}
 use Rattle.qs_meaning.proofs.Each.{each_map}
 use Rattle.qs_meaning.proofs.Histories.{Among, Flow}
 use Rattle.qs_meaning.specs.BlockRecords.{Begins, IsBlockRecord, BlockRecord}
 use Rattle.qs_meaning.proofs.RequestPaths.{requests_within}
 use Rattle.qs_meaning.proofs.SerialRuns.{line}
-use Rattle.qs_syncset.specs.Codes.{ClientCode, AreCodes}
+use Rattle.qs_syncset.specs.audit.Codes.{ClientCode, AreCodes}
 use Rattle.qs_syncset.specs.declared.mode.Mode.{Mode}
-use Rattle.qs_client.specs.ClientModel.{ClientModel}
-use Rattle.qs_played.specs.Isolation.{IsIsolated, journal_of, state_of, ticket_at}
-use Rattle.qs_played.specs.JournalRooms.{fresh_held, room_of}
-use Rattle.qs_played.specs.Played.{Played, ticket}
+use Rattle.qs_client.specs.audit.ClientModel.{ClientModel}
+use Rattle.qs_played.specs.audit.Isolation.{journal_of, state_of, ticket_at}
+use Rattle.qs_played.specs.Isolation.{IsIsolated}
+use Rattle.qs_played.specs.audit.JournalRooms.{fresh_held, room_of}
+use Rattle.qs_played.specs.audit.Played.{Played, ticket}
 use Rattle.qs_played.proofs.AbstractRun.{IsRun, run_isolated}
 use Rattle.qs_played.proofs.JournalRooms.{all_left, cost, leads_within, no_block_beyond, order_fits, total_less}
 use Rattle.qs_played.proofs.Orders.{legal_among}
-use Rattle.qs_run_laws.specs.ThreadRuns.{IsThreadRun, ThreadRun, counts_by, entry_by, shown_by, trace_by}
+use Rattle.qs_run_laws.specs.audit.ThreadRuns.{IsThreadRun, ThreadRun, counts_by, entry_by, shown_by, trace_by}
 use Rattle.qs_run_laws.proofs.ClientTickets.{legal_counts}
 use Rattle.qs_run_laws.proofs.JournalFlows.{JournalGrowth, IsOver, grows, size_of}
 use Rattle.qs_run_laws.proofs.LanesMeet.{all_counted, got_for, sent_for, served_whole}

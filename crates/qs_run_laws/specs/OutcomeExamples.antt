@@ -1,8 +1,8 @@
 -- A run of threads that was worked out by hand: one client moves 30 between two accounts of 100, and the other deposits
 -- 1 in each, in two blocks. It is a run in the sense of the law; so the law is not about nothing.
 use Rattle.std.specs.Prelude.{◌≡◌, ℕ, zero, suc, false, List, [], ◌∷◌, ◌++◌, map, Option, None, ℤ, pos}
-use Rattle.qs_objects.specs.Act.{account}
-use Rattle.qs_objects.specs.Journals.{HeldState}
+use Rattle.qs_objects.specs.audit.Act.{account}
+use Rattle.qs_objects.specs.audit.Journals.{HeldState}
 use Rattle.qs_objects.specs.declared.Op.{Op}
 use Rattle.qs_objects.specs.declared.Op.TheVariants.{Balance, Deposit, Withdraw}
 use Rattle.qs_objects.specs.declared.Request.{Request}
@@ -10,24 +10,24 @@ use Rattle.qs_objects.specs.declared.held.Entry.{Entry}
 use Rattle.qs_objects.specs.declared.held.Event.{Event}
 use Rattle.qs_objects.specs.declared.held.Next.TheVariants as nexts
 use Rattle.qs_objects.specs.declared.held.Ticket.{Ticket}
-use Rattle.qs_program.specs.Program.{BlockShape, ClientShape, ProgramShape}
+use Rattle.qs_program.specs.audit.Program.{BlockShape, ClientShape, ProgramShape}
 use Rattle.qs_program.specs.Sound.{IsSound}
-use Rattle.qs_program.specs.Statements.{end, command, query}
+use Rattle.qs_program.specs.audit.Statements.{end, command, query}
 use Rattle.qs_program.specs.declared.program.Declared.{Declared}
 use Rattle.qs_meaning.specs.MeaningExamples.{balance, block, call, hundred, left_with, n, some}
 use Rattle.qs_syncset.specs.declared.mode.Mode.TheVariants as modes
-use Rattle.qs_chunk.specs.Batch.{Batch, batch}
+use Rattle.qs_chunk.specs.audit.Batch.{Batch, batch}
 use Rattle.qs_chunk.specs.declared.parcel.Parcel.{Parcel}
 use Rattle.qs_chunk.specs.declared.parcel.Parcel.TheVariants.{Work, Sync, Home, End}
-use Rattle.qs_handler.specs.HandlerRuns.{Task, takes, receives, gives, spares}
-use Rattle.qs_client.specs.ClientRuns.{Deed, next_ticket, reserves, sends, gets, takes_chunk}
-use Rattle.qs_client.specs.ClientModel.{ClientModel, mind_after_begin, mind_after_chunk, fresh_mind, mind_after_object, next_mind}
-use Rattle.qs_played.specs.Played.{ticket}
-use Rattle.qs_syncset.specs.Codes.{AreCodes}
+use Rattle.qs_handler.specs.audit.HandlerRuns.{Task, takes, receives, gives, spares}
+use Rattle.qs_client.specs.audit.ClientRuns.{Deed, next_ticket, reserves, sends, gets, takes_chunk}
+use Rattle.qs_client.specs.audit.ClientModel.{ClientModel, mind_after_begin, mind_after_chunk, fresh_mind, mind_after_object, next_mind}
+use Rattle.qs_played.specs.audit.Played.{ticket}
+use Rattle.qs_syncset.specs.audit.Codes.{AreCodes}
 use Rattle.qs_syncset.specs.CodeExamples.{example_code}
-use Rattle.qs_sync_counts.specs.SyncRows.{sync_count}
+use Rattle.qs_sync_counts.specs.audit.SyncRows.{sync_count}
 use Rattle.qs_run_laws.specs.Outcomes.{IsOutcome}
-use Rattle.qs_run_laws.specs.ThreadRuns.{IsThreadRun, ThreadRun, counts_by, shown_by, trace_by}
+use Rattle.qs_run_laws.specs.audit.ThreadRuns.{IsThreadRun, ThreadRun, counts_by, shown_by, trace_by}
 
 -- names of one letter
 abbrev pub holder : ℕ → Declared

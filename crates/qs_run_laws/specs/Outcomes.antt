@@ -1,28 +1,25 @@
--- What comes of a program that is run on threads: what the serial run of its blocks shows, along a legal order of them.
--- `IsOutcome` alone says it, and each of its promises can be read by itself.
+-- Beside what the headline reaches (`audit/Outcomes.antt`): what else contracts and proofs use.
 use Rattle.std.specs.Prelude.{◌≡◌, ◌<◌, ℕ, true, List, [], filter, flat_map, length, map}
 use Rattle.std.specs.List.{range_with_len}
-use Rattle.qs_objects.specs.Parts.{part, same, stamp}
+use Rattle.qs_objects.specs.audit.Parts.{part, same}
+use Rattle.qs_objects.specs.Parts.{stamp}
 use Rattle.qs_objects.specs.declared.held.Entry.{Entry}
 use Rattle.qs_objects.specs.declared.held.Ticket.{Ticket}
-use Rattle.qs_program.specs.Program.{ProgramShape, blocks_of}
+use Rattle.qs_program.specs.audit.Program.{ProgramShape, blocks_of}
 use Rattle.qs_program.specs.Sound.{IsSound}
-use Rattle.qs_meaning.specs.Serial.{IsLegal, SerialBlock, serial}
-use Rattle.qs_syncset.specs.Codes.{ClientCode, AreCodes}
+use Rattle.qs_meaning.specs.audit.Serial.{IsLegal}
+use Rattle.qs_meaning.specs.Serial.{SerialBlock, serial}
+use Rattle.qs_syncset.specs.audit.Codes.{ClientCode, AreCodes}
 use Rattle.qs_syncset.specs.declared.mode.Mode.{Mode}
 use Rattle.qs_played.specs.Isolation.{IsIsolated}
-use Rattle.qs_played.specs.Played.{Played}
+use Rattle.qs_played.specs.audit.Played.{Played}
 use Rattle.qs_played.specs.SyncSums.{AreSyncsCounted}
-use Rattle.qs_run_laws.specs.ThreadRuns.{IsThreadRun, ThreadRun, shown_by}
+use Rattle.qs_run_laws.specs.audit.ThreadRuns.{IsThreadRun, ThreadRun, shown_by}
+use Rattle.qs_run_laws.specs.audit.Outcomes.{IsShownByThreads}
 
 -- a ticket's part on an object, as it stands in the object's journal
 abbrev pub part_at : ℕ → SerialBlock → List Entry
 part_at h q = map (stamp q.ticket) (part h q.trace)
-
--- What is shown is what threads have shown that ran this program, compiled in this mode, with chunks of this size.
-abbrev pub IsShownByThreads : ProgramShape → Mode → ℕ → Played → Type 0
-IsShownByThreads p mode size o =
-    (code : ℕ → ClientCode) × (r : ThreadRun) × AreCodes p mode code × IsThreadRun p code size r × (o ≡ shown_by p r)
 
 -- Threads that were compiled in this mode and had chunks of this size have shown it. The order is legal, and each block
 -- of the program stands in it exactly once. The variables at entry and the traces are those of the serial run of that

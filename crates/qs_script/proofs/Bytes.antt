@@ -3,9 +3,9 @@
 use Rattle.std.proofs.Common.{ℕ, ◌<◌, List, [], ◌∷◌, length, arith}
 use Rattle.qs_script.specs.declared.tokens.token.Token.{Token}
 use Rattle.qs_script.specs.declared.tree.tree.Item.{Item}
-use Rattle.qs_script.specs.Reads.{IsScriptText}
+use Rattle.qs_script.specs.audit.Reads.{IsScriptText}
 use Rattle.qs_script.specs.tree.Sizes.{statements}
-use Rattle.qs_script.specs.grammar.Grammar.{IsScript}
+use Rattle.qs_script.specs.audit.grammar.Grammar.{IsScript}
 use Rattle.qs_script.proofs.tokens.TokenCounts.{tokens_within}
 use Rattle.qs_script.proofs.grammar.Counts.{item_counted, items_counted}
 

@@ -7,7 +7,8 @@ use Rattle.qs_script.specs.declared.fault.Fault.{Fault}
 use Rattle.qs_script.specs.declared.fault.Fault.TheVariants.{Form, Memory}
 use Rattle.qs_script.specs.grammar.Reading.{Loop, onto, stmt_in, close_brace_at, Read, after, many_at, run, body_loop, list_loop, one, end_at}
 use Rattle.qs_script.specs.Results.{Fails}
-use Rattle.qs_script.specs.tree.Tree.{Stmts, join_statements}
+use Rattle.qs_script.specs.audit.tree.Tree.{Stmts}
+use Rattle.qs_script.specs.tree.Tree.{join_statements}
 use Rattle.qs_script.proofs.grammar.Loops.{Runs, run_is, runs_stop, runs_no_element, runs_element}
 use Rattle.qs_script.proofs.tree.Trees.{joined_assoc, joined-end}
 

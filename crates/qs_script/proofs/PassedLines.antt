@@ -7,7 +7,7 @@ use Rattle.std.proofs.Math.Seq.{take-append_seam}
 use Rattle.qs_diagnosis.specs.Spots.{begin, line_length, line_end_at, moved, spot_at}
 use Rattle.qs_script.specs.declared.tokens.token.Token.{Token}
 use Rattle.qs_script.specs.declared.tokens.lex.TokenFault.{TokenFault}
-use Rattle.qs_script.specs.tokens.Tokens.{after, tokens_of}
+use Rattle.qs_script.specs.audit.tokens.Tokens.{after, tokens_of}
 use Rattle.qs_script.proofs.tokens.Lexemes.{then_tokens, after-after, after-nil}
 use Rattle.qs_script.proofs.tokens.ByLine.{by_line}
 use Rattle.qs_script.specs.Lines.{IsLine, IsFaultLine, IsTokenLine, line_from}

@@ -9,13 +9,14 @@ use Rattle.qs_script.specs.declared.fault.ReadFault.TheVariants as f
 use Rattle.qs_script.specs.declared.tokens.lex.TokenFault.{TokenFault}
 use Rattle.qs_script.specs.declared.tokens.lex.TokenFault.TheVariants as e
 use Rattle.std.proofs.Math.Dec.{ltb}
-use Rattle.qs_script.specs.tokens.Tokens.{tokens_of}
+use Rattle.qs_script.specs.audit.tokens.Tokens.{tokens_of}
 use Rattle.qs_script.specs.grammar.Reading.{run, items_loop, Read}
-use Rattle.qs_script.specs.grammar.Grammar.{IsScript}
-use Rattle.qs_script.specs.Reads.{IsScriptText, IsRefused}
+use Rattle.qs_script.specs.audit.grammar.Grammar.{IsScript}
+use Rattle.qs_script.specs.audit.Reads.{IsScriptText}
+use Rattle.qs_script.specs.Reads.{IsRefused}
 use Rattle.qs_script.proofs.grammar.Complete.{one_tree}
 use Rattle.qs_script.proofs.grammar.Readings.{both_ok, not_both, is_script, is_no_script}
-use Rattle.qs_script.specs.tree.Limits.{longest_text}
+use Rattle.qs_script.specs.audit.tree.Limits.{longest_text}
 
 -- a text has at most one list of tokens
 same_tokens : (text : List ℕ) (ts us : List Token) → tokens_of text ≡ Ok ts → tokens_of text ≡ Ok us → ts ≡ us

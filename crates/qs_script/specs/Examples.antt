@@ -11,9 +11,9 @@ use Rattle.qs_script.specs.declared.tree.tree.Item.{Item}
 use Rattle.qs_script.specs.declared.tree.tree.Item.TheVariants.{Object, Client, Template, Started}
 use Rattle.qs_script.specs.declared.tree.tree.KindText.TheVariants.{Account, Grid}
 use Rattle.qs_script.specs.declared.tree.tree.KindWord.TheVariants as kind
-use Rattle.qs_script.specs.tree.Tree.{Stmts, end, command, query, assign, choose, choose_else, again, leave}
-use Rattle.qs_script.specs.tokens.Tokens.{tokens_of}
-use Rattle.qs_script.specs.Reads.{IsScriptText}
+use Rattle.qs_script.specs.audit.tree.Tree.{Stmts, end, command, query, assign, choose, choose_else, again, leave}
+use Rattle.qs_script.specs.audit.tokens.Tokens.{tokens_of}
+use Rattle.qs_script.specs.audit.Reads.{IsScriptText}
 
 pub record TokenExamples : Type 0 where
   pub empty : tokens_of [] ≡ Ok []

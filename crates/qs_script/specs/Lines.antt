@@ -4,7 +4,7 @@ use Rattle.std.specs.Prelude.{◌≡◌, ℕ, ◌+◌, ◌<◌, ◌≤◌, List,
 use Rattle.qs_diagnosis.specs.Spots.{line_end_at, spot_at}
 use Rattle.qs_script.specs.declared.tokens.token.Token.{Token}
 use Rattle.qs_script.specs.declared.tokens.lex.TokenFault.{TokenFault}
-use Rattle.qs_script.specs.tokens.Tokens.{tokens_of}
+use Rattle.qs_script.specs.audit.tokens.Tokens.{tokens_of}
 
 -- the bytes from a place up to the end of its line
 abbrev pub line_from : List ℕ → ℕ → List ℕ

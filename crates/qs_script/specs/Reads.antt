@@ -1,4 +1,4 @@
--- What reading a text answers.
+-- Beside what the headline reaches (`audit/Reads.antt`): what else contracts and proofs use.
 use Rattle.std.specs.Prelude.{◌≡◌, ℕ, ◌≤◌, ◌<◌, List, length, Result, Ok, Err}
 use Rattle.qs_script.specs.declared.tokens.token.Token.{Token}
 use Rattle.qs_script.specs.declared.tree.tree.Item.{Item}
@@ -6,18 +6,12 @@ use Rattle.qs_script.specs.declared.fault.ReadFault.{ReadFault}
 use Rattle.qs_script.specs.declared.fault.ReadFault.TheVariants as f
 use Rattle.qs_script.specs.declared.tokens.lex.TokenFault.{TokenFault}
 use Rattle.qs_script.specs.declared.tokens.lex.TokenFault.TheVariants as token
-use Rattle.qs_script.specs.tokens.Tokens.{tokens_of}
-use Rattle.qs_script.specs.grammar.Grammar.{IsScript}
+use Rattle.qs_script.specs.audit.tokens.Tokens.{tokens_of}
+use Rattle.qs_script.specs.audit.grammar.Grammar.{IsScript}
 use Rattle.qs_script.specs.grammar.FormPlaces.{IsFormPlace}
 use Rattle.qs_script.specs.Lines.{IsFaultLine, IsTokenLine, last_line}
-use Rattle.qs_script.specs.tree.Limits.{longest_text}
-
--- the text has at most 65,536 bytes, and its tokens are the script's
-pub record IsScriptText (text : List ℕ) (script : List Item) : Type 0 where
-  pub short : length text ≤ longest_text
-  pub tokens : List Token
-  pub cut : tokens_of text ≡ Ok tokens
-  pub tree : IsScript script tokens
+use Rattle.qs_script.specs.audit.tree.Limits.{longest_text}
+use Rattle.qs_script.specs.audit.Reads.{IsScriptText}
 
 -- a text's first token fault, with its line
 abbrev pub IsFaultAt : List ℕ → TokenFault → ℕ → Type 0

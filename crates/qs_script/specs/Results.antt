@@ -4,7 +4,7 @@ use Rattle.std.specs.Prelude.{◌≡◌, ℕ, List, Option, Some, None, Result, 
 use Rattle.qs_script.specs.declared.tokens.token.Token.{Token}
 use Rattle.qs_script.specs.declared.fault.Fault.{Fault}
 use Rattle.qs_script.specs.declared.fault.Fault.TheVariants.{Form, Memory}
-use Rattle.qs_script.specs.tree.Tree.{Stmts}
+use Rattle.qs_script.specs.audit.tree.Tree.{Stmts}
 use Rattle.qs_script.specs.grammar.Reading.{Read, onto}
 
 -- no reading goes on at a token, and so many are left there; unless memory ran out

@@ -1,5 +1,4 @@
 -- What an auditor reads: the promises and the calls of the surface are said with these.
-pub mod Grammar
 pub mod FormPlaces
 -- What crates promise one another, what proofs use, and worked examples.
 pub mod Reading

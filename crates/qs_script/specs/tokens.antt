@@ -1,6 +1,4 @@
 -- What an auditor reads: the promises and the calls of the surface are said with these.
-pub mod Limits
-pub mod Tokens
 -- What crates promise one another, what proofs use, and worked examples.
 pub mod Padding
 pub mod Cutting

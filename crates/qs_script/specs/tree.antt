@@ -1,5 +1,4 @@
 -- What an auditor reads: the promises and the calls of the surface are said with these.
-pub mod Limits
 pub mod Tree
 pub mod Form
 -- What crates promise one another, what proofs use, and worked examples.

@@ -4,7 +4,8 @@ ghost use Rattle.std.specs.Prelude.{◌≡◌, ◌<◌, ℕ, List, length};
 ghost use Rattle.qs_script.specs.declared.tree.tree.Item.{Item};
 ghost use Rattle.qs_script.specs.declared.fault.ReadFault.{ReadFault};
 ghost use Rattle.qs_script.specs.declared.fault.ReadFault.TheVariants.{Memory};
-ghost use Rattle.qs_script.specs.Reads.{IsScriptText, IsRefused};
+ghost use Rattle.qs_script.specs.audit.Reads.{IsScriptText};
+ghost use Rattle.qs_script.specs.Reads.{IsRefused};
 ghost use Rattle.qs_script.specs.tree.Sizes.{statements};
 ghost use Rattle.qs_script.specs.Examples.{TokenExamples, ScriptExamples};
 

@@ -4,9 +4,9 @@ ghost use Rattle.std.specs.Prelude.{◌≡◌, ◌<◌, ◌≤◌, ◌+◌, leng
 ghost use Rattle.qs_diagnosis.specs.Spots.{spot_at};
 ghost use Rattle.qs_script.specs.declared.tokens.token.Token.{Token};
 ghost use Rattle.qs_script.specs.declared.tokens.lex.TokenFault.{TokenFault as Fault};
-ghost use Rattle.qs_script.specs.tokens.Tokens.{tokens_of};
+ghost use Rattle.qs_script.specs.audit.tokens.Tokens.{tokens_of};
 ghost use Rattle.qs_script.specs.tokens.Cutting.{tokens_in};
-ghost use Rattle.qs_script.specs.tree.Limits.{longest_text};
+ghost use Rattle.qs_script.specs.audit.tree.Limits.{longest_text};
 ghost use Rattle.qs_script.specs.Lines.{IsFaultLine, IsTokenLine, last_line};
 
 use crate::tokens::{Piece, TokenFault, front};

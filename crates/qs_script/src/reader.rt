@@ -1,10 +1,10 @@
 // From a text to a script.
 
 ghost use Rattle.std.specs.Prelude.{◌≡◌, ◌<◌, ◌≤◌, ◌↔◌, length, Ok, IfOk, IfErr, IsErrOf, IsTrue};
-ghost use Rattle.qs_script.specs.tokens.Tokens.{tokens_of};
+ghost use Rattle.qs_script.specs.audit.tokens.Tokens.{tokens_of};
 ghost use Rattle.qs_script.specs.Reads.{HasFault, IsReadOf, IsPlaced};
 ghost use Rattle.qs_script.specs.grammar.FormPlaces.{BeginsScript, IsFormPlaceOf};
-ghost use Rattle.qs_script.specs.tree.Limits.{longest_text};
+ghost use Rattle.qs_script.specs.audit.tree.Limits.{longest_text};
 
 use crate::fault::{Fault, ReadFault};
 use crate::items::script;

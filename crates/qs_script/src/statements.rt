@@ -5,7 +5,7 @@ ghost use Rattle.qs_script.specs.tree.Views.{single};
 ghost use Rattle.qs_script.specs.grammar.Reading.{run, body_loop, stmt_in, stmt_at, choice_at, other_at, repeat_at, braced_at, named_at, command_at, with_args, args_at, after, more_loop, assigned_at, query_at, assign_at, computed_at, semicolon_at, ended_at};
 ghost use Rattle.qs_script.specs.tree.Tree.{call_of};
 ghost use Rattle.qs_script.specs.Results.{Gives, Puts};
-ghost use Rattle.qs_script.specs.tree.Tree.{end, leave, command};
+ghost use Rattle.qs_script.specs.audit.tree.Tree.{end, leave, command};
 
 use crate::expect::{past_close_brace, past_close_paren};
 use crate::fault::Fault;

@@ -1,20 +1,19 @@
 -- Statements run one after another end as their list does, and the objects of a list change as those of the meaning.
 -- The loops of a block alone, over statements and over turns, stand on this: what was run so far and what is left make
 -- up the whole. It goes by cases on the first statement.
-use Rattle.std.proofs.Common.{◌≡◌, ◌<◌, ◌+◌, ℕ, suc, Bool, true, false, List, [], ◌∷◌, length, get_or, drop, refl, sym, ◌∙◌, subst, arith, add-one, ◌≤◌, if◌then◌else◌, ◌==◌, ⊎_elim, Option, Some, None, ℤ, pos}
-use Rattle.std.proofs.Common.{get_or-set_same, get_or-set_other, ◌≢◌}
+use Rattle.std.proofs.Common.{◌≡◌, ◌<◌, ◌+◌, ℕ, suc, Bool, true, false, List, [], ◌∷◌, length, get_or, drop, refl, sym, ◌∙◌, subst, arith, add-one, ◌≤◌, if◌then◌else◌, ◌==◌, ⊎_elim, Option, Some, None, ℤ, pos, get_or-set_same, get_or-set_other, ◌≢◌}
 use Rattle.std.specs.Prelude.{unwrap_or, slice_set}
 use Rattle.std.proofs.lemmas.Grind.{common_steps}
 use Rattle.std.proofs.Math.Seq.{drop-cons}
-use Rattle.qs_objects.specs.Act.{State}
+use Rattle.qs_objects.specs.audit.Act.{State}
 use Rattle.qs_objects.proofs.Choices.{num_cases, apart_eqb}
 use Rattle.qs_program.specs.declared.code.Stmt.{Stmt}
 use Rattle.qs_program.specs.declared.code.Stmt.TheVariants.{Command, Query, Assign, If, Repeat, Leave}
-use Rattle.qs_program.specs.Statements.{end}
-use Rattle.qs_program.specs.Values.{Locals, test_value}
+use Rattle.qs_program.specs.audit.Statements.{end}
+use Rattle.qs_program.specs.audit.Values.{Locals, test_value}
 use Rattle.qs_program.specs.Views.{statements_of, single}
-use Rattle.qs_meaning.specs.Serial.{no_state}
-use Rattle.qs_meaning.specs.Solo.{States, Ending, Runs, exec, put, then_run, turns_run, value_of}
+use Rattle.qs_meaning.specs.audit.Serial.{no_state}
+use Rattle.qs_meaning.specs.audit.Solo.{States, Ending, Runs, exec, put, then_run, turns_run, value_of}
 use Rattle.qs_meaning.proofs.TreeWalks.{put_here, put_there}
 use Rattle.qs_serial.specs.Alone.{AreCallsWithin, EndsWith, states_in}
 

@@ -1,11 +1,10 @@
 -- A list that is read by number is a function; where one place of the list is set, the function is changed at that
 -- number. What is kept in lists, such as how many blocks each client has begun, stands so to what definitions say by
 -- functions. It goes by cases on the number.
-use Rattle.std.proofs.Common.{◌≡◌, ◌≢◌, ◌<◌, ℕ, zero, suc, false, ◌==◌, List, length, get_or, replicate, refl, sym, ◌∙◌, subst, ⊎_elim}
-use Rattle.std.proofs.Common.{get_or-set_same, get_or-set_other}
+use Rattle.std.proofs.Common.{◌≡◌, ◌≢◌, ◌<◌, ℕ, zero, suc, false, ◌==◌, List, length, get_or, replicate, refl, sym, ◌∙◌, subst, ⊎_elim, get_or-set_same, get_or-set_other}
 use Rattle.std.specs.Prelude.{slice_set}
 use Rattle.qs_objects.proofs.Choices.{apart_eqb, num_cases}
-use Rattle.qs_meaning.specs.Solo.{put}
+use Rattle.qs_meaning.specs.audit.Solo.{put}
 use Rattle.qs_meaning.proofs.TreeWalks.{put_here, put_there}
 
 -- a list by number, changed at a place

@@ -5,11 +5,11 @@ use Rattle.std.proofs.Common.{◌≡◌, ◌<◌, ℕ, suc, Bool, true, false, n
 use Rattle.std.specs.Prelude.{slice_set}
 use Rattle.std.specs.List.{AllByRecursion}
 use Rattle.std.proofs.lemmas.List.{get_or_past}
-use Rattle.qs_program.specs.Program.{ClientShape, ProgramShape, blocks_of, no_client}
-use Rattle.qs_meaning.specs.Reduced.{Counts}
-use Rattle.qs_meaning.specs.Serial.{IsLegal, LegalFrom}
-use Rattle.qs_meaning.specs.Solo.{put}
-use Rattle.qs_serial.specs.NamedOrders.{order_from, order_of}
+use Rattle.qs_program.specs.audit.Program.{ClientShape, ProgramShape, blocks_of, no_client}
+use Rattle.qs_meaning.specs.audit.Reduced.{Counts}
+use Rattle.qs_meaning.specs.audit.Serial.{IsLegal, LegalFrom}
+use Rattle.qs_meaning.specs.audit.Solo.{put}
+use Rattle.qs_serial.specs.audit.NamedOrders.{order_from, order_of}
 use Rattle.qs_serial.proofs.Lookups.{lookup-replicate, lookup-set}
 
 abbrev pub counts : List ℕ → Counts

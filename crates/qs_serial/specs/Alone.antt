@@ -1,11 +1,11 @@
 -- What a block alone leaves, where objects stand in a list by their numbers.
 use Rattle.std.specs.Prelude.{◌≡◌, ◌<◌, ◌≤◌, ℕ, Bool, List, length, slice_index_or}
-use Rattle.qs_objects.specs.Act.{State}
+use Rattle.qs_objects.specs.audit.Act.{State}
 use Rattle.qs_program.specs.declared.code.Call.{Call}
-use Rattle.qs_program.specs.Statements.{Statements, end, command, query, assign, choose, again, leave}
-use Rattle.qs_program.specs.Values.{Locals}
-use Rattle.qs_meaning.specs.Serial.{no_state}
-use Rattle.qs_meaning.specs.Solo.{States, Ending}
+use Rattle.qs_program.specs.audit.Statements.{Statements, end, command, query, assign, choose, again, leave}
+use Rattle.qs_program.specs.audit.Values.{Locals}
+use Rattle.qs_meaning.specs.audit.Serial.{no_state}
+use Rattle.qs_meaning.specs.audit.Solo.{States, Ending}
 
 -- objects by their numbers
 abbrev pub states_in : List State → States

@@ -1,10 +1,10 @@
 //! Blocks alone: each request is done at once.
 
 ghost use Rattle.std.specs.Prelude.{◌≡◌, length, false};
-ghost use Rattle.qs_meaning.specs.Solo.{exec, states_after, turns_run};
-ghost use Rattle.qs_objects.specs.Journals.{answer};
+ghost use Rattle.qs_meaning.specs.audit.Solo.{exec, states_after, turns_run};
+ghost use Rattle.qs_objects.specs.audit.Journals.{answer};
 ghost use Rattle.qs_serial.specs.Alone.{AreCallsWithin, EndsWith, IsCallWithin, states_in};
-ghost use Rattle.qs_program.specs.Values.{request_of};
+ghost use Rattle.qs_program.specs.audit.Values.{request_of};
 ghost use Rattle.qs_program.specs.Views.{single};
 
 use qs_objects::Object;

@@ -1,8 +1,8 @@
 //! Lists of clients that name orders of blocks.
 
 ghost use Rattle.std.specs.Prelude.{◌≡◌, ◌↔◌, true};
-ghost use Rattle.qs_serial.specs.NamedOrders.{order_of};
-ghost use Rattle.qs_meaning.specs.Serial.{IsLegal};
+ghost use Rattle.qs_serial.specs.audit.NamedOrders.{order_of};
+ghost use Rattle.qs_meaning.specs.audit.Serial.{IsLegal};
 
 use qs_program::{MOST_CLIENTS, Program};
 

@@ -4,8 +4,9 @@
 use Rattle.std.proofs.Common.{◌≡◌, ◌⊎◌, ℕ, Bool, List, Option, Some, None, false, sym, subst, inl, inr, take}
 use Rattle.std.specs.Prelude.{IfSome}
 use Rattle.qs_line.specs.declared.line.Settings.{Settings}
-use Rattle.qs_line.specs.Line.{Line, Request, alike, ask, ask_alike, asks, check, estimate, fronts, graph, help, outcomes, play, refused, request_of, rules, run, tally, version}
-use Rattle.qs_program.specs.Program.{ProgramShape}
+use Rattle.qs_line.specs.audit.Line.{Line, Request, alike, ask, ask_alike, asks, check, estimate, fronts, graph, help, outcomes, play, refused, rules, run, tally, version}
+use Rattle.qs_line.specs.Line.{request_of}
+use Rattle.qs_program.specs.audit.Program.{ProgramShape}
 use Rattle.qs_report.specs.declared.faults.Fault.{Fault}
 use Rattle.qs_report.specs.declared.faults.Fault.TheVariants as fault
 use Rattle.qs_run.specs.Starts.{IsRefusal, LetAllStart, worker_count}
@@ -13,7 +14,8 @@ use Rattle.qs_run.specs.many.Refusals.{IsRefusedTally, LetRunsStart}
 use Rattle.qs_tally.specs.Tallies.{TallyShape}
 use Rattle.qs_played.specs.declared.fault.RunFault.{RunFault}
 use Rattle.qs_line.specs.declared.line.Format.{Format}
-use Rattle.qs_serve.specs.Due.{HasAsked, HasAskedFor, HasAskedTimes, HasStarted, IsCounted, IsAsked, IsDue, IsDueOfProgram, IsDueOfText, IsFoundBefore, IsKeptBy, IsOfScript, IsOutOfMemory, IsProgramOf, IsProgramRead, IsRefusedBy, IsStartedBy, IsTextKept, IsTextRead, IsUnbegun, IsUnreadable, Lines, Serves, ServesStarting, longest}
+use Rattle.qs_serve.specs.audit.Due.{longest}
+use Rattle.qs_serve.specs.Due.{HasAsked, HasAskedFor, HasAskedTimes, HasStarted, IsCounted, IsAsked, IsDue, IsDueOfProgram, IsDueOfText, IsFoundBefore, IsKeptBy, IsOfScript, IsOutOfMemory, IsProgramOf, IsProgramRead, IsRefusedBy, IsStartedBy, IsTextKept, IsTextRead, IsUnbegun, IsUnreadable, Lines, Serves, ServesStarting}
 use Rattle.qs_serve.specs.Reading.{Reading}
 use Rattle.qs_serve.specs.declared.due.Due.{Due}
 use Rattle.qs_serve.specs.declared.due.Due.TheVariants.{Text, No, Refused}

@@ -5,45 +5,47 @@
 use Rattle.std.proofs.Common.{◌≡◌, ◌≤◌, ◌⊎◌, ◌||◌, if◌then◌else◌, ℕ, Bool, List, [], ◌∷◌, ◌∙◌, Option, Some, None, Result, Ok, true, false, refl, sym, subst, inl, inr, IsOkAnd}
 use Rattle.std.specs.Prelude.{is_some}
 use Rattle.std.proofs.lemmas.List.{append-nil}
-use Rattle.qs_played.specs.Played.{Played}
+use Rattle.qs_played.specs.audit.Played.{Played}
 use Rattle.qs_report.specs.declared.faults.Fault.{Fault}
 use Rattle.qs_report.specs.declared.faults.Fault.TheVariants as fault
 use Rattle.qs_report.specs.Faults.{fault_status}
 use Rattle.qs_script.specs.declared.fault.ReadFault.TheVariants as read
 use Rattle.qs_check.specs.declared.fault_places.fault.CheckFault.TheVariants as check_fault
 use Rattle.qs_played.specs.declared.fault.PlayFault.TheVariants as play_fault
-use Rattle.qs_program.specs.Program.{ProgramShape}
-use Rattle.qs_serial.specs.NamedOrders.{order_of}
+use Rattle.qs_program.specs.audit.Program.{ProgramShape}
+use Rattle.qs_serial.specs.audit.NamedOrders.{order_of}
 use Rattle.qs_serial.specs.declared.fault.OrderFault.TheVariants as order_fault
 use Rattle.qs_outcomes.specs.Outcomes.{AreOutcomesAfter, OutcomesShape}
 use Rattle.qs_outcomes.specs.declared.fault.OutcomesFault.{OutcomesFault}
 use Rattle.qs_outcomes.specs.declared.fault.OutcomesFault.TheVariants as outcomes_fault
 use Rattle.qs_script.specs.declared.tree.tree.Item.{Item}
 use Rattle.qs_script.specs.declared.fault.ReadFault.{ReadFault}
-use Rattle.qs_script.specs.Reads.{IsRefused, IsScriptText}
+use Rattle.qs_script.specs.audit.Reads.{IsScriptText}
+use Rattle.qs_script.specs.Reads.{IsRefused}
 use Rattle.qs_check.specs.declared.fault_places.fault.CheckFault.{CheckFault}
-use Rattle.qs_check.specs.Checked.{IsCheckOf, fault_of}
-use Rattle.qs_check.specs.resolution.Resolve.{program_of_items}
+use Rattle.qs_check.specs.audit.Checked.{fault_of}
+use Rattle.qs_check.specs.Checked.{IsCheckOf}
+use Rattle.qs_check.specs.audit.resolution.Resolve.{program_of_items}
 use Rattle.qs_dot.specs.node_lines.NodeLines.{node_lines}
 use Rattle.qs_report.specs.EndsText.{IsEndsText}
 use Rattle.qs_report.specs.OutcomesText.{IsOutcomesText}
 use Rattle.qs_json.specs.EndsJson.{IsEndsJson}
 use Rattle.qs_json.specs.OutcomesJson.{IsOutcomesJson}
-use Rattle.qs_line.specs.Named.{clients_of}
+use Rattle.qs_line.specs.audit.Named.{clients_of}
 use Rattle.qs_line.specs.declared.parts.Part.{Part}
 use Rattle.qs_line.specs.declared.line.Format.{Format}
 use Rattle.qs_line.specs.declared.line.Format.TheVariants as format
 use Rattle.qs_line.specs.declared.line.OutcomesFormat.{OutcomesFormat}
 use Rattle.qs_line.specs.declared.line.GraphFormat.TheVariants as graph_format
 use Rattle.qs_line.specs.declared.line.ReportStyle.{ReportStyle}
-use Rattle.qs_line.specs.Line.{Line, Request, alike, ask, ask_alike, asks, check, estimate, fronts, graph, help, outcomes, play, refused, rules, run, tally, version}
+use Rattle.qs_line.specs.audit.Line.{Line, Request, alike, ask, ask_alike, asks, check, estimate, fronts, graph, help, outcomes, play, refused, rules, run, tally, version}
 use Rattle.qs_conditions.specs.declared.claim.Claim.{Claim}
 use Rattle.qs_outcomes.specs.Answers.{AnswerShape}
 use Rattle.std.specs.Prelude.{Err, IfErr, IfOk, IfSome, MatchBool}
 use Rattle.std.specs.List.{AllByRecursion}
 use Rattle.qs_objects.specs.declared.held.Ticket.{Ticket}
 use Rattle.qs_meaning.specs.Configurations.{OrderOutcome}
-use Rattle.qs_meaning.specs.Serial.{IsLegal}
+use Rattle.qs_meaning.specs.audit.Serial.{IsLegal}
 use Rattle.qs_conditions.specs.declared.claim.Quantifier.{Quantifier}
 use Rattle.qs_conditions.specs.declared.claim.Quantifier.TheVariants as quantifier
 use Rattle.qs_outcomes.specs.Answers.{IsWitnessAfter}
@@ -62,8 +64,9 @@ use Rattle.qs_syncset.specs.declared.mode.Mode.{Mode}
 use Rattle.qs_played.specs.declared.schedule.actor.Actor.{Actor}
 use Rattle.qs_core.specs.state.CoreState.{IsShownIsolated}
 use Rattle.qs_played.specs.Isolation.{IsIsolated}
-use Rattle.qs_serve.specs.RunReports.{report_by}
-use Rattle.qs_serve.specs.Due.{AreLinesFor, AreLinesWhere, IsAnswerAfterDue, IsAnswerTextTo, IsAnswered, IsCounted, IsDue, IsDueAfter, IsEstimateText, IsEstimated, answer_in, most_numbered, IsDueOfProgram, IsDueOfText, IsDueOfTextAlone, IsDueWithoutThreads, IsListOf, IsOutOfMemory, IsProgramOf, IsRefusedBy, IsReportBetween, IsReportOf, IsSomeText, IsTextBy, IsTextOfOutcomes, Lines, IsUnanswered, IsUnlisted, IsUnreadable, due_status, limit_in, listed_as, IsTextOfList, takes_threads, told_report}
+use Rattle.qs_serve.specs.audit.RunReports.{report_by}
+use Rattle.qs_serve.specs.audit.Due.{told_report}
+use Rattle.qs_serve.specs.Due.{AreLinesFor, AreLinesWhere, IsAnswerAfterDue, IsAnswerTextTo, IsAnswered, IsCounted, IsDue, IsDueAfter, IsEstimateText, IsEstimated, answer_in, most_numbered, IsDueOfProgram, IsDueOfText, IsDueOfTextAlone, IsDueWithoutThreads, IsListOf, IsOutOfMemory, IsProgramOf, IsRefusedBy, IsReportBetween, IsReportOf, IsSomeText, IsTextBy, IsTextOfOutcomes, Lines, IsUnanswered, IsUnlisted, IsUnreadable, due_status, limit_in, listed_as, IsTextOfList, takes_threads}
 use Rattle.qs_serve.specs.Prepared.{prepared_by}
 use Rattle.qs_serve.specs.declared.due.Due.{Due}
 use Rattle.qs_serve.specs.declared.due.Due.TheVariants.{Text, No, Refused}

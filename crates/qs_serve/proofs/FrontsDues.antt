@@ -5,9 +5,9 @@ use Rattle.std.proofs.lemmas.List.{append-nil}
 use Rattle.std.specs.Prelude.{IsErr, IsOkAnd}
 use Rattle.std.specs.List.{AllByRecursion}
 use Rattle.qs_objects.specs.declared.held.Ticket.{Ticket}
-use Rattle.qs_program.specs.Program.{ProgramShape}
-use Rattle.qs_serial.specs.NamedOrders.{order_of}
-use Rattle.qs_meaning.specs.Serial.{IsLegal}
+use Rattle.qs_program.specs.audit.Program.{ProgramShape}
+use Rattle.qs_serial.specs.audit.NamedOrders.{order_of}
+use Rattle.qs_meaning.specs.audit.Serial.{IsLegal}
 use Rattle.qs_meaning.proofs.Each.{each_map}
 use Rattle.qs_standings.specs.Lists.{HasOne}
 use Rattle.qs_standings.specs.Standings.{StandingShape}
@@ -17,8 +17,8 @@ use Rattle.qs_outcomes.specs.declared.fault.OutcomesFault.TheVariants as outcome
 use Rattle.qs_levels.specs.meaning.Fronts.{AreFrontsAfter, IsAfter}
 use Rattle.qs_report.specs.declared.faults.Fault.{Fault}
 use Rattle.qs_report.specs.declared.faults.Fault.TheVariants as fault
-use Rattle.qs_line.specs.Line.{fronts}
-use Rattle.qs_line.specs.Named.{clients_of}
+use Rattle.qs_line.specs.audit.Line.{fronts}
+use Rattle.qs_line.specs.audit.Named.{clients_of}
 use Rattle.qs_line.specs.declared.line.Format.{Format}
 use Rattle.qs_line.specs.declared.parts.Part.{Part}
 use Rattle.qs_serve.specs.Due.{AreFrontsTexts, AreNoFronts, IsDueOfProgram, IsFaultOfFronts, IsFaultOfOrder, IsFrontsText, IsOutOfMemory, IsRefusedBy, fronts_in}

@@ -5,27 +5,27 @@ use Rattle.std.proofs.Common.{◌≡◌, ℕ, Bool, List, [], ◌∙◌, Option,
 use Rattle.std.specs.Prelude.{IfSome, MatchBool, if◌then◌else◌}
 use Rattle.std.specs.Global.{Global}
 use Rattle.std.specs.Io.KnownBytes.{Appends}
-use Rattle.qs_check.specs.Checked.{fault_of}
+use Rattle.qs_check.specs.audit.Checked.{fault_of}
 use Rattle.qs_check.proofs.SoundTexts.{sound_accepted}
 use Rattle.qs_conditions.specs.Conditions.{Tree, steps_of}
 use Rattle.qs_conditions.specs.declared.claim.Claim.{Claim}
 use Rattle.qs_script.proofs.grammar.Form.{formed}
 use Rattle.qs_line.proofs.Claims.{claims_have_conditions, runs_are_lines}
 use Rattle.qs_line.specs.Claims.{HasCondition}
-use Rattle.qs_line.specs.RunLines.{style_of}
-use Rattle.qs_line.specs.Line.{Line, Request, alike, ask, ask_alike, asks, by_order, by_schedule, check, estimate, fronts, graph, outcomes, play, rules, run, tally}
-use Rattle.qs_line.specs.Named.{actors_of, clients_of}
+use Rattle.qs_line.specs.audit.RunLines.{style_of}
+use Rattle.qs_line.specs.audit.Line.{Line, Request, alike, ask, ask_alike, asks, by_order, by_schedule, check, estimate, fronts, graph, outcomes, play, rules, run, tally}
+use Rattle.qs_line.specs.audit.Named.{actors_of, clients_of}
 use Rattle.qs_line.specs.declared.line.Format.{Format}
 use Rattle.qs_line.specs.declared.line.Format.TheVariants as format
 use Rattle.qs_line.specs.declared.line.ReportStyle.{ReportStyle}
 use Rattle.qs_line.specs.declared.parts.Part.{Part}
 use Rattle.qs_dot.specs.node_lines.NodeLines.{node_lines}
-use Rattle.qs_played.specs.Played.{Played}
+use Rattle.qs_played.specs.audit.Played.{Played}
 use Rattle.qs_played.specs.declared.schedule.actor.Actor.{Actor}
-use Rattle.qs_program.specs.Program.{ProgramShape}
+use Rattle.qs_program.specs.audit.Program.{ProgramShape}
 use Rattle.qs_program.specs.Sound.{IsSound}
 use Rattle.qs_promises.specs.Answers.{Says}
-use Rattle.qs_promises.specs.Runs.{IsRun, Way, by_rules, on_machine, on_threads}
+use Rattle.qs_promises.specs.audit.Runs.{IsRun, Way, by_rules, on_machine, on_threads}
 use Rattle.qs_promises.specs.Outcomes.{IsWholeList}
 use Rattle.qs_promises.proofs.Calls.{run_of_outcome, run_of_played, run_of_played_in}
 use Rattle.qs_promises.proofs.Answering.{alike_answers_of_runs, answers_of_runs}
@@ -43,12 +43,14 @@ use Rattle.qs_promises.proofs.AsSerial.{as_if_serial}
 use Rattle.qs_report.specs.AnswerText.{IsAnswerText}
 use Rattle.qs_json.specs.AnswerJson.{IsAnswerJson}
 use Rattle.qs_report.specs.declared.faults.Fault.{Fault}
-use Rattle.qs_check.specs.resolution.Resolve.{program_of_items}
-use Rattle.qs_serve.specs.RunReports.{report_by}
-use Rattle.qs_script.specs.Reads.{IsScriptText}
-use Rattle.qs_serial.specs.NamedOrders.{order_of}
-use Rattle.qs_serve.specs.Due.{AreLinesWhere, IsAlikeAnswerText, IsAnswerBy, IsAnswerTextTo, IsDue, IsDueOfLine, IsDueOfText, IsDueOfTextAlone, IsTextBy, IsTextOfList, IsTextOfOutcomes, Lines, Serves, answer_in, due_status, due_text, listed_as, longest, takes_threads, told_report}
-use Rattle.qs_serve.specs.Headline.{AreAnswersTrue, AreListsTrue, IsAskedFor, IsHeadline, IsReported, IsToTheEnd, IsTrueAnswer, IsTrueList, asked_claim}
+use Rattle.qs_check.specs.audit.resolution.Resolve.{program_of_items}
+use Rattle.qs_serve.specs.audit.RunReports.{report_by}
+use Rattle.qs_script.specs.audit.Reads.{IsScriptText}
+use Rattle.qs_serial.specs.audit.NamedOrders.{order_of}
+use Rattle.qs_serve.specs.audit.Due.{longest, told_report}
+use Rattle.qs_serve.specs.Due.{AreLinesWhere, IsAlikeAnswerText, IsAnswerBy, IsAnswerTextTo, IsDue, IsDueOfLine, IsDueOfText, IsDueOfTextAlone, IsTextBy, IsTextOfList, IsTextOfOutcomes, Lines, Serves, answer_in, due_status, due_text, listed_as, takes_threads}
+use Rattle.qs_serve.specs.audit.Headline.{IsAskedFor, IsHeadline, IsReported, IsToTheEnd}
+use Rattle.qs_serve.specs.Headline.{AreAnswersTrue, AreListsTrue, IsTrueAnswer, IsTrueList, asked_claim}
 use Rattle.qs_serve.specs.Reading.{Reading}
 use Rattle.qs_serve.specs.declared.due.Due.{Due}
 use Rattle.qs_serve.specs.declared.due.Due.TheVariants.{Text, No, Refused}

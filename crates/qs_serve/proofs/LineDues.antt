@@ -8,7 +8,8 @@ use Rattle.qs_line.specs.declared.line.Format.{Format}
 use Rattle.qs_line.specs.declared.line.LineFault.{LineFault}
 use Rattle.qs_line.specs.declared.line.LineFault.TheVariants as line_fault
 use Rattle.qs_line.specs.declared.line.Settings.{Settings}
-use Rattle.qs_line.specs.Line.{IsAnswer, Line, asks, format_by, help, refused, request_by, request_of, version}
+use Rattle.qs_line.specs.audit.Line.{Line, asks, help, refused, version}
+use Rattle.qs_line.specs.Line.{IsAnswer, format_by, request_by, request_of}
 use Rattle.qs_serve.specs.Due.{IsDue, IsDueOfFault, IsDueOfLine, IsDueOfTextAlone, IsFormat, IsFormatOfLine, IsTextKept, IsKeptBy, IsOutOfMemory, IsRefusedBy, IsTextOfMemory, format_of_answer}
 use Rattle.qs_serve.specs.Reading.{Reading}
 use Rattle.qs_serve.specs.declared.due.Due.{Due}

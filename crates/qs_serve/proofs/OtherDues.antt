@@ -4,7 +4,7 @@ use Rattle.std.proofs.Common.{◌≡◌, ◌≤◌, ◌⊎◌, ℕ, Bool, [], Op
 use Rattle.std.specs.Global.{Global}
 use Rattle.std.specs.List.{AllByRecursion}
 use Rattle.std.proofs.lemmas.Slice.Zip.{AllZip-long}
-use Rattle.qs_program.specs.Program.{ProgramShape}
+use Rattle.qs_program.specs.audit.Program.{ProgramShape}
 use Rattle.qs_meaning.proofs.Each.{each_map}
 use Rattle.qs_standings.specs.Standings.{StandingShape}
 use Rattle.qs_outcomes.specs.Outcomes.{HasPlaces, outcome_at}
@@ -21,7 +21,7 @@ use Rattle.qs_outcomes.specs.Answers.{AnswerShape}
 use Rattle.qs_questions.specs.AlikeClaims.{HasMoreAlike, IsAlikeAnswer, IsAlikeAnswerBy, IsEndMet}
 use Rattle.qs_questions.specs.Claims.{is_sought}
 use Rattle.qs_questions.specs.Questions.{first_unknown_in}
-use Rattle.qs_line.specs.Line.{alike, ask_alike}
+use Rattle.qs_line.specs.audit.Line.{alike, ask_alike}
 use Rattle.qs_line.specs.declared.line.Format.{Format}
 use Rattle.qs_serve.specs.Due.{AreTheClasses, AreUnlistedAlike, IsAlikeAnswerText, IsAlikeText, IsAnswered, IsDueOfProgram, IsOutOfMemory, IsTextOf, IsUnansweredAlike, alike_in}
 use Rattle.qs_serve.specs.declared.due.Due.{Due}

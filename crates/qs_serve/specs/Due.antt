@@ -1,12 +1,12 @@
--- What a run has to write, and its status.
+-- Beside what the headline reaches (`audit/Due.antt`): what else contracts and proofs use.
 use Rattle.std.specs.Prelude.{◌≡◌, ◌≤◌, ℕ, ◌⊎◌, List, [], ◌∷◌, ◌++◌, min, take, Bool, true, false, if◌then◌else◌, Option, Some, None, Ok, Err, Result, Vec, ⊤, IfSome, IsErr, IsOkAnd, MatchBool}
 use Rattle.std.specs.Global.{Global}
 use Rattle.std.specs.Io.KnownBytes.{Appends}
 use Rattle.qs_script.specs.declared.fault.ReadFault.TheVariants as read
 use Rattle.qs_check.specs.declared.fault_places.fault.CheckFault.TheVariants as check_fault
 use Rattle.qs_played.specs.declared.fault.PlayFault.TheVariants as play_fault
-use Rattle.qs_serial.specs.NamedOrders.{order_of}
-use Rattle.qs_meaning.specs.Serial.{IsLegal}
+use Rattle.qs_serial.specs.audit.NamedOrders.{order_of}
+use Rattle.qs_meaning.specs.audit.Serial.{IsLegal}
 use Rattle.qs_serial.specs.declared.fault.OrderFault.{OrderFault}
 use Rattle.qs_serial.specs.declared.fault.OrderFault.TheVariants as order_fault
 use Rattle.qs_outcomes.specs.Outcomes.{HasMoreThanAfter, OutcomesShape}
@@ -57,20 +57,21 @@ use Rattle.std.specs.List.{AllByRecursion}
 use Rattle.qs_text.specs.SortedTexts.{IsInOrder}
 use Rattle.qs_text.specs.TellApart.{IsEndOfWords}
 use Rattle.qs_text.specs.Texts.{AppendsFront}
-use Rattle.qs_script.specs.Reads.{IsRefused, IsScriptText}
+use Rattle.qs_script.specs.audit.Reads.{IsScriptText}
+use Rattle.qs_script.specs.Reads.{IsRefused}
 use Rattle.qs_script.specs.declared.tree.tree.Item.{Item}
-use Rattle.qs_check.specs.Checked.{fault_of}
-use Rattle.qs_check.specs.resolution.Resolve.{program_of_items}
-use Rattle.qs_program.specs.Program.{ProgramShape}
-use Rattle.qs_syncset.specs.Codes.{AreCodes, ClientCode}
+use Rattle.qs_check.specs.audit.Checked.{fault_of}
+use Rattle.qs_check.specs.audit.resolution.Resolve.{program_of_items}
+use Rattle.qs_program.specs.audit.Program.{ProgramShape}
+use Rattle.qs_syncset.specs.audit.Codes.{AreCodes, ClientCode}
 use Rattle.qs_core_laws.specs.CoreSchedule.{IsPlayedIn}
 use Rattle.qs_core_laws.specs.orders.CoreOrders.{IsPlayedInOrderOn}
 use Rattle.qs_plain_laws.specs.PlainSchedule.{IsPlayed}
 use Rattle.qs_plain_laws.specs.orders.PlainOrders.{IsPlayedInOrder}
 use Rattle.qs_played.specs.declared.fault.PlayFault.{PlayFault}
 use Rattle.qs_played.specs.declared.fault.RunFault.{RunFault}
-use Rattle.qs_played.specs.Played.{Played}
-use Rattle.qs_played.specs.Schedule.{most_rounds}
+use Rattle.qs_played.specs.audit.Played.{Played}
+use Rattle.qs_played.specs.audit.Schedule.{most_rounds}
 use Rattle.qs_syncset.specs.declared.mode.Mode.{Mode}
 use Rattle.qs_steps.specs.CoreQueues.{core_queues}
 use Rattle.qs_steps.specs.CoreSteps.{core_steps}
@@ -78,7 +79,7 @@ use Rattle.qs_steps.specs.PlainQueues.{plain_queues}
 use Rattle.qs_steps.specs.PlainSteps.{plain_steps}
 use Rattle.qs_run_laws.specs.Outcomes.{IsOutcome}
 use Rattle.qs_run.specs.Starts.{IsRefusal, LetAllStart, worker_count}
-use Rattle.qs_line.specs.Named.{actors_of, clients_of}
+use Rattle.qs_line.specs.audit.Named.{actors_of, clients_of}
 use Rattle.qs_line.specs.declared.fault.ListFault.{ListFault}
 use Rattle.qs_line.specs.declared.fault.ListFault.TheVariants as list_fault
 use Rattle.qs_line.specs.declared.line.Format.{Format}
@@ -92,11 +93,13 @@ use Rattle.qs_line.specs.declared.line.LineFault.TheVariants as line_fault
 use Rattle.qs_line.specs.declared.line.ReportStyle.{ReportStyle}
 use Rattle.qs_line.specs.declared.line.Settings.{Settings}
 use Rattle.qs_line.specs.declared.parts.Part.{Part}
-use Rattle.qs_line.specs.Line.{Line, PlanShape, Request, alike, ask, ask_alike, asks, by_order, by_schedule, check, estimate, format_by, format_of_request, fronts, graph, help, line_in, outcomes, play, refused, request_of, rules, run, tally, version}
-use Rattle.qs_serve.specs.RunReports.{report_by}
+use Rattle.qs_line.specs.audit.Line.{Line, PlanShape, Request, alike, ask, ask_alike, asks, by_order, by_schedule, check, estimate, fronts, graph, help, outcomes, play, refused, rules, run, tally, version}
+use Rattle.qs_line.specs.Line.{format_by, format_of_request, line_in, request_of}
+use Rattle.qs_serve.specs.audit.RunReports.{report_by}
 use Rattle.qs_serve.specs.Reading.{Reading}
 use Rattle.qs_serve.specs.declared.due.Due.{Due}
 use Rattle.qs_serve.specs.declared.due.Due.TheVariants.{Text, No, Refused}
+use Rattle.qs_serve.specs.audit.Due.{told_report, longest}
 
 -- a refusal, as text or as JSON
 abbrev pub refusal_in : Format → Fault → List ℕ
@@ -138,10 +141,6 @@ IsTextOf (Err e) due = due ≡ Refused fault.Memory
 abbrev pub counts_by_format : Format → ProgramShape → List ℕ
 counts_by_format format.Text p = counts_text p
 counts_by_format format.Json p = counts_json p
-
--- a report, after the lines of its steps and before those of its queues
-abbrev pub told_report : (steps queues report : List ℕ) → List ℕ
-told_report steps queues report = steps ++ (report ++ queues)
 
 -- this report between these lines; or that an allocation failed
 abbrev pub IsReportBetween : (steps queues : List ℕ) → ReportStyle → ProgramShape → Played → Due → Type 0
@@ -614,10 +613,6 @@ abbrev pub IsDueOfTextAlone : Request → List ℕ → Due → Type 0
 IsDueOfTextAlone request text due =
     IsOutOfMemory due
     ⊎ MatchBool (takes_threads request) (IsRefusedBy fault.CommandLine due) (IsDueOfText request text due)
-
--- no more of the input than this is read
-abbrev pub longest : ℕ
-longest = 65537
 
 -- What a run on threads has asked its starter: its report is due, or an allocation failed in writing it, only where all
 -- workers were let start; and the run is refused only as a refused run asks.

@@ -1,7 +1,7 @@
 -- What is made of the answer of checking a script.
 use Rattle.std.specs.Prelude.{Ok, Err, Result}
 use Rattle.qs_check.specs.declared.fault_places.fault.CheckFault.{CheckFault}
-use Rattle.qs_program.specs.Program.{ProgramShape}
+use Rattle.qs_program.specs.audit.Program.{ProgramShape}
 use Rattle.qs_report.specs.declared.faults.Fault.{Fault}
 use Rattle.qs_report.specs.declared.faults.Fault.TheVariants as fault
 use Rattle.qs_serve.specs.Due.{Lines}

@@ -1,13 +1,16 @@
 // What a line and an input ask for: settings and the program of a script, or what is due without one.
 
 ghost use Rattle.std.specs.Prelude.{◌≡◌, ◌+◌, ◌≤◌, false, length, map, Err, IfErr, IfOk, None};
-ghost use Rattle.qs_line.specs.Line.{asks, line_in, request_by, request_of};
+ghost use Rattle.qs_line.specs.audit.Line.{asks};
+ghost use Rattle.qs_line.specs.Line.{line_in, request_by, request_of};
 ghost use Rattle.qs_dot.specs.node_lines.NodeLines.{node_lines};
 ghost use Rattle.qs_report.specs.declared.faults.Fault.TheVariants as fault;
-ghost use Rattle.qs_script.specs.Reads.{IsReadOf, IsScriptText};
-ghost use Rattle.qs_script.specs.tree.Limits.{longest_text};
+ghost use Rattle.qs_script.specs.audit.Reads.{IsScriptText};
+ghost use Rattle.qs_script.specs.Reads.{IsReadOf};
+ghost use Rattle.qs_script.specs.audit.tree.Limits.{longest_text};
 ghost use Rattle.qs_serve.specs.Prepared.{prepared_by};
-ghost use Rattle.qs_serve.specs.Due.{AreLinesFor, IsAsked, IsDue, IsFormat, IsFoundBefore, IsKeptBy, IsProgramOf, IsProgramRead, IsTextKept, IsTextRead, IsUnbegun, IsUnreadable, longest};
+ghost use Rattle.qs_serve.specs.audit.Due.{longest};
+ghost use Rattle.qs_serve.specs.Due.{AreLinesFor, IsAsked, IsDue, IsFormat, IsFoundBefore, IsKeptBy, IsProgramOf, IsProgramRead, IsTextKept, IsTextRead, IsUnbegun, IsUnreadable};
 ghost use Rattle.qs_serve.specs.declared.due.Due.TheVariants.{Refused};
 
 use crate::due::{Due, due_of_fault};

@@ -5,7 +5,8 @@ ghost use Rattle.std.specs.Prelude.{◌≡◌, ◌+◌, ◌≤◌, ◌⊎◌, fa
 ghost use Rattle.std.specs.Io.KnownBytes.{Keeps};
 ghost use Rattle.qs_line.specs.Line.{line_in, request_by, request_of};
 ghost use Rattle.qs_report.specs.declared.faults.Fault.TheVariants as fault;
-ghost use Rattle.qs_serve.specs.Due.{HasAskedFor, IsDue, IsDueOfProgram, IsFormat, IsKeptBy, IsOutOfMemory, IsRefusedBy, IsStartedBy, longest};
+ghost use Rattle.qs_serve.specs.audit.Due.{longest};
+ghost use Rattle.qs_serve.specs.Due.{HasAskedFor, IsDue, IsDueOfProgram, IsFormat, IsKeptBy, IsOutOfMemory, IsRefusedBy, IsStartedBy};
 
 use crate::asking::{PreparedText, asked_by};
 use crate::due::{Due, due_of_run};

@@ -3,7 +3,8 @@
 ghost use Rattle.std.specs.Prelude.{◌≡◌, ◌⊎◌, [], IfSome};
 ghost use Rattle.qs_report.specs.declared.faults.Fault.TheVariants as fault;
 ghost use Rattle.qs_line.specs.declared.line.OutcomesFormat.TheVariants as outcomes_format;
-ghost use Rattle.qs_line.specs.Line.{ask, check, graph, outcomes, request_of, run};
+ghost use Rattle.qs_line.specs.audit.Line.{ask, check, graph, outcomes, run};
+ghost use Rattle.qs_line.specs.Line.{request_of};
 ghost use Rattle.qs_serve.specs.Due.{HasAsked, IsAnswerAfterDue, IsAnswered, IsDueAfter, IsDueOfFault, IsDueOfList, IsDueOfProgram, IsDueWithoutThreads, IsRefusedBy, IsListOf, IsTextOf, IsOutOfMemory, due_status, listed_as};
 ghost use Rattle.std.specs.List.{AllByRecursion};
 ghost use Rattle.qs_outcomes.specs.Outcomes.{HasPlaces};

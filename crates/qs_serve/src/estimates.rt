@@ -2,7 +2,7 @@
 
 ghost use Rattle.std.specs.Prelude.{◌≡◌, ◌⊎◌, []};
 ghost use Rattle.qs_report.specs.declared.faults.Fault.TheVariants as fault;
-ghost use Rattle.qs_line.specs.Line.{estimate};
+ghost use Rattle.qs_line.specs.audit.Line.{estimate};
 ghost use Rattle.qs_serve.specs.Due.{IsDueOfProgram, IsEstimated, IsOutOfMemory, IsRefusedBy};
 
 use crate::due::{Due, due_of_bytes, due_of_list};

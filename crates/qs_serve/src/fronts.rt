@@ -4,8 +4,8 @@ ghost use Rattle.std.specs.Prelude.{◌≡◌, ◌⊎◌, ◌++◌, [], map, IfE
 ghost use Rattle.std.specs.List.{AllByRecursion};
 ghost use Rattle.qs_outcomes.specs.Outcomes.{HasPlaces};
 ghost use Rattle.qs_report.specs.declared.faults.Fault.TheVariants as fault;
-ghost use Rattle.qs_line.specs.Line.{fronts};
-ghost use Rattle.qs_line.specs.Named.{clients_of as named};
+ghost use Rattle.qs_line.specs.audit.Line.{fronts};
+ghost use Rattle.qs_line.specs.audit.Named.{clients_of as named};
 ghost use Rattle.qs_serve.specs.Due.{IsDueOfProgram, IsFaultOfFronts, IsFaultOfOrder, IsFrontsText, IsOutOfMemory, IsRefusedBy, fronts_in};
 
 use crate::due::Due;

@@ -2,7 +2,8 @@
 
 ghost use Rattle.std.specs.Prelude.{◌≡◌, ◌⊎◌, ◌||◌, []};
 ghost use Rattle.qs_report.specs.declared.faults.Fault.TheVariants as fault;
-ghost use Rattle.qs_line.specs.Line.{by_order, by_schedule, plan_of, play, rules};
+ghost use Rattle.qs_line.specs.audit.Line.{by_order, by_schedule, play, rules};
+ghost use Rattle.qs_line.specs.Line.{plan_of};
 ghost use Rattle.qs_serve.specs.Due.{IsDueOfProgram, IsOutOfMemory, IsRefusedBy};
 
 use crate::due::{Due, due_of_list};

@@ -1,9 +1,10 @@
 // The reports of what was played.
 
 ghost use Rattle.std.specs.Prelude.{◌≡◌, IfOk};
-ghost use Rattle.qs_meaning.specs.Serial.{IsLegal};
-ghost use Rattle.qs_serve.specs.RunReports.{report_by};
-ghost use Rattle.qs_serve.specs.Due.{IsReportBetween, IsReportOf, told_report};
+ghost use Rattle.qs_meaning.specs.audit.Serial.{IsLegal};
+ghost use Rattle.qs_serve.specs.audit.RunReports.{report_by};
+ghost use Rattle.qs_serve.specs.audit.Due.{told_report};
+ghost use Rattle.qs_serve.specs.Due.{IsReportBetween, IsReportOf};
 
 use crate::due::{Due, due_of_bytes};
 use crate::run_report::{styled_report, styled_run_report};

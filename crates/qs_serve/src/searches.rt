@@ -4,7 +4,7 @@ ghost use Rattle.std.specs.Prelude.{◌≡◌, ◌<◌, ◌⊎◌, [], length, I
 ghost use Rattle.std.specs.List.{AllByRecursion};
 ghost use Rattle.qs_outcomes.specs.Outcomes.{HasPlaces};
 ghost use Rattle.qs_report.specs.declared.faults.Fault.TheVariants as fault;
-ghost use Rattle.qs_line.specs.Line.{alike, ask_alike, outcomes};
+ghost use Rattle.qs_line.specs.audit.Line.{alike, ask_alike, outcomes};
 ghost use Rattle.qs_serve.specs.Due.{alike_in, IsDueAfter, IsDueOfProgram, IsOutOfMemory, IsRefusedBy, listed_as};
 
 use crate::due::{Due, due_of_all, due_of_answer, due_of_bytes, due_of_list, due_of_outcomes};

@@ -6,8 +6,10 @@ ghost use Rattle.qs_line.specs.Line.{is_verbose_in, line_in, request_by, warns_i
 ghost use Rattle.qs_line.specs.declared.line.Format.TheVariants as format;
 ghost use Rattle.qs_report.specs.Faults.{fault_text};
 ghost use Rattle.qs_text.specs.Texts.{AppendsFront};
-ghost use Rattle.qs_serve.specs.Due.{IsDone, Serves, ServesStarting, longest};
-ghost use Rattle.qs_serve.specs.Headline.{AreAnswersTrue, AreListsTrue, IsHeadline};
+ghost use Rattle.qs_serve.specs.audit.Due.{longest};
+ghost use Rattle.qs_serve.specs.Due.{IsDone, Serves, ServesStarting};
+ghost use Rattle.qs_serve.specs.audit.Headline.{IsHeadline};
+ghost use Rattle.qs_serve.specs.Headline.{AreAnswersTrue, AreListsTrue};
 
 use crate::beside::tell_beside;
 use crate::choosing::due_of_words;

@@ -4,7 +4,7 @@ ghost use Rattle.std.specs.Prelude.{◌≡◌, ◌⊎◌, []};
 ghost use Rattle.std.specs.List.{AllByRecursion};
 ghost use Rattle.qs_outcomes.specs.Outcomes.{HasPlaces};
 ghost use Rattle.qs_report.specs.declared.faults.Fault.TheVariants as fault;
-ghost use Rattle.qs_line.specs.Line.{tally};
+ghost use Rattle.qs_line.specs.audit.Line.{tally};
 ghost use Rattle.qs_serve.specs.Due.{HasAskedTimes, IsCounted, IsDueOfProgram, IsOutOfMemory, IsRefusedBy};
 
 use crate::due::{Due, due_of_bytes};

@@ -4,11 +4,11 @@
 -- of its tickets.
 use Rattle.std.proofs.Common.{◌≡◌, ℕ, suc, List, [], ◌∷◌, ◌++◌, map, refl, sym, ap, ap₂, ◌∙◌, subst, append_assoc, append-nil}
 use Rattle.qs_objects.specs.declared.held.Ticket.{Ticket}
-use Rattle.qs_program.specs.Program.{ProgramShape}
-use Rattle.qs_meaning.specs.Configurations.{Configuration, configuration_after, first_configuration, one_block_on}
-use Rattle.qs_meaning.specs.Solo.{put}
-use Rattle.qs_serial.specs.NamedOrders.{order_from, order_of}
-use Rattle.qs_meaning.specs.Serial.{IsLegal, LegalFrom}
+use Rattle.qs_program.specs.audit.Program.{ProgramShape}
+use Rattle.qs_meaning.specs.audit.Configurations.{Configuration, configuration_after, first_configuration, one_block_on}
+use Rattle.qs_meaning.specs.audit.Solo.{put}
+use Rattle.qs_serial.specs.audit.NamedOrders.{order_from, order_of}
+use Rattle.qs_meaning.specs.audit.Serial.{IsLegal, LegalFrom}
 use Rattle.qs_meaning.proofs.Orders.{legal-rest}
 use Rattle.qs_standings.specs.Standings.{HasNext, IsFirst, IsOneOn, IsStanding, StandingShape, configuration_in}
 

@@ -6,13 +6,13 @@ use Rattle.std.proofs.Common.{◌≡◌, ◌<◌, ◌≤◌, ◌+◌, ℕ, zero,
 use Rattle.std.specs.Prelude.{slice_set}
 use Rattle.std.proofs.Math.Seq.{drop-cons, take-append_seam}
 use Rattle.std.proofs.lemmas.List.{length-set, length-take, set-append_left}
-use Rattle.qs_objects.specs.Act.{State}
+use Rattle.qs_objects.specs.audit.Act.{State}
 use Rattle.qs_objects.specs.declared.held.Ticket.{Ticket}
-use Rattle.qs_program.specs.Limits.{most_clients, most_variables}
-use Rattle.qs_program.specs.Program.{ProgramShape, client_at}
+use Rattle.qs_program.specs.audit.Limits.{most_clients, most_variables}
+use Rattle.qs_program.specs.audit.Program.{ProgramShape, client_at}
 use Rattle.qs_program.specs.Sound.{IsSound}
-use Rattle.qs_program.specs.Values.{Locals}
-use Rattle.qs_meaning.specs.Serial.{zeros}
+use Rattle.qs_program.specs.audit.Values.{Locals}
+use Rattle.qs_meaning.specs.audit.Serial.{zeros}
 use Rattle.qs_standings.specs.Rows.{named_before, overwritten}
 use Rattle.qs_standings.specs.Standings.{IsStanding, StandingShape, named_from, padded, row_of, state_row, standing_with_block}
 use Rattle.qs_serial.proofs.Endings.{nothing_left}

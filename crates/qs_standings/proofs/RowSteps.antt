@@ -5,10 +5,10 @@ use Rattle.std.specs.Prelude.{Some, slice_get}
 use Rattle.std.proofs.Common.{ℤ}
 use Rattle.std.proofs.lemmas.List.{length-take}
 use Rattle.qs_objects.proofs.Elements.{AllByRecursion-get_or}
-use Rattle.qs_program.specs.Limits.{most_variables}
-use Rattle.qs_program.specs.Program.{ProgramShape, client_at, no_client}
+use Rattle.qs_program.specs.audit.Limits.{most_variables}
+use Rattle.qs_program.specs.audit.Program.{ProgramShape, client_at, no_client}
 use Rattle.qs_program.specs.Sound.{IsSound, IsSoundClient}
-use Rattle.qs_program.specs.Values.{Locals}
+use Rattle.qs_program.specs.audit.Values.{Locals}
 use Rattle.qs_standings.specs.Standings.{named_from}
 
 pub take_more : {X : Type 0} (xs : List X) (i : ℕ) (d : X) → i < length xs → take (i + 1) xs ≡ take i xs ++ get_or xs i d ∷ []

@@ -2,20 +2,21 @@
 -- rows are equal only where all their parts are; and a variable that no text names is 0. By this what was seen under a
 -- row need not be looked at again. It goes part by part, with the rest of the rows in hand.
 use Rattle.std.proofs.Common.{◌≡◌, ℕ, List, [], ◌∷◌, ◌++◌, length, flat_map, refl, sym, ap, ap₂, ◌∙◌, ℤ, pos, append_assoc, arith, inl, inr}
-use Rattle.qs_objects.specs.Act.{Content, State, account, buffer, grid}
+use Rattle.qs_objects.specs.audit.Act.{Content, State, account, buffer, grid}
 use Rattle.qs_objects.specs.Objects.{AreRowsOf, IsInRange}
-use Rattle.qs_objects.specs.Rows.{join_rows}
+use Rattle.qs_objects.specs.audit.Rows.{join_rows}
 use Rattle.qs_objects.proofs.GridRows.{equal_long, rows_tell}
 use Rattle.std.proofs.Common.{◌<◌, ◌+◌, suc, get_or, take, drop, replicate, subst}
 use Rattle.std.proofs.lemmas.List.{length-take}
 use Rattle.qs_objects.specs.declared.held.Ticket.{Ticket}
-use Rattle.qs_program.specs.Limits.{most_clients}
-use Rattle.qs_program.specs.Program.{ProgramShape, client_at}
+use Rattle.qs_program.specs.audit.Limits.{most_clients}
+use Rattle.qs_program.specs.audit.Program.{ProgramShape, client_at}
 use Rattle.qs_program.specs.Sound.{IsSound}
-use Rattle.qs_program.specs.Values.{Locals}
-use Rattle.qs_meaning.specs.Configurations.{AreNamedAlone, Configuration}
-use Rattle.qs_meaning.specs.Serial.{no_state, zeros}
-use Rattle.qs_meaning.specs.Solo.{States}
+use Rattle.qs_program.specs.audit.Values.{Locals}
+use Rattle.qs_meaning.specs.audit.Configurations.{Configuration}
+use Rattle.qs_meaning.specs.Configurations.{AreNamedAlone}
+use Rattle.qs_meaning.specs.audit.Serial.{no_state, zeros}
+use Rattle.qs_meaning.specs.audit.Solo.{States}
 use Rattle.qs_meaning.proofs.StateRanges.{orders_keep_ranges}
 use Rattle.qs_meaning.proofs.Unnamed.{unnamed_stay_zero}
 use Rattle.qs_standings.specs.Lists.{HasOne}

@@ -7,9 +7,9 @@ use Rattle.std.specs.List.{swap}
 use Rattle.std.proofs.Math.Nat.{mul-le-mul_left}
 use Rattle.std.proofs.lemmas.List.{drop-drop, drop-replicate, drop_at, length-drop, length-replicate, length-take, nil_from_length, replicate-append-replicate, take-append-drop, take_all, take_at, take_more}
 use Rattle.std.proofs.lemmas.List.Edits.{swap_is}
-use Rattle.qs_program.specs.Limits.{most_variables}
-use Rattle.qs_program.specs.Values.{Locals}
-use Rattle.qs_meaning.specs.Serial.{zeros}
+use Rattle.qs_program.specs.audit.Limits.{most_variables}
+use Rattle.qs_program.specs.audit.Values.{Locals}
+use Rattle.qs_meaning.specs.audit.Serial.{zeros}
 use Rattle.qs_standings.specs.Rows.{overwritten}
 use Rattle.qs_standings.specs.Variables.{IsSpread, spread, widened}
 use Rattle.qs_standings.proofs.NextRows.{over_behind, over_whole}

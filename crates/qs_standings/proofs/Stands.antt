@@ -5,19 +5,20 @@ use Rattle.std.proofs.Common.{◌≡◌, ◌<◌, ◌≤◌, ℕ, zero, suc, Boo
 use Rattle.std.proofs.lemmas.List.{length-set, length-replicate}
 use Rattle.std.specs.Prelude.{slice_set}
 use Rattle.std.specs.List.{AllByRecursion}
-use Rattle.qs_objects.specs.Act.{State}
-use Rattle.qs_objects.specs.Objects.{starts}
+use Rattle.qs_objects.specs.audit.Act.{State}
+use Rattle.qs_objects.specs.audit.Objects.{starts}
 use Rattle.qs_objects.specs.declared.held.Ticket.{Ticket}
 use Rattle.qs_objects.proofs.Choices.{eqb_true}
 use Rattle.qs_objects.proofs.Arities.{arity_small}
 use Rattle.qs_program.specs.declared.code.Call.{Call}
 use Rattle.qs_program.specs.declared.program.Declared.{Declared}
-use Rattle.qs_program.specs.Program.{BlockShape, ClientShape, ProgramShape, block_at, blocks_of, no_client, no_object}
-use Rattle.qs_program.specs.Sound.{IsSoundBlock, IsSoundBody, IsSoundCall, is_in}
-use Rattle.qs_program.specs.Statements.{Statements, end, command, query, assign, choose, again, leave}
-use Rattle.qs_meaning.specs.Configurations.{Configuration, configuration_after, configuration_from, first_configuration, one_block_on}
-use Rattle.qs_meaning.specs.Serial.{IsLegal, LegalFrom, declared_states, no_state, state_or_none, zeros}
-use Rattle.qs_meaning.specs.Solo.{BlockResult, put, solo}
+use Rattle.qs_program.specs.audit.Program.{BlockShape, ClientShape, ProgramShape, block_at, blocks_of, no_client, no_object}
+use Rattle.qs_program.specs.audit.Sound.{is_in}
+use Rattle.qs_program.specs.Sound.{IsSoundBlock, IsSoundBody, IsSoundCall}
+use Rattle.qs_program.specs.audit.Statements.{Statements, end, command, query, assign, choose, again, leave}
+use Rattle.qs_meaning.specs.audit.Configurations.{Configuration, configuration_after, configuration_from, first_configuration, one_block_on}
+use Rattle.qs_meaning.specs.audit.Serial.{IsLegal, LegalFrom, declared_states, no_state, state_or_none, zeros}
+use Rattle.qs_meaning.specs.audit.Solo.{BlockResult, put, solo}
 use Rattle.qs_meaning.proofs.Orders.{configuration-append, legal_on}
 use Rattle.qs_serial.proofs.Lookups.{lookup-replicate, lookup-set}
 use Rattle.qs_serial.specs.Alone.{AreCallsWithin, IsCallWithin, states_in}

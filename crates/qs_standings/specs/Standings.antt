@@ -1,16 +1,17 @@
 -- Configurations as they are kept: in lists, with an order that leads there, and as one row of numbers.
 use Rattle.std.specs.Prelude.{◌≡◌, ◌==◌, if◌then◌else◌, map, ℕ, List, [], ◌∷◌, ◌++◌, true, drop, length, replicate, slice_index_or, slice_set, ℤ, pos, flat_map, suc, take}
 use Rattle.std.specs.List.{swap}
-use Rattle.qs_objects.specs.Act.{State, Content, account, buffer, grid}
-use Rattle.qs_objects.specs.Rows.{join_rows}
+use Rattle.qs_objects.specs.audit.Act.{State, Content, account, buffer, grid}
+use Rattle.qs_objects.specs.audit.Rows.{join_rows}
 use Rattle.qs_objects.specs.declared.held.Ticket.{Ticket}
-use Rattle.qs_program.specs.Limits.{most_clients}
-use Rattle.qs_program.specs.Program.{ProgramShape, block_at, client_at}
-use Rattle.qs_program.specs.Values.{Locals}
-use Rattle.qs_meaning.specs.Configurations.{Configuration, HasBlockLeft, configuration_after, one_block_on}
+use Rattle.qs_program.specs.audit.Limits.{most_clients}
+use Rattle.qs_program.specs.audit.Program.{ProgramShape, block_at, client_at}
+use Rattle.qs_program.specs.audit.Values.{Locals}
+use Rattle.qs_meaning.specs.audit.Configurations.{Configuration, configuration_after, one_block_on}
+use Rattle.qs_meaning.specs.Configurations.{HasBlockLeft}
 use Rattle.qs_meaning.specs.Reduced.{IsReducedFrom, goes_on}
-use Rattle.qs_meaning.specs.Serial.{IsLegal, zeros}
-use Rattle.qs_meaning.specs.Solo.{BlockResult, solo}
+use Rattle.qs_meaning.specs.audit.Serial.{IsLegal, zeros}
+use Rattle.qs_meaning.specs.audit.Solo.{BlockResult, solo}
 use Rattle.qs_serial.specs.Alone.{states_in}
 
 -- an order, how many blocks each client has begun along it, the clients' variables, and the objects

@@ -1,9 +1,9 @@
 -- The variables of all clients as they are kept: of each client as many as a width says, one client's behind another's.
 -- All others are 0.
 use Rattle.std.specs.Prelude.{ℕ, zero, suc, ◌≤◌, ◌*◌, length, List, [], ◌∷◌, ◌++◌, drop, take, ℤ}
-use Rattle.qs_program.specs.Limits.{most_clients, most_variables}
-use Rattle.qs_program.specs.Values.{Locals}
-use Rattle.qs_meaning.specs.Serial.{zeros}
+use Rattle.qs_program.specs.audit.Limits.{most_clients, most_variables}
+use Rattle.qs_program.specs.audit.Values.{Locals}
+use Rattle.qs_meaning.specs.audit.Serial.{zeros}
 
 -- the first numbers of a list, and zeros in the place of those behind them
 abbrev pub widened : ℕ → List ℤ → Locals

@@ -1,9 +1,9 @@
 //! Where a program stands after the blocks that a list of clients names, or that an order has.
 
 ghost use Rattle.std.specs.Prelude.{◌≡◌, IfOk, map};
-ghost use Rattle.qs_meaning.specs.Serial.{IsLegal};
+ghost use Rattle.qs_meaning.specs.audit.Serial.{IsLegal};
 ghost use Rattle.qs_objects.specs.declared.held.Ticket.{Ticket};
-ghost use Rattle.qs_serial.specs.NamedOrders.{order_of};
+ghost use Rattle.qs_serial.specs.audit.NamedOrders.{order_of};
 ghost use Rattle.qs_standings.specs.Standings.{IsFirst};
 
 use crate::standing::Standing;

@@ -3,10 +3,10 @@
 ghost use Rattle.std.specs.Prelude.{◌≡◌, ◌∷◌, ◌++◌, ◌<◌, ◌≤◌, ◌+◌, IfOk, OnOk, [], length, flat_map, slice_index_or, take};
 ghost use Rattle.qs_standings.specs.Rows.{AreStarts, named_before, overwritten};
 ghost use Rattle.qs_standings.specs.Standings.{counted, named_from, padded, state_row};
-ghost use Rattle.qs_program.specs.Limits.{most_clients, most_variables};
-ghost use Rattle.qs_program.specs.Program.{client_at};
-ghost use Rattle.qs_meaning.specs.Serial.{zeros};
-ghost use Rattle.qs_objects.specs.Objects.{values_of};
+ghost use Rattle.qs_program.specs.audit.Limits.{most_clients, most_variables};
+ghost use Rattle.qs_program.specs.audit.Program.{client_at};
+ghost use Rattle.qs_meaning.specs.audit.Serial.{zeros};
+ghost use Rattle.qs_objects.specs.audit.Objects.{values_of};
 
 use crate::variables::Variables;
 use indexmap::Equivalent;

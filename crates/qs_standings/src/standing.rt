@@ -1,10 +1,10 @@
 //! Configurations with the orders that lead there.
 
 ghost use Rattle.std.specs.Prelude.{◌≡◌, ◌<◌, ◌↔◌, true, false, ℕ, IfOk, OnOk, [], ◌∷◌, ◌++◌, length, map, slice_index_or, slice_set};
-ghost use Rattle.qs_meaning.specs.Serial.{declared_states, no_state, zeros};
-ghost use Rattle.qs_meaning.specs.Solo.{solo};
+ghost use Rattle.qs_meaning.specs.audit.Serial.{declared_states, no_state, zeros};
+ghost use Rattle.qs_meaning.specs.audit.Solo.{solo};
 ghost use Rattle.qs_serial.specs.Alone.{AreCallsWithin, states_in};
-ghost use Rattle.qs_program.specs.Program.{blocks_of};
+ghost use Rattle.qs_program.specs.audit.Program.{blocks_of};
 ghost use Rattle.qs_standings.specs.Standings.{flipped, flipped_ticket};
 
 use crate::going::{Last, goes_on};

@@ -2,8 +2,8 @@
 
 ghost use Rattle.std.specs.Prelude.{◌≡◌, ◌<◌, ◌≤◌, ◌*◌, ◌+◌, true, IfOk, OnOk, [], drop, length, replicate, slice_index_or, slice_set};
 ghost use Rattle.std.specs.List.{swap};
-ghost use Rattle.qs_program.specs.Limits.{most_clients, most_variables};
-ghost use Rattle.qs_meaning.specs.Serial.{zeros};
+ghost use Rattle.qs_program.specs.audit.Limits.{most_clients, most_variables};
+ghost use Rattle.qs_meaning.specs.audit.Serial.{zeros};
 ghost use Rattle.qs_standings.specs.Variables.{IsSpread, spread, widened};
 
 use crate::rows::put_numbers;
@@ -23,7 +23,7 @@ pub struct Variables {
 
 impl Model for Variables {
     ghost use Rattle.std.specs.Prelude.{List};
-    ghost use Rattle.qs_program.specs.Values.{Locals};
+    ghost use Rattle.qs_program.specs.audit.Values.{Locals};
     ghost use Rattle.qs_standings.specs.Variables.{IsSpread, spread};
 
     ghost Value = { List Locals };

@@ -3,18 +3,19 @@
 use Rattle.std.proofs.Common.{◌≡◌, ◌<◌, ℕ, zero, suc, Bool, true, false, List, [], ◌∷◌, ◌++◌, cond, drop, length, get_or, Option, Some, None, refl, ap, sym, ◌∙◌, nat_lt, nat_eq, arith, codes, flat_map}
 use Rattle.std.specs.Prelude.{is_some}
 use Rattle.std.proofs.Math.Seq.{drop-cons}
-use Rattle.qs_objects.specs.Journals.{HeldState}
+use Rattle.qs_objects.specs.audit.Journals.{HeldState}
 use Rattle.qs_objects.specs.declared.Request.{Request}
-use Rattle.qs_program.specs.Program.{ProgramShape, client_at, object_at}
+use Rattle.qs_program.specs.audit.Program.{ProgramShape, client_at, object_at}
 use Rattle.qs_syncset.specs.declared.mode.Mode.{Mode}
-use Rattle.qs_chunk.specs.Batch.{Batch}
+use Rattle.qs_chunk.specs.audit.Batch.{Batch}
 use Rattle.qs_chunk.specs.declared.parcel.Parcel.{Parcel}
 use Rattle.qs_chunk.specs.declared.parcel.Parcel.TheVariants.{Work}
-use Rattle.qs_played.specs.Played.{Played}
-use Rattle.qs_played.specs.Schedule.{schedule}
+use Rattle.qs_played.specs.audit.Played.{Played}
+use Rattle.qs_played.specs.audit.Schedule.{schedule}
 use Rattle.qs_played.specs.declared.schedule.actor.Actor.{Actor}
 use Rattle.qs_played.proofs.Lists.{get_or-any}
-use Rattle.qs_core_laws.specs.CoreSchedule.{core_played, core_scheduled}
+use Rattle.qs_core_laws.specs.audit.CoreSchedule.{core_played}
+use Rattle.qs_core_laws.specs.CoreSchedule.{core_scheduled}
 use Rattle.qs_core.specs.parts.CarriedRequests.{first_requests, requests_in}
 use Rattle.qs_core.specs.state.CoreState.{CoreState, IsPlayedOn, codes_of, core_of}
 use Rattle.qs_steps.specs.CoreQueues.{core_queues, lane_line, parcel_text, queues_text, wait_for_chunk, wait_for_object}

@@ -1,12 +1,12 @@
 -- Where a schedule of the optimised machine leads from a fresh machine, and what is told of it.
 use Rattle.std.proofs.Common.{◌≡◌, ℕ, List, ap, sym, subst, ◌∙◌}
-use Rattle.qs_program.specs.Program.{ProgramShape}
+use Rattle.qs_program.specs.audit.Program.{ProgramShape}
 use Rattle.qs_syncset.specs.declared.mode.Mode.{Mode}
-use Rattle.qs_played.specs.Schedule.{schedule}
+use Rattle.qs_played.specs.audit.Schedule.{schedule}
 use Rattle.qs_played.specs.declared.schedule.actor.Actor.{Actor}
-use Rattle.qs_core_laws.specs.Core.{core_step}
-use Rattle.qs_syncset.specs.Codes.{AreCodes}
-use Rattle.qs_core_laws.specs.CoreSchedule.{core_plays}
+use Rattle.qs_core_laws.specs.audit.Core.{core_step}
+use Rattle.qs_syncset.specs.audit.Codes.{AreCodes}
+use Rattle.qs_core_laws.specs.audit.CoreSchedule.{core_plays}
 use Rattle.qs_core.specs.state.CoreState.{CoreState, IsFreshCore, IsPlayedOn, codes_of}
 use Rattle.qs_steps.specs.Told.{steps_by}
 use Rattle.qs_steps.specs.CoreSteps.{core_steps, core_told}

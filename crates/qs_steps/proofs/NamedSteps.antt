@@ -4,11 +4,11 @@
 use Rattle.std.proofs.Common.{◌≡◌, ◌<◌, ◌≤◌, ℕ, suc, ◌+◌, Bool, true, false, List, [], ◌∷◌, ◌++◌, codes, flat_map, length, get_or, Option, Some, None, refl, ap, sym, ◌∙◌, append_assoc, append-nil, arith, if◌then◌else◌, subst}
 use Rattle.std.specs.List.{AllByRecursion}
 use Rattle.std.proofs.lemmas.List.{get_or_append_left, length-append}
-use Rattle.qs_program.specs.Program.{ProgramShape}
-use Rattle.qs_played.specs.Schedule.{actors_of, or_stay, plays_by, rounds_of}
+use Rattle.qs_program.specs.audit.Program.{ProgramShape}
+use Rattle.qs_played.specs.audit.Schedule.{actors_of, or_stay, plays_by, rounds_of}
 use Rattle.qs_played.specs.declared.schedule.actor.Actor.{Actor}
-use Rattle.qs_plain_laws.specs.Plain.{begin, step}
-use Rattle.qs_core_laws.specs.Core.{core_begin, core_step}
+use Rattle.qs_plain_laws.specs.audit.Plain.{begin, step}
+use Rattle.qs_core_laws.specs.audit.Core.{core_begin, core_step}
 use Rattle.qs_steps.specs.Told.{line_of, lines_by, stepper, steppers_by}
 use Rattle.qs_steps.specs.PlainSteps.{plain_steps, plain_told}
 use Rattle.qs_steps.specs.CoreSteps.{core_steps, core_told}

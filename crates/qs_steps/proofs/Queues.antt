@@ -6,9 +6,9 @@ use Rattle.std.specs.List.{range_with_len}
 use Rattle.std.proofs.lemmas.Grind.{flat_map-append}
 use Rattle.std.proofs.lemmas.List.{flat_map_more, take_more}
 use Rattle.qs_objects.specs.declared.held.Ticket.{Ticket}
-use Rattle.qs_program.specs.Program.{ProgramShape, blocks_of}
+use Rattle.qs_program.specs.audit.Program.{ProgramShape, blocks_of}
 use Rattle.qs_played.proofs.Lists.{range_more}
-use Rattle.qs_plain_laws.specs.Plain.{Client, StageOfClient, out, within, waiting, begun_blocks}
+use Rattle.qs_plain_laws.specs.audit.Plain.{Client, StageOfClient, out, within, waiting, begun_blocks}
 use Rattle.qs_plain.specs.Awaiting.{awaited_by}
 use Rattle.qs_plain.specs.declared.awaited.Awaited.TheVariants.{Nothing, Done}
 use Rattle.qs_steps.specs.PlainQueues.{spaced, wait_text}

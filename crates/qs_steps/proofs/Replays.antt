@@ -4,14 +4,16 @@ use Rattle.std.specs.List.{range_with_len}
 use Rattle.std.proofs.lemmas.Bool.Decides.{nat_tests}
 use Rattle.qs_objects.proofs.Choices.{and_cases}
 use Rattle.qs_meaning.proofs.Groups.{both_true}
-use Rattle.qs_program.specs.Program.{ProgramShape}
-use Rattle.qs_played.specs.Schedule.{actors_of, all_named, names_actor, or_stay, plays_by, rounds_of, schedule}
+use Rattle.qs_program.specs.audit.Program.{ProgramShape}
+use Rattle.qs_played.specs.audit.Schedule.{actors_of, all_named, names_actor, or_stay, plays_by, rounds_of, schedule}
 use Rattle.qs_played.specs.declared.schedule.actor.Actor.{Actor}
 use Rattle.qs_played.specs.declared.schedule.actor.Actor.TheVariants as actor
-use Rattle.qs_plain_laws.specs.Plain.{begin, step}
-use Rattle.qs_plain_laws.specs.PlainSchedule.{played_of, scheduled}
-use Rattle.qs_core_laws.specs.Core.{core_begin, core_step}
-use Rattle.qs_core_laws.specs.CoreSchedule.{core_played, core_scheduled}
+use Rattle.qs_plain_laws.specs.audit.Plain.{begin, step}
+use Rattle.qs_plain_laws.specs.audit.PlainSchedule.{played_of}
+use Rattle.qs_plain_laws.specs.PlainSchedule.{scheduled}
+use Rattle.qs_core_laws.specs.audit.Core.{core_begin, core_step}
+use Rattle.qs_core_laws.specs.audit.CoreSchedule.{core_played}
+use Rattle.qs_core_laws.specs.CoreSchedule.{core_scheduled}
 use Rattle.qs_steps.specs.StepReplays.{CoreStepsReplay, PlainStepsReplay}
 use Rattle.qs_steps.specs.Told.{stepper, steppers_by}
 

@@ -1,10 +1,11 @@
 -- What is told of a whole schedule under the plain rules from the beginning, and where it leads.
 use Rattle.std.proofs.Common.{◌≡◌, ℕ, List, ◌∙◌}
-use Rattle.qs_program.specs.Program.{ProgramShape}
-use Rattle.qs_played.specs.Schedule.{schedule}
+use Rattle.qs_program.specs.audit.Program.{ProgramShape}
+use Rattle.qs_played.specs.audit.Schedule.{schedule}
 use Rattle.qs_played.specs.declared.schedule.actor.Actor.{Actor}
-use Rattle.qs_plain_laws.specs.Plain.{begin, step}
-use Rattle.qs_plain_laws.specs.PlainSchedule.{plays, scheduled}
+use Rattle.qs_plain_laws.specs.audit.Plain.{begin, step}
+use Rattle.qs_plain_laws.specs.audit.PlainSchedule.{plays}
+use Rattle.qs_plain_laws.specs.PlainSchedule.{scheduled}
 use Rattle.qs_plain.specs.Rules.{RulesState, plain_of}
 use Rattle.qs_steps.specs.Told.{steps_by}
 use Rattle.qs_steps.specs.PlainSteps.{plain_steps, plain_told}

@@ -2,18 +2,19 @@
 -- lanes to it, and what each client waits for.
 use Rattle.std.specs.Prelude.{ℕ, zero, suc, if◌then◌else◌, nat_lt, List, [], ◌∷◌, ◌++◌, codes, decimal, flat_map, length, Option, Some, None}
 use Rattle.std.specs.List.{range_with_len}
-use Rattle.qs_objects.specs.Journals.{HeldState}
+use Rattle.qs_objects.specs.audit.Journals.{HeldState}
 use Rattle.qs_objects.specs.declared.held.Ticket.{Ticket}
-use Rattle.qs_program.specs.Program.{ProgramShape, client_at, object_at}
-use Rattle.qs_syncset.specs.Codes.{ClientCode}
-use Rattle.qs_chunk.specs.Limits.{lane_room}
+use Rattle.qs_program.specs.audit.Program.{ProgramShape, client_at, object_at}
+use Rattle.qs_syncset.specs.audit.Codes.{ClientCode}
+use Rattle.qs_chunk.specs.audit.Limits.{lane_room}
 use Rattle.qs_chunk.specs.declared.parcel.Parcel.{Parcel}
 use Rattle.qs_chunk.specs.declared.parcel.Parcel.TheVariants.{Work, Sync, Home, End}
 use Rattle.qs_client.specs.declared.rules.act.Act.{Act}
 use Rattle.qs_client.specs.declared.rules.act.Act.TheVariants as wants
 use Rattle.qs_played.specs.declared.schedule.actor.Actor.{Actor}
-use Rattle.qs_core_laws.specs.Core.{Core}
-use Rattle.qs_core_laws.specs.CoreSchedule.{before_it, core_scheduled, is_finished}
+use Rattle.qs_core_laws.specs.audit.Core.{Core}
+use Rattle.qs_core_laws.specs.audit.CoreSchedule.{is_finished}
+use Rattle.qs_core_laws.specs.CoreSchedule.{before_it, core_scheduled}
 use Rattle.qs_core.specs.CoreEffects.{act_at}
 use Rattle.qs_steps.specs.CoreSteps.{requests_text}
 use Rattle.qs_steps.specs.Told.{ticket_text}

@@ -1,20 +1,20 @@
 -- What is told of a step of the optimised machine.
 use Rattle.std.specs.Prelude.{ℕ, List, [], ◌++◌, codes, length, nat_lt, if◌then◌else◌, Option, Some, None, option_map}
 use Rattle.std.specs.List.{join_by}
-use Rattle.qs_objects.specs.Act.{State}
-use Rattle.qs_objects.specs.Journals.{HeldState}
+use Rattle.qs_objects.specs.audit.Act.{State}
+use Rattle.qs_objects.specs.audit.Journals.{HeldState}
 use Rattle.qs_objects.specs.declared.Request.{Request}
 use Rattle.qs_handler.specs.Handler.{held_of}
-use Rattle.qs_program.specs.Program.{ProgramShape, client_at, object_at}
-use Rattle.qs_syncset.specs.Codes.{ClientCode}
-use Rattle.qs_played.specs.Schedule.{schedule}
+use Rattle.qs_program.specs.audit.Program.{ProgramShape, client_at, object_at}
+use Rattle.qs_syncset.specs.audit.Codes.{ClientCode}
+use Rattle.qs_played.specs.audit.Schedule.{schedule}
 use Rattle.qs_played.specs.declared.schedule.actor.Actor.{Actor}
 use Rattle.qs_played.specs.declared.schedule.actor.Actor.TheVariants as actor
-use Rattle.qs_core_laws.specs.Core.{Core, core_begin, core_step}
+use Rattle.qs_core_laws.specs.audit.Core.{Core, core_begin, core_step}
 use Rattle.qs_core.specs.CoreEffects.{core_effect, core_requests}
 use Rattle.qs_core.specs.declared.core_effect.CoreEffect.{CoreEffect}
 use Rattle.qs_core.specs.declared.core_effect.CoreEffect.TheVariants.{Reserves, TakesChunk, Sends, WaitsFor, Gets, Returns, EndsAt, Serves, Runs, GivesChunk, SeesWaiting, GivesItself, ComesBack, Leaves}
-use Rattle.qs_text.specs.Words.{request_text}
+use Rattle.qs_text.specs.audit.Words.{request_text}
 use Rattle.qs_steps.specs.Marks.{marked_requests}
 use Rattle.qs_steps.specs.Told.{reserves_text, steppers_by, steps_by, ticket_text}
 

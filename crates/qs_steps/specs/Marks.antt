@@ -1,13 +1,13 @@
 -- What is said of the requests that a handler runs: whether its object, as it stands before them, refuses a command or
 -- has nothing to answer to a query.
 use Rattle.std.specs.Prelude.{ℕ, ℤ, List, [], ◌∷◌, ◌++◌, codes, Option, Some, None}
-use Rattle.qs_objects.specs.Act.{State}
-use Rattle.qs_objects.specs.Journals.{after}
+use Rattle.qs_objects.specs.audit.Act.{State}
+use Rattle.qs_objects.specs.audit.Journals.{after}
 use Rattle.qs_objects.specs.declared.Request.{Request}
-use Rattle.qs_program.specs.Program.{ProgramShape}
-use Rattle.qs_text.specs.fates.Fates.{fate_of}
-use Rattle.qs_report.specs.Report.{fate_text}
-use Rattle.qs_text.specs.Words.{reply_text, request_text}
+use Rattle.qs_program.specs.audit.Program.{ProgramShape}
+use Rattle.qs_text.specs.audit.fates.Fates.{fate_of}
+use Rattle.qs_report.specs.audit.Report.{fate_text}
+use Rattle.qs_text.specs.audit.Words.{reply_text, request_text}
 
 abbrev pub mark : State → Request → List ℕ
 mark s r = fate_text (Some (fate_of s r))

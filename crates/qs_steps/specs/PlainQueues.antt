@@ -2,14 +2,15 @@
 -- lies in each private queue, and what each client waits for.
 use Rattle.std.specs.Prelude.{ℕ, if◌then◌else◌, nat_lt, List, [], ◌∷◌, ◌++◌, codes, decimal, flat_map, length}
 use Rattle.std.specs.List.{range_with_len}
-use Rattle.qs_program.specs.Program.{ProgramShape, blocks_of, object_at}
-use Rattle.qs_program.specs.Program as program
+use Rattle.qs_program.specs.audit.Program.{ProgramShape, blocks_of, object_at}
+use Rattle.qs_program.specs.audit.Program as program
 use Rattle.qs_played.specs.declared.schedule.actor.Actor.{Actor}
-use Rattle.qs_plain_laws.specs.Plain.{Client, Handler, Plain, Private, StageOfClient, out, within, waiting, begun_blocks, client_at, handler_at}
-use Rattle.qs_plain_laws.specs.PlainSchedule.{is_finished, scheduled}
+use Rattle.qs_plain_laws.specs.audit.Plain.{Client, Handler, Plain, Private, StageOfClient, out, within, waiting, begun_blocks, client_at, handler_at}
+use Rattle.qs_plain_laws.specs.audit.PlainSchedule.{is_finished}
+use Rattle.qs_plain_laws.specs.PlainSchedule.{scheduled}
 use Rattle.qs_plain_laws.specs.declared.item.QueueItem.{QueueItem}
 use Rattle.qs_plain_laws.specs.declared.item.QueueItem.TheVariants as item
-use Rattle.qs_text.specs.Words.{request_text}
+use Rattle.qs_text.specs.audit.Words.{request_text}
 use Rattle.qs_steps.specs.Told.{ticket_text}
 
 -- a command or a query by its request, and the end mark by a word

@@ -1,15 +1,15 @@
 -- What is told of a step under the plain rules.
 use Rattle.std.specs.Prelude.{ℕ, List, [], ◌++◌, codes, Option, Some, None, option_map, slice_get}
-use Rattle.qs_objects.specs.Act.{State}
-use Rattle.qs_program.specs.Program.{ProgramShape}
-use Rattle.qs_played.specs.Schedule.{schedule}
+use Rattle.qs_objects.specs.audit.Act.{State}
+use Rattle.qs_program.specs.audit.Program.{ProgramShape}
+use Rattle.qs_played.specs.audit.Schedule.{schedule}
 use Rattle.qs_played.specs.declared.schedule.actor.Actor.{Actor}
 use Rattle.qs_played.specs.declared.schedule.actor.Actor.TheVariants as actor
-use Rattle.qs_plain_laws.specs.Plain.{Handler, Plain, begin, step}
+use Rattle.qs_plain_laws.specs.audit.Plain.{Handler, Plain, begin, step}
 use Rattle.qs_plain.specs.handler.Effects.{plain_effect}
 use Rattle.qs_plain.specs.declared.handler.effect.Effect.{Effect}
 use Rattle.qs_plain.specs.declared.handler.effect.Effect.TheVariants.{Reserves, Logs, Asks, Ends, Runs, Answers, Leaves}
-use Rattle.qs_text.specs.Words.{request_text}
+use Rattle.qs_text.specs.audit.Words.{request_text}
 use Rattle.qs_steps.specs.Marks.{marked}
 use Rattle.qs_steps.specs.Told.{reserves_text, steppers_by, steps_by, ticket_text}
 

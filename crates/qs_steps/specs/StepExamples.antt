@@ -1,8 +1,8 @@
 -- Runs with the lines of their steps, worked out by hand.
 use Rattle.std.specs.Prelude.{◌≡◌, [], ◌∷◌, codes, false, pos}
 use Rattle.qs_objects.specs.declared.object.Kind.TheVariants.{Account}
-use Rattle.qs_program.specs.Program.{BlockShape, ProgramShape}
-use Rattle.qs_program.specs.Statements.{end, command, query}
+use Rattle.qs_program.specs.audit.Program.{BlockShape, ProgramShape}
+use Rattle.qs_program.specs.audit.Statements.{end, command, query}
 use Rattle.qs_graph.specs.GraphExamples.{balance, deposit}
 use Rattle.qs_played.specs.declared.schedule.actor.Actor.TheVariants as actor
 use Rattle.qs_syncset.specs.CodeExamples.{example_code}

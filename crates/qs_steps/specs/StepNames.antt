@@ -2,9 +2,9 @@
 -- actor that was asked to step then, and those that tell a step are of the actors that stepped, in their order.
 use Rattle.std.specs.Prelude.{◌≡◌, ◌<◌, ◌≤◌, ℕ, ◌+◌, Bool, false, if◌then◌else◌, List, [], ◌∷◌, ◌++◌, codes, flat_map, length, slice_index_or}
 use Rattle.std.specs.List.{AllByRecursion}
-use Rattle.qs_program.specs.Program.{ProgramShape}
-use Rattle.qs_syncset.specs.Codes.{ClientCode}
-use Rattle.qs_played.specs.Schedule.{schedule}
+use Rattle.qs_program.specs.audit.Program.{ProgramShape}
+use Rattle.qs_syncset.specs.audit.Codes.{ClientCode}
+use Rattle.qs_played.specs.audit.Schedule.{schedule}
 use Rattle.qs_played.specs.declared.schedule.actor.Actor.{Actor}
 use Rattle.qs_steps.specs.Told.{step_line}
 use Rattle.qs_steps.specs.PlainSteps.{plain_steppers, plain_steps}

@@ -1,12 +1,13 @@
 -- A run is played again by the actors that stepped in it.
 use Rattle.std.specs.Prelude.{◌≡◌, ℕ, List, Ok}
-use Rattle.qs_program.specs.Program.{ProgramShape}
-use Rattle.qs_syncset.specs.Codes.{ClientCode, AreCodes}
+use Rattle.qs_program.specs.audit.Program.{ProgramShape}
+use Rattle.qs_syncset.specs.audit.Codes.{ClientCode, AreCodes}
 use Rattle.qs_syncset.specs.declared.mode.Mode.{Mode}
-use Rattle.qs_played.specs.Played.{Played}
+use Rattle.qs_played.specs.audit.Played.{Played}
 use Rattle.qs_played.specs.declared.schedule.actor.Actor.{Actor}
 use Rattle.qs_plain_laws.specs.PlainSchedule.{IsPlayed}
-use Rattle.qs_core_laws.specs.CoreSchedule.{IsPlayedIn, core_played, core_scheduled}
+use Rattle.qs_core_laws.specs.audit.CoreSchedule.{core_played}
+use Rattle.qs_core_laws.specs.CoreSchedule.{IsPlayedIn, core_scheduled}
 use Rattle.qs_steps.specs.PlainSteps.{plain_steppers}
 use Rattle.qs_steps.specs.CoreSteps.{core_steppers}
 

@@ -1,21 +1,22 @@
 -- What the code that tells steps promises, call by call.
 use Rattle.std.specs.Prelude.{◌≡◌, ℕ, Bool, true, false, if◌then◌else◌, List, [], ◌++◌, codes, Option, Some, None, Result, Ok, Err}
 use Rattle.std.specs.Bool.{OnTrue}
-use Rattle.qs_objects.specs.Act.{State}
+use Rattle.qs_objects.specs.audit.Act.{State}
 use Rattle.qs_objects.specs.declared.Request.{Request}
-use Rattle.qs_program.specs.Program.{ProgramShape}
-use Rattle.qs_syncset.specs.Codes.{ClientCode, AreCodes}
+use Rattle.qs_program.specs.audit.Program.{ProgramShape}
+use Rattle.qs_syncset.specs.audit.Codes.{ClientCode, AreCodes}
 use Rattle.qs_syncset.specs.declared.mode.Mode.{Mode}
-use Rattle.qs_played.specs.Played.{Played}
-use Rattle.qs_played.specs.Schedule.{plays_by, schedule}
+use Rattle.qs_played.specs.audit.Played.{Played}
+use Rattle.qs_played.specs.audit.Schedule.{plays_by, schedule}
 use Rattle.qs_played.specs.declared.schedule.actor.Actor.{Actor}
-use Rattle.qs_plain_laws.specs.Plain.{Plain, step}
+use Rattle.qs_plain_laws.specs.audit.Plain.{Plain, step}
 use Rattle.qs_plain.specs.Rules.{RulesState, plain_of}
 use Rattle.qs_plain.specs.declared.awaited.Awaited.{Awaited}
 use Rattle.qs_plain.specs.declared.awaited.Awaited.TheVariants.{Nothing, Reply, Done}
 use Rattle.qs_plain.specs.declared.handler.effect.Effect.{Effect}
-use Rattle.qs_core_laws.specs.Core.{Core, core_step}
-use Rattle.qs_core_laws.specs.CoreSchedule.{core_played, core_scheduled}
+use Rattle.qs_core_laws.specs.audit.Core.{Core, core_step}
+use Rattle.qs_core_laws.specs.audit.CoreSchedule.{core_played}
+use Rattle.qs_core_laws.specs.CoreSchedule.{core_scheduled}
 use Rattle.qs_core.specs.state.CoreState.{CoreState, codes_of, core_of}
 use Rattle.qs_core.specs.declared.core_effect.CoreEffect.{CoreEffect}
 use Rattle.qs_steps.specs.declared.wanted.Wanted.{Wanted}

@@ -1,8 +1,8 @@
 //! The line of a step of the optimised machine.
 
 ghost use Rattle.std.specs.Prelude.{◌≡◌, ◌++◌, OnOk, codes, flat_map};
-ghost use Rattle.qs_program.specs.Program.{object_at};
-ghost use Rattle.qs_text.specs.Words.{request_text};
+ghost use Rattle.qs_program.specs.audit.Program.{object_at};
+ghost use Rattle.qs_text.specs.audit.Words.{request_text};
 ghost use Rattle.qs_steps.specs.CoreSteps.{core_effect_text, core_text_or_none, requests_text};
 ghost use Rattle.qs_steps.specs.Telling.{core_line};
 ghost use Rattle.qs_steps.specs.Told.{step_line, ticket_text};

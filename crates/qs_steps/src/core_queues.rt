@@ -2,7 +2,7 @@
 
 ghost use Rattle.std.specs.Prelude.{◌≡◌, ◌<◌, ◌+◌, ◌++◌, OnOk, codes, decimal, drop, flat_map, if◌then◌else◌, length, slice_index_or};
 ghost use Rattle.std.specs.List.{range_with_len};
-ghost use Rattle.qs_program.specs.Program.{object_at};
+ghost use Rattle.qs_program.specs.audit.Program.{object_at};
 ghost use Rattle.qs_chunk.specs.declared.parcel.Parcel.{Parcel as ParcelShape};
 ghost use Rattle.qs_core_laws.specs.CoreSchedule.{before_it};
 ghost use Rattle.qs_core.specs.parts.CarriedRequests.{first_requests};

@@ -1,7 +1,7 @@
 //! What the lines of both machines have in common.
 
 ghost use Rattle.std.specs.Prelude.{◌≡◌, ◌++◌, OnOk, codes, decimal, flat_map};
-ghost use Rattle.qs_program.specs.Program.{client_at, object_at, text_of};
+ghost use Rattle.qs_program.specs.audit.Program.{client_at, object_at, text_of};
 ghost use Rattle.qs_steps.specs.Telling.{idle_line};
 ghost use Rattle.qs_steps.specs.Told.{actor_text, names_text, reserves_text, ticket_text};
 

@@ -1,8 +1,8 @@
 //! Requests that a handler runs, marked by what becomes of them.
 
 ghost use Rattle.std.specs.Prelude.{◌≡◌, ◌++◌, None, OnOk, Some};
-ghost use Rattle.qs_objects.specs.Journals.{after};
-ghost use Rattle.qs_report.specs.Report.{fate_text};
+ghost use Rattle.qs_objects.specs.audit.Journals.{after};
+ghost use Rattle.qs_report.specs.audit.Report.{fate_text};
 ghost use Rattle.qs_steps.specs.Marks.{mark, marked, marked_others, marked_requests, next};
 
 use qs_objects::{Object, Request};

@@ -2,7 +2,7 @@
 
 ghost use Rattle.std.specs.Prelude.{◌≡◌, ◌++◌, OnOk};
 ghost use Rattle.qs_steps.specs.Marks.{marked};
-ghost use Rattle.qs_text.specs.Words.{request_text};
+ghost use Rattle.qs_text.specs.audit.Words.{request_text};
 ghost use Rattle.qs_steps.specs.PlainSteps.{effect_text};
 ghost use Rattle.qs_steps.specs.Telling.{plain_line};
 ghost use Rattle.qs_steps.specs.Told.{ticket_text};

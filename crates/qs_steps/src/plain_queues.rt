@@ -3,7 +3,7 @@
 ghost use Rattle.std.specs.Prelude.{◌≡◌, ◌++◌, OnOk, codes, flat_map, length};
 ghost use Rattle.std.specs.List.{range_with_len};
 ghost use Rattle.qs_plain.specs.client.Queues.{QueueState};
-ghost use Rattle.qs_plain_laws.specs.Plain.{client_at, handler_at};
+ghost use Rattle.qs_plain_laws.specs.audit.Plain.{client_at, handler_at};
 ghost use Rattle.qs_plain.specs.Rules.{plain_of};
 ghost use Rattle.qs_steps.specs.PlainQueues.{client_line, handler_lines, item_text, private_line, queues_text, spaced, wait_text};
 ghost use Rattle.qs_steps.specs.Telling.{awaited_text};

@@ -1,10 +1,11 @@
 //! What a schedule shows under the plain rules, and what is told of it.
 
 ghost use Rattle.std.specs.Prelude.{◌≡◌, [], if◌then◌else◌, IfOk};
-ghost use Rattle.qs_meaning.specs.Serial.{IsLegal};
+ghost use Rattle.qs_meaning.specs.audit.Serial.{IsLegal};
 ghost use Rattle.qs_played.specs.Isolation.{IsIsolated};
 ghost use Rattle.qs_plain_laws.specs.PlainIsolation.{commands_in_queue};
-ghost use Rattle.qs_plain_laws.specs.PlainSchedule.{IsPlayed, played_of, scheduled};
+ghost use Rattle.qs_plain_laws.specs.audit.PlainSchedule.{played_of};
+ghost use Rattle.qs_plain_laws.specs.PlainSchedule.{IsPlayed, scheduled};
 ghost use Rattle.qs_plain_laws.specs.PlainSyncSums.{AreQueriesCounted};
 ghost use Rattle.qs_steps.specs.PlainQueues.{plain_queues};
 ghost use Rattle.qs_plain.specs.Rules.{plain_of};

@@ -1,7 +1,7 @@
 //! The steps of a schedule, told as they are made, and what lies where after it, of any machine.
 
 ghost use Rattle.std.specs.Prelude.{◌≡◌, ◌≤◌, ◌+◌, ◌^◌, ◌++◌, [], false, if◌then◌else◌, true, IfOk, OnOk};
-ghost use Rattle.qs_played.specs.Schedule.{actors_of, rounds_of, schedule};
+ghost use Rattle.qs_played.specs.audit.Schedule.{actors_of, rounds_of, schedule};
 ghost use Rattle.qs_steps.specs.Telling.{AreTold, IsAsked, IsScheduleTold, LeadTo, NoneStep, View, asked_line, own_program, steps_from};
 
 use qs_played::Actor;

@@ -6,19 +6,19 @@ use Rattle.std.proofs.lemmas.Bool.Decides.{nat_tests}
 use Rattle.std.proofs.lemmas.Nat.{mul-le}
 use Rattle.std.proofs.Math.Nat.{mul-add, mul_assoc, mul_comm, suc-mul}
 use Rattle.qs_objects.specs.declared.held.Entry.{Entry}
-use Rattle.qs_program.specs.Program.{ProgramShape}
-use Rattle.qs_played.specs.Played.{Played}
-use Rattle.qs_objects.specs.Act.{State}
-use Rattle.qs_program.specs.Program.{object_at}
+use Rattle.qs_program.specs.audit.Program.{ProgramShape}
+use Rattle.qs_played.specs.audit.Played.{Played}
+use Rattle.qs_objects.specs.audit.Act.{State}
+use Rattle.qs_program.specs.audit.Program.{object_at}
 use Rattle.qs_text.specs.declared.fates.fate.Fate.{Fate}
 use Rattle.qs_text.specs.declared.fates.fate.Fate.TheVariants.{Done}
 use Rattle.qs_svg.specs.declared.layout.Layout.{Layout}
-use Rattle.qs_svg.specs.Shapes.{Shape, shapes_up_to, text_at}
-use Rattle.qs_svg.specs.Stretches.{all_columns, columns_of, ended_at, journal_of, most_columns, most_symbols, no_entry, queries_in, reserves, sent_for, stretch, stretch_fates, stretch_start, syncs_at, ticket_at}
-use Rattle.qs_svg.specs.Places.{bands_of, layout_of, row_y, symbol_x, symbol_y}
-use Rattle.qs_svg.specs.Blocks.{cell, column, columns_left, columns_text, left_text, more_symbols, more_text, request_shapes, requests_words, row, row_left, row_names, state_shapes, stretch_frame, stretch_shapes, symbols, sync_symbols, sync_text}
-use Rattle.qs_svg.specs.Legend.{client_shapes, sign_shapes}
-use Rattle.qs_svg.specs.RunSvg.{ground, heading, legend_shapes, row_shapes, run_shapes}
+use Rattle.qs_svg.specs.audit.Shapes.{Shape, shapes_up_to, text_at}
+use Rattle.qs_svg.specs.audit.Stretches.{all_columns, columns_of, ended_at, journal_of, most_columns, most_symbols, no_entry, queries_in, reserves, sent_for, stretch, stretch_fates, stretch_start, syncs_at, ticket_at}
+use Rattle.qs_svg.specs.audit.Places.{bands_of, layout_of, row_y, symbol_x, symbol_y}
+use Rattle.qs_svg.specs.audit.Blocks.{cell, column, columns_left, columns_text, left_text, more_symbols, more_text, request_shapes, requests_words, row, row_left, row_names, state_shapes, stretch_frame, stretch_shapes, symbols, sync_symbols, sync_text}
+use Rattle.qs_svg.specs.audit.Legend.{client_shapes, sign_shapes}
+use Rattle.qs_svg.specs.audit.RunSvg.{ground, heading, legend_shapes, row_shapes, run_shapes}
 use Rattle.qs_svg.specs.Few.{AreFewShapes}
 
 -- so many places with so many shapes each

@@ -4,7 +4,8 @@ use Rattle.std.proofs.Common.{◌≡◌, ℕ, ◌+◌, List, [], ◌∷◌, ◌+
 use Rattle.std.specs.List.{concat}
 use Rattle.std.proofs.lemmas.List.Folds.{concat-append}
 use Rattle.qs_text.specs.Texts.{Puts}
-use Rattle.qs_svg.specs.Shapes.{Draws, Shape, shapes_up_to}
+use Rattle.qs_svg.specs.audit.Shapes.{Shape, shapes_up_to}
+use Rattle.qs_svg.specs.Shapes.{Draws}
 
 -- one shape
 pub drawn : {shape : Shape} {first after : List ℕ} → Puts shape first after → Draws (shape ∷ []) first after

@@ -2,9 +2,9 @@
 -- object stands on it. It goes by induction on the place.
 use Rattle.std.proofs.Common.{◌≡◌, ℕ, zero, suc, ◌+◌, ◌<◌, ◌≢◌, List, [], ◌∷◌, map, length, drop, get_or, refl, true, false, ◌==◌, arith, ◌∙◌, ap}
 use Rattle.std.proofs.lemmas.Bool.Decides.{nat_tests}
-use Rattle.qs_sync_counts.specs.SyncRows.{count_of, object_of}
+use Rattle.qs_sync_counts.specs.audit.SyncRows.{count_of, object_of}
 use Rattle.qs_sync_counts.specs.declared.sync_counts.SyncCount.{SyncCount}
-use Rattle.qs_svg.specs.Stretches.{sent_for}
+use Rattle.qs_svg.specs.audit.Stretches.{sent_for}
 
 -- the object stands here
 pub sent_here : (h : ℕ) (rows : List SyncCount) (i : ℕ) → i < length rows → get_or (map object_of rows) i 0 ≡ h

@@ -1,15 +1,15 @@
 -- Where a stretch ends, and what its entries are: the loop over the stretches of a row stands on it. Each is the
 -- definition, once the numbers and lists that the code has at hand are those of the run.
 use Rattle.std.proofs.Common.{◌≡◌, ℕ, suc, ◌+◌, ◌-◌, min, List, [], ◌∷◌, length, slice_range, ap, ap₂, refl, ◌∙◌}
-use Rattle.qs_objects.specs.Act.{State}
-use Rattle.qs_objects.specs.Journals.{after}
+use Rattle.qs_objects.specs.audit.Act.{State}
+use Rattle.qs_objects.specs.audit.Journals.{after}
 use Rattle.qs_objects.specs.declared.held.Entry.{Entry}
 use Rattle.qs_objects.specs.declared.held.Ticket.{Ticket}
-use Rattle.qs_program.specs.Program.{ProgramShape}
-use Rattle.qs_played.specs.Played.{Played}
-use Rattle.qs_text.specs.fates.Fates.{fates_from, fates_of}
+use Rattle.qs_program.specs.audit.Program.{ProgramShape}
+use Rattle.qs_played.specs.audit.Played.{Played}
+use Rattle.qs_text.specs.audit.fates.Fates.{fates_from, fates_of}
 use Rattle.qs_text.specs.declared.fates.fate.Fate.{Fate}
-use Rattle.qs_svg.specs.Stretches.{entries_for, journal_of, ticket_at, stretch, stretch_fates, stretch_start}
+use Rattle.qs_svg.specs.audit.Stretches.{entries_for, journal_of, ticket_at, stretch, stretch_fates, stretch_start}
 
 pub stretch_ends : (run : Played) (h i : ℕ) (journal : List Entry) (t : Ticket) (start count least : ℕ)
     → journal ≡ journal_of run h → t ≡ ticket_at run i → start ≡ stretch_start run h i → count ≡ entries_for t journal

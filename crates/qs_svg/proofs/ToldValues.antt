@@ -2,7 +2,7 @@
 use Rattle.std.proofs.Common.{◌≡◌, ◌<◌, ◌≤◌, ◌-◌, ℕ, suc, true, false, ℤ, pos, List, length, get_or, drop, nat_le, ap, ◌∙◌, arith, if◌then◌else◌}
 use Rattle.std.proofs.Math.Seq.{drop-cons}
 use Rattle.std.proofs.lemmas.Bool.Decides.{nat_tests}
-use Rattle.qs_svg.specs.Words.{told_in, value_size}
+use Rattle.qs_svg.specs.audit.Words.{told_in, value_size}
 
 pub one_more_told : (values : List ℤ) (i room : ℕ) → i < length values → value_size (get_or values i (pos 0)) ≤ room
     → told_in room (drop i values) ≡ suc (told_in (room - value_size (get_or values i (pos 0))) (drop (suc i) values))

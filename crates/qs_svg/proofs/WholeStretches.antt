@@ -7,13 +7,13 @@ use Rattle.std.proofs.lemmas.List.Sums.{length-filter}
 use Rattle.std.proofs.Math.ListN.{drop_of_length-le}
 use Rattle.std.proofs.Math.Seq.{drop-append_seam, drop-cons, take-append_seam}
 use Rattle.qs_objects.proofs.Choices.{ticket_cases}
-use Rattle.qs_objects.specs.Parts.{entries_of, same}
+use Rattle.qs_objects.specs.audit.Parts.{entries_of, same}
 use Rattle.qs_objects.specs.declared.held.Entry.{Entry}
 use Rattle.qs_objects.specs.declared.held.Ticket.{Ticket}
 use Rattle.qs_played.specs.Isolation.{IsIsolated}
-use Rattle.qs_played.specs.Played.{Played}
-use Rattle.qs_text.specs.Words.{first_ticket}
-use Rattle.qs_svg.specs.Stretches.{entries_for, journal_of, stretch, stretch_start, ticket_at}
+use Rattle.qs_played.specs.audit.Played.{Played}
+use Rattle.qs_text.specs.audit.Words.{first_ticket}
+use Rattle.qs_svg.specs.audit.Stretches.{entries_for, journal_of, stretch, stretch_start, ticket_at}
 use Rattle.qs_svg.specs.OneColour.{AreOfColour, AreRowsOfWholeBlocks}
 
 same_is : (t u : Ticket) → same t u ≡ true → t ≡ u

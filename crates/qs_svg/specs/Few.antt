@@ -1,11 +1,11 @@
 -- No picture has more shapes than this. The most stand in one of 64 columns and 8 rows: each of its stretches has a
 -- frame, a symbol and its words for each of 4 requests, and two texts.
 use Rattle.std.specs.Prelude.{ℕ, ◌≤◌, length}
-use Rattle.qs_program.specs.Program.{ProgramShape}
+use Rattle.qs_program.specs.audit.Program.{ProgramShape}
 use Rattle.qs_program.specs.Sound.{IsSound}
-use Rattle.qs_played.specs.Played.{Played}
-use Rattle.qs_svg.specs.Places.{layout_of}
-use Rattle.qs_svg.specs.RunSvg.{run_shapes}
+use Rattle.qs_played.specs.audit.Played.{Played}
+use Rattle.qs_svg.specs.audit.Places.{layout_of}
+use Rattle.qs_svg.specs.audit.RunSvg.{run_shapes}
 
 abbrev pub most_shapes : ℕ
 most_shapes = 6500

@@ -2,14 +2,14 @@
 -- colour; and with the last ticket no request is left.
 use Rattle.std.specs.Prelude.{◌≡◌, ◌<◌, ℕ, List, length}
 use Rattle.std.specs.List.{AllByRecursion}
-use Rattle.qs_objects.specs.Parts.{entries_of}
+use Rattle.qs_objects.specs.audit.Parts.{entries_of}
 use Rattle.qs_objects.specs.declared.Request.{Request}
 use Rattle.qs_objects.specs.declared.held.Entry.{Entry}
 use Rattle.qs_objects.specs.declared.held.Ticket.{Ticket}
-use Rattle.qs_program.specs.Program.{ProgramShape}
+use Rattle.qs_program.specs.audit.Program.{ProgramShape}
 use Rattle.qs_played.specs.Isolation.{IsIsolated}
-use Rattle.qs_played.specs.Played.{Played}
-use Rattle.qs_svg.specs.Stretches.{journal_of, stretch, stretch_start, ticket_at}
+use Rattle.qs_played.specs.audit.Played.{Played}
+use Rattle.qs_svg.specs.audit.Stretches.{journal_of, stretch, stretch_start, ticket_at}
 
 -- all entries are in the colour of a client
 abbrev pub AreOfColour : ℕ → List Entry → Type 0

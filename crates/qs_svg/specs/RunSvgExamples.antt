@@ -1,21 +1,21 @@
 -- Pictures of a few runs, worked out by hand, and a journal that no machine of this house makes.
 use Rattle.std.specs.Prelude.{◌≡◌, pos, negsuc, [], ◌∷◌, codes, length, replicate, true, false}
 use Rattle.qs_objects.specs.declared.Op.TheVariants.{Balance, Deposit, GetCell, Put, Refused, SetCell, TakeFirst, Withdraw}
-use Rattle.qs_objects.specs.Act.{account, buffer, grid}
+use Rattle.qs_objects.specs.audit.Act.{account, buffer, grid}
 use Rattle.qs_objects.specs.declared.held.Entry.{Entry}
 use Rattle.qs_objects.specs.declared.held.Event.{Event}
 use Rattle.qs_objects.specs.declared.held.Ticket.{Ticket}
-use Rattle.qs_played.specs.Played.{Played}
-use Rattle.qs_sync_counts.specs.SyncRows.{sync_count}
+use Rattle.qs_played.specs.audit.Played.{Played}
+use Rattle.qs_sync_counts.specs.audit.SyncRows.{sync_count}
 use Rattle.qs_text.specs.Worked.{before, command, deposited_once, deposits, query, state, three, ticket}
 use Rattle.qs_text.specs.declared.fates.fate.Fate.TheVariants as fates
-use Rattle.qs_svg.specs.Shapes.{fitted_text}
-use Rattle.qs_svg.specs.Words.{counted, line_words, state_words}
-use Rattle.qs_svg.specs.Places.{bands_of, column_x, layout_with, picture_width, row_y}
+use Rattle.qs_svg.specs.audit.Shapes.{fitted_text}
+use Rattle.qs_svg.specs.audit.Words.{counted, line_words, state_words}
+use Rattle.qs_svg.specs.audit.Places.{bands_of, column_x, layout_with, picture_width, row_y}
 use Rattle.qs_svg.specs.declared.layout.Layout.{Layout}
-use Rattle.qs_svg.specs.Stretches.{most_symbols, stretch}
-use Rattle.qs_svg.specs.Blocks.{stretch_shapes}
-use Rattle.qs_svg.specs.RunSvg.{run_svg}
+use Rattle.qs_svg.specs.audit.Stretches.{most_symbols, stretch}
+use Rattle.qs_svg.specs.audit.Blocks.{stretch_shapes}
+use Rattle.qs_svg.specs.audit.RunSvg.{run_svg}
 
 -- an event as an object ran it for a ticket
 abbrev pub ran_for : Ticket → Event → Entry

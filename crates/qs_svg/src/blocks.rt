@@ -1,11 +1,12 @@
 // The column of a ticket.
 
 ghost use Rattle.std.specs.Prelude.{◌≡◌, ◌<◌, OnOk, length};
-ghost use Rattle.qs_svg.specs.Shapes.{Draws, shapes_up_to};
+ghost use Rattle.qs_svg.specs.audit.Shapes.{shapes_up_to};
+ghost use Rattle.qs_svg.specs.Shapes.{Draws};
 ghost use Rattle.qs_text.specs.Texts.{Puts};
-ghost use Rattle.qs_svg.specs.Stretches.{columns_of as columns_in};
-ghost use Rattle.qs_svg.specs.Places.{first_row as first_of, frame_height, last_row as last_of};
-ghost use Rattle.qs_svg.specs.Blocks.{block_frame, column as column_shapes, column_names, columns_left};
+ghost use Rattle.qs_svg.specs.audit.Stretches.{columns_of as columns_in};
+ghost use Rattle.qs_svg.specs.audit.Places.{first_row as first_of, frame_height, last_row as last_of};
+ghost use Rattle.qs_svg.specs.audit.Blocks.{block_frame, column as column_shapes, column_names, columns_left};
 
 use crate::facts::{MOST_COLUMNS, columns_of, has_ended, ticket_at};
 use crate::layout::{Layout, band_edge, column_edge, height_of_row, row_edge};

@@ -1,8 +1,8 @@
 // What is read off a run: its tickets, and how many entries and synchronisations there are.
 
 ghost use Rattle.std.specs.Prelude.{◌≡◌, ◌+◌, ◌<◌, ◌≤◌, [], length, max, slice_index_or};
-ghost use Rattle.qs_svg.specs.Stretches.{most_columns};
-ghost use Rattle.qs_svg.specs.Stretches as stretches;
+ghost use Rattle.qs_svg.specs.audit.Stretches.{most_columns};
+ghost use Rattle.qs_svg.specs.audit.Stretches as stretches;
 
 use qs_objects::{Entry, Ticket};
 use qs_played::Played;

@@ -1,12 +1,13 @@
 // The beginning of a picture: its size, its title, its description and its style.
 
 ghost use Rattle.std.specs.Prelude.{◌≡◌, ◌+◌, ◌<◌, ◌≤◌, OnOk, length};
-ghost use Rattle.qs_program.specs.Limits.{most_clients};
-ghost use Rattle.qs_text.specs.Texts.{texts_up_to, Puts};
-ghost use Rattle.qs_svg.specs.Stretches.{most_columns};
-ghost use Rattle.qs_svg.specs.Places.{picture_width};
-ghost use Rattle.qs_svg.specs.Words.{description, finished_words as words_of_end, object_told, reserved_words, ticket_told, title_words};
-ghost use Rattle.qs_svg.specs.RunSvg.{head_text, size_text};
+ghost use Rattle.qs_program.specs.audit.Limits.{most_clients};
+ghost use Rattle.qs_text.specs.audit.Texts.{texts_up_to};
+ghost use Rattle.qs_text.specs.Texts.{Puts};
+ghost use Rattle.qs_svg.specs.audit.Stretches.{most_columns};
+ghost use Rattle.qs_svg.specs.audit.Places.{picture_width};
+ghost use Rattle.qs_svg.specs.audit.Words.{description, finished_words as words_of_end, object_told, reserved_words, ticket_told, title_words};
+ghost use Rattle.qs_svg.specs.audit.RunSvg.{head_text, size_text};
 
 use crate::facts::{all_columns, has_ended, journal_of, ticket_at};
 use crate::layout::{Layout, band_edge, bands_of};

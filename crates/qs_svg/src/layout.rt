@@ -1,9 +1,9 @@
 // How much has room in a picture, and where.
 
 ghost use Rattle.std.specs.Prelude.{◌≡◌, ◌+◌, ◌^◌, ◌<◌, ◌≤◌};
-ghost use Rattle.qs_program.specs.Limits.{most_objects};
-ghost use Rattle.qs_svg.specs.Stretches.{most_columns, most_symbols as most_of, most_symbols_of_few};
-ghost use Rattle.qs_svg.specs.Places.{band_height, band_y, bands_of as bands_for, column_x, layout_of as layout_for, layout_with, row_height, row_y, symbol_x, symbol_y};
+ghost use Rattle.qs_program.specs.audit.Limits.{most_objects};
+ghost use Rattle.qs_svg.specs.audit.Stretches.{most_columns, most_symbols as most_of, most_symbols_of_few};
+ghost use Rattle.qs_svg.specs.audit.Places.{band_height, band_y, bands_of as bands_for, column_x, layout_of as layout_for, layout_with, row_height, row_y, symbol_x, symbol_y};
 
 use crate::facts::{columns_of, longest};
 use qs_played::Played;

@@ -1,9 +1,10 @@
 // What a picture says of its colours and signs.
 
 ghost use Rattle.std.specs.Prelude.{OnOk, length};
-ghost use Rattle.qs_svg.specs.Shapes.{Draws, shapes_up_to};
+ghost use Rattle.qs_svg.specs.audit.Shapes.{shapes_up_to};
+ghost use Rattle.qs_svg.specs.Shapes.{Draws};
 ghost use Rattle.qs_text.specs.Texts.{Puts};
-ghost use Rattle.qs_svg.specs.Legend.{client_shapes, client_square, sign_shapes, style};
+ghost use Rattle.qs_svg.specs.audit.Legend.{client_shapes, client_square, sign_shapes, style};
 
 use crate::pieces::{put_name, put_path};
 use qs_program::Program;

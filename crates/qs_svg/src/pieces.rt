@@ -2,8 +2,8 @@
 
 ghost use Rattle.std.specs.Prelude.{◌≡◌, ◌++◌, OnOk, [], codes, if◌then◌else◌, nat_eq};
 ghost use Rattle.qs_text.specs.Texts.{Puts};
-ghost use Rattle.qs_svg.specs.Words.{counted};
-ghost use Rattle.qs_svg.specs.Shapes.{fitted_text, path_start, squeezed, text_at, text_start, with_number};
+ghost use Rattle.qs_svg.specs.audit.Words.{counted};
+ghost use Rattle.qs_svg.specs.audit.Shapes.{fitted_text, path_start, squeezed, text_at, text_start, with_number};
 
 use qs_text::{put_count, put_word};
 use std::alloc::AllocError;

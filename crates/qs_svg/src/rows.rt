@@ -1,12 +1,14 @@
 // The row of an object.
 
 ghost use Rattle.std.specs.Prelude.{◌≡◌, ◌<◌, ◌-◌, IfOk, OnOk, [], ◌∷◌, length, slice_get};
-ghost use Rattle.qs_text.specs.fates.Fates.{all_fates, fates_of};
-ghost use Rattle.qs_svg.specs.Shapes.{Draws, fitted_text, shapes_up_to};
-ghost use Rattle.qs_svg.specs.Stretches.{all_columns as columns_in_all, columns_of as columns_in, stretch, stretch_fates, stretch_start};
-ghost use Rattle.qs_svg.specs.Places.{bands_of as bands_for};
-ghost use Rattle.qs_svg.specs.Words.{state_words};
-ghost use Rattle.qs_svg.specs.Blocks.{cell, row as row_shapes, row_left, row_names, state_shapes};
+ghost use Rattle.qs_text.specs.audit.fates.Fates.{fates_of};
+ghost use Rattle.qs_text.specs.fates.Fates.{all_fates};
+ghost use Rattle.qs_svg.specs.audit.Shapes.{fitted_text, shapes_up_to};
+ghost use Rattle.qs_svg.specs.Shapes.{Draws};
+ghost use Rattle.qs_svg.specs.audit.Stretches.{all_columns as columns_in_all, columns_of as columns_in, stretch, stretch_fates, stretch_start};
+ghost use Rattle.qs_svg.specs.audit.Places.{bands_of as bands_for};
+ghost use Rattle.qs_svg.specs.audit.Words.{state_words};
+ghost use Rattle.qs_svg.specs.audit.Blocks.{cell, row as row_shapes, row_left, row_names, state_shapes};
 
 use crate::facts::{
     MOST_COLUMNS, all_columns, columns_of, entries_for, journal_of, reserves, ticket_at,

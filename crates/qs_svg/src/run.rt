@@ -3,7 +3,7 @@
 ghost use Rattle.std.specs.Prelude.{◌≡◌, IfOk, OnOk};
 ghost use Rattle.qs_svg.specs.Shapes.{Draws};
 ghost use Rattle.qs_text.specs.Texts.{Puts};
-ghost use Rattle.qs_svg.specs.RunSvg as definitions;
+ghost use Rattle.qs_svg.specs.audit.RunSvg as definitions;
 
 use crate::blocks::{put_columns, put_columns_left};
 use crate::head::{put_head, put_title};

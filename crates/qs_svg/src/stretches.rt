@@ -2,11 +2,12 @@
 
 ghost use Rattle.std.specs.Prelude.{◌≡◌, ◌+◌, ◌^◌, ◌<◌, OnOk, length, slice_index_or};
 ghost use Rattle.qs_text.specs.declared.fates.fate.Fate.TheVariants.{Done};
-ghost use Rattle.qs_svg.specs.Shapes.{Draws, fitted_text};
+ghost use Rattle.qs_svg.specs.audit.Shapes.{fitted_text};
+ghost use Rattle.qs_svg.specs.Shapes.{Draws};
 ghost use Rattle.qs_text.specs.Texts.{Puts};
-ghost use Rattle.qs_svg.specs.Places.{symbol_x, symbol_y};
-ghost use Rattle.qs_svg.specs.Words.{line_words};
-ghost use Rattle.qs_svg.specs.Blocks.{cross, form, more_symbols, request_shapes, right_side, stretch_frame, stretch_shapes, symbol, symbol_kind, symbols, sync_symbols, sync_text};
+ghost use Rattle.qs_svg.specs.audit.Places.{symbol_x, symbol_y};
+ghost use Rattle.qs_svg.specs.audit.Words.{line_words};
+ghost use Rattle.qs_svg.specs.audit.Blocks.{cross, form, more_symbols, request_shapes, right_side, stretch_frame, stretch_shapes, symbol, symbol_kind, symbols, sync_symbols, sync_text};
 
 use crate::facts::{has_ended, queries_in, sent_for, ticket_at};
 use crate::layout::{Spot, column_edge, row_edge, symbol_left, symbol_top};

@@ -1,10 +1,11 @@
 // What is said in words.
 
 ghost use Rattle.std.specs.Prelude.{◌≡◌, ◌<◌, ◌≤◌, OnOk, length};
-ghost use Rattle.qs_objects.specs.Objects.{kind_of, values_of};
+ghost use Rattle.qs_objects.specs.audit.Objects.{kind_of, values_of};
 ghost use Rattle.qs_objects.specs.declared.object.Kind.TheVariants as kinds;
-ghost use Rattle.qs_text.specs.Texts.{Puts, spaced_value, texts_up_to};
-ghost use Rattle.qs_svg.specs.Words.{args_words, gap_words, block_words, content_words, entry_words, fate_words, line_words, state_words, ticket_words, told_in, stretch_words, value_room, value_size, values_end, values_words, with_integer};
+ghost use Rattle.qs_text.specs.audit.Texts.{spaced_value, texts_up_to};
+ghost use Rattle.qs_text.specs.Texts.{Puts};
+ghost use Rattle.qs_svg.specs.audit.Words.{args_words, gap_words, block_words, content_words, entry_words, fate_words, line_words, state_words, ticket_words, told_in, stretch_words, value_room, value_size, values_end, values_words, with_integer};
 
 use itoa::Buffer;
 use qs_objects::{Entry, Kind, Object, Ticket};

@@ -4,7 +4,8 @@
 use Rattle.std.proofs.Common.{◌≡◌, ◌<◌, ◌≤◌, ℕ, zero, suc, ◌+◌, ◌==◌, Bool, true, false, if◌then◌else◌, List, [], ◌∷◌, ◌++◌, length, get_or, set, map, take, drop, replicate, refl, sym, ap, ◌∙◌, arith, append_assoc, drop-cons, get_or-set_same, set-set}
 use Rattle.std.proofs.lemmas.List.{drop_all, take_more}
 use Rattle.qs_sync_counts.specs.declared.sync_counts.SyncCount.{SyncCount}
-use Rattle.qs_sync_counts.specs.SyncRows.{AreFew, HaveCounts, all_counts, begun_rows, count_of, fresh_rows, no_syncs, object_of, objects_in, pair_counts, sync_count, with_counts, with_sync}
+use Rattle.qs_sync_counts.specs.audit.SyncRows.{count_of, fresh_rows, no_syncs, object_of, sync_count, with_sync}
+use Rattle.qs_sync_counts.specs.SyncRows.{AreFew, HaveCounts, all_counts, begun_rows, objects_in, pair_counts, with_counts}
 
 pub length_paired : (os cs : List ℕ) → length cs ≡ length os → length (pair_counts os cs) ≡ length os
 length_paired [] cs same = refl

@@ -1,2 +1,4 @@
+-- What has to be believed for the headline.
+pub mod audit
 -- What an auditor reads: the promises and the calls of the surface are said with these.
 pub mod SyncRows

@@ -1,37 +1,13 @@
--- How many Syncs the blocks of a client have sent, for each object of their lists.
+-- Beside what the headline reaches (`audit/SyncRows.antt`): what else contracts and proofs use.
 use Rattle.std.specs.Prelude.{◌≡◌, ◌<◌, ℕ, zero, suc, ◌+◌, ◌==◌, if◌then◌else◌, List, [], ◌∷◌, map, length, sum_by}
 use Rattle.std.specs.List.{AllByRecursion}
 use Rattle.qs_objects.specs.Rows.{RowsState}
 use Rattle.qs_sync_counts.specs.declared.sync_counts.SyncCount.{SyncCount}
-
-abbrev pub sync_count : ℕ → ℕ → SyncCount
-sync_count h n = record { object = h; count = n }
-
-abbrev pub object_of : SyncCount → ℕ
-object_of x = x.object
-
-abbrev pub count_of : SyncCount → ℕ
-count_of x = x.count
-
--- none yet, in a block with this list
-abbrev pub no_syncs : List ℕ → List SyncCount
-no_syncs hs = map (λ h. sync_count h 0) hs
-
--- a Sync more, where this is the object
-abbrev pub one_more : ℕ → SyncCount → SyncCount
-one_more h x = sync_count x.object (if x.object == h then suc x.count else x.count)
-
--- a Sync more for object h
-abbrev pub with_sync : ℕ → List SyncCount → List SyncCount
-with_sync h xs = map (one_more h) xs
+use Rattle.qs_sync_counts.specs.audit.SyncRows.{sync_count, count_of, no_syncs}
 
 -- how many were sent for object h
 abbrev pub syncs_for : List SyncCount → ℕ → ℕ
 syncs_for xs h = sum_by (λ (x : SyncCount). if x.object == h then x.count else 0) xs
-
--- how many for all objects of the list
-abbrev pub syncs_of : List SyncCount → ℕ
-syncs_of xs = sum_by count_of xs
 
 -- the counts of all blocks, without their objects
 abbrev pub all_counts : List (List SyncCount) → List (List ℕ)
@@ -80,10 +56,6 @@ abbrev pub begun_rows : ℕ → List (List ℕ) → List (List SyncCount)
 begun_rows n [] = []
 begun_rows zero (hs ∷ lists) = [] ∷ begun_rows zero lists
 begun_rows (suc n) (hs ∷ lists) = no_syncs hs ∷ begun_rows n lists
-
--- none yet, in all blocks with these lists
-abbrev pub fresh_rows : List (List ℕ) → List (List SyncCount)
-fresh_rows lists = map no_syncs lists
 
 -- how many objects these lists have together
 abbrev pub objects_in : List (List ℕ) → ℕ

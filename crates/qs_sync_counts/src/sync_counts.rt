@@ -1,8 +1,10 @@
 //! How many Syncs a client has sent, for each block and each object of its list.
 
 ghost use Rattle.std.specs.Prelude.{◌≡◌, ◌<◌, ◌≤◌, ◌+◌, ◌-◌, ◌==◌, suc, if◌then◌else◌, [], ◌∷◌, ◌++◌, IfOk, IsErr, length, map, replicate, slice_index_or, slice_set};
-ghost use Rattle.qs_objects.specs.Rows.{IsLast, join_rows};
-ghost use Rattle.qs_sync_counts.specs.SyncRows.{AreFew, all_counts, count_of, counts_state, greatest_count, no_syncs, object_of, one_more, sync_count, with_sync};
+ghost use Rattle.qs_objects.specs.audit.Rows.{join_rows};
+ghost use Rattle.qs_objects.specs.Rows.{IsLast};
+ghost use Rattle.qs_sync_counts.specs.audit.SyncRows.{count_of, no_syncs, object_of, one_more, sync_count, with_sync};
+ghost use Rattle.qs_sync_counts.specs.SyncRows.{AreFew, all_counts, counts_state, greatest_count};
 
 use qs_objects::Rows;
 use std::alloc::{AllocError, Global};

@@ -6,13 +6,13 @@ use Rattle.std.proofs.Common.{◌≡◌, ℕ, Bool, false, length, map, refl, sy
 use Rattle.std.specs.List.{range_with_len}
 use Rattle.std.proofs.lemmas.List.{get_or_past, length-map}
 use Rattle.std.proofs.lemmas.List.FromFn.{get_or-map-range_with_len, length-range_with_len}
-use Rattle.qs_program.specs.Limits.{most_handlers}
-use Rattle.qs_program.specs.Loads.{load_of}
-use Rattle.qs_program.specs.Program.{ClientShape, ProgramShape, binding_of, block_at, blocks_of, no_client}
-use Rattle.qs_graph.specs.Names.{graph_of}
+use Rattle.qs_program.specs.audit.Limits.{most_handlers}
+use Rattle.qs_program.specs.audit.Loads.{load_of}
+use Rattle.qs_program.specs.audit.Program.{ClientShape, ProgramShape, binding_of, block_at, blocks_of, no_client}
+use Rattle.qs_graph.specs.audit.Names.{graph_of}
 use Rattle.qs_syncset.specs.declared.mode.Mode.{Mode}
-use Rattle.qs_syncset.specs.Codes.{IsBlockCode, no_code, AreCodes}
-use Rattle.qs_syncset.specs.Modes.{is_dynamic, is_static}
+use Rattle.qs_syncset.specs.audit.Codes.{IsBlockCode, no_code, AreCodes}
+use Rattle.qs_syncset.specs.audit.Modes.{is_dynamic, is_static}
 use Rattle.qs_syncset.specs.CodeExamples.{example_code, built_block}
 
 module _ (p : ProgramShape) (dynamic : Bool) (mode : Mode) (tests : dynamic ≡ is_dynamic mode) (removes_none : is_static mode ≡ false) where

@@ -1,9 +1,9 @@
 -- A graph is coalesced where each of its places is, one after another: so a coalesced graph can be made, or be
 -- computed, place by place. It goes by induction on the places.
 use Rattle.std.proofs.Common.{◌≡◌, ℕ, zero, suc, ◌+◌, ◌<◌, List, [], ◌∷◌, length, refl, sym, ap, subst, arith}
-use Rattle.qs_graph.specs.Nodes.{ControlGraph, GraphNode, place_at}
-use Rattle.qs_syncset.specs.Coalesced.{IsRemovedIfHeld, IsCoalesced}
-use Rattle.qs_syncset.specs.held.Held.{IsHeld}
+use Rattle.qs_graph.specs.audit.Nodes.{ControlGraph, GraphNode, place_at}
+use Rattle.qs_syncset.specs.audit.Coalesced.{IsRemovedIfHeld, IsCoalesced}
+use Rattle.qs_syncset.specs.audit.held.Held.{IsHeld}
 
 -- the places from the number m on, one after another
 abbrev pub AreCoalesced : ControlGraph → ℕ → (old new : List GraphNode) → Type 0

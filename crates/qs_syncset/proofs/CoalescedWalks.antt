@@ -4,21 +4,23 @@
 use Rattle.std.proofs.Common.{◌≡◌, inl, inr, ℕ, zero, suc, ◌<◌, true, List, ◌∷◌, length, refl, sym, ap, ◌∙◌, subst}
 use Rattle.std.proofs.Math.Path.{fun_ext}
 use Rattle.std.proofs.lemmas.Bool.{cases_eq}
-use Rattle.qs_meaning.specs.Solo.{put}
+use Rattle.qs_meaning.specs.audit.Solo.{put}
 use Rattle.qs_graph.specs.declared.node.Node.{Node}
 use Rattle.qs_graph.specs.declared.node.Node.TheVariants.{Entry, Local, Branch, Sync, Query, Call, Exit}
 use Rattle.std.proofs.lemmas.List.{ext_get_or}
-use Rattle.qs_graph.specs.Nodes.{GraphNode, over_objects, place_at, exit, made_local, first_target}
-use Rattle.qs_graph.specs.Paths.{IsPath}
+use Rattle.qs_graph.specs.audit.Nodes.{GraphNode, place_at, exit, made_local, first_target}
+use Rattle.qs_graph.specs.Nodes.{over_objects}
+use Rattle.qs_graph.specs.audit.Paths.{IsPath}
 use Rattle.qs_graph.specs.Synced.{without_syncs}
-use Rattle.qs_graph.specs.Walk.{Spot, Goes, Syncs, at_node, move, tree_of_move, walk, EachNext, Within}
+use Rattle.qs_graph.specs.audit.Walk.{Spot, Goes, Syncs, at_node, move, tree_of_move, walk}
+use Rattle.qs_graph.specs.Walk.{EachNext, Within}
 use Rattle.qs_graph.specs.WellFormed.{IsGraph}
 use Rattle.qs_graph.proofs.Along.{walks_go_along_paths}
 use Rattle.qs_graph.proofs.Saying.{next_up}
-use Rattle.qs_syncset.specs.Coalesced.{IsRemovedIfHeld}
+use Rattle.qs_syncset.specs.audit.Coalesced.{IsRemovedIfHeld}
 use Rattle.qs_syncset.specs.CodeLaws.{CoalescingIsUnique}
 use Rattle.qs_syncset.specs.held.Flow.{Holding, held_along}
-use Rattle.qs_syncset.specs.held.Held.{IsHeld}
+use Rattle.qs_syncset.specs.audit.held.Held.{IsHeld}
 use Rattle.qs_syncset.specs.SoundSynced.{IsSoundSynced}
 use Rattle.qs_syncset.proofs.held.Paths.{put_same, put_other, synced_along}
 use Rattle.qs_syncset.proofs.Removals.{IsSoundRemoval}

@@ -4,28 +4,28 @@
 use Rattle.std.proofs.Common.{◌≡◌, inl, inr, ℕ, suc, ◌<◌, ◌≤◌, Bool, true, false, List, [], ◌∷◌, length, get_or, refl, sym, ap, ◌∙◌, subst, arith}
 use Rattle.std.specs.List.{AllByRecursion}
 use Rattle.qs_objects.proofs.Elements.{AllByRecursion-get_or}
-use Rattle.qs_program.specs.Program.{ProgramShape, binding_of, block_at}
-use Rattle.qs_program.specs.Statements.{Statements}
-use Rattle.qs_program.specs.Values.{Locals}
+use Rattle.qs_program.specs.audit.Program.{ProgramShape, binding_of, block_at}
+use Rattle.qs_program.specs.audit.Statements.{Statements}
+use Rattle.qs_program.specs.audit.Values.{Locals}
 use Rattle.qs_program.specs.declared.program.Declared.{Declared}
-use Rattle.qs_graph.specs.Bound.{bound_nodes}
-use Rattle.qs_graph.specs.Graphs.{block_graph}
-use Rattle.qs_graph.specs.Names.{graph_of}
-use Rattle.qs_graph.specs.Nodes.{GraphNode, exit}
+use Rattle.qs_graph.specs.audit.Bound.{bound_nodes}
+use Rattle.qs_graph.specs.audit.Graphs.{block_graph}
+use Rattle.qs_graph.specs.audit.Names.{graph_of}
+use Rattle.qs_graph.specs.audit.Nodes.{GraphNode, exit}
 use Rattle.qs_graph.specs.SoundNodes.{IsSoundNode, AreSoundNodes}
-use Rattle.qs_graph.specs.Steps.{limit}
+use Rattle.qs_graph.specs.audit.Steps.{limit}
 use Rattle.qs_graph.specs.Synced.{without_syncs}
-use Rattle.qs_graph.specs.Walk.{entry}
+use Rattle.qs_graph.specs.audit.Walk.{entry}
 use Rattle.qs_graph.specs.WalkLaws.{FollowsBlock}
 use Rattle.qs_graph.specs.WellFormed.{IsGraph}
 use Rattle.qs_graph.proofs.Alone.{syncs_erased}
 use Rattle.qs_graph.proofs.Limits.{walks_within_limit}
 use Rattle.qs_graph.proofs.Ranges.{blocks_have_graphs}
-use Rattle.qs_syncset.specs.Codes.{IsBoundGraphOf, code_at}
+use Rattle.qs_syncset.specs.audit.Codes.{IsBoundGraphOf, code_at}
 use Rattle.qs_syncset.specs.SyncCounts.{Decides}
 use Rattle.qs_syncset.specs.CodeLaws.{WalksAreSound, NodesStaySound}
 use Rattle.qs_syncset.specs.held.Flow.{nothing}
-use Rattle.qs_syncset.specs.Modes.{is_static}
+use Rattle.qs_syncset.specs.audit.Modes.{is_static}
 use Rattle.qs_syncset.specs.SoundSynced.{IsSoundSynced}
 use Rattle.qs_syncset.proofs.SoundTrees.{block_sound, walk_reserved}
 use Rattle.qs_program.specs.Sound.{IsSound}

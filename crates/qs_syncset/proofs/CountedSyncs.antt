@@ -10,36 +10,39 @@ use Rattle.std.proofs.lemmas.Bool.{cases_eq}
 use Rattle.std.proofs.lemmas.List.{get_or-set_same, get_or-set_other, get_or-replicate, get_or_past, length-map, length-replicate}
 use Rattle.std.proofs.lemmas.List.FromFn.{get_or-map-range_with_len, length-range_with_len}
 use Rattle.qs_objects.specs.declared.held.Event.{Event}
-use Rattle.qs_meaning.specs.Following.{AsksOnly, Leads, reserves}
-use Rattle.qs_meaning.specs.Interaction.{Interaction, tree_of}
-use Rattle.qs_program.specs.Program.{ProgramShape, binding_of, block_at, blocks_of}
-use Rattle.qs_meaning.specs.Solo.{value_of}
+use Rattle.qs_meaning.specs.audit.Following.{reserves}
+use Rattle.qs_meaning.specs.Following.{AsksOnly, Leads}
+use Rattle.qs_meaning.specs.audit.Interaction.{Interaction, tree_of}
+use Rattle.qs_program.specs.audit.Program.{ProgramShape, binding_of, block_at, blocks_of}
+use Rattle.qs_meaning.specs.audit.Solo.{value_of}
 use Rattle.qs_program.specs.Sound.{IsSound}
-use Rattle.qs_program.specs.Statements.{Statements}
-use Rattle.qs_program.specs.Values.{Locals, expr_value, test_value}
+use Rattle.qs_program.specs.audit.Statements.{Statements}
+use Rattle.qs_program.specs.audit.Values.{Locals, expr_value, test_value}
 use Rattle.qs_meaning.proofs.SoundTrees.{blocks_ask_only}
 use Rattle.qs_graph.specs.declared.node.Node.{Node}
 use Rattle.qs_graph.specs.declared.node.Node.TheVariants.{Entry, Local, Branch, Sync, Query, Call, Exit}
 use Rattle.qs_graph.specs.declared.node.Action.TheVariants.{Assign, SetCount, Nothing}
 use Rattle.qs_graph.specs.declared.node.Choice.TheVariants.{If, Repeat}
-use Rattle.qs_graph.specs.Graphs.{block_graph}
-use Rattle.qs_graph.specs.Bound.{bound_nodes}
-use Rattle.qs_graph.specs.Names.{graph_of}
-use Rattle.qs_graph.specs.Nodes.{ControlGraph, GraphNode, place_at, exit, made_local, first_target, second_target}
-use Rattle.qs_graph.specs.Steps.{limit}
-use Rattle.qs_graph.specs.Synced.{Synced, without_syncs}
-use Rattle.qs_graph.specs.Walk.{Spot, move, move_by, after_repeat, walk, EachNext, Within}
+use Rattle.qs_graph.specs.audit.Graphs.{block_graph}
+use Rattle.qs_graph.specs.audit.Bound.{bound_nodes}
+use Rattle.qs_graph.specs.audit.Names.{graph_of}
+use Rattle.qs_graph.specs.audit.Nodes.{ControlGraph, GraphNode, place_at, exit, made_local, first_target, second_target}
+use Rattle.qs_graph.specs.audit.Steps.{limit}
+use Rattle.qs_graph.specs.audit.Synced.{Synced}
+use Rattle.qs_graph.specs.Synced.{without_syncs}
+use Rattle.qs_graph.specs.audit.Walk.{Spot, move, move_by, after_repeat, walk}
+use Rattle.qs_graph.specs.Walk.{EachNext, Within}
 use Rattle.qs_graph.specs.WalkLaws.{FollowsBlock}
 use Rattle.qs_graph.specs.WellFormed.{IsGraph}
 use Rattle.qs_graph.proofs.Alone.{syncs_erased}
 use Rattle.qs_graph.proofs.Limits.{walks_within_limit}
 use Rattle.qs_graph.proofs.Ranges.{blocks_have_graphs}
 use Rattle.qs_syncset.specs.declared.mode.Mode.{Mode}
-use Rattle.qs_syncset.specs.Coalesced.{IsRemovedIfHeld, IsCoalesced}
-use Rattle.qs_syncset.specs.Codes.{ClientCode, IsBoundGraphOf, IsCodeOf, code_at}
+use Rattle.qs_syncset.specs.audit.Coalesced.{IsRemovedIfHeld, IsCoalesced}
+use Rattle.qs_syncset.specs.audit.Codes.{ClientCode, IsBoundGraphOf, IsCodeOf, code_at}
 use Rattle.qs_syncset.specs.held.Flow.{nothing}
-use Rattle.qs_syncset.specs.held.Held.{IsHeld}
-use Rattle.qs_syncset.specs.Modes.{is_dynamic, is_static}
+use Rattle.qs_syncset.specs.audit.held.Held.{IsHeld}
+use Rattle.qs_syncset.specs.audit.Modes.{is_dynamic, is_static}
 use Rattle.qs_syncset.specs.SoundSynced.{IsSoundSynced}
 use Rattle.qs_syncset.specs.SyncCounts.{AreOrdered, Decides, HasTest, SetsDecide, SyncsAreCounted, entry_with, has_synced, kept, kept_along, kept_by, queries, runs, syncs_along}
 use Rattle.qs_syncset.proofs.CodeWalks.{decided_of, left_walk, removal_of}

@@ -3,14 +3,17 @@
 -- on the move.
 use Rattle.std.proofs.Common.{◌≡◌, ℕ, true, false, List, refl, ap}
 use Rattle.std.proofs.Math.Path.{fun_ext}
-use Rattle.qs_meaning.specs.Solo.{put}
-use Rattle.qs_meaning.specs.Interaction as tree
-use Rattle.qs_program.specs.Values.{Locals}
+use Rattle.qs_meaning.specs.audit.Solo.{put}
+use Rattle.qs_meaning.specs.audit.Interaction as tree
+use Rattle.qs_program.specs.audit.Values.{Locals}
 use Rattle.qs_graph.specs.declared.node.Node.{Node}
 use Rattle.qs_graph.specs.declared.node.Node.TheVariants.{Entry, Local, Branch, Sync, Query, Call, Exit}
-use Rattle.qs_graph.specs.Nodes.{GraphNode, over_objects, place_at}
-use Rattle.qs_graph.specs.Synced.{Synced, without_syncs}
-use Rattle.qs_graph.specs.Walk.{Spot, Move, Ends, Goes, Calls, Syncs, Queries, move, move_by, move_at, tree_of_move, EachNext}
+use Rattle.qs_graph.specs.audit.Nodes.{GraphNode, place_at}
+use Rattle.qs_graph.specs.Nodes.{over_objects}
+use Rattle.qs_graph.specs.audit.Synced.{Synced}
+use Rattle.qs_graph.specs.Synced.{without_syncs}
+use Rattle.qs_graph.specs.audit.Walk.{Spot, Move, Ends, Goes, Calls, Syncs, Queries, move, move_by, move_at, tree_of_move}
+use Rattle.qs_graph.specs.Walk.{EachNext}
 use Rattle.qs_syncset.specs.held.Flow.{Holding, held_after}
 use Rattle.qs_syncset.specs.SoundSynced.{IsSoundSynced}
 

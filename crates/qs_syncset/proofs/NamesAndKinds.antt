@@ -7,16 +7,17 @@ use Rattle.std.proofs.lemmas.Bool.{eq-eqb}
 use Rattle.std.proofs.lemmas.List.{get_or_default}
 use Rattle.qs_objects.specs.declared.object.Kind.{Kind}
 use Rattle.qs_objects.specs.declared.object.Kind.TheVariants.{Account, Buffer, Grid}
-use Rattle.qs_program.specs.Binding.{bound}
-use Rattle.qs_program.specs.Kinds.{same_kind}
-use Rattle.qs_program.specs.Program.{BlockShape, ProgramShape, StartShape, binding_in, binding_of, client_at, declarations_in, declarations_of, is_started, no_client, no_object, own_block}
-use Rattle.qs_program.specs.Sound.{IsSound, IsSoundClient, IsSoundStart, IsStartSound, is_in}
+use Rattle.qs_program.specs.audit.Binding.{bound}
+use Rattle.qs_program.specs.audit.Kinds.{same_kind}
+use Rattle.qs_program.specs.audit.Program.{BlockShape, ProgramShape, StartShape, binding_in, binding_of, client_at, declarations_in, declarations_of, is_started, no_client, no_object, own_block}
+use Rattle.qs_program.specs.audit.Sound.{is_in}
+use Rattle.qs_program.specs.Sound.{IsSound, IsSoundClient, IsSoundStart, IsStartSound}
 use Rattle.qs_program.specs.declared.program.Declared.{Declared}
 use Rattle.qs_graph.specs.declared.node.Named.{Named}
 use Rattle.qs_graph.specs.declared.node.Node.{Node}
 use Rattle.qs_graph.specs.declared.node.Node.TheVariants.{Call, Sync}
-use Rattle.qs_graph.specs.Names.{are_of_one_kind, graph_of}
-use Rattle.qs_graph.specs.Nodes.{ControlGraph, GraphNode, exit, place_at}
+use Rattle.qs_graph.specs.audit.Names.{are_of_one_kind, graph_of}
+use Rattle.qs_graph.specs.audit.Nodes.{ControlGraph, GraphNode, exit, place_at}
 use Rattle.qs_graph.specs.SoundNodes.{AreSoundNodes, IsSoundNode}
 use Rattle.qs_graph.proofs.Ranges.{all_at, blocks_have_graphs, is_in-all, sound_own}
 use Rattle.qs_syncset.proofs.Removals.{AreNamesKnown}

@@ -5,23 +5,23 @@ use Rattle.std.proofs.Common.{◌≡◌, inl, inr, ⊎_elim, ◌∙◌, ℕ, suc
 use Rattle.std.specs.List.{AllByRecursion, range_with_len}
 use Rattle.std.proofs.lemmas.List.{length-map}
 use Rattle.std.proofs.lemmas.List.FromFn.{get_or-map-range_with_len, length-range_with_len}
-use Rattle.qs_program.specs.Limits.{most_handlers}
-use Rattle.qs_program.specs.Loads.{load_of}
-use Rattle.qs_program.specs.Program.{ProgramShape, binding_of, block_at, blocks_of}
+use Rattle.qs_program.specs.audit.Limits.{most_handlers}
+use Rattle.qs_program.specs.audit.Loads.{load_of}
+use Rattle.qs_program.specs.audit.Program.{ProgramShape, binding_of, block_at, blocks_of}
 use Rattle.qs_program.specs.Sound.{IsSound}
 use Rattle.qs_graph.specs.declared.node.Node.{Node}
 use Rattle.qs_graph.specs.declared.node.Node.TheVariants.{Entry, Local, Branch, Sync, Query, Call, Exit}
-use Rattle.qs_graph.specs.Bound.{bound_nodes}
-use Rattle.qs_graph.specs.Names.{graph_of}
-use Rattle.qs_graph.specs.Nodes.{ControlGraph, GraphNode, made_local}
+use Rattle.qs_graph.specs.audit.Bound.{bound_nodes}
+use Rattle.qs_graph.specs.audit.Names.{graph_of}
+use Rattle.qs_graph.specs.audit.Nodes.{ControlGraph, GraphNode, made_local}
 use Rattle.qs_graph.specs.WellFormed.{IsGraph, IsGraphNode, IsInRange}
 use Rattle.qs_graph.proofs.Ranges.{blocks_have_graphs}
-use Rattle.qs_syncset.specs.held.Held.{IsHeld}
+use Rattle.qs_syncset.specs.audit.held.Held.{IsHeld}
 use Rattle.qs_syncset.proofs.held.HeldOrNot.{held_or_not}
 use Rattle.qs_syncset.specs.declared.mode.Mode.{Mode}
-use Rattle.qs_syncset.specs.Coalesced.{IsCoalesced, IsRemovedIfHeld}
-use Rattle.qs_syncset.specs.Codes.{BlockCode, ClientCode, IsBlockCode, IsCodeOf, IsGraphOf, no_code}
-use Rattle.qs_syncset.specs.Modes.{is_dynamic, is_static}
+use Rattle.qs_syncset.specs.audit.Coalesced.{IsCoalesced, IsRemovedIfHeld}
+use Rattle.qs_syncset.specs.audit.Codes.{BlockCode, ClientCode, IsBlockCode, IsCodeOf, IsGraphOf, no_code}
+use Rattle.qs_syncset.specs.audit.Modes.{is_dynamic, is_static}
 use Rattle.qs_syncset.proofs.CoalescedPlaces.{AreCoalesced, coalesced_one_by_one}
 
 module _ (g : ControlGraph) (ok : IsGraph g.nodes) where

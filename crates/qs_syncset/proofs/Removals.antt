@@ -6,17 +6,18 @@
 use Rattle.std.proofs.Common.{◌≡◌, ◌⊎◌, inl, inr, ℕ, ◌<◌, Bool, true, false, ◌==◌, List, [], ◌∷◌, length, refl, sym, ap, ◌∙◌, subst, arith}
 use Rattle.std.specs.List.{AllByRecursion}
 use Rattle.std.proofs.lemmas.List.{length-map}
-use Rattle.qs_program.specs.Binding.{bound}
+use Rattle.qs_program.specs.audit.Binding.{bound}
 use Rattle.qs_program.specs.declared.code.Call as calls
 use Rattle.qs_graph.specs.declared.node.Node.{Node}
 use Rattle.qs_graph.specs.declared.node.Node.TheVariants.{Entry, Local, Branch, Sync, Query, Call, Exit}
 use Rattle.qs_graph.specs.declared.node.Action.TheVariants.{Nothing}
-use Rattle.qs_graph.specs.Bound.{bound_node, bound_nodes, bound_place}
-use Rattle.qs_graph.specs.Names.{may_be_one}
-use Rattle.qs_graph.specs.Nodes.{ControlGraph, GraphNode, made_local, over_objects, place_at}
+use Rattle.qs_graph.specs.audit.Bound.{bound_node, bound_nodes, bound_place}
+use Rattle.qs_graph.specs.audit.Names.{may_be_one}
+use Rattle.qs_graph.specs.audit.Nodes.{ControlGraph, GraphNode, made_local, place_at}
+use Rattle.qs_graph.specs.Nodes.{over_objects}
 use Rattle.qs_graph.proofs.Bindings.{path_back, place_bound}
-use Rattle.qs_syncset.specs.Coalesced.{IsCoalesced, IsRemovedIfHeld}
-use Rattle.qs_syncset.specs.held.Held.{IsCallOf, IsHeld, IsSynced}
+use Rattle.qs_syncset.specs.audit.Coalesced.{IsCoalesced, IsRemovedIfHeld}
+use Rattle.qs_syncset.specs.audit.held.Held.{IsCallOf, IsHeld, IsSynced}
 use Rattle.qs_syncset.specs.SyncCounts.{Decides}
 
 -- a synchronisation that is removed where its object is held

@@ -5,9 +5,9 @@ use Rattle.std.proofs.Common.{◌≡◌, ℕ, ◌+◌, ◌<◌, ◌≤◌, inl, 
 use Rattle.std.proofs.lemmas.List.{length-set, get_or-set_same, get_or-set_other}
 use Rattle.qs_graph.specs.declared.node.Node.{Node}
 use Rattle.qs_graph.specs.declared.node.Node.TheVariants.{Entry, Local, Branch, Sync, Query, Call, Exit}
-use Rattle.qs_graph.specs.Nodes.{ControlGraph, GraphNode, place_at, exit, made_local}
-use Rattle.qs_syncset.specs.held.Held.{IsHeld}
-use Rattle.qs_syncset.specs.Coalesced.{IsRemovedIfHeld, IsCoalesced}
+use Rattle.qs_graph.specs.audit.Nodes.{ControlGraph, GraphNode, place_at, exit, made_local}
+use Rattle.qs_syncset.specs.audit.held.Held.{IsHeld}
+use Rattle.qs_syncset.specs.audit.Coalesced.{IsRemovedIfHeld, IsCoalesced}
 
 -- what becomes of a node's place
 abbrev pub IsRemovedAt : ControlGraph → ℕ → GraphNode → Type 0

@@ -3,10 +3,10 @@
 use Rattle.std.proofs.Common.{◌≡◌, ◌<◌, ◌≤◌, ℕ, ◌==◌, ◌||◌, Bool, true, false, List, [], ◌∷◌, eqb, length, sym, subst, arith, refl}
 use Rattle.std.proofs.lemmas.Map.Steps.{length-le_from_distinct_below}
 use Rattle.std.specs.List.{AllByRecursion, IsDistinct, list_any}
-use Rattle.qs_program.specs.Program.{ProgramShape, block_at, blocks_of}
+use Rattle.qs_program.specs.audit.Program.{ProgramShape, block_at, blocks_of}
 use Rattle.qs_program.specs.Sound.{IsSound, IsSoundBlock}
 use Rattle.qs_program.proofs.Bounds.{sound_block}
-use Rattle.qs_program.specs.Limits.{most_handlers}
+use Rattle.qs_program.specs.audit.Limits.{most_handlers}
 
 member_has : (P : ℕ → Type 0) (xs : List ℕ) (q : ℕ) → AllByRecursion P xs → list_any (eqb q) xs ≡ true → P q
 member_has P [] q each member = cc

@@ -1,15 +1,16 @@
 -- A block's tree with its synchronisations is sound, and a walk through sound nodes asks the block's list alone.
 use Rattle.std.proofs.Common.{ℕ, zero, suc, Bool, true, false, if◌then◌else◌, List, slice_set}
-use Rattle.qs_meaning.specs.Solo.{put}
-use Rattle.qs_program.specs.Statements.{Statements, end, command, query, assign, choose, again, leave}
-use Rattle.qs_program.specs.Values.{Locals, expr_value, test_value}
+use Rattle.qs_meaning.specs.audit.Solo.{put}
+use Rattle.qs_program.specs.audit.Statements.{Statements, end, command, query, assign, choose, again, leave}
+use Rattle.qs_program.specs.audit.Values.{Locals, expr_value, test_value}
 use Rattle.qs_program.specs.declared.program.Declared.{Declared}
 use Rattle.qs_graph.specs.declared.node.Node.{Node}
 use Rattle.qs_graph.specs.declared.node.Node.TheVariants.{Entry, Local, Branch, Sync, Query, Call, Exit}
-use Rattle.qs_graph.specs.Nodes.{GraphNode, place_at, exit}
+use Rattle.qs_graph.specs.audit.Nodes.{GraphNode, place_at, exit}
 use Rattle.qs_graph.specs.SoundNodes.{IsSoundNode, AreSoundNodes}
-use Rattle.qs_graph.specs.Synced.{Synced, Done, Next, turns, meaning, synced_of}
-use Rattle.qs_graph.specs.Walk.{Spot, move, move_by, tree_of_move, walk}
+use Rattle.qs_graph.specs.audit.Synced.{Synced, Done}
+use Rattle.qs_graph.specs.Synced.{Next, turns, meaning, synced_of}
+use Rattle.qs_graph.specs.audit.Walk.{Spot, move, move_by, tree_of_move, walk}
 use Rattle.qs_graph.proofs.Ranges.{all_at}
 use Rattle.qs_syncset.specs.held.Flow.{Holding}
 use Rattle.qs_syncset.specs.SoundSynced.{IsSoundSynced, IsOnReserved}

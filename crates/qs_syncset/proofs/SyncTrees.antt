@@ -3,16 +3,17 @@
 -- this. It goes by induction on the statements for the form of the tree, and on the tree along the trace for the
 -- counts.
 use Rattle.std.proofs.Common.{◌≡◌, ◌≤◌, ◌+◌, arith, ℕ, zero, suc, ℤ, Bool, true, false, if◌then◌else◌, ◌==◌, ◌&&◌, List, [], ◌∷◌, filter, length, slice_set, refl, sym, ap, ◌∙◌, subst}
-use Rattle.qs_objects.specs.Operations.{is_query}
-use Rattle.qs_objects.specs.Parts.{part}
+use Rattle.qs_objects.specs.audit.Operations.{is_query}
+use Rattle.qs_objects.specs.audit.Parts.{part}
 use Rattle.qs_objects.specs.declared.Request.{Request}
 use Rattle.qs_objects.specs.declared.held.Event.{Event}
 use Rattle.qs_meaning.specs.Following.{AsksOnly, Leads}
-use Rattle.qs_meaning.specs.Interaction.{Interaction}
-use Rattle.qs_meaning.specs.Solo.{put, value_of}
-use Rattle.qs_program.specs.Statements.{Statements, end, command, query, assign, choose, again, leave}
-use Rattle.qs_program.specs.Values.{Locals, expr_value, test_value}
-use Rattle.qs_graph.specs.Synced.{Synced, Done, Call, Sync, Query, Next, turns, meaning, synced_of, without_syncs}
+use Rattle.qs_meaning.specs.audit.Interaction.{Interaction}
+use Rattle.qs_meaning.specs.audit.Solo.{put, value_of}
+use Rattle.qs_program.specs.audit.Statements.{Statements, end, command, query, assign, choose, again, leave}
+use Rattle.qs_program.specs.audit.Values.{Locals, expr_value, test_value}
+use Rattle.qs_graph.specs.audit.Synced.{Synced, Done, Call, Sync, Query}
+use Rattle.qs_graph.specs.Synced.{Next, turns, meaning, synced_of, without_syncs}
 use Rattle.qs_syncset.specs.held.Flow.{Holding}
 use Rattle.qs_syncset.specs.SoundSynced.{IsSoundSynced}
 use Rattle.qs_syncset.specs.SyncCounts.{asks, first_queries, queries, syncs_along}

@@ -5,14 +5,15 @@ use Rattle.std.proofs.Common.{◌≡◌, inl, inr, ℕ, zero, suc, ◌+◌, ◌<
 use Rattle.std.specs.Prelude.{not}
 use Rattle.qs_objects.specs.declared.held.Event.{Event}
 use Rattle.qs_objects.proofs.Elements.{AllByRecursion-get_or}
-use Rattle.qs_meaning.specs.Solo.{value_of}
-use Rattle.qs_program.specs.Values.{Locals}
-use Rattle.qs_program.specs.Limits.{most_handlers}
+use Rattle.qs_meaning.specs.audit.Solo.{value_of}
+use Rattle.qs_program.specs.audit.Values.{Locals}
+use Rattle.qs_program.specs.audit.Limits.{most_handlers}
 use Rattle.qs_graph.specs.declared.node.Node.{Node}
 use Rattle.qs_graph.specs.declared.node.Node.TheVariants.{Entry, Local, Branch, Sync, Query, Call, Exit}
-use Rattle.qs_graph.specs.Nodes.{GraphNode, place_at, exit, first_target, made_local}
-use Rattle.qs_graph.specs.Synced.{Synced}
-use Rattle.qs_graph.specs.Walk.{Spot, Move, Ends, Goes, Calls, Syncs, Queries, at_node, move, move_by, tree_of_move, walk, EachNext, Within}
+use Rattle.qs_graph.specs.audit.Nodes.{GraphNode, place_at, exit, first_target, made_local}
+use Rattle.qs_graph.specs.audit.Synced.{Synced}
+use Rattle.qs_graph.specs.audit.Walk.{Spot, Move, Ends, Goes, Calls, Syncs, Queries, at_node, move, move_by, tree_of_move, walk}
+use Rattle.qs_graph.specs.Walk.{EachNext, Within}
 use Rattle.qs_graph.specs.WellFormed.{IsGraph, IsGraphNode, IsInRange}
 use Rattle.qs_syncset.specs.SyncCounts.{kept_along, kept_by, syncs_along}
 use Rattle.qs_syncset.proofs.Moves.{move_same, move_here}

@@ -6,10 +6,11 @@ use Rattle.std.specs.List.{AllByRecursion}
 use Rattle.qs_graph.specs.declared.node.Named.{Named}
 use Rattle.qs_graph.specs.declared.node.Node.{Node}
 use Rattle.qs_graph.specs.declared.node.Node.TheVariants.{Entry, Local, Branch, Sync, Query, Call, Exit}
-use Rattle.qs_graph.specs.Nodes.{ControlGraph, GraphNode, over_objects, place_at}
-use Rattle.qs_syncset.specs.Codes.{IsGraphOf}
-use Rattle.qs_syncset.specs.Coalesced.{IsRemovedIfHeld}
-use Rattle.qs_syncset.specs.held.Held.{IsCallOf, IsHeld, IsSynced}
+use Rattle.qs_graph.specs.audit.Nodes.{ControlGraph, GraphNode, place_at}
+use Rattle.qs_graph.specs.Nodes.{over_objects}
+use Rattle.qs_syncset.specs.audit.Codes.{IsGraphOf}
+use Rattle.qs_syncset.specs.audit.Coalesced.{IsRemovedIfHeld}
+use Rattle.qs_syncset.specs.audit.held.Held.{IsCallOf, IsHeld, IsSynced}
 
 module _ (g : List GraphNode) where
   abbrev pub named : List Named → ControlGraph

@@ -2,11 +2,11 @@
 -- The law on these examples, `HeldExamples`, is proved here, and the examples on Syncs use it too. A table that is
 -- checked by computing shows what is held, and a single path shows what is not.
 use Rattle.std.proofs.Common.{◌≡◌, inl, inr, true, false, [], ◌∷◌, Some, None, refl}
-use Rattle.qs_graph.specs.Graphs.{block_graph}
-use Rattle.qs_graph.specs.Bound.{bound_nodes}
+use Rattle.qs_graph.specs.audit.Graphs.{block_graph}
+use Rattle.qs_graph.specs.audit.Bound.{bound_nodes}
 use Rattle.qs_graph.specs.Nodes.{over_objects}
 use Rattle.qs_graph.specs.GraphExamples.{query_in_repeat, leave_first, two_bodies}
-use Rattle.qs_syncset.specs.held.Held.{IsHeld}
+use Rattle.qs_syncset.specs.audit.held.Held.{IsHeld}
 use Rattle.qs_syncset.specs.HeldExamples.{HeldExamples, call_in_repeat, deposit_between, f_and_buffer, f_and_g, template_graph, two_deposits, without_second, without_inner, without_last}
 use Rattle.qs_syncset.proofs.held.Tables.{Table, held_by_table, held_where_no_path, missed}
 use Rattle.qs_syncset.proofs.CoalescedPlaces.{coalesced_one_by_one}

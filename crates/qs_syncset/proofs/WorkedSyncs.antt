@@ -2,12 +2,12 @@
 -- on these examples, `SyncExamples`, is proved here. Each coalesced graph is found node by node, with a table for what
 -- is held and a path for what is not; then the walks are computed.
 use Rattle.std.proofs.Common.{◌≡◌, pos, inl, inr, true, false, [], ◌∷◌, Some, refl}
-use Rattle.qs_graph.specs.Graphs.{block_graph}
+use Rattle.qs_graph.specs.audit.Graphs.{block_graph}
 use Rattle.qs_graph.specs.Nodes.{over_objects}
-use Rattle.qs_graph.specs.Steps.{limit}
-use Rattle.qs_graph.specs.Walk.{move}
-use Rattle.qs_syncset.specs.Coalesced.{IsCoalesced}
-use Rattle.qs_syncset.specs.held.Held.{IsHeld}
+use Rattle.qs_graph.specs.audit.Steps.{limit}
+use Rattle.qs_graph.specs.audit.Walk.{move}
+use Rattle.qs_syncset.specs.audit.Coalesced.{IsCoalesced}
+use Rattle.qs_syncset.specs.audit.held.Held.{IsHeld}
 use Rattle.qs_syncset.specs.SyncExamples.{SyncExamples, either, first_alone, repeated_query, three}
 use Rattle.qs_syncset.proofs.held.Tables.{Table, held_by_table, missed}
 use Rattle.qs_syncset.proofs.CoalescedPlaces.{coalesced_one_by_one}

@@ -1,12 +1,12 @@
 -- Codes of a program's clients with all synchronisations, tested or not, on which worked runs stand.
 use Rattle.std.specs.Prelude.{ℕ, Bool, map}
 use Rattle.std.specs.List.{range_with_len}
-use Rattle.qs_program.specs.Loads.{load_of}
-use Rattle.qs_program.specs.Limits.{most_handlers}
-use Rattle.qs_program.specs.Program.{ProgramShape, binding_of, block_at, blocks_of}
-use Rattle.qs_graph.specs.Bound.{bound_nodes}
-use Rattle.qs_graph.specs.Names.{graph_of}
-use Rattle.qs_syncset.specs.Codes.{BlockCode, ClientCode}
+use Rattle.qs_program.specs.audit.Loads.{load_of}
+use Rattle.qs_program.specs.audit.Limits.{most_handlers}
+use Rattle.qs_program.specs.audit.Program.{ProgramShape, binding_of, block_at, blocks_of}
+use Rattle.qs_graph.specs.audit.Bound.{bound_nodes}
+use Rattle.qs_graph.specs.audit.Names.{graph_of}
+use Rattle.qs_syncset.specs.audit.Codes.{BlockCode, ClientCode}
 
 abbrev pub built_block : ProgramShape → ℕ → ℕ → BlockCode
 built_block p c k =

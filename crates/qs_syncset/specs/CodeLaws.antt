@@ -1,17 +1,18 @@
 -- What a client's walks through its code do.
 use Rattle.std.specs.Prelude.{◌≡◌, ◌<◌, ◌≤◌, ℕ, List, length}
-use Rattle.qs_meaning.specs.Interaction.{tree_of}
-use Rattle.qs_program.specs.Program.{BlockShape, ProgramShape, block_at, blocks_of}
+use Rattle.qs_meaning.specs.audit.Interaction.{tree_of}
+use Rattle.qs_program.specs.audit.Program.{BlockShape, ProgramShape, block_at, blocks_of}
 use Rattle.qs_program.specs.Sound.{IsSound}
-use Rattle.qs_program.specs.Values.{Locals}
-use Rattle.qs_graph.specs.Nodes.{ControlGraph, GraphNode}
+use Rattle.qs_program.specs.audit.Values.{Locals}
+use Rattle.qs_graph.specs.audit.Nodes.{ControlGraph, GraphNode}
 use Rattle.qs_graph.specs.SoundNodes.{AreSoundNodes}
-use Rattle.qs_graph.specs.Steps.{limit}
+use Rattle.qs_graph.specs.audit.Steps.{limit}
 use Rattle.qs_graph.specs.Synced.{without_syncs}
-use Rattle.qs_graph.specs.Walk.{entry, walk, Within}
+use Rattle.qs_graph.specs.audit.Walk.{entry, walk}
+use Rattle.qs_graph.specs.Walk.{Within}
 use Rattle.qs_syncset.specs.declared.mode.Mode.{Mode}
-use Rattle.qs_syncset.specs.Coalesced.{IsCoalesced}
-use Rattle.qs_syncset.specs.Codes.{ClientCode, IsCodeOf, code_at}
+use Rattle.qs_syncset.specs.audit.Coalesced.{IsCoalesced}
+use Rattle.qs_syncset.specs.audit.Codes.{ClientCode, IsCodeOf, code_at}
 use Rattle.qs_syncset.specs.held.Flow.{nothing}
 use Rattle.qs_syncset.specs.SoundSynced.{IsSoundSynced, IsOnReserved}
 

@@ -4,20 +4,21 @@ use Rattle.qs_objects.specs.declared.Op.TheVariants.{Balance, Deposit}
 use Rattle.qs_objects.specs.declared.object.Kind.TheVariants.{Account, Buffer}
 use Rattle.qs_program.specs.declared.code.Atom.TheVariants.{Number}
 use Rattle.qs_program.specs.declared.code.Call as calls
-use Rattle.qs_program.specs.Statements.{Statements, end, command, query, again}
+use Rattle.qs_program.specs.audit.Statements.{Statements, end, command, query, again}
 use Rattle.qs_graph.specs.declared.node.Node.TheVariants.{Entry, Local, Branch, Sync, Query, Call}
 use Rattle.qs_graph.specs.declared.node.Action.TheVariants.{SetCount, Nothing}
 use Rattle.qs_graph.specs.declared.node.Choice.TheVariants.{Repeat}
 use Rattle.qs_graph.specs.declared.node.Named.{Named}
-use Rattle.qs_graph.specs.Bound.{bound_nodes}
-use Rattle.qs_graph.specs.Nodes.{ControlGraph, GraphNode, over_objects, to, to_either, exit}
-use Rattle.qs_graph.specs.Graphs.{block_graph}
+use Rattle.qs_graph.specs.audit.Bound.{bound_nodes}
+use Rattle.qs_graph.specs.audit.Nodes.{ControlGraph, GraphNode, to, to_either, exit}
+use Rattle.qs_graph.specs.Nodes.{over_objects}
+use Rattle.qs_graph.specs.audit.Graphs.{block_graph}
 use Rattle.qs_graph.specs.GraphExamples.{balance, deposit, query_in_repeat, leave_first, two_bodies}
-use Rattle.qs_graph.specs.Synced as tree
+use Rattle.qs_graph.specs.audit.Synced as tree
 use Rattle.qs_graph.specs.SyncedExamples.{balance_of_a, deposit_1}
-use Rattle.qs_syncset.specs.Coalesced.{IsCoalesced}
+use Rattle.qs_syncset.specs.audit.Coalesced.{IsCoalesced}
 use Rattle.qs_syncset.specs.held.Flow.{nothing, held_along}
-use Rattle.qs_syncset.specs.held.Held.{IsHeld}
+use Rattle.qs_syncset.specs.audit.held.Held.{IsHeld}
 use Rattle.qs_syncset.specs.SoundSynced.{IsSoundSynced}
 
 -- x = a.balance(); repeat 2 { x = a.balance(); a.deposit(1); }

@@ -1,9 +1,9 @@
 -- How a proof tells codes apart.
 use Rattle.std.specs.Prelude.{ℕ, Bool, List, refl}
 use Rattle.std.specs.Coded.{Coded, code_by, coded×, coded_list, coded_ℕ, coded_bool}
-use Rattle.qs_graph.specs.Nodes.{GraphNode}
+use Rattle.qs_graph.specs.audit.Nodes.{GraphNode}
 use Rattle.qs_graph.specs.Shapes.{place_code}
-use Rattle.qs_syncset.specs.Codes.{BlockCode, ClientCode}
+use Rattle.qs_syncset.specs.audit.Codes.{BlockCode, ClientCode}
 
 abbrev pub coded_block : Coded BlockCode
 coded_block = code_by (List ℕ × (List GraphNode × List ℕ))

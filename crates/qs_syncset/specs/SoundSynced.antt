@@ -1,8 +1,8 @@
 -- What a client that goes along a tree with synchronisations may rely on.
 use Rattle.std.specs.Prelude.{◌≡◌, ℕ, ℤ, true, false, List}
-use Rattle.qs_meaning.specs.Solo.{put}
-use Rattle.qs_program.specs.Sound.{is_in}
-use Rattle.qs_graph.specs.Synced.{Synced, Done, Call, Sync, Query}
+use Rattle.qs_meaning.specs.audit.Solo.{put}
+use Rattle.qs_program.specs.audit.Sound.{is_in}
+use Rattle.qs_graph.specs.audit.Synced.{Synced, Done, Call, Sync, Query}
 use Rattle.qs_syncset.specs.held.Flow.{Holding}
 
 -- from what the client holds, each query is on an object that it holds then: a synchronisation gives the object, and a

@@ -1,29 +1,29 @@
 -- How many Syncs a block sends for an object: by its trace, and by the walk through its graph as it is built.
 use Rattle.std.specs.Prelude.{◌≡◌, ◌<◌, ◌≤◌, ◌↔◌, ℕ, zero, suc, ◌+◌, Bool, true, false, not, ◌&&◌, ◌==◌, if◌then◌else◌, List, [], ◌∷◌, filter, length, replicate}
-use Rattle.qs_objects.specs.Operations.{is_query}
-use Rattle.qs_objects.specs.Parts.{part}
+use Rattle.qs_objects.specs.audit.Operations.{is_query}
+use Rattle.qs_objects.specs.audit.Parts.{part}
 use Rattle.qs_objects.specs.declared.held.Event.{Event}
 use Rattle.qs_meaning.specs.Following.{Leads}
-use Rattle.qs_meaning.specs.Interaction.{Interaction, tree_of}
-use Rattle.qs_program.specs.Program.{ProgramShape, block_at, blocks_of}
-use Rattle.qs_meaning.specs.Solo.{value_of}
+use Rattle.qs_meaning.specs.audit.Interaction.{Interaction, tree_of}
+use Rattle.qs_program.specs.audit.Program.{ProgramShape, block_at, blocks_of}
+use Rattle.qs_meaning.specs.audit.Solo.{value_of}
 use Rattle.qs_program.specs.Sound.{IsSound}
-use Rattle.qs_program.specs.Statements.{Statements}
-use Rattle.qs_program.specs.Values.{Locals}
-use Rattle.qs_graph.specs.Graphs.{block_graph}
-use Rattle.qs_graph.specs.Names.{graph_of}
-use Rattle.qs_graph.specs.Nodes.{ControlGraph, GraphNode, place_at}
+use Rattle.qs_program.specs.audit.Statements.{Statements}
+use Rattle.qs_program.specs.audit.Values.{Locals}
+use Rattle.qs_graph.specs.audit.Graphs.{block_graph}
+use Rattle.qs_graph.specs.audit.Names.{graph_of}
+use Rattle.qs_graph.specs.audit.Nodes.{ControlGraph, GraphNode, place_at}
 use Rattle.qs_graph.specs.declared.node.Node.{Node}
-use Rattle.qs_graph.specs.Steps.{limit}
+use Rattle.qs_graph.specs.audit.Steps.{limit}
 use Rattle.qs_graph.specs.declared.node.Node.TheVariants as node
-use Rattle.qs_graph.specs.Synced.{Synced, Done, Call, Sync, Query}
-use Rattle.qs_graph.specs.Walk.{Spot, Move, Ends, Goes, Calls, Syncs, Queries, entry, move, walk}
+use Rattle.qs_graph.specs.audit.Synced.{Synced, Done, Call, Sync, Query}
+use Rattle.qs_graph.specs.audit.Walk.{Spot, Move, Ends, Goes, Calls, Syncs, Queries, entry, move, walk}
 use Rattle.qs_graph.specs.WellFormed.{IsGraph}
 use Rattle.qs_syncset.specs.declared.mode.Mode.{Mode}
 use Rattle.qs_syncset.specs.declared.mode.Mode.TheVariants.{Plain, Static}
-use Rattle.qs_syncset.specs.Codes.{ClientCode, IsCodeOf, code_at}
-use Rattle.qs_syncset.specs.held.Held.{IsHeld}
-use Rattle.qs_syncset.specs.Modes.{is_dynamic, is_static}
+use Rattle.qs_syncset.specs.audit.Codes.{ClientCode, IsCodeOf, code_at}
+use Rattle.qs_syncset.specs.audit.held.Held.{IsHeld}
+use Rattle.qs_syncset.specs.audit.Modes.{is_dynamic, is_static}
 use Rattle.qs_syncset.specs.held.Table.{AreSetsOf, has}
 
 abbrev pub asks : Event → Bool

@@ -1,26 +1,27 @@
 -- Blocks on an account a with balance 100 and on variables that are 0, and how many Syncs they send for a in each mode.
 use Rattle.std.specs.Prelude.{◌≡◌, ℕ, Bool, true, false, List, [], ◌∷◌, length, slice_index_or, pos}
-use Rattle.qs_objects.specs.Act.{account}
-use Rattle.qs_objects.specs.Objects.{fresh}
+use Rattle.qs_objects.specs.audit.Act.{account}
+use Rattle.qs_objects.specs.audit.Objects.{fresh}
 use Rattle.qs_objects.specs.declared.held.Event.{Event}
 use Rattle.qs_script.specs.declared.tree.tree.Relation.TheVariants.{Unequal}
-use Rattle.qs_meaning.specs.Solo.{solo}
-use Rattle.qs_program.specs.Binding.{bound_statements}
-use Rattle.qs_program.specs.Statements.{Statements, end, command, query, choose, again}
-use Rattle.qs_program.specs.Values.{Locals}
+use Rattle.qs_meaning.specs.audit.Solo.{solo}
+use Rattle.qs_program.specs.audit.Binding.{bound_statements}
+use Rattle.qs_program.specs.audit.Statements.{Statements, end, command, query, choose, again}
+use Rattle.qs_program.specs.audit.Values.{Locals}
 use Rattle.qs_program.specs.declared.code.Atom.TheVariants.{Variable, Number}
 use Rattle.qs_program.specs.declared.code.Test as tests
 use Rattle.qs_graph.specs.GraphExamples.{balance, deposit, leave_first, query_in_repeat}
-use Rattle.qs_graph.specs.Bound.{bound_nodes}
-use Rattle.qs_graph.specs.Graphs.{block_graph}
-use Rattle.qs_graph.specs.Nodes.{GraphNode, exit, over_objects, to}
-use Rattle.qs_graph.specs.Steps.{limit}
-use Rattle.qs_graph.specs.Synced.{Synced}
+use Rattle.qs_graph.specs.audit.Bound.{bound_nodes}
+use Rattle.qs_graph.specs.audit.Graphs.{block_graph}
+use Rattle.qs_graph.specs.audit.Nodes.{GraphNode, exit, to}
+use Rattle.qs_graph.specs.Nodes.{over_objects}
+use Rattle.qs_graph.specs.audit.Steps.{limit}
+use Rattle.qs_graph.specs.audit.Synced.{Synced}
 use Rattle.qs_graph.specs.SyncedExamples.{both}
-use Rattle.qs_graph.specs.Walk.{walk}
+use Rattle.qs_graph.specs.audit.Walk.{walk}
 use Rattle.qs_graph.specs.declared.node.Action.TheVariants.{Nothing}
 use Rattle.qs_graph.specs.declared.node.Node.TheVariants.{Entry, Local, Query, Sync}
-use Rattle.qs_syncset.specs.Coalesced.{IsCoalesced}
+use Rattle.qs_syncset.specs.audit.Coalesced.{IsCoalesced}
 use Rattle.qs_syncset.specs.HeldExamples.{deposit_between, f_and_g, template_graph, without_inner, without_last, without_second}
 use Rattle.qs_syncset.specs.held.Flow.{nothing}
 use Rattle.qs_syncset.specs.SoundSynced.{IsSoundSynced}

@@ -1,12 +1,13 @@
 //! What a client runs.
 
 ghost use Rattle.std.specs.Prelude.{◌≡◌, ◌<◌, ◌≤◌, ℕ, length, slice_index_or, IfOk, IsErr};
-ghost use Rattle.qs_program.specs.Limits.{most_handlers, most_requests};
-ghost use Rattle.qs_program.specs.Program.{binding_of, block_at, blocks_of};
-ghost use Rattle.qs_program.specs.Loads.{load_of};
-ghost use Rattle.qs_graph.specs.Names.{graph_of};
-ghost use Rattle.qs_syncset.specs.Codes.{IsCode, IsCodeOf, IsBlockCode, IsBoundGraphOf, code_at, load_at};
-ghost use Rattle.qs_syncset.specs.Modes.{is_static};
+ghost use Rattle.qs_program.specs.audit.Limits.{most_handlers, most_requests};
+ghost use Rattle.qs_program.specs.audit.Program.{binding_of, block_at, blocks_of};
+ghost use Rattle.qs_program.specs.audit.Loads.{load_of};
+ghost use Rattle.qs_graph.specs.audit.Names.{graph_of};
+ghost use Rattle.qs_syncset.specs.audit.Codes.{IsCodeOf, IsBlockCode, IsBoundGraphOf, code_at, load_at};
+ghost use Rattle.qs_syncset.specs.Codes.{IsCode};
+ghost use Rattle.qs_syncset.specs.audit.Modes.{is_static};
 
 use crate::held::held_sets;
 use crate::mode::Mode;
@@ -27,8 +28,8 @@ pub(crate) struct BlockCode {
 
 impl Model for BlockCode {
     ghost use Rattle.std.specs.Prelude.{ℕ, ◌≤◌, slice_index_or};
-    ghost use Rattle.qs_program.specs.Limits.{most_requests};
-    ghost use Rattle.qs_syncset.specs.Codes as codes;
+    ghost use Rattle.qs_program.specs.audit.Limits.{most_requests};
+    ghost use Rattle.qs_syncset.specs.audit.Codes as codes;
     ghost use Rattle.qs_syncset.specs.Shapes.{coded_block};
 
     ghost Value = { codes.BlockCode };
@@ -79,7 +80,8 @@ impl Drop for Code {
 }
 
 impl Model for Code {
-    ghost use Rattle.qs_syncset.specs.Codes.{ClientCode, IsCode};
+    ghost use Rattle.qs_syncset.specs.audit.Codes.{ClientCode};
+    ghost use Rattle.qs_syncset.specs.Codes.{IsCode};
     ghost use Rattle.qs_syncset.specs.Shapes.{coded_client};
 
     ghost Value = { ClientCode };

@@ -1,7 +1,7 @@
 //! Which synchronisations are left out.
 
 ghost use Rattle.std.specs.Prelude.{◌≡◌};
-ghost use Rattle.qs_syncset.specs.Modes.{is_static as static_by, is_dynamic as dynamic_by};
+ghost use Rattle.qs_syncset.specs.audit.Modes.{is_static as static_by, is_dynamic as dynamic_by};
 
 /// How synchronisations with handlers that are held already are left out.
 #[derive(Clone, Copy, Debug, PartialEq, Eq)]

@@ -1,7 +1,7 @@
 //! Static coalescing of synchronisations.
 
 ghost use Rattle.std.specs.Prelude.{◌≡◌};
-ghost use Rattle.qs_syncset.specs.Coalesced.{IsCoalesced};
+ghost use Rattle.qs_syncset.specs.audit.Coalesced.{IsCoalesced};
 ghost use Rattle.qs_syncset.specs.held.Table.{AreSetsOf};
 
 use crate::held::Sets;

@@ -9,7 +9,7 @@ use Rattle.std.proofs.lemmas.Option.{slice_get_within}
 use Rattle.std.proofs.lemmas.Slice.Zip.{AllZip-long}
 use Rattle.qs_objects.specs.declared.held.Ticket.{Ticket}
 use Rattle.qs_objects.proofs.Choices.{apart_eqb, eqb_apart, eqb_self, num_cases}
-use Rattle.qs_program.specs.Program.{ProgramShape}
+use Rattle.qs_program.specs.audit.Program.{ProgramShape}
 use Rattle.qs_meaning.specs.Configurations.{outcome_of}
 use Rattle.qs_meaning.proofs.Each.{each_map, each_snoc}
 use Rattle.qs_outcomes.specs.Outcomes.{AreApart, outcome_at}

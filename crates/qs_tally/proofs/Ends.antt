@@ -5,11 +5,12 @@ use Rattle.std.specs.List.{AllByRecursion}
 use Rattle.std.proofs.lemmas.List.{map-append}
 use Rattle.qs_objects.specs.declared.held.Ticket.{Ticket}
 use Rattle.qs_objects.proofs.GridRows.{equal_long}
-use Rattle.qs_program.specs.Limits.{most_clients}
-use Rattle.qs_program.specs.Program.{ProgramShape, blocks_of}
+use Rattle.qs_program.specs.audit.Limits.{most_clients}
+use Rattle.qs_program.specs.audit.Program.{ProgramShape, blocks_of}
 use Rattle.qs_program.specs.Sound.{IsSound}
-use Rattle.qs_meaning.specs.Configurations.{Configuration, IsComplete, OrderOutcome, outcome_in, outcome_of}
-use Rattle.qs_meaning.specs.Serial.{no_state, zeros}
+use Rattle.qs_meaning.specs.audit.Configurations.{Configuration, IsComplete}
+use Rattle.qs_meaning.specs.Configurations.{OrderOutcome, outcome_in, outcome_of}
+use Rattle.qs_meaning.specs.audit.Serial.{no_state, zeros}
 use Rattle.qs_meaning.proofs.Each.{each_snoc}
 use Rattle.qs_meaning.proofs.Orders.{complete_orders_leave_none, configurations_follow_orders}
 use Rattle.qs_outcomes.specs.Outcomes.{outcome_at}

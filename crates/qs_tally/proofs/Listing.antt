@@ -5,8 +5,9 @@ use Rattle.std.specs.List.{AllByRecursion, AllZip}
 use Rattle.std.proofs.lemmas.List.{map-append}
 use Rattle.std.proofs.lemmas.Option.{slice_get-map}
 use Rattle.std.specs.Option.{option_map}
-use Rattle.qs_program.specs.Program.{ProgramShape}
-use Rattle.qs_meaning.specs.Configurations.{IsComplete, outcome_of}
+use Rattle.qs_program.specs.audit.Program.{ProgramShape}
+use Rattle.qs_meaning.specs.audit.Configurations.{IsComplete}
+use Rattle.qs_meaning.specs.Configurations.{outcome_of}
 use Rattle.qs_meaning.proofs.Each.{each_map, each_snoc}
 use Rattle.qs_outcomes.specs.LeastOrders.{IsBefore}
 use Rattle.qs_outcomes.specs.Outcomes.{AreApart, AreOutcomes, HasMoreThan, IsLeastAfter, IsListedAfter, OutcomesShape, outcome_at}

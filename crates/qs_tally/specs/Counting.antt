@@ -2,8 +2,9 @@
 use Rattle.std.specs.Prelude.{◌≡◌, ◌⊎◌, ℕ, suc, Bool, true, false, Some, List, [], ◌∷◌, ◌++◌, map, slice_get, slice_set}
 use Rattle.std.specs.List.{AllByRecursion}
 use Rattle.qs_objects.specs.declared.held.Ticket.{Ticket}
-use Rattle.qs_program.specs.Program.{ProgramShape}
-use Rattle.qs_meaning.specs.Configurations.{IsComplete, outcome_of}
+use Rattle.qs_program.specs.audit.Program.{ProgramShape}
+use Rattle.qs_meaning.specs.audit.Configurations.{IsComplete}
+use Rattle.qs_meaning.specs.Configurations.{outcome_of}
 use Rattle.qs_outcomes.specs.Outcomes.{HasPlaces, outcome_at}
 use Rattle.qs_standings.specs.Standings.{IsStanding, RowShape, StandingShape, row_of}
 use Rattle.qs_tally.specs.Tallies.{AreListed, AreUnlisted, CameTo, CountedShape, IsCountOf, IsEnd, standings_in}

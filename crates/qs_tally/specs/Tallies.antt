@@ -2,8 +2,9 @@
 use Rattle.std.specs.Prelude.{◌≡◌, ◌<◌, ◌≤◌, ◌==◌, ℕ, Bool, true, false, Some, List, filter, length, map, slice_get}
 use Rattle.std.specs.List.{AllByRecursion, AllZip}
 use Rattle.qs_objects.specs.declared.held.Ticket.{Ticket}
-use Rattle.qs_program.specs.Program.{ProgramShape}
-use Rattle.qs_meaning.specs.Configurations.{IsComplete, outcome_of}
+use Rattle.qs_program.specs.audit.Program.{ProgramShape}
+use Rattle.qs_meaning.specs.audit.Configurations.{IsComplete}
+use Rattle.qs_meaning.specs.Configurations.{outcome_of}
 use Rattle.qs_outcomes.specs.Outcomes.{AreApart, AreOutcomes, HasMoreThan, HasPlaces, OutcomesShape, outcome_at}
 use Rattle.qs_standings.specs.Standings.{StandingShape}
 

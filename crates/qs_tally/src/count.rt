@@ -2,7 +2,7 @@
 
 ghost use Rattle.std.specs.Prelude.{◌≡◌, ◌<◌, ◌+◌, ◌^◌, ◌++◌, ◌∷◌, [], false, slice_get, true, IfOk, OnOk, Some, ℕ};
 ghost use Rattle.std.specs.List.{AllByRecursion, AllZip};
-ghost use Rattle.qs_meaning.specs.Configurations.{IsComplete};
+ghost use Rattle.qs_meaning.specs.audit.Configurations.{IsComplete};
 ghost use Rattle.qs_outcomes.specs.Outcomes.{AreApart, IsListed};
 ghost use Rattle.qs_standings.specs.Rows.{IsInserted, rows_in, shape_of};
 ghost use Rattle.qs_tally.specs.Counting.{AreTabled, HasNotCome, IsBegun, IsCounted, IsPlaced, IsSameEnd};

@@ -4,19 +4,20 @@
 -- graph; then it goes by induction on the blocks and the clients.
 use Rattle.std.proofs.Common.{◌≡◌, ℕ, ◌<◌, Bool, List, ◌++◌, length, refl, sym, ap, ap₂, subst, ◌∙◌, append_assoc, arith}
 use Rattle.qs_objects.proofs.Elements.{AllByRecursion-get_or}
-use Rattle.qs_program.specs.Program.{ProgramShape, blocks_of, own_block}
+use Rattle.qs_program.specs.audit.Program.{ProgramShape, blocks_of, own_block}
 use Rattle.qs_program.specs.Sound.{IsSound}
 use Rattle.qs_meaning.proofs.Each.{each_map}
 use Rattle.qs_graph.specs.declared.node.Node.{Node}
 use Rattle.qs_graph.specs.declared.node.Node.TheVariants.{Entry, Local, Branch, Sync, Query, Call, Exit}
-use Rattle.qs_graph.specs.Names.{graph_of}
-use Rattle.qs_graph.specs.Nodes.{ControlGraph, place_at, exit}
+use Rattle.qs_graph.specs.audit.Names.{graph_of}
+use Rattle.qs_graph.specs.audit.Nodes.{ControlGraph, place_at, exit}
 use Rattle.qs_graph.specs.WellFormed.{IsGraphNode, IsInRange}
 use Rattle.qs_graph.proofs.Ranges.{blocks_have_graphs, sound_own}
 use Rattle.qs_syncset.specs.held.Flow.{Holding}
 use Rattle.qs_syncset.specs.held.Table.{AreSetsOf, has}
 use Rattle.qs_text.specs.Blocks.{AreBlocks, AreBlocksOf, IsBlock, NodeText, NodesText, is_removed, node_at}
-use Rattle.qs_text.specs.Texts.{IsAdded, texts_up_to}
+use Rattle.qs_text.specs.audit.Texts.{texts_up_to}
+use Rattle.qs_text.specs.Texts.{IsAdded}
 use Rattle.qs_text.proofs.SameTexts.{one_up_to, same_filter, same_sets, same_texts}
 
 pub block_added : (p : ProgramShape) (c k : ℕ) (head : List ℕ) (nodes : NodesText) (reserved : List ℕ) (g : ControlGraph) (sets : List (List Bool)) (first line all : List ℕ)

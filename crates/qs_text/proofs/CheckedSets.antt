@@ -3,13 +3,12 @@
 -- is held follows from a table that fits each edge, and what it says is missing follows from the path.
 use Rattle.std.proofs.Common.{◌≡◌, ℕ, Bool, true, false, inl, inr, List, [], ◌∷◌, length, map, get_or, Option, Some, None, refl, ◌∙◌}
 use Rattle.std.specs.Prelude.{◌&&◌, ◌||◌, ◌==◌, ◌↔◌, not}
-use Rattle.std.proofs.lemmas.Bool.{eqb-true, and_parts, or_cases, not-true, both_ways}
-use Rattle.std.proofs.lemmas.Bool.{agree_below, agree_below_at}
+use Rattle.std.proofs.lemmas.Bool.{eqb-true, and_parts, or_cases, not-true, both_ways, agree_below, agree_below_at}
 use Rattle.std.proofs.lemmas.List.{length-map}
-use Rattle.qs_graph.specs.Nodes.{ControlGraph, GraphNode, place_at}
-use Rattle.qs_graph.specs.Paths.{IsAmong, IsPath}
+use Rattle.qs_graph.specs.audit.Nodes.{ControlGraph, GraphNode, place_at}
+use Rattle.qs_graph.specs.audit.Paths.{IsAmong, IsPath}
 use Rattle.qs_syncset.specs.held.Flow.{held_along}
-use Rattle.qs_syncset.specs.held.Held.{IsHeld}
+use Rattle.qs_syncset.specs.audit.held.Held.{IsHeld}
 use Rattle.qs_syncset.specs.held.Table.{AreSetsOf, has}
 use Rattle.qs_syncset.proofs.held.Tables.{Table, fits, held_by_table, held_where_no_path, missed}
 

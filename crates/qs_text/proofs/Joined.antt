@@ -8,7 +8,7 @@ use Rattle.std.specs.List.{AllByRecursion, join_by}
 use Rattle.std.proofs.Math.Nat.{eq-or-lt_of_le}
 use Rattle.std.proofs.Math.Seq.{take-suc}
 use Rattle.std.proofs.lemmas.List.{flat_map_more, take_all, take_more}
-use Rattle.qs_text.specs.Texts.{texts_up_to, spaced_value}
+use Rattle.qs_text.specs.audit.Texts.{texts_up_to, spaced_value}
 
 -- the text of one more place
 pub one_place_more : (text : ℕ → List ℕ) (n : ℕ) (first before after : List ℕ) → before ≡ first ++ texts_up_to n text → after ≡ before ++ text n

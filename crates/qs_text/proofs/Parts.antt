@@ -1,7 +1,8 @@
 -- What is put at the end of a text in parts is put there as one text. Every function that writes several parts stands
 -- on it: it is taken once for each part but the first.
 use Rattle.std.proofs.Common.{◌≡◌, ℕ, ◌+◌, List, [], ◌++◌, ap, ◌∙◌, append_assoc, add-one}
-use Rattle.qs_text.specs.Texts.{Puts, texts_up_to}
+use Rattle.qs_text.specs.audit.Texts.{texts_up_to}
+use Rattle.qs_text.specs.Texts.{Puts}
 
 -- a part, and one after it
 pub then : {part next first before after : List ℕ} → Puts part first before → Puts next before after → Puts (part ++ next) first after

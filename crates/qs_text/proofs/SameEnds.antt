@@ -3,19 +3,20 @@
 use Rattle.std.proofs.Common.{◌≡◌, ◌<◌, ℕ, zero, suc, List, [], ◌∷◌, ◌++◌, length, get_or, take, drop, refl, sym, ap, ap₂, ◌∙◌, subst, arith}
 use Rattle.qs_objects.specs.declared.held.Ticket.{Ticket}
 use Rattle.qs_objects.specs.Objects.{IsInRange}
-use Rattle.qs_program.specs.Program.{ProgramShape, client_at}
+use Rattle.qs_program.specs.audit.Program.{ProgramShape, client_at}
 use Rattle.qs_program.specs.Sound.{IsSound}
-use Rattle.qs_program.specs.Values.{Locals}
-use Rattle.qs_meaning.specs.Configurations.{AreNamedAlone, OrderOutcome, configuration_after, outcome_in}
-use Rattle.qs_meaning.specs.Serial.{zeros}
-use Rattle.qs_meaning.specs.Solo.{States}
+use Rattle.qs_program.specs.audit.Values.{Locals}
+use Rattle.qs_meaning.specs.audit.Configurations.{configuration_after}
+use Rattle.qs_meaning.specs.Configurations.{AreNamedAlone, OrderOutcome, outcome_in}
+use Rattle.qs_meaning.specs.audit.Serial.{zeros}
+use Rattle.qs_meaning.specs.audit.Solo.{States}
 use Rattle.qs_meaning.proofs.Orders.{configurations_follow_orders}
 use Rattle.qs_meaning.proofs.StateRanges.{orders_keep_ranges}
 use Rattle.qs_meaning.proofs.Unnamed.{unnamed_stay_zero}
 use Rattle.qs_outcomes.specs.Outcomes.{IsListedAfter, outcome_at}
 use Rattle.qs_standings.specs.Standings.{StandingShape}
 use Rattle.qs_text.specs.TellApart.{AreSame}
-use Rattle.qs_text.specs.Words.{no_state}
+use Rattle.qs_text.specs.audit.Words.{no_state}
 
 -- two lists of one length that are the same at each of their places are so everywhere
 everywhere : {X : Type 0} (d : X) (xs ys : List X) → length xs ≡ length ys → ((i : ℕ) → i < length xs → get_or xs i d ≡ get_or ys i d)

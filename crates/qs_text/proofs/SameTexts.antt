@@ -3,10 +3,11 @@
 -- the number of texts.
 use Rattle.std.proofs.Common.{◌≡◌, ℕ, zero, suc, ◌<◌, Bool, true, false, if◌then◌else◌, List, [], ◌∷◌, ◌++◌, length, refl, sym, ap₂, ◌∙◌, arith}
 use Rattle.std.specs.List.{AllByRecursion, filter}
-use Rattle.qs_graph.specs.Nodes.{ControlGraph}
+use Rattle.qs_graph.specs.audit.Nodes.{ControlGraph}
 use Rattle.qs_syncset.specs.held.Flow.{Holding}
 use Rattle.qs_syncset.specs.held.Table.{AreSetsOf, has}
-use Rattle.qs_text.specs.Texts.{AreTextsUpTo, texts_up_to}
+use Rattle.qs_text.specs.audit.Texts.{texts_up_to}
+use Rattle.qs_text.specs.Texts.{AreTextsUpTo}
 
 same_truth : (a b : Bool) → (a ≡ true → b ≡ true) → (b ≡ true → a ≡ true) → a ≡ b
 same_truth true b there back = sym (there refl)

@@ -7,18 +7,19 @@ use Rattle.std.specs.List.{AllByRecursion, join_by}
 use Rattle.std.specs.Str.Parse.{AllDigits}
 use Rattle.std.proofs.lemmas.Fmt.{decimal_is_IsNumeral, decimal_injective}
 use Rattle.std.proofs.lemmas.Str.Parse.{digit_from_value}
-use Rattle.qs_objects.specs.Act.{Content, State, account, buffer, grid}
-use Rattle.qs_objects.specs.Objects.{AreRowsOf, IsInRange, kind_of, values_of}
-use Rattle.qs_objects.specs.Rows.{join_rows}
+use Rattle.qs_objects.specs.audit.Act.{Content, State, account, buffer, grid}
+use Rattle.qs_objects.specs.audit.Objects.{kind_of, values_of}
+use Rattle.qs_objects.specs.Objects.{AreRowsOf, IsInRange}
+use Rattle.qs_objects.specs.audit.Rows.{join_rows}
 use Rattle.qs_objects.proofs.GridRows.{equal_long, rows_tell}
 use Rattle.std.proofs.Common.{subst}
-use Rattle.qs_program.specs.Numbering.{Name}
-use Rattle.qs_program.specs.Values.{Locals}
+use Rattle.qs_program.specs.audit.Numbering.{Name}
+use Rattle.qs_program.specs.audit.Values.{Locals}
 use Rattle.qs_text.proofs.Joined.{each_place_more}
 use Rattle.qs_text.specs.TellApart.{AreSame, AreWords, IsOfWords, IsWord, StatesTellApart, VariablesTellApart}
-use Rattle.qs_text.specs.Texts.{texts_up_to}
+use Rattle.qs_text.specs.audit.Texts.{texts_up_to}
 use Rattle.qs_text.specs.Variables.{variable_text, variables_text}
-use Rattle.qs_text.specs.Words.{content_text, state_text, values_text}
+use Rattle.qs_text.specs.audit.Words.{content_text, state_text, values_text}
 
 head : {X : Type 0} {x y : X} {xs ys : List X} → ◌≡◌ {A = List X} (x ∷ xs) (y ∷ ys) → x ≡ y
 head e = cc

@@ -1,10 +1,10 @@
 -- What is held at each node of some small graphs. The texts of these graphs that were worked out by hand stand on it.
 -- For each node a path is given that shows what is missing there; so it is checked by computing.
 use Rattle.std.proofs.Common.{ℕ, zero, suc, List, [], ◌∷◌, ◌++◌, Bool, true, false, Option, Some, None, refl}
-use Rattle.qs_program.specs.Program.{ProgramShape}
-use Rattle.qs_program.specs.Statements.{end}
+use Rattle.qs_program.specs.audit.Program.{ProgramShape}
+use Rattle.qs_program.specs.audit.Statements.{end}
 use Rattle.qs_graph.specs.GraphExamples.{query_in_repeat, empty_bodies, leave_first, two_bodies}
-use Rattle.qs_graph.specs.Names.{graph_of}
+use Rattle.qs_graph.specs.audit.Names.{graph_of}
 use Rattle.qs_syncset.specs.held.Table.{AreSetsOf}
 use Rattle.qs_text.specs.Worked.{by_ann, on_a, on_b_and_a}
 use Rattle.qs_text.proofs.CheckedSets.{Rows, sets_in, checked_sets}

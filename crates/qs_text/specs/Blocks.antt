@@ -1,11 +1,11 @@
 -- Texts of a program's graphs, block by block: a head, and the nodes with what is held at each.
 use Rattle.std.specs.Prelude.{◌≡◌, ℕ, List, ◌++◌, length, Bool, false}
 use Rattle.std.specs.List.{filter}
-use Rattle.qs_program.specs.Program.{ProgramShape, blocks_of, own_block}
+use Rattle.qs_program.specs.audit.Program.{ProgramShape, blocks_of, own_block}
 use Rattle.qs_graph.specs.declared.node.Node.{Node}
 use Rattle.qs_graph.specs.declared.node.Node.TheVariants.{Sync}
-use Rattle.qs_graph.specs.Names.{graph_of}
-use Rattle.qs_graph.specs.Nodes.{ControlGraph, GraphNode, place_at}
+use Rattle.qs_graph.specs.audit.Names.{graph_of}
+use Rattle.qs_graph.specs.audit.Nodes.{ControlGraph, GraphNode, place_at}
 use Rattle.qs_syncset.specs.held.Flow.{Holding}
 use Rattle.qs_syncset.specs.held.Table.{AreSetsOf, has}
 use Rattle.qs_text.specs.Texts.{AreTextsUpTo}

@@ -2,15 +2,16 @@
 use Rattle.std.specs.Prelude.{◌≡◌, ◌<◌, ℕ, ℤ, pos, List, FitsSigned, length, slice_index_or}
 use Rattle.std.specs.Int.{w64}
 use Rattle.std.specs.List.{AllByRecursion}
-use Rattle.qs_objects.specs.Act.{State}
-use Rattle.qs_objects.specs.Objects.{IsInRange, values_of}
-use Rattle.qs_program.specs.Numbering.{Name}
-use Rattle.qs_program.specs.Program.{ProgramShape, client_at}
-use Rattle.qs_program.specs.Values.{Locals}
-use Rattle.qs_meaning.specs.Serial.{zeros}
+use Rattle.qs_objects.specs.audit.Act.{State}
+use Rattle.qs_objects.specs.audit.Objects.{values_of}
+use Rattle.qs_objects.specs.Objects.{IsInRange}
+use Rattle.qs_program.specs.audit.Numbering.{Name}
+use Rattle.qs_program.specs.audit.Program.{ProgramShape, client_at}
+use Rattle.qs_program.specs.audit.Values.{Locals}
+use Rattle.qs_meaning.specs.audit.Serial.{zeros}
 use Rattle.qs_standings.specs.Standings.{StandingShape}
 use Rattle.qs_text.specs.Variables.{variables_text}
-use Rattle.qs_text.specs.Words.{no_state, state_text}
+use Rattle.qs_text.specs.audit.Words.{no_state, state_text}
 
 -- a number of 64 bits, as each value that a program holds
 abbrev pub IsWord : ℤ → Type 0

@@ -1,9 +1,9 @@
 -- What texts of a program say of a client's variables.
 use Rattle.std.specs.Prelude.{ℕ, pos, List, [], ◌++◌, codes, length, slice_index_or}
 use Rattle.std.specs.Fmt.{signed_decimal}
-use Rattle.qs_program.specs.Numbering.{Name}
-use Rattle.qs_program.specs.Values.{Locals}
-use Rattle.qs_text.specs.Texts.{texts_up_to}
+use Rattle.qs_program.specs.audit.Numbering.{Name}
+use Rattle.qs_program.specs.audit.Values.{Locals}
+use Rattle.qs_text.specs.audit.Texts.{texts_up_to}
 
 -- a variable with its value, by its number
 abbrev pub variable_text : List Name → Locals → ℕ → List ℕ

@@ -1,6 +1,6 @@
 -- Small programs and runs of them, of which texts are worked out by hand.
 use Rattle.std.specs.Prelude.{ℕ, ℤ, pos, negsuc, List, [], ◌∷◌, codes, Some, None, true, false}
-use Rattle.qs_objects.specs.Act.{State, Content, account, buffer, grid}
+use Rattle.qs_objects.specs.audit.Act.{State, Content, account, buffer, grid}
 use Rattle.qs_objects.specs.declared.Op.{Op}
 use Rattle.qs_objects.specs.declared.Op.TheVariants.{Deposit, Balance, TakeFirst, First, SetCell, GetCell, DropFirst, Put}
 use Rattle.qs_objects.specs.declared.held.Event.{Event}
@@ -9,12 +9,12 @@ use Rattle.qs_objects.specs.declared.object.Kind.{Kind}
 use Rattle.qs_objects.specs.declared.object.Kind.TheVariants as kinds
 use Rattle.qs_program.specs.declared.code.Call as calls
 use Rattle.qs_program.specs.declared.program.Declared.{Declared}
-use Rattle.qs_program.specs.Numbering.{Name}
-use Rattle.qs_program.specs.Program.{ProgramShape, ClientShape, BlockShape}
-use Rattle.qs_program.specs.Statements as statements
+use Rattle.qs_program.specs.audit.Numbering.{Name}
+use Rattle.qs_program.specs.audit.Program.{ProgramShape, ClientShape, BlockShape}
+use Rattle.qs_program.specs.audit.Statements as statements
 use Rattle.qs_graph.specs.GraphExamples.{balance, deposit}
-use Rattle.qs_played.specs.Played.{Played}
-use Rattle.qs_sync_counts.specs.SyncRows.{sync_count}
+use Rattle.qs_played.specs.audit.Played.{Played}
+use Rattle.qs_sync_counts.specs.audit.SyncRows.{sync_count}
 
 -- an object that is declared
 abbrev pub declaration : List ℕ → Kind → Declared

@@ -3,8 +3,8 @@
 ghost use Rattle.std.specs.Prelude.{◌≡◌, ◌<◌, ◌++◌, ℕ, List, length, OnOk};
 ghost use Rattle.std.proofs.Props.{props};
 ghost use Rattle.std.specs.List.{AllByRecursion};
-ghost use Rattle.qs_program.specs.Limits.{most_handlers};
-ghost use Rattle.qs_program.specs.Program.{ProgramShape, blocks_of};
+ghost use Rattle.qs_program.specs.audit.Limits.{most_handlers};
+ghost use Rattle.qs_program.specs.audit.Program.{ProgramShape, blocks_of};
 ghost use Rattle.qs_text.specs.Blocks.{AreBlocks, AreBlocksOf, IsBlockBy, NodesText};
 ghost use Rattle.qs_text.specs.Texts.{IsAdded};
 

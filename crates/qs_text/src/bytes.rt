@@ -2,7 +2,8 @@
 
 ghost use Rattle.std.specs.Prelude.{◌≡◌, ◌+◌, ◌++◌, OnOk, decimal, flat_map};
 ghost use Rattle.std.specs.Fmt.{signed_decimal};
-ghost use Rattle.qs_text.specs.Texts.{Puts, count_line};
+ghost use Rattle.qs_text.specs.audit.Texts.{count_line};
+ghost use Rattle.qs_text.specs.Texts.{Puts};
 
 use itoa::Buffer;
 use std::alloc::AllocError;

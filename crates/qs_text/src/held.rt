@@ -2,8 +2,8 @@
 
 ghost use Rattle.std.specs.Prelude.{◌≡◌, ◌<◌, IfOk, length};
 ghost use Rattle.std.specs.List.{AllByRecursion, filter};
-ghost use Rattle.qs_program.specs.Limits.{most_handlers};
-ghost use Rattle.qs_program.specs.Program.{blocks_of, own_block};
+ghost use Rattle.qs_program.specs.audit.Limits.{most_handlers};
+ghost use Rattle.qs_program.specs.audit.Program.{blocks_of, own_block};
 ghost use Rattle.qs_syncset.specs.held.Table.{has};
 
 use qs_program::Program;

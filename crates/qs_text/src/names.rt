@@ -1,7 +1,7 @@
 // The names of a program by number; a number past the last has none.
 
 ghost use Rattle.std.specs.Prelude.{◌≡◌, ◌<◌, ◌≤◌, ◌++◌, [], OnOk, length, slice_index_or};
-ghost use Rattle.qs_program.specs.Program.{object_at, client_at, declared_as};
+ghost use Rattle.qs_program.specs.audit.Program.{object_at, client_at, declared_as};
 ghost use Rattle.qs_text.specs.Texts.{list_text};
 ghost use Rattle.qs_text.specs.Words.{name_of};
 

@@ -3,7 +3,7 @@
 ghost use Rattle.std.specs.Prelude.{◌≡◌, ◌++◌, flat_map, OnOk, codes};
 ghost use Rattle.std.specs.Fmt.{signed_decimal};
 ghost use Rattle.qs_text.specs.Texts.{Puts};
-ghost use Rattle.qs_text.specs.Words.{args_text, request_text, reply_text, ended_text};
+ghost use Rattle.qs_text.specs.audit.Words.{args_text, request_text, reply_text, ended_text};
 
 use crate::bytes::{put, put_number, put_short, put_word};
 use crate::names::object_name;

@@ -3,10 +3,10 @@
 ghost use Rattle.std.specs.Prelude.{◌≡◌, ◌<◌, ◌++◌, length, codes, pos, slice_index_or, OnOk};
 ghost use Rattle.std.specs.Fmt.{signed_decimal};
 ghost use Rattle.std.specs.List.{AllByRecursion, join_by};
-ghost use Rattle.qs_objects.specs.Objects.{kind_of, values_of};
+ghost use Rattle.qs_objects.specs.audit.Objects.{kind_of, values_of};
 ghost use Rattle.qs_text.specs.TellApart.{IsOfWords, IsWord};
-ghost use Rattle.qs_text.specs.Texts.{spaced_value};
-ghost use Rattle.qs_text.specs.Words.{values_text, content_text, state_text};
+ghost use Rattle.qs_text.specs.audit.Texts.{spaced_value};
+ghost use Rattle.qs_text.specs.audit.Words.{values_text, content_text, state_text};
 
 use crate::bytes::{put, put_digits, put_number};
 use qs_objects::{Kind, Object};

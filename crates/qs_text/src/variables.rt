@@ -2,7 +2,7 @@
 
 ghost use Rattle.std.specs.Prelude.{◌≡◌, ◌++◌, OnOk, length, pos, slice_index_or};
 ghost use Rattle.qs_text.specs.TellApart.{AreWords, IsWord};
-ghost use Rattle.qs_text.specs.Texts.{texts_up_to};
+ghost use Rattle.qs_text.specs.audit.Texts.{texts_up_to};
 ghost use Rattle.qs_text.specs.Variables.{variable_text, variables_text};
 
 use crate::bytes::{put_all, put_number};

@@ -10,12 +10,12 @@ use Rattle.std.specs.declared.cmp.Ordering.TheVariants.{Equal, Less}
 use Rattle.std.specs.Cmp.Lexicographic.{slice_cmp}
 use Rattle.std.proofs.lemmas.Cmp.{tied_itself}
 use Rattle.std.proofs.lemmas.List.{length-map}
-use Rattle.qs_objects.specs.Parts.{IsFront}
+use Rattle.qs_objects.specs.audit.Parts.{IsFront}
 use Rattle.qs_objects.specs.declared.held.Ticket.{Ticket}
-use Rattle.qs_program.specs.Program.{ProgramShape}
-use Rattle.qs_meaning.specs.Configurations.{Configuration, configuration_after, configuration_from, first_configuration, one_block_on}
+use Rattle.qs_program.specs.audit.Program.{ProgramShape}
+use Rattle.qs_meaning.specs.audit.Configurations.{Configuration, configuration_after, configuration_from, first_configuration, one_block_on}
 use Rattle.qs_meaning.specs.Reduced.{with_next}
-use Rattle.qs_meaning.specs.Serial.{IsLegal, LegalFrom}
+use Rattle.qs_meaning.specs.audit.Serial.{IsLegal, LegalFrom}
 use Rattle.qs_meaning.proofs.Each.{each_both, each_join, each_map}
 use Rattle.qs_meaning.proofs.Orders.{configuration-append, legal-front, legal-join, legal-rest, legal_on}
 use Rattle.qs_standings.specs.Lists.{HasOne, NoTwo}

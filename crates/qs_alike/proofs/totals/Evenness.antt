@@ -8,9 +8,10 @@ use Rattle.std.proofs.Common.{◌≡◌, ◌<◌, ◌≤◌, ◌+◌, ℕ, zero,
 use Rattle.std.proofs.lemmas.Bool.{cases_Bool, cases_lt}
 use Rattle.std.specs.List.{list_any}
 use Rattle.std.specs.Prelude.{slice_index_or}
-use Rattle.qs_program.specs.Program.{BlockShape, ProgramShape, block_at, blocks_of, client_at, no_block}
-use Rattle.qs_program.specs.Sound.{is_in}
-use Rattle.qs_meaning.specs.Reduced.{Clients, Counts, IsUndisturbed, block_reserves, goes_on, has_block_left, many_below, size_of_set, still_reserves}
+use Rattle.qs_program.specs.audit.Program.{BlockShape, ProgramShape, block_at, blocks_of, client_at, no_block}
+use Rattle.qs_program.specs.audit.Sound.{is_in}
+use Rattle.qs_meaning.specs.audit.Reduced.{Counts}
+use Rattle.qs_meaning.specs.Reduced.{Clients, IsUndisturbed, block_reserves, goes_on, has_block_left, many_below, size_of_set, still_reserves}
 use Rattle.qs_meaning.proofs.Each.{each_map}
 use Rattle.qs_meaning.proofs.Groups.{both_true, left_in, some_go_on}
 use Rattle.qs_objects.proofs.Choices.{and_cases}

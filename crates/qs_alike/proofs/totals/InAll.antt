@@ -10,10 +10,11 @@ use Rattle.std.proofs.lemmas.List.FromFn.{get_or-map-range_with_len, length-rang
 use Rattle.std.specs.List.{AllByRecursion, AllZip, range_with_len, sum}
 use Rattle.std.specs.Prelude.{IfSome}
 use Rattle.qs_objects.specs.declared.held.Ticket.{Ticket}
-use Rattle.qs_program.specs.Program.{ProgramShape, blocks_of}
-use Rattle.qs_meaning.specs.Configurations.{Configuration, OrderOutcome, configuration_after, configuration_from, first_configuration, one_block_on}
+use Rattle.qs_program.specs.audit.Program.{ProgramShape, blocks_of}
+use Rattle.qs_meaning.specs.audit.Configurations.{Configuration, configuration_after, configuration_from, first_configuration, one_block_on}
+use Rattle.qs_meaning.specs.Configurations.{OrderOutcome}
 use Rattle.qs_meaning.specs.Reduced.{IsReducedFrom}
-use Rattle.qs_meaning.specs.Serial.{IsLegal, LegalFrom, zeros}
+use Rattle.qs_meaning.specs.audit.Serial.{IsLegal, LegalFrom, zeros}
 use Rattle.qs_meaning.proofs.Each.{each_map}
 use Rattle.qs_meaning.proofs.Orders.{configuration-append, legal-join, legal_on}
 use Rattle.qs_standings.specs.Lists.{HasOne, NoTwo}

@@ -7,9 +7,10 @@ use Rattle.std.proofs.lemmas.Bool.{cases_Bool}
 use Rattle.std.proofs.lemmas.Bool.Decides.{nat_tests}
 use Rattle.std.specs.List.{list_any}
 use Rattle.qs_objects.proofs.Choices.{and_cases, apart_eqb, eqb_self, eqb_true, num_cases}
-use Rattle.qs_program.specs.Program.{ProgramShape, block_at, blocks_of}
-use Rattle.qs_program.specs.Sound.{is_in}
-use Rattle.qs_meaning.specs.Reduced.{Clients, Counts, IsUndisturbed, comes_in, first_smallest, goes_on, group_of, has_block_left, many_below, size_of_set, smaller, some_below, still_reserves, widened}
+use Rattle.qs_program.specs.audit.Program.{ProgramShape, block_at, blocks_of}
+use Rattle.qs_program.specs.audit.Sound.{is_in}
+use Rattle.qs_meaning.specs.audit.Reduced.{Counts}
+use Rattle.qs_meaning.specs.Reduced.{Clients, IsUndisturbed, comes_in, first_smallest, goes_on, group_of, has_block_left, many_below, size_of_set, smaller, some_below, still_reserves, widened}
 use Rattle.qs_meaning.proofs.Groups.{left_in, or_cases, or_left, or_right, some_go_on}
 use Rattle.qs_alike.specs.totals.Choosing.{IsInLarger}
 

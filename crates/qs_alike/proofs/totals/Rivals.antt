@@ -2,8 +2,9 @@
 use Rattle.std.proofs.Common.{◌≡◌, ◌<◌, ◌≤◌, ◌+◌, ◌/◌, ◌^◌, bit_and, ◌⊎◌, ℕ, true, false, List, length, get_or, Option, Some, None, IsSomeAnd, IfSome, sym, ap, ◌∙◌, subst, arith, inl, inr, ⊎_elim}
 use Rattle.std.proofs.lemmas.Bool.{cases_lt}
 use Rattle.std.proofs.lemmas.Nat.Bits.{bit_at-lt, shr_and_one}
-use Rattle.qs_program.specs.Program.{ProgramShape, blocks_of}
-use Rattle.qs_meaning.specs.Reduced.{Clients, Counts, goes_on, group_of, size_of_set}
+use Rattle.qs_program.specs.audit.Program.{ProgramShape, blocks_of}
+use Rattle.qs_meaning.specs.audit.Reduced.{Counts}
+use Rattle.qs_meaning.specs.Reduced.{Clients, goes_on, group_of, size_of_set}
 use Rattle.qs_meaning.proofs.Groups.{left_in}
 use Rattle.qs_standings.specs.going.Going.{in_byte}
 use Rattle.qs_standings.proofs.going.GoingSets.{in_set}

@@ -8,11 +8,11 @@ use Rattle.std.proofs.lemmas.List.{length-map, map-append}
 use Rattle.std.proofs.lemmas.List.Sums.{sum_by_push}
 use Rattle.std.specs.List.{AllByRecursion, AllZip}
 use Rattle.qs_objects.specs.declared.held.Ticket.{Ticket}
-use Rattle.qs_program.specs.Program.{ProgramShape, blocks_of}
+use Rattle.qs_program.specs.audit.Program.{ProgramShape, blocks_of}
 use Rattle.qs_program.specs.Sound.{IsSound}
 use Rattle.std.specs.Prelude.{IfSome}
-use Rattle.qs_meaning.specs.Configurations.{Configuration, configuration_after, configuration_from, first_configuration, one_block_on}
-use Rattle.qs_meaning.specs.Serial.{LegalFrom}
+use Rattle.qs_meaning.specs.audit.Configurations.{Configuration, configuration_after, configuration_from, first_configuration, one_block_on}
+use Rattle.qs_meaning.specs.audit.Serial.{LegalFrom}
 use Rattle.qs_meaning.proofs.Each.{each_back, each_front, each_join, each_map, each_snoc}
 use Rattle.qs_meaning.proofs.Groups.{some_go_on}
 use Rattle.qs_meaning.proofs.Orders.{configuration-append, legal-join}

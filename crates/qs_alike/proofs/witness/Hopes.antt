@@ -3,10 +3,11 @@
 -- at, by the clients' new numbers; and there each block leads to a row again. It goes by induction on the order.
 use Rattle.std.proofs.Common.{◌≡◌, ◌<◌, ◌+◌, ℕ, suc, Bool, true, false, List, [], ◌∷◌, ◌++◌, length, refl, sym, ap, ◌∙◌, subst, arith}
 use Rattle.qs_objects.specs.declared.held.Ticket.{Ticket}
-use Rattle.qs_program.specs.Program.{ProgramShape}
+use Rattle.qs_program.specs.audit.Program.{ProgramShape}
 use Rattle.qs_program.specs.Sound.{IsSound}
-use Rattle.qs_meaning.specs.Configurations.{Configuration, OrderOutcome, configuration_from, first_configuration, one_block_on, outcome_in}
-use Rattle.qs_meaning.specs.Serial.{LegalFrom}
+use Rattle.qs_meaning.specs.audit.Configurations.{Configuration, configuration_from, first_configuration, one_block_on}
+use Rattle.qs_meaning.specs.Configurations.{OrderOutcome, outcome_in}
+use Rattle.qs_meaning.specs.audit.Serial.{LegalFrom}
 use Rattle.qs_meaning.proofs.Each.{each_map, each_snoc}
 use Rattle.qs_meaning.proofs.Orders.{legal_on}
 use Rattle.qs_outcomes.specs.Outcomes.{outcome_at}

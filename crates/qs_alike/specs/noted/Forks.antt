@@ -2,8 +2,8 @@
 use Rattle.std.specs.Prelude.{◌≡◌, ◌<◌, ℕ, true, List, ◌∷◌, ◌++◌}
 use Rattle.std.specs.List.{AllByRecursion}
 use Rattle.qs_objects.specs.declared.held.Ticket.{Ticket}
-use Rattle.qs_program.specs.Program.{ProgramShape}
-use Rattle.qs_meaning.specs.Configurations.{Configuration, configuration_after}
+use Rattle.qs_program.specs.audit.Program.{ProgramShape}
+use Rattle.qs_meaning.specs.audit.Configurations.{Configuration, configuration_after}
 use Rattle.qs_meaning.specs.Reduced.{with_next}
 use Rattle.qs_standings.specs.Lists.{HasOne}
 use Rattle.qs_standings.specs.Standings.{IsOneOn, IsStanding, StandingShape, configuration_in}

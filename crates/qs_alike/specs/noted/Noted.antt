@@ -1,11 +1,11 @@
 -- How many configurations a search notes until it comes to the end of an order.
 use Rattle.std.specs.Prelude.{◌≡◌, ◌<◌, ◌⊎◌, ℕ, List, length}
 use Rattle.std.specs.List.{AllByRecursion}
-use Rattle.qs_objects.specs.Parts.{IsFront}
+use Rattle.qs_objects.specs.audit.Parts.{IsFront}
 use Rattle.qs_objects.specs.declared.held.Ticket.{Ticket}
-use Rattle.qs_program.specs.Program.{ProgramShape}
-use Rattle.qs_meaning.specs.Configurations.{configuration_after, first_configuration}
-use Rattle.qs_meaning.specs.Serial.{IsLegal}
+use Rattle.qs_program.specs.audit.Program.{ProgramShape}
+use Rattle.qs_meaning.specs.audit.Configurations.{configuration_after, first_configuration}
+use Rattle.qs_meaning.specs.audit.Serial.{IsLegal}
 use Rattle.qs_standings.specs.Lists.{HasOne, NoTwo}
 use Rattle.qs_outcomes.specs.LeastOrders.{IsBefore}
 use Rattle.qs_alike.specs.totals.Totals.{IsFollowed}

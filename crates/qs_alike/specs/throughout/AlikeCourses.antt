@@ -2,9 +2,10 @@
 -- configuration on the way that is what is asked for; else that none is.
 use Rattle.std.specs.Prelude.{◌≡◌, ℕ, Bool, List, [], None, IfSome}
 use Rattle.qs_objects.specs.declared.held.Ticket.{Ticket}
-use Rattle.qs_program.specs.Program.{ProgramShape}
-use Rattle.qs_meaning.specs.Configurations.{OrderOutcome, configuration_after}
-use Rattle.qs_meaning.specs.Serial.{IsLegal}
+use Rattle.qs_program.specs.audit.Program.{ProgramShape}
+use Rattle.qs_meaning.specs.audit.Configurations.{configuration_after}
+use Rattle.qs_meaning.specs.Configurations.{OrderOutcome}
+use Rattle.qs_meaning.specs.audit.Serial.{IsLegal}
 use Rattle.qs_outcomes.specs.Answers.{AnswerShape}
 use Rattle.qs_standings.specs.Lists.{HasOne}
 use Rattle.qs_standings.specs.Standings.{StandingShape, configuration_in}

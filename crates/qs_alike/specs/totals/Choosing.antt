@@ -1,9 +1,10 @@
 -- Whether the same clients go on whatever alike clients change places. All who go on together are a smallest set that
 -- nobody disturbs. There may be others that are as small, and of these the first one goes on.
 use Rattle.std.specs.Prelude.{◌≡◌, ◌<◌, ◌⊎◌, ℕ, true, false}
-use Rattle.qs_program.specs.Program.{ProgramShape, blocks_of}
+use Rattle.qs_program.specs.audit.Program.{ProgramShape, blocks_of}
 use Rattle.qs_alike.specs.Changes.{Classes}
-use Rattle.qs_meaning.specs.Reduced.{Clients, Counts, IsUndisturbed, goes_on, size_of_set}
+use Rattle.qs_meaning.specs.audit.Reduced.{Counts}
+use Rattle.qs_meaning.specs.Reduced.{Clients, IsUndisturbed, goes_on, size_of_set}
 
 -- each set that nobody disturbs, and that has the client, is larger than those who go on
 abbrev pub IsInLarger : ProgramShape → Counts → ℕ → Type 0

@@ -2,8 +2,8 @@
 -- was seen. All its standings have the places of each class in order.
 use Rattle.std.specs.Prelude.{◌≡◌, ◌<◌, ◌≤◌, ◌⊎◌, ℕ, true, List, [], ◌∷◌, ◌++◌, length, map, IfSome}
 use Rattle.std.specs.List.{AllByRecursion, AllZip, sum}
-use Rattle.qs_program.specs.Program.{ProgramShape}
-use Rattle.qs_meaning.specs.Configurations.{Configuration, one_block_on}
+use Rattle.qs_program.specs.audit.Program.{ProgramShape}
+use Rattle.qs_meaning.specs.audit.Configurations.{Configuration, one_block_on}
 use Rattle.qs_standings.specs.Lists.{HasOne, NoTwo}
 use Rattle.qs_standings.specs.Standings.{RowShape, StandingShape, configuration_in, row_of}
 use Rattle.qs_alike.specs.AlikeOutcomes.{Becomes, StandsFor}

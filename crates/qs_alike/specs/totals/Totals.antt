@@ -2,11 +2,12 @@
 use Rattle.std.specs.Prelude.{◌≡◌, ◌≤◌, ◌+◌, ℕ, true, List, [], ◌∷◌, ◌++◌, length, IfSome}
 use Rattle.std.specs.List.{AllByRecursion}
 use Rattle.qs_objects.specs.declared.held.Ticket.{Ticket}
-use Rattle.qs_program.specs.Program.{ProgramShape}
-use Rattle.qs_meaning.specs.Configurations.{Configuration, configuration_from, first_configuration, one_block_on}
-use Rattle.qs_meaning.specs.Reduced.{Clients, Counts, goes_on, has_block_left}
+use Rattle.qs_program.specs.audit.Program.{ProgramShape}
+use Rattle.qs_meaning.specs.audit.Configurations.{Configuration, configuration_from, first_configuration, one_block_on}
+use Rattle.qs_meaning.specs.audit.Reduced.{Counts}
+use Rattle.qs_meaning.specs.Reduced.{Clients, goes_on, has_block_left}
 use Rattle.qs_outcomes.specs.Outcomes.{HasConfigurationsAfter}
-use Rattle.qs_meaning.specs.Serial.{LegalFrom}
+use Rattle.qs_meaning.specs.audit.Serial.{LegalFrom}
 use Rattle.qs_standings.specs.Lists.{HasOne, NoTwo}
 use Rattle.qs_standings.specs.Standings.{IsStanding, StandingShape, configuration_in}
 use Rattle.qs_alike.specs.AlikeSearch.{IsPlaced}

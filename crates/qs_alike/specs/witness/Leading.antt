@@ -1,9 +1,10 @@
 -- How the least order grows block by block: what it leaves behind is hopeless.
 use Rattle.std.specs.Prelude.{◌≡◌, ◌⊎◌, ℕ, Bool, true, List, length}
 use Rattle.qs_objects.specs.declared.held.Ticket.{Ticket}
-use Rattle.qs_program.specs.Program.{ProgramShape}
-use Rattle.qs_meaning.specs.Configurations.{OrderOutcome, first_configuration}
-use Rattle.qs_meaning.specs.Serial.{IsLegal}
+use Rattle.qs_program.specs.audit.Program.{ProgramShape}
+use Rattle.qs_meaning.specs.audit.Configurations.{first_configuration}
+use Rattle.qs_meaning.specs.Configurations.{OrderOutcome}
+use Rattle.qs_meaning.specs.audit.Serial.{IsLegal}
 use Rattle.qs_outcomes.specs.LeastOrders.{IsBefore, IsLongerBy}
 use Rattle.qs_standings.specs.Standings.{IsOneOn, IsStanding, RowShape, StandingShape}
 use Rattle.qs_outcomes.specs.throughout.Courses.{passed}

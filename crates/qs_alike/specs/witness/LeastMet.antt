@@ -1,9 +1,10 @@
 -- Of all orders of so many blocks that are followed and lead to what is asked for, the least one.
 use Rattle.std.specs.Prelude.{◌≡◌, ℕ, Bool, true, List, length}
 use Rattle.qs_objects.specs.declared.held.Ticket.{Ticket}
-use Rattle.qs_program.specs.Program.{ProgramShape}
-use Rattle.qs_meaning.specs.Configurations.{OrderOutcome, first_configuration}
-use Rattle.qs_meaning.specs.Serial.{IsLegal}
+use Rattle.qs_program.specs.audit.Program.{ProgramShape}
+use Rattle.qs_meaning.specs.audit.Configurations.{first_configuration}
+use Rattle.qs_meaning.specs.Configurations.{OrderOutcome}
+use Rattle.qs_meaning.specs.audit.Serial.{IsLegal}
 use Rattle.qs_outcomes.specs.LeastOrders.{IsBefore}
 use Rattle.qs_outcomes.specs.Outcomes.{outcome_at}
 use Rattle.qs_standings.specs.Standings.{IsStanding, StandingShape}

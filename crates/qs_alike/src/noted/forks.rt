@@ -1,9 +1,9 @@
 //! Where orders that are before an order leave it.
 
 ghost use Rattle.std.specs.Prelude.{◌≡◌, ◌≤◌, length, IfOk, OnOk};
-ghost use Rattle.qs_meaning.specs.Configurations.{first_configuration};
+ghost use Rattle.qs_meaning.specs.audit.Configurations.{first_configuration};
 ghost use Rattle.qs_meaning.specs.Reduced.{goes_on};
-ghost use Rattle.qs_meaning.specs.Serial.{IsLegal};
+ghost use Rattle.qs_meaning.specs.audit.Serial.{IsLegal};
 ghost use Rattle.qs_standings.specs.going.Going.{AreLast, in_byte};
 ghost use Rattle.qs_standings.specs.Standings.{IsStanding, configuration_in};
 ghost use Rattle.qs_alike.specs.noted.Forks.{AreForks, IsForked};

@@ -2,7 +2,7 @@
 
 ghost use Rattle.std.specs.Prelude.{◌≡◌, ◌<◌, ℕ, true, length, slice_index_or};
 ghost use Rattle.std.specs.List.{AllByRecursion};
-ghost use Rattle.qs_meaning.specs.Serial.{zeros};
+ghost use Rattle.qs_meaning.specs.audit.Serial.{zeros};
 ghost use Rattle.qs_standings.specs.Standings.{IsStanding, configuration_in};
 ghost use Rattle.qs_alike.specs.Changes.{AreClasses};
 ghost use Rattle.qs_alike.specs.Texts.{classes_in};

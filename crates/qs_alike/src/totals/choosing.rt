@@ -1,7 +1,7 @@
 //! Whether the same clients go on whatever alike clients change places.
 
 ghost use Rattle.std.specs.Prelude.{◌≡◌, ◌<◌, ◌⊎◌, ℕ, true, IfSome, IsSomeAnd, length};
-ghost use Rattle.qs_program.specs.Program.{blocks_of};
+ghost use Rattle.qs_program.specs.audit.Program.{blocks_of};
 ghost use Rattle.qs_meaning.specs.Reduced.{goes_on, group_of, size_of_set};
 ghost use Rattle.qs_standings.specs.going.Going.{AreLast, begun_counts, in_byte};
 ghost use Rattle.qs_standings.specs.Standings.{IsStanding, configuration_in};

@@ -13,9 +13,9 @@ use Rattle.qs_script.specs.declared.tree.tree.Formal.{Formal}
 use Rattle.qs_script.specs.declared.tree.tree.TemplateItem.{TemplateItem}
 use Rattle.qs_script.specs.declared.tree.tree.Item.{Item}
 use Rattle.qs_script.specs.declared.tree.tree.Item.TheVariants.{Object, Client, Template, Started}
-use Rattle.qs_script.specs.tree.Tree.{Stmts, end, command, query, assign, choose, choose_else, again, leave}
-use Rattle.qs_program.specs.Limits.{most_turns}
-use Rattle.qs_check.specs.fault_places.Places.{Scope, TextPlace, ScopeOrFault, object, number, client, separate, listed, target, operation, arguments, variable, leaves, template, text, starts, given, pass_place, scope_or_fault, then_at, at_each, atom_places, atoms_places, expr_places, call_places, places, listed_places, block_places, blocks_places, kind_places, formals_places, formal_kinds, kind_of, text_places, start, fault_in, fault_of_text, given_places, item_places, script_places}
+use Rattle.qs_script.specs.audit.tree.Tree.{Stmts, end, command, query, assign, choose, choose_else, again, leave}
+use Rattle.qs_program.specs.audit.Limits.{most_turns}
+use Rattle.qs_check.specs.audit.fault_places.Places.{Scope, TextPlace, ScopeOrFault, object, number, client, separate, listed, target, operation, arguments, variable, leaves, template, text, starts, given, pass_place, scope_or_fault, then_at, at_each, atom_places, atoms_places, expr_places, call_places, places, listed_places, block_places, blocks_places, kind_places, formals_places, formal_kinds, kind_of, text_places, start, fault_in, fault_of_text, given_places, item_places, script_places}
 use Rattle.qs_check.proofs.fault_places.Walks.{met-append}
 use Rattle.qs_check.specs.declared.anchors.anchor.Anchor.{Anchor}
 use Rattle.qs_check.specs.declared.anchors.anchor.Anchor.TheVariants as m

@@ -5,7 +5,7 @@ use Rattle.std.proofs.Math.Seq.{drop-cons}
 use Rattle.qs_script.specs.declared.tree.tree.Stmt.{Stmt}
 use Rattle.qs_script.specs.declared.tree.tree.Stmt.TheVariants.{Command, Query, Assign, If, IfElse, Repeat, Leave}
 use Rattle.qs_script.specs.tree.Views.{stmts_of, single}
-use Rattle.qs_program.specs.Limits.{most_turns}
+use Rattle.qs_program.specs.audit.Limits.{most_turns}
 use Rattle.qs_check.specs.declared.anchors.anchor.Anchor.{Anchor}
 use Rattle.qs_check.specs.declared.anchors.anchor.Anchor.TheVariants as m
 use Rattle.qs_check.specs.anchors.Anchors.{call_anchors, expr_anchors, test_anchors, anchors}

@@ -21,9 +21,9 @@ use Rattle.qs_script.specs.declared.tree.tree.KindWord.TheVariants as kind
 use Rattle.qs_script.specs.declared.tree.tree.Formal.{Formal}
 use Rattle.qs_script.specs.declared.tree.tree.Item.{Item}
 use Rattle.qs_script.specs.declared.tree.tree.Item.TheVariants.{Object, Client, Template, Started}
-use Rattle.qs_script.specs.tree.Limits.{most_levels}
-use Rattle.qs_script.specs.tree.Tree.{Stmts, end, command, query, assign, choose, choose_else, again, leave}
-use Rattle.qs_script.specs.grammar.Grammar.{IsAtom, AreMore, AreArgs, IsCall, operator_token, relation_token, IsExpr, IsTest, AreStmts, AreNames, AreSomeNames, IsBlock, AreBlocks, IsKind, kind_token, IsFormal, AreMoreFormals, AreFormals, AreMoreNames, AreGiven, IsItem, AreItems, IsScript}
+use Rattle.qs_script.specs.audit.tree.Limits.{most_levels}
+use Rattle.qs_script.specs.audit.tree.Tree.{Stmts, end, command, query, assign, choose, choose_else, again, leave}
+use Rattle.qs_script.specs.audit.grammar.Grammar.{IsAtom, AreMore, AreArgs, IsCall, operator_token, relation_token, IsExpr, IsTest, AreStmts, AreNames, AreSomeNames, IsBlock, AreBlocks, IsKind, kind_token, IsFormal, AreMoreFormals, AreFormals, AreMoreNames, AreGiven, IsItem, AreItems, IsScript}
 use Rattle.qs_check.specs.declared.anchors.anchor.Anchor.{Anchor}
 use Rattle.qs_check.specs.declared.anchors.anchor.Anchor.TheVariants as m
 use Rattle.qs_check.specs.anchors.Anchors.{anchor_token, anchors_in, atom_anchor, expr_anchors, test_anchors, call_anchors, anchors, block_anchors, blocks_anchors, kind_anchors, formal_anchor, given_anchors, item_anchors, script_anchors}

@@ -2,7 +2,7 @@
 use Rattle.std.proofs.Common.{◌≡◌, ℕ, ◌+◌, ◌<◌, List, [], ◌∷◌, length, ap, arith, length-append, Some, Ok, Err}
 use Rattle.qs_script.specs.declared.tree.tree.Item.{Item}
 use Rattle.qs_script.specs.declared.tree.tree.Item.TheVariants.{Object, Client, Template, Started}
-use Rattle.qs_check.specs.fault_places.Places.{Scope, ScopeOrFault, scope_or_fault, start, pass_place, template, formal_kinds}
+use Rattle.qs_check.specs.audit.fault_places.Places.{Scope, ScopeOrFault, scope_or_fault, start, pass_place, template, formal_kinds}
 use Rattle.qs_check.specs.declared.anchors.anchor.Anchor.{Anchor}
 use Rattle.qs_check.specs.declared.anchors.finding.Anchored.{Anchored}
 use Rattle.qs_check.specs.anchors.Anchors.{anchor_places, text_anchors, item_anchors, script_anchors}

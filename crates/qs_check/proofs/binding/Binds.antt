@@ -6,11 +6,13 @@ use Rattle.std.proofs.Common.{◌≡◌, ℕ, zero, suc, ◌+◌, ◌<◌, ◌�
 use Rattle.std.proofs.Math.Seq.{drop-cons}
 use Rattle.std.proofs.lemmas.List.Folds.{list_any-append}
 use Rattle.qs_script.proofs.tree.Sizes.{drop_past}
-use Rattle.qs_program.specs.Binding.{bound, bound_statements, first_of_each}
+use Rattle.qs_program.specs.audit.Binding.{bound, bound_statements, first_of_each}
 use Rattle.qs_program.specs.declared.code.Stmt.{Stmt}
 use Rattle.qs_program.specs.declared.code.Stmt.TheVariants.{Command, Query, Assign, If, Repeat, Leave}
-use Rattle.qs_program.specs.Sound.{is_in, levels_of}
-use Rattle.qs_program.specs.Statements.{Statements, join_statements}
+use Rattle.qs_program.specs.audit.Sound.{is_in}
+use Rattle.qs_program.specs.Sound.{levels_of}
+use Rattle.qs_program.specs.audit.Statements.{Statements}
+use Rattle.qs_program.specs.Statements.{join_statements}
 use Rattle.qs_program.specs.Views.{single, statements_of}
 use Rattle.qs_program.proofs.Found.{apart, same, false_not_true}
 use Rattle.qs_program.proofs.StatementLists.{joined_assoc, joined-end}

@@ -10,11 +10,12 @@ use Rattle.qs_objects.specs.Operations.{fits}
 use Rattle.qs_objects.proofs.Elements.{AllByRecursion-get_or}
 use Rattle.qs_program.specs.declared.code.Call.{Call}
 use Rattle.qs_program.specs.declared.program.Declared.{Declared}
-use Rattle.qs_program.specs.Binding.{bound, bound_call, bound_statements, bound_block, first_of_each}
-use Rattle.qs_program.specs.Kinds.{same_kind}
-use Rattle.qs_program.specs.Program.{BlockShape, no_object}
-use Rattle.qs_program.specs.Sound.{is_in, levels_of, IsSoundCall, IsSoundBody, IsSoundBlock, AreVariablesBelow, AreLeavesInside, IsFormedBlock}
-use Rattle.qs_program.specs.Statements.{Statements, end, command, query, assign, choose, again, leave}
+use Rattle.qs_program.specs.audit.Binding.{bound, bound_call, bound_statements, bound_block, first_of_each}
+use Rattle.qs_program.specs.audit.Kinds.{same_kind}
+use Rattle.qs_program.specs.audit.Program.{BlockShape, no_object}
+use Rattle.qs_program.specs.audit.Sound.{is_in}
+use Rattle.qs_program.specs.Sound.{levels_of, IsSoundCall, IsSoundBody, IsSoundBlock, AreVariablesBelow, AreLeavesInside, IsFormedBlock}
+use Rattle.qs_program.specs.audit.Statements.{Statements, end, command, query, assign, choose, again, leave}
 use Rattle.qs_program.proofs.Found.{apart, same, false_not_true, or_true}
 
 -- ---- the numbers that come first

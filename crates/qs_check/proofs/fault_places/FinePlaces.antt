@@ -6,10 +6,10 @@ use Rattle.std.specs.List.{AllByRecursion}
 use Rattle.qs_objects.specs.declared.object.Kind.{Kind}
 use Rattle.qs_check.specs.declared.fault_places.fault.CheckFault.{CheckFault}
 use Rattle.qs_check.specs.declared.fault_places.fault.CheckFault.TheVariants as f
-use Rattle.qs_program.specs.Numbering.{Name, is_among, with_name}
-use Rattle.qs_program.specs.Limits.{most_variables}
-use Rattle.qs_check.specs.fault_places.Places.{Scope, TextPlace, ScopeOrFault, object, number, client, separate, listed, target, operation, arguments, variable, leaves, template, text, starts, given, pass_place, scope_or_fault, then_at, with_variable, op_at, is_known, takes}
-use Rattle.qs_check.specs.fault_places.Variables.{variables_at}
+use Rattle.qs_program.specs.audit.Numbering.{Name, is_among, with_name}
+use Rattle.qs_program.specs.audit.Limits.{most_variables}
+use Rattle.qs_check.specs.audit.fault_places.Places.{Scope, TextPlace, ScopeOrFault, object, number, client, separate, listed, target, operation, arguments, variable, leaves, template, text, starts, given, pass_place, scope_or_fault, then_at, with_variable, op_at, is_known, takes}
+use Rattle.qs_check.specs.audit.fault_places.Variables.{variables_at}
 use Rattle.qs_check.proofs.fault_places.Inner.{Inner}
 use Rattle.qs_check.proofs.fault_places.Steps.{with_names, fine, split}
 

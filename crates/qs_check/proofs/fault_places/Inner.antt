@@ -9,9 +9,9 @@ use Rattle.qs_script.specs.declared.tree.tree.Expr.{Expr}
 use Rattle.qs_script.specs.declared.tree.tree.Expr.TheVariants.{Plain, Binary}
 use Rattle.qs_script.specs.declared.tree.tree.Test.{Test}
 use Rattle.qs_script.specs.declared.tree.tree.Call.{Call}
-use Rattle.qs_script.specs.tree.Tree.{Stmts, end, command, query, assign, choose, choose_else, again}
-use Rattle.qs_script.specs.tree.Tree as tree
-use Rattle.qs_check.specs.fault_places.Places.{Scope, TextPlace, object, number, client, separate, listed, target, operation, arguments, variable, leaves, template, text, starts, given, scope_or_fault, places, atom_places, atoms_places, expr_places, test_places, call_places}
+use Rattle.qs_script.specs.audit.tree.Tree.{Stmts, end, command, query, assign, choose, choose_else, again}
+use Rattle.qs_script.specs.audit.tree.Tree as tree
+use Rattle.qs_check.specs.audit.fault_places.Places.{Scope, TextPlace, object, number, client, separate, listed, target, operation, arguments, variable, leaves, template, text, starts, given, scope_or_fault, places, atom_places, atoms_places, expr_places, test_places, call_places}
 use Rattle.qs_check.proofs.fault_places.Steps.{with_names, split, ok_same, then_at_ok}
 use Rattle.qs_check.proofs.fault_places.Walks.{met-append}
 

@@ -5,7 +5,7 @@ use Rattle.std.proofs.Math.ListN.{get_or-append}
 use Rattle.std.proofs.lemmas.List.{map-append}
 use Rattle.std.specs.Cmp.Lexicographic.{same_text}
 use Rattle.std.specs.List.{AllByRecursion, list_any}
-use Rattle.qs_program.specs.Numbering.{Name, same_name, is_among, found_at}
+use Rattle.qs_program.specs.audit.Numbering.{Name, same_name, is_among, found_at}
 use Rattle.qs_program.proofs.Found.{same_name-refl, is_among-append, found_within, found_append, name_at, same, apart}
 use Rattle.qs_check.specs.fault_places.Listed.{names_at, IsFirst, AreFirst}
 

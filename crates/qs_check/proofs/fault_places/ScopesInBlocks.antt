@@ -3,9 +3,9 @@
 -- each client. It goes by induction on the places, and then on a client's blocks.
 use Rattle.std.proofs.Common.{◌≡◌, ℕ, ◌+◌, ◌<◌, ◌≤◌, false, List, [], ◌∷◌, ◌++◌, length, refl, ap, sym, ◌∙◌, subst, arith, Ok}
 use Rattle.qs_script.specs.declared.tree.tree.Block.{Block}
-use Rattle.qs_program.specs.Numbering.{Name}
-use Rattle.qs_program.specs.Limits.{most_blocks, most_variables}
-use Rattle.qs_check.specs.fault_places.Places.{Scope, TextPlace, object, number, client, separate, listed, target, operation, arguments, variable, leaves, template, text, starts, given, scope_or_fault, places, listed_places, block_places, blocks_places, scope_of_block, with_listed}
+use Rattle.qs_program.specs.audit.Numbering.{Name}
+use Rattle.qs_program.specs.audit.Limits.{most_blocks, most_variables}
+use Rattle.qs_check.specs.audit.fault_places.Places.{Scope, TextPlace, object, number, client, separate, listed, target, operation, arguments, variable, leaves, template, text, starts, given, scope_or_fault, places, listed_places, block_places, blocks_places, scope_of_block, with_listed}
 use Rattle.qs_check.proofs.fault_places.Steps.{split, ok_same}
 use Rattle.qs_check.proofs.fault_places.Inner.{Inner, parted, inner_body}
 

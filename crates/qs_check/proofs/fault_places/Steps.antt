@@ -5,10 +5,11 @@ use Rattle.std.proofs.Common.{◌≡◌, ℕ, ◌<◌, ◌≤◌, Bool, true, fa
 use Rattle.std.proofs.lemmas.Bool.Decides.{nat_tests}
 use Rattle.qs_check.specs.declared.fault_places.fault.CheckFault.{CheckFault}
 use Rattle.qs_check.specs.declared.fault_places.fault.CheckFault.TheVariants as f
-use Rattle.qs_program.specs.Numbering.{Name, is_among, with_name}
-use Rattle.qs_program.specs.Limits.{most_blocks, most_clients, most_objects, most_variables}
-use Rattle.qs_check.specs.fault_places.Places.{Scope, TextPlace, ScopeOrFault, object, number, client, separate, listed, target, operation, arguments, variable, leaves, template, text, starts, given, pass_place, scope_or_fault, then_at, with_object, with_client, scope_of_block, with_listed, with_variable, op_at, is_known, takes, most_templates, with_template, formals_at, is_given, unless_fault, Meets}
-use Rattle.qs_check.specs.fault_places.Variables.{variables_at}
+use Rattle.qs_program.specs.audit.Numbering.{Name, is_among, with_name}
+use Rattle.qs_program.specs.audit.Limits.{most_blocks, most_clients, most_objects, most_variables}
+use Rattle.qs_check.specs.audit.fault_places.Places.{Scope, TextPlace, ScopeOrFault, object, number, client, separate, listed, target, operation, arguments, variable, leaves, template, text, starts, given, pass_place, scope_or_fault, then_at, with_object, with_client, scope_of_block, with_listed, with_variable, op_at, is_known, takes, most_templates, with_template, formals_at, is_given, unless_fault}
+use Rattle.qs_check.specs.fault_places.Places.{Meets}
+use Rattle.qs_check.specs.audit.fault_places.Variables.{variables_at}
 
 -- the scope with other variables
 abbrev pub with_names : Scope → List Name → Scope

@@ -7,7 +7,8 @@ use Rattle.qs_script.specs.declared.tree.tree.Stmt.{Stmt}
 use Rattle.qs_script.specs.declared.tree.tree.Stmt.TheVariants.{Command, Query, Assign, If, IfElse, Repeat, Leave}
 use Rattle.qs_script.specs.tree.Views.{stmts_of, single}
 use Rattle.qs_check.specs.declared.fault_places.fault.CheckFault.{CheckFault}
-use Rattle.qs_check.specs.fault_places.Places.{Scope, TextPlace, ScopeOrFault, pass_place, scope_or_fault, then_at, places, number, variable, call_places, expr_places, test_places, at_each, Fails, Meets}
+use Rattle.qs_check.specs.audit.fault_places.Places.{Scope, TextPlace, ScopeOrFault, pass_place, scope_or_fault, then_at, places, number, variable, call_places, expr_places, test_places, at_each}
+use Rattle.qs_check.specs.fault_places.Places.{Fails, Meets}
 
 then_at-then : (r : ScopeOrFault) (f g h : Scope → ScopeOrFault) → ((t : Scope) → f t ≡ then_at (g t) h) → then_at r f ≡ then_at (then_at r g) h
 then_at-then (Ok t) f g h e = e t

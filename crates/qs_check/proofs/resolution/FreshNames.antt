@@ -4,7 +4,7 @@ use Rattle.std.proofs.Common.{◌≡◌, Bool, true, false, ◌||◌, List, [], 
 use Rattle.std.proofs.lemmas.Cmp.{nat_list_eq_equiv}
 use Rattle.std.proofs.lemmas.List.Folds.{list_any-append}
 use Rattle.std.specs.List.{AllByRecursion, IsDistinct}
-use Rattle.qs_program.specs.Numbering.{Name, same_name, is_among}
+use Rattle.qs_program.specs.audit.Numbering.{Name, same_name, is_among}
 
 pub or_false : (a : Bool) → (a || false) ≡ a
 or_false true = refl

@@ -5,16 +5,17 @@ use Rattle.std.proofs.Common.{◌≡◌, ℕ, zero, suc, ◌+◌, ◌<◌, ◌�
 use Rattle.std.proofs.Math.Seq.{drop-cons}
 use Rattle.qs_objects.specs.declared.object.Kind.{Kind}
 use Rattle.qs_script.specs.tree.Form as form
-use Rattle.qs_script.specs.tree.Tree as tree
+use Rattle.qs_script.specs.audit.tree.Tree as tree
 use Rattle.qs_script.specs.declared.tree.tree.Stmt as text
 use Rattle.qs_script.specs.declared.tree.tree.Stmt.TheVariants as t
 use Rattle.qs_script.specs.tree.Views as views
 use Rattle.qs_script.proofs.tree.Sizes.{drop_past}
-use Rattle.qs_program.specs.Numbering.{Name}
+use Rattle.qs_program.specs.audit.Numbering.{Name}
 use Rattle.qs_program.specs.Sound.{levels_of}
-use Rattle.qs_program.specs.Statements.{Statements, join_statements}
+use Rattle.qs_program.specs.audit.Statements.{Statements}
+use Rattle.qs_program.specs.Statements.{join_statements}
 use Rattle.qs_program.proofs.StatementLists.{joined_assoc, joined-end}
-use Rattle.qs_check.specs.resolution.Resolve.{body_of}
+use Rattle.qs_check.specs.audit.resolution.Resolve.{body_of}
 
 -- a list is nested as deep as its first statement, or as the others
 first_levels : (s : text.Stmt) (xs : List text.Stmt) → form.levels_of (views.single s) ≤ form.levels_of (views.stmts_of (s ∷ xs))

@@ -4,8 +4,8 @@ use Rattle.std.proofs.Common.{◌≡◌, ℕ, List, [], ◌∷◌, ◌++◌, map
 use Rattle.qs_objects.specs.declared.object.Kind.{Kind}
 use Rattle.qs_script.specs.declared.tree.tree.TemplateItem.{TemplateItem}
 use Rattle.qs_program.specs.declared.program.Declared.{Declared}
-use Rattle.qs_program.specs.Numbering.{Name}
-use Rattle.qs_check.specs.fault_places.Places.{Scope, formal_kinds, with_object}
+use Rattle.qs_program.specs.audit.Numbering.{Name}
+use Rattle.qs_check.specs.audit.fault_places.Places.{Scope, formal_kinds, with_object}
 
 abbrev pub names : List Declared → List Name
 names D = map (λ (o : Declared). o.name) D

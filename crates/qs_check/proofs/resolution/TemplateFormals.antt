@@ -5,15 +5,15 @@ use Rattle.std.proofs.lemmas.List.{length-map}
 use Rattle.qs_script.specs.declared.tree.tree.Formal.{Formal}
 use Rattle.qs_script.specs.declared.tree.tree.TemplateItem.{TemplateItem}
 use Rattle.qs_program.specs.declared.program.Declared.{Declared}
-use Rattle.qs_program.specs.Limits.{most_objects, most_variables}
-use Rattle.qs_program.specs.Numbering.{Name}
-use Rattle.qs_check.specs.fault_places.Places.{Scope, object, scope_or_fault, start, formal_kind, formals_places, blocks_places, text_places}
-use Rattle.qs_check.specs.fault_places.Variables.{variables_of}
+use Rattle.qs_program.specs.audit.Limits.{most_objects, most_variables}
+use Rattle.qs_program.specs.audit.Numbering.{Name}
+use Rattle.qs_check.specs.audit.fault_places.Places.{Scope, object, scope_or_fault, start, formal_kind, formals_places, blocks_places, text_places}
+use Rattle.qs_check.specs.audit.fault_places.Variables.{variables_of}
 use Rattle.qs_check.proofs.fault_places.FinePlaces.{again}
 use Rattle.qs_check.proofs.fault_places.Inner.{parted}
 use Rattle.qs_check.proofs.fault_places.ScopesInBlocks.{blocks_stay}
 use Rattle.qs_check.proofs.fault_places.Steps.{split, ok_same, variables_met}
-use Rattle.qs_check.specs.resolution.Resolve.{as_client, declared_formals}
+use Rattle.qs_check.specs.audit.resolution.Resolve.{as_client, declared_formals}
 use Rattle.qs_check.proofs.resolution.Scopes.{names, kinds, scope, names_with, grown}
 use Rattle.qs_check.proofs.resolution.FreshNames.{Fresh, fresh_more, no_fresh}
 

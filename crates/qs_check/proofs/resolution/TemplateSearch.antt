@@ -5,16 +5,17 @@ use Rattle.std.proofs.Math.Seq.{drop-cons}
 use Rattle.std.specs.List.{AllByRecursion}
 use Rattle.qs_objects.specs.declared.object.Kind.{Kind}
 use Rattle.qs_script.specs.tree.Form.{HasForm, IsFormed}
-use Rattle.qs_script.specs.tree.Limits.{most_levels}
+use Rattle.qs_script.specs.audit.tree.Limits.{most_levels}
 use Rattle.qs_script.specs.declared.tree.tree.Block.{Block}
 use Rattle.qs_script.specs.declared.tree.tree.TemplateItem.{TemplateItem}
 use Rattle.qs_script.specs.declared.tree.tree.Item.{Item}
 use Rattle.qs_script.specs.declared.tree.tree.Item.TheVariants.{Object, Client, Template, Started}
-use Rattle.qs_program.specs.Numbering.{Name, same_name}
-use Rattle.qs_program.specs.Program.{BlockShape}
+use Rattle.qs_program.specs.audit.Numbering.{Name, same_name}
+use Rattle.qs_program.specs.audit.Program.{BlockShape}
 use Rattle.qs_program.specs.Sound.{levels_of}
-use Rattle.qs_check.specs.fault_places.Places.{fault_of_text}
-use Rattle.qs_check.specs.resolution.Resolve.{AreFaultless, block_shape, template_called, templates_in}
+use Rattle.qs_check.specs.audit.fault_places.Places.{fault_of_text}
+use Rattle.qs_check.specs.audit.resolution.Resolve.{block_shape, template_called, templates_in}
+use Rattle.qs_check.specs.resolution.Resolve.{AreFaultless}
 use Rattle.qs_check.proofs.resolution.Resolving.{levels_same}
 
 module _ (xs : List Item) (i : ℕ) (item : Item) (within : i < length xs) (item_is : item ≡ get_or xs i item) (n : Name)

@@ -4,7 +4,7 @@ use Rattle.qs_script.specs.declared.tree.tree.TemplateItem.{TemplateItem}
 use Rattle.qs_script.specs.declared.tree.tree.Item.{Item}
 use Rattle.qs_script.specs.declared.tree.tree.Item.TheVariants.{Object, Client, Template, Started}
 use Rattle.qs_check.specs.declared.fault_places.fault.CheckFault.TheVariants as f
-use Rattle.qs_check.specs.fault_places.Places.{Scope, ScopeOrFault, template, scope_or_fault, start, pass_place, formal_kinds}
+use Rattle.qs_check.specs.audit.fault_places.Places.{Scope, ScopeOrFault, template, scope_or_fault, start, pass_place, formal_kinds}
 use Rattle.qs_check.specs.declared.anchors.anchor.Anchor.{Anchor}
 use Rattle.qs_check.specs.declared.anchors.finding.Anchored.{Anchored}
 use Rattle.qs_check.specs.anchors.Anchors.{anchor_places, item_anchors, text_anchors}

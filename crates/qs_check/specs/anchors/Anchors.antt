@@ -17,11 +17,11 @@ use Rattle.qs_script.specs.declared.tree.tree.Formal.{Formal}
 use Rattle.qs_script.specs.declared.tree.tree.TemplateItem.{TemplateItem}
 use Rattle.qs_script.specs.declared.tree.tree.Item.{Item}
 use Rattle.qs_script.specs.declared.tree.tree.Item.TheVariants.{Object, Client, Template, Started}
-use Rattle.qs_script.specs.tree.Tree.{Stmts, end, command, query, assign, choose, choose_else, again, leave}
-use Rattle.qs_objects.specs.Limits.{greatest_balance, most_lines, most_values}
-use Rattle.qs_program.specs.Limits.{most_turns}
-use Rattle.qs_program.specs.Numbering.{Name}
-use Rattle.qs_check.specs.fault_places.Places.{TextPlace, object, number, client, separate, listed, target, operation_places, variable, leaves, starts, given, formal_kind, kind_of}
+use Rattle.qs_script.specs.audit.tree.Tree.{Stmts, end, command, query, assign, choose, choose_else, again, leave}
+use Rattle.qs_objects.specs.audit.Limits.{greatest_balance, most_lines, most_values}
+use Rattle.qs_program.specs.audit.Limits.{most_turns}
+use Rattle.qs_program.specs.audit.Numbering.{Name}
+use Rattle.qs_check.specs.audit.fault_places.Places.{TextPlace, object, number, client, separate, listed, target, operation_places, variable, leaves, starts, given, formal_kind, kind_of}
 use Rattle.qs_check.specs.declared.anchors.anchor.Anchor.{Anchor}
 use Rattle.qs_check.specs.declared.anchors.anchor.Anchor.TheVariants as m
 

@@ -1,6 +1,6 @@
 -- Scripts with the anchors of their first faults, computed by the definitions.
 use Rattle.std.specs.Prelude.{◌≡◌, List, [], ◌∷◌, Some, None, codes, pos}
-use Rattle.qs_script.specs.tree.Tree.{Stmts, end, command, query, assign, again, leave}
+use Rattle.qs_script.specs.audit.tree.Tree.{Stmts, end, command, query, assign, again, leave}
 use Rattle.qs_script.specs.declared.tree.tree.Atom.TheVariants.{Number}
 use Rattle.qs_script.specs.declared.tree.tree.Call.{Call}
 use Rattle.qs_script.specs.declared.tree.tree.Expr.TheVariants.{Plain}
@@ -8,7 +8,7 @@ use Rattle.qs_script.specs.declared.tree.tree.KindText.TheVariants.{Account, Gri
 use Rattle.qs_script.specs.declared.tree.tree.KindWord.TheVariants as kind
 use Rattle.qs_script.specs.declared.tree.tree.Item.{Item}
 use Rattle.qs_script.specs.declared.tree.tree.Item.TheVariants.{Object, Client, Template, Started}
-use Rattle.qs_program.specs.Numbering.{Name}
+use Rattle.qs_program.specs.audit.Numbering.{Name}
 use Rattle.qs_check.specs.declared.fault_places.fault.CheckFault.TheVariants as f
 use Rattle.qs_check.specs.anchors.Anchored.{first_anchored}
 

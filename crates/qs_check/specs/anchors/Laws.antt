@@ -2,8 +2,8 @@
 use Rattle.std.specs.Prelude.{◌≡◌, ◌<◌, ℕ, List, length, map, Some, option_map}
 use Rattle.qs_script.specs.declared.tokens.token.Token.{Token}
 use Rattle.qs_script.specs.declared.tree.tree.Item.{Item}
-use Rattle.qs_script.specs.grammar.Grammar.{IsScript}
-use Rattle.qs_check.specs.fault_places.Places.{fault_in, scope_or_fault, script_places, start}
+use Rattle.qs_script.specs.audit.grammar.Grammar.{IsScript}
+use Rattle.qs_check.specs.audit.fault_places.Places.{fault_in, scope_or_fault, script_places, start}
 use Rattle.qs_check.specs.declared.anchors.finding.Anchored.{Anchored}
 use Rattle.qs_check.specs.anchors.Anchors.{anchor_token, anchors_in, script_anchors}
 use Rattle.qs_check.specs.anchors.Anchored.{first_anchored}

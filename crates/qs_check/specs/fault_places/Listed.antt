@@ -1,8 +1,8 @@
 -- A block's list by the numbers of its objects.
 use Rattle.std.specs.Prelude.{◌≡◌, ◌<◌, ◌==◌, ℕ, Bool, true, false, List, [], length, map, slice_index_or}
 use Rattle.std.specs.List.{AllByRecursion, list_any}
-use Rattle.qs_program.specs.Limits.{most_objects}
-use Rattle.qs_program.specs.Numbering.{Name, is_among, found_at}
+use Rattle.qs_program.specs.audit.Limits.{most_objects}
+use Rattle.qs_program.specs.audit.Numbering.{Name, is_among, found_at}
 
 -- the names of numbers
 abbrev pub names_at : List Name → List ℕ → List Name

@@ -1,7 +1,8 @@
 //! The first anchor of a script with a fault.
 
 ghost use Rattle.std.specs.Prelude.{◌≡◌, ◌≢◌, ◌≤◌, ◌<◌, ◌+◌, ◌++◌, [], length, drop, IfOk, IfErr, OnOk, Some, None};
-ghost use Rattle.qs_check.specs.fault_places.Places.{Scope as Known, Meets, scope_or_fault, start, pass_place, leaves};
+ghost use Rattle.qs_check.specs.audit.fault_places.Places.{Scope as Known, scope_or_fault, start, pass_place, leaves};
+ghost use Rattle.qs_check.specs.fault_places.Places.{Meets};
 ghost use Rattle.qs_check.specs.anchors.Anchors.{anchor_places, item_anchors, text_anchors};
 ghost use Rattle.qs_check.specs.anchors.Anchored.{Finds, outside, scope_or_anchored, template_anchored, item_anchored, items_anchored, first_anchored};
 

@@ -2,9 +2,10 @@
 
 ghost use Rattle.std.specs.Prelude.{◌≡◌, ◌≤◌, [], ◌∷◌, ◌++◌, if◌then◌else◌, IfOk, OnOk, map};
 ghost use Rattle.std.specs.List.{AllByRecursion};
-ghost use Rattle.qs_script.specs.tree.Limits.{most_levels};
-ghost use Rattle.qs_program.specs.Binding.{bound as object_of, bound_call, bound_statements, bound_block, first_of_each};
-ghost use Rattle.qs_program.specs.Sound.{is_in, levels_of};
+ghost use Rattle.qs_script.specs.audit.tree.Limits.{most_levels};
+ghost use Rattle.qs_program.specs.audit.Binding.{bound as object_of, bound_call, bound_statements, bound_block, first_of_each};
+ghost use Rattle.qs_program.specs.audit.Sound.{is_in};
+ghost use Rattle.qs_program.specs.Sound.{levels_of};
 ghost use Rattle.qs_program.specs.Views.{single};
 
 use qs_program::{Block, Body, Call, Stmt};

@@ -1,8 +1,8 @@
 //! The words of the operations.
 
 ghost use Rattle.std.specs.Prelude.{◌≡◌, length};
-ghost use Rattle.qs_program.specs.Numbering.{same_name};
-ghost use Rattle.qs_check.specs.fault_places.Operators.{is_meant as is_meant_of, op_of as operation_of};
+ghost use Rattle.qs_program.specs.audit.Numbering.{same_name};
+ghost use Rattle.qs_check.specs.audit.fault_places.Operators.{is_meant as is_meant_of, op_of as operation_of};
 
 use qs_objects::{Kind, Op};
 use qs_script::tree::Name;

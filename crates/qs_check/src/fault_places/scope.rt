@@ -1,8 +1,9 @@
 //! What is known at a place of a script, and the faults of each place.
 
 ghost use Rattle.std.specs.Prelude.{◌≡◌, [], ◌∷◌, ◌++◌, OnOk, IfOk, IfSome, is_some, slice_index_or, pos};
-ghost use Rattle.qs_program.specs.Numbering.{is_among, found_at};
-ghost use Rattle.qs_check.specs.fault_places.Places.{Scope as Known, Meets, scope_or_fault, pass_place, start, op_at, object, number, client, separate, listed, target, operation_places, request_places, variable, without_variables, template, starts, given, formals_at, formal_kind, formal_kinds};
+ghost use Rattle.qs_program.specs.audit.Numbering.{is_among, found_at};
+ghost use Rattle.qs_check.specs.audit.fault_places.Places.{Scope as Known, scope_or_fault, pass_place, start, op_at, object, number, client, separate, listed, target, operation_places, request_places, variable, template, starts, given, formals_at, formal_kind, formal_kinds};
+ghost use Rattle.qs_check.specs.fault_places.Places.{Meets, without_variables};
 
 use crate::fault_places::fault::CheckFault;
 use crate::fault_places::listed::Listed;
@@ -54,7 +55,7 @@ pub struct Scope {
 }
 
 impl Model for Scope {
-    ghost use Rattle.qs_check.specs.fault_places.Places.{Scope as Known};
+    ghost use Rattle.qs_check.specs.audit.fault_places.Places.{Scope as Known};
     ghost use Rattle.qs_check.specs.fault_places.Listed.{names_at, AreFirst};
 
     ghost Value = { Known };

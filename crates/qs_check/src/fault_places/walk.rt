@@ -2,8 +2,9 @@
 
 ghost use Rattle.std.specs.Prelude.{◌≡◌, OnOk};
 ghost use Rattle.qs_script.specs.tree.Views.{single};
-ghost use Rattle.qs_check.specs.fault_places.Places.{Scope as Known, Meets, scope_or_fault, places, call_places, atom_places, atoms_places, expr_places, test_places, listed_places, block_places, blocks_places, item_places, kind_of, kind_places, pass_place, text, fault_of_text, text_places, formals_places, given_places};
-ghost use Rattle.qs_check.specs.fault_places.Variables.{variables_of};
+ghost use Rattle.qs_check.specs.audit.fault_places.Places.{Scope as Known, scope_or_fault, places, call_places, atom_places, atoms_places, expr_places, test_places, listed_places, block_places, blocks_places, item_places, kind_of, kind_places, pass_place, text, fault_of_text, text_places, formals_places, given_places};
+ghost use Rattle.qs_check.specs.fault_places.Places.{Meets};
+ghost use Rattle.qs_check.specs.audit.fault_places.Variables.{variables_of};
 
 use crate::fault_places::fault::CheckFault;
 use crate::fault_places::scope::{Scope, check_number, formal_value};

@@ -4,12 +4,14 @@ ghost use Rattle.std.specs.Prelude.{◌≡◌, ◌≤◌, ◌<◌, ◌+◌, IfOk
 ghost use Rattle.std.specs.List.{AllByRecursion};
 ghost use Rattle.qs_script.specs.tree.Form.{levels_of, IsFormed, HasForm};
 ghost use Rattle.qs_script.specs.tree.Views.{single as single_text};
-ghost use Rattle.qs_script.specs.tree.Limits.{most_levels};
-ghost use Rattle.qs_program.specs.Limits.{most_objects, most_variables};
-ghost use Rattle.qs_program.specs.Numbering.{found_at};
-ghost use Rattle.qs_check.specs.resolution.Resolve.{AreFaultless, atom_of, expr_of, test_of, call_of, body_of, block_shape, clients_of, objects_of, variable_lists, templates_in};
+ghost use Rattle.qs_script.specs.audit.tree.Limits.{most_levels};
+ghost use Rattle.qs_program.specs.audit.Limits.{most_objects, most_variables};
+ghost use Rattle.qs_program.specs.audit.Numbering.{found_at};
+ghost use Rattle.qs_check.specs.audit.resolution.Resolve.{atom_of, expr_of, test_of, call_of, body_of, block_shape, clients_of, objects_of, templates_in};
+ghost use Rattle.qs_check.specs.resolution.Resolve.{AreFaultless, variable_lists};
 ghost use Rattle.qs_program.specs.Sound.{levels_of as nested_in};
-ghost use Rattle.qs_program.specs.Statements.{end, command, query, assign, choose, again, leave, join_statements};
+ghost use Rattle.qs_program.specs.audit.Statements.{end, command, query, assign, choose, again, leave};
+ghost use Rattle.qs_program.specs.Statements.{join_statements};
 
 use crate::fault_places::{find_op, kind_at, kind_value};
 use crate::resolution::start::resolve_started;

@@ -3,9 +3,10 @@
 ghost use Rattle.std.specs.Prelude.{◌≡◌, ◌≤◌, IfOk, length, option_copied, None, Ok, Some};
 ghost use Rattle.std.specs.List.{AllByRecursion};
 ghost use Rattle.qs_script.specs.tree.Form.{HasForm, IsFormed};
-ghost use Rattle.qs_program.specs.Limits.{most_objects};
-ghost use Rattle.qs_check.specs.fault_places.Places.{fault_of_text, scope_or_fault, start as nothing_known, text_places};
-ghost use Rattle.qs_check.specs.resolution.Resolve.{AreFaultless, declared_formals, started_of, template_called, templates_in};
+ghost use Rattle.qs_program.specs.audit.Limits.{most_objects};
+ghost use Rattle.qs_check.specs.audit.fault_places.Places.{fault_of_text, scope_or_fault, start as nothing_known, text_places};
+ghost use Rattle.qs_check.specs.audit.resolution.Resolve.{declared_formals, started_of, template_called, templates_in};
+ghost use Rattle.qs_check.specs.resolution.Resolve.{AreFaultless};
 
 use crate::binding::bind_blocks;
 use crate::fault_places::{CheckFault, Scope, check_text, formal_value};

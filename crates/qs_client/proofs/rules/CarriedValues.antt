@@ -3,15 +3,15 @@
 -- and gives the object or the chunk away, so the layers above need both laws to say that nothing was lost. The idea: a
 -- case for each stage and for what is held.
 use Rattle.std.proofs.Common.{◌≡◌, ℕ, Bool, true, false, nat_lt, if◌then◌else◌, List, Option, Some, None, refl, ap, ◌∙◌}
-use Rattle.qs_objects.specs.Journals.{HeldState}
+use Rattle.qs_objects.specs.audit.Journals.{HeldState}
 use Rattle.qs_objects.specs.declared.held.Ticket.{Ticket}
 use Rattle.qs_objects.specs.declared.Request.{Request}
-use Rattle.qs_graph.specs.Synced.{Synced, Done, Call, Sync, Query}
-use Rattle.qs_chunk.specs.Batch.{Batch}
+use Rattle.qs_graph.specs.audit.Synced.{Synced, Done, Call, Sync, Query}
+use Rattle.qs_chunk.specs.audit.Batch.{Batch}
 use Rattle.qs_chunk.specs.declared.parcel.Parcel.TheVariants as parcels
-use Rattle.qs_client.specs.rules.Client.{Client, Settings, ClientStage, act_at, between, runs, full, awaits, leaves, call_act, clear, set_chunk, set_held, rest_act, after_home, after_work, work}
+use Rattle.qs_client.specs.audit.rules.Client.{Client, Settings, ClientStage, act_at, between, runs, full, awaits, leaves, call_act, clear, set_chunk, set_held, rest_act, after_home, after_work, work}
 use Rattle.qs_client.specs.rules.ClientLaws.{ActsLoseNothing, IsSizedAct, LosesNothing, SendsAreParted, with_act}
-use Rattle.qs_client.specs.rules.Outgoings.{without_act, resume}
+use Rattle.qs_client.specs.audit.rules.Outgoings.{without_act, resume}
 use Rattle.qs_client.specs.declared.rules.act.Act.{Act}
 use Rattle.qs_client.proofs.rules.Puts.{put_same, put_twice}
 use Rattle.qs_client.specs.declared.rules.act.Act.TheVariants as acts

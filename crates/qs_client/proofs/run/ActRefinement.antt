@@ -4,32 +4,32 @@
 -- tree is the one that the client has comes from `walk_up`.
 use Rattle.std.proofs.Common.{◌≡◌, ℕ, zero, suc, ◌<◌, ◌≤◌, false, Option, Some, None, List, length, get_or, refl, sym, ap, ◌∙◌, subst, arith}
 use Rattle.std.proofs.lemmas.List.{get_or-set_same}
-use Rattle.qs_objects.specs.Journals.{HeldState}
+use Rattle.qs_objects.specs.audit.Journals.{HeldState}
 use Rattle.qs_objects.specs.declared.Request.{Request}
-use Rattle.qs_program.specs.Limits.{most_handlers}
-use Rattle.qs_meaning.specs.Solo.{put}
-use Rattle.qs_graph.specs.Steps.{limit}
-use Rattle.qs_graph.specs.Walk.{Move, Ends, Goes, Calls, Syncs, Queries, move, tree_of_move, walk}
+use Rattle.qs_program.specs.audit.Limits.{most_handlers}
+use Rattle.qs_meaning.specs.audit.Solo.{put}
+use Rattle.qs_graph.specs.audit.Steps.{limit}
+use Rattle.qs_graph.specs.audit.Walk.{Move, Ends, Goes, Calls, Syncs, Queries, move, tree_of_move, walk}
 use Rattle.qs_graph.specs.WellFormed.{IsGraph}
 use Rattle.qs_graph.proofs.Saying.{walk_up}
-use Rattle.qs_graph.specs.Nodes as places
-use Rattle.qs_syncset.specs.Codes.{BlockCode}
+use Rattle.qs_graph.specs.audit.Nodes as places
+use Rattle.qs_syncset.specs.audit.Codes.{BlockCode}
 use Rattle.qs_syncset.specs.SoundSynced.{IsSoundSynced}
-use Rattle.qs_chunk.specs.Batch.{Batch}
+use Rattle.qs_chunk.specs.audit.Batch.{Batch}
 use Rattle.qs_chunk.specs.declared.parcel.Parcel.TheVariants as parcels
 use Rattle.qs_client.specs.run.NextActs.{HasActed, act_by, holdings_by, clear, clear_by, send_full, with_holdings, without, without_by}
-use Rattle.qs_client.specs.rules.Client.{Settings, act_at, act_of, rest_act}
+use Rattle.qs_client.specs.audit.rules.Client.{Settings, act_at, act_of, rest_act}
 use Rattle.qs_client.specs.run.Holdings.{holding_at, chunk_at, with_chunk, holding}
 use Rattle.qs_client.specs.run.ClientOfRun.{client_of_run, stage_by}
 use Rattle.qs_client.specs.run.Running.{IsOver, IsFull, IsRunning, IsLoud}
 use Rattle.qs_client.specs.run.BetweenActs.{IsOutgoingAt, IsStanding, IsSyncing}
-use Rattle.qs_client.specs.rules.Outgoings.{without_act, outgoing_of}
+use Rattle.qs_client.specs.audit.rules.Outgoings.{without_act, outgoing_of}
 use Rattle.qs_client.specs.declared.rules.act.Act.{Act}
 use Rattle.qs_client.specs.declared.rules.act.Act.TheVariants.{Send, NeedChunk}
 use Rattle.qs_client.specs.run.RunState.{RunState}
 use Rattle.qs_client.proofs.run.StepRefinement.{IsAmongEight, among_eight, sized_of}
 use Rattle.qs_client.proofs.run.ClearedLanes.{clears_sized, calls_sized, without_cleared, full_sized, without_full, away_at_call, away_at_sync, cleared_running, cleared_over, emptied}
-use Rattle.qs_client.specs.rules.Client as clients
+use Rattle.qs_client.specs.audit.rules.Client as clients
 use Rattle.qs_client.specs.declared.run.stage.Stage.TheVariants as stages
 
 -- what is known of what is outgoing, at a node, at the end, and with a full chunk

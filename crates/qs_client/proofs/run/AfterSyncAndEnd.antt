@@ -7,13 +7,14 @@ use Rattle.std.proofs.lemmas.List.{drop_all}
 use Rattle.std.proofs.lemmas.Bool.{ltb-true, ltb-false}
 use Rattle.qs_objects.specs.declared.held.Event.{Event}
 use Rattle.qs_objects.specs.declared.held.Ticket.{Ticket}
-use Rattle.qs_meaning.specs.Solo.{put}
-use Rattle.qs_graph.specs.Steps.{limit}
-use Rattle.qs_graph.specs.Walk.{Spot, Move, Ends, Goes, Calls, Syncs, Queries, move, walk, EachNext}
+use Rattle.qs_meaning.specs.audit.Solo.{put}
+use Rattle.qs_graph.specs.audit.Steps.{limit}
+use Rattle.qs_graph.specs.audit.Walk.{Spot, Move, Ends, Goes, Calls, Syncs, Queries, move, walk}
+use Rattle.qs_graph.specs.Walk.{EachNext}
 use Rattle.qs_graph.specs.WellFormed.{IsGraph}
 use Rattle.qs_graph.proofs.Saying.{walk_up}
-use Rattle.qs_syncset.specs.Codes.{BlockCode}
-use Rattle.qs_client.specs.rules.Client.{Client, Settings, after_sync, after_end, end_block, awaits, between}
+use Rattle.qs_syncset.specs.audit.Codes.{BlockCode}
+use Rattle.qs_client.specs.audit.rules.Client.{Client, Settings, after_sync, after_end, end_block, awaits, between}
 use Rattle.qs_client.specs.run.Holdings.{HoldingsState, holding}
 use Rattle.qs_objects.specs.Traces.{TraceState, trace_at}
 use Rattle.qs_client.specs.run.ClientOfRun.{client_with, client_of_run, stage_by, progress_after}
@@ -24,7 +25,7 @@ use Rattle.qs_client.specs.declared.run.run.BlockContext.{BlockContext}
 use Rattle.qs_client.specs.declared.run.stage.Stage.{Stage}
 use Rattle.qs_client.proofs.run.StepRefinement.{IsBeforeMove, ready, keeps_rows, counts_kept}
 use Rattle.qs_client.proofs.run.InBlock.{moved_in_block}
-use Rattle.qs_client.specs.rules.Client as clients
+use Rattle.qs_client.specs.audit.rules.Client as clients
 use Rattle.qs_client.specs.declared.rules.outgoing.Outgoing.TheVariants as outgoings
 use Rattle.qs_client.specs.declared.run.stage.Stage.TheVariants as stages
 

@@ -5,33 +5,34 @@
 -- between blocks.
 use Rattle.std.proofs.Common.{◌≡◌, ℕ, zero, suc, ◌<◌, ◌≤◌, Bool, true, false, nat_lt, if◌then◌else◌, Option, Some, None, List, [], length, length-set, get_or, refl, sym, ap, ◌∙◌, subst, arith}
 use Rattle.std.proofs.lemmas.Bool.{ltb-true}
-use Rattle.qs_objects.specs.Journals.{HeldState}
+use Rattle.qs_objects.specs.audit.Journals.{HeldState}
 use Rattle.qs_objects.specs.declared.held.Ticket.{Ticket}
 use Rattle.qs_objects.specs.declared.Request.{Request}
-use Rattle.qs_program.specs.Values.{request_of}
+use Rattle.qs_program.specs.audit.Values.{request_of}
 use Rattle.qs_program.specs.declared.code.Call as calls
-use Rattle.qs_meaning.specs.Solo.{put}
-use Rattle.qs_graph.specs.Steps.{limit}
-use Rattle.qs_graph.specs.Synced.{Synced}
+use Rattle.qs_meaning.specs.audit.Solo.{put}
+use Rattle.qs_graph.specs.audit.Steps.{limit}
+use Rattle.qs_graph.specs.audit.Synced.{Synced}
 use Rattle.qs_graph.specs.declared.node.Node.{Node}
-use Rattle.qs_graph.specs.Walk.{Spot, Move, Ends, Goes, Calls, Syncs, Queries, at_node, move, move_by, tree_of_move, walk, Within}
+use Rattle.qs_graph.specs.audit.Walk.{Spot, Move, Ends, Goes, Calls, Syncs, Queries, at_node, move, move_by, tree_of_move, walk}
+use Rattle.qs_graph.specs.Walk.{Within}
 use Rattle.qs_graph.specs.WellFormed.{IsGraph}
 use Rattle.qs_graph.proofs.Saying.{walk_up}
-use Rattle.qs_graph.specs.Nodes as places
+use Rattle.qs_graph.specs.audit.Nodes as places
 use Rattle.qs_graph.specs.declared.node.Node.TheVariants as nodes
-use Rattle.qs_syncset.specs.Codes.{BlockCode}
+use Rattle.qs_syncset.specs.audit.Codes.{BlockCode}
 use Rattle.qs_syncset.specs.SoundSynced.{IsSoundSynced}
-use Rattle.qs_chunk.specs.Batch.{batch}
+use Rattle.qs_chunk.specs.audit.Batch.{batch}
 use Rattle.qs_chunk.specs.declared.parcel.Parcel.TheVariants as parcels
 use Rattle.qs_client.specs.run.NextActs.{Wants, with_holdings, SendsNothing}
-use Rattle.qs_client.specs.rules.Client.{Client, Settings, act_at, act_of, call_act, clear, take_object, rest_act, take_chunk, settle}
+use Rattle.qs_client.specs.audit.rules.Client.{Client, Settings, act_at, act_of, call_act, clear, take_object, rest_act, take_chunk, settle}
 use Rattle.qs_client.specs.run.Holdings.{holding_at, holding, chunk_at, with_held, with_chunk}
 use Rattle.qs_objects.specs.Traces.{trace_at}
-use Rattle.qs_program.specs.Limits.{most_handlers, most_objects}
+use Rattle.qs_program.specs.audit.Limits.{most_handlers, most_objects}
 use Rattle.qs_client.specs.run.ClientOfRun.{HasSettled, client_of_run, items_of, progress_after, stage_by, stage_of}
 use Rattle.qs_client.specs.run.Running.{IsAwaiting, IsOpen, IsRunning, IsLoud}
 use Rattle.qs_client.specs.run.BetweenActs.{HasGot, HasTaken, IsStanding}
-use Rattle.qs_client.specs.rules.Outgoings.{outgoing_of}
+use Rattle.qs_client.specs.audit.rules.Outgoings.{outgoing_of}
 use Rattle.qs_client.specs.declared.rules.act.Act.{Act}
 use Rattle.qs_client.specs.run.RunState.{RunState}
 use Rattle.qs_client.specs.declared.run.stage.Stage.{Stage}

@@ -3,13 +3,13 @@
 -- those of `call` and `query` in `Running.antt`. The idea: each is a chain of equal records, one for each thing that
 -- the code looked up.
 use Rattle.std.proofs.Common.{◌≡◌, ◌<◌, ℕ, Bool, true, false, not, ◌&&◌, IsSome, IsTrue, if◌then◌else◌, is_some, length, Option, Some, None, ℤ, refl, sym, ap, arith, ◌∙◌}
-use Rattle.qs_objects.specs.Journals.{HeldState, run_one}
-use Rattle.qs_objects.specs.Parts.{command_event}
+use Rattle.qs_objects.specs.audit.Journals.{HeldState, run_one}
+use Rattle.qs_objects.specs.audit.Parts.{command_event}
 use Rattle.qs_objects.specs.declared.held.Ticket.{Ticket}
 use Rattle.qs_objects.specs.declared.Request.{Request}
-use Rattle.qs_meaning.specs.Solo.{event, value_of}
-use Rattle.qs_graph.specs.Walk.{Spot}
-use Rattle.qs_chunk.specs.Batch.{Batch}
+use Rattle.qs_meaning.specs.audit.Solo.{event, value_of}
+use Rattle.qs_graph.specs.audit.Walk.{Spot}
+use Rattle.qs_chunk.specs.audit.Batch.{Batch}
 use Rattle.qs_client.specs.run.Holdings.{HoldingsState, holding_at, chunk_at, with_held, with_chunk, with_request, is_full}
 use Rattle.qs_objects.specs.Traces.{noted_at}
 use Rattle.qs_client.specs.run.Running.{IsOpen, go_to, sync, call_by, call, query_by, query}

@@ -3,22 +3,22 @@
 -- still holds that held before. The proofs of the acts stand on it. The idea: a case for the object, for the chunk, and
 -- for neither.
 use Rattle.std.proofs.Common.{◌≡◌, ℕ, ◌<◌, ◌==◌, Bool, true, false, Option, Some, None, List, length, length-set, refl, sym, ap, ◌∙◌, subst, arith}
-use Rattle.qs_objects.specs.Journals.{HeldState}
+use Rattle.qs_objects.specs.audit.Journals.{HeldState}
 use Rattle.qs_objects.specs.declared.Request.{Request}
-use Rattle.qs_program.specs.Limits.{most_handlers}
-use Rattle.qs_meaning.specs.Solo.{put}
-use Rattle.qs_graph.specs.Synced.{Synced, Call, Sync}
-use Rattle.qs_graph.specs.Walk.{walk}
-use Rattle.qs_graph.specs.Nodes as places
+use Rattle.qs_program.specs.audit.Limits.{most_handlers}
+use Rattle.qs_meaning.specs.audit.Solo.{put}
+use Rattle.qs_graph.specs.audit.Synced.{Synced, Call, Sync}
+use Rattle.qs_graph.specs.audit.Walk.{walk}
+use Rattle.qs_graph.specs.audit.Nodes as places
 use Rattle.qs_syncset.specs.SoundSynced.{IsSoundSynced}
-use Rattle.qs_chunk.specs.Batch.{Batch, batch}
+use Rattle.qs_chunk.specs.audit.Batch.{Batch, batch}
 use Rattle.qs_chunk.specs.declared.parcel.Parcel.TheVariants as parcels
 use Rattle.qs_client.specs.run.NextActs.{clear_by, send_full, without_by}
-use Rattle.qs_client.specs.rules.Client.{ClientStage, Settings, call_act, clear}
+use Rattle.qs_client.specs.audit.rules.Client.{ClientStage, Settings, call_act, clear}
 use Rattle.qs_client.specs.run.Holdings.{HoldingsState, holding_at, chunk_at, with_held, with_chunk, holding}
 use Rattle.qs_client.specs.run.ClientOfRun.{client_with, items_of}
 use Rattle.qs_client.specs.run.Running.{IsOpen, IsSized, IsRunning, IsFull, IsOver}
-use Rattle.qs_client.specs.rules.Outgoings.{without_act}
+use Rattle.qs_client.specs.audit.rules.Outgoings.{without_act}
 use Rattle.qs_client.specs.declared.rules.act.Act.{Act}
 use Rattle.qs_client.specs.declared.rules.act.Act.TheVariants.{Send, NeedChunk, Finished}
 use Rattle.qs_client.specs.run.RunState.{RunState}

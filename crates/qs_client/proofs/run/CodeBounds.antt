@@ -5,12 +5,13 @@ use Rattle.std.proofs.Common.{◌≡◌, inl, inr, ℕ, zero, suc, ◌<◌, ◌�
 use Rattle.std.proofs.lemmas.Bool.{cases_lt}
 use Rattle.std.proofs.lemmas.List.{get_or_past}
 use Rattle.qs_objects.proofs.Elements.{AllByRecursion-get_or}
-use Rattle.qs_program.specs.Program.{ProgramShape, block_at, blocks_of, client_at, no_client}
+use Rattle.qs_program.specs.audit.Program.{ProgramShape, block_at, blocks_of, client_at, no_client}
 use Rattle.qs_program.specs.Sound.{IsSoundBlock, IsSoundClient}
 use Rattle.qs_program.proofs.Bounds.{sound_block}
-use Rattle.qs_program.specs.Limits.{most_blocks, most_handlers}
-use Rattle.qs_syncset.specs.Codes.{BlockCode, ClientCode, IsCode, code_at, no_code}
-use Rattle.qs_client.specs.run.BlockSizes.{longest}
+use Rattle.qs_program.specs.audit.Limits.{most_blocks, most_handlers}
+use Rattle.qs_syncset.specs.audit.Codes.{BlockCode, ClientCode, code_at, no_code}
+use Rattle.qs_syncset.specs.Codes.{IsCode}
+use Rattle.qs_client.specs.audit.run.BlockSizes.{longest}
 
 -- a client that has blocks is a client of the program
 pub client_inside : (p : ProgramShape) (c k : ℕ) → k < blocks_of p c → c < length p.clients

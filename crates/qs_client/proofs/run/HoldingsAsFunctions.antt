@@ -3,12 +3,12 @@
 -- functions are equal where their values are, and a handler is the one that was written to or another.
 use Rattle.std.proofs.Common.{◌≡◌, ℕ, ◌<◌, false, ◌==◌, Option, None, is_some, length, sym, ap, ◌∙◌, subst, ⊎_elim}
 use Rattle.std.proofs.Math.Path.{fun_ext}
-use Rattle.qs_objects.specs.Journals.{HeldState}
+use Rattle.qs_objects.specs.audit.Journals.{HeldState}
 use Rattle.qs_objects.specs.declared.Request.{Request}
 use Rattle.qs_objects.proofs.Choices.{num_cases}
-use Rattle.qs_meaning.specs.Solo.{put}
+use Rattle.qs_meaning.specs.audit.Solo.{put}
 use Rattle.qs_meaning.proofs.TreeWalks.{put_here, put_there}
-use Rattle.qs_chunk.specs.Batch.{Batch}
+use Rattle.qs_chunk.specs.audit.Batch.{Batch}
 use Rattle.qs_client.proofs.rules.Puts.{put_field, put_set_at}
 use Rattle.qs_client.specs.run.Holdings.{HoldingsState, holding_at, holding, chunk_at, with_held, with_chunk}
 use Rattle.qs_client.specs.run.ClientOfRun.{items_of}

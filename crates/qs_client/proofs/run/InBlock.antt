@@ -4,12 +4,13 @@
 use Rattle.std.proofs.Common.{◌≡◌, ◌≤◌, ℕ, Bool, Option, List, length}
 use Rattle.qs_objects.specs.declared.Request.{Request}
 use Rattle.qs_objects.specs.Traces.{trace_at}
-use Rattle.qs_program.specs.Limits.{most_handlers}
-use Rattle.qs_graph.specs.Nodes.{GraphNode}
-use Rattle.qs_graph.specs.Steps.{limit}
-use Rattle.qs_graph.specs.Walk.{Spot, walk, Within}
+use Rattle.qs_program.specs.audit.Limits.{most_handlers}
+use Rattle.qs_graph.specs.audit.Nodes.{GraphNode}
+use Rattle.qs_graph.specs.audit.Steps.{limit}
+use Rattle.qs_graph.specs.audit.Walk.{Spot, walk}
+use Rattle.qs_graph.specs.Walk.{Within}
 use Rattle.qs_syncset.specs.SoundSynced.{IsSoundSynced}
-use Rattle.qs_chunk.specs.Batch.{Batch}
+use Rattle.qs_chunk.specs.audit.Batch.{Batch}
 use Rattle.qs_client.specs.run.Holdings.{HoldingsState, chunk_at}
 use Rattle.qs_client.specs.run.RunState.{RunState}
 use Rattle.qs_client.specs.run.Running.{IsInBlock, MakesAtMost}

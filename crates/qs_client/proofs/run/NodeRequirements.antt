@@ -4,8 +4,8 @@
 -- whose first node this is.
 use Rattle.std.proofs.Common.{◌≡◌, ℕ, zero, suc, ◌<◌, List, ℤ, IsSome, is_some, arith, subst}
 use Rattle.qs_objects.specs.declared.Request.{Request}
-use Rattle.qs_graph.specs.Nodes.{GraphNode}
-use Rattle.qs_graph.specs.Walk.{Spot, Calls, Queries, move, tree_of_move, walk}
+use Rattle.qs_graph.specs.audit.Nodes.{GraphNode}
+use Rattle.qs_graph.specs.audit.Walk.{Spot, Calls, Queries, move, tree_of_move, walk}
 use Rattle.qs_syncset.specs.SoundSynced.{IsSoundSynced}
 use Rattle.qs_client.specs.run.Holdings.{holding_at}
 use Rattle.qs_objects.specs.Traces.{trace_at}

@@ -3,8 +3,8 @@
 -- found, and of the nodes to which it leads.
 use Rattle.std.proofs.Common.{◌≡◌, ℕ, List, refl, ap, sym, ◌∙◌}
 use Rattle.qs_graph.specs.declared.node.Node.{Node}
-use Rattle.qs_graph.specs.Nodes.{GraphNode, place_at, first_target, second_target}
-use Rattle.qs_graph.specs.Walk.{Spot, Move, move, move_by}
+use Rattle.qs_graph.specs.audit.Nodes.{GraphNode, place_at, first_target, second_target}
+use Rattle.qs_graph.specs.audit.Walk.{Spot, Move, move, move_by}
 use Rattle.qs_graph.specs.declared.node.Node.TheVariants as nodes
 use Rattle.qs_client.specs.run.BetweenActs.{await_by}
 use Rattle.qs_client.specs.run.Running.{quiet_step, step_by}

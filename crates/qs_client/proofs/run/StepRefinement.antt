@@ -5,35 +5,36 @@
 -- `stops`, and ends since each step leaves one move less (`moves_fall`).
 use Rattle.std.proofs.Common.{◌≡◌, ℕ, zero, suc, ◌<◌, ◌≤◌, Bool, true, false, not, ◌==◌, ◌&&◌, if◌then◌else◌, List, [], ◌∷◌, ◌++◌, ℤ, Option, Some, None, is_some, length, get_or, refl, sym, ap, ◌∙◌, subst, arith, append-nil, append_assoc, ⊎_elim, length-append, length-set}
 use Rattle.std.proofs.lemmas.List.{get_or-set_same, get_or-set_other}
-use Rattle.qs_objects.specs.Journals.{HeldState, run_one}
-use Rattle.qs_objects.specs.Parts.{command_event}
+use Rattle.qs_objects.specs.audit.Journals.{HeldState, run_one}
+use Rattle.qs_objects.specs.audit.Parts.{command_event}
 use Rattle.qs_objects.specs.declared.held.Event.{Event}
 use Rattle.qs_objects.specs.declared.Request.{Request}
 use Rattle.qs_objects.specs.declared.held.Ticket.{Ticket}
 use Rattle.qs_objects.proofs.Choices.{eqb_self, apart_eqb, and_cases, num_cases}
-use Rattle.qs_meaning.specs.Solo.{put, event, value_of}
+use Rattle.qs_meaning.specs.audit.Solo.{put, event, value_of}
 use Rattle.qs_graph.specs.declared.node.Node.{Node}
 use Rattle.qs_graph.specs.declared.node.Action.TheVariants.{Assign, SetCount, Nothing}
 use Rattle.qs_graph.specs.declared.node.Choice.TheVariants.{If, Repeat}
 use Rattle.qs_graph.specs.WellFormed.{IsGraph, IsGraphNode, IsInRange}
-use Rattle.qs_graph.specs.Nodes.{GraphNode, place_at, first_target, second_target, exit}
-use Rattle.qs_graph.specs.Steps.{limit}
-use Rattle.qs_graph.specs.Synced.{Synced, Done, Call, Sync, Query}
-use Rattle.qs_graph.specs.Walk.{Spot, Move, Ends, Goes, Calls, Syncs, Queries, move, move_by, after_repeat, tree_of_move, walk, EachNext, Within}
+use Rattle.qs_graph.specs.audit.Nodes.{GraphNode, place_at, first_target, second_target, exit}
+use Rattle.qs_graph.specs.audit.Steps.{limit}
+use Rattle.qs_graph.specs.audit.Synced.{Synced, Done, Call, Sync, Query}
+use Rattle.qs_graph.specs.audit.Walk.{Spot, Move, Ends, Goes, Calls, Syncs, Queries, move, move_by, after_repeat, tree_of_move, walk}
+use Rattle.qs_graph.specs.Walk.{EachNext, Within}
 use Rattle.qs_graph.proofs.Saying.{walk_up}
 use Rattle.qs_graph.specs.declared.node.Node.TheVariants as nodes
 use Rattle.qs_syncset.specs.SoundSynced.{IsSoundSynced}
-use Rattle.qs_syncset.specs.Codes.{BlockCode}
-use Rattle.qs_chunk.specs.Batch.{Batch, batch}
-use Rattle.qs_client.specs.rules.Client.{Client, Settings, Settlement, settle, stop_at, with_event, runs, full}
+use Rattle.qs_syncset.specs.audit.Codes.{BlockCode}
+use Rattle.qs_chunk.specs.audit.Batch.{Batch, batch}
+use Rattle.qs_client.specs.audit.rules.Client.{Client, Settings, Settlement, settle, stop_at, with_event, runs, full}
 use Rattle.qs_client.specs.run.Holdings.{HoldingsState, holding_at, chunk_at, with_held, with_chunk, holding}
 use Rattle.qs_objects.proofs.TraceRows.{empty_after_note}
 use Rattle.qs_objects.specs.Traces.{TraceState, trace_state, trace_at, with_last_event, noted_at}
 use Rattle.qs_objects.proofs.Elements.{AllByRecursion-get_or}
-use Rattle.qs_program.specs.Limits.{most_handlers, most_objects}
+use Rattle.qs_program.specs.audit.Limits.{most_handlers, most_objects}
 use Rattle.qs_client.specs.run.ClientOfRun.{items_of, client_with, client_of_run, stage_of, stage_by, progress_after, progress_through, progress_at, HasSettled}
 use Rattle.qs_client.specs.run.BetweenActs.{IsStanding, HasSent}
-use Rattle.qs_client.specs.rules.Outgoings.{resume}
+use Rattle.qs_client.specs.audit.rules.Outgoings.{resume}
 use Rattle.qs_client.specs.run.Running.{IsInBlock, IsRunning, IsFull, IsStopped, IsLoud, IsOpen, IsSized, KeepsRows, MakesAtMost, go_to, call_by, call, query_by, query, sync, end_block, step_by, quiet_step}
 use Rattle.qs_client.specs.run.RunState.{RunState}
 use Rattle.qs_client.specs.declared.run.run.BlockContext.{BlockContext}
@@ -41,7 +42,7 @@ use Rattle.qs_client.specs.declared.run.stage.Stage.{Stage}
 use Rattle.qs_client.proofs.run.HoldingsAsFunctions.{held_put, items_put, holding_put, chunk_each}
 use Rattle.qs_client.proofs.rules.Puts.{put_same}
 use Rattle.qs_client.proofs.run.InBlock.{held_in_block, moved_in_block}
-use Rattle.qs_client.specs.rules.Client as clients
+use Rattle.qs_client.specs.audit.rules.Client as clients
 use Rattle.qs_client.specs.declared.rules.outgoing.Outgoing.TheVariants as outgoings
 use Rattle.qs_client.specs.declared.run.stage.Stage.TheVariants as stages
 

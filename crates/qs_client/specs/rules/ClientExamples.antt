@@ -1,14 +1,14 @@
 -- Acts of clients, computed from their definition.
 use Rattle.std.specs.Prelude.{◌≡◌, ℕ, true, false, [], ◌∷◌, pos}
-use Rattle.qs_objects.specs.Journals.{HeldState, run_one}
-use Rattle.qs_objects.specs.Parts.{command_event}
+use Rattle.qs_objects.specs.audit.Journals.{HeldState, run_one}
+use Rattle.qs_objects.specs.audit.Parts.{command_event}
 use Rattle.qs_objects.specs.declared.held.Ticket.{Ticket}
 use Rattle.qs_objects.specs.declared.Op.TheVariants.{Deposit, Balance}
 use Rattle.qs_objects.specs.declared.Request.{Request}
-use Rattle.qs_graph.specs.Synced.{Synced, Done, Call, Sync, Query}
-use Rattle.qs_chunk.specs.Batch.{batch}
+use Rattle.qs_graph.specs.audit.Synced.{Synced, Done, Call, Sync, Query}
+use Rattle.qs_chunk.specs.audit.Batch.{batch}
 use Rattle.qs_chunk.specs.declared.parcel.Parcel.TheVariants as parcels
-use Rattle.qs_client.specs.rules.Client.{Client, Settings, act_of, begin, first_client, take_object, after_parcel, take_chunk}
+use Rattle.qs_client.specs.audit.rules.Client.{Client, Settings, act_of, begin, first_client, take_object, after_parcel, take_chunk}
 use Rattle.qs_client.specs.declared.rules.act.Act.{Act}
 use Rattle.qs_client.specs.declared.rules.act.Act.TheVariants.{Reserve, Send, Await, NeedChunk}
 

@@ -4,8 +4,8 @@ use Rattle.std.specs.Prelude.{◌≡◌, ℕ, List, Some}
 use Rattle.qs_objects.specs.declared.held.Ticket.{Ticket}
 use Rattle.qs_chunk.specs.declared.parcel.Parcel.{Parcel}
 use Rattle.qs_chunk.specs.declared.parcel.Parcel.TheVariants as parcels
-use Rattle.qs_client.specs.rules.Client.{Client, Settings, act_of, set_chunk, set_held, after_parcel}
-use Rattle.qs_client.specs.rules.Outgoings.{after_send, without_act, outgoing_of}
+use Rattle.qs_client.specs.audit.rules.Client.{Client, Settings, act_of, set_chunk, set_held, after_parcel}
+use Rattle.qs_client.specs.audit.rules.Outgoings.{after_send, without_act, outgoing_of}
 use Rattle.qs_client.specs.declared.rules.act.Act.{Act}
 use Rattle.qs_client.specs.declared.rules.act.Act.TheVariants as acts
 

@@ -1,10 +1,11 @@
 -- What a run keeps before the client's first block, and what it keeps as a block begins.
 use Rattle.std.specs.Prelude.{List, length, replicate}
-use Rattle.qs_meaning.specs.Serial.{zeros}
-use Rattle.qs_graph.specs.Walk.{Spot, entry}
-use Rattle.qs_syncset.specs.Codes.{BlockCode}
+use Rattle.qs_meaning.specs.audit.Serial.{zeros}
+use Rattle.qs_graph.specs.audit.Walk.{Spot, entry}
+use Rattle.qs_syncset.specs.audit.Codes.{BlockCode}
 use Rattle.qs_client.specs.run.Holdings.{no_holdings}
-use Rattle.qs_client.specs.run.BlockSizes.{empty_rows, longest}
+use Rattle.qs_client.specs.audit.run.BlockSizes.{longest}
+use Rattle.qs_client.specs.run.BlockSizes.{empty_rows}
 use Rattle.qs_client.specs.run.RunState.{RunState}
 use Rattle.qs_client.specs.declared.run.stage.Stage.TheVariants as stages
 

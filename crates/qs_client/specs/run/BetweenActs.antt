@@ -2,14 +2,14 @@
 -- done was done, once an object came, or once an empty chunk came. The contracts of `after_send`, `take_object` and
 -- `take_chunk` say it by these.
 use Rattle.std.specs.Prelude.{ℕ, ◌≡◌, ◌<◌, ◌≤◌, ◌+◌, ◌-◌, nat_lt, if◌then◌else◌, List, length, None}
-use Rattle.qs_objects.specs.Journals.{HeldState}
+use Rattle.qs_objects.specs.audit.Journals.{HeldState}
 use Rattle.qs_objects.specs.declared.held.Ticket.{Ticket}
-use Rattle.qs_graph.specs.Nodes.{GraphNode}
-use Rattle.qs_graph.specs.Walk.{Move, Syncs, move}
-use Rattle.qs_syncset.specs.Codes.{BlockCode}
+use Rattle.qs_graph.specs.audit.Nodes.{GraphNode}
+use Rattle.qs_graph.specs.audit.Walk.{Move, Syncs, move}
+use Rattle.qs_syncset.specs.audit.Codes.{BlockCode}
 use Rattle.qs_client.specs.declared.rules.outgoing.Outgoing.{Outgoing}
-use Rattle.qs_client.specs.rules.Client.{Settings, Settlement, take_object, take_chunk}
-use Rattle.qs_client.specs.rules.Outgoings.{after_send}
+use Rattle.qs_client.specs.audit.rules.Client.{Settings, Settlement, take_object, take_chunk}
+use Rattle.qs_client.specs.audit.rules.Outgoings.{after_send}
 use Rattle.qs_client.specs.run.Holdings.{chunk_at}
 use Rattle.qs_objects.specs.Traces.{trace_at}
 use Rattle.qs_client.specs.run.ClientOfRun.{client_of_run, stage_of, progress_after, progress_at}

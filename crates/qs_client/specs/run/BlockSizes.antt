@@ -1,8 +1,8 @@
--- What the blocks of a code need: room for the traces, and a count for each repeat of the longest graph.
-use Rattle.std.specs.Prelude.{ℕ, zero, suc, ◌+◌, List, [], map, ◌∷◌, length, max}
-use Rattle.qs_syncset.specs.Codes.{BlockCode, load_at}
+-- Beside what the headline reaches (`audit/run/BlockSizes.antt`): what else contracts and proofs use.
+use Rattle.std.specs.Prelude.{ℕ, zero, suc, ◌+◌, List, map}
+use Rattle.qs_syncset.specs.audit.Codes.{BlockCode, load_at}
 use Rattle.qs_objects.specs.Traces.{TraceState, empty_trace}
-use Rattle.qs_program.specs.Limits.{most_objects}
+use Rattle.qs_program.specs.audit.Limits.{most_objects}
 
 -- the sum of f below n
 abbrev pub sum_below : ℕ → (ℕ → ℕ) → ℕ
@@ -16,8 +16,3 @@ room_for b = sum_below most_objects (load_at b)
 -- the traces before the first block
 abbrev pub empty_rows : List BlockCode → List TraceState
 empty_rows blocks = map empty_trace (map room_for blocks)
-
--- how many nodes the longest graph has
-abbrev pub longest : List BlockCode → ℕ
-longest [] = 0
-longest (b ∷ bs) = max (length b.graph) (longest bs)

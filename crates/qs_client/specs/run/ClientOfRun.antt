@@ -4,13 +4,13 @@ use Rattle.std.specs.Prelude.{◌≡◌, ℕ, suc, List, ◌++◌, length, drop,
 use Rattle.qs_objects.specs.declared.held.Event.{Event}
 use Rattle.qs_objects.specs.declared.held.Ticket.{Ticket}
 use Rattle.qs_objects.specs.declared.Request.{Request}
-use Rattle.qs_program.specs.Values.{Locals}
-use Rattle.qs_graph.specs.Nodes.{GraphNode}
-use Rattle.qs_graph.specs.Steps.{limit}
-use Rattle.qs_graph.specs.Synced.{Synced}
-use Rattle.qs_graph.specs.Walk.{walk}
-use Rattle.qs_chunk.specs.Batch.{Batch}
-use Rattle.qs_client.specs.rules.Client.{Client, Settings, Settlement, ClientStage, settle, between, runs, full, awaits, leaves}
+use Rattle.qs_program.specs.audit.Values.{Locals}
+use Rattle.qs_graph.specs.audit.Nodes.{GraphNode}
+use Rattle.qs_graph.specs.audit.Steps.{limit}
+use Rattle.qs_graph.specs.audit.Synced.{Synced}
+use Rattle.qs_graph.specs.audit.Walk.{walk}
+use Rattle.qs_chunk.specs.audit.Batch.{Batch}
+use Rattle.qs_client.specs.audit.rules.Client.{Client, Settings, Settlement, ClientStage, settle, between, runs, full, awaits, leaves}
 use Rattle.qs_client.specs.run.Running.{IsStopped, KeepsRows}
 use Rattle.qs_client.specs.run.Holdings.{HoldingsState, holding_at, chunk_at}
 use Rattle.qs_objects.specs.Traces.{trace_at}

@@ -1,9 +1,9 @@
 -- The holdings of a client: the objects that it holds and its open chunks, by the handlers' numbers.
 use Rattle.std.specs.Prelude.{ℕ, ◌==◌, Bool, is_some, List, [], ◌∷◌, ◌++◌, length, Option, None, replicate, slice_index_or, slice_set}
-use Rattle.qs_objects.specs.Journals.{HeldState}
+use Rattle.qs_objects.specs.audit.Journals.{HeldState}
 use Rattle.qs_objects.specs.declared.Request.{Request}
-use Rattle.qs_program.specs.Limits.{most_handlers}
-use Rattle.qs_chunk.specs.Batch.{Batch, batch}
+use Rattle.qs_program.specs.audit.Limits.{most_handlers}
+use Rattle.qs_chunk.specs.audit.Batch.{Batch, batch}
 
 -- for each of 8 handlers the object, where it is held, and the open chunk, where there is one
 pub record HoldingsState : Type 0 where

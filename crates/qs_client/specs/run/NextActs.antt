@@ -1,18 +1,18 @@
 -- The next act of a client, by what its run keeps: what the act carries, what is left, and what the contract of `act`
 -- says of both.
 use Rattle.std.specs.Prelude.{◌≡◌, ◌<◌, ℕ, Option, Some, None}
-use Rattle.qs_objects.specs.Journals.{HeldState}
+use Rattle.qs_objects.specs.audit.Journals.{HeldState}
 use Rattle.qs_objects.specs.declared.Request.{Request}
-use Rattle.qs_graph.specs.Walk.{Move, Calls, Syncs}
-use Rattle.qs_syncset.specs.Codes.{BlockCode}
-use Rattle.qs_chunk.specs.Batch.{Batch}
+use Rattle.qs_graph.specs.audit.Walk.{Move, Calls, Syncs}
+use Rattle.qs_syncset.specs.audit.Codes.{BlockCode}
+use Rattle.qs_chunk.specs.audit.Batch.{Batch}
 use Rattle.qs_chunk.specs.declared.parcel.Parcel.{Parcel}
 use Rattle.qs_chunk.specs.declared.parcel.Parcel.TheVariants as parcels
-use Rattle.qs_client.specs.rules.Client.{Settings, act_of}
+use Rattle.qs_client.specs.audit.rules.Client.{Settings, act_of}
 use Rattle.qs_client.specs.run.Holdings.{HoldingsState, holding_at, chunk_at, with_held, with_chunk}
 use Rattle.qs_client.specs.run.ClientOfRun.{client_of_run}
 use Rattle.qs_client.specs.run.BetweenActs.{IsOutgoingAt, IsStanding}
-use Rattle.qs_client.specs.rules.Outgoings.{without_act, outgoing_of}
+use Rattle.qs_client.specs.audit.rules.Outgoings.{without_act, outgoing_of}
 use Rattle.qs_client.specs.declared.rules.act.Act.{Act}
 use Rattle.qs_client.specs.declared.rules.act.Act.TheVariants.{Send, NeedChunk, Finished}
 use Rattle.qs_client.specs.run.RunState.{RunState}

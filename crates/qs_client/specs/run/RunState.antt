@@ -1,6 +1,6 @@
 -- What a run keeps, as contracts see it.
 use Rattle.std.specs.Prelude.{List}
-use Rattle.qs_graph.specs.Walk.{Spot}
+use Rattle.qs_graph.specs.audit.Walk.{Spot}
 use Rattle.qs_objects.specs.Traces.{TraceState}
 use Rattle.qs_client.specs.run.Holdings.{HoldingsState}
 use Rattle.qs_client.specs.declared.run.stage.Stage.{Stage}

@@ -2,20 +2,21 @@
 -- of the client at each stage. The rules have the names of `Client.antt` and of the code: `call`, `query`, `sync`,
 -- `end_block`.
 use Rattle.std.specs.Prelude.{◌≡◌, ◌<◌, ◌≤◌, ℕ, ◌-◌, ◌==◌, ℤ, Bool, true, false, not, ◌&&◌, if◌then◌else◌, is_some, List, [], ◌∷◌, ◌++◌, length, Option, Some, None}
-use Rattle.qs_objects.specs.Journals.{HeldState, run_one}
-use Rattle.qs_objects.specs.Parts.{command_event}
+use Rattle.qs_objects.specs.audit.Journals.{HeldState, run_one}
+use Rattle.qs_objects.specs.audit.Parts.{command_event}
 use Rattle.qs_objects.specs.declared.held.Ticket.{Ticket}
 use Rattle.qs_objects.specs.declared.Request.{Request}
-use Rattle.qs_meaning.specs.Solo.{event, put, value_of}
-use Rattle.qs_graph.specs.Nodes.{GraphNode}
-use Rattle.qs_graph.specs.Steps.{limit}
-use Rattle.qs_graph.specs.Synced.{Synced, Done, Call, Sync, Query}
-use Rattle.qs_graph.specs.Walk.{Spot, Move, Ends, Goes, Calls, Syncs, Queries, move, walk, Within}
+use Rattle.qs_meaning.specs.audit.Solo.{event, put, value_of}
+use Rattle.qs_graph.specs.audit.Nodes.{GraphNode}
+use Rattle.qs_graph.specs.audit.Steps.{limit}
+use Rattle.qs_graph.specs.audit.Synced.{Synced, Done, Call, Sync, Query}
+use Rattle.qs_graph.specs.audit.Walk.{Spot, Move, Ends, Goes, Calls, Syncs, Queries, move, walk}
+use Rattle.qs_graph.specs.Walk.{Within}
 use Rattle.qs_syncset.specs.SoundSynced.{IsSoundSynced}
-use Rattle.qs_chunk.specs.Batch.{Batch, batch}
+use Rattle.qs_chunk.specs.audit.Batch.{Batch, batch}
 use Rattle.qs_client.specs.run.Holdings.{holding_at, holding, chunk_at, with_held, with_chunk}
 use Rattle.qs_objects.specs.Traces.{AreEmptyAfter, TraceState, trace_at, noted_at}
-use Rattle.qs_program.specs.Limits.{most_handlers}
+use Rattle.qs_program.specs.audit.Limits.{most_handlers}
 use Rattle.qs_client.specs.declared.run.stage.Stage.{Stage}
 use Rattle.qs_client.specs.run.RunState.{RunState}
 use Rattle.qs_client.specs.declared.run.run.BlockContext.{BlockContext}

@@ -1,7 +1,7 @@
 //! What a client does next.
 
 ghost use Rattle.std.specs.Prelude.{◌≡◌};
-ghost use Rattle.qs_client.specs.rules.Outgoings.{outgoing_of};
+ghost use Rattle.qs_client.specs.audit.rules.Outgoings.{outgoing_of};
 
 use crate::rules::outgoing::Outgoing;
 use qs_chunk::Parcel;

@@ -1,7 +1,7 @@
 //! What a client's last act gave out.
 
 ghost use Rattle.std.specs.Prelude.{◌≡◌};
-ghost use Rattle.qs_client.specs.rules.Outgoings.{count_sync};
+ghost use Rattle.qs_client.specs.audit.rules.Outgoings.{count_sync};
 
 /// What the last act gave out and is still to be confirmed as sent: nothing, an object or a chunk, a Sync to this
 /// handler, or an End.

@@ -1,12 +1,12 @@
 //! The next act of a client, put where another act lay: what an act carries is large, and moves once.
 
 ghost use Rattle.std.specs.Prelude.{◌≡◌, ◌<◌, ℕ, None, is_some, true, false, length};
-ghost use Rattle.qs_program.specs.Limits.{most_handlers};
+ghost use Rattle.qs_program.specs.audit.Limits.{most_handlers};
 ghost use Rattle.qs_chunk.specs.declared.parcel.Parcel.TheVariants as parcels;
-ghost use Rattle.qs_graph.specs.Walk.{move};
-ghost use Rattle.qs_syncset.specs.Codes.{code_at};
+ghost use Rattle.qs_graph.specs.audit.Walk.{move};
+ghost use Rattle.qs_syncset.specs.audit.Codes.{code_at};
 ghost use Rattle.qs_client.specs.run.NextActs.{HasActed, IsInside, act_by, clear, send_full, holdings_by, with_holdings, without};
-ghost use Rattle.qs_client.specs.rules.Client.{Settings};
+ghost use Rattle.qs_client.specs.audit.rules.Client.{Settings};
 ghost use Rattle.qs_client.specs.run.Holdings.{chunk_at, holding_at, with_chunk, with_held};
 ghost use Rattle.qs_client.specs.run.Running.{IsLoud};
 ghost use Rattle.qs_client.specs.run.BetweenActs.{IsStanding};

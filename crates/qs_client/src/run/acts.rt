@@ -1,10 +1,10 @@
 //! The next act of a client in a block, and what comes to it.
 
 ghost use Rattle.std.specs.Prelude.{◌≡◌, ◌<◌, [], ℕ, length};
-ghost use Rattle.qs_chunk.specs.Batch.{batch};
-ghost use Rattle.qs_syncset.specs.Codes.{code_at};
+ghost use Rattle.qs_chunk.specs.audit.Batch.{batch};
+ghost use Rattle.qs_syncset.specs.audit.Codes.{code_at};
 ghost use Rattle.qs_client.specs.run.NextActs.{Wants};
-ghost use Rattle.qs_client.specs.rules.Client.{Settings};
+ghost use Rattle.qs_client.specs.audit.rules.Client.{Settings};
 ghost use Rattle.qs_client.specs.run.BetweenActs.{HasGot, HasTaken};
 
 use crate::rules::Act;

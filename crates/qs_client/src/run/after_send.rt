@@ -1,8 +1,8 @@
 //! What a client in a block does once a parcel was sent.
 
 ghost use Rattle.std.specs.Prelude.{◌≡◌, ◌<◌, ℕ, IsTrue, List, false, length};
-ghost use Rattle.qs_syncset.specs.Codes.{code_at};
-ghost use Rattle.qs_client.specs.rules.Client.{ClientStage, Settings};
+ghost use Rattle.qs_syncset.specs.audit.Codes.{code_at};
+ghost use Rattle.qs_client.specs.audit.rules.Client.{ClientStage, Settings};
 ghost use Rattle.qs_client.specs.run.ClientOfRun.{HasSettled};
 ghost use Rattle.qs_client.specs.run.BetweenActs.{HasSent, IsOutgoingAt, IsStanding, leave_next, await_object};
 ghost use Rattle.qs_client.specs.run.Running.{IsRunning, quiet_step};

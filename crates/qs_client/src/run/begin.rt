@@ -1,12 +1,12 @@
 //! All the memory of a client, and the beginning of a block.
 
 ghost use Rattle.std.specs.Prelude.{◌≡◌, ◌<◌, ◌≤◌, ◌*◌, ℕ, IfOk, IsErr, length, replicate};
-ghost use Rattle.qs_program.specs.Limits.{most_handlers, most_requests};
-ghost use Rattle.qs_syncset.specs.Codes.{code_at};
+ghost use Rattle.qs_program.specs.audit.Limits.{most_handlers, most_requests};
+ghost use Rattle.qs_syncset.specs.audit.Codes.{code_at};
 ghost use Rattle.qs_client.specs.run.Beginning.{at_beginning, fresh_run};
-ghost use Rattle.qs_client.specs.rules.Client.{ClientStage, Settings};
+ghost use Rattle.qs_client.specs.audit.rules.Client.{ClientStage, Settings};
 ghost use Rattle.qs_client.specs.run.BlockSizes.{empty_rows, room_for};
-ghost use Rattle.qs_client.specs.run.BlockSizes.{longest};
+ghost use Rattle.qs_client.specs.audit.run.BlockSizes.{longest};
 ghost use Rattle.qs_client.specs.run.ClientOfRun.{HasSettled};
 ghost use Rattle.qs_client.specs.run.Running.{IsRunning};
 

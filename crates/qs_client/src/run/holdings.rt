@@ -1,10 +1,10 @@
 //! The objects that a client holds, and its open chunks.
 
 ghost use Rattle.std.specs.Prelude.{◌≡◌, ◌<◌, ◌&&◌, IsSome, None, Some, is_some, length, not, option_copied};
-ghost use Rattle.qs_objects.specs.Journals.{HeldState, run_one};
+ghost use Rattle.qs_objects.specs.audit.Journals.{HeldState, run_one};
 ghost use Rattle.qs_objects.specs.declared.Request.{Request};
-ghost use Rattle.qs_chunk.specs.Batch.{Batch};
-ghost use Rattle.qs_program.specs.Limits.{most_handlers};
+ghost use Rattle.qs_chunk.specs.audit.Batch.{Batch};
+ghost use Rattle.qs_program.specs.audit.Limits.{most_handlers};
 ghost use Rattle.qs_client.specs.run.Holdings.{holding_at, chunk_at, with_held, with_chunk, with_request, is_full, no_holdings};
 
 use qs_chunk::Chunk;
@@ -27,7 +27,7 @@ impl Drop for Holdings {
 
 impl Model for Holdings {
     ghost use Rattle.std.specs.Prelude.{◌≡◌, length};
-    ghost use Rattle.qs_program.specs.Limits.{most_handlers};
+    ghost use Rattle.qs_program.specs.audit.Limits.{most_handlers};
     ghost use Rattle.qs_client.specs.run.Holdings.{HoldingsState};
 
     ghost Value = { HoldingsState };

@@ -1,8 +1,8 @@
 //! The position of a client in the graph of a block.
 
 ghost use Rattle.std.specs.Prelude.{◌≡◌, ◌<◌, ◌≤◌, ℕ, if◌then◌else◌, length};
-ghost use Rattle.qs_program.specs.Values.{request_of};
-ghost use Rattle.qs_graph.specs.Walk.{after_local, at_node, after_branch, with_value};
+ghost use Rattle.qs_program.specs.audit.Values.{request_of};
+ghost use Rattle.qs_graph.specs.audit.Walk.{after_local, at_node, after_branch, with_value};
 ghost use Rattle.qs_client.specs.run.Beginning.{restart};
 
 use qs_graph::{Action, Choice};
@@ -19,7 +19,7 @@ pub struct Position {
 }
 
 impl Model for Position {
-    ghost use Rattle.qs_graph.specs.Walk.{Spot};
+    ghost use Rattle.qs_graph.specs.audit.Walk.{Spot};
 
     ghost Value = { Spot };
 

@@ -1,13 +1,13 @@
 //! The run of a client through its blocks, and its quiet work within a block: what it does to its own values.
 
 ghost use Rattle.std.specs.Prelude.{◌≡◌, ◌<◌, ◌≤◌, ℕ, IsSome, length, option_copied};
-ghost use Rattle.qs_program.specs.Values.{request_of};
-ghost use Rattle.qs_graph.specs.Walk.{at_node, with_value};
+ghost use Rattle.qs_program.specs.audit.Values.{request_of};
+ghost use Rattle.qs_graph.specs.audit.Walk.{at_node, with_value};
 ghost use Rattle.qs_client.specs.run.Holdings.{chunk_at, holding_at};
 ghost use Rattle.qs_client.specs.run.Running.{IsOpen, IsRunning, query, call, end_block, quiet_step, sync};
 ghost use Rattle.qs_objects.specs.Traces.{AreEmptyAfter, trace_at};
-ghost use Rattle.qs_program.specs.Limits.{most_handlers, most_objects};
-ghost use Rattle.qs_client.specs.rules.Client.{Settings, ClientStage};
+ghost use Rattle.qs_program.specs.audit.Limits.{most_handlers, most_objects};
+ghost use Rattle.qs_client.specs.audit.rules.Client.{Settings, ClientStage};
 ghost use Rattle.qs_client.specs.run.ClientOfRun.{HasSettled};
 ghost use Rattle.qs_client.specs.declared.run.stage.Stage.TheVariants as stages;
 

@@ -2,17 +2,18 @@
 use Rattle.std.proofs.Common.{◌≡◌, ℕ, ◌<◌, ◌∷◌, ◌++◌, List, [], true, nat_lt, Some, None, length, get_or, refl, sym, ap, subst, ◌∙◌, add-zero, append-nil}
 use Rattle.std.proofs.Math.ListN.{set}
 use Rattle.std.proofs.lemmas.List.{set-get_or}
-use Rattle.qs_objects.specs.Journals.{HeldState}
+use Rattle.qs_objects.specs.audit.Journals.{HeldState}
 use Rattle.qs_objects.specs.declared.held.Event.{Event}
 use Rattle.qs_objects.specs.declared.held.Ticket.{Ticket}
 use Rattle.qs_objects.specs.declared.Request.{Request}
-use Rattle.qs_syncset.specs.Codes.{ClientCode}
-use Rattle.qs_chunk.specs.Batch.{Batch}
+use Rattle.qs_syncset.specs.audit.Codes.{ClientCode}
+use Rattle.qs_chunk.specs.audit.Batch.{Batch}
 use Rattle.qs_chunk.specs.declared.parcel.Parcel.{Parcel}
-use Rattle.qs_client.specs.rules.Client.{Settlement}
-use Rattle.qs_sync_counts.specs.SyncRows.{fresh_rows}
-use Rattle.qs_chunk.specs.Limits.{lane_room}
-use Rattle.qs_client.specs.ClientModel.{Asks, ClientModel, lists_of_code, act_due, mind_after_chunk, comes_to, count_syncs, finish, extend, mind_after_object, hands_out, next_act, next_mind, settings_of, with_act_again, mind_after_begin, enters, fresh_mind, locals_at}
+use Rattle.qs_client.specs.audit.rules.Client.{Settlement}
+use Rattle.qs_sync_counts.specs.audit.SyncRows.{fresh_rows}
+use Rattle.qs_chunk.specs.audit.Limits.{lane_room}
+use Rattle.qs_client.specs.audit.ClientModel.{ClientModel, lists_of_code, act_due, mind_after_chunk, comes_to, count_syncs, finish, extend, mind_after_object, hands_out, next_act, next_mind, settings_of, mind_after_begin, enters, fresh_mind, locals_at}
+use Rattle.qs_client.specs.ClientModel.{Asks, with_act_again}
 use Rattle.qs_client.specs.MindState.{MindState, mind_of}
 use Rattle.qs_client.specs.declared.rules.act.Act.{Act}
 use Rattle.qs_client.proofs.rules.CarriedValues.{acts_lose_nothing}

@@ -4,16 +4,16 @@
 -- object or a chunk.
 use Rattle.std.proofs.Common.{◌≡◌, ◌<◌, ◌≤◌, ℕ, zero, suc, ◌*◌, Bool, true, false, nat_lt, if◌then◌else◌, List, [], ◌∷◌, length, Option, Some, None, refl, sym, ap, subst, ◌∙◌, arith}
 use Rattle.std.specs.List.{AllByRecursion}
-use Rattle.qs_objects.specs.Journals.{HeldState}
+use Rattle.qs_objects.specs.audit.Journals.{HeldState}
 use Rattle.qs_objects.specs.declared.Request.{Request}
-use Rattle.qs_graph.specs.Steps.{limit}
-use Rattle.qs_chunk.specs.Batch.{Batch, batch}
+use Rattle.qs_graph.specs.audit.Steps.{limit}
+use Rattle.qs_chunk.specs.audit.Batch.{Batch, batch}
 use Rattle.qs_chunk.specs.declared.parcel.Parcel.TheVariants as parcels
-use Rattle.qs_chunk.specs.Limits.{lane_room}
-use Rattle.qs_client.specs.rules.Client.{Client, ClientStage, act_at, between, runs, full, awaits, leaves}
-use Rattle.qs_client.specs.ClientModel.{ClientModel, act_due, hands_out, is_between, settings_of}
+use Rattle.qs_chunk.specs.audit.Limits.{lane_room}
+use Rattle.qs_client.specs.audit.rules.Client.{Client, ClientStage, act_at, between, runs, full, awaits, leaves}
+use Rattle.qs_client.specs.audit.ClientModel.{ClientModel, act_due, hands_out, is_between, settings_of}
 use Rattle.qs_client.specs.MindState.{IsMind, mind_of}
-use Rattle.qs_client.specs.rules.Outgoings.{without_act}
+use Rattle.qs_client.specs.audit.rules.Outgoings.{without_act}
 use Rattle.qs_client.specs.declared.rules.act.Act.{Act}
 use Rattle.qs_client.specs.declared.rules.act.Act.TheVariants as acts
 use Rattle.qs_core.specs.parts.CoreClients.{CoreClientState, IsCoreClient, lane_step_of_client, takes_empty, takes_object, turns_to, whole_of}

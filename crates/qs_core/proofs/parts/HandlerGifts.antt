@@ -1,9 +1,10 @@
 -- A handler that gives its object or an empty chunk takes a parcel next, and its mind stays as it is.
 use Rattle.std.proofs.Common.{◌≡◌, ℕ, refl}
-use Rattle.qs_objects.specs.Journals.{HeldState}
+use Rattle.qs_objects.specs.audit.Journals.{HeldState}
 use Rattle.qs_objects.specs.declared.Request.{Request}
-use Rattle.qs_chunk.specs.Batch.{Batch}
-use Rattle.qs_handler.specs.Handler.{Handler, free, serves, spares, gives, away, closed, act_of, gave, with_act}
+use Rattle.qs_chunk.specs.audit.Batch.{Batch}
+use Rattle.qs_handler.specs.audit.Handler.{Handler, free, serves, spares, gives, away, closed, act_of, gave}
+use Rattle.qs_handler.specs.Handler.{with_act}
 use Rattle.qs_handler.specs.declared.mind.Act.{Act}
 use Rattle.qs_handler.specs.declared.mind.Act.TheVariants as acts
 

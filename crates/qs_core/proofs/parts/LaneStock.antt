@@ -3,11 +3,11 @@
 -- act: only one that gives a chunk back adds to them, and that chunk is empty and of the size.
 use Rattle.std.proofs.Common.{◌≡◌, ℕ, Bool, true, false, nat_lt, List, [], ◌∷◌, ◌++◌, length, Option, Some, None, refl, ap, subst}
 use Rattle.std.specs.List.{AllByRecursion}
-use Rattle.qs_objects.specs.Journals.{HeldState}
+use Rattle.qs_objects.specs.audit.Journals.{HeldState}
 use Rattle.qs_objects.specs.declared.Request.{Request}
-use Rattle.qs_chunk.specs.Batch.{Batch, batch}
+use Rattle.qs_chunk.specs.audit.Batch.{Batch, batch}
 use Rattle.qs_chunk.specs.declared.parcel.Parcel.{Parcel}
-use Rattle.qs_handler.specs.Handler.{Handler, accept_parcel}
+use Rattle.qs_handler.specs.audit.Handler.{Handler, accept_parcel}
 use Rattle.qs_handler.specs.declared.mind.Act.{Act}
 use Rattle.qs_handler.specs.declared.mind.Act.TheVariants as acts
 use Rattle.qs_core.specs.parts.CoreHandlers.{beside, gives_up, lane_step_of_handler, takes_first, turns_to}

@@ -3,18 +3,18 @@
 -- of the program is in its list, and an object is where its handler's state says, by cases on that state.
 use Rattle.std.proofs.Common.{◌≡◌, ◌<◌, ℕ, zero, suc, ◌+◌, Bool, ◌&&◌, [], ◌∷◌, length, map, get_or, sum_by, nat_eq, Some, IsSome, refl, ap, sym, subst, ◌∙◌, arith}
 use Rattle.std.specs.List.{range_with_len}
-use Rattle.qs_objects.specs.Journals.{HeldState}
+use Rattle.qs_objects.specs.audit.Journals.{HeldState}
 use Rattle.qs_objects.specs.declared.Request.{Request}
 use Rattle.qs_objects.proofs.Elements.{AllByRecursion-get_or}
 use Rattle.qs_program.specs.Sound.{IsSound}
-use Rattle.qs_chunk.specs.Batch.{Batch}
-use Rattle.qs_handler.specs.Handler.{Handler, free, serves, spares, gives, away, closed, act_of, is_free}
+use Rattle.qs_chunk.specs.audit.Batch.{Batch}
+use Rattle.qs_handler.specs.audit.Handler.{Handler, free, serves, spares, gives, away, closed, act_of, is_free}
 use Rattle.qs_handler.specs.declared.mind.Act.{Act}
 use Rattle.qs_handler.specs.declared.mind.Act.TheVariants as acts
-use Rattle.qs_client.specs.ClientModel.{is_between}
-use Rattle.qs_played.specs.JournalRooms.{fresh_held}
+use Rattle.qs_client.specs.audit.ClientModel.{is_between}
+use Rattle.qs_played.specs.audit.JournalRooms.{fresh_held}
 use Rattle.qs_core_laws.specs.CoreReached.{IsBegun, ReachedCore}
-use Rattle.qs_core_laws.specs.CoreSchedule.{all_of, core_played, found_by, held_now, held_or_none, is_done, is_finished, is_idle}
+use Rattle.qs_core_laws.specs.audit.CoreSchedule.{all_of, core_played, found_by, held_now, held_or_none, is_done, is_finished, is_idle}
 use Rattle.qs_core.specs.parts.CoreHandlers.{is_waiting, CoreHandlerState, handler_with_act, no_core_handler, core_handler_at, turns_to}
 use Rattle.qs_core.specs.parts.LaneStates.{lane_at}
 use Rattle.qs_core.specs.shown.CoreShown.{AreBegunBy, AreShowable, AreSomewhere, HaveLanes, TurnTo, are_clear, core_in, core_held_at, is_clear, is_through, core_object_at, object_with, shown_by}

@@ -3,15 +3,16 @@
 -- are few enough for `syncs_of` to add up. The proofs go by cases on the handler's state.
 use Rattle.std.proofs.Common.{◌≡◌, ◌<◌, ◌≤◌, ℕ, ◌+◌, Bool, true, false, ◌&&◌, List, [], ◌∷◌, ◌++◌, length, Some, None, refl, ap, sym, ◌∙◌, arith, add-one, zero-add}
 use Rattle.std.specs.List.{range_with_len}
-use Rattle.qs_objects.specs.Journals.{HeldState}
-use Rattle.qs_graph.specs.Steps.{limit}
-use Rattle.qs_chunk.specs.LaneParts.{away_at}
-use Rattle.qs_handler.specs.Handler.{Handler, free, serves, spares, gives, away, closed, act_of, held_of}
+use Rattle.qs_objects.specs.audit.Journals.{HeldState}
+use Rattle.qs_graph.specs.audit.Steps.{limit}
+use Rattle.qs_chunk.specs.audit.LaneParts.{away_at}
+use Rattle.qs_handler.specs.audit.Handler.{Handler, free, serves, spares, gives, away, closed, act_of}
+use Rattle.qs_handler.specs.Handler.{held_of}
 use Rattle.qs_client.proofs.run.CodeBounds.{few_blocks}
 use Rattle.qs_client.specs.MindState.{IsMind, mind_of}
 use Rattle.qs_played.proofs.Lists.{range_more}
-use Rattle.qs_core_laws.specs.Core.{Core}
-use Rattle.qs_core_laws.specs.CoreSchedule.{all_of, found_by}
+use Rattle.qs_core_laws.specs.audit.Core.{Core}
+use Rattle.qs_core_laws.specs.audit.CoreSchedule.{all_of, found_by}
 use Rattle.qs_core.specs.parts.CoreClients.{CoreClientState, IsCoreClient, whole_of}
 use Rattle.qs_core.specs.parts.CoreHandlers.{CoreHandlerState, IsCoreHandler, handler_with_act, turns_to}
 use Rattle.qs_core.specs.parts.LaneStates.{lane_at}

@@ -3,29 +3,29 @@
 -- machine is made of functions of numbers, so the proof compares it field by field, by cases on the act that is due.
 use Rattle.std.proofs.Common.{◌≡◌, ◌<◌, ℕ, Bool, true, false, nat_lt, List, [], ◌∷◌, ◌++◌, length, get_or, refl, sym, ap, subst, ◌∙◌, arith, Option, Some, None, add-zero}
 use Rattle.std.proofs.Math.ListN.{set}
-use Rattle.qs_objects.specs.Journals.{HeldState}
+use Rattle.qs_objects.specs.audit.Journals.{HeldState}
 use Rattle.qs_objects.specs.declared.held.Event.{Event}
 use Rattle.qs_objects.specs.declared.held.Ticket.{Ticket}
 use Rattle.qs_objects.specs.declared.Request.{Request}
-use Rattle.qs_meaning.specs.Solo.{put}
-use Rattle.qs_program.specs.Values.{Locals}
-use Rattle.qs_syncset.specs.Codes.{ClientCode, code_at}
-use Rattle.qs_sync_counts.specs.SyncRows.{with_sync}
+use Rattle.qs_meaning.specs.audit.Solo.{put}
+use Rattle.qs_program.specs.audit.Values.{Locals}
+use Rattle.qs_syncset.specs.audit.Codes.{ClientCode, code_at}
+use Rattle.qs_sync_counts.specs.audit.SyncRows.{with_sync}
 use Rattle.qs_sync_counts.specs.declared.sync_counts.SyncCount.{SyncCount}
-use Rattle.qs_chunk.specs.Batch.{Batch}
+use Rattle.qs_chunk.specs.audit.Batch.{Batch}
 use Rattle.qs_chunk.specs.declared.parcel.Parcel.{Parcel}
 use Rattle.qs_chunk.specs.declared.parcel.Parcel.TheVariants as parcels
-use Rattle.qs_chunk.specs.Limits.{lane_room}
-use Rattle.qs_handler.specs.Handler.{Handler}
-use Rattle.qs_client.specs.rules.Client.{Settlement, take_object, after_parcel, take_chunk}
-use Rattle.qs_client.specs.ClientModel.{ClientModel, act_due, mind_after_chunk, finish, extend, mind_after_object, hands_out, settings_of}
-use Rattle.qs_client.specs.rules.Outgoings.{after_send, without_act, outgoing_of}
+use Rattle.qs_chunk.specs.audit.Limits.{lane_room}
+use Rattle.qs_handler.specs.audit.Handler.{Handler}
+use Rattle.qs_client.specs.audit.rules.Client.{Settlement, take_object, after_parcel, take_chunk}
+use Rattle.qs_client.specs.audit.ClientModel.{ClientModel, act_due, mind_after_chunk, finish, extend, mind_after_object, hands_out, settings_of}
+use Rattle.qs_client.specs.audit.rules.Outgoings.{after_send, without_act, outgoing_of}
 use Rattle.qs_client.specs.declared.rules.act.Act.{Act}
 use Rattle.qs_client.proofs.rules.Puts.{put_same, put_set_at}
 use Rattle.qs_client.specs.rules.ClientLaws.{SendsAreParted}
 use Rattle.qs_client.specs.declared.rules.act.Act.TheVariants as acts
 use Rattle.qs_played.specs.declared.schedule.actor.Actor.TheVariants as actor
-use Rattle.qs_core_laws.specs.Core.{Core, core_step, current, after_act, lies}
+use Rattle.qs_core_laws.specs.audit.Core.{Core, core_step, current, after_act, lies}
 use Rattle.qs_core.specs.parts.CoreClients.{lane_step_of_client, turns_to}
 use Rattle.qs_core.specs.parts.LaneStates.{LaneState, lane_at, with_down}
 use Rattle.qs_core.specs.parts.LaneStates as lanes

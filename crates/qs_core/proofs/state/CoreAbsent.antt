@@ -4,7 +4,7 @@
 use Rattle.std.proofs.Common.{◌≡◌, ◌≤◌, ℕ, length, None, refl, sym, ap, subst, ◌∙◌, arith}
 use Rattle.qs_played.specs.declared.schedule.actor.Actor.{Actor}
 use Rattle.qs_played.specs.declared.schedule.actor.Actor.TheVariants as actor
-use Rattle.qs_core_laws.specs.Core.{core_step}
+use Rattle.qs_core_laws.specs.audit.Core.{core_step}
 use Rattle.qs_core_laws.specs.CoreReached.{ReachedCore}
 use Rattle.qs_core.specs.state.CoreState.{CoreKeeps, CoreState, IsCoreState, codes_of, core_of}
 

@@ -7,31 +7,33 @@ use Rattle.std.specs.List.{AllByRecursion}
 use Rattle.std.proofs.Math.ListN.{set}
 use Rattle.std.proofs.Math.Path.{fun_ext}
 use Rattle.std.proofs.lemmas.List.{length-append, length-set}
-use Rattle.qs_objects.specs.Journals.{HeldState}
+use Rattle.qs_objects.specs.audit.Journals.{HeldState}
 use Rattle.qs_objects.specs.declared.held.Ticket.{Ticket}
 use Rattle.qs_objects.specs.declared.Request.{Request}
 use Rattle.qs_objects.specs.declared.held.Next.TheVariants as nexts
 use Rattle.qs_objects.proofs.Elements.{AllByRecursion-get_or}
-use Rattle.qs_program.specs.Program.{block_at, blocks_of}
-use Rattle.qs_meaning.specs.Solo.{put}
-use Rattle.qs_program.specs.Sound.{IsSound, IsSoundBlock, is_in}
-use Rattle.qs_program.specs.Values.{Locals}
+use Rattle.qs_program.specs.audit.Program.{block_at, blocks_of}
+use Rattle.qs_meaning.specs.audit.Solo.{put}
+use Rattle.qs_program.specs.audit.Sound.{is_in}
+use Rattle.qs_program.specs.Sound.{IsSound, IsSoundBlock}
+use Rattle.qs_program.specs.audit.Values.{Locals}
 use Rattle.qs_program.proofs.Bounds.{sound_block}
-use Rattle.qs_graph.specs.Synced.{Done, Call, Sync, Query}
-use Rattle.qs_syncset.specs.Codes.{ClientCode, IsCodeOf, code_at, AreCodes}
+use Rattle.qs_graph.specs.audit.Synced.{Done, Call, Sync, Query}
+use Rattle.qs_syncset.specs.audit.Codes.{ClientCode, IsCodeOf, code_at, AreCodes}
 use Rattle.qs_chunk.specs.declared.parcel.Parcel.TheVariants as parcels
-use Rattle.qs_handler.specs.Handler.{Handler, act_of, accept_next, serving}
+use Rattle.qs_handler.specs.audit.Handler.{Handler, act_of, accept_next}
+use Rattle.qs_handler.specs.Handler.{serving}
 use Rattle.qs_handler.proofs.HandlerActs.{acts_lose_nothing}
 use Rattle.qs_handler.specs.declared.mind.Act.TheVariants as acts
-use Rattle.qs_client.specs.rules.Client.{ClientStage, act_at, between, runs, full, awaits, leaves, call_act, clear}
-use Rattle.qs_client.specs.ClientModel.{ClientModel, act_due, mind_after_begin, mind_after_begin_with, locals_at, settings_of}
+use Rattle.qs_client.specs.audit.rules.Client.{ClientStage, act_at, between, runs, full, awaits, leaves, call_act, clear}
+use Rattle.qs_client.specs.audit.ClientModel.{ClientModel, act_due, mind_after_begin, mind_after_begin_with, locals_at, settings_of}
 use Rattle.qs_client.specs.MindState.{IsMind, mind_of}
 use Rattle.qs_client.specs.declared.rules.act.Act.{Act}
 use Rattle.qs_client.specs.declared.rules.act.Act.TheVariants as wants
-use Rattle.qs_played.specs.Played.{ticket}
+use Rattle.qs_played.specs.audit.Played.{ticket}
 use Rattle.qs_played.specs.declared.schedule.actor.Actor.{Actor}
 use Rattle.qs_played.specs.declared.schedule.actor.Actor.TheVariants as actor
-use Rattle.qs_core_laws.specs.Core.{Core, core_step}
+use Rattle.qs_core_laws.specs.audit.Core.{Core, core_step}
 use Rattle.qs_core_laws.specs.CoreReached.{CoreStands, IsBegun, ReachedCore}
 use Rattle.qs_core_laws.specs.CoreSchedule.{before_it}
 use Rattle.qs_core.specs.parts.CoreClients.{AreStocked, CoreClientState, IsCoreClient, whole_of}

@@ -8,9 +8,9 @@ use Rattle.std.proofs.lemmas.List.{length-set, get_or-set_other}
 use Rattle.std.proofs.lemmas.Map.Keys.{IsDistinct-head, IsDistinct-tail}
 use Rattle.qs_objects.specs.declared.held.Ticket.{Ticket}
 use Rattle.qs_objects.proofs.Elements.{AllByRecursion-get_or}
-use Rattle.qs_program.specs.Program.{ProgramShape}
-use Rattle.qs_meaning.specs.Solo.{put}
-use Rattle.qs_program.specs.Sound.{is_in}
+use Rattle.qs_program.specs.audit.Program.{ProgramShape}
+use Rattle.qs_meaning.specs.audit.Solo.{put}
+use Rattle.qs_program.specs.audit.Sound.{is_in}
 use Rattle.qs_client.proofs.rules.Puts.{put_same}
 use Rattle.qs_played.proofs.Lists.{sum_by-range_more}
 use Rattle.qs_core.specs.parts.CoreHandlers.{CanEnterAll, CoreHandlerState, with_ticket, with_ticket_at_all, with_ticket_at, handler_with_act, no_core_handler, core_handler_at}

@@ -5,10 +5,10 @@ use Rattle.std.proofs.Common.{◌≡◌, ◌<◌, ℕ, Bool, true, false, if◌t
 use Rattle.std.proofs.Math.ListN.{set}
 use Rattle.std.proofs.Math.Path.{fun_ext}
 use Rattle.qs_objects.specs.declared.held.Ticket.{Ticket}
-use Rattle.qs_meaning.specs.Solo.{put}
+use Rattle.qs_meaning.specs.audit.Solo.{put}
 use Rattle.qs_client.proofs.rules.Puts.{put_field, put_same, put_set_at}
-use Rattle.qs_played.specs.Played.{ticket}
-use Rattle.qs_core_laws.specs.Core.{put_lane, put_ticket}
+use Rattle.qs_played.specs.audit.Played.{ticket}
+use Rattle.qs_core_laws.specs.audit.Core.{put_lane, put_ticket}
 use Rattle.qs_core.specs.parts.LaneStates.{LaneState, fresh_lane, lane_at}
 use Rattle.qs_core.specs.state.CoreState.{ClientPart}
 

@@ -8,15 +8,15 @@ use Rattle.std.proofs.lemmas.List.{length-map}
 use Rattle.std.proofs.lemmas.List.Sums.{sum_by-cons}
 use Rattle.qs_objects.specs.declared.held.Event.{Event}
 use Rattle.qs_objects.specs.declared.held.Ticket.{Ticket}
-use Rattle.qs_program.specs.Program.{ClientShape, ProgramShape, blocks_of, no_client, text_of}
+use Rattle.qs_program.specs.audit.Program.{ClientShape, ProgramShape, blocks_of, no_client, text_of}
 use Rattle.qs_program.specs.Sound.{IsSound}
 use Rattle.qs_syncset.specs.declared.mode.Mode.{Mode}
-use Rattle.qs_syncset.specs.Codes.{BlockCode, ClientCode, IsCodeOf, code_at, no_code, AreCodes}
-use Rattle.qs_sync_counts.specs.SyncRows.{fresh_rows, no_syncs}
-use Rattle.qs_handler.specs.Handler.{free}
-use Rattle.qs_client.specs.ClientModel.{ClientModel, fresh_mind, lists_of_code}
-use Rattle.qs_played.specs.JournalRooms.{fresh_held}
-use Rattle.qs_core_laws.specs.Core.{core_begin}
+use Rattle.qs_syncset.specs.audit.Codes.{BlockCode, ClientCode, IsCodeOf, code_at, no_code, AreCodes}
+use Rattle.qs_sync_counts.specs.audit.SyncRows.{fresh_rows, no_syncs}
+use Rattle.qs_handler.specs.audit.Handler.{free}
+use Rattle.qs_client.specs.audit.ClientModel.{ClientModel, fresh_mind, lists_of_code}
+use Rattle.qs_played.specs.audit.JournalRooms.{fresh_held}
+use Rattle.qs_core_laws.specs.audit.Core.{core_begin}
 use Rattle.qs_core_laws.proofs.protocol.ProgramTrees.{reserved_is}
 use Rattle.qs_core.specs.parts.CoreClients.{AreStocked, CoreClientState, whole_of}
 use Rattle.qs_core.specs.parts.CoreHandlers.{CoreHandlerState, handler_with_act, no_core_handler}

@@ -6,11 +6,11 @@ use Rattle.std.specs.List.{AllByRecursion}
 use Rattle.std.proofs.Math.ListN.{set}
 use Rattle.std.proofs.Math.Path.{fun_ext}
 use Rattle.std.proofs.lemmas.List.{length-map, map-set, get_or-set_same, get_or-set_other}
-use Rattle.qs_program.specs.Program.{ProgramShape}
-use Rattle.qs_meaning.specs.Solo.{put}
-use Rattle.qs_handler.specs.Handler.{Handler, free}
+use Rattle.qs_program.specs.audit.Program.{ProgramShape}
+use Rattle.qs_meaning.specs.audit.Solo.{put}
+use Rattle.qs_handler.specs.audit.Handler.{Handler, free}
 use Rattle.qs_client.proofs.rules.Puts.{put_same, put_set_at}
-use Rattle.qs_played.specs.JournalRooms.{fresh_held}
+use Rattle.qs_played.specs.audit.JournalRooms.{fresh_held}
 use Rattle.qs_core.specs.parts.CoreClients.{CoreClientState}
 use Rattle.qs_core.specs.parts.CoreHandlers.{CoreHandlerState, handler_with_act}
 use Rattle.qs_core.specs.state.CoreState.{core_handler_of, no_client_part, client_part_at, client_part, tickets_at}

@@ -9,20 +9,20 @@ use Rattle.std.proofs.lemmas.List.{length-set}
 use Rattle.qs_objects.specs.declared.held.Ticket.{Ticket}
 use Rattle.qs_objects.specs.declared.Request.{Request}
 use Rattle.qs_objects.proofs.Elements.{AllByRecursion-get_or}
-use Rattle.qs_meaning.specs.Solo.{put}
-use Rattle.qs_chunk.specs.Batch.{Batch, batch}
-use Rattle.qs_handler.specs.Handler.{Handler, act_of}
+use Rattle.qs_meaning.specs.audit.Solo.{put}
+use Rattle.qs_chunk.specs.audit.Batch.{Batch, batch}
+use Rattle.qs_handler.specs.audit.Handler.{Handler, act_of}
 use Rattle.qs_handler.proofs.HandlerActs.{acts_lose_nothing}
 use Rattle.qs_handler.specs.declared.mind.Act.TheVariants as acts
-use Rattle.qs_client.specs.ClientModel.{ClientModel, act_due}
+use Rattle.qs_client.specs.audit.ClientModel.{ClientModel, act_due}
 use Rattle.qs_client.specs.MindState.{IsMind, mind_of}
 use Rattle.qs_client.specs.declared.rules.act.Act.{Act}
 use Rattle.qs_client.proofs.rules.CarriedValues.{sends_are_parted}
 use Rattle.qs_client.specs.declared.rules.act.Act.TheVariants as wants
-use Rattle.qs_played.specs.Played.{ticket}
+use Rattle.qs_played.specs.audit.Played.{ticket}
 use Rattle.qs_played.specs.declared.schedule.actor.Actor.TheVariants as actor
-use Rattle.qs_core_laws.specs.Core.{Core, client_step, core_step}
-use Rattle.qs_syncset.specs.Codes.{AreCodes}
+use Rattle.qs_core_laws.specs.audit.Core.{Core, client_step, core_step}
+use Rattle.qs_syncset.specs.audit.Codes.{AreCodes}
 use Rattle.qs_core.specs.parts.CoreClients.{AreStocked, CoreClientState, HasLane, IsCoreClient, LaneStays, LaneSteps, lane_step_of_client, turns_to, whole_of}
 use Rattle.qs_core.specs.parts.CoreHandlers.{CoreHandlerState, IsCoreHandler, handler_with_act}
 use Rattle.qs_core.specs.parts.LaneStates.{IsStocked, LaneState, lane_at}

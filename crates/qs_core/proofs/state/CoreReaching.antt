@@ -6,14 +6,15 @@ use Rattle.std.proofs.Common.{◌≡◌, ℕ, Bool, true, false, List, [], ◌�
 use Rattle.std.specs.Bool.{OnTrue}
 use Rattle.qs_program.specs.Sound.{IsSound}
 use Rattle.qs_syncset.specs.declared.mode.Mode.{Mode}
-use Rattle.qs_syncset.specs.Codes.{ClientCode, AreCodes}
+use Rattle.qs_syncset.specs.audit.Codes.{ClientCode, AreCodes}
 use Rattle.qs_played.specs.Isolation.{IsIsolated}
 use Rattle.qs_played.specs.declared.schedule.actor.Actor.{Actor}
 use Rattle.qs_played.proofs.Playing.{plays_by-append}
-use Rattle.qs_core_laws.specs.Core.{Core, core_begin, core_step}
+use Rattle.qs_core_laws.specs.audit.Core.{Core, core_begin, core_step}
 use Rattle.qs_core_laws.specs.CoreReached.{ReachedCore}
-use Rattle.qs_core_laws.specs.CoreSchedule.{core_played, core_plays, on_way}
-use Rattle.qs_played.specs.Schedule.{or_stay}
+use Rattle.qs_core_laws.specs.audit.CoreSchedule.{core_played, core_plays}
+use Rattle.qs_core_laws.specs.CoreSchedule.{on_way}
+use Rattle.qs_played.specs.audit.Schedule.{or_stay}
 use Rattle.qs_core_laws.proofs.CoreIsolating.{core_isolated}
 use Rattle.qs_core_laws.proofs.CoreReached.{reached_keeps}
 use Rattle.qs_core.specs.state.CoreState.{CoreIsIsolated, CoreKeeps, CoreState, CoreSteps, StepsAreReached, IsCoreState, IsReachedCore, codes_of, core_of}

@@ -6,17 +6,17 @@ use Rattle.std.proofs.Common.{◌≡◌, ◌<◌, ℕ, zero, suc, false, ◌==�
 use Rattle.std.proofs.Math.Path.{fun_ext}
 use Rattle.qs_objects.specs.declared.held.Event.{Event}
 use Rattle.qs_objects.specs.declared.held.Ticket.{Ticket}
-use Rattle.qs_meaning.specs.Solo.{put}
-use Rattle.qs_program.specs.Values.{Locals}
-use Rattle.qs_syncset.specs.Codes.{ClientCode, code_at}
-use Rattle.qs_handler.specs.Handler.{Handler}
-use Rattle.qs_client.specs.rules.Client.{Settlement, between, begin}
-use Rattle.qs_client.specs.ClientModel.{ClientModel, act_due, mind_after_begin_with, settings_of, tree_at}
+use Rattle.qs_meaning.specs.audit.Solo.{put}
+use Rattle.qs_program.specs.audit.Values.{Locals}
+use Rattle.qs_syncset.specs.audit.Codes.{ClientCode, code_at}
+use Rattle.qs_handler.specs.audit.Handler.{Handler}
+use Rattle.qs_client.specs.audit.rules.Client.{Settlement, between, begin}
+use Rattle.qs_client.specs.audit.ClientModel.{ClientModel, act_due, mind_after_begin_with, settings_of, tree_at}
 use Rattle.qs_client.proofs.rules.Puts.{put_set_at}
 use Rattle.qs_client.specs.declared.rules.act.Act.TheVariants as acts
-use Rattle.qs_played.specs.Played.{ticket}
+use Rattle.qs_played.specs.audit.Played.{ticket}
 use Rattle.qs_played.specs.declared.schedule.actor.Actor.TheVariants as actor
-use Rattle.qs_core_laws.specs.Core.{core_step, may, reserves_from}
+use Rattle.qs_core_laws.specs.audit.Core.{core_step, may, reserves_from}
 use Rattle.qs_core.specs.parts.LaneStates.{LaneState}
 use Rattle.qs_core.specs.state.CoreState.{ClientPart, core_from}
 use Rattle.qs_core.proofs.state.ClientFields.{counts_in, entries_in, traces_in}

@@ -4,20 +4,20 @@
 -- lane.
 use Rattle.std.proofs.Common.{◌≡◌, ◌<◌, ℕ, Bool, true, false, nat_lt, List, [], ◌∷◌, ◌++◌, length, refl, sym, ap, subst, ◌∙◌, suc, Option, Some, None}
 use Rattle.std.proofs.Math.ListN.{set}
-use Rattle.qs_objects.specs.Journals.{HeldState}
+use Rattle.qs_objects.specs.audit.Journals.{HeldState}
 use Rattle.qs_objects.specs.declared.held.Ticket.{Ticket}
 use Rattle.qs_objects.specs.declared.Request.{Request}
 use Rattle.qs_objects.specs.declared.held.Next.TheVariants as nexts
-use Rattle.qs_meaning.specs.Solo.{put}
-use Rattle.qs_syncset.specs.Codes.{ClientCode}
-use Rattle.qs_chunk.specs.Batch.{Batch}
+use Rattle.qs_meaning.specs.audit.Solo.{put}
+use Rattle.qs_syncset.specs.audit.Codes.{ClientCode}
+use Rattle.qs_chunk.specs.audit.Batch.{Batch}
 use Rattle.qs_chunk.specs.declared.parcel.Parcel.{Parcel}
-use Rattle.qs_handler.specs.Handler.{Handler, act_of, gave, accept_parcel, accept_next}
+use Rattle.qs_handler.specs.audit.Handler.{Handler, act_of, gave, accept_parcel, accept_next}
 use Rattle.qs_handler.specs.declared.mind.Act.{Act}
 use Rattle.qs_handler.specs.declared.mind.Act.TheVariants as acts
 use Rattle.qs_played.specs.declared.schedule.actor.Actor.TheVariants as actor
-use Rattle.qs_core_laws.specs.Core.{Core, core_step, gives, after_handler, handler_step, put_lane, takes_parcel}
-use Rattle.qs_core_laws.specs.Core as core
+use Rattle.qs_core_laws.specs.audit.Core.{Core, core_step, gives, after_handler, handler_step, put_lane, takes_parcel}
+use Rattle.qs_core_laws.specs.audit.Core as core
 use Rattle.qs_core.specs.parts.CoreHandlers.{beside, gives_up, lane_step_of_handler, takes_first, turns_to}
 use Rattle.qs_core.specs.parts.LaneStates.{LaneState, lane_at, with_down, with_spare, with_up}
 use Rattle.qs_core.specs.state.CoreState.{ClientPart, core_from}

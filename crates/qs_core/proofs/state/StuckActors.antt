@@ -5,24 +5,24 @@
 -- this.
 use Rattle.std.proofs.Common.{◌≡◌, ◌==◌, ℕ, zero, suc, Bool, true, false, true≢false, if◌then◌else◌, nat_lt, List, [], ◌∷◌, length, get_or, set, Option, Some, None, inl, inr, ◌⊎◌, refl, sym, ap, subst, ◌∙◌, ⊎_elim}
 use Rattle.std.proofs.lemmas.List.{get_or-set_other}
-use Rattle.qs_objects.specs.Journals.{HeldState}
+use Rattle.qs_objects.specs.audit.Journals.{HeldState}
 use Rattle.qs_objects.specs.declared.held.Ticket.{Ticket}
 use Rattle.qs_objects.specs.declared.held.Next.TheVariants as nexts
 use Rattle.qs_objects.proofs.Choices.{apart_eqb, num_cases}
 use Rattle.qs_meaning.proofs.TreeWalks.{put_there}
-use Rattle.qs_syncset.specs.Codes.{ClientCode, blocks_in}
+use Rattle.qs_syncset.specs.audit.Codes.{ClientCode, blocks_in}
 use Rattle.qs_chunk.specs.declared.parcel.Parcel.{Parcel}
-use Rattle.qs_chunk.specs.Limits.{lane_room, spare_room}
-use Rattle.qs_handler.specs.Handler.{Handler, accept_next, accept_parcel}
-use Rattle.qs_handler.specs.Handler as handlers
+use Rattle.qs_chunk.specs.audit.Limits.{lane_room, spare_room}
+use Rattle.qs_handler.specs.audit.Handler.{Handler, accept_next, accept_parcel}
+use Rattle.qs_handler.specs.audit.Handler as handlers
 use Rattle.qs_handler.specs.declared.mind.Act.{Act as HandlerAct}
 use Rattle.qs_handler.specs.declared.mind.Act.TheVariants as acts
-use Rattle.qs_client.specs.rules.Client.{Client, ClientStage, act_of, awaits, between, full, leaves, runs}
+use Rattle.qs_client.specs.audit.rules.Client.{Client, ClientStage, act_of, awaits, between, full, leaves, runs}
 use Rattle.qs_client.specs.declared.rules.act.Act.{Act}
 use Rattle.qs_client.specs.declared.rules.act.Act.TheVariants as wants
 use Rattle.qs_played.specs.declared.schedule.actor.Actor.{Actor}
 use Rattle.qs_played.specs.declared.schedule.actor.Actor.TheVariants as actor
-use Rattle.qs_core_laws.specs.Core.{Core, after_handler, client_step, core_step, gets, gives, handler_step, reserves_from, settings_of, takes_chunk, takes_parcel, takes_ticket, with_down, with_tickets}
+use Rattle.qs_core_laws.specs.audit.Core.{Core, after_handler, client_step, core_step, gets, gives, handler_step, reserves_from, settings_of, takes_chunk, takes_parcel, takes_ticket, with_down, with_tickets}
 use Rattle.qs_core_laws.proofs.HandlerSteps.{put_lane_there}
 use Rattle.qs_core.specs.parts.CoreClients.{turns_to}
 use Rattle.qs_core.specs.parts.CoreHandlers.{turns_to as client_turned_to}

@@ -1,11 +1,12 @@
 -- A client of the optimised machine, as the code holds it.
 use Rattle.std.specs.Prelude.{◌≡◌, ◌<◌, ◌++◌, ◌∷◌, [], ℕ, Bool, true, false, List, length, nat_lt, if◌then◌else◌, slice_set, Option, Some, None}
 use Rattle.std.specs.List.{AllByRecursion}
-use Rattle.qs_objects.specs.Journals.{HeldState}
+use Rattle.qs_objects.specs.audit.Journals.{HeldState}
 use Rattle.qs_objects.specs.declared.Request.{Request}
-use Rattle.qs_chunk.specs.Batch.{Batch}
-use Rattle.qs_chunk.specs.Limits.{lane_room}
-use Rattle.qs_client.specs.ClientModel.{ClientModel, act_due, mind_after_chunk, finish, mind_after_object, hands_out, with_act_again}
+use Rattle.qs_chunk.specs.audit.Batch.{Batch}
+use Rattle.qs_chunk.specs.audit.Limits.{lane_room}
+use Rattle.qs_client.specs.audit.ClientModel.{ClientModel, act_due, mind_after_chunk, finish, mind_after_object, hands_out}
+use Rattle.qs_client.specs.ClientModel.{with_act_again}
 use Rattle.qs_client.specs.MindState.{MindState, mind_of}
 use Rattle.qs_client.specs.declared.rules.act.Act.{Act}
 use Rattle.qs_client.specs.declared.rules.act.Act.TheVariants as acts

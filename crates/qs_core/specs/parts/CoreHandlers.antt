@@ -1,14 +1,15 @@
 -- A handler of the optimised machine in the code: its mind with its pending act, and its queue of tickets.
 use Rattle.std.specs.Prelude.{Bool, true, false, ◌&&◌, length, nat_eq, ◌≡◌, ◌<◌, ℕ, List, [], ◌∷◌, ◌++◌, nat_lt, IsTrue, if◌then◌else◌, slice_index_or, slice_set, Option, Some, None}
-use Rattle.qs_objects.specs.Journals.{HeldState}
+use Rattle.qs_objects.specs.audit.Journals.{HeldState}
 use Rattle.qs_objects.specs.declared.held.Ticket.{Ticket}
 use Rattle.qs_objects.specs.declared.held.Next.TheVariants as nexts
-use Rattle.qs_meaning.specs.Serial.{no_state}
+use Rattle.qs_meaning.specs.audit.Serial.{no_state}
 use Rattle.qs_chunk.specs.Lanes.{may_stand}
-use Rattle.qs_chunk.specs.Limits.{spare_room}
+use Rattle.qs_chunk.specs.audit.Limits.{spare_room}
 use Rattle.qs_chunk.specs.declared.parcel.Parcel.{Parcel}
 use Rattle.qs_handler.specs.declared.mind.Act.{Act}
-use Rattle.qs_handler.specs.Handler.{is_free, Handler, act_of, free, gave, is_away, accept_parcel, accept_next, with_act}
+use Rattle.qs_handler.specs.audit.Handler.{is_free, Handler, act_of, free, gave, accept_parcel, accept_next}
+use Rattle.qs_handler.specs.Handler.{is_away, with_act}
 use Rattle.qs_handler.specs.declared.mind.Act.TheVariants as acts
 use Rattle.qs_core.specs.parts.LaneStates.{LaneState, with_down, with_spare, with_up}
 

@@ -1,10 +1,10 @@
 -- The lane from a client to a handler, as the code holds it.
 use Rattle.std.specs.Prelude.{◌≡◌, ℕ, List, [], replicate, slice_index_or, Option, None}
 use Rattle.std.specs.List.{AllByRecursion}
-use Rattle.qs_objects.specs.Journals.{HeldState}
+use Rattle.qs_objects.specs.audit.Journals.{HeldState}
 use Rattle.qs_objects.specs.declared.Request.{Request}
-use Rattle.qs_chunk.specs.Batch.{Batch, batch}
-use Rattle.qs_chunk.specs.Limits.{spare_room}
+use Rattle.qs_chunk.specs.audit.Batch.{Batch, batch}
+use Rattle.qs_chunk.specs.audit.Limits.{spare_room}
 use Rattle.qs_chunk.specs.declared.parcel.Parcel.{Parcel}
 
 -- the parcels that lie there, the object on its way up, and the empty chunks

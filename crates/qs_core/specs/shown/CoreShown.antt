@@ -1,16 +1,17 @@
 -- What the code of the optimised machine shows of a run, by its lists of clients and handlers.
 use Rattle.std.specs.Prelude.{◌≡◌, ◌<◌, ◌≤◌, ℕ, Bool, ◌&&◌, IsSome, List, [], length, map, sum_by, slice_index_or, nat_eq, Option, Some}
 use Rattle.std.specs.List.{AllByRecursion, range_with_len}
-use Rattle.qs_objects.specs.Journals.{HeldState}
+use Rattle.qs_objects.specs.audit.Journals.{HeldState}
 use Rattle.qs_objects.specs.declared.held.Ticket.{Ticket}
-use Rattle.qs_program.specs.Limits.{most_clients, most_handlers}
-use Rattle.qs_handler.specs.Handler.{act_of}
-use Rattle.qs_client.specs.ClientModel.{ClientModel, is_between, has_ended}
-use Rattle.qs_played.specs.Played.{ClientRows, Played}
+use Rattle.qs_program.specs.audit.Limits.{most_clients, most_handlers}
+use Rattle.qs_handler.specs.audit.Handler.{act_of}
+use Rattle.qs_client.specs.audit.ClientModel.{ClientModel, is_between, has_ended}
+use Rattle.qs_played.specs.audit.Played.{Played}
+use Rattle.qs_played.specs.Played.{ClientRows}
 use Rattle.qs_played.specs.declared.shown.played.Endings.{Endings}
 use Rattle.qs_client.specs.MindState.{IsMind}
-use Rattle.qs_core_laws.specs.Core.{Core}
-use Rattle.qs_core_laws.specs.CoreSchedule.{all_of, found_by, held_or_none}
+use Rattle.qs_core_laws.specs.audit.Core.{Core}
+use Rattle.qs_core_laws.specs.audit.CoreSchedule.{all_of, found_by, held_or_none}
 use Rattle.qs_core.specs.parts.CoreClients.{CoreClientState, rows_of, whole_of}
 use Rattle.qs_core.specs.parts.CoreHandlers.{CoreHandlerState, handler_with_act, core_handler_at, no_core_handler, turns_to, is_waiting}
 use Rattle.qs_core.specs.parts.LaneStates.{LaneState, lane_at}

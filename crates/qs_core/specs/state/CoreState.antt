@@ -4,20 +4,21 @@ use Rattle.std.specs.Coded.{Coded, codes, code_by, coded√ó, coded_list, coded_‚Ñ
 use Rattle.std.specs.List.{AllByRecursion, range_with_len}
 use Rattle.qs_objects.specs.declared.held.Ticket.{Ticket}
 use Rattle.qs_program.specs.Shapes.{program_code}
-use Rattle.qs_program.specs.Program.{ProgramShape, blocks_of}
+use Rattle.qs_program.specs.audit.Program.{ProgramShape, blocks_of}
 use Rattle.qs_syncset.specs.declared.mode.Mode.{Mode}
-use Rattle.qs_syncset.specs.Codes.{ClientCode, IsCodeOf, AreCodes}
-use Rattle.qs_handler.specs.Handler.{Handler, free}
-use Rattle.qs_client.specs.ClientModel.{ClientModel, fresh_mind}
+use Rattle.qs_syncset.specs.audit.Codes.{ClientCode, IsCodeOf, AreCodes}
+use Rattle.qs_handler.specs.audit.Handler.{Handler, free}
+use Rattle.qs_client.specs.audit.ClientModel.{ClientModel, fresh_mind}
 use Rattle.qs_played.specs.Isolation.{IsIsolated}
 use Rattle.qs_played.specs.declared.schedule.actor.Actor.{Actor}
-use Rattle.qs_played.specs.Played.{Played}
+use Rattle.qs_played.specs.audit.Played.{Played}
 use Rattle.qs_played.specs.SyncSums.{AreSyncsCounted}
 use Rattle.qs_objects.specs.Journals.{ticket_code}
-use Rattle.qs_played.specs.JournalRooms.{fresh_held}
-use Rattle.qs_core_laws.specs.Core.{Core, core_begin, core_step}
+use Rattle.qs_played.specs.audit.JournalRooms.{fresh_held}
+use Rattle.qs_core_laws.specs.audit.Core.{Core, core_begin, core_step}
 use Rattle.qs_core_laws.specs.CoreReached.{ReachedCore}
-use Rattle.qs_core_laws.specs.CoreSchedule.{core_played, core_plays, core_scheduled, on_way}
+use Rattle.qs_core_laws.specs.audit.CoreSchedule.{core_played, core_plays}
+use Rattle.qs_core_laws.specs.CoreSchedule.{core_scheduled, on_way}
 use Rattle.qs_core.specs.parts.CoreClients.{AreStocked, CoreClientState, whole_of}
 use Rattle.qs_core.specs.parts.CoreHandlers.{CoreHandlerState, handler_with_act, handler_with}
 use Rattle.qs_core.specs.parts.LaneStates.{LaneState, fresh_lane, lane_at}

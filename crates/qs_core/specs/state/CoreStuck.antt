@@ -2,7 +2,7 @@
 use Rattle.std.specs.Prelude.{◌≡◌, ℕ, Bool, true, false, List, slice_index_or, slice_set, Option, Some, None}
 use Rattle.qs_played.specs.declared.schedule.actor.Actor.{Actor}
 use Rattle.qs_played.specs.declared.schedule.actor.Actor.TheVariants as actor
-use Rattle.qs_core_laws.specs.Core.{core_step}
+use Rattle.qs_core_laws.specs.audit.Core.{core_step}
 use Rattle.qs_core.specs.state.CoreState.{CoreState, codes_of, core_of}
 
 -- a flag for each client, and for each handler

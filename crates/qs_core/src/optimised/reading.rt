@@ -1,7 +1,7 @@
 //! What lies where in the optimised machine, and what its clients want next.
 
 ghost use Rattle.std.specs.Prelude.{◌≡◌, ◌<◌, ℕ, IfOk, Some, drop, length};
-ghost use Rattle.qs_core_laws.specs.CoreSchedule.{is_finished};
+ghost use Rattle.qs_core_laws.specs.audit.CoreSchedule.{is_finished};
 ghost use Rattle.qs_core.specs.parts.CarriedRequests.{first_requests};
 ghost use Rattle.qs_core.specs.parts.CoreClients.{turns_to};
 ghost use Rattle.qs_core.specs.parts.CoreHandlers.{handler_with_act};

@@ -2,15 +2,15 @@
 
 ghost use Rattle.std.specs.Prelude.{◌≡◌, ◌<◌, [], false, ◌&&◌, length, nat_eq, replicate, IfOk, option_copied};
 ghost use Rattle.std.specs.Bool.{OnTrue};
-ghost use Rattle.qs_program.specs.Limits.{most_handlers};
-ghost use Rattle.qs_client.specs.ClientModel.{mind_after_begin, fresh_mind, is_between};
+ghost use Rattle.qs_program.specs.audit.Limits.{most_handlers};
+ghost use Rattle.qs_client.specs.audit.ClientModel.{mind_after_begin, fresh_mind, is_between};
 ghost use Rattle.qs_client.specs.MindState.{IsMind, mind_of};
 ghost use Rattle.qs_chunk.specs.declared.parcel.Parcel.{Parcel as ParcelShape};
 ghost use Rattle.qs_client.specs.declared.rules.act.Act.TheVariants as acts;
 ghost use Rattle.qs_core.specs.parts.CoreHandlers.{MayCome, handler_with_act, lane_step_of_handler as handler_lane_step};
 ghost use Rattle.qs_core.specs.parts.CoreClients.{Meets, AreStocked, HasLane, IsCoreClient, LaneStays, LaneSteps, is_reserve, rows_of, turns_to, whole_of};
-ghost use Rattle.qs_chunk.specs.LaneParts.{away_at, home_of};
-ghost use Rattle.qs_client.specs.ClientModel.{has_ended};
+ghost use Rattle.qs_chunk.specs.audit.LaneParts.{away_at, home_of};
+ghost use Rattle.qs_client.specs.audit.ClientModel.{has_ended};
 ghost use Rattle.qs_core.specs.parts.LaneStates.{fresh_lane, lane_at};
 ghost use Rattle.qs_core.specs.parts.CarriedRequests.{first_requests, sent_requests};
 

@@ -2,14 +2,14 @@
 
 ghost use Rattle.std.specs.Prelude.{true, ◌≡◌, ◌<◌, [], ◌∷◌, List, ℕ, None, false, length, IfOk, MatchOption, option_copied};
 ghost use Rattle.qs_objects.specs.declared.held.Ticket.{Ticket as TicketShape};
-ghost use Rattle.qs_objects.specs.Journals.{HeldState};
+ghost use Rattle.qs_objects.specs.audit.Journals.{HeldState};
 ghost use Rattle.qs_objects.specs.declared.Request.{Request as RequestShape};
-ghost use Rattle.qs_chunk.specs.Batch.{Batch};
+ghost use Rattle.qs_chunk.specs.audit.Batch.{Batch};
 ghost use Rattle.std.specs.Bool.{OnTrue};
-ghost use Rattle.qs_handler.specs.Handler.{free, held_of, serving};
+ghost use Rattle.qs_handler.specs.audit.Handler.{free};
+ghost use Rattle.qs_handler.specs.Handler.{held_of, serving};
 ghost use Rattle.qs_handler.specs.declared.mind.Act.TheVariants as acts;
-ghost use Rattle.qs_core.specs.parts.CoreHandlers.{is_waiting, takes_ticket};
-ghost use Rattle.qs_core.specs.parts.CoreHandlers.{IsCoreHandler, LaneSteps, MayCome, TakesTicket, with_ticket, handler_with_act, handler_with, lane_step_of_handler, turns_to};
+ghost use Rattle.qs_core.specs.parts.CoreHandlers.{is_waiting, takes_ticket, IsCoreHandler, LaneSteps, MayCome, TakesTicket, with_ticket, handler_with_act, handler_with, lane_step_of_handler, turns_to};
 
 mod reading;
 

@@ -2,7 +2,7 @@
 
 ghost use Rattle.std.specs.Prelude.{◌≡◌, ◌<◌, ◌∷◌, ◌++◌, [], IfOk, MatchOption, None, Some, length, nat_lt, nat_eq, option_copied, List};
 ghost use Rattle.qs_chunk.specs.declared.parcel.Parcel.{Parcel as ParcelShape};
-ghost use Rattle.qs_chunk.specs.Limits.{lane_room, spare_room};
+ghost use Rattle.qs_chunk.specs.audit.Limits.{lane_room, spare_room};
 ghost use Rattle.qs_core.specs.parts.CarriedRequests.{first_requests};
 ghost use Rattle.qs_core.specs.parts.LaneStates.{fresh_lane, with_down, with_spare, with_up};
 
@@ -37,7 +37,7 @@ impl Drop for Lane {
 impl Model for Lane {
     ghost use Rattle.std.specs.Prelude.{◌≤◌};
     ghost use Rattle.std.specs.VecDeque.{deque_len, deque_capacity};
-    ghost use Rattle.qs_chunk.specs.Limits.{lane_room, spare_room};
+    ghost use Rattle.qs_chunk.specs.audit.Limits.{lane_room, spare_room};
     ghost use Rattle.qs_core.specs.parts.LaneStates.{LaneState};
 
     ghost Value = { LaneState };

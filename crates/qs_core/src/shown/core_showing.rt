@@ -3,9 +3,9 @@
 ghost use Rattle.std.specs.Prelude.{◌≡◌, ◌≤◌, ◌<◌, ◌&&◌, IfOk, length, map, sum_by, [], IsSome, Some, option_copied};
 ghost use Rattle.std.specs.List.{range_with_len};
 ghost use Rattle.qs_objects.specs.declared.held.Ticket.{Ticket as TicketShape};
-ghost use Rattle.qs_program.specs.Limits.{most_clients, most_handlers};
+ghost use Rattle.qs_program.specs.audit.Limits.{most_clients, most_handlers};
 ghost use Rattle.qs_core.specs.parts.CoreClients.{whole_of};
-ghost use Rattle.qs_client.specs.ClientModel.{has_ended};
+ghost use Rattle.qs_client.specs.audit.ClientModel.{has_ended};
 ghost use Rattle.qs_core.specs.parts.CoreHandlers.{is_waiting};
 ghost use Rattle.qs_core.specs.shown.CoreShown.{AreBegunBy, AreShowable, AreMinds, AreSomewhere, HaveLane, HaveLanes, IsBegunBy, TurnTo, TurnsTo, are_clear, are_through, are_waiting, endings_by, core_held_at, held_with, most_syncs, object_with, rows_by, shown_by};
 ghost use Rattle.qs_core.specs.state.CoreState.{client_part_at};

@@ -9,27 +9,28 @@ use Rattle.std.proofs.lemmas.Bool.Decides.{nat_tests}
 use Rattle.std.specs.List.{AllByRecursion, range_with_len}
 use Rattle.qs_objects.specs.declared.held.Ticket.{Ticket}
 use Rattle.qs_objects.proofs.Choices.{and_cases, num_cases}
-use Rattle.qs_program.specs.Program.{ProgramShape, blocks_of}
+use Rattle.qs_program.specs.audit.Program.{ProgramShape, blocks_of}
 use Rattle.qs_program.specs.Sound.{IsSound}
-use Rattle.qs_meaning.specs.Configurations.{Configuration, IsComplete, configuration_after, configuration_from, first_configuration, one_block_on}
-use Rattle.qs_meaning.specs.Serial.{IsLegal, LegalFrom}
-use Rattle.qs_meaning.specs.Solo.{put}
+use Rattle.qs_meaning.specs.audit.Configurations.{Configuration, IsComplete, configuration_after, configuration_from, first_configuration, one_block_on}
+use Rattle.qs_meaning.specs.audit.Serial.{IsLegal, LegalFrom}
+use Rattle.qs_meaning.specs.audit.Solo.{put}
 use Rattle.qs_meaning.proofs.Orders.{complete_orders_leave_none, legal_on}
 use Rattle.qs_meaning.proofs.TreeWalks.{put_here, put_there}
 use Rattle.qs_syncset.specs.declared.mode.Mode.{Mode}
-use Rattle.qs_syncset.specs.Codes.{ClientCode, AreCodes}
-use Rattle.qs_handler.specs.Handler.{is_free}
-use Rattle.qs_client.specs.ClientModel.{has_ended, is_between}
+use Rattle.qs_syncset.specs.audit.Codes.{ClientCode, AreCodes}
+use Rattle.qs_handler.specs.audit.Handler.{is_free}
+use Rattle.qs_client.specs.audit.ClientModel.{has_ended, is_between}
 use Rattle.qs_played.specs.Isolation.{IsIsolated}
-use Rattle.qs_played.specs.JournalRooms.{fresh_held}
-use Rattle.qs_played.specs.Schedule.{all_named, names_actor}
+use Rattle.qs_played.specs.audit.JournalRooms.{fresh_held}
+use Rattle.qs_played.specs.audit.Schedule.{all_named, names_actor}
 use Rattle.qs_played.specs.SyncSums.{AreSyncsCounted}
 use Rattle.qs_played.specs.declared.schedule.actor.Actor.{Actor}
 use Rattle.qs_played.specs.declared.schedule.actor.Actor.TheVariants as actor
 use Rattle.qs_played.proofs.JournalRooms.{no_block_beyond}
 use Rattle.qs_played.proofs.Playing.{plays_by-append}
-use Rattle.qs_core_laws.specs.Core.{Core, core_begin, core_step}
-use Rattle.qs_core_laws.specs.CoreSchedule.{all_of, core_played, core_plays, core_scheduled, is_done, is_finished, is_idle, on_way}
+use Rattle.qs_core_laws.specs.audit.Core.{Core, core_begin, core_step}
+use Rattle.qs_core_laws.specs.audit.CoreSchedule.{all_of, core_played, core_plays, is_done, is_finished, is_idle}
+use Rattle.qs_core_laws.specs.CoreSchedule.{core_scheduled, on_way}
 use Rattle.qs_core_laws.proofs.CoreIsolating.{core_isolated}
 use Rattle.qs_core_laws.proofs.CoreSteps.{HasInvariant, begin_kept, plays_kept}
 use Rattle.qs_core_laws.proofs.CoreSyncs.{core_syncs_counted}

@@ -3,31 +3,32 @@
 -- again nobody is in a block.
 use Rattle.std.proofs.Common.{◌≡◌, ◌<◌, ◌∙◌, ◌==◌, ◌+◌, ◌*◌, ◌++◌, ◌∷◌, [], ℕ, zero, suc, Bool, true, false, true≢false, if◌then◌else◌, is_some, nat_lt, List, Some, inl, inr, refl, sym, ap, subst, length, replicate, ⊎_elim, arith}
 use Rattle.std.proofs.lemmas.Bool.{lt-ltb}
-use Rattle.qs_objects.specs.Journals.{HeldState}
+use Rattle.qs_objects.specs.audit.Journals.{HeldState}
 use Rattle.qs_objects.specs.declared.held.Ticket.{Ticket}
 use Rattle.qs_objects.proofs.Choices.{num_cases, ticket_path}
-use Rattle.qs_program.specs.Program.{ProgramShape, blocks_of}
-use Rattle.qs_program.specs.Sound.{IsSound, is_in}
-use Rattle.qs_program.specs.Values.{Locals}
-use Rattle.qs_meaning.specs.Following.{reserves}
-use Rattle.qs_meaning.specs.Solo.{put}
+use Rattle.qs_program.specs.audit.Program.{ProgramShape, blocks_of}
+use Rattle.qs_program.specs.audit.Sound.{is_in}
+use Rattle.qs_program.specs.Sound.{IsSound}
+use Rattle.qs_program.specs.audit.Values.{Locals}
+use Rattle.qs_meaning.specs.audit.Following.{reserves}
+use Rattle.qs_meaning.specs.audit.Solo.{put}
 use Rattle.qs_meaning.proofs.TreeWalks.{put_here, put_there}
-use Rattle.qs_graph.specs.Steps.{limit}
-use Rattle.qs_graph.specs.Walk.{entry}
+use Rattle.qs_graph.specs.audit.Steps.{limit}
+use Rattle.qs_graph.specs.audit.Walk.{entry}
 use Rattle.qs_syncset.specs.declared.mode.Mode.{Mode}
-use Rattle.qs_syncset.specs.Codes.{ClientCode, code_at, AreCodes, reserved_of, blocks_in}
-use Rattle.qs_client.specs.run.BlockSizes.{longest}
-use Rattle.qs_client.specs.rules.Client.{Client, ClientStage, Settlement, act_at, act_of, awaits, begin, between, full, leaves, runs}
+use Rattle.qs_syncset.specs.audit.Codes.{ClientCode, code_at, AreCodes, reserved_of, blocks_in}
+use Rattle.qs_client.specs.audit.run.BlockSizes.{longest}
+use Rattle.qs_client.specs.audit.rules.Client.{Client, ClientStage, Settlement, act_at, act_of, awaits, begin, between, full, leaves, runs}
 use Rattle.qs_client.specs.declared.rules.act.Act.TheVariants.{Finished, Reserve}
-use Rattle.qs_client.specs.ClientModel.{is_between, synced_block}
-use Rattle.qs_played.specs.Played.{ticket}
-use Rattle.qs_played.specs.Schedule.{or_stay}
+use Rattle.qs_client.specs.audit.ClientModel.{is_between, synced_block}
+use Rattle.qs_played.specs.audit.Played.{ticket}
+use Rattle.qs_played.specs.audit.Schedule.{or_stay}
 use Rattle.qs_played.specs.declared.schedule.actor.Actor.TheVariants as actor
 use Rattle.qs_played.proofs.ReservedObjects.{reserved_inside}
 use Rattle.qs_core_laws.specs.protocol.ClientHistories.{HasNone}
 use Rattle.qs_core_laws.proofs.protocol.ClientInvariants.{PlaceOk, objects_of_block}
-use Rattle.qs_core_laws.specs.Core.{Core, after_reserve, client_step, core_step, put_ticket, reserves_from, settings_of}
-use Rattle.qs_core_laws.specs.Core as core
+use Rattle.qs_core_laws.specs.audit.Core.{Core, after_reserve, client_step, core_step, put_ticket, reserves_from, settings_of}
+use Rattle.qs_core_laws.specs.audit.Core as core
 use Rattle.qs_core_laws.proofs.protocol.ProgramTrees.{blocks_are, reserved_is}
 use Rattle.qs_core_laws.proofs.CoreSteps.{HasInvariant}
 use Rattle.qs_core_laws.specs.orders.CoreQuiet.{IsCoreQuiet, IsLaneClear}

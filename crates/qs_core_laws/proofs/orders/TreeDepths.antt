@@ -1,9 +1,9 @@
 -- A block's tree is no deeper than its walk has nodes: on no path there are more calls, synchronisations and queries.
 -- How many turns are left of a block is bounded by this depth.
 use Rattle.std.proofs.Common.{◌<◌, ◌≤◌, ℕ, zero, suc, ℤ, List, arith}
-use Rattle.qs_graph.specs.Nodes.{GraphNode}
-use Rattle.qs_graph.specs.Synced.{Synced, Done, Call, Sync, Query}
-use Rattle.qs_graph.specs.Walk.{Move, Ends, Goes, Calls, Syncs, Queries, Spot, move, tree_of_move, walk}
+use Rattle.qs_graph.specs.audit.Nodes.{GraphNode}
+use Rattle.qs_graph.specs.audit.Synced.{Synced, Done, Call, Sync, Query}
+use Rattle.qs_graph.specs.audit.Walk.{Move, Ends, Goes, Calls, Syncs, Queries, Spot, move, tree_of_move, walk}
 
 -- on no path there are more than n calls, synchronisations and queries
 abbrev pub IsWithinDepth : ℕ → Synced → Type 0

@@ -4,34 +4,36 @@
 use Rattle.std.proofs.Common.{◌≡◌, ◌<◌, ◌≤◌, ◌∙◌, ◌+◌, ◌-◌, ◌==◌, ℕ, zero, suc, nat_lt, Bool, true, false, if◌then◌else◌, List, [], ◌∷◌, ◌++◌, Option, Some, None, length, get_or, sum_by, refl, sym, ap, ap₂, subst, ⊎_elim, inl, inr, arith}
 use Rattle.std.proofs.lemmas.List.{length-append}
 use Rattle.std.proofs.lemmas.List.Sums.{sum_by-cons}
-use Rattle.qs_objects.specs.Journals.{HeldState}
+use Rattle.qs_objects.specs.audit.Journals.{HeldState}
 use Rattle.qs_objects.specs.declared.held.Next.TheVariants as nexts
 use Rattle.qs_objects.specs.declared.held.Ticket.{Ticket}
 use Rattle.qs_objects.proofs.Choices.{num_cases}
-use Rattle.qs_program.specs.Program.{BlockShape, ClientShape, ProgramShape, block_load, blocks_of, client_at, no_client, text_of}
-use Rattle.qs_program.specs.Sound.{IsSound, is_in}
-use Rattle.qs_program.specs.Values.{Locals}
+use Rattle.qs_program.specs.audit.Program.{BlockShape, ClientShape, ProgramShape, block_load, blocks_of, client_at, no_client, text_of}
+use Rattle.qs_program.specs.audit.Sound.{is_in}
+use Rattle.qs_program.specs.Sound.{IsSound}
+use Rattle.qs_program.specs.audit.Values.{Locals}
 use Rattle.qs_program.proofs.Bounds.{sound_block}
-use Rattle.qs_meaning.specs.Following.{reserves}
-use Rattle.qs_meaning.specs.Solo.{put}
+use Rattle.qs_meaning.specs.audit.Following.{reserves}
+use Rattle.qs_meaning.specs.audit.Solo.{put}
 use Rattle.qs_meaning.proofs.TreeWalks.{put_here, put_there}
-use Rattle.qs_graph.specs.Synced.{Synced, without_syncs}
+use Rattle.qs_graph.specs.audit.Synced.{Synced}
+use Rattle.qs_graph.specs.Synced.{without_syncs}
 use Rattle.qs_syncset.specs.declared.mode.Mode.{Mode}
-use Rattle.qs_syncset.specs.Codes.{ClientCode, AreCodes, blocks_in, reserved_of}
+use Rattle.qs_syncset.specs.audit.Codes.{ClientCode, AreCodes, blocks_in, reserved_of}
 use Rattle.qs_syncset.proofs.CountedSyncs.{code_asks}
 use Rattle.qs_syncset.proofs.SyncTrees.{IsAsking}
-use Rattle.qs_chunk.specs.Limits.{lane_room, spare_room}
+use Rattle.qs_chunk.specs.audit.Limits.{lane_room, spare_room}
 use Rattle.qs_chunk.specs.declared.parcel.Parcel.{Parcel}
 use Rattle.qs_chunk.specs.declared.parcel.Parcel.TheVariants as parcels
-use Rattle.qs_handler.specs.Handler.{Handler, free, serves, spares, gives, away, closed, accept_next, accept_parcel, gave}
-use Rattle.qs_handler.specs.Handler as handlers
-use Rattle.qs_client.specs.run.BlockSizes.{longest}
-use Rattle.qs_client.specs.rules.Client.{Client, Settlement, between, runs, act_of, after_parcel, begin, take_chunk, take_object}
+use Rattle.qs_handler.specs.audit.Handler.{Handler, free, serves, spares, gives, away, closed, accept_next, accept_parcel, gave}
+use Rattle.qs_handler.specs.audit.Handler as handlers
+use Rattle.qs_client.specs.audit.run.BlockSizes.{longest}
+use Rattle.qs_client.specs.audit.rules.Client.{Client, Settlement, between, runs, act_of, after_parcel, begin, take_chunk, take_object}
 use Rattle.qs_client.specs.declared.rules.act.Act.{Act}
 use Rattle.qs_client.specs.declared.rules.act.Act.TheVariants.{Reserve, Send, Await, NeedChunk, Finished}
 use Rattle.qs_client.proofs.run.CodeBounds.{longest_covers}
-use Rattle.qs_played.specs.Played.{ticket}
-use Rattle.qs_played.specs.Schedule.{or_stay}
+use Rattle.qs_played.specs.audit.Played.{ticket}
+use Rattle.qs_played.specs.audit.Schedule.{or_stay}
 use Rattle.qs_played.specs.declared.schedule.actor.Actor.{Actor}
 use Rattle.qs_played.specs.declared.schedule.actor.Actor.TheVariants as actor
 use Rattle.qs_plain_laws.specs.progress.Steps.{made}
@@ -41,10 +43,10 @@ use Rattle.qs_core_laws.proofs.protocol.ActObjects.{await_at, chunk_begun, got_b
 use Rattle.qs_core_laws.proofs.protocol.ClientInvariants.{Lined, PlaceOk, Stops}
 use Rattle.qs_core_laws.proofs.protocol.ObjectViews.{HandlerLog}
 use Rattle.qs_core_laws.proofs.protocol.ReservedLists.{lined}
-use Rattle.qs_core_laws.specs.Core.{Core, after_handler, client_step, core_begin, core_step, gets, gives_chunk, handler_step, put_lane, reserves_from, settings_of, takes_chunk, takes_parcel, takes_ticket, with_down, with_tickets}
-use Rattle.qs_client.specs.ClientModel.{synced_block}
+use Rattle.qs_core_laws.specs.audit.Core.{Core, after_handler, client_step, core_begin, core_step, gets, gives_chunk, handler_step, put_lane, reserves_from, settings_of, takes_chunk, takes_parcel, takes_ticket, with_down, with_tickets}
+use Rattle.qs_client.specs.audit.ClientModel.{synced_block}
 use Rattle.qs_core_laws.specs.CoreReached.{CoreStands}
-use Rattle.qs_core_laws.specs.Core as core
+use Rattle.qs_core_laws.specs.audit.Core as core
 use Rattle.qs_core_laws.proofs.CoreBounds.{CoreBounded, run_both, step_bounded}
 use Rattle.qs_core_laws.proofs.protocol.ProgramTrees.{block_walk, reserved_is}
 use Rattle.qs_core_laws.proofs.CoreInvariant.{CoreInvariant, LaneHistory}

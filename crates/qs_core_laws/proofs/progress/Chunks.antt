@@ -3,35 +3,36 @@
 -- handler gives one back, there is room for it. Each step keeps this. A step changes what is counted of one lane;
 -- elsewhere the counts stay.
 use Rattle.std.proofs.Common.{◌≡◌, ◌⊎◌, ◌+◌, ◌-◌, inl, inr, ℕ, zero, suc, nat_lt, ◌==◌, ◌&&◌, is_some, Bool, true, false, if◌then◌else◌, List, [], ◌∷◌, ◌++◌, length, refl, sym, ap, ◌∙◌, subst, ⊎_elim, Option, Some, None, ℤ, arith}
-use Rattle.qs_objects.specs.Journals.{HeldState, run_one}
+use Rattle.qs_objects.specs.audit.Journals.{HeldState, run_one}
 use Rattle.qs_objects.specs.declared.held.Ticket.{Ticket}
 use Rattle.qs_objects.specs.declared.held.Next.TheVariants as nexts
 use Rattle.qs_objects.specs.declared.Request.{Request}
 use Rattle.qs_objects.proofs.Choices.{eqb_self, num_cases}
-use Rattle.qs_program.specs.Program.{ProgramShape}
-use Rattle.qs_program.specs.Values.{Locals}
-use Rattle.qs_meaning.specs.Solo.{put, value_of}
+use Rattle.qs_program.specs.audit.Program.{ProgramShape}
+use Rattle.qs_program.specs.audit.Values.{Locals}
+use Rattle.qs_meaning.specs.audit.Solo.{put, value_of}
 use Rattle.qs_meaning.proofs.TreeWalks.{put_here, put_there}
-use Rattle.qs_graph.specs.Synced.{Synced, Done, Call, Sync, Query}
-use Rattle.qs_syncset.specs.Codes.{ClientCode, blocks_in, reserved_of}
+use Rattle.qs_graph.specs.audit.Synced.{Synced, Done, Call, Sync, Query}
+use Rattle.qs_syncset.specs.audit.Codes.{ClientCode, blocks_in, reserved_of}
 use Rattle.qs_chunk.specs.declared.parcel.Parcel.{Parcel}
 use Rattle.qs_chunk.specs.declared.parcel.Parcel.TheVariants as parcels
-use Rattle.qs_chunk.specs.Limits.{lane_room, spare_room}
-use Rattle.qs_handler.specs.Handler.{Handler, free, serves, spares, gives, away, closed, accept_next, accept_parcel, gave}
+use Rattle.qs_chunk.specs.audit.Limits.{lane_room, spare_room}
+use Rattle.qs_handler.specs.audit.Handler.{Handler, free, serves, spares, gives, away, closed, accept_next, accept_parcel, gave}
 use Rattle.qs_handler.specs.Handler as handlers
-use Rattle.qs_client.specs.rules.Client.{Client, ClientStage, Settings, Settlement, between, runs, full, awaits, leaves, begin, stop_at, act_at, act_of, clear, call_act, end_block, call, query, settle, after_home, after_work, after_sync, after_end, after_parcel, take_chunk, take_object}
+use Rattle.qs_handler.specs.audit.Handler as handlers_audit
+use Rattle.qs_client.specs.audit.rules.Client.{Client, ClientStage, Settings, Settlement, between, runs, full, awaits, leaves, begin, stop_at, act_at, act_of, clear, call_act, end_block, call, query, settle, after_home, after_work, after_sync, after_end, after_parcel, take_chunk, take_object}
 use Rattle.qs_client.specs.declared.rules.act.Act.{Act}
 use Rattle.qs_client.specs.declared.rules.act.Act.TheVariants.{Reserve, Send, Await, NeedChunk, Finished}
-use Rattle.qs_played.specs.Played.{ticket}
-use Rattle.qs_played.specs.Schedule.{or_stay}
+use Rattle.qs_played.specs.audit.Played.{ticket}
+use Rattle.qs_played.specs.audit.Schedule.{or_stay}
 use Rattle.qs_played.specs.declared.schedule.actor.Actor.{Actor}
 use Rattle.qs_played.specs.declared.schedule.actor.Actor.TheVariants as actor
 use Rattle.qs_played.proofs.FunctionUpdate.{put_kept}
 use Rattle.qs_core_laws.proofs.protocol.ActKinds.{outside_not_send, outside_not_need, clears_not_need, full_not_need}
-use Rattle.qs_core_laws.specs.Core.{Core, client_step, core_begin, core_step, gets, gives_chunk, after_handler, handler_step, put_lane, reserves_from, settings_of, takes_chunk, takes_parcel, takes_ticket, with_down, with_tickets}
-use Rattle.qs_client.specs.ClientModel.{synced_block}
-use Rattle.qs_core_laws.specs.CoreSchedule.{core_plays}
-use Rattle.qs_core_laws.specs.Core as core
+use Rattle.qs_core_laws.specs.audit.Core.{Core, client_step, core_begin, core_step, gets, gives_chunk, after_handler, handler_step, put_lane, reserves_from, settings_of, takes_chunk, takes_parcel, takes_ticket, with_down, with_tickets}
+use Rattle.qs_client.specs.audit.ClientModel.{synced_block}
+use Rattle.qs_core_laws.specs.audit.CoreSchedule.{core_plays}
+use Rattle.qs_core_laws.specs.audit.Core as core
 use Rattle.qs_core_laws.proofs.HandlerSteps.{put_lane_at, put_lane_there, some_is}
 
 -- 1 for a chunk in hand
@@ -542,7 +543,7 @@ module _ (code : ℕ → ClientCode) (size : ℕ) where
             ap (λ v. to_give_back (gave v) d) v ∙ sym (ap (λ v. to_give_back v d) v ∙ ap (λ b. if b then 1 else 0) other)
 
     handler_acts : (h : ℕ) (v : Handler) (s' : Core) → s.handler h ≡ v
-        → handler_step code size s h (handlers.act_of v) ≡ Some s' → FourChunks s'
+        → handler_step code size s h (handlers_audit.act_of v) ≡ Some s' → FourChunks s'
     handler_acts h (free x) s' v e = ticket_keeps h (s.tickets h) s' e
     handler_acts h (serves t x) s' v e = parcel_keeps h t (s.down t.client h) s' (ap handlers.serving v) refl e
     handler_acts h (spares t x n) s' v e = spare_keeps h t x n s' v e

@@ -4,19 +4,20 @@
 -- three; and each object of the list two, for its end. What a client does to its own values takes nothing more, and
 -- each of its acts, with what a handler makes of the parcel, is paid.
 use Rattle.std.proofs.Common.{◌≡◌, ◌≤◌, ◌+◌, ◌*◌, ◌-◌, ◌==◌, ◌&&◌, is_some, nat_lt, ℕ, suc, ℤ, Bool, true, false, if◌then◌else◌, List, [], ◌∷◌, ◌++◌, Option, Some, None, length, refl, sym, ap, subst, arith}
-use Rattle.qs_objects.specs.Journals.{HeldState, run_one}
+use Rattle.qs_objects.specs.audit.Journals.{HeldState, run_one}
 use Rattle.qs_objects.specs.declared.held.Ticket.{Ticket}
 use Rattle.qs_objects.specs.declared.Request.{Request}
-use Rattle.qs_program.specs.Sound.{is_in}
-use Rattle.qs_program.specs.Values.{Locals}
-use Rattle.qs_meaning.specs.Solo.{put, value_of}
+use Rattle.qs_program.specs.audit.Sound.{is_in}
+use Rattle.qs_program.specs.audit.Values.{Locals}
+use Rattle.qs_meaning.specs.audit.Solo.{put, value_of}
 use Rattle.qs_meaning.proofs.TreeWalks.{put_here, put_there}
-use Rattle.qs_graph.specs.Synced.{Synced, Done, Call, Sync, Query, without_syncs}
+use Rattle.qs_graph.specs.audit.Synced.{Synced, Done, Call, Sync, Query}
+use Rattle.qs_graph.specs.Synced.{without_syncs}
 use Rattle.qs_syncset.proofs.SyncTrees.{IsAsking, IsQueryOf}
-use Rattle.qs_chunk.specs.Batch.{Batch}
+use Rattle.qs_chunk.specs.audit.Batch.{Batch}
 use Rattle.qs_chunk.specs.declared.parcel.Parcel.{Parcel}
 use Rattle.qs_chunk.specs.declared.parcel.Parcel.TheVariants as parcels
-use Rattle.qs_client.specs.rules.Client.{Client, ClientStage, Settings, between, runs, full, awaits, leaves, stop_at, act_at, act_of, clear, call_act, end_block, call, query, settle, set_chunk, set_held, after_home, after_work, after_sync, after_end, after_parcel, take_chunk, take_object}
+use Rattle.qs_client.specs.audit.rules.Client.{Client, ClientStage, Settings, between, runs, full, awaits, leaves, stop_at, act_at, act_of, clear, call_act, end_block, call, query, settle, set_chunk, set_held, after_home, after_work, after_sync, after_end, after_parcel, take_chunk, take_object}
 use Rattle.qs_client.specs.declared.rules.act.Act.{Act}
 use Rattle.qs_client.specs.declared.rules.act.Act.TheVariants.{Send, Await, NeedChunk, Finished}
 use Rattle.qs_played.proofs.FunctionUpdate.{put_kept}

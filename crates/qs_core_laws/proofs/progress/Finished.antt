@@ -5,25 +5,26 @@ use Rattle.std.proofs.Common.{◌≡◌, ◌<◌, ◌≤◌, ◌∙◌, ◌&&◌
 use Rattle.std.specs.List.{range_with_len}
 use Rattle.qs_objects.specs.declared.held.Ticket.{Ticket}
 use Rattle.qs_objects.proofs.Choices.{and_cases, apart_eqb, num_cases}
-use Rattle.qs_program.specs.Program.{ProgramShape, blocks_of}
+use Rattle.qs_program.specs.audit.Program.{ProgramShape, blocks_of}
 use Rattle.qs_program.specs.Sound.{IsSound}
 use Rattle.qs_syncset.specs.declared.mode.Mode.{Mode}
-use Rattle.qs_syncset.specs.Codes.{ClientCode, AreCodes, blocks_in}
-use Rattle.qs_handler.specs.Handler.{Handler, free, serves, spares, gives, away, closed, is_free}
-use Rattle.qs_handler.specs.Handler as handlers
-use Rattle.qs_client.specs.ClientModel.{is_between}
-use Rattle.qs_client.specs.rules.Client.{ClientStage, between, runs, full, awaits, leaves, act_of}
+use Rattle.qs_syncset.specs.audit.Codes.{ClientCode, AreCodes, blocks_in}
+use Rattle.qs_handler.specs.audit.Handler.{Handler, free, serves, spares, gives, away, closed, is_free}
+use Rattle.qs_handler.specs.audit.Handler as handlers
+use Rattle.qs_client.specs.audit.ClientModel.{is_between}
+use Rattle.qs_client.specs.audit.rules.Client.{ClientStage, between, runs, full, awaits, leaves, act_of}
 use Rattle.qs_client.specs.declared.rules.act.Act.{Act}
 use Rattle.qs_client.specs.declared.rules.act.Act.TheVariants.{Reserve, Finished}
-use Rattle.qs_played.specs.Played.{Played}
-use Rattle.qs_played.specs.Schedule.{most_rounds}
+use Rattle.qs_played.specs.audit.Played.{Played}
+use Rattle.qs_played.specs.audit.Schedule.{most_rounds}
 use Rattle.qs_played.specs.declared.schedule.actor.Actor.{Actor}
 use Rattle.qs_played.specs.declared.schedule.actor.Actor.TheVariants as actor
 use Rattle.qs_plain_laws.proofs.progress.Rounds.{enough_rounds}
 use Rattle.qs_core_laws.proofs.protocol.ActObjects.{between_acts}
-use Rattle.qs_core_laws.specs.Core.{Core, client_step, core_begin, core_step, handler_step, settings_of, takes_ticket}
+use Rattle.qs_core_laws.specs.audit.Core.{Core, client_step, core_begin, core_step, handler_step, settings_of, takes_ticket}
 use Rattle.qs_core_laws.specs.CoreReached.{CoreStands}
-use Rattle.qs_core_laws.specs.CoreSchedule.{IsPlayedIn, all_of, core_plays, core_scheduled, is_done, is_finished, is_idle}
+use Rattle.qs_core_laws.specs.audit.CoreSchedule.{all_of, core_plays, is_done, is_finished, is_idle}
+use Rattle.qs_core_laws.specs.CoreSchedule.{IsPlayedIn, core_scheduled}
 use Rattle.qs_core_laws.proofs.protocol.ProgramTrees.{blocks_are}
 use Rattle.qs_core_laws.proofs.CoreReached.{reached_keeps}
 use Rattle.qs_core_laws.specs.progress.CoreFinishing.{CoreEnoughRoundsFinish, CoreFinishedRunsStay}

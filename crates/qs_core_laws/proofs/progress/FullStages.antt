@@ -2,31 +2,31 @@
 -- without an act is between two blocks. Each step of a client keeps it, by the lemmas on clients, and a handler's step
 -- changes no client.
 use Rattle.std.proofs.Common.{◌≡◌, ◌-◌, ℕ, zero, suc, nat_lt, Bool, true, false, if◌then◌else◌, List, [], ◌∷◌, length, refl, subst, Option, Some, None}
-use Rattle.qs_objects.specs.Journals.{HeldState}
+use Rattle.qs_objects.specs.audit.Journals.{HeldState}
 use Rattle.qs_objects.specs.declared.held.Ticket.{Ticket}
 use Rattle.qs_objects.specs.declared.held.Next.TheVariants as nexts
-use Rattle.qs_program.specs.Program.{ProgramShape}
-use Rattle.qs_meaning.specs.Solo.{put}
-use Rattle.qs_syncset.specs.Codes.{ClientCode, blocks_in, reserved_of}
-use Rattle.qs_chunk.specs.Limits.{lane_room, spare_room}
+use Rattle.qs_program.specs.audit.Program.{ProgramShape}
+use Rattle.qs_meaning.specs.audit.Solo.{put}
+use Rattle.qs_syncset.specs.audit.Codes.{ClientCode, blocks_in, reserved_of}
+use Rattle.qs_chunk.specs.audit.Limits.{lane_room, spare_room}
 use Rattle.qs_chunk.specs.declared.parcel.Parcel.{Parcel}
-use Rattle.qs_handler.specs.Handler.{Handler, accept_next, accept_parcel}
-use Rattle.qs_handler.specs.Handler as handlers
+use Rattle.qs_handler.specs.audit.Handler.{Handler, accept_next, accept_parcel}
+use Rattle.qs_handler.specs.audit.Handler as handlers
 use Rattle.qs_handler.specs.declared.mind.Act as handler_acts
 use Rattle.qs_handler.specs.declared.mind.Act.TheVariants as acts
-use Rattle.qs_client.specs.rules.Client.{Client, ClientStage, between, runs, full, awaits, leaves, act_of}
+use Rattle.qs_client.specs.audit.rules.Client.{Client, ClientStage, between, runs, full, awaits, leaves, act_of}
 use Rattle.qs_client.specs.declared.rules.act.Act.{Act}
 use Rattle.qs_client.specs.declared.rules.act.Act.TheVariants.{Reserve, Send, Await, NeedChunk, Finished}
-use Rattle.qs_played.specs.Played.{ticket}
-use Rattle.qs_played.specs.Schedule.{or_stay}
+use Rattle.qs_played.specs.audit.Played.{ticket}
+use Rattle.qs_played.specs.audit.Schedule.{or_stay}
 use Rattle.qs_played.specs.declared.schedule.actor.Actor.{Actor}
 use Rattle.qs_played.specs.declared.schedule.actor.Actor.TheVariants as actor
 use Rattle.qs_played.proofs.FunctionUpdate.{put_all}
 use Rattle.qs_core_laws.proofs.protocol.FullChunks.{HasFull, chunk_full, got_full, sent_full, settle_full}
-use Rattle.qs_core_laws.specs.Core.{Core, client_step, core_begin, core_step, gets, after_handler, handler_step, reserves_from, settings_of, takes_chunk, takes_parcel, takes_ticket, with_down, with_tickets}
-use Rattle.qs_client.specs.ClientModel.{synced_block}
-use Rattle.qs_core_laws.specs.CoreSchedule.{core_plays}
-use Rattle.qs_core_laws.specs.Core as core
+use Rattle.qs_core_laws.specs.audit.Core.{Core, client_step, core_begin, core_step, gets, after_handler, handler_step, reserves_from, settings_of, takes_chunk, takes_parcel, takes_ticket, with_down, with_tickets}
+use Rattle.qs_client.specs.audit.ClientModel.{synced_block}
+use Rattle.qs_core_laws.specs.audit.CoreSchedule.{core_plays}
+use Rattle.qs_core_laws.specs.audit.Core as core
 use Rattle.qs_core_laws.proofs.HandlerSteps.{some_is}
 
 abbrev pub AllFull : (ℕ → Client) → Type 0

@@ -2,10 +2,10 @@
 -- heard: the handler does not serve on. A handler that is to give its object has given nothing that still lies there.
 -- The proofs go by induction on what the handler received, where each Sync is met by an object that was given.
 use Rattle.std.proofs.Common.{◌≡◌, false, List, [], ◌∷◌, ◌++◌, sym, ap, ◌∙◌}
-use Rattle.qs_objects.specs.Journals.{HeldState}
+use Rattle.qs_objects.specs.audit.Journals.{HeldState}
 use Rattle.qs_objects.specs.declared.held.Event.{Event}
 use Rattle.qs_objects.specs.declared.held.Ticket.{Ticket}
-use Rattle.qs_chunk.specs.Runs.{ran_all}
+use Rattle.qs_chunk.specs.audit.Runs.{ran_all}
 use Rattle.qs_chunk.specs.LaneViews.{ObjectStance, asks, ClientLane, HandlerLane, HandlerGives}
 use Rattle.qs_chunk.specs.declared.parcel.Parcel.{Parcel}
 use Rattle.qs_chunk.specs.LaneViews as views

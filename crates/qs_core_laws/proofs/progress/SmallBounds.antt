@@ -4,7 +4,7 @@ use Rattle.std.proofs.Common.{◌≤◌, ◌+◌, ◌*◌, List, [], ◌∷◌, 
 use Rattle.std.proofs.lemmas.List.Sums.{sum_by-cons}
 use Rattle.std.specs.List.{AllByRecursion}
 use Rattle.qs_program.specs.declared.program.Declared.{Declared}
-use Rattle.qs_program.specs.Program.{BlockShape, ClientShape, block_load}
+use Rattle.qs_program.specs.audit.Program.{BlockShape, ClientShape, block_load}
 use Rattle.qs_program.specs.Sound.{IsSoundBlock, IsSoundClient}
 use Rattle.qs_plain_laws.proofs.progress.SmallBounds.{list_few}
 use Rattle.qs_core_laws.specs.progress.CoreSteps.{CoreBoundsAreSmall, core_steps_of_block}

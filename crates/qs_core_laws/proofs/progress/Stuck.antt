@@ -7,31 +7,32 @@
 use Rattle.std.proofs.Common.{◌≡◌, ◌<◌, ◌≤◌, ◌∙◌, ◌==◌, ◌⊎◌, ◌+◌, append-nil, inl, inr, ⊎_elim, ℕ, zero, suc, Bool, true, false, if◌then◌else◌, nat_lt, nat_eq, List, [], ◌∷◌, ◌++◌, Option, Some, None, IsSome, IsTrue, filter, flat_map, length, refl, sym, ap, subst, arith}
 use Rattle.std.proofs.lemmas.Bool.{lt-ltb}
 use Rattle.std.specs.List.{AllByRecursion, range_with_len}
-use Rattle.qs_objects.specs.Journals.{HeldState}
-use Rattle.qs_objects.specs.Parts.{part}
+use Rattle.qs_objects.specs.audit.Journals.{HeldState}
+use Rattle.qs_objects.specs.audit.Parts.{part}
 use Rattle.qs_objects.specs.declared.held.Ticket.{Ticket}
 use Rattle.qs_objects.specs.declared.held.Next.TheVariants as nexts
 use Rattle.qs_objects.proofs.Choices.{apart_eqb, eqb_self, num_cases}
-use Rattle.qs_program.specs.Program.{ProgramShape, blocks_of}
+use Rattle.qs_program.specs.audit.Program.{ProgramShape, blocks_of}
 use Rattle.qs_program.specs.Sound.{IsSound}
-use Rattle.qs_program.specs.Values.{Locals}
-use Rattle.qs_meaning.specs.Following.{reserves}
+use Rattle.qs_program.specs.audit.Values.{Locals}
+use Rattle.qs_meaning.specs.audit.Following.{reserves}
 use Rattle.qs_meaning.proofs.Histories.{Among}
 use Rattle.qs_syncset.specs.declared.mode.Mode.{Mode}
-use Rattle.qs_syncset.specs.Codes.{ClientCode, AreCodes, blocks_in}
+use Rattle.qs_syncset.specs.audit.Codes.{ClientCode, AreCodes, blocks_in}
 use Rattle.qs_chunk.specs.LaneViews.{asks, gone, ClientLane, HandlerLane}
 use Rattle.qs_chunk.specs.LaneViews as views
 use Rattle.qs_chunk.specs.Lanes.{may_stand}
-use Rattle.qs_chunk.specs.Limits.{lane_room, spare_room}
+use Rattle.qs_chunk.specs.audit.Limits.{lane_room, spare_room}
 use Rattle.qs_chunk.specs.declared.parcel.Parcel.{Parcel}
 use Rattle.qs_chunk.specs.declared.parcel.Parcel.TheVariants as parcels
-use Rattle.qs_handler.specs.Handler.{Handler, free, serves, spares, gives, away, closed, accept_next, accept_parcel, is_away, is_free, serving}
-use Rattle.qs_handler.specs.Handler as handlers
+use Rattle.qs_handler.specs.audit.Handler.{Handler, free, serves, spares, gives, away, closed, accept_next, accept_parcel, is_free}
+use Rattle.qs_handler.specs.Handler.{is_away, serving}
+use Rattle.qs_handler.specs.audit.Handler as handlers
 use Rattle.qs_handler.specs.declared.mind.Act.TheVariants as acts
-use Rattle.qs_client.specs.rules.Client.{Client, ClientStage, Settings, between, runs, full, awaits, leaves, act_at, act_of}
+use Rattle.qs_client.specs.audit.rules.Client.{Client, ClientStage, Settings, between, runs, full, awaits, leaves, act_at, act_of}
 use Rattle.qs_client.specs.declared.rules.act.Act.{Act}
 use Rattle.qs_client.specs.declared.rules.act.Act.TheVariants.{Reserve, Send, Await, NeedChunk, Finished}
-use Rattle.qs_played.specs.Played.{ticket}
+use Rattle.qs_played.specs.audit.Played.{ticket}
 use Rattle.qs_played.specs.declared.schedule.actor.Actor.TheVariants as actor
 use Rattle.qs_played.proofs.Orders.{each_among, legal_among}
 use Rattle.qs_played.proofs.ReservedObjects.{reserved_inside}
@@ -42,10 +43,11 @@ use Rattle.qs_core_laws.proofs.protocol.ClientInvariants.{PlaceOk, standing_at}
 use Rattle.qs_core_laws.proofs.protocol.FullChunks.{finished_at}
 use Rattle.qs_core_laws.proofs.protocol.LaneWays.{gone_over}
 use Rattle.qs_core_laws.proofs.protocol.ObjectViews.{HandlerLog, as_list, ahead, stance}
-use Rattle.qs_core_laws.specs.Core.{Core, after_handler, client_step, core_begin, handler_step, settings_of, takes_chunk, takes_parcel, takes_ticket, with_down, with_tickets}
+use Rattle.qs_core_laws.specs.audit.Core.{Core, after_handler, client_step, core_begin, handler_step, settings_of, takes_chunk, takes_parcel, takes_ticket, with_down, with_tickets}
 use Rattle.qs_core_laws.specs.CoreReached.{CoreStands, ReachedCore}
-use Rattle.qs_core_laws.specs.CoreSchedule.{all_of, before_it, core_plays, is_done, is_finished, is_idle}
-use Rattle.qs_core_laws.specs.Core as core
+use Rattle.qs_core_laws.specs.audit.CoreSchedule.{all_of, core_plays, is_done, is_finished, is_idle}
+use Rattle.qs_core_laws.specs.CoreSchedule.{before_it}
+use Rattle.qs_core_laws.specs.audit.Core as core
 use Rattle.qs_core_laws.proofs.CommandsInTransit.{past_left}
 use Rattle.qs_core_laws.proofs.CoreBounds.{run_both}
 use Rattle.qs_core_laws.proofs.protocol.ProgramTrees.{blocks_are}

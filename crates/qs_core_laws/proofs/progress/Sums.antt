@@ -1,7 +1,7 @@
 -- Sums of what stands at numbers, over a list and below a number, and how they change with one of them.
 use Rattle.std.proofs.Common.{◌≡◌, ◌<◌, ◌≤◌, ◌∙◌, ◌+◌, ◌==◌, ◌||◌, ℕ, zero, suc, Bool, true, false, true≢false, if◌then◌else◌, List, [], ◌∷◌, length, refl, sym, ap, subst, ⊎_elim, arith}
 use Rattle.qs_objects.proofs.Choices.{apart_eqb, eqb_self, num_cases}
-use Rattle.qs_program.specs.Sound.{is_in}
+use Rattle.qs_program.specs.audit.Sound.{is_in}
 use Rattle.qs_core_laws.proofs.protocol.ClientInvariants.{Lined}
 
 abbrev pub total : (ℕ → ℕ) → List ℕ → ℕ

@@ -3,11 +3,11 @@
 -- client's place (`ActObjects`, `ClientLogs`) rule out with these the acts that can't be. The proofs go by cases on the
 -- object and the chunk in hand.
 use Rattle.std.proofs.Common.{◌≡◌, ◌≢◌, ℕ, Bool, true, false, if◌then◌else◌, List, Option, Some, None}
-use Rattle.qs_objects.specs.Journals.{HeldState}
+use Rattle.qs_objects.specs.audit.Journals.{HeldState}
 use Rattle.qs_objects.specs.declared.Request.{Request}
 use Rattle.qs_chunk.specs.LaneViews.{gone}
 use Rattle.qs_chunk.specs.declared.parcel.Parcel.{Parcel}
-use Rattle.qs_client.specs.rules.Client.{Settings, clear, call_act}
+use Rattle.qs_client.specs.audit.rules.Client.{Settings, clear, call_act}
 use Rattle.qs_client.specs.declared.rules.act.Act.{Act}
 use Rattle.qs_client.specs.declared.rules.act.Act.TheVariants.{Reserve, Send, Await, NeedChunk, Finished}
 use Rattle.qs_core_laws.proofs.protocol.ClientInvariants.{in_hand}

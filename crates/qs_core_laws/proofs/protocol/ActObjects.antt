@@ -3,23 +3,24 @@
 -- machine and of threads need this. They go by cases on where the client stands (`PlaceOk`), and for its quiet moves by
 -- induction on its block's tree.
 use Rattle.std.proofs.Common.{◌≡◌, ℕ, nat_lt, Bool, true, false, if◌then◌else◌, ◌==◌, ◌&&◌, is_some, List, [], ◌∷◌, ◌++◌, length, refl, sym, ap, ◌∙◌, subst, Option, Some, None, ℤ}
-use Rattle.qs_objects.specs.Journals.{HeldState, run_one}
+use Rattle.qs_objects.specs.audit.Journals.{HeldState, run_one}
 use Rattle.qs_objects.specs.declared.held.Ticket.{Ticket}
 use Rattle.qs_objects.specs.declared.Request.{Request}
 use Rattle.qs_objects.proofs.Choices.{eqb_self}
-use Rattle.qs_meaning.specs.Following.{AsksOnly, reserves}
-use Rattle.qs_program.specs.Program.{ProgramShape}
-use Rattle.qs_meaning.specs.Solo.{put, value_of}
-use Rattle.qs_program.specs.Sound.{is_in}
-use Rattle.qs_program.specs.Values.{Locals}
+use Rattle.qs_meaning.specs.audit.Following.{reserves}
+use Rattle.qs_meaning.specs.Following.{AsksOnly}
+use Rattle.qs_program.specs.audit.Program.{ProgramShape}
+use Rattle.qs_meaning.specs.audit.Solo.{put, value_of}
+use Rattle.qs_program.specs.audit.Sound.{is_in}
+use Rattle.qs_program.specs.audit.Values.{Locals}
 use Rattle.qs_meaning.specs.BlockRecords.{BlockRecord}
-use Rattle.qs_graph.specs.Synced.{Synced, Done, Call, Sync, Query}
+use Rattle.qs_graph.specs.audit.Synced.{Synced, Done, Call, Sync, Query}
 use Rattle.qs_chunk.specs.LaneViews.{asks, gone}
 use Rattle.qs_chunk.specs.declared.parcel.Parcel.{Parcel}
 use Rattle.qs_chunk.specs.declared.parcel.Parcel.TheVariants as parcels
 use Rattle.qs_client.specs.declared.rules.act.Act.TheVariants.{Reserve, Send, Await, NeedChunk, Finished}
-use Rattle.qs_client.specs.rules.Client.{Client, ClientStage, Settings, between, runs, full, awaits, leaves, stop_at, act_at, act_of, end_block, call, query, settle, after_home, after_work, after_sync, after_end, after_parcel, take_chunk}
-use Rattle.qs_client.specs.rules.Client as clients
+use Rattle.qs_client.specs.audit.rules.Client.{Client, ClientStage, Settings, between, runs, full, awaits, leaves, stop_at, act_at, act_of, end_block, call, query, settle, after_home, after_work, after_sync, after_end, after_parcel, take_chunk}
+use Rattle.qs_client.specs.audit.rules.Client as clients
 use Rattle.qs_core_laws.proofs.protocol.ClientInvariants.{in_hand, PlaceOk, standing_at}
 use Rattle.qs_core_laws.specs.protocol.ClientHistories.{apart_from}
 use Rattle.qs_core_laws.proofs.protocol.ActKinds.{outside_not_send, outside_not_await, outside_not_need, call_object, clears_object, full_object, need_object, call_not_await, clears_not_await, full_not_await, clears_not_need, full_not_need, call_not_reserve, clears_not_reserve, full_not_reserve, in_hand_gone}

@@ -1,27 +1,28 @@
 -- What one client did so far, block by block: for each block its block record, what it sent to each object and what it
 -- got from it, and what each act adds to that. The last block is where the client stands; those before it are over.
-use Rattle.std.proofs.Common.{◌≡◌, ◌<◌, ◌≤◌, arith, ℕ, zero, suc, true, false, true≢false, if◌then◌else◌, ◌==◌, List, [], ◌∷◌, ◌++◌, refl, sym, ap, ap₂, ◌∙◌}
-use Rattle.std.proofs.Common.{subst, ⊎_elim, append-nil}
-use Rattle.qs_objects.specs.Journals.{HeldState}
-use Rattle.qs_objects.specs.Parts.{part}
+use Rattle.std.proofs.Common.{◌≡◌, ◌<◌, ◌≤◌, arith, ℕ, zero, suc, true, false, true≢false, if◌then◌else◌, ◌==◌, List, [], ◌∷◌, ◌++◌, refl, sym, ap, ap₂, ◌∙◌, subst, ⊎_elim, append-nil}
+use Rattle.qs_objects.specs.audit.Journals.{HeldState}
+use Rattle.qs_objects.specs.audit.Parts.{part}
 use Rattle.qs_objects.specs.declared.held.Event.{Event}
 use Rattle.qs_objects.specs.declared.held.Ticket.{Ticket}
 use Rattle.qs_objects.proofs.Choices.{apart_eqb, eqb_self, num_cases}
-use Rattle.qs_program.specs.Program.{ProgramShape}
-use Rattle.qs_program.specs.Values.{Locals}
-use Rattle.qs_meaning.specs.Following.{AsksOnly, reserves, block_tree}
-use Rattle.qs_meaning.specs.Interaction as tree
-use Rattle.qs_meaning.specs.Serial.{zeros}
-use Rattle.qs_meaning.specs.Solo.{put}
+use Rattle.qs_program.specs.audit.Program.{ProgramShape}
+use Rattle.qs_program.specs.audit.Values.{Locals}
+use Rattle.qs_meaning.specs.audit.Following.{reserves}
+use Rattle.qs_meaning.specs.Following.{AsksOnly, block_tree}
+use Rattle.qs_meaning.specs.audit.Interaction as tree
+use Rattle.qs_meaning.specs.audit.Serial.{zeros}
+use Rattle.qs_meaning.specs.audit.Solo.{put}
 use Rattle.qs_meaning.specs.BlockRecords.{BlockRecord, Begins, IsDone}
 use Rattle.qs_meaning.proofs.TreeWalks.{put_here, put_there}
-use Rattle.qs_graph.specs.Synced.{Synced, without_syncs}
+use Rattle.qs_graph.specs.audit.Synced.{Synced}
+use Rattle.qs_graph.specs.Synced.{without_syncs}
 use Rattle.qs_syncset.specs.SoundSynced.{IsSoundSynced, IsOnReserved}
 use Rattle.qs_chunk.specs.declared.parcel.Parcel.{Parcel}
-use Rattle.qs_client.specs.rules.Client.{Client, Settings, Settlement, act_of, between, begin, after_parcel, take_chunk}
-use Rattle.qs_client.specs.rules.Client as clients
+use Rattle.qs_client.specs.audit.rules.Client.{Client, Settings, Settlement, act_of, between, begin, after_parcel, take_chunk}
+use Rattle.qs_client.specs.audit.rules.Client as clients
 use Rattle.qs_client.specs.declared.rules.act.Act.TheVariants.{Send, Await, NeedChunk}
-use Rattle.qs_played.specs.Played.{ticket}
+use Rattle.qs_played.specs.audit.Played.{ticket}
 use Rattle.qs_played.proofs.FunctionUpdate.{put_all, put_both, put_kept}
 use Rattle.qs_core_laws.proofs.protocol.ActObjects.{await_at, chunk_begun, got_begun, send_at, sent_begun, settle_begun}
 use Rattle.qs_core_laws.proofs.protocol.BlockLists.{after_not, before_not, upto_more, upto_new}

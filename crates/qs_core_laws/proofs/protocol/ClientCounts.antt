@@ -3,21 +3,21 @@
 -- `HistoryCounts`) keep this with each act. What holds at each place is `CountAt`; each act keeps it, by cases on the
 -- place, and so does quiet work, by induction on the tree.
 use Rattle.std.proofs.Common.{◌≡◌, ℕ, suc, ◌+◌, nat_lt, Bool, true, false, if◌then◌else◌, ◌==◌, ◌&&◌, is_some, List, [], ◌∷◌, ◌++◌, length, refl, sym, ap, ◌∙◌, subst, ⊎_elim, append_assoc, append-nil, Option, Some, None, ℤ, arith}
-use Rattle.qs_objects.specs.Journals.{HeldState, run_one}
-use Rattle.qs_objects.specs.Parts.{command_event}
+use Rattle.qs_objects.specs.audit.Journals.{HeldState, run_one}
+use Rattle.qs_objects.specs.audit.Parts.{command_event}
 use Rattle.qs_objects.specs.declared.held.Event.{Event}
 use Rattle.qs_objects.specs.declared.held.Ticket.{Ticket}
 use Rattle.qs_objects.specs.declared.Request.{Request}
 use Rattle.qs_objects.proofs.Choices.{eqb_self, num_cases}
-use Rattle.qs_meaning.specs.Solo.{event, put, value_of}
-use Rattle.qs_program.specs.Values.{Locals}
+use Rattle.qs_meaning.specs.audit.Solo.{event, put, value_of}
+use Rattle.qs_program.specs.audit.Values.{Locals}
 use Rattle.qs_meaning.proofs.TreeWalks.{put_here, put_there}
-use Rattle.qs_graph.specs.Synced.{Synced, Done, Call, Sync, Query}
+use Rattle.qs_graph.specs.audit.Synced.{Synced, Done, Call, Sync, Query}
 use Rattle.qs_syncset.specs.SyncCounts.{syncs_along}
 use Rattle.qs_syncset.proofs.SyncTrees.{IsAsking, IsQueryOf}
 use Rattle.qs_chunk.specs.declared.parcel.Parcel.{Parcel}
 use Rattle.qs_chunk.specs.declared.parcel.Parcel.TheVariants as parcels
-use Rattle.qs_client.specs.rules.Client.{Client, ClientStage, Settings, Settlement, act_at, act_of, between, runs, full, awaits, leaves, call_act, call, clear, take_object, end_block, query, after_parcel, after_end, after_home, after_sync, after_work, settle, stop_at, take_chunk, with_event, work}
+use Rattle.qs_client.specs.audit.rules.Client.{Client, ClientStage, Settings, Settlement, act_at, act_of, between, runs, full, awaits, leaves, call_act, call, clear, take_object, end_block, query, after_parcel, after_end, after_home, after_sync, after_work, settle, stop_at, take_chunk, with_event, work}
 use Rattle.qs_client.specs.declared.rules.act.Act.TheVariants.{Send, Finished}
 use Rattle.qs_core_laws.proofs.protocol.ActKinds.{outside_not_send}
 use Rattle.qs_core_laws.proofs.protocol.ClientInvariants.{holding}

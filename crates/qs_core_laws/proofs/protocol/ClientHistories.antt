@@ -2,30 +2,31 @@
 -- to each object and what it got from it, and these joined are all that it sent and got. The objects that it got are
 -- arbitrary; nothing of threads, queues or other clients is in it. The run is read where nothing is left to be done for
 -- the last act, since each act begins with that.
-use Rattle.std.proofs.Common.{◌≡◌, ◌<◌, arith, ℕ, zero, suc, true, false, List, [], ◌∷◌, ◌++◌, length, replicate, slice_index_or}
-use Rattle.std.proofs.Common.{refl, sym, ap, ap₂, ◌∙◌, subst, append-nil, ◌+◌, length-append, length-set}
+use Rattle.std.proofs.Common.{◌≡◌, ◌<◌, arith, ℕ, zero, suc, true, false, List, [], ◌∷◌, ◌++◌, length, replicate, slice_index_or, refl, sym, ap, ap₂, ◌∙◌, subst, append-nil, ◌+◌, length-append, length-set}
 use Rattle.std.proofs.lemmas.List.{length-replicate}
-use Rattle.qs_objects.specs.Journals.{HeldState}
+use Rattle.qs_objects.specs.audit.Journals.{HeldState}
 use Rattle.qs_objects.specs.declared.held.Event.{Event}
 use Rattle.qs_objects.specs.declared.held.Ticket.{Ticket}
-use Rattle.qs_program.specs.Program.{ProgramShape}
-use Rattle.qs_program.specs.Values.{Locals}
-use Rattle.qs_meaning.specs.Following.{AsksOnly, reserves, block_tree}
-use Rattle.qs_meaning.specs.Serial.{zeros}
-use Rattle.qs_meaning.specs.Solo.{put}
+use Rattle.qs_program.specs.audit.Program.{ProgramShape}
+use Rattle.qs_program.specs.audit.Values.{Locals}
+use Rattle.qs_meaning.specs.audit.Following.{reserves}
+use Rattle.qs_meaning.specs.Following.{AsksOnly, block_tree}
+use Rattle.qs_meaning.specs.audit.Serial.{zeros}
+use Rattle.qs_meaning.specs.audit.Solo.{put}
 use Rattle.qs_graph.specs.Synced.{without_syncs}
-use Rattle.qs_syncset.specs.Codes.{ClientCode, code_at}
+use Rattle.qs_syncset.specs.audit.Codes.{ClientCode, code_at}
 use Rattle.qs_syncset.specs.SoundSynced.{IsSoundSynced, IsOnReserved}
 use Rattle.qs_sync_counts.specs.declared.sync_counts.SyncCount.{SyncCount}
 use Rattle.qs_chunk.specs.declared.parcel.Parcel.{Parcel}
-use Rattle.qs_client.specs.rules.Client.{Client, Settings, Settlement, act_of, between, begin, after_parcel, take_chunk}
-use Rattle.qs_client.specs.rules.Client as clients
-use Rattle.qs_client.specs.rules.Outgoings.{count_sync, outgoing_of}
+use Rattle.qs_client.specs.audit.rules.Client.{Client, Settings, Settlement, act_of, between, begin, after_parcel, take_chunk}
+use Rattle.qs_client.specs.audit.rules.Client as clients
+use Rattle.qs_client.specs.audit.rules.Outgoings.{count_sync, outgoing_of}
 use Rattle.qs_client.specs.declared.rules.act.Act.TheVariants as acts
-use Rattle.qs_client.specs.ClientRuns.{Deed, DeedsLead, RunsTo, got_from, next_ticket, reservations, sent_to}
-use Rattle.qs_client.specs.ClientRuns as deeds
-use Rattle.qs_client.specs.ClientModel.{ClientModel, act_due, mind_after_begin, mind_after_chunk, finish, enters, fresh_mind, mind_after_object, hands_out, is_between, tally, tree_at}
-use Rattle.qs_played.specs.Played.{no_events, ticket}
+use Rattle.qs_client.specs.audit.ClientRuns.{Deed, DeedsLead, RunsTo, got_from, next_ticket, reservations, sent_to}
+use Rattle.qs_client.specs.audit.ClientRuns as deeds
+use Rattle.qs_client.specs.audit.ClientModel.{ClientModel, act_due, mind_after_begin, mind_after_chunk, finish, enters, fresh_mind, mind_after_object, hands_out, is_between, tally, tree_at}
+use Rattle.qs_played.specs.audit.Played.{ticket}
+use Rattle.qs_played.specs.Played.{no_events}
 use Rattle.qs_core_laws.proofs.protocol.ActObjects.{chunk_begun, got_begun, not_await, not_need, not_send, reserve_at, sent_begun, settle_begun}
 use Rattle.qs_core_laws.proofs.protocol.BlockLists.{row_push, row_set}
 use Rattle.qs_core_laws.specs.protocol.ClientHistories.{upto}

@@ -3,22 +3,24 @@
 -- `chunks_ok`, and `books_ok` where a block begins). The proof goes by cases on the client's stage and on what it has
 -- in hand: first the act, then the quiet work.
 use Rattle.std.proofs.Common.{◌≡◌, ℕ, suc, nat_lt, false, true≢false, List, [], ◌∷◌, ◌++◌, refl, sym, ap₂, subst, inl, Option, Some, None}
-use Rattle.qs_objects.specs.Journals.{HeldState}
+use Rattle.qs_objects.specs.audit.Journals.{HeldState}
 use Rattle.qs_objects.specs.declared.held.Ticket.{Ticket}
 use Rattle.qs_objects.specs.declared.Request.{Request}
-use Rattle.qs_meaning.specs.Following.{AsksOnly, reserves, block_tree}
-use Rattle.qs_program.specs.Program.{ProgramShape}
-use Rattle.qs_meaning.specs.Solo.{put}
-use Rattle.qs_program.specs.Values.{Locals}
+use Rattle.qs_meaning.specs.audit.Following.{reserves}
+use Rattle.qs_meaning.specs.Following.{AsksOnly, block_tree}
+use Rattle.qs_program.specs.audit.Program.{ProgramShape}
+use Rattle.qs_meaning.specs.audit.Solo.{put}
+use Rattle.qs_program.specs.audit.Values.{Locals}
 use Rattle.qs_meaning.specs.BlockRecords.{BlockRecord}
-use Rattle.qs_graph.specs.Synced.{Synced, Done, Call, Sync, Query, without_syncs}
+use Rattle.qs_graph.specs.audit.Synced.{Synced, Done, Call, Sync, Query}
+use Rattle.qs_graph.specs.Synced.{without_syncs}
 use Rattle.qs_syncset.specs.SoundSynced.{IsSoundSynced, IsOnReserved}
 use Rattle.qs_chunk.specs.LaneViews.{ClientLane}
 use Rattle.qs_chunk.specs.declared.parcel.Parcel.{Parcel}
 use Rattle.qs_chunk.specs.declared.parcel.Parcel.TheVariants as parcels
 use Rattle.qs_client.specs.declared.rules.act.Act.TheVariants.{Send, Await, NeedChunk, Finished}
-use Rattle.qs_client.specs.rules.Client.{Client, ClientStage, Settings, Settlement, between, runs, full, awaits, leaves, work, clear, call_act, act_at, act_of, settle, after_home, after_work, after_sync, after_end, after_parcel, take_chunk, begin}
-use Rattle.qs_client.specs.rules.Client as clients
+use Rattle.qs_client.specs.audit.rules.Client.{Client, ClientStage, Settings, Settlement, between, runs, full, awaits, leaves, work, clear, call_act, act_at, act_of, settle, after_home, after_work, after_sync, after_end, after_parcel, take_chunk, begin}
+use Rattle.qs_client.specs.audit.rules.Client as clients
 use Rattle.qs_core_laws.proofs.protocol.ClientInvariants.{in_hand, holding, objects_of_block, Lined, Ready, Leaving, PlaceOk}
 use Rattle.qs_core_laws.proofs.protocol.ActKinds.{outside_not_send, outside_not_await, outside_not_need, call_not_await, clears_not_await, full_not_await, clears_not_need, full_not_need}
 use Rattle.qs_core_laws.proofs.protocol.SilentSteps.{sound_more, Ends, ends_stays, settle_ends, leaving_ends}

@@ -2,24 +2,25 @@
 -- says.
 use Rattle.std.proofs.Common.{◌≡◌, ◌<◌, ℕ, ◌+◌, ◌==◌, Bool, false, if◌then◌else◌, length, ap, ◌∙◌, inl, inr, arith}
 use Rattle.qs_objects.specs.declared.held.Ticket.{Ticket}
-use Rattle.qs_program.specs.Program.{ProgramShape, blocks_of, text_of}
+use Rattle.qs_program.specs.audit.Program.{ProgramShape, blocks_of, text_of}
 use Rattle.qs_program.specs.Sound.{IsSound}
 use Rattle.qs_meaning.specs.Following.{Leads, block_tree}
-use Rattle.qs_meaning.specs.Interaction.{Interaction}
-use Rattle.qs_graph.specs.Names.{graph_of}
+use Rattle.qs_meaning.specs.audit.Interaction.{Interaction}
+use Rattle.qs_graph.specs.audit.Names.{graph_of}
 use Rattle.qs_syncset.specs.declared.mode.Mode.{Mode}
-use Rattle.qs_syncset.specs.Codes.{ClientCode, code_at, AreCodes}
-use Rattle.qs_syncset.specs.Modes.{is_dynamic}
+use Rattle.qs_syncset.specs.audit.Codes.{ClientCode, code_at, AreCodes}
+use Rattle.qs_syncset.specs.audit.Modes.{is_dynamic}
 use Rattle.qs_syncset.specs.SyncCounts.{IsSentBy, queries, syncs_along}
 use Rattle.qs_syncset.specs.SyncCounts as counts
 use Rattle.qs_syncset.proofs.CountedSyncs.{syncs_are_counted}
 use Rattle.qs_syncset.proofs.QueryRuns.{runs_within}
-use Rattle.qs_client.specs.run.BlockSizes.{longest}
-use Rattle.qs_played.specs.Isolation.{ended_of, entry_of, ticket_at, trace_of}
-use Rattle.qs_played.specs.Played.{Played}
+use Rattle.qs_client.specs.audit.run.BlockSizes.{longest}
+use Rattle.qs_played.specs.audit.Isolation.{ended_of, ticket_at, trace_of}
+use Rattle.qs_played.specs.Isolation.{entry_of}
+use Rattle.qs_played.specs.audit.Played.{Played}
 use Rattle.qs_played.specs.SyncSums.{AreListed, AreSent, IsCounted, syncs_at}
 use Rattle.qs_played.proofs.JournalRooms.{no_block_beyond}
-use Rattle.qs_client.specs.ClientModel.{synced_block}
+use Rattle.qs_client.specs.audit.ClientModel.{synced_block}
 use Rattle.qs_client.proofs.run.CodeBounds.{longest_covers}
 
 -- the same counts, said otherwise

@@ -1,9 +1,9 @@
 -- A client's deeds, one run of them after another: where they lead, and what was sent, got and reserved by them. So
 -- what is known of a run grows with its next deed, at the end.
 use Rattle.std.proofs.Common.{◌≡◌, arith, ℕ, ◌+◌, Bool, true, false, if◌then◌else◌, ◌==◌, List, [], ◌∷◌, ◌++◌, refl, sym, ap, subst, add-zero}
-use Rattle.qs_client.specs.ClientRuns.{Deed, DeedsLead, got_from, next_ticket, reservations, sent_to}
-use Rattle.qs_client.specs.ClientRuns as deeds
-use Rattle.qs_client.specs.ClientModel.{ClientModel, mind_after_begin, mind_after_chunk, mind_after_object, next_mind}
+use Rattle.qs_client.specs.audit.ClientRuns.{Deed, DeedsLead, got_from, next_ticket, reservations, sent_to}
+use Rattle.qs_client.specs.audit.ClientRuns as deeds
+use Rattle.qs_client.specs.audit.ClientModel.{ClientModel, mind_after_begin, mind_after_chunk, mind_after_object, next_mind}
 
 -- they lead on
 pub deeds_join : (c : ℕ) (before after : List Deed) (first m end : ClientModel) → DeedsLead c first before m → DeedsLead c m after end

@@ -7,8 +7,9 @@ use Rattle.qs_client.specs.run.NextActs.{SendsNothing}
 use Rattle.qs_client.specs.declared.rules.act.Act.{Act}
 use Rattle.qs_client.specs.declared.rules.act.Act.TheVariants as acts
 use Rattle.qs_client.specs.ClientLanes.{MindStandsAt}
-use Rattle.qs_client.specs.ClientRuns.{Deed, DeedsLead, next_ticket, reserves, sends, gets, takes_chunk, sent_to}
-use Rattle.qs_client.specs.ClientModel.{Asks, ClientModel, mind_after_begin, mind_after_chunk, finish, mind_after_object, hands_out, next_act, next_mind}
+use Rattle.qs_client.specs.audit.ClientRuns.{Deed, DeedsLead, next_ticket, reserves, sends, gets, takes_chunk, sent_to}
+use Rattle.qs_client.specs.audit.ClientModel.{ClientModel, mind_after_begin, mind_after_chunk, finish, mind_after_object, hands_out, next_act, next_mind}
+use Rattle.qs_client.specs.ClientModel.{Asks}
 use Rattle.qs_client.proofs.MindRefinement.{quiet_asks}
 use Rattle.qs_client.proofs.LaneSends.{client_lane_laws}
 

@@ -1,23 +1,21 @@
 -- A client that stands with a full chunk has that chunk: so where it asks for nothing more it is between blocks.
-use Rattle.std.proofs.Common.{◌≡◌, ◌<◌, ◌≤◌, arith, ℕ, nat_lt, Bool, true, false, if◌then◌else◌, ◌==◌, ◌&&◌, is_some, List, [], ◌∷◌, ◌++◌, length, refl, sym}
-use Rattle.std.proofs.Common.{ap, ◌∙◌, Option, Some, None, ℤ}
+use Rattle.std.proofs.Common.{◌≡◌, ◌<◌, ◌≤◌, arith, ℕ, nat_lt, Bool, true, false, if◌then◌else◌, ◌==◌, ◌&&◌, is_some, List, [], ◌∷◌, ◌++◌, length, refl, sym, ap, ◌∙◌, Option, Some, None, ℤ}
 use Rattle.std.proofs.lemmas.Bool.Decides.{nat_tests}
-use Rattle.qs_objects.specs.Journals.{HeldState, run_one}
+use Rattle.qs_objects.specs.audit.Journals.{HeldState, run_one}
 use Rattle.qs_objects.specs.declared.held.Ticket.{Ticket}
 use Rattle.qs_objects.specs.declared.Request.{Request}
-use Rattle.qs_program.specs.Program.{ProgramShape}
-use Rattle.qs_program.specs.Values.{Locals}
-use Rattle.qs_meaning.specs.Solo.{put, value_of}
+use Rattle.qs_program.specs.audit.Program.{ProgramShape}
+use Rattle.qs_program.specs.audit.Values.{Locals}
+use Rattle.qs_meaning.specs.audit.Solo.{put, value_of}
 use Rattle.qs_meaning.specs.BlockRecords.{BlockRecord}
 use Rattle.qs_meaning.proofs.TreeWalks.{put_here}
-use Rattle.qs_graph.specs.Synced.{Synced, Done, Call, Sync, Query}
+use Rattle.qs_graph.specs.audit.Synced.{Synced, Done, Call, Sync, Query}
 use Rattle.qs_chunk.specs.declared.parcel.Parcel.{Parcel}
 use Rattle.qs_chunk.specs.declared.parcel.Parcel.TheVariants as parcels
 use Rattle.qs_client.specs.declared.rules.act.Act.{Act}
 use Rattle.qs_client.specs.declared.rules.act.Act.TheVariants.{Reserve, Send, Finished}
-use Rattle.qs_client.specs.rules.Client.{Client, ClientStage, Settings, Settlement, between, runs, full, awaits, leaves, act_at, call_act, call, clear, end_block}
-use Rattle.qs_client.specs.rules.Client.{query, after_parcel, after_end, after_home, after_sync, after_work, settle, stop_at, take_chunk}
-use Rattle.qs_client.specs.rules.Client as clients
+use Rattle.qs_client.specs.audit.rules.Client.{Client, ClientStage, Settings, Settlement, between, runs, full, awaits, leaves, act_at, call_act, call, clear, end_block, query, after_parcel, after_end, after_home, after_sync, after_work, settle, stop_at, take_chunk}
+use Rattle.qs_client.specs.audit.rules.Client as clients
 use Rattle.qs_core_laws.proofs.protocol.ActObjects.{between_acts}
 use Rattle.qs_core_laws.proofs.protocol.ClientInvariants.{PlaceOk}
 

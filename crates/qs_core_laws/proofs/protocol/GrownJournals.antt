@@ -3,8 +3,8 @@
 -- machine and of threads.
 use Rattle.std.proofs.Common.{◌≡◌, ◌+◌, ◌≤◌, arith, ℕ, suc, Bool, true, false, if◌then◌else◌, List, [], ◌∷◌, ◌++◌, map, length, refl, sym, ap, ◌∙◌, subst, append_assoc, append-nil, None}
 use Rattle.std.proofs.lemmas.List.{length-append, length-map, map-append}
-use Rattle.qs_objects.specs.Act.{act}
-use Rattle.qs_objects.specs.Journals.{HeldState, after, answer, has_room, with_entry, replay, unstamp, without_tickets, IsHonest}
+use Rattle.qs_objects.specs.audit.Act.{act}
+use Rattle.qs_objects.specs.audit.Journals.{HeldState, after, answer, has_room, with_entry, replay, unstamp, without_tickets, IsHonest}
 use Rattle.qs_objects.specs.Parts.{stamp}
 use Rattle.qs_objects.specs.declared.held.Entry.{Entry}
 use Rattle.qs_objects.specs.declared.held.Event.{Event}

@@ -1,37 +1,38 @@
 -- How many Syncs a client's whole run sent for each object, block by block: as many as its block's tree and trace say,
 -- and as its rows count.
-use Rattle.std.proofs.Common.{◌≡◌, ◌<◌, ◌≤◌, arith, ℕ, suc, ◌+◌, Bool, true, false, ◌==◌, is_some, List, [], ◌∷◌, ◌++◌, length, map, slice_index_or}
-use Rattle.std.proofs.Common.{slice_set, refl, sym, ap, ◌∙◌, subst, true≢false, ⊎_elim, length-set}
+use Rattle.std.proofs.Common.{◌≡◌, ◌<◌, ◌≤◌, arith, ℕ, suc, ◌+◌, Bool, true, false, ◌==◌, is_some, List, [], ◌∷◌, ◌++◌, length, map, slice_index_or, slice_set, refl, sym, ap, ◌∙◌, subst, true≢false, ⊎_elim, length-set}
 use Rattle.std.specs.List.{AllByRecursion, IsDistinct}
 use Rattle.std.proofs.lemmas.List.{get_or-map, length-map}
-use Rattle.qs_objects.specs.Journals.{HeldState}
+use Rattle.qs_objects.specs.audit.Journals.{HeldState}
 use Rattle.qs_objects.specs.declared.held.Event.{Event}
 use Rattle.qs_objects.specs.declared.held.Ticket.{Ticket}
 use Rattle.qs_objects.proofs.Choices.{apart_eqb, eqb_apart, eqb_self, num_cases}
-use Rattle.qs_program.specs.Program.{ProgramShape}
-use Rattle.qs_program.specs.Sound.{is_in}
-use Rattle.qs_program.specs.Values.{Locals}
-use Rattle.qs_meaning.specs.Following.{AsksOnly, reserves, block_tree}
-use Rattle.qs_meaning.specs.Solo.{put}
+use Rattle.qs_program.specs.audit.Program.{ProgramShape}
+use Rattle.qs_program.specs.audit.Sound.{is_in}
+use Rattle.qs_program.specs.audit.Values.{Locals}
+use Rattle.qs_meaning.specs.audit.Following.{reserves}
+use Rattle.qs_meaning.specs.Following.{AsksOnly, block_tree}
+use Rattle.qs_meaning.specs.audit.Solo.{put}
 use Rattle.qs_meaning.proofs.TreeWalks.{put_here, put_there}
 use Rattle.qs_graph.specs.Synced.{without_syncs}
-use Rattle.qs_syncset.specs.Codes.{BlockCode, ClientCode, code_at, no_code}
+use Rattle.qs_syncset.specs.audit.Codes.{BlockCode, ClientCode, code_at, no_code}
 use Rattle.qs_syncset.specs.SoundSynced.{IsSoundSynced, IsOnReserved}
 use Rattle.qs_syncset.specs.SyncCounts.{syncs_along}
-use Rattle.qs_sync_counts.specs.SyncRows.{fresh_rows, no_syncs, object_of, syncs_for, with_sync}
+use Rattle.qs_sync_counts.specs.audit.SyncRows.{fresh_rows, no_syncs, object_of, with_sync}
+use Rattle.qs_sync_counts.specs.SyncRows.{syncs_for}
 use Rattle.qs_sync_counts.specs.declared.sync_counts.SyncCount.{SyncCount}
 use Rattle.qs_syncset.proofs.SyncTrees.{IsAsking}
 use Rattle.qs_chunk.specs.declared.parcel.Parcel.{Parcel}
 use Rattle.qs_chunk.specs.declared.parcel.Parcel.TheVariants as parcels
-use Rattle.qs_client.specs.rules.Client.{Client, ClientStage, Settings, Settlement, act_of, between, begin, after_parcel, take_chunk}
-use Rattle.qs_client.specs.rules.Client as clients
-use Rattle.qs_client.specs.rules.Outgoings.{count_sync, outgoing_of}
+use Rattle.qs_client.specs.audit.rules.Client.{Client, ClientStage, Settings, Settlement, act_of, between, begin, after_parcel, take_chunk}
+use Rattle.qs_client.specs.audit.rules.Client as clients
+use Rattle.qs_client.specs.audit.rules.Outgoings.{count_sync, outgoing_of}
 use Rattle.qs_client.specs.declared.rules.act.Act.TheVariants as acts
 use Rattle.qs_client.specs.declared.rules.outgoing.Outgoing.TheVariants as outgoings
-use Rattle.qs_client.specs.ClientRuns.{Deed, DeedsLead, RunsTo, next_ticket}
-use Rattle.qs_client.specs.ClientRuns as deeds
-use Rattle.qs_client.specs.ClientModel.{ClientModel, act_due, mind_after_begin, mind_after_chunk, finish, enters, fresh_mind, mind_after_object, hands_out, is_between, lists_of_code, tally, tree_at}
-use Rattle.qs_played.specs.Played.{ticket}
+use Rattle.qs_client.specs.audit.ClientRuns.{Deed, DeedsLead, RunsTo, next_ticket}
+use Rattle.qs_client.specs.audit.ClientRuns as deeds
+use Rattle.qs_client.specs.audit.ClientModel.{ClientModel, act_due, mind_after_begin, mind_after_chunk, finish, enters, fresh_mind, mind_after_object, hands_out, is_between, lists_of_code, tally, tree_at}
+use Rattle.qs_played.specs.audit.Played.{ticket}
 use Rattle.qs_played.proofs.FunctionUpdate.{put_both}
 use Rattle.qs_played.proofs.SyncTallies.{none_for, objects_none, objects_stay, sent_for}
 use Rattle.qs_core_laws.proofs.protocol.ActObjects.{chunk_begun, got_begun, not_await, not_need, not_send, send_at, sent_begun, settle_begun}

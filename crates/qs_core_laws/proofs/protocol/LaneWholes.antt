@@ -4,14 +4,14 @@
 -- handler received.
 use Rattle.std.proofs.Common.{◌≡◌, Bool, true, false, List, [], ◌∷◌, ◌++◌, map, refl, sym, ap, ap₂, ◌∙◌, subst, append_assoc, append-nil}
 use Rattle.std.proofs.lemmas.List.{map-append}
-use Rattle.qs_objects.specs.Journals.{HeldState}
+use Rattle.qs_objects.specs.audit.Journals.{HeldState}
 use Rattle.qs_objects.specs.Laws.{IsCommand}
-use Rattle.qs_objects.specs.Parts.{IsFront, command_event}
+use Rattle.qs_objects.specs.audit.Parts.{IsFront, command_event}
 use Rattle.qs_objects.specs.declared.held.Event.{Event}
 use Rattle.qs_objects.specs.declared.held.Ticket.{Ticket}
 use Rattle.qs_objects.specs.declared.Request.{Request}
 use Rattle.qs_meaning.proofs.Each.{each_join}
-use Rattle.qs_chunk.specs.Runs.{ran_all}
+use Rattle.qs_chunk.specs.audit.Runs.{ran_all}
 use Rattle.qs_chunk.specs.LaneViews.{AllCommands, Extends, ObjectStance, sends, asks, holds, gone, ClientLane, Serving, lent, over, HandlerLane, HandlerGives, object_of}
 use Rattle.qs_chunk.specs.declared.parcel.Parcel.{Parcel}
 use Rattle.qs_chunk.proofs.LaneMatch.{Extends-append, Extends-ran_all}

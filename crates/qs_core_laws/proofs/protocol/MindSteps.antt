@@ -1,20 +1,19 @@
 -- What each deed of a client makes of its mind, once nothing is left to be done for its act; and so what a whole run
 -- keeps.
 use Rattle.std.proofs.Common.{◌≡◌, ℕ, ◌+◌, List, [], ◌∷◌, ◌++◌, refl, sym, ap, ◌∙◌, subst, append_assoc, append-nil, add-zero}
-use Rattle.qs_objects.specs.Journals.{HeldState}
-use Rattle.qs_program.specs.Values.{Locals}
-use Rattle.qs_syncset.specs.Codes.{code_at}
+use Rattle.qs_objects.specs.audit.Journals.{HeldState}
+use Rattle.qs_program.specs.audit.Values.{Locals}
+use Rattle.qs_syncset.specs.audit.Codes.{code_at}
 use Rattle.qs_sync_counts.specs.declared.sync_counts.SyncCount.{SyncCount}
 use Rattle.qs_chunk.specs.declared.parcel.Parcel.{Parcel}
-use Rattle.qs_client.specs.rules.Client.{Settlement, between, begin, take_object, after_parcel, take_chunk}
-use Rattle.qs_client.specs.rules.Outgoings.{count_sync, outgoing_of}
+use Rattle.qs_client.specs.audit.rules.Client.{Settlement, between, begin, take_object, after_parcel, take_chunk}
+use Rattle.qs_client.specs.audit.rules.Outgoings.{count_sync, outgoing_of}
 use Rattle.qs_client.specs.declared.rules.outgoing.Outgoing.{Outgoing}
 use Rattle.qs_client.specs.declared.rules.outgoing.Outgoing.TheVariants as outgoings
 use Rattle.qs_client.specs.declared.rules.act.Act.TheVariants as acts
 use Rattle.qs_client.proofs.rules.CarriedValues.{sends_are_parted}
-use Rattle.qs_client.specs.ClientRuns.{Deed, DeedsLead, reserves, sends, gets, takes_chunk, next_ticket}
-use Rattle.qs_client.specs.ClientModel.{ClientModel, act_due, mind_after_begin, mind_after_chunk, finish, enters, extend, mind_after_object, hands_out, locals_at, next_mind, reserved_by}
-use Rattle.qs_client.specs.ClientModel.{settings_of, tally, tree_at}
+use Rattle.qs_client.specs.audit.ClientRuns.{Deed, DeedsLead, reserves, sends, gets, takes_chunk, next_ticket}
+use Rattle.qs_client.specs.audit.ClientModel.{ClientModel, act_due, mind_after_begin, mind_after_chunk, finish, enters, extend, mind_after_object, hands_out, locals_at, next_mind, reserved_by, settings_of, tally, tree_at}
 use Rattle.qs_client.proofs.MindRefinement.{extend_none}
 
 -- a mind whose client came to this, with these numbers of Syncs, for whose last act nothing is left

@@ -6,11 +6,11 @@ use Rattle.std.proofs.Common.{◌≡◌, ◌<◌, arith, ℕ, Bool, true, false,
 use Rattle.std.specs.List.{AllByRecursion}
 use Rattle.std.proofs.lemmas.List.Elements.{filter-append}
 use Rattle.std.proofs.lemmas.List.Concat.{flat_map-append}
-use Rattle.qs_objects.specs.Journals.{HeldState}
-use Rattle.qs_objects.specs.Parts.{IsFront, same}
+use Rattle.qs_objects.specs.audit.Journals.{HeldState}
+use Rattle.qs_objects.specs.audit.Parts.{IsFront, same}
 use Rattle.qs_objects.specs.declared.held.Ticket.{Ticket}
 use Rattle.qs_objects.proofs.Choices.{eqb_self, num_cases, ticket_cases}
-use Rattle.qs_meaning.specs.Solo.{put}
+use Rattle.qs_meaning.specs.audit.Solo.{put}
 use Rattle.qs_meaning.proofs.Each.{each_map, each_both, each_snoc, each_front, each_back}
 use Rattle.qs_meaning.proofs.Histories.{Among}
 use Rattle.qs_meaning.proofs.TreeWalks.{put_here, put_there}
@@ -18,7 +18,8 @@ use Rattle.qs_chunk.specs.LaneViews.{gone, ClientLane, HandlerLane}
 use Rattle.qs_chunk.specs.declared.parcel.Parcel.{Parcel}
 use Rattle.qs_chunk.specs.LaneViews as views
 use Rattle.qs_chunk.specs.declared.parcel.Parcel.TheVariants as parcels
-use Rattle.qs_handler.specs.Handler.{Handler, free, serves, spares, gives, away, closed, serving}
+use Rattle.qs_handler.specs.audit.Handler.{Handler, free, serves, spares, gives, away, closed}
+use Rattle.qs_handler.specs.Handler.{serving}
 use Rattle.qs_played.proofs.FunctionUpdate.{put_at, put_at_here, put_at_there}
 use Rattle.qs_core_laws.proofs.protocol.ObjectViews.{stance, Rising, PastOf, ObjectView, ClientLog, HandlerLog, ahead, IsObject, IsClientLog}
 use Rattle.qs_core_laws.proofs.protocol.LaneMoves.{HandlerGoes, handler_goes, handler_give, handler_end}

@@ -6,19 +6,19 @@ use Rattle.std.proofs.Common.{◌≡◌, ◌<◌, ◌≤◌, ℕ, nat_lt, Bool, 
 use Rattle.std.proofs.lemmas.List.{get_or_past, length-replicate}
 use Rattle.qs_objects.specs.declared.held.Ticket.{Ticket}
 use Rattle.qs_meaning.specs.Following.{block_tree}
-use Rattle.qs_program.specs.Program.{BlockShape, ProgramShape, blocks_of}
+use Rattle.qs_program.specs.audit.Program.{BlockShape, ProgramShape, blocks_of}
 use Rattle.qs_program.specs.Sound.{IsSound}
-use Rattle.qs_program.specs.Values.{Locals}
+use Rattle.qs_program.specs.audit.Values.{Locals}
 use Rattle.qs_graph.specs.Synced.{without_syncs}
 use Rattle.qs_syncset.specs.declared.mode.Mode.{Mode}
-use Rattle.qs_syncset.specs.Codes.{BlockCode, ClientCode, no_code, AreCodes, blocks_in, reserved_of}
+use Rattle.qs_syncset.specs.audit.Codes.{BlockCode, ClientCode, no_code, AreCodes, blocks_in, reserved_of}
 use Rattle.qs_syncset.specs.SoundSynced.{IsSoundSynced, IsOnReserved}
 use Rattle.qs_syncset.proofs.CodeWalks.{walks_are_sound}
-use Rattle.qs_client.specs.run.BlockSizes.{longest}
+use Rattle.qs_client.specs.audit.run.BlockSizes.{longest}
 use Rattle.qs_client.proofs.run.CodeBounds.{longest_covers}
 use Rattle.qs_played.proofs.ReservedObjects.{none_beyond, no_text}
 use Rattle.qs_core_laws.proofs.protocol.ClientInvariants.{objects_of_block}
-use Rattle.qs_client.specs.ClientModel.{synced_block}
+use Rattle.qs_client.specs.audit.ClientModel.{synced_block}
 
 module _ (program : ProgramShape) (sound : IsSound program) (mode : Mode) (code : ℕ → ClientCode) (codes : AreCodes program mode code) where
   pub blocks_are : (c : ℕ) → blocks_in code c ≡ blocks_of program c

@@ -6,9 +6,10 @@ use Rattle.std.proofs.lemmas.Map.Keys.{IsDistinct-head, IsDistinct-tail}
 use Rattle.std.specs.List.{AllByRecursion, IsDistinct}
 use Rattle.qs_objects.specs.declared.held.Ticket.{Ticket}
 use Rattle.qs_objects.proofs.Choices.{eqb_apart, apart_eqb, eqb_self}
-use Rattle.qs_meaning.specs.Following.{reserves}
-use Rattle.qs_program.specs.Program.{BlockShape, ProgramShape, blocks_of, no_block, text_of}
-use Rattle.qs_program.specs.Sound.{IsSound, is_in}
+use Rattle.qs_meaning.specs.audit.Following.{reserves}
+use Rattle.qs_program.specs.audit.Program.{BlockShape, ProgramShape, blocks_of, no_block, text_of}
+use Rattle.qs_program.specs.audit.Sound.{is_in}
+use Rattle.qs_program.specs.Sound.{IsSound}
 use Rattle.qs_program.proofs.Bounds.{sound_block}
 use Rattle.qs_meaning.proofs.Each.{each_map}
 use Rattle.qs_played.proofs.ReservedObjects.{none_beyond, no_text}

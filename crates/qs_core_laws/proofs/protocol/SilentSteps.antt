@@ -3,28 +3,30 @@
 -- them (`ClientLogs`) stand on this. The proof is an induction on the block's tree, where each event is a move of one
 -- object's lane.
 use Rattle.std.proofs.Common.{◌≡◌, ℕ, Bool, true, false, true≢false, if◌then◌else◌, ◌==◌, ◌&&◌, is_some, List, [], ◌∷◌, ◌++◌, length, refl, sym, ap, ap₂, ◌∙◌, subst, ◌⊎◌, inl, inr, ⊎_elim, append_assoc, append-nil, Option, Some, None, ℤ}
-use Rattle.qs_objects.specs.Journals.{HeldState, run_one}
+use Rattle.qs_objects.specs.audit.Journals.{HeldState, run_one}
 use Rattle.qs_objects.specs.Laws.{IsCommand}
-use Rattle.qs_objects.specs.Parts.{command_event, part}
+use Rattle.qs_objects.specs.audit.Parts.{command_event, part}
 use Rattle.qs_objects.specs.declared.held.Event.{Event}
 use Rattle.qs_objects.specs.declared.held.Ticket.{Ticket}
 use Rattle.qs_objects.specs.declared.Request.{Request}
 use Rattle.qs_objects.proofs.Choices.{and_cases, num_cases}
 use Rattle.qs_objects.proofs.ObjectLaws.{never_answers}
-use Rattle.qs_meaning.specs.Following.{AsksOnly, Leads, reserves, block_tree}
-use Rattle.qs_meaning.specs.Interaction.{Interaction}
-use Rattle.qs_program.specs.Program.{ProgramShape}
-use Rattle.qs_meaning.specs.Solo.{event, put, value_of}
-use Rattle.qs_program.specs.Sound.{is_in}
-use Rattle.qs_program.specs.Values.{Locals}
+use Rattle.qs_meaning.specs.audit.Following.{reserves}
+use Rattle.qs_meaning.specs.Following.{AsksOnly, Leads, block_tree}
+use Rattle.qs_meaning.specs.audit.Interaction.{Interaction}
+use Rattle.qs_program.specs.audit.Program.{ProgramShape}
+use Rattle.qs_meaning.specs.audit.Solo.{event, put, value_of}
+use Rattle.qs_program.specs.audit.Sound.{is_in}
+use Rattle.qs_program.specs.audit.Values.{Locals}
 use Rattle.qs_meaning.proofs.Histories.{advance}
 use Rattle.qs_meaning.specs.BlockRecords.{BlockRecord}
 use Rattle.qs_meaning.proofs.TreeWalks.{leads_call, leads_query, part_snoc_here, part_snoc_there, put_there}
-use Rattle.qs_graph.specs.Synced.{Synced, Done, Call, Sync, Query, without_syncs}
+use Rattle.qs_graph.specs.audit.Synced.{Synced, Done, Call, Sync, Query}
+use Rattle.qs_graph.specs.Synced.{without_syncs}
 use Rattle.qs_syncset.specs.SoundSynced.{IsSoundSynced}
 use Rattle.qs_chunk.specs.LaneViews.{sends, holds, ClientLane}
 use Rattle.qs_chunk.specs.declared.parcel.Parcel.{Parcel}
-use Rattle.qs_client.specs.rules.Client.{Client, ClientStage, Settings, Settlement, between, runs, full, leaves, stop_at, with_event, end_block, call, query, settle}
+use Rattle.qs_client.specs.audit.rules.Client.{Client, ClientStage, Settings, Settlement, between, runs, full, leaves, stop_at, with_event, end_block, call, query, settle}
 use Rattle.qs_played.proofs.FunctionUpdate.{put_all}
 use Rattle.qs_core_laws.proofs.protocol.ClientInvariants.{in_hand, holding, objects_of_block, Lined, Ready, Leaving, PlaceOk}
 use Rattle.qs_core_laws.specs.protocol.ClientHistories.{apart_from}

@@ -2,17 +2,18 @@
 use Rattle.std.specs.Prelude.{◌≡◌, ℕ, true, List, Ok}
 use Rattle.std.specs.List.{AllByRecursion}
 use Rattle.qs_objects.specs.declared.held.Ticket.{Ticket}
-use Rattle.qs_program.specs.Program.{ProgramShape}
+use Rattle.qs_program.specs.audit.Program.{ProgramShape}
 use Rattle.qs_program.specs.Sound.{IsSound}
-use Rattle.qs_meaning.specs.Configurations.{IsComplete}
-use Rattle.qs_meaning.specs.Serial.{IsLegal}
-use Rattle.qs_syncset.specs.Codes.{ClientCode, AreCodes}
+use Rattle.qs_meaning.specs.audit.Configurations.{IsComplete}
+use Rattle.qs_meaning.specs.audit.Serial.{IsLegal}
+use Rattle.qs_syncset.specs.audit.Codes.{ClientCode, AreCodes}
 use Rattle.qs_syncset.specs.declared.mode.Mode.{Mode}
 use Rattle.qs_played.specs.Isolation.{IsIsolated}
-use Rattle.qs_played.specs.Played.{Played}
+use Rattle.qs_played.specs.audit.Played.{Played}
 use Rattle.qs_played.specs.SyncSums.{AreSyncsCounted}
 use Rattle.qs_played.specs.declared.schedule.actor.Actor.{Actor}
-use Rattle.qs_core_laws.specs.CoreSchedule.{IsPlayedIn, core_played, core_scheduled, on_way}
+use Rattle.qs_core_laws.specs.audit.CoreSchedule.{core_played}
+use Rattle.qs_core_laws.specs.CoreSchedule.{IsPlayedIn, core_scheduled, on_way}
 
 -- What is shown after some picks, without a round after them, are exactly these tickets, in this order, and each of
 -- their blocks has ended; where the order is complete, the run is finished. By the codes of the program in this mode it

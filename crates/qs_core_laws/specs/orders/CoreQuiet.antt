@@ -1,14 +1,14 @@
 -- In the optimised machine nobody is in a block.
 use Rattle.std.specs.Prelude.{◌≡◌, ℕ, zero, suc, true, List, [], ◌∷◌, ◌++◌, length, None}
-use Rattle.qs_objects.specs.Journals.{HeldState}
+use Rattle.qs_objects.specs.audit.Journals.{HeldState}
 use Rattle.qs_objects.specs.declared.held.Ticket.{Ticket}
-use Rattle.qs_program.specs.Program.{ProgramShape}
-use Rattle.qs_chunk.specs.Limits.{spare_room}
-use Rattle.qs_handler.specs.Handler.{free}
-use Rattle.qs_client.specs.ClientModel.{is_between}
+use Rattle.qs_program.specs.audit.Program.{ProgramShape}
+use Rattle.qs_chunk.specs.audit.Limits.{spare_room}
+use Rattle.qs_handler.specs.audit.Handler.{free}
+use Rattle.qs_client.specs.audit.ClientModel.{is_between}
 use Rattle.qs_played.specs.declared.schedule.actor.Actor.{Actor}
 use Rattle.qs_played.specs.declared.schedule.actor.Actor.TheVariants as actor
-use Rattle.qs_core_laws.specs.Core.{Core}
+use Rattle.qs_core_laws.specs.audit.Core.{Core}
 
 -- nothing is on its way in the lane of a client to a handler, and all its empty chunks lie ready
 pub record IsLaneClear (s : Core) (c h : ℕ) : Type 0 where

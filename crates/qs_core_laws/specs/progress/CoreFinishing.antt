@@ -1,13 +1,14 @@
 -- That a run of the optimised machine with enough rounds is finished, and then stays so.
 use Rattle.std.specs.Prelude.{◌≡◌, ◌≤◌, ℕ, true, None, List, Ok}
-use Rattle.qs_program.specs.Program.{ProgramShape}
+use Rattle.qs_program.specs.audit.Program.{ProgramShape}
 use Rattle.qs_program.specs.Sound.{IsSound}
 use Rattle.qs_syncset.specs.declared.mode.Mode.{Mode}
-use Rattle.qs_syncset.specs.Codes.{ClientCode, AreCodes}
-use Rattle.qs_played.specs.Played.{Played}
+use Rattle.qs_syncset.specs.audit.Codes.{ClientCode, AreCodes}
+use Rattle.qs_played.specs.audit.Played.{Played}
 use Rattle.qs_played.specs.declared.schedule.actor.Actor.{Actor}
-use Rattle.qs_core_laws.specs.Core.{core_begin, core_step}
-use Rattle.qs_core_laws.specs.CoreSchedule.{IsPlayedIn, core_plays, is_finished}
+use Rattle.qs_core_laws.specs.audit.Core.{core_begin, core_step}
+use Rattle.qs_core_laws.specs.audit.CoreSchedule.{core_plays, is_finished}
+use Rattle.qs_core_laws.specs.CoreSchedule.{IsPlayedIn}
 use Rattle.qs_core_laws.specs.progress.CoreSteps.{most_core_steps_of}
 
 -- Where all is finished nobody has a step, for every checked program, mode, chunk size and list of actors.

@@ -1,13 +1,13 @@
 -- Whether a run of the optimised machine can go on.
 use Rattle.std.specs.Prelude.{◌≡◌, ◌⊎◌, ℕ, true, IsSome, List}
-use Rattle.qs_program.specs.Program.{ProgramShape}
+use Rattle.qs_program.specs.audit.Program.{ProgramShape}
 use Rattle.qs_program.specs.Sound.{IsSound}
 use Rattle.qs_syncset.specs.declared.mode.Mode.{Mode}
-use Rattle.qs_syncset.specs.Codes.{ClientCode, AreCodes}
-use Rattle.qs_played.specs.Schedule.{names_actor}
+use Rattle.qs_syncset.specs.audit.Codes.{ClientCode, AreCodes}
+use Rattle.qs_played.specs.audit.Schedule.{names_actor}
 use Rattle.qs_played.specs.declared.schedule.actor.Actor.{Actor}
-use Rattle.qs_core_laws.specs.Core.{Core, core_begin, core_step}
-use Rattle.qs_core_laws.specs.CoreSchedule.{core_plays, is_finished}
+use Rattle.qs_core_laws.specs.audit.Core.{Core, core_begin, core_step}
+use Rattle.qs_core_laws.specs.audit.CoreSchedule.{core_plays, is_finished}
 
 -- some client or some handler of the program has a step
 abbrev pub CanGoOn : ProgramShape → (ℕ → ClientCode) → ℕ → Core → Type 0

@@ -1,13 +1,14 @@
 -- How many steps a run of the optimised machine can take.
 use Rattle.std.specs.Prelude.{◌≤◌, ℕ, ◌+◌, ◌*◌, List, length, sum_by}
-use Rattle.qs_program.specs.Limits.{most_objects, most_requests, most_tickets}
-use Rattle.qs_program.specs.Program.{BlockShape, ProgramShape, block_load}
+use Rattle.qs_program.specs.audit.Limits.{most_objects, most_requests}
+use Rattle.qs_program.specs.Limits.{most_tickets}
+use Rattle.qs_program.specs.audit.Program.{BlockShape, ProgramShape, block_load}
 use Rattle.qs_program.specs.Sound.{IsSound}
 use Rattle.qs_syncset.specs.declared.mode.Mode.{Mode}
-use Rattle.qs_syncset.specs.Codes.{ClientCode, AreCodes}
+use Rattle.qs_syncset.specs.audit.Codes.{ClientCode, AreCodes}
 use Rattle.qs_played.specs.declared.schedule.actor.Actor.{Actor}
 use Rattle.qs_plain_laws.specs.progress.Steps.{steps_made_by}
-use Rattle.qs_core_laws.specs.Core.{Core, core_begin, core_step}
+use Rattle.qs_core_laws.specs.audit.Core.{Core, core_begin, core_step}
 
 -- how many actors of a list have a step when their turn comes
 abbrev pub core_steps_made : (ℕ → ClientCode) → ℕ → List Actor → Core → ℕ

@@ -2,21 +2,22 @@
 -- and has its record, what was sent to each of its objects and what was got from it; joined, these are all that the
 -- client sent and got.
 use Rattle.std.specs.Prelude.{◌≡◌, ◌<◌, ℕ, zero, suc, true, false, if◌then◌else◌, List, [], ◌++◌, length, slice_index_or, None}
-use Rattle.qs_objects.specs.Journals.{HeldState}
-use Rattle.qs_objects.specs.Parts.{part}
+use Rattle.qs_objects.specs.audit.Journals.{HeldState}
+use Rattle.qs_objects.specs.audit.Parts.{part}
 use Rattle.qs_objects.specs.declared.held.Ticket.{Ticket}
-use Rattle.qs_program.specs.Program.{ProgramShape}
+use Rattle.qs_program.specs.audit.Program.{ProgramShape}
 use Rattle.qs_meaning.specs.BlockRecords.{BlockRecord, Begins, IsDone, IsBlockRecord}
-use Rattle.qs_meaning.specs.Following.{AsksOnly, reserves}
-use Rattle.qs_meaning.specs.Serial.{zeros}
-use Rattle.qs_syncset.specs.Codes.{ClientCode}
+use Rattle.qs_meaning.specs.audit.Following.{reserves}
+use Rattle.qs_meaning.specs.Following.{AsksOnly}
+use Rattle.qs_meaning.specs.audit.Serial.{zeros}
+use Rattle.qs_syncset.specs.audit.Codes.{ClientCode}
 use Rattle.qs_chunk.specs.LaneViews.{ObjectStance, gone, sends, ClientLane}
 use Rattle.qs_chunk.specs.declared.parcel.Parcel.{Parcel}
-use Rattle.qs_client.specs.rules.Client.{Client}
-use Rattle.qs_client.specs.rules.Client as clients
-use Rattle.qs_client.specs.ClientModel.{ClientModel, is_between}
-use Rattle.qs_client.specs.ClientRuns.{Deed, got_from, reservations, sent_to}
-use Rattle.qs_played.specs.Played.{ticket}
+use Rattle.qs_client.specs.audit.rules.Client.{Client}
+use Rattle.qs_client.specs.audit.rules.Client as clients
+use Rattle.qs_client.specs.audit.ClientModel.{ClientModel, is_between}
+use Rattle.qs_client.specs.audit.ClientRuns.{Deed, got_from, reservations, sent_to}
+use Rattle.qs_played.specs.audit.Played.{ticket}
 
 -- the client has neither the object nor an open chunk for it
 abbrev pub HasNone : Client → ℕ → Type 0

@@ -5,9 +5,9 @@ use Rattle.std.proofs.Common.{◌≡◌, ℕ, suc, ◌+◌, ◌<◌, Bool, true,
 use Rattle.std.proofs.lemmas.List.{at_drop_more, drop-drop}
 use Rattle.qs_script.specs.declared.tree.tree.Stmt.{Stmt}
 use Rattle.qs_script.specs.declared.tree.tree.Stmt.TheVariants.{Command, Query, Assign, If, IfElse, Repeat, Leave}
-use Rattle.qs_script.specs.tree.Tree.{Stmts, end, command, query, assign, choose, choose_else, again, leave}
+use Rattle.qs_script.specs.audit.tree.Tree.{Stmts, end, command, query, assign, choose, choose_else, again, leave}
 use Rattle.qs_script.specs.tree.Views.{stmts_of, single}
-use Rattle.qs_program.specs.Numbering.{Name}
+use Rattle.qs_program.specs.audit.Numbering.{Name}
 use Rattle.qs_check.specs.declared.anchors.anchor.Anchor.TheVariants as m
 use Rattle.qs_check.specs.anchors.Anchors.{call_anchors, expr_anchors, anchors, given_anchors}
 use Rattle.qs_dot.specs.node_lines.NodeLines.{anchor_count}

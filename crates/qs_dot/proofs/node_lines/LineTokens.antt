@@ -5,7 +5,7 @@ use Rattle.std.proofs.lemmas.Bool.Decides.{nat_tests}
 use Rattle.std.proofs.lemmas.List.{map-append}
 use Rattle.qs_script.specs.declared.tokens.token.Token.{Token}
 use Rattle.qs_script.specs.declared.tokens.lex.TokenFault.{TokenFault}
-use Rattle.qs_script.specs.tokens.Tokens.{Pending, nothing, word, digits, comment, sign, over, Step, byte_step, ends, going_on, after, tokens_from, tokens_of}
+use Rattle.qs_script.specs.audit.tokens.Tokens.{Pending, nothing, word, digits, comment, sign, over, Step, byte_step, ends, going_on, after, tokens_from, tokens_of}
 use Rattle.qs_check.specs.anchors.Anchors.{anchors_in}
 use Rattle.qs_check.proofs.anchors.Tokens.{anchors_are_tokens}
 use Rattle.qs_dot.specs.node_lines.AnchorLines.{anchors_from, its_token, numbered, tokens_or_none}

@@ -7,8 +7,8 @@ use Rattle.std.proofs.lemmas.List.{length-map}
 use Rattle.qs_script.specs.declared.tree.tree.Block.{Block}
 use Rattle.qs_script.specs.declared.tree.tree.Item.{Item}
 use Rattle.qs_script.specs.declared.tree.tree.Item.TheVariants.{Object, Client, Template, Started}
-use Rattle.qs_script.specs.tree.Tree.{Stmts, end, command, query, assign, choose, choose_else, again, leave}
-use Rattle.qs_program.specs.Numbering.{Name, same_name}
+use Rattle.qs_script.specs.audit.tree.Tree.{Stmts, end, command, query, assign, choose, choose_else, again, leave}
+use Rattle.qs_program.specs.audit.Numbering.{Name, same_name}
 use Rattle.qs_script.specs.declared.tokens.token.Token.{Token}
 use Rattle.qs_check.specs.declared.anchors.anchor.Anchor.TheVariants as m
 use Rattle.qs_check.specs.anchors.Anchors.{anchor_token, anchors, block_anchors, blocks_anchors, call_anchors, expr_anchors, formal_anchor, item_anchors, script_anchors, test_anchors}

@@ -4,20 +4,20 @@
 use Rattle.std.proofs.Common.{◌≡◌, ◌<◌, ℕ, zero, suc, ◌+◌, Bool, true, false, if◌then◌else◌, List, [], ◌∷◌, ◌++◌, length, drop, get_or, map, Option, Some, refl, length-append, arith}
 use Rattle.std.proofs.lemmas.List.{length-map}
 use Rattle.qs_objects.specs.declared.object.Kind.{Kind}
-use Rattle.qs_script.specs.tree.Tree as tree
+use Rattle.qs_script.specs.audit.tree.Tree as tree
 use Rattle.qs_script.specs.declared.tree.tree.Block.{Block}
 use Rattle.qs_script.specs.declared.tree.tree.ClientItem.{ClientItem}
 use Rattle.qs_script.specs.declared.tree.tree.StartedItem.{StartedItem}
 use Rattle.qs_script.specs.declared.tree.tree.TemplateItem.{TemplateItem}
 use Rattle.qs_script.specs.declared.tree.tree.Item.{Item}
 use Rattle.qs_script.specs.declared.tree.tree.Item.TheVariants.{Object, Client, Template, Started}
-use Rattle.qs_program.specs.Numbering.{Name, same_name}
-use Rattle.qs_program.specs.Statements.{Statements}
-use Rattle.qs_program.specs.Program.{ClientShape, no_block, no_client, own_in}
-use Rattle.qs_program.specs.Binding.{bound_block}
-use Rattle.qs_check.specs.resolution.Resolve.{as_client, binding_of, block_shape, body_of, client_shape, clients_of, declared_formals, kinds_of, names_of, own_client, started_of, template_called, templates_in}
-use Rattle.qs_graph.specs.Graphs.{block_graph, node_count, places_of}
-use Rattle.qs_graph.specs.Nodes.{exit}
+use Rattle.qs_program.specs.audit.Numbering.{Name, same_name}
+use Rattle.qs_program.specs.audit.Statements.{Statements}
+use Rattle.qs_program.specs.audit.Program.{ClientShape, no_block, no_client, own_in}
+use Rattle.qs_program.specs.audit.Binding.{bound_block}
+use Rattle.qs_check.specs.audit.resolution.Resolve.{as_client, binding_of, block_shape, body_of, client_shape, clients_of, declared_formals, kinds_of, names_of, own_client, started_of, template_called, templates_in}
+use Rattle.qs_graph.specs.audit.Graphs.{block_graph, node_count, places_of}
+use Rattle.qs_graph.specs.audit.Nodes.{exit}
 use Rattle.qs_graph.proofs.StatementPlaces.{length_places}
 use Rattle.qs_check.specs.anchors.Anchors.{call_anchors, expr_anchors, test_anchors, block_anchors, item_anchors}
 use Rattle.qs_dot.specs.node_lines.Laws.{NodesHaveLines}

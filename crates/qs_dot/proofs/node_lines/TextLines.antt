@@ -5,7 +5,7 @@ use Rattle.std.proofs.lemmas.Bool.Decides.{nat_tests}
 use Rattle.std.proofs.lemmas.List.{drop_more, map-append, take_more, get_or-drop}
 use Rattle.qs_script.specs.declared.tokens.token.Token.{Token}
 use Rattle.qs_script.specs.declared.tokens.lex.TokenFault.{TokenFault}
-use Rattle.qs_script.specs.tokens.Tokens.{after, tokens_of}
+use Rattle.qs_script.specs.audit.tokens.Tokens.{after, tokens_of}
 use Rattle.qs_check.specs.anchors.Anchors.{anchors_in, is_anchor}
 use Rattle.qs_dot.specs.node_lines.AnchorLines.{anchors_from, its_line, line_anchors, lines_in, numbered, tokens_or_none}
 

@@ -3,7 +3,7 @@
 use Rattle.std.specs.Prelude.{ℕ, ◌+◌, nat_eq, if◌then◌else◌, List, [], ◌∷◌, ◌++◌, map, Result, Ok, Err}
 use Rattle.qs_script.specs.declared.tokens.token.Token.{Token}
 use Rattle.qs_script.specs.declared.tokens.lex.TokenFault.{TokenFault}
-use Rattle.qs_script.specs.tokens.Tokens.{tokens_of}
+use Rattle.qs_script.specs.audit.tokens.Tokens.{tokens_of}
 use Rattle.qs_check.specs.anchors.Anchors.{anchors_in}
 
 abbrev pub tokens_or_none : Result (List Token) TokenFault → List Token

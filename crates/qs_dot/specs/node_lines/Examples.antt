@@ -1,6 +1,6 @@
 -- Scripts with the anchors of their nodes by number and with the lines of these, computed by the definitions.
 use Rattle.std.specs.Prelude.{◌≡◌, ℕ, zero, suc, List, [], ◌∷◌, ◌++◌, codes, length, pos}
-use Rattle.qs_script.specs.tree.Tree.{Stmts, end, command, query, assign, choose, choose_else, again, leave}
+use Rattle.qs_script.specs.audit.tree.Tree.{Stmts, end, command, query, assign, choose, choose_else, again, leave}
 use Rattle.qs_script.specs.declared.tree.tree.Atom.TheVariants.{Variable, Number}
 use Rattle.qs_script.specs.declared.tree.tree.Operator.TheVariants.{Plus}
 use Rattle.qs_script.specs.declared.tree.tree.Relation.TheVariants.{Less, Greater}
@@ -11,7 +11,7 @@ use Rattle.qs_script.specs.declared.tree.tree.KindText.TheVariants.{Account}
 use Rattle.qs_script.specs.declared.tree.tree.KindWord.TheVariants as kind
 use Rattle.qs_script.specs.declared.tree.tree.Item.{Item}
 use Rattle.qs_script.specs.declared.tree.tree.Item.TheVariants.{Object, Client, Template, Started}
-use Rattle.qs_program.specs.Numbering.{Name}
+use Rattle.qs_program.specs.audit.Numbering.{Name}
 use Rattle.qs_check.specs.anchors.Anchors.{script_anchors}
 use Rattle.qs_dot.specs.node_lines.NodeLines.{node_lines, script_nodes}
 

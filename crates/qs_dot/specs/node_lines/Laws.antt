@@ -2,10 +2,10 @@
 use Rattle.std.specs.Prelude.{◌≡◌, ◌<◌, ◌≤◌, ◌+◌, ℕ, List, length, map}
 use Rattle.std.specs.List.{AllByRecursion}
 use Rattle.qs_script.specs.declared.tree.tree.Item.{Item}
-use Rattle.qs_script.specs.Reads.{IsScriptText}
-use Rattle.qs_program.specs.Program.{blocks_of}
-use Rattle.qs_check.specs.resolution.Resolve.{program_of_items}
-use Rattle.qs_graph.specs.Names.{graph_of}
+use Rattle.qs_script.specs.audit.Reads.{IsScriptText}
+use Rattle.qs_program.specs.audit.Program.{blocks_of}
+use Rattle.qs_check.specs.audit.resolution.Resolve.{program_of_items}
+use Rattle.qs_graph.specs.audit.Names.{graph_of}
 use Rattle.qs_check.specs.anchors.Anchors.{anchor_token, script_anchors}
 use Rattle.qs_dot.specs.node_lines.AnchorLines.{its_token, placed_anchors}
 use Rattle.qs_dot.specs.node_lines.NodeLines.{lines_of_block, node_lines, script_nodes}

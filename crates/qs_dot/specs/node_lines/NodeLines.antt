@@ -5,8 +5,8 @@ use Rattle.std.specs.Prelude.{ℕ, ◌+◌, false, true, if◌then◌else◌, Li
 use Rattle.qs_script.specs.declared.tree.tree.Block.{Block}
 use Rattle.qs_script.specs.declared.tree.tree.Item.{Item}
 use Rattle.qs_script.specs.declared.tree.tree.Item.TheVariants.{Object, Client, Template, Started}
-use Rattle.qs_script.specs.tree.Tree.{Stmts, end, command, query, assign, choose, choose_else, again, leave}
-use Rattle.qs_program.specs.Numbering.{Name, same_name}
+use Rattle.qs_script.specs.audit.tree.Tree.{Stmts, end, command, query, assign, choose, choose_else, again, leave}
+use Rattle.qs_program.specs.audit.Numbering.{Name, same_name}
 use Rattle.qs_check.specs.anchors.Anchors.{call_anchors, expr_anchors, test_anchors, anchors, block_anchors, item_anchors}
 use Rattle.qs_dot.specs.node_lines.AnchorLines.{anchor_lines}
 

@@ -1,7 +1,7 @@
 // The line of each anchor of a text.
 
 ghost use Rattle.std.specs.Prelude.{◌≡◌, ◌≤◌, ◌++◌, IfOk, OnOk, length};
-ghost use Rattle.qs_script.specs.tree.Limits.{longest_text};
+ghost use Rattle.qs_script.specs.audit.tree.Limits.{longest_text};
 ghost use Rattle.qs_check.specs.anchors.Anchors.{anchors_in};
 ghost use Rattle.qs_script.specs.tokens.Cutting.{tokens_in};
 ghost use Rattle.qs_dot.specs.node_lines.AnchorLines.{anchor_lines, line_anchors, lines_in};

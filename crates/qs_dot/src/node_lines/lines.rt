@@ -1,7 +1,7 @@
 //! The line of each node of a script's graphs.
 
 ghost use Rattle.std.specs.Prelude.{◌≡◌, ◌≤◌, ◌++◌, IfOk, OnOk, length};
-ghost use Rattle.qs_script.specs.tree.Limits.{longest_text};
+ghost use Rattle.qs_script.specs.audit.tree.Limits.{longest_text};
 ghost use Rattle.qs_dot.specs.node_lines.NodeLines.{blocks_nodes, client_in, node_lines, script_nodes, template_nodes};
 
 use crate::node_lines::anchor_lines::anchor_lines;

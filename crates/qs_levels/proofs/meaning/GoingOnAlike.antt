@@ -2,9 +2,10 @@
 -- comes to by the configuration alone to which the order leads.
 use Rattle.std.proofs.Common.{◌≡◌, ◌∙◌, ℕ, List, ◌++◌, sym, ap, subst}
 use Rattle.qs_objects.specs.declared.held.Ticket.{Ticket}
-use Rattle.qs_program.specs.Program.{ProgramShape, blocks_of}
-use Rattle.qs_meaning.specs.Configurations.{Configuration, IsComplete, configuration_after, configuration_from, first_configuration, outcome_in}
-use Rattle.qs_meaning.specs.Serial.{IsLegal, LegalFrom}
+use Rattle.qs_program.specs.audit.Program.{ProgramShape, blocks_of}
+use Rattle.qs_meaning.specs.audit.Configurations.{Configuration, IsComplete, configuration_after, configuration_from, first_configuration}
+use Rattle.qs_meaning.specs.Configurations.{outcome_in}
+use Rattle.qs_meaning.specs.audit.Serial.{IsLegal, LegalFrom}
 use Rattle.qs_meaning.proofs.Orders.{complete_orders_leave_none, configuration-append, configurations_follow_orders, legal-join, legal-rest}
 use Rattle.qs_levels.specs.meaning.Joining.{EqualConfigurationsGoOnAlike}
 

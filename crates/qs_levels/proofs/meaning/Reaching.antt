@@ -5,10 +5,11 @@ use Rattle.std.proofs.Common.{◌≡◌, ◌≤◌, ◌+◌, ℕ, zero, suc, tru
 use Rattle.std.proofs.lemmas.List.{length-take-le}
 use Rattle.std.specs.List.{AllByRecursion}
 use Rattle.qs_objects.specs.declared.held.Ticket.{Ticket}
-use Rattle.qs_program.specs.Program.{ProgramShape, blocks_of}
-use Rattle.qs_meaning.specs.Configurations.{Configuration, IsComplete, configuration_after, configuration_from, first_configuration, one_block_on, outcome_in, outcome_of}
+use Rattle.qs_program.specs.audit.Program.{ProgramShape, blocks_of}
+use Rattle.qs_meaning.specs.audit.Configurations.{Configuration, IsComplete, configuration_after, configuration_from, first_configuration, one_block_on}
+use Rattle.qs_meaning.specs.Configurations.{outcome_in, outcome_of}
 use Rattle.qs_meaning.specs.Reduced.{IsOutcomeAfter, IsReducedFrom, goes_on}
-use Rattle.qs_meaning.specs.Serial.{IsLegal, LegalFrom}
+use Rattle.qs_meaning.specs.audit.Serial.{IsLegal, LegalFrom}
 use Rattle.qs_meaning.proofs.Each.{each_both, each_map}
 use Rattle.qs_meaning.proofs.Orders.{complete_orders_leave_none, configuration-append, configurations_follow_orders, legal-front, legal-join, legal-rest, legal_on}
 use Rattle.qs_meaning.proofs.Reductions.{ReducedFrom, reduced_from}

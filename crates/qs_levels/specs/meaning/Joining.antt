@@ -2,9 +2,10 @@
 -- in parts of a search, one may go on for all.
 use Rattle.std.specs.Prelude.{◌≡◌, List, ◌++◌}
 use Rattle.qs_objects.specs.declared.held.Ticket.{Ticket}
-use Rattle.qs_program.specs.Program.{ProgramShape}
-use Rattle.qs_meaning.specs.Configurations.{IsComplete, configuration_after, outcome_of}
-use Rattle.qs_meaning.specs.Serial.{IsLegal}
+use Rattle.qs_program.specs.audit.Program.{ProgramShape}
+use Rattle.qs_meaning.specs.audit.Configurations.{IsComplete, configuration_after}
+use Rattle.qs_meaning.specs.Configurations.{outcome_of}
+use Rattle.qs_meaning.specs.audit.Serial.{IsLegal}
 
 -- The same tickets may come after the other order, and lead to the same configuration; and where the whole is complete
 -- after the one, so it is after the other, and comes to the same.

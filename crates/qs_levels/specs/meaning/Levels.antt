@@ -2,8 +2,8 @@
 use Rattle.std.specs.Prelude.{◌≡◌, ◌<◌, ◌≤◌, ◌+◌, ℕ, suc, List, ◌++◌, length}
 use Rattle.std.specs.List.{AllByRecursion}
 use Rattle.qs_objects.specs.declared.held.Ticket.{Ticket}
-use Rattle.qs_program.specs.Program.{ProgramShape}
-use Rattle.qs_meaning.specs.Configurations.{configuration_after}
+use Rattle.qs_program.specs.audit.Program.{ProgramShape}
+use Rattle.qs_meaning.specs.audit.Configurations.{configuration_after}
 use Rattle.qs_outcomes.specs.LeastOrders.{AreSorted}
 use Rattle.qs_standings.specs.Lists.{HasOne}
 use Rattle.qs_standings.specs.Standings.{GoesOn, IsStanding, StandingShape, configuration_in}

@@ -1,6 +1,6 @@
 -- How many blocks the clients have begun in all, where a block of each client counts for something of its own.
 use Rattle.std.specs.Prelude.{◌+◌, ◌*◌, ℕ, zero, suc}
-use Rattle.qs_meaning.specs.Reduced.{Counts}
+use Rattle.qs_meaning.specs.audit.Reduced.{Counts}
 
 -- the blocks that the clients below n have begun, where each block of a client counts for so much
 abbrev pub weighted : (ℕ → ℕ) → ℕ → Counts → ℕ

@@ -2,7 +2,8 @@
 -- tail. The words that explain are free, but within their lines.
 use Rattle.std.specs.Prelude.{◌≡◌, ℕ, pos, true, ◌+◌, ◌-◌, ◌==◌, not, if◌then◌else◌, List, [], ◌∷◌, ◌++◌, length, take, drop, replicate, codes}
 use Rattle.std.specs.List.{list_all}
-use Rattle.qs_objects.specs.Operations.{arity, is_query, operations_of, parts, word}
+use Rattle.qs_objects.specs.audit.Operations.{arity, is_query, operations_of, word}
+use Rattle.qs_objects.specs.Operations.{parts}
 use Rattle.qs_objects.specs.declared.Op.{Op}
 use Rattle.qs_objects.specs.declared.object.Kind.{Kind}
 use Rattle.qs_objects.specs.declared.object.Kind.TheVariants.{Account, Buffer, Grid}

@@ -1,7 +1,7 @@
 // The titles of the kinds, and the lines of their operations.
 
 ghost use Rattle.std.specs.Prelude.{◌≡◌, ◌++◌, ◌-◌, OnOk};
-ghost use Rattle.qs_objects.specs.Operations.{operations_of};
+ghost use Rattle.qs_objects.specs.audit.Operations.{operations_of};
 ghost use Rattle.qs_line.specs.language.Language.{AddsKind, AddsLineOf, AddsLinesOf, IsWithinLine, call, declaration as declared_as, sort_of, spaces_after, title};
 
 use crate::language::words::{about, does};

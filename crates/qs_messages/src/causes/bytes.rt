@@ -19,6 +19,11 @@ fn run(text: &[u8], only_digits: bool) -> usize {
     text.len()
 }
 
+/// How many bytes at the front of a text may stand in a name.
+pub(crate) fn name_bytes(text: &[u8]) -> usize {
+    run(text, false)
+}
+
 /// What is said of the token at fault that begins the rest of a text, with the byte before it.
 pub(crate) fn say_token(
     alloc: Global,
@@ -91,10 +96,20 @@ fn byte_words(before: Option<u8>, rest: &[u8]) -> (&'static [u8], &'static [u8])
                 b"write 1000 for `1_000`",
             )
         }
+        [b':', after @ ..] if begins_with_kind(after) => (
+            b"no `:` stands between a name and its kind",
+            b"write `object a account 100`, and for a formal `account f`",
+        ),
         [first, second, ..] => sign_words(*first, *second),
         [first] => sign_words(*first, b' '),
         [] => (b"no token begins with this byte", b""),
     }
+}
+
+// Whether a kind of object is the first word.
+fn begins_with_kind(text: &[u8]) -> bool {
+    let text = text.trim_ascii_start();
+    text.starts_with(b"account") || text.starts_with(b"buffer") || text.starts_with(b"grid")
 }
 
 fn sign_words(first: u8, second: u8) -> (&'static [u8], &'static [u8]) {

@@ -1,98 +1,152 @@
 // Words of other languages, and what to write here.
 
-use crate::causes::form::FormStage;
+use crate::causes::form::{Around, FormStage};
 use crate::causes::source::Source;
 use crate::causes::usual::{Usual, mistake};
 use qs_script::tokens::Token;
 
-// Whether a word is one of some.
-fn is_among(word: &[u8], words: &[&[u8]]) -> bool {
-    for it in words {
-        if *it == word {
-            return true;
-        }
+// What there is for a word that begins, ends or goes round a body; of some, by whether a `repeat` is around it.
+fn for_flow(word: &[u8], is_inside: bool) -> Option<Usual> {
+    match word {
+        b"while" | b"for" | b"foreach" | b"loop" => mistake(
+            b"the only loop is a `repeat` with a number",
+            b"write `repeat 1000 { .. }`, and `if x == 3 { leave; }` in it to end it earlier",
+        ),
+        b"break" => mistake(
+            b"a `repeat` is ended by `leave;`",
+            if is_inside {
+                b"write `leave;`"
+            } else {
+                b"leave it out: no `repeat` is around it"
+            },
+        ),
+        b"return" | b"exit" | b"stop" => mistake(
+            b"a block ends with its last statement, and not earlier",
+            if is_inside {
+                b"`leave;` ends the innermost `repeat` around it"
+            } else {
+                b"leave it out, and put what is not always to run into an `if`"
+            },
+        ),
+        b"continue" => mistake(
+            b"a turn of a `repeat` ends with the last statement of its body",
+            b"put the rest of the body into an `if`",
+        ),
+        b"elseif" | b"elif" | b"elsif" => mistake(
+            b"there is no `else if`",
+            b"write `else { if .. { .. } }`",
+        ),
+        b"end" | b"done" | b"fi" | b"od" | b"endif" => mistake(
+            b"a body ends with a `}`",
+            b"write `}`",
+        ),
+        _ => None,
     }
-    false
 }
 
-/// What this language has for a word of others that begins a statement.
-pub(crate) fn meant_by(word: &[u8]) -> Option<&'static [u8]> {
-    if is_among(word, &[b"while", b"for", b"loop"]) {
-        return Some(b"repeat 1000 { .. }");
+// What there is for a word that begins another statement.
+fn for_statement(word: &[u8]) -> Option<Usual> {
+    match word {
+        b"let" | b"var" | b"const" | b"int" | b"integer" | b"bool" | b"float" | b"auto" => mistake(
+            b"a variable needs no declaration: it is 0 until it is set",
+            b"write `x = 1;` alone",
+        ),
+        b"print" | b"println" | b"printf" | b"echo" => mistake(
+            b"a script prints nothing: the report shows each reply and each object's state",
+            b"ask for what is to be shown, as in `x = a.balance();`",
+        ),
+        b"sleep" | b"delay" | b"pause" => mistake(
+            b"no statement waits for a time: the schedule says who goes on",
+            b"leave it out; `--pick` and `--order` choose a schedule",
+        ),
+        b"assert" | b"check" => mistake(
+            b"a script has no assertions: a condition stands on the command line",
+            b"`qs outcomes --always 'ann.x == 1'` says whether it holds at each end",
+        ),
+        b"switch" | b"case" | b"match" => mistake(
+            b"the only choice is an `if`",
+            b"write `if x == 0 { .. } else { .. }`",
+        ),
+        b"call" | b"send" => mistake(
+            b"a request begins with its object",
+            b"write `a.deposit(1);`",
+        ),
+        _ => None,
     }
-    if is_among(word, &[b"break", b"exit", b"return"]) {
-        return Some(b"leave;");
-    }
-    if is_among(word, &[b"elseif", b"elif", b"elsif"]) {
-        return Some(b"else { if .. { .. } }");
-    }
-    if is_among(word, &[b"let", b"var", b"int"]) {
-        return Some(b"x = 1;");
-    }
-    if is_among(word, &[b"end", b"done", b"fi", b"od"]) {
-        return Some(b"}");
-    }
-    None
 }
 
-fn waits(word: &[u8]) -> bool {
-    is_among(
-        word,
-        &[
-            b"when",
-            b"require",
-            b"requires",
-            b"wait",
-            b"await",
-            b"until",
-            b"guard",
-            b"ensure",
-        ],
-    )
-}
-
-fn opens(word: &[u8]) -> bool {
-    is_among(word, &[b"do", b"begin", b"then", b"is"])
-}
-
-// The usual mistake of a word that stands among the names before a place, or at it.
-fn mistake_of(word: &[u8]) -> Option<Usual> {
-    if waits(word) {
-        return mistake(
-            b"there are no wait conditions: a block goes on as soon as its turn has come",
-            b"ask in the block, as in `x = b.size(); if x > 0 { .. }`",
-        );
+// What there is for a word that joins or turns comparisons.
+fn for_test(word: &[u8]) -> Option<Usual> {
+    match word {
+        b"and" => mistake(
+            b"a condition is one comparison, without `and` and `or`",
+            b"write one `if` inside another",
+        ),
+        b"or" => mistake(
+            b"a condition is one comparison, without `and` and `or`",
+            b"set a variable in one `if` after another, and ask for it in a last one",
+        ),
+        b"not" => mistake(
+            b"a condition is one comparison, without `not`",
+            b"write the opposite, as `x != y` for `x == y` and `x >= y` for `x < y`",
+        ),
+        _ => None,
     }
-    if opens(word) {
-        return mistake(
+}
+
+// What there is for a word that waits, or that opens a body.
+fn for_waiting(word: &[u8]) -> Option<Usual> {
+    match word {
+        b"when" | b"require" | b"requires" | b"wait" | b"await" | b"until" | b"guard" | b"ensure" =>
+            {
+                mistake(
+                    b"there are no wait conditions: a block goes on as soon as its turn has come",
+                    b"ask in the block, as in `x = b.size(); if x > 0 { .. }`",
+                )
+            }
+        b"do" | b"begin" | b"then" | b"is" => mistake(
             b"a body stands in braces",
             b"write `{` for `do` and `begin`, and `}` for `end`",
-        );
+        ),
+        _ => None,
     }
-    None
 }
 
-/// The usual mistake of a word of another language, where one of the names that stand next to a place is such a word.
-pub(crate) fn foreign_at(source: Source<'_>, stage: FormStage, place: usize) -> Option<Usual> {
-    if !matches!(
-        stage,
-        FormStage::AfterName
-            | FormStage::ListNext
-            | FormStage::BodyBrace
-            | FormStage::TurnsBrace
-            | FormStage::Block
-    ) {
+// What there is for a name that stands at a place or before it.
+fn for_word(around: Around, word: &[u8], is_before: bool) -> Option<Usual> {
+    match around.stage {
+        FormStage::AfterName if is_before => for_waiting(word)
+            .or(for_flow(word, around.is_inside))
+            .or(for_statement(word))
+            .or(for_test(word)),
+        FormStage::Relation => for_test(word),
+        FormStage::BodyBrace => for_waiting(word).or(for_test(word)),
+        FormStage::AfterName | FormStage::ListNext | FormStage::TurnsBrace | FormStage::Block => {
+            for_waiting(word)
+        }
+        _ => None,
+    }
+}
+
+/// The mistake of the first word of another language among the names at a place and right before it, backwards. A word
+/// before an operator is a variable.
+pub(crate) fn foreign_at(source: Source<'_>, around: Around, place: usize) -> Option<Usual> {
+    if let Some(Token::Plus | Token::Minus | Token::Times | Token::Equal) = source.token(place) {
         return None;
     }
     for back in 0..=place {
         let at = place - back;
         match source.token(at) {
             Some(Token::Name(_)) => {
-                if let Some(found) = mistake_of(source.word(at)) {
-                    return Some(found);
+                if let Some(usual) = for_word(around, source.word(at), back > 0) {
+                    return Some(Usual {
+                        cause: usual.cause,
+                        help: usual.help,
+                        is_before: back == 1,
+                    });
                 }
             }
-            _ if at < place => return None,
+            _ if back > 0 => return None,
             _ => {}
         }
     }

@@ -67,6 +67,16 @@ pub(crate) enum FormStage {
     LeaveEnd,
 }
 
+/// What may come next at a place, and what is around it.
+#[derive(Clone, Copy)]
+pub(crate) struct Around {
+    pub(crate) stage: FormStage,
+    /// No statement may stand there, since too many are around it.
+    pub(crate) is_deep: bool,
+    /// A `repeat` is around it.
+    pub(crate) is_inside: bool,
+}
+
 /// A body around a statement.
 #[derive(Clone, Copy, Debug, PartialEq, Eq)]
 enum Body {
@@ -106,13 +116,17 @@ impl Form {
         self.asks
     }
 
-    /// Whether a `repeat` is around this place.
-    pub(crate) fn is_inside(&self) -> bool {
-        self.bodies.as_slice().contains(&Body::Turns)
+    /// What may come next, and what is around it.
+    pub(crate) fn around(&self) -> Around {
+        Around {
+            stage: self.stage,
+            is_deep: self.is_deep(),
+            is_inside: self.bodies.as_slice().contains(&Body::Turns),
+        }
     }
 
-    /// Whether no statement may stand at this place, since too many are around it.
-    pub(crate) fn is_deep(&self) -> bool {
+    // Whether no statement may stand at this place, since too many are around it.
+    fn is_deep(&self) -> bool {
         self.bodies.len() > MOST_AROUND
     }
 

@@ -1,19 +1,42 @@
 // What is said of a fault of form.
 
-ghost use Rattle.std.specs.Prelude.{◌≡◌, IfOk, IsTrue};
-ghost use Rattle.qs_messages.specs.ReadTold.{IsSpot};
+ghost use Rattle.std.specs.Prelude.{◌≡◌, IfOk, IfSome, IsTrue, option_map};
+ghost use Rattle.qs_messages.specs.ReadTold.{IsAt, IsSpot, is_word as is_word_of};
 ghost use Rattle.qs_messages.specs.Sources.{end_in, span_in};
 
 use crate::causes::expected::expected;
 use crate::causes::finding::FormFault;
-use crate::causes::foreign::{foreign_at, meant_by, open_before};
-use crate::causes::form::{Form, FormStage};
+use crate::causes::foreign::{foreign_at, open_before};
+use crate::causes::form::{Around, Form, FormStage};
 use crate::causes::said::{Said, joined, line_digits, part, say};
 use crate::causes::source::Source;
-use crate::causes::usual::usual_at;
+use crate::causes::usual::{Usual, usual_at};
 use crate::causes::words::is_near;
+use qs_diagnosis::Span;
 use qs_script::tokens::Token;
 use std::alloc::{AllocError, Global};
+
+// Whether a token is a name, a number or a kind of object.
+fn is_word(token: Option<&Token>) -> bool
+    ensures exact { result ≡ is_word_of (option_map (λ token. token.now) token.entry) }
+{
+    matches!(
+        token,
+        Some(Token::Name(_) | Token::Number(_) | Token::Account | Token::Buffer | Token::Grid)
+    )
+}
+
+// The token at a place, or the word before it where that is wanted and is there.
+fn spot(source: Source<'_>, place: usize, is_before: bool) -> Span
+    ensures spot { IsAt source.entry.text.now source.entry.tokens.now place result }
+{
+    let before = place.saturating_sub(1);
+    if is_before && is_word(source.token(before)) {
+        source.span(before)
+    } else {
+        source.span(place)
+    }
+}
 
 /// What is said of a fault of form.
 pub(crate) fn say_form(
@@ -25,51 +48,177 @@ pub(crate) fn say_form(
 {
     let mut form = Form::new(alloc);
     form.pass_before(source, fault.place)?;
-    let (stage, is_deep) = (form.stage(), form.is_deep());
+    let around = form.around();
     drop(form);
-    say_at(alloc, source, stage, is_deep, fault)
+    match say_mistake(alloc, source, around, fault.place)? {
+        Some(said) => Ok(said),
+        None => say_fault(alloc, source, around.stage, fault),
+    }
 }
 
-// Says what is wrong at a place, by what may stand there in words.
-fn say_at(
+// Says what a new user means who writes this at a place, where that is known.
+fn say_mistake(
+    alloc: Global,
+    source: Source<'_>,
+    around: Around,
+    place: usize,
+) -> Result<Option<Said>, AllocError>
+    ensures spot { IfOk result (λ found. IfSome found (λ said. IsAt source.entry.text.now source.entry.tokens.now place said.span)) }
+{
+    let stage = around.stage;
+    if let Some(usual) = foreign_at(source, around, place) {
+        return Ok(Some(say_usual(alloc, source, stage, place, usual)?));
+    }
+    if let Some(meant) = meant(alloc, stage, source.word(place))? {
+        return Ok(Some(say_near(alloc, source, stage, place, meant)?));
+    }
+    if let Some(usual) = usual_at(source, around, place) {
+        return Ok(Some(say_usual(alloc, source, stage, place, usual)?));
+    }
+    if stage == FormStage::AfterName {
+        let word = source.word(place.saturating_sub(1));
+        if let Some(meant) = meant_before(alloc, word, source.token(place))? {
+            return Ok(Some(say_near(alloc, source, stage, place, meant)?));
+        }
+    }
+    Ok(None)
+}
+
+fn say_usual(
     alloc: Global,
     source: Source<'_>,
     stage: FormStage,
-    is_deep: bool,
+    place: usize,
+    usual: Usual,
+) -> Result<Said, AllocError>
+    ensures spot { IfOk result (λ said. IsAt source.entry.text.now source.entry.tokens.now place said.span) }
+{
+    let help = if usual.help.is_empty() {
+        open_help(alloc, source, place)?
+    } else {
+        joined(alloc, &[usual.help])?
+    };
+    let label = if usual.is_before {
+        joined(alloc, &[])?
+    } else {
+        joined(alloc, &[b"expected ", expected(stage)])?
+    };
+    say(
+        alloc,
+        spot(source, place, usual.is_before),
+        &[usual.cause],
+        &[label.as_slice()],
+        &[help.as_slice()],
+    )
+}
+
+// Says which word is meant at a place, or by the name before it that begins a statement.
+fn say_near(
+    alloc: Global,
+    source: Source<'_>,
+    stage: FormStage,
+    place: usize,
+    meant: &'static [u8],
+) -> Result<Said, AllocError>
+    ensures spot { IfOk result (λ said. IsAt source.entry.text.now source.entry.tokens.now place said.span) }
+{
+    let is_before = stage == FormStage::AfterName;
+    let (word, stage) = if is_before {
+        (source.word(place.saturating_sub(1)), FormStage::Statement)
+    } else {
+        (source.word(place), stage)
+    };
+    say(
+        alloc,
+        spot(source, place, is_before),
+        &[b"unexpected `", word, b"`"],
+        &[b"expected ", expected(stage)],
+        &[b"is `", word, b"` meant to be `", part(meant), b"`?"],
+    )
+}
+
+// Says what is wrong at a place, by what may stand there in words.
+fn say_fault(
+    alloc: Global,
+    source: Source<'_>,
+    stage: FormStage,
     fault: FormFault,
 ) -> Result<Said, AllocError>
     ensures spot { IfOk result (λ said. IsSpot source.entry.text.now source.entry.tokens.now fault.place (IsTrue fault.ends) said.span) }
 {
     let place = fault.place;
-    let usual = foreign_at(source, stage, place).or(usual_at(source, stage, is_deep, place));
-    if let Some(usual) = usual {
-        let help = if usual.help.is_empty() {
-            open_help(alloc, source, place)?
-        } else {
-            joined(alloc, &[usual.help])?
-        };
-        return say(
-            alloc,
-            source.span(place),
-            &[usual.cause],
-            &[b"due here: ", expected(stage)],
-            &[help.as_slice()],
-        );
-    }
     if fault.ends {
         return say_semicolon(alloc, source, place.saturating_sub(1));
+    }
+    if let Some(number) = number_missing(source, stage, place) {
+        return say_number(alloc, source, place, number);
     }
     if place >= source.len() {
         let help = open_help(alloc, source, place)?;
         return say_end(alloc, source, stage, place, help.as_slice());
     }
-    let help = word_help(alloc, source, stage, place)?;
     say(
         alloc,
         source.span(place),
-        &[b"no script goes on with `", source.word(place), b"` here"],
-        &[b"due here: ", expected(stage)],
-        &[help.as_slice()],
+        &[b"unexpected `", source.word(place), b"`"],
+        &[b"expected ", expected(stage)],
+        &[],
+    )
+}
+
+// A number that an object's declaration wants: what it is, and how it is written.
+#[derive(Clone, Copy)]
+struct Wanted {
+    what: &'static [u8],
+    help: &'static [u8],
+}
+
+// The number that is missing at a place, where the text ends or another item begins there.
+fn number_missing(source: Source<'_>, stage: FormStage, place: usize) -> Option<Wanted> {
+    match source.token(place) {
+        None | Some(Token::Object | Token::Client | Token::Template) => {}
+        _ => return None,
+    }
+    match stage {
+        FormStage::Balance => Some(Wanted {
+            what: b"the balance to begin with",
+            help: b"write a number from 0 to 1000000000000000, as in `object a account 100`",
+        }),
+        FormStage::Capacity => Some(Wanted {
+            what: b"the number of places",
+            help: b"write a number from 1 to 1024, as in `object b buffer 4`",
+        }),
+        FormStage::Rows => Some(Wanted {
+            what: b"the numbers of rows and columns",
+            help: b"write two numbers from 1 to 16, as in `object g grid 2 3`",
+        }),
+        FormStage::Columns => Some(Wanted {
+            what: b"the number of columns",
+            help: b"write two numbers from 1 to 16, as in `object g grid 2 3`",
+        }),
+        _ => None,
+    }
+}
+
+// Says that a number is missing after the word before a place.
+fn say_number(
+    alloc: Global,
+    source: Source<'_>,
+    place: usize,
+    number: Wanted,
+) -> Result<Said, AllocError>
+    ensures spot { IfOk result (λ said. IsAt source.entry.text.now source.entry.tokens.now place said.span) }
+{
+    say(
+        alloc,
+        spot(source, place, true),
+        &[
+            b"a number is missing after `",
+            source.word(place.saturating_sub(1)),
+            b"`",
+        ],
+        &[b"expected ", number.what],
+        &[number.help],
     )
 }
 
@@ -98,7 +247,7 @@ fn say_end(
         alloc,
         source.span(place),
         &[b"the text ends here, and the script does not"],
-        &[b"due here: ", expected(stage)],
+        &[b"expected ", expected(stage)],
         &[help],
     )
 }
@@ -119,28 +268,6 @@ fn open_help(alloc: Global, source: Source<'_>, place: usize) -> Result<Vec<u8>,
     )
 }
 
-// The word of the language that a name may stand for, where the name is found or stands before what is found.
-fn word_help(
-    alloc: Global,
-    source: Source<'_>,
-    stage: FormStage,
-    place: usize,
-) -> Result<Vec<u8>, AllocError> {
-    let before = stage == FormStage::AfterName;
-    let word = if before {
-        source.word(place.saturating_sub(1))
-    } else {
-        source.word(place)
-    };
-    match meant(alloc, stage, word)? {
-        Some(other) => joined(
-            alloc,
-            &[b"is `", word, b"` meant to be `", part(other), b"`?"],
-        ),
-        None => joined(alloc, &[]),
-    }
-}
-
 // The first of some words that is near to a word.
 fn nearest(
     alloc: Global,
@@ -155,7 +282,7 @@ fn nearest(
     Ok(None)
 }
 
-// The word that is meant by another, at a place.
+// The word that is meant by the one at a place.
 fn meant(
     alloc: Global,
     stage: FormStage,
@@ -167,14 +294,21 @@ fn meant(
         FormStage::ObjectKind | FormStage::FormalKind => {
             nearest(alloc, word, &[b"account", b"buffer", b"grid"])
         }
-        FormStage::AfterName => match meant_by(word) {
-            Some(other) => Ok(Some(other)),
-            None => nearest(
-                alloc,
-                word,
-                &[b"repeat", b"leave", b"else", b"separate", b"client"],
-            ),
-        },
+        _ => Ok(None),
+    }
+}
+
+// The word that is meant by a name that begins a statement, by the token behind it.
+fn meant_before(
+    alloc: Global,
+    word: &[u8],
+    next: Option<&Token>,
+) -> Result<Option<&'static [u8]>, AllocError> {
+    match next {
+        Some(Token::Number(_)) => nearest(alloc, word, &[b"repeat"]),
+        Some(Token::Name(_)) => nearest(alloc, word, &[b"repeat", b"separate", b"client"]),
+        Some(Token::Semicolon | Token::CloseBrace) => nearest(alloc, word, &[b"leave"]),
+        Some(Token::OpenBrace | Token::If) => nearest(alloc, word, &[b"else"]),
         _ => Ok(None),
     }
 }

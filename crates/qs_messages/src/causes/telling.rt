@@ -4,9 +4,9 @@ ghost use Rattle.std.specs.Prelude.{◌≡◌, ◌≤◌, ◌<◌, ◌↔◌, Is
 ghost use Rattle.std.specs.List.{count_by};
 ghost use Rattle.qs_script.specs.declared.tokens.token.Token.{Token};
 ghost use Rattle.qs_script.specs.declared.tokens.lex.TokenFault.{TokenFault};
-ghost use Rattle.qs_script.specs.tokens.Tokens.{tokens_of};
-ghost use Rattle.qs_script.specs.grammar.Grammar.{IsScript};
-ghost use Rattle.qs_script.specs.Reads.{IsScriptText};
+ghost use Rattle.qs_script.specs.audit.tokens.Tokens.{tokens_of};
+ghost use Rattle.qs_script.specs.audit.grammar.Grammar.{IsScript};
+ghost use Rattle.qs_script.specs.audit.Reads.{IsScriptText};
 ghost use Rattle.qs_script.specs.grammar.FormPlaces.{IsFormPlace};
 ghost use Rattle.qs_script.specs.declared.tree.tree.Item.{Item};
 ghost use Rattle.qs_messages.specs.ReadTold.{IsFormTold, IsTokenTold, MayEnd, declared_in, is_client, is_object};

@@ -1,29 +1,34 @@
 // What new users write, and what to write instead.
 
 use crate::causes::foreign::is_around_block;
-use crate::causes::form::FormStage;
+use crate::causes::form::{Around, FormStage};
 use crate::causes::source::Source;
 use qs_script::tokens::Token;
 
-/// A usual mistake: what is wrong, and what to write.
+/// A usual mistake: what is wrong, what to write, and whether it is the word before the place.
 #[derive(Clone, Copy)]
 pub(crate) struct Usual {
     pub(crate) cause: &'static [u8],
     pub(crate) help: &'static [u8],
+    pub(crate) is_before: bool,
 }
 
+/// A mistake at a place.
 pub(crate) fn mistake(cause: &'static [u8], help: &'static [u8]) -> Option<Usual> {
-    Some(Usual { cause, help })
+    Some(Usual {
+        cause,
+        help,
+        is_before: false,
+    })
 }
 
 /// The usual mistake at a place, where it is one.
-pub(crate) fn usual_at(
-    source: Source<'_>,
-    stage: FormStage,
-    is_deep: bool,
-    place: usize,
-) -> Option<Usual> {
+pub(crate) fn usual_at(source: Source<'_>, around: Around, place: usize) -> Option<Usual> {
+    let stage = around.stage;
     let token = source.token(place)?;
+    if let Some(usual) = at_arrow(source, stage, token, place) {
+        return Some(usual);
+    }
     if matches!(token, Token::Minus) && is_between(stage) {
         return mistake(
             b"a comment begins with `#`, and nothing else begins with a `-` here",
@@ -36,7 +41,7 @@ pub(crate) fn usual_at(
     match stage {
         FormStage::Item => at_item(token),
         FormStage::Block => at_block(source, token, place),
-        FormStage::Statement | FormStage::AfterIf if is_deep => mistake(
+        FormStage::Statement | FormStage::AfterIf if around.is_deep => mistake(
             b"a statement stands inside at most eight `if`s and `repeat`s",
             b"one `if` on a variable that was computed before often does for several",
         ),
@@ -45,14 +50,70 @@ pub(crate) fn usual_at(
         FormStage::ArgumentsOpen
         | FormStage::ArgumentFirst
         | FormStage::ArgumentNext
-        | FormStage::ArgumentMore => at_arguments(stage, token),
+        | FormStage::ArgumentMore => at_arguments(source, stage, token, place),
         FormStage::Left | FormStage::Relation | FormStage::Right | FormStage::BodyBrace => at_test(
-            stage, token,
+            source, stage, token, place,
         ),
         FormStage::ElseBrace | FormStage::Count | FormStage::TurnsBrace => at_body(stage, token),
         FormStage::ListFirst | FormStage::ListNext => at_list(token),
         stage => at_value(stage, token).or(at_declaration(stage, token)),
     }
+}
+
+// Signs of other languages that are made of two of this one: `->` and `<-`.
+fn at_arrow(source: Source<'_>, stage: FormStage, token: &Token, place: usize) -> Option<Usual> {
+    let next = source.token(place.saturating_add(1));
+    match (token, next) {
+        (Token::Minus, Some(Token::Greater)) if stage == FormStage::ObjectKind => mistake(
+            b"an object's kind stands right after its name",
+            b"write `object a account 100`",
+        ),
+        (Token::Minus, Some(Token::Greater)) => mistake(
+            b"there is no `->`: an operation stands after a `.`, and a variable is set by `=`",
+            b"write `a.deposit(1);` or `x = a.balance();`",
+        ),
+        (Token::Less, Some(Token::Minus)) if stage == FormStage::AfterName => mistake(
+            b"an assignment is written `=`",
+            b"write `x = a.balance();`",
+        ),
+        _ => None,
+    }
+}
+
+// Whether the name before a `.` is a client's, and no object has it.
+fn is_of_client(source: Source<'_>, dot: usize) -> bool {
+    let word = source.word(dot.saturating_sub(1));
+    let mut found = false;
+    for place in 1..source.len() {
+        if source.word(place) == word {
+            match source.token(place - 1) {
+                Some(Token::Client) => found = true,
+                Some(Token::Object | Token::Account | Token::Buffer | Token::Grid) => return false,
+                _ => {}
+            }
+        }
+    }
+    found
+}
+
+// At a `.` in a number, or behind a client's name.
+fn at_point(source: Source<'_>, dot: usize) -> Option<Usual> {
+    match source.token(dot.saturating_sub(1)) {
+        Some(Token::Number(_)) => {
+            mistake(b"numbers are whole", b"write the number without a point")
+        }
+        _ if is_of_client(source, dot) => after_variable(),
+        _ => None,
+    }
+}
+
+// After a client's name, or after a variable that is written with it: it is the word before the place.
+fn after_variable() -> Option<Usual> {
+    Some(Usual {
+        cause: b"a variable is written without its client's name",
+        help: b"write `x` for a variable of this client; those of other clients can't be read",
+        is_before: true,
+    })
 }
 
 // Where a name stands or is due: it is no word of the language, begins with a letter and has no `-`; and a number is
@@ -231,16 +292,24 @@ fn at_subject(source: Source<'_>, token: &Token, place: usize) -> Option<Usual> 
     }
 }
 
-fn at_arguments(stage: FormStage, token: &Token) -> Option<Usual> {
+fn at_arguments(
+    source: Source<'_>,
+    stage: FormStage,
+    token: &Token,
+    place: usize,
+) -> Option<Usual> {
     match token {
+        _ if stage == FormStage::ArgumentsOpen && is_of_client(source, place.saturating_sub(2)) => {
+            after_variable()
+        }
         Token::Plus | Token::Minus | Token::Times => mistake(
             b"an argument is a number or a variable, and no sum",
             b"give the sum to a variable before, as in `x = 1 + 2;`",
         ),
-        Token::Dot if stage == FormStage::ArgumentNext => mistake(
+        Token::Dot if stage == FormStage::ArgumentNext => at_point(source, place).or(mistake(
             b"an argument is a number or a variable, and no query",
             b"ask before, as in `x = b.take();`",
-        ),
+        )),
         Token::CloseParen if stage == FormStage::ArgumentMore => {
             mistake(
                 b"no comma stands after the last argument",
@@ -261,7 +330,7 @@ fn at_arguments(stage: FormStage, token: &Token) -> Option<Usual> {
     }
 }
 
-fn at_test(stage: FormStage, token: &Token) -> Option<Usual> {
+fn at_test(source: Source<'_>, stage: FormStage, token: &Token, place: usize) -> Option<Usual> {
     match token {
         Token::OpenParen => mistake(
             b"a condition has no parentheses",
@@ -270,10 +339,10 @@ fn at_test(stage: FormStage, token: &Token) -> Option<Usual> {
         Token::Assign if stage == FormStage::Relation => {
             mistake(b"equality is written `==`", b"write `if x == 0 { .. }`")
         }
-        Token::Dot => mistake(
+        Token::Dot => at_point(source, place).or(mistake(
             b"a condition compares numbers and variables, and no queries",
             b"ask before, as in `x = a.balance();`, and compare x",
-        ),
+        )),
         Token::Plus | Token::Minus | Token::Times => mistake(
             b"a condition compares numbers and variables, and no sums",
             b"give the sum to a variable before, as in `z = x + 1;`",
@@ -298,7 +367,7 @@ fn at_body(stage: FormStage, token: &Token) -> Option<Usual> {
         ),
         Token::Name(_) if stage == FormStage::Count => mistake(
             b"the number of a `repeat` is no variable",
-            b"write a number, and end the loop by `leave;`",
+            b"write a number from 0 to 1000; `if x == 0 { leave; }` in the body ends it earlier",
         ),
         Token::Minus if stage == FormStage::Count => {
             mistake(
@@ -468,6 +537,10 @@ fn at_number(token: &Token) -> Option<Usual> {
         Token::Minus => mistake(
             b"the numbers of a declaration have no sign",
             b"write the number alone",
+        ),
+        Token::Assign => mistake(
+            b"no `=` stands in a declaration",
+            b"write `object a account 100`",
         ),
         Token::OpenParen => mistake(
             b"a declaration has no parentheses",

@@ -1,7 +1,7 @@
 // Which client, or which block, uses the most of a limit.
 
 ghost use Rattle.std.specs.Prelude.{◌≡◌, ◌<◌, length};
-ghost use Rattle.qs_program.specs.Program.{block_at, blocks_of};
+ghost use Rattle.qs_program.specs.audit.Program.{block_at, blocks_of};
 ghost use Rattle.qs_messages.specs.Greatest.{client_use, greater, most_in_client, most_of_blocks as most_of_blocks_in, most_of_clients as most_of_clients_in, of_block};
 
 use crate::limit_use::extents::{body_levels, body_turns};

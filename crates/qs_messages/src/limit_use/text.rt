@@ -1,7 +1,7 @@
 // The lines of what is used of each limit.
 
 ghost use Rattle.std.specs.Prelude.{◌≡◌, ◌++◌, IfOk, OnOk};
-ghost use Rattle.qs_program.specs.Program.{client_at};
+ghost use Rattle.qs_program.specs.audit.Program.{client_at};
 ghost use Rattle.qs_messages.specs.LimitsText.{block_line, block_lines, client_line, client_lines, end_text, item_lines, limits_text as limits_text_of, template_lines, use_line, used_text};
 
 use crate::limit_use::greatest::{OfBlock, OfClient, Use, most_of_blocks, most_of_clients};

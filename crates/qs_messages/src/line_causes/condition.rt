@@ -1,6 +1,8 @@
 // What is said of a condition that does not read, or that asks for what the script does not have.
 
+use crate::causes::{Usual, mistake, name_bytes};
 use crate::line_causes::program::program_of;
+use crate::line_causes::unknown::{asked_at, say_unknown, span_of};
 use qs_conditions::{ConditionFault, read_condition};
 use qs_diagnosis::{Diagnosis, Span, put_diagnosis};
 use qs_line::value_after;
@@ -14,22 +16,125 @@ const UNKNOWN: &[u8] = b"the condition asks for what the script does not have";
 const FORM: &[u8] =
     b"a condition compares sums, as in `a.balance() + 5 >= ann.x`, and `&&`, `||`, `!` and parentheses join comparisons";
 
-const NAMES: &[u8] =
-    b"a variable is asked for as `ann.x`, and an object by a query that changes nothing, as `a.balance()` or `g.get(0, 1)`";
+// What other languages write in place of a sign, from its byte on.
+fn for_sign(rest: &[u8]) -> Option<Usual> {
+    match rest {
+        [b'=', b'<', ..] => mistake(b"at most is written `<=`", b"write `ann.x <= 1`"),
+        [b'=', b'>', ..] => mistake(b"at least is written `>=`", b"write `ann.x >= 1`"),
+        [b'=', ..] => mistake(b"equality is written `==`", b"write `ann.x == 1`"),
+        [b'&', ..] => for_word(b"and"),
+        [b'|', ..] => for_word(b"or"),
+        [b'*', ..] => mistake(
+            b"a condition has sums, and no products",
+            b"write `ann.x + ann.x`",
+        ),
+        [b'A'..=b'Z', ..] => mistake(b"names have small letters", b"write it in small letters"),
+        _ => None,
+    }
+}
+
+fn for_word(word: &[u8]) -> Option<Usual> {
+    match word {
+        b"and" => mistake(
+            b"`and` is written `&&`",
+            b"write `ann.x == 1 && bob.y == 2`",
+        ),
+        b"or" => mistake(b"`or` is written `||`", b"write `ann.x == 1 || bob.y == 2`"),
+        b"not" => mistake(b"`not` is written `!`", b"write `!(ann.x == 1)`"),
+        b"if" => mistake(b"a condition stands alone", b"leave the `if` out"),
+        _ => None,
+    }
+}
+
+// What stands before a place, without the spaces at its end.
+fn front_of(text: &[u8], place: usize) -> &[u8] {
+    text[..place.min(text.len())].trim_ascii_end()
+}
+
+// The name or number that ends right before a place, but for spaces.
+fn word_before(text: &[u8], place: usize) -> Span {
+    let front = front_of(text, place);
+    for start in 0..front.len() {
+        if name_bytes(&front[start..]) == front.len() - start {
+            return Span {
+                start,
+                length: front.len() - start,
+            };
+        }
+    }
+    Span {
+        start: front.len(),
+        length: 0,
+    }
+}
+
+// A name that stands alone, with what comes after it: there is no `.` before it and none behind it.
+fn for_name(text: &[u8], start: usize, rest: &[u8]) -> Option<Usual> {
+    let is_name = matches!(text.get(start), Some(b'a'..=b'z'));
+    if !is_name || front_of(text, start).ends_with(b".") {
+        return None;
+    }
+    if rest.starts_with(b"(") {
+        return mistake(b"a query names its object", b"write `a.balance()`");
+    }
+    mistake(
+        b"a variable is named with its client, and a query with its object",
+        b"write `ann.x` or `a.balance()`",
+    )
+}
+
+// What is meant where a condition does not go on: by the word there, or by the one before it.
+fn meant_by_word(text: &[u8], place: usize) -> Option<(Span, Usual)> {
+    let rest = &text[place.min(text.len())..];
+    let here = Span {
+        start: place,
+        length: name_bytes(rest),
+    };
+    if let Some(usual) = for_word(&rest[..here.length.min(rest.len())]) {
+        return Some((here, usual));
+    }
+    let before = word_before(text, place);
+    let front = front_of(text, place);
+    let word = &front[before.start.min(front.len())..];
+    match for_word(word).or(for_name(text, before.start, rest)) {
+        Some(usual) => Some((before, usual)),
+        None => None,
+    }
+}
+
+// What is meant at a fault, and where.
+fn meant_at(text: &[u8], fault: ConditionFault) -> Option<(Span, Usual)> {
+    match fault {
+        ConditionFault::Byte { place } => match for_sign(&text[place.min(text.len())..]) {
+            Some(usual) => Some((
+                Span {
+                    start: place,
+                    length: 1,
+                },
+                usual,
+            )),
+            None => None,
+        },
+        ConditionFault::Form { place } => meant_by_word(text, place),
+        _ => None,
+    }
+}
 
 // Puts a cause with its place in a condition.
 fn put_at(
     alloc: Global,
     out: &mut Vec<u8>,
     condition: &str,
-    place: usize,
+    span: Span,
     cause: &[u8],
     label: &[u8],
     help: &[u8],
 ) -> Result<(), AllocError> {
     let text = condition.as_bytes();
-    let start = place.min(text.len());
-    let span = Span { start, length: 1 };
+    let span = Span {
+        start: span.start.min(text.len()),
+        length: span.length,
+    };
     put_diagnosis(
         alloc,
         out,
@@ -71,8 +176,14 @@ pub(crate) fn put_condition<'a>(
         Ok(_) => return Ok(()),
         Err(fault) => fault,
     };
+    if let Some((span, usual)) = meant_at(condition.as_bytes(), fault) {
+        return put_at(alloc, out, condition, span, usual.cause, b"", usual.help);
+    }
     match place_of(fault, condition) {
-        Some((place, label)) => put_at(alloc, out, condition, place, UNREAD, label, FORM),
+        Some((start, label)) => {
+            let span = Span { start, length: 1 };
+            put_at(alloc, out, condition, span, UNREAD, label, FORM)
+        }
         None => Err(AllocError),
     }
 }
@@ -94,16 +205,14 @@ pub(crate) fn put_unknown<'a>(
     let Ok(asked) = read_condition(alloc, condition.as_bytes()) else {
         return Ok(());
     };
-    match first_unknown(&asked, &program) {
-        Some(place) => put_at(
-            alloc,
-            out,
-            condition,
-            place,
-            UNKNOWN,
-            b"no such variable or query",
-            NAMES,
-        ),
-        None => Ok(()),
-    }
+    let Some(place) = first_unknown(&asked, &program) else {
+        return Ok(());
+    };
+    let Some(value) = asked_at(&asked, place) else {
+        return Ok(());
+    };
+    let unknown = say_unknown(alloc, &program, value)?;
+    let span = span_of(condition.as_bytes(), place, value, &unknown);
+    let (label, help) = (unknown.label.as_slice(), unknown.help.as_slice());
+    put_at(alloc, out, condition, span, UNKNOWN, label, help)
 }

@@ -1,7 +1,7 @@
 // Requests of which it is known what becomes of them, whatever their object holds.
 
 ghost use Rattle.std.specs.Prelude.{◌≡◌, ◌∷◌, [], ◌++◌, OnOk};
-ghost use Rattle.qs_program.specs.Program.{object_at};
+ghost use Rattle.qs_program.specs.audit.Program.{object_at};
 ghost use Rattle.qs_program.specs.Views.{single};
 ghost use Rattle.qs_messages.specs.Certainties.{account_certainty, call_certainty, certainty_of, certainties_of, grid_certainty, is_no_amount, is_number, is_past, when};
 

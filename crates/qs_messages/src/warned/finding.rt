@@ -1,7 +1,7 @@
 // What is warned of in a program.
 
 ghost use Rattle.std.specs.Prelude.{◌≡◌, ◌<◌, ◌++◌, IfOk, OnOk, None, flat_map, length, slice_index_or};
-ghost use Rattle.qs_program.specs.Program.{blocks_of, client_at};
+ghost use Rattle.qs_program.specs.audit.Program.{blocks_of, client_at};
 ghost use Rattle.qs_messages.specs.Warnings.{below, block_warnings, client_reserves, client_warnings, each_certainty_warnings, certainty_warnings, if_so, is_reserved, list_warnings, object_warnings, request_warnings, some_block_does, variable_warnings, warnings_of};
 
 use crate::warned::certainties::{Certainty, add_certainties};

@@ -5,16 +5,16 @@ use Rattle.std.specs.List.{AllByRecursion}
 use Rattle.std.proofs.lemmas.List.{get_or-take, length-take-le}
 use Rattle.qs_objects.specs.declared.held.Ticket.{Ticket}
 use Rattle.qs_objects.proofs.Choices.{eqb_self, num_cases}
-use Rattle.qs_program.specs.Limits.{most_blocks}
-use Rattle.qs_program.specs.Program.{ClientShape, ProgramShape, blocks_of, no_client}
+use Rattle.qs_program.specs.audit.Limits.{most_blocks}
+use Rattle.qs_program.specs.audit.Program.{ClientShape, ProgramShape, blocks_of, no_client}
 use Rattle.qs_program.specs.Sound.{IsSound, IsSoundClient}
-use Rattle.qs_meaning.specs.Configurations.{Configuration, configuration_after, configuration_from, first_configuration, one_block_on}
-use Rattle.qs_meaning.specs.Reduced.{Counts}
-use Rattle.qs_meaning.specs.Serial.{IsLegal}
-use Rattle.qs_meaning.specs.Solo.{put}
+use Rattle.qs_meaning.specs.audit.Configurations.{Configuration, configuration_after, configuration_from, first_configuration, one_block_on}
+use Rattle.qs_meaning.specs.audit.Reduced.{Counts}
+use Rattle.qs_meaning.specs.audit.Serial.{IsLegal}
+use Rattle.qs_meaning.specs.audit.Solo.{put}
 use Rattle.qs_meaning.proofs.Orders.{begun_within, legal-front, legal-rest}
 use Rattle.qs_meaning.proofs.TreeWalks.{put_here, put_there}
-use Rattle.qs_serial.specs.NamedOrders.{order_from, order_of}
+use Rattle.qs_serial.specs.audit.NamedOrders.{order_from, order_of}
 use Rattle.qs_outcomes.specs.estimate.Estimates.{AreBlocksLeft, left, left_from}
 use Rattle.qs_outcomes.proofs.estimate.Words.{AreFew, below_all, times, times-here, times-there}
 

@@ -6,14 +6,15 @@ use Rattle.std.proofs.Common.{◌≡◌, ◌<◌, ◌≤◌, ◌+◌, ℕ, suc, 
 use Rattle.std.specs.List.{AllByRecursion}
 use Rattle.std.specs.Prelude.{IfSome}
 use Rattle.std.proofs.lemmas.List.{length-map, map-append}
-use Rattle.qs_objects.specs.Act.{State}
+use Rattle.qs_objects.specs.audit.Act.{State}
 use Rattle.qs_objects.specs.declared.held.Ticket.{Ticket}
 use Rattle.qs_objects.proofs.GridRows.{equal_long}
-use Rattle.qs_program.specs.Limits.{most_clients}
-use Rattle.qs_program.specs.Program.{ProgramShape, blocks_of}
+use Rattle.qs_program.specs.audit.Limits.{most_clients}
+use Rattle.qs_program.specs.audit.Program.{ProgramShape, blocks_of}
 use Rattle.qs_program.specs.Sound.{IsSound}
-use Rattle.qs_meaning.specs.Configurations.{Configuration, HasBlockLeft, OrderOutcome, configuration_after, configuration_from, first_configuration, one_block_on, outcome_in}
-use Rattle.qs_meaning.specs.Serial.{IsLegal, LegalFrom, no_state, zeros}
+use Rattle.qs_meaning.specs.audit.Configurations.{Configuration, configuration_after, configuration_from, first_configuration, one_block_on}
+use Rattle.qs_meaning.specs.Configurations.{HasBlockLeft, OrderOutcome, outcome_in}
+use Rattle.qs_meaning.specs.audit.Serial.{IsLegal, LegalFrom, no_state, zeros}
 use Rattle.qs_meaning.proofs.Each.{each_back, each_both, each_join, each_map, each_snoc}
 use Rattle.qs_meaning.proofs.Orders.{configuration-append, legal-rest, legal_on}
 use Rattle.qs_outcomes.specs.Outcomes.{HasPlaces, outcome_at}

@@ -2,7 +2,7 @@
 -- definitions.
 use Rattle.std.specs.Prelude.{◌≡◌, [], ◌∷◌, Some, None}
 use Rattle.qs_meaning.specs.MeaningExamples.{withdrawals}
-use Rattle.qs_serial.specs.NamedOrders.{order_of}
+use Rattle.qs_serial.specs.audit.NamedOrders.{order_of}
 use Rattle.qs_outcomes.specs.estimate.Estimates.{insertions, least_orders, left, most_orders, told}
 
 -- Each list has how many blocks each client has left.

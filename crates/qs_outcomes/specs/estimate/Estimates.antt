@@ -3,10 +3,10 @@
 use Rattle.std.specs.Prelude.{◌≡◌, ◌<◌, ◌≤◌, ◌+◌, ◌-◌, ◌*◌, ℕ, zero, suc, min, nat_le, if◌then◌else◌}
 use Rattle.std.specs.Prelude.{List, [], ◌∷◌, length, slice_index, Option, Some, None}
 use Rattle.qs_objects.specs.declared.held.Ticket.{Ticket}
-use Rattle.qs_program.specs.Limits.{most_blocks, most_clients}
-use Rattle.qs_program.specs.Program.{ClientShape, ProgramShape}
-use Rattle.qs_meaning.specs.Configurations.{configuration_after}
-use Rattle.qs_meaning.specs.Reduced.{Counts}
+use Rattle.qs_program.specs.audit.Limits.{most_blocks, most_clients}
+use Rattle.qs_program.specs.audit.Program.{ClientShape, ProgramShape}
+use Rattle.qs_meaning.specs.audit.Configurations.{configuration_after}
+use Rattle.qs_meaning.specs.audit.Reduced.{Counts}
 use Rattle.qs_outcomes.specs.declared.estimate.estimate.Estimate.{Estimate}
 
 -- of clients from a number on, how many blocks each has after those that it has begun

@@ -1,8 +1,8 @@
 -- What the bounds say of a search.
 use Rattle.std.specs.Prelude.{◌≤◌, ℕ, List}
 use Rattle.qs_objects.specs.declared.held.Ticket.{Ticket}
-use Rattle.qs_program.specs.Program.{ProgramShape}
-use Rattle.qs_meaning.specs.Serial.{IsLegal}
+use Rattle.qs_program.specs.audit.Program.{ProgramShape}
+use Rattle.qs_meaning.specs.audit.Serial.{IsLegal}
 use Rattle.qs_outcomes.specs.Answers.{HasNoted}
 use Rattle.qs_outcomes.specs.throughout.Courses.{HasNotedOnTheWay, HasOnTheWayAfter}
 use Rattle.qs_outcomes.specs.estimate.Estimates.{least_orders, left, most_orders}

@@ -3,9 +3,10 @@
 use Rattle.std.specs.Prelude.{◌≡◌, ◌≤◌, ℕ, suc, Bool, true, false, List, ◌++◌, None, IfSome, length}
 use Rattle.std.specs.List.{AllByRecursion}
 use Rattle.qs_objects.specs.declared.held.Ticket.{Ticket}
-use Rattle.qs_program.specs.Program.{ProgramShape}
-use Rattle.qs_meaning.specs.Configurations.{OrderOutcome, configuration_after, outcome_in}
-use Rattle.qs_meaning.specs.Serial.{IsLegal}
+use Rattle.qs_program.specs.audit.Program.{ProgramShape}
+use Rattle.qs_meaning.specs.audit.Configurations.{configuration_after}
+use Rattle.qs_meaning.specs.Configurations.{OrderOutcome, outcome_in}
+use Rattle.qs_meaning.specs.audit.Serial.{IsLegal}
 use Rattle.qs_outcomes.specs.Answers.{AnswerShape}
 use Rattle.qs_outcomes.specs.Outcomes.{HasPlaces, outcome_at}
 use Rattle.qs_standings.specs.Lists.{HasOne, NoTwo}

@@ -1,9 +1,9 @@
 //! The bounds of a search after a front.
 
 ghost use Rattle.std.specs.Prelude.{◌≡◌, ◌==◌, ◌<◌, ◌-◌, ◌↔◌, ℕ, None, IfSome, count_by, length, take};
-ghost use Rattle.qs_program.specs.Program.{blocks_of};
-ghost use Rattle.qs_meaning.specs.Serial.{IsLegal};
-ghost use Rattle.qs_serial.specs.NamedOrders.{order_of};
+ghost use Rattle.qs_program.specs.audit.Program.{blocks_of};
+ghost use Rattle.qs_meaning.specs.audit.Serial.{IsLegal};
+ghost use Rattle.qs_serial.specs.audit.NamedOrders.{order_of};
 ghost use Rattle.qs_outcomes.specs.estimate.Estimates.{IsEstimateAfter, capped, left, told};
 
 use crate::estimate::ways::{least_orders, most_orders};

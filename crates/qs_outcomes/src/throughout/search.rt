@@ -2,14 +2,13 @@
 
 ghost use Rattle.std.specs.Prelude.{◌≡◌, ℕ, ◌+◌, ◌<◌, ◌≤◌, ◌++◌, ◌∷◌, [], true, None, length, slice_index_or};
 ghost use Rattle.std.specs.Prelude.{IfOk, IfSome, OnOk, IsErrOf};
-ghost use Rattle.qs_serial.specs.NamedOrders.{order_of};
-ghost use Rattle.qs_meaning.specs.Serial.{IsLegal};
+ghost use Rattle.qs_serial.specs.audit.NamedOrders.{order_of};
+ghost use Rattle.qs_meaning.specs.audit.Serial.{IsLegal};
 ghost use Rattle.qs_outcomes.specs.Outcomes.{HasPlaces, outcome_at};
 ghost use Rattle.qs_standings.specs.Lists.{HasOne};
 ghost use Rattle.qs_standings.specs.Rows.{AreStarts, IsInserted, drafted, rows_in};
 ghost use Rattle.qs_standings.specs.Standings.{HasNext, HasRun, IsFirst, IsStanding, row_of, standing_with_block};
-ghost use Rattle.qs_outcomes.specs.throughout.Courses.{HasMoreOnTheWayAfter, HasNotedOnTheWay};
-ghost use Rattle.qs_outcomes.specs.throughout.Courses.{IsCourseAnswerAfter, IsCourseWitnessAfter};
+ghost use Rattle.qs_outcomes.specs.throughout.Courses.{HasMoreOnTheWayAfter, HasNotedOnTheWay, IsCourseAnswerAfter, IsCourseWitnessAfter};
 ghost use Rattle.qs_outcomes.specs.throughout.Walked.{HasWalked, IsGoingOn, IsTakenIn};
 
 use crate::{Answer, OutcomesFault, Question, Watcher};

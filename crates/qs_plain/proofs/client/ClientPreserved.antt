@@ -7,16 +7,18 @@ use Rattle.std.proofs.lemmas.List.Sums.{sum_by-cons}
 use Rattle.std.proofs.lemmas.List.{length-append}
 use Rattle.std.proofs.Math.Seq.{get_or-append_seam}
 use Rattle.qs_objects.specs.declared.held.Event.{Event}
-use Rattle.qs_program.specs.Program.{BlockShape, blocks_of, block_load}
-use Rattle.qs_program.specs.Sound.{IsSound, IsSoundBody, is_in}
-use Rattle.qs_program.specs.Loads.{load_of}
+use Rattle.qs_program.specs.audit.Program.{BlockShape, blocks_of, block_load}
+use Rattle.qs_program.specs.audit.Sound.{is_in}
+use Rattle.qs_program.specs.Sound.{IsSound, IsSoundBody}
+use Rattle.qs_program.specs.audit.Loads.{load_of}
 use Rattle.qs_program.proofs.Bounds.{sound_block}
 use Rattle.qs_plain.specs.client.Asking.{AreSound}
 use Rattle.qs_plain.specs.client.Clients.{ClientState, IsClient, IsStaged, IsWithin, IsReady, current_block, current_counts, current_trace, block_of_state}
 use Rattle.qs_plain.specs.client.PreparedBlock.{PreparedState}
 use Rattle.qs_plain.specs.client.Frames.{Frame, rest, load_left}
 use Rattle.qs_plain.specs.client.TraceMoves.{counted_in, noted_in, last_of, no_trace}
-use Rattle.qs_sync_counts.specs.SyncRows.{AreFew, no_syncs, with_sync}
+use Rattle.qs_sync_counts.specs.audit.SyncRows.{no_syncs, with_sync}
+use Rattle.qs_sync_counts.specs.SyncRows.{AreFew}
 use Rattle.qs_sync_counts.specs.declared.sync_counts.SyncCount.{SyncCount}
 use Rattle.qs_sync_counts.proofs.CountRows.{few_in, few_more, few_none}
 use Rattle.qs_objects.specs.Traces.{TraceState}

@@ -5,16 +5,16 @@
 use Rattle.std.proofs.Common.{length-append, ◌≡◌, ◌<◌, ◌≤◌, ℕ, zero, suc, ◌+◌, ◌-◌, ◌≢◌, ◌⊎◌, ⊎_elim, Bool, true, false, subst, List, [], ◌∷◌, ◌++◌, refl, ap, sym, ◌∙◌, arith, sub-one, slice_set}
 use Rattle.std.specs.List.{AllByRecursion}
 use Rattle.std.proofs.lemmas.List.Sums.{fold-append, sum_by_push}
-use Rattle.qs_program.specs.Statements.{Statements, end, command, query, assign, again, leave, choose}
+use Rattle.qs_program.specs.audit.Statements.{Statements, end, command, query, assign, again, leave, choose}
 use Rattle.qs_program.specs.Sound.{IsSoundBody, IsSoundCall}
-use Rattle.qs_program.specs.Limits.{most_variables}
+use Rattle.qs_program.specs.audit.Limits.{most_variables}
 use Rattle.qs_program.specs.declared.code.Call.{Call}
 use Rattle.qs_program.specs.declared.code.Expr.{Expr}
 use Rattle.qs_program.specs.declared.code.Test.{Test}
 use Rattle.qs_program.specs.declared.program.Declared.{Declared}
-use Rattle.qs_program.specs.Values.{Locals, expr_value}
-use Rattle.qs_program.specs.Loads.{load_of}
-use Rattle.qs_meaning.specs.Interaction.{meaning}
+use Rattle.qs_program.specs.audit.Values.{Locals, expr_value}
+use Rattle.qs_program.specs.audit.Loads.{load_of}
+use Rattle.qs_meaning.specs.audit.Interaction.{meaning}
 use Rattle.qs_plain.specs.client.Asking.{AreSound, IsSoundFrame}
 use Rattle.qs_plain.specs.client.Frames.{Frame, rest, turning, Ahead, inside, above, ahead_of, next_of, work, work_of, frame_work, load_left, frame_load}
 use Rattle.qs_plain.specs.client.Opening.{Assigns, IsAside, Opens}

@@ -8,12 +8,12 @@ use Rattle.std.proofs.lemmas.List.{drop-set-lt, get_or-map, length-append, lengt
 use Rattle.qs_objects.specs.Traces.{AreEmptyAfter, TraceState, empty_trace, events_of, with_last_event, noted_at, trace_at}
 use Rattle.qs_objects.specs.declared.held.Event.{Event}
 use Rattle.qs_objects.proofs.Choices.{apart_eqb, num_cases}
-use Rattle.qs_sync_counts.specs.SyncRows.{fresh_rows, no_syncs, with_sync}
+use Rattle.qs_sync_counts.specs.audit.SyncRows.{fresh_rows, no_syncs, with_sync}
 use Rattle.qs_sync_counts.specs.declared.sync_counts.SyncCount.{SyncCount}
-use Rattle.qs_program.specs.Program.{BlockShape, ProgramShape, block_at, block_load, blocks_of, client_at, no_block}
+use Rattle.qs_program.specs.audit.Program.{BlockShape, ProgramShape, block_at, block_load, blocks_of, client_at, no_block}
 use Rattle.qs_program.specs.Sound.{IsSound}
 use Rattle.qs_program.proofs.Bounds.{block_load-whole}
-use Rattle.qs_program.specs.Limits.{most_requests}
+use Rattle.qs_program.specs.audit.Limits.{most_requests}
 use Rattle.qs_plain.specs.client.Clients.{AreRowsOf, AreStored, IsClient, IsReady, client_from, client_of_state}
 use Rattle.qs_plain.specs.client.ClientMoves.{begun_with, after_moves}
 use Rattle.qs_plain.specs.client.Frames.{Frame, places_of, rest}

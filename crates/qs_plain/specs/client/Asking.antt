@@ -1,11 +1,11 @@
 -- What a client asks next, after its quiet moves.
 use Rattle.std.specs.Prelude.{◌≡◌, ◌<◌, ℕ, true, false, ◌==◌, if◌then◌else◌, List, [], slice_set, Option, Some, None}
 use Rattle.std.specs.List.{AllByRecursion}
-use Rattle.qs_program.specs.Values.{Locals, request_of}
-use Rattle.qs_meaning.specs.Interaction.{Interaction, Done, Call, Query}
+use Rattle.qs_program.specs.audit.Values.{Locals, request_of}
+use Rattle.qs_meaning.specs.audit.Interaction.{Interaction, Done, Call, Query}
 use Rattle.qs_program.specs.Sound.{IsSoundBody, IsSoundCall}
 use Rattle.qs_program.specs.declared.program.Declared.{Declared}
-use Rattle.qs_program.specs.Limits.{most_variables}
+use Rattle.qs_program.specs.audit.Limits.{most_variables}
 use Rattle.qs_plain.specs.declared.client.frames.Ask.{Ask}
 use Rattle.qs_plain.specs.client.Frames.{Frame, rest, turning, next_of}
 use Rattle.qs_plain.specs.declared.client.frames.Ask.TheVariants as ask

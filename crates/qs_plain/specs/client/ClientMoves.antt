@@ -1,10 +1,10 @@
 -- What a client's moves do to it.
 use Rattle.std.specs.Prelude.{◌≡◌, ◌≤◌, ℕ, ◌==◌, if◌then◌else◌, true, List, [], ◌∷◌, ◌++◌, length, slice_set, ℤ, Option, None}
 use Rattle.qs_objects.specs.declared.Request.{Request}
-use Rattle.qs_meaning.specs.Interaction.{Done, Call, Query}
-use Rattle.qs_meaning.specs.Solo.{event, value_of}
-use Rattle.qs_program.specs.Sound.{is_in}
-use Rattle.qs_program.specs.Values.{request_of}
+use Rattle.qs_meaning.specs.audit.Interaction.{Done, Call, Query}
+use Rattle.qs_meaning.specs.audit.Solo.{event, value_of}
+use Rattle.qs_program.specs.audit.Sound.{is_in}
+use Rattle.qs_program.specs.audit.Values.{request_of}
 use Rattle.qs_sync_counts.specs.declared.sync_counts.SyncCount.{SyncCount}
 use Rattle.qs_plain.specs.client.Clients.{ClientState, block_of_state}
 use Rattle.qs_plain.specs.client.PreparedBlock.{PreparedState}

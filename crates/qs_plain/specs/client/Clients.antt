@@ -2,11 +2,11 @@
 -- blocks.
 use Rattle.std.specs.Prelude.{◌≡◌, ◌<◌, ◌≤◌, ℕ, suc, ◌+◌, ◌-◌, List, [], drop, length, slice_index_or, slice_set, take, ℤ, sum_by, refl}
 use Rattle.std.specs.Coded.{Coded, codes, code_by, coded×, coded_list, coded_ℕ, coded_ℤ}
-use Rattle.qs_program.specs.Program.{ProgramShape, BlockShape, block_at, blocks_of}
-use Rattle.qs_meaning.specs.Serial.{zeros}
+use Rattle.qs_program.specs.audit.Program.{ProgramShape, BlockShape, block_at, blocks_of}
+use Rattle.qs_meaning.specs.audit.Serial.{zeros}
 use Rattle.qs_program.specs.Shapes.{program_code}
-use Rattle.qs_plain_laws.specs.Plain.{Client, out, within, waiting}
-use Rattle.qs_plain_laws.specs.Plain as plain
+use Rattle.qs_plain_laws.specs.audit.Plain.{Client, out, within, waiting}
+use Rattle.qs_plain_laws.specs.audit.Plain as plain
 use Rattle.qs_plain.specs.client.Asking.{AreSound}
 use Rattle.qs_plain.specs.client.Frames.{Frame, rest, next_of, load_left, places_of}
 use Rattle.qs_plain.specs.client.FrameViews.{frame_code}
@@ -15,7 +15,7 @@ use Rattle.qs_plain.specs.client.PreparedBlock.{PreparedState, IsStocked, prepar
 use Rattle.qs_plain.specs.client.Queues.{QueueState}
 use Rattle.qs_played.specs.Played.{ClientRows}
 use Rattle.qs_objects.specs.Traces.{TraceState, events_of, trace_at}
-use Rattle.qs_program.specs.Limits.{most_requests}
+use Rattle.qs_program.specs.audit.Limits.{most_requests}
 use Rattle.qs_sync_counts.specs.SyncRows.{AreFew}
 use Rattle.qs_sync_counts.specs.declared.sync_counts.SyncCount.{SyncCount}
 use Rattle.qs_plain.specs.declared.client.stage.Stage.{Stage}

@@ -2,7 +2,7 @@
 use Rattle.std.specs.Prelude.{◌≡◌, ◌<◌, ◌≤◌, ◌⊎◌, ℕ, ◌+◌, List, length, slice_index_or, refl}
 use Rattle.std.specs.Coded.{Coded, code_by, coded×, coded⊎, coded_list, coded_ℕ}
 use Rattle.std.proofs.Common.{inl, inr}
-use Rattle.qs_program.specs.Statements.{Statements, end}
+use Rattle.qs_program.specs.audit.Statements.{Statements, end}
 use Rattle.qs_program.specs.StatementsCode.{statements_code}
 use Rattle.qs_program.specs.Views.{statements_of}
 use Rattle.qs_plain.specs.client.Frames.{Frame, rest, turning, places_of}

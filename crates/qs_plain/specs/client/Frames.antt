@@ -1,9 +1,10 @@
 -- What is left of a block on its way, as data: for each list of statements that it stands in what is left of the list,
 -- and for each repeat the turns that are left. The outermost comes first.
 use Rattle.std.specs.Prelude.{ℕ, ◌+◌, ◌*◌, max, fold, sum_by, List}
-use Rattle.qs_program.specs.Statements.{Statements, end, command, query, assign, choose, again, leave}
-use Rattle.qs_meaning.specs.Interaction.{Done, Next, meaning, turns}
-use Rattle.qs_program.specs.Loads.{load_of}
+use Rattle.qs_program.specs.audit.Statements.{Statements, end, command, query, assign, choose, again, leave}
+use Rattle.qs_meaning.specs.audit.Interaction.{Done, Next, meaning}
+use Rattle.qs_meaning.specs.Interaction.{turns}
+use Rattle.qs_program.specs.audit.Loads.{load_of}
 
 pub data Frame : Type 0 where
   rest : Statements → Frame

@@ -1,13 +1,13 @@
 -- Frames from which a list of statements was taken off, frames to which one was put, and a list whose first assignments
 -- were done.
 use Rattle.std.specs.Prelude.{◌≡◌, ◌≤◌, ℕ, ◌+◌, List, [], ◌∷◌, ◌++◌, length}
-use Rattle.qs_program.specs.Statements.{Statements}
-use Rattle.qs_program.specs.Values.{Locals}
+use Rattle.qs_program.specs.audit.Statements.{Statements}
+use Rattle.qs_program.specs.audit.Values.{Locals}
 use Rattle.qs_program.specs.declared.program.Declared.{Declared}
 use Rattle.qs_plain.specs.client.Asking.{AreSound}
-use Rattle.qs_program.specs.Loads.{load_of}
+use Rattle.qs_program.specs.audit.Loads.{load_of}
 use Rattle.qs_program.specs.Sound.{IsSoundBody}
-use Rattle.qs_meaning.specs.Interaction.{Next, meaning}
+use Rattle.qs_meaning.specs.audit.Interaction.{Next, meaning}
 use Rattle.qs_plain.specs.client.Frames.{Frame, rest, inside, ahead_of, next_of, work, work_of, above, load_left, frame_work, frame_load}
 
 -- the frames that are left do the same as those before if the list is put to them

@@ -1,10 +1,10 @@
 -- What is prepared for a block to come.
 use Rattle.std.specs.Prelude.{◌≡◌, ◌≤◌, ℕ, ◌+◌, List, [], ◌∷◌, map}
 use Rattle.std.specs.List.{AllByRecursion}
-use Rattle.qs_program.specs.Loads.{load_of}
-use Rattle.qs_program.specs.Program.{BlockShape, ProgramShape, block_load, client_at}
-use Rattle.qs_played.specs.Played.{ticket}
-use Rattle.qs_sync_counts.specs.SyncRows.{no_syncs}
+use Rattle.qs_program.specs.audit.Loads.{load_of}
+use Rattle.qs_program.specs.audit.Program.{BlockShape, ProgramShape, block_load, client_at}
+use Rattle.qs_played.specs.audit.Played.{ticket}
+use Rattle.qs_sync_counts.specs.audit.SyncRows.{no_syncs}
 use Rattle.qs_sync_counts.specs.declared.sync_counts.SyncCount.{SyncCount}
 use Rattle.qs_plain.specs.client.Queues.{QueueState}
 use Rattle.qs_objects.specs.Traces.{TraceState}

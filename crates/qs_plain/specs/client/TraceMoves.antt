@@ -2,7 +2,7 @@
 use Rattle.std.specs.Prelude.{ℕ, ◌-◌, List, [], ◌∷◌, ◌++◌, length, slice_index_or, slice_set}
 use Rattle.qs_objects.specs.declared.held.Event.{Event}
 use Rattle.qs_objects.specs.Traces.{TraceState, trace_state}
-use Rattle.qs_sync_counts.specs.SyncRows.{with_sync}
+use Rattle.qs_sync_counts.specs.audit.SyncRows.{with_sync}
 use Rattle.qs_sync_counts.specs.declared.sync_counts.SyncCount.{SyncCount}
 
 abbrev pub no_trace : TraceState

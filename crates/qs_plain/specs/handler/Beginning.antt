@@ -1,7 +1,7 @@
 -- Handlers before the first step.
 use Rattle.std.specs.Prelude.{◌≡◌, ◌<◌, ℕ, List, [], length}
-use Rattle.qs_program.specs.Program.{ProgramShape}
-use Rattle.qs_plain_laws.specs.Plain.{fresh_handler}
+use Rattle.qs_program.specs.audit.Program.{ProgramShape}
+use Rattle.qs_plain_laws.specs.audit.Plain.{fresh_handler}
 use Rattle.qs_plain.specs.handler.Handlers.{handler_state_at}
 use Rattle.qs_plain.specs.handler.Served.{HandlerState}
 

@@ -3,7 +3,7 @@ use Rattle.std.specs.Prelude.{◌<◌, ℕ, ◌-◌, ◌==◌, List, [], ◌∷�
 use Rattle.std.specs.List.{AllByRecursion, IsDistinct}
 use Rattle.qs_objects.specs.declared.held.Ticket.{Ticket}
 use Rattle.qs_plain_laws.specs.declared.item.QueueItem.{QueueItem}
-use Rattle.qs_plain_laws.specs.Plain.{no_handler}
+use Rattle.qs_plain_laws.specs.audit.Plain.{no_handler}
 use Rattle.qs_plain.specs.client.Queues.{QueueState, after_put}
 use Rattle.qs_plain.specs.handler.Served.{HandlerState, IsLoggable}
 

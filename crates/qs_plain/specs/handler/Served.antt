@@ -1,10 +1,10 @@
 -- A handler of the code, and what its step does.
 use Rattle.std.specs.Prelude.{◌≡◌, ◌<◌, ℕ, true, List, [], ◌∷◌, map, length, slice_index_or}
-use Rattle.qs_objects.specs.Journals.{HeldState, run_one}
+use Rattle.qs_objects.specs.audit.Journals.{HeldState, run_one}
 use Rattle.qs_objects.specs.declared.held.Ticket.{Ticket}
-use Rattle.qs_objects.specs.Parts.{same}
+use Rattle.qs_objects.specs.audit.Parts.{same}
 use Rattle.qs_plain_laws.specs.declared.item.QueueItem.{QueueItem}
-use Rattle.qs_plain_laws.specs.Plain.{Handler}
+use Rattle.qs_plain_laws.specs.audit.Plain.{Handler}
 use Rattle.qs_plain_laws.specs.declared.item.QueueItem.TheVariants as item
 use Rattle.qs_plain.specs.client.Queues.{AreApart, QueueState, queue_state}
 use Rattle.qs_plain.specs.declared.handler.handler.Served.{Served}

@@ -1,15 +1,15 @@
 //! Clients under the plain rules.
 
-ghost use Rattle.qs_program.specs.Limits.{most_blocks, most_requests};
-ghost use Rattle.qs_program.specs.Program.{block_at, blocks_of};
+ghost use Rattle.qs_program.specs.audit.Limits.{most_blocks, most_requests};
+ghost use Rattle.qs_program.specs.audit.Program.{block_at, blocks_of};
 ghost use Rattle.qs_plain.specs.client.PreparedBlock.{AreQueues, reserved_lists, rooms_of};
 ghost use Rattle.qs_objects.specs.Traces.{empty_trace};
-ghost use Rattle.qs_sync_counts.specs.SyncRows.{fresh_rows};
-ghost use Rattle.qs_played.specs.Schedule.{queries_in};
+ghost use Rattle.qs_sync_counts.specs.audit.SyncRows.{fresh_rows};
+ghost use Rattle.qs_played.specs.audit.Schedule.{queries_in};
 ghost use Rattle.qs_plain.specs.client.ReplyDelivery.{Hears};
 ghost use Rattle.qs_plain.specs.client.FreshClients.{AreFresh};
 ghost use Rattle.std.specs.Prelude.{◌≡◌, ◌+◌, ◌*◌, ◌<◌, ◌≤◌, ℕ, IfOk, IsErr, length, map, nat_lt, suc};
-ghost use Rattle.qs_program.specs.Values.{request_of};
+ghost use Rattle.qs_program.specs.audit.Values.{request_of};
 ghost use Rattle.qs_plain.specs.client.Frames.{load_left};
 ghost use Rattle.qs_plain.specs.declared.client.stage.Stage.TheVariants as stages;
 
@@ -98,7 +98,7 @@ impl<'p> Model for ClientState<'p> {
 
 impl<'p> ClientState<'p> {
     ghost use Rattle.qs_plain.specs.client.Clients.{AreRowsOf, IsClient, IsFresh, client_of_state, current_block};
-    ghost use Rattle.qs_plain_laws.specs.PlainSchedule.{has_ended, is_done, syncs_of, waits};
+    ghost use Rattle.qs_plain_laws.specs.audit.PlainSchedule.{has_ended, is_done, syncs_of, waits};
     ghost use Rattle.qs_plain.specs.client.ClientMoves.{Begins, AsksNext, Replies, requested_of, IsReserved, IsShortAsk};
 
     /// A client of the program before its first block, with all the memory that it will need. An error says that this

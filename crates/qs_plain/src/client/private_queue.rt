@@ -1,8 +1,8 @@
 //! Private queues.
 
 ghost use Rattle.std.specs.Prelude.{◌≡◌, ◌+◌, ◌-◌, ◌<◌, [], ◌∷◌, List, IfOk, MatchOption, if◌then◌else◌, true};
-ghost use Rattle.qs_objects.specs.Parts.{same as same_ticket};
-ghost use Rattle.qs_plain_laws.specs.Plain.{put_item};
+ghost use Rattle.qs_objects.specs.audit.Parts.{same as same_ticket};
+ghost use Rattle.qs_plain_laws.specs.audit.Plain.{put_item};
 ghost use Rattle.qs_plain.specs.client.Queues.{IsPlace, queue_state};
 ghost use Rattle.qs_plain_laws.specs.declared.item.QueueItem.{QueueItem as ItemShape};
 ghost use Rattle.qs_plain_laws.specs.declared.item.QueueItem.TheVariants as items;

@@ -2,7 +2,7 @@
 
 ghost use Rattle.std.specs.Prelude.{◌≡◌, ◌<◌, ℕ, IfOk, length, map, vec_len};
 ghost use Rattle.qs_plain.specs.handler.Beginning.{AreIdle, idle};
-ghost use Rattle.qs_plain_laws.specs.Plain.{fresh_handler};
+ghost use Rattle.qs_plain_laws.specs.audit.Plain.{fresh_handler};
 ghost use Rattle.qs_plain.specs.handler.Handlers.{CanEnterAll, CanLog, CanLogAll, entered_all, logged_all, logged_at};
 ghost use Rattle.qs_plain.specs.client.Queues.{QueueState};
 ghost use Rattle.qs_plain_laws.specs.declared.item.QueueItem.TheVariants as items;

@@ -1,8 +1,8 @@
 //! Rounds played on from where the plain rules stand.
 
 ghost use Rattle.std.specs.Prelude.{◌≡◌};
-ghost use Rattle.qs_played.specs.Schedule.{actors_of, rounds_of};
-ghost use Rattle.qs_plain_laws.specs.PlainSchedule.{plays};
+ghost use Rattle.qs_played.specs.audit.Schedule.{actors_of, rounds_of};
+ghost use Rattle.qs_plain_laws.specs.audit.PlainSchedule.{plays};
 ghost use Rattle.qs_plain.specs.Rules.{plain_of};
 
 use super::Rules;

@@ -2,8 +2,8 @@
 
 ghost use Rattle.std.specs.Prelude.{◌≡◌, map, option_copied, option_map, slice_get};
 ghost use Rattle.qs_plain.specs.client.Queues.{QueueState};
-ghost use Rattle.qs_plain_laws.specs.Plain.{Handler, handler_at};
-ghost use Rattle.qs_plain_laws.specs.PlainSchedule.{is_finished};
+ghost use Rattle.qs_plain_laws.specs.audit.Plain.{Handler, handler_at};
+ghost use Rattle.qs_plain_laws.specs.audit.PlainSchedule.{is_finished};
 ghost use Rattle.qs_plain.specs.Awaiting.{awaited_at};
 ghost use Rattle.qs_plain.specs.Rules.{plain_of};
 

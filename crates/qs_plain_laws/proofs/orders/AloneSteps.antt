@@ -3,19 +3,20 @@
 -- client, or of a handler, changes one client, one queue or both, and keeps all others as they are.
 use Rattle.std.proofs.Common.{◌≡◌, ◌<◌, ◌∙◌, ◌==◌, ℕ, suc, true, if◌then◌else◌, false, List, [], ◌∷◌, ◌++◌, Some, refl, sym, ap, subst, length, get_or, get_or-set_same, get_or-set_other, length-set, ⊎_elim, arith}
 use Rattle.std.proofs.Math.ListN.{set}
-use Rattle.qs_objects.specs.Journals.{HeldState, run_one}
+use Rattle.qs_objects.specs.audit.Journals.{HeldState, run_one}
 use Rattle.qs_objects.specs.declared.held.Ticket.{Ticket}
 use Rattle.qs_objects.proofs.Choices.{and_cases, num_cases}
-use Rattle.qs_program.specs.Program.{ProgramShape}
-use Rattle.qs_meaning.specs.Following.{AsksOnly, reserves}
-use Rattle.qs_meaning.specs.Interaction.{Interaction, Done, Call, Query}
-use Rattle.qs_meaning.specs.Solo.{put, value_of}
+use Rattle.qs_program.specs.audit.Program.{ProgramShape}
+use Rattle.qs_meaning.specs.audit.Following.{reserves}
+use Rattle.qs_meaning.specs.Following.{AsksOnly}
+use Rattle.qs_meaning.specs.audit.Interaction.{Interaction, Done, Call, Query}
+use Rattle.qs_meaning.specs.audit.Solo.{put, value_of}
 use Rattle.qs_meaning.proofs.TreeWalks.{put_here, put_there}
-use Rattle.qs_played.specs.Schedule.{all_named, names_actor, or_stay}
+use Rattle.qs_played.specs.audit.Schedule.{all_named, names_actor, or_stay}
 use Rattle.qs_played.specs.declared.schedule.actor.Actor.{Actor}
 use Rattle.qs_played.proofs.Lists.{apart}
-use Rattle.qs_plain_laws.specs.Plain.{Client, Handler, Plain, Private, StageOfClient, begun_blocks, client_at, handler_at, no_client, no_handler, out, step, waiting, within}
-use Rattle.qs_plain_laws.specs.PlainSchedule.{plays}
+use Rattle.qs_plain_laws.specs.audit.Plain.{Client, Handler, Plain, Private, StageOfClient, begun_blocks, client_at, handler_at, no_client, no_handler, out, step, waiting, within}
+use Rattle.qs_plain_laws.specs.audit.PlainSchedule.{plays}
 use Rattle.qs_plain_laws.specs.orders.Quiet.{IsOut}
 
 -- some actors of the program, by whose steps a state with a property comes

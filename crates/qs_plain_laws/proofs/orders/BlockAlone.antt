@@ -7,25 +7,26 @@ use Rattle.std.proofs.Common.{◌≡◌, ◌<◌, ◌≤◌, ◌∙◌, ◌==◌
 use Rattle.std.proofs.Math.ListN.{set}
 use Rattle.std.proofs.lemmas.Bool.{lt-ltb}
 use Rattle.std.specs.List.{AllByRecursion}
-use Rattle.qs_objects.specs.Journals.{HeldState, run_one}
+use Rattle.qs_objects.specs.audit.Journals.{HeldState, run_one}
 use Rattle.qs_objects.specs.declared.held.Ticket.{Ticket}
 use Rattle.qs_objects.specs.declared.Request.{Request}
 use Rattle.qs_objects.proofs.Choices.{apart_eqb, eqb_true, num_cases, same_self, ticket_path}
-use Rattle.qs_program.specs.Program.{ProgramShape, text_of}
-use Rattle.qs_program.specs.Sound.{IsSound, is_in}
-use Rattle.qs_program.specs.Values.{Locals}
-use Rattle.qs_meaning.specs.Following.{reserves}
-use Rattle.qs_meaning.specs.Interaction.{Interaction, Done, Call, Query}
-use Rattle.qs_meaning.specs.Solo.{put, value_of}
+use Rattle.qs_program.specs.audit.Program.{ProgramShape, text_of}
+use Rattle.qs_program.specs.audit.Sound.{is_in}
+use Rattle.qs_program.specs.Sound.{IsSound}
+use Rattle.qs_program.specs.audit.Values.{Locals}
+use Rattle.qs_meaning.specs.audit.Following.{reserves}
+use Rattle.qs_meaning.specs.audit.Interaction.{Interaction, Done, Call, Query}
+use Rattle.qs_meaning.specs.audit.Solo.{put, value_of}
 use Rattle.qs_meaning.proofs.TreeWalks.{put_here, put_there}
 use Rattle.qs_played.proofs.Lists.{apart}
-use Rattle.qs_played.specs.Schedule.{all_named, or_stay}
+use Rattle.qs_played.specs.audit.Schedule.{all_named, or_stay}
 use Rattle.qs_played.specs.declared.schedule.actor.Actor.{Actor}
 use Rattle.qs_played.specs.declared.schedule.actor.Actor.TheVariants as actor
 use Rattle.qs_plain_laws.specs.declared.item.QueueItem.{QueueItem}
 use Rattle.qs_plain_laws.specs.declared.item.QueueItem.TheVariants as item
-use Rattle.qs_plain_laws.specs.Plain.{Handler, Plain, Private, StageOfClient, after_reply, asks, at_each, calls, client_at, current, ends, handler_at, leaves_queue, log_in, no_handler, out, put_item, queue_step, reply_to, runs_command, runs_query, step, waiting, within}
-use Rattle.qs_plain_laws.specs.PlainSchedule.{plays}
+use Rattle.qs_plain_laws.specs.audit.Plain.{Handler, Plain, Private, StageOfClient, after_reply, asks, at_each, calls, client_at, current, ends, handler_at, leaves_queue, log_in, no_handler, out, put_item, queue_step, reply_to, runs_command, runs_query, step, waiting, within}
+use Rattle.qs_plain_laws.specs.audit.PlainSchedule.{plays}
 use Rattle.qs_plain_laws.proofs.PlainPreserved.{each_is, in_list, reserved_list}
 use Rattle.qs_plain_laws.specs.orders.Quiet.{IsOut, IsQuiet}
 use Rattle.qs_plain_laws.proofs.orders.AloneSteps.{IsAlone, IsWithin, Reaches, client_moved, handler_moved, helds, left_at, left_of, moves, queue_set, requeued, stay, turns_left}

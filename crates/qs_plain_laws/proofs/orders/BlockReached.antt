@@ -10,27 +10,29 @@ use Rattle.std.proofs.lemmas.List.FromFn.{get_or-map-range_with_len, length-map-
 use Rattle.std.specs.List.{AllByRecursion}
 use Rattle.qs_objects.specs.declared.held.Ticket.{Ticket}
 use Rattle.qs_objects.proofs.Choices.{eqb_self, num_cases, ticket_path}
-use Rattle.qs_program.specs.Program.{ProgramShape, blocks_of, no_client as no_shape, text_of}
+use Rattle.qs_program.specs.audit.Program.{ProgramShape, blocks_of, no_client as no_shape, text_of}
 use Rattle.qs_program.specs.Sound.{IsSound}
-use Rattle.qs_program.specs.Values.{Locals}
-use Rattle.qs_meaning.specs.Configurations.{Configuration, IsComplete, configuration_after, configuration_from, first_configuration, one_block_on}
-use Rattle.qs_meaning.specs.Following.{block_tree, reserves}
-use Rattle.qs_meaning.specs.Serial.{IsLegal, LegalFrom}
-use Rattle.qs_meaning.specs.Solo.{put}
+use Rattle.qs_program.specs.audit.Values.{Locals}
+use Rattle.qs_meaning.specs.audit.Configurations.{Configuration, IsComplete, configuration_after, configuration_from, first_configuration, one_block_on}
+use Rattle.qs_meaning.specs.audit.Following.{reserves}
+use Rattle.qs_meaning.specs.Following.{block_tree}
+use Rattle.qs_meaning.specs.audit.Serial.{IsLegal, LegalFrom}
+use Rattle.qs_meaning.specs.audit.Solo.{put}
 use Rattle.qs_meaning.proofs.Orders.{complete_orders_leave_none, legal_on}
 use Rattle.qs_meaning.proofs.SoundTrees.{blocks_ask_only}
 use Rattle.qs_meaning.proofs.TreeWalks.{put_here, put_there}
 use Rattle.qs_played.specs.Isolation.{IsIsolated}
-use Rattle.qs_played.specs.Schedule.{all_named, or_stay}
+use Rattle.qs_played.specs.audit.Schedule.{all_named, or_stay}
 use Rattle.qs_played.specs.declared.schedule.actor.Actor.{Actor}
 use Rattle.qs_played.specs.declared.schedule.actor.Actor.TheVariants as actor
 use Rattle.qs_played.proofs.Lists.{apart}
-use Rattle.qs_plain_laws.specs.Plain.{Client, Handler, Plain, Private, StageOfClient, at_each, begin, begins, begun_blocks, client_at, enter, fresh_client, fresh_handler, handler_at, no_client, no_handler, out, step, waiting, within}
+use Rattle.qs_plain_laws.specs.audit.Plain.{Client, Handler, Plain, Private, StageOfClient, at_each, begin, begins, begun_blocks, client_at, enter, fresh_client, fresh_handler, handler_at, no_client, no_handler, out, step, waiting, within}
 use Rattle.qs_plain_laws.specs.PlainIsolation.{commands_in_queue}
 use Rattle.qs_plain_laws.specs.PlainSyncSums.{AreQueriesCounted}
 use Rattle.qs_plain_laws.proofs.Isolating.{runs_isolated}
 use Rattle.qs_plain_laws.proofs.PlainSyncs.{plain_syncs_counted}
-use Rattle.qs_plain_laws.specs.PlainSchedule.{all_done, all_idle, ended_at, is_done, is_finished, is_out, played_of, plays, scheduled}
+use Rattle.qs_plain_laws.specs.audit.PlainSchedule.{all_done, all_idle, ended_at, is_done, is_finished, is_out, played_of, plays}
+use Rattle.qs_plain_laws.specs.PlainSchedule.{scheduled}
 use Rattle.qs_plain_laws.proofs.PlainPreserved.{each_is, reserved_list}
 use Rattle.qs_plain_laws.specs.orders.PlainOrders.{IsPlayedInOrder, OrdersArePlayed}
 use Rattle.qs_plain_laws.specs.orders.Quiet.{IsOut, IsQuiet}

@@ -2,7 +2,7 @@
 -- what is left after it.
 use Rattle.std.proofs.Common.{◌≡◌, ◌<◌, ◌∙◌, ◌+◌, ℕ, zero, suc, List, [], ◌∷◌, length, get_or, sum_by, refl, sym, ap, arith}
 use Rattle.std.proofs.lemmas.List.Sums.{sum_by-cons}
-use Rattle.qs_program.specs.Program.{BlockShape, no_block}
+use Rattle.qs_program.specs.audit.Program.{BlockShape, no_block}
 
 module _ (each : BlockShape → ℕ) where
   -- from the k-th block on

@@ -8,23 +8,23 @@ use Rattle.std.proofs.Math.ListN.{set}
 use Rattle.std.proofs.lemmas.List.{length-append}
 use Rattle.std.proofs.lemmas.List.Sums.{sum_by-append, sum_by-cons}
 use Rattle.std.specs.List.{AllByRecursion, range_with_len}
-use Rattle.qs_objects.specs.Journals.{HeldState, run_one}
-use Rattle.qs_objects.specs.Parts.{same}
+use Rattle.qs_objects.specs.audit.Journals.{HeldState, run_one}
+use Rattle.qs_objects.specs.audit.Parts.{same}
 use Rattle.qs_objects.specs.declared.held.Ticket.{Ticket}
 use Rattle.qs_objects.specs.declared.Request.{Request}
 use Rattle.qs_objects.proofs.Choices.{not_same, ticket_cases}
-use Rattle.qs_program.specs.Program.{BlockShape, ClientShape, ProgramShape, block_load, blocks_of, client_at as shape_at, no_client as no_shape, text_of}
+use Rattle.qs_program.specs.audit.Program.{BlockShape, ClientShape, ProgramShape, block_load, blocks_of, client_at as shape_at, no_client as no_shape, text_of}
 use Rattle.qs_program.specs.Sound.{IsSound}
-use Rattle.qs_program.specs.Values.{Locals}
+use Rattle.qs_program.specs.audit.Values.{Locals}
 use Rattle.qs_program.proofs.Bounds.{sound_block}
-use Rattle.qs_meaning.specs.Interaction.{Interaction, Done, Call, Query, tree_of}
-use Rattle.qs_meaning.specs.Solo.{event, value_of}
+use Rattle.qs_meaning.specs.audit.Interaction.{Interaction, Done, Call, Query, tree_of}
+use Rattle.qs_meaning.specs.audit.Solo.{event, value_of}
 use Rattle.qs_meaning.proofs.Histories.{Apart}
-use Rattle.qs_played.specs.Played.{ticket}
-use Rattle.qs_played.specs.Schedule.{or_stay}
+use Rattle.qs_played.specs.audit.Played.{ticket}
+use Rattle.qs_played.specs.audit.Schedule.{or_stay}
 use Rattle.qs_played.specs.declared.schedule.actor.Actor.{Actor}
 use Rattle.qs_played.specs.declared.schedule.actor.Actor.TheVariants as actor
-use Rattle.qs_plain_laws.specs.Plain.{Client, Handler, Plain, Private, StageOfClient, after_reply, at_each, at_handler, begin, begins, begun_blocks, client_at, client_step, current, enter, fresh_client, fresh_handler, moves_on, handler_at, item_step, log_in, no_client, no_handler, out, put_item, queue_step, reply_to, separate, serves, stands, step, waiting, with_query_counted, with_trace_event, within}
+use Rattle.qs_plain_laws.specs.audit.Plain.{Client, Handler, Plain, Private, StageOfClient, after_reply, at_each, at_handler, begin, begins, begun_blocks, client_at, client_step, current, enter, fresh_client, fresh_handler, moves_on, handler_at, item_step, log_in, no_client, no_handler, out, put_item, queue_step, reply_to, separate, serves, stands, step, waiting, with_query_counted, with_trace_event, within}
 use Rattle.qs_plain_laws.specs.declared.item.QueueItem.{QueueItem}
 use Rattle.qs_plain_laws.specs.declared.item.QueueItem.TheVariants as item
 use Rattle.qs_plain_laws.proofs.PlainPreserved.{RunInvariant, begin_kept, sight_of, step_kept}

@@ -2,14 +2,15 @@
 -- So enough rounds finish, as for every machine that is never stuck and makes few steps (`Rounds`).
 use Rattle.std.proofs.Common.{◌≡◌, ◌<◌, ◌∙◌, ℕ, zero, suc, ◌+◌, Bool, true, false, true≢false, if◌then◌else◌, nat_eq, nat_lt, List, [], ◌∷◌, None, Ok, length, get_or, refl, sym, ap, subst, arith}
 use Rattle.qs_objects.proofs.Choices.{and_cases}
-use Rattle.qs_program.specs.Program.{ProgramShape, blocks_of}
+use Rattle.qs_program.specs.audit.Program.{ProgramShape, blocks_of}
 use Rattle.qs_program.specs.Sound.{IsSound}
-use Rattle.qs_played.specs.Played.{Played}
-use Rattle.qs_played.specs.Schedule.{most_rounds}
+use Rattle.qs_played.specs.audit.Played.{Played}
+use Rattle.qs_played.specs.audit.Schedule.{most_rounds}
 use Rattle.qs_played.specs.declared.schedule.actor.Actor.{Actor}
 use Rattle.qs_played.specs.declared.schedule.actor.Actor.TheVariants as actor
-use Rattle.qs_plain_laws.specs.Plain.{Client, Handler, Plain, Private, StageOfClient, begin, begun_blocks, client_at, client_step, handler_at, no_client, out, queue_step, step, waiting, within}
-use Rattle.qs_plain_laws.specs.PlainSchedule.{IsPlayed, all_done, all_idle, is_done, is_finished, is_out, plays, scheduled}
+use Rattle.qs_plain_laws.specs.audit.Plain.{Client, Handler, Plain, Private, StageOfClient, begin, begun_blocks, client_at, client_step, handler_at, no_client, out, queue_step, step, waiting, within}
+use Rattle.qs_plain_laws.specs.audit.PlainSchedule.{all_done, all_idle, is_done, is_finished, is_out, plays}
+use Rattle.qs_plain_laws.specs.PlainSchedule.{IsPlayed, scheduled}
 use Rattle.qs_plain_laws.specs.progress.Finishing.{EnoughRoundsFinish, FairRunsFinish, FinishedRunsStay}
 use Rattle.qs_plain_laws.specs.progress.Steps.{most_steps_of}
 use Rattle.qs_plain_laws.proofs.progress.Bounded.{steps_bounded}

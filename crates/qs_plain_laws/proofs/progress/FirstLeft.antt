@@ -6,9 +6,9 @@ use Rattle.std.proofs.Common.{◌≡◌, ◌∙◌, ◌==◌, ◌⊎◌, ◌||�
 use Rattle.std.specs.List.{AllByRecursion}
 use Rattle.qs_objects.specs.declared.held.Ticket.{Ticket}
 use Rattle.qs_objects.proofs.Choices.{eqb_self, num_cases}
-use Rattle.qs_program.specs.Program.{ProgramShape, text_of}
-use Rattle.qs_program.specs.Sound.{is_in}
-use Rattle.qs_meaning.specs.Following.{reserves}
+use Rattle.qs_program.specs.audit.Program.{ProgramShape, text_of}
+use Rattle.qs_program.specs.audit.Sound.{is_in}
+use Rattle.qs_meaning.specs.audit.Following.{reserves}
 use Rattle.qs_meaning.proofs.Each.{each_map, each_unfiltered, every}
 use Rattle.qs_meaning.proofs.Histories.{Among}
 use Rattle.qs_played.proofs.Orders.{each_among}

@@ -6,13 +6,15 @@ use Rattle.std.proofs.Math.Nat.{mul-le-mul_left}
 use Rattle.std.proofs.lemmas.List.Sums.{sum_by-cons, sum_by-le-sum_by}
 use Rattle.qs_objects.proofs.Choices.{eqb_self}
 use Rattle.qs_program.specs.declared.program.Declared.{Declared}
-use Rattle.qs_program.specs.Loads.{load_of}
-use Rattle.qs_program.specs.Program.{BlockShape, block_load}
-use Rattle.qs_program.specs.Sound.{IsSoundBody, is_in}
-use Rattle.qs_program.specs.Statements.{Statements, end, command, query, assign, choose, again, leave}
-use Rattle.qs_program.specs.Values.{Locals, expr_value, test_value}
+use Rattle.qs_program.specs.audit.Loads.{load_of}
+use Rattle.qs_program.specs.audit.Program.{BlockShape, block_load}
+use Rattle.qs_program.specs.audit.Sound.{is_in}
+use Rattle.qs_program.specs.Sound.{IsSoundBody}
+use Rattle.qs_program.specs.audit.Statements.{Statements, end, command, query, assign, choose, again, leave}
+use Rattle.qs_program.specs.audit.Values.{Locals, expr_value, test_value}
 use Rattle.qs_program.proofs.Bounds.{is_in-sum_by}
-use Rattle.qs_meaning.specs.Interaction.{Interaction, Done, Call, Query, Next, meaning, tree_of, turns}
+use Rattle.qs_meaning.specs.audit.Interaction.{Interaction, Done, Call, Query, Next, meaning, tree_of}
+use Rattle.qs_meaning.specs.Interaction.{turns}
 
 -- each path makes at most so many requests
 abbrev pub AtMost : Interaction → ℕ → Type 0

@@ -5,7 +5,7 @@ use Rattle.std.proofs.lemmas.List.Sums.{sum_by-cons}
 use Rattle.std.proofs.lemmas.Map.Steps.{length-le_from_distinct_below}
 use Rattle.std.specs.List.{AllByRecursion, list_any}
 use Rattle.qs_program.specs.declared.program.Declared.{Declared}
-use Rattle.qs_program.specs.Program.{BlockShape, ClientShape, block_load}
+use Rattle.qs_program.specs.audit.Program.{BlockShape, ClientShape, block_load}
 use Rattle.qs_program.specs.Sound.{IsSoundBlock, IsSoundClient}
 use Rattle.qs_plain_laws.specs.progress.Steps.{BoundsAreSmall, steps_of_block, steps_of_client}
 

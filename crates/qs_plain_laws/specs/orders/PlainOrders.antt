@@ -2,12 +2,12 @@
 use Rattle.std.specs.Prelude.{◌≡◌, true, List, Ok}
 use Rattle.std.specs.List.{AllByRecursion}
 use Rattle.qs_objects.specs.declared.held.Ticket.{Ticket}
-use Rattle.qs_program.specs.Program.{ProgramShape}
+use Rattle.qs_program.specs.audit.Program.{ProgramShape}
 use Rattle.qs_program.specs.Sound.{IsSound}
-use Rattle.qs_meaning.specs.Configurations.{IsComplete}
-use Rattle.qs_meaning.specs.Serial.{IsLegal}
+use Rattle.qs_meaning.specs.audit.Configurations.{IsComplete}
+use Rattle.qs_meaning.specs.audit.Serial.{IsLegal}
 use Rattle.qs_played.specs.Isolation.{IsIsolated}
-use Rattle.qs_played.specs.Played.{Played}
+use Rattle.qs_played.specs.audit.Played.{Played}
 use Rattle.qs_played.specs.declared.schedule.actor.Actor.{Actor}
 use Rattle.qs_plain_laws.specs.PlainIsolation.{commands_in_queue}
 use Rattle.qs_plain_laws.specs.PlainSchedule.{IsPlayed, scheduled}

@@ -1,8 +1,8 @@
 -- Under the plain rules nobody is in a block.
 use Rattle.std.specs.Prelude.{◌≡◌, ℕ, List, [], length}
 use Rattle.qs_objects.specs.declared.held.Ticket.{Ticket}
-use Rattle.qs_program.specs.Program.{ProgramShape}
-use Rattle.qs_plain_laws.specs.Plain.{Plain, StageOfClient, begun_blocks, client_at, handler_at, out, waiting, within}
+use Rattle.qs_program.specs.audit.Program.{ProgramShape}
+use Rattle.qs_plain_laws.specs.audit.Plain.{Plain, StageOfClient, begun_blocks, client_at, handler_at, out, waiting, within}
 
 -- between two blocks
 abbrev pub IsOut : StageOfClient → Type 0

@@ -1,13 +1,14 @@
 -- That a run by the plain rules in which everyone has his turn often enough is finished, and then stays so.
 use Rattle.std.specs.Prelude.{◌≡◌, ◌≤◌, ◌⊎◌, ℕ, true, None, List, [], ◌∷◌, Ok, flat_map, length}
 use Rattle.std.specs.List.{AllByRecursion}
-use Rattle.qs_program.specs.Program.{ProgramShape}
+use Rattle.qs_program.specs.audit.Program.{ProgramShape}
 use Rattle.qs_program.specs.Sound.{IsSound}
-use Rattle.qs_played.specs.Played.{Played}
-use Rattle.qs_played.specs.Schedule.{names_actor}
+use Rattle.qs_played.specs.audit.Played.{Played}
+use Rattle.qs_played.specs.audit.Schedule.{names_actor}
 use Rattle.qs_played.specs.declared.schedule.actor.Actor.{Actor}
-use Rattle.qs_plain_laws.specs.Plain.{Plain, begin, step}
-use Rattle.qs_plain_laws.specs.PlainSchedule.{IsPlayed, is_finished, plays}
+use Rattle.qs_plain_laws.specs.audit.Plain.{Plain, begin, step}
+use Rattle.qs_plain_laws.specs.audit.PlainSchedule.{is_finished, plays}
+use Rattle.qs_plain_laws.specs.PlainSchedule.{IsPlayed}
 use Rattle.qs_plain_laws.specs.progress.Steps.{most_steps_of}
 
 -- Where all is finished nobody has a step.

@@ -1,11 +1,11 @@
 -- Whether a run by the plain rules can go on.
 use Rattle.std.specs.Prelude.{◌≡◌, ◌⊎◌, true, IsSome, List}
-use Rattle.qs_program.specs.Program.{ProgramShape}
+use Rattle.qs_program.specs.audit.Program.{ProgramShape}
 use Rattle.qs_program.specs.Sound.{IsSound}
-use Rattle.qs_played.specs.Schedule.{names_actor}
+use Rattle.qs_played.specs.audit.Schedule.{names_actor}
 use Rattle.qs_played.specs.declared.schedule.actor.Actor.{Actor}
-use Rattle.qs_plain_laws.specs.Plain.{Plain, begin, step}
-use Rattle.qs_plain_laws.specs.PlainSchedule.{is_finished, plays}
+use Rattle.qs_plain_laws.specs.audit.Plain.{Plain, begin, step}
+use Rattle.qs_plain_laws.specs.audit.PlainSchedule.{is_finished, plays}
 
 -- some client or some handler of the program has a step
 abbrev pub CanGoOn : ProgramShape → Plain → Type 0

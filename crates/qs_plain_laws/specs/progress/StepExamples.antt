@@ -1,12 +1,12 @@
 -- Steps of runs by the plain rules, and the most that there can be, computed by the definitions.
 use Rattle.std.specs.Prelude.{◌≡◌, ℕ, List, [], ◌∷◌, IsSome, None}
-use Rattle.qs_program.specs.Program.{ProgramShape}
+use Rattle.qs_program.specs.audit.Program.{ProgramShape}
 use Rattle.qs_meaning.specs.MeaningExamples.{deposit_of_5, full_buffer, left_at_once, test_fails, transfer, withdrawals}
-use Rattle.qs_played.specs.Schedule.{schedule}
+use Rattle.qs_played.specs.audit.Schedule.{schedule}
 use Rattle.qs_played.specs.declared.schedule.actor.Actor.{Actor}
 use Rattle.qs_played.specs.declared.schedule.actor.Actor.TheVariants as actor
-use Rattle.qs_plain_laws.specs.Plain.{begin, step}
-use Rattle.qs_plain_laws.specs.PlainSchedule.{plays}
+use Rattle.qs_plain_laws.specs.audit.Plain.{begin, step}
+use Rattle.qs_plain_laws.specs.audit.PlainSchedule.{plays}
 use Rattle.qs_plain_laws.specs.progress.Steps.{most_steps_of, steps_made}
 
 -- in a schedule so many steps are made, of at most so many

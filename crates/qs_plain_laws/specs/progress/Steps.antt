@@ -1,11 +1,12 @@
 -- How many steps a run by the plain rules can take.
 use Rattle.std.specs.Prelude.{◌<◌, ◌≤◌, ℕ, ◌+◌, ◌*◌, List, [], ◌∷◌, length, Option, Some, None, sum_by}
-use Rattle.qs_program.specs.Limits.{most_objects, most_requests, most_tickets}
-use Rattle.qs_program.specs.Program.{BlockShape, ClientShape, ProgramShape, block_load}
+use Rattle.qs_program.specs.audit.Limits.{most_objects, most_requests}
+use Rattle.qs_program.specs.Limits.{most_tickets}
+use Rattle.qs_program.specs.audit.Program.{BlockShape, ClientShape, ProgramShape, block_load}
 use Rattle.qs_program.specs.Sound.{IsSound}
-use Rattle.qs_played.specs.Schedule.{most_rounds, or_stay}
+use Rattle.qs_played.specs.audit.Schedule.{most_rounds, or_stay}
 use Rattle.qs_played.specs.declared.schedule.actor.Actor.{Actor}
-use Rattle.qs_plain_laws.specs.Plain.{Plain, begin, step}
+use Rattle.qs_plain_laws.specs.audit.Plain.{Plain, begin, step}
 
 module _ {S : Type 0} where
   -- 1 for a step, and 0 where an actor has none

@@ -3,24 +3,27 @@
 -- state.
 use Rattle.std.proofs.Common.{◌≡◌, ◌<◌, ◌≤◌, ◌⊎◌, inl, inr, ⊎_elim, ℕ, zero, suc, Bool, true, false, true≢false, ◌==◌, if◌then◌else◌, List, [], ◌∷◌, ◌++◌, length, get_or, take, refl, sym, ap, subst, ◌∙◌, arith}
 use Rattle.std.specs.List.{AllByRecursion}
-use Rattle.qs_objects.specs.Journals.{without_tickets}
-use Rattle.qs_objects.specs.Operations.{is_query}
-use Rattle.qs_objects.specs.Parts.{HasEntry, entries_of, part, same}
+use Rattle.qs_objects.specs.audit.Journals.{without_tickets}
+use Rattle.qs_objects.specs.audit.Operations.{is_query}
+use Rattle.qs_objects.specs.audit.Parts.{entries_of, part, same}
+use Rattle.qs_objects.specs.Parts.{HasEntry}
 use Rattle.qs_objects.specs.declared.Request.{Request}
 use Rattle.qs_objects.specs.declared.held.Entry.{Entry}
 use Rattle.qs_objects.specs.declared.held.Event.{Event}
 use Rattle.qs_objects.specs.declared.held.Ticket.{Ticket}
 use Rattle.qs_objects.proofs.Choices.{apart_eqb, ticket_cases}
 use Rattle.qs_objects.proofs.Elements.{AllByRecursion-get_or}
-use Rattle.qs_program.specs.Program.{ProgramShape, text_of}
+use Rattle.qs_program.specs.audit.Program.{ProgramShape, text_of}
 use Rattle.qs_program.specs.Sound.{IsSound}
-use Rattle.qs_program.specs.Values.{Locals}
+use Rattle.qs_program.specs.audit.Values.{Locals}
 use Rattle.qs_meaning.specs.Alike.{HasValues, SameTrace, SameValues}
-use Rattle.qs_meaning.specs.Serial.{SerialBlock, declared_states, serial, serial_from, zeros}
-use Rattle.qs_meaning.specs.Solo.{States, put, solo}
+use Rattle.qs_meaning.specs.audit.Serial.{declared_states, zeros}
+use Rattle.qs_meaning.specs.Serial.{SerialBlock, serial, serial_from}
+use Rattle.qs_meaning.specs.audit.Solo.{States, put, solo}
 use Rattle.qs_meaning.proofs.AlikeTraces.{Alike, IsPlaceOf, places_of, solo_traces}
-use Rattle.qs_played.specs.Isolation.{IsIsolated, IsIsolatedBlock, entry_of, journal_of, no_block, serial_block, queries_of, ticket_at, trace_of}
-use Rattle.qs_played.specs.Played.{Played, ticket}
+use Rattle.qs_played.specs.audit.Isolation.{journal_of, ticket_at, trace_of}
+use Rattle.qs_played.specs.Isolation.{IsIsolated, IsIsolatedBlock, entry_of, no_block, serial_block, queries_of}
+use Rattle.qs_played.specs.audit.Played.{Played, ticket}
 use Rattle.qs_played.proofs.ReservedObjects.{reserved_inside}
 use Rattle.qs_played.specs.twin.Twins.{Agreement, SameObjects, shorter}
 

@@ -3,17 +3,19 @@
 -- place the entry is the ticket's own, and the state is found, or the search goes on from the state after it.
 use Rattle.std.proofs.Common.{◌≡◌, ◌<◌, ◌≤◌, ◌⊎◌, ◌+◌, ℕ, zero, suc, nat_lt, List, [], ◌∷◌, length, get_or, drop, drop-cons, Option, Some, None, Bool, true, false, true≢false, ⊎_elim, inl, inr, refl, sym, ap, subst, ◌∙◌, arith}
 use Rattle.std.proofs.lemmas.List.{drop_all, get_or_past}
-use Rattle.qs_objects.specs.Act.{State}
-use Rattle.qs_objects.specs.Journals.{after}
-use Rattle.qs_objects.specs.Parts.{HasEntry, same}
+use Rattle.qs_objects.specs.audit.Act.{State}
+use Rattle.qs_objects.specs.audit.Journals.{after}
+use Rattle.qs_objects.specs.audit.Parts.{same}
+use Rattle.qs_objects.specs.Parts.{HasEntry}
 use Rattle.qs_objects.specs.declared.held.Entry.{Entry}
 use Rattle.qs_objects.specs.declared.held.Ticket.{Ticket}
 use Rattle.qs_objects.proofs.Choices.{not_same, same_apart, same_self, ticket_cases}
-use Rattle.qs_program.specs.Program.{ClientShape, ProgramShape, blocks_of, client_at, no_client}
-use Rattle.qs_meaning.specs.Serial.{IsLegal, LegalFrom}
-use Rattle.qs_meaning.specs.Solo.{put}
-use Rattle.qs_played.specs.Isolation.{IsFitting, ticket_at}
-use Rattle.qs_played.specs.Played.{Played, ticket}
+use Rattle.qs_program.specs.audit.Program.{ClientShape, ProgramShape, blocks_of, client_at, no_client}
+use Rattle.qs_meaning.specs.audit.Serial.{IsLegal, LegalFrom}
+use Rattle.qs_meaning.specs.audit.Solo.{put}
+use Rattle.qs_played.specs.audit.Isolation.{ticket_at}
+use Rattle.qs_played.specs.Isolation.{IsFitting}
+use Rattle.qs_played.specs.audit.Played.{Played, ticket}
 use Rattle.qs_played.specs.twin.Twins.{IsReserved, IsStart}
 
 less_or : (m n : ℕ) → (m < n) ⊎ (n ≤ m)

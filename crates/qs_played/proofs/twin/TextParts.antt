@@ -5,10 +5,10 @@
 use Rattle.std.proofs.Common.{◌≡◌, ℕ, Bool, List, map, subst}
 use Rattle.std.specs.Bool.{Decides}
 use Rattle.qs_objects.specs.declared.held.Ticket.{Ticket}
-use Rattle.qs_program.specs.Numbering.{Name}
-use Rattle.qs_program.specs.Statements.{Statements}
-use Rattle.qs_program.specs.Program.{ProgramShape, client_at, text_of}
-use Rattle.qs_program.specs.Values.{Locals}
+use Rattle.qs_program.specs.audit.Numbering.{Name}
+use Rattle.qs_program.specs.audit.Statements.{Statements}
+use Rattle.qs_program.specs.audit.Program.{ProgramShape, client_at, text_of}
+use Rattle.qs_program.specs.audit.Values.{Locals}
 use Rattle.qs_meaning.specs.Alike.{SameStatements, SameText, SameValues, object_name, value_at, variable_name}
 use Rattle.qs_meaning.proofs.EqualTexts.{both}
 use Rattle.qs_played.specs.twin.Twins.{SameObjects, SameVariables}

@@ -9,7 +9,7 @@ use Rattle.std.proofs.lemmas.Option.{unwrap_or-slice_get}
 use Rattle.std.specs.List.{AllZip}
 use Rattle.qs_program.specs.declared.code.Stmt.{Stmt}
 use Rattle.qs_program.specs.declared.code.Stmt.TheVariants.{Command, Query, Assign, If, Repeat, Leave}
-use Rattle.qs_program.specs.Statements.{Statements}
+use Rattle.qs_program.specs.audit.Statements.{Statements}
 use Rattle.qs_program.specs.Views.{single, statements_of}
 use Rattle.qs_meaning.specs.Alike.{SameStatements}
 

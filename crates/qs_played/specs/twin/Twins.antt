@@ -1,18 +1,19 @@
 -- Two blocks of two runs, of one program or of two, that are to do the same.
 use Rattle.std.specs.Prelude.{◌≡◌, ◌<◌, ℕ, List, [], length, min, slice_index_or, Option, Some, None, take}
-use Rattle.qs_objects.specs.Act.{State}
-use Rattle.qs_objects.specs.Journals.{replay, without_tickets}
+use Rattle.qs_objects.specs.audit.Act.{State}
+use Rattle.qs_objects.specs.audit.Journals.{replay, without_tickets}
 use Rattle.qs_objects.specs.Parts.{HasEntry, before}
 use Rattle.qs_objects.specs.declared.Request.{Request}
 use Rattle.qs_objects.specs.declared.held.Entry.{Entry}
 use Rattle.qs_objects.specs.declared.held.Ticket.{Ticket}
-use Rattle.qs_program.specs.Numbering.{Name}
-use Rattle.qs_program.specs.Program.{ProgramShape, blocks_of}
-use Rattle.qs_program.specs.Values.{Locals}
+use Rattle.qs_program.specs.audit.Numbering.{Name}
+use Rattle.qs_program.specs.audit.Program.{ProgramShape, blocks_of}
+use Rattle.qs_program.specs.audit.Values.{Locals}
 use Rattle.qs_meaning.specs.Alike.{SameText, SameTrace, SameValues, object_name, value_at}
-use Rattle.qs_meaning.specs.Serial.{declared_states}
-use Rattle.qs_played.specs.Isolation.{IsFitting, IsIsolated, entry_of, journal_of, ticket_at, trace_of}
-use Rattle.qs_played.specs.Played.{Played}
+use Rattle.qs_meaning.specs.audit.Serial.{declared_states}
+use Rattle.qs_played.specs.audit.Isolation.{journal_of, ticket_at, trace_of}
+use Rattle.qs_played.specs.Isolation.{IsFitting, IsIsolated, entry_of}
+use Rattle.qs_played.specs.audit.Played.{Played}
 use Rattle.qs_played.specs.declared.twin.answer.Twin.{Twin}
 use Rattle.qs_played.specs.declared.twin.answer.Twin.TheVariants as answers
 

@@ -1,7 +1,7 @@
 //! Picks that name actors.
 
 ghost use Rattle.std.specs.Prelude.{◌≡◌};
-ghost use Rattle.qs_played.specs.Schedule.{all_named, names_actor};
+ghost use Rattle.qs_played.specs.audit.Schedule.{all_named, names_actor};
 
 use crate::schedule::Actor;
 use qs_program::Program;

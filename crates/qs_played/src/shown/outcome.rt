@@ -1,7 +1,7 @@
 //! What a run of threads has shown.
 
 ghost use Rattle.std.specs.Prelude.{◌≡◌, ◌<◌, [], length, map, slice_index_or};
-ghost use Rattle.qs_sync_counts.specs.SyncRows.{count_of, object_of};
+ghost use Rattle.qs_sync_counts.specs.audit.SyncRows.{count_of, object_of};
 ghost use Rattle.qs_played.specs.Outcomes.{IsOver};
 ghost use Rattle.qs_played.specs.Played.{no_events};
 
@@ -22,7 +22,7 @@ impl Drop for Outcome {
 
 impl Model for Outcome {
     ghost use Rattle.qs_played.specs.Outcomes.{IsOver};
-    ghost use Rattle.qs_played.specs.Played as shown;
+    ghost use Rattle.qs_played.specs.audit.Played as shown;
 
     ghost Value = { shown.Played };
 

@@ -2,7 +2,7 @@
 
 ghost use Rattle.std.specs.Prelude.{◌≡◌, ◌<◌, [], length, map, slice_index_or};
 ghost use Rattle.qs_objects.specs.Traces.{events_of};
-ghost use Rattle.qs_sync_counts.specs.SyncRows.{count_of, object_of};
+ghost use Rattle.qs_sync_counts.specs.audit.SyncRows.{count_of, object_of};
 ghost use Rattle.qs_played.specs.Played.{HaveRows, no_events, shown_with};
 
 use crate::shown::Row;
@@ -32,6 +32,7 @@ impl Drop for ClientRows {
 impl Model for ClientRows {
     ghost use Rattle.qs_objects.specs.Traces.{events_of};
     ghost use Rattle.qs_played.specs.Played as shown;
+    ghost use Rattle.qs_played.specs.audit.Played as shown_audit;
 
     ghost Value = { shown.ClientRows };
 
@@ -81,9 +82,10 @@ impl Drop for Played {
 
 impl Model for Played {
     ghost use Rattle.qs_played.specs.Played as shown;
+    ghost use Rattle.qs_played.specs.audit.Played as shown_audit;
     ghost use Rattle.qs_played.specs.Played.{HaveRows, shown_with};
 
-    ghost Value = { shown.Played };
+    ghost Value = { shown_audit.Played };
 
     ghost view = { λ p. shown_with p.order p.ended p.clients.items p.journals p.states p.syncs p.finished };
 

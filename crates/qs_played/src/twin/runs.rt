@@ -1,8 +1,8 @@
 //! A reservation of a run.
 
 ghost use Rattle.std.specs.Prelude.{◌≡◌, ◌<◌, length};
-ghost use Rattle.qs_program.specs.Program.{client_at, text_of};
-ghost use Rattle.qs_played.specs.Isolation.{ticket_at};
+ghost use Rattle.qs_program.specs.audit.Program.{client_at, text_of};
+ghost use Rattle.qs_played.specs.audit.Isolation.{ticket_at};
 ghost use Rattle.qs_played.specs.twin.Twins.{IsReserved};
 
 use crate::Played;

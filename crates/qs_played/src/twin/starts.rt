@@ -2,9 +2,9 @@
 
 ghost use Rattle.std.specs.Prelude.{◌≡◌, ◌<◌, IfOk, length, ℕ};
 ghost use Rattle.std.specs.Bool.{Decides};
-ghost use Rattle.qs_objects.specs.Objects.{values_of};
-ghost use Rattle.qs_meaning.specs.Serial.{declared_states};
-ghost use Rattle.qs_played.specs.Isolation.{journal_of, ticket_at};
+ghost use Rattle.qs_objects.specs.audit.Objects.{values_of};
+ghost use Rattle.qs_meaning.specs.audit.Serial.{declared_states};
+ghost use Rattle.qs_played.specs.audit.Isolation.{journal_of, ticket_at};
 ghost use Rattle.qs_played.specs.twin.Twins.{IsReserved, IsStart, StartsAlike};
 
 use crate::twin::runs::{Reservation, ticket};

@@ -3,7 +3,7 @@
 ghost use Rattle.std.specs.Prelude.{◌≡◌, ◌<◌, IfOk, IsErr, length, map};
 ghost use Rattle.std.specs.Bool.{Decides};
 ghost use Rattle.qs_meaning.specs.Alike.{object_name};
-ghost use Rattle.qs_meaning.specs.Serial.{IsLegal};
+ghost use Rattle.qs_meaning.specs.audit.Serial.{IsLegal};
 ghost use Rattle.qs_played.specs.Isolation.{IsFitting};
 ghost use Rattle.qs_played.specs.twin.Twins.{IsReserved, Tells, TextsAlike};
 

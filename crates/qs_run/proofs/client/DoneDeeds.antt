@@ -1,10 +1,9 @@
 -- One more deed of a client at the end of its run: what its ends of lanes show of it. A deed shows at one lane at most.
-use Rattle.std.proofs.Common.{◌≡◌, arith, ℕ, zero, suc, ◌+◌, Bool, true, false, if◌then◌else◌, ◌==◌, List, [], ◌∷◌, ◌++◌, refl, sym, ap, ◌∙◌, subst}
-use Rattle.std.proofs.Common.{⊎_elim, add-zero, append-nil, Option, Some, None}
+use Rattle.std.proofs.Common.{◌≡◌, arith, ℕ, zero, suc, ◌+◌, Bool, true, false, if◌then◌else◌, ◌==◌, List, [], ◌∷◌, ◌++◌, refl, sym, ap, ◌∙◌, subst, ⊎_elim, add-zero, append-nil, Option, Some, None}
 use Rattle.std.specs.Prelude.{slice_set}
 use Rattle.std.proofs.lemmas.List.{get_or-set_other}
 use Rattle.qs_objects.proofs.Choices.{apart_eqb, num_cases}
-use Rattle.qs_client.specs.ClientRuns.{Deed, reserves, sends, gets, takes_chunk, got_from, sent_to}
+use Rattle.qs_client.specs.audit.ClientRuns.{Deed, reserves, sends, gets, takes_chunk, got_from, sent_to}
 use Rattle.qs_lane.specs.Views.{OutView}
 use Rattle.qs_core_laws.proofs.protocol.DeedJoins.{got_join, sent_join}
 use Rattle.qs_run.specs.client.ClientThreads.{HasDone, chunks_of, out_lane_at}

@@ -2,21 +2,23 @@
 -- is in, with what that block sent and got; and off how it stands to each lane.
 use Rattle.std.proofs.Common.{◌≡◌, ◌<◌, arith, ℕ, true, false, List, [], length, replicate, refl, subst, Some}
 use Rattle.std.proofs.lemmas.List.{length-replicate}
-use Rattle.qs_program.specs.Program.{ProgramShape, blocks_of}
-use Rattle.qs_program.specs.Values.{Locals}
-use Rattle.qs_meaning.specs.Following.{reserves, block_tree}
+use Rattle.qs_program.specs.audit.Program.{ProgramShape, blocks_of}
+use Rattle.qs_program.specs.audit.Values.{Locals}
+use Rattle.qs_meaning.specs.audit.Following.{reserves}
+use Rattle.qs_meaning.specs.Following.{block_tree}
 use Rattle.qs_meaning.proofs.SoundTrees.{blocks_ask_only}
 use Rattle.qs_graph.specs.Synced.{without_syncs}
-use Rattle.qs_syncset.specs.Codes.{ClientCode, code_at}
+use Rattle.qs_syncset.specs.audit.Codes.{ClientCode, code_at}
 use Rattle.qs_syncset.specs.SoundSynced.{IsSoundSynced, IsOnReserved}
 use Rattle.qs_syncset.proofs.CodeWalks.{walks_are_sound}
-use Rattle.qs_chunk.specs.Lanes.{MayFollow, is_asked}
+use Rattle.qs_chunk.specs.audit.Lanes.{is_asked}
+use Rattle.qs_chunk.specs.Lanes.{MayFollow}
 use Rattle.qs_chunk.specs.declared.parcel.Parcel.{Parcel}
-use Rattle.qs_client.specs.run.BlockSizes.{longest}
+use Rattle.qs_client.specs.audit.run.BlockSizes.{longest}
 use Rattle.qs_client.specs.declared.rules.act.Act.{Act}
 use Rattle.qs_client.specs.declared.rules.act.Act.TheVariants as acts
-use Rattle.qs_client.specs.ClientRuns.{Deed, reservations, sent_to}
-use Rattle.qs_client.specs.ClientModel.{ClientModel, finish, fresh_mind, next_act, tree_at}
+use Rattle.qs_client.specs.audit.ClientRuns.{Deed, reservations, sent_to}
+use Rattle.qs_client.specs.audit.ClientModel.{ClientModel, finish, fresh_mind, next_act, tree_at}
 use Rattle.qs_client.proofs.LaneSends.{client_lane_laws}
 use Rattle.qs_desk.specs.Tickets.{ticket}
 use Rattle.qs_core_laws.proofs.protocol.ClientInvariants.{objects_of_block}

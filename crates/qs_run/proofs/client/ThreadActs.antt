@@ -1,26 +1,26 @@
 -- What each act of a client's thread keeps: its deeds grow by one, and its share and its ends of lanes show it; and
 -- what each call needs.
-use Rattle.std.proofs.Common.{◌≡◌, ◌<◌, arith, ℕ, ◌+◌, true, true≢false, false, List, [], ◌∷◌, ◌++◌, refl, sym, ap, ◌∙◌, subst}
-use Rattle.std.proofs.Common.{add-zero, append-nil, Option, Some, None}
+use Rattle.std.proofs.Common.{◌≡◌, ◌<◌, arith, ℕ, ◌+◌, true, true≢false, false, List, [], ◌∷◌, ◌++◌, refl, sym, ap, ◌∙◌, subst, add-zero, append-nil, Option, Some, None}
 use Rattle.std.specs.Prelude.{IsSome, slice_set}
-use Rattle.qs_objects.specs.Journals.{HeldState}
+use Rattle.qs_objects.specs.audit.Journals.{HeldState}
 use Rattle.qs_objects.specs.declared.Request.{Request}
 use Rattle.qs_objects.specs.declared.held.Ticket.{Ticket}
 use Rattle.qs_objects.proofs.Choices.{eqb_self}
-use Rattle.qs_program.specs.Program.{ProgramShape, blocks_of}
+use Rattle.qs_program.specs.audit.Program.{ProgramShape, blocks_of}
 use Rattle.qs_program.specs.Sound.{IsSound}
-use Rattle.qs_program.specs.Limits.{most_handlers}
-use Rattle.qs_meaning.specs.Following.{reserves}
-use Rattle.qs_syncset.specs.Codes.{IsCodeOf}
+use Rattle.qs_program.specs.audit.Limits.{most_handlers}
+use Rattle.qs_meaning.specs.audit.Following.{reserves}
+use Rattle.qs_syncset.specs.audit.Codes.{IsCodeOf}
 use Rattle.qs_syncset.specs.declared.mode.Mode.{Mode}
-use Rattle.qs_chunk.specs.Batch.{Batch, batch}
-use Rattle.qs_chunk.specs.Lanes.{MayFollow, is_asked}
+use Rattle.qs_chunk.specs.audit.Batch.{Batch, batch}
+use Rattle.qs_chunk.specs.audit.Lanes.{is_asked}
+use Rattle.qs_chunk.specs.Lanes.{MayFollow}
 use Rattle.qs_chunk.specs.declared.parcel.Parcel.{Parcel}
 use Rattle.qs_client.specs.declared.rules.act.Act.{Act}
 use Rattle.qs_client.specs.declared.rules.act.Act.TheVariants as acts
-use Rattle.qs_client.specs.ClientRuns.{Deed, DeedsLead, RunsTo, next_ticket, reservations, sent_to}
-use Rattle.qs_client.specs.ClientRuns as deeds
-use Rattle.qs_client.specs.ClientModel.{ClientModel, mind_after_begin, mind_after_chunk, finish, fresh_mind, mind_after_object, hands_out, next_act, next_mind}
+use Rattle.qs_client.specs.audit.ClientRuns.{Deed, DeedsLead, RunsTo, next_ticket, reservations, sent_to}
+use Rattle.qs_client.specs.audit.ClientRuns as deeds
+use Rattle.qs_client.specs.audit.ClientModel.{ClientModel, mind_after_begin, mind_after_chunk, finish, fresh_mind, mind_after_object, hands_out, next_act, next_mind}
 use Rattle.qs_desk.specs.Tickets.{ticket}
 use Rattle.qs_desk.specs.Views.{ShareView}
 use Rattle.qs_lane.specs.Views.{OutView}

@@ -3,25 +3,27 @@ use Rattle.std.proofs.Common.{◌≡◌, ◌<◌, ◌≤◌, ◌+◌, ◌⊎◌,
 use Rattle.std.specs.Prelude.{IsSome, IsTrue, slice_set}
 use Rattle.std.specs.List.{AllByRecursion}
 use Rattle.std.proofs.lemmas.List.{get_or-set_other}
-use Rattle.qs_objects.specs.Journals.{HeldState}
+use Rattle.qs_objects.specs.audit.Journals.{HeldState}
 use Rattle.qs_objects.specs.declared.Request.{Request}
 use Rattle.qs_objects.specs.declared.held.Next.{Next}
 use Rattle.qs_objects.specs.declared.held.Next.TheVariants as nexts
 use Rattle.qs_objects.specs.declared.held.Ticket.{Ticket}
 use Rattle.qs_objects.proofs.Choices.{apart_eqb, eqb_self, num_cases}
-use Rattle.qs_program.specs.Program.{ProgramShape}
-use Rattle.qs_program.specs.Limits.{most_clients}
-use Rattle.qs_meaning.specs.Following.{reserves}
-use Rattle.qs_chunk.specs.Batch.{Batch, batch}
-use Rattle.qs_chunk.specs.LaneRun.{syncs}
-use Rattle.qs_chunk.specs.Lanes.{HasSize, MayFollow, is_asked, may_stand}
-use Rattle.qs_chunk.specs.Runs.{ran_all}
+use Rattle.qs_program.specs.audit.Program.{ProgramShape}
+use Rattle.qs_program.specs.audit.Limits.{most_clients}
+use Rattle.qs_meaning.specs.audit.Following.{reserves}
+use Rattle.qs_chunk.specs.audit.Batch.{Batch, batch}
+use Rattle.qs_chunk.specs.audit.LaneRun.{syncs}
+use Rattle.qs_chunk.specs.audit.Lanes.{HasSize, is_asked}
+use Rattle.qs_chunk.specs.Lanes.{MayFollow, may_stand}
+use Rattle.qs_chunk.specs.audit.Runs.{ran_all}
 use Rattle.qs_chunk.specs.declared.parcel.Parcel.{Parcel}
 use Rattle.qs_chunk.specs.declared.parcel.Parcel.TheVariants.{Work, Sync, Home, End}
-use Rattle.qs_handler.specs.Handler.{Handler, free, serves, spares, gives, away, closed, act_of, gave, is_away, accept_parcel, serving, accept_next}
+use Rattle.qs_handler.specs.audit.Handler.{Handler, free, serves, spares, gives, away, closed, act_of, gave, accept_parcel, accept_next}
+use Rattle.qs_handler.specs.Handler.{is_away, serving}
 use Rattle.qs_handler.specs.HandlerLanes.{HandlerFitsLane}
-use Rattle.qs_handler.specs.HandlerRuns.{Task, TasksLead, given_to, received_from, taken_by}
-use Rattle.qs_handler.specs.HandlerRuns as tasks
+use Rattle.qs_handler.specs.audit.HandlerRuns.{Task, TasksLead, given_to, received_from, taken_by}
+use Rattle.qs_handler.specs.audit.HandlerRuns as tasks
 use Rattle.qs_handler.specs.declared.mind.Act.TheVariants as acts
 use Rattle.qs_handler.proofs.LaneTurns.{handler_lane_laws}
 use Rattle.qs_handler.proofs.HandlerActs.{parcels_stand, tickets_are_asked_for}

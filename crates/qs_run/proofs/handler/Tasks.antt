@@ -2,8 +2,8 @@
 -- what both parts did, one after the other. The loop of a handler's thread adds one task at a time, and its invariant
 -- stands on this. It goes by induction on the tasks of the first part.
 use Rattle.std.proofs.Common.{◌≡◌, ◌+◌, arith, ℕ, suc, Bool, true, false, if◌then◌else◌, ◌==◌, List, [], ◌∷◌, ◌++◌, refl, sym, ap, subst}
-use Rattle.qs_handler.specs.Handler.{Handler, gave}
-use Rattle.qs_handler.specs.HandlerRuns.{Task, takes, receives, gives, spares, TasksLead, given_to, received_from, taken_by}
+use Rattle.qs_handler.specs.audit.Handler.{Handler, gave}
+use Rattle.qs_handler.specs.audit.HandlerRuns.{Task, takes, receives, gives, spares, TasksLead, given_to, received_from, taken_by}
 use Rattle.qs_run.specs.handler.HandlerThreads.{spared_to}
 
 pub tasks_lead : (tasks more : List Task) (h m end : Handler) → TasksLead h tasks m → TasksLead m more end → TasksLead h (tasks ++ more) end

@@ -2,11 +2,11 @@
 use Rattle.std.proofs.Common.{◌≡◌, ◌≤◌, ℕ, suc, Bool, Some, List, [], ◌∷◌, ◌++◌, length, map, slice_get, refl, sym, subst, arith, length-append}
 use Rattle.std.proofs.lemmas.List.{length-map, map-append}
 use Rattle.qs_objects.specs.declared.held.Ticket.{Ticket}
-use Rattle.qs_program.specs.Program.{ProgramShape}
-use Rattle.qs_meaning.specs.Configurations.{IsComplete}
+use Rattle.qs_program.specs.audit.Program.{ProgramShape}
+use Rattle.qs_meaning.specs.audit.Configurations.{IsComplete}
 use Rattle.qs_meaning.proofs.Each.{each_snoc}
 use Rattle.qs_syncset.specs.declared.mode.Mode.{Mode}
-use Rattle.qs_played.specs.Played.{Played}
+use Rattle.qs_played.specs.audit.Played.{Played}
 use Rattle.qs_run_laws.specs.Outcomes.{IsOutcome}
 use Rattle.qs_tally.specs.Counting.{IsBegun, IsCounted}
 use Rattle.qs_run.specs.many.Repeats.{AreAsTheyCame, IsTallyBy}

@@ -1,6 +1,6 @@
 -- A client's thread: what it did so far, and how that shows in its share of the desk and at its ends of lanes.
 use Rattle.std.specs.Prelude.{◌≡◌, ℕ, suc, ◌+◌, ◌==◌, if◌then◌else◌, List, [], ◌∷◌, Option, Some, None, slice_index_or}
-use Rattle.qs_client.specs.ClientRuns.{Deed, reserves, sends, gets, takes_chunk, got_from, reservations, sent_to}
+use Rattle.qs_client.specs.audit.ClientRuns.{Deed, reserves, sends, gets, takes_chunk, got_from, reservations, sent_to}
 use Rattle.qs_desk.specs.Views.{ShareView}
 use Rattle.qs_lane.specs.Views.{OutView}
 

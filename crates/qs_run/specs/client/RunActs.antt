@@ -1,17 +1,18 @@
 -- What a client asks for in the midst of its run can be had: its acts are on objects alone that a block of it reserves,
 -- what it sends may follow what it sent before, and it reserves no more blocks than it has.
 use Rattle.std.specs.Prelude.{◌≡◌, ◌<◌, ℕ, true, false, List, Option, Some, None}
-use Rattle.qs_program.specs.Program.{ProgramShape, blocks_of}
+use Rattle.qs_program.specs.audit.Program.{ProgramShape, blocks_of}
 use Rattle.qs_program.specs.Sound.{IsSound}
-use Rattle.qs_chunk.specs.Lanes.{MayFollow, is_asked}
+use Rattle.qs_chunk.specs.audit.Lanes.{is_asked}
+use Rattle.qs_chunk.specs.Lanes.{MayFollow}
 use Rattle.qs_chunk.specs.declared.parcel.Parcel.{Parcel}
-use Rattle.qs_client.specs.ClientRuns.{Deed, DeedsLead, reservations, sent_to}
-use Rattle.qs_client.specs.ClientModel.{ClientModel, fresh_mind, next_act}
+use Rattle.qs_client.specs.audit.ClientRuns.{Deed, DeedsLead, reservations, sent_to}
+use Rattle.qs_client.specs.audit.ClientModel.{ClientModel, fresh_mind, next_act}
 use Rattle.qs_client.specs.declared.rules.act.Act.{Act}
 use Rattle.qs_client.specs.declared.rules.act.Act.TheVariants as acts
 use Rattle.qs_desk.specs.Tickets.{ticket}
-use Rattle.qs_meaning.specs.Following.{reserves}
-use Rattle.qs_syncset.specs.Codes.{ClientCode, IsCodeOf}
+use Rattle.qs_meaning.specs.audit.Following.{reserves}
+use Rattle.qs_syncset.specs.audit.Codes.{ClientCode, IsCodeOf}
 use Rattle.qs_syncset.specs.declared.mode.Mode.{Mode}
 
 -- the handler whose lane an act uses

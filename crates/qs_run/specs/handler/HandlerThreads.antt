@@ -2,13 +2,14 @@
 -- tickets.
 use Rattle.std.specs.Prelude.{◌≡◌, ◌≤◌, ◌+◌, ◌==◌, if◌then◌else◌, ℕ, suc, true, List, [], ◌∷◌, Option, Some, None, length, slice_index_or}
 use Rattle.std.specs.List.{AllByRecursion}
-use Rattle.qs_objects.specs.Journals.{HeldState}
-use Rattle.qs_program.specs.Program.{ProgramShape}
-use Rattle.qs_meaning.specs.Following.{reserves}
-use Rattle.qs_chunk.specs.LaneRun.{syncs}
-use Rattle.qs_chunk.specs.Lanes.{HasSize}
-use Rattle.qs_handler.specs.Handler.{Handler, free, serving}
-use Rattle.qs_handler.specs.HandlerRuns.{Task, takes, receives, gives, spares, TasksLead, given_to, received_from, taken_by}
+use Rattle.qs_objects.specs.audit.Journals.{HeldState}
+use Rattle.qs_program.specs.audit.Program.{ProgramShape}
+use Rattle.qs_meaning.specs.audit.Following.{reserves}
+use Rattle.qs_chunk.specs.audit.LaneRun.{syncs}
+use Rattle.qs_chunk.specs.audit.Lanes.{HasSize}
+use Rattle.qs_handler.specs.audit.Handler.{Handler, free}
+use Rattle.qs_handler.specs.Handler.{serving}
+use Rattle.qs_handler.specs.audit.HandlerRuns.{Task, takes, receives, gives, spares, TasksLead, given_to, received_from, taken_by}
 use Rattle.qs_desk.specs.Views.{TicketsView}
 use Rattle.qs_lane.specs.Views.{InView}
 

@@ -1,9 +1,10 @@
 //! A client's ends of its lanes to handlers.
 
 ghost use Rattle.std.specs.Prelude.{◌≡◌, ◌+◌, ◌<◌, [], ◌∷◌, ◌++◌, false, slice_set, IsSome, Some};
-ghost use Rattle.qs_program.specs.Limits.{most_handlers};
-ghost use Rattle.qs_chunk.specs.Batch.{batch};
-ghost use Rattle.qs_chunk.specs.Lanes.{MayFollow, is_asked};
+ghost use Rattle.qs_program.specs.audit.Limits.{most_handlers};
+ghost use Rattle.qs_chunk.specs.audit.Batch.{batch};
+ghost use Rattle.qs_chunk.specs.audit.Lanes.{is_asked};
+ghost use Rattle.qs_chunk.specs.Lanes.{MayFollow};
 ghost use Rattle.qs_run.specs.client.ClientThreads.{out_lane_at};
 ghost use Rattle.qs_lane.specs.Views.{OutView};
 

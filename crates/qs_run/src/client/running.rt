@@ -1,15 +1,15 @@
 //! A client's whole run.
 
 ghost use Rattle.std.specs.Prelude.{◌≡◌, ◌<◌, ℕ, List, IsSome, true};
-ghost use Rattle.qs_program.specs.Program.{blocks_of};
+ghost use Rattle.qs_program.specs.audit.Program.{blocks_of};
 ghost use Rattle.qs_program.specs.Sound.{IsSound};
-ghost use Rattle.qs_client.specs.ClientRuns.{Deed, RunsTo};
-ghost use Rattle.qs_client.specs.ClientModel.{fresh_mind};
+ghost use Rattle.qs_client.specs.audit.ClientRuns.{Deed, RunsTo};
+ghost use Rattle.qs_client.specs.audit.ClientModel.{fresh_mind};
 ghost use Rattle.qs_client.specs.MindState.{mind_of};
 ghost use Rattle.qs_run.specs.client.ClientThreads.{AreDone, IsFresh, out_lane_at};
 ghost use Rattle.qs_desk.specs.Tickets.{ticket};
-ghost use Rattle.qs_meaning.specs.Following.{reserves};
-ghost use Rattle.qs_syncset.specs.Codes.{IsCodeOf};
+ghost use Rattle.qs_meaning.specs.audit.Following.{reserves};
+ghost use Rattle.qs_syncset.specs.audit.Codes.{IsCodeOf};
 ghost use Rattle.qs_syncset.specs.declared.mode.Mode.{Mode};
 
 use crate::client::client_lanes::{Lanes, empty, get, send, wake_all};

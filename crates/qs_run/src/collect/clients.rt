@@ -2,7 +2,7 @@
 
 ghost use Rattle.std.specs.Prelude.{◌≡◌, ◌<◌, ◌≤◌, length, map, vec_len, vec_capacity};
 ghost use Rattle.std.specs.List.{AllByRecursion};
-ghost use Rattle.qs_program.specs.Limits.{most_clients, most_handlers};
+ghost use Rattle.qs_program.specs.audit.Limits.{most_clients, most_handlers};
 ghost use Rattle.qs_run.specs.Collected.{AreAllJoined, AreAllPaired, AreLanesJoined, AreLanesPaired, IsBooked, worker_rows, without_lane_of, without_lanes_below};
 
 use crate::collect::lanes::join_lanes;

@@ -1,7 +1,7 @@
 //! Joining the two ends of each lane: what one of them had is compared with what the other had.
 
 ghost use Rattle.std.specs.Prelude.{◌≡◌, ◌<◌, ◌≤◌, length, map, slice_set, None};
-ghost use Rattle.qs_program.specs.Limits.{most_clients, most_handlers};
+ghost use Rattle.qs_program.specs.audit.Limits.{most_clients, most_handlers};
 ghost use Rattle.qs_run.specs.client.ClientThreads as running;
 ghost use Rattle.qs_run.specs.handler.HandlerThreads as handling;
 ghost use Rattle.qs_run.specs.Collected.{AreEndsJoined, AreLanesJoined, AreLanesPaired, without_lane_of};

@@ -1,7 +1,8 @@
 //! The room for a run's outcome, which is taken before the run.
 
 ghost use Rattle.std.specs.Prelude.{◌≡◌, ◌≤◌, vec_len, vec_capacity};
-ghost use Rattle.qs_program.specs.Limits.{most_clients, most_objects, most_tickets};
+ghost use Rattle.qs_program.specs.audit.Limits.{most_clients, most_objects};
+ghost use Rattle.qs_program.specs.Limits.{most_tickets};
 
 use qs_objects::{Journal, Object};
 use qs_played::ClientRows;

@@ -2,8 +2,10 @@
 
 ghost use Rattle.std.specs.Prelude.{◌≡◌, ◌≤◌, ◌*◌, true, length, map, sum, sum_by, vec_len, vec_capacity};
 ghost use Rattle.std.specs.List.{AllByRecursion};
-ghost use Rattle.qs_program.specs.Limits.{most_objects, most_tickets};
-ghost use Rattle.qs_sync_counts.specs.SyncRows.{greatest_count, syncs_of};
+ghost use Rattle.qs_program.specs.audit.Limits.{most_objects};
+ghost use Rattle.qs_program.specs.Limits.{most_tickets};
+ghost use Rattle.qs_sync_counts.specs.audit.SyncRows.{syncs_of};
+ghost use Rattle.qs_sync_counts.specs.SyncRows.{greatest_count};
 ghost use Rattle.qs_played.specs.Played.{HaveRows};
 ghost use Rattle.qs_run.specs.Collected.{AreCountsShort, shown_when_over};
 

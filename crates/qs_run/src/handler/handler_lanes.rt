@@ -1,10 +1,11 @@
 //! A handler's ends of its clients' lanes.
 
 ghost use Rattle.std.specs.Prelude.{◌≡◌, ◌+◌, ◌<◌, ◌⊎◌, [], ◌∷◌, ◌++◌, false, true, length, slice_set, IsSome, Some};
-ghost use Rattle.qs_program.specs.Limits.{most_clients};
-ghost use Rattle.qs_chunk.specs.Batch.{batch};
-ghost use Rattle.qs_chunk.specs.LaneRun.{syncs};
-ghost use Rattle.qs_chunk.specs.Lanes.{MayFollow, is_asked};
+ghost use Rattle.qs_program.specs.audit.Limits.{most_clients};
+ghost use Rattle.qs_chunk.specs.audit.Batch.{batch};
+ghost use Rattle.qs_chunk.specs.audit.LaneRun.{syncs};
+ghost use Rattle.qs_chunk.specs.audit.Lanes.{is_asked};
+ghost use Rattle.qs_chunk.specs.Lanes.{MayFollow};
 ghost use Rattle.qs_run.specs.handler.HandlerThreads.{in_lane_at};
 ghost use Rattle.qs_lane.specs.Views.{InView};
 

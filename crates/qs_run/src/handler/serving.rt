@@ -1,12 +1,12 @@
 //! A handler's whole run.
 
 ghost use Rattle.std.specs.Prelude.{◌≡◌, ◌<◌, ℕ, [], ◌∷◌, List, IsSome, true};
-ghost use Rattle.qs_program.specs.Limits.{most_clients};
-ghost use Rattle.qs_handler.specs.Handler.{closed};
-ghost use Rattle.qs_handler.specs.HandlerRuns.{Task};
+ghost use Rattle.qs_program.specs.audit.Limits.{most_clients};
+ghost use Rattle.qs_handler.specs.audit.Handler.{closed};
+ghost use Rattle.qs_handler.specs.audit.HandlerRuns.{Task};
 ghost use Rattle.qs_run.specs.handler.HandlerThreads.{IsAllServed, IsFresh, IsServing, in_lane_at};
 ghost use Rattle.qs_run.specs.handler.Passes.{ArePassed};
-ghost use Rattle.qs_meaning.specs.Following.{reserves};
+ghost use Rattle.qs_meaning.specs.audit.Following.{reserves};
 
 use crate::handler::gate::Passage;
 use crate::handler::handler_lanes::{Lanes, give, spare, take_parcel};

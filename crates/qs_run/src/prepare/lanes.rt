@@ -1,7 +1,7 @@
 //! The lanes between clients and handlers.
 
 ghost use Rattle.std.specs.Prelude.{◌≡◌, ℕ, ◌<◌, None, length, IfOk};
-ghost use Rattle.qs_program.specs.Limits.{most_handlers};
+ghost use Rattle.qs_program.specs.audit.Limits.{most_handlers};
 ghost use Rattle.qs_run.specs.Prepared.{AreNewEnds, lane_end_at, ever_reserves, in_at, out_at};
 
 use crate::client::Lanes as ClientLanes;

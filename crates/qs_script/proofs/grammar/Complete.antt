@@ -22,9 +22,9 @@ use Rattle.qs_script.specs.declared.tree.tree.KindWord.TheVariants as kind
 use Rattle.qs_script.specs.declared.tree.tree.Formal.{Formal}
 use Rattle.qs_script.specs.declared.tree.tree.Item.{Item}
 use Rattle.qs_script.specs.declared.tree.tree.Item.TheVariants.{Object, Client, Template, Started}
-use Rattle.qs_script.specs.tree.Tree.{Stmts, end, command, query, assign, choose, choose_else, again, leave}
+use Rattle.qs_script.specs.audit.tree.Tree.{Stmts, end, command, query, assign, choose, choose_else, again, leave}
 use Rattle.qs_script.specs.grammar.Reading.{Read, run, one, list_loop, open_brace_at, close_brace_at, close_paren_at, atom_at, further_at, more_loop, args_at, call_at, operator_at, relation_at, expr_at, test_at, assign_at, assigned_at, other_at, stmt_at, body_loop, names_loop, name_at, separate_at, blocks_loop, kind_at, kind_word_at, formal_at, further_formal_at, formals_loop, formals_at, further_name_at, given_loop, given_at, item_at, end_at, items_loop}
-use Rattle.qs_script.specs.grammar.Grammar.{IsAtom, AreMore, AreArgs, IsCall, operator_token, relation_token, IsExpr, IsTest, AreStmts, AreNames, AreSomeNames, IsBlock, AreBlocks, IsKind, kind_token, IsFormal, AreMoreFormals, AreFormals, AreMoreNames, AreGiven, IsItem, AreItems, IsScript}
+use Rattle.qs_script.specs.audit.grammar.Grammar.{IsAtom, AreMore, AreArgs, IsCall, operator_token, relation_token, IsExpr, IsTest, AreStmts, AreNames, AreSomeNames, IsBlock, AreBlocks, IsKind, kind_token, IsFormal, AreMoreFormals, AreFormals, AreMoreNames, AreGiven, IsItem, AreItems, IsScript}
 use Rattle.qs_script.proofs.grammar.Loops.{Runs, run_is, runs_stop, runs_element}
 use Rattle.qs_script.proofs.grammar.Counts.{atom_shorter, call_shorter, expr_shorter, test_shorter, stmts_counted, block_counted, formal_shorter, item_counted}
 

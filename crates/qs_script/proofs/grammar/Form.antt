@@ -8,8 +8,8 @@ use Rattle.qs_script.specs.declared.tokens.token.Token.TheVariants as t
 use Rattle.qs_script.specs.declared.tree.tree.Block.{Block}
 use Rattle.qs_script.specs.declared.tree.tree.Item.{Item}
 use Rattle.qs_script.specs.declared.tree.tree.Item.TheVariants.{Object, Client, Template, Started}
-use Rattle.qs_script.specs.tree.Tree.{Stmts, end, command, query, assign, choose, choose_else, again, leave}
-use Rattle.qs_script.specs.grammar.Grammar.{AreStmts, AreSomeNames, AreBlocks, AreItems}
+use Rattle.qs_script.specs.audit.tree.Tree.{Stmts, end, command, query, assign, choose, choose_else, again, leave}
+use Rattle.qs_script.specs.audit.grammar.Grammar.{AreStmts, AreSomeNames, AreBlocks, AreItems}
 use Rattle.qs_script.specs.tree.Form.{levels_of, IsFormed, HasForm}
 
 shallow_stmts : (n : ℕ) (s : Stmts) (ts rest : List Token) → AreStmts n s ts rest → levels_of s ≤ n

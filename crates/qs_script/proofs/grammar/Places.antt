@@ -6,7 +6,7 @@ use Rattle.std.proofs.Math.Seq.{take-length}
 use Rattle.std.proofs.lemmas.List.{length-append, length-drop, take-append-drop, take-take}
 use Rattle.qs_script.specs.declared.tokens.token.Token.{Token}
 use Rattle.qs_script.specs.declared.tree.tree.Item.{Item}
-use Rattle.qs_script.specs.grammar.Grammar.{IsScript}
+use Rattle.qs_script.specs.audit.grammar.Grammar.{IsScript}
 use Rattle.qs_script.specs.grammar.Reading.{Read, run, items_loop}
 use Rattle.qs_script.specs.grammar.FormPlaces.{BeginsScript, IsFormPlace}
 use Rattle.qs_script.proofs.grammar.Prefixes.{Status, refused, whole, begun, left_of}

@@ -4,7 +4,7 @@ use Rattle.std.proofs.Common.{◌≡◌, ℕ, List, [], Result, Ok, Err}
 use Rattle.qs_script.specs.declared.tokens.token.Token.{Token}
 use Rattle.qs_script.specs.declared.tree.tree.Item.{Item}
 use Rattle.qs_script.specs.grammar.Reading.{run, items_loop}
-use Rattle.qs_script.specs.grammar.Grammar.{IsScript}
+use Rattle.qs_script.specs.audit.grammar.Grammar.{IsScript}
 use Rattle.qs_script.proofs.grammar.Sound.{items_sound}
 use Rattle.qs_script.proofs.grammar.Complete.{items_complete}
 

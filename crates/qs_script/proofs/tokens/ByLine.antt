@@ -3,7 +3,7 @@
 use Rattle.std.proofs.Common.{◌≡◌, ℕ, List, [], ◌∷◌, ◌++◌, refl, ap, ◌∙◌, append-nil, Result, Ok, Err}
 use Rattle.qs_script.specs.declared.tokens.token.Token.{Token}
 use Rattle.qs_script.specs.declared.tokens.lex.TokenFault.{TokenFault}
-use Rattle.qs_script.specs.tokens.Tokens.{Pending, nothing, word, digits, comment, sign, Step, over, byte_step, ends, going_on, after, tokens_from, tokens_of}
+use Rattle.qs_script.specs.audit.tokens.Tokens.{Pending, nothing, word, digits, comment, sign, Step, over, byte_step, ends, going_on, after, tokens_from, tokens_of}
 use Rattle.qs_script.proofs.tokens.Lexemes.{then_tokens, after-after}
 
 line_feed : (r : Result (List Token) TokenFault) (ys : List ℕ) → going_on (ends r 10) (λ q. tokens_from q ys) ≡ then_tokens r ys

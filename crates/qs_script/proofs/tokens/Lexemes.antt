@@ -8,10 +8,10 @@ use Rattle.qs_script.specs.declared.tokens.token.Token.{Token}
 use Rattle.qs_script.specs.declared.tokens.lex.TokenFault.{TokenFault}
 use Rattle.qs_script.specs.declared.tokens.lex.TokenFault.TheVariants.{Number, Name}
 use Rattle.std.proofs.Math.Dec.{ltb}
-use Rattle.qs_script.specs.tokens.Tokens.{Pending, nothing, word, digits, comment, sign, is_name_byte, is_letter, is_digit, is_space, word_token, value_of, Step, over, tokens_from, tokens_of, after, ends, first_byte, before, byte_step, going_on, any_sign, single_sign, at, equals_signs}
+use Rattle.qs_script.specs.audit.tokens.Tokens.{Pending, nothing, word, digits, comment, sign, is_name_byte, is_letter, is_digit, is_space, word_token, value_of, Step, over, tokens_from, tokens_of, after, ends, first_byte, before, byte_step, going_on, any_sign, single_sign, at, equals_signs}
 use Rattle.qs_script.specs.declared.tokens.token.Token.TheVariants as t
 use Rattle.qs_script.specs.tokens.Cutting.{run_of, alone, with_equals as with_equals_of}
-use Rattle.qs_script.specs.tokens.Limits.{longest_name}
+use Rattle.qs_script.specs.audit.tokens.Limits.{longest_name}
 
 abbrev Tokens : Type 0
 Tokens = Result (List Token) TokenFault

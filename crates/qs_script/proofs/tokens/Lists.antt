@@ -3,7 +3,7 @@
 use Rattle.std.proofs.Common.{◌≡◌, ◌<◌, ◌≤◌, ◌∙◌, ℕ, List, [], ◌∷◌, ◌++◌, length, take, drop, get_or, min, true, false, ap, sym, refl, Result, Ok}
 use Rattle.qs_script.specs.declared.tokens.token.Token.{Token}
 use Rattle.qs_script.specs.declared.tokens.lex.TokenFault.{TokenFault}
-use Rattle.qs_script.specs.tokens.Tokens.{tokens_of, after, is_letter, is_digit, is_name_byte, word_token, value_of}
+use Rattle.qs_script.specs.audit.tokens.Tokens.{tokens_of, after, is_letter, is_digit, is_name_byte, word_token, value_of}
 use Rattle.qs_script.specs.declared.tokens.token.Token.TheVariants as t
 use Rattle.qs_script.specs.tokens.Cutting.{Adds, run_of}
 use Rattle.qs_script.proofs.tokens.Lexemes.{after-after, short_word, short_run, few_digits}

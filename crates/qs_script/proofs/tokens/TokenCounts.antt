@@ -6,8 +6,8 @@ use Rattle.qs_script.specs.declared.tokens.token.Token.{Token}
 use Rattle.qs_script.specs.declared.tokens.lex.TokenFault.{TokenFault}
 use Rattle.qs_script.specs.declared.tokens.lex.TokenFault.TheVariants.{Number, Name}
 use Rattle.qs_script.specs.declared.tokens.token.Token.TheVariants as t
-use Rattle.qs_script.specs.tokens.Tokens.{is_letter, is_digit, is_space, is_name_byte, word_token, value_of, Pending, nothing, word, digits, comment, sign, Step, over, tokens_from, tokens_of, after, ends, first_byte, before, byte_step, going_on, any_sign, single_sign, at, signs, equals_signs}
-use Rattle.qs_script.specs.tokens.Limits.{longest_name}
+use Rattle.qs_script.specs.audit.tokens.Tokens.{is_letter, is_digit, is_space, is_name_byte, word_token, value_of, Pending, nothing, word, digits, comment, sign, Step, over, tokens_from, tokens_of, after, ends, first_byte, before, byte_step, going_on, any_sign, single_sign, at, signs, equals_signs}
+use Rattle.qs_script.specs.audit.tokens.Limits.{longest_name}
 
 -- how many tokens what has begun may still make
 abbrev weight : Pending → ℕ

@@ -5,7 +5,8 @@ use Rattle.std.proofs.Common.{◌≡◌, ℕ, zero, suc, ◌+◌, ◌<◌, ◌�
 use Rattle.std.proofs.Math.Seq.{drop-cons}
 use Rattle.qs_script.specs.declared.tree.tree.Stmt.{Stmt}
 use Rattle.qs_script.specs.declared.tree.tree.Stmt.TheVariants.{Command, Query, Assign, If, IfElse, Repeat, Leave}
-use Rattle.qs_script.specs.tree.Tree.{Stmts, end, command, query, assign, choose, choose_else, again, leave, join_statements}
+use Rattle.qs_script.specs.audit.tree.Tree.{Stmts, end, command, query, assign, choose, choose_else, again, leave}
+use Rattle.qs_script.specs.tree.Tree.{join_statements}
 use Rattle.qs_script.specs.tree.Views.{stmts_of, single, size_of}
 
 -- a statement and the ones after it

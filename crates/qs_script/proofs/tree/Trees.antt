@@ -4,7 +4,8 @@
 use Rattle.std.proofs.Common.{◌≡◌, List, [], ◌∷◌, ◌++◌, refl, ap}
 use Rattle.qs_script.specs.declared.tree.tree.Stmt.{Stmt}
 use Rattle.qs_script.specs.declared.tree.tree.Stmt.TheVariants.{Command, Query, Assign, If, IfElse, Repeat, Leave}
-use Rattle.qs_script.specs.tree.Tree.{Stmts, end, command, query, assign, choose, choose_else, again, leave, join_statements}
+use Rattle.qs_script.specs.audit.tree.Tree.{Stmts, end, command, query, assign, choose, choose_else, again, leave}
+use Rattle.qs_script.specs.tree.Tree.{join_statements}
 use Rattle.qs_script.specs.tree.Views.{stmts_of, single}
 
 pub stmts_of-append : (xs : List Stmt) (s : Stmt) → stmts_of (xs ++ s ∷ []) ≡ join_statements (stmts_of xs) (single s)

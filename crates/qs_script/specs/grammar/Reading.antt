@@ -22,8 +22,9 @@ use Rattle.qs_script.specs.declared.tree.tree.KindWord.TheVariants as kind
 use Rattle.qs_script.specs.declared.tree.tree.Formal.{Formal}
 use Rattle.qs_script.specs.declared.tree.tree.Item.{Item}
 use Rattle.qs_script.specs.declared.tree.tree.Item.TheVariants.{Object, Client, Template, Started}
-use Rattle.qs_script.specs.tree.Tree.{call_of, Stmts, end, command, query, assign, choose, choose_else, again, leave, join_statements}
-use Rattle.qs_script.specs.tree.Limits.{most_levels}
+use Rattle.qs_script.specs.audit.tree.Tree.{Stmts, end, command, query, assign, choose, choose_else, again, leave}
+use Rattle.qs_script.specs.tree.Tree.{call_of, join_statements}
+use Rattle.qs_script.specs.audit.tree.Limits.{most_levels}
 
 -- what is read and the tokens after it; or nothing, and how many tokens are left where no reading goes on
 abbrev pub Read : Type 0 → Type 0

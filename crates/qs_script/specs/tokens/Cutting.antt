@@ -10,7 +10,7 @@ use Rattle.qs_script.specs.declared.tokens.lex.Piece.{Piece}
 use Rattle.qs_script.specs.declared.tokens.lex.Piece.TheVariants as p
 use Rattle.qs_script.specs.declared.tokens.listing.ListFault.{ListFault}
 use Rattle.qs_script.specs.declared.tokens.listing.ListFault.TheVariants as l
-use Rattle.qs_script.specs.tokens.Tokens.{is_name_byte, is_digit, tokens_of, after, at, signs, same, word_token}
+use Rattle.qs_script.specs.audit.tokens.Tokens.{is_name_byte, is_digit, tokens_of, after, at, signs, same, word_token}
 
 -- whether a byte goes on with the run
 abbrev pub in_run : Run → ℕ → Bool

@@ -1,26 +1,12 @@
--- Requests of their parts, and lists of statements without places in memory.
+-- Beside what the headline reaches (`audit/tree/Tree.antt`): what else contracts and proofs use.
 use Rattle.std.specs.Prelude.{ℕ, List}
 use Rattle.qs_script.specs.declared.tree.tree.Atom.{Atom}
 use Rattle.qs_script.specs.declared.tree.tree.Call.{Call}
-use Rattle.qs_script.specs.declared.tree.tree.Expr.{Expr}
-use Rattle.qs_script.specs.declared.tree.tree.Test.{Test}
+use Rattle.qs_script.specs.audit.tree.Tree.{Stmts, end, command, query, assign, choose, choose_else, again, leave}
 
 -- a request of these parts
 abbrev pub call_of : (object op : List ℕ) → List Atom → Call
 call_of object op args = record { object = object; op = op; args = args }
-
--- a list of statements: each with the ones after it
-pub data Stmts : Type 0 where
-  end : Stmts
-  command : Call → (rest : Stmts) → Stmts
-  query : (variable : List ℕ) → Call → (rest : Stmts) → Stmts
-  assign : (variable : List ℕ) → Expr → (rest : Stmts) → Stmts
-  -- an if without else
-  choose : Test → (first : Stmts) → (rest : Stmts) → Stmts
-  -- an if with else
-  choose_else : Test → (first : Stmts) → (other : Stmts) → (rest : Stmts) → Stmts
-  again : (count : ℕ) → (body : Stmts) → (rest : Stmts) → Stmts
-  leave : (rest : Stmts) → Stmts
 
 -- one list of statements after another
 abbrev pub join_statements : Stmts → Stmts → Stmts

@@ -6,7 +6,7 @@ use base.Stored.{Gv, gnil, gnum, gcons}
 use Rattle.qs_script.specs.declared.tree.tree.Call.{Call}
 use Rattle.qs_script.specs.declared.tree.tree.Expr.{Expr}
 use Rattle.qs_script.specs.declared.tree.tree.Test.{Test}
-use Rattle.qs_script.specs.tree.Tree.{Stmts, end, command, query, assign, choose, choose_else, again, leave}
+use Rattle.qs_script.specs.audit.tree.Tree.{Stmts, end, command, query, assign, choose, choose_else, again, leave}
 
 pub name_code : Coded (List ℕ)
 name_code = coded_list coded_ℕ

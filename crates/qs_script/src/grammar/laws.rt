@@ -3,7 +3,7 @@
 ghost use Rattle.std.specs.Prelude.{◌≡◌, ℕ, List};
 ghost use Rattle.qs_script.specs.declared.tokens.token.Token.{Token};
 ghost use Rattle.qs_script.specs.declared.tree.tree.Item.{Item};
-ghost use Rattle.qs_script.specs.grammar.Grammar.{IsScript};
+ghost use Rattle.qs_script.specs.audit.grammar.Grammar.{IsScript};
 ghost use Rattle.qs_script.specs.grammar.FormPlaces.{IsFormPlace};
 
 /// A list of tokens has at most one tree.

@@ -1,8 +1,8 @@
 //! From bytes to tokens.
 
 ghost use Rattle.std.specs.Prelude.{◌≡◌, ◌-◌, ◌+◌, ◌^◌, drop, take, ◌<◌, ◌≤◌, ◌≢◌, length, slice_index, IsTrue, IfOk, All, false};
-ghost use Rattle.qs_script.specs.tokens.Limits.{most_digits};
-ghost use Rattle.qs_script.specs.tokens.Tokens.{is_digit as digit, is_letter as letter, is_space as space, is_name_byte, at, equals_signs, value_of, word_token, tokens_of, same};
+ghost use Rattle.qs_script.specs.audit.tokens.Limits.{most_digits};
+ghost use Rattle.qs_script.specs.audit.tokens.Tokens.{is_digit as digit, is_letter as letter, is_space as space, is_name_byte, at, equals_signs, value_of, word_token, tokens_of, same};
 ghost use Rattle.qs_script.specs.tokens.Cutting.{Cuts, in_run, run_of, or_name, with_equals, alone};
 
 use crate::tokens::limits::{LONGEST_NAME, MOST_DIGITS};

@@ -1,8 +1,8 @@
 //! All tokens of a text.
 
 ghost use Rattle.std.specs.Prelude.{◌≡◌, ◌<◌, ◌≤◌, ◌≢◌, ◌+◌, [], ◌∷◌, ◌++◌, length, drop, min, slice_index, vec_len, vec_capacity, IsTrue, false, Some, None, Ok, IfOk, IfErr};
-ghost use Rattle.qs_script.specs.tokens.Limits.{longest_name, most_digits};
-ghost use Rattle.qs_script.specs.tokens.Tokens.{tokens_of, first_byte, nothing, sign, is_space as space, is_letter as letter, is_digit as digit, is_name_byte};
+ghost use Rattle.qs_script.specs.audit.tokens.Limits.{longest_name, most_digits};
+ghost use Rattle.qs_script.specs.audit.tokens.Tokens.{tokens_of, first_byte, nothing, sign, is_space as space, is_letter as letter, is_digit as digit, is_name_byte};
 ghost use Rattle.qs_script.specs.tokens.Cutting.{Adds, AddsMost, AddsAll, IsFirstFault, IsOnlyWith, BeginsNone, run_of};
 ghost use Rattle.qs_script.specs.declared.tokens.token.Token.TheVariants.{Unequal as unequal};
 

@@ -4,7 +4,7 @@ ghost use Rattle.std.specs.Prelude.{◌≡◌, ◌≤◌, ◌==◌, [], ◌∷�
 ghost use Rattle.std.proofs.Common.{rules};
 ghost use Rattle.std.specs.Cmp.Lexicographic.{pointwise};
 ghost use Rattle.std.specs.Cmp.Rules.{comparing, hashing};
-ghost use Rattle.qs_script.specs.tokens.Limits.{longest_name};
+ghost use Rattle.qs_script.specs.audit.tokens.Limits.{longest_name};
 
 use crate::tokens::limits::LONGEST_NAME;
 use std::hash::{Hash, Hasher};

@@ -1,7 +1,8 @@
 // Syntax trees.
 
 ghost use Rattle.std.specs.Prelude.{◌≡◌, [], ◌∷◌, ◌++◌, OnOk, OnErr, IfOk};
-ghost use Rattle.qs_script.specs.tree.Tree.{call_of, end, command, query, assign, join_statements};
+ghost use Rattle.qs_script.specs.audit.tree.Tree.{end, command, query, assign};
+ghost use Rattle.qs_script.specs.tree.Tree.{call_of, join_statements};
 ghost use Rattle.qs_script.specs.tree.Views.{single, stmts_of};
 ghost use Rattle.qs_script.specs.tree.Form.{HasForm};
 
@@ -160,7 +161,7 @@ impl Drop for Body {
 }
 
 impl Model for Body {
-    ghost use Rattle.qs_script.specs.tree.Tree.{Stmts};
+    ghost use Rattle.qs_script.specs.audit.tree.Tree.{Stmts};
     ghost use Rattle.qs_script.specs.tree.TreeCode.{stmts_code};
 
     ghost Value = { Stmts };

@@ -1,9 +1,9 @@
 // Where a program stands at the end of a run.
 
 ghost use Rattle.std.specs.Prelude.{◌≡◌, IfOk, IfSome, option_map};
-ghost use Rattle.qs_meaning.specs.Serial.{IsLegal};
+ghost use Rattle.qs_meaning.specs.audit.Serial.{IsLegal};
 ghost use Rattle.qs_outcomes.specs.Outcomes.{HasPlaces};
-ghost use Rattle.qs_serve.specs.RunReports.{locals_at_end};
+ghost use Rattle.qs_serve.specs.audit.RunReports.{locals_at_end};
 ghost use Rattle.qs_standings.specs.Standings.{configuration_in};
 
 use qs_played::Played;

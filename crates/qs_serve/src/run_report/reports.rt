@@ -1,10 +1,10 @@
 // The reports of runs.
 
 ghost use Rattle.std.specs.Prelude.{◌≡◌, IfOk};
-ghost use Rattle.qs_json.specs.RunJson.{run_json as json_of_run};
-ghost use Rattle.qs_meaning.specs.Serial.{IsLegal};
-ghost use Rattle.qs_report.specs.Report.{styled_run_text};
-ghost use Rattle.qs_serve.specs.RunReports.{locals_at_end, report_by};
+ghost use Rattle.qs_json.specs.audit.RunJson.{run_json as json_of_run};
+ghost use Rattle.qs_meaning.specs.audit.Serial.{IsLegal};
+ghost use Rattle.qs_report.specs.audit.Report.{styled_run_text};
+ghost use Rattle.qs_serve.specs.audit.RunReports.{locals_at_end, report_by};
 
 use crate::run_report::ends::end_of;
 use qs_json::run_json;

@@ -9,11 +9,12 @@ use Rattle.std.proofs.lemmas.Bool.Decides.{nat_tests}
 use Rattle.std.proofs.lemmas.List.{get_or_past, take_more}
 use Rattle.std.proofs.lemmas.Nat.Bits.{bit_at_or, bit_at-lt, bit_at-zero, bit_at_set_same, bit_at_set_other, shr_and_one}
 use Rattle.qs_objects.proofs.Choices.{eqb_apart, eqb_self}
-use Rattle.qs_program.specs.Program.{BlockShape, ProgramShape, client_at, blocks_of, no_block, no_client}
+use Rattle.qs_program.specs.audit.Program.{BlockShape, ProgramShape, client_at, blocks_of, no_block, no_client}
 use Rattle.qs_program.specs.Sound.{IsSound}
-use Rattle.qs_meaning.specs.Reduced.{Clients, Counts, block_reserves, comes_in, group_of, many_below, size_of_set, smaller, some_below, still_reserves, widened, wider}
+use Rattle.qs_meaning.specs.audit.Reduced.{Counts}
+use Rattle.qs_meaning.specs.Reduced.{Clients, block_reserves, comes_in, group_of, many_below, size_of_set, smaller, some_below, still_reserves, widened, wider}
 use Rattle.std.proofs.lemmas.List.{length-set}
-use Rattle.qs_program.specs.Limits.{most_clients, most_objects}
+use Rattle.qs_program.specs.audit.Limits.{most_clients, most_objects}
 use Rattle.qs_standings.specs.going.Going.{AreComers, AreLast, IsGrown, begun_counts, in_byte}
 
 zero_or_one : (x : ℕ) → x < 2 → (x ≡ 0) ⊎ (x ≡ 1)

@@ -3,9 +3,10 @@
 use Rattle.std.specs.Prelude.{◌≡◌, ◌<◌, ◌==◌, ℕ, List, [], length, drop, nat_lt, slice_index_or}
 use Rattle.std.specs.List.{list_any}
 pub use Rattle.qs_objects.specs.ByteSets.{in_byte}
-use Rattle.qs_program.specs.Limits.{most_objects}
-use Rattle.qs_program.specs.Program.{ProgramShape, client_at}
-use Rattle.qs_meaning.specs.Reduced.{Counts, block_reserves, comes_in, group_of, wider}
+use Rattle.qs_program.specs.audit.Limits.{most_objects}
+use Rattle.qs_program.specs.audit.Program.{ProgramShape, client_at}
+use Rattle.qs_meaning.specs.audit.Reduced.{Counts}
+use Rattle.qs_meaning.specs.Reduced.{block_reserves, comes_in, group_of, wider}
 
 -- how many blocks each client has begun, by a list
 abbrev pub begun_counts : List ℕ → Counts

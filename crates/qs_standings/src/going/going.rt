@@ -2,8 +2,8 @@
 
 ghost use Rattle.std.specs.Prelude.{◌≡◌, ◌<◌, ℕ, IfOk, if◌then◌else◌, length, slice_index_or};
 ghost use Rattle.std.specs.List.{AllByRecursion, list_any};
-ghost use Rattle.qs_program.specs.Limits.{most_objects};
-ghost use Rattle.qs_program.specs.Sound.{is_in};
+ghost use Rattle.qs_program.specs.audit.Limits.{most_objects};
+ghost use Rattle.qs_program.specs.audit.Sound.{is_in};
 ghost use Rattle.qs_meaning.specs.Reduced.{goes_on, group_of, size_of_set, smaller, still_reserves, wider};
 ghost use Rattle.qs_standings.specs.going.Going.{AreComers, AreLast, IsGrown, IsLast, begun_counts, in_byte};
 

@@ -6,8 +6,8 @@ use Rattle.std.specs.Prelude.{◌&&◌, ◌==◌}
 use Rattle.std.specs.Int.{bit_at}
 use Rattle.std.proofs.lemmas.Bool.{cases_eq, cases_lt}
 use Rattle.std.proofs.lemmas.Nat.Bits.{bit_at_and, bit_at-lt, bit_at_set_same, bit_at_set_other, bit_at_clear_same, bit_at_clear_other, bit_at-zero, same_from_bits_below}
-use Rattle.qs_program.specs.Limits.{most_handlers}
-use Rattle.qs_meaning.specs.Solo.{put}
+use Rattle.qs_program.specs.audit.Limits.{most_handlers}
+use Rattle.qs_meaning.specs.audit.Solo.{put}
 use Rattle.qs_objects.specs.ByteSets.{in_byte}
 use Rattle.qs_syncset.specs.held.Bytes.{size, total_below, truths}
 use Rattle.qs_syncset.specs.held.Flow.{without}

@@ -9,14 +9,14 @@ use Rattle.std.proofs.lemmas.Bool.{cases_lt}
 use Rattle.std.proofs.lemmas.List.{get_or_past}
 use Rattle.qs_objects.proofs.Choices.{apart_eqb, eqb_apart, num_cases}
 use Rattle.qs_objects.proofs.Elements.{AllByRecursion-get_or}
-use Rattle.qs_program.specs.Limits.{most_handlers}
-use Rattle.qs_meaning.specs.Solo.{put}
+use Rattle.qs_program.specs.audit.Limits.{most_handlers}
+use Rattle.qs_meaning.specs.audit.Solo.{put}
 use Rattle.qs_meaning.proofs.TreeWalks.{put_here, put_there}
-use Rattle.qs_graph.specs.Nodes.{ControlGraph, GraphNode, exit, place_at}
-use Rattle.qs_graph.specs.Paths.{HasEdge, IsAmong}
+use Rattle.qs_graph.specs.audit.Nodes.{ControlGraph, GraphNode, exit, place_at}
+use Rattle.qs_graph.specs.audit.Paths.{HasEdge, IsAmong}
 use Rattle.qs_graph.specs.WellFormed.{IsGraph, IsGraphNode}
 use Rattle.qs_syncset.specs.held.Flow.{AreWitnessed, HasArrived, IsMissed, IsPassedOn, HasPath, held_after}
-use Rattle.qs_syncset.specs.held.Held.{IsHeld}
+use Rattle.qs_syncset.specs.audit.held.Held.{IsHeld}
 use Rattle.qs_syncset.proofs.held.Paths.{held_is, missed_past, reached_past}
 
 -- what is believed of a node: below 8 that a handler is held there, and at 8 that no path leads there

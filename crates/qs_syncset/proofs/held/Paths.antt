@@ -5,14 +5,14 @@ use Rattle.std.proofs.Common.{◌≡◌, ◌≢◌, ℕ, ◌<◌, ◌⊎◌, inl
 use Rattle.std.proofs.lemmas.Bool.{cases_eq, eq-eqb, ne_eqb}
 use Rattle.std.specs.List.{AllByRecursion}
 use Rattle.std.specs.Prelude.{◌↔◌}
-use Rattle.qs_program.specs.Limits.{most_handlers}
-use Rattle.qs_meaning.specs.Solo.{put}
+use Rattle.qs_program.specs.audit.Limits.{most_handlers}
+use Rattle.qs_meaning.specs.audit.Solo.{put}
 use Rattle.qs_graph.specs.declared.node.Node.{Node}
 use Rattle.qs_graph.specs.declared.node.Node.TheVariants.{Entry, Local, Branch, Sync, Query, Call, Exit}
-use Rattle.qs_graph.specs.Names.{may_be_one}
-use Rattle.qs_graph.specs.Nodes.{ControlGraph, place_at}
-use Rattle.qs_graph.specs.Paths.{HasEdge, IsPath}
-use Rattle.qs_syncset.specs.held.Held.{IsCallOf, IsSynced, IsHeld}
+use Rattle.qs_graph.specs.audit.Names.{may_be_one}
+use Rattle.qs_graph.specs.audit.Nodes.{ControlGraph, place_at}
+use Rattle.qs_graph.specs.audit.Paths.{HasEdge, IsPath}
+use Rattle.qs_syncset.specs.audit.held.Held.{IsCallOf, IsSynced, IsHeld}
 use Rattle.qs_syncset.specs.held.Flow.{Holding, without, held_after, held_along, HasPath, IsMissed, AreWitnessed, IsAtEntry, IsPassedOn}
 
 pub put_same : (f : Holding) (h : ℕ) (b : Bool) → put f h b h ≡ b

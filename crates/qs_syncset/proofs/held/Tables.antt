@@ -3,10 +3,10 @@
 -- induction on the path: what the table says is held at a node is held along each path to it.
 use Rattle.std.proofs.Common.{◌≡◌, ℕ, zero, suc, ◌+◌, inl, inr, Bool, true, false, List, [], ◌∷◌, get_or, Option, Some, None, refl, sym, ◌∙◌, subst, arith}
 use Rattle.std.specs.Prelude.{◌&&◌, ◌||◌, not}
-use Rattle.qs_graph.specs.Nodes.{ControlGraph, GraphNode, place_at, exit}
-use Rattle.qs_graph.specs.Paths.{IsAmong, IsPath}
+use Rattle.qs_graph.specs.audit.Nodes.{ControlGraph, GraphNode, place_at, exit}
+use Rattle.qs_graph.specs.audit.Paths.{IsAmong, IsPath}
 use Rattle.qs_syncset.specs.held.Flow.{held_after, held_along}
-use Rattle.qs_syncset.specs.held.Held.{IsHeld}
+use Rattle.qs_syncset.specs.audit.held.Held.{IsHeld}
 use Rattle.qs_syncset.proofs.held.Paths.{synced_from, synced_along, monotone}
 
 -- for each node whether the handler is held there, or that no path leads there

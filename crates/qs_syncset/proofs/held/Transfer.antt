@@ -6,10 +6,10 @@ use Rattle.std.specs.Prelude.{◌&&◌, ◌==◌}
 use Rattle.std.proofs.lemmas.Bool.{and_cases, and_parts, cases_eq, cases_lt}
 use Rattle.std.proofs.lemmas.List.{get_or-map, get_or-set_other, get_or-set_same, get_or_default, get_or_past, length-map}
 use Rattle.std.proofs.lemmas.Nat.Bits.{shr_and_one}
-use Rattle.qs_program.specs.Limits.{most_handlers}
-use Rattle.qs_graph.specs.Nodes.{ControlGraph, place_at}
+use Rattle.qs_program.specs.audit.Limits.{most_handlers}
+use Rattle.qs_graph.specs.audit.Nodes.{ControlGraph, place_at}
 use Rattle.qs_graph.specs.declared.node.Node.{Node}
-use Rattle.qs_graph.specs.Paths.{HasEdge}
+use Rattle.qs_graph.specs.audit.Paths.{HasEdge}
 use Rattle.qs_syncset.specs.held.Flow.{Holding, held_after, HasPath, IsMissed, AreWitnessed, HasArrived, IsAtEntry, IsPassedOn}
 use Rattle.qs_objects.specs.ByteSets.{in_byte}
 use Rattle.qs_syncset.specs.held.Bytes.{truths, truths_of}

@@ -10,9 +10,9 @@ use Rattle.std.proofs.lemmas.List.Elements.{All-nil, All-cons, All-replicate, Al
 use Rattle.std.proofs.lemmas.List.Sums.{sum_by-set, sum_by-le}
 use Rattle.std.proofs.lemmas.Nat.{and_le_l}
 use Rattle.std.proofs.lemmas.Nat.Bits.{bit_at_ones, bit_at-zero}
-use Rattle.qs_program.specs.Limits.{most_handlers}
-use Rattle.qs_graph.specs.Nodes.{ControlGraph, place_at}
-use Rattle.qs_graph.specs.Paths.{IsAmong, HasEdge}
+use Rattle.qs_program.specs.audit.Limits.{most_handlers}
+use Rattle.qs_graph.specs.audit.Nodes.{ControlGraph, place_at}
+use Rattle.qs_graph.specs.audit.Paths.{IsAmong, HasEdge}
 use Rattle.qs_objects.specs.ByteSets.{in_byte}
 use Rattle.qs_syncset.specs.held.Bytes.{size, truths_of}
 use Rattle.qs_syncset.specs.held.Dataflow.{State, IsKnown, IsPassed, IsSettled, IsTaken, IsWork, holding_of_node, reached_at, set_at, state, turns_left, unreached_count}

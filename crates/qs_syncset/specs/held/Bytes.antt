@@ -2,7 +2,7 @@
 use Rattle.std.specs.Prelude.{ℕ, zero, suc, ◌+◌, Bool, List, [], ◌∷◌, map}
 use Rattle.std.specs.Int.{bit_at}
 use Rattle.qs_objects.specs.ByteSets.{in_byte}
-use Rattle.qs_program.specs.Limits.{most_handlers}
+use Rattle.qs_program.specs.audit.Limits.{most_handlers}
 
 -- the set of all handlers
 abbrev pub every_handler : ℕ

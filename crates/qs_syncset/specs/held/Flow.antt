@@ -1,12 +1,12 @@
 -- How what is held goes along paths, and from node to node.
 use Rattle.std.specs.Prelude.{◌≡◌, ℕ, ◌<◌, Bool, true, false, if◌then◌else◌, List, [], ◌∷◌}
-use Rattle.qs_program.specs.Limits.{most_handlers}
-use Rattle.qs_meaning.specs.Solo.{put}
+use Rattle.qs_program.specs.audit.Limits.{most_handlers}
+use Rattle.qs_meaning.specs.audit.Solo.{put}
 use Rattle.qs_graph.specs.declared.node.Node.{Node}
 use Rattle.qs_graph.specs.declared.node.Node.TheVariants.{Sync, Call}
-use Rattle.qs_graph.specs.Names.{may_be_one}
-use Rattle.qs_graph.specs.Nodes.{ControlGraph, place_at}
-use Rattle.qs_graph.specs.Paths.{HasEdge, IsPath}
+use Rattle.qs_graph.specs.audit.Names.{may_be_one}
+use Rattle.qs_graph.specs.audit.Nodes.{ControlGraph, place_at}
+use Rattle.qs_graph.specs.audit.Paths.{HasEdge, IsPath}
 
 -- for each handler, by its name in a graph, whether it is held
 abbrev pub Holding : Type 0

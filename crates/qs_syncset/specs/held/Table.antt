@@ -1,9 +1,9 @@
 -- The held sets of a graph, as a caller sees them: for each node a truth value for each of 8 handlers.
 use Rattle.std.specs.Prelude.{◌≡◌, ℕ, ◌<◌, ◌↔◌, Bool, true, List, [], length, slice_index_or}
-use Rattle.qs_program.specs.Limits.{most_handlers}
-use Rattle.qs_graph.specs.Nodes.{ControlGraph}
-use Rattle.qs_graph.specs.Paths.{IsPath}
-use Rattle.qs_syncset.specs.held.Held.{IsHeld}
+use Rattle.qs_program.specs.audit.Limits.{most_handlers}
+use Rattle.qs_graph.specs.audit.Nodes.{ControlGraph}
+use Rattle.qs_graph.specs.audit.Paths.{IsPath}
+use Rattle.qs_syncset.specs.audit.held.Held.{IsHeld}
 
 -- whether a node's set has a handler
 abbrev pub has : List (List Bool) → ℕ → ℕ → Bool

@@ -3,8 +3,8 @@
 //! handler h in bit h.
 
 ghost use Rattle.std.specs.Prelude.{◌≡◌, ℕ, ◌+◌, ◌<◌, ◌≤◌, [], length, OnOk};
-ghost use Rattle.qs_program.specs.Limits.{most_handlers};
-ghost use Rattle.qs_graph.specs.Names.{may_be_one};
+ghost use Rattle.qs_program.specs.audit.Limits.{most_handlers};
+ghost use Rattle.qs_graph.specs.audit.Names.{may_be_one};
 ghost use Rattle.qs_graph.specs.WellFormed.{IsInRange};
 ghost use Rattle.qs_objects.specs.ByteSets.{in_byte};
 ghost use Rattle.qs_syncset.specs.held.Dataflow.{IsPassed, IsTaken, IsWork, state, turns_left};

@@ -1,7 +1,7 @@
 //! The held sets of a graph.
 
 ghost use Rattle.std.specs.Prelude.{◌≡◌, ◌+◌, ◌*◌, ◌<◌, ◌≤◌, false, length, replicate, suc, IfOk, OnOk};
-ghost use Rattle.qs_program.specs.Limits.{most_handlers};
+ghost use Rattle.qs_program.specs.audit.Limits.{most_handlers};
 ghost use Rattle.qs_syncset.specs.held.Bytes.{every_handler, truths_of};
 ghost use Rattle.qs_syncset.specs.held.Table.{AreSetsOf, has};
 

@@ -6,17 +6,18 @@ use Rattle.std.proofs.lemmas.List.{drop_all, drop_more, drop-drop, take_more, ge
 use Rattle.std.proofs.lemmas.List.FromFn.{get_or-map-range_with_len, length-map-range_with_len}
 use Rattle.std.proofs.lemmas.List.Sums.{sum_by_push}
 use Rattle.std.proofs.lemmas.Bool.Decides.{nat_tests}
-use Rattle.qs_objects.specs.Act.{State}
-use Rattle.qs_objects.specs.Journals.{after}
-use Rattle.qs_objects.specs.Parts.{same}
+use Rattle.qs_objects.specs.audit.Act.{State}
+use Rattle.qs_objects.specs.audit.Journals.{after}
+use Rattle.qs_objects.specs.audit.Parts.{same}
 use Rattle.qs_objects.specs.declared.held.Entry.{Entry}
 use Rattle.qs_objects.specs.declared.held.Event.{Event}
 use Rattle.qs_objects.specs.declared.held.Ticket.{Ticket}
-use Rattle.qs_program.specs.Program.{ProgramShape}
-use Rattle.qs_meaning.specs.Serial.{declared_states}
-use Rattle.qs_played.specs.Isolation.{journal_of, ticket_at}
-use Rattle.qs_played.specs.Played.{Played}
-use Rattle.qs_text.specs.fates.Fates.{all_fates, fate_after, fate_of, fates_along, fates_for, fates_from, fates_of, fates_on, requests_on}
+use Rattle.qs_program.specs.audit.Program.{ProgramShape}
+use Rattle.qs_meaning.specs.audit.Serial.{declared_states}
+use Rattle.qs_played.specs.audit.Isolation.{journal_of, ticket_at}
+use Rattle.qs_played.specs.audit.Played.{Played}
+use Rattle.qs_text.specs.audit.fates.Fates.{fate_after, fate_of, fates_along, fates_for, fates_from, fates_of, fates_on, requests_on}
+use Rattle.qs_text.specs.fates.Fates.{all_fates}
 use Rattle.qs_text.specs.fates.Picked.{left_on, picked, picked_from}
 use Rattle.qs_text.specs.declared.fates.fate.Fate.{Fate}
 

@@ -1,7 +1,7 @@
 -- What became of the requests of a few runs, worked out by hand.
 use Rattle.std.specs.Prelude.{◌≡◌, ℕ, true, false, List, [], ◌∷◌, replicate, Option, Some, None, ℤ, pos, negsuc}
-use Rattle.qs_objects.specs.Act.{Content, account, buffer, grid}
-use Rattle.qs_objects.specs.Objects.{fresh}
+use Rattle.qs_objects.specs.audit.Act.{Content, account, buffer, grid}
+use Rattle.qs_objects.specs.audit.Objects.{fresh}
 use Rattle.qs_objects.specs.Parts.{stamp}
 use Rattle.qs_objects.specs.declared.Op.{Op}
 use Rattle.qs_objects.specs.declared.Op.TheVariants as ops
@@ -9,10 +9,11 @@ use Rattle.qs_objects.specs.declared.Request.{Request}
 use Rattle.qs_objects.specs.declared.held.Entry.{Entry}
 use Rattle.qs_objects.specs.declared.held.Event.{Event}
 use Rattle.qs_objects.specs.declared.object.Kind.TheVariants as kinds
-use Rattle.qs_program.specs.Program.{ProgramShape}
+use Rattle.qs_program.specs.audit.Program.{ProgramShape}
 use Rattle.qs_meaning.specs.MeaningExamples.{hundred, program}
-use Rattle.qs_played.specs.Played.{Played, ticket}
-use Rattle.qs_text.specs.fates.Fates.{all_fates, fate_of, trace_fates}
+use Rattle.qs_played.specs.audit.Played.{Played, ticket}
+use Rattle.qs_text.specs.audit.fates.Fates.{fate_of, trace_fates}
+use Rattle.qs_text.specs.fates.Fates.{all_fates}
 use Rattle.qs_text.specs.declared.fates.fate.Fate.{Fate}
 use Rattle.qs_text.specs.declared.fates.fate.Fate.TheVariants.{Done, Refused, NoValue}
 

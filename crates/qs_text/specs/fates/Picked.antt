@@ -1,10 +1,10 @@
 -- The fates of a ticket's requests, among those of whole journals.
 use Rattle.std.specs.Prelude.{ℕ, if◌then◌else◌, nat_lt, List, [], ◌∷◌, ◌++◌, length, drop, slice_index_or}
-use Rattle.qs_objects.specs.Parts.{same}
+use Rattle.qs_objects.specs.audit.Parts.{same}
 use Rattle.qs_objects.specs.declared.held.Entry.{Entry}
 use Rattle.qs_objects.specs.declared.held.Ticket.{Ticket}
-use Rattle.qs_played.specs.Isolation.{journal_of}
-use Rattle.qs_played.specs.Played.{Played}
+use Rattle.qs_played.specs.audit.Isolation.{journal_of}
+use Rattle.qs_played.specs.audit.Played.{Played}
 use Rattle.qs_text.specs.declared.fates.fate.Fate.{Fate}
 
 -- those of the fates whose entry, at the same place of the journal, is of this ticket

@@ -1,9 +1,10 @@
 // What became of the requests in the journals of a run.
 
 ghost use Rattle.std.specs.Prelude.{◌≡◌, ◌<◌, IfOk, [], length, slice_index_or};
-ghost use Rattle.qs_meaning.specs.Serial.{declared_states};
-ghost use Rattle.qs_played.specs.Isolation.{journal_of};
-ghost use Rattle.qs_text.specs.fates.Fates.{all_fates, fates_from, fates_of};
+ghost use Rattle.qs_meaning.specs.audit.Serial.{declared_states};
+ghost use Rattle.qs_played.specs.audit.Isolation.{journal_of};
+ghost use Rattle.qs_text.specs.audit.fates.Fates.{fates_from, fates_of};
+ghost use Rattle.qs_text.specs.fates.Fates.{all_fates};
 
 use crate::fates::fate::Fate;
 use crate::fates::requests::run_and_tell;

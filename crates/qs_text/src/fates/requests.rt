@@ -1,8 +1,8 @@
 // What becomes of a request that an object runs.
 
 ghost use Rattle.std.specs.Prelude.{◌≡◌};
-ghost use Rattle.qs_objects.specs.Act.{act, below, size_of};
-ghost use Rattle.qs_text.specs.fates.Fates.{fate_of, has_no_value, lacks_cells, lacks_first};
+ghost use Rattle.qs_objects.specs.audit.Act.{act, below, size_of};
+ghost use Rattle.qs_text.specs.audit.fates.Fates.{fate_of, has_no_value, lacks_cells, lacks_first};
 
 use crate::fates::fate::Fate;
 use qs_objects::{Kind, Object, Op, Request};

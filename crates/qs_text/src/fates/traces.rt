@@ -1,7 +1,8 @@
 // What became of the requests of a trace.
 
 ghost use Rattle.std.specs.Prelude.{ℕ, ◌≡◌, ◌<◌, ◌==◌, if◌then◌else◌, IfOk, drop, length, slice_get};
-ghost use Rattle.qs_text.specs.fates.Fates.{all_fates, trace_fates};
+ghost use Rattle.qs_text.specs.audit.fates.Fates.{trace_fates};
+ghost use Rattle.qs_text.specs.fates.Fates.{all_fates};
 ghost use Rattle.qs_text.specs.fates.Picked.{left_on, picked_from};
 
 use crate::fates::fate::Fate;

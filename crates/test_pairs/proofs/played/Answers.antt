@@ -1,6 +1,6 @@
 use Rattle.std.proofs.Common.{sym, subst}
 use Rattle.std.specs.Prelude.{IfSome}
-use Rattle.qs_meaning.specs.Serial.{IsLegal}
+use Rattle.qs_meaning.specs.audit.Serial.{IsLegal}
 use Rattle.qs_played.specs.Isolation.{IsFitting}
 use Rattle.test_pairs.proofs.Fitting.{shown_fits, shown_is_legal}
 use Rattle.test_pairs.proofs.played.Goals as goal

@@ -1,5 +1,5 @@
 use Rattle.std.proofs.Common.{◌≡◌, take}
-use Rattle.qs_program.specs.Program.{client_at}
+use Rattle.qs_program.specs.audit.Program.{client_at}
 use Rattle.qs_alike.proofs.classes.have_same_text.Given as goal
 
 abbrev pub invariant-loop-index : goal.invariant-loop-index

@@ -1,7 +1,7 @@
 use Rattle.std.proofs.Common.{◌≡◌, List, [], ◌∷◌, ◌++◌, ap, arith, length, refl, subst, sym, ◌∙◌}
 use Rattle.std.proofs.lemmas.List.{length-map}
 use Rattle.std.specs.List.{AllByRecursion}
-use Rattle.qs_program.specs.Program.{ProgramShape}
+use Rattle.qs_program.specs.audit.Program.{ProgramShape}
 use Rattle.qs_meaning.proofs.Each.{each_map}
 use Rattle.qs_outcomes.specs.Outcomes.{HasPlaces}
 use Rattle.qs_standings.specs.Rows.{rows_in, shape_of}

@@ -1,5 +1,6 @@
 use Rattle.std.proofs.Common.{◌≡◌, ◌<◌, ◌+◌, ◌++◌, ◌∷◌, [], ℕ, List, length, get_or, take, arith, ap, ap₂, sym, true≢false, ◌∙◌}
-use Rattle.qs_program.specs.Statements.{Statements, join_statements}
+use Rattle.qs_program.specs.audit.Statements.{Statements}
+use Rattle.qs_program.specs.Statements.{join_statements}
 use Rattle.qs_program.specs.Views.{single, size_of, statements_of}
 use Rattle.qs_program.specs.declared.code.Stmt.{Stmt}
 use Rattle.qs_program.proofs.StatementLists.{size_at, statements_of-append}

@@ -1,7 +1,8 @@
 use Rattle.std.proofs.Common.{◌≡◌, ap, ◌∙◌, drop, ◌+◌, ◌∷◌, [], ◌++◌, Ok}
 use Rattle.std.proofs.lemmas.Result.{err_from_is_err_and}
-use Rattle.qs_check.specs.fault_places.Places.{scope_or_fault, over, without_variables, item_places, script_places, Fails}
-use Rattle.qs_check.specs.fault_places.Variables.{variables_of}
+use Rattle.qs_check.specs.audit.fault_places.Places.{scope_or_fault, item_places, script_places}
+use Rattle.qs_check.specs.fault_places.Places.{over, without_variables, Fails}
+use Rattle.qs_check.specs.audit.fault_places.Variables.{variables_of}
 use Rattle.qs_check.specs.resolution.Resolve.{variable_lists}
 use Rattle.qs_check.proofs.fault_places.Walks.{parts_at, meets_err}
 use Rattle.qs_check.proofs.Items.{over_fails, over_goes_on, forget, lists_at, list_added, list_kept}

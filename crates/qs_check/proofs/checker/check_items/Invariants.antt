@@ -1,5 +1,6 @@
 use Rattle.std.proofs.Common.{◌≡◌, ◌++◌, drop}
-use Rattle.qs_check.specs.fault_places.Places.{scope_or_fault, over, script_places}
+use Rattle.qs_check.specs.audit.fault_places.Places.{scope_or_fault, script_places}
+use Rattle.qs_check.specs.fault_places.Places.{over}
 use Rattle.qs_check.specs.resolution.Resolve.{variable_lists}
 use Rattle.qs_check.proofs.checker.check_items.Given as goal
 

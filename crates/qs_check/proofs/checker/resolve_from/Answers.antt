@@ -1,11 +1,12 @@
 use Rattle.std.proofs.Common.{◌≡◌, ◌∙◌, ◌++◌, ◌≤◌, List, length, ap, sym, subst, None}
 use Rattle.std.specs.List.{AllByRecursion}
 use Rattle.qs_objects.specs.declared.object.Kind.{Kind}
-use Rattle.qs_program.specs.Numbering.{Name}
-use Rattle.qs_program.specs.Limits.{most_variables}
-use Rattle.qs_check.specs.fault_places.Places.{scope_or_fault, start, script_places}
-use Rattle.qs_check.specs.resolution.Resolve.{clients_of, variable_lists, names_of, templates_in}
-use Rattle.qs_check.specs.Checked.{first_fault}
+use Rattle.qs_program.specs.audit.Numbering.{Name}
+use Rattle.qs_program.specs.audit.Limits.{most_variables}
+use Rattle.qs_check.specs.audit.fault_places.Places.{scope_or_fault, start, script_places}
+use Rattle.qs_check.specs.audit.resolution.Resolve.{clients_of, names_of, templates_in}
+use Rattle.qs_check.specs.resolution.Resolve.{variable_lists}
+use Rattle.qs_check.specs.audit.Checked.{first_fault}
 use Rattle.qs_check.proofs.Scripts.{texts_faultless}
 use Rattle.qs_check.proofs.Soundness.{walked}
 use Rattle.qs_check.proofs.checker.resolve_from.Goals as goal

@@ -1,7 +1,7 @@
 use Rattle.std.proofs.Common.{◌≤◌, List, subst}
 use Rattle.std.specs.Prelude.{MatchOption}
-use Rattle.qs_program.specs.Limits.{most_requests, most_steps}
-use Rattle.qs_program.specs.Program.{ClientShape}
+use Rattle.qs_program.specs.audit.Limits.{most_requests, most_steps}
+use Rattle.qs_program.specs.audit.Program.{ClientShape}
 use Rattle.qs_check.specs.declared.excess.Measure.TheVariants.{Load, Weight}
 use Rattle.qs_check.specs.Checked.{shape_of}
 use Rattle.qs_check.specs.Excess.{counted_in, IsPassedBy}

@@ -1,5 +1,6 @@
 use Rattle.std.proofs.Common.{◌≡◌, ℕ, zero, suc, Bool, true, false, List, [], ◌∷◌, ◌++◌, map, flat_map, replicate, refl, ap, ◌∙◌, append_assoc}
-use Rattle.qs_chunk.specs.Lanes.{Sending, round_parcels, block_parcels, StandsFrom}
+use Rattle.qs_chunk.specs.audit.Lanes.{Sending, round_parcels, block_parcels}
+use Rattle.qs_chunk.specs.Lanes.{StandsFrom}
 use Rattle.qs_chunk.specs.declared.parcel.Parcel.{Parcel}
 use Rattle.qs_chunk.specs.declared.parcel.Parcel.TheVariants.{Work, End}
 use Rattle.qs_chunk.proofs.laws.lane_examples.Goals as goal

@@ -1,12 +1,13 @@
 use Rattle.std.proofs.Common.{◌≡◌, ◌<◌, ℕ, suc, ◌+◌, List, [], ◌++◌, length, get_or, set, replicate, sym, ap, ◌∙◌, arith}
 use Rattle.std.proofs.lemmas.List.{get_or-map, length-map}
-use Rattle.qs_syncset.specs.Codes.{BlockCode, no_code}
-use Rattle.qs_sync_counts.specs.SyncRows.{CountsState, begun_rows, no_syncs}
+use Rattle.qs_syncset.specs.audit.Codes.{BlockCode, no_code}
+use Rattle.qs_sync_counts.specs.audit.SyncRows.{no_syncs}
+use Rattle.qs_sync_counts.specs.SyncRows.{CountsState, begun_rows}
 use Rattle.qs_sync_counts.specs.declared.sync_counts.SyncCount.{SyncCount}
 use Rattle.qs_sync_counts.proofs.CountRows.{begun_all, begun_beyond, begun_next, begun_none, length_begun}
 use Rattle.qs_client.proofs.ReservedLists.{few_objects}
 use Rattle.qs_client.proofs.run.CodeBounds.{few_blocks}
-use Rattle.qs_client.specs.ClientModel.{lists_of_code}
+use Rattle.qs_client.specs.audit.ClientModel.{lists_of_code}
 use Rattle.qs_client.proofs.mind.fresh_counts.Goals as goal
 
 -- a block's list is the one of that number

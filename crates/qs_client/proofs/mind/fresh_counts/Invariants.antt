@@ -1,7 +1,7 @@
 use Rattle.std.proofs.Common.{◌≡◌, ◌≤◌, ◌+◌, ◌*◌, length}
-use Rattle.qs_program.specs.Limits.{most_handlers}
+use Rattle.qs_program.specs.audit.Limits.{most_handlers}
 use Rattle.qs_sync_counts.specs.SyncRows.{begun_rows}
-use Rattle.qs_client.specs.ClientModel.{lists_of_code}
+use Rattle.qs_client.specs.audit.ClientModel.{lists_of_code}
 use Rattle.qs_client.proofs.mind.fresh_counts.Given as goal
 
 abbrev pub invariant-loop-block : goal.invariant-loop-block

@@ -1,5 +1,5 @@
 use Rattle.std.proofs.Common.{◌≡◌, ◌+◌, drop}
-use Rattle.qs_script.specs.tokens.Tokens.{is_name_byte}
+use Rattle.qs_script.specs.audit.tokens.Tokens.{is_name_byte}
 use Rattle.qs_script.specs.tokens.Cutting.{run_of}
 use Rattle.qs_conditions.proofs.signs.name_length.Given as goal
 

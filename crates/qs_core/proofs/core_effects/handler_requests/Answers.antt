@@ -1,6 +1,6 @@
 use Rattle.std.proofs.Common.{◌≡◌, length, sym, ap, subst, ◌∙◌, arith}
 use Rattle.std.specs.Prelude.{IfOk}
-use Rattle.qs_handler.specs.Handler.{act_of}
+use Rattle.qs_handler.specs.audit.Handler.{act_of}
 use Rattle.qs_core.specs.parts.CarriedRequests.{first_requests}
 use Rattle.qs_core.specs.parts.CoreHandlers.{CoreHandlerState, core_handler_at, handler_with_act, turns_to}
 use Rattle.qs_core.specs.parts.LaneStates.{lane_at}

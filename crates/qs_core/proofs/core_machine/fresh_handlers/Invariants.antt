@@ -1,6 +1,6 @@
 use Rattle.std.proofs.Common.{◌≡◌, ◌<◌, ℕ, [], length, get_or}
-use Rattle.qs_handler.specs.Handler.{free}
-use Rattle.qs_played.specs.JournalRooms.{fresh_held}
+use Rattle.qs_handler.specs.audit.Handler.{free}
+use Rattle.qs_played.specs.audit.JournalRooms.{fresh_held}
 use Rattle.qs_core.specs.parts.CoreHandlers.{CoreHandlerState, handler_with}
 use Rattle.qs_core.proofs.core_machine.fresh_handlers.Given as goal
 

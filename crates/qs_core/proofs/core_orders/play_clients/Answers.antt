@@ -1,9 +1,9 @@
 use Rattle.std.proofs.Common.{◌+◌, ◌∙◌, ◌∷◌, [], add-one, ap, drop, get_or, subst, sym}
 use Rattle.std.proofs.Math.Seq.{drop-cons}
 use Rattle.std.proofs.lemmas.List.{drop_all}
-use Rattle.qs_serial.specs.NamedOrders.{order_of}
+use Rattle.qs_serial.specs.audit.NamedOrders.{order_of}
 use Rattle.qs_played.proofs.ShownRuns.{if_shown}
-use Rattle.qs_core_laws.specs.CoreSchedule.{core_played}
+use Rattle.qs_core_laws.specs.audit.CoreSchedule.{core_played}
 use Rattle.qs_core_laws.specs.orders.CoreOrders.{IsPlayedInOrderOn}
 use Rattle.qs_core.specs.state.CoreState.{core_of}
 use Rattle.qs_core.proofs.CoreBlocks.{ArePlayed, all_played, next_left, one_more, own_order, played_first, quiet_now}

@@ -1,18 +1,18 @@
 use Rattle.std.proofs.Common.{◌≡◌, ℕ, ℤ, true, List, [], ◌∷◌, Option, refl}
-use Rattle.qs_program.specs.Statements.{Statements}
-use Rattle.qs_graph.specs.Nodes.{GraphNode}
-use Rattle.qs_graph.specs.Graphs.{block_graph}
+use Rattle.qs_program.specs.audit.Statements.{Statements}
+use Rattle.qs_graph.specs.audit.Nodes.{GraphNode}
+use Rattle.qs_graph.specs.audit.Graphs.{block_graph}
 use Rattle.qs_graph.specs.GraphExamples.{leave_first, query_in_repeat}
-use Rattle.qs_graph.specs.Steps.{limit}
-use Rattle.qs_graph.specs.Walk.{move}
-use Rattle.qs_syncset.specs.Modes.{is_dynamic}
+use Rattle.qs_graph.specs.audit.Steps.{limit}
+use Rattle.qs_graph.specs.audit.Walk.{move}
+use Rattle.qs_syncset.specs.audit.Modes.{is_dynamic}
 use Rattle.qs_syncset.specs.declared.mode.Mode.{Mode}
 use Rattle.qs_syncset.specs.declared.mode.Mode.TheVariants.{Plain, Dynamic, Static, Both}
 use Rattle.qs_syncset.specs.HeldExamples.{call_in_repeat, without_inner, without_last}
 use Rattle.qs_syncset.proofs.WorkedGraphs.{held_examples}
 use Rattle.qs_played.specs.ExampleRuns.{answers}
 use Rattle.qs_core_laws.specs.CoalescedExamples.{PlaysAlone, alone, codes_with, shown_alone}
-use Rattle.qs_syncset.specs.Codes.{AreCodes}
+use Rattle.qs_syncset.specs.audit.Codes.{AreCodes}
 use Rattle.qs_core_laws.specs.CoreSchedule.{core_scheduled}
 use Rattle.qs_core_laws.proofs.AloneCodes.{alone_codes}
 use Rattle.qs_core_laws.proofs.laws.coalesced_examples.Goals as goal

@@ -1,6 +1,6 @@
 use Rattle.std.proofs.Common.{◌≡◌, ℕ, ◌<◌, ◌≤◌, false, length, slice_index_or}
-use Rattle.qs_meaning.specs.Following.{reserves}
-use Rattle.qs_program.specs.Limits.{most_handlers}
+use Rattle.qs_meaning.specs.audit.Following.{reserves}
+use Rattle.qs_program.specs.audit.Limits.{most_handlers}
 use Rattle.qs_desk.specs.TicketQueues.{queue_at, with_ticket}
 use Rattle.qs_desk.proofs.bookings.push_ticket.Given as goal
 

@@ -1,5 +1,5 @@
 use Rattle.std.proofs.Common.{◌≡◌, map, take}
-use Rattle.qs_program.specs.Program.{client_at}
+use Rattle.qs_program.specs.audit.Program.{client_at}
 use Rattle.qs_desk.specs.Plans.{list_of}
 use Rattle.qs_desk.proofs.plan.blocks_by.Given as goal
 

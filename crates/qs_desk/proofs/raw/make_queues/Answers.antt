@@ -1,6 +1,6 @@
 use Rattle.std.proofs.Common.{◌≡◌, ◌<◌, ◌++◌, ◌∷◌, [], ap, sym, subst, ◌∙◌, arith, length, map, set, Some, ◌+◌, List, ℕ}
 use Rattle.std.proofs.lemmas.List.{map-append, length-append}
-use Rattle.qs_program.specs.Limits.{most_handlers}
+use Rattle.qs_program.specs.audit.Limits.{most_handlers}
 use Rattle.qs_desk.specs.TicketQueues.{QueueView, queue_at, queue_name, new_end, new_queue, end_at, IsNewQueue}
 use Rattle.qs_desk.specs.Places.{places}
 use Rattle.qs_desk.proofs.Starts.{ends_more, at_end, names_len}

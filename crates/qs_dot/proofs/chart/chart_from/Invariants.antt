@@ -1,5 +1,5 @@
 use Rattle.std.proofs.Common.{◌≤◌, ◌-◌, length}
-use Rattle.qs_meaning.specs.Configurations.{configuration_after}
+use Rattle.qs_meaning.specs.audit.Configurations.{configuration_after}
 use Rattle.qs_dot.specs.Charts.{AreCharted, AreLeadsUpTo, HasPlaceFor}
 use Rattle.qs_standings.specs.Rows.{rows_in}
 use Rattle.qs_dot.proofs.chart.chart_from.Given as goal

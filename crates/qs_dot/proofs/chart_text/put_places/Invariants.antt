@@ -1,6 +1,6 @@
 -- The places before this one are there.
 use Rattle.std.proofs.Common.{◌≡◌, ◌++◌}
-use Rattle.qs_text.specs.Texts.{texts_up_to}
+use Rattle.qs_text.specs.audit.Texts.{texts_up_to}
 use Rattle.qs_dot.specs.ChartDot.{place_line}
 use Rattle.qs_dot.proofs.chart_text.put_places.Given as goal
 

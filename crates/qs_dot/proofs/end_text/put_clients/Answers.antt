@@ -1,6 +1,6 @@
 use Rattle.std.proofs.Common.{◌≡◌, ◌++◌, ◌∙◌, ap, arith, length}
 use Rattle.qs_text.proofs.Joined.{one_place_more}
-use Rattle.qs_text.specs.Texts.{texts_up_to}
+use Rattle.qs_text.specs.audit.Texts.{texts_up_to}
 use Rattle.qs_dot.specs.EndText.{client_text}
 use Rattle.qs_dot.proofs.end_text.put_clients.Goals as goal
 

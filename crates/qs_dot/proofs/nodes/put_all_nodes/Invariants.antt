@@ -1,7 +1,7 @@
 -- The nodes before this number are there.
 use Rattle.std.proofs.Common.{◌≡◌, ◌++◌}
 use Rattle.qs_text.specs.Blocks.{node_at}
-use Rattle.qs_text.specs.Texts.{texts_up_to}
+use Rattle.qs_text.specs.audit.Texts.{texts_up_to}
 use Rattle.qs_dot.specs.DotText.{node_text}
 use Rattle.qs_dot.proofs.nodes.put_all_nodes.Given as goal
 

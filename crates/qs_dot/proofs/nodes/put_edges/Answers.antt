@@ -1,4 +1,4 @@
-use Rattle.qs_graph.specs.Nodes.{place_at}
+use Rattle.qs_graph.specs.audit.Nodes.{place_at}
 use Rattle.qs_text.proofs.Joined.{one_place_more}
 use Rattle.qs_dot.specs.DotText.{edge_line}
 use Rattle.qs_dot.proofs.nodes.put_edges.Goals as goal

@@ -1,7 +1,7 @@
 -- The edges before this one are there.
 use Rattle.std.proofs.Common.{◌≡◌, ◌++◌}
-use Rattle.qs_graph.specs.Nodes.{place_at}
-use Rattle.qs_text.specs.Texts.{texts_up_to}
+use Rattle.qs_graph.specs.audit.Nodes.{place_at}
+use Rattle.qs_text.specs.audit.Texts.{texts_up_to}
 use Rattle.qs_dot.specs.DotText.{edge_line}
 use Rattle.qs_dot.proofs.nodes.put_edges.Given as goal
 

@@ -1,7 +1,7 @@
 use Rattle.std.proofs.Common.{◌++◌, ◌∙◌, ap, codes, filter}
 use Rattle.std.specs.Prelude.{slice_get}
 use Rattle.std.proofs.lemmas.Result.{on_ok_weaker}
-use Rattle.qs_graph.specs.Nodes.{place_at}
+use Rattle.qs_graph.specs.audit.Nodes.{place_at}
 use Rattle.qs_syncset.specs.held.Table.{has}
 use Rattle.qs_text.specs.Blocks.{removed_at}
 use Rattle.qs_dot.specs.DotText.{head_text, held_text, place_text}

@@ -1,5 +1,5 @@
 use Rattle.std.proofs.Common.{arith}
-use Rattle.qs_program.specs.Program.{binding_of}
+use Rattle.qs_program.specs.audit.Program.{binding_of}
 use Rattle.qs_graph.proofs.Bindings.{bound_all}
 use Rattle.qs_graph.proofs.binding.bind_places.Goals as goal
 

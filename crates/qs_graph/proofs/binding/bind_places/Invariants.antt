@@ -1,5 +1,5 @@
 -- The places before the next one are bound, and the others as they were.
-use Rattle.qs_program.specs.Program.{binding_of}
+use Rattle.qs_program.specs.audit.Program.{binding_of}
 use Rattle.qs_graph.proofs.Bindings.{AreBoundBelow}
 use Rattle.qs_graph.proofs.binding.bind_places.Given as goal
 

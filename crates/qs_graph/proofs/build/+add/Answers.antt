@@ -2,8 +2,8 @@ use Rattle.std.proofs.Common.{◌≡◌, ◌+◌, ◌^◌, ◌<◌, [], ◌∷�
 use Rattle.qs_program.specs.Views.{statements_of, single}
 use Rattle.qs_graph.specs.declared.node.Node.TheVariants.{Branch}
 use Rattle.qs_graph.specs.declared.node.Choice.TheVariants.{If}
-use Rattle.qs_graph.specs.Nodes.{to_either}
-use Rattle.qs_graph.specs.Graphs.{node_count, first_node, places_of}
+use Rattle.qs_graph.specs.audit.Nodes.{to_either}
+use Rattle.qs_graph.specs.audit.Graphs.{node_count, first_node, places_of}
 use Rattle.qs_graph.proofs.Counting.{count_at, count_drop, after_more, after_last, goes_on, longer, if_done}
 use Rattle.qs_graph.proofs.build.+add.Goals as goal
 use Rattle.qs_graph.proofs.build.+add.Goals.{add_body-then-i-stmts, add_body-else-i-stmts}

@@ -1,6 +1,6 @@
 use Rattle.std.proofs.Common.{◌≡◌, ◌+◌, ◌*◌, ◌++◌, length, drop, vec_capacity}
 use Rattle.qs_program.specs.Views.{statements_of, single}
-use Rattle.qs_graph.specs.Graphs.{node_count, places_of}
+use Rattle.qs_graph.specs.audit.Graphs.{node_count, places_of}
 use Rattle.qs_graph.proofs.build.+add.Given as goal
 
 abbrev pub decreases-add_body : goal.decreases-add_body

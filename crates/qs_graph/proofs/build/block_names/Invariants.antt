@@ -1,6 +1,6 @@
 -- The names before this one are there, and there is room for all.
 use Rattle.std.proofs.Common.{◌≡◌, ◌≤◌, length, map, take, vec_capacity}
-use Rattle.qs_graph.specs.Names.{named}
+use Rattle.qs_graph.specs.audit.Names.{named}
 use Rattle.qs_graph.proofs.build.block_names.Given as goal
 
 abbrev pub invariant-loop-name : goal.invariant-loop-name

@@ -1,6 +1,6 @@
 use Rattle.std.proofs.Common.{sym, ◌∙◌, ap, arith}
 use Rattle.std.proofs.lemmas.Bool.Decides.{nat_tests}
-use Rattle.qs_graph.specs.Graphs.{first_node}
+use Rattle.qs_graph.specs.audit.Graphs.{first_node}
 use Rattle.qs_graph.proofs.Counting.{first_some}
 use Rattle.qs_graph.proofs.build.first_node.Goals as goal
 

@@ -1,8 +1,8 @@
 use Rattle.std.proofs.Common.{sym, subst, ◌∙◌, ap}
-use Rattle.qs_program.specs.Program.{BlockShape, own_block}
+use Rattle.qs_program.specs.audit.Program.{BlockShape, own_block}
 use Rattle.qs_graph.specs.Drawn.{IsDrawing}
 use Rattle.qs_graph.specs.WellFormed.{IsGraph}
-use Rattle.qs_graph.specs.Graphs.{block_graph}
+use Rattle.qs_graph.specs.audit.Graphs.{block_graph}
 use Rattle.qs_graph.proofs.Drawings.{graph_drawn}
 use Rattle.qs_graph.proofs.Ranges.{blocks_have_graphs}
 use Rattle.qs_graph.proofs.build.graph_in.Goals as goal

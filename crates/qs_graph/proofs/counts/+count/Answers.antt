@@ -1,6 +1,6 @@
 use Rattle.std.proofs.Common.{arith, ap}
 use Rattle.qs_program.specs.Views.{single}
-use Rattle.qs_graph.specs.Graphs.{node_count}
+use Rattle.qs_graph.specs.audit.Graphs.{node_count}
 use Rattle.qs_graph.proofs.Counting.{count_at, count_past}
 use Rattle.qs_graph.proofs.counts.+count.Goals as goal
 

@@ -1,6 +1,6 @@
 use Rattle.std.proofs.Common.{◌≡◌, ◌+◌, ◌-◌, ◌*◌, ◌^◌, ◌≤◌, min, drop}
 use Rattle.qs_program.specs.Views.{statements_of, single}
-use Rattle.qs_graph.specs.Graphs.{node_count}
+use Rattle.qs_graph.specs.audit.Graphs.{node_count}
 use Rattle.qs_graph.proofs.counts.+count.Given as goal
 
 abbrev pub decreases-nodes_of : goal.decreases-nodes_of

@@ -1,6 +1,6 @@
 use Rattle.std.proofs.Common.{◌≡◌, [], ◌∷◌, refl, ap}
-use Rattle.qs_objects.specs.Journals.{HeldState}
-use Rattle.qs_handler.specs.Handler.{free, serves, spares, gives, closed}
+use Rattle.qs_objects.specs.audit.Journals.{HeldState}
+use Rattle.qs_handler.specs.audit.Handler.{free, serves, spares, gives, closed}
 use Rattle.qs_handler.specs.HandlerExamples.{balance_entry, deposit_entry, end, middle, start, ticket}
 use Rattle.qs_handler.proofs.laws.handler_turn_examples.Goals as goal
 

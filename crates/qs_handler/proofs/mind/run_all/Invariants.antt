@@ -1,5 +1,5 @@
 use Rattle.std.proofs.Common.{◌≡◌, length}
-use Rattle.qs_chunk.specs.Runs.{ran_all}
+use Rattle.qs_chunk.specs.audit.Runs.{ran_all}
 use Rattle.qs_handler.proofs.mind.run_all.Given as goal
 
 -- what is left to run leads to the same end; the chunk keeps its capacity

@@ -2,7 +2,7 @@ use Rattle.std.proofs.Common.{List, ap, codes, decimal}
 use Rattle.qs_objects.specs.declared.held.Ticket.{Ticket}
 use Rattle.std.proofs.lemmas.Result.{on_ok_weaker}
 use Rattle.qs_json.specs.OutcomesJson.{head_json}
-use Rattle.qs_json.specs.Pieces.{field}
+use Rattle.qs_json.specs.audit.Pieces.{field}
 use Rattle.qs_text.proofs.Parts.{named, then}
 use Rattle.qs_json.proofs.alike.put_alike.Goals as goal
 

@@ -1,5 +1,6 @@
 -- The outcomes before this place are there.
-use Rattle.qs_text.specs.Texts.{texts_up_to, Puts}
+use Rattle.qs_text.specs.audit.Texts.{texts_up_to}
+use Rattle.qs_text.specs.Texts.{Puts}
 use Rattle.qs_json.specs.AlikeJson.{alike_json_at}
 use Rattle.qs_json.proofs.alike.put_listed.Given as goal
 

@@ -1,6 +1,6 @@
 use Rattle.std.proofs.Common.{◌≡◌, Some, sym, ap, rules}
 use Rattle.qs_text.specs.declared.fates.fate.Fate.TheVariants.{Done, Refused, NoValue}
-use Rattle.qs_json.specs.RunJson.{fate_json}
+use Rattle.qs_json.specs.audit.RunJson.{fate_json}
 use Rattle.qs_json.proofs.events.fate_words.Goals as goal
 
 pub returns-in-None : goal.returns-in-None

@@ -1,7 +1,7 @@
 use Rattle.std.proofs.Common.{List, ap, codes, ℤ}
 use Rattle.std.specs.Fmt.{signed_decimal}
 use Rattle.std.proofs.lemmas.Result.{on_ok_weaker}
-use Rattle.qs_json.specs.Pieces.{array, field}
+use Rattle.qs_json.specs.audit.Pieces.{array, field}
 use Rattle.qs_text.proofs.Parts.{named, then}
 use Rattle.qs_json.proofs.events.put_event.Goals as goal
 

@@ -1,6 +1,6 @@
 use Rattle.std.proofs.Common.{◌∙◌, ap₂}
 use Rattle.std.proofs.lemmas.List.{get_or_default}
-use Rattle.qs_json.specs.RunJson.{event_json, no_event, request_json}
+use Rattle.qs_json.specs.audit.RunJson.{event_json, no_event, request_json}
 use Rattle.qs_text.proofs.Parts.{named}
 use Rattle.qs_json.proofs.Elements.{one_element_more}
 use Rattle.qs_json.proofs.events.put_events.Goals as goal

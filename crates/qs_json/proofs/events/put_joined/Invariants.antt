@@ -1,8 +1,9 @@
 -- The arguments before this place are there.
 use Rattle.std.proofs.Common.{get_or, pos}
 use Rattle.std.specs.Fmt.{signed_decimal}
-use Rattle.qs_text.specs.Texts.{texts_up_to, Puts}
-use Rattle.qs_json.specs.Pieces.{element}
+use Rattle.qs_text.specs.audit.Texts.{texts_up_to}
+use Rattle.qs_text.specs.Texts.{Puts}
+use Rattle.qs_json.specs.audit.Pieces.{element}
 use Rattle.qs_json.proofs.events.put_joined.Given as goal
 
 abbrev pub invariant-loop-place : goal.invariant-loop-place

@@ -2,7 +2,7 @@ use Rattle.std.proofs.Common.{List, ap, codes}
 use Rattle.qs_objects.specs.declared.held.Ticket.{Ticket}
 use Rattle.std.proofs.lemmas.Result.{on_ok_weaker}
 use Rattle.qs_json.specs.OutcomesJson.{next_client_json}
-use Rattle.qs_json.specs.Pieces.{array, field}
+use Rattle.qs_json.specs.audit.Pieces.{array, field}
 use Rattle.qs_text.proofs.Parts.{named, then}
 use Rattle.qs_json.proofs.fronts.put_front.Goals as goal
 

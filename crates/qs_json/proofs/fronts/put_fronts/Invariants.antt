@@ -1,5 +1,6 @@
 -- The fronts before this place are there.
-use Rattle.qs_text.specs.Texts.{texts_up_to, Puts}
+use Rattle.qs_text.specs.audit.Texts.{texts_up_to}
+use Rattle.qs_text.specs.Texts.{Puts}
 use Rattle.qs_json.specs.FrontsJson.{front_json_at}
 use Rattle.qs_json.proofs.fronts.put_fronts.Given as goal
 

@@ -1,7 +1,8 @@
 -- The nodes before this number are there.
 use Rattle.qs_text.specs.Blocks.{node_at}
-use Rattle.qs_text.specs.Texts.{texts_up_to, Puts}
-use Rattle.qs_json.specs.Pieces.{element}
+use Rattle.qs_text.specs.audit.Texts.{texts_up_to}
+use Rattle.qs_text.specs.Texts.{Puts}
+use Rattle.qs_json.specs.audit.Pieces.{element}
 use Rattle.qs_json.specs.GraphJson.{node_json}
 use Rattle.qs_json.proofs.graphs.put_all_nodes.Given as goal
 

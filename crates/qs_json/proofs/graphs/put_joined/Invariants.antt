@@ -1,7 +1,8 @@
 -- The names before this place are there.
 use Rattle.std.proofs.Common.{get_or}
-use Rattle.qs_text.specs.Texts.{texts_up_to, Puts}
-use Rattle.qs_json.specs.Pieces.{element}
+use Rattle.qs_text.specs.audit.Texts.{texts_up_to}
+use Rattle.qs_text.specs.Texts.{Puts}
+use Rattle.qs_json.specs.audit.Pieces.{element}
 use Rattle.qs_json.specs.GraphJson.{name_json}
 use Rattle.qs_json.proofs.graphs.put_joined.Given as goal
 

@@ -3,7 +3,7 @@ use Rattle.std.proofs.lemmas.Result.{on_ok_weaker}
 use Rattle.qs_graph.specs.declared.node.Node.{Node}
 use Rattle.qs_syncset.specs.held.Table.{has}
 use Rattle.qs_text.specs.Blocks.{is_removed}
-use Rattle.qs_json.specs.Pieces.{field, truth}
+use Rattle.qs_json.specs.audit.Pieces.{field, truth}
 use Rattle.qs_json.specs.GraphJson.{label_json}
 use Rattle.qs_text.proofs.Parts.{named, then}
 use Rattle.qs_json.proofs.graphs.put_label.Goals as goal

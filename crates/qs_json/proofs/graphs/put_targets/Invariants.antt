@@ -1,7 +1,8 @@
 -- The targets before this place are there.
 use Rattle.std.proofs.Common.{decimal, get_or}
-use Rattle.qs_text.specs.Texts.{texts_up_to, Puts}
-use Rattle.qs_json.specs.Pieces.{element}
+use Rattle.qs_text.specs.audit.Texts.{texts_up_to}
+use Rattle.qs_text.specs.Texts.{Puts}
+use Rattle.qs_json.specs.audit.Pieces.{element}
 use Rattle.qs_json.proofs.graphs.put_targets.Given as goal
 
 abbrev pub invariant-loop-place : goal.invariant-loop-place

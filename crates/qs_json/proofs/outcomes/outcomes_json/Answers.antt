@@ -1,7 +1,7 @@
 use Rattle.std.proofs.Common.{List, ap, codes, decimal, length}
 use Rattle.qs_standings.specs.Standings.{StandingShape}
-use Rattle.qs_text.specs.Texts.{texts_up_to}
-use Rattle.qs_json.specs.Pieces.{field, first_field}
+use Rattle.qs_text.specs.audit.Texts.{texts_up_to}
+use Rattle.qs_json.specs.audit.Pieces.{field, first_field}
 use Rattle.qs_json.specs.OutcomesJson.{outcome_json_at}
 use Rattle.qs_text.proofs.Parts.{all_that_is, named, then}
 use Rattle.qs_json.proofs.outcomes.outcomes_json.Goals as goal

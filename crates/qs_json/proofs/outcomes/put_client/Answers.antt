@@ -1,10 +1,10 @@
 use Rattle.std.proofs.Common.{ap₂, length, List, subst}
 use Rattle.std.proofs.lemmas.Result.{on_ok_weaker}
-use Rattle.qs_program.specs.Numbering.{Name}
-use Rattle.qs_program.specs.Program.{client_at}
-use Rattle.qs_program.specs.Values.{Locals}
+use Rattle.qs_program.specs.audit.Numbering.{Name}
+use Rattle.qs_program.specs.audit.Program.{client_at}
+use Rattle.qs_program.specs.audit.Values.{Locals}
 use Rattle.qs_text.specs.TellApart.{AreWords}
-use Rattle.qs_json.specs.Variables.{variables_json}
+use Rattle.qs_json.specs.audit.Variables.{variables_json}
 use Rattle.qs_text.proofs.Parts.{named, then}
 use Rattle.qs_json.proofs.outcomes.put_client.Goals as goal
 

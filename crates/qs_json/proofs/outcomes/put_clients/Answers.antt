@@ -1,9 +1,9 @@
 use Rattle.std.proofs.Common.{◌≡◌, ap, arith, get_or, length}
-use Rattle.qs_meaning.specs.Serial.{zeros}
-use Rattle.qs_program.specs.Program.{client_at}
+use Rattle.qs_meaning.specs.audit.Serial.{zeros}
+use Rattle.qs_program.specs.audit.Program.{client_at}
 use Rattle.qs_text.specs.TellApart.{AreWords}
-use Rattle.qs_text.specs.Texts.{texts_up_to}
-use Rattle.qs_json.specs.Pieces.{comma_at, element}
+use Rattle.qs_text.specs.audit.Texts.{texts_up_to}
+use Rattle.qs_json.specs.audit.Pieces.{comma_at, element}
 use Rattle.qs_json.specs.OutcomesJson.{client_json}
 use Rattle.qs_json.proofs.Elements.{one_element_more}
 use Rattle.qs_text.proofs.Joined.{each_place_more}

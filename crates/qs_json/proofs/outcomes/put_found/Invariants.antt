@@ -1,5 +1,6 @@
 -- The outcomes before this place are there.
-use Rattle.qs_text.specs.Texts.{texts_up_to, Puts}
+use Rattle.qs_text.specs.audit.Texts.{texts_up_to}
+use Rattle.qs_text.specs.Texts.{Puts}
 use Rattle.qs_json.specs.OutcomesJson.{outcome_json_at}
 use Rattle.qs_json.proofs.outcomes.put_found.Given as goal
 

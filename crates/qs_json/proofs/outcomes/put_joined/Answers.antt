@@ -1,5 +1,5 @@
 use Rattle.std.proofs.Common.{arith, get_or}
-use Rattle.qs_text.specs.Words.{first_ticket}
+use Rattle.qs_text.specs.audit.Words.{first_ticket}
 use Rattle.qs_json.specs.OutcomesJson.{next_client_json}
 use Rattle.qs_json.proofs.Elements.{all_elements, one_element_more}
 use Rattle.qs_json.proofs.outcomes.put_joined.Goals as goal

@@ -1,8 +1,8 @@
 use Rattle.std.proofs.Common.{◌≡◌, ap, arith, get_or, length}
 use Rattle.qs_text.specs.TellApart.{IsOfWords}
-use Rattle.qs_text.specs.Words.{no_state}
-use Rattle.qs_text.specs.Texts.{texts_up_to}
-use Rattle.qs_json.specs.Pieces.{comma_at, element}
+use Rattle.qs_text.specs.audit.Words.{no_state}
+use Rattle.qs_text.specs.audit.Texts.{texts_up_to}
+use Rattle.qs_json.specs.audit.Pieces.{comma_at, element}
 use Rattle.qs_json.specs.OutcomesJson.{object_json}
 use Rattle.qs_json.proofs.Elements.{one_element_more}
 use Rattle.qs_text.proofs.Joined.{each_place_more}

@@ -1,7 +1,8 @@
 -- The objects before this number are there, and their numbers are words.
 use Rattle.qs_text.specs.TellApart.{AreObjectsOfWords}
-use Rattle.qs_text.specs.Texts.{texts_up_to, Puts}
-use Rattle.qs_json.specs.Pieces.{element}
+use Rattle.qs_text.specs.audit.Texts.{texts_up_to}
+use Rattle.qs_text.specs.Texts.{Puts}
+use Rattle.qs_json.specs.audit.Pieces.{element}
 use Rattle.qs_json.specs.OutcomesJson.{object_json}
 use Rattle.qs_json.proofs.outcomes.put_objects.Given as goal
 

@@ -2,9 +2,9 @@ use Rattle.std.proofs.Common.{◌≡◌, ap, arith, get_or, length, pos}
 use Rattle.qs_text.proofs.Joined.{each_place_more}
 use Rattle.qs_text.proofs.Parts.{named}
 use Rattle.qs_text.specs.TellApart.{IsWord}
-use Rattle.qs_text.specs.Texts.{texts_up_to}
-use Rattle.qs_json.specs.Pieces.{element}
-use Rattle.qs_json.specs.Variables.{variable_json}
+use Rattle.qs_text.specs.audit.Texts.{texts_up_to}
+use Rattle.qs_json.specs.audit.Pieces.{element}
+use Rattle.qs_json.specs.audit.Variables.{variable_json}
 use Rattle.qs_json.proofs.Elements.{one_element_more}
 use Rattle.qs_json.proofs.outcomes.put_values.Goals as goal
 

@@ -1,6 +1,6 @@
 use Rattle.std.proofs.Common.{ap, codes, decimal}
 use Rattle.std.proofs.lemmas.Result.{on_ok_weaker}
-use Rattle.qs_json.specs.Pieces.{field}
+use Rattle.qs_json.specs.audit.Pieces.{field}
 use Rattle.qs_text.proofs.Parts.{named, then}
 use Rattle.qs_json.proofs.runs.put_block.Goals as goal
 

@@ -1,8 +1,8 @@
 use Rattle.std.proofs.Common.{ap, codes, option_map, sym}
 use Rattle.std.proofs.lemmas.Result.{on_ok_weaker}
 use Rattle.qs_standings.specs.Standings.{configuration_in}
-use Rattle.qs_json.specs.Pieces.{field}
-use Rattle.qs_json.specs.Variables.{clients_or_null}
+use Rattle.qs_json.specs.audit.Pieces.{field}
+use Rattle.qs_json.specs.audit.Variables.{clients_or_null}
 use Rattle.qs_text.proofs.Parts.{named, then}
 use Rattle.qs_json.proofs.runs.put_end_of_run.Goals as goal
 

@@ -2,8 +2,8 @@ use Rattle.std.proofs.Common.{List, Option, ap₂, codes, ◌∙◌}
 use Rattle.std.proofs.lemmas.Result.{on_ok_weaker}
 use Rattle.qs_objects.specs.declared.held.Event.{Event}
 use Rattle.qs_text.specs.declared.fates.fate.Fate.{Fate}
-use Rattle.qs_json.specs.Pieces.{field}
-use Rattle.qs_json.specs.RunJson.{trace_json}
+use Rattle.qs_json.specs.audit.Pieces.{field}
+use Rattle.qs_json.specs.audit.RunJson.{trace_json}
 use Rattle.qs_text.proofs.Parts.{named}
 use Rattle.qs_json.proofs.runs.put_events_of.Goals as goal
 

@@ -1,7 +1,7 @@
 use Rattle.std.proofs.Common.{◌<◌, ◌∙◌, [], ap, ap₂, arith, get_or, length, slice_index_or}
 use Rattle.std.proofs.lemmas.List.{get_or-map, length-map}
-use Rattle.qs_sync_counts.specs.SyncRows.{count_of, object_of, sync_count}
-use Rattle.qs_json.specs.RunJson.{sync_json}
+use Rattle.qs_sync_counts.specs.audit.SyncRows.{count_of, object_of, sync_count}
+use Rattle.qs_json.specs.audit.RunJson.{sync_json}
 use Rattle.qs_json.proofs.Elements.{all_elements, one_element_more}
 use Rattle.qs_text.proofs.Parts.{named}
 use Rattle.qs_json.proofs.runs.put_joined.Goals as goal

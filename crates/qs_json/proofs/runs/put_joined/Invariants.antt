@@ -1,9 +1,10 @@
 -- The synchronisations before this number are there.
 use Rattle.std.proofs.Common.{[], get_or, slice_index_or}
-use Rattle.qs_sync_counts.specs.SyncRows.{sync_count}
-use Rattle.qs_text.specs.Texts.{texts_up_to, Puts}
-use Rattle.qs_json.specs.Pieces.{element}
-use Rattle.qs_json.specs.RunJson.{sync_json}
+use Rattle.qs_sync_counts.specs.audit.SyncRows.{sync_count}
+use Rattle.qs_text.specs.audit.Texts.{texts_up_to}
+use Rattle.qs_text.specs.Texts.{Puts}
+use Rattle.qs_json.specs.audit.Pieces.{element}
+use Rattle.qs_json.specs.audit.RunJson.{sync_json}
 use Rattle.qs_json.proofs.runs.put_joined.Given as goal
 
 abbrev pub invariant-loop-number : goal.invariant-loop-number

@@ -1,4 +1,4 @@
-use Rattle.qs_json.specs.RunJson.{object_json}
+use Rattle.qs_json.specs.audit.RunJson.{object_json}
 use Rattle.qs_json.proofs.Elements.{one_element_more}
 use Rattle.qs_json.proofs.runs.put_objects.Goals as goal
 

@@ -1,7 +1,7 @@
 use Rattle.std.proofs.Common.{ap₂}
 use Rattle.std.proofs.lemmas.Result.{on_ok_weaker}
 use Rattle.qs_objects.specs.declared.held.Ticket.{Ticket}
-use Rattle.qs_json.specs.RunJson.{block_json}
+use Rattle.qs_json.specs.audit.RunJson.{block_json}
 use Rattle.qs_text.proofs.Parts.{named, then}
 use Rattle.qs_json.proofs.runs.put_ticket.Goals as goal
 

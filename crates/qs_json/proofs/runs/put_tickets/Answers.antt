@@ -1,4 +1,4 @@
-use Rattle.qs_json.specs.RunJson.{ticket_json}
+use Rattle.qs_json.specs.audit.RunJson.{ticket_json}
 use Rattle.qs_json.proofs.Elements.{one_element_more}
 use Rattle.qs_json.proofs.runs.put_tickets.Goals as goal
 

@@ -1,7 +1,8 @@
 -- The tickets before this place are there.
-use Rattle.qs_text.specs.Texts.{texts_up_to, Puts}
-use Rattle.qs_json.specs.Pieces.{element}
-use Rattle.qs_json.specs.RunJson.{ticket_json}
+use Rattle.qs_text.specs.audit.Texts.{texts_up_to}
+use Rattle.qs_text.specs.Texts.{Puts}
+use Rattle.qs_json.specs.audit.Pieces.{element}
+use Rattle.qs_json.specs.audit.RunJson.{ticket_json}
 use Rattle.qs_json.proofs.runs.put_tickets.Given as goal
 
 abbrev pub invariant-loop-place : goal.invariant-loop-place

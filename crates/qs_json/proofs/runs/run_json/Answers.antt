@@ -1,5 +1,5 @@
 use Rattle.std.proofs.Common.{Bool, ap, codes, decimal}
-use Rattle.qs_json.specs.Pieces.{field, truth}
+use Rattle.qs_json.specs.audit.Pieces.{field, truth}
 use Rattle.qs_text.proofs.Parts.{all_that_is, named, then}
 use Rattle.qs_json.proofs.runs.run_json.Goals as goal
 

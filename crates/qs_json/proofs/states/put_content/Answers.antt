@@ -2,10 +2,10 @@ use Rattle.std.proofs.Common.{◌++◌, ap, codes, rules, w64}
 use Rattle.std.specs.Fmt.{signed_decimal}
 use Rattle.std.proofs.lemmas.Int.{to_z-of_z}
 use Rattle.std.proofs.lemmas.Result.{on_ok_weaker}
-use Rattle.qs_objects.specs.Objects.{values_of}
+use Rattle.qs_objects.specs.audit.Objects.{values_of}
 use Rattle.qs_objects.specs.declared.object.Kind.{Kind}
-use Rattle.qs_json.specs.Pieces.{field}
-use Rattle.qs_json.specs.RunJson.{content_json, kind_json}
+use Rattle.qs_json.specs.audit.Pieces.{field}
+use Rattle.qs_json.specs.audit.RunJson.{content_json, kind_json}
 use Rattle.qs_text.proofs.Parts.{named, then}
 use Rattle.qs_json.proofs.states.put_content.Goals as goal
 

@@ -1,6 +1,6 @@
 use Rattle.std.proofs.Common.{◌≡◌, arith, get_or, length, pos}
 use Rattle.std.specs.Fmt.{signed_decimal}
-use Rattle.qs_objects.specs.Objects.{values_of}
+use Rattle.qs_objects.specs.audit.Objects.{values_of}
 use Rattle.qs_text.proofs.Joined.{at_each_place, each_place_more}
 use Rattle.qs_text.specs.TellApart.{IsWord}
 use Rattle.qs_json.proofs.Elements.{all_elements, one_element_more}

@@ -3,7 +3,7 @@ use Rattle.std.specs.Fmt.{signed_decimal}
 use Rattle.std.proofs.lemmas.Int.{to_z-of_z}
 use Rattle.std.proofs.lemmas.Result.{on_ok_weaker}
 use Rattle.qs_text.specs.TellApart.{IsWord}
-use Rattle.qs_json.specs.Pieces.{field}
+use Rattle.qs_json.specs.audit.Pieces.{field}
 use Rattle.qs_text.proofs.Parts.{named, then}
 use Rattle.qs_json.proofs.states.put_state.Goals as goal
 

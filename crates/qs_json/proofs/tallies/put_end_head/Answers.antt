@@ -4,7 +4,7 @@ use Rattle.std.proofs.lemmas.Result.{on_ok_weaker}
 use Rattle.qs_objects.specs.declared.held.Ticket.{Ticket}
 use Rattle.qs_standings.specs.Standings.{StandingShape}
 use Rattle.qs_json.specs.OutcomesJson.{next_client_json}
-use Rattle.qs_json.specs.Pieces.{field}
+use Rattle.qs_json.specs.audit.Pieces.{field}
 use Rattle.qs_text.proofs.Parts.{named, then}
 use Rattle.qs_json.proofs.tallies.put_end_head.Goals as goal
 

@@ -1,9 +1,9 @@
 use Rattle.std.proofs.Common.{rules, ◌≡◌, ◌≤◌, List, ◌++◌, length}
-use Rattle.qs_chunk.specs.LaneRun.{syncs}
+use Rattle.qs_chunk.specs.audit.LaneRun.{syncs}
 use Rattle.qs_chunk.specs.Lanes.{IsLane}
 use Rattle.qs_chunk.proofs.LaneRuns.{run_of}
 use Rattle.qs_chunk.specs.declared.parcel.Parcel.{Parcel}
-use Rattle.qs_objects.specs.Journals.{HeldState}
+use Rattle.qs_objects.specs.audit.Journals.{HeldState}
 use Rattle.qs_lane.proofs.lane_ends.agree.Goals as goal
 
 pub returns-clause-run : goal.returns-clause-run

@@ -1,6 +1,6 @@
 use Rattle.std.proofs.Common.{◌∙◌, ap, ℕ}
 use Rattle.qs_objects.specs.declared.Request.{Request}
-use Rattle.qs_chunk.specs.Batch.{Batch}
+use Rattle.qs_chunk.specs.audit.Batch.{Batch}
 use Rattle.qs_queue.specs.Views.{SenderView}
 use Rattle.qs_lane.proofs.Stock.{one_more}
 use Rattle.qs_lane.proofs.lane_ends.fill.Goals as goal

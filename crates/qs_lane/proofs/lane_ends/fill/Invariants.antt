@@ -1,5 +1,5 @@
 use Rattle.std.proofs.Common.{◌≡◌, [], replicate}
-use Rattle.qs_chunk.specs.Batch.{batch}
+use Rattle.qs_chunk.specs.audit.Batch.{batch}
 use Rattle.qs_lane.proofs.lane_ends.fill.Given as goal
 
 abbrev pub invariant-loop-chunk : goal.invariant-loop-chunk

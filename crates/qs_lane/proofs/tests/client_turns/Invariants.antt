@@ -1,5 +1,5 @@
 use Rattle.std.proofs.Common.{◌≡◌, ◌≤◌, false}
-use Rattle.qs_chunk.specs.Lanes.{is_asked}
+use Rattle.qs_chunk.specs.audit.Lanes.{is_asked}
 use Rattle.qs_lane.proofs.tests.client_turns.Given as goal
 
 abbrev pub invariant-loop-turn : goal.invariant-loop-turn

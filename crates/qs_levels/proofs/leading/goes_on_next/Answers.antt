@@ -1,5 +1,5 @@
 use Rattle.std.proofs.Common.{ap, sym, ◌∙◌}
-use Rattle.qs_meaning.specs.Configurations.{Configuration}
+use Rattle.qs_meaning.specs.audit.Configurations.{Configuration}
 use Rattle.qs_meaning.specs.Reduced.{goes_on}
 use Rattle.qs_standings.specs.Standings.{configuration_in}
 use Rattle.qs_standings.proofs.Stands.{goes_left}

@@ -1,5 +1,5 @@
 use Rattle.std.proofs.Common.{◌∙◌, ap, sym, option_and_then}
-use Rattle.qs_line.specs.Line.{number_in}
+use Rattle.qs_line.specs.audit.Line.{number_in}
 use Rattle.qs_line.proofs.Numbers.{parsed_chunk, unparsed_chunk}
 use Rattle.qs_line.proofs.line.chunk_of.Goals as goal
 

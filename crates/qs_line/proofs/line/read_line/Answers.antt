@@ -1,8 +1,9 @@
 use Rattle.std.proofs.Common.{◌≡◌, Err, false, map, rules, sym, subst}
 use Rattle.clap.specs.Faults.{fault_of}
 use Rattle.clap.specs.Words.{subcommand_of}
-use Rattle.qs_line.specs.Command.{qs_app}
-use Rattle.qs_line.specs.Line.{IsAnswer, asks_language, line_in, request_met}
+use Rattle.qs_line.specs.audit.Command.{qs_app}
+use Rattle.qs_line.specs.audit.Line.{asks_language}
+use Rattle.qs_line.specs.Line.{IsAnswer, line_in, request_met}
 use Rattle.qs_line.proofs.Alike.{qs_alike}
 use Rattle.qs_line.proofs.Answering.{fault_is_answer, handed_on, other_line}
 use Rattle.qs_line.proofs.line.read_line.Goals as goal

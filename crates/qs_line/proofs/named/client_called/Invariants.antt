@@ -1,8 +1,8 @@
 -- None before this one has the name.
 use Rattle.std.proofs.Common.{◌≡◌, drop}
 use Rattle.std.specs.List.{position_from}
-use Rattle.qs_program.specs.Program.{ClientShape}
-use Rattle.qs_program.specs.Numbering.{same_name}
+use Rattle.qs_program.specs.audit.Program.{ClientShape}
+use Rattle.qs_program.specs.audit.Numbering.{same_name}
 use Rattle.qs_line.proofs.named.client_called.Given as goal
 
 abbrev pub invariant-loop-client : goal.invariant-loop-client

@@ -2,7 +2,7 @@
 use Rattle.std.proofs.Common.{◌≡◌, drop}
 use Rattle.std.specs.List.{position_from}
 use Rattle.qs_program.specs.declared.program.Declared.{Declared}
-use Rattle.qs_program.specs.Numbering.{same_name}
+use Rattle.qs_program.specs.audit.Numbering.{same_name}
 use Rattle.qs_line.proofs.named.object_called.Given as goal
 
 abbrev pub invariant-loop-object : goal.invariant-loop-object

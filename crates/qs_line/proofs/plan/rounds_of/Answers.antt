@@ -1,7 +1,7 @@
 use Rattle.std.proofs.Common.{◌≡◌, ◌∙◌, Some, ap, option_map, sym}
 use Rattle.std.specs.Prelude.{unwrap_or}
-use Rattle.qs_played.specs.Schedule.{most_rounds}
-use Rattle.qs_line.specs.Line.{number_in}
+use Rattle.qs_played.specs.audit.Schedule.{most_rounds}
+use Rattle.qs_line.specs.audit.Line.{number_in}
 use Rattle.qs_line.proofs.Numbers.{parsed_rounds}
 use Rattle.qs_line.proofs.plan.rounds_of.Goals as goal
 

@@ -2,7 +2,8 @@
 use Rattle.std.proofs.Common.{◌≡◌, map, drop}
 use Rattle.std.specs.Global.{Global}
 use Rattle.std.specs.Prelude.{Vec}
-use Rattle.qs_line.specs.Parts.{clients_in, orders_in}
+use Rattle.qs_line.specs.audit.Parts.{clients_in}
+use Rattle.qs_line.specs.Parts.{orders_in}
 use Rattle.qs_line.specs.declared.parts.Part.{Part}
 use Rattle.qs_line.proofs.PartLists.{read_with}
 use Rattle.qs_line.proofs.reading.orders_in.Given as goal

@@ -1,6 +1,6 @@
 use Rattle.std.proofs.Common.{◌∙◌, ◌+◌, [], map, drop, get_or, sym, ap}
 use Rattle.std.proofs.lemmas.List.{drop_more}
-use Rattle.qs_line.specs.Parts.{part_in}
+use Rattle.qs_line.specs.audit.Parts.{part_in}
 use Rattle.qs_line.proofs.PartLists.{read_with, read_with-none, read_with-some}
 use Rattle.qs_line.proofs.reading.parts_of.Goals as goal
 

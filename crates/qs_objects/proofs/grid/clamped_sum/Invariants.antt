@@ -1,5 +1,5 @@
 use Rattle.std.proofs.Common.{◌≡◌, ◌*◌, drop, ◌+ℤ◌, ◌-ℤ◌, ◌≤ℤ◌, pos}
-use Rattle.qs_objects.specs.Act.{exact_sum}
+use Rattle.qs_objects.specs.audit.Act.{exact_sum}
 use Rattle.qs_objects.proofs.grid.clamped_sum.Given as goal
 
 abbrev pub invariant-loop-value : goal.invariant-loop-value

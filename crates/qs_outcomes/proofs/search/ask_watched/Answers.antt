@@ -1,4 +1,4 @@
-use Rattle.qs_serial.specs.NamedOrders.{order_of}
+use Rattle.qs_serial.specs.audit.NamedOrders.{order_of}
 use Rattle.qs_outcomes.proofs.Witnesses.{none_meets}
 use Rattle.qs_outcomes.proofs.search.ask_watched.Goals as goal
 

@@ -1,8 +1,8 @@
 use Rattle.std.proofs.Common.{◌≡◌, [], subst, sym, length, List, ◌∙◌, ◌∷◌, refl, arith}
 use Rattle.std.proofs.lemmas.List.{length-map}
 use Rattle.qs_objects.specs.declared.held.Ticket.{Ticket}
-use Rattle.qs_program.specs.Program.{ProgramShape}
-use Rattle.qs_meaning.specs.Serial.{IsLegal}
+use Rattle.qs_program.specs.audit.Program.{ProgramShape}
+use Rattle.qs_meaning.specs.audit.Serial.{IsLegal}
 use Rattle.qs_outcomes.specs.Answers.{HasNoted}
 use Rattle.qs_outcomes.specs.Outcomes.{HasConfigurationsAfter}
 use Rattle.qs_standings.specs.Rows.{rows_in, shape_of}

@@ -1,10 +1,10 @@
 use Rattle.std.proofs.Common.{◌<◌, ◌+◌, ◌∙◌, ◌∷◌, [], add-one, ap, arith, drop, get_or, subst, sym}
 use Rattle.std.proofs.Math.Seq.{drop-cons}
 use Rattle.std.proofs.lemmas.List.{drop_all, length-map}
-use Rattle.qs_serial.specs.NamedOrders.{order_of}
+use Rattle.qs_serial.specs.audit.NamedOrders.{order_of}
 use Rattle.qs_played.proofs.ShownRuns.{if_shown}
-use Rattle.qs_plain_laws.specs.Plain.{begin, begun_blocks}
-use Rattle.qs_plain_laws.specs.PlainSchedule.{played_of}
+use Rattle.qs_plain_laws.specs.audit.Plain.{begin, begun_blocks}
+use Rattle.qs_plain_laws.specs.audit.PlainSchedule.{played_of}
 use Rattle.qs_plain_laws.proofs.Ordering.{IsOrdered, ordered_begin, ordered_plays, tickets_begun}
 use Rattle.qs_plain_laws.specs.orders.PlainOrders.{IsPlayedInOrder}
 use Rattle.qs_plain.specs.client.Clients.{client_of_state}

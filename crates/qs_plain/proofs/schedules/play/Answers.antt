@@ -1,14 +1,15 @@
 use Rattle.std.proofs.Common.{◌≡◌, ◌∙◌, ◌<◌, sym, subst, get_or, arith}
 use Rattle.std.proofs.lemmas.List.{length-map}
 use Rattle.std.specs.Prelude.{Result, IfOk}
-use Rattle.qs_meaning.specs.Serial.{IsLegal}
+use Rattle.qs_meaning.specs.audit.Serial.{IsLegal}
 use Rattle.qs_played.specs.Isolation.{IsIsolated}
-use Rattle.qs_played.specs.Schedule.{schedule}
-use Rattle.qs_played.specs.Played.{Played}
+use Rattle.qs_played.specs.audit.Schedule.{schedule}
+use Rattle.qs_played.specs.audit.Played.{Played}
 use Rattle.qs_played.proofs.ShownRuns.{if_shown}
 use Rattle.qs_plain_laws.specs.PlainIsolation.{commands_in_queue}
-use Rattle.qs_plain_laws.specs.Plain.{begin, begun_blocks}
-use Rattle.qs_plain_laws.specs.PlainSchedule.{played_of, plays, scheduled}
+use Rattle.qs_plain_laws.specs.audit.Plain.{begin, begun_blocks}
+use Rattle.qs_plain_laws.specs.audit.PlainSchedule.{played_of, plays}
+use Rattle.qs_plain_laws.specs.PlainSchedule.{scheduled}
 use Rattle.qs_plain_laws.proofs.Ordering.{IsOrdered, ordered_begin, ordered_plays, tickets_begun}
 use Rattle.qs_plain_laws.specs.PlainSyncSums.{AreQueriesCounted}
 use Rattle.qs_plain_laws.proofs.Isolating.{runs_isolated}

@@ -1,5 +1,5 @@
 use Rattle.std.proofs.Common.{◌≡◌, ◌&&◌, map, drop}
-use Rattle.qs_plain_laws.specs.PlainSchedule.{all_idle}
+use Rattle.qs_plain_laws.specs.audit.PlainSchedule.{all_idle}
 use Rattle.qs_plain.specs.handler.Served.{handler_of_state}
 use Rattle.qs_plain.proofs.showing.are_idle.Given as goal
 

@@ -1,6 +1,6 @@
 use Rattle.std.proofs.Common.{◌≡◌, ◌≤◌, ◌*◌, suc, take, sum_by}
-use Rattle.qs_program.specs.Limits.{most_blocks, most_requests}
-use Rattle.qs_plain_laws.specs.PlainSchedule.{syncs_of}
+use Rattle.qs_program.specs.audit.Limits.{most_blocks, most_requests}
+use Rattle.qs_plain_laws.specs.audit.PlainSchedule.{syncs_of}
 use Rattle.qs_plain.specs.client.Clients.{ClientState, client_of_state}
 use Rattle.qs_plain.proofs.showing.syncs.Given as goal
 

@@ -1,7 +1,7 @@
 use Rattle.std.proofs.Common.{◌≡◌, ◌≤◌, ◌*◌, sum_by}
 use Rattle.std.specs.List.{range_with_len}
-use Rattle.qs_program.specs.Loads.{load_of}
-use Rattle.qs_program.specs.Program.{block_at}
+use Rattle.qs_program.specs.audit.Loads.{load_of}
+use Rattle.qs_program.specs.audit.Program.{block_at}
 use Rattle.qs_played.proofs.journal_rooms.client_room.Given as goal
 
 abbrev pub invariant-loop-block : goal.invariant-loop-block

@@ -1,5 +1,5 @@
 use Rattle.std.proofs.Common.{arith}
-use Rattle.qs_played.specs.JournalRooms.{room_in}
+use Rattle.qs_played.specs.audit.JournalRooms.{room_in}
 use Rattle.qs_played.proofs.Lists.{sum_by-range_more}
 use Rattle.qs_played.proofs.journal_rooms.journal_room.Goals as goal
 

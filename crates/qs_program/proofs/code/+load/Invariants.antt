@@ -1,6 +1,6 @@
 use Rattle.std.proofs.Common.{◌≡◌, ◌+◌, ◌≤◌, min, drop}
-use Rattle.qs_program.specs.Limits.{most_requests}
-use Rattle.qs_program.specs.Loads.{load_of}
+use Rattle.qs_program.specs.audit.Limits.{most_requests}
+use Rattle.qs_program.specs.audit.Loads.{load_of}
 use Rattle.qs_program.specs.Views.{statements_of}
 use Rattle.qs_program.proofs.code.+load.Given as goal
 

@@ -1,6 +1,6 @@
 use Rattle.std.proofs.Common.{◌≡◌, ◌+◌, ◌*◌, ◌∙◌, ap, sym, drop, min, slice_index_or, arith}
-use Rattle.qs_program.specs.Limits.{most_requests}
-use Rattle.qs_program.specs.Loads.{load_of, weight_of}
+use Rattle.qs_program.specs.audit.Limits.{most_requests}
+use Rattle.qs_program.specs.audit.Loads.{load_of, weight_of}
 use Rattle.qs_program.specs.Views.{single, size_of, statements_of}
 use Rattle.qs_program.proofs.Loads.{load_of_drop, weight_of_drop, add_capped, min_add, times_again}
 use Rattle.qs_program.proofs.StatementLists.{size_at}

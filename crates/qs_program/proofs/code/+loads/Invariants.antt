@@ -1,6 +1,6 @@
 use Rattle.std.proofs.Common.{◌≡◌, ◌≤◌, ◌<◌, ◌+◌, ◌*◌, ℕ, min, slice_index_or, drop}
-use Rattle.qs_program.specs.Limits.{most_objects, most_requests, most_steps}
-use Rattle.qs_program.specs.Loads.{load_of, weight_of}
+use Rattle.qs_program.specs.audit.Limits.{most_objects, most_requests, most_steps}
+use Rattle.qs_program.specs.audit.Loads.{load_of, weight_of}
 use Rattle.qs_program.specs.Views.{statements_of, single, size_of}
 use Rattle.qs_program.proofs.code.+loads.Given as goal
 

@@ -1,6 +1,6 @@
 use Rattle.std.proofs.Common.{◌≡◌, ◌+◌, min, sum_by, take}
-use Rattle.qs_program.specs.Limits.{most_steps}
-use Rattle.qs_program.specs.Loads.{weight_of}
+use Rattle.qs_program.specs.audit.Limits.{most_steps}
+use Rattle.qs_program.specs.audit.Loads.{weight_of}
 use Rattle.qs_program.proofs.totals.all_weight.Given as goal
 
 abbrev pub invariant-loop-client : goal.invariant-loop-client

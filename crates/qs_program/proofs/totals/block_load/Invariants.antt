@@ -1,6 +1,6 @@
 use Rattle.std.proofs.Common.{◌≡◌, ◌+◌, min, sum_by, take}
-use Rattle.qs_program.specs.Limits.{most_requests}
-use Rattle.qs_program.specs.Loads.{load_of}
+use Rattle.qs_program.specs.audit.Limits.{most_requests}
+use Rattle.qs_program.specs.audit.Loads.{load_of}
 use Rattle.qs_program.proofs.totals.block_load.Given as goal
 
 abbrev pub invariant-loop-object : goal.invariant-loop-object

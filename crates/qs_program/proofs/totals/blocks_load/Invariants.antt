@@ -1,6 +1,6 @@
 use Rattle.std.proofs.Common.{◌≡◌, ◌+◌, min, sum_by, take}
-use Rattle.qs_program.specs.Limits.{most_requests}
-use Rattle.qs_program.specs.Program.{block_load}
+use Rattle.qs_program.specs.audit.Limits.{most_requests}
+use Rattle.qs_program.specs.audit.Program.{block_load}
 use Rattle.qs_program.proofs.totals.blocks_load.Given as goal
 
 abbrev pub invariant-loop-block : goal.invariant-loop-block

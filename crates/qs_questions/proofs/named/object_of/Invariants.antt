@@ -1,6 +1,6 @@
 use Rattle.std.proofs.Common.{◌≡◌, ◌<◌, ℕ, false}
-use Rattle.qs_program.specs.Numbering.{same_name}
-use Rattle.qs_program.specs.Program.{object_at}
+use Rattle.qs_program.specs.audit.Numbering.{same_name}
+use Rattle.qs_program.specs.audit.Program.{object_at}
 use Rattle.qs_questions.proofs.named.object_of.Given as goal
 
 abbrev pub invariant-loop-object : goal.invariant-loop-object

@@ -1,7 +1,7 @@
 -- The outcomes before this place are there.
 use Rattle.std.proofs.Common.{◌≡◌, ◌++◌}
 use Rattle.qs_report.specs.AlikeText.{alike_outcome_at}
-use Rattle.qs_text.specs.Texts.{texts_up_to}
+use Rattle.qs_text.specs.audit.Texts.{texts_up_to}
 use Rattle.qs_report.proofs.alike.put_listed.Given as goal
 
 abbrev pub invariant-loop-place : goal.invariant-loop-place

@@ -1,7 +1,7 @@
 -- The lines before this one are there, and there is room for those that come.
 use Rattle.std.proofs.Common.{◌≡◌, ◌≤◌, ◌+◌, ◌-◌, ◌*◌, ◌++◌, flat_map, length, take, vec_capacity, vec_len}
 use Rattle.qs_report.specs.Lines.{longest_line}
-use Rattle.qs_report.specs.Report.{event_line}
+use Rattle.qs_report.specs.audit.Report.{event_line}
 use Rattle.qs_report.proofs.lines.put_first.Given as goal
 
 abbrev pub invariant-loop-place : goal.invariant-loop-place

@@ -1,10 +1,10 @@
 use Rattle.std.proofs.Common.{◌≡◌, ◌++◌, ◌∙◌, ap, arith, length, get_or}
-use Rattle.qs_meaning.specs.Serial.{zeros}
-use Rattle.qs_program.specs.Program.{client_at}
+use Rattle.qs_meaning.specs.audit.Serial.{zeros}
+use Rattle.qs_program.specs.audit.Program.{client_at}
 use Rattle.qs_text.proofs.Joined.{each_place_more, one_place_more}
 use Rattle.qs_report.specs.OutcomesText.{client_line}
 use Rattle.qs_text.specs.TellApart.{AreWords}
-use Rattle.qs_text.specs.Texts.{texts_up_to}
+use Rattle.qs_text.specs.audit.Texts.{texts_up_to}
 use Rattle.qs_report.proofs.outcomes.put_clients.Goals as goal
 
 pub loop-client-preserved : goal.loop-client-preserved

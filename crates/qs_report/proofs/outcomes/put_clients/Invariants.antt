@@ -2,7 +2,7 @@
 use Rattle.std.proofs.Common.{◌≡◌, ◌++◌}
 use Rattle.qs_report.specs.OutcomesText.{client_line}
 use Rattle.qs_text.specs.TellApart.{AreClientsOfWords}
-use Rattle.qs_text.specs.Texts.{texts_up_to}
+use Rattle.qs_text.specs.audit.Texts.{texts_up_to}
 use Rattle.qs_report.proofs.outcomes.put_clients.Given as goal
 
 abbrev pub invariant-loop-client : goal.invariant-loop-client

@@ -2,8 +2,8 @@ use Rattle.std.proofs.Common.{◌≡◌, ◌++◌, ◌∙◌, ap, arith, length,
 use Rattle.qs_text.proofs.Joined.{each_place_more, one_place_more}
 use Rattle.qs_report.specs.OutcomesText.{object_line}
 use Rattle.qs_text.specs.TellApart.{IsOfWords}
-use Rattle.qs_text.specs.Texts.{texts_up_to}
-use Rattle.qs_text.specs.Words.{no_state}
+use Rattle.qs_text.specs.audit.Texts.{texts_up_to}
+use Rattle.qs_text.specs.audit.Words.{no_state}
 use Rattle.qs_report.proofs.outcomes.put_objects.Goals as goal
 
 pub loop-object-preserved : goal.loop-object-preserved

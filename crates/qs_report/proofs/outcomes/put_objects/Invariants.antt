@@ -2,7 +2,7 @@
 use Rattle.std.proofs.Common.{◌≡◌, ◌++◌}
 use Rattle.qs_report.specs.OutcomesText.{object_line}
 use Rattle.qs_text.specs.TellApart.{AreObjectsOfWords}
-use Rattle.qs_text.specs.Texts.{texts_up_to}
+use Rattle.qs_text.specs.audit.Texts.{texts_up_to}
 use Rattle.qs_report.proofs.outcomes.put_objects.Given as goal
 
 abbrev pub invariant-loop-object : goal.invariant-loop-object

@@ -1,6 +1,6 @@
 -- What is there and the lines that are left make up the whole text.
 use Rattle.std.proofs.Common.{◌≡◌, ◌++◌, drop}
-use Rattle.qs_report.specs.Report.{marked_lines}
+use Rattle.qs_report.specs.audit.Report.{marked_lines}
 use Rattle.qs_report.proofs.refusals.put_marked_events.Given as goal
 
 abbrev pub invariant-loop-place : goal.invariant-loop-place

@@ -1,6 +1,6 @@
 use Rattle.std.proofs.Common.{true}
 use Rattle.qs_text.proofs.Joined.{one_place_more}
-use Rattle.qs_report.specs.Report.{shown_ticket}
+use Rattle.qs_report.specs.audit.Report.{shown_ticket}
 use Rattle.qs_report.proofs.refusals.put_marked_order.Goals as goal
 
 pub loop-place-preserved : goal.loop-place-preserved

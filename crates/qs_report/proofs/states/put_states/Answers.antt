@@ -1,5 +1,5 @@
 use Rattle.qs_text.proofs.Joined.{one_place_more}
-use Rattle.qs_report.specs.Report.{object_text}
+use Rattle.qs_report.specs.audit.Report.{object_text}
 use Rattle.qs_report.proofs.states.put_states.Goals as goal
 
 pub loop-place-preserved : goal.loop-place-preserved

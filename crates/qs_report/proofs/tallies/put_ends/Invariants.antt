@@ -1,7 +1,7 @@
 -- The ends before this place are there.
 use Rattle.std.proofs.Common.{◌≡◌, ◌++◌}
 use Rattle.qs_report.specs.TallyText.{counted_text_at}
-use Rattle.qs_text.specs.Texts.{texts_up_to}
+use Rattle.qs_text.specs.audit.Texts.{texts_up_to}
 use Rattle.qs_report.proofs.tallies.put_ends.Given as goal
 
 abbrev pub invariant-loop-place : goal.invariant-loop-place

@@ -1,7 +1,7 @@
 -- The tickets before this place are there.
 use Rattle.std.proofs.Common.{◌≡◌, ◌++◌, false}
-use Rattle.qs_text.specs.Texts.{texts_up_to}
-use Rattle.qs_report.specs.Report.{shown_ticket}
+use Rattle.qs_text.specs.audit.Texts.{texts_up_to}
+use Rattle.qs_report.specs.audit.Report.{shown_ticket}
 use Rattle.qs_report.proofs.tickets.put_order.Given as goal
 
 abbrev pub invariant-loop-place : goal.invariant-loop-place

@@ -1,8 +1,8 @@
 use Rattle.std.proofs.Common.{◌++◌, [], ap, arith, flat_map, length, map, rules, slice_index_or, ◌∙◌}
 use Rattle.std.proofs.lemmas.List.{length-map, take_all}
 use Rattle.std.proofs.lemmas.Slice.Zip.{zip_end, zip_turn}
-use Rattle.qs_sync_counts.specs.SyncRows.{count_of, object_of}
-use Rattle.qs_report.specs.Report.{sync_line}
+use Rattle.qs_sync_counts.specs.audit.SyncRows.{count_of, object_of}
+use Rattle.qs_report.specs.audit.Report.{sync_line}
 use Rattle.qs_report.proofs.SyncLines.{one_sync_more}
 use Rattle.qs_report.proofs.tickets.put_syncs.Goals as goal
 

@@ -1,6 +1,6 @@
 -- The lines of the objects before this one are there.
 use Rattle.std.proofs.Common.{◌≡◌, ◌++◌, [], flat_map, length, slice_index_or, take}
-use Rattle.qs_report.specs.Report.{sync_line}
+use Rattle.qs_report.specs.audit.Report.{sync_line}
 use Rattle.qs_report.proofs.tickets.put_syncs.Given as goal
 
 abbrev pub invariant-loop-object : goal.invariant-loop-object

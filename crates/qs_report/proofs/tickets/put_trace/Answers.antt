@@ -1,7 +1,7 @@
 use Rattle.std.proofs.Common.{◌++◌, ◌+◌, ap, ◌∙◌, arith}
 use Rattle.qs_text.proofs.Joined.{one_item_more}
 use Rattle.qs_report.proofs.Quick.{items_more}
-use Rattle.qs_report.specs.Report.{event_line}
+use Rattle.qs_report.specs.audit.Report.{event_line}
 use Rattle.qs_report.proofs.tickets.put_trace.Goals as goal
 
 pub loop-done-preserved-then-done-trace : goal.loop-done-preserved-then-done-trace

@@ -1,6 +1,6 @@
 -- The lines before this one are there.
 use Rattle.std.proofs.Common.{◌≡◌, ◌≤◌, ◌-◌, ◌++◌, flat_map, length, take}
-use Rattle.qs_report.specs.Report.{event_line}
+use Rattle.qs_report.specs.audit.Report.{event_line}
 use Rattle.qs_report.proofs.tickets.put_trace.Given as goal
 
 abbrev pub invariant-loop-done : goal.invariant-loop-done

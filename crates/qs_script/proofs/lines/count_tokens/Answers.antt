@@ -1,5 +1,5 @@
 use Rattle.std.proofs.Common.{◌∙◌, ◌++◌, ap, arith, length-append}
-use Rattle.qs_script.specs.tokens.Tokens.{after, tokens_of}
+use Rattle.qs_script.specs.audit.tokens.Tokens.{after, tokens_of}
 use Rattle.qs_script.specs.tokens.Cutting.{tokens_in}
 use Rattle.qs_script.proofs.tokens.Lexemes.{after-after}
 use Rattle.qs_script.proofs.lines.count_tokens.Goals as goal

@@ -1,7 +1,7 @@
 -- The tokens that were passed over come before those of the rest.
 use Rattle.std.proofs.Common.{◌≡◌, ◌≤◌, ◌+◌, List, length}
 use Rattle.qs_script.specs.declared.tokens.token.Token.{Token}
-use Rattle.qs_script.specs.tokens.Tokens.{after, tokens_of}
+use Rattle.qs_script.specs.audit.tokens.Tokens.{after, tokens_of}
 use Rattle.qs_script.proofs.lines.count_tokens.Given as goal
 
 abbrev pub invariant-each : goal.invariant-each

@@ -1,5 +1,5 @@
 use Rattle.std.proofs.Common.{◌≡◌, ◌-◌, length, subst, arith, Ok, Err}
-use Rattle.qs_script.specs.tokens.Tokens.{tokens_of}
+use Rattle.qs_script.specs.audit.tokens.Tokens.{tokens_of}
 use Rattle.qs_script.specs.Lines.{IsTokenLine}
 use Rattle.qs_script.specs.grammar.Reading.{items_loop, run}
 use Rattle.qs_script.specs.Reads.{IsFormLine}

@@ -1,6 +1,6 @@
 use Rattle.std.proofs.Common.{arith}
 use Rattle.std.proofs.lemmas.Result.{err_from_is_err_and}
-use Rattle.qs_script.specs.tree.Tree.{end}
+use Rattle.qs_script.specs.audit.tree.Tree.{end}
 use Rattle.qs_script.specs.grammar.Reading.{body_loop}
 use Rattle.qs_script.proofs.Loops.{body_lawful, begins, puts_on, whole_closes, whole_fails}
 use Rattle.qs_script.proofs.statements.+body.Goals as goal

@@ -1,5 +1,5 @@
 use Rattle.std.proofs.Common.{◌≤◌, ◌+◌, ◌*◌, length}
-use Rattle.qs_script.specs.tree.Tree.{end}
+use Rattle.qs_script.specs.audit.tree.Tree.{end}
 use Rattle.qs_script.specs.grammar.Reading.{body_loop}
 use Rattle.qs_script.proofs.Loops.{Continues}
 use Rattle.qs_script.proofs.statements.+body.Given as goal

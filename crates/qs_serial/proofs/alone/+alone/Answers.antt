@@ -1,7 +1,7 @@
 use Rattle.std.proofs.Common.{◌≡◌, ◌-◌, ◌+◌, drop, [], true, false, arith, ap, subst, sym}
 use Rattle.qs_program.specs.Views.{single, size_of, statements_of}
 use Rattle.qs_program.proofs.StatementLists.{size_at}
-use Rattle.qs_meaning.specs.Solo.{exec, turns_run}
+use Rattle.qs_meaning.specs.audit.Solo.{exec, turns_run}
 use Rattle.qs_serial.specs.Alone.{AreCallsWithin, EndsWith, states_in}
 use Rattle.qs_serial.proofs.Endings.{SameEnding, calls_drop, ended, exec_drop, known, nothing_left, onward, then_left, then_on, turns_left, turns_on}
 use Rattle.qs_serial.proofs.alone.+alone.Goals as goal

@@ -1,6 +1,6 @@
 use Rattle.std.proofs.Common.{◌+◌, ◌-◌, ◌*◌, length, drop}
 use Rattle.qs_program.specs.Views.{single, size_of, statements_of}
-use Rattle.qs_meaning.specs.Solo.{exec, turns_run}
+use Rattle.qs_meaning.specs.audit.Solo.{exec, turns_run}
 use Rattle.qs_serial.specs.Alone.{AreCallsWithin, states_in}
 use Rattle.qs_serial.proofs.Endings.{SameEnding}
 use Rattle.qs_serial.proofs.alone.+alone.Given as goal

@@ -1,4 +1,4 @@
-use Rattle.qs_serial.specs.NamedOrders.{order_of}
+use Rattle.qs_serial.specs.audit.NamedOrders.{order_of}
 use Rattle.qs_questions.specs.Claims.{is_sought}
 use Rattle.qs_serve.proofs.Dues.{answer_after, answer_places}
 use Rattle.qs_serve.proofs.due.due_of_claim_after.Goals as goal

@@ -1,6 +1,7 @@
 use Rattle.std.proofs.Common.{◌⊎◌, [], List, Vec, map, subst, sym}
 use Rattle.std.specs.Global.{Global}
-use Rattle.qs_line.specs.Line.{fronts, request_of}
+use Rattle.qs_line.specs.audit.Line.{fronts}
+use Rattle.qs_line.specs.Line.{request_of}
 use Rattle.qs_line.specs.declared.parts.Part.{Part}
 use Rattle.qs_serve.specs.Due.{IsDueOfProgram, IsDueWithoutThreads, IsOutOfMemory}
 use Rattle.qs_serve.proofs.Dues.{due_with_any}

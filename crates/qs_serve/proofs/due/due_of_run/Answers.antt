@@ -1,4 +1,4 @@
-use Rattle.qs_line.specs.Line.{run}
+use Rattle.qs_line.specs.audit.Line.{run}
 use Rattle.qs_serve.proofs.Dues.{due_by_report, report_is_no_input}
 use Rattle.qs_serve.proofs.due.due_of_run.Goals as goal
 

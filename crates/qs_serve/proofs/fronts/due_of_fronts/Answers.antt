@@ -3,7 +3,7 @@ use Rattle.std.proofs.lemmas.List.{take_more}
 use Rattle.std.specs.Global.{Global}
 use Rattle.std.specs.Prelude.{IsOkAnd}
 use Rattle.qs_levels.proofs.meaning.Lists.{has_at, map_snoc, mapped_has}
-use Rattle.qs_line.specs.Named.{clients_of}
+use Rattle.qs_line.specs.audit.Named.{clients_of}
 use Rattle.qs_line.specs.declared.parts.Part.{Part}
 use Rattle.qs_serve.specs.Due.{AreFrontsTexts, IsFaultOfOrder, IsFrontsText}
 use Rattle.qs_serve.proofs.FrontsDues.{due_by_fault, texts_more}

@@ -1,9 +1,9 @@
 use Rattle.std.proofs.Common.{[], refl, ap, sym, ◌∙◌, Ok}
-use Rattle.qs_meaning.specs.Serial.{IsLegal}
-use Rattle.qs_serial.specs.NamedOrders.{order_of}
+use Rattle.qs_meaning.specs.audit.Serial.{IsLegal}
+use Rattle.qs_serial.specs.audit.NamedOrders.{order_of}
 use Rattle.qs_core_laws.specs.orders.CoreOrders.{IsPlayedInOrderOn}
-use Rattle.qs_line.specs.Named.{clients_of}
-use Rattle.qs_line.specs.Line.{by_order, play}
+use Rattle.qs_line.specs.audit.Named.{clients_of}
+use Rattle.qs_line.specs.audit.Line.{by_order, play}
 use Rattle.qs_serve.specs.Due.{AreQueuesOfPlay, AreStepsOfPlay}
 use Rattle.qs_serve.proofs.Dues.{alone, due_by_report, no_lines, of_named}
 use Rattle.qs_serve.proofs.plays.due_of_ordered_play.Goals as goal

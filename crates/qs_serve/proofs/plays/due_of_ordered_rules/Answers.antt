@@ -1,9 +1,9 @@
 use Rattle.std.proofs.Common.{[], refl, ap, sym, ◌∙◌, Ok}
-use Rattle.qs_meaning.specs.Serial.{IsLegal}
-use Rattle.qs_serial.specs.NamedOrders.{order_of}
+use Rattle.qs_meaning.specs.audit.Serial.{IsLegal}
+use Rattle.qs_serial.specs.audit.NamedOrders.{order_of}
 use Rattle.qs_plain_laws.specs.orders.PlainOrders.{IsPlayedInOrder}
-use Rattle.qs_line.specs.Named.{clients_of}
-use Rattle.qs_line.specs.Line.{by_order, rules}
+use Rattle.qs_line.specs.audit.Named.{clients_of}
+use Rattle.qs_line.specs.audit.Line.{by_order, rules}
 use Rattle.qs_serve.specs.Due.{AreQueuesOfRules, AreStepsOfRules}
 use Rattle.qs_serve.proofs.Dues.{alone, due_by_report, no_lines, of_named}
 use Rattle.qs_serve.proofs.plays.due_of_ordered_rules.Goals as goal

@@ -1,12 +1,12 @@
 use Rattle.std.proofs.Common.{◌≡◌, ◌⊎◌, inr, ℕ, [], refl, ap, sym, subst, ◌∙◌, Ok, Err, if◌then◌else◌}
-use Rattle.qs_syncset.specs.Codes.{ClientCode, AreCodes}
+use Rattle.qs_syncset.specs.audit.Codes.{ClientCode, AreCodes}
 use Rattle.qs_core_laws.specs.CoreSchedule.{IsPlayedIn}
 use Rattle.qs_core_laws.proofs.progress.Finished.{core_default_rounds_finish}
 use Rattle.qs_steps.specs.CoreQueues.{core_queues}
 use Rattle.qs_steps.specs.CoreSteps.{core_steps}
 use Rattle.qs_steps.specs.Telling.{played_in}
-use Rattle.qs_line.specs.Named.{actors_of}
-use Rattle.qs_line.specs.Line.{by_schedule, play}
+use Rattle.qs_line.specs.audit.Named.{actors_of}
+use Rattle.qs_line.specs.audit.Line.{by_schedule, play}
 use Rattle.qs_serve.specs.Due.{AreQueuesOfPlay, AreStepsOfPlay, IsDueOfProgram, IsOutOfMemory}
 use Rattle.qs_serve.proofs.Dues.{alone, due_by_lines, due_by_report, lines_where, no_queues, no_steps, of_named, shown_is_legal}
 use Rattle.qs_serve.proofs.plays.due_of_scheduled_play.Goals as goal

@@ -4,8 +4,8 @@ use Rattle.qs_plain_laws.proofs.progress.Finished.{default_rounds_finish}
 use Rattle.qs_steps.specs.PlainQueues.{plain_queues}
 use Rattle.qs_steps.specs.PlainSteps.{plain_steps}
 use Rattle.qs_steps.specs.Telling.{played_in}
-use Rattle.qs_line.specs.Named.{actors_of}
-use Rattle.qs_line.specs.Line.{by_schedule, rules}
+use Rattle.qs_line.specs.audit.Named.{actors_of}
+use Rattle.qs_line.specs.audit.Line.{by_schedule, rules}
 use Rattle.qs_serve.specs.Due.{AreQueuesOfRules, AreStepsOfRules, IsDueOfProgram, IsOutOfMemory}
 use Rattle.qs_serve.proofs.Dues.{alone, due_by_lines, due_by_report, lines_where, no_queues, no_steps, of_named}
 use Rattle.qs_serve.proofs.plays.due_of_scheduled_rules.Goals as goal

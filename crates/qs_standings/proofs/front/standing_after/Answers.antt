@@ -1,6 +1,6 @@
 use Rattle.std.proofs.Common.{ap, subst, sym, ◌∙◌}
-use Rattle.qs_serial.specs.NamedOrders.{order_of}
-use Rattle.qs_meaning.specs.Serial.{IsLegal}
+use Rattle.qs_serial.specs.audit.NamedOrders.{order_of}
+use Rattle.qs_meaning.specs.audit.Serial.{IsLegal}
 use Rattle.qs_standings.specs.Standings.{IsFirst}
 use Rattle.std.specs.Prelude.{IfOk}
 use Rattle.qs_standings.proofs.Fronts.{named_by_clients}

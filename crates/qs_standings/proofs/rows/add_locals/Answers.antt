@@ -1,6 +1,6 @@
 use Rattle.std.proofs.Common.{◌≡◌, ◌<◌, ◌++◌, ap, arith, get_or, length, take, ◌∙◌, refl}
-use Rattle.qs_program.specs.Program.{client_at}
-use Rattle.qs_meaning.specs.Serial.{zeros}
+use Rattle.qs_program.specs.audit.Program.{client_at}
+use Rattle.qs_meaning.specs.audit.Serial.{zeros}
 use Rattle.qs_standings.proofs.RowSteps.{named_more}
 use Rattle.qs_standings.proofs.rows.add_locals.Goals as goal
 

@@ -1,5 +1,5 @@
 use Rattle.std.proofs.Common.{◌≡◌, ◌++◌, take}
-use Rattle.qs_objects.specs.Objects.{values_of}
+use Rattle.qs_objects.specs.audit.Objects.{values_of}
 use Rattle.qs_standings.proofs.rows.add_object_values.Given as goal
 
 abbrev pub invariant-loop-place : goal.invariant-loop-place

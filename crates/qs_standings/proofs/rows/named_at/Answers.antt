@@ -1,5 +1,5 @@
 use Rattle.std.proofs.Common.{◌≡◌, ◌+◌, ap, arith, length, ◌∙◌, add-one}
-use Rattle.qs_program.specs.Program.{client_at}
+use Rattle.qs_program.specs.audit.Program.{client_at}
 use Rattle.qs_standings.proofs.NextRows.{before_more}
 use Rattle.qs_standings.proofs.RowSteps.{few_variables}
 use Rattle.qs_standings.proofs.rows.named_at.Goals as goal

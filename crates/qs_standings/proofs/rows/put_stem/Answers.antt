@@ -1,5 +1,5 @@
 use Rattle.std.proofs.Common.{◌≡◌, ap, arith, length, ◌∙◌, get_or, take}
-use Rattle.qs_program.specs.Program.{client_at}
+use Rattle.qs_program.specs.audit.Program.{client_at}
 use Rattle.qs_standings.specs.Rows.{named_before, overwritten}
 use Rattle.qs_standings.proofs.NextRows.{whole}
 use Rattle.qs_standings.proofs.rows.put_stem.Goals as goal

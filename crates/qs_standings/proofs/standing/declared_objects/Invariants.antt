@@ -1,5 +1,5 @@
 use Rattle.std.proofs.Common.{◌≡◌, ◌<◌, ℕ, length, slice_index_or}
-use Rattle.qs_meaning.specs.Serial.{declared_states, no_state}
+use Rattle.qs_meaning.specs.audit.Serial.{declared_states, no_state}
 use Rattle.qs_standings.proofs.standing.declared_objects.Given as goal
 
 abbrev pub invariant-loop-object : goal.invariant-loop-object

@@ -1,7 +1,7 @@
 use Rattle.std.proofs.Common.{◌-◌, arith, drop, sym, take, ◌∙◌}
 use Rattle.std.specs.Cmp.Rules.{signed_items}
-use Rattle.qs_program.specs.Limits.{most_variables}
-use Rattle.qs_meaning.specs.Serial.{zeros}
+use Rattle.qs_program.specs.audit.Limits.{most_variables}
+use Rattle.qs_meaning.specs.audit.Serial.{zeros}
 use Rattle.qs_standings.proofs.Spread.{rest_zeros}
 use Rattle.qs_standings.proofs.variables.is_zero_from.Goals as goal
 

@@ -1,5 +1,5 @@
 use Rattle.std.proofs.Common.{◌≡◌, ◌≤◌, ℕ, Bool, true, false, cond, ap, arith, length, ◌∙◌}
-use Rattle.qs_program.specs.Program.{client_at}
+use Rattle.qs_program.specs.audit.Program.{client_at}
 use Rattle.qs_standings.proofs.RowSteps.{few_variables}
 use Rattle.qs_standings.proofs.variables.most_named.Goals as goal
 

@@ -1,6 +1,6 @@
 -- The requests before this one are there, each after a space.
 use Rattle.std.proofs.Common.{◌≡◌, ◌++◌, codes, flat_map, take}
-use Rattle.qs_text.specs.Words.{request_text}
+use Rattle.qs_text.specs.audit.Words.{request_text}
 use Rattle.qs_steps.proofs.core_lines.put_other_requests.Given as goal
 
 abbrev pub invariant-loop-request : goal.invariant-loop-request

@@ -1,6 +1,6 @@
 use Rattle.std.proofs.Common.{◌≡◌, ◌<◌, ◌++◌, ap, arith, flat_map, length, subst, sym, ◌∙◌}
 use Rattle.std.specs.List.{range_with_len}
-use Rattle.qs_program.specs.Program.{ProgramShape}
+use Rattle.qs_program.specs.audit.Program.{ProgramShape}
 use Rattle.qs_core.specs.state.CoreState.{codes_of, core_of}
 use Rattle.qs_steps.specs.CoreQueues.{client_line}
 use Rattle.qs_steps.proofs.Queues.{numbers_more}

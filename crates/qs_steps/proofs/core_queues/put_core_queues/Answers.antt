@@ -1,6 +1,6 @@
 use Rattle.std.proofs.Common.{◌++◌, ap, flat_map, length, sym, ◌∙◌}
 use Rattle.std.specs.List.{range_with_len}
-use Rattle.qs_core_laws.specs.CoreSchedule.{is_finished}
+use Rattle.qs_core_laws.specs.audit.CoreSchedule.{is_finished}
 use Rattle.qs_core.specs.state.CoreState.{CoreState, codes_of, core_of}
 use Rattle.qs_steps.specs.CoreQueues.{all_queues, client_line}
 use Rattle.qs_steps.proofs.Queues.{text_if_finished, text_if_open}

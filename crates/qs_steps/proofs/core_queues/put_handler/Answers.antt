@@ -1,5 +1,5 @@
 use Rattle.std.proofs.Common.{◌<◌, length, subst, sym}
-use Rattle.qs_program.specs.Program.{ProgramShape}
+use Rattle.qs_program.specs.audit.Program.{ProgramShape}
 use Rattle.qs_steps.proofs.Queues.{joined}
 use Rattle.qs_steps.proofs.TellingRuns.{on_ok}
 use Rattle.qs_steps.proofs.core_queues.put_handler.Goals as goal

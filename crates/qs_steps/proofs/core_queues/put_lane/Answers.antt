@@ -1,5 +1,5 @@
 use Rattle.std.proofs.Common.{◌++◌, ap, append-nil, codes, flat_map, length, nat_eq, sym, ◌∙◌}
-use Rattle.qs_program.specs.Program.{client_at}
+use Rattle.qs_program.specs.audit.Program.{client_at}
 use Rattle.qs_core.specs.state.CoreState.{core_of}
 use Rattle.qs_steps.specs.CoreQueues.{parcel_text}
 use Rattle.qs_steps.proofs.CoreQueuesText.{no_lane, some_lane}

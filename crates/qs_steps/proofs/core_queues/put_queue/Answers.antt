@@ -1,6 +1,6 @@
 use Rattle.std.proofs.Common.{◌≡◌, ◌++◌, ap, arith, codes, decimal, flat_map, length, length-append, ◌∙◌}
 use Rattle.qs_handler.specs.Handler.{serving}
-use Rattle.qs_program.specs.Program.{object_at}
+use Rattle.qs_program.specs.audit.Program.{object_at}
 use Rattle.qs_core_laws.specs.CoreSchedule.{before_it}
 use Rattle.qs_core.specs.parts.CoreHandlers.{handler_with_act}
 use Rattle.qs_core.specs.state.CoreState.{core_of}

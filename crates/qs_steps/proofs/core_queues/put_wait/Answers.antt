@@ -1,7 +1,7 @@
 use Rattle.std.proofs.Common.{◌++◌, ap, codes, cond, length, nat_lt, sym, ◌∙◌}
 use Rattle.std.specs.Prelude.{is_some}
-use Rattle.qs_chunk.specs.Limits.{lane_room}
-use Rattle.qs_program.specs.Program.{object_at}
+use Rattle.qs_chunk.specs.audit.Limits.{lane_room}
+use Rattle.qs_program.specs.audit.Program.{object_at}
 use Rattle.qs_core.specs.parts.CoreClients.{turns_to}
 use Rattle.qs_core.specs.state.CoreState.{core_of}
 use Rattle.qs_steps.specs.CoreQueues.{wait_text}

@@ -1,6 +1,6 @@
 use Rattle.std.proofs.Common.{[], ap, cond, subst, sym, ◌∙◌}
-use Rattle.qs_played.specs.Schedule.{schedule}
-use Rattle.qs_core_laws.specs.CoreSchedule.{core_played}
+use Rattle.qs_played.specs.audit.Schedule.{schedule}
+use Rattle.qs_core_laws.specs.audit.CoreSchedule.{core_played}
 use Rattle.qs_core.specs.state.CoreState.{CoreState, IsPlayedOn, codes_of, core_of}
 use Rattle.qs_core.proofs.CoreCounted.{schedule_counted}
 use Rattle.qs_core.proofs.CorePlaying.{schedule_isolated}

@@ -1,8 +1,8 @@
 -- The texts are computed, and the digits of their numbers.
 use Rattle.std.proofs.Common.{refl}
 use Rattle.std.specs.Fmt.{digits}
-use Rattle.qs_graph.specs.Steps.{limit}
-use Rattle.qs_graph.specs.Walk.{move}
+use Rattle.qs_graph.specs.audit.Steps.{limit}
+use Rattle.qs_graph.specs.audit.Walk.{move}
 use Rattle.qs_plain_laws.specs.PlainSchedule.{scheduled}
 use Rattle.qs_core_laws.specs.CoreSchedule.{core_scheduled}
 use Rattle.qs_steps.specs.PlainQueues.{plain_queues}

@@ -1,8 +1,8 @@
 -- The lines are computed, and the digits of their numbers.
 use Rattle.std.proofs.Common.{refl}
 use Rattle.std.specs.Fmt.{digits}
-use Rattle.qs_graph.specs.Steps.{limit}
-use Rattle.qs_graph.specs.Walk.{move}
+use Rattle.qs_graph.specs.audit.Steps.{limit}
+use Rattle.qs_graph.specs.audit.Walk.{move}
 use Rattle.qs_steps.specs.PlainSteps.{plain_steps}
 use Rattle.qs_steps.specs.CoreSteps.{core_steps}
 use Rattle.qs_steps.proofs.laws.step_examples.Goals as goal

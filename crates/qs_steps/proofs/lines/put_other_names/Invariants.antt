@@ -1,6 +1,6 @@
 -- The names before this one are there, each after a space.
 use Rattle.std.proofs.Common.{◌≡◌, ◌++◌, codes, flat_map, take}
-use Rattle.qs_program.specs.Program.{object_at}
+use Rattle.qs_program.specs.audit.Program.{object_at}
 use Rattle.qs_steps.proofs.lines.put_other_names.Given as goal
 
 abbrev pub invariant-loop-object : goal.invariant-loop-object

@@ -1,6 +1,6 @@
 use Rattle.std.proofs.Common.{◌≡◌, ◌++◌, ap, arith, flat_map, length, ◌∙◌}
 use Rattle.std.specs.List.{range_with_len}
-use Rattle.qs_plain_laws.specs.Plain.{client_at}
+use Rattle.qs_plain_laws.specs.audit.Plain.{client_at}
 use Rattle.qs_plain.specs.Rules.{plain_of}
 use Rattle.qs_steps.specs.PlainQueues.{client_line}
 use Rattle.qs_steps.proofs.Queues.{numbers_more}

@@ -1,7 +1,7 @@
 use Rattle.std.proofs.Common.{◌++◌, ap, codes, decimal, flat_map, length, sym, ◌∙◌}
 use Rattle.std.proofs.lemmas.List.{length-map}
 use Rattle.std.proofs.lemmas.List.Folds.{flat_map-map}
-use Rattle.qs_program.specs.Program.{object_at}
+use Rattle.qs_program.specs.audit.Program.{object_at}
 use Rattle.qs_plain.specs.client.Queues.{QueueState}
 use Rattle.qs_steps.specs.PlainQueues.{private_line}
 use Rattle.qs_steps.proofs.Queues.{joined}

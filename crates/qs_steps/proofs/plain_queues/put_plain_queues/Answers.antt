@@ -1,5 +1,5 @@
 use Rattle.std.proofs.Common.{ap, ◌∙◌, sym}
-use Rattle.qs_plain_laws.specs.PlainSchedule.{is_finished}
+use Rattle.qs_plain_laws.specs.audit.PlainSchedule.{is_finished}
 use Rattle.qs_plain.specs.Rules.{plain_of}
 use Rattle.qs_steps.specs.PlainQueues.{all_queues}
 use Rattle.qs_steps.proofs.Queues.{text_if_finished, text_if_open}

@@ -1,5 +1,5 @@
 use Rattle.std.proofs.Common.{ap, ◌∙◌}
-use Rattle.qs_plain_laws.specs.Plain.{client_at}
+use Rattle.qs_plain_laws.specs.audit.Plain.{client_at}
 use Rattle.qs_plain.specs.Awaiting.{awaited_at}
 use Rattle.qs_plain.specs.Rules.{plain_of}
 use Rattle.qs_steps.specs.Telling.{awaited_text}

@@ -1,10 +1,11 @@
 use Rattle.std.proofs.Common.{◌≡◌, [], ap, cond, subst, sym, ◌∙◌}
-use Rattle.qs_program.specs.Program.{ProgramShape}
+use Rattle.qs_program.specs.audit.Program.{ProgramShape}
 use Rattle.qs_played.specs.Isolation.{IsIsolated}
-use Rattle.qs_played.specs.Played.{Played}
-use Rattle.qs_plain_laws.specs.Plain.{Plain}
+use Rattle.qs_played.specs.audit.Played.{Played}
+use Rattle.qs_plain_laws.specs.audit.Plain.{Plain}
 use Rattle.qs_plain_laws.specs.PlainIsolation.{commands_in_queue}
-use Rattle.qs_plain_laws.specs.PlainSchedule.{played_of, scheduled}
+use Rattle.qs_plain_laws.specs.audit.PlainSchedule.{played_of}
+use Rattle.qs_plain_laws.specs.PlainSchedule.{scheduled}
 use Rattle.qs_plain_laws.specs.PlainSyncSums.{AreQueriesCounted}
 use Rattle.qs_plain.specs.Rules.{RulesState, plain_of}
 use Rattle.qs_steps.specs.PlainQueues.{plain_queues, queues_text}

@@ -1,5 +1,5 @@
 use Rattle.std.proofs.Common.{[], ap, cond, subst, sym, ◌∙◌}
-use Rattle.qs_played.specs.Schedule.{schedule}
+use Rattle.qs_played.specs.audit.Schedule.{schedule}
 use Rattle.qs_steps.specs.Telling.{LeadTo, steps_from}
 use Rattle.qs_steps.proofs.telling.play_steps.Goals as goal
 

@@ -1,9 +1,9 @@
 use Rattle.std.proofs.Common.{Bool, ◌∙◌, ap, ap₂}
 use Rattle.std.proofs.lemmas.Result.{on_ok_weaker}
 use Rattle.qs_objects.specs.declared.held.Ticket.{Ticket}
-use Rattle.qs_svg.specs.Stretches.{ended_at, objects_at, ticket_at}
-use Rattle.qs_svg.specs.Places.{first_row, last_row}
-use Rattle.qs_svg.specs.Blocks.{block_frame, column_names}
+use Rattle.qs_svg.specs.audit.Stretches.{ended_at, objects_at, ticket_at}
+use Rattle.qs_svg.specs.audit.Places.{first_row, last_row}
+use Rattle.qs_svg.specs.audit.Blocks.{block_frame, column_names}
 use Rattle.qs_svg.proofs.Parts.{also, and_then, drawn}
 use Rattle.qs_text.proofs.Parts.{named}
 use Rattle.qs_svg.proofs.blocks.put_column.Goals as goal

@@ -1,4 +1,4 @@
-use Rattle.qs_svg.specs.Blocks.{column}
+use Rattle.qs_svg.specs.audit.Blocks.{column}
 use Rattle.qs_svg.proofs.Parts.{one_place_more}
 use Rattle.qs_svg.proofs.blocks.put_columns.Goals as goal
 

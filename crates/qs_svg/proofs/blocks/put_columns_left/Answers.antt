@@ -1,8 +1,8 @@
 use Rattle.std.proofs.Common.{◌≡◌, ◌<◌, ◌+◌, ◌-◌, ap, ap₂, ◌∙◌, arith, codes, length, nat_lt, true}
 use Rattle.std.proofs.lemmas.Bool.Decides.{nat_tests}
 use Rattle.std.proofs.lemmas.Result.{on_ok_weaker}
-use Rattle.qs_svg.specs.Shapes.{text_at}
-use Rattle.qs_svg.specs.Words.{counted}
+use Rattle.qs_svg.specs.audit.Shapes.{text_at}
+use Rattle.qs_svg.specs.audit.Words.{counted}
 use Rattle.qs_svg.proofs.Parts.{drawn}
 use Rattle.qs_text.proofs.Parts.{named}
 use Rattle.qs_svg.proofs.blocks.put_columns_left.Goals as goal

@@ -1,6 +1,6 @@
 use Rattle.std.proofs.Common.{◌+◌, ap, ap₂, codes}
 use Rattle.std.proofs.lemmas.Result.{on_ok_weaker}
-use Rattle.qs_svg.specs.Shapes.{path_start, with_number}
+use Rattle.qs_svg.specs.audit.Shapes.{path_start, with_number}
 use Rattle.qs_text.proofs.Parts.{named, then}
 use Rattle.qs_svg.proofs.blocks.put_frame.Goals as goal
 

@@ -1,6 +1,6 @@
 -- The entries of the ticket before this place are counted.
 use Rattle.std.proofs.Common.{◌≡◌, ◌≤◌, take}
-use Rattle.qs_svg.specs.Stretches as stretches
+use Rattle.qs_svg.specs.audit.Stretches as stretches
 use Rattle.qs_svg.proofs.facts.entries_for.Given as goal
 
 abbrev pub invariant-loop-entry : goal.invariant-loop-entry

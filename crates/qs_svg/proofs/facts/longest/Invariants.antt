@@ -1,6 +1,6 @@
 -- It is the most that a block has at an object before this one.
 use Rattle.std.proofs.Common.{◌≡◌}
-use Rattle.qs_svg.specs.Stretches as stretches
+use Rattle.qs_svg.specs.audit.Stretches as stretches
 use Rattle.qs_svg.proofs.facts.longest.Given as goal
 
 abbrev pub invariant-loop-object : goal.invariant-loop-object

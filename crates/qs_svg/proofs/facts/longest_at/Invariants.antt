@@ -1,6 +1,6 @@
 -- It is the most that a block before this column has.
 use Rattle.std.proofs.Common.{◌≡◌}
-use Rattle.qs_svg.specs.Stretches as stretches
+use Rattle.qs_svg.specs.audit.Stretches as stretches
 use Rattle.qs_svg.proofs.facts.longest_at.Given as goal
 
 abbrev pub invariant-loop-column : goal.invariant-loop-column

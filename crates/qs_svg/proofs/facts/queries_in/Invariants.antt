@@ -1,6 +1,6 @@
 -- The queries before this place are counted.
 use Rattle.std.proofs.Common.{◌≡◌, ◌≤◌, take}
-use Rattle.qs_svg.specs.Stretches as stretches
+use Rattle.qs_svg.specs.audit.Stretches as stretches
 use Rattle.qs_svg.proofs.facts.queries_in.Given as goal
 
 abbrev pub invariant-loop-entry : goal.invariant-loop-entry

@@ -1,6 +1,6 @@
 use Rattle.std.proofs.Common.{◌∙◌, ◌<◌, [], ap, arith, get_or, length, slice_index_or, sym}
 use Rattle.std.proofs.lemmas.List.{length-map}
-use Rattle.qs_sync_counts.specs.SyncRows.{object_of}
+use Rattle.qs_sync_counts.specs.audit.SyncRows.{object_of}
 use Rattle.qs_svg.proofs.SentFor.{sent_here, sent_later}
 use Rattle.qs_svg.proofs.facts.sent_for.Goals as goal
 

@@ -1,6 +1,6 @@
 -- None of the objects before this place is the one that is asked for.
 use Rattle.std.proofs.Common.{◌≡◌, drop}
-use Rattle.qs_svg.specs.Stretches as stretches
+use Rattle.qs_svg.specs.audit.Stretches as stretches
 use Rattle.qs_svg.proofs.facts.sent_for.Given as goal
 
 abbrev pub invariant-loop-number : goal.invariant-loop-number

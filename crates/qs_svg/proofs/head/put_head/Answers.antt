@@ -1,7 +1,7 @@
 use Rattle.std.proofs.Common.{◌∙◌, ap₂, ap}
 use Rattle.std.proofs.lemmas.Result.{on_ok_weaker}
-use Rattle.qs_svg.specs.Places.{bands_of, picture_height, picture_width}
-use Rattle.qs_svg.specs.RunSvg.{size_text}
+use Rattle.qs_svg.specs.audit.Places.{bands_of, picture_height, picture_width}
+use Rattle.qs_svg.specs.audit.RunSvg.{size_text}
 use Rattle.qs_text.proofs.Parts.{named, then}
 use Rattle.qs_svg.proofs.head.put_head.Goals as goal
 

@@ -1,4 +1,4 @@
-use Rattle.qs_svg.specs.Words.{object_told}
+use Rattle.qs_svg.specs.audit.Words.{object_told}
 use Rattle.qs_text.proofs.Parts.{one_text_more}
 use Rattle.qs_svg.proofs.head.put_objects_told.Goals as goal
 

@@ -1,7 +1,7 @@
 use Rattle.std.proofs.Common.{Bool, ap, ap₂}
 use Rattle.std.proofs.lemmas.Result.{on_ok_weaker}
 use Rattle.qs_objects.specs.declared.held.Ticket.{Ticket}
-use Rattle.qs_svg.specs.Words.{block_words, reserved_words}
+use Rattle.qs_svg.specs.audit.Words.{block_words, reserved_words}
 use Rattle.qs_text.proofs.Parts.{named, then}
 use Rattle.qs_svg.proofs.head.put_ticket_told.Goals as goal
 

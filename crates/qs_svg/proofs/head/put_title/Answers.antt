@@ -1,8 +1,8 @@
 use Rattle.std.proofs.Common.{List, ap, ◌∙◌, codes, length}
 use Rattle.std.proofs.lemmas.Result.{on_ok_weaker}
 use Rattle.qs_objects.specs.declared.held.Ticket.{Ticket}
-use Rattle.qs_svg.specs.Shapes.{with_number}
-use Rattle.qs_svg.specs.Words.{finished_words}
+use Rattle.qs_svg.specs.audit.Shapes.{with_number}
+use Rattle.qs_svg.specs.audit.Words.{finished_words}
 use Rattle.qs_text.proofs.Parts.{named, then}
 use Rattle.qs_svg.proofs.head.put_title.Goals as goal
 

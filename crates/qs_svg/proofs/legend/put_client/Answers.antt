@@ -1,6 +1,6 @@
 use Rattle.std.proofs.Common.{List, ℕ, ◌+◌, ◌*◌, ap₂}
 use Rattle.std.proofs.lemmas.Result.{on_ok_weaker}
-use Rattle.qs_svg.specs.Shapes.{text_at}
+use Rattle.qs_svg.specs.audit.Shapes.{text_at}
 use Rattle.qs_svg.proofs.Parts.{and_then, drawn}
 use Rattle.qs_text.proofs.Parts.{named}
 use Rattle.qs_svg.proofs.legend.put_client.Goals as goal

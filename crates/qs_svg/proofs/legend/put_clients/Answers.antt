@@ -1,4 +1,4 @@
-use Rattle.qs_svg.specs.Legend.{client_shapes}
+use Rattle.qs_svg.specs.audit.Legend.{client_shapes}
 use Rattle.qs_svg.proofs.Parts.{one_place_more}
 use Rattle.qs_svg.proofs.legend.put_clients.Goals as goal
 

@@ -1,8 +1,8 @@
 use Rattle.std.proofs.Common.{◌≡◌, ◌∙◌, ap, arith}
-use Rattle.qs_svg.specs.Shapes.{shapes_up_to}
-use Rattle.qs_svg.specs.Stretches.{all_columns}
-use Rattle.qs_svg.specs.Places.{bands_of}
-use Rattle.qs_svg.specs.Blocks.{row_names}
+use Rattle.qs_svg.specs.audit.Shapes.{shapes_up_to}
+use Rattle.qs_svg.specs.audit.Stretches.{all_columns}
+use Rattle.qs_svg.specs.audit.Places.{bands_of}
+use Rattle.qs_svg.specs.audit.Blocks.{row_names}
 use Rattle.qs_svg.proofs.Parts.{also, one_place_more}
 use Rattle.qs_svg.proofs.rows.put_all_names.Goals as goal
 

@@ -1,8 +1,8 @@
 use Rattle.std.proofs.Common.{◌≤◌, ◌+◌, ◌∙◌, List, add-one, ap, ap₂, arith, length}
 use Rattle.qs_objects.specs.declared.held.Entry.{Entry}
 use Rattle.qs_text.specs.declared.fates.fate.Fate.{Fate}
-use Rattle.qs_svg.specs.Stretches.{journal_of, stretch, stretch_fates, ticket_at}
-use Rattle.qs_svg.specs.Blocks.{cell}
+use Rattle.qs_svg.specs.audit.Stretches.{journal_of, stretch, stretch_fates, ticket_at}
+use Rattle.qs_svg.specs.audit.Blocks.{cell}
 use Rattle.qs_svg.proofs.Parts.{also, one_place_more}
 use Rattle.qs_svg.proofs.StretchEnds.{fates_of_length, fates_of_stretch, stretch_ends, stretch_of}
 use Rattle.qs_svg.proofs.rows.put_cells.Goals as goal

@@ -1,8 +1,9 @@
 -- The stretches before this column are there, and the next one begins here, within the journal.
 use Rattle.std.proofs.Common.{◌≡◌, ◌≤◌, length}
-use Rattle.qs_svg.specs.Shapes.{Draws, shapes_up_to}
-use Rattle.qs_svg.specs.Stretches.{journal_of, stretch, stretch_fates, stretch_start}
-use Rattle.qs_svg.specs.Blocks.{cell}
+use Rattle.qs_svg.specs.audit.Shapes.{shapes_up_to}
+use Rattle.qs_svg.specs.Shapes.{Draws}
+use Rattle.qs_svg.specs.audit.Stretches.{journal_of, stretch, stretch_fates, stretch_start}
+use Rattle.qs_svg.specs.audit.Blocks.{cell}
 use Rattle.qs_svg.proofs.rows.put_cells.Given as goal
 
 abbrev pub invariant-loop-column : goal.invariant-loop-column

@@ -2,8 +2,8 @@ use Rattle.std.proofs.Common.{◌-◌, ◌∙◌, [], List, ap, ap₂, arith, ge
 use Rattle.std.proofs.lemmas.Result.{on_ok_weaker}
 use Rattle.qs_objects.specs.declared.held.Entry.{Entry}
 use Rattle.qs_text.specs.declared.fates.fate.Fate.{Fate}
-use Rattle.qs_svg.specs.Stretches.{journal_of}
-use Rattle.qs_svg.specs.Blocks.{row_left}
+use Rattle.qs_svg.specs.audit.Stretches.{journal_of}
+use Rattle.qs_svg.specs.audit.Blocks.{row_left}
 use Rattle.qs_svg.proofs.FatesOfRows.{row_of_fates, rows_of_fates}
 use Rattle.qs_svg.proofs.Parts.{also, and_then}
 use Rattle.qs_svg.proofs.rows.put_row.Goals as goal

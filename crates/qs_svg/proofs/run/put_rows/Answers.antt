@@ -1,4 +1,4 @@
-use Rattle.qs_svg.specs.Blocks.{row}
+use Rattle.qs_svg.specs.audit.Blocks.{row}
 use Rattle.qs_svg.proofs.Parts.{one_place_more}
 use Rattle.qs_svg.proofs.run.put_rows.Goals as goal
 

@@ -1,5 +1,5 @@
 use Rattle.std.proofs.Common.{ap}
-use Rattle.qs_svg.specs.RunSvg.{picture}
+use Rattle.qs_svg.specs.audit.RunSvg.{picture}
 use Rattle.qs_text.proofs.Parts.{all_that_is, named}
 use Rattle.qs_svg.proofs.run.run_svg.Goals as goal
 

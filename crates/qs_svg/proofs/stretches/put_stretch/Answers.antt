@@ -1,8 +1,8 @@
 use Rattle.std.proofs.Common.{◌∙◌, Bool, ap, ap₂, length}
 use Rattle.std.proofs.lemmas.Result.{on_ok_weaker}
 use Rattle.qs_objects.specs.declared.held.Ticket.{Ticket}
-use Rattle.qs_svg.specs.Stretches.{ended_at, sent_for, syncs_at, ticket_at}
-use Rattle.qs_svg.specs.Blocks.{stretch_frame, sync_symbols}
+use Rattle.qs_svg.specs.audit.Stretches.{ended_at, sent_for, syncs_at, ticket_at}
+use Rattle.qs_svg.specs.audit.Blocks.{stretch_frame, sync_symbols}
 use Rattle.qs_svg.proofs.Parts.{also, and_then, drawn}
 use Rattle.qs_text.proofs.Parts.{named}
 use Rattle.qs_svg.proofs.stretches.put_stretch.Goals as goal

@@ -1,7 +1,7 @@
 use Rattle.std.proofs.Common.{List, ℕ, ap, ◌∙◌}
 use Rattle.std.proofs.lemmas.Result.{on_ok_weaker}
-use Rattle.qs_svg.specs.Shapes.{path_start}
-use Rattle.qs_svg.specs.Blocks.{form}
+use Rattle.qs_svg.specs.audit.Shapes.{path_start}
+use Rattle.qs_svg.specs.audit.Blocks.{form}
 use Rattle.qs_text.proofs.Parts.{named, then}
 use Rattle.qs_svg.proofs.stretches.put_symbol.Goals as goal
 

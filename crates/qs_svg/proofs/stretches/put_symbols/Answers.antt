@@ -3,9 +3,9 @@ use Rattle.std.proofs.lemmas.List.{get_or_default}
 use Rattle.qs_objects.specs.declared.held.Entry.{Entry}
 use Rattle.qs_text.specs.declared.fates.fate.Fate.{Fate}
 use Rattle.qs_text.specs.declared.fates.fate.Fate.TheVariants.{Done}
-use Rattle.qs_svg.specs.Stretches.{no_entry}
-use Rattle.qs_svg.specs.Places.{symbol_x, symbol_y}
-use Rattle.qs_svg.specs.Blocks.{request_shapes}
+use Rattle.qs_svg.specs.audit.Stretches.{no_entry}
+use Rattle.qs_svg.specs.audit.Places.{symbol_x, symbol_y}
+use Rattle.qs_svg.specs.audit.Blocks.{request_shapes}
 use Rattle.qs_svg.proofs.Parts.{also, one_place_more}
 use Rattle.qs_svg.proofs.stretches.put_symbols.Goals as goal
 

@@ -1,6 +1,6 @@
 use Rattle.std.proofs.Common.{◌+◌, ◌∙◌, List, ℕ, ap}
 use Rattle.std.proofs.lemmas.Result.{on_ok_weaker}
-use Rattle.qs_svg.specs.Shapes.{fitted_text}
+use Rattle.qs_svg.specs.audit.Shapes.{fitted_text}
 use Rattle.qs_text.proofs.Parts.{all_that_is, named}
 use Rattle.qs_svg.proofs.stretches.put_words.Goals as goal
 

@@ -1,7 +1,7 @@
 use Rattle.std.proofs.lemmas.Result.{on_ok_weaker}
 use Rattle.qs_text.proofs.Parts.{named, then}
 use Rattle.qs_text.specs.Texts.{Puts}
-use Rattle.qs_text.specs.Words.{request_text}
+use Rattle.qs_text.specs.audit.Words.{request_text}
 use Rattle.qs_svg.proofs.words.put_entry.Goals as goal
 
 pub returns : goal.returns

@@ -1,6 +1,6 @@
 use Rattle.std.proofs.Common.{◌≡◌, ap, arith}
-use Rattle.qs_objects.specs.Objects.{values_of}
-use Rattle.qs_text.specs.Texts.{spaced_value, texts_up_to}
+use Rattle.qs_objects.specs.audit.Objects.{values_of}
+use Rattle.qs_text.specs.audit.Texts.{spaced_value, texts_up_to}
 use Rattle.qs_text.proofs.Parts.{named, one_text_more}
 use Rattle.qs_svg.proofs.words.put_first_values.Goals as goal
 

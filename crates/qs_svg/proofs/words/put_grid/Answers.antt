@@ -1,7 +1,7 @@
 use Rattle.std.proofs.Common.{ap, codes, w64}
 use Rattle.std.proofs.lemmas.Int.{to_z-of_z}
 use Rattle.std.proofs.lemmas.Result.{on_ok_weaker}
-use Rattle.qs_svg.specs.Words.{with_integer}
+use Rattle.qs_svg.specs.audit.Words.{with_integer}
 use Rattle.qs_text.proofs.Parts.{named, then}
 use Rattle.qs_svg.proofs.words.put_grid.Goals as goal
 

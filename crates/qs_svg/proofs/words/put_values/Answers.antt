@@ -1,8 +1,8 @@
 use Rattle.std.proofs.Common.{◌∙◌, ap, ap₂}
 use Rattle.std.proofs.lemmas.Result.{on_ok_weaker}
-use Rattle.qs_objects.specs.Objects.{values_of}
-use Rattle.qs_text.specs.Texts.{spaced_value, texts_up_to}
-use Rattle.qs_svg.specs.Words.{values_end}
+use Rattle.qs_objects.specs.audit.Objects.{values_of}
+use Rattle.qs_text.specs.audit.Texts.{spaced_value, texts_up_to}
+use Rattle.qs_svg.specs.audit.Words.{values_end}
 use Rattle.qs_text.proofs.Parts.{named, then}
 use Rattle.qs_svg.proofs.words.put_values.Goals as goal
 

@@ -2,8 +2,8 @@ use Rattle.std.proofs.Common.{rules, ◌≡◌, ◌<◌, ◌≤◌, ◌+◌, ◌
 use Rattle.std.proofs.lemmas.Int.{to_z-of_z}
 use Rattle.std.proofs.lemmas.Option.{unwrap_or-slice_get}
 use Rattle.std.specs.Option.{unwrap_or}
-use Rattle.qs_objects.specs.Objects.{values_of}
-use Rattle.qs_svg.specs.Words.{told_in, value_size}
+use Rattle.qs_objects.specs.audit.Objects.{values_of}
+use Rattle.qs_svg.specs.audit.Words.{told_in, value_size}
 use Rattle.qs_svg.proofs.ToldValues.{one_more_told, stops_here}
 use Rattle.qs_svg.proofs.words.values_told.Goals as goal
 

@@ -1,9 +1,9 @@
 use Rattle.std.proofs.Common.{◌≡◌, ℕ, ◌+◌, ◌∷◌, [], length, get_or, sym, ap, ◌∙◌, subst, arith, below_more}
 use Rattle.std.proofs.lemmas.List.{get_or_append_left, get_or_push, length_push}
-use Rattle.qs_program.specs.Program.{binding_of, block_at}
-use Rattle.qs_graph.specs.Names.{graph_of}
-use Rattle.qs_syncset.specs.Codes.{BlockCode, IsBlockCode, no_code}
-use Rattle.qs_syncset.specs.Modes.{is_static}
+use Rattle.qs_program.specs.audit.Program.{binding_of, block_at}
+use Rattle.qs_graph.specs.audit.Names.{graph_of}
+use Rattle.qs_syncset.specs.audit.Codes.{BlockCode, IsBlockCode, no_code}
+use Rattle.qs_syncset.specs.audit.Modes.{is_static}
 use Rattle.qs_syncset.proofs.code.compile.Goals as goal
 
 pub loop-block-preserved : goal.loop-block-preserved

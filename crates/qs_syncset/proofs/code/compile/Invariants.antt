@@ -1,9 +1,9 @@
 use Rattle.std.proofs.Common.{◌≡◌, ℕ, ◌<◌, ◌≤◌, length, slice_index_or}
 use Rattle.std.specs.Prelude.{vec_capacity}
-use Rattle.qs_program.specs.Program.{binding_of, block_at}
-use Rattle.qs_graph.specs.Names.{graph_of}
-use Rattle.qs_syncset.specs.Codes.{IsBlockCode, no_code}
-use Rattle.qs_syncset.specs.Modes.{is_static}
+use Rattle.qs_program.specs.audit.Program.{binding_of, block_at}
+use Rattle.qs_graph.specs.audit.Names.{graph_of}
+use Rattle.qs_syncset.specs.audit.Codes.{IsBlockCode, no_code}
+use Rattle.qs_syncset.specs.audit.Modes.{is_static}
 use Rattle.qs_syncset.proofs.code.compile.Given as goal
 
 abbrev pub invariant-loop-block : goal.invariant-loop-block

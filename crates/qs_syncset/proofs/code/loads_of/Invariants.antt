@@ -1,7 +1,7 @@
 use Rattle.std.proofs.Common.{◌≡◌, ℕ, ◌<◌, ◌≤◌, length, slice_index_or}
-use Rattle.qs_program.specs.Limits.{most_handlers, most_requests}
-use Rattle.qs_program.specs.Loads.{load_of}
-use Rattle.qs_program.specs.Program.{block_at}
+use Rattle.qs_program.specs.audit.Limits.{most_handlers, most_requests}
+use Rattle.qs_program.specs.audit.Loads.{load_of}
+use Rattle.qs_program.specs.audit.Program.{block_at}
 use Rattle.qs_syncset.proofs.code.loads_of.Given as goal
 
 abbrev pub invariant-loop-handler : goal.invariant-loop-handler

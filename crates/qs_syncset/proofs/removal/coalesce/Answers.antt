@@ -2,11 +2,11 @@ use Rattle.std.proofs.Common.{◌≡◌, ℕ, ◌+◌, ◌<◌, true, false, ari
 use Rattle.std.specs.Prelude.{◌↔◌}
 use Rattle.qs_objects.proofs.Elements.{AllByRecursion-get_or}
 use Rattle.qs_graph.specs.declared.node.Node.TheVariants.{Sync}
-use Rattle.qs_graph.specs.Nodes.{ControlGraph, GraphNode, place_at}
+use Rattle.qs_graph.specs.audit.Nodes.{ControlGraph, GraphNode, place_at}
 use Rattle.qs_graph.specs.WellFormed.{IsInRange, IsGraphNode}
-use Rattle.qs_graph.specs.Nodes.{exit}
-use Rattle.qs_program.specs.Limits.{most_handlers}
-use Rattle.qs_syncset.specs.held.Held.{IsHeld}
+use Rattle.qs_graph.specs.audit.Nodes.{exit}
+use Rattle.qs_program.specs.audit.Limits.{most_handlers}
+use Rattle.qs_syncset.specs.audit.held.Held.{IsHeld}
 use Rattle.qs_syncset.specs.held.Table.{has}
 use Rattle.qs_syncset.proofs.Removing.{IsDone, done_kept, done_set, removed, not_held, no_sync}
 use Rattle.qs_syncset.proofs.removal.coalesce.Goals as goal

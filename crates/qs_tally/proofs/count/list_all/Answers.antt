@@ -2,7 +2,7 @@ use Rattle.std.proofs.Common.{◌≡◌, [], Some, add-one, length, refl, slice_
 use Rattle.std.specs.List.{AllByRecursion, AllZip}
 use Rattle.std.proofs.lemmas.List.{take_all}
 use Rattle.std.proofs.lemmas.Option.{slice_get_read}
-use Rattle.qs_meaning.specs.Configurations.{IsComplete}
+use Rattle.qs_meaning.specs.audit.Configurations.{IsComplete}
 use Rattle.qs_outcomes.specs.Outcomes.{IsListed}
 use Rattle.qs_tally.specs.Counting.{HasNotCome, IsPlaced, IsSameEnd}
 use Rattle.qs_tally.specs.Tallies.{standings_in}

@@ -1,7 +1,7 @@
 use Rattle.std.proofs.Common.{◌<◌, sym, ap, ◌∙◌, subst, arith}
 use Rattle.std.specs.List.{AllByRecursion}
-use Rattle.qs_program.specs.Limits.{most_handlers}
-use Rattle.qs_program.specs.Program.{BlockShape, own_block}
+use Rattle.qs_program.specs.audit.Limits.{most_handlers}
+use Rattle.qs_program.specs.audit.Program.{BlockShape, own_block}
 use Rattle.qs_meaning.proofs.Each.{each_map}
 use Rattle.qs_graph.proofs.Ranges.{sound_own}
 use Rattle.qs_text.proofs.held.reserved_by.Goals as goal

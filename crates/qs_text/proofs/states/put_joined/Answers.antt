@@ -1,8 +1,8 @@
 use Rattle.std.proofs.Common.{◌≡◌, ◌++◌, ap, ◌∙◌, length, get_or, pos, arith}
-use Rattle.qs_objects.specs.Objects.{values_of}
+use Rattle.qs_objects.specs.audit.Objects.{values_of}
 use Rattle.qs_text.proofs.Joined.{at_each_place, each_place_more, one_place_more, spaced_joined}
 use Rattle.qs_text.specs.TellApart.{IsWord}
-use Rattle.qs_text.specs.Texts.{texts_up_to, spaced_value}
+use Rattle.qs_text.specs.audit.Texts.{texts_up_to, spaced_value}
 use Rattle.qs_text.proofs.states.put_joined.Goals as goal
 
 pub loop-place-preserved : goal.loop-place-preserved

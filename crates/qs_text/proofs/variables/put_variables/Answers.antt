@@ -1,7 +1,7 @@
 use Rattle.std.proofs.Common.{◌≡◌, ◌++◌, ap, ◌∙◌, length, get_or, pos, arith}
 use Rattle.qs_text.proofs.Joined.{each_place_more, one_place_more}
 use Rattle.qs_text.specs.TellApart.{IsWord}
-use Rattle.qs_text.specs.Texts.{texts_up_to}
+use Rattle.qs_text.specs.audit.Texts.{texts_up_to}
 use Rattle.qs_text.specs.Variables.{variable_text}
 use Rattle.qs_text.proofs.variables.put_variables.Goals as goal
 

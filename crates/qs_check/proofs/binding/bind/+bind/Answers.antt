@@ -1,5 +1,5 @@
 use Rattle.std.proofs.Common.{ap, arith, ◌∙◌, sym}
-use Rattle.qs_program.specs.Binding.{bound_statements}
+use Rattle.qs_program.specs.audit.Binding.{bound_statements}
 use Rattle.qs_program.specs.Sound.{levels_of}
 use Rattle.qs_program.specs.Views.{single, size_of}
 use Rattle.qs_program.proofs.StatementLists.{size_at}

@@ -1,5 +1,5 @@
 use Rattle.std.proofs.Common.{◌≡◌, ◌+◌, ◌*◌, drop}
-use Rattle.qs_program.specs.Binding.{bound_statements}
+use Rattle.qs_program.specs.audit.Binding.{bound_statements}
 use Rattle.qs_program.specs.Statements.{join_statements}
 use Rattle.qs_program.specs.Views.{single, size_of, statements_of}
 use Rattle.qs_check.proofs.binding.bind.+bind.Given as goal

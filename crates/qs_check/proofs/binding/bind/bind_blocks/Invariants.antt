@@ -1,5 +1,5 @@
 use Rattle.std.proofs.Common.{◌≡◌, ◌++◌, drop, map}
-use Rattle.qs_program.specs.Binding.{bound_block}
+use Rattle.qs_program.specs.audit.Binding.{bound_block}
 use Rattle.qs_check.proofs.binding.bind.bind_blocks.Given as goal
 
 abbrev pub invariant-loop-block : goal.invariant-loop-block

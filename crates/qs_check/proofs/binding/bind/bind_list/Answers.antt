@@ -1,5 +1,5 @@
 use Rattle.std.proofs.Common.{◌∙◌, map, ap, sym}
-use Rattle.qs_program.specs.Binding.{bound}
+use Rattle.qs_program.specs.audit.Binding.{bound}
 use Rattle.qs_check.proofs.binding.Binds.{first_more, firsts_are, with_firsts}
 use Rattle.qs_script.proofs.tree.Sizes.{drop_past}
 use Rattle.qs_check.proofs.binding.bind.bind_list.Goals as goal

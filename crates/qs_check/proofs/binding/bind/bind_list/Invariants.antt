@@ -1,5 +1,5 @@
 use Rattle.std.proofs.Common.{◌≡◌, [], drop, map}
-use Rattle.qs_program.specs.Binding.{bound}
+use Rattle.qs_program.specs.audit.Binding.{bound}
 use Rattle.qs_check.proofs.binding.Binds.{with_firsts}
 use Rattle.qs_check.proofs.binding.bind.bind_list.Given as goal
 

@@ -1,5 +1,5 @@
 use Rattle.std.proofs.Common.{◌≡◌, drop}
-use Rattle.qs_program.specs.Numbering.{same_name}
+use Rattle.qs_program.specs.audit.Numbering.{same_name}
 use Rattle.qs_check.proofs.fault_places.operators.are_same.Given as goal
 
 abbrev pub invariant-loop-i : goal.invariant-loop-i

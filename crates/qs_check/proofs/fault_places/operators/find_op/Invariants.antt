@@ -1,5 +1,5 @@
 use Rattle.std.proofs.Common.{◌≡◌, drop}
-use Rattle.qs_check.specs.fault_places.Operators.{called}
+use Rattle.qs_check.specs.audit.fault_places.Operators.{called}
 use Rattle.qs_check.proofs.fault_places.operators.find_op.Given as goal
 
 abbrev pub invariant-loop-op : goal.invariant-loop-op

@@ -2,7 +2,7 @@ use Rattle.std.proofs.Common.{◌≡◌, ap, arith, drop, sym, ◌+◌, ◌∙�
 use Rattle.std.proofs.lemmas.Result.{err_from_is_err_and}
 use Rattle.qs_script.specs.tree.Views.{single, size_of, stmts_of}
 use Rattle.qs_script.proofs.tree.Sizes.{size_at}
-use Rattle.qs_check.specs.fault_places.Places.{places, call_places, test_places, scope_or_fault, variable}
+use Rattle.qs_check.specs.audit.fault_places.Places.{places, call_places, test_places, scope_or_fault, variable}
 use Rattle.qs_check.proofs.fault_places.Walks.{places-drop, walk_fails, walk_goes_on, meets_err, first_fails, other_meets, one_then}
 use Rattle.qs_check.proofs.fault_places.walk.+check.Goals as goal
 

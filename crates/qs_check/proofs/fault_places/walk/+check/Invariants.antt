@@ -1,6 +1,6 @@
 use Rattle.std.proofs.Common.{◌≡◌, ◌+◌, ◌*◌, drop}
 use Rattle.qs_script.specs.tree.Views.{single, size_of, stmts_of}
-use Rattle.qs_check.specs.fault_places.Places.{scope_or_fault, places}
+use Rattle.qs_check.specs.audit.fault_places.Places.{scope_or_fault, places}
 use Rattle.qs_check.proofs.fault_places.walk.+check.Given as goal
 
 abbrev pub decreases-check_body : goal.decreases-check_body

@@ -1,6 +1,6 @@
 use Rattle.std.proofs.lemmas.Result.{err_from_is_err_and}
 use Rattle.std.proofs.Common.{false}
-use Rattle.qs_check.specs.fault_places.Places.{scope_or_fault, separate, listed_places, places, block_places}
+use Rattle.qs_check.specs.audit.fault_places.Places.{scope_or_fault, separate, listed_places, places, block_places}
 use Rattle.qs_check.proofs.fault_places.Walks.{fails_after, meets_after, meets_err}
 use Rattle.qs_check.proofs.fault_places.walk.check_block.Goals as goal
 

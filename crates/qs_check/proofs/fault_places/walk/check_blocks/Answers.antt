@@ -1,6 +1,6 @@
 use Rattle.std.proofs.lemmas.Result.{err_from_is_err_and}
 use Rattle.std.proofs.Common.{drop, ◌+◌}
-use Rattle.qs_check.specs.fault_places.Places.{scope_or_fault, block_places, blocks_places}
+use Rattle.qs_check.specs.audit.fault_places.Places.{scope_or_fault, block_places, blocks_places}
 use Rattle.qs_check.proofs.fault_places.Walks.{parts_at, walk_fails, walk_goes_on, meets_err}
 use Rattle.qs_check.proofs.fault_places.walk.check_blocks.Goals as goal
 

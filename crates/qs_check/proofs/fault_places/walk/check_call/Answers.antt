@@ -1,6 +1,6 @@
 use Rattle.std.proofs.lemmas.Result.{err_from_is_err_and}
 use Rattle.std.proofs.Common.{length}
-use Rattle.qs_check.specs.fault_places.Places.{scope_or_fault, request_places, atoms_places, call_places}
+use Rattle.qs_check.specs.audit.fault_places.Places.{scope_or_fault, request_places, atoms_places, call_places}
 use Rattle.qs_check.proofs.fault_places.Walks.{fails_first, meets_then, meets_err}
 use Rattle.qs_check.proofs.fault_places.walk.check_call.Goals as goal
 

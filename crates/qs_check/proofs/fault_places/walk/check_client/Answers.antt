@@ -1,7 +1,7 @@
 use Rattle.std.proofs.Common.{◌≡◌, OnOk, ap, subst, List}
-use Rattle.qs_program.specs.Numbering.{Name}
-use Rattle.qs_check.specs.fault_places.Places.{client, blocks_places}
-use Rattle.qs_check.specs.fault_places.Variables.{variables_at}
+use Rattle.qs_program.specs.audit.Numbering.{Name}
+use Rattle.qs_check.specs.audit.fault_places.Places.{client, blocks_places}
+use Rattle.qs_check.specs.audit.fault_places.Variables.{variables_at}
 use Rattle.qs_check.proofs.fault_places.Steps.{variables_meet, stepped}
 use Rattle.qs_check.proofs.fault_places.walk.check_client.Goals as goal
 

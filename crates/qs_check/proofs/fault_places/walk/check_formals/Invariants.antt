@@ -1,5 +1,5 @@
 use Rattle.std.proofs.Common.{◌≡◌, drop}
-use Rattle.qs_check.specs.fault_places.Places.{scope_or_fault, formals_places}
+use Rattle.qs_check.specs.audit.fault_places.Places.{scope_or_fault, formals_places}
 use Rattle.qs_check.proofs.fault_places.walk.check_formals.Given as goal
 
 abbrev pub invariant-loop-formal : goal.invariant-loop-formal

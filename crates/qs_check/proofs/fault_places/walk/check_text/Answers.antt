@@ -1,5 +1,5 @@
 use Rattle.std.proofs.lemmas.Result.{err_from_is_err_and}
-use Rattle.qs_check.specs.fault_places.Places.{scope_or_fault, blocks_places, formals_places, text_places}
+use Rattle.qs_check.specs.audit.fault_places.Places.{scope_or_fault, blocks_places, formals_places, text_places}
 use Rattle.qs_check.proofs.fault_places.Walks.{fails_first, meets_then, meets_err}
 use Rattle.qs_check.proofs.fault_places.walk.check_text.Goals as goal
 

@@ -2,7 +2,7 @@ use Rattle.std.proofs.Common.{ap, arith, ◌∙◌, sym}
 use Rattle.qs_script.specs.tree.Form as form
 use Rattle.qs_script.specs.tree.Views as views
 use Rattle.qs_script.proofs.tree.Sizes.{size_at}
-use Rattle.qs_check.specs.resolution.Resolve.{body_of}
+use Rattle.qs_check.specs.audit.resolution.Resolve.{body_of}
 use Rattle.qs_program.specs.Sound.{levels_of}
 use Rattle.qs_check.proofs.resolution.Resolving.{goes_on, all_done, levels_at, levels_same}
 use Rattle.qs_check.proofs.resolution.resolve.+resolve.Goals as goal

@@ -1,7 +1,7 @@
 use Rattle.std.proofs.Common.{◌≡◌, ◌+◌, ◌*◌, drop}
 use Rattle.qs_script.specs.tree.Views as views
 use Rattle.qs_program.specs.Statements.{join_statements}
-use Rattle.qs_check.specs.resolution.Resolve.{body_of}
+use Rattle.qs_check.specs.audit.resolution.Resolve.{body_of}
 use Rattle.qs_check.proofs.resolution.resolve.+resolve.Given as goal
 
 abbrev pub decreases-resolve_body : goal.decreases-resolve_body

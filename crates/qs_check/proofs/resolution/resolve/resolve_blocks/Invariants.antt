@@ -1,5 +1,5 @@
 use Rattle.std.proofs.Common.{◌≡◌, ◌++◌, drop, map}
-use Rattle.qs_check.specs.resolution.Resolve.{block_shape}
+use Rattle.qs_check.specs.audit.resolution.Resolve.{block_shape}
 use Rattle.qs_check.proofs.resolution.resolve.resolve_blocks.Given as goal
 
 abbrev pub invariant-loop-block : goal.invariant-loop-block

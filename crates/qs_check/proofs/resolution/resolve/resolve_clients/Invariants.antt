@@ -1,7 +1,8 @@
 use Rattle.std.proofs.Common.{◌≡◌, ◌≤◌, ◌++◌, drop, length}
 use Rattle.std.specs.List.{AllByRecursion}
-use Rattle.qs_program.specs.Limits.{most_variables}
-use Rattle.qs_check.specs.resolution.Resolve.{clients_of, variable_lists, templates_in}
+use Rattle.qs_program.specs.audit.Limits.{most_variables}
+use Rattle.qs_check.specs.audit.resolution.Resolve.{clients_of, templates_in}
+use Rattle.qs_check.specs.resolution.Resolve.{variable_lists}
 use Rattle.qs_check.proofs.resolution.resolve.resolve_clients.Given as goal
 
 abbrev pub invariant-loop-item : goal.invariant-loop-item

@@ -1,5 +1,5 @@
 use Rattle.std.proofs.Common.{◌≡◌, ◌++◌, drop, map}
-use Rattle.qs_program.specs.Numbering.{found_at}
+use Rattle.qs_program.specs.audit.Numbering.{found_at}
 use Rattle.qs_check.proofs.resolution.resolve.resolve_list.Given as goal
 
 abbrev pub invariant-loop-name : goal.invariant-loop-name

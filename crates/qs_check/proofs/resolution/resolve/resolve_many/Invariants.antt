@@ -1,5 +1,5 @@
 use Rattle.std.proofs.Common.{◌≡◌, ◌++◌, drop, map}
-use Rattle.qs_check.specs.resolution.Resolve.{atom_of}
+use Rattle.qs_check.specs.audit.resolution.Resolve.{atom_of}
 use Rattle.qs_check.proofs.resolution.resolve.resolve_many.Given as goal
 
 abbrev pub invariant-loop-atom : goal.invariant-loop-atom

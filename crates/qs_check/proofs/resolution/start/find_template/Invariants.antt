@@ -1,5 +1,5 @@
 use Rattle.std.proofs.Common.{◌≡◌, drop}
-use Rattle.qs_check.specs.resolution.Resolve.{template_called, templates_in}
+use Rattle.qs_check.specs.audit.resolution.Resolve.{template_called, templates_in}
 use Rattle.qs_check.proofs.resolution.start.find_template.Given as goal
 
 abbrev pub invariant-loop-item : goal.invariant-loop-item

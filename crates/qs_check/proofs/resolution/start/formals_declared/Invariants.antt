@@ -1,5 +1,5 @@
 use Rattle.std.proofs.Common.{◌≡◌, ◌++◌, drop}
-use Rattle.qs_check.specs.resolution.Resolve.{declared_formals}
+use Rattle.qs_check.specs.audit.resolution.Resolve.{declared_formals}
 use Rattle.qs_check.proofs.resolution.start.formals_declared.Given as goal
 
 abbrev pub invariant-loop-formal : goal.invariant-loop-formal

@@ -1,5 +1,5 @@
 use Rattle.std.proofs.Common.{sym}
-use Rattle.qs_check.specs.resolution.Resolve.{templates_in}
+use Rattle.qs_check.specs.audit.resolution.Resolve.{templates_in}
 use Rattle.qs_check.proofs.resolution.TemplateSearch.{called_faultless, called_formed}
 use Rattle.qs_check.proofs.resolution.start.resolve_started.Goals as goal
 

@@ -1,12 +1,12 @@
 use Rattle.std.proofs.Common.{◌∙◌, ◌≤◌, List, length, map, Some, ap, sym, subst}
 use Rattle.std.specs.List.{AllByRecursion}
-use Rattle.qs_script.specs.tree.Limits.{most_levels}
-use Rattle.qs_program.specs.Binding.{bound_block}
-use Rattle.qs_program.specs.Limits.{most_objects, most_variables}
-use Rattle.qs_program.specs.Numbering.{Name, found_at}
-use Rattle.qs_program.specs.Program.{BlockShape}
+use Rattle.qs_script.specs.audit.tree.Limits.{most_levels}
+use Rattle.qs_program.specs.audit.Binding.{bound_block}
+use Rattle.qs_program.specs.audit.Limits.{most_objects, most_variables}
+use Rattle.qs_program.specs.audit.Numbering.{Name, found_at}
+use Rattle.qs_program.specs.audit.Program.{BlockShape}
 use Rattle.qs_program.specs.Sound.{levels_of}
-use Rattle.qs_check.specs.resolution.Resolve.{block_shape, declared_formals}
+use Rattle.qs_check.specs.audit.resolution.Resolve.{block_shape, declared_formals}
 use Rattle.qs_check.proofs.resolution.TemplateSearch.{formed_levels}
 use Rattle.qs_check.proofs.resolution.TemplateFormals.{text_known}
 use Rattle.qs_check.proofs.resolution.start.start_walked.Goals as goal

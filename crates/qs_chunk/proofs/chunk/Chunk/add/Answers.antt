@@ -1,5 +1,5 @@
 use Rattle.std.proofs.Common.{◌+◌, ◌==◌, [], ◌∷◌, ◌++◌, sym, ap, ◌∙◌, subst, arith}
-use Rattle.qs_chunk.specs.Batch.{batch}
+use Rattle.qs_chunk.specs.audit.Batch.{batch}
 use Rattle.qs_chunk.specs.Ring.{IsRing, ring_values}
 use Rattle.qs_chunk.proofs.Rings.{free_place, pushed}
 use Rattle.qs_chunk.proofs.chunk.Chunk.add.Goals as goal

@@ -1,5 +1,5 @@
 use Rattle.std.proofs.Common.{refl, ◌∙◌, arith}
-use Rattle.qs_chunk.specs.Batch.{batch}
+use Rattle.qs_chunk.specs.audit.Batch.{batch}
 use Rattle.qs_chunk.proofs.Rings.{fresh}
 use Rattle.qs_chunk.proofs.chunk.Chunk.with_capacity.Goals as goal
 

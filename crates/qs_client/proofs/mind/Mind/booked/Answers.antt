@@ -1,10 +1,11 @@
 use Rattle.std.proofs.Common.{◌≡◌, List, [], ◌∷◌, ◌++◌, refl, sym, ap, ◌∙◌, subst, length, arith}
-use Rattle.qs_program.specs.Values.{Locals}
-use Rattle.qs_graph.specs.Steps.{limit}
-use Rattle.qs_client.specs.rules.Client.{between}
+use Rattle.qs_program.specs.audit.Values.{Locals}
+use Rattle.qs_graph.specs.audit.Steps.{limit}
+use Rattle.qs_client.specs.audit.rules.Client.{between}
 use Rattle.qs_client.specs.declared.rules.act.Act.TheVariants as acts
 use Rattle.qs_client.specs.SoundMind.{IsSoundMind}
-use Rattle.qs_client.specs.ClientModel.{Asks, mind_after_begin}
+use Rattle.qs_client.specs.audit.ClientModel.{mind_after_begin}
+use Rattle.qs_client.specs.ClientModel.{Asks}
 use Rattle.qs_client.specs.MindState.{MindState, mind_of, settings_in}
 use Rattle.qs_client.specs.contracts.mind.Mind.{the_view}
 use Rattle.qs_client.proofs.BlockBeginnings.{begin_is, state_at_begin, begin_comes, begin_sound, begin_running, next_ticket, reserves}

@@ -1,10 +1,11 @@
 use Rattle.std.proofs.Common.{◌≡◌, [], refl, sym, ap, ◌∙◌, subst, length, arith}
 use Rattle.qs_objects.specs.declared.Request.{Request}
-use Rattle.qs_chunk.specs.Batch.{Batch, batch}
-use Rattle.qs_client.specs.rules.Client.{take_chunk}
+use Rattle.qs_chunk.specs.audit.Batch.{Batch, batch}
+use Rattle.qs_client.specs.audit.rules.Client.{take_chunk}
 use Rattle.qs_client.specs.declared.rules.act.Act.TheVariants as acts
 use Rattle.qs_client.specs.SoundMind.{IsSoundMind}
-use Rattle.qs_client.specs.ClientModel.{Asks, mind_after_chunk}
+use Rattle.qs_client.specs.audit.ClientModel.{mind_after_chunk}
+use Rattle.qs_client.specs.ClientModel.{Asks}
 use Rattle.qs_client.specs.MindState.{MindState, block_of, client_in, mind_of, settings_in}
 use Rattle.qs_client.specs.contracts.mind.Mind.{the_view}
 use Rattle.qs_client.proofs.MindRefinement.{asks_nothing, needs_begun, block_inside, come_sound, chunk_is, nothing_left, steady, wants_of}

@@ -1,5 +1,5 @@
 use Rattle.std.proofs.Common.{◌≡◌, false, sym, ap, ◌∙◌, arith}
-use Rattle.qs_client.specs.ClientModel.{is_between}
+use Rattle.qs_client.specs.audit.ClientModel.{is_between}
 use Rattle.qs_client.specs.MindState.{MindState, mind_of}
 use Rattle.qs_client.specs.contracts.mind.Mind.{the_view}
 use Rattle.qs_client.proofs.MindRefinement.{begun_between}

@@ -1,7 +1,7 @@
 use Rattle.std.proofs.Common.{◌≡◌, ◌<◌, ◌+◌, refl, sym, ap, ◌∙◌, subst, length, arith}
 use Rattle.qs_client.specs.SoundMind.{IsSoundMind}
 use Rattle.qs_sync_counts.specs.SyncRows.{counts_state}
-use Rattle.qs_client.specs.ClientModel.{finish, tally}
+use Rattle.qs_client.specs.audit.ClientModel.{finish, tally}
 use Rattle.qs_client.specs.MindState.{MindState, mind_of, settings_in}
 use Rattle.qs_client.specs.contracts.mind.Mind.{the_view}
 use Rattle.qs_client.proofs.MindRefinement.{begun_outgoing, block_inside, counts_fit, tally_state, finish_is, finish_none, finish_sound, syncs_fit, with_run, with_syncs}

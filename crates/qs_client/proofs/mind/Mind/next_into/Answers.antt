@@ -2,7 +2,8 @@ use Rattle.std.proofs.Common.{◌≡◌, sym, ap, ◌∙◌, subst, length, arit
 use Rattle.qs_client.specs.run.NextActs.{HasActed}
 use Rattle.qs_client.specs.declared.rules.outgoing.Outgoing.{Outgoing}
 use Rattle.qs_client.specs.SoundMind.{IsSoundMind}
-use Rattle.qs_client.specs.ClientModel.{Asks, ClientModel, act_due, finish, hands_out}
+use Rattle.qs_client.specs.audit.ClientModel.{ClientModel, act_due, finish, hands_out}
+use Rattle.qs_client.specs.ClientModel.{Asks}
 use Rattle.qs_client.specs.MindState.{MindState, block_of, mind_of, settings_in}
 use Rattle.qs_client.specs.contracts.mind.Mind.{the_view}
 use Rattle.qs_client.proofs.MindRefinement.{acts_asked, acts_is, acts_sound, hands_over, quiet_asks}

@@ -1,7 +1,7 @@
 use Rattle.std.proofs.Common.{◌≡◌, ◌<◌, ◌+◌, ℕ, List, [], ◌∷◌, ◌++◌, length, map, take, sym, ap, ◌∙◌, arith}
 use Rattle.std.proofs.lemmas.List.{map-append, take_more}
 use Rattle.qs_objects.specs.Sums.{total}
-use Rattle.qs_syncset.specs.Codes.{BlockCode, no_code}
+use Rattle.qs_syncset.specs.audit.Codes.{BlockCode, no_code}
 use Rattle.qs_client.specs.run.BlockSizes.{room_for}
 use Rattle.qs_client.proofs.run.begin.empty_traces.Goals as goal
 

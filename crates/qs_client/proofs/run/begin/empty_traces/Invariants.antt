@@ -1,6 +1,6 @@
 use Rattle.std.proofs.Common.{◌≡◌, ◌≤◌, ◌*◌, map, take, vec_len, vec_capacity}
 use Rattle.qs_objects.specs.Sums.{total}
-use Rattle.qs_program.specs.Limits.{most_handlers, most_requests}
+use Rattle.qs_program.specs.audit.Limits.{most_handlers, most_requests}
 use Rattle.qs_client.specs.run.BlockSizes.{room_for}
 use Rattle.qs_client.proofs.run.begin.empty_traces.Given as goal
 

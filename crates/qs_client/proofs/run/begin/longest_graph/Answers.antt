@@ -1,8 +1,8 @@
 use Rattle.std.proofs.Common.{◌≡◌, ◌<◌, max, List, [], ◌∷◌, ◌++◌, length, take, get_or, refl, sym, ap, ◌∙◌, arith}
 use Rattle.std.proofs.lemmas.List.{take_all, take_more}
-use Rattle.qs_graph.specs.Nodes as places
-use Rattle.qs_syncset.specs.Codes.{BlockCode, no_code}
-use Rattle.qs_client.specs.run.BlockSizes.{longest}
+use Rattle.qs_graph.specs.audit.Nodes as places
+use Rattle.qs_syncset.specs.audit.Codes.{BlockCode, no_code}
+use Rattle.qs_client.specs.audit.run.BlockSizes.{longest}
 use Rattle.qs_client.proofs.run.begin.longest_graph.Goals as goal
 
 longest_last : (xs : List BlockCode) (b : BlockCode) → longest (xs ++ b ∷ []) ≡ max (length b.graph) (longest xs)

@@ -1,6 +1,6 @@
 use Rattle.std.proofs.Common.{◌≡◌, ◌≤◌, ◌*◌}
-use Rattle.qs_program.specs.Limits.{most_requests}
-use Rattle.qs_syncset.specs.Codes.{code_at, load_at}
+use Rattle.qs_program.specs.audit.Limits.{most_requests}
+use Rattle.qs_syncset.specs.audit.Codes.{code_at, load_at}
 use Rattle.qs_client.specs.run.BlockSizes.{sum_below}
 use Rattle.qs_client.proofs.run.begin.room_of.Given as goal
 

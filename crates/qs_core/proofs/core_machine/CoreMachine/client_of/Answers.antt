@@ -1,5 +1,5 @@
 use Rattle.std.proofs.Common.{◌<◌, length, get_or, ap, sym, subst, ◌∙◌}
-use Rattle.qs_handler.specs.Handler.{act_of}
+use Rattle.qs_handler.specs.audit.Handler.{act_of}
 use Rattle.qs_played.proofs.Lists.{get_or-any}
 use Rattle.qs_core.specs.parts.CoreHandlers.{no_core_handler, turns_to}
 use Rattle.qs_core.specs.state.CoreState.{CoreState, core_of}

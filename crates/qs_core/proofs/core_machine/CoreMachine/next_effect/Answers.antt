@@ -1,5 +1,5 @@
 use Rattle.std.proofs.Common.{◌<◌, ◌≤◌, ap, length, sym, subst, ◌∙◌, arith}
-use Rattle.qs_client.specs.ClientModel.{act_due}
+use Rattle.qs_client.specs.audit.ClientModel.{act_due}
 use Rattle.qs_core.specs.parts.CoreHandlers.{core_handler_at, handler_with_act}
 use Rattle.qs_core.specs.parts.LaneStates.{lane_at}
 use Rattle.qs_core.specs.state.CoreState.{CoreState, codes_of, core_of, client_part_at}

@@ -1,6 +1,6 @@
 use Rattle.std.proofs.Common.{◌≡◌, ◌<◌, ◌≤◌, ap, length, sym, subst, ◌∙◌, arith}
 use Rattle.std.specs.Prelude.{IfOk}
-use Rattle.qs_client.specs.ClientModel.{act_due}
+use Rattle.qs_client.specs.audit.ClientModel.{act_due}
 use Rattle.qs_core.specs.parts.CarriedRequests.{sent_requests}
 use Rattle.qs_core.specs.parts.CoreHandlers.{core_handler_at, handler_with_act}
 use Rattle.qs_core.specs.parts.LaneStates.{lane_at}

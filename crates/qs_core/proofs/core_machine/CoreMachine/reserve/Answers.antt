@@ -1,7 +1,7 @@
 use Rattle.std.proofs.Common.{◌≡◌, ap, sym, subst, ◌∙◌, arith}
 use Rattle.qs_objects.specs.declared.held.Ticket.{Ticket}
-use Rattle.qs_program.specs.Program.{BlockShape, block_at}
-use Rattle.qs_played.specs.Played.{ticket}
+use Rattle.qs_program.specs.audit.Program.{BlockShape, block_at}
+use Rattle.qs_played.specs.audit.Played.{ticket}
 use Rattle.qs_core.specs.parts.CoreClients.{CoreClientState, whole_of}
 use Rattle.qs_core.specs.parts.CoreHandlers.{CanEnterAll}
 use Rattle.qs_core.specs.state.CoreState.{CoreState}

@@ -1,5 +1,5 @@
 use Rattle.std.proofs.Common.{◌&&◌, ap, sym, subst, ◌∙◌}
-use Rattle.qs_core_laws.specs.CoreSchedule.{is_finished}
+use Rattle.qs_core_laws.specs.audit.CoreSchedule.{is_finished}
 use Rattle.qs_core.specs.shown.CoreShown.{HaveLanes, are_through, are_waiting, shown_by}
 use Rattle.qs_core.specs.state.CoreState.{CoreState, core_of}
 use Rattle.qs_core.proofs.shown.CoreReadings.{finished_is, lanes_in}

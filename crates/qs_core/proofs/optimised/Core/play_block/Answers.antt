@@ -1,6 +1,6 @@
 use Rattle.std.proofs.Common.{◌≡◌, ◌∙◌, arith, false, subst, true}
 use Rattle.qs_program.specs.Sound.{IsSound}
-use Rattle.qs_client.specs.ClientModel.{is_between}
+use Rattle.qs_client.specs.audit.ClientModel.{is_between}
 use Rattle.qs_core.specs.CoreOrders.{blocks_begun}
 use Rattle.qs_core.specs.state.CoreState.{core_of}
 use Rattle.qs_core.proofs.CoreBlocks.{begun_is, client_inside, ended_by_stage, few_blocks, fit_of, one_on, stage_is, stands_first, stands_on, turns_fit}

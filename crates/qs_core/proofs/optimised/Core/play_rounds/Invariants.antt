@@ -1,4 +1,4 @@
-use Rattle.qs_played.specs.Schedule.{actors_of, rounds_of}
+use Rattle.qs_played.specs.audit.Schedule.{actors_of, rounds_of}
 use Rattle.qs_core.specs.CoreOrders.{CoreGoes}
 use Rattle.qs_core.proofs.optimised.Core.play_rounds.Given as goal
 

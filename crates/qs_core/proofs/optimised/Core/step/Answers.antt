@@ -1,6 +1,6 @@
 use Rattle.std.proofs.Common.{◌≤◌, length, ap, arith, sym, subst, ◌∙◌}
 use Rattle.qs_program.specs.Sound.{IsSound}
-use Rattle.qs_core_laws.specs.Core.{core_step}
+use Rattle.qs_core_laws.specs.audit.Core.{core_step}
 use Rattle.qs_core.specs.state.CoreState.{CoreKeeps, codes_of, core_of}
 use Rattle.qs_core.proofs.state.CoreAbsent.{absent_client, absent_handler}
 use Rattle.qs_core.proofs.state.CoreReaching.{core_keeps}

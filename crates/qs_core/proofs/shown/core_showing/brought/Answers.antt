@@ -1,5 +1,5 @@
 use Rattle.std.proofs.Common.{ap}
-use Rattle.qs_core_laws.specs.CoreSchedule.{held_or_none}
+use Rattle.qs_core_laws.specs.audit.CoreSchedule.{held_or_none}
 use Rattle.qs_core.proofs.shown.CoreShowing.{object_here}
 use Rattle.qs_core.proofs.shown.core_showing.brought.Goals as goal
 

@@ -1,6 +1,6 @@
 use Rattle.std.proofs.Common.{◌≡◌, map, take}
 use Rattle.qs_objects.specs.declared.held.Ticket.{Ticket}
-use Rattle.qs_client.specs.ClientModel.{has_ended}
+use Rattle.qs_client.specs.audit.ClientModel.{has_ended}
 use Rattle.qs_core.specs.state.CoreState.{client_part_at}
 use Rattle.qs_core.proofs.shown.core_showing.endings.Given as goal
 

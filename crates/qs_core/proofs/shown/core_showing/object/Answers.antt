@@ -1,5 +1,5 @@
 use Rattle.std.proofs.Common.{◌<◌, length, sym, ap, subst, ◌∙◌}
-use Rattle.qs_chunk.specs.LaneParts.{away_at}
+use Rattle.qs_chunk.specs.audit.LaneParts.{away_at}
 use Rattle.qs_core.specs.parts.LaneStates.{lane_at}
 use Rattle.qs_core.specs.state.CoreState.{client_part_at}
 use Rattle.qs_core.proofs.shown.CoreShowing.{object_away, object_here, object_never_lost, turned_inside}

@@ -5,8 +5,8 @@ use Rattle.std.proofs.lemmas.Iterator.Adapters.{YieldsList-from_vec}
 use Rattle.std.proofs.lemmas.Iterator.Consumers.{YieldsList-end, YieldsList-turn}
 use Rattle.std.proofs.lemmas.List.{length_push}
 use Rattle.std.proofs.lemmas.List.FromFn.{map-range_with_len_more}
-use Rattle.qs_objects.specs.Journals.{HeldState}
-use Rattle.qs_program.specs.Limits.{most_handlers}
+use Rattle.qs_objects.specs.audit.Journals.{HeldState}
+use Rattle.qs_program.specs.audit.Limits.{most_handlers}
 use Rattle.qs_played.proofs.Lists.{get_or-any}
 use Rattle.qs_core.specs.parts.CoreHandlers.{CoreHandlerState, core_handler_at, no_core_handler}
 use Rattle.qs_core.specs.shown.CoreShown.{TurnsTo, core_held_at, held_with, object_with}

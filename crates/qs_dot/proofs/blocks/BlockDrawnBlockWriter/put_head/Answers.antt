@@ -1,6 +1,6 @@
 use Rattle.std.proofs.Common.{◌++◌, ◌∙◌, ap, codes, decimal}
 use Rattle.std.proofs.lemmas.Result.{on_ok_weaker}
-use Rattle.qs_program.specs.Program.{client_at}
+use Rattle.qs_program.specs.audit.Program.{client_at}
 use Rattle.qs_dot.specs.DotText.{frame_head}
 use Rattle.qs_dot.proofs.Parts.{then}
 use Rattle.qs_dot.proofs.blocks.BlockDrawnBlockWriter.put_head.Goals as goal

@@ -1,8 +1,8 @@
 use Rattle.std.proofs.Common.{◌≡◌, ◌++◌, List, length, take, drop, sym, ap, ◌∙◌, subst, arith}
 use Rattle.std.proofs.lemmas.List.{length-map, take_at}
-use Rattle.qs_program.specs.Program.{binding_of}
-use Rattle.qs_graph.specs.Bound.{bound_nodes, bound_place}
-use Rattle.qs_graph.specs.Nodes.{GraphNode}
+use Rattle.qs_program.specs.audit.Program.{binding_of}
+use Rattle.qs_graph.specs.audit.Bound.{bound_nodes, bound_place}
+use Rattle.qs_graph.specs.audit.Nodes.{GraphNode}
 use Rattle.qs_graph.specs.WellFormed.{IsGraph}
 use Rattle.qs_graph.proofs.Bindings.{bound_is_graph, small_binding}
 use Rattle.qs_graph.proofs.graphs.Graph.bound_in.Goals as goal

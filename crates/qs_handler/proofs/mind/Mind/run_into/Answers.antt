@@ -1,10 +1,10 @@
 use Rattle.std.proofs.Common.{ap, ◌∙◌}
-use Rattle.qs_objects.specs.Journals.{HeldState}
+use Rattle.qs_objects.specs.audit.Journals.{HeldState}
 use Rattle.qs_objects.specs.declared.Request.{Request}
-use Rattle.qs_chunk.specs.Batch.{Batch}
-use Rattle.qs_chunk.specs.Runs.{ran_all}
+use Rattle.qs_chunk.specs.audit.Batch.{Batch}
+use Rattle.qs_chunk.specs.audit.Runs.{ran_all}
 use Rattle.qs_chunk.specs.declared.parcel.Parcel.TheVariants.{Work}
-use Rattle.qs_handler.specs.Handler.{Handler, serves, spares, accept_parcel}
+use Rattle.qs_handler.specs.audit.Handler.{Handler, serves, spares, accept_parcel}
 use Rattle.qs_handler.specs.declared.mind.Act.TheVariants as acts
 use Rattle.qs_handler.proofs.ServingStages.{one_object, serves_with}
 use Rattle.qs_handler.proofs.mind.Mind.run_into.Goals as goal

@@ -1,6 +1,6 @@
 use Rattle.std.proofs.Common.{ap, ◌∙◌}
 use Rattle.qs_chunk.specs.declared.parcel.Parcel.{Parcel}
-use Rattle.qs_handler.specs.Handler.{Handler, free, serves, accept_parcel}
+use Rattle.qs_handler.specs.audit.Handler.{Handler, free, serves, accept_parcel}
 use Rattle.qs_handler.specs.Stages.{at_home}
 use Rattle.qs_handler.proofs.ServingStages.{serves_with}
 use Rattle.qs_handler.proofs.mind.Mind.serve_into.Goals as goal

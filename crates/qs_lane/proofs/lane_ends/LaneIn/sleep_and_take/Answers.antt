@@ -1,6 +1,7 @@
 use Rattle.std.proofs.Common.{false, subst}
 use Rattle.qs_chunk.proofs.LaneFronts.{MayFollow-last}
-use Rattle.qs_chunk.specs.Lanes.{MayFollow, is_asked}
+use Rattle.qs_chunk.specs.audit.Lanes.{is_asked}
+use Rattle.qs_chunk.specs.Lanes.{MayFollow}
 use Rattle.qs_lane.specs.Views.{InView}
 use Rattle.qs_lane.proofs.lane_ends.LaneIn.sleep_and_take.Goals as goal
 

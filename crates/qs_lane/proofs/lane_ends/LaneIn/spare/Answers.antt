@@ -1,5 +1,5 @@
 use Rattle.std.proofs.Common.{[], sym, ap, ◌∙◌}
-use Rattle.qs_chunk.specs.Batch.{batch}
+use Rattle.qs_chunk.specs.audit.Batch.{batch}
 use Rattle.qs_lane.specs.Spares.{AllEmpty}
 use Rattle.qs_lane.specs.Views.{InView}
 use Rattle.qs_lane.proofs.Spared.{empty_more, sent_or_back}

@@ -1,7 +1,8 @@
 use Rattle.std.proofs.Common.{false, subst, List, [], ◌∷◌, ◌++◌, Some, None, Option, ℕ}
 use Rattle.std.specs.Prelude.{IfSome}
 use Rattle.qs_chunk.proofs.LaneFronts.{MayFollow-last}
-use Rattle.qs_chunk.specs.Lanes.{IsLane, MayFollow, is_asked}
+use Rattle.qs_chunk.specs.audit.Lanes.{is_asked}
+use Rattle.qs_chunk.specs.Lanes.{IsLane, MayFollow}
 use Rattle.qs_chunk.specs.declared.parcel.Parcel.{Parcel}
 use Rattle.qs_lane.specs.Views.{InView}
 use Rattle.qs_lane.proofs.lane_ends.LaneIn.try_take.Goals as goal

@@ -1,5 +1,5 @@
 use Rattle.std.proofs.Common.{[], ap, ◌∙◌}
-use Rattle.qs_chunk.specs.Batch.{batch}
+use Rattle.qs_chunk.specs.audit.Batch.{batch}
 use Rattle.qs_lane.specs.Views.{OutView}
 use Rattle.qs_lane.proofs.Spared.{empty_last}
 use Rattle.qs_lane.proofs.lane_ends.LaneOut.empty.Goals as goal

@@ -1,6 +1,7 @@
 use Rattle.std.proofs.Common.{false, sym, subst, ap, ◌∙◌, ℕ}
 use Rattle.qs_chunk.proofs.LaneFronts.{StandsFrom-last}
-use Rattle.qs_chunk.specs.Lanes.{IsLane, MayFollow, is_asked}
+use Rattle.qs_chunk.specs.audit.Lanes.{is_asked}
+use Rattle.qs_chunk.specs.Lanes.{IsLane, MayFollow}
 use Rattle.qs_chunk.specs.declared.parcel.Parcel.{Parcel}
 use Rattle.qs_queue.specs.Views.{SenderView}
 use Rattle.qs_lane.specs.Views.{OutView}

@@ -1,7 +1,7 @@
 use Rattle.std.proofs.Common.{◌≡◌, List, [], ◌∷◌, ◌++◌, Some, None, Option, ℕ, ap, subst, ◌∙◌}
 use Rattle.std.specs.Prelude.{IfSome}
 use Rattle.qs_objects.specs.declared.Request.{Request}
-use Rattle.qs_chunk.specs.Batch.{Batch, batch}
+use Rattle.qs_chunk.specs.audit.Batch.{Batch, batch}
 use Rattle.qs_lane.specs.Spares.{AllEmpty}
 use Rattle.qs_lane.specs.Views.{OutView}
 use Rattle.qs_lane.proofs.Spared.{empty_last}

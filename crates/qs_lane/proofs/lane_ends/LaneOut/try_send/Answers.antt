@@ -1,6 +1,7 @@
 use Rattle.std.proofs.Common.{false, sym, subst, ◌∙◌}
 use Rattle.qs_chunk.proofs.LaneFronts.{StandsFrom-last}
-use Rattle.qs_chunk.specs.Lanes.{IsLane, MayFollow, is_asked}
+use Rattle.qs_chunk.specs.audit.Lanes.{is_asked}
+use Rattle.qs_chunk.specs.Lanes.{IsLane, MayFollow}
 use Rattle.qs_lane.specs.Views.{OutView}
 use Rattle.qs_lane.proofs.Spared.{sent_or_back}
 use Rattle.qs_lane.proofs.lane_ends.LaneOut.try_send.Goals as goal

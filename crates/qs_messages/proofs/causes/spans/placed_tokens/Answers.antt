@@ -1,5 +1,5 @@
 use Rattle.std.proofs.Common.{◌≡◌, ◌∙◌, ◌-◌, length, drop, ap, sym, arith}
-use Rattle.qs_script.specs.tokens.Tokens.{tokens_of}
+use Rattle.qs_script.specs.audit.tokens.Tokens.{tokens_of}
 use Rattle.qs_messages.proofs.Standing.{more, rest_of, stand_more}
 use Rattle.qs_messages.proofs.causes.spans.placed_tokens.Goals as goal
 

@@ -1,6 +1,6 @@
 -- What is left is an end of the text; the tokens so far stand at their places, and those of the rest come after them.
 use Rattle.std.proofs.Common.{◌≡◌, ◌≤◌, ◌-◌, length, drop}
-use Rattle.qs_script.specs.tokens.Tokens.{after, tokens_of}
+use Rattle.qs_script.specs.audit.tokens.Tokens.{after, tokens_of}
 use Rattle.qs_messages.specs.Spans.{Stand, tokens_in}
 use Rattle.qs_messages.proofs.causes.spans.placed_tokens.Given as goal
 

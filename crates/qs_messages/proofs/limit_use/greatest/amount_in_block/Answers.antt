@@ -1,5 +1,5 @@
 use Rattle.std.proofs.Common.{ap, arith}
-use Rattle.qs_program.specs.Program.{BlockShape}
+use Rattle.qs_program.specs.audit.Program.{BlockShape}
 use Rattle.qs_program.specs.Sound.{levels_of}
 use Rattle.qs_messages.proofs.Levels.{levels_small}
 use Rattle.qs_messages.proofs.limit_use.greatest.amount_in_block.Goals as goal

@@ -1,5 +1,5 @@
 use Rattle.std.proofs.Common.{◌++◌, ap, ◌∙◌}
-use Rattle.qs_program.specs.Program.{BlockShape}
+use Rattle.qs_program.specs.audit.Program.{BlockShape}
 use Rattle.qs_messages.proofs.Below.{one_more}
 use Rattle.qs_messages.specs.Warnings.{block_warnings, list_warnings}
 use Rattle.qs_messages.proofs.warned.finding.add_lists.Goals as goal

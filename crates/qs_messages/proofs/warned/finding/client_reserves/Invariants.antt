@@ -1,8 +1,8 @@
 -- None of the blocks before this one reserves the object.
 use Rattle.std.proofs.Common.{◌≡◌, false, take}
 use Rattle.std.specs.List.{list_any}
-use Rattle.qs_program.specs.Program.{BlockShape, client_at}
-use Rattle.qs_program.specs.Sound.{is_in}
+use Rattle.qs_program.specs.audit.Program.{BlockShape, client_at}
+use Rattle.qs_program.specs.audit.Sound.{is_in}
 use Rattle.qs_messages.proofs.warned.finding.client_reserves.Given as goal
 
 abbrev pub invariant-loop-block : goal.invariant-loop-block

@@ -3,7 +3,7 @@ use Rattle.std.specs.List.{find, range_with_len}
 use Rattle.std.proofs.lemmas.Iterator.{YieldsList-from_range}
 use Rattle.std.proofs.lemmas.Iterator.Search.{find_from_yields_List}
 use Rattle.qs_messages.specs.Sources.{word_in}
-use Rattle.qs_script.specs.tokens.Tokens.{same}
+use Rattle.qs_script.specs.audit.tokens.Tokens.{same}
 use Rattle.qs_messages.specs.WarningPlaces.{list_at}
 use Rattle.qs_messages.proofs.Searching.{as_is}
 use Rattle.qs_messages.proofs.warned.places.listed_place.Goals as goal

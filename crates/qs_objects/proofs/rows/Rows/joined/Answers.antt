@@ -1,5 +1,6 @@
 use Rattle.std.proofs.Common.{sym, ap, ◌∙◌}
-use Rattle.qs_objects.specs.Rows.{RowsState, join_rows}
+use Rattle.qs_objects.specs.audit.Rows.{join_rows}
+use Rattle.qs_objects.specs.Rows.{RowsState}
 use Rattle.qs_objects.proofs.Cuts.{joined_cut}
 use Rattle.qs_objects.proofs.rows.Rows.joined.Goals as goal
 

@@ -1,7 +1,7 @@
 use Rattle.std.proofs.Common.{◌≡◌, ℕ, ◌<◌, ◌+◌, ◌-◌, List, [], ◌∷◌, ◌++◌, length, get_or, set, refl, sym, ap, ◌∙◌, subst, arith}
 use Rattle.std.proofs.lemmas.List.{get_or_default, length-append}
 use Rattle.std.specs.Prelude.{vec_capacity}
-use Rattle.qs_objects.specs.Rows.{FillList, IsLast, RowsState, room_left, rows_of_lengths, rows_state}
+use Rattle.qs_objects.specs.Rows.{IsLast, RowsState, room_left, rows_of_lengths, rows_state, FillList}
 use Rattle.qs_objects.proofs.Cuts.{fill_push, row_inside, row_within, rows_push, start_inside}
 use Rattle.qs_objects.proofs.rows.Rows.push.Goals as goal
 

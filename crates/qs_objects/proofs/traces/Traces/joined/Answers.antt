@@ -1,5 +1,5 @@
 use Rattle.std.proofs.Common.{List, sym, ap, ◌∙◌}
-use Rattle.qs_objects.specs.Rows.{join_rows}
+use Rattle.qs_objects.specs.audit.Rows.{join_rows}
 use Rattle.qs_objects.specs.Traces.{TraceState, events_of}
 use Rattle.qs_objects.proofs.TraceRows.{events_of_rooms}
 use Rattle.qs_objects.proofs.traces.Traces.joined.Goals as goal

@@ -1,5 +1,5 @@
 use Rattle.std.proofs.Common.{◌==◌, ◌-◌, ◌∙◌, count_by, length-set, arith}
-use Rattle.qs_program.specs.Program.{blocks_of}
+use Rattle.qs_program.specs.audit.Program.{blocks_of}
 use Rattle.qs_outcomes.proofs.estimate.BlocksLeft.{all_left_is, each_on}
 use Rattle.qs_outcomes.proofs.estimate.estimate.all_left.Goals as goal
 

@@ -1,5 +1,5 @@
 use Rattle.std.proofs.Common.{◌≡◌, ◌==◌, ◌<◌, ◌-◌, ℕ, count_by, get_or, length}
-use Rattle.qs_program.specs.Program.{blocks_of}
+use Rattle.qs_program.specs.audit.Program.{blocks_of}
 use Rattle.qs_outcomes.proofs.estimate.estimate.all_left.Given as goal
 
 abbrev pub invariant-loop-client : goal.invariant-loop-client

@@ -1,5 +1,5 @@
 use Rattle.std.proofs.Common.{◌≡◌, ◌∙◌, ap, subst, sym, take}
-use Rattle.qs_serial.specs.NamedOrders.{order_of}
+use Rattle.qs_serial.specs.audit.NamedOrders.{order_of}
 use Rattle.qs_outcomes.specs.estimate.Estimates.{AreBlocksLeft, left}
 use Rattle.qs_outcomes.proofs.estimate.BlocksLeft.{are_left}
 use Rattle.qs_outcomes.proofs.estimate.estimate.estimate_after.Goals as goal

@@ -1,7 +1,7 @@
 use Rattle.std.proofs.Common.{◌<◌, ◌≤◌, arith, length, subst, sym, ◌∙◌}
 use Rattle.std.proofs.lemmas.List.{length-set}
 use Rattle.qs_objects.specs.declared.held.Ticket.{Ticket}
-use Rattle.qs_meaning.specs.Serial.{IsLegal}
+use Rattle.qs_meaning.specs.audit.Serial.{IsLegal}
 use Rattle.qs_outcomes.proofs.throughout.Begun.{begun_more, client_of}
 use Rattle.qs_outcomes.proofs.throughout.search.blocks_begun.Goals as goal
 use Rattle.qs_outcomes.proofs.throughout.search.blocks_begun.Goals.{After-from-in-loop-ticket}

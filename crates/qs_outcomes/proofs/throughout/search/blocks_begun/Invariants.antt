@@ -1,5 +1,5 @@
 use Rattle.std.proofs.Common.{◌≡◌, ℕ, get_or, length, take}
-use Rattle.qs_meaning.specs.Configurations.{configuration_after}
+use Rattle.qs_meaning.specs.audit.Configurations.{configuration_after}
 use Rattle.qs_outcomes.proofs.throughout.search.blocks_begun.Given as goal
 
 abbrev pub invariant-loop-ticket : goal.invariant-loop-ticket

@@ -1,6 +1,6 @@
 use Rattle.std.proofs.Common.{subst, sym, ◌∙◌}
 use Rattle.std.specs.Prelude.{IfSome}
-use Rattle.qs_meaning.specs.Serial.{IsLegal}
+use Rattle.qs_meaning.specs.audit.Serial.{IsLegal}
 use Rattle.qs_standings.specs.Rows.{rows_in}
 use Rattle.qs_outcomes.specs.throughout.Courses.{HasNotedOnTheWay, HasOnTheWayAfter, IsCourseWitnessAfter}
 use Rattle.qs_outcomes.proofs.throughout.Walking.{all_on_the_way, either, none_met}

@@ -1,7 +1,8 @@
 use Rattle.std.proofs.Common.{◌≡◌, ◌<◌, ℕ, suc, ◌+◌, List, [], ◌++◌, length, get_or, set, replicate, sym, ap, ◌∙◌, arith}
 use Rattle.std.proofs.lemmas.List.{get_or-map, length-map}
-use Rattle.qs_program.specs.Program.{BlockShape, ProgramShape, block_at, blocks_of, client_at, no_block}
-use Rattle.qs_sync_counts.specs.SyncRows.{CountsState, begun_rows, no_syncs}
+use Rattle.qs_program.specs.audit.Program.{BlockShape, ProgramShape, block_at, blocks_of, client_at, no_block}
+use Rattle.qs_sync_counts.specs.audit.SyncRows.{no_syncs}
+use Rattle.qs_sync_counts.specs.SyncRows.{CountsState, begun_rows}
 use Rattle.qs_sync_counts.specs.declared.sync_counts.SyncCount.{SyncCount}
 use Rattle.qs_sync_counts.proofs.CountRows.{begun_all, begun_beyond, begun_next, begun_none, length_begun}
 use Rattle.qs_syncset.proofs.ShortLists.{few_reserved}

@@ -1,6 +1,6 @@
 use Rattle.std.proofs.Common.{◌≡◌, ◌≤◌, ◌+◌, ◌*◌}
-use Rattle.qs_program.specs.Limits.{most_objects}
-use Rattle.qs_program.specs.Program.{blocks_of}
+use Rattle.qs_program.specs.audit.Limits.{most_objects}
+use Rattle.qs_program.specs.audit.Program.{blocks_of}
 use Rattle.qs_sync_counts.specs.SyncRows.{begun_rows}
 use Rattle.qs_plain.specs.client.PreparedBlock.{reserved_lists}
 use Rattle.qs_plain.proofs.client.client.fresh_counts.Given as goal

@@ -1,7 +1,7 @@
 use Rattle.std.proofs.Common.{◌≡◌, ℕ, List, [], ◌∷◌, ◌++◌, map, ap, sym, refl, ◌∙◌, subst, arith, get_or}
 use Rattle.std.proofs.lemmas.List.{take_more}
 use Rattle.std.specs.List.{AllByRecursion}
-use Rattle.qs_program.specs.Program.{block_at}
+use Rattle.qs_program.specs.audit.Program.{block_at}
 use Rattle.qs_plain.specs.client.PreparedBlock.{IsReadyQueue}
 use Rattle.qs_plain.specs.client.Queues.{QueueState}
 use Rattle.qs_plain.proofs.client.client.prepare.Goals as goal

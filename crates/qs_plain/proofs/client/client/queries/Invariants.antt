@@ -1,5 +1,5 @@
 use Rattle.std.proofs.Common.{◌≡◌, ◌≤◌, take}
-use Rattle.qs_played.specs.Schedule.{queries_in}
+use Rattle.qs_played.specs.audit.Schedule.{queries_in}
 use Rattle.qs_plain.proofs.client.client.queries.Given as goal
 
 abbrev pub invariant-loop-event : goal.invariant-loop-event

@@ -1,10 +1,11 @@
 use Rattle.std.proofs.Common.{◌≡◌, ◌<◌, ◌≤◌, ℕ, ◌+◌, ◌-◌, ◌==◌, if◌then◌else◌, [], true, Some, length, ap, sym, subst, ◌∙◌, arith, refl}
 use Rattle.std.proofs.Math.ListN.{set}
 use Rattle.qs_objects.specs.declared.held.Ticket.{Ticket}
-use Rattle.qs_program.specs.Program.{BlockShape, block_at}
-use Rattle.qs_program.specs.Sound.{IsSound, is_in}
-use Rattle.qs_program.specs.Values.{request_of}
-use Rattle.qs_played.specs.Played.{ticket}
+use Rattle.qs_program.specs.audit.Program.{BlockShape, block_at}
+use Rattle.qs_program.specs.audit.Sound.{is_in}
+use Rattle.qs_program.specs.Sound.{IsSound}
+use Rattle.qs_program.specs.audit.Values.{request_of}
+use Rattle.qs_played.specs.audit.Played.{ticket}
 use Rattle.qs_played.specs.declared.schedule.actor.Actor.TheVariants as actor
 use Rattle.qs_plain_laws.specs.declared.item.QueueItem.TheVariants as item
 use Rattle.qs_plain.specs.client.ClientMoves.{AsksNext}

@@ -1,6 +1,6 @@
 use Rattle.std.proofs.Common.{◌≡◌, ◌∙◌, ◌&&◌, ap, sym, subst, map, get_or, sum_by, [], Bool, true, false}
 use Rattle.qs_objects.specs.declared.held.Ticket.{Ticket}
-use Rattle.qs_plain_laws.specs.PlainSchedule.{all_done, all_idle, has_ended, syncs_of}
+use Rattle.qs_plain_laws.specs.audit.PlainSchedule.{all_done, all_idle, has_ended, syncs_of}
 use Rattle.qs_plain.specs.client.Clients.{ClientState, client_of_state, client_state_at}
 use Rattle.qs_played.specs.Played.{HaveRows, counts_of_ticket, entry_in, trace_in}
 use Rattle.qs_plain.specs.BegunBlocks.{AreBegun, AreOwn, AreRows}

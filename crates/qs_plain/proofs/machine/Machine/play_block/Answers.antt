@@ -1,10 +1,10 @@
 use Rattle.std.proofs.Common.{◌≡◌, ◌∙◌, ◌∷◌, ap, false, map, refl, subst, sym}
 use Rattle.qs_objects.specs.declared.held.Ticket.{Ticket}
-use Rattle.qs_program.specs.Program.{BlockShape, block_at, text_of}
+use Rattle.qs_program.specs.audit.Program.{BlockShape, block_at, text_of}
 use Rattle.qs_program.specs.Sound.{IsSound}
 use Rattle.qs_played.specs.declared.schedule.actor.Actor.TheVariants as actors
-use Rattle.qs_plain_laws.specs.Plain.{client_at}
-use Rattle.qs_plain_laws.specs.PlainSchedule.{is_out, plays}
+use Rattle.qs_plain_laws.specs.audit.Plain.{client_at}
+use Rattle.qs_plain_laws.specs.audit.PlainSchedule.{is_out, plays}
 use Rattle.qs_plain.specs.Blocks.{blocks_begun}
 use Rattle.qs_plain.specs.Rules.{RulesState, plain_of}
 use Rattle.qs_plain.proofs.Blocks.{fewer_left, stands_first, stands_on}

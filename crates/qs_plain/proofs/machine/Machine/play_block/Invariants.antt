@@ -1,5 +1,5 @@
 use Rattle.std.proofs.Common.{◌≡◌, ◌++◌, ◌∷◌, [], suc}
-use Rattle.qs_meaning.specs.Solo.{put}
+use Rattle.qs_meaning.specs.audit.Solo.{put}
 use Rattle.qs_plain_laws.proofs.orders.AloneSteps.{left_of}
 use Rattle.qs_plain.specs.Blocks.{blocks_begun}
 use Rattle.qs_plain.specs.Rules.{plain_of}

@@ -1,6 +1,6 @@
 use Rattle.std.proofs.Common.{◌≡◌, ◌+◌, ◌-◌, [], ◌∙◌, ap, sym, arith}
-use Rattle.qs_played.specs.Schedule.{actors_of, rounds_of}
-use Rattle.qs_plain_laws.specs.PlainSchedule.{plays}
+use Rattle.qs_played.specs.audit.Schedule.{actors_of, rounds_of}
+use Rattle.qs_plain_laws.specs.audit.PlainSchedule.{plays}
 use Rattle.qs_plain.specs.Rules.{plain_of}
 use Rattle.qs_plain.proofs.Playing.{plays-round, plays-still}
 use Rattle.qs_plain.proofs.machine.Machine.play_rounds.Goals as goal

@@ -1,13 +1,13 @@
 use Rattle.std.proofs.Common.{◌≡◌, ◌∙◌, ◌++◌, [], List, ap, refl, subst, sym, map, length, ℕ, ◌+◌, arith}
 use Rattle.std.proofs.lemmas.List.{append-nil}
 use Rattle.std.specs.List.{range_with_len}
-use Rattle.qs_program.specs.Program.{ProgramShape}
+use Rattle.qs_program.specs.audit.Program.{ProgramShape}
 use Rattle.std.proofs.lemmas.Bool.{or_parts}
 use Rattle.qs_played.specs.declared.schedule.actor.Actor.{Actor}
 use Rattle.qs_played.specs.declared.schedule.actor.Actor.TheVariants as actors
-use Rattle.qs_plain_laws.specs.Plain.{Plain, step}
-use Rattle.qs_plain_laws.specs.PlainSchedule.{plays}
-use Rattle.qs_played.specs.Schedule.{HasStep, or_stay}
+use Rattle.qs_plain_laws.specs.audit.Plain.{Plain, step}
+use Rattle.qs_plain_laws.specs.audit.PlainSchedule.{plays}
+use Rattle.qs_played.specs.audit.Schedule.{HasStep, or_stay}
 use Rattle.qs_played.proofs.Playing.{row_more}
 use Rattle.qs_plain.specs.Rules.{RulesState, plain_of}
 use Rattle.qs_plain.proofs.Playing.{has_stepped, plays-append, plays-more, stepped}

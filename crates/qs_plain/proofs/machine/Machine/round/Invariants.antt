@@ -1,9 +1,9 @@
 use Rattle.std.proofs.Common.{◌≡◌, ◌++◌, true, false, length, map}
 use Rattle.std.specs.List.{range_with_len}
 use Rattle.qs_played.specs.declared.schedule.actor.Actor.TheVariants as actor
-use Rattle.qs_played.specs.Schedule.{HasStep}
-use Rattle.qs_plain_laws.specs.Plain.{step}
-use Rattle.qs_plain_laws.specs.PlainSchedule.{plays}
+use Rattle.qs_played.specs.audit.Schedule.{HasStep}
+use Rattle.qs_plain_laws.specs.audit.Plain.{step}
+use Rattle.qs_plain_laws.specs.audit.PlainSchedule.{plays}
 use Rattle.qs_plain.specs.Rules.{plain_of}
 use Rattle.qs_plain.proofs.machine.Machine.round.Given as goal
 

@@ -3,7 +3,7 @@ use Rattle.std.proofs.lemmas.List.{length-append}
 use Rattle.std.proofs.Math.ListN.{set}
 use Rattle.qs_played.specs.declared.schedule.actor.Actor.TheVariants as actor
 use Rattle.qs_plain.specs.client.ClientMoves.{Begins}
-use Rattle.qs_played.specs.Played.{ticket}
+use Rattle.qs_played.specs.audit.Played.{ticket}
 use Rattle.qs_plain.specs.client.Clients.{ClientState, IsClient, client_state_at}
 use Rattle.qs_plain.specs.declared.client.stage.Stage.TheVariants as stage
 use Rattle.qs_plain.specs.handler.Effects.{plain_effect}

@@ -1,6 +1,6 @@
 use Rattle.std.proofs.Common.{◌≡◌, None, ap, sym, subst, ◌∙◌, arith, length}
 use Rattle.qs_played.specs.declared.schedule.actor.Actor.TheVariants as actor
-use Rattle.qs_plain_laws.specs.Plain.{step}
+use Rattle.qs_plain_laws.specs.audit.Plain.{step}
 use Rattle.qs_plain.specs.client.Clients.{ClientState, IsClient}
 use Rattle.qs_plain.specs.Rules.{RulesState, plain_of}
 use Rattle.qs_plain.proofs.RulesServe.{none_out}

@@ -1,4 +1,4 @@
-use Rattle.qs_played.specs.Schedule.{actors_of, rounds_of}
+use Rattle.qs_played.specs.audit.Schedule.{actors_of, rounds_of}
 use Rattle.qs_plain.proofs.ReachedPlays.{reached_plays}
 use Rattle.qs_plain.proofs.rules.Rules.play_rounds.Goals as goal
 

@@ -1,5 +1,5 @@
 use Rattle.std.proofs.Common.{◌≡◌, ◌&&◌, drop}
-use Rattle.qs_played.specs.Schedule.{all_named}
+use Rattle.qs_played.specs.audit.Schedule.{all_named}
 use Rattle.qs_played.proofs.schedule.picks.are_named.Given as goal
 
 abbrev pub invariant-loop-pick : goal.invariant-loop-pick

@@ -1,6 +1,6 @@
 use Rattle.std.proofs.Common.{◌≡◌, arith, pos, sym, ◌∙◌, rules}
 use Rattle.qs_played.proofs.twin.Zips.{same_step}
-use Rattle.qs_objects.specs.Objects.{values_of}
+use Rattle.qs_objects.specs.audit.Objects.{values_of}
 use Rattle.qs_played.proofs.twin.starts.are_same_values.Goals as goal
 
 pub loop-place-init : goal.loop-place-init

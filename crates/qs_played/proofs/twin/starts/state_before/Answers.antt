@@ -1,5 +1,5 @@
 use Rattle.std.proofs.Common.{None, Some, ap, sym, ◌∙◌}
-use Rattle.qs_objects.specs.Act.{ActResult}
+use Rattle.qs_objects.specs.audit.Act.{ActResult}
 use Rattle.qs_played.proofs.twin.FirstEntries.{here_at, later_at, none_at}
 use Rattle.qs_played.proofs.twin.starts.state_before.Goals as goal
 

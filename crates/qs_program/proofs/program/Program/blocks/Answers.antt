@@ -1,5 +1,5 @@
 use Rattle.std.proofs.Common.{ap, arith, length, sum_by}
-use Rattle.qs_program.specs.Program.{ClientShape}
+use Rattle.qs_program.specs.audit.Program.{ClientShape}
 use Rattle.qs_program.proofs.Bounds.{blocks-bound, sum_by-taken}
 use Rattle.qs_program.proofs.program.Program.blocks.Goals as goal
 

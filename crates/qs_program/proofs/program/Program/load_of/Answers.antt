@@ -1,6 +1,6 @@
 use Rattle.std.proofs.Common.{arith, ap, subst}
-use Rattle.qs_program.specs.Loads.{load_of}
-use Rattle.qs_program.specs.Program.{BlockShape}
+use Rattle.qs_program.specs.audit.Loads.{load_of}
+use Rattle.qs_program.specs.audit.Program.{BlockShape}
 use Rattle.qs_program.specs.Sound.{IsSound}
 use Rattle.qs_program.proofs.Bounds.{load_of-whole}
 use Rattle.qs_program.proofs.program.Program.load_of.Goals as goal

@@ -2,7 +2,7 @@
 use Rattle.std.proofs.Common.{◌≡◌, ◌++◌}
 use Rattle.qs_report.specs.GraphText.{node_line}
 use Rattle.qs_text.specs.Blocks.{node_at}
-use Rattle.qs_text.specs.Texts.{texts_up_to}
+use Rattle.qs_text.specs.audit.Texts.{texts_up_to}
 use Rattle.qs_report.proofs.graphs.BlockTextBlockWriter.put_nodes.Given as goal
 
 abbrev pub invariant-loop-n : goal.invariant-loop-n

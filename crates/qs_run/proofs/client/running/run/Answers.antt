@@ -2,8 +2,7 @@ use Rattle.std.proofs.Common.{◌∙◌, refl, sym, ap, subst}
 use Rattle.qs_objects.specs.declared.held.Ticket.{Ticket}
 use Rattle.qs_client.specs.MindState.{mind_of}
 use Rattle.qs_client.specs.declared.rules.act.Act.TheVariants as acts
-use Rattle.qs_run.proofs.client.ThreadActs.{HasDeeds, begins, count_is, has_left, is_empty, kept_by_chunk, kept_by_object, kept_by_parcel, kept_by_ticket}
-use Rattle.qs_run.proofs.client.ThreadActs.{may_follow, reaches}
+use Rattle.qs_run.proofs.client.ThreadActs.{HasDeeds, begins, count_is, has_left, is_empty, kept_by_chunk, kept_by_object, kept_by_parcel, kept_by_ticket, may_follow, reaches}
 use Rattle.qs_run.proofs.client.running.run.Goals as goal
 
 pub loop-init : goal.loop-init

@@ -1,7 +1,8 @@
 -- The counts of the blocks so far are added up.
 use Rattle.std.proofs.Common.{◌≡◌, ◌≤◌, ◌*◌, sum_by, take}
-use Rattle.qs_program.specs.Limits.{most_objects}
-use Rattle.qs_sync_counts.specs.SyncRows.{greatest_count, syncs_of}
+use Rattle.qs_program.specs.audit.Limits.{most_objects}
+use Rattle.qs_sync_counts.specs.audit.SyncRows.{syncs_of}
+use Rattle.qs_sync_counts.specs.SyncRows.{greatest_count}
 use Rattle.qs_run.proofs.collect.show.all_syncs.Given as goal
 
 abbrev pub invariant-loop-place : goal.invariant-loop-place

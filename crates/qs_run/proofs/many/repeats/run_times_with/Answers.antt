@@ -1,8 +1,8 @@
 use Rattle.std.proofs.Common.{◌≡◌, List, [], add-one, arith, refl, subst, suc, sym}
-use Rattle.qs_program.specs.Program.{ProgramShape}
+use Rattle.qs_program.specs.audit.Program.{ProgramShape}
 use Rattle.qs_standings.specs.declared.rows.Row.{Row}
 use Rattle.qs_standings.specs.Rows.{rows_in}
-use Rattle.qs_meaning.specs.Configurations.{IsComplete}
+use Rattle.qs_meaning.specs.audit.Configurations.{IsComplete}
 use Rattle.qs_tally.specs.Counting.{AreTabled, IsCounted}
 use Rattle.qs_run.specs.Starts.{worker_count}
 use Rattle.qs_run.specs.many.Refusals.{LetRunsStart}

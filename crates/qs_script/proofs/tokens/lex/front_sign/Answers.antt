@@ -1,6 +1,6 @@
 use Rattle.std.proofs.Common.{◌≡◌, ◌<◌, ◌-◌, ◌∙◌, None, length, get_or, take, drop, sym, refl, arith}
 use Rattle.std.proofs.lemmas.List.{take_rest}
-use Rattle.qs_script.specs.tokens.Tokens.{at, equals_signs}
+use Rattle.qs_script.specs.audit.tokens.Tokens.{at, equals_signs}
 use Rattle.qs_script.specs.tokens.Cutting.{with_equals}
 use Rattle.qs_script.proofs.tokens.Lexemes.{front_one}
 use Rattle.qs_script.proofs.tokens.lex.front_sign.Goals as goal

@@ -1,7 +1,7 @@
 use Rattle.std.proofs.Common.{◌≡◌, ℕ, ◌==◌, ◌<◌, Bool, true, false, map, cond, get_or, refl, ap, ◌∙◌, arith}
 use Rattle.std.proofs.lemmas.List.FromFn.{get_or-map-range_with_len}
 use Rattle.std.specs.List.{range_with_len}
-use Rattle.qs_script.specs.tokens.Tokens.{is_name_byte}
+use Rattle.qs_script.specs.audit.tokens.Tokens.{is_name_byte}
 use Rattle.qs_script.specs.declared.tokens.lex.TheConstants.{NAME_BYTES}
 use Rattle.qs_script.proofs.tokens.lex.in_name.Goals as goal
 

@@ -1,5 +1,5 @@
 use Rattle.std.proofs.Common.{◌≡◌, ◌+◌, ◌<◌, ◌^◌, take, drop}
-use Rattle.qs_script.specs.tokens.Tokens.{is_digit, value_of}
+use Rattle.qs_script.specs.audit.tokens.Tokens.{is_digit, value_of}
 use Rattle.qs_script.specs.tokens.Cutting.{run_of}
 use Rattle.qs_script.proofs.tokens.lex.leading_number.Given as goal
 

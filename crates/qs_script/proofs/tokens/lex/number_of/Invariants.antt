@@ -1,5 +1,5 @@
 use Rattle.std.proofs.Common.{◌≡◌, ◌<◌, ◌^◌, take}
-use Rattle.qs_script.specs.tokens.Tokens.{value_of}
+use Rattle.qs_script.specs.audit.tokens.Tokens.{value_of}
 use Rattle.qs_script.proofs.tokens.lex.number_of.Given as goal
 
 abbrev pub invariant-loop-b : goal.invariant-loop-b

@@ -1,5 +1,5 @@
 use Rattle.std.proofs.Common.{ap, ◌∙◌, refl, arith}
-use Rattle.qs_script.specs.tokens.Tokens.{after}
+use Rattle.qs_script.specs.audit.tokens.Tokens.{after}
 use Rattle.qs_script.proofs.tokens.Lexemes.{front_comment, after-nil}
 use Rattle.qs_script.proofs.tokens.listing.add_front.Goals as goal
 

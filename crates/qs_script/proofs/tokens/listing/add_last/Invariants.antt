@@ -1,5 +1,5 @@
 use Rattle.std.proofs.Common.{◌≡◌, ◌≤◌, ◌+◌, length, vec_len, vec_capacity}
-use Rattle.qs_script.specs.tokens.Tokens.{tokens_of, after}
+use Rattle.qs_script.specs.audit.tokens.Tokens.{tokens_of, after}
 use Rattle.qs_script.proofs.tokens.listing.add_last.Given as goal
 
 abbrev pub invariant-each : goal.invariant-each

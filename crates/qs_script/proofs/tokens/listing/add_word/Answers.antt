@@ -1,5 +1,5 @@
 use Rattle.std.proofs.Common.{◌≡◌, Bool, true, false, ◌∙◌, refl, sym, ap, arith, if◌then◌else◌}
-use Rattle.qs_script.specs.tokens.Tokens.{same}
+use Rattle.qs_script.specs.audit.tokens.Tokens.{same}
 use Rattle.qs_script.specs.declared.tokens.token.Token.{Token}
 use Rattle.qs_script.specs.declared.tokens.token.Token.TheVariants.{Name as name}
 use Rattle.qs_script.proofs.tokens.Lexemes.{cut_word, word_begins}

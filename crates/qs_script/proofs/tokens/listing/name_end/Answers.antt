@@ -1,5 +1,5 @@
 use Rattle.std.proofs.Common.{◌∙◌}
-use Rattle.qs_script.specs.tokens.Tokens.{is_name_byte}
+use Rattle.qs_script.specs.audit.tokens.Tokens.{is_name_byte}
 use Rattle.qs_script.proofs.tokens.Lexemes.{run_take}
 use Rattle.qs_script.proofs.tokens.listing.name_end.Goals as goal
 

@@ -1,5 +1,5 @@
 use Rattle.std.proofs.Common.{◌∙◌, [], ◌∷◌, sym, ap, arith}
-use Rattle.qs_script.specs.tokens.Tokens.{after}
+use Rattle.qs_script.specs.audit.tokens.Tokens.{after}
 use Rattle.qs_script.proofs.tokens.Lexemes.{sign_alone}
 use Rattle.qs_script.proofs.tokens.Lists.{adds}
 use Rattle.qs_script.proofs.tokens.listing.put_compared.Goals as goal

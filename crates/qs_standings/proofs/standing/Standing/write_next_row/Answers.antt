@@ -1,5 +1,5 @@
 use Rattle.std.proofs.Common.{◌≡◌, ◌++◌, suc, get_or, length, arith, add-one, ◌∙◌, ap, flat_map, take}
-use Rattle.qs_program.specs.Program.{client_at}
+use Rattle.qs_program.specs.audit.Program.{client_at}
 use Rattle.qs_standings.specs.Rows.{named_before, overwritten}
 use Rattle.qs_standings.specs.Standings.{RowShape, StandingShape, state_row}
 use Rattle.qs_standings.proofs.NextRows.{next_counts, next_numbers, stem_within}

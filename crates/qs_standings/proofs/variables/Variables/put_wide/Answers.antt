@@ -1,7 +1,7 @@
 use Rattle.std.proofs.Common.{◌≡◌, ap, arith, get_or, length, length-append, sym, ◌∙◌}
 use Rattle.std.proofs.lemmas.List.{take_all}
-use Rattle.qs_program.specs.Limits.{most_variables}
-use Rattle.qs_meaning.specs.Serial.{zeros}
+use Rattle.qs_program.specs.audit.Limits.{most_variables}
+use Rattle.qs_meaning.specs.audit.Serial.{zeros}
 use Rattle.qs_standings.specs.Variables.{spread}
 use Rattle.qs_standings.proofs.Spread.{all_are, each_long, in_all, wide_more}
 use Rattle.qs_standings.proofs.variables.Variables.put_wide.Goals as goal

@@ -1,5 +1,5 @@
 use Rattle.std.proofs.Common.{◌≡◌, ◌*◌, length, take}
-use Rattle.qs_program.specs.Limits.{most_variables}
+use Rattle.qs_program.specs.audit.Limits.{most_variables}
 use Rattle.qs_standings.specs.Variables.{spread}
 use Rattle.qs_standings.proofs.variables.Variables.put_wide.Given as goal
 

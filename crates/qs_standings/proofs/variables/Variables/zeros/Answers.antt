@@ -1,5 +1,5 @@
 use Rattle.std.proofs.Common.{ap, replicate, ◌∙◌}
-use Rattle.qs_meaning.specs.Serial.{zeros}
+use Rattle.qs_meaning.specs.audit.Serial.{zeros}
 use Rattle.qs_standings.specs.Variables.{spread}
 use Rattle.qs_standings.proofs.Spread.{spread_zeros}
 use Rattle.qs_standings.proofs.variables.Variables.zeros.Goals as goal

@@ -1,7 +1,8 @@
 use Rattle.std.proofs.Common.{◌≡◌, ◌<◌, ℕ, suc, ◌+◌, List, [], length, get_or, set, refl, sym, ap, ◌∙◌, subst, arith}
 use Rattle.std.proofs.lemmas.List.{get_or-set_same, length-set, set-get_or, set-set}
 use Rattle.qs_objects.proofs.Elements.{AllByRecursion-get_or}
-use Rattle.qs_sync_counts.specs.SyncRows.{CountsState, count_of, counts_state, greatest_count, one_more, sync_count}
+use Rattle.qs_sync_counts.specs.audit.SyncRows.{count_of, one_more, sync_count}
+use Rattle.qs_sync_counts.specs.SyncRows.{CountsState, counts_state, greatest_count}
 use Rattle.qs_sync_counts.specs.declared.sync_counts.SyncCount.{SyncCount}
 use Rattle.qs_sync_counts.proofs.CountRows.{changed_front, front_all, front_at, front_length, front_set, have_at, length_paired, length_rows, row_at}
 use Rattle.qs_sync_counts.proofs.sync_counts.SyncCounts.add.Goals as goal

@@ -1,5 +1,5 @@
 use Rattle.std.proofs.Common.{◌≡◌, [], get_or, length, set}
-use Rattle.qs_sync_counts.specs.SyncRows.{one_more}
+use Rattle.qs_sync_counts.specs.audit.SyncRows.{one_more}
 use Rattle.qs_sync_counts.proofs.CountRows.{changed_front}
 use Rattle.qs_sync_counts.proofs.sync_counts.SyncCounts.add.Given as goal
 

@@ -1,6 +1,7 @@
 use Rattle.std.proofs.Common.{◌≡◌, ◌<◌, ℕ, ◌==◌, suc, if◌then◌else◌, List, [], length, get_or, set, sym, ap, ◌∙◌, subst, arith}
 use Rattle.qs_objects.specs.Rows.{RowsState}
-use Rattle.qs_sync_counts.specs.SyncRows.{AreAlike, CountsState, count_of, counts_state, greatest_count, one_more, sync_count, with_counts}
+use Rattle.qs_sync_counts.specs.audit.SyncRows.{count_of, one_more, sync_count}
+use Rattle.qs_sync_counts.specs.SyncRows.{AreAlike, CountsState, counts_state, greatest_count, with_counts}
 use Rattle.qs_sync_counts.specs.declared.sync_counts.SyncCount.{SyncCount}
 use Rattle.qs_sync_counts.proofs.CountRows.{have_at, have_set, length_counts, length_paired, length_rows, paired_at, row_at, rows_set}
 use Rattle.qs_sync_counts.proofs.sync_counts.SyncCounts.add_at.Goals as goal

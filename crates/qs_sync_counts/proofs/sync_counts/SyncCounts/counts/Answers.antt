@@ -1,5 +1,6 @@
 use Rattle.std.proofs.Common.{◌<◌, [], length, get_or, map, sym, ap, ◌∙◌, subst, arith}
-use Rattle.qs_sync_counts.specs.SyncRows.{CountsState, count_of}
+use Rattle.qs_sync_counts.specs.audit.SyncRows.{count_of}
+use Rattle.qs_sync_counts.specs.SyncRows.{CountsState}
 use Rattle.qs_sync_counts.proofs.CountRows.{counts_paired, have_at, length_counts, length_rows, row_at}
 use Rattle.qs_sync_counts.proofs.sync_counts.SyncCounts.counts.Goals as goal
 

@@ -1,5 +1,5 @@
 use Rattle.std.proofs.Common.{sym, ap, ◌∙◌}
-use Rattle.qs_objects.specs.Rows.{join_rows}
+use Rattle.qs_objects.specs.audit.Rows.{join_rows}
 use Rattle.qs_sync_counts.specs.SyncRows.{CountsState, all_counts}
 use Rattle.qs_sync_counts.proofs.CountRows.{counts_of_rows}
 use Rattle.qs_sync_counts.proofs.sync_counts.SyncCounts.joined.Goals as goal

@@ -1,5 +1,6 @@
 use Rattle.std.proofs.Common.{◌<◌, [], length, get_or, map, sym, ap, ◌∙◌, subst, arith}
-use Rattle.qs_sync_counts.specs.SyncRows.{CountsState, object_of}
+use Rattle.qs_sync_counts.specs.audit.SyncRows.{object_of}
+use Rattle.qs_sync_counts.specs.SyncRows.{CountsState}
 use Rattle.qs_sync_counts.proofs.CountRows.{have_at, length_counts, length_rows, objects_paired, row_at}
 use Rattle.qs_sync_counts.proofs.sync_counts.SyncCounts.objects.Goals as goal
 

@@ -1,6 +1,7 @@
 use Rattle.std.proofs.Common.{◌<◌, ℕ, ◌-◌, [], ◌∷◌, ◌++◌, length, get_or, set, sym, ap, ◌∙◌, subst, arith}
 use Rattle.qs_objects.specs.Rows.{IsLast, RowsState, rows_state}
-use Rattle.qs_sync_counts.specs.SyncRows.{AreAlike, CountsState, counts_state, sync_count, with_counts}
+use Rattle.qs_sync_counts.specs.audit.SyncRows.{sync_count}
+use Rattle.qs_sync_counts.specs.SyncRows.{AreAlike, CountsState, counts_state, with_counts}
 use Rattle.qs_sync_counts.proofs.CountRows.{empty_rows, have_push, length_counts, length_rows, rows_push}
 use Rattle.qs_sync_counts.proofs.sync_counts.SyncCounts.push.Goals as goal
 

@@ -1,6 +1,7 @@
 use Rattle.std.proofs.Common.{◌≡◌, ◌-◌, List, [], ◌∷◌, ◌++◌, append-nil, length, get_or, get_or-set_other, length-set, set, take, sym, ap, ◌∙◌, arith}
 use Rattle.std.proofs.lemmas.List.{get_or_default, set-get_or, take_all}
-use Rattle.qs_sync_counts.specs.SyncRows.{CountsState, counts_state, no_syncs, sync_count}
+use Rattle.qs_sync_counts.specs.audit.SyncRows.{no_syncs, sync_count}
+use Rattle.qs_sync_counts.specs.SyncRows.{CountsState, counts_state}
 use Rattle.qs_sync_counts.specs.declared.sync_counts.SyncCount.{SyncCount}
 use Rattle.qs_sync_counts.proofs.CountRows.{list_push}
 use Rattle.qs_sync_counts.proofs.sync_counts.SyncCounts.push_list.Goals as goal

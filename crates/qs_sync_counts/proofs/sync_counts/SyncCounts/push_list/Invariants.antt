@@ -1,5 +1,5 @@
 use Rattle.std.proofs.Common.{◌≡◌, ◌++◌, ◌+◌, [], get_or, set, take}
-use Rattle.qs_sync_counts.specs.SyncRows.{no_syncs}
+use Rattle.qs_sync_counts.specs.audit.SyncRows.{no_syncs}
 use Rattle.qs_sync_counts.proofs.sync_counts.SyncCounts.push_list.Given as goal
 
 abbrev pub invariant-loop-object : goal.invariant-loop-object

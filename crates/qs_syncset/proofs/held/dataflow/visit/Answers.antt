@@ -1,8 +1,8 @@
 use Rattle.std.proofs.Common.{◌≡◌, ℕ, ◌<◌, length, get_or, take, sym, subst, ◌∙◌, arith}
 use Rattle.std.proofs.lemmas.List.{take_all}
-use Rattle.qs_program.specs.Limits.{most_handlers}
-use Rattle.qs_graph.specs.Nodes.{place_at}
-use Rattle.qs_graph.specs.Paths.{IsAmong, HasEdge}
+use Rattle.qs_program.specs.audit.Limits.{most_handlers}
+use Rattle.qs_graph.specs.audit.Nodes.{place_at}
+use Rattle.qs_graph.specs.audit.Paths.{IsAmong, HasEdge}
 use Rattle.qs_graph.proofs.Inside.{edge_inside}
 use Rattle.qs_objects.specs.ByteSets.{in_byte}
 use Rattle.qs_syncset.specs.held.Dataflow.{holding_of_node, reached_at, set_at, state, turns_left}

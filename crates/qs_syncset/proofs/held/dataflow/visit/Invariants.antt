@@ -1,5 +1,5 @@
 use Rattle.std.proofs.Common.{ℕ, length, take}
-use Rattle.qs_graph.specs.Paths.{IsAmong}
+use Rattle.qs_graph.specs.audit.Paths.{IsAmong}
 use Rattle.qs_objects.specs.ByteSets.{in_byte}
 use Rattle.qs_syncset.specs.held.Dataflow.{holding_of_node, reached_at, set_at, state, turns_left}
 use Rattle.qs_syncset.specs.held.Flow.{HasArrived}

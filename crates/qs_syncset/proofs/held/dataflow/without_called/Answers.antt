@@ -1,6 +1,6 @@
 use Rattle.std.proofs.Common.{◌<◌, ◌+◌, sym, subst, ◌∙◌, arith}
-use Rattle.qs_graph.specs.Names.{may_be_one}
-use Rattle.qs_program.specs.Limits.{most_handlers}
+use Rattle.qs_graph.specs.audit.Names.{may_be_one}
+use Rattle.qs_program.specs.audit.Limits.{most_handlers}
 use Rattle.qs_syncset.proofs.held.Bits.{AreOutBelow, kept_next, out_next}
 use Rattle.qs_syncset.proofs.held.dataflow.without_called.Goals as goal
 use Rattle.qs_syncset.proofs.held.dataflow.without_called.Goals.{then-may_be_one, else-may_be_one}

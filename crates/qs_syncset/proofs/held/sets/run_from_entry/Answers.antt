@@ -1,7 +1,7 @@
 use Rattle.std.proofs.Common.{◌≡◌, ◌<◌, length, set, true, [], refl, ap, arith}
 use Rattle.std.proofs.lemmas.Result.{on_ok_weaker}
 use Rattle.qs_graph.specs.WellFormed.{IsGraph}
-use Rattle.qs_graph.specs.Nodes.{ControlGraph}
+use Rattle.qs_graph.specs.audit.Nodes.{ControlGraph}
 use Rattle.qs_graph.proofs.Inside.{paths_stay_inside}
 use Rattle.qs_syncset.specs.held.Dataflow.{state, turns_left}
 use Rattle.qs_syncset.proofs.held.Visits.{first_state, begun_left, begun_work, done_sets}

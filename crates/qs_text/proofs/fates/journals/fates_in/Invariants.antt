@@ -1,5 +1,5 @@
 use Rattle.std.proofs.Common.{◌≡◌, ◌++◌, drop}
-use Rattle.qs_text.specs.fates.Fates.{fates_from}
+use Rattle.qs_text.specs.audit.fates.Fates.{fates_from}
 use Rattle.qs_text.proofs.fates.journals.fates_in.Given as goal
 
 abbrev pub invariant-loop-entry : goal.invariant-loop-entry

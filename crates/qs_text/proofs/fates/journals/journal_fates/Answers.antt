@@ -1,6 +1,6 @@
 use Rattle.std.proofs.Common.{[], ◌∷◌, ◌++◌, ap₂, sym, ◌∙◌, arith}
 use Rattle.std.proofs.lemmas.List.FromFn.{map-range_with_len_more}
-use Rattle.qs_text.specs.fates.Fates.{fates_of}
+use Rattle.qs_text.specs.audit.fates.Fates.{fates_of}
 use Rattle.qs_text.proofs.fates.journals.journal_fates.Goals as goal
 
 pub loop-object-preserved : goal.loop-object-preserved

@@ -1,5 +1,5 @@
 use Rattle.std.proofs.Common.{◌≡◌, true, false, drop, ap, subst, sym, ◌∙◌, add-one}
-use Rattle.qs_objects.specs.Parts.{same}
+use Rattle.qs_objects.specs.audit.Parts.{same}
 use Rattle.qs_objects.specs.declared.held.Entry.{Entry}
 use Rattle.qs_text.specs.fates.Picked.{picked_from}
 use Rattle.qs_text.proofs.fates.FatesAlong.{picked_here, picked_later}

@@ -1,7 +1,7 @@
 use Rattle.std.proofs.Common.{[], ◌++◌, ◌+◌, drop, length, slice_index_or, take, ap, ◌∙◌}
 use Rattle.std.proofs.lemmas.List.{length-replicate}
-use Rattle.qs_played.specs.Played.{ticket}
-use Rattle.qs_text.specs.fates.Fates.{fates_along, trace_fates}
+use Rattle.qs_played.specs.audit.Played.{ticket}
+use Rattle.qs_text.specs.audit.fates.Fates.{fates_along, trace_fates}
 use Rattle.qs_text.specs.fates.Picked.{left_on}
 use Rattle.qs_text.proofs.fates.FatesAlong.{fates_step, left_start, left_step, next_fate}
 use Rattle.qs_text.proofs.fates.traces.trace_fates.Goals as goal

@@ -1,5 +1,5 @@
 use Rattle.std.proofs.Common.{◌≡◌, ◌++◌, ℕ, drop, length, take}
-use Rattle.qs_text.specs.fates.Fates.{fates_along, fates_on, requests_on, trace_fates}
+use Rattle.qs_text.specs.audit.fates.Fates.{fates_along, fates_on, requests_on, trace_fates}
 use Rattle.qs_text.specs.fates.Picked.{left_on}
 use Rattle.qs_text.proofs.fates.traces.trace_fates.Given as goal
 

@@ -1,8 +1,8 @@
 use Rattle.std.proofs.Common.{◌≡◌, ℕ, refl, sym, ap, ◌∙◌, subst}
 use Rattle.qs_program.specs.declared.code.Call as calls
 use Rattle.qs_graph.specs.declared.node.Node.{Node}
-use Rattle.qs_graph.specs.Nodes.{place_at, first_target, second_target}
-use Rattle.qs_graph.specs.Walk.{Move, Spot, move_by}
+use Rattle.qs_graph.specs.audit.Nodes.{place_at, first_target, second_target}
+use Rattle.qs_graph.specs.audit.Walk.{Move, Spot, move_by}
 use Rattle.qs_graph.specs.declared.node.Node.TheVariants as nodes
 use Rattle.qs_client.specs.run.NextActs.{act_by, holdings_by, with_holdings}
 use Rattle.qs_client.specs.run.Running.{IsLoud}

@@ -1,8 +1,8 @@
 use Rattle.std.proofs.Common.{◌≡◌, ◌<◌, ℕ, sym, ap, ◌∙◌, subst, List, length, get_or}
-use Rattle.qs_graph.specs.Walk.{move}
+use Rattle.qs_graph.specs.audit.Walk.{move}
 use Rattle.qs_graph.specs.WellFormed.{IsGraph}
-use Rattle.qs_graph.specs.Nodes as places
-use Rattle.qs_syncset.specs.Codes.{BlockCode, code_at}
+use Rattle.qs_graph.specs.audit.Nodes as places
+use Rattle.qs_syncset.specs.audit.Codes.{BlockCode, code_at}
 use Rattle.qs_chunk.specs.declared.parcel.Parcel.TheVariants as parcels
 use Rattle.qs_client.specs.run.NextActs.{HasActed, IsInside, act_by, clear, holdings_by, with_holdings, without}
 use Rattle.qs_client.specs.run.Holdings.{HoldingsState}

@@ -1,7 +1,7 @@
 use Rattle.std.proofs.Common.{◌≡◌, Bool, refl, sym, ap, ◌∙◌, subst, List, ℕ, length}
 use Rattle.qs_graph.specs.WellFormed.{IsGraph}
-use Rattle.qs_graph.specs.Nodes as places
-use Rattle.qs_syncset.specs.Codes.{BlockCode, code_at}
+use Rattle.qs_graph.specs.audit.Nodes as places
+use Rattle.qs_syncset.specs.audit.Codes.{BlockCode, code_at}
 use Rattle.qs_client.specs.run.ClientOfRun.{HasSettled, stage_of}
 use Rattle.qs_client.specs.run.BetweenActs.{HasSent, IsOutgoingAt, IsStanding, leave_next, await_object}
 use Rattle.qs_client.specs.run.RunState.{RunState}

@@ -1,6 +1,6 @@
 use Rattle.std.proofs.Common.{◌≡◌, refl, sym, ap, ◌∙◌}
-use Rattle.qs_graph.specs.Nodes.{place_at, first_target}
-use Rattle.qs_graph.specs.Walk.{Move, at_node}
+use Rattle.qs_graph.specs.audit.Nodes.{place_at, first_target}
+use Rattle.qs_graph.specs.audit.Walk.{Move, at_node}
 use Rattle.qs_graph.specs.declared.node.Node.TheVariants as v
 use Rattle.qs_client.specs.run.BetweenActs.{await_by}
 use Rattle.qs_client.specs.run.RunState.{RunState}

@@ -1,6 +1,6 @@
 use Rattle.std.proofs.Common.{◌≡◌, ap, sym, subst}
-use Rattle.qs_graph.specs.Walk.{Spot}
-use Rattle.qs_syncset.specs.Codes.{BlockCode, code_at}
+use Rattle.qs_graph.specs.audit.Walk.{Spot}
+use Rattle.qs_syncset.specs.audit.Codes.{BlockCode, code_at}
 use Rattle.qs_client.specs.run.Beginning.{at_beginning}
 use Rattle.qs_client.specs.run.ClientOfRun.{HasSettled}
 use Rattle.qs_client.specs.run.Running.{IsRunning}

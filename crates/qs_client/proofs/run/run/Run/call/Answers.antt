@@ -1,8 +1,8 @@
 use Rattle.std.proofs.Common.{◌≡◌, sym, ap, ◌∙◌, Some, if◌then◌else◌}
 use Rattle.qs_objects.specs.declared.Request.{Request}
-use Rattle.qs_objects.specs.Parts.{command_event}
-use Rattle.qs_program.specs.Values.{request_of}
-use Rattle.qs_graph.specs.Walk.{at_node}
+use Rattle.qs_objects.specs.audit.Parts.{command_event}
+use Rattle.qs_program.specs.audit.Values.{request_of}
+use Rattle.qs_graph.specs.audit.Walk.{at_node}
 use Rattle.qs_client.specs.run.Holdings.{chunk_at, with_chunk, with_request, is_full}
 use Rattle.qs_objects.specs.Traces.{noted_at}
 use Rattle.qs_client.specs.run.RunState.{RunState}

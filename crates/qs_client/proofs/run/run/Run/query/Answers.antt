@@ -2,10 +2,10 @@ use Rattle.std.proofs.Common.{◌≡◌, arith, refl, ap, ◌∙◌, IsSome, Som
 use Rattle.std.specs.Prelude.{unwrap_or}
 use Rattle.std.proofs.lemmas.Int.{to_z-of_z, ints}
 use Rattle.qs_objects.specs.declared.Request.{Request}
-use Rattle.qs_objects.specs.Journals.{HeldState, run_one}
-use Rattle.qs_program.specs.Values.{request_of}
-use Rattle.qs_meaning.specs.Solo.{event, value_of}
-use Rattle.qs_graph.specs.Walk.{Spot, at_node, with_value}
+use Rattle.qs_objects.specs.audit.Journals.{HeldState, run_one}
+use Rattle.qs_program.specs.audit.Values.{request_of}
+use Rattle.qs_meaning.specs.audit.Solo.{event, value_of}
+use Rattle.qs_graph.specs.audit.Walk.{Spot, at_node, with_value}
 use Rattle.qs_client.specs.run.Holdings.{holding_at, with_held}
 use Rattle.qs_objects.specs.Traces.{noted_at}
 use Rattle.qs_client.specs.run.RunState.{RunState}

@@ -1,7 +1,7 @@
 use Rattle.std.proofs.Common.{sym, ap, ◌∙◌}
-use Rattle.qs_program.specs.Values.{request_of}
-use Rattle.qs_graph.specs.Nodes.{place_at, first_target}
-use Rattle.qs_graph.specs.Walk.{Move, at_node}
+use Rattle.qs_program.specs.audit.Values.{request_of}
+use Rattle.qs_graph.specs.audit.Nodes.{place_at, first_target}
+use Rattle.qs_graph.specs.audit.Walk.{Move, at_node}
 use Rattle.qs_graph.specs.declared.node.Node.TheVariants as v
 use Rattle.qs_client.specs.run.Holdings.{holding_at, chunk_at}
 use Rattle.qs_client.specs.run.Running.{step_by, sync}

@@ -1,6 +1,6 @@
 use Rattle.std.proofs.Common.{◌≡◌, sym, ap, ◌∙◌, subst, List}
-use Rattle.qs_graph.specs.Nodes as places
-use Rattle.qs_syncset.specs.Codes.{code_at}
+use Rattle.qs_graph.specs.audit.Nodes as places
+use Rattle.qs_syncset.specs.audit.Codes.{code_at}
 use Rattle.qs_client.specs.run.Running.{IsRunning}
 use Rattle.qs_client.proofs.run.StepRefinement.{restaged, settled_at}
 use Rattle.qs_client.specs.declared.run.stage.Stage.TheVariants as stages

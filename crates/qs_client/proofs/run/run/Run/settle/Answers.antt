@@ -1,5 +1,5 @@
 use Rattle.std.proofs.Common.{◌≡◌, ℕ, refl, sym, ◌∙◌, arith, []}
-use Rattle.qs_client.specs.rules.Client.{Settings, ClientStage, between}
+use Rattle.qs_client.specs.audit.rules.Client.{Settings, ClientStage, between}
 use Rattle.qs_client.proofs.run.StepRefinement.{HasGoneOn, goes_on, stops, moves_fall, keeps_rows, keeps_both, stopped_up}
 use Rattle.qs_client.proofs.run.run.Run.settle.Goals as goal
 

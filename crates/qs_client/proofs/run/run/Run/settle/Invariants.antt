@@ -1,6 +1,6 @@
 use Rattle.std.proofs.Common.{◌≡◌, ℕ}
-use Rattle.qs_graph.specs.Steps.{limit}
-use Rattle.qs_client.specs.rules.Client.{Settings, ClientStage}
+use Rattle.qs_graph.specs.audit.Steps.{limit}
+use Rattle.qs_client.specs.audit.rules.Client.{Settings, ClientStage}
 use Rattle.qs_client.specs.run.Running.{IsRunning}
 use Rattle.qs_client.proofs.run.StepRefinement.{HasGoneOn, moves_left}
 use Rattle.qs_client.specs.declared.run.stage.Stage.TheVariants as stages

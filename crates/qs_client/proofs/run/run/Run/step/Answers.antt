@@ -1,7 +1,7 @@
 use Rattle.std.proofs.Common.{refl, sym, ap, ◌∙◌, Bool, if◌then◌else◌}
-use Rattle.qs_program.specs.Values.{request_of}
-use Rattle.qs_graph.specs.Nodes.{place_at, second_target}
-use Rattle.qs_graph.specs.Walk.{at_node, with_value}
+use Rattle.qs_program.specs.audit.Values.{request_of}
+use Rattle.qs_graph.specs.audit.Nodes.{place_at, second_target}
+use Rattle.qs_graph.specs.audit.Walk.{at_node, with_value}
 use Rattle.qs_graph.specs.declared.node.Node.TheVariants as v
 use Rattle.qs_client.specs.run.Running.{call}
 use Rattle.qs_client.specs.run.RunState.{RunState}

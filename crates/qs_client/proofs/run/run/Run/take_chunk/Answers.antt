@@ -1,10 +1,10 @@
 use Rattle.std.proofs.Common.{◌≡◌, ◌<◌, Some, [], sym, ap, ◌∙◌, subst, arith, length, List}
 use Rattle.qs_objects.specs.declared.Request.{Request}
-use Rattle.qs_program.specs.Limits.{most_handlers}
+use Rattle.qs_program.specs.audit.Limits.{most_handlers}
 use Rattle.qs_graph.specs.WellFormed.{IsGraph}
-use Rattle.qs_graph.specs.Nodes as places
-use Rattle.qs_syncset.specs.Codes.{BlockCode, code_at}
-use Rattle.qs_chunk.specs.Batch.{Batch, batch}
+use Rattle.qs_graph.specs.audit.Nodes as places
+use Rattle.qs_syncset.specs.audit.Codes.{BlockCode, code_at}
+use Rattle.qs_chunk.specs.audit.Batch.{Batch, batch}
 use Rattle.qs_client.specs.run.NextActs.{with_holdings}
 use Rattle.qs_client.specs.run.Holdings.{HoldingsState, with_chunk}
 use Rattle.qs_client.specs.run.ClientOfRun.{HasSettled, stage_of}

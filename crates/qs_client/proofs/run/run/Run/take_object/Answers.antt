@@ -1,5 +1,5 @@
 use Rattle.std.proofs.Common.{◌≡◌, Some, sym, subst}
-use Rattle.qs_syncset.specs.Codes.{BlockCode, code_at}
+use Rattle.qs_syncset.specs.audit.Codes.{BlockCode, code_at}
 use Rattle.qs_client.specs.run.NextActs.{with_holdings}
 use Rattle.qs_client.specs.run.Holdings.{HoldingsState, with_held}
 use Rattle.qs_client.specs.run.ClientOfRun.{HasSettled, stage_of}

@@ -1,5 +1,5 @@
 use Rattle.std.proofs.Common.{ap, ◌∙◌}
-use Rattle.qs_client.specs.ClientModel.{mind_after_begin}
+use Rattle.qs_client.specs.audit.ClientModel.{mind_after_begin}
 use Rattle.qs_core.specs.parts.CoreClients.{CoreClientState, whole_of}
 use Rattle.qs_core.proofs.parts.ClientModels.{booked_formed}
 use Rattle.qs_core.proofs.parts.core_client.CoreClient.book.Goals as goal

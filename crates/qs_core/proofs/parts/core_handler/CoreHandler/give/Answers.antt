@@ -1,6 +1,6 @@
 use Rattle.std.proofs.Common.{◌≡◌, None, Some, Option, rules, ap, sym, ◌∙◌}
-use Rattle.qs_objects.specs.Journals.{HeldState}
-use Rattle.qs_handler.specs.Handler.{act_of, gave}
+use Rattle.qs_objects.specs.audit.Journals.{HeldState}
+use Rattle.qs_handler.specs.audit.Handler.{act_of, gave}
 use Rattle.qs_handler.specs.declared.mind.Act.{Act}
 use Rattle.qs_core.specs.parts.CoreHandlers.{CoreHandlerState, gives_up, handler_with_act, lane_step_of_handler}
 use Rattle.qs_core.specs.parts.LaneStates.{LaneState}

@@ -1,5 +1,5 @@
 use Rattle.std.proofs.Common.{◌≡◌, true, ap, ◌∙◌}
-use Rattle.qs_handler.specs.Handler.{act_of}
+use Rattle.qs_handler.specs.audit.Handler.{act_of}
 use Rattle.qs_core.specs.parts.CoreHandlers.{CoreHandlerState, takes_ticket}
 use Rattle.qs_core.proofs.parts.HandlerFronts.{free_behind}
 use Rattle.qs_core.proofs.parts.core_handler.CoreHandler.into_held.Goals as goal

@@ -1,5 +1,5 @@
 use Rattle.std.proofs.Common.{◌≡◌, ◌∷◌, ◌++◌, [], Bool, true, if◌then◌else◌, nat_lt, length, None, Some, rules, ap, sym, ◌∙◌}
-use Rattle.qs_handler.specs.Handler.{act_of, gave}
+use Rattle.qs_handler.specs.audit.Handler.{act_of, gave}
 use Rattle.qs_handler.specs.declared.mind.Act.{Act}
 use Rattle.qs_core.specs.parts.CoreHandlers.{CoreHandlerState, handler_with_act, lane_step_of_handler}
 use Rattle.qs_core.specs.parts.LaneStates.{LaneState, with_spare}

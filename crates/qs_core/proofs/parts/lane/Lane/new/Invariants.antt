@@ -1,6 +1,6 @@
 use Rattle.std.proofs.Common.{◌≡◌, ◌≤◌, [], replicate}
 use Rattle.std.specs.VecDeque.{deque_len, deque_capacity}
-use Rattle.qs_chunk.specs.Batch.{batch}
+use Rattle.qs_chunk.specs.audit.Batch.{batch}
 use Rattle.qs_core.proofs.parts.lane.Lane.new.Given as goal
 
 abbrev pub invariant-loop-chunk : goal.invariant-loop-chunk

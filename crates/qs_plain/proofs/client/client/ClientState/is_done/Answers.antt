@@ -1,6 +1,6 @@
 use Rattle.std.proofs.Common.{◌≡◌, sym, subst, length, nat_eq, arith}
-use Rattle.qs_program.specs.Program.{blocks_of}
-use Rattle.qs_plain_laws.specs.PlainSchedule.{is_done}
+use Rattle.qs_program.specs.audit.Program.{blocks_of}
+use Rattle.qs_plain_laws.specs.audit.PlainSchedule.{is_done}
 use Rattle.qs_plain.specs.client.Clients.{ClientState, client_from, client_of_state}
 use Rattle.qs_plain.specs.declared.client.stage.Stage.TheVariants as stages
 use Rattle.qs_plain.proofs.client.StoredClients.{many_prepared}

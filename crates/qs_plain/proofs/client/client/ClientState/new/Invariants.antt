@@ -1,5 +1,5 @@
 use Rattle.std.proofs.Common.{◌≡◌, ◌<◌, ◌≤◌, ℕ, List, [], length, get_or, vec_capacity}
-use Rattle.qs_program.specs.Program.{block_at}
+use Rattle.qs_program.specs.audit.Program.{block_at}
 use Rattle.qs_plain.specs.client.Frames.{rest, places_of}
 use Rattle.qs_plain.specs.client.PreparedBlock.{AreQueues}
 use Rattle.qs_plain.specs.client.Queues.{QueueState}

@@ -5,7 +5,7 @@ use Rattle.qs_objects.specs.Traces.{TraceState, noted_at, trace_at}
 use Rattle.qs_objects.specs.declared.held.Event.{Event}
 use Rattle.qs_plain.specs.client.Clients.{AreStored, ClientState, IsClient, client_from}
 use Rattle.qs_plain.specs.client.ClientMoves.{Replies, RepliesAt, after_moves}
-use Rattle.qs_meaning.specs.Solo.{value_of}
+use Rattle.qs_meaning.specs.audit.Solo.{value_of}
 use Rattle.qs_plain.specs.client.TraceMoves.{no_trace, noted_in}
 use Rattle.qs_plain.specs.declared.client.stage.Stage.{Stage}
 use Rattle.qs_plain.specs.declared.client.stage.Stage.TheVariants as stages

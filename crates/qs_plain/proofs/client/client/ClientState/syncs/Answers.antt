@@ -3,7 +3,7 @@ use Rattle.std.proofs.lemmas.List.{get_or-map, length-map, take_more}
 use Rattle.std.proofs.lemmas.List.Sums.{sum_by_push}
 use Rattle.qs_objects.specs.Traces.{TraceState, events_of, trace_at}
 use Rattle.qs_objects.specs.declared.held.Event.{Event}
-use Rattle.qs_played.specs.Schedule.{queries_in}
+use Rattle.qs_played.specs.audit.Schedule.{queries_in}
 use Rattle.qs_plain.specs.client.Clients.{ClientState}
 use Rattle.qs_plain.specs.client.TraceMoves.{no_trace}
 use Rattle.qs_plain.proofs.client.client.ClientState.syncs.Goals as goal

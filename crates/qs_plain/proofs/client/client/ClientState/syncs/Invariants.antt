@@ -1,6 +1,6 @@
 use Rattle.std.proofs.Common.{◌≡◌, ◌≤◌, ◌*◌, ◌+◌, take, sum_by}
-use Rattle.qs_played.specs.Schedule.{queries_in}
-use Rattle.qs_plain_laws.specs.PlainSchedule.{waits}
+use Rattle.qs_played.specs.audit.Schedule.{queries_in}
+use Rattle.qs_plain_laws.specs.audit.PlainSchedule.{waits}
 use Rattle.qs_plain.specs.client.Clients.{client_of_state}
 use Rattle.qs_plain.proofs.client.client.ClientState.syncs.Given as goal
 

@@ -1,0 +1,3 @@
+-- What has to be believed for the headline.
+pub mod Handler
+pub mod HandlerRuns

@@ -1,0 +1,2 @@
+-- What has to be believed for the headline.
+pub mod Held
