@@ -29,14 +29,6 @@ static bool fail(struct script *script, enum fault fault) {
     return false;
 }
 
-static int64_t number_of(const struct script *script, uint32_t token) {
-    int64_t number = 0;
-    const uint8_t *digits = token_text(script, token);
-    for (int i = 0; i < script->tokens[token].length; i++)
-        number = number * 10 + (digits[i] - '0');
-    return number;
-}
-
 /* Which of the declared has a name, or NOTHING. */
 static int which_of(const struct script *script, const struct declared *declared, int count, uint32_t name) {
     for (int i = 0; i < count; i++)
@@ -60,7 +52,7 @@ static bool check_object(struct script *script, const struct item *item) {
     object->name = item->name;
     object->kind = script->tokens[item->numbers - 1].kind;
     for (uint32_t i = 0; i < item->number_count; i++) {
-        object->numbers[i] = number_of(script, item->numbers + i);
+        object->numbers[i] = number_at(script, item->numbers + i);
         if (!is_in_range(object->kind, object->numbers[i]))
             return fail(script, CHECK_RANGE);
     }
@@ -141,7 +133,7 @@ static bool check_statements(struct script *script, struct body *body, const str
             return false;
         if (it->kind == LEAVE_STATEMENT && !is_in_loop)
             return fail(script, CHECK_LEAVE_OUTSIDE);
-        if (it->kind == REPEAT_STATEMENT && number_of(script, it->turns) > MOST_TURNS)
+        if (it->kind == REPEAT_STATEMENT && number_at(script, it->turns) > MOST_TURNS)
             return fail(script, CHECK_RANGE);
         bool is_loop = is_in_loop || it->kind == REPEAT_STATEMENT;
         if (!check_atoms(script, body, it) || !check_statements(script, body, block, it->first, is_loop) ||
@@ -274,7 +266,7 @@ static void loads_of(const struct script *script, const struct client *client, i
             continue;
         loads_of(script, client, it->first, one);
         loads_of(script, client, it->second, other);
-        uint64_t turns = it->kind == REPEAT_STATEMENT ? (uint64_t)number_of(script, it->turns) : 1;
+        uint64_t turns = it->kind == REPEAT_STATEMENT ? (uint64_t)number_at(script, it->turns) : 1;
         for (int i = 0; i < MOST_OBJECTS; i++)
             loads[i] = least(ENOUGH, loads[i] + turns * greatest(one[i], other[i]));
     }
@@ -288,7 +280,7 @@ static uint64_t weight_of(const struct script *script, int32_t first) {
                             ? greatest(weight_of(script, it->first), weight_of(script, it->second))
                             : 0;
         if (it->kind == REPEAT_STATEMENT)
-            body = (uint64_t)number_of(script, it->turns) * (it->first == NOTHING ? 1 : body);
+            body = (uint64_t)number_at(script, it->turns) * (it->first == NOTHING ? 1 : body);
         weight = least(ENOUGH, weight + 1 + body);
     }
     return weight;

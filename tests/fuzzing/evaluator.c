@@ -215,21 +215,33 @@ static int play(const struct machine *machine) {
 }
 
 static int find_outcomes(void) {
-    if (!names_order(&script, &line.after))
-        return refuse("outcomes 3 Order");
+    const struct list *lists = line.lead_count ? line.leads : &line.after;
+    uint32_t count = line.lead_count ? line.lead_count : 1;
+    for (uint32_t i = 0; i < count; i++)
+        if (!leaves_blocks(&script, &lists[i], line.front))
+            return refuse("outcomes 3 Order");
     if (line.has_estimate) {
         write_estimate(&text, &script, &line.after);
         return 0;
     }
-    enum found found = write_outcomes(&text, &script, &line);
+    enum found found = FOUND;
+    for (uint32_t i = 0; found == FOUND && i < count; i++)
+        found = write_outcomes(&text, &script, &line, &lists[i]);
     if (found == OVER_THE_LIMIT)
         return refuse("outcomes 2 Limit");
     return found == FOUND ? 0 : NOT_ANSWERED;
 }
 
+static bool look_up_all(void) {
+    for (uint32_t i = 0; i < line.lead_count; i++)
+        if (!look_up(&script, &line.leads[i], false))
+            return false;
+    return look_up(&script, &line.pick, true) && look_up(&script, &line.order, false) &&
+           look_up(&script, &line.after, false);
+}
+
 static int answer_to(enum word word) {
-    if (!look_up(&script, &line.pick, true) || !look_up(&script, &line.order, false) ||
-        !look_up(&script, &line.after, false))
+    if (!look_up_all())
         return refuse("command line");
     switch (word) {
     case WORD_CHECK:

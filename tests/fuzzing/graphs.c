@@ -39,10 +39,7 @@ static void make_if(struct around around, const struct statement *from, uint32_t
 
 static void make_repeat(struct around around, const struct statement *from, uint32_t at, uint32_t next) {
     struct node *set = make_node(around, at, SET_COUNT, from), *again = make_node(around, at + 1, AGAIN, from);
-    set->turns = 0;
-    const uint8_t *digits = token_text(around.script, from->turns);
-    for (int i = 0; i < around.script->tokens[from->turns].length; i++)
-        set->turns = (uint16_t)(set->turns * 10 + (digits[i] - '0'));
+    set->turns = (uint16_t)number_at(around.script, from->turns);
     set->next = at + 1;
     again->next = from->first == NOTHING ? at + 1 : at + 2;
     again->other = next;

@@ -20,6 +20,10 @@ enum setting {
     AFTER,
     ENDS,
     ESTIMATE,
+    ALIKE,
+    BLOCKS_MORE,
+    LEADS,
+    THREADS,
     ALWAYS,
     SOME,
     THROUGHOUT,
@@ -50,6 +54,10 @@ static const struct {
                              [AFTER] = {"after", true, OF(WORD_OUTCOMES)},
                              [ENDS] = {"ends", false, OF(WORD_OUTCOMES)},
                              [ESTIMATE] = {"estimate", false, OF(WORD_OUTCOMES)},
+                             [ALIKE] = {"alike", false, OF(WORD_OUTCOMES)},
+                             [BLOCKS_MORE] = {"front", true, OF(WORD_OUTCOMES)},
+                             [LEADS] = {"leads", true, OF(WORD_OUTCOMES)},
+                             [THREADS] = {"threads", true, OF(WORD_OUTCOMES)},
                              [ALWAYS] = {"always", true, OF(WORD_OUTCOMES)},
                              [SOME] = {"some", true, OF(WORD_OUTCOMES)},
                              [THROUGHOUT] = {"throughout", true, OF(WORD_OUTCOMES)}};
@@ -95,14 +103,14 @@ static bool is_utf8(struct bytes bytes) {
     return true;
 }
 
-/* Cuts the next word off. */
-static struct bytes next_word(struct bytes *rest, bool *is_last) {
-    const uint8_t *end = rest->length ? memchr(rest->at, '\n', rest->length) : NULL;
-    struct bytes word = {rest->at, end ? (size_t)(end - rest->at) : rest->length};
+/* Cuts off what stands before the next of a sign, or all where there is none. */
+static struct bytes cut_off(struct bytes *rest, char sign, bool *is_last) {
+    const uint8_t *end = rest->length ? memchr(rest->at, sign, rest->length) : NULL;
+    struct bytes one = {rest->at, end ? (size_t)(end - rest->at) : rest->length};
     *is_last = !end;
-    rest->at += word.length + (end != NULL);
-    rest->length -= word.length + (end != NULL);
-    return word;
+    rest->at += one.length + (end != NULL);
+    rest->length -= one.length + (end != NULL);
+    return one;
 }
 
 static int setting_of(struct bytes name, enum word word) {
@@ -115,7 +123,7 @@ static int setting_of(struct bytes name, enum word word) {
 /* Which settings the words give; LINE_IS_REFUSED where they are no settings, or stand twice. */
 static enum line_kind find_settings(struct given *given, enum word word, struct bytes rest) {
     for (bool is_last = rest.length == 0; !is_last;) {
-        struct bytes one = next_word(&rest, &is_last);
+        struct bytes one = cut_off(&rest, '\n', &is_last);
         if (is_string(one, "--help") || is_string(one, "-h"))
             return LINE_IS_NOT_KNOWN;
         if (one.length < 2 || memcmp(one.at, "--", 2))
@@ -131,7 +139,7 @@ static enum line_kind find_settings(struct given *given, enum word word, struct 
         } else if (SETTINGS[which].has_value) {
             if (is_last)
                 return LINE_IS_REFUSED;
-            given->value[which] = next_word(&rest, &is_last);
+            given->value[which] = cut_off(&rest, '\n', &is_last);
             if (given->value[which].length && given->value[which].at[0] == '-')
                 return LINE_IS_REFUSED;
         }
@@ -204,23 +212,42 @@ static bool read_part(struct bytes bytes, bool has_handlers, struct part *part) 
     return bytes.at[0] == 'c' || (part->is_handler && has_handlers);
 }
 
-static enum line_kind read_list(const struct given *given, enum setting setting, bool has_handlers, struct list *list) {
-    struct bytes rest = given->value[setting];
+/* Reads the parts of a list, which stand behind those of the lists before it. */
+static enum line_kind read_parts(struct line *line, struct bytes rest, bool has_handlers, struct list *list) {
     uint64_t actors = 0;
-    list->is_given = given->is_there[setting];
-    list->count = 0;
-    for (bool is_last = !list->is_given; !is_last;) {
-        const uint8_t *comma = rest.length ? memchr(rest.at, ',', rest.length) : NULL;
-        struct bytes one = {rest.at, comma ? (size_t)(comma - rest.at) : rest.length};
-        if (list->count == MOST_PARTS)
+    *list = (struct list){.is_given = true, .parts = line->parts + line->part_count};
+    for (bool is_last = false; !is_last;) {
+        struct bytes one = cut_off(&rest, ',', &is_last);
+        if (line->part_count == MOST_PARTS)
             return LINE_IS_NOT_KNOWN;
         if (!read_part(one, has_handlers, &list->parts[list->count]))
             return LINE_IS_REFUSED;
         actors += list->parts[list->count++].times;
-        is_last = !comma;
-        rest = (struct bytes){rest.at + one.length + !is_last, rest.length - one.length - !is_last};
+        line->part_count++;
     }
     return actors > 1000000 ? LINE_IS_REFUSED : LINE_IS_RIGHT;
+}
+
+static enum line_kind read_list(struct line *line, const struct given *given, enum setting setting, struct list *list) {
+    if (given->is_there[setting])
+        return read_parts(line, given->value[setting], setting == PICK, list);
+    *list = (struct list){0};
+    return LINE_IS_RIGHT;
+}
+
+/* Reads the lists that colons join. */
+static enum line_kind read_leads(struct line *line, const struct given *given) {
+    struct bytes rest = given->value[LEADS];
+    line->lead_count = 0;
+    for (bool is_last = !given->is_there[LEADS]; !is_last;) {
+        struct bytes one = cut_off(&rest, ':', &is_last);
+        if (line->lead_count == MOST_LEADS)
+            return LINE_IS_NOT_KNOWN;
+        enum line_kind kind = read_parts(line, one, false, &line->leads[line->lead_count++]);
+        if (kind != LINE_IS_RIGHT)
+            return kind;
+    }
+    return LINE_IS_RIGHT;
 }
 
 static bool read_mode(struct line *line, const struct given *given) {
@@ -244,28 +271,42 @@ static bool go_together(const struct given *given) {
     bool is_text = !has[FORMAT] || is_string(given->value[FORMAT], "text");
     bool is_dot = has[FORMAT] && is_string(given->value[FORMAT], "dot");
     int conditions = has[ALWAYS] + has[SOME] + has[THROUGHOUT];
+    bool is_alike = has[ALIKE] && !conditions; /* beside a condition it changes nothing */
+    int others = has[ESTIMATE] + is_alike + has[BLOCKS_MORE] + conditions;
     if (has[ORDER] && (has[PICK] || has[ROUNDS]))
         return false;
     if ((has[STEPS] || has[QUEUES]) && (has[ORDER] || !is_text))
         return false;
-    if ((has[ENDS] || has[ESTIMATE] || conditions) && is_dot)
+    if ((has[THREADS] && others) || (is_dot && (has[THREADS] || has[ENDS] || others)))
         return false;
-    return conditions + has[ENDS] + has[ESTIMATE] <= 1;
+    if (has[AFTER] && (is_alike || has[LEADS]))
+        return false;
+    return others + has[ENDS] <= 1 && (has[BLOCKS_MORE] || !has[LEADS]);
 }
 
 static bool read_numbers(struct line *line, const struct given *given) {
-    uint64_t chunk = 8, rounds = 1000000, limit = 1000000;
+    uint64_t chunk = 8, rounds = 1000000, limit = 1000000, front = 0, threads = 1;
     if (!read_number(given, CHUNK, 1, 32, &chunk) || !read_number(given, ROUNDS, 0, UINT32_MAX, &rounds) ||
-        !read_number(given, LIMIT, 1, UINT32_MAX, &limit))
+        !read_number(given, LIMIT, 1, UINT32_MAX, &limit) || !read_number(given, BLOCKS_MORE, 1, 512, &front) ||
+        !read_number(given, THREADS, 1, 64, &threads))
         return false;
     line->chunk = (int)chunk;
     line->rounds = (uint32_t)rounds;
     line->limit = (uint32_t)limit;
+    line->front = (uint32_t)front;
     return true;
 }
 
 static enum line_kind worse(enum line_kind one, enum line_kind other) {
     return one == LINE_IS_REFUSED || other == LINE_IS_RIGHT ? one : other;
+}
+
+static enum line_kind read_lists(struct line *line, const struct given *given) {
+    line->part_count = 0;
+    enum line_kind kind = read_list(line, given, PICK, &line->pick);
+    kind = worse(kind, read_list(line, given, ORDER, &line->order));
+    kind = worse(kind, read_list(line, given, AFTER, &line->after));
+    return worse(kind, read_leads(line, given));
 }
 
 enum line_kind read_line(struct line *line, enum word word, const uint8_t *words, size_t length) {
@@ -287,9 +328,8 @@ enum line_kind read_line(struct line *line, enum word word, const uint8_t *words
     line->has_queues = has[QUEUES];
     line->has_ends = has[ENDS];
     line->has_estimate = has[ESTIMATE];
-    kind = worse(kind, read_list(&given, PICK, true, &line->pick));
-    kind = worse(kind, read_list(&given, ORDER, false, &line->order));
-    kind = worse(kind, read_list(&given, AFTER, false, &line->after));
+    line->has_alike = has[ALIKE];
+    kind = read_lists(line, &given);
     bool is_more =
         has[ALWAYS] || has[SOME] || has[THROUGHOUT] || (has[FORMAT] && !is_string(given.value[FORMAT], "text"));
     return worse(kind, is_more ? LINE_IS_NOT_KNOWN : LINE_IS_RIGHT);

@@ -13,19 +13,22 @@ struct part {
     uint32_t number, times;
 };
 
-enum { MOST_PARTS = 8192 };
+enum { MOST_PARTS = 8192, MOST_LEADS = 1024 };
 
 struct list {
     bool is_given;
     uint32_t count;
-    struct part parts[MOST_PARTS];
+    struct part *parts;
 };
 
 struct line {
-    bool is_dynamic, is_static, has_counts, has_refusals, has_steps, has_queues, has_ends, has_estimate;
+    bool is_dynamic, is_static, has_counts, has_refusals, has_steps, has_queues, has_ends, has_estimate, has_alike;
     int chunk;
     uint32_t rounds, limit;
-    struct list pick, order, after;
+    uint32_t front; /* how many blocks more, or 0 where outcomes are listed */
+    struct list pick, order, after, leads[MOST_LEADS];
+    uint32_t lead_count, part_count;
+    struct part parts[MOST_PARTS]; /* of all lists */
 };
 
 enum line_kind { LINE_IS_RIGHT, LINE_IS_REFUSED, LINE_IS_NOT_KNOWN };

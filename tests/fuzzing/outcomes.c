@@ -1,5 +1,6 @@
 /* The search for outcomes goes from block to block, first the blocks of the first clients, and through each
-   configuration once. So the first order that comes to an outcome is the least. */
+   configuration once. So the first order that comes to an outcome is the least. With `--alike` a configuration is known
+   by the one where the places of alike clients are in order. */
 #include "outcomes.h"
 #include "running.h"
 
@@ -8,6 +9,9 @@
 
 /* What is too long for here: words of all configurations, steps of all blocks, configurations. */
 enum { MOST_WORDS = 1 << 22, MOST_STEPS = 1 << 21, TABLE = 1 << 14, MOST_CONFIGURATIONS = TABLE / 2 };
+
+/* A length that no order has. */
+enum { NO_FRONT = MOST_TICKETS + 1 };
 
 /* A configuration: how many blocks each client has begun, one byte each; the variables; the objects. */
 struct kept {
@@ -20,7 +24,11 @@ static const struct script *script;
 static struct object objects[MOST_OBJECTS];
 static struct goer goers[MOST_CLIENTS];
 static int64_t words[MOST_WORDS];
-static uint32_t word_count, configuration_count, most_configurations, search;
+static uint32_t word_count, configuration_count, search;
+static uint32_t level_counts[MOST_TICKETS + 1]; /* configurations by the length of the order */
+static uint32_t limit, stop_at;                 /* how long the order of a front is, or NO_FRONT */
+static bool has_alike;
+static uint8_t alike[MOST_CLIENTS], places[MOST_CLIENTS]; /* the client at whose place each one stands, in order */
 static uint64_t step_count;
 static struct kept table[TABLE];
 static uint8_t order[MOST_TICKETS];
@@ -84,15 +92,16 @@ static uint32_t load_object(struct object *object, const int64_t *from) {
     return length;
 }
 
-/* Puts what is now into the words from a place on; how many words it takes. */
-static uint32_t save(uint32_t at) {
+/* Puts what is now into the words from a place on, with each client at the place of another, which is alike to it; how
+   many words it takes. */
+static uint32_t save(uint32_t at, const uint8_t *of) {
     int64_t *to = words + at;
     uint32_t length = 1;
     to[0] = 0;
     for (int i = 0; i < script->client_count; i++) {
-        to[0] |= (int64_t)((uint64_t)goers[i].begun << 8 * i);
+        to[0] |= (int64_t)((uint64_t)goers[of[i]].begun << 8 * i);
         for (int k = 0; k < variables_of(i); k++)
-            to[length++] = goers[i].variables[k];
+            to[length++] = goers[of[i]].variables[k];
     }
     for (int i = 0; i < script->object_count; i++)
         length += save_object(&objects[i], to + length);
@@ -120,17 +129,49 @@ static uint64_t hash_of(uint32_t at, uint32_t length) {
     return hash;
 }
 
-/* Keeps what is now as a configuration; whether it is new. */
+static int compare_variables(int one, int other) {
+    for (int k = 0; k < variables_of(one); k++)
+        if (goers[one].variables[k] != goers[other].variables[k])
+            return goers[one].variables[k] < goers[other].variables[k] ? -1 : 1;
+    return 0;
+}
+
+/* Whether the place of one of two alike clients comes before the other's. */
+static bool is_before(int one, int other) {
+    if (goers[one].begun != goers[other].begun)
+        return goers[one].begun < goers[other].begun;
+    return compare_variables(one, other) < 0;
+}
+
+/* Puts the places of alike clients in order. */
+static void order_places(void) {
+    for (int i = 0; i < script->client_count; i++) {
+        int client = i;
+        for (int k = 0; k < i; k++)
+            if (alike[k] == alike[i] && is_before(client, places[k])) {
+                int other = places[k];
+                places[k] = (uint8_t)client;
+                client = other;
+            }
+        places[i] = (uint8_t)client;
+    }
+}
+
+/* Keeps what is now as a configuration, first as it is known by and then, where that differs, as it is; whether it is
+   new. */
 static bool keep(uint32_t *at) {
-    uint32_t length = save(word_count);
+    static const uint8_t THEMSELVES[MOST_CLIENTS] = {0, 1, 2, 3, 4, 5, 6, 7};
+    uint32_t length = save(word_count, places);
     uint64_t hash = hash_of(word_count, length);
     for (uint32_t i = (uint32_t)hash % TABLE;; i = (i + 1) % TABLE) {
         struct kept *kept = &table[i];
         if (kept->search != search) {
             *kept = (struct kept){hash, word_count, length, search};
-            *at = word_count;
             word_count += length;
+            *at = has_alike ? word_count : kept->at;
+            word_count += has_alike ? save(word_count, THEMSELVES) : 0;
             configuration_count++;
+            level_counts[order_length]++;
             return true;
         }
         if (kept->hash == hash && kept->length == length &&
@@ -139,7 +180,12 @@ static bool keep(uint32_t *at) {
     }
 }
 
-/* The clients, as bits, that a set grown from one has: nobody else has a block left that shares an object with the next
+/* How many blocks the client at a place has begun. */
+static int begun_at(int place) {
+    return goers[places[place]].begun;
+}
+
+/* The places, as bits, that a set grown from one has: nobody else has a block left that shares an object with the next
    block of a member. */
 static unsigned grow(int from) {
     unsigned members = 1u << from;
@@ -147,7 +193,7 @@ static unsigned grow(int from) {
         is_more = false;
         for (int i = 0; i < script->client_count; i++)
             for (int k = 0; members >> i & 1 && k < script->client_count; k++)
-                if (!(members >> k & 1) && next_lists[i][goers[i].begun] & left_lists[k][goers[k].begun]) {
+                if (!(members >> k & 1) && next_lists[i][begun_at(i)] & left_lists[k][begun_at(k)]) {
                     members |= 1u << k;
                     is_more = true;
                 }
@@ -155,11 +201,11 @@ static unsigned grow(int from) {
     return members;
 }
 
-/* The clients, as bits, that are followed: the first of the smallest sets. None where nobody has a block left. */
-static unsigned followed(void) {
+/* The places, as bits, that are followed: the first of the smallest sets. None where nobody has a block left. */
+static unsigned followed_places(void) {
     unsigned best = 0;
     for (int i = 0; i < script->client_count; i++) {
-        if (goers[i].begun == blocks_of(script, i))
+        if (begun_at(i) == blocks_of(script, i))
             continue;
         unsigned members = grow(i);
         if (!best || __builtin_popcount(members) < __builtin_popcount(best))
@@ -168,8 +214,24 @@ static unsigned followed(void) {
     return best;
 }
 
+/* The clients, as bits, that are followed: those alike to the client of a followed place who have begun as many blocks
+   as are begun there. */
+static unsigned followed(void) {
+    unsigned at = followed_places(), clients = 0;
+    for (int i = 0; i < script->client_count; i++)
+        for (int k = 0; k < script->client_count; k++)
+            if (at >> k & 1 && alike[k] == alike[i] && begun_at(k) == goers[i].begun)
+                clients |= 1u << i;
+    return clients;
+}
+
 static bool is_too_much(void) {
-    return word_count > MOST_WORDS - (1 << 14) || step_count > MOST_STEPS;
+    return word_count > MOST_WORDS - (1 << 15) || step_count > MOST_STEPS;
+}
+
+/* Whether there are more configurations than the limit; of fronts, those of one number of blocks. */
+static bool is_over_the_limit(void) {
+    return (stop_at == NO_FRONT ? configuration_count : level_counts[order_length]) > limit;
 }
 
 /* Goes on from what is now, which the order so far has come to. */
@@ -177,11 +239,14 @@ static enum found search_on(void) {
     uint32_t at;
     if (is_too_much())
         return TOO_MUCH;
+    order_places();
     if (!keep(&at))
         return FOUND;
-    if (configuration_count > most_configurations)
+    if (is_over_the_limit())
         return OVER_THE_LIMIT;
-    unsigned clients = followed();
+    if (configuration_count == MOST_CONFIGURATIONS)
+        return TOO_MUCH;
+    unsigned clients = order_length == stop_at ? 0 : followed();
     if (!clients) {
         memcpy(orders[outcome_count], order, order_length);
         outcomes[outcome_count++] = at;
@@ -214,6 +279,17 @@ bool names_order(const struct script *of, const struct list *list) {
     return true;
 }
 
+bool leaves_blocks(const struct script *of, const struct list *list, uint32_t more) {
+    if (!names_order(of, list))
+        return false;
+    uint32_t left = 0;
+    for (int i = 0; i < of->client_count; i++)
+        left += (uint32_t)blocks_of(of, i);
+    for (uint32_t i = 0; i < list->count; i++)
+        left -= list->parts[i].times;
+    return more <= left;
+}
+
 /* Which objects, as bits, the next block of a client has, and all that are left, by how many are begun. */
 static void make_masks(void) {
     for (int i = 0; i < script->client_count; i++) {
@@ -229,12 +305,23 @@ static void make_masks(void) {
     }
 }
 
-static void begin_search(const struct script *of, const struct list *after) {
+static void begin_alike(bool is_alike) {
+    has_alike = is_alike;
+    if (is_alike)
+        find_alike(script, alike);
+    for (int i = 0; !is_alike && i < script->client_count; i++)
+        alike[i] = (uint8_t)i;
+}
+
+static void begin_search(const struct script *of, const struct line *line, const struct list *after) {
     script = of;
     word_count = configuration_count = outcome_count = order_length = 0;
+    memset(level_counts, 0, sizeof level_counts);
     step_count = 0;
+    limit = line->limit;
     search++;
     make_masks();
+    begin_alike(line->has_alike);
     memset(goers, 0, sizeof goers);
     for (int i = 0; i < script->object_count; i++)
         make_object(&objects[i], &script->objects[i]);
@@ -243,6 +330,7 @@ static void begin_search(const struct script *of, const struct list *after) {
             run_block((int)after->parts[i].number);
             order[order_length++] = (uint8_t)after->parts[i].number;
         }
+    stop_at = line->front ? order_length + line->front : NO_FRONT;
 }
 
 /* The lines of an outcome's objects and clients. */
@@ -267,7 +355,7 @@ static void write_order(struct text *text, const uint8_t *clients, uint32_t leng
         add_string(text, i ? ",c" : "c");
         add_number(text, clients[i]);
     }
-    add_string(text, length ? "\n" : "-\n");
+    add_string(text, length ? "" : "-");
 }
 
 static struct text ends_text;
@@ -293,31 +381,62 @@ static void write_ends(struct text *text) {
         add_bytes(text, ends_text.bytes + ends[i].at, ends[i].length);
 }
 
-static void write_list(struct text *text) {
-    uint32_t length = 0;
-    for (int i = 0; i < script->client_count; i++)
-        length += (uint32_t)blocks_of(script, i);
-    add_string(text, "outcomes ");
-    add_number(text, outcome_count);
-    add_string(text, "\n");
-    for (uint32_t i = 0; i < outcome_count; i++) {
-        add_string(text, "outcome ");
-        add_number(text, i + 1);
-        add_string(text, " ");
-        write_order(text, orders[i], length);
-        write_end(text, outcomes[i]);
+/* How many outcomes one stands for: in how many ways alike clients can have its variables. */
+static uint64_t stands_for(uint32_t at) {
+    uint64_t number = 1;
+    load(at);
+    for (int i = 0; i < script->client_count; i++) {
+        uint64_t all = 0, equal = 0; /* of the alike clients so far */
+        for (int k = 0; k <= i; k++)
+            if (alike[k] == alike[i]) {
+                all++;
+                equal += !compare_variables(k, i);
+            }
+        number = number * all / equal;
     }
-    add_string(text, "configurations ");
-    add_number(text, configuration_count);
+    return number;
+}
+
+static void write_counted(struct text *text, const char *what, uint64_t count) {
+    add_string(text, what);
+    add_number(text, (int64_t)count);
+}
+
+static void write_head(struct text *text, bool has_fronts) {
+    uint64_t all = 0;
+    for (uint32_t i = 0; has_alike && i < outcome_count; i++)
+        all += stands_for(outcomes[i]);
+    write_counted(text, has_fronts ? "fronts " : "outcomes ", outcome_count);
+    if (has_alike)
+        write_counted(text, " of ", all);
     add_string(text, "\n");
 }
 
-enum found write_outcomes(struct text *text, const struct script *of, const struct line *line) {
-    most_configurations = line->limit < MOST_CONFIGURATIONS ? line->limit : MOST_CONFIGURATIONS - 1;
-    begin_search(of, &line->after);
+static void write_list(struct text *text) {
+    bool has_fronts = stop_at != NO_FRONT;
+    uint32_t length = 0;
+    for (int i = 0; i < script->client_count; i++)
+        length += (uint32_t)blocks_of(script, i);
+    write_head(text, has_fronts);
+    for (uint32_t i = 0; i < outcome_count; i++) {
+        write_counted(text, has_fronts ? "front " : "outcome ", i + 1);
+        add_string(text, " ");
+        write_order(text, orders[i], has_fronts ? stop_at : length);
+        if (has_alike)
+            write_counted(text, " stands for ", stands_for(outcomes[i]));
+        add_string(text, "\n");
+        write_end(text, outcomes[i]);
+    }
+    if (has_fronts)
+        return;
+    write_counted(text, "configurations ", configuration_count);
+    add_string(text, "\n");
+}
+
+enum found write_outcomes(struct text *text, const struct script *of, const struct line *line,
+                          const struct list *after) {
+    begin_search(of, line, after);
     enum found found = search_on();
-    if (found == OVER_THE_LIMIT && most_configurations < line->limit)
-        return TOO_MUCH;
     if (found == FOUND && line->has_ends)
         write_ends(text);
     else if (found == FOUND)

@@ -128,7 +128,7 @@ static bool expect_at(struct script *script, uint8_t kind, uint32_t *token) {
     return expect(script, kind);
 }
 
-static int64_t number_at(const struct script *script, uint32_t token) {
+int64_t number_at(const struct script *script, uint32_t token) {
     int64_t number = 0;
     const uint8_t *digits = token_text(script, token);
     for (int i = 0; i < script->tokens[token].length; i++)

@@ -204,6 +204,9 @@ void make_graphs(struct script *script);
 /* The line of a fault of reading. */
 size_t fault_line(const struct script *script);
 
+/* The number that a token is. */
+int64_t number_at(const struct script *script, uint32_t token);
+
 /* Whether two tokens are one name. */
 bool is_same(const struct script *script, uint32_t one, uint32_t other);
 
