@@ -10,7 +10,7 @@ ghost use Rattle.qs_run_laws.specs.Outcomes.{IsOutcome};
 use crate::collect::{OutcomeRoom, collect_outcome};
 use crate::handler::Gate;
 use crate::prepare::{RunParts, make_parts, make_workers};
-use crate::start::run_workers;
+use crate::start::{NewGroup, run_workers};
 use crate::starter::{FreeStart, LentStarter, Starter};
 use crate::worker::{ClientWorker, HandlerWorker, Ready};
 use qs_chunk::ChunkSize;
@@ -23,50 +23,56 @@ use std::marker::Brand;
 use std::sync::Wait;
 use std::thread::Threads;
 
-// Runs the workers at a desk that is not closed, and collects the outcome.
-fn run_ready_workers<
-    D: DeskName + Send + Sync,
-    G: Gate,
-    S: Starter + Drop,
-    R: Threads + Wait + Sync,
->(
-    rt: &R,
-    alloc: Global,
-    gate: &G,
-    starter: S,
+// A run that is prepared, for a mode and chunks of a size: its desk, which has no name yet, and its parts.
+#[derive(Drop)]
+struct PreparedRun {
+    mode: Mode,
+    size: ChunkSize,
+    raw: RawDesk,
+    parts: RunParts,
+}
+
+// A run whose workers are ready, for a mode and chunks of a size, with its desk, which is not closed.
+#[derive(Drop)]
+struct ReadyRun<D: DeskName> {
     mode: Mode,
     size: ChunkSize,
     desk: Desk<D>,
     handlers: Vec<Ready<HandlerWorker<D>>>,
     clients: Vec<Ready<ClientWorker<D>>>,
-) -> (S, Result<Outcome, RunFault>)
+    ghost unclosed: { desk.closed ≡ false },
+}
+
+// Runs the workers at the desk, and collects the outcome.
+fn run_ready_workers<
+    D: DeskName + Send + Sync,
+    G: Gate,
+    S: Starter + Drop,
+    R: Threads + Wait + Sync,
+>(rt: &R, alloc: Global, gate: &G, starter: S, run: ReadyRun<D>) -> (S, Result<Outcome, RunFault>)
     requires sound { IsSound D.program }
-    requires unclosed { desk.closed ≡ false }
-    requires ready { AreReady D.program mode size handlers.items clients.items }
-    ensures outcome { IfOk result.1 (IsOutcome D.program mode size) }
+    requires ready { AreReady D.program run.mode run.size run.handlers.items run.clients.items }
+    ensures outcome { IfOk result.1 (IsOutcome D.program run.mode run.size) }
     ensures started { IfOk result.1 (λ _. LetAllStart S.answers 0 (worker_count D.program) starter result.0) }
     ensures refused { IfErr result.1 (λ fault. IsRefusal S.answers (worker_count D.program) fault starter result.0) }
 {
+    let ReadyRun {
+        mode,
+        size,
+        desk,
+        handlers,
+        clients,
+    } = run;
     let Ok(room) = OutcomeRoom::new(alloc) else {
         return (starter, Err(RunFault::Memory));
     };
-    let Ok(handlers_room) = Vec::with_capacity(alloc, handlers.len()) else {
+    let Ok(handlers) = NewGroup::new(alloc, handlers) else {
         return (starter, Err(RunFault::Memory));
     };
-    let Ok(clients_room) = Vec::with_capacity(alloc, clients.len()) else {
+    let Ok(clients) = NewGroup::new(alloc, clients) else {
         return (starter, Err(RunFault::Memory));
     };
-    let front = Front::new(desk);
-    let (starter, results) = run_workers(
-        rt,
-        gate,
-        starter,
-        handlers,
-        handlers_room,
-        clients,
-        clients_room,
-        front,
-    );
+    let (starter, results) = run_workers(rt, gate, starter, handlers, clients, Front::new(desk));
     match results {
         Ok(results) => (starter, Ok(collect_outcome(results, room, mode, size))),
         Err(_held) => (starter, Err(RunFault::Threads)),
@@ -79,32 +85,39 @@ fn run_parts<D: DeskName + Send + Sync, G: Gate, S: Starter + Drop, R: Threads +
     alloc: Global,
     gate: &G,
     starter: S,
-    mode: Mode,
-    size: ChunkSize,
-    raw: RawDesk,
-    parts: RunParts,
+    run: PreparedRun,
 ) -> (S, Result<Outcome, RunFault>)
-    requires name { (D.program ≡ raw.program) × (D.queues ≡ raw.queues) × (D.ledgers ≡ raw.ledgers) }
-    requires sound { IsSound raw.program }
-    requires parts { AreRunParts raw.program mode size parts }
-    ensures outcome { IfOk result.1 (IsOutcome raw.program mode size) }
-    ensures started { IfOk result.1 (λ _. LetAllStart S.answers 0 (worker_count raw.program) starter result.0) }
-    ensures refused { IfErr result.1 (λ fault. IsRefusal S.answers (worker_count raw.program) fault starter result.0) }
+    requires name { (D.program ≡ run.raw.program) × (D.queues ≡ run.raw.queues) × (D.ledgers ≡ run.raw.ledgers) }
+    requires sound { IsSound run.raw.program }
+    requires parts { AreRunParts run.raw.program run.mode run.size run.parts }
+    ensures outcome { IfOk result.1 (IsOutcome run.raw.program run.mode run.size) }
+    ensures started { IfOk result.1 (λ _. LetAllStart S.answers 0 (worker_count run.raw.program) starter result.0) }
+    ensures refused { IfErr result.1 (λ fault. IsRefusal S.answers (worker_count run.raw.program) fault starter
+        result.0) }
 {
+    let PreparedRun {
+        mode,
+        size,
+        raw,
+        parts,
+    } = run;
     let DeskParts {
         desk,
         shares,
         tickets,
     } = raw.open::<D>();
-    match make_workers(alloc, parts, shares, tickets, mode, size) {
-        Ok((handlers, clients)) => run_ready_workers(
-            rt, alloc, gate, starter, mode, size, desk, handlers, clients,
-        ),
-        Err(_) => {
-            drop(desk);
-            (starter, Err(RunFault::Memory))
-        }
-    }
+    let Ok((handlers, clients)) = make_workers(alloc, parts, shares, tickets, mode, size) else {
+        drop(desk);
+        return (starter, Err(RunFault::Memory));
+    };
+    let run = ReadyRun {
+        mode,
+        size,
+        desk,
+        handlers,
+        clients,
+    };
+    run_ready_workers(rt, alloc, gate, starter, run)
 }
 
 // A run whose starter is given back.
@@ -126,7 +139,15 @@ fn run_program<G: Gate, S: Starter + Drop, R: Threads + Wait + Sync>(
         return (starter, Err(RunFault::Memory));
     };
     match make_parts(rt, alloc, program, mode, size) {
-        Ok(parts) => run_parts::<Brand, G, S, R>(rt, alloc, gate, starter, mode, size, raw, parts),
+        Ok(parts) => {
+            let run = PreparedRun {
+                mode,
+                size,
+                raw,
+                parts,
+            };
+            run_parts::<Brand, G, S, R>(rt, alloc, gate, starter, run)
+        }
         Err(_) => {
             drop(raw);
             (starter, Err(RunFault::Memory))

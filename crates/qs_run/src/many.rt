@@ -2,4 +2,4 @@
 
 mod repeats;
 
-pub use repeats::{run_times, run_times_with};
+pub use repeats::{Repeats, run_times, run_times_with};

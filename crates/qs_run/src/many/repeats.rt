@@ -16,6 +16,17 @@ use std::alloc::Global;
 use std::sync::Wait;
 use std::thread::Threads;
 
+/// How a program is run many times.
+#[derive(Clone, Copy)]
+pub struct Repeats {
+    /// The mode of each run.
+    pub mode: Mode,
+    /// The size of the chunks.
+    pub size: ChunkSize,
+    /// How many runs there are.
+    pub times: u32,
+}
+
 /// `run_times`, where a starter is asked before each start of a thread, as `execute_with` of `qs_run` asks it in each
 /// run. `Threads` says that a run was refused for a start, and `Memory` that an allocation failed, and that no run was
 /// refused for a start.
@@ -23,16 +34,15 @@ pub fn run_times_with<S: Starter, R: Threads + Wait + Sync>(
     rt: &R,
     alloc: Global,
     program: &Program,
-    mode: Mode,
-    size: ChunkSize,
-    times: u32,
+    repeats: Repeats,
     limit: u32,
     starter: &mut S,
 ) -> Result<Tally, RunFault>
-    ensures tally { IfOk result (IsTallyBy program.now mode size times limit) }
-    ensures started { IfOk result (λ _. LetRunsStart S.answers times (worker_count program.now) starter.old starter.new) }
-    ensures refused { IfErr result (λ fault. IsRefusedTally S.answers times (worker_count program.now) fault starter.old starter.new) }
+    ensures tally { IfOk result (IsTallyBy program.now repeats.mode repeats.size repeats.times limit) }
+    ensures started { IfOk result (λ _. LetRunsStart S.answers repeats.times (worker_count program.now) starter.old starter.new) }
+    ensures refused { IfErr result (λ fault. IsRefusedTally S.answers repeats.times (worker_count program.now) fault starter.old starter.new) }
 {
+    let Repeats { mode, size, times } = repeats;
     let mut rows = IndexSet::new(alloc);
     let mut ends = Vec::new(alloc);
     let listed = begin(alloc, program, limit, &mut rows, &mut ends)?;
@@ -59,5 +69,6 @@ pub fn run_times<R: Threads + Wait + Sync>(
 ) -> Result<Tally, RunFault>
     ensures tally { IfOk result (IsTallyBy program.now mode size times limit) }
 {
-    run_times_with(rt, alloc, program, mode, size, times, limit, &mut FreeStart)
+    let repeats = Repeats { mode, size, times };
+    run_times_with(rt, alloc, program, repeats, limit, &mut FreeStart)
 }

@@ -37,6 +37,13 @@ fn make_all_events(alloc: Global) -> Result<Vec<Arc<Events, Global>>, AllocError
     Ok(events)
 }
 
+/// Both ends of all lanes: `outs` has a row for each client, and `ins` one for each handler.
+#[derive(Drop)]
+pub(crate) struct LaneEnds {
+    pub(crate) outs: Vec<ClientLanes>,
+    pub(crate) ins: Vec<HandlerLanes>,
+}
+
 // Both ends of a new lane, if some block of the client reserves the handler, and none otherwise.
 fn new_ends<R: Wait>(
     rt: &R,
@@ -95,27 +102,29 @@ fn add_client_lanes<R: Wait>(
     size: ChunkSize,
     client: u8,
     events: &[Arc<Events, Global>],
-    outs: &mut Vec<ClientLanes>,
-    ins: &mut Vec<HandlerLanes>,
+    ends: &mut LaneEnds,
 ) -> Result<(), AllocError>
     requires client { client < length program.now.clients }
     requires events { length events.now ≡ most_handlers }
-    requires outs { length outs.old.items ≡ length program.now.clients }
-    requires ins { length ins.old.items ≡ length program.now.objects }
-    requires none { (h : ℕ) → (out_at outs.old.items client h ≡ None) × (in_at ins.old.items client h ≡ None) }
-    ensures outs { length outs.new.items ≡ length outs.old.items }
-    ensures ins { length ins.new.items ≡ length ins.old.items }
+    requires outs { length ends.old.outs.items ≡ length program.now.clients }
+    requires ins { length ends.old.ins.items ≡ length program.now.objects }
+    requires none { (h : ℕ)
+        → (out_at ends.old.outs.items client h ≡ None) × (in_at ends.old.ins.items client h ≡ None) }
+    ensures outs { length ends.new.outs.items ≡ length ends.old.outs.items }
+    ensures ins { length ends.new.ins.items ≡ length ends.old.ins.items }
     ensures lanes { IfOk result (λ _. (h : ℕ)
-        → AreNewEnds size (ever_reserves program.now client h) (out_at outs.new.items client h) (in_at ins.new.items client h)) }
+        → AreNewEnds size (ever_reserves program.now client h) (out_at ends.new.outs.items client h)
+        (in_at ends.new.ins.items client h)) }
     ensures others { (c h : ℕ) → (c ≡ client → ⊥)
-        → (out_at outs.new.items c h ≡ out_at outs.old.items c h) × (in_at ins.new.items c h ≡ in_at ins.old.items c h) }
+        → (out_at ends.new.outs.items c h ≡ out_at ends.old.outs.items c h)
+        × (in_at ends.new.ins.items c h ≡ in_at ends.old.ins.items c h) }
 {
     program.keeps_sound();
     for handler in 0..program.objects() as u8 {
         let events = &events[usize::from(handler)];
         let (out, inside) = new_ends(rt, alloc, program, size, client, handler, events)?;
-        put_end(outs, client, handler, out);
-        put_end(ins, handler, client, inside);
+        put_end(&mut ends.outs, client, handler, out);
+        put_end(&mut ends.ins, handler, client, inside);
     }
     Ok(())
 }
@@ -127,41 +136,42 @@ fn add_lanes<R: Wait>(
     program: &Program,
     size: ChunkSize,
     events: &[Arc<Events, Global>],
-    outs: &mut Vec<ClientLanes>,
-    ins: &mut Vec<HandlerLanes>,
+    ends: &mut LaneEnds,
 ) -> Result<(), AllocError>
     requires events { length events.now ≡ most_handlers }
-    requires outs { length outs.old.items ≡ length program.now.clients }
-    requires ins { length ins.old.items ≡ length program.now.objects }
-    requires none { (c h : ℕ) → (out_at outs.old.items c h ≡ None) × (in_at ins.old.items c h ≡ None) }
-    ensures outs { length outs.new.items ≡ length outs.old.items }
-    ensures ins { length ins.new.items ≡ length ins.old.items }
+    requires outs { length ends.old.outs.items ≡ length program.now.clients }
+    requires ins { length ends.old.ins.items ≡ length program.now.objects }
+    requires none { (c h : ℕ) → (out_at ends.old.outs.items c h ≡ None) × (in_at ends.old.ins.items c h ≡ None) }
+    ensures outs { length ends.new.outs.items ≡ length ends.old.outs.items }
+    ensures ins { length ends.new.ins.items ≡ length ends.old.ins.items }
     ensures lanes { IfOk result (λ _. (c h : ℕ)
-        → AreNewEnds size (ever_reserves program.now c h) (out_at outs.new.items c h) (in_at ins.new.items c h)) }
+        → AreNewEnds size (ever_reserves program.now c h) (out_at ends.new.outs.items c h)
+        (in_at ends.new.ins.items c h)) }
 {
     program.keeps_sound();
     for client in 0..program.clients() as u8 {
-        add_client_lanes(rt, alloc, program, size, client, events, outs, ins)?;
+        add_client_lanes(rt, alloc, program, size, client, events, ends)?;
     }
     Ok(())
 }
 
 /// Makes a lane for each client and each handler that some block of the client reserves; all lanes of a handler share
-/// an event count. It gives the ends of each client, by handler, and those of each handler, by client.
+/// an event count.
 pub(crate) fn make_lanes<R: Wait>(
     rt: &R,
     alloc: Global,
     program: &Program,
     size: ChunkSize,
-) -> Result<(Vec<ClientLanes>, Vec<HandlerLanes>), AllocError>
-    ensures outs { IfOk result (λ lanes. length lanes.0.items ≡ length program.now.clients) }
-    ensures ins { IfOk result (λ lanes. length lanes.1.items ≡ length program.now.objects) }
-    ensures lanes { IfOk result (λ lanes. (c h : ℕ)
-        → AreNewEnds size (ever_reserves program.now c h) (out_at lanes.0.items c h) (in_at lanes.1.items c h)) }
+) -> Result<LaneEnds, AllocError>
+    ensures outs { IfOk result (λ ends. length ends.outs.items ≡ length program.now.clients) }
+    ensures ins { IfOk result (λ ends. length ends.ins.items ≡ length program.now.objects) }
+    ensures lanes { IfOk result (λ ends. (c h : ℕ)
+        → AreNewEnds size (ever_reserves program.now c h) (out_at ends.outs.items c h) (in_at ends.ins.items c h)) }
 {
     let events = make_all_events(alloc)?;
-    let mut outs = empty_rows(alloc, program.clients())?;
-    let mut ins = empty_rows(alloc, program.objects())?;
-    add_lanes(rt, alloc, program, size, &events, &mut outs, &mut ins)?;
-    Ok((outs, ins))
+    let outs = empty_rows(alloc, program.clients())?;
+    let ins = empty_rows(alloc, program.objects())?;
+    let mut ends = LaneEnds { outs, ins };
+    add_lanes(rt, alloc, program, size, &events, &mut ends)?;
+    Ok(ends)
 }

@@ -6,7 +6,7 @@ ghost use Rattle.qs_run.specs.Workers.{IsListOf, IsMindAtStart, IsObjectAtStart}
 
 use crate::client::Lanes as ClientLanes;
 use crate::handler::Lanes as HandlerLanes;
-use crate::prepare::lanes::make_lanes;
+use crate::prepare::lanes::{LaneEnds, make_lanes};
 use qs_chunk::ChunkSize;
 use qs_client::Mind;
 use qs_objects::Held;
@@ -86,7 +86,7 @@ pub(crate) fn make_parts<R: Wait>(
 {
     let minds = make_minds(alloc, program, mode, size)?;
     let helds = make_helds(alloc, program)?;
-    let (outs, ins) = make_lanes(rt, alloc, program, size)?;
+    let LaneEnds { outs, ins } = make_lanes(rt, alloc, program, size)?;
     Ok(RunParts {
         minds,
         helds,

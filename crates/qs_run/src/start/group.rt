@@ -9,10 +9,30 @@ ghost use Rattle.qs_run.specs.Workers.{HasFollowed};
 use crate::start::latch::{Decided, Latch};
 use crate::starter::Starter;
 use crate::worker::Becomes;
+use std::alloc::{AllocError, Global};
 use std::snapshot::Snapshot;
 use std::sync::Wait;
 use std::thread;
 use std::thread::{Promise, SpawnError, Threads};
+
+/// Workers of one kind before a run, and room for all of them after it.
+#[derive(Drop)]
+pub(crate) struct NewGroup<V, W> {
+    pub(crate) ready: Vec<V>,
+    pub(crate) room: Vec<W>,
+    ghost empty: { room.items ≡ [] },
+    ghost enough: { vec_len ready ≤ vec_capacity room },
+}
+
+impl<V: Drop, W: Drop> NewGroup<V, W> {
+    /// Takes the room for these workers. An error says that an allocation failed.
+    pub(crate) fn new(alloc: Global, ready: Vec<V>) -> Result<NewGroup<V, W>, AllocError>
+        ensures same { IfOk result (λ group. group.ready ≡ ready) }
+    {
+        let room = Vec::with_capacity(alloc, ready.len())?;
+        Ok(NewGroup { ready, room })
+    }
+}
 
 /// What came of a start: the starter once it was asked, what was given back, and what was decided at the latch.
 #[derive(Drop)]
@@ -142,21 +162,25 @@ pub(crate) fn start_group<
     latch: &Latch,
     starter: S,
     number: u32,
-    mut ready: Vec<V>,
-    room: Vec<W>,
+    group: NewGroup<V, W>,
     inside: I,
 ) -> GroupEnd<S, V, W, A, B, T>
     requires callable { F.IsAlwaysCallable work.now }
     requires works { (before : V) (end : _) → F.post work.now before end → (T.at end.1 ≡ latch.now) × HasFollowed V.becomes (T.go end.1) before end.0 }
-    requires starts { (asked : S) (from : Option ℕ) → IfSome from (λ n. n ≡ number + vec_len ready) → I.pre inside asked from }
+    requires starts { (asked : S) (from : Option ℕ) → IfSome from (λ n. n ≡ number + vec_len group.ready)
+        → I.pre inside asked from }
     requires decides { (asked : S) (from : Option ℕ) (r : _) → I.post inside asked from r → IsDecided T.at T.go latch.now r }
     requires ends { (asked : S) (r : _) → I.post inside asked None r → IsErr r }
-    requires room { (vec_len ready ≤ vec_capacity room) × (room.items ≡ []) }
-    requires few { number + vec_len ready < 2 ^ 32 }
-    ensures worked { IfOk result (λ r. AllZip V.becomes ready.items r.workers.items × (vec_len r.workers ≡ vec_len ready) × (vec_capacity r.workers ≡ vec_capacity room)) }
-    ensures kept { IfErr result (λ r. (r.workers.items ≡ ready.items) × (vec_capacity r.workers ≡ vec_capacity ready)) }
-    ensures inside { (asked : S) × (from : Option ℕ) × WasAsked S.answers number (vec_len ready) starter from asked × I.post inside asked from (inside_of result) }
+    requires few { number + vec_len group.ready < 2 ^ 32 }
+    ensures worked { IfOk result (λ r. AllZip V.becomes group.ready.items r.workers.items
+        × (vec_len r.workers ≡ vec_len group.ready) × (vec_capacity r.workers ≡ vec_capacity group.room)) }
+    ensures kept { IfErr result (λ r. (r.workers.items ≡ group.ready.items)
+        × (vec_capacity r.workers ≡ vec_capacity group.ready)) }
+    ensures inside { (asked : S) × (from : Option ℕ)
+        × WasAsked S.answers number (vec_len group.ready) starter from asked
+        × I.post inside asked from (inside_of result) }
 {
+    let NewGroup { mut ready, room } = group;
     let Some(worker) = ready.pop() else {
         return group_of(inside(starter, Some(number)), room, ready);
     };
@@ -187,7 +211,8 @@ pub(crate) fn start_group<
             match scope.spawn_with(promise_of(&worker, latch), move || work(worker)) {
                 Ok(handle) => {
                     let next = number + 1;
-                    let rest = start_group(rt, work, latch, starter, next, ready, room, inside);
+                    let others = NewGroup { ready, room };
+                    let rest = start_group(rt, work, latch, starter, next, others, inside);
                     with_worker(rest, handle.join(rt))
                 }
                 Err(SpawnError { value: work }) => {

@@ -4,4 +4,5 @@ mod group;
 mod latch;
 mod threads;
 
+pub(crate) use group::NewGroup;
 pub(crate) use threads::{RunResults, run_workers};

@@ -1,6 +1,6 @@
 //! The start of all workers: the handlers, inside of that the clients, and inside of that the decision at the latch.
 
-ghost use Rattle.std.specs.Prelude.{◌≡◌, ◌+◌, ◌^◌, ◌<◌, ◌≤◌, [], IfErr, IfOk, IfSome, reverse, true, vec_len, vec_capacity};
+ghost use Rattle.std.specs.Prelude.{◌≡◌, ◌+◌, ◌^◌, ◌<◌, IfErr, IfOk, IfSome, reverse, true, vec_len};
 ghost use Rattle.std.specs.List.{AllZip};
 ghost use Rattle.qs_run.specs.Groups.{IsDecided, WasAskedFrom};
 ghost use Rattle.qs_run.specs.Starts.{IsRefusedAStart, LetAllStart};
@@ -8,13 +8,19 @@ ghost use Rattle.qs_run.specs.Workers.{ClientHasRun, HandlerHasServed, HasFollow
 
 use crate::client::run;
 use crate::handler::{Gate, serve};
-use crate::start::group::{Ended, Group, WorkerEnd, start_group};
+use crate::start::group::{Ended, Group, NewGroup, WorkerEnd, start_group};
 use crate::start::latch::{Deciding, Decision, Latch};
 use crate::starter::Starter;
 use crate::worker::{ClientWorker, HandlerWorker, Ready};
 use qs_desk::{Desk, DeskName, Front};
 use std::sync::Wait;
 use std::thread::Threads;
+
+/// The handlers before a run, and room for them after it.
+pub(crate) type NewHandlers<D> = NewGroup<Ready<HandlerWorker<D>>, HandlerWorker<D>>;
+
+/// The clients before a run, and room for them after it.
+pub(crate) type NewClients<D> = NewGroup<Ready<ClientWorker<D>>, ClientWorker<D>>;
 
 /// What a run gave back: all workers after it, and the desk, which is closed.
 #[derive(Drop)]
@@ -113,18 +119,18 @@ fn run_clients<'l, D: DeskName + Send + Sync, S: Starter + Drop, R: Threads + Wa
     front: Front<D>,
     starter: S,
     from: Option<u32>,
-    ready: Vec<Ready<ClientWorker<D>>>,
-    room: Vec<ClientWorker<D>>,
+    clients: NewClients<D>,
 ) -> ClientsEnd<'l, D, S>
-    requires room { (vec_len ready ≤ vec_capacity room) × (room.items ≡ []) }
     requires latch { deciding ≡ latch.now }
-    requires few { IfSome from (λ number. number + vec_len ready < 2 ^ 32) }
-    ensures ran { IfOk result (λ r. AllZip ClientHasRun ready.items r.back.0.items × (r.back.1.closed ≡ true)) }
-    ensures kept { IfErr result (λ r. r.back.items ≡ ready.items) }
-    ensures asked { WasAskedFrom S.answers from (vec_len ready) starter result }
+    requires few { IfSome from (λ number. number + vec_len clients.ready < 2 ^ 32) }
+    ensures ran { IfOk result (λ r. AllZip ClientHasRun clients.ready.items r.back.0.items
+        × (r.back.1.closed ≡ true)) }
+    ensures kept { IfErr result (λ r. r.back.items ≡ clients.ready.items) }
+    ensures asked { WasAskedFrom S.answers from (vec_len clients.ready) starter result }
     ensures decided { IsDecided (λ d. d.of) (λ d. d.value) latch.entry.now result }
 {
     let Some(number) = from else {
+        let NewGroup { ready, room: _ } = clients;
         return Err(decide(rt, latch, deciding, false, starter, ready));
     };
     let ended = start_group(
@@ -133,8 +139,7 @@ fn run_clients<'l, D: DeskName + Send + Sync, S: Starter + Drop, R: Threads + Wa
         latch,
         starter,
         number,
-        ready,
-        room,
+        clients,
         move |starter, from| match from {
             Some(_) => Ok(decide(rt, latch, deciding, true, starter, ())),
             None => Err(decide(rt, latch, deciding, false, starter, ())),
@@ -150,8 +155,8 @@ fn run_clients<'l, D: DeskName + Send + Sync, S: Starter + Drop, R: Threads + Wa
 /// and then the clients, in their order. No worker does anything before all are started. The clients reserve at the
 /// front of the desk; when they have ended, the desk is closed, and then the handlers end too. An error says that the
 /// start of a worker was refused, by the starter or by the system; then the threads that were started have ended, and
-/// all workers come back as they were. The two rooms take what is given back, so nothing else is allocated. Waits for
-/// all threads.
+/// all workers come back as they were. The rooms of the two groups take what is given back, so nothing is allocated.
+/// Waits for all threads.
 pub(crate) fn run_workers<
     D: DeskName + Send + Sync,
     G: Gate,
@@ -161,43 +166,41 @@ pub(crate) fn run_workers<
     rt: &R,
     gate: &G,
     starter: S,
-    handlers: Vec<Ready<HandlerWorker<D>>>,
-    handlers_room: Vec<HandlerWorker<D>>,
-    clients: Vec<Ready<ClientWorker<D>>>,
-    clients_room: Vec<ClientWorker<D>>,
+    handlers: NewHandlers<D>,
+    clients: NewClients<D>,
     front: Front<D>,
 ) -> (S, Result<RunResults<D>, HeldWorkers<D>>)
-    requires handlers_room { (vec_len handlers ≤ vec_capacity handlers_room) × (handlers_room.items ≡ []) }
-    requires clients_room { (vec_len clients ≤ vec_capacity clients_room) × (clients_room.items ≡ []) }
-    requires few { vec_len handlers + vec_len clients < 2 ^ 32 }
-    ensures served { IfOk result.1 (λ results. AllZip (HandlerHasServed D.program) handlers.items results.handlers.items) }
-    ensures ran { IfOk result.1 (λ results. AllZip ClientHasRun clients.items results.clients.items) }
+    requires few { vec_len handlers.ready + vec_len clients.ready < 2 ^ 32 }
+    ensures served { IfOk result.1 (λ results. AllZip (HandlerHasServed D.program) handlers.ready.items
+        results.handlers.items) }
+    ensures ran { IfOk result.1 (λ results. AllZip ClientHasRun clients.ready.items results.clients.items) }
     ensures closed { IfOk result.1 (λ results. results.desk.closed ≡ true) }
-    ensures all { IfOk result.1 (λ _. LetAllStart S.answers 0 (vec_len handlers + vec_len clients) starter result.0) }
-    ensures kept { IfErr result.1 (λ held. (held.handlers.items ≡ handlers.items) × (held.clients.items ≡ clients.items)) }
-    ensures refused { IfErr result.1 (λ _. IsRefusedAStart S.answers 0 (vec_len handlers + vec_len clients) starter result.0) }
+    ensures all { IfOk result.1 (λ _. LetAllStart S.answers 0 (vec_len handlers.ready + vec_len clients.ready) starter
+        result.0) }
+    ensures kept { IfErr result.1 (λ held. (held.handlers.items ≡ handlers.ready.items)
+        × (held.clients.items ≡ clients.ready.items)) }
+    ensures refused { IfErr result.1 (λ _. IsRefusedAStart S.answers 0 (vec_len handlers.ready + vec_len clients.ready)
+        starter result.0) }
 {
     let (latch, deciding) = Latch::new();
     let latch = &latch;
-    let clients = turned(clients);
-    let room = clients_room;
+    let clients = turned_group(clients);
     let ended = start_group(
         rt,
         &move |ready| handler_work(rt, gate, latch, ready),
         latch,
         starter,
         0,
-        turned(handlers),
-        handlers_room,
+        turned_group(handlers),
         move |starter: S, from: Option<u32>| -> ClientsEnd<'_, D, S>
-            requires room { (vec_len clients ≤ vec_capacity room) × (room.items ≡ []) }
             requires latch { deciding ≡ latch.now }
-            requires few { IfSome from (λ number. number + vec_len clients < 2 ^ 32) }
-            ensures ran { IfOk result (λ r. AllZip ClientHasRun clients.items r.back.0.items × (r.back.1.closed ≡ true)) }
-            ensures kept { IfErr result (λ r. r.back.items ≡ clients.items) }
-            ensures asked { WasAskedFrom S.answers from (vec_len clients) starter result }
+            requires few { IfSome from (λ number. number + vec_len clients.ready < 2 ^ 32) }
+            ensures ran { IfOk result (λ r. AllZip ClientHasRun clients.ready.items r.back.0.items
+                × (r.back.1.closed ≡ true)) }
+            ensures kept { IfErr result (λ r. r.back.items ≡ clients.ready.items) }
+            ensures asked { WasAskedFrom S.answers from (vec_len clients.ready) starter result }
             ensures decided { IsDecided (λ d. d.of) (λ d. d.value) latch.entry.now result }
-        { run_clients(rt, latch, deciding, front, starter, from, clients, room) },
+        { run_clients(rt, latch, deciding, front, starter, from, clients) },
     );
     match ended {
         Ok(Group { workers, inside }) => {
@@ -224,4 +227,16 @@ fn turned<T>(mut items: Vec<T>) -> Vec<T>
 {
     items.reverse();
     items
+}
+
+// The same group, its workers in turned order.
+fn turned_group<V, W>(group: NewGroup<V, W>) -> NewGroup<V, W>
+    ensures turned { result.ready.items ≡ reverse group.ready.items }
+    ensures many { vec_len result.ready ≡ vec_len group.ready }
+{
+    let NewGroup { ready, room } = group;
+    NewGroup {
+        ready: turned(ready),
+        room,
+    }
 }

@@ -6,5 +6,5 @@ use Rattle.qs_run.proofs.prepare.lanes.add_client_lanes.Goals as goal
 pub returns-clause-lanes : goal.returns-clause-lanes
 returns-clause-lanes g c =
     let l = c.loop-handler in
-    all_handlers c.args.program.now c.args.size l.outs.items l.ins.items c.keeps_sound.ensures.sound c.args.client l.handler
+    all_handlers c.args.program.now c.args.size l.ends.outs.items l.ends.ins.items c.keeps_sound.ensures.sound c.args.client l.handler
     (omega (arith, c.loop-handler-test.false, c.objects-handler-end.ensures.value)) l.invariant.done l.invariant.rest

@@ -5,10 +5,10 @@ use Rattle.qs_run.proofs.prepare.lanes.add_client_lanes.Given as goal
 
 abbrev pub invariant-loop-handler : goal.invariant-loop-handler
 invariant-loop-handler g l = record {
-  outs_len : length l.outs.items ≡ length l.initial.outs.items;
-  ins_len : length l.ins.items ≡ length l.initial.ins.items;
-  done : (h : ℕ) → h < l.handler → AreNewEnds l.size (ever_reserves l.program l.client h) (out_at l.outs.items l.client h) (in_at l.ins.items l.client h);
-  rest : (h : ℕ) → l.handler ≤ h → (out_at l.outs.items l.client h ≡ None) × (in_at l.ins.items l.client h ≡ None);
+  outs_len : length l.ends.outs.items ≡ length l.initial.ends.outs.items;
+  ins_len : length l.ends.ins.items ≡ length l.initial.ends.ins.items;
+  done : (h : ℕ) → h < l.handler → AreNewEnds l.size (ever_reserves l.program l.client h) (out_at l.ends.outs.items l.client h) (in_at l.ends.ins.items l.client h);
+  rest : (h : ℕ) → l.handler ≤ h → (out_at l.ends.outs.items l.client h ≡ None) × (in_at l.ends.ins.items l.client h ≡ None);
   others : (c h : ℕ) → (c ≡ l.client → ⊥)
-      → (out_at l.outs.items c h ≡ out_at l.initial.outs.items c h) × (in_at l.ins.items c h ≡ in_at l.initial.ins.items c h);
+      → (out_at l.ends.outs.items c h ≡ out_at l.initial.ends.outs.items c h) × (in_at l.ends.ins.items c h ≡ in_at l.initial.ends.ins.items c h);
 }

@@ -6,4 +6,4 @@ abbrev pub decreases-scope : goal.decreases-scope
 decreases-scope g l = 2 * vec_len l.ready + 1
 
 abbrev pub decreases-start_group : goal.decreases-start_group
-decreases-start_group g l = 2 * vec_len l.ready
+decreases-start_group g l = 2 * vec_len l.group.ready
