@@ -118,8 +118,8 @@ fn put_found<W: Write>(out: &mut W, alloc: Global, program: &Program) -> io::Res
     put(out, "all outcomes", all)?;
     let condition = "a.balance() + b.balance() == 201";
     let words = match searching::holds_always(alloc, program, condition) {
-        Some(true) => "yes",
-        Some(false) => "no",
+        Some((true, _)) => "yes",
+        Some((false, _)) => "no",
         None => "refused",
     };
     put_words(out, condition, words)
@@ -143,8 +143,8 @@ fn put_alike<W: Write>(out: &mut W, alloc: Global) -> io::Result<()> {
 fn put_answers<W: Write>(out: &mut W, alloc: Global) -> io::Result<()> {
     let found = match scripts::program(alloc, scripts::ALIKE) {
         Some(program) => (
-            searching::holds_always_but_for_alike(alloc, &program, "a.balance() == 5"),
-            searching::holds_always_but_for_alike(alloc, &program, "c.x < 4"),
+            searching::holds_always(alloc, &program, "a.balance() == 5"),
+            searching::holds_always(alloc, &program, "c.x < 4"),
         ),
         None => (None, None),
     };

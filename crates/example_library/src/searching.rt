@@ -1,10 +1,11 @@
 //! What a program can come to.
 
-use qs_alike::{classes_of, outcomes_alike};
+use qs_alike::classes_of;
 use qs_conditions::{Claim, Quantifier, read_condition};
+use qs_outcomes::alike::outcomes_alike;
 use qs_outcomes::{Watcher, outcomes};
 use qs_program::Program;
-use qs_questions::{answer, answer_alike, first_unknown};
+use qs_questions::{answer, first_unknown};
 use qs_report::outcomes_text;
 use std::alloc::Global;
 
@@ -34,9 +35,10 @@ pub fn up_to_alike(alloc: Global, program: &Program) -> Option<(usize, usize, us
     Some((all.found().len(), some.found().len(), some.configurations()))
 }
 
-/// Whether a condition holds at the end of every run, None where it does not read, or speaks of what the program does
-/// not have. `answer` has a witness exactly where some outcome is another one (clause *answer*).
-pub fn holds_always(alloc: Global, program: &Program, text: &str) -> Option<bool> {
+/// Whether a condition holds at the end of every run, and how many configurations it took to say so, of which none
+/// becomes another where alike clients change places; None where the condition does not read, or speaks of what the
+/// program does not have. `answer` has a witness exactly where some outcome is another one (clause *answer*).
+pub fn holds_always(alloc: Global, program: &Program, text: &str) -> Option<(bool, usize)> {
     let condition = read_condition(alloc, text.as_bytes()).ok()?;
     if first_unknown(&condition, program).is_some() {
         return None;
@@ -46,22 +48,5 @@ pub fn holds_always(alloc: Global, program: &Program, text: &str) -> Option<bool
         condition,
     };
     let found = answer(alloc, program, &claim, &[], LIMIT, &mut Silent).ok()?;
-    Some(found.witness.is_none())
-}
-
-/// Whether a condition holds at the end of every run, and how many configurations it took to say so, where alike clients
-/// may change places but for those that the condition names. `answer_alike` has a witness exactly where `answer` has one
-/// (law `alike_answers_agree`).
-pub fn holds_always_but_for_alike(
-    alloc: Global,
-    program: &Program,
-    text: &str,
-) -> Option<(bool, usize)> {
-    let condition = read_condition(alloc, text.as_bytes()).ok()?;
-    let claim = Claim {
-        quantifier: Quantifier::Always,
-        condition,
-    };
-    let found = answer_alike(alloc, program, &claim, LIMIT).ok()?;
     Some((found.witness.is_none(), found.configurations))
 }

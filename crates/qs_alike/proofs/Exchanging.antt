@@ -1,6 +1,6 @@
 -- Where two alike clients are exchanged, a standing stays one, and what it holds becomes what it holds then. So the places
 -- of a class are put in order one after another: the least of those that are left comes first.
-use Rattle.std.proofs.Common.{◌≡◌, ℕ, ◌+◌, ◌<◌, ◌≤◌, arith, Bool, true, false, if◌then◌else◌, ◌==◌, [], length, refl, sym, ap, ◌∙◌, subst, ⊎_elim, append-nil}
+use Rattle.std.proofs.Common.{◌≡◌, ℕ, ◌+◌, ◌<◌, ◌≤◌, arith, Bool, true, false, if◌then◌else◌, ◌==◌, [], length, sym, ap, ◌∙◌, subst, ⊎_elim, append-nil}
 use Rattle.std.specs.Ordering.{int_cmp, ordering_reverse}
 use Rattle.std.specs.declared.cmp.Ordering.TheVariants.{Less, Greater}
 use Rattle.std.specs.Cmp.Lexicographic.{slice_cmp}
@@ -12,12 +12,11 @@ use Rattle.qs_program.specs.audit.Program.{ProgramShape}
 use Rattle.qs_meaning.specs.audit.Configurations.{Configuration}
 use Rattle.qs_meaning.specs.audit.Serial.{zeros}
 use Rattle.qs_standings.specs.Standings.{IsStanding, StandingShape, configuration_in, exchanged, flipped}
-use Rattle.qs_alike.specs.AlikeOutcomes.{Becomes}
 use Rattle.qs_alike.specs.Arranged.{IsArranged, IsArrangedBelow, compared, place_of}
-use Rattle.qs_alike.specs.Changes.{AreClasses, Change, Classes, IsChange, changed}
+use Rattle.qs_alike.specs.Changes.{AreClasses, Becomes, Change, Classes, IsChange, changed}
 use Rattle.qs_alike.proofs.Arranging.{total}
 use Rattle.qs_alike.proofs.Orders.{leads, legal_changed}
-use Rattle.qs_alike.proofs.Searched.{no_change, no_change_is, then_changed, then_is}
+use Rattle.qs_alike.proofs.Composing.{becomes_then}
 
 -- two clients in each other's places
 abbrev pub flip : ℕ → ℕ → Change
@@ -72,12 +71,6 @@ module _ (p : ProgramShape) (k : Classes) (are : AreClasses p k) (s : StandingSh
 
   pub becomes_exchanged : Becomes k (configuration_in s) (configuration_in (exchanged c d s))
   becomes_exchanged = (flip c d, flip_is k c d same, flips)
-
-pub becomes_itself : (k : Classes) (g : Configuration) → Becomes k g g
-becomes_itself k g = (no_change, no_change_is k, refl)
-
-pub becomes_then : (k : Classes) (f g h : Configuration) → Becomes k f g → Becomes k g h → Becomes k f h
-becomes_then k f g h (x, a, e) (y, b, i) = (then_changed x y, then_is k x y a b, i ∙ ap (changed y) e)
 
 -- of a class the place at a client is the least of those behind it, before a number
 abbrev pub IsLeastUpTo : Classes → Configuration → ℕ → ℕ → Type 0

@@ -1,15 +1,19 @@
--- From one configuration to another all legal orders are equally long: each block adds one to the count of a client.
-use Rattle.std.proofs.Common.{◌≡◌, ℕ, zero, suc, ◌+◌, ◌<◌, arith, List, [], ◌∷◌, length, refl, ap, subst, inl, inr}
+-- From one configuration to another, or to what that becomes by a change of alike clients, all legal orders are equally
+-- long: each block adds one to the count of a client.
+use Rattle.std.proofs.Common.{◌≡◌, ℕ, zero, suc, ◌+◌, ◌<◌, arith, List, [], ◌∷◌, length, refl, sym, ap, ◌∙◌, subst, inl, inr}
+use Rattle.std.proofs.lemmas.List.{length-map}
 use Rattle.std.proofs.lemmas.Bool.{cases_eq}
 use Rattle.qs_objects.specs.declared.held.Ticket.{Ticket}
 use Rattle.qs_objects.proofs.Choices.{eqb_apart}
 use Rattle.qs_program.specs.audit.Program.{ProgramShape}
-use Rattle.qs_meaning.specs.audit.Configurations.{Configuration, configuration_from, one_block_on}
-use Rattle.qs_meaning.specs.audit.Serial.{LegalFrom}
+use Rattle.qs_meaning.specs.audit.Configurations.{Configuration, configuration_after, configuration_from, first_configuration, one_block_on}
+use Rattle.qs_meaning.specs.audit.Serial.{IsLegal, LegalFrom}
 use Rattle.qs_meaning.specs.audit.Solo.{put}
 use Rattle.qs_meaning.proofs.Orders.{legal_on}
 use Rattle.qs_meaning.proofs.TreeWalks.{put_here, put_there}
 use Rattle.qs_standings.proofs.Stands.{has_place}
+use Rattle.qs_alike.specs.Changes.{AreClasses, Becomes, Classes, changed_order, changed_ticket}
+use Rattle.qs_alike.proofs.Orders.{leads, legal_changed}
 
 pub total_of : ℕ → (ℕ → ℕ) → ℕ
 total_of zero f = 0
@@ -54,3 +58,11 @@ equally_long p g ts us legal other same =
     let ends : total_of (length p.clients) (configuration_from p g ts).begun ≡ total_of (length p.clients) (configuration_from p g us).begun =
     ap (λ (h : Configuration). total_of (length p.clients) h.begun) same in
     omega (arith, one, two, ends)
+
+-- and so are those that lead to configurations of which one becomes the other
+pub alike_long : (p : ProgramShape) (k : Classes) → AreClasses p k → (ts us : List Ticket) → IsLegal p ts → IsLegal p us
+    → Becomes k (configuration_after p ts) (configuration_after p us) → length ts ≡ length us
+alike_long p k are ts us legal other (x, is, e) =
+    sym (length-map ts (changed_ticket x))
+    ∙ equally_long p (first_configuration p) (changed_order x ts) us (legal_changed p k are x is ts legal) other
+    (leads p k are x is ts ∙ sym e)

@@ -2,12 +2,8 @@ pub mod SameTexts
 pub mod SettingApart
 pub mod Orders
 pub mod Arranging
+pub mod Composing
 pub mod Exchanging
+pub mod Keying
+pub mod Following
 pub mod Lengths
-pub mod Searching
-pub mod Searched
-pub mod Pairs
-pub mod Counting
-pub mod Shares
-pub mod Adding
-pub mod LedTo

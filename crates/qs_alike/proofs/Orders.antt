@@ -52,7 +52,7 @@ module _ (p : ProgramShape) (k : Classes) (are : AreClasses p k) (x : Change) (i
         let b : (client_at p (x.new c)).blocks ≡ (client_at p c).blocks = sym (same_blocks c) in
         λ i. ran (e i) (b i)
 
-    one_changed : one_block_on p (x.new c) (changed x g) ≡ changed x (one_block_on p c g)
+    pub one_changed : one_block_on p (x.new c) (changed x g) ≡ changed x (one_block_on p c g)
     one_changed =
         let o = solo (slice_index_or (client_at p c).blocks (g.begun c) no_block).body (g.locals c) g.states in
         let counts = put_changed g.begun c (suc (g.begun c)) in

@@ -53,6 +53,14 @@ changed x g = record {
 abbrev pub changed_outcome : Change → OrderOutcome → OrderOutcome
 changed_outcome x o = record { locals = λ c. o.locals (x.old c); states = o.states }
 
+-- what a configuration becomes by some change
+abbrev pub Becomes : Classes → Configuration → Configuration → Type 0
+Becomes k g h = (x : Change) × IsChange k x × (h ≡ changed x g)
+
+-- each client is in a class of its own
+abbrev pub AreAlone : Classes → Type 0
+AreAlone k = (c d : ℕ) → k c ≡ k d → c ≡ d
+
 -- the change of a legal order is legal, and leads to the change of where the order leads; of a complete order it is
 -- complete
 pub record IsOrderChanged (p : ProgramShape) (x : Change) (order : List Ticket) : Type 0 where

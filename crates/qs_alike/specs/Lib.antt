@@ -2,12 +2,7 @@
 pub mod Changes
 pub mod Apart
 pub mod Arranged
-pub mod AlikeOutcomes
--- What crates promise one another, what proofs use, and worked examples.
+pub mod Followed
+-- What crates promise one another, and what proofs use.
+pub mod Keys
 pub mod Texts
-pub mod AlikeSearch
-pub mod AlikeCounts
-pub mod totals
-pub mod noted
-pub mod throughout
-pub mod witness

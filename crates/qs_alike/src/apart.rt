@@ -10,7 +10,7 @@ ghost use Rattle.qs_alike.specs.Apart.{AreSetApart, IsClassApart};
 ghost use Rattle.qs_alike.specs.Changes.{AreClasses};
 ghost use Rattle.qs_alike.specs.Texts.{classes_in};
 
-use crate::classes::{Classes, are_alike};
+use crate::classes::{ALONE, Classes, are_alike};
 use qs_program::{MOST_CLIENTS, Program};
 
 // Whether a client is in a set: client c in bit c.
@@ -44,7 +44,7 @@ pub fn classes_apart(program: &Program, classes: &Classes, apart: u8) -> Classes
     ensures set_apart { AreSetApart (classes_in classes.now) (in_byte apart) (classes_in result) }
 {
     program.keeps_sound();
-    let mut split = [0, 1, 2, 3, 4, 5, 6, 7];
+    let mut split = ALONE;
     for client in 0..MOST_CLIENTS as u8 {
         split[usize::from(client)] = class_apart(classes, apart, client);
     }

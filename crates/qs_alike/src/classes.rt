@@ -1,8 +1,8 @@
 //! Which clients are alike.
 
-ghost use Rattle.std.specs.Prelude.{◌≡◌, ◌<◌, length};
+ghost use Rattle.std.specs.Prelude.{◌≡◌, ◌<◌, true, length};
 ghost use Rattle.std.specs.Bool.{Decides};
-ghost use Rattle.qs_alike.specs.Changes.{AreAllAlike, AreClasses, HaveSameText};
+ghost use Rattle.qs_alike.specs.Changes.{AreAllAlike, AreAlone, AreClasses, HaveSameText};
 ghost use Rattle.qs_alike.specs.Texts.{IsFirstAlike, classes_in};
 
 use crate::texts::is_same_block;
@@ -11,8 +11,25 @@ use qs_program::{MOST_CLIENTS, Program};
 /// The class of each client: the number of the first client with the same text.
 pub type Classes = [u8; MOST_CLIENTS];
 
+// Each client in a class of its own.
+pub(crate) const ALONE: Classes = [0, 1, 2, 3, 4, 5, 6, 7];
+
+/// Whether each client is in a class of its own.
+pub fn are_alone(classes: &Classes) -> bool
+    ensures alone { result ≡ true → AreAlone (classes_in classes.now) }
+{
+    *classes == ALONE
+}
+
+/// Classes in which each client is alone, so that nobody changes places.
+pub fn each_alone() -> Classes
+    ensures alone { AreAlone (classes_in result) }
+{
+    ALONE
+}
+
 /// Whether two clients are of one class.
-pub(crate) fn are_alike(classes: &Classes, one: u8, other: u8) -> bool
+pub fn are_alike(classes: &Classes, one: u8, other: u8) -> bool
     requires within { (one < 8) × (other < 8) }
     ensures alike { Decides result (classes_in classes.now one ≡ classes_in classes.now other) }
 {
@@ -57,7 +74,7 @@ pub fn classes_of(program: &Program) -> Classes
     ensures all { AreAllAlike program.now (classes_in result) }
 {
     program.keeps_sound();
-    let mut classes = [0, 1, 2, 3, 4, 5, 6, 7];
+    let mut classes = ALONE;
     for client in 0..program.clients() as u8 {
         classes[usize::from(client)] = class_of(program, client);
     }

@@ -1,6 +1,5 @@
-//! What holds of changes of places and of the counts, for callers' proofs and for readers.
+//! What holds of changes of places, for callers' proofs and for readers.
 
-ghost use Rattle.qs_alike.specs.AlikeOutcomes.{CountsAreAll};
 ghost use Rattle.qs_alike.specs.Arranged.{ArrangedOnce};
 ghost use Rattle.qs_alike.specs.Changes.{ChangesKeepOrders, ChangesKeepOutcomes};
 
@@ -15,9 +14,4 @@ pub fn changes_keep()
 /// nothing.
 pub fn arranged_once()
     ensures once { ArrangedOnce }
-{}
-
-/// The counts of what is listed add up to how many outcomes there are in all. It does nothing.
-pub fn counts_are_all()
-    ensures all { CountsAreAll }
 {}

@@ -1,21 +1,15 @@
-//! Alike clients: those with the same text, which may change places. Of all outcomes of a program that differ by this
-//! alone, one is listed.
+//! Alike clients: those with the same text, which may change places. A search looks at one of all configurations that
+//! differ by this alone.
 #![tactic(auto)]
 
 mod apart;
 mod classes;
-mod counts;
+mod followed;
 pub mod laws;
-pub mod noted;
 mod placing;
-mod search;
 mod texts;
-pub mod throughout;
-pub mod totals;
-pub mod witness;
 
 pub use apart::classes_apart;
-pub use classes::{Classes, classes_of};
-pub use counts::{configurations_for, stands_for};
-pub use placing::arrange;
-pub use search::{AlikeOutcomes, outcomes_alike};
+pub use classes::{Classes, are_alike, are_alone, classes_of, each_alone};
+pub use followed::goes_on_up_to;
+pub use placing::{arrange, put_placed};

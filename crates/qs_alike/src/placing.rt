@@ -1,17 +1,17 @@
 //! The places of alike clients, in order.
 
-ghost use Rattle.std.specs.Prelude.{◌≡◌, ◌↔◌, ◌+◌, ◌<◌, true, length};
+ghost use Rattle.std.specs.Prelude.{◌≡◌, ◌↔◌, ◌+◌, ◌<◌, true, OnOk, length};
 ghost use Rattle.std.specs.declared.cmp.Ordering.TheVariants.{Less};
 ghost use Rattle.qs_standings.specs.Standings.{IsStanding, configuration_in};
-ghost use Rattle.qs_alike.specs.AlikeOutcomes.{Becomes};
-ghost use Rattle.qs_alike.specs.AlikeSearch.{IsPlaced};
 ghost use Rattle.qs_alike.specs.Arranged.{IsArrangedBelow, compared};
-ghost use Rattle.qs_alike.specs.Changes.{AreClasses};
+ghost use Rattle.qs_alike.specs.Changes.{AreClasses, Becomes};
+ghost use Rattle.qs_alike.specs.Keys.{IsPlaced, IsPlacedAs};
 ghost use Rattle.qs_alike.specs.Texts.{classes_in};
 
 use crate::classes::{Classes, are_alike};
 use qs_program::Program;
 use qs_standings::Standing;
+use std::alloc::{AllocError, Global};
 use std::cmp::Ordering;
 
 // Whether a client's place comes before another's.
@@ -57,4 +57,22 @@ pub fn arrange(program: &Program, classes: &Classes, standing: &mut Standing)
     for place in 0..program.clients() as u8 {
         settle(program, classes, standing, place);
     }
+}
+
+/// Writes a standing with the places of each class in order into another one, whose memory is used again. An error says
+/// that an allocation failed.
+pub fn put_placed(
+    alloc: Global,
+    program: &Program,
+    classes: &Classes,
+    standing: &Standing,
+    placed: &mut Standing,
+) -> Result<(), AllocError>
+    requires classes { AreClasses program.now (classes_in classes.now) }
+    requires standing { IsStanding program.now standing.now.order standing.now }
+    ensures placed { OnOk result (IsPlacedAs program.now (classes_in classes.now) standing.now placed.new) }
+{
+    standing.put_copy(alloc, placed)?;
+    arrange(program, classes, placed);
+    Ok(())
 }

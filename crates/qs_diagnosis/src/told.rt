@@ -70,29 +70,36 @@ fn put_place(out: &mut Vec<u8>, spot: Spot, gutter: &[u8]) -> Result<(), AllocEr
     )
 }
 
+// The part of a line that is shown.
+#[derive(Clone, Copy)]
+struct Part<'a> {
+    bytes: &'a [u8],
+    is_text: bool,
+    is_cut_before: bool,
+    is_cut_after: bool,
+}
+
 // Puts the source line.
 fn put_source(
     alloc: Global,
     out: &mut Vec<u8>,
     line: usize,
-    is_text: bool,
-    bytes: &[u8],
-    is_cut_before: bool,
-    is_cut_after: bool,
+    part: &Part<'_>,
 ) -> Result<(), AllocError>
     ensures ok { OnOk result (out.new.items
-        ≡ out.old.items ++ source_text line is_text bytes.now is_cut_before is_cut_after) }
+        ≡ out.old.items
+        ++ source_text line part.now.is_text part.now.bytes.now part.now.is_cut_before part.now.is_cut_after) }
 {
-    let shown = shown_bytes(alloc, is_text, bytes)?;
+    let shown = shown_bytes(alloc, part.is_text, part.bytes)?;
     let mut number = Buffer::new();
     put_all(
         out,
         &[
             number.format(line).as_bytes(),
             b" | ",
-            dots(is_cut_before),
+            dots(part.is_cut_before),
             shown.as_slice(),
-            dots(is_cut_after),
+            dots(part.is_cut_after),
             b"\n",
         ],
     )
@@ -124,18 +131,18 @@ fn put_under(
     alloc: Global,
     out: &mut Vec<u8>,
     gutter: &[u8],
-    is_text: bool,
+    part: &Part<'_>,
     before: &[u8],
     token: &[u8],
-    is_cut_before: bool,
     label: &[u8],
 ) -> Result<(), AllocError>
     ensures ok { OnOk result (out.new.items
-        ≡ out.old.items ++ under_text gutter.now is_text before.now token.now is_cut_before label.now) }
+        ≡ out.old.items
+        ++ under_text gutter.now part.now.is_text before.now token.now part.now.is_cut_before label.now) }
 {
-    let dotted = blanks(alloc, dots(is_cut_before))?;
-    let pad = marks(alloc, is_text, b' ', before)?;
-    let under = token_marks(alloc, is_text, token)?;
+    let dotted = blanks(alloc, dots(part.is_cut_before))?;
+    let pad = marks(alloc, part.is_text, b' ', before)?;
+    let under = token_marks(alloc, part.is_text, token)?;
     put_all(
         out,
         &[
@@ -164,63 +171,61 @@ fn token_in(text: &[u8], window: Window, span: Span) -> &[u8]
     }
 }
 
-// Puts the place, the part of its line that stands in a window, and the line below it.
+// Puts the place of a diagnosis, the part of its line that stands in a window, and the line below it.
 fn put_windowed(
     alloc: Global,
     out: &mut Vec<u8>,
     text: &[u8],
-    span: Span,
-    label: &[u8],
+    diagnosis: &Diagnosis<'_>,
     spot: Spot,
     start: usize,
     end: usize,
 ) -> Result<(), AllocError>
-    requires before { start ≤ span.start }
-    requires after { span.start ≤ end }
+    requires before { start ≤ diagnosis.now.span.start }
+    requires after { diagnosis.now.span.start ≤ end }
     requires within { end ≤ length text.now }
-    ensures ok { OnOk result (IsExcerpt out.old.items out.new.items (λ is_text. excerpt_in is_text text.now span label.now spot start end)) }
+    ensures ok { OnOk result (IsExcerpt out.old.items out.new.items
+        (λ is_text. excerpt_in is_text text.now diagnosis.now.span diagnosis.now.label.now spot start end)) }
 {
+    let span = diagnosis.span;
     let window = around(start, end, span.start);
-    let shown = &text[window.from..window.to];
-    let is_text = str::from_utf8(shown).is_ok();
+    let bytes = &text[window.from..window.to];
+    let part = Part {
+        bytes,
+        is_text: str::from_utf8(bytes).is_ok(),
+        is_cut_before: start < window.from,
+        is_cut_after: window.to < end,
+    };
     let gutter = gutter_blanks(alloc, spot.line)?;
     put_place(out, spot, gutter.as_slice())?;
-    put_source(
-        alloc,
-        out,
-        spot.line,
-        is_text,
-        shown,
-        start < window.from,
-        window.to < end,
-    )?;
+    put_source(alloc, out, spot.line, &part)?;
     put_under(
         alloc,
         out,
         gutter.as_slice(),
-        is_text,
+        &part,
         &text[window.from..span.start],
         token_in(text, window, span),
-        start < window.from,
-        label,
+        diagnosis.label,
     )
 }
 
-// Puts the place of a token, its line, and the line below it.
+// Puts the place of a diagnosis, its line, and the line below it.
 fn put_excerpt(
     alloc: Global,
     out: &mut Vec<u8>,
     text: &[u8],
-    span: Span,
-    label: &[u8],
+    diagnosis: &Diagnosis<'_>,
 ) -> Result<(), AllocError>
-    requires within { span.start ≤ length text.now }
-    ensures ok { OnOk result (IsExcerpt out.old.items out.new.items (λ is_text. excerpt_text is_text text.now span label.now)) }
+    requires within { diagnosis.now.span.start ≤ length text.now }
+    ensures ok { OnOk result (IsExcerpt out.old.items out.new.items
+        (λ is_text. excerpt_text is_text text.now diagnosis.now.span diagnosis.now.label.now)) }
 {
-    let spot = spot_of(text, span.start);
-    let start = span.start - (spot.column - 1);
-    let end = line_end(text, span.start);
-    put_windowed(alloc, out, text, span, label, spot, start, end)
+    let place = diagnosis.span.start;
+    let spot = spot_of(text, place);
+    let start = place - (spot.column - 1);
+    let end = line_end(text, place);
+    put_windowed(alloc, out, text, diagnosis, spot, start, end)
 }
 
 // Puts the line of the cause, after a head.
@@ -253,7 +258,7 @@ fn put_headed(
     ensures ok { OnOk result (IsPut head.now text.now diagnosis.now out.old.items out.new.items) }
 {
     put_cause(out, head, diagnosis.cause)?;
-    put_excerpt(alloc, out, text, diagnosis.span, diagnosis.label)?;
+    put_excerpt(alloc, out, text, diagnosis)?;
     let line = spot_of(text, diagnosis.span.start).line;
     put_help(alloc, out, line, diagnosis.help)
 }

@@ -66,6 +66,25 @@ impl Chart {
     }
 }
 
+// What a chart is made for, and does not change: a program after a front, the last blocks of its clients, and how many
+// places there are at most.
+#[derive(Clone, Copy)]
+struct Search<'a> {
+    program: &'a Program,
+    front: &'a [Ticket],
+    last: &'a [Last],
+    limit: u32,
+    ghost are_last: { AreLast program.now last.now },
+}
+
+// A chart while it is drawn, with the row of each place.
+#[derive(Drop)]
+struct Drawing {
+    rows: IndexSet<Row>,
+    places: Vec<Standing>,
+    leads: Vec<Lead>,
+}
+
 // The place of a standing's row among the rows, and whether it is new.
 fn row_place(rows: &mut IndexSet<Row>, row: Row) -> Result<(usize, bool), AllocError>
     ensures placed { IfOk result (λ r. IsRowPlaced (rows_in rows.old.keys) (shape_of row) r.0 r.1 (rows_in rows.new.keys)) }
@@ -86,26 +105,27 @@ fn add<T: Drop>(list: &mut Vec<T>, item: T) -> Result<(), AllocError>
 // The place of a standing, which is added where none stands for its configuration.
 fn place_of(
     alloc: Global,
-    program: &Program,
-    front: &[Ticket],
-    limit: u32,
+    search: &Search<'_>,
     standing: Standing,
     rows: &mut IndexSet<Row>,
     places: &mut Vec<Standing>,
 ) -> Result<usize, OutcomesFault>
-    requires standing { IsStanding program.now front.now standing }
-    requires charted { AreCharted program.now front.now limit (rows_in rows.old.keys) places.old.items }
-    ensures charted { OnOk result (AreCharted program.now front.now limit (rows_in rows.new.keys) places.new.items) }
+    requires standing { IsStanding search.now.program.now search.now.front.now standing }
+    requires charted { AreCharted search.now.program.now search.now.front.now search.now.limit
+        (rows_in rows.old.keys) places.old.items }
+    ensures charted { OnOk result (AreCharted search.now.program.now search.now.front.now search.now.limit
+        (rows_in rows.new.keys) places.new.items) }
     ensures placed { IfOk result (λ place. IsPlaced places.old.items places.new.items (configuration_in standing) place) }
-    ensures limit { IsErrOf result OutcomesFault.Limit → HasMoreThanAfter program.now front.now limit }
+    ensures limit { IsErrOf result OutcomesFault.Limit
+        → HasMoreThanAfter search.now.program.now search.now.front.now search.now.limit }
     ensures order { ¬ IsErrOf result OutcomesFault.Order }
 {
-    program.keeps_sound();
-    let (place, new) = row_place(rows, standing.row(alloc, program, front)?)?;
+    search.program.keeps_sound();
+    let (place, new) = row_place(rows, standing.row(alloc, search.program, search.front)?)?;
     if !new {
         return Ok(place);
     }
-    if places.len() >= limit as usize {
+    if places.len() >= search.limit as usize {
         return Err(OutcomesFault::Limit);
     }
     add(places, standing)?;
@@ -115,50 +135,50 @@ fn place_of(
 // Where the next block of a client leads that goes on.
 fn next_of(
     alloc: Global,
-    program: &Program,
-    front: &[Ticket],
+    search: &Search<'_>,
     standing: &Standing,
     client: u8,
 ) -> Result<Standing, AllocError>
-    requires client { client < length program.now.clients }
-    requires standing { IsStanding program.now front.now standing.now }
-    requires goes { GoesOn program.now standing.now client }
-    ensures next { IfOk result (IsNext program.now front.now standing.now client) }
+    requires client { client < length search.now.program.now.clients }
+    requires standing { IsStanding search.now.program.now search.now.front.now standing.now }
+    requires goes { GoesOn search.now.program.now standing.now client }
+    ensures next { IfOk result (IsNext search.now.program.now search.now.front.now standing.now client) }
 {
-    let next = standing.next(alloc, program, front, client)?;
+    let next = standing.next(alloc, search.program, search.front, client)?;
     Ok(next)
 }
 
 // Adds the lead of a client from a place, if it goes on there.
 fn add_lead(
     alloc: Global,
-    program: &Program,
-    front: &[Ticket],
-    limit: u32,
-    goes: u8,
+    search: &Search<'_>,
     at: usize,
+    goes: u8,
     client: u8,
-    rows: &mut IndexSet<Row>,
-    places: &mut Vec<Standing>,
-    leads: &mut Vec<Lead>,
+    drawing: &mut Drawing,
 ) -> Result<(), OutcomesFault>
-    requires client { client < length program.now.clients }
-    requires at { at < length places.old.items }
-    requires goes { (s : StandingShape) → slice_get places.old.items at ≡ Some s → in_byte goes ≡ goes_on program.now (configuration_in s).begun }
-    requires charted { AreCharted program.now front.now limit (rows_in rows.old.keys) places.old.items }
-    requires leads { AreLeadsUpTo program.now places.old.items leads.old.items at client }
-    ensures charted { OnOk result (AreCharted program.now front.now limit (rows_in rows.new.keys) places.new.items) }
-    ensures more { OnOk result (AreMore places.old.items places.new.items) }
-    ensures leads { OnOk result (AreLeadsUpTo program.now places.new.items leads.new.items at (client + 1)) }
-    ensures limit { IsErrOf result OutcomesFault.Limit → HasMoreThanAfter program.now front.now limit }
+    requires client { client < length search.now.program.now.clients }
+    requires at { at < length drawing.old.places.items }
+    requires goes { (s : StandingShape) → slice_get drawing.old.places.items at ≡ Some s → in_byte goes
+        ≡ goes_on search.now.program.now (configuration_in s).begun }
+    requires charted { AreCharted search.now.program.now search.now.front.now search.now.limit
+        (rows_in drawing.old.rows.keys) drawing.old.places.items }
+    requires leads { AreLeadsUpTo search.now.program.now drawing.old.places.items drawing.old.leads.items at client }
+    ensures charted { OnOk result (AreCharted search.now.program.now search.now.front.now search.now.limit
+        (rows_in drawing.new.rows.keys) drawing.new.places.items) }
+    ensures more { OnOk result (AreMore drawing.old.places.items drawing.new.places.items) }
+    ensures leads { OnOk result (AreLeadsUpTo search.now.program.now drawing.new.places.items drawing.new.leads.items at
+        (client + 1)) }
+    ensures limit { IsErrOf result OutcomesFault.Limit
+        → HasMoreThanAfter search.now.program.now search.now.front.now search.now.limit }
     ensures order { ¬ IsErrOf result OutcomesFault.Order }
 {
-    program.keeps_sound();
+    search.program.keeps_sound();
     if (goes >> client) & 1 == 1 {
-        let next = next_of(alloc, program, front, &places[at], client)?;
-        let to = place_of(alloc, program, front, limit, next, rows, places)?;
+        let next = next_of(alloc, search, &drawing.places[at], client)?;
+        let to = place_of(alloc, search, next, &mut drawing.rows, &mut drawing.places)?;
         let from = at;
-        add(leads, Lead { from, client, to })?;
+        add(&mut drawing.leads, Lead { from, client, to })?;
     }
     Ok(())
 }
@@ -166,31 +186,28 @@ fn add_lead(
 // Adds the leads of all who go on from a place.
 fn add_leads(
     alloc: Global,
-    program: &Program,
-    last: &[Last],
-    front: &[Ticket],
-    limit: u32,
+    search: &Search<'_>,
     at: usize,
-    rows: &mut IndexSet<Row>,
-    places: &mut Vec<Standing>,
-    leads: &mut Vec<Lead>,
+    drawing: &mut Drawing,
 ) -> Result<(), OutcomesFault>
-    requires last { AreLast program.now last.now }
-    requires at { at < length places.old.items }
-    requires charted { AreCharted program.now front.now limit (rows_in rows.old.keys) places.old.items }
-    requires leads { AreLeadsUpTo program.now places.old.items leads.old.items at 0 }
-    ensures charted { OnOk result (AreCharted program.now front.now limit (rows_in rows.new.keys) places.new.items) }
-    ensures more { OnOk result (AreMore places.old.items places.new.items) }
-    ensures leads { OnOk result (AreLeadsUpTo program.now places.new.items leads.new.items (at + 1) 0) }
-    ensures limit { IsErrOf result OutcomesFault.Limit → HasMoreThanAfter program.now front.now limit }
+    requires at { at < length drawing.old.places.items }
+    requires charted { AreCharted search.now.program.now search.now.front.now search.now.limit
+        (rows_in drawing.old.rows.keys) drawing.old.places.items }
+    requires leads { AreLeadsUpTo search.now.program.now drawing.old.places.items drawing.old.leads.items at 0 }
+    ensures charted { OnOk result (AreCharted search.now.program.now search.now.front.now search.now.limit
+        (rows_in drawing.new.rows.keys) drawing.new.places.items) }
+    ensures more { OnOk result (AreMore drawing.old.places.items drawing.new.places.items) }
+    ensures leads { OnOk result (AreLeadsUpTo search.now.program.now drawing.new.places.items drawing.new.leads.items
+        (at + 1) 0) }
+    ensures limit { IsErrOf result OutcomesFault.Limit
+        → HasMoreThanAfter search.now.program.now search.now.front.now search.now.limit }
     ensures order { ¬ IsErrOf result OutcomesFault.Order }
 {
+    let program = search.program;
     program.keeps_sound();
-    let goes = places[at].goes_on(program, last, front);
+    let goes = drawing.places[at].goes_on(program, search.last, search.front);
     for client in 0..program.clients() as u8 {
-        add_lead(
-            alloc, program, front, limit, goes, at, client, rows, places, leads,
-        )?;
+        add_lead(alloc, search, at, goes, client, drawing)?;
     }
     Ok(())
 }
@@ -212,25 +229,34 @@ fn chart_from(
 {
     program.keeps_sound();
     let last = last_blocks(alloc, program)?;
-    let mut rows = IndexSet::new(alloc);
-    let mut places = Vec::new(alloc);
-    let mut leads = Vec::new(alloc);
-    let _place = place_of(alloc, program, front, limit, first, &mut rows, &mut places)?;
+    let search = Search {
+        program,
+        front,
+        last: last.as_slice(),
+        limit,
+    };
+    let mut drawing = Drawing {
+        rows: IndexSet::new(alloc),
+        places: Vec::new(alloc),
+        leads: Vec::new(alloc),
+    };
+    let _place = place_of(
+        alloc,
+        &search,
+        first,
+        &mut drawing.rows,
+        &mut drawing.places,
+    )?;
     let mut at = 0;
-    while at < places.len() {
-        add_leads(
-            alloc,
-            program,
-            last.as_slice(),
-            front,
-            limit,
-            at,
-            &mut rows,
-            &mut places,
-            &mut leads,
-        )?;
+    while at < drawing.places.len() {
+        add_leads(alloc, &search, at, &mut drawing)?;
         at += 1;
     }
+    let Drawing {
+        rows: _,
+        places,
+        leads,
+    } = drawing;
     Ok(Chart { places, leads })
 }
 

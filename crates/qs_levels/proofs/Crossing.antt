@@ -1,5 +1,6 @@
--- What threads share: programs and levels hold nothing that a thread must not see while another one does.
+-- What threads share: a step of a search holds nothing that a thread must not see while another one does.
 use denote.Param.Send.{IsSync, sendable}
+use denote.Ref.{NamedLft}
 use Rattle.std.proofs.Crossing.{crosses}
 use Rattle.std.proofs.MapsCrossing as maps
 use Rattle.qs_program.proofs.code.Body.TheLaws.TheKnot as bodies
@@ -28,7 +29,7 @@ start_sync = search (block_sync, declared_sync, crosses, sendable) depth 40
 client_sync : IsSync Rattle.qs_program.specs.contracts.program.Client.the_row
 client_sync = search (block_sync, start_sync, names_sync, crosses, sendable) depth 40
 
-pub program_sync : IsSync Rattle.qs_program.specs.contracts.program.Program.the_row
+program_sync : IsSync Rattle.qs_program.specs.contracts.program.Program.the_row
 program_sync = search (client_sync, declared_sync, crosses, sendable) depth 40
 
 packed_sync : IsSync Rattle.qs_standings.specs.contracts.packed.Packed.the_row
@@ -37,5 +38,11 @@ packed_sync = search (crosses, sendable) depth 40
 part_sync : IsSync Rattle.qs_levels.specs.contracts.part.Part.the_row
 part_sync = search (packed_sync, crosses, sendable) depth 40
 
-pub level_sync : IsSync Rattle.qs_levels.specs.contracts.level.Level.the_row
+level_sync : IsSync Rattle.qs_levels.specs.contracts.level.Level.the_row
 level_sync = search (part_sync, crosses, sendable) depth 40
+
+search_sync : (a : NamedLft) → IsSync (Rattle.qs_levels.specs.contracts.step.Search.the_field a).row
+search_sync a = search (program_sync, crosses, sendable) depth 40
+
+pub step_sync : (a : NamedLft) → IsSync (Rattle.qs_levels.specs.contracts.step.Step.the_row a)
+step_sync a = search (search_sync, level_sync, crosses, sendable) depth 40

@@ -4,8 +4,6 @@ ghost use Rattle.std.specs.Prelude.{◌≡◌, ◌<◌, ◌≤◌, IfOk, IsErrOf
 ghost use Rattle.qs_meaning.specs.audit.Serial.{IsLegal};
 ghost use Rattle.qs_outcomes.specs.Outcomes.{HasMoreThanAfter};
 ghost use Rattle.qs_serial.specs.audit.NamedOrders.{order_of};
-ghost use Rattle.qs_standings.specs.going.Going.{AreLast};
-ghost use Rattle.qs_standings.specs.Rows.{AreStarts};
 ghost use Rattle.qs_standings.specs.Standings.{IsFirst};
 ghost use Rattle.qs_levels.specs.meaning.Fronts.{AreFrontsAfter};
 ghost use Rattle.qs_levels.specs.meaning.Onward.{HasMoreOnward};
@@ -20,12 +18,13 @@ use crate::merging::{add, next_of};
 use crate::part::Part;
 use crate::parts::add_part;
 use crate::share::{Share, share_of};
+use crate::step::{Search, Step};
 use crate::table::{Lead, Mark, Spare, Table, add_found};
 use qs_objects::Ticket;
 use qs_outcomes::OutcomesFault;
 use qs_program::Program;
 use qs_serial::names_order;
-use qs_standings::{Last, Standing, copied, last_blocks, placed, row_starts};
+use qs_standings::{Standing, copied, last_blocks, placed, row_starts};
 use std::alloc::{AllocError, Global};
 
 // One standing as a part, and who goes on from it.
@@ -69,29 +68,26 @@ fn one_spot(alloc: Global, part: Part, going: Going) -> Result<Level, AllocError
 // The level of no blocks, for so many shares.
 pub(crate) fn first_level(
     alloc: Global,
-    program: &Program,
-    last: &[Last],
-    front: &[Ticket],
+    search: &Search<'_>,
     first: Standing,
     count: usize,
     limit: usize,
 ) -> Result<Level, OutcomesFault>
-    requires last { AreLast program.now last.now }
-    requires first { IsFirst program.now front.now first }
+    requires first { IsFirst search.now.program.now search.now.front.now first }
     requires some { 0 < count }
     requires few { count ≤ 256 }
     ensures first { IfOk result (λ level. level.standings ≡ first ∷ []) }
-    ensures going { IfOk result (λ level. AreGoing program.now count level.standings level.going) }
+    ensures going { IfOk result (λ level. AreGoing search.now.program.now count level.standings level.going) }
     ensures within { IfOk result (λ level. 1 ≤ limit) }
     ensures limit { IsErrOf result OutcomesFault.Limit → limit ≡ 0 }
     ensures order { ¬ IsErrOf result OutcomesFault.Order }
 {
-    program.keeps_sound();
+    search.program.keeps_sound();
     if limit == 0 {
         return Err(OutcomesFault::Limit);
     }
     let going = Going {
-        clients: first.goes_on(program, last, front),
+        clients: first.goes_on(search.program, search.last, search.front),
         share: share_of(first.begun(), count),
     };
     let part = one_part(alloc, first, going.clients)?;
@@ -100,23 +96,17 @@ pub(crate) fn first_level(
 }
 
 // The level after a level, as one share. There is room for so many configurations.
-fn after_level(
-    alloc: Global,
-    program: &Program,
-    last: &[Last],
-    starts: &[usize],
-    front: &[Ticket],
-    level: &Level,
-    room: usize,
-) -> Result<Level, OutcomesFault>
-    requires last { AreLast program.now last.now }
-    requires starts { AreStarts program.now starts.now }
-    requires level { IsSomeLevel program.now front.now level.now.standings }
-    requires going { AreGoing program.now 1 level.now.standings level.now.going }
-    ensures next { IfOk result (λ next. IsNextOf program.now front.now level.now.standings next.standings) }
-    ensures going { IfOk result (λ next. AreGoing program.now 1 next.standings next.going) }
-    ensures small { IfOk result (λ next. length next.standings ≤ room) }
-    ensures limit { IsErrOf result OutcomesFault.Limit → HasMoreOnward program.now front.now level.now.standings room }
+fn after_level(alloc: Global, step: &Step<'_>) -> Result<Level, OutcomesFault>
+    requires level { IsSomeLevel step.now.search.program.now step.now.search.front.now step.now.level.now.standings }
+    requires going { AreGoing step.now.search.program.now 1 step.now.level.now.standings step.now.level.now.going }
+    ensures next { IfOk result
+        (λ next. IsNextOf step.now.search.program.now step.now.search.front.now step.now.level.now.standings
+        next.standings) }
+    ensures going { IfOk result (λ next. AreGoing step.now.search.program.now 1 next.standings next.going) }
+    ensures small { IfOk result (λ next. length next.standings ≤ step.now.room) }
+    ensures limit { IsErrOf result OutcomesFault.Limit
+        → HasMoreOnward step.now.search.program.now step.now.search.front.now step.now.level.now.standings
+        step.now.room }
     ensures order { ¬ IsErrOf result OutcomesFault.Order }
 {
     let share = Share {
@@ -124,12 +114,10 @@ fn after_level(
         count: 1,
     };
     let none = Spare::new(alloc);
-    let part = led_on(
-        alloc, program, last, starts, front, level, share, room, none,
-    )?;
+    let part = led_on(alloc, step, share, none)?;
     let mut parts = Vec::new(alloc);
     add_part(&mut parts, part)?;
-    next_of(alloc, program, front, level, parts, Vec::new(alloc), room)
+    next_of(alloc, step, parts, Vec::new(alloc))
 }
 
 // The configurations after so many blocks, by a search that begins where the program stands after a front.
@@ -151,18 +139,20 @@ fn fronts_from(
     program.keeps_sound();
     let last = last_blocks(alloc, program)?;
     let starts = row_starts(alloc, program)?;
-    let last = last.as_slice();
-    let mut level = first_level(alloc, program, last, front, first, 1, limit as usize)?;
+    let search = Search {
+        program,
+        front,
+        last: last.as_slice(),
+        starts: starts.as_slice(),
+    };
+    let mut level = first_level(alloc, &search, first, 1, limit as usize)?;
     for done in 0..blocks {
-        level = after_level(
-            alloc,
-            program,
-            last,
-            starts.as_slice(),
-            front,
-            &level,
-            limit as usize,
-        )?;
+        let step = Step {
+            search,
+            level: &level,
+            room: limit as usize,
+        };
+        level = after_level(alloc, &step)?;
         if level.len() == 0 {
             return Ok(Vec::new(alloc));
         }

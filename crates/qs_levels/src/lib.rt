@@ -11,6 +11,7 @@ mod part;
 mod parts;
 mod search;
 mod share;
+mod step;
 mod table;
 mod threads;
 

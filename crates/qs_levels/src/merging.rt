@@ -8,10 +8,9 @@ ghost use Rattle.qs_levels.specs.Shares.{AreGoing};
 
 use crate::level::{Going, Level, Spot};
 use crate::part::Part;
+use crate::step::Step;
 use crate::table::Lead;
-use qs_objects::Ticket;
 use qs_outcomes::OutcomesFault;
-use qs_program::Program;
 use std::alloc::{AllocError, Global};
 
 // The part with the least first lead so far, and this lead.
@@ -106,22 +105,24 @@ fn take(
 // All to which a level leads, from the parts of all shares.
 fn merged(
     alloc: Global,
-    program: &Program,
-    front: &[Ticket],
-    level: &Level,
+    step: &Step<'_>,
     parts: Vec<Part>,
     mut spots: Vec<Spot>,
 ) -> Result<Level, OutcomesFault>
-    requires level { IsSomeLevel program.now front.now level.now.standings }
-    requires parts { AreParts program.now front.now level.now.standings parts.items }
+    requires level { IsSomeLevel step.now.search.program.now step.now.search.front.now step.now.level.now.standings }
+    requires parts { AreParts step.now.search.program.now step.now.search.front.now step.now.level.now.standings
+        parts.items }
     requires some { 0 < length parts.items }
     requires few { length parts.items ≤ 256 }
-    ensures next { IfOk result (λ next. IsNextOf program.now front.now level.now.standings next.standings) }
-    ensures going { IfOk result (λ next. AreGoing program.now (length parts.items) next.standings next.going) }
+    ensures next { IfOk result
+        (λ next. IsNextOf step.now.search.program.now step.now.search.front.now step.now.level.now.standings
+        next.standings) }
+    ensures going { IfOk result (λ next. AreGoing step.now.search.program.now
+        (length parts.items) next.standings next.going) }
     ensures limit { ¬ IsErrOf result OutcomesFault.Limit }
     ensures order { ¬ IsErrOf result OutcomesFault.Order }
 {
-    program.keeps_sound();
+    step.search.program.keeps_sound();
     let mut places = vec![in alloc; 0; parts.len()]?;
     spots.clear();
     while let Some(number) = least(parts.as_slice(), places.as_slice()) {
@@ -133,25 +134,28 @@ fn merged(
 /// The level after a level, from the parts of all shares. There is room for so many configurations.
 pub(crate) fn next_of(
     alloc: Global,
-    program: &Program,
-    front: &[Ticket],
-    level: &Level,
+    step: &Step<'_>,
     parts: Vec<Part>,
     spots: Vec<Spot>,
-    room: usize,
 ) -> Result<Level, OutcomesFault>
-    requires level { IsSomeLevel program.now front.now level.now.standings }
-    requires parts { AreParts program.now front.now level.now.standings parts.items }
+    requires level { IsSomeLevel step.now.search.program.now step.now.search.front.now step.now.level.now.standings }
+    requires parts { AreParts step.now.search.program.now step.now.search.front.now step.now.level.now.standings
+        parts.items }
     requires some { 0 < length parts.items }
     requires few { length parts.items ≤ 256 }
-    ensures next { IfOk result (λ next. IsNextOf program.now front.now level.now.standings next.standings) }
-    ensures going { IfOk result (λ next. AreGoing program.now (length parts.items) next.standings next.going) }
-    ensures small { IfOk result (λ next. length next.standings ≤ room) }
-    ensures limit { IsErrOf result OutcomesFault.Limit → HasMoreOnward program.now front.now level.now.standings room }
+    ensures next { IfOk result
+        (λ next. IsNextOf step.now.search.program.now step.now.search.front.now step.now.level.now.standings
+        next.standings) }
+    ensures going { IfOk result (λ next. AreGoing step.now.search.program.now
+        (length parts.items) next.standings next.going) }
+    ensures small { IfOk result (λ next. length next.standings ≤ step.now.room) }
+    ensures limit { IsErrOf result OutcomesFault.Limit
+        → HasMoreOnward step.now.search.program.now step.now.search.front.now step.now.level.now.standings
+        step.now.room }
     ensures order { ¬ IsErrOf result OutcomesFault.Order }
 {
-    let next = merged(alloc, program, front, level, parts, spots)?;
-    if next.len() > room {
+    let next = merged(alloc, step, parts, spots)?;
+    if next.len() > step.room {
         return Err(OutcomesFault::Limit);
     }
     Ok(next)

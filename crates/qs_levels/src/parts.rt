@@ -1,8 +1,6 @@
 //! A level is led on by threads, each to the configurations of its share.
 
 ghost use Rattle.std.specs.Prelude.{◌≡◌, ◌<◌, ◌≤◌, ◌∷◌, ◌++◌, [], ℕ, IfOk, OnOk, IsErrOf, length, slice_index_or, vec_len};
-ghost use Rattle.qs_standings.specs.going.Going.{AreLast};
-ghost use Rattle.qs_standings.specs.Rows.{AreStarts};
 ghost use Rattle.qs_levels.specs.meaning.Onward.{HasMoreOnward};
 ghost use Rattle.qs_levels.specs.meaning.Levels.{IsNextOf, IsSomeLevel};
 ghost use Rattle.qs_levels.specs.Merging.{AreParts, IsPartLed};
@@ -13,12 +11,10 @@ use crate::level::{Level, Spares};
 use crate::merging::next_of;
 use crate::part::Part;
 use crate::share::Share;
+use crate::step::Step;
 use crate::table::Spare;
 use crate::threads::side_by_side;
-use qs_objects::Ticket;
 use qs_outcomes::OutcomesFault;
-use qs_program::Program;
-use qs_standings::Last;
 use std::alloc::{AllocError, Global};
 use std::mem;
 use std::thread::Threads;
@@ -31,32 +27,19 @@ struct Job {
 }
 
 // Leads a level on to the configurations of a share, of so many.
-fn led_part(
-    alloc: Global,
-    program: &Program,
-    last: &[Last],
-    starts: &[usize],
-    front: &[Ticket],
-    level: &Level,
-    count: usize,
-    room: usize,
-    job: Job,
-) -> Result<Part, OutcomesFault>
-    requires last { AreLast program.now last.now }
-    requires starts { AreStarts program.now starts.now }
-    requires level { IsSomeLevel program.now front.now level.now.standings }
-    requires going { AreGoing program.now count level.now.standings level.now.going }
+fn led_part(alloc: Global, step: &Step<'_>, count: usize, job: Job) -> Result<Part, OutcomesFault>
+    requires level { IsSomeLevel step.now.search.program.now step.now.search.front.now step.now.level.now.standings }
+    requires going { AreGoing step.now.search.program.now count step.now.level.now.standings step.now.level.now.going }
     requires some { 0 < count }
     requires few { count ≤ 256 }
-    ensures led { IsPartLed program.now front.now level.now.standings room job.number count result }
+    ensures led { IsPartLed step.now.search.program.now step.now.search.front.now step.now.level.now.standings
+        step.now.room job.number count result }
 {
     let share = Share {
         number: job.number,
         count,
     };
-    led_on(
-        alloc, program, last, starts, front, level, share, room, job.spare,
-    )
+    led_on(alloc, step, share, job.spare)
 }
 
 // A job for each share, and to each the memory of a part that is done with, where there is one.
@@ -86,31 +69,27 @@ fn add_job(jobs: &mut Vec<Job>, number: usize, spare: Spare) -> Result<(), Alloc
 fn led_parts<R: Threads + Sync>(
     rt: &R,
     alloc: Global,
-    program: &Program,
-    last: &[Last],
-    starts: &[usize],
-    front: &[Ticket],
-    level: &Level,
+    step: &Step<'_>,
     count: usize,
-    room: usize,
     spare: Vec<Spare>,
 ) -> Result<Vec<Result<Part, OutcomesFault>>, AllocError>
-    requires last { AreLast program.now last.now }
-    requires starts { AreStarts program.now starts.now }
-    requires level { IsSomeLevel program.now front.now level.now.standings }
-    requires going { AreGoing program.now count level.now.standings level.now.going }
+    requires level { IsSomeLevel step.now.search.program.now step.now.search.front.now step.now.level.now.standings }
+    requires going { AreGoing step.now.search.program.now count step.now.level.now.standings step.now.level.now.going }
     requires some { 0 < count }
     requires few { count ≤ 256 }
     ensures len { IfOk result (λ all. vec_len all ≡ count) }
     ensures each { IfOk result (λ all. (i : ℕ) (d : _) → i < count
-        → IsPartLed program.now front.now level.now.standings room i count (slice_index_or all.items i d)) }
+        → IsPartLed step.now.search.program.now step.now.search.front.now step.now.level.now.standings step.now.room i
+        count (slice_index_or all.items i d)) }
 {
     let jobs = jobs_of(alloc, count, spare)?;
     let lead = move |job: Job| -> Result<Part, OutcomesFault>
-        requires { AreLast program.now last.now × AreStarts program.now starts.now × IsSomeLevel program.now front.now level.now.standings
-            × AreGoing program.now count level.now.standings level.now.going × (0 < count) × (count ≤ 256) }
-        ensures { IsPartLed program.entry.now front.entry.now level.entry.now.standings room job.number count result }
-    { led_part(alloc, program, last, starts, front, level, count, room, job) };
+        requires { IsSomeLevel step.now.search.program.now step.now.search.front.now step.now.level.now.standings
+            × AreGoing step.now.search.program.now count step.now.level.now.standings step.now.level.now.going
+            × (0 < count) × (count ≤ 256) }
+        ensures { IsPartLed step.entry.now.search.program.now step.entry.now.search.front.now
+            step.entry.now.level.now.standings step.entry.now.room job.number count result }
+    { led_part(alloc, step, count, job) };
     side_by_side(rt, jobs, &lead)
 }
 
@@ -130,18 +109,21 @@ fn taken<T: Drop>(
 // All parts, or a fault.
 fn gathered(
     alloc: Global,
-    program: &Program,
-    front: &[Ticket],
-    level: &Level,
+    step: &Step<'_>,
     count: usize,
-    room: usize,
     mut results: Vec<Result<Part, OutcomesFault>>,
 ) -> Result<Vec<Part>, OutcomesFault>
     requires len { vec_len results ≡ count }
-    requires each { (i : ℕ) (d : _) → i < count → IsPartLed program.now front.now level.now.standings room i count (slice_index_or results.items i d) }
-    ensures parts { IfOk result (λ parts. AreParts program.now front.now level.now.standings parts.items) }
+    requires each { (i : ℕ) (d : _) → i < count
+        → IsPartLed step.now.search.program.now step.now.search.front.now step.now.level.now.standings step.now.room i
+        count (slice_index_or results.items i d) }
+    ensures parts { IfOk result
+        (λ parts. AreParts step.now.search.program.now step.now.search.front.now step.now.level.now.standings
+        parts.items) }
     ensures len { IfOk result (λ parts. length parts.items ≡ count) }
-    ensures limit { IsErrOf result OutcomesFault.Limit → HasMoreOnward program.now front.now level.now.standings room }
+    ensures limit { IsErrOf result OutcomesFault.Limit
+        → HasMoreOnward step.now.search.program.now step.now.search.front.now step.now.level.now.standings
+        step.now.room }
     ensures order { ¬ IsErrOf result OutcomesFault.Order }
 {
     let mut parts = Vec::with_capacity(alloc, count)?;
@@ -165,34 +147,30 @@ pub(crate) fn add_part(parts: &mut Vec<Part>, part: Part) -> Result<(), AllocErr
 pub(crate) fn next_level<R: Threads + Sync>(
     rt: &R,
     alloc: Global,
-    program: &Program,
-    last: &[Last],
-    starts: &[usize],
-    front: &[Ticket],
-    level: &Level,
+    step: &Step<'_>,
     threads: usize,
-    room: usize,
     spares: Spares,
 ) -> Result<Level, OutcomesFault>
-    requires last { AreLast program.now last.now }
-    requires starts { AreStarts program.now starts.now }
-    requires level { IsSomeLevel program.now front.now level.now.standings }
-    requires going { AreGoing program.now threads level.now.standings level.now.going }
+    requires level { IsSomeLevel step.now.search.program.now step.now.search.front.now step.now.level.now.standings }
+    requires going { AreGoing step.now.search.program.now threads step.now.level.now.standings
+        step.now.level.now.going }
     requires threads { 0 < threads }
     requires few { threads ≤ 256 }
-    ensures next { IfOk result (λ next. IsNextOf program.now front.now level.now.standings next.standings) }
-    ensures going { IfOk result (λ next. AreGoing program.now threads next.standings next.going) }
-    ensures small { IfOk result (λ next. length next.standings ≤ room) }
-    ensures limit { IsErrOf result OutcomesFault.Limit → HasMoreOnward program.now front.now level.now.standings room }
+    ensures next { IfOk result
+        (λ next. IsNextOf step.now.search.program.now step.now.search.front.now step.now.level.now.standings
+        next.standings) }
+    ensures going { IfOk result (λ next. AreGoing step.now.search.program.now threads next.standings next.going) }
+    ensures small { IfOk result (λ next. length next.standings ≤ step.now.room) }
+    ensures limit { IsErrOf result OutcomesFault.Limit
+        → HasMoreOnward step.now.search.program.now step.now.search.front.now step.now.level.now.standings
+        step.now.room }
     ensures order { ¬ IsErrOf result OutcomesFault.Order }
 {
     let Spares {
         parts: spare,
         spots,
     } = spares;
-    let led = led_parts(
-        rt, alloc, program, last, starts, front, level, threads, room, spare,
-    )?;
-    let parts = gathered(alloc, program, front, level, threads, room, led)?;
-    next_of(alloc, program, front, level, parts, spots, room)
+    let led = led_parts(rt, alloc, step, threads, spare)?;
+    let parts = gathered(alloc, step, threads, led)?;
+    next_of(alloc, step, parts, spots)
 }

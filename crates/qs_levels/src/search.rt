@@ -9,7 +9,7 @@ ghost use Rattle.qs_standings.specs.Standings.{IsFirst};
 use crate::fronts::first_level;
 use crate::level::Spares;
 use crate::parts::next_level;
-use qs_objects::Ticket;
+use crate::step::{Search, Step};
 use qs_outcomes::{AllOutcomes, OutcomesFault, Watcher};
 use qs_program::Program;
 use qs_serial::names_order;
@@ -24,63 +24,47 @@ const MOST_THREADS: usize = 256;
 fn search_from<R: Threads + Sync, W: Watcher>(
     rt: &R,
     alloc: Global,
-    program: &Program,
-    front: &[Ticket],
+    search: &Search<'_>,
     first: Standing,
     limit: u32,
     threads: usize,
     watcher: &mut W,
 ) -> Result<AllOutcomes, OutcomesFault>
-    requires first { IsFirst program.now front.now first }
+    requires first { IsFirst search.now.program.now search.now.front.now first }
     requires threads { 0 < threads }
     requires few { threads ≤ 256 }
-    ensures outcomes { IfOk result (AreOutcomesAfter program.now front.now) }
+    ensures outcomes { IfOk result (AreOutcomesAfter search.now.program.now search.now.front.now) }
     ensures within { IfOk result (λ all. all.configurations ≤ limit) }
-    ensures limit { IsErrOf result OutcomesFault.Limit → HasMoreThanAfter program.now front.now limit }
+    ensures limit { IsErrOf result OutcomesFault.Limit
+        → HasMoreThanAfter search.now.program.now search.now.front.now limit }
     ensures order { ¬ IsErrOf result OutcomesFault.Order }
 {
-    program.keeps_sound();
-    let last = last_blocks(alloc, program)?;
-    let starts = row_starts(alloc, program)?;
-    let last = last.as_slice();
-    let starts = starts.as_slice();
+    search.program.keeps_sound();
     let limit = limit as usize;
-    let mut level = first_level(alloc, program, last, front, first, threads, limit)?;
+    let mut level = first_level(alloc, search, first, threads, limit)?;
     let mut noted = 1;
     watcher.noted(noted);
     let none = Spares {
         parts: Vec::new(alloc),
         spots: Vec::new(alloc),
     };
-    let mut next = next_level(
-        rt,
-        alloc,
-        program,
-        last,
-        starts,
-        front,
-        &level,
-        threads,
-        limit - noted,
-        none,
-    )?;
+    let step = Step {
+        search: *search,
+        level: &level,
+        room: limit - noted,
+    };
+    let mut next = next_level(rt, alloc, &step, threads, none)?;
     'levels: while next.len() > 0 {
         noted += next.len();
         watcher.noted(noted);
         let spare = level.into_spare(alloc)?;
         level = next;
-        next = next_level(
-            rt,
-            alloc,
-            program,
-            last,
-            starts,
-            front,
-            &level,
-            threads,
-            limit - noted,
-            spare,
-        )?;
+        let step = Step {
+            search: *search,
+            level: &level,
+            room: limit - noted,
+        };
+        next = next_level(rt, alloc, &step, threads, spare)?;
     }
     let found = level.unpacked(alloc)?;
     Ok(AllOutcomes::new(found, noted))
@@ -109,14 +93,14 @@ pub fn outcomes_by_levels<R: Threads + Sync, W: Watcher>(
     }
     let first = placed(alloc, program, front)?;
     let order = copied(alloc, first.order())?;
-    search_from(
-        rt,
-        alloc,
+    let last = last_blocks(alloc, program)?;
+    let starts = row_starts(alloc, program)?;
+    let search = Search {
         program,
-        order.as_slice(),
-        first,
-        limit,
-        threads.min(MOST_THREADS),
-        watcher,
-    )
+        front: order.as_slice(),
+        last: last.as_slice(),
+        starts: starts.as_slice(),
+    };
+    let threads = threads.min(MOST_THREADS);
+    search_from(rt, alloc, &search, first, limit, threads, watcher)
 }

@@ -22,13 +22,14 @@ use Rattle.qs_conditions.specs.declared.fault.ConditionFault.{ConditionFault}
 use Rattle.qs_conditions.specs.declared.signs.Placed.{Placed}
 use Rattle.qs_line.proofs.Answering.{other_line}
 use Rattle.qs_line.specs.Claims.{ClaimsHaveConditions, HasCondition}
-use Rattle.qs_line.specs.audit.RunLines.{run_by, run_in, runs_at, style_of}
+use Rattle.qs_line.specs.audit.Apart.{flag_at, has_apart}
+use Rattle.qs_line.specs.audit.RunLines.{run_by, run_in, run_of_word, runs_at, style_of}
 use Rattle.qs_line.specs.RunLines.{LinesOfRunsAreThese, RunsAreLines}
 use Rattle.qs_line.specs.declared.line.ReportStyle.{ReportStyle}
 use Rattle.qs_line.specs.audit.Command.{qs_app}
 use Rattle.qs_line.specs.Parts.{orders_in}
-use Rattle.qs_line.specs.audit.Line.{Request, alike, ask, ask_alike, asks, asks_language, check, chunk_at, estimate, flag_at, fronts, graph, has_times, help, mode_at, outcomes, play, play_at, rules, rules_at, run, single_run_at, style_at, styled_plan_at, tally}
-use Rattle.qs_line.specs.Line.{alike_at, alike_list_at, alike_or_list_at, answer_or_list_at, ask_alike_at, ask_at, blocks_at, check_at, claim_at, claim_in, estimate_at, estimate_or_list_at, format_at, front_at, fronts_at, fronts_or_list_at, graph_at, graph_format_at, has_blocks, has_claim, leads_at, limit_at, line_by, line_in, line_met, line_of_kind, list_at, one_claim, outcomes_at, outcomes_format_at, request_at, request_met, tally_at, threads_beside, times_at}
+use Rattle.qs_line.specs.audit.Line.{Request, alike, ask, asks, asks_language, check, chunk_at, estimate, fronts, graph, has_times, help, mode_at, outcomes, play, play_at, rules, rules_at, run, single_run_at, style_at, styled_plan_at, tally}
+use Rattle.qs_line.specs.Line.{alike_at, alike_or_list_at, answer_or_list_at, ask_at, blocks_at, check_at, claim_at, claim_in, estimate_at, estimate_or_list_at, format_at, front_at, fronts_at, fronts_or_list_at, graph_at, graph_format_at, has_blocks, has_claim, leads_at, limit_at, line_by, line_in, line_met, line_of_kind, list_at, one_claim, outcomes_at, outcomes_format_at, request_at, request_met, request_of_word, tally_at, threads_beside, times_at}
 
 -- a claim whose steps are those of a condition
 abbrev IsOfCondition : Claim → Type 0
@@ -98,37 +99,31 @@ module _ (word : Text) (rows : List Row) where
   graphs = each graph (graph_format_at rows) (λ how. (tt, refl))
 
   tallies : Has (tally_at rows)
-  tallies = test _ None _ none (next _ (format_at rows) (λ how e. next _ (mode_at rows) (λ mode f. next _ (chunk_at rows) (λ chunk g. each (tally how mode chunk) (times_at rows) (λ times. (tt, refl))))))
+  tallies = next _ (format_at rows) (λ how e. next _ (mode_at rows) (λ mode f. next _ (chunk_at rows) (λ chunk g. each (tally how mode chunk) (times_at rows) (λ times. (tt, refl)))))
 
   answers : Has (ask_at rows)
-  answers = test _ None _ none (next _ (claim_at rows) (λ claim is. next _ (format_at rows) (λ how e. next _ (limit_at rows) (λ limit f. each (ask claim how limit) (front_at rows) (λ front. (of_rows rows claim is, refl))))))
+  answers = next _ (claim_at rows) (λ claim is. next _ (format_at rows) (λ how e. next _ (limit_at rows) (λ limit f. each (ask claim how limit) (front_at rows) (λ front. (of_rows rows claim is, refl)))))
 
   lists : Has (list_at rows)
   lists = next _ (outcomes_format_at rows) (λ how e. next _ (limit_at rows) (λ limit f. next _ (threads_beside how rows) (λ threads g. each (outcomes how limit threads) (front_at rows) (λ front. (tt, refl)))))
 
   estimates : Has (estimate_at rows)
-  estimates = test _ None _ none (next _ (format_at rows) (λ how e. each (estimate how) (front_at rows) (λ front. (tt, refl))))
-
-  alike_answers : Has (ask_alike_at rows)
-  alike_answers = next _ (claim_at rows) (λ claim is. next _ (format_at rows) (λ how e. each (ask_alike claim how) (limit_at rows) (λ limit. (of_rows rows claim is, refl))))
-
-  alike_lists : Has (alike_list_at rows)
-  alike_lists = next _ (format_at rows) (λ how e. each (alike how) (limit_at rows) (λ limit. (tt, refl)))
+  estimates = next _ (format_at rows) (λ how e. each (estimate how) (front_at rows) (λ front. (tt, refl)))
 
   those_alike : Has (alike_at rows)
-  those_alike = test _ None _ none (test (has_claim rows) (ask_alike_at rows) (alike_list_at rows) alike_answers alike_lists)
+  those_alike = test _ None _ none (next _ (format_at rows) (λ how e. each (alike how) (limit_at rows) (λ limit. (tt, refl))))
 
   fronts_of : Has (fronts_at rows)
-  fronts_of = test _ None _ none (next _ (format_at rows) (λ how e. next _ (blocks_at rows) (λ blocks f. next _ (limit_at rows) (λ limit g. each (λ front. fronts how blocks limit (front ∷ [])) (front_at rows) (λ front. (tt, refl))))))
+  fronts_of = next _ (format_at rows) (λ how e. next _ (blocks_at rows) (λ blocks f. next _ (limit_at rows) (λ limit g. each (λ front. fronts how blocks limit (front ∷ [])) (front_at rows) (λ front. (tt, refl)))))
 
   leads : (text : Text) → Has (leads_at text rows)
-  leads text = test _ None _ none (next _ (format_at rows) (λ how e. next _ (blocks_at rows) (λ blocks f. next _ (limit_at rows) (λ limit g. each (fronts how blocks limit) (orders_in text) (λ orders. (tt, refl))))))
+  leads text = next _ (format_at rows) (λ how e. next _ (blocks_at rows) (λ blocks f. next _ (limit_at rows) (λ limit g. each (fronts how blocks limit) (orders_in text) (λ orders. (tt, refl)))))
 
   of_outcomes : Has (outcomes_at rows)
   of_outcomes =
       either (λ text. leads_at text rows) (first_of (codes "leads") rows) (estimate_or_list_at rows) leads
       (test (flag_at (codes "estimate") rows) (estimate_at rows) (alike_or_list_at rows) estimates
-      (test (flag_at (codes "alike") rows) (alike_at rows) (fronts_or_list_at rows) those_alike
+      (test (flag_at (codes "alike") rows && not (has_claim rows)) (alike_at rows) (fronts_or_list_at rows) those_alike
       (test (has_blocks rows) (fronts_at rows) (answer_or_list_at rows) fronts_of (test (has_claim rows) (ask_at rows) (list_at rows) answers lists))))
 
   -- what is asked for is plain, or it is the run that is asked for
@@ -158,12 +153,15 @@ module _ (word : Text) (rows : List Row) where
   of_run true false = same (single_run_at rows)
   of_run false timed = plain last None (test (bytes_eq word (codes "outcomes")) (outcomes_at rows) None of_outcomes none)
 
-  of_word : Either (request_at word rows) (runs_at word rows)
-  of_word =
-      past (bytes_eq word (codes "check")) (check_at rows) _ (runs_at word rows) checks
-      (past (bytes_eq word (codes "graph")) (graph_at rows) _ (runs_at word rows) graphs
+  of_word_alone : Either (request_of_word word rows) (run_of_word word rows)
+  of_word_alone =
+      past (bytes_eq word (codes "check")) (check_at rows) _ (run_of_word word rows) checks
+      (past (bytes_eq word (codes "graph")) (graph_at rows) _ (run_of_word word rows) graphs
       (choose (bytes_eq word (codes "rules")) (rules_at rows) _ _
       (choose (bytes_eq word (codes "play")) (play_at rows) _ _ (of_run (bytes_eq word (codes "run")) (has_times rows)))))
+
+  of_word : Either (request_at word rows) (runs_at word rows)
+  of_word = choose (has_apart rows) None (request_of_word word rows) (run_of_word word rows) of_word_alone
 
   -- a run has a style
   abbrev HasStyle : Option Request → Type 0
@@ -183,12 +181,13 @@ module _ (word : Text) (rows : List Row) where
 
   runs_styled : HasStyle (runs_at word rows)
   runs_styled =
-      styled (bytes_eq word (codes "rules")) (rules_at rows) _
+      styled (has_apart rows) None (run_of_word word rows) (λ q e. absurd (cc e))
+      (styled (bytes_eq word (codes "rules")) (rules_at rows) _
       (next_styled _ (style_at rows) (λ style. each_styled style (rules style) (styled_plan_at style rows) (λ plan. refl)))
       (styled (bytes_eq word (codes "play")) (play_at rows) _
       (next_styled _ (style_at rows) (λ style. next_styled _ (mode_at rows) (λ mode. next_styled _ (chunk_at rows) (λ chunk. each_styled style (play style mode chunk) (styled_plan_at style rows) (λ plan. refl)))))
       (styled (bytes_eq word (codes "run") && not (has_times rows)) (single_run_at rows) None
-      (next_styled _ (style_at rows) (λ style. next_styled _ (mode_at rows) (λ mode. each_styled style (run style mode) (chunk_at rows) (λ chunk. refl)))) (λ q e. absurd (cc e))))
+      (next_styled _ (style_at rows) (λ style. next_styled _ (mode_at rows) (λ mode. each_styled style (run style mode) (chunk_at rows) (λ chunk. refl)))) (λ q e. absurd (cc e)))))
 
 -- a run that is asked for is what the word asks for
 is_word : (word : Text) (bytes : List ℕ) → bytes_eq word bytes ≡ true → word ≡ bytes
@@ -200,16 +199,23 @@ not_timed true rows q e = absurd (cc e)
 not_timed false rows q e = e
 
 abbrev Leads : List Row → Request → Text → Type 0
-Leads rows q word = runs_at word rows ≡ Some q → request_at word rows ≡ Some q
+Leads rows q word = run_of_word word rows ≡ Some q → request_of_word word rows ≡ Some q
 
-of_runs : (word : Text) (rows : List Row) (q : Request) → Leads rows q word
-of_runs word rows q = by (bytes_eq word (codes "rules")) refl (bytes_eq word (codes "play")) refl (bytes_eq word (codes "run")) refl
+of_runs_alone : (word : Text) (rows : List Row) (q : Request) → Leads rows q word
+of_runs_alone word rows q = by (bytes_eq word (codes "rules")) refl (bytes_eq word (codes "play")) refl (bytes_eq word (codes "run")) refl
   where
     by : (a : Bool) → bytes_eq word (codes "rules") ≡ a → (b : Bool) → bytes_eq word (codes "play") ≡ b → (c : Bool) → bytes_eq word (codes "run") ≡ c → Leads rows q word
     by true x b y c z = subst (Leads rows q) (sym (is_word word (codes "rules") x)) (λ e. e)
     by false x true y c z = subst (Leads rows q) (sym (is_word word (codes "play") y)) (λ e. e)
     by false x false y true z = subst (Leads rows q) (sym (is_word word (codes "run") z)) (not_timed (has_times rows) rows q)
-    by false x false y false z = λ e. absurd (let none : runs_at word rows ≡ None = rw (x, y, z) refl in let h : None ≡ Some q = sym none ∙ e in cc h)
+    by false x false y false z = λ e. absurd (let none : run_of_word word rows ≡ None = rw (x, y, z) refl in let h : None ≡ Some q = sym none ∙ e in cc h)
+
+of_runs : (word : Text) (rows : List Row) (q : Request) → runs_at word rows ≡ Some q → request_at word rows ≡ Some q
+of_runs word rows q = by (has_apart rows)
+  where
+    by : (b : Bool) → (if b then None else run_of_word word rows) ≡ Some q → (if b then None else request_of_word word rows) ≡ Some q
+    by true e = absurd (cc e)
+    by false e = of_runs_alone word rows q e
 
 -- a run's request has no claim
 runs_have_none : (q : Request) (style : ReportStyle) → style_of q ≡ Some style → HasCondition q
@@ -223,7 +229,6 @@ runs_have_none (ask claim how limit list) own e = absurd (cc e)
 runs_have_none (estimate how list) own e = absurd (cc e)
 runs_have_none (fronts how blocks limit orders) own e = absurd (cc e)
 runs_have_none (alike how limit) own e = absurd (cc e)
-runs_have_none (ask_alike claim how limit) own e = absurd (cc e)
 runs_have_none (outcomes how limit threads list) own e = absurd (cc e)
 
 of_request : (r : Option Request) (request : Request) → line_met r ≡ asks request → r ≡ Some request

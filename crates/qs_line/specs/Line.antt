@@ -1,5 +1,5 @@
 -- Beside what the headline reaches (`audit/Line.antt`): what else contracts and proofs use.
-use Rattle.std.specs.Prelude.{◌≡◌, ◌≢◌, ℕ, List, [], ◌∷◌, map, Vec, codes, Option, Some, None, Result, Ok, Err, ⊤, Bool, false, if◌then◌else◌, ◌||◌, is_some, option_map, option_and_then, unwrap_or}
+use Rattle.std.specs.Prelude.{◌≡◌, ◌≢◌, ℕ, List, [], ◌∷◌, map, Vec, codes, Option, Some, None, Result, Ok, Err, ⊤, Bool, false, if◌then◌else◌, ◌||◌, ◌&&◌, not, is_some, option_map, option_and_then, unwrap_or}
 use Rattle.std.specs.Option.{option_map_or}
 use Rattle.std.specs.Global.{Global}
 use Rattle.std.specs.Str.{bytes_eq}
@@ -15,6 +15,7 @@ use Rattle.qs_conditions.specs.declared.claim.Quantifier.TheVariants as quantifi
 use Rattle.qs_line.specs.audit.Parts.{clients_in}
 use Rattle.qs_line.specs.Parts.{orders_in}
 use Rattle.qs_line.specs.declared.parts.Part.{Part}
+use Rattle.qs_line.specs.audit.Apart.{flag_at, has_apart}
 use Rattle.qs_line.specs.audit.Command.{qs_app}
 use Rattle.qs_line.specs.Limits.{most_front, most_threads, most_times}
 use Rattle.qs_line.specs.declared.line.Format.{Format}
@@ -31,7 +32,7 @@ use Rattle.qs_line.specs.declared.line.Settings.{Settings}
 use Rattle.qs_line.specs.declared.line.Settings.TheVariants as word
 use Rattle.qs_line.specs.declared.plan.Plan.{Plan}
 use Rattle.qs_line.specs.declared.plan.Plan.TheVariants as plan
-use Rattle.qs_line.specs.audit.Line.{PlanShape, by_schedule, by_order, Request, check, graph, rules, play, run, tally, ask, estimate, fronts, alike, ask_alike, outcomes, number_in, flag_at, mode_at, chunk_at, has_times, rules_at, play_at, single_run_at, Line, asks, help, version, refused, asks_language}
+use Rattle.qs_line.specs.audit.Line.{PlanShape, by_schedule, by_order, Request, check, graph, rules, play, run, tally, ask, estimate, fronts, alike, outcomes, number_in, mode_at, chunk_at, has_times, rules_at, play_at, single_run_at, Line, asks, help, version, refused, asks_language}
 
 -- the format of a refusal where graphs are asked for: beside a drawing it is text
 abbrev pub format_beside : GraphFormat → Format
@@ -63,7 +64,6 @@ format_of_request (ask claim how limit front) = how
 format_of_request (estimate how front) = how
 format_of_request (fronts how blocks limit orders) = how
 format_of_request (alike how limit) = how
-format_of_request (ask_alike claim how limit) = how
 format_of_request (outcomes how limit threads front) = format_beside_outcomes how
 
 abbrev pub plan_of : Plan → PlanShape
@@ -82,7 +82,6 @@ request_of (word.Estimate how front) = estimate how front.items
 request_of (word.Fronts how blocks limit orders) =
     fronts how blocks limit (map (λ (order : Vec Part Global). order.items) orders.items)
 request_of (word.Alike how limit) = alike how limit
-request_of (word.AskAlike claim how limit) = ask_alike claim how limit
 request_of (word.Outcomes how limit threads front) = outcomes how limit threads front.items
 
 abbrev pub format_in : Text → Option Format
@@ -156,11 +155,10 @@ check_at rows = option_map check (format_at rows)
 abbrev pub graph_at : List Row → Option Request
 graph_at rows = option_map graph (graph_format_at rows)
 
--- many runs, whose ends are counted; no synchronisations are shown of them, and no requests
+-- many runs, whose ends are counted
 abbrev pub tally_at : List Row → Option Request
 tally_at rows =
-    if flag_at (codes "counts") rows || flag_at (codes "refusals") rows then None
-    else option_and_then (λ how. option_and_then (λ mode. option_and_then (λ chunk. option_map (tally how mode chunk)
+    option_and_then (λ how. option_and_then (λ mode. option_and_then (λ chunk. option_map (tally how mode chunk)
     (times_at rows)) (chunk_at rows)) (mode_at rows)) (format_at rows)
 
 -- a single run, or many where the line has a number of them
@@ -188,11 +186,10 @@ abbrev pub claim_at : List Row → Option Claim
 claim_at rows =
     one_claim (first_of (codes "always") rows) (first_of (codes "some") rows) (first_of (codes "throughout") rows)
 
--- an answer, as text or as JSON; it lists no ends, and is searched for by one thread
+-- an answer, as text or as JSON
 abbrev pub ask_at : List Row → Option Request
 ask_at rows =
-    if flag_at (codes "ends") rows || has_threads rows then None
-    else option_and_then (λ claim. option_and_then (λ how. option_and_then (λ limit. option_map (ask claim how limit)
+    option_and_then (λ claim. option_and_then (λ how. option_and_then (λ limit. option_map (ask claim how limit)
     (front_at rows)) (limit_at rows)) (format_at rows)) (claim_at rows)
 
 -- by how many threads outcomes are searched for: a drawing by one alone
@@ -210,42 +207,24 @@ list_at rows =
 abbrev pub answer_or_list_at : List Row → Option Request
 answer_or_list_at rows = if has_claim rows then ask_at rows else list_at rows
 
--- a condition, the ends alone, or a number of threads stand on the line
-abbrev pub is_of_list : List Row → Bool
-is_of_list rows = has_claim rows || (flag_at (codes "ends") rows || has_threads rows)
-
--- an estimate, which stands beside none of these, and beside neither `--alike` nor `--front`
+-- an estimate
 abbrev pub estimate_at : List Row → Option Request
-estimate_at rows =
-    if is_of_list rows || (flag_at (codes "alike") rows || has_blocks rows) then None
-    else option_and_then (λ how. option_map (estimate how) (front_at rows)) (format_at rows)
+estimate_at rows = option_and_then (λ how. option_map (estimate how) (front_at rows)) (format_at rows)
 
 -- whose blocks were run before stands on the line
 abbrev pub has_front : List Row → Bool
 has_front rows = is_some (first_of (codes "after") rows)
 
--- one of all outcomes that differ by alike clients
-abbrev pub alike_list_at : List Row → Option Request
-alike_list_at rows = option_and_then (λ how. option_map (alike how) (limit_at rows)) (format_at rows)
-
--- an answer by these to a condition
-abbrev pub ask_alike_at : List Row → Option Request
-ask_alike_at rows =
-    option_and_then (λ claim. option_and_then (λ how. option_map (ask_alike claim how) (limit_at rows))
-    (format_at rows)) (claim_at rows)
-
--- one of all outcomes that differ by alike clients, or the answer by these to a condition where the line has one;
--- neither stands beside the ends alone, a number of threads, `--after` or `--front`
+-- one of all outcomes that differ by alike clients, which do not stand beside `--after`
 abbrev pub alike_at : List Row → Option Request
 alike_at rows =
-    if (flag_at (codes "ends") rows || has_threads rows) || (has_front rows || has_blocks rows) then None
-    else if has_claim rows then ask_alike_at rows else alike_list_at rows
+    if has_front rows then None
+    else option_and_then (λ how. option_map (alike how) (limit_at rows)) (format_at rows)
 
--- the configurations after so many blocks, which stand beside none of these
+-- the configurations after so many blocks
 abbrev pub fronts_at : List Row → Option Request
 fronts_at rows =
-    if is_of_list rows then None
-    else option_and_then (λ how. option_and_then (λ blocks. option_and_then
+    option_and_then (λ how. option_and_then (λ blocks. option_and_then
     (λ limit. option_map (λ front. fronts how blocks limit (front ∷ [])) (front_at rows))
     (limit_at rows)) (blocks_at rows)) (format_at rows)
 
@@ -253,19 +232,20 @@ fronts_at rows =
 abbrev pub fronts_or_list_at : List Row → Option Request
 fronts_or_list_at rows = if has_blocks rows then fronts_at rows else answer_or_list_at rows
 
--- one of all alike outcomes where the line asks for these; else what is left
+-- one of all alike outcomes where the line asks for these and has no condition; else what is left: beside a condition
+-- `--alike` asks for nothing more, since an answer takes alike clients for one another by itself
 abbrev pub alike_or_list_at : List Row → Option Request
-alike_or_list_at rows = if flag_at (codes "alike") rows then alike_at rows else fronts_or_list_at rows
+alike_or_list_at rows =
+    if flag_at (codes "alike") rows && not (has_claim rows) then alike_at rows else fronts_or_list_at rows
 
 -- an estimate where the line asks for one; else what is left
 abbrev pub estimate_or_list_at : List Row → Option Request
 estimate_or_list_at rows = if flag_at (codes "estimate") rows then estimate_at rows else alike_or_list_at rows
 
--- the configurations after so many blocks more than each of the orders of a text, which stand beside `--front` alone
+-- the configurations after so many blocks more than each of the orders of a text
 abbrev pub leads_at : Text → List Row → Option Request
 leads_at text rows =
-    if is_of_list rows || (flag_at (codes "estimate") rows || (flag_at (codes "alike") rows || has_front rows)) then None
-    else option_and_then (λ how. option_and_then (λ blocks. option_and_then (λ limit. option_map (fronts how blocks limit)
+    option_and_then (λ how. option_and_then (λ blocks. option_and_then (λ limit. option_map (fronts how blocks limit)
     (orders_in text)) (limit_at rows)) (blocks_at rows)) (format_at rows)
 
 -- these where the line has such a text; else what is left
@@ -273,14 +253,18 @@ abbrev pub outcomes_at : List Row → Option Request
 outcomes_at rows = option_map_or (λ text. leads_at text rows) (first_of (codes "leads") rows) (estimate_or_list_at rows)
 
 -- what a word asks for, with the entries that clap finds after it
-abbrev pub request_at : Text → List Row → Option Request
-request_at name rows =
+abbrev pub request_of_word : Text → List Row → Option Request
+request_of_word name rows =
     if bytes_eq name (codes "check") then check_at rows
     else if bytes_eq name (codes "graph") then graph_at rows
     else if bytes_eq name (codes "rules") then rules_at rows
     else if bytes_eq name (codes "play") then play_at rows
     else if bytes_eq name (codes "run") then run_at rows
     else if bytes_eq name (codes "outcomes") then outcomes_at rows else None
+
+-- the same, where no two settings stand on the line that do not stand together
+abbrev pub request_at : Text → List Row → Option Request
+request_at name rows = if has_apart rows then None else request_of_word name rows
 
 -- what the word that clap meets asks for
 abbrev pub request_met : Option (Text × List Row) → Option Request

@@ -1,6 +1,5 @@
 -- Beside what the headline reaches (`audit/Named.antt`): what else contracts and proofs use.
 use Rattle.std.specs.Prelude.{◌≡◌, List, Result, Err}
-use Rattle.qs_line.specs.declared.parts.Part.{Part}
 use Rattle.qs_line.specs.declared.fault.ListFault.{ListFault}
 use Rattle.qs_line.specs.declared.fault.ListFault.TheVariants as fault
 

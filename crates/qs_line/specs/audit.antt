@@ -1,4 +1,5 @@
 -- What has to be believed for the headline.
+pub mod Apart
 pub mod Command
 pub mod Limits
 pub mod Line

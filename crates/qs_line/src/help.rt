@@ -116,7 +116,7 @@ Example:
   qs outcomes --throughout 'a.balance() >= 0' < my.script
   qs outcomes --estimate < my.script
   qs outcomes --alike < my.script
-  qs outcomes --alike --always 'a.balance() == 200' < my.script
+  qs outcomes --after @bob --always 'a.balance() == 200' < my.script
   qs outcomes --threads 4 < my.script
   qs outcomes --front 3 < my.script
   qs outcomes --format dot < my.script | dot -Tsvg > my.svg
@@ -124,12 +124,12 @@ Example:
 The second lists only what comes after a block of bob and then one of ann. The third lists the ends alone, so that `diff`
 compares two scripts. The next three answer yes or no: whether a condition holds of all ends, of some, or between
 blocks too, with an order that shows it. The seventh says before a search how large it can be. The eighth lists results
-that differ only by which of some alike clients did what as one, and the ninth answers by these. The next searches by
-four threads, and the next lists where the script can stand after three blocks, from which parts of a search go on by
---after. The last draws how blocks lead from one configuration to the next, with a second outline for each outcome. A
-line `outcome 2 c1,c0` begins the second result: the block of client 1, bob, first, then that of client 0, ann. Below it
-stand the objects at the end, and each client with its variables. Configurations, which the last line counts, are where
-the script can stand between two blocks."
+that differ only by which of some alike clients did what as one, and the ninth answers of what comes after a block of
+bob. The next searches by four threads, and the next lists where the script can stand after three blocks, from which
+parts of a search go on by --after. The last draws how blocks lead from one configuration to the next, with a second
+outline for each outcome. A line `outcome 2 c1,c0` begins the second result: the block of client 1, bob, first, then
+that of client 0, ann. Below it stand the objects at the end, and each client with its variables. Configurations, which
+the last line counts, are where the script can stand between two blocks."
 );
 
 pub const FORMAT: &str =
@@ -162,7 +162,7 @@ pub const ESTIMATE: &str =
     "Says how many configurations there can be, before any search: at most so many, and with --throughout at least so many";
 
 pub const ALIKE: &str =
-    "Lists one of all results that differ only by which of some alike clients has which variables, and for how many it stands; --always, --some and --throughout are answered by these, and whom their condition names is alike to nobody; clients are alike if their texts are the same but for names";
+    "Lists one of all results that differ only by which of some alike clients has which variables, and for how many it stands; clients are alike if their texts are the same but for names; beside --always, --some or --throughout it changes nothing, since an answer takes alike clients for one another by itself, but for those that the condition names";
 
 pub const FRONT: &str =
     "Lists what the script can come to after so many blocks in all, 1 to 512, each once: parts from which a search can go on by --after, one by one or on many machines";

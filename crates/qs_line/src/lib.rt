@@ -1,6 +1,7 @@
 //! The command line of `qs`, read by `clap`, with lists of actors as they are written, and whom they name in a program.
 #![tactic(auto)]
 
+mod apart;
 mod command;
 mod fault;
 mod found;
@@ -15,6 +16,7 @@ mod plan;
 mod reading;
 mod told;
 
+pub use apart::{APART, Setting};
 pub use fault::{ListFault, Why};
 pub use limits::MOST_ACTORS;
 pub use line::{

@@ -3,10 +3,13 @@
 ghost use Rattle.std.specs.Prelude.{◌≡◌, [], ◌∷◌, Err, IfOk, IfErr, map, option_and_then, option_map};
 ghost use Rattle.clap.specs.Words.{found_of, kind_of, rows_of, subcommand_of, subcommand_rows_of};
 ghost use Rattle.clap.specs.Faults.{fault_of};
+ghost use Rattle.std.specs.List.{list_any};
+ghost use Rattle.qs_line.specs.audit.Apart.{both_stand_at, flag_at, has_apart, stands_at};
 ghost use Rattle.qs_line.specs.audit.Command.{qs_app};
-ghost use Rattle.qs_line.specs.audit.Line.{asks_language, help, chunk_at, has_times, flag_at, mode_at, number_in, play_at, report_format_at, rules_at, single_run_at, style_at, styled_plan, can_tell};
-ghost use Rattle.qs_line.specs.Line.{IsAnswer, IsFault, IsFaultAmong, alike_at, alike_list_at, alike_or_list_at, answer_or_list_at, ask_alike_at, ask_at, blocks_at, check_at, claim_at, claim_in, estimate_at, estimate_or_list_at, fronts_at, fronts_or_list_at, has_blocks, has_claim, has_front, has_threads, is_of_list, list_at, format_at, front_at, graph_at, graph_format_at, is_verbose_in, is_verbose_met, leads_at, limit_at, line_in, outcomes_at, outcomes_format_at, plan_of, request_at, request_met, request_of, run_at, tally_at, threads_at, threads_beside, times_at, warns_in, warns_met};
+ghost use Rattle.qs_line.specs.audit.Line.{asks_language, help, chunk_at, has_times, mode_at, number_in, play_at, report_format_at, rules_at, single_run_at, style_at, styled_plan, can_tell};
+ghost use Rattle.qs_line.specs.Line.{IsAnswer, IsFault, IsFaultAmong, alike_at, alike_or_list_at, answer_or_list_at, ask_at, blocks_at, check_at, claim_at, claim_in, estimate_at, estimate_or_list_at, fronts_at, fronts_or_list_at, has_blocks, has_claim, has_front, has_threads, list_at, format_at, front_at, graph_at, graph_format_at, is_verbose_in, is_verbose_met, leads_at, limit_at, line_in, outcomes_at, outcomes_format_at, plan_of, request_at, request_met, request_of, request_of_word, run_at, tally_at, threads_at, threads_beside, times_at, warns_in, warns_met};
 
+use crate::apart::{APART, Setting};
 use crate::command::command;
 use crate::found::text_at;
 use crate::language::language_page;
@@ -195,15 +198,6 @@ pub enum Settings {
         /// How many configurations are looked at, at most.
         limit: u32,
     },
-    /// Check it, and answer by one of all alike ends whether a condition holds of all ends or of some.
-    AskAlike {
-        /// The condition, and of what it is to hold.
-        claim: Claim,
-        /// How the answer is written.
-        format: Format,
-        /// How many configurations are looked at, at most.
-        limit: u32,
-    },
     /// Check it, and list all outcomes.
     Outcomes {
         /// What is written of them, and how.
@@ -249,7 +243,6 @@ impl Settings {
             Settings::Estimate { format, .. } => *format,
             Settings::Fronts { format, .. } => *format,
             Settings::Alike { format, .. } => *format,
-            Settings::AskAlike { format, .. } => *format,
             Settings::Outcomes { format, .. } => format.refusals(),
         }
     }
@@ -282,6 +275,36 @@ fn has_flag(found: &ArgMatches<'_>, name: &str) -> bool
     ensures flag { result ≡ flag_at name.now (rows_of (found_of found.now)) }
 {
     matches!(text_at(found, name), Some("true"))
+}
+
+// Whether a setting stands on the line.
+fn stands(found: &ArgMatches<'_>, setting: Setting) -> bool
+    ensures stands { result ≡ stands_at setting (rows_of (found_of found.now)) }
+{
+    if setting.is_flag() {
+        has_flag(found, setting.name())
+    } else {
+        text_at(found, setting.name()).is_some()
+    }
+}
+
+// Whether both settings of some pair stand on the line.
+fn has_pair(found: &ArgMatches<'_>, pairs: &[(Setting, Setting)]) -> bool
+    ensures pair { result ≡ list_any (both_stand_at (rows_of (found_of found.now))) pairs.now }
+{
+    for (one, other) in pairs {
+        if stands(found, *one) && stands(found, *other) {
+            return true;
+        }
+    }
+    false
+}
+
+// Whether settings stand on the line that do not stand together.
+fn has_apart(found: &ArgMatches<'_>) -> bool
+    ensures apart { result ≡ has_apart (rows_of (found_of found.now)) }
+{
+    has_pair(found, &APART)
 }
 
 fn format_of(found: &ArgMatches<'_>) -> Option<Format>
@@ -343,14 +366,13 @@ fn style_of(found: &ArgMatches<'_>) -> Option<ReportStyle>
     })
 }
 
-// Whether steps and queues of a plan can be told beside a report: those of a schedule, beside a report as text.
-fn can_tell(format: ReportFormat, plan: &Plan) -> bool
-    ensures value { result ≡ can_tell format (plan_of plan.now) }
+// Whether steps and queues can be told beside a report: beside one as text alone.
+fn can_tell(format: ReportFormat) -> bool
+    ensures value { result ≡ can_tell format }
 {
-    match (format, plan) {
-        (ReportFormat::Text, Plan::Schedule { .. }) => true,
-        (ReportFormat::Text, Plan::Order(_)) => false,
-        (ReportFormat::Json | ReportFormat::Svg, _) => false,
+    match format {
+        ReportFormat::Text => true,
+        ReportFormat::Json | ReportFormat::Svg => false,
     }
 }
 
@@ -359,7 +381,7 @@ fn styled_plan(style: ReportStyle, plan: Option<Plan>) -> Option<Plan>
     ensures plan { option_map plan_of result ≡ option_and_then (styled_plan style) (option_map plan_of plan) }
 {
     let plan = plan?;
-    if (style.steps || style.queues) && !can_tell(style.format, &plan) {
+    if (style.steps || style.queues) && !can_tell(style.format) {
         return None;
     }
     Some(plan)
@@ -499,13 +521,10 @@ fn play_settings(alloc: Global, found: &ArgMatches<'_>) -> Result<Option<Setting
     }
 }
 
-// Many runs, whose ends are counted. No synchronisations are shown of them, and no requests.
+// Many runs, whose ends are counted.
 fn tally_settings(found: &ArgMatches<'_>) -> Option<Settings>
     ensures settings { option_map request_of result ≡ tally_at (rows_of (found_of found.now)) }
 {
-    if has_flag(found, "counts") || has_flag(found, "refusals") {
-        return None;
-    }
     let format = format_of(found)?;
     let mode = mode_of(found)?;
     let chunk = chunk_of(found)?;
@@ -581,9 +600,6 @@ fn given_claim(alloc: Global, found: &ArgMatches<'_>) -> Result<Option<Claim>, A
 fn ask_settings(alloc: Global, found: &ArgMatches<'_>) -> Result<Option<Settings>, AllocError>
     ensures settings { IfOk result (λ settings. option_map request_of settings ≡ ask_at (rows_of (found_of found.now))) }
 {
-    if has_flag(found, "ends") || has_threads(found) {
-        return Ok(None);
-    }
     let (Some(claim), Some(format), Some(limit), Some(front)) = (
         given_claim(alloc, found)?,
         format_of(found),
@@ -643,20 +659,10 @@ fn answer_or_list(alloc: Global, found: &ArgMatches<'_>) -> Result<Option<Settin
     }
 }
 
-// Whether a condition, the ends alone, or a number of threads stand on the line.
-fn is_of_list(found: &ArgMatches<'_>) -> bool
-    ensures has { result ≡ is_of_list (rows_of (found_of found.now)) }
-{
-    has_claim(found) || (has_flag(found, "ends") || has_threads(found))
-}
-
-// An estimate, which stands beside none of these, and beside neither `--alike` nor `--front`.
+// An estimate.
 fn estimate_settings(alloc: Global, found: &ArgMatches<'_>) -> Result<Option<Settings>, AllocError>
     ensures settings { IfOk result (λ settings. option_map request_of settings ≡ estimate_at (rows_of (found_of found.now))) }
 {
-    if is_of_list(found) || (has_flag(found, "alike") || has_blocks(found)) {
-        return Ok(None);
-    }
     let (Some(format), Some(front)) = (format_of(found), given_front(alloc, found)?) else {
         return Ok(None);
     };
@@ -670,46 +676,16 @@ fn has_front(found: &ArgMatches<'_>) -> bool
     text_at(found, "after").is_some()
 }
 
-// One of all alike outcomes.
-fn alike_list_settings(found: &ArgMatches<'_>) -> Option<Settings>
-    ensures settings { option_map request_of result ≡ alike_list_at (rows_of (found_of found.now)) }
+// One of all alike outcomes, which do not stand beside `--after`.
+fn alike_settings(found: &ArgMatches<'_>) -> Option<Settings>
+    ensures settings { option_map request_of result ≡ alike_at (rows_of (found_of found.now)) }
 {
+    if has_front(found) {
+        return None;
+    }
     let format = format_of(found)?;
     let limit = limit_of(found)?;
     Some(Settings::Alike { format, limit })
-}
-
-// An answer by one of all that differ by alike clients.
-fn ask_alike_settings(alloc: Global, found: &ArgMatches<'_>) -> Result<Option<Settings>, AllocError>
-    ensures settings { IfOk result (λ settings. option_map request_of settings ≡ ask_alike_at (rows_of (found_of found.now))) }
-{
-    let (Some(claim), Some(format), Some(limit)) = (
-        given_claim(alloc, found)?,
-        format_of(found),
-        limit_of(found),
-    ) else {
-        return Ok(None);
-    };
-    Ok(Some(Settings::AskAlike {
-        claim,
-        format,
-        limit,
-    }))
-}
-
-// One of all alike outcomes, or an answer by these where the line has a condition. Neither stands beside `--ends`,
-// `--threads`, `--after` or `--front`.
-fn alike_settings(alloc: Global, found: &ArgMatches<'_>) -> Result<Option<Settings>, AllocError>
-    ensures settings { IfOk result (λ settings. option_map request_of settings ≡ alike_at (rows_of (found_of found.now))) }
-{
-    if (has_flag(found, "ends") || has_threads(found)) || (has_front(found) || has_blocks(found)) {
-        return Ok(None);
-    }
-    if has_claim(found) {
-        ask_alike_settings(alloc, found)
-    } else {
-        Ok(alike_list_settings(found))
-    }
 }
 
 fn one_order(alloc: Global, order: Vec<Part>) -> Result<Vec<Vec<Part>>, AllocError>
@@ -720,13 +696,10 @@ fn one_order(alloc: Global, order: Vec<Part>) -> Result<Vec<Vec<Part>>, AllocErr
     Ok(orders)
 }
 
-// Fronts, which stand beside none of these.
+// Fronts.
 fn fronts_settings(alloc: Global, found: &ArgMatches<'_>) -> Result<Option<Settings>, AllocError>
     ensures settings { IfOk result (λ settings. option_map request_of settings ≡ fronts_at (rows_of (found_of found.now))) }
 {
-    if is_of_list(found) {
-        return Ok(None);
-    }
     let (Some(format), Some(blocks), Some(limit), Some(front)) = (
         format_of(found),
         blocks_of(found),
@@ -755,12 +728,13 @@ fn fronts_or_list(alloc: Global, found: &ArgMatches<'_>) -> Result<Option<Settin
     }
 }
 
-// One of all alike outcomes where the line asks for these; else what is left.
+// One of all alike outcomes where the line asks for these and has no condition; else what is left. An answer takes
+// alike clients for one another by itself, so beside a condition `--alike` asks for nothing more.
 fn alike_or_list(alloc: Global, found: &ArgMatches<'_>) -> Result<Option<Settings>, AllocError>
     ensures settings { IfOk result (λ settings. option_map request_of settings ≡ alike_or_list_at (rows_of (found_of found.now))) }
 {
-    if has_flag(found, "alike") {
-        alike_settings(alloc, found)
+    if has_flag(found, "alike") && !has_claim(found) {
+        Ok(alike_settings(found))
     } else {
         fronts_or_list(alloc, found)
     }
@@ -777,7 +751,7 @@ fn estimate_or_list(alloc: Global, found: &ArgMatches<'_>) -> Result<Option<Sett
     }
 }
 
-// The fronts after each of some orders, which stand beside `--front` alone.
+// The fronts after each of some orders.
 fn leads_settings(
     alloc: Global,
     found: &ArgMatches<'_>,
@@ -785,11 +759,6 @@ fn leads_settings(
 ) -> Result<Option<Settings>, AllocError>
     ensures settings { IfOk result (λ settings. option_map request_of settings ≡ leads_at text.now (rows_of (found_of found.now))) }
 {
-    if is_of_list(found)
-        || (has_flag(found, "estimate") || (has_flag(found, "alike") || has_front(found)))
-    {
-        return Ok(None);
-    }
     let (Some(format), Some(blocks), Some(limit), Some(orders)) = (
         format_of(found),
         blocks_of(found),
@@ -816,13 +785,13 @@ fn outcomes_settings(alloc: Global, found: &ArgMatches<'_>) -> Result<Option<Set
     }
 }
 
-// What a word asks for, with what clap found after it.
-fn settings_of(
+// What a word asks for, with what clap found after it, whichever settings stand together.
+fn settings_of_word(
     alloc: Global,
     name: &str,
     found: &ArgMatches<'_>,
 ) -> Result<Option<Settings>, AllocError>
-    ensures settings { IfOk result (λ settings. option_map request_of settings ≡ request_at name.now (rows_of (found_of found.now))) }
+    ensures settings { IfOk result (λ settings. option_map request_of settings ≡ request_of_word name.now (rows_of (found_of found.now))) }
 {
     match name {
         "check" => Ok(check_settings(found)),
@@ -833,6 +802,20 @@ fn settings_of(
         "outcomes" => outcomes_settings(alloc, found),
         _ => Ok(None),
     }
+}
+
+// The same, where no two settings stand on the line that do not stand together.
+fn settings_of(
+    alloc: Global,
+    name: &str,
+    found: &ArgMatches<'_>,
+) -> Result<Option<Settings>, AllocError>
+    ensures settings { IfOk result (λ settings. option_map request_of settings ≡ request_at name.now (rows_of (found_of found.now))) }
+{
+    if has_apart(found) {
+        return Ok(None);
+    }
+    settings_of_word(alloc, name, found)
 }
 
 fn met_settings(alloc: Global, matches: &ArgMatches<'_>) -> Result<Option<Settings>, AllocError>
@@ -895,14 +878,13 @@ fn page(alloc: Global) -> LineFault
 }
 
 /// The settings of a line, whose first word is the program's name: those that `clap` finds, and its defaults. `Refused`
-/// comes exactly where `clap` refuses the words by an error, where a format, a mode, a number or a list does not read,
-/// where an order stands beside picks or a number of rounds, where a condition does not read or stands beside another
-/// one, where two of a condition, `--ends`, `--estimate`, `--alike` and `--front` stand together, where a number of
-/// threads stands beside one of these but `--ends`, or beside a drawing, where `--alike` stands beside `--after`, where
-/// `--leads` stands beside one of all these or without `--front`, where
-/// a number of runs stands beside `--counts` or `--refusals`, or where steps or queues are asked for of an order or
-/// beside a report that is no text; `Help` and `Version` come exactly where it answers with help or with the version, and `Help` where the
-/// words are `help language`. `Memory` may come in place of each.
+/// comes exactly where `clap` refuses the words by an error, where the two settings of a pair of `APART` stand
+/// together, where a format, a mode, a number, a list or a condition does not read, where `--alike` stands beside
+/// `--after` and no condition does, where `--leads` stands without `--front`, where a number of threads stands beside a
+/// drawing, or where steps or queues are asked for beside a report that is no text; `Help` and `Version` come exactly
+/// where it answers with help or with the version, and `Help` where the words are `help language`. `Memory` may come in
+/// place of each. Beside a condition `--alike` asks for nothing more: an answer takes alike clients for one another by
+/// itself.
 pub fn read_line<'a>(alloc: Global, words: &'a [&'a str]) -> Result<Settings, LineFault>
     ensures line { IsAnswer (line_in (map (λ word. word.now) words.entry.now)) result }
 {

@@ -2,7 +2,8 @@
 
 ghost use Rattle.std.specs.Prelude.{◌≡◌, IfOk, option_map};
 ghost use Rattle.clap.specs.Words.{found_of, rows_of};
-ghost use Rattle.qs_line.specs.audit.Line.{has_schedule, order_at, picks_at, plan_at, rounds_at, schedule_at};
+ghost use Rattle.qs_line.specs.audit.Line.{by_order, picks_at, plan_at, rounds_at, schedule_at};
+ghost use Rattle.qs_line.specs.audit.Parts.{clients_in};
 ghost use Rattle.qs_line.specs.Line.{plan_of};
 
 use crate::found::text_at;
@@ -55,32 +56,22 @@ fn schedule_of(alloc: Global, found: &ArgMatches<'_>) -> Result<Option<Plan>, Al
     Ok(Some(Plan::Schedule { rounds, picks }))
 }
 
-// Whether a number of rounds or a list of picks stands on the line.
-fn names_schedule(found: &ArgMatches<'_>) -> bool
-    ensures named { result ≡ has_schedule (rows_of (found_of found.now)) }
+// The order of a text.
+fn order_of(alloc: Global, text: &str) -> Result<Option<Plan>, AllocError>
+    ensures order { IfOk result (λ plan. option_map plan_of plan ≡ option_map by_order (clients_in text.now)) }
 {
-    text_at(found, "rounds").is_some() || text_at(found, "pick").is_some()
-}
-
-// The order of a text. It stands beside no number of rounds and beside no picks.
-fn order_of(alloc: Global, text: &str, found: &ArgMatches<'_>) -> Result<Option<Plan>, AllocError>
-    ensures order { IfOk result (λ plan. option_map plan_of plan ≡ order_at text.now (rows_of (found_of found.now))) }
-{
-    if names_schedule(found) {
-        return Ok(None);
-    }
     match clients_in(alloc, text)? {
         Some(clients) => Ok(Some(Plan::Order(clients))),
         None => Ok(None),
     }
 }
 
-/// The plan of a line; None exactly where a number or a list does not read, or an order stands beside a schedule.
+/// The plan of a line; None exactly where a number or a list does not read.
 pub fn given_plan(alloc: Global, found: &ArgMatches<'_>) -> Result<Option<Plan>, AllocError>
     ensures plan { IfOk result (λ plan. option_map plan_of plan ≡ plan_at (rows_of (found_of found.now))) }
 {
     match text_at(found, "order") {
-        Some(text) => order_of(alloc, text, found),
+        Some(text) => order_of(alloc, text),
         None => schedule_of(alloc, found),
     }
 }

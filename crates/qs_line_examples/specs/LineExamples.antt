@@ -19,7 +19,7 @@ use Rattle.qs_line.specs.declared.line.GraphFormat.TheVariants as graph_format
 use Rattle.qs_line.specs.declared.line.OutcomesFormat.TheVariants as outcomes_format
 use Rattle.qs_line.specs.declared.line.ReportFormat.TheVariants as report_format
 use Rattle.qs_line.specs.declared.line.ReportStyle.{ReportStyle}
-use Rattle.qs_line.specs.audit.Line.{Line, alike, ask, ask_alike, asks, by_order, by_schedule, check, estimate, fronts, graph, help, outcomes, play, refused, rules, run, tally, version}
+use Rattle.qs_line.specs.audit.Line.{Line, alike, ask, asks, by_order, by_schedule, check, estimate, fronts, graph, help, outcomes, play, refused, rules, run, tally, version}
 use Rattle.qs_line.specs.Line.{is_verbose_in, line_in, warns_in}
 
 -- the line of the words after the program's name
@@ -144,14 +144,22 @@ pub record AlikeLines : Type 0 where
   pub as_drawing : line (codes "outcomes" ∷ codes "--alike" ∷ codes "--format=dot" ∷ []) ≡ refused
   pub with_ends : line (codes "outcomes" ∷ codes "--ends" ∷ codes "--alike" ∷ []) ≡ refused
   pub with_condition : line (codes "outcomes" ∷ codes "--alike" ∷ codes "--some=1<2" ∷ codes "--format=json" ∷ [])
-      ≡ asks (ask_alike (claim quantifier.Some) format.Json 1000000)
+      ≡ asks (ask (claim quantifier.Some) format.Json 1000000 [])
   pub with_other_condition : line (codes "outcomes" ∷ codes "--always=1<2" ∷ codes "--limit=7" ∷ codes "--alike" ∷ [])
-      ≡ asks (ask_alike (claim quantifier.Always) format.Text 7)
+      ≡ asks (ask (claim quantifier.Always) format.Text 7 [])
   pub with_course : line (codes "outcomes" ∷ codes "--alike" ∷ codes "--throughout=1<2" ∷ [])
-      ≡ asks (ask_alike (claim quantifier.Throughout) format.Text 1000000)
+      ≡ asks (ask (claim quantifier.Throughout) format.Text 1000000 [])
   pub with_two : line (codes "outcomes" ∷ codes "--alike" ∷ codes "--always=1<2" ∷ codes "--some=1<2" ∷ []) ≡ refused
   pub with_no_condition : line (codes "outcomes" ∷ codes "--alike" ∷ codes "--some=<" ∷ []) ≡ refused
   pub condition_after : line (codes "outcomes" ∷ codes "--alike" ∷ codes "--some=1<2" ∷ codes "--after=c0" ∷ [])
+      ≡ asks (ask (claim quantifier.Some) format.Text 1000000 (once (Client 0) ∷ []))
+  pub condition_with_ends : line (codes "outcomes" ∷ codes "--alike" ∷ codes "--some=1<2" ∷ codes "--ends" ∷ [])
+      ≡ refused
+  pub condition_with_threads : line (codes "outcomes" ∷ codes "--alike" ∷ codes "--some=1<2" ∷ codes "--threads=2" ∷ [])
+      ≡ refused
+  pub condition_with_front : line (codes "outcomes" ∷ codes "--alike" ∷ codes "--some=1<2" ∷ codes "--front=2" ∷ [])
+      ≡ refused
+  pub condition_with_estimate : line (codes "outcomes" ∷ codes "--alike" ∷ codes "--some=1<2" ∷ codes "--estimate" ∷ [])
       ≡ refused
   pub with_estimate : line (codes "outcomes" ∷ codes "--alike" ∷ codes "--estimate" ∷ []) ≡ refused
   pub after : line (codes "outcomes" ∷ codes "--alike" ∷ codes "--after=c0" ∷ []) ≡ refused

@@ -5,9 +5,12 @@
 //! ```
 #![tactic(auto)]
 
+pub mod alike;
 mod answer;
+mod depth;
 pub mod estimate;
 mod fault;
+mod lists;
 mod question;
 mod search;
 pub mod throughout;
@@ -15,7 +18,7 @@ mod watcher;
 
 pub use answer::Answer;
 pub use fault::OutcomesFault;
+pub use lists::{AllOutcomes, ask_watched, outcomes, outcomes_after, outcomes_watched};
 pub use qs_standings::Standing;
 pub use question::Question;
-pub use search::{AllOutcomes, ask_watched, outcomes, outcomes_after, outcomes_watched};
 pub use watcher::{Unwatched, Watcher};

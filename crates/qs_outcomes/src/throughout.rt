@@ -1,4 +1,4 @@
-//! Questions to all that a program passes: a search over the configurations between whole blocks to which orders lead.
+//! A question to every configuration on the way, not only to the ends: a search breadth first.
 
 mod search;
 

@@ -1,8 +1,8 @@
 -- What the answer to a claim says of runs: a finished run's order is complete, so what no complete order comes to is
 -- not what the run shows; and each complete order is reached by some picks. A run's order is legal, and so is each
--- beginning of it. Of an answer no more is used than what it says of the witness, or of there being none: so it is the
--- same where alike clients stand for one another.
-use Rattle.std.proofs.Common.{◌≡◌, ◌∙◌, ℕ, Bool, true, false, not, List, [], ◌++◌, Option, Some, None, refl, sym, ap, subst}
+-- beginning of it. Of an answer no more is used than what it says of the witness, or of there being none: which alike
+-- clients stand for one another is nothing to it.
+use Rattle.std.proofs.Common.{◌≡◌, ◌∙◌, ℕ, Bool, true, false, not, List, ◌++◌, Option, Some, None, refl, sym, ap, subst}
 use Rattle.std.specs.Prelude.{IfSome, is_some}
 use Rattle.qs_objects.specs.declared.held.Ticket.{Ticket}
 use Rattle.qs_program.specs.audit.Program.{ProgramShape}
@@ -19,7 +19,6 @@ use Rattle.qs_outcomes.specs.Answers.{AnswerShape, IsWitnessAfter, NoneMeets}
 use Rattle.qs_standings.specs.Standings.{StandingShape}
 use Rattle.qs_outcomes.specs.throughout.Courses.{IsCourseWitnessAfter, NoneMeetsOnTheWay, passed}
 use Rattle.qs_alike.specs.Changes.{Classes}
-use Rattle.qs_questions.specs.AlikeClaims.{IsAlikeAnswerBy, IsEndMet}
 use Rattle.qs_questions.specs.Claims.{IsAnswerBy, is_sought}
 use Rattle.qs_questions.specs.Questions.{holds_at}
 use Rattle.qs_questions.proofs.Sought.{steps_answer}
@@ -28,7 +27,7 @@ use Rattle.qs_core_laws.proofs.orders.BlocksPlayed.{core_orders_played}
 use Rattle.qs_core_laws.proofs.ProgramCodes.{program_codes}
 use Rattle.qs_syncset.specs.declared.mode.Mode.{Mode}
 use Rattle.qs_played.specs.declared.schedule.actor.Actor.{Actor}
-use Rattle.qs_promises.specs.Answers.{AlikeAnswersAreOfRuns, AnswersAreOfRuns, AtEveryEnd, AtSomeEnd, ComesTo, OnEveryWay, OnSomeWay, Says}
+use Rattle.qs_promises.specs.Answers.{AnswersAreOfRuns, AtEveryEnd, AtSomeEnd, ComesTo, OnEveryWay, OnSomeWay, Says}
 use Rattle.qs_promises.specs.audit.Runs.{by_rules, on_machine}
 use Rattle.qs_promises.proofs.Calls.{run_of_played, run_of_played_in}
 use Rattle.qs_promises.proofs.Ending.{finished_covered, machine_reaches, rules_reach}
@@ -83,33 +82,18 @@ module _ (p : ProgramShape) (front : List Ticket) (asked : OrderOutcome → Bool
   Given q.Some w = Gives (NoneMeets p front asked) IsMetEnd w
   Given q.Throughout w = Gives (NoneMeetsOnTheWay p front asked) (IsCourseWitnessAfter p front asked) w
 
-  met_end : (s : StandingShape) → IsWitnessAfter p front asked s → IsMetEnd s
-  met_end s is = record {
-    rest = is.listed.reduced.rest;
-    whole = is.listed.reduced.whole;
-    complete = is.listed.complete;
-    met = ap asked (sym is.listed.outcome) ∙ is.met;
-  }
-
-  given : (kind : Quantifier) (a : AnswerShape) → IsAnswerBy kind p front asked a → Given kind a.witness
-  given q.Always a is = gives met_end a.witness (λ e. (is.none e).0) is.witness
-  given q.Some a is = gives met_end a.witness (λ e. (is.none e).0) is.witness
-  given q.Throughout a is = gives (λ s way. way) a.witness (λ e. (is.none e).0) is.witness
-
-module _ (p : ProgramShape) (asked : OrderOutcome → Bool) where
-  met_alike : (s : StandingShape) → IsEndMet p asked s → IsMetEnd p [] asked s
-  met_alike s is = record {
-    rest = s.order;
-    whole = refl;
+  met_end : (k : Classes) (s : StandingShape) → IsWitnessAfter p k front asked s → IsMetEnd s
+  met_end k s is = record {
+    rest = is.end.followed.rest;
+    whole = is.end.followed.whole;
     complete = is.end.complete;
     met = ap asked (sym is.end.outcome) ∙ is.met;
   }
 
-  given_alike : (kind : Quantifier) (k : Classes) (a : AnswerShape) → IsAlikeAnswerBy kind p k asked a
-      → Given p [] asked kind a.witness
-  given_alike q.Always k a is = gives met_alike a.witness is.none is.witness
-  given_alike q.Some k a is = gives met_alike a.witness is.none is.witness
-  given_alike q.Throughout k a is = gives (λ s way. way) a.witness (λ e. (is.none e).0) is.witness
+  given : (kind : Quantifier) (k : Classes) (a : AnswerShape) → IsAnswerBy kind p k front asked a → Given kind a.witness
+  given q.Always k a is = gives (met_end k) a.witness (λ e. (is.none e).0) is.witness
+  given q.Some k a is = gives (met_end k) a.witness (λ e. (is.none e).0) is.witness
+  given q.Throughout k a is = gives (λ s way. way) a.witness (λ e. (is.none e).0) is.witness
 
 -- ---- what it says of runs
 
@@ -167,11 +151,6 @@ module _ (p : ProgramShape) (sound : IsSound p) (c : Tree) (front : List Ticket)
   says q.Throughout means (Some s) way = some_way (λ o e. not_true (holds_at p c o) (sym (means o) ∙ e)) s way
 
 pub answers_of_runs : AnswersAreOfRuns
-answers_of_runs p sound claim c steps front a is =
+answers_of_runs p sound claim c steps front a (k, classes, is) =
     says p sound c front (is_sought claim p) claim.quantifier (λ o. steps_answer p o claim c steps) a.witness
-    (given p front (is_sought claim p) claim.quantifier a is)
-
-pub alike_answers_of_runs : AlikeAnswersAreOfRuns
-alike_answers_of_runs p sound claim c steps a (k, classes, is) =
-    says p sound c [] (is_sought claim p) claim.quantifier (λ o. steps_answer p o claim c steps) a.witness
-    (given_alike p (is_sought claim p) claim.quantifier k a is)
+    (given p front (is_sought claim p) claim.quantifier k a is)

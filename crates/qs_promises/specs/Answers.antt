@@ -1,5 +1,5 @@
 -- What the answer to a claim says of the runs of a program.
-use Rattle.std.specs.Prelude.{◌≡◌, Bool, true, false, List, [], ◌++◌, ℕ, is_some}
+use Rattle.std.specs.Prelude.{◌≡◌, Bool, true, false, List, ◌++◌, ℕ, is_some}
 use Rattle.std.specs.List.{AllByRecursion}
 use Rattle.qs_objects.specs.declared.held.Ticket.{Ticket}
 use Rattle.qs_program.specs.audit.Program.{ProgramShape}
@@ -14,7 +14,6 @@ use Rattle.qs_conditions.specs.declared.claim.Quantifier.{Quantifier}
 use Rattle.qs_conditions.specs.declared.claim.Quantifier.TheVariants as q
 use Rattle.qs_outcomes.specs.Answers.{AnswerShape}
 use Rattle.qs_outcomes.specs.throughout.Courses.{passed}
-use Rattle.qs_questions.specs.AlikeClaims.{IsAlikeAnswer}
 use Rattle.qs_questions.specs.Claims.{IsAnswerTo}
 use Rattle.qs_questions.specs.Questions.{holds_at}
 use Rattle.qs_syncset.specs.declared.mode.Mode.{Mode}
@@ -77,11 +76,3 @@ AnswersAreOfRuns =
     (p : ProgramShape) → IsSound p → (claim : Claim) (c : Tree) → claim.condition ≡ steps_of c
     → (front : List Ticket) (a : AnswerShape) → IsAnswerTo claim p front a
     → Says claim.quantifier (answer_by claim.quantifier (is_some a.witness)) p c front
-
--- And so does an answer that looks at one only of all changes of alike clients, for the same programs and claims. It is
--- one about all orders, without a front.
-abbrev pub AlikeAnswersAreOfRuns : Type 0
-AlikeAnswersAreOfRuns =
-    (p : ProgramShape) → IsSound p → (claim : Claim) (c : Tree) → claim.condition ≡ steps_of c
-    → (a : AnswerShape) → IsAlikeAnswer claim p a
-    → Says claim.quantifier (answer_by claim.quantifier (is_some a.witness)) p c []

@@ -3,7 +3,7 @@
 
 ghost use Rattle.qs_core_laws.specs.progress.CoreSteps.{CoreStepsAreBounded};
 ghost use Rattle.qs_plain_laws.specs.progress.Steps.{StepsAreBounded};
-ghost use Rattle.qs_promises.specs.Answers.{AlikeAnswersAreOfRuns, AnswersAreOfRuns};
+ghost use Rattle.qs_promises.specs.Answers.{AnswersAreOfRuns};
 ghost use Rattle.qs_promises.specs.AsIfSerial.{RunsAreAsIfSerial};
 ghost use Rattle.qs_promises.specs.AsAsked.{RunsAreAsAsked};
 ghost use Rattle.qs_promises.specs.BlockAlone.{BlocksAreAsIfAlone, BlocksThatAgreeDoTheSame, OnlyTheOrderDecides};
@@ -81,11 +81,9 @@ pub fn lists_are_of_runs()
 /// The answer to a claim is of runs. `always yes` says that its condition holds at the end of every finished run, and
 /// `throughout yes` that it holds wherever the order of a run has come; `always no`, `some yes` and `throughout no`
 /// come with an order that shows it, and some picks lead the plain rules, and the optimised machine in each mode, to
-/// its end, with each of its blocks ended. An answer that looks at one only of all changes of alike clients says
-/// the same. It does nothing.
+/// its end, with each of its blocks ended. It does nothing.
 pub fn answers_are_of_runs()
     ensures answers { AnswersAreOfRuns }
-    ensures alike { AlikeAnswersAreOfRuns }
 {}
 
 /// By the plain rules and on the optimised machine a run shows the state after exactly the picks and the rounds that

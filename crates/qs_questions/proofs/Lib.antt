@@ -5,6 +5,4 @@ pub mod Totals
 pub mod Replies
 pub mod Sought
 pub mod NamedSets
-pub mod AlikeAnswers
-pub mod WithoutWitness
-pub mod WithWitness
+pub mod NamedStay

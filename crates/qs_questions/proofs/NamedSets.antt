@@ -10,7 +10,7 @@ use Rattle.qs_conditions.specs.declared.condition.Step.TheVariants as s
 use Rattle.qs_script.specs.declared.tree.tree.Relation.{Relation}
 use Rattle.qs_standings.proofs.going.GoingSets.{in_none, in_or}
 use Rattle.qs_standings.proofs.RowSteps.{take_more}
-use Rattle.qs_questions.specs.AlikeClaims.{is_named, named_clients, names}
+use Rattle.qs_questions.specs.NamedClients.{is_named, named_clients, names}
 use Rattle.qs_questions.specs.Questions.{summands_of}
 use Rattle.qs_questions.proofs.UnknownPlaces.{summands_append}
 

@@ -14,7 +14,7 @@ use Rattle.qs_conditions.specs.Conditions.{Tree, compare, negation, both, either
 use Rattle.qs_conditions.specs.declared.condition.Value.{Value}
 use Rattle.qs_conditions.specs.declared.condition.Value.TheVariants.{Number, Variable, Reply}
 use Rattle.qs_conditions.specs.declared.condition.Summand.{Summand}
-use Rattle.qs_questions.specs.AlikeClaims.{named_clients}
+use Rattle.qs_questions.specs.NamedClients.{named_clients}
 use Rattle.qs_questions.specs.Questions.{first_unknown_in, has_value, holds_at}
 
 -- a client that withdraws so much, and reads the balance into its variable `left`

@@ -6,7 +6,7 @@
 
 ghost use Rattle.std.specs.Prelude.{◌≡◌, [], ◌∷◌};
 ghost use Rattle.qs_objects.specs.ByteSets.{in_byte};
-ghost use Rattle.qs_questions.specs.AlikeClaims.{is_named, named_clients, names};
+ghost use Rattle.qs_questions.specs.NamedClients.{is_named, named_clients, names};
 
 use crate::named::client_of;
 use qs_conditions::{Condition, Step, Sum, Value};

@@ -1,7 +1,6 @@
 //! What the definitions say of conditions, for callers' proofs and for readers.
 
-ghost use Rattle.qs_questions.specs.AlikeClaims.{AlikeAnswersAgree, ChangesKeepSought};
-ghost use Rattle.qs_questions.specs.Claims.{StepsAnswer};
+ghost use Rattle.qs_questions.specs.Claims.{ChangesKeepSought, StepsAnswer};
 ghost use Rattle.qs_questions.specs.Laws.{AskingChangesNothing, RepliesAreThere};
 ghost use Rattle.qs_questions.specs.QuestionExamples.{QuestionExamples};
 
@@ -20,11 +19,6 @@ pub fn steps_answer()
 /// Where alike clients change places of which a condition names none, it says the same as before; it does nothing.
 pub fn changes_keep_sought()
     ensures same { ChangesKeepSought }
-{}
-
-/// The answer by classes of alike clients has a witness exactly where the answer of `answer` has one; it does nothing.
-pub fn alike_answers_agree()
-    ensures agree { AlikeAnswersAgree }
 {}
 
 /// Conditions on two clients that withdraw from one account: which of them ask for what is not there, and which hold

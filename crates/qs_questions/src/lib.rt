@@ -4,12 +4,9 @@
 //! ```rust
 //! let claim = Claim { quantifier: Quantifier::Always, condition };
 //! let found = qs_questions::answer(alloc, &program, &claim, &[], 1_000_000, &mut watcher).ok()?;
-//! let alike = qs_questions::answer_alike(alloc, &program, &claim, 1_000_000).ok()?;
 //! ```
 #![tactic(auto)]
 
-mod alike;
-mod among;
 mod asking;
 mod claims;
 mod clients;
@@ -19,7 +16,6 @@ mod stack;
 mod unknown;
 mod values;
 
-pub use alike::answer_alike;
 pub use asking::holds;
 pub use claims::answer;
 pub use clients::named_clients;

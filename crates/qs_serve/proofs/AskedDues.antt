@@ -4,7 +4,7 @@
 use Rattle.std.proofs.Common.{◌≡◌, ◌⊎◌, ℕ, Bool, List, Option, Some, None, false, sym, subst, inl, inr, take}
 use Rattle.std.specs.Prelude.{IfSome}
 use Rattle.qs_line.specs.declared.line.Settings.{Settings}
-use Rattle.qs_line.specs.audit.Line.{Line, Request, alike, ask, ask_alike, asks, check, estimate, fronts, graph, help, outcomes, play, refused, rules, run, tally, version}
+use Rattle.qs_line.specs.audit.Line.{Line, Request, alike, ask, asks, check, estimate, fronts, graph, help, outcomes, play, refused, rules, run, tally, version}
 use Rattle.qs_line.specs.Line.{request_of}
 use Rattle.qs_program.specs.audit.Program.{ProgramShape}
 use Rattle.qs_report.specs.declared.faults.Fault.{Fault}
@@ -148,7 +148,6 @@ module _ {S : Type 0} (Answers : S → ℕ → Bool → S → Type 0) (before af
   started_for (estimate how front) known failed lines p due read asked = tt
   started_for (fronts how blocks limit orders) known failed lines p due read asked = tt
   started_for (alike how limit) known failed lines p due read asked = tt
-  started_for (ask_alike claim how limit) known failed lines p due read asked = tt
   started_for (outcomes how limit threads front) known failed lines p due read asked = tt
 
   pub started_by_asked : (line : Line) (known : Option (List ℕ)) (failed : Bool) (settings : Settings) (lines : Lines) (p : ProgramShape) (due : Due)
@@ -179,7 +178,6 @@ module _ {S : Type 0} (Answers : S → ℕ → Bool → S → Type 0) (before af
   started_unbegun (asks (estimate how front)) known due is = tt
   started_unbegun (asks (fronts how blocks limit orders)) known due is = tt
   started_unbegun (asks (alike how limit)) known due is = tt
-  started_unbegun (asks (ask_alike claim how limit)) known due is = tt
   started_unbegun (asks (outcomes how limit threads front)) known due is = tt
 
   -- what a starter was asked can be left unsaid

@@ -38,7 +38,7 @@ use Rattle.qs_line.specs.declared.line.Format.TheVariants as format
 use Rattle.qs_line.specs.declared.line.OutcomesFormat.{OutcomesFormat}
 use Rattle.qs_line.specs.declared.line.GraphFormat.TheVariants as graph_format
 use Rattle.qs_line.specs.declared.line.ReportStyle.{ReportStyle}
-use Rattle.qs_line.specs.audit.Line.{Line, Request, alike, ask, ask_alike, asks, check, estimate, fronts, graph, help, outcomes, play, refused, rules, run, tally, version}
+use Rattle.qs_line.specs.audit.Line.{Line, Request, alike, ask, asks, check, estimate, fronts, graph, help, outcomes, play, refused, rules, run, tally, version}
 use Rattle.qs_conditions.specs.declared.claim.Claim.{Claim}
 use Rattle.qs_outcomes.specs.Answers.{AnswerShape}
 use Rattle.std.specs.Prelude.{Err, IfErr, IfOk, IfSome, MatchBool}
@@ -52,7 +52,8 @@ use Rattle.qs_outcomes.specs.Answers.{IsWitnessAfter}
 use Rattle.qs_outcomes.specs.Outcomes.{HasPlaces}
 use Rattle.qs_standings.specs.Standings.{StandingShape}
 use Rattle.qs_outcomes.specs.throughout.Courses.{IsCourseWitnessAfter}
-use Rattle.qs_questions.specs.Claims.{HasMoreFor, IsAnswerBy, IsAnswerTo}
+use Rattle.qs_alike.specs.Changes.{Classes}
+use Rattle.qs_questions.specs.Claims.{IsAnswerBy, IsAnswerTo, is_sought}
 use Rattle.qs_questions.specs.Questions.{first_unknown_in}
 use Rattle.qs_report.specs.AnswerText.{IsAnswerText, is_yes}
 use Rattle.qs_json.specs.AnswerJson.{IsAnswerJson}
@@ -255,26 +256,24 @@ none_found None due e h = sym e
 none_found (Some i) due e h = absurd (cc h)
 
 -- a witness has its places, wherever it was found
-places_at_end : (p : ProgramShape) (front : List Ticket) (asked : OrderOutcome → Bool) (w : Option StandingShape) → IfSome w (IsWitnessAfter p front asked) → IfSome w (HasPlaces p)
-places_at_end p front asked None is = tt
-places_at_end p front asked (Some s) is = is.listed.places
+places_at_end : (p : ProgramShape) (k : Classes) (front : List Ticket) (asked : OrderOutcome → Bool) (w : Option StandingShape)
+    → IfSome w (IsWitnessAfter p k front asked) → IfSome w (HasPlaces p)
+places_at_end p k front asked None is = tt
+places_at_end p k front asked (Some s) is = is.end.places
 
-pub places_on_the_way : (p : ProgramShape) (front : List Ticket) (asked : OrderOutcome → Bool) (w : Option StandingShape) → IfSome w (IsCourseWitnessAfter p front asked) → IfSome w (HasPlaces p)
+places_on_the_way : (p : ProgramShape) (front : List Ticket) (asked : OrderOutcome → Bool) (w : Option StandingShape) → IfSome w (IsCourseWitnessAfter p front asked) → IfSome w (HasPlaces p)
 places_on_the_way p front asked None is = tt
 places_on_the_way p front asked (Some s) is = is.on_the_way.places
 
-pub answer_places : (kind : Quantifier) (p : ProgramShape) (front : List Ticket) (asked : OrderOutcome → Bool) (a : AnswerShape) → IsAnswerBy kind p front asked a
-    → IfSome a.witness (HasPlaces p)
-answer_places quantifier.Always p front asked a is = places_at_end p front asked a.witness is.witness
-answer_places quantifier.Some p front asked a is = places_at_end p front asked a.witness is.witness
-answer_places quantifier.Throughout p front asked a is = places_on_the_way p front asked a.witness is.witness
+places_by : (kind : Quantifier) (p : ProgramShape) (k : Classes) (front : List Ticket) (asked : OrderOutcome → Bool) (a : AnswerShape)
+    → IsAnswerBy kind p k front asked a → IfSome a.witness (HasPlaces p)
+places_by quantifier.Always p k front asked a is = places_at_end p k front asked a.witness is.witness
+places_by quantifier.Some p k front asked a is = places_at_end p k front asked a.witness is.witness
+places_by quantifier.Throughout p k front asked a is = places_on_the_way p front asked a.witness is.witness
 
--- why a search was given up is why a claim is not answered
-pub unanswered : (p : ProgramShape) (kind : Quantifier) (limit : ℕ) (clients : List ℕ) (f : OutcomesFault) → (f ≡ outcomes_fault.Limit → HasMoreFor kind p (order_of clients) limit)
-    → (f ≡ outcomes_fault.Order → ¬ IsLegal p (order_of clients)) → IsUnanswered p kind limit clients f
-unanswered p kind limit clients outcomes_fault.Limit more order = more refl
-unanswered p kind limit clients outcomes_fault.Order more order = order refl
-unanswered p kind limit clients outcomes_fault.Memory more order = tt
+pub answer_places : (claim : Claim) (p : ProgramShape) (front : List Ticket) (a : AnswerShape) → IsAnswerTo claim p front a
+    → IfSome a.witness (HasPlaces p)
+answer_places claim p front a (k, classes, is) = places_by claim.quantifier p k front (is_sought claim p) a is
 
 -- an answer that is due by a claim, in either format
 answered_by : (holds : Bool) (how : Format) (p : ProgramShape) (claim : Claim) (limit : ℕ) (clients : List ℕ) (a : AnswerShape) (text : List ℕ)
@@ -301,7 +300,7 @@ due_by_claim how p claim limit front clients (No bytes) known named is =
     inr (known, of_named (λ xs. IsAnswerTextTo how p claim limit xs false bytes.items) (clients_of p front) clients named is)
 due_by_claim how p claim limit front clients (Refused fault.Memory) known named is = inl tt
 due_by_claim how p claim limit front clients (Refused (fault.Outcomes f)) known named is =
-    inr (of_named (λ xs. IsUnanswered p claim.quantifier limit xs f) (clients_of p front) clients named is)
+    inr (of_named (λ xs. IsUnanswered p claim limit xs f) (clients_of p front) clients named is)
 due_by_claim how p claim limit front clients (Refused fault.CommandLine) known named is = absurd is
 due_by_claim how p claim limit front clients (Refused fault.Input) known named is = absurd is
 due_by_claim how p claim limit front clients (Refused (fault.Read f)) known named is = absurd is
@@ -363,7 +362,6 @@ any_text (ask claim how limit front) found lines p text are is = is
 any_text (estimate how front) found lines p text are is = is
 any_text (fronts how blocks limit orders) found lines p text are is = is
 any_text (alike how limit) found lines p text are is = is
-any_text (ask_alike claim how limit) found lines p text are is = is
 any_text (outcomes how limit threads front) found lines p text are is = is
 
 -- what is due with the lines that were found is due with these

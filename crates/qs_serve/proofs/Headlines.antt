@@ -13,7 +13,7 @@ use Rattle.qs_script.proofs.grammar.Form.{formed}
 use Rattle.qs_line.proofs.Claims.{claims_have_conditions, runs_are_lines}
 use Rattle.qs_line.specs.Claims.{HasCondition}
 use Rattle.qs_line.specs.audit.RunLines.{style_of}
-use Rattle.qs_line.specs.audit.Line.{Line, Request, alike, ask, ask_alike, asks, by_order, by_schedule, check, estimate, fronts, graph, outcomes, play, rules, run, tally}
+use Rattle.qs_line.specs.audit.Line.{Line, Request, alike, ask, asks, by_order, by_schedule, check, estimate, fronts, graph, outcomes, play, rules, run, tally}
 use Rattle.qs_line.specs.audit.Named.{actors_of, clients_of}
 use Rattle.qs_line.specs.declared.line.Format.{Format}
 use Rattle.qs_line.specs.declared.line.Format.TheVariants as format
@@ -28,11 +28,10 @@ use Rattle.qs_promises.specs.Answers.{Says}
 use Rattle.qs_promises.specs.audit.Runs.{IsRun, Way, by_rules, on_machine, on_threads}
 use Rattle.qs_promises.specs.Outcomes.{IsWholeList}
 use Rattle.qs_promises.proofs.Calls.{run_of_outcome, run_of_played, run_of_played_in}
-use Rattle.qs_promises.proofs.Answering.{alike_answers_of_runs, answers_of_runs}
+use Rattle.qs_promises.proofs.Answering.{answers_of_runs}
 use Rattle.qs_promises.proofs.Ending.{lists_of_runs}
 use Rattle.qs_outcomes.specs.Answers.{AnswerShape}
 use Rattle.qs_outcomes.specs.Outcomes.{AreOutcomesAfter, OutcomesShape}
-use Rattle.qs_questions.specs.AlikeClaims.{IsAlikeAnswer}
 use Rattle.qs_questions.specs.Claims.{IsAnswerTo}
 use Rattle.qs_report.specs.AnswerText.{is_yes}
 use Rattle.qs_report.specs.EndsText.{IsEndsText}
@@ -48,7 +47,7 @@ use Rattle.qs_serve.specs.audit.RunReports.{report_by}
 use Rattle.qs_script.specs.audit.Reads.{IsScriptText}
 use Rattle.qs_serial.specs.audit.NamedOrders.{order_of}
 use Rattle.qs_serve.specs.audit.Due.{longest, told_report}
-use Rattle.qs_serve.specs.Due.{AreLinesWhere, IsAlikeAnswerText, IsAnswerBy, IsAnswerTextTo, IsDue, IsDueOfLine, IsDueOfText, IsDueOfTextAlone, IsTextBy, IsTextOfList, IsTextOfOutcomes, Lines, Serves, answer_in, due_status, due_text, listed_as, takes_threads}
+use Rattle.qs_serve.specs.Due.{AreLinesWhere, IsAnswerBy, IsAnswerTextTo, IsDue, IsDueOfLine, IsDueOfText, IsDueOfTextAlone, IsTextBy, IsTextOfList, IsTextOfOutcomes, Lines, Serves, answer_in, due_status, due_text, listed_as, takes_threads}
 use Rattle.qs_serve.specs.audit.Headline.{IsAskedFor, IsHeadline, IsReported, IsToTheEnd}
 use Rattle.qs_serve.specs.Headline.{AreAnswersTrue, AreListsTrue, IsTrueAnswer, IsTrueList, asked_claim}
 use Rattle.qs_serve.specs.Reading.{Reading}
@@ -149,7 +148,6 @@ by_request (ask claim how limit front) style text bytes old new s e script accep
 by_request (estimate how front) style text bytes old new s e script accepted is written = absurd (cc e)
 by_request (fronts how blocks limit orders) style text bytes old new s e script accepted is written = absurd (cc e)
 by_request (alike how limit) style text bytes old new s e script accepted is written = absurd (cc e)
-by_request (ask_alike claim how limit) style text bytes old new s e script accepted is written = absurd (cc e)
 by_request (outcomes how limit threads front) style text bytes old new s e script accepted is written = absurd (cc e)
 
 -- what is due of known bytes, where a text is due
@@ -198,19 +196,13 @@ headline words before after old new failed status (due, how, is_due, formatted, 
     (λ bytes is. by_due request style (take longest bytes) old new how due e (sym zero ∙ all.1) is all.0)
     (text_due request before.remaining after.has_failed due of_line none)
 
--- an answer of either kind, as text or as JSON
+-- an answer, as text or as JSON
 an_answer : (claim : Claim) (how : Format) (limit : ℕ) (clients : List ℕ) (holds : Bool) (p : ProgramShape) (bytes : List ℕ)
     → IsAnswerTextTo how p claim limit clients holds bytes
     → (a : AnswerShape) × IsAnswerTo claim p (order_of clients) a × (holds ≡ is_yes claim.quantifier a) × (bytes ≡ answer_in how p claim.quantifier a)
 unfolding IsAnswerText IsAnswerJson
 an_answer claim format.Text limit clients holds p bytes (a, are, within, holding, is) = (a, are, holding, is)
 an_answer claim format.Json limit clients holds p bytes (a, are, within, holding, is) = (a, are, holding, is)
-
-an_alike_answer : (claim : Claim) (how : Format) (limit : ℕ) (holds : Bool) (p : ProgramShape) (bytes : List ℕ)
-    → IsAlikeAnswerText how p claim limit holds bytes
-    → (a : AnswerShape) × IsAlikeAnswer claim p a × (holds ≡ is_yes claim.quantifier a) × (bytes ≡ answer_in how p claim.quantifier a)
-unfolding IsAlikeAnswerText
-an_alike_answer claim how limit holds p bytes (a, are, within, holding, is) = (a, are, holding, is)
 
 -- an answer that is written is true of all runs
 module _ (text bytes : List ℕ) (old new : Option (List ℕ)) (s : List Item) (script : IsScriptText text s) (accepted : fault_of s ≡ None)
@@ -242,12 +234,6 @@ module _ (text bytes : List ℕ) (old new : Option (List ℕ)) (s : List Item) (
       subst (λ (t : Claim × Format × List Part). IsTrueAnswer t.0 t.1 t.2 holds text old new) same
       (truly own its list holds who.0 who.1 c steps found.0 found.2 found.3
       (answers_of_runs (program_of_items s) (sound_script text s script accepted) own c steps (order_of who.0) found.0 found.1))
-  by_answer (ask_alike own its limit) claim how front holds e (c, steps) (known, is) =
-      let found = an_alike_answer own its limit holds (program_of_items s) bytes is in
-      let same : (own, its, []) ≡ (claim, how, front) = cc e in
-      subst (λ (t : Claim × Format × List Part). IsTrueAnswer t.0 t.1 t.2 holds text old new) same
-      (truly own its [] holds [] refl c steps found.0 found.2 found.3
-      (alike_answers_of_runs (program_of_items s) (sound_script text s script accepted) own c steps found.0 found.1))
   by_answer (check how) claim its front holds e has is = absurd is
   by_answer (graph how) claim its front holds e has is = absurd is
   by_answer (rules style plan) claim its front holds e has is = absurd is
@@ -263,7 +249,6 @@ module _ (text bytes : List ℕ) (old new : Option (List ℕ)) (s : List Item) (
 yes_by : (request : Request) (claim : Claim) (how : Format) (front : List Part) (lines : Lines) (p : ProgramShape) (text : List ℕ)
     → asked_claim request ≡ Some (claim, how, front) → IsTextBy request lines p text → IsAnswerBy request p true text
 yes_by (ask own its limit list) claim how front lines p text e is = is
-yes_by (ask_alike own its limit) claim how front lines p text e is = is
 yes_by (check own) claim how front lines p text e is = absurd (cc e)
 yes_by (graph own) claim how front lines p text e is = absurd (cc e)
 yes_by (rules style plan) claim how front lines p text e is = absurd (cc e)

@@ -15,7 +15,9 @@ use Rattle.qs_outcomes.specs.declared.fault.OutcomesFault.TheVariants as outcome
 use Rattle.qs_standings.specs.Lists.{HasOne}
 use Rattle.qs_standings.specs.Standings.{StandingShape}
 use Rattle.qs_levels.specs.meaning.Fronts.{AreFrontsAfter}
-use Rattle.qs_alike.specs.AlikeOutcomes.{AlikeShape, AreAlikeOutcomes, CanBeAtExactly, HasMoreUnlike}
+use Rattle.qs_outcomes.specs.alike.AlikeOutcomes.{AlikeShape, AreAlikeOutcomes}
+use Rattle.qs_outcomes.specs.Reached.{HasMore}
+use Rattle.qs_alike.specs.Followed.{only_reduced}
 use Rattle.qs_alike.specs.Changes.{AreAllAlike, AreClasses, Classes}
 use Rattle.qs_dot.specs.ChartDot.{IsChartDot}
 use Rattle.qs_report.specs.declared.faults.Fault.{Fault}
@@ -28,7 +30,6 @@ use Rattle.qs_dot.specs.node_lines.NodeLines.{node_lines}
 use Rattle.qs_conditions.specs.declared.claim.Claim.{Claim}
 use Rattle.qs_conditions.specs.declared.claim.Quantifier.{Quantifier}
 use Rattle.qs_outcomes.specs.Answers.{AnswerShape}
-use Rattle.qs_questions.specs.AlikeClaims.{HasMoreAlike, IsAlikeAnswer}
 use Rattle.qs_questions.specs.Claims.{HasMoreFor}
 use Rattle.qs_questions.specs.Questions.{first_unknown_in}
 use Rattle.qs_json.specs.AlikeJson.{all_alike_json}
@@ -93,7 +94,7 @@ use Rattle.qs_line.specs.declared.line.LineFault.TheVariants as line_fault
 use Rattle.qs_line.specs.declared.line.ReportStyle.{ReportStyle}
 use Rattle.qs_line.specs.declared.line.Settings.{Settings}
 use Rattle.qs_line.specs.declared.parts.Part.{Part}
-use Rattle.qs_line.specs.audit.Line.{Line, PlanShape, Request, alike, ask, ask_alike, asks, by_order, by_schedule, check, estimate, fronts, graph, help, outcomes, play, refused, rules, run, tally, version}
+use Rattle.qs_line.specs.audit.Line.{Line, PlanShape, Request, alike, ask, asks, by_order, by_schedule, check, estimate, fronts, graph, help, outcomes, play, refused, rules, run, tally, version}
 use Rattle.qs_line.specs.Line.{format_by, format_of_request, line_in, request_of}
 use Rattle.qs_serve.specs.audit.RunReports.{report_by}
 use Rattle.qs_serve.specs.Reading.{Reading}
@@ -229,19 +230,12 @@ abbrev pub AreTheClasses : ProgramShape → Classes → Type 0
 AreTheClasses p k = AreClasses p k × AreAllAlike p k
 
 -- There is a list of one of all outcomes that differ by alike clients in each other's places, where all clients with
--- the same text are alike, with exactly the number of configurations that the search can be at, which is within the
--- limit, whose text this is.
+-- the same text are alike, with exactly the number of configurations that orders lead to, which is within the limit,
+-- whose text this is.
 unfoldable pub IsAlikeText : Format → ProgramShape → (limit : ℕ) → List ℕ → Type 0
 IsAlikeText how p limit text =
     (k : Classes) × AreTheClasses p k × ((all : AlikeShape) × AreAlikeOutcomes p k all
-    × CanBeAtExactly p k all.configurations × (all.configurations ≤ limit) × (text ≡ alike_in how p all))
-
--- There is an answer to a claim, yes or no, where alike clients may change places but for those that its condition
--- names, over no more configurations than the limit, whose text this is.
-unfoldable pub IsAlikeAnswerText : Format → ProgramShape → Claim → (limit : ℕ) → (holds : Bool) → List ℕ → Type 0
-IsAlikeAnswerText how p claim limit holds text =
-    (a : AnswerShape) × IsAlikeAnswer claim p a × (a.configurations ≤ limit) × (holds ≡ is_yes claim.quantifier a)
-    × (text ≡ answer_in how p claim.quantifier a)
+    × (all.configurations ≤ limit) × (text ≡ alike_in how p all))
 
 -- fronts, as text or as JSON
 abbrev pub fronts_in : Format → ProgramShape → List StandingShape → List ℕ
@@ -352,18 +346,15 @@ abbrev pub IsAnswerBy : Request → ProgramShape → (holds : Bool) → List ℕ
 IsAnswerBy (ask claim how limit front) p holds text =
     (first_unknown_in p claim.condition ≡ None)
     × IsOkAnd (clients_of p front) (λ clients. IsAnswerTextTo how p claim limit clients holds text)
-IsAnswerBy (ask_alike claim how limit) p holds text =
-    (first_unknown_in p claim.condition ≡ None) × IsAlikeAnswerText how p claim limit holds text
 IsAnswerBy _ p holds text = ⊥
 
 -- what a request makes of a program: its counts; its graphs; the report of its run by the plain rules or in the
 -- optimised machine; that of an outcome which its run on threads may have, or how often each end came in so many of
 -- these; after the blocks of some clients, how many configurations there can be; or, after these and of so many
 -- configurations at most, that a claim holds, or all its outcomes, by as many threads as may be; or, after each of some
--- lists, the configurations after so many blocks more; or one of all alike outcomes, or that a claim holds by these.
--- Each is written in the format that is asked for, and a report with what was refused and with the counts of
--- synchronisations where they are asked for, after a line for each step where these are, and before what lies where at
--- the end of a run that has not finished.
+-- lists, the configurations after so many blocks more; or one of all alike outcomes. Each is written in the format that
+-- is asked for, and a report with what was refused and with the counts of synchronisations where they are asked for,
+-- after a line for each step where these are, and before what lies where at the end of a run that has not finished.
 abbrev pub IsTextBy : Request → Lines → ProgramShape → List ℕ → Type 0
 IsTextBy (check how) lines p text = text ≡ counts_by_format how p
 IsTextBy (graph how) lines p text = IsTextOfGraphs how lines p text
@@ -386,7 +377,6 @@ IsTextBy (estimate how front) lines p text =
 IsTextBy (ask claim how limit front) lines p text = IsAnswerBy (ask claim how limit front) p true text
 IsTextBy (fronts how blocks limit orders) lines p text = AreFrontsTexts how p blocks orders text
 IsTextBy (alike how limit) lines p text = IsAlikeText how p limit text
-IsTextBy (ask_alike claim how limit) lines p text = IsAnswerBy (ask_alike claim how limit) p true text
 IsTextBy (outcomes how limit threads front) lines p text =
     IsOkAnd (clients_of p front) (λ clients. IsTextOfOutcomes how p limit clients text)
 
@@ -401,7 +391,6 @@ IsUnnamedBy (rules style plan) p = IsUnnamed plan p
 IsUnnamedBy (play style mode size plan) p = IsUnnamed plan p
 IsUnnamedBy (ask claim how limit front) p =
     (¬ (first_unknown_in p claim.condition ≡ None)) ⊎ IsErr (clients_of p front)
-IsUnnamedBy (ask_alike claim how limit) p = ¬ (first_unknown_in p claim.condition ≡ None)
 IsUnnamedBy (estimate how front) p = IsErr (clients_of p front)
 IsUnnamedBy (fronts how blocks limit orders) p = HasOne (λ order. IsErr (clients_of p order)) orders
 IsUnnamedBy (outcomes how limit threads front) p = IsErr (clients_of p front)
@@ -446,10 +435,10 @@ IsUnlisted p limit clients outcomes_fault.Order = ¬ IsLegal p (order_of clients
 IsUnlisted p limit clients outcomes_fault.Memory = Unit {0}
 
 -- why a claim is not answered after the blocks of some clients
-abbrev pub IsUnanswered : ProgramShape → Quantifier → ℕ → List ℕ → OutcomesFault → Type 0
-IsUnanswered p q limit clients outcomes_fault.Limit = HasMoreFor q p (order_of clients) limit
-IsUnanswered p q limit clients outcomes_fault.Order = ¬ IsLegal p (order_of clients)
-IsUnanswered p q limit clients outcomes_fault.Memory = Unit {0}
+abbrev pub IsUnanswered : ProgramShape → Claim → ℕ → List ℕ → OutcomesFault → Type 0
+IsUnanswered p claim limit clients outcomes_fault.Limit = HasMoreFor claim p (order_of clients) limit
+IsUnanswered p claim limit clients outcomes_fault.Order = ¬ IsLegal p (order_of clients)
+IsUnanswered p claim limit clients outcomes_fault.Memory = Unit {0}
 
 -- why there is no estimate after the blocks of some clients: they name no legal order
 abbrev pub IsUnestimated : ProgramShape → List ℕ → OutcomesFault → Type 0
@@ -466,25 +455,18 @@ AreNoFronts p blocks limit clients outcomes_fault.Memory = Unit {0}
 -- why one of all alike outcomes is not listed: there are more configurations than the limit of which none becomes
 -- another, or an allocation failed
 abbrev pub AreUnlistedAlike : ProgramShape → (limit : ℕ) → OutcomesFault → Type 0
-AreUnlistedAlike p limit outcomes_fault.Limit = (k : Classes) × AreTheClasses p k × HasMoreUnlike p k limit
+AreUnlistedAlike p limit outcomes_fault.Limit = (k : Classes) × AreTheClasses p k × HasMore p k only_reduced [] limit
 AreUnlistedAlike p limit outcomes_fault.Order = ⊥
 AreUnlistedAlike p limit outcomes_fault.Memory = Unit {0}
-
--- why a claim is not answered where alike clients may change places
-abbrev pub IsUnansweredAlike : ProgramShape → Claim → (limit : ℕ) → OutcomesFault → Type 0
-IsUnansweredAlike p claim limit outcomes_fault.Limit = HasMoreAlike claim p limit
-IsUnansweredAlike p claim limit outcomes_fault.Order = ⊥
-IsUnansweredAlike p claim limit outcomes_fault.Memory = Unit {0}
 
 -- why outcomes that a request asks for are not listed
 abbrev pub IsUnlistedBy : Request → ProgramShape → OutcomesFault → Type 0
 IsUnlistedBy (ask claim how limit front) p f =
-    IsOkAnd (clients_of p front) (λ clients. IsUnanswered p claim.quantifier limit clients f)
+    IsOkAnd (clients_of p front) (λ clients. IsUnanswered p claim limit clients f)
 IsUnlistedBy (estimate how front) p f = IsOkAnd (clients_of p front) (λ clients. IsUnestimated p clients f)
 IsUnlistedBy (fronts how blocks limit orders) p f =
     HasOne (λ order. IsOkAnd (clients_of p order) (λ clients. AreNoFronts p blocks limit clients f)) orders
 IsUnlistedBy (alike how limit) p f = AreUnlistedAlike p limit f
-IsUnlistedBy (ask_alike claim how limit) p f = IsUnansweredAlike p claim limit f
 IsUnlistedBy (outcomes how limit threads front) p f =
     IsOkAnd (clients_of p front) (λ clients. IsUnlisted p (limit_in how limit) clients f)
 IsUnlistedBy _ p f = ⊥
@@ -522,7 +504,7 @@ IsAnswerAfterDue how p claim limit clients (Text bytes) = IsAnswerTextTo how p c
 IsAnswerAfterDue how p claim limit clients (No bytes) = IsAnswerTextTo how p claim limit clients false bytes.items
 IsAnswerAfterDue how p claim limit clients (Refused fault.Memory) = Unit {0}
 IsAnswerAfterDue how p claim limit clients (Refused (fault.Outcomes f)) =
-    IsUnanswered p claim.quantifier limit clients f
+    IsUnanswered p claim limit clients f
 IsAnswerAfterDue how p claim limit clients (Refused _) = ⊥
 
 -- why a request makes nothing of a program
@@ -554,7 +536,6 @@ AreLinesFor (ask claim how limit front) found lines = ⊤
 AreLinesFor (estimate how front) found lines = ⊤
 AreLinesFor (fronts how blocks limit orders) found lines = ⊤
 AreLinesFor (alike how limit) found lines = ⊤
-AreLinesFor (ask_alike claim how limit) found lines = ⊤
 AreLinesFor (outcomes how limit threads front) found lines = ⊤
 
 -- what a request makes of a text: the result of its program, or the fault of the text, of its script, of the list whose

@@ -1,10 +1,10 @@
 -- Beside what the headline reaches (`audit/Headline.antt`): what else contracts and proofs use.
-use Rattle.std.specs.Prelude.{◌≡◌, ℕ, List, [], take, Bool, if◌then◌else◌, Option, Some, None, IfSome, IsOkAnd}
+use Rattle.std.specs.Prelude.{◌≡◌, ℕ, List, take, Bool, if◌then◌else◌, Option, Some, None, IfSome, IsOkAnd}
 use Rattle.std.specs.Io.KnownBytes.{Appends}
 use Rattle.qs_check.specs.audit.Checked.{fault_of}
 use Rattle.qs_conditions.specs.Conditions.{Tree, steps_of}
 use Rattle.qs_conditions.specs.declared.claim.Claim.{Claim}
-use Rattle.qs_line.specs.audit.Line.{Request, ask, ask_alike, asks, outcomes}
+use Rattle.qs_line.specs.audit.Line.{Request, ask, asks, outcomes}
 use Rattle.qs_line.specs.Line.{line_in}
 use Rattle.qs_line.specs.audit.Named.{clients_of}
 use Rattle.qs_line.specs.declared.line.Format.{Format}
@@ -24,7 +24,6 @@ use Rattle.qs_script.specs.declared.tree.tree.Item.{Item}
 -- the claim that a request asks, in which format, and after the blocks of which clients
 abbrev pub asked_claim : Request → Option (Claim × Format × List Part)
 asked_claim (ask claim how limit front) = Some (claim, how, front)
-asked_claim (ask_alike claim how limit) = Some (claim, how, [])
 asked_claim _ = None
 
 -- The text is a script, which is accepted; what was written is an answer to the claim on its program, yes or no; and

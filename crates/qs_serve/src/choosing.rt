@@ -15,6 +15,7 @@ use crate::progress::due_shown;
 use crate::tallies::due_of_tally;
 use qs_line::{Format, Settings};
 use qs_run::Starter;
+use qs_run::many::Repeats;
 use std::alloc::Global;
 use std::io::{Read, Write};
 use std::rt::Files;
@@ -53,16 +54,14 @@ fn due_chosen<T: Threads + Wait + Clock + Files + Sync, S: Starter, E: Write>(
             mode,
             chunk,
             times,
-        } => due_of_tally(
-            rt,
-            alloc,
-            &it.program,
-            *format,
-            *mode,
-            *chunk,
-            *times,
-            starter,
-        ),
+        } => {
+            let repeats = Repeats {
+                mode: *mode,
+                size: *chunk,
+                times: *times,
+            };
+            due_of_tally(rt, alloc, &it.program, *format, repeats, starter)
+        }
         _ => due_shown(rt, alloc, settings, it, is_terminal, err),
     }
 }
@@ -72,13 +71,12 @@ fn due_chosen<T: Threads + Wait + Clock + Files + Sync, S: Starter, E: Write>(
 /// is no terminal, nothing is written to it.
 pub(crate) fn due_of_words<
     'a,
-    T: Threads + Wait + Clock + Files + Sync,
+    T: Threads + Wait + Clock + Files + Alloc<A = Global> + Sync,
     S: Starter,
     R: Read,
     E: Write,
 >(
     rt: &T,
-    alloc: Global,
     words: &'a [&'a str],
     input: &mut Counted<R>,
     kept: &mut Vec<u8>,
@@ -95,6 +93,7 @@ pub(crate) fn due_of_words<
     ensures reads { input.new.reads ≤ input.old.reads + longest }
     ensures silent { is_terminal ≡ false → Keeps (E.contents err.old) (E.contents err.new) }
 {
+    let alloc = rt.alloc();
     match asked_by(alloc, words, input, kept) {
         Ok((settings, it)) => {
             let due = due_chosen(rt, alloc, &settings, &it, is_terminal, err, starter);

@@ -13,7 +13,7 @@ use crate::estimates::due_of_estimate;
 use crate::fronts::due_of_fronts;
 use crate::plays::{due_of_play, due_of_rules};
 use crate::reports::due_of_outcome;
-use crate::searches::{due_by_threads, due_of_alike, due_of_alike_claim};
+use crate::searches::{Search, due_by_threads, due_of_alike};
 use qs_check::Program;
 use qs_chunk::ChunkSize;
 use qs_conditions::{Claim, Quantifier};
@@ -124,8 +124,8 @@ pub(crate) fn due_of_run<S: Starter, T: Threads + Wait + Sync>(
     }
 }
 
-/// The answer to a claim, in a format.
-pub(crate) fn due_of_answer(
+// The answer to a claim, in a format.
+fn due_of_answer(
     alloc: Global,
     program: &Program,
     quantifier: Quantifier,
@@ -333,11 +333,6 @@ pub(crate) fn due_of_program<P: Watcher>(
             orders,
         } => due_of_fronts(alloc, program, *format, *blocks, *limit, orders.as_slice()),
         Settings::Alike { format, limit } => due_of_alike(alloc, program, *format, *limit),
-        Settings::AskAlike {
-            claim,
-            format,
-            limit,
-        } => due_of_alike_claim(alloc, program, claim, *format, *limit),
         Settings::Outcomes {
             format,
             limit,
@@ -376,16 +371,14 @@ pub(crate) fn due_of_search<T: Threads + Sync, P: Watcher>(
             limit,
             threads,
             front,
-        } => due_by_threads(
-            rt,
-            alloc,
-            program,
-            *format,
-            *limit,
-            *threads,
-            front.as_slice(),
-            watcher,
-        ),
+        } => {
+            let search = Search {
+                limit: *limit,
+                threads: *threads,
+                front: front.as_slice(),
+            };
+            due_by_threads(rt, alloc, program, *format, search, watcher)
+        }
         _ => due_of_program(alloc, settings, program, lines, watcher),
     }
 }

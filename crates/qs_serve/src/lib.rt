@@ -24,4 +24,4 @@ pub use due::Due;
 pub use input::Counted;
 pub use qs_report::Fault;
 pub use qs_text::Watch;
-pub use serving::{Terminals, refuse, serve, serve_with};
+pub use serving::{Call, Terminals, refuse, serve, serve_with};

@@ -37,14 +37,24 @@ pub struct Terminals {
     pub err: bool,
 }
 
+/// What the program is called with: all the process's arguments, the program's name first, and which of the streams are
+/// terminals.
+#[derive(Clone, Copy)]
+pub struct Call<'a> {
+    /// The arguments.
+    pub words: &'a [&'a str],
+    /// Which of the streams are terminals.
+    pub terminals: Terminals,
+}
+
 /// The whole program, over a reader whose reads are counted and a writer whose failures are watched; its status is the
-/// answer. The words are all the process's arguments, the program's name first. The status is 4 exactly where a read, a
-/// write or the flush fails. The word `run` takes threads, and waits for them, if the starter lets all of them start;
-/// no other word asks the starter. What was refused is told on `err` in words; beside a result, how much of each limit
-/// is left where the line asks for it, and what is warned of in a script where `err` is a terminal or the line asks for
-/// it. Where the script comes from a terminal, too, it says so before it is read. While outcomes are searched for, a
-/// terminal shows how far the search is, and how much memory it has in use. That changes neither output nor status.
-/// Where the status is 0, `err` is no terminal and nothing of it is asked for, nothing is written to `err`.
+/// answer. The status is 4 exactly where a read, a write or the flush fails. The word `run` takes threads, and waits
+/// for them, if the starter lets all of them start; no other word asks the starter. What was refused is told on `err`
+/// in words; beside a result, how much of each limit is left where the line asks for it, and what is warned of in a
+/// script where `err` is a terminal or the line asks for it. Where the script comes from a terminal, too, it says so
+/// before it is read. While outcomes are searched for, a terminal shows how far the search is, and how much memory it
+/// has in use. That changes neither output nor status. Where the status is 0, `err` is no terminal and nothing of it is
+/// asked for, nothing is written to `err`.
 ///
 /// The headline: where the status is 0 and the line asks for a run by `rules`, `play` or `run`, what is written is the
 /// report of a run of the input's script in which every block had what it would have had alone. Where it asks a claim,
@@ -58,44 +68,35 @@ pub fn serve_with<
     E: Write,
 >(
     rt: &T,
-    words: &'a [&'a str],
+    call: Call<'a>,
     input: &mut Counted<R>,
     out: &mut W,
     watch: &mut Watch<W>,
-    terminals: Terminals,
     err: &mut E,
     starter: &mut S,
 ) -> u8
     requires readable { input.old.has_failed ≡ false }
     requires writable { watch.old.has_failed ≡ false }
-    ensures headline { result ≡ 0 → IsHeadline (map (λ word. word.now) words.entry.now) input.old.remaining
+    ensures headline { result ≡ 0 → IsHeadline (map (λ word. word.now) call.entry.words.now) input.old.remaining
         (W.contents out.old) (W.contents out.new) }
-    ensures answers { AreAnswersTrue (map (λ word. word.now) words.entry.now) input.old.remaining
+    ensures answers { AreAnswersTrue (map (λ word. word.now) call.entry.words.now) input.old.remaining
         (W.contents out.old) (W.contents out.new) result }
-    ensures lists { result ≡ 0 → AreListsTrue (map (λ word. word.now) words.entry.now) input.old.remaining
+    ensures lists { result ≡ 0 → AreListsTrue (map (λ word. word.now) call.entry.words.now) input.old.remaining
         (W.contents out.old) (W.contents out.new) }
-    ensures serves { ServesStarting S.answers starter.old starter.new (map (λ word. word.now) words.entry.now) input.old input.new
+    ensures serves { ServesStarting S.answers starter.old starter.new (map (λ word. word.now) call.entry.words.now) input.old input.new
         (W.contents out.old) (W.contents out.new) watch.new.has_failed result }
     ensures gives_up { result ≡ 4 → IsTrue input.new.has_failed ⊎ IsTrue watch.new.has_failed }
-    ensures unread { request_by (line_in (map (λ word. word.now) words.entry.now)) ≡ None → input.new ≡ input.old }
+    ensures unread { request_by (line_in (map (λ word. word.now) call.entry.words.now)) ≡ None → input.new ≡ input.old }
     ensures reads { input.new.reads ≤ input.old.reads + longest }
     ensures flushed { watch.new.has_failed ≡ false → IsTrue watch.new.is_flushed }
-    ensures silent { result ≡ 0 → terminals.err ≡ false → warns_in (map (λ word. word.now) words.entry.now) ≡ false
-        → is_verbose_in (map (λ word. word.now) words.entry.now) ≡ false → Keeps (E.contents err.old) (E.contents err.new) }
+    ensures silent { result ≡ 0 → call.entry.terminals.err ≡ false → warns_in (map (λ word. word.now) call.entry.words.now) ≡ false
+        → is_verbose_in (map (λ word. word.now) call.entry.words.now) ≡ false → Keeps (E.contents err.old) (E.contents err.new) }
 {
+    let Call { words, terminals } = call;
     let alloc = rt.alloc();
     tell_waiting(alloc, words, terminals, err);
     let mut text = Vec::new(alloc);
-    let (due, format) = due_of_words(
-        rt,
-        alloc,
-        words,
-        input,
-        &mut text,
-        terminals.err,
-        err,
-        starter,
-    );
+    let (due, format) = due_of_words(rt, words, input, &mut text, terminals.err, err, starter);
     let status = finish(out, watch, format, &due);
     tell(
         alloc,
@@ -110,7 +111,8 @@ pub fn serve_with<
     status
 }
 
-/// The whole program: `serve_with`, with a starter that lets every worker start.
+/// The whole program: `serve_with`, with a starter that lets every worker start. The words are all the process's
+/// arguments, the program's name first.
 pub fn serve<
     'a,
     T: Threads + Wait + Clock + Files + Alloc<A = Global> + Sync,
@@ -143,7 +145,8 @@ pub fn serve<
     ensures silent { result ≡ 0 → terminals.err ≡ false → warns_in (map (λ word. word.now) words.entry.now) ≡ false
         → is_verbose_in (map (λ word. word.now) words.entry.now) ≡ false → Keeps (E.contents err.old) (E.contents err.new) }
 {
-    serve_with(rt, words, input, out, watch, terminals, err, &mut FreeStart)
+    let call = Call { words, terminals };
+    serve_with(rt, call, input, out, watch, err, &mut FreeStart)
 }
 
 /// Where the words themselves are not there: the line of that fault, and its status, or 4 where a write or the flush

@@ -9,13 +9,11 @@ ghost use Rattle.qs_serve.specs.Due.{HasAskedTimes, IsCounted, IsDueOfProgram, I
 
 use crate::due::{Due, due_of_bytes};
 use qs_check::Program;
-use qs_chunk::ChunkSize;
 use qs_json::tally_json;
 use qs_line::Format;
 use qs_report::{Fault, tally_text};
 use qs_run::Starter;
-use qs_run::many::run_times_with;
-use qs_syncset::Mode;
+use qs_run::many::{Repeats, run_times_with};
 use qs_tally::Tally;
 use std::alloc::Global;
 use std::sync::Wait;
@@ -37,32 +35,22 @@ fn due_of_counted(alloc: Global, program: &Program, format: Format, times: u32, 
     due_of_bytes(text)
 }
 
-/// How often each end came in so many runs on threads, in a format. Where it is told to be refused, one of the runs was:
+/// How often each end came in many runs on threads, in a format. Where it is told to be refused, one of the runs was:
 /// its starter was asked what a refused run asks, and no more.
 pub(crate) fn due_of_tally<S: Starter, T: Threads + Wait + Sync>(
     rt: &T,
     alloc: Global,
     program: &Program,
     format: Format,
-    mode: Mode,
-    chunk: ChunkSize,
-    times: u32,
+    repeats: Repeats,
     starter: &mut S,
 ) -> Due
     ensures not_input { ¬ IsRefusedBy fault.Input result }
-    ensures due { IsOutOfMemory result ⊎ IsDueOfProgram (tally format mode chunk times) [] program.now result }
-    ensures started { HasAskedTimes S.answers times program.now starter.old starter.new result }
+    ensures due { IsOutOfMemory result ⊎ IsDueOfProgram (tally format repeats.mode repeats.size repeats.times) [] program.now result }
+    ensures started { HasAskedTimes S.answers repeats.times program.now starter.old starter.new result }
 {
-    match run_times_with(
-        rt,
-        alloc,
-        program,
-        mode,
-        chunk,
-        times,
-        MOST_NUMBERED,
-        starter,
-    ) {
+    let times = repeats.times;
+    match run_times_with(rt, alloc, program, repeats, MOST_NUMBERED, starter) {
         Ok(tally) => due_of_counted(alloc, program, format, times, tally),
         Err(fault) => Due::Refused(Fault::Run(fault)),
     }

@@ -8,14 +8,15 @@ use qs_program::{Locals, MOST_VARIABLES, Program};
 use std::alloc::{AllocError, Global};
 
 /// What a search writes into again and again: the row of the standing that it goes on from, what a next block leaves of
-/// the client's variables and of the objects, and the row of where it leads; standings that are done with; and guesses
-/// where rows stand.
+/// the client's variables and of the objects, and the row of where it leads; a copy of a standing; standings that are done
+/// with; and guesses where rows stand.
 #[derive(Drop)]
 pub struct Scratch {
     pub base: Draft,
     pub values: Locals,
     pub left: Vec<Object>,
     pub row: Draft,
+    pub copy: Standing,
     pub spare: Vec<Standing>,
     pub hints: Hints,
 }
@@ -28,6 +29,7 @@ impl Scratch {
             values: [0; MOST_VARIABLES],
             left: Vec::new(alloc),
             row: Draft::new(alloc),
+            copy: Standing::empty(alloc),
             spare: Vec::new(alloc),
             hints: Hints::new(alloc, program)?,
         })

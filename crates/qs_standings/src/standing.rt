@@ -9,6 +9,7 @@ ghost use Rattle.qs_standings.specs.Standings.{flipped, flipped_ticket};
 
 use crate::going::{Last, goes_on};
 use crate::rows::{Draft, Row, add_locals, add_objects, padded, put_stem};
+use crate::scratch::Scratch;
 use crate::variables::Variables;
 use qs_objects::{Object, Ticket};
 use qs_program::{Block, Locals, MOST_VARIABLES, Program};
@@ -282,6 +283,19 @@ impl Standing {
         Ok(())
     }
 
+    /// Writes a copy of itself into a standing, whose memory is used again. An error says that an allocation failed.
+    pub fn put_copy(&self, alloc: Global, copy: &mut Standing) -> Result<(), AllocError>
+        ensures same { OnOk result (copy.new ≡ self.now) }
+    {
+        copy.order.clear();
+        copy.order.extend_from_slice(self.order.as_slice())?;
+        copy.begun.clear();
+        copy.begun.extend_from_slice(self.begun.as_slice())?;
+        let (width, clients, numbers) = self.locals.parts();
+        copy.locals.put(width, clients, numbers)?;
+        put_objects(alloc, self.objects.as_slice(), &mut copy.objects)
+    }
+
     /// Where the program stands after the next block of a client. An error says that memory was refused.
     pub fn next(
         &self,
@@ -341,33 +355,37 @@ impl Standing {
         add_objects(&mut row.numbers, self.objects.as_slice())
     }
 
-    /// Writes the row of where the next block of a client leads, which left these variables and objects, from the row
-    /// of the standing. An error says that memory was refused.
+    /// Writes the row of where the next block of a client leads, from the row of the standing and from the variables and
+    /// the objects that the block left, all in the scratch. An error says that memory was refused.
     pub fn write_next_row(
         &self,
         program: &Program,
         front: &[Ticket],
         client: u8,
-        values: &Locals,
-        left: &[Object],
         starts: &[usize],
-        base: &Draft,
-        row: &mut Draft,
+        scratch: &mut Scratch,
     ) -> Result<(), AllocError>
         requires client { client < length program.now.clients }
         requires standing { IsStanding program.now front.now self.now }
         requires left { HasNext program.now self.now client }
         requires starts { AreStarts program.now starts.now }
-        requires base { drafted base.now ≡ row_of program.now self.now }
-        ensures row { OnOk result (drafted row.new ≡ row_of program.now (standing_with_block self.now client values.now left.now)) }
+        requires base { drafted scratch.old.base ≡ row_of program.now self.now }
+        ensures base { scratch.new.base ≡ scratch.old.base }
+        ensures values { scratch.new.values ≡ scratch.old.values }
+        ensures left { scratch.new.left ≡ scratch.old.left }
+        ensures copy { scratch.new.copy ≡ scratch.old.copy }
+        ensures row { OnOk result (drafted scratch.new.row ≡ row_of program.now
+            (standing_with_block self.now client scratch.old.values scratch.old.left.items)) }
     {
         program.keeps_sound();
         let place = usize::from(client);
-        row.begun = base.begun;
+        let row = &mut scratch.row;
+        row.begun = scratch.base.begun;
         row.begun[place] = self.begun[place] + 1;
-        let numbers = base.numbers.as_slice();
+        let numbers = scratch.base.numbers.as_slice();
+        let values = &scratch.values;
         put_stem(program, starts, numbers, client, values, &mut row.numbers)?;
-        add_objects(&mut row.numbers, left)?;
+        add_objects(&mut row.numbers, scratch.left.as_slice())?;
         Ok(())
     }
 }

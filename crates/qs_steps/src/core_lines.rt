@@ -9,9 +9,9 @@ ghost use Rattle.qs_steps.specs.Told.{step_line, ticket_text};
 
 use crate::lines::{put_client, put_idle, put_reserves, put_ticket, put_who};
 use crate::marks::put_all_marked;
+use crate::telling::Turn;
 use qs_core::CoreEffect;
 use qs_objects::{Object, Request, Ticket};
-use qs_played::Actor;
 use qs_program::Program;
 use qs_text::{object_name, put, put_whole_request};
 use std::alloc::AllocError;
@@ -123,15 +123,17 @@ fn put_core_effect(
 fn put_stepped(
     out: &mut Vec<u8>,
     program: &Program,
-    number: u64,
-    actor: Actor,
+    turn: Turn,
     object: &mut Option<Object>,
     effect: Option<CoreEffect>,
     requests: &[Request],
 ) -> Result<(), AllocError>
-    ensures ok { OnOk result (out.new.items ≡ out.old.items ++ step_line program.now number actor (core_text_or_none program.now object.old effect requests.now)) }
+    ensures ok { OnOk result (out.new.items
+        ≡ out.old.items
+        ++ step_line program.now turn.number turn.actor
+        (core_text_or_none program.now object.old effect requests.now)) }
 {
-    put_who(out, program, number, actor)?;
+    put_who(out, program, turn)?;
     if let Some(effect) = effect {
         put_core_effect(out, program, object, effect, requests)?;
     }
@@ -143,19 +145,19 @@ fn put_stepped(
 pub(crate) fn put_core_line(
     out: &mut Vec<u8>,
     program: &Program,
-    is_pick: bool,
-    number: u64,
-    actor: Actor,
+    turn: Turn,
     stepped: bool,
     object: &mut Option<Object>,
     effect: Option<CoreEffect>,
     requests: &[Request],
 ) -> Result<(), AllocError>
-    ensures ok { OnOk result (out.new.items ≡ out.old.items ++ core_line program.now is_pick number actor stepped object.old effect requests.now) }
+    ensures ok { OnOk result (out.new.items
+        ≡ out.old.items
+        ++ core_line program.now turn.is_pick turn.number turn.actor stepped object.old effect requests.now) }
 {
     if stepped {
-        put_stepped(out, program, number, actor, object, effect, requests)
+        put_stepped(out, program, turn, object, effect, requests)
     } else {
-        put_idle(out, program, is_pick, number, actor)
+        put_idle(out, program, turn)
     }
 }

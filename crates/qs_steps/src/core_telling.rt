@@ -9,7 +9,7 @@ ghost use Rattle.qs_steps.specs.Telling.{IsToldIn, played_in};
 
 use crate::core_lines::put_core_line;
 use crate::core_queues::put_core_queues;
-use crate::telling::{Machine, play_steps, queues_of};
+use crate::telling::{Machine, Turn, play_steps, queues_of};
 use crate::wanted::{Told, Wanted};
 use qs_chunk::ChunkSize;
 use qs_core::Core;
@@ -52,25 +52,13 @@ impl Machine for Core<'_> {
         alloc: Global,
         out: &mut Vec<u8>,
         program: &Program,
-        is_pick: bool,
-        number: u64,
-        actor: Actor,
+        turn: Turn,
     ) -> Result<bool, AllocError> {
-        let effect = self.next_effect(actor);
-        let mut object = object_of(alloc, program, self, actor)?;
-        let requests = self.requests(alloc, actor)?;
-        let stepped = self.step(actor);
-        let put = put_core_line(
-            out,
-            program,
-            is_pick,
-            number,
-            actor,
-            stepped,
-            &mut object,
-            effect,
-            &requests,
-        );
+        let effect = self.next_effect(turn.actor);
+        let mut object = object_of(alloc, program, self, turn.actor)?;
+        let requests = self.requests(alloc, turn.actor)?;
+        let stepped = self.step(turn.actor);
+        let put = put_core_line(out, program, turn, stepped, &mut object, effect, &requests);
         drop(requests);
         drop(object);
         put?;

@@ -5,6 +5,7 @@ ghost use Rattle.qs_program.specs.audit.Program.{client_at, object_at, text_of};
 ghost use Rattle.qs_steps.specs.Telling.{idle_line};
 ghost use Rattle.qs_steps.specs.Told.{actor_text, names_text, reserves_text, ticket_text};
 
+use crate::telling::Turn;
 use itoa::Buffer;
 use qs_objects::Ticket;
 use qs_played::Actor;
@@ -23,33 +24,27 @@ fn actor_name(program: &Program, actor: Actor) -> &[u8]
 }
 
 /// Puts the number of a line and who steps.
-pub(crate) fn put_who(
-    out: &mut Vec<u8>,
-    program: &Program,
-    number: u64,
-    actor: Actor,
-) -> Result<(), AllocError>
-    ensures ok { OnOk result (out.new.items ≡ out.old.items ++ (decimal number ++ codes " " ++ actor_text program.now actor ++ codes " ")) }
+pub(crate) fn put_who(out: &mut Vec<u8>, program: &Program, turn: Turn) -> Result<(), AllocError>
+    ensures ok { OnOk result (out.new.items
+        ≡ out.old.items ++ (decimal turn.number ++ codes " " ++ actor_text program.now turn.actor ++ codes " ")) }
 {
     let mut buffer = Buffer::new();
-    let name = actor_name(program, actor);
-    put_all(out, &[buffer.format(number).as_bytes(), b" ", name, b" "])
+    let name = actor_name(program, turn.actor);
+    put_all(
+        out,
+        &[buffer.format(turn.number).as_bytes(), b" ", name, b" "],
+    )
 }
 
 /// Puts the line of an actor that did not step: a pick has one, and an actor of a round has none.
-pub(crate) fn put_idle(
-    out: &mut Vec<u8>,
-    program: &Program,
-    is_pick: bool,
-    number: u64,
-    actor: Actor,
-) -> Result<(), AllocError>
-    ensures ok { OnOk result (out.new.items ≡ out.old.items ++ idle_line program.now is_pick number actor) }
+pub(crate) fn put_idle(out: &mut Vec<u8>, program: &Program, turn: Turn) -> Result<(), AllocError>
+    ensures ok { OnOk result (out.new.items
+        ≡ out.old.items ++ idle_line program.now turn.is_pick turn.number turn.actor) }
 {
-    if !is_pick {
+    if !turn.is_pick {
         return Ok(());
     }
-    put_who(out, program, number, actor)?;
+    put_who(out, program, turn)?;
     put(out, b"does nothing\n")
 }
 

@@ -9,9 +9,9 @@ ghost use Rattle.qs_steps.specs.Told.{ticket_text};
 
 use crate::lines::{put_idle, put_reserves, put_ticket, put_who};
 use crate::marks::put_marked;
+use crate::telling::Turn;
 use qs_objects::{Object, Request, Ticket};
 use qs_plain::Effect;
-use qs_played::Actor;
 use qs_program::Program;
 use qs_text::{put, put_whole_request};
 use std::alloc::AllocError;
@@ -87,18 +87,18 @@ fn put_effect(
 pub(crate) fn put_line(
     out: &mut Vec<u8>,
     program: &Program,
-    is_pick: bool,
-    number: u64,
-    actor: Actor,
+    turn: Turn,
     object: &mut Option<Object>,
     effect: &Option<Effect>,
 ) -> Result<(), AllocError>
-    ensures ok { OnOk result (out.new.items ≡ out.old.items ++ plain_line program.now is_pick number actor object.old effect.now) }
+    ensures ok { OnOk result (out.new.items
+        ≡ out.old.items
+        ++ plain_line program.now turn.is_pick turn.number turn.actor object.old effect.now) }
 {
     match effect {
-        None => put_idle(out, program, is_pick, number, actor),
+        None => put_idle(out, program, turn),
         Some(effect) => {
-            put_who(out, program, number, actor)?;
+            put_who(out, program, turn)?;
             put_effect(out, program, object, effect)?;
             put(out, b"\n")
         }

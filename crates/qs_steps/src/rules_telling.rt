@@ -14,7 +14,7 @@ ghost use Rattle.qs_steps.specs.Telling.{played_in};
 
 use crate::plain_lines::put_line;
 use crate::plain_queues::put_plain_queues;
-use crate::telling::{Machine, play_steps, queues_of};
+use crate::telling::{Machine, Turn, play_steps, queues_of};
 use crate::wanted::{Told, Wanted};
 use qs_objects::Object;
 use qs_plain::Rules;
@@ -46,13 +46,11 @@ impl Machine for Rules<'_> {
         alloc: Global,
         out: &mut Vec<u8>,
         program: &Program,
-        is_pick: bool,
-        number: u64,
-        actor: Actor,
+        turn: Turn,
     ) -> Result<bool, AllocError> {
-        let mut object = object_of(alloc, self, actor)?;
-        let effect = self.step_with_effect(actor);
-        let put = put_line(out, program, is_pick, number, actor, &mut object, &effect);
+        let mut object = object_of(alloc, self, turn.actor)?;
+        let effect = self.step_with_effect(turn.actor);
+        let put = put_line(out, program, turn, &mut object, &effect);
         let stepped = effect.is_some();
         drop(effect);
         drop(object);

@@ -8,23 +8,30 @@ use qs_played::Actor;
 use qs_program::Program;
 use std::alloc::{AllocError, Global};
 
+/// The turn of an actor that is asked to step: by a pick or in a round, and its number among all turns.
+#[derive(Clone, Copy)]
+pub(crate) struct Turn {
+    pub is_pick: bool,
+    pub number: u64,
+    pub actor: Actor,
+}
+
 /// A machine that plays a schedule and is told.
 pub(crate) trait Machine {
     ghost view: { View Self };
 
-    /// One actor is asked to step, as the actor of this number, and has its line: whether it stepped.
+    /// One actor is asked to step, and its turn has its line: whether it stepped.
     fn put_step(
         &mut self,
         alloc: Global,
         out: &mut Vec<u8>,
         program: &Program,
-        is_pick: bool,
-        number: u64,
-        actor: Actor,
+        turn: Turn,
     ) -> Result<bool, AllocError>
         requires own { own_program view self.old ≡ program.now }
-        ensures line { IfOk result (λ stepped. out.new.items ≡ out.old.items ++ asked_line view program.now is_pick number actor stepped self.old) }
-        ensures asked { IfOk result (λ stepped. IsAsked view actor stepped self.old self.new) };
+        ensures line { IfOk result (λ stepped. out.new.items ≡ out.old.items
+            ++ asked_line view program.now turn.is_pick turn.number turn.actor stepped self.old) }
+        ensures asked { IfOk result (λ stepped. IsAsked view turn.actor stepped self.old self.new) };
 
     /// One actor is asked to step, and has no line: whether it stepped.
     fn ask(&mut self, actor: Actor) -> bool
@@ -60,7 +67,12 @@ fn put_picks<M: Machine>(
     let mut number = 0;
     for pick in picks {
         number += 1;
-        let _stepped = machine.put_step(alloc, out, program, true, number, *pick)?;
+        let turn = Turn {
+            is_pick: true,
+            number,
+            actor: *pick,
+        };
+        let _stepped = machine.put_step(alloc, out, program, turn)?;
     }
     Ok(())
 }
@@ -83,14 +95,20 @@ fn put_round<M: Machine>(
     let clients = program.clients() as u64;
     let mut stepped = false;
     for client in 0..program.clients() as u8 {
-        let number = asked + 1 + u64::from(client);
-        let actor = Actor::Client(client);
-        stepped |= machine.put_step(alloc, out, program, false, number, actor)?;
+        let turn = Turn {
+            is_pick: false,
+            number: asked + 1 + u64::from(client),
+            actor: Actor::Client(client),
+        };
+        stepped |= machine.put_step(alloc, out, program, turn)?;
     }
     for handler in 0..program.objects() as u8 {
-        let number = asked + 1 + clients + u64::from(handler);
-        let actor = Actor::Handler(handler);
-        stepped |= machine.put_step(alloc, out, program, false, number, actor)?;
+        let turn = Turn {
+            is_pick: false,
+            number: asked + 1 + clients + u64::from(handler),
+            actor: Actor::Handler(handler),
+        };
+        stepped |= machine.put_step(alloc, out, program, turn)?;
     }
     Ok(stepped)
 }

@@ -21,6 +21,16 @@ use qs_script::tree::{ClientItem, Item, Name, Number};
 use std::alloc::{AllocError, Global};
 use std::collections::VecDeque;
 
+/// What names are numbered by: all objects of a script, with the kind of each, and the variables of a client.
+#[derive(Drop)]
+pub(crate) struct Numbering<'a> {
+    pub objects: &'a Names,
+    pub kinds: &'a [Kind],
+    pub variables: &'a Names,
+    ghost few_objects: { length objects.now ≤ most_objects },
+    ghost few_variables: { length variables.now ≤ most_variables },
+}
+
 /// The objects of a script, in text order.
 pub fn resolve_objects(alloc: Global, items: &[Item]) -> Result<Vec<Declared>, AllocError>
     ensures objects { IfOk result (λ v. v.items ≡ objects_of items.now) }
@@ -86,7 +96,12 @@ fn resolve_client(
     ensures blocks { IfOk result (λ c. c.blocks ≡ map (block_shape objects.now kinds.now variables) item.now.blocks) }
     ensures start { IfOk result (λ c. c.start ≡ None) }
 {
-    match resolve_blocks(alloc, objects, kinds, &variables, item.blocks.as_slice()) {
+    let numbering = Numbering {
+        objects,
+        kinds,
+        variables: &variables,
+    };
+    match resolve_blocks(alloc, &numbering, item.blocks.as_slice()) {
         Ok(blocks) => Ok(Client::new(item.name.copied(), variables, blocks)),
         Err(fault) => {
             drop(variables);
@@ -97,37 +112,32 @@ fn resolve_client(
 
 pub(crate) fn resolve_blocks(
     alloc: Global,
-    objects: &Names,
-    kinds: &[Kind],
-    variables: &Names,
+    numbering: &Numbering<'_>,
     blocks: &[qs_script::tree::Block],
 ) -> Result<Vec<Block>, AllocError>
     requires formed { AllByRecursion IsFormed blocks.now }
-    requires objects { length objects.now ≤ most_objects }
-    requires variables { length variables.now ≤ most_variables }
-    ensures blocks { IfOk result (λ v. v.items ≡ map (block_shape objects.now kinds.now variables.now) blocks.now) }
+    ensures blocks { IfOk result
+        (λ v. v.items ≡ map
+        (block_shape numbering.now.objects.now numbering.now.kinds.now numbering.now.variables.now) blocks.now) }
 {
     let mut all = Vec::with_capacity(alloc, blocks.len())?;
     for block in blocks {
-        all.push(resolve_block(alloc, objects, kinds, variables, block)?)?;
+        all.push(resolve_block(alloc, numbering, block)?)?;
     }
     Ok(all)
 }
 
 fn resolve_block(
     alloc: Global,
-    objects: &Names,
-    kinds: &[Kind],
-    variables: &Names,
+    numbering: &Numbering<'_>,
     block: &qs_script::tree::Block,
 ) -> Result<Block, AllocError>
     requires levels { levels_of block.now.body ≤ most_levels }
-    requires objects { length objects.now ≤ most_objects }
-    requires variables { length variables.now ≤ most_variables }
-    ensures block { IfOk result (λ b. b ≡ block_shape objects.now kinds.now variables.now block.now) }
+    ensures block { IfOk result
+        (λ b. b ≡ block_shape numbering.now.objects.now numbering.now.kinds.now numbering.now.variables.now block.now) }
 {
-    let reserved = resolve_list(alloc, objects, block.reserved.as_slice())?;
-    let body = resolve_body(alloc, objects, kinds, variables, &block.body)?;
+    let reserved = resolve_list(alloc, numbering.objects, block.reserved.as_slice())?;
+    let body = resolve_body(alloc, numbering, &block.body)?;
     Ok(Block::new(reserved, body))
 }
 
@@ -150,20 +160,18 @@ pub(crate) fn resolve_list(
 #[cycle(resolve)]
 fn resolve_body(
     alloc: Global,
-    objects: &Names,
-    kinds: &[Kind],
-    variables: &Names,
+    numbering: &Numbering<'_>,
     body: &qs_script::tree::Body,
 ) -> Result<Body, AllocError>
     requires levels { levels_of body.now ≤ most_levels }
-    requires objects { length objects.now ≤ most_objects }
-    requires variables { length variables.now ≤ most_variables }
-    ensures body { IfOk result (λ code. code ≡ body_of objects.now kinds.now variables.now body.now) }
+    ensures body { IfOk result
+        (λ code. code
+        ≡ body_of numbering.now.objects.now numbering.now.kinds.now numbering.now.variables.now body.now) }
 {
     let stmts = body.as_slice();
     let mut code = Body::with_capacity(alloc, stmts.len())?;
     for stmt in stmts {
-        resolve_stmt(alloc, objects, kinds, variables, stmt, &mut code)?;
+        resolve_stmt(alloc, numbering, stmt, &mut code)?;
     }
     Ok(code)
 }
@@ -174,35 +182,32 @@ fn resolve_body(
 #[inline(always)]
 fn resolve_stmt(
     alloc: Global,
-    objects: &Names,
-    kinds: &[Kind],
-    variables: &Names,
+    numbering: &Numbering<'_>,
     stmt: &qs_script::tree::Stmt,
     code: &mut Body,
 ) -> Result<(), AllocError>
     requires levels { levels_of (single_text stmt.now) ≤ most_levels }
-    requires objects { length objects.now ≤ most_objects }
-    requires variables { length variables.now ≤ most_variables }
-    ensures added { OnOk result (code.new ≡ join_statements code.old (body_of objects.now kinds.now variables.now (single_text stmt.now))) }
+    ensures added { OnOk result (code.new ≡ join_statements code.old
+        (body_of numbering.now.objects.now numbering.now.kinds.now numbering.now.variables.now
+        (single_text stmt.now))) }
 {
     match stmt {
-        qs_script::tree::Stmt::Command(call) => {
-            add_command(alloc, objects, kinds, variables, call, code)
-        }
+        qs_script::tree::Stmt::Command(call) => { add_command(alloc, numbering, call, code) }
         qs_script::tree::Stmt::Query(variable, call) => {
-            add_query(alloc, objects, kinds, variables, variable, call, code)
+            add_query(alloc, numbering, variable, call, code)
         }
         qs_script::tree::Stmt::Assign(variable, expr) => add_assign(
-            variables, variable, expr, code,
+            numbering.variables,
+            variable,
+            expr,
+            code,
         ),
-        qs_script::tree::Stmt::If(test, first) => {
-            add_if(alloc, objects, kinds, variables, test, first, code)
-        }
+        qs_script::tree::Stmt::If(test, first) => { add_if(alloc, numbering, test, first, code) }
         qs_script::tree::Stmt::IfElse(test, first, other) => {
-            add_if_else(alloc, objects, kinds, variables, test, first, other, code)
+            add_if_else(alloc, numbering, test, first, other, code)
         }
         qs_script::tree::Stmt::Repeat(count, body) => {
-            add_repeat(alloc, objects, kinds, variables, *count, body, code)
+            add_repeat(alloc, numbering, *count, body, code)
         }
         qs_script::tree::Stmt::Leave => add_leave(code),
     }
@@ -212,29 +217,32 @@ fn resolve_stmt(
 #[inline(never)]
 fn add_if(
     alloc: Global,
-    objects: &Names,
-    kinds: &[Kind],
-    variables: &Names,
+    numbering: &Numbering<'_>,
     test: &qs_script::tree::Test,
     first: &qs_script::tree::Body,
     code: &mut Body,
 ) -> Result<(), AllocError>
     requires levels { levels_of first.now + 1 ≤ most_levels }
-    requires objects { length objects.now ≤ most_objects }
-    requires variables { length variables.now ≤ most_variables }
-    ensures added { OnOk result (code.new ≡ join_statements code.old (choose (test_of variables.now test.now) false (body_of objects.now kinds.now variables.now first.now) end end)) }
+    ensures added { OnOk result (code.new ≡ join_statements code.old
+        (choose (test_of numbering.now.variables.now test.now) false
+        (body_of numbering.now.objects.now numbering.now.kinds.now numbering.now.variables.now first.now) end end)) }
 {
-    let first = resolve_body(alloc, objects, kinds, variables, first)?;
-    add_choice(variables, test, false, first, Body::new(alloc), code)
+    let first = resolve_body(alloc, numbering, first)?;
+    add_choice(
+        numbering.variables,
+        test,
+        false,
+        first,
+        Body::new(alloc),
+        code,
+    )
 }
 
 #[cycle(resolve)]
 #[inline(never)]
 fn add_if_else(
     alloc: Global,
-    objects: &Names,
-    kinds: &[Kind],
-    variables: &Names,
+    numbering: &Numbering<'_>,
     test: &qs_script::tree::Test,
     first: &qs_script::tree::Body,
     other: &qs_script::tree::Body,
@@ -242,52 +250,49 @@ fn add_if_else(
 ) -> Result<(), AllocError>
     requires first_levels { levels_of first.now + 1 ≤ most_levels }
     requires other_levels { levels_of other.now + 1 ≤ most_levels }
-    requires objects { length objects.now ≤ most_objects }
-    requires variables { length variables.now ≤ most_variables }
-    ensures added { OnOk result (code.new ≡ join_statements code.old (choose (test_of variables.now test.now) true (body_of objects.now kinds.now variables.now first.now) (body_of objects.now kinds.now variables.now other.now) end)) }
+    ensures added { OnOk result (code.new ≡ join_statements code.old
+        (choose (test_of numbering.now.variables.now test.now) true
+        (body_of numbering.now.objects.now numbering.now.kinds.now numbering.now.variables.now first.now)
+        (body_of numbering.now.objects.now numbering.now.kinds.now numbering.now.variables.now other.now) end)) }
 {
-    let first = resolve_body(alloc, objects, kinds, variables, first)?;
-    let other = resolve_body(alloc, objects, kinds, variables, other)?;
-    add_choice(variables, test, true, first, other, code)
+    let first = resolve_body(alloc, numbering, first)?;
+    let other = resolve_body(alloc, numbering, other)?;
+    add_choice(numbering.variables, test, true, first, other, code)
 }
 
 #[cycle(resolve)]
 #[inline(never)]
 fn add_repeat(
     alloc: Global,
-    objects: &Names,
-    kinds: &[Kind],
-    variables: &Names,
+    numbering: &Numbering<'_>,
     count: Number,
     body: &qs_script::tree::Body,
     code: &mut Body,
 ) -> Result<(), AllocError>
     requires levels { levels_of body.now + 1 ≤ most_levels }
-    requires objects { length objects.now ≤ most_objects }
-    requires variables { length variables.now ≤ most_variables }
-    ensures added { OnOk result (code.new ≡ join_statements code.old (again count (body_of objects.now kinds.now variables.now body.now) end)) }
+    ensures added { OnOk result (code.new ≡ join_statements code.old
+        (again count
+        (body_of numbering.now.objects.now numbering.now.kinds.now numbering.now.variables.now body.now) end)) }
 {
-    let body = resolve_body(alloc, objects, kinds, variables, body)?;
+    let body = resolve_body(alloc, numbering, body)?;
     add_turns(count.count(), body, code)
 }
 
 #[inline(always)]
 fn add_command(
     alloc: Global,
-    objects: &Names,
-    kinds: &[Kind],
-    variables: &Names,
+    numbering: &Numbering<'_>,
     call: &qs_script::tree::Call,
     code: &mut Body,
 ) -> Result<(), AllocError>
-    requires objects { length objects.now ≤ most_objects }
-    requires variables { length variables.now ≤ most_variables }
-    ensures added { OnOk result (code.new ≡ join_statements code.old (command (call_of objects.now kinds.now variables.now false call.now) end)) }
+    ensures added { OnOk result (code.new ≡ join_statements code.old
+        (command
+        (call_of numbering.now.objects.now numbering.now.kinds.now numbering.now.variables.now false call.now) end)) }
 {
     if call.args.as_slice().len() > 1 {
-        return add_long_command(alloc, objects, kinds, variables, call, code);
+        return add_long_command(alloc, numbering, call, code);
     }
-    let call = resolve_short(alloc, objects, kinds, variables, false, call);
+    let call = resolve_short(alloc, numbering, false, call);
     code.push(Stmt::Command(call))
 }
 
@@ -295,58 +300,52 @@ fn add_command(
 #[inline(never)]
 fn add_long_command(
     alloc: Global,
-    objects: &Names,
-    kinds: &[Kind],
-    variables: &Names,
+    numbering: &Numbering<'_>,
     call: &qs_script::tree::Call,
     code: &mut Body,
 ) -> Result<(), AllocError>
-    requires objects { length objects.now ≤ most_objects }
-    requires variables { length variables.now ≤ most_variables }
-    ensures added { OnOk result (code.new ≡ join_statements code.old (command (call_of objects.now kinds.now variables.now false call.now) end)) }
+    ensures added { OnOk result (code.new ≡ join_statements code.old
+        (command
+        (call_of numbering.now.objects.now numbering.now.kinds.now numbering.now.variables.now false call.now) end)) }
 {
-    let call = resolve_call(alloc, objects, kinds, variables, false, call)?;
+    let call = resolve_call(alloc, numbering, false, call)?;
     code.push(Stmt::Command(call))
 }
 
 #[inline(always)]
 fn add_query(
     alloc: Global,
-    objects: &Names,
-    kinds: &[Kind],
-    variables: &Names,
+    numbering: &Numbering<'_>,
     variable: &Name,
     call: &qs_script::tree::Call,
     code: &mut Body,
 ) -> Result<(), AllocError>
-    requires objects { length objects.now ≤ most_objects }
-    requires variables { length variables.now ≤ most_variables }
-    ensures added { OnOk result (code.new ≡ join_statements code.old (query (found_at variables.now variable.now) (call_of objects.now kinds.now variables.now true call.now) end)) }
+    ensures added { OnOk result (code.new ≡ join_statements code.old
+        (query (found_at numbering.now.variables.now variable.now)
+        (call_of numbering.now.objects.now numbering.now.kinds.now numbering.now.variables.now true call.now) end)) }
 {
     if call.args.as_slice().len() > 1 {
-        return add_long_query(alloc, objects, kinds, variables, variable, call, code);
+        return add_long_query(alloc, numbering, variable, call, code);
     }
-    let call = resolve_short(alloc, objects, kinds, variables, true, call);
-    code.push(Stmt::Query(variables.number_of(variable) as u8, call))
+    let call = resolve_short(alloc, numbering, true, call);
+    code.push(Stmt::Query(numbering.variables.number_of(variable) as u8, call))
 }
 
 // Adds a query with any number of arguments.
 #[inline(never)]
 fn add_long_query(
     alloc: Global,
-    objects: &Names,
-    kinds: &[Kind],
-    variables: &Names,
+    numbering: &Numbering<'_>,
     variable: &Name,
     call: &qs_script::tree::Call,
     code: &mut Body,
 ) -> Result<(), AllocError>
-    requires objects { length objects.now ≤ most_objects }
-    requires variables { length variables.now ≤ most_variables }
-    ensures added { OnOk result (code.new ≡ join_statements code.old (query (found_at variables.now variable.now) (call_of objects.now kinds.now variables.now true call.now) end)) }
+    ensures added { OnOk result (code.new ≡ join_statements code.old
+        (query (found_at numbering.now.variables.now variable.now)
+        (call_of numbering.now.objects.now numbering.now.kinds.now numbering.now.variables.now true call.now) end)) }
 {
-    let call = resolve_call(alloc, objects, kinds, variables, true, call)?;
-    code.push(Stmt::Query(variables.number_of(variable) as u8, call))
+    let call = resolve_call(alloc, numbering, true, call)?;
+    code.push(Stmt::Query(numbering.variables.number_of(variable) as u8, call))
 }
 
 #[inline(always)]
@@ -405,23 +404,20 @@ fn add_leave(code: &mut Body) -> Result<(), AllocError>
 #[inline(always)]
 fn resolve_short(
     alloc: Global,
-    objects: &Names,
-    kinds: &[Kind],
-    variables: &Names,
+    numbering: &Numbering<'_>,
     asks: bool,
     call: &qs_script::tree::Call,
 ) -> Call
-    requires objects { length objects.now ≤ most_objects }
-    requires variables { length variables.now ≤ most_variables }
     requires short { length call.now.args ≤ 1 }
-    ensures call { result ≡ call_of objects.now kinds.now variables.now asks call.now }
+    ensures call { result
+        ≡ call_of numbering.now.objects.now numbering.now.kinds.now numbering.now.variables.now asks call.now }
 {
-    let number = objects.number_of(&call.object);
-    let op = find_op(asks, kind_at(kinds, number), &call.op).unwrap_or(Op::Refused);
+    let number = numbering.objects.number_of(&call.object);
+    let op = find_op(asks, kind_at(numbering.kinds, number), &call.op).unwrap_or(Op::Refused);
     Call {
         object: number as u8,
         op,
-        args: resolve_one(alloc, variables, call.args.as_slice()),
+        args: resolve_one(alloc, numbering.variables, call.args.as_slice()),
     }
 }
 
@@ -443,19 +439,16 @@ fn resolve_one(alloc: Global, variables: &Names, atoms: &[qs_script::tree::Atom]
 #[inline(always)]
 fn resolve_call(
     alloc: Global,
-    objects: &Names,
-    kinds: &[Kind],
-    variables: &Names,
+    numbering: &Numbering<'_>,
     asks: bool,
     call: &qs_script::tree::Call,
 ) -> Result<Call, AllocError>
-    requires objects { length objects.now ≤ most_objects }
-    requires variables { length variables.now ≤ most_variables }
-    ensures call { IfOk result (λ c. c ≡ call_of objects.now kinds.now variables.now asks call.now) }
+    ensures call { IfOk result
+        (λ c. c ≡ call_of numbering.now.objects.now numbering.now.kinds.now numbering.now.variables.now asks call.now) }
 {
-    let number = objects.number_of(&call.object);
-    let op = find_op(asks, kind_at(kinds, number), &call.op).unwrap_or(Op::Refused);
-    let args = resolve_atoms(alloc, variables, call.args.as_slice())?;
+    let number = numbering.objects.number_of(&call.object);
+    let op = find_op(asks, kind_at(numbering.kinds, number), &call.op).unwrap_or(Op::Refused);
+    let args = resolve_atoms(alloc, numbering.variables, call.args.as_slice())?;
     Ok(Call {
         object: number as u8,
         op,

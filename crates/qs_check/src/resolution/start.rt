@@ -10,7 +10,7 @@ ghost use Rattle.qs_check.specs.resolution.Resolve.{AreFaultless};
 
 use crate::binding::bind_blocks;
 use crate::fault_places::{CheckFault, Scope, check_text, formal_value};
-use crate::resolution::resolve::{resolve_blocks, resolve_list};
+use crate::resolution::resolve::{Numbering, resolve_blocks, resolve_list};
 use qs_program::{Block, Client, Declared, Names, Start};
 use qs_script::tree::{Formal, Item, Name, StartedItem, TemplateItem};
 use std::alloc::{AllocError, Global};
@@ -99,13 +99,12 @@ fn start_walked(
     requires walked { scope_or_fault nothing_known (text_places template.now) ≡ Ok inner.old }
     ensures client { IfOk result (λ c. c ≡ started_of objects.now (Some template.now) item.now) }
 {
-    let own = resolve_blocks(
-        alloc,
-        inner.objects(),
-        inner.kinds(),
-        inner.variables(),
-        template.blocks.as_slice(),
-    )?;
+    let numbering = Numbering {
+        objects: inner.objects(),
+        kinds: inner.kinds(),
+        variables: inner.variables(),
+    };
+    let own = resolve_blocks(alloc, &numbering, template.blocks.as_slice())?;
     let formals = formals_declared(alloc, template.formals.as_slice())?;
     let binding = resolve_list(alloc, objects, item.objects.as_slice())?;
     let blocks = bind_blocks(alloc, binding.as_slice(), own.as_slice())?;

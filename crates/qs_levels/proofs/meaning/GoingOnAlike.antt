@@ -1,8 +1,8 @@
 -- Orders that lead to one configuration go on alike: what comes after an order is legal, complete and comes to what it
 -- comes to by the configuration alone to which the order leads.
-use Rattle.std.proofs.Common.{◌≡◌, ◌∙◌, ℕ, List, ◌++◌, sym, ap, subst}
+use Rattle.std.proofs.Common.{◌≡◌, ◌∙◌, List, ◌++◌, sym, ap, subst}
 use Rattle.qs_objects.specs.declared.held.Ticket.{Ticket}
-use Rattle.qs_program.specs.audit.Program.{ProgramShape, blocks_of}
+use Rattle.qs_program.specs.audit.Program.{ProgramShape}
 use Rattle.qs_meaning.specs.audit.Configurations.{Configuration, IsComplete, configuration_after, configuration_from, first_configuration}
 use Rattle.qs_meaning.specs.Configurations.{outcome_in}
 use Rattle.qs_meaning.specs.audit.Serial.{IsLegal, LegalFrom}

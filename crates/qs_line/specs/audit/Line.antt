@@ -9,6 +9,7 @@ use Rattle.qs_played.specs.audit.Schedule.{most_rounds}
 use Rattle.qs_syncset.specs.declared.mode.Mode.{Mode}
 use Rattle.qs_syncset.specs.declared.mode.Mode.TheVariants.{Plain, Dynamic, Static, Both}
 use Rattle.qs_conditions.specs.declared.claim.Claim.{Claim}
+use Rattle.qs_line.specs.audit.Apart.{flag_at}
 use Rattle.qs_line.specs.audit.Parts.{clients_in, list_in}
 use Rattle.qs_line.specs.declared.parts.Part.{Part}
 use Rattle.qs_line.specs.declared.line.Format.{Format}
@@ -29,9 +30,9 @@ pub data PlanShape : Type 0 where
 -- many configurations there can be; or, after these and with so many configurations at most, whether a condition holds
 -- of all ends, of some or throughout, or all outcomes, or their ends alone, by so many threads; or, after the blocks of
 -- each of some lists of clients, the configurations after so many blocks more; or, with so many configurations at most,
--- one of all outcomes that differ by alike clients in each other's places, or by these whether a condition holds of all
--- ends, of some or throughout. Each is asked for in a format, and of a run the counts of synchronisations and what was
--- refused may be asked for as well, and of a schedule a line for each step, and what lies where at its end.
+-- one of all outcomes that differ by alike clients in each other's places. Each is asked for in a format, and of a run
+-- the counts of synchronisations and what was refused may be asked for as well, and of a schedule a line for each step,
+-- and what lies where at its end.
 pub data Request : Type 0 where
   check : Format → Request
   graph : GraphFormat → Request
@@ -43,7 +44,6 @@ pub data Request : Type 0 where
   estimate : Format → (front : List Part) → Request
   fronts : Format → (blocks : ℕ) → (limit : ℕ) → (orders : List (List Part)) → Request
   alike : Format → (limit : ℕ) → Request
-  ask_alike : Claim → Format → (limit : ℕ) → Request
   outcomes : OutcomesFormat → (limit : ℕ) → (threads : ℕ) → (front : List Part) → Request
 
 abbrev pub report_format_in : Text → Option ReportFormat
@@ -63,10 +63,6 @@ mode_in text =
 abbrev pub number_in : ℕ → ℕ → Text → Option ℕ
 number_in low high text =
     if is_unsigned_in low high text then Some (digits_value 10 (without_leading_plus text)) else None
-
--- clap says `true` of a flag that stands on the line, and `false` of another
-abbrev pub flag_at : Text → List Row → Bool
-flag_at name rows = option_map_or (λ text. bytes_eq text (codes "true")) (first_of name rows) false
 
 abbrev pub report_format_at : List Row → Option ReportFormat
 report_format_at rows = option_and_then report_format_in (first_of (codes "format") rows)
@@ -102,28 +98,20 @@ picks_at rows = unwrap_or (option_map list_in (first_of (codes "pick") rows)) (S
 abbrev pub schedule_at : List Row → Option PlanShape
 schedule_at rows = option_and_then (λ rounds. option_map (by_schedule rounds) (picks_at rows)) (rounds_at rows)
 
--- a number of rounds or a list of picks stands on the line
-abbrev pub has_schedule : List Row → Bool
-has_schedule rows = is_some (first_of (codes "rounds") rows) || is_some (first_of (codes "pick") rows)
-
--- the order of a text, which stands beside no number of rounds and beside no picks
-abbrev pub order_at : Text → List Row → Option PlanShape
-order_at text rows = if has_schedule rows then None else option_map by_order (clients_in text)
-
 -- by an order where the line has one, and else by a schedule
 abbrev pub plan_at : List Row → Option PlanShape
-plan_at rows = option_map_or (λ text. order_at text rows) (first_of (codes "order") rows) (schedule_at rows)
+plan_at rows =
+    option_map_or (λ text. option_map by_order (clients_in text)) (first_of (codes "order") rows) (schedule_at rows)
 
--- the steps and the queues of a plan can be told beside a report: those of a schedule, beside a report as text
-abbrev pub can_tell : ReportFormat → PlanShape → Bool
-can_tell report_format.Text (by_schedule rounds picks) = true
-can_tell report_format.Text (by_order clients) = false
-can_tell report_format.Json plan = false
-can_tell report_format.Svg plan = false
+-- steps and queues can be told beside a report as text alone
+abbrev pub can_tell : ReportFormat → Bool
+can_tell report_format.Text = true
+can_tell report_format.Json = false
+can_tell report_format.Svg = false
 
 -- a plan of a report in a style; none where its steps or its queues are asked for and can't be told
 abbrev pub styled_plan : ReportStyle → PlanShape → Option PlanShape
-styled_plan style plan = if (style.steps || style.queues) && not (can_tell style.format plan) then None else Some plan
+styled_plan style plan = if (style.steps || style.queues) && not (can_tell style.format) then None else Some plan
 
 abbrev pub styled_plan_at : ReportStyle → List Row → Option PlanShape
 styled_plan_at style rows = option_and_then (styled_plan style) (plan_at rows)

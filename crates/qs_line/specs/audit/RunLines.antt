@@ -4,6 +4,7 @@ use Rattle.std.specs.Str.{bytes_eq}
 use Rattle.clap.specs.Faults.{fault_of}
 use Rattle.clap.specs.Kinds.{Kinds}
 use Rattle.clap.specs.Words.{Row, Text, subcommand_of}
+use Rattle.qs_line.specs.audit.Apart.{has_apart}
 use Rattle.qs_line.specs.audit.Command.{qs_app}
 use Rattle.qs_line.specs.audit.Line.{Request, asks_language, has_times, play, play_at, rules, rules_at, run, single_run_at}
 use Rattle.qs_line.specs.declared.line.ReportStyle.{ReportStyle}
@@ -17,11 +18,15 @@ style_of _ = None
 
 -- what a word asks for, with the entries that clap finds after it, where that is a run; many runs, whose ends are
 -- counted, are none
-abbrev pub runs_at : Text → List Row → Option Request
-runs_at name rows =
+abbrev pub run_of_word : Text → List Row → Option Request
+run_of_word name rows =
     if bytes_eq name (codes "rules") then rules_at rows
     else if bytes_eq name (codes "play") then play_at rows
     else if bytes_eq name (codes "run") && not (has_times rows) then single_run_at rows else None
+
+-- the same, where no two settings stand on the line that do not stand together
+abbrev pub runs_at : Text → List Row → Option Request
+runs_at name rows = if has_apart rows then None else run_of_word name rows
 
 -- the same of the word that clap meets, where it takes the words
 abbrev pub run_by : Kinds → Option (Text × List Row) → Option Request

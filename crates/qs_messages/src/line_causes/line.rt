@@ -2,7 +2,7 @@
 
 use crate::line_causes::condition::put_condition;
 use qs_diagnosis::{put, put_all};
-use qs_line::{MOST_ACTORS, Who, part_of, refusal, value_after};
+use qs_line::{APART, MOST_ACTORS, Setting, Who, part_of, refusal, value_after};
 use qs_played::Actor;
 use std::alloc::{AllocError, Global};
 
@@ -53,7 +53,7 @@ fn names_file<'a>(words: &'a [&'a str]) -> bool {
 // does not have, or a value that does not read.
 fn put_value<'a>(alloc: Global, out: &mut Vec<u8>, words: &'a [&'a str]) -> Result<(), AllocError> {
     put_apart(out, words)?;
-    if out.is_empty() && stands(words, "--leads") && !stands(words, "--front") {
+    if out.is_empty() && stands(words, Setting::Leads) && !stands(words, Setting::Front) {
         return put(out, NO_FRONT);
     }
     if out.is_empty() {
@@ -77,86 +77,60 @@ fn put_value<'a>(alloc: Global, out: &mut Vec<u8>, words: &'a [&'a str]) -> Resu
 }
 
 // Whether a setting stands on the line.
-fn stands<'a>(words: &'a [&'a str], setting: &str) -> bool {
-    words.contains(&setting) || value_after(words, setting).is_some()
+fn stands<'a>(words: &'a [&'a str], setting: Setting) -> bool {
+    for word in words {
+        if let Some(rest) = word.strip_prefix("--") {
+            if rest.split('=').next() == Some(setting.name()) {
+                return true;
+            }
+        }
+    }
+    false
 }
 
 // A setting as the help shows it: with the name of its value, where it has one.
-fn shown(setting: &str) -> &'static str {
+fn shown(setting: Setting) -> &'static str {
     match setting {
-        "--always" => "--always <COND>",
-        "--some" => "--some <COND>",
-        "--throughout" => "--throughout <COND>",
-        "--order" => "--order <LIST>",
-        "--pick" => "--pick <LIST>",
-        "--rounds" => "--rounds <N>",
-        "--times" => "--times <N>",
-        "--counts" => "--counts",
-        "--refusals" => "--refusals",
-        "--steps" => "--steps",
-        "--queues" => "--queues",
-        "--ends" => "--ends",
-        "--estimate" => "--estimate",
-        "--alike" => "--alike",
-        "--after" => "--after <LIST>",
-        "--front" => "--front <K>",
-        "--leads" => "--leads <LISTS>",
-        "--threads" => "--threads <N>",
-        _ => "--format <F>",
+        Setting::Order => "--order <LIST>",
+        Setting::Pick => "--pick <LIST>",
+        Setting::Rounds => "--rounds <N>",
+        Setting::Steps => "--steps",
+        Setting::Queues => "--queues",
+        Setting::Times => "--times <N>",
+        Setting::Counts => "--counts",
+        Setting::Refusals => "--refusals",
+        Setting::Ends => "--ends",
+        Setting::Estimate => "--estimate",
+        Setting::Alike => "--alike",
+        Setting::After => "--after <LIST>",
+        Setting::Front => "--front <K>",
+        Setting::Leads => "--leads <LISTS>",
+        Setting::Threads => "--threads <N>",
+        Setting::Always => "--always <COND>",
+        Setting::Some => "--some <COND>",
+        Setting::Throughout => "--throughout <COND>",
     }
 }
 
-// Settings that do not stand together.
-const APART: [(&str, &str); 39] = [
-    ("--order", "--pick"),
-    ("--order", "--rounds"),
-    ("--order", "--steps"),
-    ("--order", "--queues"),
-    ("--times", "--counts"),
-    ("--times", "--refusals"),
-    ("--estimate", "--ends"),
-    ("--estimate", "--always"),
-    ("--estimate", "--some"),
-    ("--estimate", "--throughout"),
-    ("--estimate", "--alike"),
-    ("--estimate", "--front"),
-    ("--estimate", "--threads"),
-    ("--alike", "--ends"),
-    ("--alike", "--after"),
-    ("--alike", "--front"),
-    ("--alike", "--threads"),
-    ("--front", "--ends"),
-    ("--front", "--always"),
-    ("--front", "--some"),
-    ("--front", "--throughout"),
-    ("--front", "--threads"),
-    ("--leads", "--after"),
-    ("--leads", "--ends"),
-    ("--leads", "--estimate"),
-    ("--leads", "--alike"),
-    ("--leads", "--always"),
-    ("--leads", "--some"),
-    ("--leads", "--throughout"),
-    ("--leads", "--threads"),
-    ("--threads", "--always"),
-    ("--threads", "--some"),
-    ("--threads", "--throughout"),
-    ("--always", "--ends"),
-    ("--some", "--ends"),
-    ("--throughout", "--ends"),
-    ("--always", "--some"),
-    ("--always", "--throughout"),
-    ("--some", "--throughout"),
-];
-
-// Puts the first two settings of the line that do not stand together.
+// Puts the first two settings of the line that do not stand together: those of a pair, or `--alike` and `--after` where
+// no condition stands on the line.
 fn put_apart<'a>(out: &mut Vec<u8>, words: &'a [&'a str]) -> Result<(), AllocError> {
     for (one, other) in APART {
         if stands(words, one) && stands(words, other) {
             return put_beside(out, shown(one), shown(other));
         }
     }
+    if stands(words, Setting::Alike) && stands(words, Setting::After) && !has_claim(words) {
+        return put_beside(out, shown(Setting::Alike), shown(Setting::After));
+    }
     Ok(())
+}
+
+// Whether a condition stands on the line.
+fn has_claim<'a>(words: &'a [&'a str]) -> bool {
+    stands(words, Setting::Always)
+        || stands(words, Setting::Some)
+        || stands(words, Setting::Throughout)
 }
 
 fn put_beside(out: &mut Vec<u8>, one: &str, other: &str) -> Result<(), AllocError> {
@@ -177,19 +151,19 @@ fn picture_of(word: &str) -> &'static str {
 }
 
 // Settings whose text is no drawing and no picture, and those that stand beside a report as text alone.
-const UNDRAWN: [&str; 9] = [
-    "--ends",
-    "--estimate",
-    "--alike",
-    "--front",
-    "--threads",
-    "--always",
-    "--some",
-    "--throughout",
-    "--times",
+const UNDRAWN: [Setting; 9] = [
+    Setting::Ends,
+    Setting::Estimate,
+    Setting::Alike,
+    Setting::Front,
+    Setting::Threads,
+    Setting::Always,
+    Setting::Some,
+    Setting::Throughout,
+    Setting::Times,
 ];
 
-const BESIDE_TEXT: [&str; 2] = ["--steps", "--queues"];
+const BESIDE_TEXT: [Setting; 2] = [Setting::Steps, Setting::Queues];
 
 // Puts which format the word does not have, or which setting does not stand beside the format.
 fn put_format<'a>(out: &mut Vec<u8>, words: &'a [&'a str]) -> Result<(), AllocError> {
@@ -228,7 +202,7 @@ fn put_no_format(out: &mut Vec<u8>, format: &str, picture: &str) -> Result<(), A
     put(out, b"]\n")
 }
 
-fn put_beside_format(out: &mut Vec<u8>, setting: &str, format: &str) -> Result<(), AllocError> {
+fn put_beside_format(out: &mut Vec<u8>, setting: Setting, format: &str) -> Result<(), AllocError> {
     put(out, b"error: the argument '")?;
     put(out, shown(setting).as_bytes())?;
     put(out, b"' cannot be used with '--format ")?;

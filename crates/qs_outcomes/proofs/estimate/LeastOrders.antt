@@ -10,7 +10,9 @@ use Rattle.qs_meaning.specs.audit.Reduced.{Counts}
 use Rattle.qs_meaning.specs.audit.Serial.{IsLegal, LegalFrom}
 use Rattle.qs_meaning.specs.audit.Solo.{put}
 use Rattle.qs_meaning.proofs.Each.{each_map}
-use Rattle.qs_meaning.proofs.Orders.{configuration-append, legal-join}
+use Rattle.qs_meaning.proofs.Orders.{configuration-append, legal-join, legal-rest}
+use Rattle.qs_alike.proofs.Composing.{becomes_alone}
+use Rattle.qs_alike.proofs.Following.{legal_followed}
 use Rattle.qs_meaning.proofs.TreeWalks.{put_here, put_there}
 use Rattle.qs_serial.specs.audit.NamedOrders.{order_from}
 use Rattle.qs_standings.specs.Lists.{HasOne}
@@ -136,9 +138,14 @@ module _ (p : ProgramShape) (front : List Ticket) (legal : IsLegal p front) wher
       ss (all (rest_of v) (rest_legal v h))
 
 pub least_is_there : LeastIsThere
-least_is_there p front legal count found =
+least_is_there p k alone front legal count found =
     let few : length (vectors (left p front)) ≤ length found.0 =
     at_most (HasChosen p front legal) ◌≡◌ (one_choice p front legal) (vectors (left p front)) found.0 (vectors_apart (left p front))
-    (each_map (λ v h. chosen p front legal found.0 found.2 v h) (vectors (left p front)) (vectors_within (left p front))) in
+    (each_map (λ v h. chosen p front legal found.0 all v h) (vectors (left p front)) (vectors_within (left p front))) in
     let long = vectors-long (left p front) in
-    let all = found.1.count in omega (arith, few, long, all)
+    let all_long = found.1.count in omega (arith, few, long, all_long)
+  where
+    all : (rest : List Ticket) → IsLegal p (front ++ rest) → HasOne (λ s. configuration_in s ≡ configuration_after p (front ++ rest)) found.0
+    all rest whole =
+        has_map (λ s. becomes_alone k alone (configuration_after p (front ++ rest)) (configuration_in s)) found.0
+        (found.2 rest whole (legal_followed p k (configuration_after p front) rest (legal-rest p (first_configuration p) front rest whole)))

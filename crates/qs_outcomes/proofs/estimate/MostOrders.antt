@@ -11,9 +11,12 @@ use Rattle.qs_meaning.proofs.Each.{each_map}
 use Rattle.qs_meaning.proofs.Orders.{configuration-append}
 use Rattle.qs_standings.specs.Lists.{HasOne, NoTwo}
 use Rattle.qs_standings.specs.Standings.{IsStanding, StandingShape, configuration_in}
-use Rattle.qs_outcomes.specs.throughout.Courses.{IsOnTheWayAfter}
+use Rattle.qs_alike.specs.Changes.{Becomes}
+use Rattle.qs_alike.proofs.Composing.{becomes_same}
+use Rattle.qs_outcomes.specs.Reached.{IsFollowedTo}
+use Rattle.qs_outcomes.proofs.Listed.{two_map}
 use Rattle.qs_outcomes.specs.estimate.Estimates.{left, most_orders}
-use Rattle.qs_outcomes.specs.estimate.Laws.{MostSuffices, MostSufficesOnTheWay}
+use Rattle.qs_outcomes.specs.estimate.Laws.{MostSuffices, MostSufficesForAnswers}
 use Rattle.qs_outcomes.proofs.estimate.BlocksLeft.{word, word_few}
 use Rattle.qs_outcomes.proofs.estimate.Mapped.{has_mapped}
 use Rattle.qs_standings.proofs.Pigeonhole.{at_most}
@@ -62,11 +65,15 @@ module _ (p : ProgramShape) (front : List Ticket) where
       let few = few_places in omega (arith, within, few, count)
 
 pub most_suffices : MostSuffices
-most_suffices p front many noted =
-    no_more p front noted.0 many noted.1.count noted.1.different
-    (each_map (λ s (is : IsStanding p front s). record { rest = is.reduced.rest; whole = is.reduced.whole; legal = is.legal; there = is.stands }) noted.0 noted.1.reached)
+most_suffices p front many ss noted =
+    no_more p front ss many noted.count noted.different
+    (each_map (λ s (is : IsStanding p front s). record { rest = is.reduced.rest; whole = is.reduced.whole; legal = is.legal; there = is.stands }) ss noted.reached)
 
-pub most_suffices_on_the_way : MostSufficesOnTheWay
-most_suffices_on_the_way p front many noted =
-    no_more p front noted.0 many noted.1.count noted.1.different
-    (each_map (λ s (is : IsOnTheWayAfter p front s). record { rest = is.rest; whole = is.whole; legal = is.legal; there = is.there }) noted.0 noted.1.reached)
+pub most_suffices_for_answers : MostSufficesForAnswers
+most_suffices_for_answers p k o front many (ss, noted) =
+    no_more p front ss many noted.count
+    (two_map (λ s t. Becomes k (configuration_in s) (configuration_in t)) (λ s t. configuration_in s ≡ configuration_in t)
+    (λ s t (a : IsFollowedTo p k o front s) (b : IsFollowedTo p k o front t) e. becomes_same k (configuration_in s) (configuration_in t) (sym e))
+    ss noted.reached noted.unlike)
+    (each_map (λ s (is : IsFollowedTo p k o front s).
+    record { rest = is.followed.rest; whole = is.followed.whole; legal = is.standing.legal; there = is.standing.stands }) ss noted.reached)

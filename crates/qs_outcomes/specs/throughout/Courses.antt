@@ -1,15 +1,16 @@
 -- What the answer to a question about all courses of a program says: a configuration on the way, after a legal order of
 -- whole blocks, that is what is asked for; else that none is.
-use Rattle.std.specs.Prelude.{◌≡◌, ◌≤◌, ℕ, suc, Bool, true, false, List, ◌++◌, None, IfSome, length}
-use Rattle.std.specs.List.{AllByRecursion}
+use Rattle.std.specs.Prelude.{◌≡◌, ◌≤◌, Bool, true, false, List, ◌++◌, None, IfSome, length}
 use Rattle.qs_objects.specs.declared.held.Ticket.{Ticket}
 use Rattle.qs_program.specs.audit.Program.{ProgramShape}
 use Rattle.qs_meaning.specs.audit.Configurations.{configuration_after}
 use Rattle.qs_meaning.specs.Configurations.{OrderOutcome, outcome_in}
 use Rattle.qs_meaning.specs.audit.Serial.{IsLegal}
-use Rattle.qs_outcomes.specs.Answers.{AnswerShape}
+use Rattle.qs_alike.specs.Changes.{Classes}
+use Rattle.qs_alike.specs.Followed.{all_legal}
+use Rattle.qs_outcomes.specs.Answers.{AnswerShape, AreEnough}
 use Rattle.qs_outcomes.specs.Outcomes.{HasPlaces, outcome_at}
-use Rattle.qs_standings.specs.Lists.{HasOne, NoTwo}
+use Rattle.qs_outcomes.specs.Reached.{HasNoted, HasReached}
 use Rattle.qs_standings.specs.Standings.{StandingShape, configuration_in}
 
 -- the variables and the objects where an order leads, complete or not
@@ -23,27 +24,6 @@ pub record IsOnTheWayAfter (p : ProgramShape) (front : List Ticket) (s : Standin
   pub legal : IsLegal p s.order
   pub places : HasPlaces p s
   pub there : configuration_in s ≡ configuration_after p s.order
-
--- as many different configurations, each after some legal order that begins with the front
-pub record AreOnTheWayAfter (p : ProgramShape) (front : List Ticket) (ss : List StandingShape) (many : ℕ) : Type 0 where
-  pub count : length ss ≡ many
-  pub reached : AllByRecursion (IsOnTheWayAfter p front) ss
-  pub different : NoTwo (λ s t. configuration_in s ≡ configuration_in t) ss
-
--- so many were noted
-abbrev pub HasNotedOnTheWay : ProgramShape → List Ticket → ℕ → Type 0
-HasNotedOnTheWay p front many = (ss : List StandingShape) × AreOnTheWayAfter p front ss many
-
--- legal orders that begin with the front lead to exactly so many different configurations
-abbrev pub HasOnTheWayAfter : ProgramShape → List Ticket → ℕ → Type 0
-HasOnTheWayAfter p front count =
-    (ss : List StandingShape) × AreOnTheWayAfter p front ss count
-    × ((rest : List Ticket) → IsLegal p (front ++ rest)
-    → HasOne (λ s. configuration_in s ≡ configuration_after p (front ++ rest)) ss)
-
--- and to more than so many
-abbrev pub HasMoreOnTheWayAfter : ProgramShape → List Ticket → ℕ → Type 0
-HasMoreOnTheWayAfter p front limit = HasNotedOnTheWay p front (suc limit)
 
 -- It is on the way, and what is asked for. No legal order that begins with the front and leads to what is asked for has
 -- fewer blocks.
@@ -60,14 +40,15 @@ NoneMeetsOnTheWay p front asked =
     (rest : List Ticket) → IsLegal p (front ++ rest) → asked (passed p (front ++ rest)) ≡ false
 
 -- where there is no witness, nothing on the way is what is asked for, and all configurations were noted
-abbrev pub IsCourseAnswered : ProgramShape → List Ticket → (OrderOutcome → Bool) → AnswerShape → Type 0
-IsCourseAnswered p front asked a =
-    a.witness ≡ None → NoneMeetsOnTheWay p front asked × HasOnTheWayAfter p front a.configurations
+abbrev pub IsCourseAnswered : ProgramShape → Classes → List Ticket → (OrderOutcome → Bool) → AnswerShape → Type 0
+IsCourseAnswered p k front asked a =
+    a.witness ≡ None → NoneMeetsOnTheWay p front asked × HasReached p k all_legal front a.configurations
 
 -- The answer to whether a legal order that begins with a legal front leads to what is asked for.
-pub record IsCourseAnswerAfter (p : ProgramShape) (front : List Ticket) (asked : OrderOutcome → Bool)
+pub record IsCourseAnswerAfter (p : ProgramShape) (k : Classes) (front : List Ticket) (asked : OrderOutcome → Bool)
     (a : AnswerShape) : Type 0 where
   pub legal : IsLegal p front
   pub witness : IfSome a.witness (IsCourseWitnessAfter p front asked)
-  pub none : IsCourseAnswered p front asked a
-  pub noted : HasNotedOnTheWay p front a.configurations
+  pub none : IsCourseAnswered p k front asked a
+  pub noted : HasNoted p k all_legal front a.configurations
+  pub enough : AreEnough front a

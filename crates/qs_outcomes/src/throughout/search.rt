@@ -1,128 +1,54 @@
 //! The search over configurations, breadth first.
 
-ghost use Rattle.std.specs.Prelude.{◌≡◌, ℕ, ◌+◌, ◌<◌, ◌≤◌, ◌++◌, ◌∷◌, [], true, None, length, slice_index_or};
+ghost use Rattle.std.specs.Prelude.{◌≡◌, ◌+◌, ◌<◌, ◌≤◌, ◌++◌, ◌∷◌, [], true, None, length};
 ghost use Rattle.std.specs.Prelude.{IfOk, IfSome, OnOk, IsErrOf};
 ghost use Rattle.qs_serial.specs.audit.NamedOrders.{order_of};
 ghost use Rattle.qs_meaning.specs.audit.Serial.{IsLegal};
+ghost use Rattle.qs_alike.specs.Changes.{AreClasses};
+ghost use Rattle.qs_alike.specs.Followed.{all_legal};
+ghost use Rattle.qs_alike.specs.Texts.{classes_in};
+ghost use Rattle.qs_outcomes.specs.Answers.{IsBlind};
 ghost use Rattle.qs_outcomes.specs.Outcomes.{HasPlaces, outcome_at};
-ghost use Rattle.qs_standings.specs.Lists.{HasOne};
-ghost use Rattle.qs_standings.specs.Rows.{AreStarts, IsInserted, drafted, rows_in};
-ghost use Rattle.qs_standings.specs.Standings.{HasNext, HasRun, IsFirst, IsStanding, row_of, standing_with_block};
-ghost use Rattle.qs_outcomes.specs.throughout.Courses.{HasMoreOnTheWayAfter, HasNotedOnTheWay, IsCourseAnswerAfter, IsCourseWitnessAfter};
+ghost use Rattle.qs_outcomes.specs.Reached.{HasMore, HasNotedUntil};
+ghost use Rattle.qs_outcomes.specs.Searches.{IsPrepared, IsWritten};
+ghost use Rattle.qs_outcomes.specs.throughout.Courses.{IsCourseAnswerAfter, IsCourseWitnessAfter};
 ghost use Rattle.qs_outcomes.specs.throughout.Walked.{HasWalked, IsGoingOn, IsTakenIn};
+ghost use Rattle.qs_standings.specs.Lists.{HasOne};
+ghost use Rattle.qs_standings.specs.Rows.{IsInserted, drafted, rows_in};
+ghost use Rattle.qs_standings.specs.Standings.{IsFirst};
 
+use crate::search::Search;
 use crate::{Answer, OutcomesFault, Question, Watcher};
 use indexmap::IndexSet;
-use qs_objects::Ticket;
-use qs_program::{MOST_CLIENTS, Program};
+use qs_alike::Classes;
+use qs_program::Program;
 use qs_serial::names_order;
 use qs_standings::{
-    Draft, Hints, Row, Scratch, Standing, copied, insert, placed, put_by, row_starts,
-    spare_standing, was_seen,
+    Draft, Hints, Row, Scratch, Standing, copied, insert, placed, put_by, was_seen,
 };
 use std::alloc::{AllocError, Global};
 use std::collections::VecDeque;
 
-// How many blocks of each client were begun where a program stands.
-fn blocks_begun(program: &Program, standing: &Standing) -> [usize; MOST_CLIENTS]
-    requires standing { IsStanding program.now standing.now.order standing.now }
-    ensures begun { (c : ℕ) → slice_index_or result c 0 ≡ slice_index_or standing.now.begun c 0 }
-{
-    program.keeps_sound();
-    let order = standing.order();
-    let mut begun = [0; MOST_CLIENTS];
-    for ticket in order {
-        begun[usize::from(ticket.client)] = usize::from(ticket.index) + 1;
-    }
-    begun
-}
-
-// Runs the next block of a client, and writes the row of where it leads.
-fn run_on(
-    alloc: Global,
-    program: &Program,
-    starts: &[usize],
-    standing: &Standing,
-    client: u8,
-    scratch: &mut Scratch,
-) -> Result<(), AllocError>
-    requires client { client < length program.now.clients }
-    requires starts { AreStarts program.now starts.now }
-    requires standing { IsStanding program.now standing.now.order standing.now }
-    requires left { HasNext program.now standing.now client }
-    requires base { drafted scratch.old.base ≡ row_of program.now standing.now }
-    ensures base { scratch.new.base ≡ scratch.old.base }
-    ensures ran { OnOk result (HasRun program.now standing.now client scratch.new.values scratch.new.left.items) }
-    ensures row { OnOk result (drafted scratch.new.row
-        ≡ row_of program.now (standing_with_block standing.now client scratch.new.values scratch.new.left.items)) }
-{
-    standing.run_next(
-        alloc,
-        program,
-        standing.order(),
-        client,
-        &mut scratch.values,
-        &mut scratch.left,
-    )?;
-    standing.write_next_row(
-        program,
-        standing.order(),
-        client,
-        &scratch.values,
-        scratch.left.as_slice(),
-        starts,
-        &scratch.base,
-        &mut scratch.row,
-    )
-}
-
-// Where the block leads that has run.
-fn led_to(
-    alloc: Global,
-    program: &Program,
-    standing: &Standing,
-    client: u8,
-    scratch: &mut Scratch,
-) -> Result<Standing, AllocError>
-    requires client { client < length program.now.clients }
-    requires standing { IsStanding program.now standing.now.order standing.now }
-    requires left { HasNext program.now standing.now client }
-    ensures base { scratch.new.base ≡ scratch.old.base }
-    ensures next { IfOk result (λ next. next
-        ≡ standing_with_block standing.now client scratch.old.values scratch.old.left.items) }
-{
-    let mut next = spare_standing(alloc, &mut scratch.spare);
-    standing.put_next(
-        program,
-        standing.order(),
-        client,
-        &scratch.values,
-        &mut scratch.left,
-        &mut next,
-    )?;
-    Ok(next)
-}
-
-// Notes a row: whether it is new.
+// Notes a key: whether it is new.
 fn note(
     alloc: Global,
     limit: u32,
-    row: &Draft,
+    key: &Draft,
     hints: &mut Hints,
     rows: &mut IndexSet<Row>,
 ) -> Result<bool, OutcomesFault>
     requires small { length (rows_in rows.old.keys) ≤ limit }
     ensures inserted { IfOk result (λ new.
-        IsInserted (rows_in rows.old.keys) (drafted row.now) new (rows_in rows.new.keys)) }
+        IsInserted (rows_in rows.old.keys) (drafted key.now) new (rows_in rows.new.keys)) }
     ensures small { OnOk result (length (rows_in rows.new.keys) ≤ limit) }
     ensures full { IsErrOf result OutcomesFault.Limit → (length (rows_in rows.old.keys) ≡ limit)
-        × (HasOne (λ r. drafted row.now ≡ r) (rows_in rows.old.keys) → ⊥) }
+        × (HasOne (λ r. drafted key.now ≡ r) (rows_in rows.old.keys) → ⊥) }
     ensures order { ¬ IsErrOf result OutcomesFault.Order }
 {
-    if was_seen(rows, hints, row) {
+    if was_seen(rows, hints, key) {
         return Ok(false);
     }
-    let new = insert(rows, row.row(alloc)?)?;
+    let new = insert(rows, key.row(alloc)?)?;
     if new && rows.len() > limit as usize {
         return Err(OutcomesFault::Limit);
     }
@@ -153,55 +79,81 @@ fn take_in<Q: Question>(
     Ok(None)
 }
 
-// Notes where the next block of a client leads, if it has one left after so many that were begun. It is given back if
-// it is what the question asks for. The watcher hears of it if it is new.
+// What a search has noted, by keys, and which standings wait for it to go on from them.
+#[derive(Drop)]
+struct State {
+    rows: IndexSet<Row>,
+    waiting: VecDeque<Standing>,
+    scratch: Scratch,
+}
+
+// Notes where the next block of a client leads, if it has one left. It is given back if it is what the question asks for.
+// The watcher hears of it if it is new.
 fn note_next<Q: Question, W: Watcher>(
     alloc: Global,
-    program: &Program,
-    starts: &[usize],
-    front: &[Ticket],
-    limit: u32,
+    search: &Search<'_>,
     question: &Q,
     watcher: &mut W,
     standing: &Standing,
     client: u8,
-    begun: usize,
-    scratch: &mut Scratch,
-    rows: &mut IndexSet<Row>,
-    waiting: &mut VecDeque<Standing>,
+    state: &mut State,
 ) -> Result<Option<Standing>, OutcomesFault>
-    requires client { client < length program.now.clients }
-    requires begun { begun ≡ slice_index_or standing.now.begun client 0 }
-    requires starts { AreStarts program.now starts.now }
-    requires base { drafted scratch.old.base ≡ row_of program.now standing.now }
-    requires going { IsGoingOn program.now front.now limit (Q.asked question.now program.now)
-        (rows_in rows.old.keys) standing.now client waiting.old.items }
-    ensures base { OnOk result (scratch.new.base ≡ scratch.old.base) }
+    requires prepared { IsPrepared search.now.program.now (classes_in search.now.classes.now) search.now.alone
+        search.now.last.items search.now.starts.items }
+    requires blind { IsBlind (classes_in search.now.classes.now) (Q.asked question.now search.now.program.now) }
+    requires client { client < length search.now.program.now.clients }
+    requires written { IsWritten search.now.program.now (classes_in search.now.classes.now) search.now.alone
+        standing.now
+        (drafted state.old.scratch.base) state.old.scratch.copy }
+    requires going { IsGoingOn search.now.program.now (classes_in search.now.classes.now) search.now.front.now
+        search.now.limit
+        (Q.asked question.now search.now.program.now) (rows_in state.old.rows.keys) standing.now client
+        state.old.waiting.items }
+    ensures base { OnOk result (state.new.scratch.base ≡ state.old.scratch.base) }
+    ensures copy { OnOk result (state.new.scratch.copy ≡ state.old.scratch.copy) }
     ensures going { IfOk result (λ met. met ≡ None
-        → IsGoingOn program.now front.now limit (Q.asked question.now program.now)
-        (rows_in rows.new.keys) standing.now (client + 1) waiting.new.items) }
-    ensures kept { IfOk result (λ met. met ≡ None → length (rows_in rows.new.keys) + length waiting.old.items
-        ≡ length (rows_in rows.old.keys) + length waiting.new.items) }
+        → IsGoingOn search.now.program.now (classes_in search.now.classes.now) search.now.front.now search.now.limit
+        (Q.asked question.now search.now.program.now) (rows_in state.new.rows.keys) standing.now (client + 1)
+        state.new.waiting.items) }
+    ensures kept { IfOk result (λ met. met ≡ None → length (rows_in state.new.rows.keys) + length
+        state.old.waiting.items
+        ≡ length (rows_in state.old.rows.keys) + length state.new.waiting.items) }
     ensures witness { IfOk result (λ met. IfSome met
-        (IsCourseWitnessAfter program.now front.now (Q.asked question.now program.now))) }
+        (IsCourseWitnessAfter search.now.program.now search.now.front.now
+        (Q.asked question.now search.now.program.now))) }
     ensures many { IfOk result (λ met. IfSome met
-        (λ _. HasNotedOnTheWay program.now front.now (length (rows_in rows.new.keys)))) }
-    ensures small { OnOk result (length (rows_in rows.new.keys) ≤ limit) }
-    ensures limit { IsErrOf result OutcomesFault.Limit → HasMoreOnTheWayAfter program.now front.now limit }
+        (HasNotedUntil search.now.program.now (classes_in search.now.classes.now) all_legal search.now.front.now
+        (length (rows_in state.new.rows.keys)))) }
+    ensures small { OnOk result (length (rows_in state.new.rows.keys) ≤ search.now.limit) }
+    ensures limit { IsErrOf result OutcomesFault.Limit
+        → HasMore search.now.program.now (classes_in search.now.classes.now) all_legal search.now.front.now
+        search.now.limit }
     ensures order { ¬ IsErrOf result OutcomesFault.Order }
 {
-    program.keeps_sound();
-    if begun >= program.blocks_of(client) {
+    search.program.keeps_sound();
+    if usize::from(standing.begun()[usize::from(client)]) >= search.program.blocks_of(client) {
         return Ok(None);
     }
-    run_on(alloc, program, starts, standing, client, scratch)?;
-    match note(alloc, limit, &scratch.row, &mut scratch.hints, rows) {
+    let led = search.lead(alloc, standing, client, &mut state.scratch, &state.rows)?;
+    let Some(next) = led else {
+        return Ok(None);
+    };
+    let scratch = &mut state.scratch;
+    match note(
+        alloc,
+        search.limit,
+        &scratch.row,
+        &mut scratch.hints,
+        &mut state.rows,
+    ) {
         Err(fault) => return Err(fault),
-        Ok(false) => return Ok(None),
-        Ok(true) => watcher.noted(rows.len()),
+        Ok(false) => {
+            put_by(&mut state.scratch.spare, next)?;
+            return Ok(None);
+        }
+        Ok(true) => watcher.noted(state.rows.len()),
     }
-    let next = led_to(alloc, program, standing, client, scratch)?;
-    let met = take_in(alloc, program, question, next, waiting)?;
+    let met = take_in(alloc, search.program, question, next, &mut state.waiting)?;
     Ok(met)
 }
 
@@ -209,95 +161,134 @@ fn note_next<Q: Question, W: Watcher>(
 // which is given back.
 fn note_all<Q: Question, W: Watcher>(
     alloc: Global,
-    program: &Program,
-    starts: &[usize],
-    front: &[Ticket],
-    limit: u32,
+    search: &Search<'_>,
     question: &Q,
     watcher: &mut W,
     standing: Standing,
-    scratch: &mut Scratch,
-    rows: &mut IndexSet<Row>,
-    waiting: &mut VecDeque<Standing>,
+    state: &mut State,
 ) -> Result<Option<Standing>, OutcomesFault>
-    requires starts { AreStarts program.now starts.now }
-    requires walked { HasWalked program.now front.now limit (Q.asked question.now program.now)
-        (rows_in rows.old.keys) (standing ∷ waiting.old.items) }
+    requires prepared { IsPrepared search.now.program.now (classes_in search.now.classes.now) search.now.alone
+        search.now.last.items search.now.starts.items }
+    requires blind { IsBlind (classes_in search.now.classes.now) (Q.asked question.now search.now.program.now) }
+    requires walked { HasWalked search.now.program.now (classes_in search.now.classes.now) search.now.front.now
+        search.now.limit
+        (Q.asked question.now search.now.program.now) (rows_in state.old.rows.keys)
+        (standing ∷ state.old.waiting.items) }
     ensures walked { IfOk result (λ met. met ≡ None
-        → HasWalked program.now front.now limit (Q.asked question.now program.now)
-        (rows_in rows.new.keys) waiting.new.items) }
-    ensures kept { IfOk result (λ met. met ≡ None → length (rows_in rows.new.keys) + length waiting.old.items
-        ≡ length (rows_in rows.old.keys) + length waiting.new.items) }
+        → HasWalked search.now.program.now (classes_in search.now.classes.now) search.now.front.now search.now.limit
+        (Q.asked question.now search.now.program.now) (rows_in state.new.rows.keys) state.new.waiting.items) }
+    ensures kept { IfOk result (λ met. met ≡ None → length (rows_in state.new.rows.keys) + length
+        state.old.waiting.items
+        ≡ length (rows_in state.old.rows.keys) + length state.new.waiting.items) }
     ensures witness { IfOk result (λ met. IfSome met
-        (IsCourseWitnessAfter program.now front.now (Q.asked question.now program.now))) }
+        (IsCourseWitnessAfter search.now.program.now search.now.front.now
+        (Q.asked question.now search.now.program.now))) }
     ensures many { IfOk result (λ met. IfSome met
-        (λ _. HasNotedOnTheWay program.now front.now (length (rows_in rows.new.keys)))) }
-    ensures small { OnOk result (length (rows_in rows.new.keys) ≤ limit) }
-    ensures limit { IsErrOf result OutcomesFault.Limit → HasMoreOnTheWayAfter program.now front.now limit }
+        (HasNotedUntil search.now.program.now (classes_in search.now.classes.now) all_legal search.now.front.now
+        (length (rows_in state.new.rows.keys)))) }
+    ensures small { OnOk result (length (rows_in state.new.rows.keys) ≤ search.now.limit) }
+    ensures limit { IsErrOf result OutcomesFault.Limit
+        → HasMore search.now.program.now (classes_in search.now.classes.now) all_legal search.now.front.now
+        search.now.limit }
     ensures order { ¬ IsErrOf result OutcomesFault.Order }
 {
-    program.keeps_sound();
-    standing.write_row(program, standing.order(), &mut scratch.base)?;
-    let begun = blocks_begun(program, &standing);
-    for client in 0..program.clients() as u8 {
-        let met = note_next(
-            alloc,
-            program,
-            starts,
-            front,
-            limit,
-            question,
-            watcher,
-            &standing,
-            client,
-            begun[usize::from(client)],
-            scratch,
-            rows,
-            waiting,
-        )?;
+    search.program.keeps_sound();
+    search.write(alloc, &standing, &mut state.scratch)?;
+    for client in 0..search.program.clients() as u8 {
+        let met = note_next(alloc, search, question, watcher, &standing, client, state)?;
         if let Some(witness) = met {
             return Ok(Some(witness));
         }
     }
-    put_by(&mut scratch.spare, standing)?;
+    put_by(&mut state.scratch.spare, standing)?;
     Ok(None)
 }
 
 // Notes where the program stands after the front. It is given back if it is what the question asks for.
 fn note_first<Q: Question, W: Watcher>(
     alloc: Global,
-    program: &Program,
-    front: &[Ticket],
-    limit: u32,
+    search: &Search<'_>,
     question: &Q,
     watcher: &mut W,
     first: Standing,
-    scratch: &mut Scratch,
-    rows: &mut IndexSet<Row>,
-    waiting: &mut VecDeque<Standing>,
+    state: &mut State,
 ) -> Result<Option<Standing>, OutcomesFault>
-    requires first { IsFirst program.now front.now first }
-    requires rows { rows_in rows.old.keys ≡ [] }
-    requires waiting { waiting.old.items ≡ [] }
+    requires prepared { IsPrepared search.now.program.now (classes_in search.now.classes.now) search.now.alone
+        search.now.last.items search.now.starts.items }
+    requires blind { IsBlind (classes_in search.now.classes.now) (Q.asked question.now search.now.program.now) }
+    requires first { IsFirst search.now.program.now search.now.front.now first }
+    requires rows { rows_in state.old.rows.keys ≡ [] }
+    requires waiting { state.old.waiting.items ≡ [] }
     ensures walked { IfOk result (λ met. met ≡ None
-        → HasWalked program.now front.now limit (Q.asked question.now program.now)
-        (rows_in rows.new.keys) waiting.new.items) }
+        → HasWalked search.now.program.now (classes_in search.now.classes.now) search.now.front.now search.now.limit
+        (Q.asked question.now search.now.program.now) (rows_in state.new.rows.keys) state.new.waiting.items) }
     ensures witness { IfOk result (λ met. IfSome met
-        (IsCourseWitnessAfter program.now front.now (Q.asked question.now program.now))) }
+        (IsCourseWitnessAfter search.now.program.now search.now.front.now
+        (Q.asked question.now search.now.program.now))) }
     ensures many { IfOk result (λ met. IfSome met
-        (λ _. HasNotedOnTheWay program.now front.now (length (rows_in rows.new.keys)))) }
-    ensures small { OnOk result (length (rows_in rows.new.keys) ≤ limit) }
-    ensures limit { IsErrOf result OutcomesFault.Limit → HasMoreOnTheWayAfter program.now front.now limit }
+        (HasNotedUntil search.now.program.now (classes_in search.now.classes.now) all_legal search.now.front.now
+        (length (rows_in state.new.rows.keys)))) }
+    ensures small { OnOk result (length (rows_in state.new.rows.keys) ≤ search.now.limit) }
+    ensures limit { IsErrOf result OutcomesFault.Limit
+        → HasMore search.now.program.now (classes_in search.now.classes.now) all_legal search.now.front.now
+        search.now.limit }
     ensures order { ¬ IsErrOf result OutcomesFault.Order }
 {
-    program.keeps_sound();
-    first.write_row(program, front, &mut scratch.row)?;
-    match note(alloc, limit, &scratch.row, &mut scratch.hints, rows) {
+    search.program.keeps_sound();
+    let scratch = &mut state.scratch;
+    search.write(alloc, &first, scratch)?;
+    match note(
+        alloc,
+        search.limit,
+        &scratch.base,
+        &mut scratch.hints,
+        &mut state.rows,
+    ) {
         Err(fault) => return Err(fault),
-        Ok(_) => watcher.noted(rows.len()),
+        Ok(_) => watcher.noted(state.rows.len()),
     }
-    let met = take_in(alloc, program, question, first, waiting)?;
+    let met = take_in(alloc, search.program, question, first, &mut state.waiting)?;
     Ok(met)
+}
+
+// Goes on from those that wait, one after another, up to the first that is what the question asks for, which is given
+// back.
+fn walk<Q: Question, W: Watcher>(
+    alloc: Global,
+    search: &Search<'_>,
+    question: &Q,
+    watcher: &mut W,
+    state: &mut State,
+) -> Result<Option<Standing>, OutcomesFault>
+    requires prepared { IsPrepared search.now.program.now (classes_in search.now.classes.now) search.now.alone
+        search.now.last.items search.now.starts.items }
+    requires blind { IsBlind (classes_in search.now.classes.now) (Q.asked question.now search.now.program.now) }
+    requires walked { HasWalked search.now.program.now (classes_in search.now.classes.now) search.now.front.now
+        search.now.limit
+        (Q.asked question.now search.now.program.now) (rows_in state.old.rows.keys) state.old.waiting.items }
+    requires small { length (rows_in state.old.rows.keys) ≤ search.now.limit }
+    ensures walked { IfOk result (λ met. met ≡ None
+        → HasWalked search.now.program.now (classes_in search.now.classes.now) search.now.front.now search.now.limit
+        (Q.asked question.now search.now.program.now) (rows_in state.new.rows.keys) []) }
+    ensures witness { IfOk result (λ met. IfSome met
+        (IsCourseWitnessAfter search.now.program.now search.now.front.now
+        (Q.asked question.now search.now.program.now))) }
+    ensures many { IfOk result (λ met. IfSome met
+        (HasNotedUntil search.now.program.now (classes_in search.now.classes.now) all_legal search.now.front.now
+        (length (rows_in state.new.rows.keys)))) }
+    ensures small { OnOk result (length (rows_in state.new.rows.keys) ≤ search.now.limit) }
+    ensures limit { IsErrOf result OutcomesFault.Limit
+        → HasMore search.now.program.now (classes_in search.now.classes.now) all_legal search.now.front.now
+        search.now.limit }
+    ensures order { ¬ IsErrOf result OutcomesFault.Order }
+{
+    while let Some(standing) = state.waiting.pop_front() {
+        let met = note_all(alloc, search, question, watcher, standing, state)?;
+        if let Some(witness) = met {
+            return Ok(Some(witness));
+        }
+    }
+    Ok(None)
 }
 
 // An answer, with how many configurations were noted.
@@ -311,117 +302,66 @@ fn answered(witness: Option<Standing>, rows: &IndexSet<Row>) -> Answer
     }
 }
 
-// Goes on from those that wait, one after another, up to the first that is what the question asks for, which is given
-// back.
-fn walk<Q: Question, W: Watcher>(
-    alloc: Global,
-    program: &Program,
-    starts: &[usize],
-    front: &[Ticket],
-    limit: u32,
-    question: &Q,
-    watcher: &mut W,
-    scratch: &mut Scratch,
-    rows: &mut IndexSet<Row>,
-    waiting: &mut VecDeque<Standing>,
-) -> Result<Option<Standing>, OutcomesFault>
-    requires starts { AreStarts program.now starts.now }
-    requires walked { HasWalked program.now front.now limit (Q.asked question.now program.now)
-        (rows_in rows.old.keys) waiting.old.items }
-    requires small { length (rows_in rows.old.keys) ≤ limit }
-    ensures walked { IfOk result (λ met. met ≡ None
-        → HasWalked program.now front.now limit (Q.asked question.now program.now) (rows_in rows.new.keys) []) }
-    ensures witness { IfOk result (λ met. IfSome met
-        (IsCourseWitnessAfter program.now front.now (Q.asked question.now program.now))) }
-    ensures many { IfOk result (λ met. IfSome met
-        (λ _. HasNotedOnTheWay program.now front.now (length (rows_in rows.new.keys)))) }
-    ensures small { OnOk result (length (rows_in rows.new.keys) ≤ limit) }
-    ensures limit { IsErrOf result OutcomesFault.Limit → HasMoreOnTheWayAfter program.now front.now limit }
-    ensures order { ¬ IsErrOf result OutcomesFault.Order }
-{
-    while let Some(standing) = waiting.pop_front() {
-        let met = note_all(
-            alloc, program, starts, front, limit, question, watcher, standing, scratch, rows,
-            waiting,
-        )?;
-        if let Some(witness) = met {
-            return Ok(Some(witness));
-        }
-    }
-    Ok(None)
-}
-
 // The answer after a front, by a search that begins where the program stands after it.
 fn search_from<Q: Question, W: Watcher>(
     alloc: Global,
-    program: &Program,
-    front: &[Ticket],
-    first: Standing,
-    limit: u32,
+    search: &Search<'_>,
     question: &Q,
     watcher: &mut W,
+    first: Standing,
 ) -> Result<Answer, OutcomesFault>
-    requires first { IsFirst program.now front.now first }
-    ensures answer { IfOk result (IsCourseAnswerAfter program.now front.now (Q.asked question.now program.now)) }
-    ensures within { IfOk result (λ answer. answer.configurations ≤ limit) }
-    ensures limit { IsErrOf result OutcomesFault.Limit → HasMoreOnTheWayAfter program.now front.now limit }
+    requires prepared { IsPrepared search.now.program.now (classes_in search.now.classes.now) search.now.alone
+        search.now.last.items search.now.starts.items }
+    requires blind { IsBlind (classes_in search.now.classes.now) (Q.asked question.now search.now.program.now) }
+    requires first { IsFirst search.now.program.now search.now.front.now first }
+    ensures answer { IfOk result (IsCourseAnswerAfter search.now.program.now (classes_in search.now.classes.now)
+        search.now.front.now
+        (Q.asked question.now search.now.program.now)) }
+    ensures within { IfOk result (λ answer. answer.configurations ≤ search.now.limit) }
+    ensures limit { IsErrOf result OutcomesFault.Limit
+        → HasMore search.now.program.now (classes_in search.now.classes.now) all_legal search.now.front.now
+        search.now.limit }
     ensures order { ¬ IsErrOf result OutcomesFault.Order }
 {
-    program.keeps_sound();
-    let starts = row_starts(alloc, program)?;
-    let starts = starts.as_slice();
-    let mut scratch = Scratch::new(alloc, program)?;
-    let mut rows = IndexSet::new(alloc);
-    let mut waiting = VecDeque::new(alloc);
-    let met = note_first(
-        alloc,
-        program,
-        front,
-        limit,
-        question,
-        watcher,
-        first,
-        &mut scratch,
-        &mut rows,
-        &mut waiting,
-    )?;
+    search.program.keeps_sound();
+    let mut state = State {
+        rows: IndexSet::new(alloc),
+        waiting: VecDeque::new(alloc),
+        scratch: Scratch::new(alloc, search.program)?,
+    };
+    let met = note_first(alloc, search, question, watcher, first, &mut state)?;
     if let Some(witness) = met {
-        return Ok(answered(Some(witness), &rows));
+        return Ok(answered(Some(witness), &state.rows));
     }
-    let found = walk(
-        alloc,
-        program,
-        starts,
-        front,
-        limit,
-        question,
-        watcher,
-        &mut scratch,
-        &mut rows,
-        &mut waiting,
-    )?;
-    Ok(answered(found, &rows))
+    let found = walk(alloc, search, question, watcher, &mut state)?;
+    Ok(answered(found, &state.rows))
 }
 
 /// Whether a configuration between whole blocks, after the blocks that a list of clients names, is what a question asks
-/// for: where the program stands after them, and after each block of each order that goes on from there. The search
-/// stops at the first that is: none that is asked for is reached with fewer blocks. Where there is no witness, no legal
-/// order that begins with these blocks leads to what is asked for, and the answer counts all different configurations
-/// to which such orders lead. `Order` comes exactly where no legal order is named, `Limit` only where there are more
-/// configurations than the limit, `Memory` where memory was refused. The watcher hears of each new configuration as
-/// it is noted.
+/// for, which says the same where clients of one class change places: where the program stands after these blocks, and
+/// after each block of each order that goes on from there. Of all configurations that differ by this one is looked at. The
+/// search stops at the first that is asked for: none is reached with fewer blocks. Where there is no witness, no legal
+/// order that begins with these blocks leads to what is asked for, and the answer counts all configurations to which such
+/// orders lead, but for changes. `Order` comes exactly where no legal order is named, `Limit` only where there are more
+/// configurations than the limit, `Memory` where memory was refused. The watcher hears of each new configuration as it is
+/// noted.
 pub fn ask_throughout<Q: Question, W: Watcher>(
     alloc: Global,
     program: &Program,
+    classes: &Classes,
     front: &[u8],
     limit: u32,
     question: &Q,
     watcher: &mut W,
 ) -> Result<Answer, OutcomesFault>
+    requires classes { AreClasses program.now (classes_in classes.now) }
+    requires blind { IsBlind (classes_in classes.now) (Q.asked question.now program.now) }
     ensures answer { IfOk result
-        (IsCourseAnswerAfter program.now (order_of front.now) (Q.asked question.now program.now)) }
+        (IsCourseAnswerAfter program.now (classes_in classes.now) (order_of front.now)
+        (Q.asked question.now program.now)) }
     ensures within { IfOk result (λ answer. answer.configurations ≤ limit) }
-    ensures limit { IsErrOf result OutcomesFault.Limit → HasMoreOnTheWayAfter program.now (order_of front.now) limit }
+    ensures limit { IsErrOf result OutcomesFault.Limit
+        → HasMore program.now (classes_in classes.now) all_legal (order_of front.now) limit }
     ensures order { IsErrOf result OutcomesFault.Order → ¬ IsLegal program.now (order_of front.now) }
 {
     if !names_order(program, front) {
@@ -429,13 +369,9 @@ pub fn ask_throughout<Q: Question, W: Watcher>(
     }
     let first = placed(alloc, program, front)?;
     let order = copied(alloc, first.order())?;
-    search_from(
-        alloc,
-        program,
-        order.as_slice(),
-        first,
-        limit,
-        question,
-        watcher,
-    )
+    let search = Search::new(alloc, program, classes, order.as_slice(), limit)?;
+    match search_from(alloc, &search, question, watcher, first) {
+        Ok(answer) => Ok(answer),
+        Err(fault) => Err(fault),
+    }
 }

@@ -1,7 +1,8 @@
 use Rattle.std.proofs.Common.{arith}
 use Rattle.qs_standings.specs.Standings.{configuration_in}
 use Rattle.qs_alike.specs.Texts.{classes_in}
-use Rattle.qs_alike.proofs.Exchanging.{all_below, becomes_itself, becomes_then, nothing_below}
+use Rattle.qs_alike.proofs.Composing.{becomes_itself, becomes_then}
+use Rattle.qs_alike.proofs.Exchanging.{all_below, nothing_below}
 use Rattle.qs_alike.proofs.placing.arrange.Goals as goal
 
 pub loop-place-init : goal.loop-place-init

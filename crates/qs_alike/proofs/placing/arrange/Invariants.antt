@@ -1,5 +1,5 @@
 use Rattle.qs_standings.specs.Standings.{IsStanding, configuration_in}
-use Rattle.qs_alike.specs.AlikeOutcomes.{Becomes}
+use Rattle.qs_alike.specs.Changes.{Becomes}
 use Rattle.qs_alike.specs.Arranged.{IsArrangedBelow}
 use Rattle.qs_alike.specs.Texts.{classes_in}
 use Rattle.qs_alike.proofs.placing.arrange.Given as goal

@@ -1,10 +1,11 @@
 use Rattle.std.proofs.Common.{◌≡◌, ◌<◌, ◌+◌, arith, length, subst, sym, ◌∙◌, true≢false}
 use Rattle.std.specs.declared.cmp.Ordering.TheVariants.{Less}
 use Rattle.qs_standings.specs.Standings.{IsStanding, StandingShape, configuration_in, exchanged}
-use Rattle.qs_alike.specs.AlikeOutcomes.{Becomes}
+use Rattle.qs_alike.specs.Changes.{Becomes}
 use Rattle.qs_alike.specs.Arranged.{IsArrangedBelow, compared}
 use Rattle.qs_alike.specs.Texts.{classes_in}
-use Rattle.qs_alike.proofs.Exchanging.{IsLeastUpTo, becomes_further, becomes_itself, below_more, below_now, least_kept, least_now, none_before, standing_exchanged}
+use Rattle.qs_alike.proofs.Composing.{becomes_itself}
+use Rattle.qs_alike.proofs.Exchanging.{IsLeastUpTo, becomes_further, below_more, below_now, least_kept, least_now, none_before, standing_exchanged}
 use Rattle.qs_alike.proofs.placing.settle.Goals as goal
 use Rattle.qs_alike.proofs.placing.settle.Goals.{Joined-are_alike, then-are_alike+then-is_less, else-are_alike, else-are_alike-via-then-are_alike+else-is_less, else-are_alike-via-else-are_alike}
 

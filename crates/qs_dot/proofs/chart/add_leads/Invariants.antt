@@ -4,7 +4,7 @@ use Rattle.qs_dot.proofs.chart.add_leads.Given as goal
 
 abbrev pub invariant-loop-client : goal.invariant-loop-client
 invariant-loop-client l = record {
-  charted : AreCharted l.program l.front l.limit (rows_in l.rows.keys) l.places.items;
-  more : AreMore l.initial.places.items l.places.items;
-  leads : AreLeadsUpTo l.program l.places.items l.leads.items l.at l.client;
+  charted : AreCharted l.search.program.now l.search.front.now l.search.limit (rows_in l.drawing.rows.keys) l.drawing.places.items;
+  more : AreMore l.initial.drawing.places.items l.drawing.places.items;
+  leads : AreLeadsUpTo l.search.program.now l.drawing.places.items l.drawing.leads.items l.at l.client;
 }

@@ -11,7 +11,7 @@ one_spot-requires c = record { one = ap length c.in_ok-part.ensures.found }
 
 pub returns-clause-going : goal.returns-clause-going
 returns-clause-going c =
-    let p = c.args.program.now in
+    let p = c.args.search.now.program.now in
     let count = c.args.count in
     let going : Going = record { clients = c.goes_on.result; share = c.share_of.result } in
     let standings : c.in_ok-level.level.standings ≡ c.args.first ∷ [] = c.in_ok-level.ensures.standings ∙ ap found_in c.in_ok-part.ensures.found in

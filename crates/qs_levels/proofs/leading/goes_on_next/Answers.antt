@@ -7,11 +7,11 @@ use Rattle.qs_levels.proofs.GoingAgain.{goes_on_again}
 use Rattle.qs_levels.proofs.leading.goes_on_next.Goals as goal
 
 pub reserves_again-requires-clause-left : goal.reserves_again-requires-clause-left
-reserves_again-requires-clause-left c = goes_left c.args.program.now c.args.standing.now c.args.client c.requires.goes
+reserves_again-requires-clause-left c = goes_left c.args.search.now.program.now c.args.source.now.standing.now c.args.client c.requires.goes
 
 pub returns-then-reserves_again : goal.returns-then-reserves_again
 returns-then-reserves_again c = record {
   going = c.requires.going
-      ∙ (sym (goes_on_again c.args.program.now (configuration_in c.args.standing.now).begun c.args.client (c.reserves_again.ensures.again c.if-reserves_again.true))
-      ∙ ap (λ (g : Configuration). goes_on c.args.program.now g.begun) (sym c.requires.next.next));
+      ∙ (sym (goes_on_again c.args.search.now.program.now (configuration_in c.args.source.now.standing.now).begun c.args.client (c.reserves_again.ensures.again c.if-reserves_again.true))
+      ∙ ap (λ (g : Configuration). goes_on c.args.search.now.program.now g.begun) (sym c.requires.next.next));
 }

@@ -12,28 +12,35 @@ use Rattle.qs_standings.specs.going.Going.{in_byte}
 use Rattle.qs_levels.specs.Leads.{AreKnown, tabled}
 use Rattle.qs_levels.specs.Founds.{Found}
 use Rattle.qs_levels.proofs.leading.lead_client.Goals as goal
-use Rattle.qs_levels.proofs.leading.lead_client.Goals.{In_ok-run_next, In_ok-write_next_row}
+use Rattle.qs_levels.proofs.leading.lead_client.Goals.{In_ok-put_next, In_ok-run_next, In_ok-write_next_row}
 
 pub run_next-requires-clause-left : goal.run_next-requires-clause-left
-run_next-requires-clause-left c = goes_left c.args.program.now c.args.standing.now c.args.lead.client c.requires.goes
+run_next-requires-clause-left c = goes_left c.args.step.now.search.program.now c.args.source.now.standing.now c.args.client c.requires.goes
 
 pub write_next_row-requires-clause-left : goal.write_next_row-requires-clause-left
-write_next_row-requires-clause-left c = goes_left c.args.program.now c.args.standing.now c.args.lead.client c.requires.goes
+write_next_row-requires-clause-left c = goes_left c.args.step.now.search.program.now c.args.source.now.standing.now c.args.client c.requires.goes
 
-is_next : (c : In_ok-run_next) → IsNext c.args.program.now c.args.front.now c.args.standing.now c.args.lead.client (standing_with_block c.args.standing.now c.args.lead.client c.run_next.new.values c.run_next.new.left.items)
-is_next c = block_next c.args.program.now c.args.front.now c.args.standing.now c.args.lead.client _ _ c.requires.standing c.requires.client c.requires.goes c.in_ok-run_next.ensures.ran
+is_next : (c : In_ok-run_next) → IsNext c.args.step.now.search.program.now c.args.step.now.search.front.now c.args.source.now.standing.now c.args.client (standing_with_block c.args.source.now.standing.now c.args.client c.run_next.new.values c.run_next.new.left.items)
+is_next c = block_next c.args.step.now.search.program.now c.args.step.now.search.front.now c.args.source.now.standing.now c.args.client _ _ c.requires.standing c.requires.client c.requires.goes c.in_ok-run_next.ensures.ran
 
-row_is : (c : In_ok-write_next_row) → drafted c.write_next_row.new.row ≡ row_of c.args.program.now (standing_with_block c.args.standing.now c.args.lead.client c.run_next.new.values c.run_next.new.left.items)
+row_is : (c : In_ok-write_next_row) → drafted c.write_next_row.new.scratch.row ≡ row_of c.args.step.now.search.program.now (standing_with_block c.args.source.now.standing.now c.args.client c.run_next.new.values c.run_next.new.left.items)
 row_is c =
     c.in_ok-write_next_row.ensures.row
-    ∙ ap (λ left. row_of c.args.program.now (standing_with_block c.args.standing.now c.args.lead.client c.run_next.new.values left)) c.as_slice-left.ensures.value
+
+there : (c : In_ok-put_next) → c.put_next.new.next ≡ standing_with_block c.args.source.now.standing.now c.args.client c.run_next.new.values c.run_next.new.left.items
+there c =
+    let s = c.args.source.now.standing.now in
+    let client = c.args.client in
+    c.in_ok-put_next.ensures.next
+    ∙ (ap (λ v. standing_with_block s client v c.write_next_row.new.scratch.left.items) c.write_next_row.ensures.values
+    ∙ ap (λ xs. standing_with_block s client c.run_next.new.values xs) (ap (λ (l : _). l.items) c.write_next_row.ensures.left))
 
 pub returns-then-was_seen-clause-led : goal.returns-then-was_seen-clause-led
 returns-then-was_seen-clause-led c =
     let row = row_is (goal.at.returns-then-was_seen-clause-led c).In_ok-write_next_row in (
       _,
       is_next (goal.at.returns-then-was_seen-clause-led c).In_ok-run_next,
-      inr (has_map (λ r (e : drafted c.write_next_row.new.row ≡ r). sym row ∙ e) (rows_in c.args.table.now.rows.keys) (c.was_seen.ensures.seen c.if-was_seen.true), refl),
+      inr (has_map (λ r (e : drafted c.write_next_row.new.scratch.row ≡ r). sym row ∙ e) (rows_in c.args.table.now.rows.keys) (c.was_seen.ensures.seen c.if-was_seen.true), refl),
     )
 
 pub returns-in_err-note-clause-limit : goal.returns-in_err-note-clause-limit
@@ -52,25 +59,25 @@ pub returns-then-not-branch-clause-led : goal.returns-then-not-branch-clause-led
 returns-then-not-branch-clause-led c =
     let row = row_is (goal.at.returns-then-not-branch-clause-led c).In_ok-write_next_row in
     let rows = rows_in c.args.table.now.rows.keys in
-    let noted : IsNoted rows (drafted c.write_next_row.new.row) c.args.room false (rows_in c.note.new.rows.keys) =
-    subst (λ b. IsNoted rows (drafted c.write_next_row.new.row) c.args.room b (rows_in c.note.new.rows.keys)) c.if-not-branch.true c.in_ok-note.ensures.noted in (
+    let noted : IsNoted rows (drafted c.write_next_row.new.scratch.row) c.args.step.now.room false (rows_in c.note.new.rows.keys) =
+    subst (λ b. IsNoted rows (drafted c.write_next_row.new.scratch.row) c.args.step.now.room b (rows_in c.note.new.rows.keys)) c.if-not-branch.true c.in_ok-note.ensures.noted in (
       _,
       is_next (goal.at.returns-then-not-branch-clause-led c).In_ok-run_next,
       inr (
-        has_map (λ r (e : drafted c.write_next_row.new.row ≡ r). sym row ∙ e) rows noted.0.1,
+        has_map (λ r (e : drafted c.write_next_row.new.scratch.row ≡ r). sym row ∙ e) rows noted.0.1,
         λ i. record { rows = noted.0.0 i; found = (tabled c.args.table.now).found },
       ),
     )
 
 pub put_next-requires-clause-left : goal.put_next-requires-clause-left
-put_next-requires-clause-left c = goes_left c.args.program.now c.args.standing.now c.args.lead.client c.requires.goes
+put_next-requires-clause-left c = goes_left c.args.step.now.search.program.now c.args.source.now.standing.now c.args.client c.requires.goes
 
 pub returns-clause-led : goal.returns-clause-led
 returns-clause-led c =
     let row = row_is (goal.at.returns-clause-led c).In_ok-write_next_row in
     let rows = rows_in c.args.table.now.rows.keys in
-    let noted : IsNoted rows (drafted c.write_next_row.new.row) c.args.room true (rows_in c.note.new.rows.keys) =
-    subst (λ b. IsNoted rows (drafted c.write_next_row.new.row) c.args.room b (rows_in c.note.new.rows.keys)) c.if-not-branch.false c.in_ok-note.ensures.noted in (
+    let noted : IsNoted rows (drafted c.write_next_row.new.scratch.row) c.args.step.now.room true (rows_in c.note.new.rows.keys) =
+    subst (λ b. IsNoted rows (drafted c.write_next_row.new.scratch.row) c.args.step.now.room b (rows_in c.note.new.rows.keys)) c.if-not-branch.false c.in_ok-note.ensures.noted in (
       _,
       is_next (goal.at.returns-clause-led c).In_ok-run_next,
       inl (
@@ -79,17 +86,17 @@ returns-clause-led c =
         λ i. record {
           rows = (ap rows_in (ap (λ (m : _). m.keys) c.in_ok-add_found.ensures.rows) ∙ (noted.0.0 ∙ ap (λ r. rows ++ r ∷ []) row)) i;
           found = (c.in_ok-add_found.ensures.added
-              ∙ ap (λ (n : StandingShape). (tabled c.args.table.now).found ++ record { lead = c.args.lead; standing = n; going = c.goes_on_next-going.result } ∷ []) c.in_ok-put_next.ensures.next) i;
+              ∙ ap (λ (n : StandingShape). (tabled c.args.table.now).found ++ record { lead = record { source = c.args.source.now.place; client = c.args.client }; standing = n; going = c.goes_on_next-going.result } ∷ []) (there (goal.at.returns-clause-led c).In_ok-put_next)) i;
         },
       ),
     )
 
 pub goes_on_next-going-requires-clause-next : goal.goes_on_next-going-requires-clause-next
 goes_on_next-going-requires-clause-next c =
-    subst (IsNext c.args.program.now c.args.front.now c.args.standing.now c.args.lead.client) (sym c.in_ok-put_next.ensures.next)
+    subst (IsNext c.args.step.now.search.program.now c.args.step.now.search.front.now c.args.source.now.standing.now c.args.client) (sym (there (goal.at.goes_on_next-going-requires-clause-next c).In_ok-put_next))
     (is_next (goal.at.goes_on_next-going-requires-clause-next c).In_ok-run_next)
 
 pub returns-clause-known : goal.returns-clause-known
 returns-clause-known c =
-    subst (AreKnown c.args.program.now) (sym c.in_ok-add_found.ensures.added)
-    (each_snoc (λ (f : Found). in_byte f.going ≡ goes_on c.args.program.now (configuration_in f.standing).begun) (tabled c.args.table.now).found _ c.requires.known c.goes_on_next-going.ensures.going)
+    subst (AreKnown c.args.step.now.search.program.now) (sym c.in_ok-add_found.ensures.added)
+    (each_snoc (λ (f : Found). in_byte f.going ≡ goes_on c.args.step.now.search.program.now (configuration_in f.standing).begun) (tabled c.args.table.now).found _ c.requires.known c.goes_on_next-going.ensures.going)

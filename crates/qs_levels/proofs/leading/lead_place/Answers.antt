@@ -14,24 +14,24 @@ use Rattle.qs_levels.proofs.leading.lead_place.Goals as goal
 
 pub returns-then-taken-eq0-clause-led : goal.returns-then-taken-eq0-clause-led
 returns-then-taken-eq0-clause-led c =
-    let s = slice_index_or c.args.level.now.standings c.args.place no_standing in
-    none_up_to c.args.program.now c.args.front.now c.args.share.number c.args.share.count s c.args.place (tabled c.args.table.now) (length c.args.program.now.clients)
+    let s = slice_index_or c.args.step.now.level.now.standings c.args.place no_standing in
+    none_up_to c.args.step.now.search.program.now c.args.step.now.search.front.now c.args.share.number c.args.share.count s c.args.place (tabled c.args.table.now) (length c.args.step.now.search.program.now.clients)
     (λ d less. sym (c.taken-taken.ensures.taken d less) ∙ (ap (λ set. in_byte set d) c.if-taken-eq0.true ∙ in_none d))
 
 pub lead_standing-requires-clause-standing : goal.lead_standing-requires-clause-standing
 lead_standing-requires-clause-standing c =
-    subst (IsStanding c.args.program.now c.args.front.now) (sym c.in_ok-load.ensures.loaded)
-    (each_at (IsStanding c.args.program.now c.args.front.now) c.args.level.now.standings c.args.place no_standing c.requires.within c.requires.level)
+    subst (IsStanding c.args.step.now.search.program.now c.args.step.now.search.front.now) (sym c.in_ok-load.ensures.loaded)
+    (each_at (IsStanding c.args.step.now.search.program.now c.args.step.now.search.front.now) c.args.step.now.level.now.standings c.args.place no_standing c.requires.within c.requires.level)
 
 pub lead_standing-requires-clause-taken : goal.lead_standing-requires-clause-taken
 lead_standing-requires-clause-taken c =
-    subst (λ s. AreTaken c.args.program.now c.args.share.number c.args.share.count s c.taken-taken.result) (sym c.in_ok-load.ensures.loaded) c.taken-taken.ensures.taken
+    subst (λ s. AreTaken c.args.step.now.search.program.now c.args.share.number c.args.share.count s c.taken-taken.result) (sym c.in_ok-load.ensures.loaded) c.taken-taken.ensures.taken
 
 pub lead_standing-requires-clause-going : goal.lead_standing-requires-clause-going
 lead_standing-requires-clause-going c =
-    let p = c.args.program.now in
+    let p = c.args.step.now.search.program.now in
     let none : Going = record { clients = 0; share = 0 } in
-    let there : IsGoing p c.args.share.count (slice_index_or c.args.level.now.standings c.args.place no_standing) c.going-going.result =
-    subst (IsGoing p c.args.share.count (slice_index_or c.args.level.now.standings c.args.place no_standing)) (sym (c.going-going.ensures.going none))
-    (zip_at (IsGoing p c.args.share.count) c.args.level.now.standings c.args.level.now.going c.args.place no_standing none c.requires.going c.requires.within) in
+    let there : IsGoing p c.args.share.count (slice_index_or c.args.step.now.level.now.standings c.args.place no_standing) c.going.result =
+    subst (IsGoing p c.args.share.count (slice_index_or c.args.step.now.level.now.standings c.args.place no_standing)) (sym (c.going.ensures.going none))
+    (zip_at (IsGoing p c.args.share.count) c.args.step.now.level.now.standings c.args.step.now.level.now.going c.args.place no_standing none c.requires.going c.requires.within) in
     there.clients ∙ ap (λ (s : StandingShape). goes_on p (configuration_in s).begun) (sym c.in_ok-load.ensures.loaded)

@@ -6,9 +6,9 @@ use Rattle.qs_levels.proofs.leading.lead_standing.Given as goal
 
 abbrev pub invariant-loop-client : goal.invariant-loop-client
 invariant-loop-client l = record {
-  led : IsLedUpTo l.program l.front l.fn.share.number l.fn.share.count l.standing l.place l.client (tabled l.initial.table) (tabled l.table);
-  base : drafted l.scratch.base ≡ row_of l.program l.standing;
-  small : length (tabled l.table).rows ≤ l.room;
-  known : AreKnown l.program (tabled l.table).found;
+  led : IsLedUpTo l.step.search.program.now l.step.search.front.now l.fn.share.number l.fn.share.count l.source.standing.now l.source.place l.client (tabled l.initial.table) (tabled l.table);
+  base : drafted l.scratch.base ≡ row_of l.step.search.program.now l.source.standing.now;
+  small : length (tabled l.table).rows ≤ l.step.room;
+  known : AreKnown l.step.search.program.now (tabled l.table).found;
   even : AreEven l.table;
 }

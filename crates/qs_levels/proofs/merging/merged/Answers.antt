@@ -17,17 +17,17 @@ begins c = subst (λ n. c.in_ok-places.places.items ≡ replicate n 0) (let e = 
 
 pub loop-number-init : goal.loop-number-init
 loop-number-init c =
-    let p = c.args.program.now in
+    let p = c.args.step.now.search.program.now in
     let parts = c.args.parts.items in
     let begun = begins (goal.at.loop-number-init c).In_ok-places in
     let none = c.clear.ensures.items in
     record {
       even = ap length begun ∙ length-replicate (length parts) 0;
       spots = subst (AllByRecursion (IsSpot parts)) (sym none) tt;
-      merging = subst (λ spots. IsMerging p c.args.front.now (length parts) c.args.level.now.standings (all_in parts) (rests_of c.in_ok-places.places.items parts) (level_in parts spots).standings (level_in parts spots).going)
+      merging = subst (λ spots. IsMerging p c.args.step.now.search.front.now (length parts) c.args.step.now.level.now.standings (all_in parts) (rests_of c.in_ok-places.places.items parts) (level_in parts spots).standings (level_in parts spots).going)
           (sym none)
-          (subst (λ rs. IsMerging p c.args.front.now (length parts) c.args.level.now.standings (all_in parts) rs [] []) (sym (ap (λ ns. rests_of ns parts) begun ∙ none_taken parts))
-          (merging_begins p c.args.front.now c.args.level.now.standings parts c.requires.parts));
+          (subst (λ rs. IsMerging p c.args.step.now.search.front.now (length parts) c.args.step.now.level.now.standings (all_in parts) rs [] []) (sym (ap (λ ns. rests_of ns parts) begun ∙ none_taken parts))
+          (merging_begins p c.args.step.now.search.front.now c.args.step.now.level.now.standings parts c.requires.parts));
     }
 
 -- what is taken next
@@ -63,9 +63,9 @@ loop-number-smaller c =
 pub loop-number-preserved : goal.loop-number-preserved
 loop-number-preserved c =
     let next = next_one (goal.at.loop-number-preserved c).In-Some in
-    let p = c.args.program.now in
-    let front = c.args.front.now in
-    let level = c.args.level.now.standings in
+    let p = c.args.step.now.search.program.now in
+    let front = c.args.step.now.search.front.now in
+    let level = c.args.step.now.level.now.standings in
     let parts = c.args.parts.items in
     let places = c.loop-number.places.items in
     let k = c.in-Some.number in
@@ -84,7 +84,7 @@ loop-number-preserved c =
 
 pub returns-clause-next : goal.returns-clause-next
 returns-clause-next c =
-    let p = c.args.program.now in
+    let p = c.args.step.now.search.program.now in
     let parts = c.args.parts.items in
     let places = c.loop-number.places.items in
     let merging = c.loop-number.invariant.merging in
@@ -92,10 +92,10 @@ returns-clause-next c =
     subst (λ ps. IsLeastPart (rests_of places ps) None) c.as_slice.ensures.value
     (subst (λ ns. IsLeastPart (rests_of ns c.as_slice.result.now) None) c.as_slice-in-loop-number.ensures.value
     (let least = c.least.ensures.least in subst (IsLeastPart (rests_of c.as_slice-in-loop-number.result.now c.as_slice.result.now)) c.in_default.is least)) in
-    subst (λ l. IsNextOf p c.args.front.now c.args.level.now.standings l) (sym (ap (λ (l : LevelShape). l.standings) c.new.ensures.level))
-    (merging_ends p c.args.front.now c.keeps_sound.ensures.sound c.args.level.now.standings c.requires.level.1.sorted parts c.requires.some c.requires.parts (rests_of places parts)
+    subst (λ l. IsNextOf p c.args.step.now.search.front.now c.args.step.now.level.now.standings l) (sym (ap (λ (l : LevelShape). l.standings) c.new.ensures.level))
+    (merging_ends p c.args.step.now.search.front.now c.keeps_sound.ensures.sound c.args.step.now.level.now.standings c.requires.level.1.sorted parts c.requires.some c.requires.parts (rests_of places parts)
     (level_in parts c.loop-number.spots.items).standings (level_in parts c.loop-number.spots.items).going merging none)
 
 pub returns-clause-going : goal.returns-clause-going
 returns-clause-going c =
-    subst (λ (l : LevelShape). AreGoing c.args.program.now (length c.args.parts.items) l.standings l.going) (sym c.new.ensures.level) c.loop-number.invariant.merging.going
+    subst (λ (l : LevelShape). AreGoing c.args.step.now.search.program.now (length c.args.parts.items) l.standings l.going) (sym c.new.ensures.level) c.loop-number.invariant.merging.going

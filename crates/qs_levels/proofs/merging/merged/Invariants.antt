@@ -9,7 +9,7 @@ abbrev pub invariant-loop-number : goal.invariant-loop-number
 invariant-loop-number l = record {
   even : length l.places.items ≡ length l.parts.items;
   spots : AllByRecursion (IsSpot l.parts.items) l.spots.items;
-  merging : IsMerging l.program l.front (length l.parts.items) l.level.standings (all_in l.parts.items) (rests_of l.places.items l.parts.items) (level_in l.parts.items l.spots.items).standings
+  merging : IsMerging l.step.search.program.now l.step.search.front.now (length l.parts.items) l.step.level.now.standings (all_in l.parts.items) (rests_of l.places.items l.parts.items) (level_in l.parts.items l.spots.items).standings
       (level_in l.parts.items l.spots.items).going;
 }
 

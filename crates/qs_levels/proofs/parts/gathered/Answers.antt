@@ -6,15 +6,15 @@ use Rattle.qs_levels.proofs.parts.gathered.Goals as goal
 
 pub loop-number-preserved : goal.loop-number-preserved
 loop-number-preserved c =
-    let p = c.args.program.now in
-    let front = c.args.front.now in
-    let level = c.args.level.now.standings in
+    let p = c.args.step.now.search.program.now in
+    let front = c.args.step.now.search.front.now in
+    let level = c.args.step.now.level.now.standings in
     let number = c.loop-number.number in
     let count = c.args.count in
     let same : c.taken.result ≡ slice_index_or c.args.results.items number c.taken.result =
     c.taken.ensures.taken ∙ c.loop-number.invariant.behind number c.taken.result (omega arith) in
-    let led : IsPartLed p front level c.args.room number count c.taken.result =
-    subst (IsPartLed p front level c.args.room number count) (sym same) (c.requires.each number c.taken.result c.loop-number-test.true) in
+    let led : IsPartLed p front level c.args.step.now.room number count c.taken.result =
+    subst (IsPartLed p front level c.args.step.now.room number count) (sym same) (c.requires.each number c.taken.result c.loop-number-test.true) in
     let part : IsPartOf p front number count level c.in_ok-part.part = subst (λ r. IfOk r (IsPartOf p front number count level)) c.in_ok-part.was led.ok in
     record {
       parts = λ i less.

@@ -1,7 +1,7 @@
 use denote.Param.Send.{sendable}
 use Rattle.std.proofs.Crossing.{crosses}
-use Rattle.qs_levels.proofs.Crossing.{level_sync, program_sync}
+use Rattle.qs_levels.proofs.Crossing.{step_sync}
 use Rattle.qs_levels.proofs.parts.led_parts.Goals as goal
 
 pub side_by_side-requires-sync-F : goal.side_by_side-requires-sync-F
-side_by_side-requires-sync-F g c = λ κs h. search (program_sync, level_sync, crosses, sendable) depth 40
+side_by_side-requires-sync-F g c = λ κs h. search (step_sync, crosses, sendable) depth 40

@@ -1,10 +1,11 @@
 use Rattle.std.proofs.Common.{refl}
 use Rattle.clap.proofs.OnLiterals.{clap_on_literals}
 use Rattle.qs_conditions.specs.Reading.{chain}
+use Rattle.qs_line.specs.audit.Apart.{has_apart}
 use Rattle.qs_line_examples.proofs.laws.line_examples.Goals as goal
 
 pub returns : goal.returns
-unfolding clap_on_literals chain
+unfolding clap_on_literals chain has_apart
 returns c = record {
   examples = record {
     defaults = record { checks = refl; graphs = refl; rules_alone = refl; play_alone = refl; run_alone = refl; outcomes_alone = refl };
@@ -53,6 +54,10 @@ returns c = record {
       with_two = refl;
       with_no_condition = refl;
       condition_after = refl;
+      condition_with_ends = refl;
+      condition_with_threads = refl;
+      condition_with_front = refl;
+      condition_with_estimate = refl;
       with_estimate = refl;
       after = refl;
       with_threads = refl;

@@ -1,6 +1,6 @@
 use Rattle.std.proofs.Common.{◌<◌, arith, ap, sym, ◌∙◌}
 use Rattle.qs_standings.proofs.going.GoingSets.{in_one}
-use Rattle.qs_questions.specs.AlikeClaims.{is_client, names}
+use Rattle.qs_questions.specs.NamedClients.{is_client, names}
 use Rattle.qs_questions.proofs.clients.named_by.Goals as goal
 
 pub returns-in-Some : goal.returns-in-Some

@@ -1,5 +1,5 @@
 use Rattle.std.proofs.Common.{◌<◌, length, get_or, arith, ap, ◌∙◌}
-use Rattle.qs_questions.specs.AlikeClaims.{named_clients}
+use Rattle.qs_questions.specs.NamedClients.{named_clients}
 use Rattle.qs_questions.proofs.NamedSets.{set_more, steps_join}
 use Rattle.qs_questions.proofs.clients.named_clients.Goals as goal
 

@@ -1,6 +1,6 @@
 use Rattle.std.proofs.Common.{◌≡◌, ℕ, take}
 use Rattle.qs_objects.specs.ByteSets.{in_byte}
-use Rattle.qs_questions.specs.AlikeClaims.{named_clients}
+use Rattle.qs_questions.specs.NamedClients.{named_clients}
 use Rattle.qs_questions.proofs.clients.named_clients.Given as goal
 
 abbrev pub invariant-loop-step : goal.invariant-loop-step

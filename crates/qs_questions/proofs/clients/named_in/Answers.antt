@@ -1,5 +1,5 @@
 use Rattle.std.proofs.Common.{◌<◌, length, get_or, arith, ap, ◌∙◌}
-use Rattle.qs_questions.specs.AlikeClaims.{is_named}
+use Rattle.qs_questions.specs.NamedClients.{is_named}
 use Rattle.qs_questions.proofs.NamedSets.{named_join, one_named, set_more}
 use Rattle.qs_questions.proofs.clients.named_in.Goals as goal
 

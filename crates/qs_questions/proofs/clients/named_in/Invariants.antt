@@ -1,6 +1,6 @@
 use Rattle.std.proofs.Common.{◌≡◌, ℕ, take}
 use Rattle.qs_objects.specs.ByteSets.{in_byte}
-use Rattle.qs_questions.specs.AlikeClaims.{is_named}
+use Rattle.qs_questions.specs.NamedClients.{is_named}
 use Rattle.qs_questions.proofs.clients.named_in.Given as goal
 
 abbrev pub invariant-loop-summand : goal.invariant-loop-summand

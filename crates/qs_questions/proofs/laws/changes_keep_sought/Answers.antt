@@ -1,4 +1,4 @@
-use Rattle.qs_questions.proofs.AlikeAnswers.{changes_keep_sought}
+use Rattle.qs_questions.proofs.NamedStay.{changes_keep_sought}
 use Rattle.qs_questions.proofs.laws.changes_keep_sought.Goals as goal
 
 pub returns : goal.returns

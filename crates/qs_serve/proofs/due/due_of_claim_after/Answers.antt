@@ -1,11 +1,10 @@
 use Rattle.qs_serial.specs.audit.NamedOrders.{order_of}
-use Rattle.qs_questions.specs.Claims.{is_sought}
 use Rattle.qs_serve.proofs.Dues.{answer_after, answer_places}
 use Rattle.qs_serve.proofs.due.due_of_claim_after.Goals as goal
 
 pub due_of_answer-requires : goal.due_of_answer-requires
 due_of_answer-requires g c = record {
-  places = answer_places c.args.claim.now.quantifier c.args.program.now (order_of c.args.clients.now) (is_sought c.args.claim.now c.args.program.now) c.in-Ok.answer c.in-Ok.ensures.answer;
+  places = answer_places c.args.claim.now c.args.program.now (order_of c.args.clients.now) c.in-Ok.answer c.in-Ok.ensures.answer;
 }
 
 pub returns-in-Ok-clause-due : goal.returns-in-Ok-clause-due

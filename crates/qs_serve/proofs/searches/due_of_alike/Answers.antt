@@ -13,6 +13,6 @@ text_of_alike-requires c =
 pub returns-in-Ok-clause-due : goal.returns-in-Ok-clause-due
 returns-in-Ok-clause-due c =
     due_by_alike c.args.format c.args.program.now (classes_in c.classes_of-classes.result) c.args.limit c.in-Ok.all c.text_of_alike.result _
-    (c.classes_of-classes.ensures.classes, c.classes_of-classes.ensures.all) c.in-Ok.ensures.outcomes c.in-Ok.ensures.exact c.in-Ok.ensures.within
+    (c.classes_of-classes.ensures.classes, c.classes_of-classes.ensures.all) c.in-Ok.ensures.outcomes c.in-Ok.ensures.within
     c.text_of_alike.ensures.text
     c.due_of_bytes.ensures.text

@@ -33,7 +33,7 @@ returns-clause-silent g c = λ zero no_terminal no_warnings no_limits.
 
 pub returns-clause-headline : goal.returns-clause-headline
 returns-clause-headline g c =
-    headline (map {A = Bor (List ℕ)} {B = List ℕ} (λ word. word.now) c.args.words.now) c.args.input.now c.due_of_words-due.new.input _ _ c.finish-status.new.watch.has_failed c.finish-status.result (
+    headline (map {A = Bor (List ℕ)} {B = List ℕ} (λ word. word.now) c.args.call.words.now) c.args.input.now c.due_of_words-due.new.input _ _ c.finish-status.new.watch.has_failed c.finish-status.result (
       c.due_of_words-due.result.0,
       c.due_of_words-due.result.1,
       c.due_of_words-due.ensures.due,
@@ -44,7 +44,7 @@ returns-clause-headline g c =
 
 pub returns-clause-answers : goal.returns-clause-answers
 returns-clause-answers g c =
-    answers (map {A = Bor (List ℕ)} {B = List ℕ} (λ word. word.now) c.args.words.now) c.args.input.now
+    answers (map {A = Bor (List ℕ)} {B = List ℕ} (λ word. word.now) c.args.call.words.now) c.args.input.now
     c.due_of_words-due.new.input _ _ c.finish-status.new.watch.has_failed c.finish-status.result (
       c.due_of_words-due.result.0,
       c.due_of_words-due.result.1,
@@ -56,7 +56,7 @@ returns-clause-answers g c =
 
 pub returns-clause-lists : goal.returns-clause-lists
 returns-clause-lists g c =
-    lists (map {A = Bor (List ℕ)} {B = List ℕ} (λ word. word.now) c.args.words.now) c.args.input.now
+    lists (map {A = Bor (List ℕ)} {B = List ℕ} (λ word. word.now) c.args.call.words.now) c.args.input.now
     c.due_of_words-due.new.input _ _ c.finish-status.new.watch.has_failed c.finish-status.result (
       c.due_of_words-due.result.0,
       c.due_of_words-due.result.1,

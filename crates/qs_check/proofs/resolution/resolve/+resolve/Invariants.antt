@@ -21,5 +21,5 @@ decreases-add_repeat l = 3 * views.size_of l.body.now + 3
 
 abbrev pub invariant-resolve_body-loop-stmt : goal.invariant-resolve_body-loop-stmt
 invariant-resolve_body-loop-stmt l =
-    body_of l.objects l.kinds l.variables (views.stmts_of l.stmts)
-    ≡ join_statements l.code (body_of l.objects l.kinds l.variables (views.stmts_of (drop l.stmt-index l.stmts)))
+    body_of l.numbering.objects.now l.numbering.kinds.now l.numbering.variables.now (views.stmts_of l.stmts)
+    ≡ join_statements l.code (body_of l.numbering.objects.now l.numbering.kinds.now l.numbering.variables.now (views.stmts_of (drop l.stmt-index l.stmts)))

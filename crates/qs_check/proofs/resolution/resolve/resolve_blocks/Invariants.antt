@@ -4,5 +4,5 @@ use Rattle.qs_check.proofs.resolution.resolve.resolve_blocks.Given as goal
 
 abbrev pub invariant-loop-block : goal.invariant-loop-block
 invariant-loop-block l =
-    map (block_shape l.objects l.kinds l.variables) l.blocks
-    ≡ l.all.items ++ map (block_shape l.objects l.kinds l.variables) (drop l.block-index l.blocks)
+    map (block_shape l.numbering.objects.now l.numbering.kinds.now l.numbering.variables.now) l.blocks
+    ≡ l.all.items ++ map (block_shape l.numbering.objects.now l.numbering.kinds.now l.numbering.variables.now) (drop l.block-index l.blocks)

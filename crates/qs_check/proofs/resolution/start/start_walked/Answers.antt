@@ -11,15 +11,12 @@ use Rattle.qs_check.proofs.resolution.TemplateSearch.{formed_levels}
 use Rattle.qs_check.proofs.resolution.TemplateFormals.{text_known}
 use Rattle.qs_check.proofs.resolution.start.start_walked.Goals as goal
 
-pub resolve_blocks-requires-clause-objects : goal.resolve_blocks-requires-clause-objects
-resolve_blocks-requires-clause-objects c =
+pub invariant_of-numbering : goal.invariant_of-numbering
+invariant_of-numbering c =
+    let known = text_known c.args.template.now c.args.inner.now c.requires.walked in
     let P : List Name → Type 0 = λ ns. length ns ≤ most_objects in
-    subst P (sym c.objects.ensures.value) (text_known c.args.template.now c.args.inner.now c.requires.walked).few_objects
-
-pub resolve_blocks-requires-clause-variables : goal.resolve_blocks-requires-clause-variables
-resolve_blocks-requires-clause-variables c =
-    let P : List Name → Type 0 = λ ns. length ns ≤ most_variables in
-    subst P (sym c.variables.ensures.value) (text_known c.args.template.now c.args.inner.now c.requires.walked).few_variables
+    let Q : List Name → Type 0 = λ ns. length ns ≤ most_variables in
+    record { few_objects = subst P (sym c.objects.ensures.value) known.few_objects; few_variables = subst Q (sym c.variables.ensures.value) known.few_variables }
 
 pub bind_blocks-requires : goal.bind_blocks-requires
 bind_blocks-requires c =

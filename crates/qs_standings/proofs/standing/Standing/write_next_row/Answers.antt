@@ -13,10 +13,11 @@ put_stem-requires c = record {
   base = (let e = ap (λ (r : RowShape). length r.numbers) c.requires.base in let v = ap length c.as_slice-numbers.ensures.value in let within = stem_within c.args.program.now c.args.front.now c.keeps_sound.ensures.sound c.args.self.now c.requires.standing in omega (arith, e, v, within));
 }
 
-pub returns : goal.returns
-returns c =
+pub returns-clause-row : goal.returns-clause-row
+returns-clause-row c =
     let p = c.args.program.now in
     let s = c.args.self.now in
+    let left = c.args.scratch.now.left.items in
     let begun : c.index.result.now ≡ get_or s.begun c.args.client 0 =
     read_at c.self.inside.begun.items s.begun c.args.client c.from-place.result c.index.result.now 0
     c.index.ensures c.from-place.ensures (ap (λ (t : StandingShape). t.begun) c.self.view_is) (let n = c.requires.standing.begun in let l = c.requires.client in omega (arith, n, l)) in
@@ -26,7 +27,8 @@ returns c =
     let base = c.as_slice-numbers.ensures.value ∙ ap (λ (r : RowShape). r.numbers) c.requires.base in
     let numbers =
     c.in_ok-add_objects.ensures.added
-    ∙ (ap (λ r. r ++ flat_map state_row c.args.left.now) (c.in_ok-put_stem.ensures.put
-    ∙ ap (λ b. overwritten (take (named_before p 0 (length p.clients)) b) (named_before p 0 c.args.client) (take (length (client_at p c.args.client).variables) c.args.values.now)) base)
-    ∙ next_numbers p c.args.front.now c.keeps_sound.ensures.sound s c.requires.standing c.args.client c.args.values.now c.args.left.now c.requires.client c.told-values) in
-    record { row = λ i. record { begun = counts i; numbers = numbers i } }
+    ∙ (ap (λ xs. c.put_stem.new.row.items ++ flat_map state_row xs) c.as_slice.ensures.value
+    ∙ (ap (λ r. r ++ flat_map state_row left) (c.in_ok-put_stem.ensures.put
+    ∙ ap (λ b. overwritten (take (named_before p 0 (length p.clients)) b) (named_before p 0 c.args.client) (take (length (client_at p c.args.client).variables) c.args.scratch.now.values)) base)
+    ∙ next_numbers p c.args.front.now c.keeps_sound.ensures.sound s c.requires.standing c.args.client c.args.scratch.now.values left c.requires.client c.told-scratch)) in
+    λ i. record { begun = counts i; numbers = numbers i }

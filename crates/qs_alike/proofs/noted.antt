@@ -1,2 +1,0 @@
-pub mod Forking
-pub mod Passing

@@ -1,2 +1,0 @@
-pub mod Hopes
-pub mod Leads

@@ -1,0 +1,5 @@
+pub mod Pairs
+pub mod Counting
+pub mod Shares
+pub mod Adding
+pub mod Listed
