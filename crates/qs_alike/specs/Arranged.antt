@@ -5,17 +5,11 @@ use Rattle.std.specs.declared.cmp.Ordering.{Ordering}
 use Rattle.std.specs.declared.cmp.Ordering.TheVariants.{Less}
 use Rattle.std.specs.Cmp.Lexicographic.{slice_cmp}
 use Rattle.qs_meaning.specs.audit.Configurations.{Configuration}
-use Rattle.qs_meaning.specs.Configurations.{OrderOutcome}
 use Rattle.qs_alike.specs.Changes.{Change, Classes, IsChange, changed}
 
 -- what changes places with a client: how many blocks it has begun, and its variables
 abbrev pub place_of : Configuration → ℕ → List ℤ
 place_of g c = pos (g.begun c) ∷ g.locals c
-
--- a configuration, each client's place told as the variables of an outcome: so its changes are counted as those of an
--- outcome
-abbrev pub places_at : Configuration → OrderOutcome
-places_at g = record { locals = place_of g; states = g.states }
 
 -- two places, by the first number in which they differ
 abbrev pub compared : Configuration → ℕ → ℕ → Ordering

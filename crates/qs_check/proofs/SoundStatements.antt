@@ -64,9 +64,6 @@ taken : (found : Option Op) (n : ℕ) → takes found n ≡ true → n ≡ arity
 taken None n h = absurd (cc)
 taken (Some op) n h = let e : arity op ≡ n = grind (arith, nat_tests) in sym e
 
-pub no_kind : Kind
-no_kind = Account (pos 0)
-
 kind_at : (D : List Declared) (i : ℕ) → (slice_index_or D i no_object).kind ≡ slice_index_or (map (λ (o : Declared). o.kind) D) i (Account (pos 0))
 kind_at [] i = refl
 kind_at (o ∷ D) zero = refl

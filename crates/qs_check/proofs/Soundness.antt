@@ -1,7 +1,7 @@
 -- A script that is walked with no fault, and whose load and weight are within their limits, makes a sound program. The
 -- promise of the check that whatever it accepts is sound stands on `sound`. The proof goes from a block's list up to
 -- its client, and then by induction on the items, where the objects known so far are a front of all that are declared.
-use Rattle.std.proofs.Common.{◌≡◌, ℕ, suc, ◌+◌, ◌<◌, ◌≤◌, Bool, true, false, ◌||◌, ◌==◌, List, [], ◌∷◌, ◌++◌, length, map, slice_index_or, refl, ap, sym, ◌∙◌, subst, arith, append_assoc, append-nil, length-append, Ok, Err, pos}
+use Rattle.std.proofs.Common.{◌≡◌, suc, ◌+◌, ◌<◌, ◌≤◌, Bool, true, false, ◌||◌, ◌==◌, List, [], ◌∷◌, ◌++◌, length, map, slice_index_or, refl, ap, sym, ◌∙◌, subst, arith, append_assoc, append-nil, length-append, Ok, Err, pos}
 use Rattle.std.proofs.Math.ListN.{get_or-append}
 use Rattle.std.proofs.lemmas.List.{length-map}
 use Rattle.std.specs.Cmp.Lexicographic.{same_text}
@@ -52,8 +52,6 @@ either true first later rest f g h = ap (λ x. x || rest) (f refl)
 either false first later rest f g h = or_true first rest (g h)
 
 module _ (D : List Declared) where
-  number_of : Name → ℕ
-  number_of n = found_at (names D) n
 
   known_within : (ks : List Kind) (os : List Name) → Known D os ks → (n : Name) → is_among os n ≡ true → found_at (names D) n < length D
   known_within ks os known n h = let w = found_within (names D) n (known n h).0 in omega (arith, w, length-map D (λ (o : Declared). o.name))

@@ -4,4 +4,3 @@ pub mod Anchors
 pub mod Anchored
 pub mod Blocks
 pub mod Laws
-pub mod Examples

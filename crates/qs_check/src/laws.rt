@@ -1,12 +1,6 @@
 //! What the definitions of faults, loads and blocks promise; and worked examples of them.
 
-ghost use Rattle.qs_check.specs.CheckExamples.{CheckExamples};
 ghost use Rattle.qs_check.specs.WellFormed.{FaultlessAreWellFormed};
-
-/// Scripts with their faults, loads and weights, computed by the definitions; it does nothing.
-pub fn check_examples()
-    ensures examples { CheckExamples }
-{}
 
 /// A script of the grammar's form has no fault in its text, no excess of load and none of weight exactly where it is
 /// well formed: where its tree meets the conditions on names, requests, limits, ranges, loads and weights, in whichever

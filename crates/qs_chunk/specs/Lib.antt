@@ -8,8 +8,6 @@ pub mod LaneParts
 pub mod LaneLaws
 pub mod LaneExamples
 pub mod LaneViews
-pub mod LaneViewExamples
 pub mod LaneRunLaws
-pub mod LaneRunExamples
 pub mod Ring
 pub mod Room

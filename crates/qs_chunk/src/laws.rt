@@ -2,9 +2,7 @@
 
 ghost use Rattle.qs_chunk.specs.LaneExamples.{LaneExamples};
 ghost use Rattle.qs_chunk.specs.LaneLaws.{LaneLaws};
-ghost use Rattle.qs_chunk.specs.LaneRunExamples.{LaneRunExamples};
 ghost use Rattle.qs_chunk.specs.LaneRunLaws.{LaneRunLaws};
-ghost use Rattle.qs_chunk.specs.LaneViewExamples.{LaneViewExamples};
 ghost use Rattle.qs_chunk.specs.LaneViews.{LanesMatch};
 
 /// A list in which each parcel may follow those before it is the beginning of a list of the form, and every such
@@ -26,19 +24,9 @@ pub fn lane_examples()
     ensures examples { LaneExamples }
 {}
 
-/// Runs of a lane, and what is none, computed by the definitions; it does nothing.
-pub fn lane_run_examples()
-    ensures examples { LaneRunExamples }
-{}
-
 /// What a client believes to have run on an object in one block is what ran there, wherever the object is, and then the
 /// commands that wait: for every lane whose handler received a front of what was sent, and whose client got a front of
 /// what was given. It does nothing.
 pub fn lanes_match()
     ensures agree { LanesMatch }
-{}
-
-/// A block's parcels and objects as its client and its handler see them, computed by the definitions; it does nothing.
-pub fn lane_view_examples()
-    ensures examples { LaneViewExamples }
 {}

@@ -19,10 +19,6 @@ abbrev pub before_all : List Placed → Result (List Placed) ConditionFault → 
 before_all xs (Ok ys) = Ok (xs ++ ys)
 before_all xs (Err e) = Err e
 
-pub before_none : (r : Result (List Placed) ConditionFault) → before_all [] r ≡ r
-before_none (Ok ys) = refl
-before_none (Err e) = refl
-
 pub before_one : (xs : List Placed) (x : Placed) (r : Result (List Placed) ConditionFault) → before_all xs (before x r) ≡ before_all (xs ++ x ∷ []) r
 before_one xs x (Ok ys) = rw append_assoc refl
 before_one xs x (Err e) = refl
@@ -86,15 +82,6 @@ counted_ok most (Err e) x h p = cc
 
 pub sign_within : (place : ℕ) (text : List ℕ) (x : Sign × ℕ) → sign_at place text ≡ Ok x → (0 < x.1) × (x.1 ≤ length text)
 sign_within place text x e = counted_ok (length text) (sign_at place text) x (sign_counted place text) e
-
--- one step from the front
-space_front : (place : ℕ) (b : ℕ) (bs : List ℕ) → is_space b ≡ true → signs_from place 0 (b ∷ bs) ≡ signs_from (suc place) 0 bs
-space_front place b bs e = rw e refl
-
-pub space_step : (text : List ℕ) (place : ℕ) → place < length text → is_space (get_or text place 0) ≡ true → signs_from place 0 (drop place text) ≡ signs_from (place + 1) 0 (drop (place + 1) text)
-space_step text place less e =
-    let one : place + 1 ≡ suc place = omega arith in
-    ap (signs_from place 0) (drop_more text place 0 less) ∙ space_front place (get_or text place 0) (drop (place + 1) text) e ∙ ap (λ n. signs_from n 0 (drop (place + 1) text)) (sym one)
 
 sign_front : (place : ℕ) (b : ℕ) (bs : List ℕ) → is_space b ≡ false → signs_from place 0 (b ∷ bs) ≡ with_sign place (sign_at place (b ∷ bs)) (λ more. signs_from (suc place) more bs)
 sign_front place b bs e = rw e refl

@@ -1,5 +1,5 @@
 -- What a condition is, what it means, and the steps by which it is answered.
-use Rattle.std.specs.Prelude.{◌≡◌, Bool, not, ◌&&◌, ◌||◌, if◌then◌else◌, List, [], ◌∷◌, ◌++◌, ℤ, pos, ◌+ℤ◌, ◌-ℤ◌}
+use Rattle.std.specs.Prelude.{Bool, not, ◌&&◌, ◌||◌, if◌then◌else◌, List, [], ◌∷◌, ◌++◌, ℤ, pos, ◌+ℤ◌, ◌-ℤ◌}
 use Rattle.qs_script.specs.declared.tree.tree.Relation.{Relation}
 use Rattle.qs_program.specs.audit.Values.{relates}
 use Rattle.qs_conditions.specs.declared.condition.Value.{Value}
@@ -33,7 +33,3 @@ steps_of (compare left relation right) = s.Compare left relation right ∷ []
 steps_of (negation c) = steps_of c ++ s.Not ∷ []
 steps_of (both c d) = steps_of c ++ steps_of d ++ s.And ∷ []
 steps_of (either c d) = steps_of c ++ steps_of d ++ s.Or ∷ []
-
--- these are the steps of some condition
-abbrev pub AreSteps : List Step → Type 0
-AreSteps steps = (c : Tree) × (steps ≡ steps_of c)

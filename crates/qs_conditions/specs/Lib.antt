@@ -9,4 +9,3 @@ pub mod Reads
 -- What crates promise one another, what proofs use, and worked examples.
 pub mod SignResults
 pub mod Results
-pub mod Examples

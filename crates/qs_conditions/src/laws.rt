@@ -3,7 +3,6 @@
 ghost use Rattle.std.specs.Prelude.{◌≡◌, ◌↔◌, List, Ok};
 ghost use Rattle.qs_conditions.specs.declared.signs.Placed.{Placed};
 ghost use Rattle.qs_conditions.specs.Conditions.{Tree};
-ghost use Rattle.qs_conditions.specs.Examples.{SignExamples, ConditionExamples};
 ghost use Rattle.qs_conditions.specs.Grammar.{IsCondition};
 ghost use Rattle.qs_conditions.specs.Reading.{tree_of};
 
@@ -15,11 +14,4 @@ pub fn exact_both_ways()
 /// Signs have at most one tree.
 pub fn one_condition()
     ensures { (c d : Tree) (ts : List Placed) → IsCondition c ts → IsCondition d ts → c ≡ d }
-{}
-
-/// Worked examples: texts with their signs or their first fault, texts with their conditions, and texts that have none,
-/// with the place where the reading does not go on.
-pub fn examples()
-    ensures signs { SignExamples }
-    ensures conditions { ConditionExamples }
 {}

@@ -2,8 +2,7 @@
 -- those that a schedule shows. The contracts of `step`, `keeps_counted`, `into_played` and `play_core` promise it. A
 -- state that was reached is where some list of actors leads, and the law `core_syncs_counted` speaks of every such
 -- list.
-use Rattle.std.proofs.Common.{◌≡◌, ℕ, Bool, true, false, List, refl, sym, subst}
-use Rattle.std.specs.Bool.{OnTrue}
+use Rattle.std.proofs.Common.{◌≡◌, ℕ, List, sym, subst}
 use Rattle.qs_program.specs.audit.Program.{ProgramShape}
 use Rattle.qs_program.specs.Sound.{IsSound}
 use Rattle.qs_syncset.specs.declared.mode.Mode.{Mode}
@@ -14,23 +13,12 @@ use Rattle.qs_played.specs.audit.Played.{Played}
 use Rattle.qs_syncset.specs.audit.Codes.{AreCodes}
 use Rattle.qs_core_laws.specs.audit.CoreSchedule.{core_played}
 use Rattle.qs_core_laws.proofs.CoreSyncs.{core_syncs_counted}
-use Rattle.qs_core.specs.state.CoreState.{CoreState, CoreSteps, IsPlayedOn, IsReachedCore, codes_of, core_of, CoreIsCounted}
-use Rattle.qs_core.proofs.state.CoreReaching.{core_next}
+use Rattle.qs_core.specs.state.CoreState.{CoreState, IsPlayedOn, IsReachedCore, codes_of, core_of, CoreIsCounted}
 
 pub core_is_counted : (s : CoreState) → IsSound s.program → IsReachedCore s → CoreIsCounted s
 core_is_counted s sound reached mode codes =
     subst (λ x. AreSyncsCounted s.program mode (core_played s.program x)) (sym reached.1)
     (core_syncs_counted s.program sound mode (codes_of s) codes s.size reached.0)
-
--- after a step that may have been made
-pub core_next_counted : (old new : CoreState) (a : Actor) (b : Bool) → IsSound old.program → IsReachedCore old → OnTrue b (CoreSteps old a new)
-    → (b ≡ false → new ≡ old) → CoreIsCounted new
-core_next_counted old new a b sound reached steps same =
-    core_is_counted new (still_sound b steps same) (core_next old new a b reached steps same)
-  where
-    still_sound : (x : Bool) → OnTrue x (CoreSteps old a new) → (x ≡ false → new ≡ old) → IsSound new.program
-    still_sound true moved stays = subst IsSound (sym moved.program) sound
-    still_sound false moved stays = subst (λ (s : CoreState). IsSound s.program) (sym (stays refl)) sound
 
 -- what is shown after the whole schedule
 pub schedule_counted : (p : ProgramShape) (mode : Mode) (size : ℕ) (picks : List Actor) (rounds : ℕ) (s : CoreState) (played : Played)

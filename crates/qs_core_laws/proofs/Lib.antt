@@ -1,4 +1,3 @@
-pub mod AloneCodes
 pub mod BookingPreserved
 pub mod ProgramCodes
 pub mod ClientSteps

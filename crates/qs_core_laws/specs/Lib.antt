@@ -3,8 +3,6 @@ pub mod audit
 -- What an auditor reads: the promises and the calls of the surface are said with these.
 pub mod CoreSchedule
 -- What crates promise one another, what proofs use, and worked examples.
-pub mod CoalescedExamples
-pub mod CoreExamples
 pub mod CoreReached
 pub mod CoreSyncSums
 pub mod protocol

@@ -1,5 +1,4 @@
 pub mod Orders
-pub mod Plans
 pub mod Pushing
 pub mod Starts
 pub mod Steps

@@ -1,7 +1,7 @@
 -- A desk stays a desk: its history is a legal order, each handler's queue has the tickets that reserve it, and the
 -- books count each client's tickets. The proofs of `book` and `close` stand on it. Each field of the invariant `IsDesk`
 -- is shown again for the history with one more ticket, or for the closed queues.
-use Rattle.std.proofs.Common.{◌≡◌, ℕ, zero, suc, ◌+◌, ◌<◌, ◌≤◌, ◌==◌, Bool, true, false, Some, List, [], ◌∷◌, ◌++◌, cond, map, replicate, length, slice_get, refl, ap, sym, ◌∙◌, subst, arith, length-append, length-set, ◌≢◌, ⊎_elim, get_or-set_other}
+use Rattle.std.proofs.Common.{◌≡◌, ℕ, ◌+◌, ◌<◌, ◌≤◌, ◌==◌, Bool, true, false, List, [], ◌∷◌, ◌++◌, cond, length, refl, ap, sym, ◌∙◌, subst, arith, length-append, length-set, ◌≢◌, ⊎_elim, get_or-set_other}
 use Rattle.std.proofs.lemmas.Grind.{get_or-set_at}
 use Rattle.std.proofs.lemmas.Bool.Decides.{eqb_tells}
 use Rattle.std.proofs.lemmas.List.Elements.{filter-append}
@@ -10,37 +10,14 @@ use Rattle.atomic_table.specs.Seated.{TableId}
 use Rattle.qs_objects.specs.declared.held.Ticket.{Ticket}
 use Rattle.qs_program.specs.audit.Program.{ProgramShape, blocks_of}
 use Rattle.qs_meaning.specs.audit.Serial.{IsLegal}
-use Rattle.qs_program.specs.Sound.{IsSound}
 use Rattle.qs_program.specs.audit.Limits.{most_clients}
 use Rattle.qs_desk.specs.Desks.{IsDesk}
 use Rattle.qs_desk.specs.Limits.{all_bookings}
-use Rattle.qs_desk.specs.TicketQueues.{QueueView, queue_at, queue_name, IsQueueOf, IsNewQueue, with_ticket, closed_queue, MayGrow, MayClose}
+use Rattle.qs_desk.specs.TicketQueues.{QueueView, queue_at, IsQueueOf, with_ticket, closed_queue, MayGrow, MayClose}
 use Rattle.qs_desk.specs.audit.Tickets.{of_client}
 use Rattle.qs_desk.specs.Tickets.{ticket}
 use Rattle.qs_desk.proofs.Orders.{legal_more, short}
-use Rattle.qs_desk.proofs.Starts.{names_len}
 use Rattle.qs_desk.proofs.Pushing.{may_grow, may_close, is_grown, is_closed}
-
-named : (senders : List QueueView) (h : ℕ) → h < length senders → slice_get (map queue_name senders) h ≡ Some (queue_at senders h).name
-named [] h less = absurd (omega (arith, less))
-named (l ∷ senders) zero less = refl
-named (l ∷ senders) (suc h) less = named senders h (omega (arith, less))
-
-none : (n k : ℕ) → slice_index (replicate n 0) k ≡ 0
-none zero k = refl
-none (suc n) zero = refl
-none (suc n) (suc k) = none n k
-
-pub starts : (p : ProgramShape) (names : List TableId) (senders : List QueueView) → IsSound p → map queue_name senders ≡ names → length senders ≡ length p.objects
-    → ((h : ℕ) → h < length senders → IsNewQueue p h (queue_at senders h)) → IsDesk p names [] false senders (replicate most_clients 0)
-starts p names senders sound are all new = record {
-  sound = sound;
-  legal = tt;
-  pushed = λ h less. let n = new h less in (ap (λ ns. slice_get ns h) (sym are) ∙ named senders h less, ap (λ (l : QueueView). l.room) n, ap (λ (l : QueueView). l.key) n, ap (λ (l : QueueView). l.sent) n);
-  all = (sym (names_len senders) ∙ ap length are, ap length (sym are) ∙ names_len senders ∙ all);
-  counted = λ c less. none 8 c;
-  eight = refl;
-}
 
 module _ (p : ProgramShape) (names : List TableId) (history : List Ticket) (senders : List QueueView) (books : List ℕ) (is : IsDesk p names history false senders books) where
   pub few_tickets : length history ≤ all_bookings

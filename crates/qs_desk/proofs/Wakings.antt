@@ -1,6 +1,6 @@
 -- What a loop over what wakes handlers has done, turn by turn: whatever is woken by the rest of it makes, together with
 -- what was woken so far, all that is to be woken. It goes by induction on the number of turns.
-use Rattle.std.proofs.Common.{◌≡◌, ℕ, zero, suc, ◌+◌, ◌<◌, ◌≤◌, Bool, true, false, List, [], ◌∷◌, length, drop, slice_index_or, refl, sym, subst, ◌∙◌, arith}
+use Rattle.std.proofs.Common.{◌≡◌, ℕ, zero, suc, ◌+◌, ◌<◌, Bool, true, false, List, [], ◌∷◌, length, drop, slice_index_or, sym, subst, ◌∙◌, arith}
 use Rattle.qs_desk.specs.Wakings.{AreWoken, IsWokenIf}
 
 -- after n turns the log has come from `log` to `now`
@@ -30,9 +30,3 @@ pub leads_on : {L W : Type 0} (moves : W → L → L → Type 0) (ws : List W) (
 leads_on moves ws told n d log now then less step leads end rest =
     let next : n + 1 ≡ suc n = omega arith in
     leads end (one_turn moves ws told n d now then end less step (subst (λ k. AreWoken moves (drop k ws) (drop k told) then end) next rest))
-
-pub all_turns : {L W : Type 0} (moves : W → L → L → Type 0) (ws : List W) (told : List Bool) (n : ℕ) (log : L) → length ws ≤ n → AreWoken moves (drop n ws) told log log
-all_turns moves [] told zero log less = refl
-all_turns moves [] told (suc n) log less = refl
-all_turns moves (w ∷ ws) told zero log less = absurd (omega (arith, less))
-all_turns moves (w ∷ ws) told (suc n) log less = all_turns moves ws told n log (omega (arith, less))

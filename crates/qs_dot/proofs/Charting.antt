@@ -1,7 +1,7 @@
 -- How a chart is drawn. Its places grow at the end, so what a lead says of two places stays true; each row stands for
 -- one place, and equal rows are of equal configurations. Once each place has its leads, every reduced order leads along
 -- them from place to place.
-use Rattle.std.proofs.Common.{◌≡◌, ◌<◌, ◌≤◌, ◌+◌, ℕ, zero, suc, Bool, true, false, Some, List, [], ◌∷◌, ◌++◌, length, get_or, map, slice_get, refl, sym, ap, ◌∙◌, subst, arith, ◌⊎◌, inl, inr, ⊎_elim, append-nil, append_assoc, length-append}
+use Rattle.std.proofs.Common.{◌≡◌, ◌<◌, ◌≤◌, ◌+◌, ℕ, zero, suc, Bool, true, false, Some, List, [], ◌∷◌, ◌++◌, length, get_or, map, slice_get, refl, sym, ap, ◌∙◌, subst, arith, ◌⊎◌, inl, inr, ⊎_elim, append-nil, length-append}
 use Rattle.std.specs.List.{AllByRecursion}
 use Rattle.std.proofs.lemmas.List.{map-append}
 use Rattle.qs_objects.specs.declared.held.Ticket.{Ticket}
@@ -17,7 +17,7 @@ use Rattle.qs_dot.specs.Charts.{AreCharted, AreLeads, AreLeadsUpTo, AreMore, Are
 use Rattle.qs_standings.specs.Lists.{HasOne, NoTwo}
 use Rattle.qs_outcomes.specs.Outcomes.{HasMoreThanAfter}
 use Rattle.qs_standings.specs.Rows.{rows_in, shape_of, IsInserted}
-use Rattle.qs_standings.specs.Standings.{GoesOn, IsFirst, IsStanding, RowShape, StandingShape, configuration_in, row_of}
+use Rattle.qs_standings.specs.Standings.{GoesOn, IsStanding, RowShape, StandingShape, configuration_in, row_of}
 use Rattle.qs_standings.proofs.Inserting.{same, tells}
 use Rattle.qs_standings.proofs.Lists.{has_back, has_front, has_some, pairs_join, two_snoc}
 use Rattle.qs_standings.proofs.RowSteps.{got}
@@ -65,9 +65,6 @@ row_placed v keys after i new k is at e = (is, map_got shape_of after i k at ∙
 
 pub more_none : (places : List StandingShape) → AreMore places places
 more_none places = ([], sym (append-nil places))
-
-pub more_on : (a b c : List StandingShape) → AreMore a b → AreMore b c → AreMore a c
-more_on a b c ab bc = (ab.0 ++ bc.0, bc.1 ∙ ap (λ xs. xs ++ bc.0) ab.1 ∙ append_assoc a ab.0 bc.0)
 
 pub got_on : (before after : List StandingShape) (i : ℕ) (s : StandingShape) → AreMore before after → slice_get before i ≡ Some s → slice_get after i ≡ Some s
 got_on before after i s more e = ap (λ xs. slice_get xs i) more.1 ∙ got_more before more.0 i s e
@@ -132,9 +129,6 @@ module _ (p : ProgramShape) (front : List Ticket) (sound : IsSound p) (limit : �
           different = apart_on in_rows.1;
         },
       )
-
-pub none_charted : (p : ProgramShape) (front : List Ticket) (limit : ℕ) → AreCharted p front limit [] []
-none_charted p front limit = record { rows = refl; reached = tt; apart = tt; small = omega arith }
 
 -- the leads of places that grow at the end
 module _ (p : ProgramShape) (before after : List StandingShape) (more : AreMore before after) (leads : List Lead) (at client : ℕ) where
@@ -214,27 +208,12 @@ place_done p places leads at are = record {
   sorted = are.sorted;
 }
 
-pub none_led : (p : ProgramShape) (places : List StandingShape) → AreLeadsUpTo p places [] 0 0
-none_led p places = record {
-  each = tt;
-  behind = tt;
-  all = λ i c s e on behind. absurd (⊎_elim (λ (l : i < 0). (let none : ⊥ = omega (arith, l) in none)) (λ (h : (i ≡ 0) × (c < 0)). (let l = h.1 in let none : ⊥ = omega (arith, l) in none)) behind);
-  sorted = tt;
-}
-
 pub all_led : (p : ProgramShape) (places : List StandingShape) (leads : List Lead) (at : ℕ) → length places ≤ at → AreLeadsUpTo p places leads at 0 → AreLeads p places leads
 all_led p places leads at past are = record {
   each = are.each;
   all = λ i c s e on. are.all i c s e on (inl (let less = (got places i s e).0 in omega (arith, less, past)));
   sorted = are.sorted;
 }
-
--- the place of the front
-pub first_place : (p : ProgramShape) (front : List Ticket) (s : StandingShape) (after : List StandingShape) (i : ℕ) → IsFirst p front s → IsPlaced [] after (configuration_in s) i → HasPlaceFor after 0 (configuration_after p front)
-first_place p front s after i first placed =
-    let there = placed.there in
-    let zeroth : i ≡ 0 = (let less = (got after i there.0 there.1).0 in let few = placed.few in omega (arith, less, few)) in
-    (there.0, ap (slice_get after) (sym zeroth) ∙ there.1, there.2 ∙ first.first)
 
 module _ (p : ProgramShape) (places : List StandingShape) (leads : List Lead) (are : AreLeads p places leads) where
   along : (ts : List Ticket) (i : ℕ) (g : Configuration) → HasPlaceFor places i g → IsReducedFrom p g ts → (j : ℕ) × HasPlaceFor places j (configuration_from p g ts)

@@ -1,6 +1,5 @@
 pub mod Parts
 pub mod OneDrawing
-pub mod WorkedDrawings
 pub mod Charting
 pub mod Ends
 mod EndNumbers

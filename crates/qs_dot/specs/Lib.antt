@@ -5,6 +5,5 @@ pub mod Charts
 pub mod EndText
 pub mod ChartDot
 -- What crates promise one another, what proofs use, and worked examples.
-pub mod DotTextExamples
 pub mod ChartLaws
 pub mod node_lines

@@ -2,5 +2,4 @@
 pub mod AnchorLines
 pub mod NodeLines
 -- What crates promise one another, what proofs use, and worked examples.
-pub mod Examples
 pub mod Laws

@@ -1,9 +1,9 @@
 -- A graph over names, with each name replaced by its object: it has the same paths, and it is the graph of the text in
 -- which the names were replaced. The proofs on coalescing by names stand on the first, and those on a client's code on
 -- the second. Both go by induction: on the path, and on the statements.
-use Rattle.std.proofs.Common.{◌≡◌, ℕ, zero, suc, ◌+◌, ◌<◌, ◌≤◌, List, [], ◌∷◌, ◌++◌, length, set, slice_index_or, Option, Some, None, refl, sym, ap, ◌∙◌, subst, arith, below_more}
+use Rattle.std.proofs.Common.{◌≡◌, ℕ, zero, suc, ◌+◌, ◌<◌, ◌≤◌, List, [], ◌∷◌, ◌++◌, length, slice_index_or, Option, Some, None, refl, sym, ap, ◌∙◌, subst, arith}
 use Rattle.std.specs.List.{AllByRecursion}
-use Rattle.std.proofs.lemmas.List.{ext_get_or, get_or-set_other, get_or-set_same, length-map, length-set, map-append}
+use Rattle.std.proofs.lemmas.List.{ext_get_or, length-map, map-append}
 use Rattle.qs_objects.proofs.Elements.{AllByRecursion-get_or}
 use Rattle.qs_program.specs.audit.Binding.{bound_call, bound_statements}
 use Rattle.qs_program.specs.declared.code.Call as calls
@@ -121,16 +121,6 @@ pub record AreBoundBelow (binding : List ℕ) (old now : List GraphNode) (n : �
   pub count : length now ≡ length old
   pub done : (k : ℕ) → k < n → place_at now k ≡ bound_place binding (place_at old k)
   pub rest : (k : ℕ) → n ≤ k → place_at now k ≡ place_at old k
-
-pub bound_next : (binding : List ℕ) (old now : List GraphNode) (n : ℕ) (new : GraphNode) → n < length now → AreBoundBelow binding old now n
-    → new ≡ bound_place binding (place_at now n) → AreBoundBelow binding old (set now n new) (n + 1)
-bound_next binding old now n new inside b e = record {
-  count = length-set now n new ∙ b.count;
-  done = below_more (λ k. place_at (set now n new) k ≡ bound_place binding (place_at old k)) _
-      (λ k l. get_or-set_other now n k new exit (λ e. omega arith) ∙ b.done k l)
-      (get_or-set_same now n new exit inside ∙ (e ∙ ap (bound_place binding) (b.rest n (omega arith))));
-  rest = λ k l. get_or-set_other now n k new exit (λ e. omega arith) ∙ b.rest k (omega arith);
-}
 
 pub bound_all : (binding : List ℕ) (old now : List GraphNode) (n : ℕ) → length now ≤ n → AreBoundBelow binding old now n → now ≡ bound_nodes binding old
 bound_all binding old now n past b =

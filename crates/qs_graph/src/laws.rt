@@ -1,9 +1,7 @@
 //! What the definitions of graphs and walks promise; and worked graphs.
 
 ghost use Rattle.qs_graph.specs.Drawn.{GraphsAreDrawings};
-ghost use Rattle.qs_graph.specs.GraphExamples.{GraphExamples};
 ghost use Rattle.qs_graph.specs.Removal.{RemovalsKeepWalks};
-ghost use Rattle.qs_graph.specs.SyncedExamples.{SyncedExamples};
 ghost use Rattle.qs_graph.specs.WalkLaws.{
   BlocksHaveGraphs,
   GraphsAreBound,
@@ -16,20 +14,10 @@ ghost use Rattle.qs_graph.specs.WalkLaws.{
   WalksWithinLimit,
 };
 
-/// Blocks with their graphs, computed by the definitions; it does nothing.
-pub fn graph_examples()
-    ensures examples { GraphExamples }
-{}
-
 /// The graph of a block is drawn from its statements, by what comes next after each, and no other graph is; it does
 /// nothing.
 pub fn graphs_are_drawings()
     ensures law { GraphsAreDrawings }
-{}
-
-/// Blocks with their trees with synchronisations, computed by the definitions; it does nothing.
-pub fn synced_examples()
-    ensures examples { SyncedExamples }
 {}
 
 /// Each block of a sound program has a graph: node 0 is Entry, edges lead to nodes, numbers are in range, and its nodes

@@ -8,6 +8,4 @@ pub mod Stages
 pub mod HandlerLaws
 pub mod HandlerExamples
 pub mod HandlerLanes
-pub mod HandlerLaneExamples
 pub mod HandlerTurns
-pub mod HandlerTurnExamples

@@ -1,11 +1,9 @@
 //! What holds of every handler; and worked examples.
 
 ghost use Rattle.qs_handler.specs.HandlerExamples.{HandlerExamples};
-ghost use Rattle.qs_handler.specs.HandlerLaneExamples.{HandlerLaneExamples};
 ghost use Rattle.qs_handler.specs.HandlerLanes.{HandlerLaneLaws};
 ghost use Rattle.qs_handler.specs.HandlerLaws.{HandlerLaws};
 ghost use Rattle.qs_handler.specs.HandlerRuns.{HandlerRunLaws};
-ghost use Rattle.qs_handler.specs.HandlerTurnExamples.{HandlerTurnExamples};
 ghost use Rattle.qs_handler.specs.HandlerTurns.{HandlersTakeTurns};
 
 /// An act and what stays behind are the handler that it was; a handler takes what it asks for, exactly where a lane may
@@ -38,14 +36,4 @@ pub fn handlers_take_turns()
 /// A handler's turns, computed by the definitions; it does nothing.
 pub fn handler_examples()
     ensures examples { HandlerExamples }
-{}
-
-/// A handler at its clients' lanes, by the definitions; it does nothing.
-pub fn handler_lane_examples()
-    ensures examples { HandlerLaneExamples }
-{}
-
-/// A handler's whole run as one turn, by the definitions; it does nothing.
-pub fn handler_turn_examples()
-    ensures examples { HandlerTurnExamples }
 {}

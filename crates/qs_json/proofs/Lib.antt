@@ -2,6 +2,5 @@ pub mod Elements
 pub mod Refusals
 pub mod OneGraphJson
 pub mod OneOutcomesJson
-pub mod WorkedGraphs
 pub mod OneEndsJson
 mod EndsApart

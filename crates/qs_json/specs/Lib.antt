@@ -12,10 +12,3 @@ pub mod TallyJson
 pub mod EstimateJson
 pub mod GraphJson
 -- What crates promise one another, what proofs use, and worked examples.
-pub mod RunJsonExamples
-pub mod OutcomesJsonExamples
-pub mod EndsJsonExamples
-pub mod AnswerJsonExamples
-pub mod TallyJsonExamples
-pub mod EstimateJsonExamples
-pub mod GraphJsonExamples

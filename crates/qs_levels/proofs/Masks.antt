@@ -1,8 +1,7 @@
 -- Sets of clients as bytes: what two of them have in common, and who leads on that is in a share. A begun block of a
 -- client changes the share by what it counts for.
-use Rattle.std.proofs.Common.{◌≡◌, ◌<◌, ◌+◌, ◌%◌, ◌==◌, ◌&&◌, ℕ, zero, suc, List, [], ◌∷◌, ◌++◌, min, bit_and, length, slice_index_or, refl, sym, ap, ap₂, ◌∙◌, subst, arith, inl, inr}
+use Rattle.std.proofs.Common.{◌≡◌, ◌<◌, ◌+◌, ◌%◌, ◌==◌, ◌&&◌, ℕ, zero, suc, List, [], min, bit_and, slice_index_or, ap, ap₂, ◌∙◌, arith}
 use Rattle.std.proofs.Math.Nat.{mod-add-mod}
-use Rattle.std.proofs.lemmas.Bool.{cases_eq}
 use Rattle.std.proofs.lemmas.Bool.Decides.{nat_tests}
 use Rattle.std.proofs.lemmas.Nat.Bits.{bit_at-lt, bit_at_and}
 use Rattle.std.specs.Int.{bit_at}
@@ -33,22 +32,3 @@ are_taken p sound number count s g masks some going are c less =
     in_both g.clients (slice_index_or masks g.share 0) c
     ∙ ap₂ (λ x y. x && y) (λ i. going.clients i c)
     (are.each g.share c within few ∙ ap (λ n. n == number) (ap (λ r. (r + weight c) % count) going.share ∙ mod-add-mod mark count (weight c)))
-
--- a mask more
-pub masks_more : (P : ℕ → ℕ → ℕ → Type 0) (masks : List ℕ) (mask : ℕ) → ((r c : ℕ) → r < length masks → c < most_clients → P r c (slice_index_or masks r 0))
-    → ((c : ℕ) → c < most_clients → P (length masks) c mask) → (r c : ℕ) → r < length masks + 1 → c < most_clients → P r c (slice_index_or (masks ++ mask ∷ []) r 0)
-masks_more P masks mask before here r c less few = elim (cases_eq r (length masks)) [
-  | inl same ↦ subst (λ k. P k c (slice_index_or (masks ++ mask ∷ []) k 0)) (sym same) (subst (P (length masks) c) (sym (last_of masks)) (here c few))
-  | inr other ↦
-      let under : r < length masks = (let o : r ≡ length masks → ⊥ = other in omega (arith, less, o)) in
-      subst (P r c) (sym (first_of masks r under)) (before r c under few)
-]
-  where
-    first_of : (ms : List ℕ) (i : ℕ) → i < length ms → slice_index_or (ms ++ mask ∷ []) i 0 ≡ slice_index_or ms i 0
-    first_of [] i less = absurd (omega (arith, less))
-    first_of (m ∷ ms) zero less = refl
-    first_of (m ∷ ms) (suc i) less = first_of ms i (omega (arith, less))
-
-    last_of : (ms : List ℕ) → slice_index_or (ms ++ mask ∷ []) (length ms) 0 ≡ mask
-    last_of [] = refl
-    last_of (m ∷ ms) = last_of ms

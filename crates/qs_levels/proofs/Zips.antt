@@ -1,8 +1,8 @@
 -- Marks and standings of equal number, taken together place by place: how many there are, what stands at a place, what
 -- one more adds, and which lead comes first from a place on. Each goes by induction on the list.
-use Rattle.std.proofs.Common.{◌≡◌, ◌<◌, ◌≤◌, ℕ, zero, suc, List, [], ◌∷◌, ◌++◌, None, Some, length, map, drop, get_or, refl, ap, arith}
+use Rattle.std.proofs.Common.{◌≡◌, ◌<◌, ◌≤◌, ℕ, zero, suc, List, [], ◌∷◌, ◌++◌, None, Some, length, drop, get_or, refl, ap, arith}
 use Rattle.qs_standings.specs.Standings.{StandingShape}
-use Rattle.qs_levels.specs.Founds.{Found, found_in, found_of, no_found, zipped}
+use Rattle.qs_levels.specs.Founds.{Found, found_of, no_found, zipped}
 use Rattle.qs_levels.specs.Merging.{first_lead}
 use Rattle.qs_levels.specs.declared.table.Mark.{Mark}
 
@@ -24,12 +24,6 @@ zipped_at (n ∷ ms) [] i m s even less = absurd (let e : suc (length ms) ≡ 0 
 zipped_at (n ∷ ms) (t ∷ ss) zero m s even less = refl
 zipped_at (n ∷ ms) (t ∷ ss) (suc i) m s even less = zipped_at ms ss i m s (let e : suc (length ms) ≡ suc (length ss) = even in omega (arith, e)) (omega (arith, less))
 
-pub zipped_standings : (ms : List Mark) (ss : List StandingShape) → length ms ≡ length ss → found_in (zipped ms ss) ≡ ss
-zipped_standings [] [] even = refl
-zipped_standings [] (t ∷ ss) even = absurd (let e : 0 ≡ suc (length ss) = even in omega (arith, e))
-zipped_standings (n ∷ ms) [] even = absurd (let e : suc (length ms) ≡ 0 = even in omega (arith, e))
-zipped_standings (n ∷ ms) (t ∷ ss) even = ap (λ ts. t ∷ ts) (zipped_standings ms ss (let e : suc (length ms) ≡ suc (length ss) = even in omega (arith, e)))
-
 pub first_there : (fs : List Found) (i : ℕ) → i < length fs → first_lead (drop i fs) ≡ Some (get_or fs i no_found).lead
 first_there [] i less = absurd (omega (arith, less))
 first_there (f ∷ fs) zero less = refl
@@ -40,9 +34,3 @@ first_past [] zero past = refl
 first_past [] (suc i) past = refl
 first_past (f ∷ fs) zero past = absurd (omega (arith, past))
 first_past (f ∷ fs) (suc i) past = first_past fs i (omega (arith, past))
-
--- a mapped list at a place
-pub mapped_get : {X Y : Type 0} (f : X → Y) (xs : List X) (i : ℕ) (d : X) (e : Y) → i < length xs → get_or (map f xs) i e ≡ f (get_or xs i d)
-mapped_get f [] i d e less = absurd (omega (arith, less))
-mapped_get f (x ∷ xs) zero d e less = refl
-mapped_get f (x ∷ xs) (suc i) d e less = mapped_get f xs i d e (omega (arith, less))

@@ -9,13 +9,6 @@ module _ {A : Type 0} (one : List ℕ → Option A) where
   abbrev pub read_with : List A → List (List ℕ) → Option (List A)
   read_with found texts = option_map (λ rest. found ++ rest) (each_in one texts)
 
-  pub read_with-first : (texts : List (List ℕ)) → each_in one texts ≡ read_with [] texts
-  read_with-first texts = same (each_in one texts)
-    where
-      same : (o : Option (List A)) → o ≡ option_map (λ rest. [] ++ rest) o
-      same None = refl
-      same (Some rest) = refl
-
   pub read_with-some : (found : List A) (next : A) (text : List ℕ) (texts : List (List ℕ)) → one text ≡ Some next
       → read_with found (text ∷ texts) ≡ read_with (found ++ next ∷ []) texts
   read_with-some found next text texts e = rw e (go (each_in one texts))

@@ -264,9 +264,6 @@ module _ (p : ProgramShape) (begun : Counts) where
       by_case false true e = has
       by_case false false e = grind (arith, nat_tests)
 
-  smaller_kept : (one other : Clients) → HasMember one → HasMember other → HasMember (smaller p one other)
-  smaller_kept one other a b = smaller_is HasMember one other a b
-
   first_has : (k c : ℕ) → c < k → begun c < blocks_of p c → HasMember (first_smallest p begun k)
   first_has zero c less left = absurd (omega (arith, less))
   first_has (suc k) c less left = by_case (has_block_left p begun k) refl (first_has k c)

@@ -11,7 +11,6 @@ pub mod AlikeTraces
 mod StatesKept
 pub mod StateKinds
 pub mod StateRanges
-pub mod ExampleBlocks
 pub mod Orders
 pub mod Swaps
 pub mod Groups

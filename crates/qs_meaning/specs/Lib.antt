@@ -12,8 +12,5 @@ pub mod Paths
 pub mod TraceLoads
 pub mod StateKinds
 pub mod MeaningExamples
-pub mod AlikeExamples
 pub mod BlockRecords
 pub mod StateRanges
-pub mod ConfigurationExamples
-pub mod ReducedExamples

@@ -1,15 +1,12 @@
 //! What the definitions say of blocks, for callers' proofs and for readers.
 
 ghost use Rattle.qs_meaning.specs.Alike.{BlocksAlike, PlacesAlike, ValuesByName};
-ghost use Rattle.qs_meaning.specs.AlikeExamples.{AlikeExamples};
-ghost use Rattle.qs_meaning.specs.ConfigurationExamples.{ConfigurationExamples};
 ghost use Rattle.qs_meaning.specs.Configurations.{CompleteOrdersLeaveNone, ConfigurationsFollowOrders, UnnamedStayZero};
 ghost use Rattle.qs_meaning.specs.Following.{BlocksAskOnly, HonestTracesRun};
 ghost use Rattle.qs_meaning.specs.Interaction.{TreesAgree};
 ghost use Rattle.qs_meaning.specs.MeaningExamples.{MeaningExamples};
 ghost use Rattle.qs_meaning.specs.Paths.{RequestsWithinLoad};
 ghost use Rattle.qs_meaning.specs.Reduced.{NeighboursSwap, OutcomesAreUnion, ReducedOrdersSuffice, SomeGoOn};
-ghost use Rattle.qs_meaning.specs.ReducedExamples.{ReducedExamples};
 ghost use Rattle.qs_meaning.specs.StateKinds.{SerialKeepsKinds};
 ghost use Rattle.qs_meaning.specs.StateRanges.{OrdersKeepRanges};
 ghost use Rattle.qs_meaning.specs.TraceLoads.{SerialWithinLoad, TracesWithinLoad};
@@ -62,12 +59,6 @@ pub fn alike()
     ensures by_name { ValuesByName }
 {}
 
-/// Three clients of two programs with blocks of equal text under other numbers, two of which find their objects in the
-/// same states, computed by the definitions; it does nothing.
-pub fn alike_examples()
-    ensures examples { AlikeExamples }
-{}
-
 /// The states that each place of a serial run of a checked program finds, and those at its end, are of the declared
 /// kinds: each object has the operations of its kind, and no others. It does nothing.
 pub fn serial_keeps_kinds()
@@ -85,12 +76,6 @@ pub fn configurations()
     ensures ranges { OrdersKeepRanges }
 {}
 
-/// The two orders of two clients that withdraw from one account, with the configurations to which they lead, computed
-/// by the definitions; it does nothing.
-pub fn configuration_examples()
-    ensures examples { ConfigurationExamples }
-{}
-
 /// Nobody disturbs those who go on at a configuration: no other client has a block left that shares an object with the
 /// next block of one of them; and somebody goes on wherever a block is left. Neighbours of different clients that share
 /// no object may be swapped. So every complete order of a checked program comes to what a reduced one comes to. It does
@@ -105,10 +90,4 @@ pub fn reduced_orders()
 /// block of one who goes on there, for each of these, as long as a block is left. It does nothing.
 pub fn outcomes_are_union()
     ensures union { OutcomesAreUnion }
-{}
-
-/// Who goes on in a program of two accounts, where a block that is left for later counts, computed by the definitions;
-/// it does nothing.
-pub fn reduced_examples()
-    ensures examples { ReducedExamples }
 {}

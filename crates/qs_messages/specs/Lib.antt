@@ -13,10 +13,8 @@ pub mod Doings
 pub mod Certainties
 pub mod Warnings
 pub mod WarningPlaces
-pub mod WarningExamples
 -- Limits.
 pub mod Extents
 pub mod Greatest
 pub mod Templates
 pub mod LimitsText
-pub mod LimitsExamples

@@ -2,7 +2,6 @@
 
 mod extents;
 mod greatest;
-pub mod laws;
 mod templates;
 mod text;
 

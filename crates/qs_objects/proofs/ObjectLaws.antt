@@ -10,16 +10,13 @@ use Rattle.qs_objects.specs.audit.Objects.{kind_of}
 use Rattle.qs_objects.specs.audit.Operations.{is_query, arity, is_of_account, is_of_buffer}
 use Rattle.qs_objects.specs.Operations.{fits}
 use Rattle.qs_objects.specs.declared.Op.{Op}
-use Rattle.qs_objects.specs.Laws.{IsCommand, CommandsNeverAnswer, QueriesAnswer, MisfitsDoNothing, ShapesStay, RangesBegin, RangesStay}
+use Rattle.qs_objects.specs.Laws.{IsCommand, CommandsNeverAnswer, QueriesAnswer, ShapesStay, RangesBegin, RangesStay}
 
 pub never_answers : CommandsNeverAnswer
 never_answers = search rules
 
 pub answers : QueriesAnswer
 answers = search rules
-
-pub does_nothing : MisfitsDoNothing
-does_nothing = search rules
 
 pub same_shape : ShapesStay
 same_shape = search (rules, length-replicate)

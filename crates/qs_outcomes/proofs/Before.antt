@@ -1,16 +1,12 @@
 -- Orders compared by their clients' numbers: one that is before another stays so however the two go on, and none is
 -- before an order that it goes on from. A reduced order in two parts is reduced in both, and no order leads back to
 -- where it began. The least order that leads to a configuration is found by these. Each goes by induction on an order.
-use Rattle.std.proofs.Common.{◌≡◌, ◌<◌, ◌≤◌, ℕ, suc, false, ◌==◌, List, [], ◌∷◌, ◌++◌, refl, sym, ap, ◌∙◌, subst, arith, inl, inr, ⊎_elim, append_assoc}
-use Rattle.std.proofs.lemmas.List.{append_cancel_left}
+use Rattle.std.proofs.Common.{◌≡◌, ◌<◌, List, [], ◌∷◌, ◌++◌, refl, ap, ◌∙◌, subst, arith, inl, inr, ⊎_elim, append_assoc}
 use Rattle.qs_objects.specs.declared.held.Ticket.{Ticket}
-use Rattle.qs_objects.proofs.Choices.{num_cases}
 use Rattle.qs_program.specs.audit.Program.{ProgramShape}
 use Rattle.qs_meaning.specs.audit.Configurations.{Configuration, configuration_after, configuration_from, first_configuration, one_block_on}
 use Rattle.qs_meaning.specs.Reduced.{IsReducedFrom}
-use Rattle.qs_meaning.specs.audit.Solo.{put}
 use Rattle.qs_meaning.proofs.Orders.{configuration-append}
-use Rattle.qs_meaning.proofs.TreeWalks.{put_here, put_there}
 use Rattle.qs_outcomes.specs.LeastOrders.{IsBefore}
 use Rattle.qs_standings.specs.Standings.{IsReducedAfter}
 
@@ -50,10 +46,6 @@ reduced-join : (p : ProgramShape) (g : Configuration) (ts us : List Ticket) → 
 reduced-join p g [] us h k = k
 reduced-join p g (t ∷ ts) us h k = (h.0, reduced-join p (one_block_on p t.client g) ts us h.1 k)
 
-reduced-rest : (p : ProgramShape) (g : Configuration) (ts us : List Ticket) → IsReducedFrom p g (ts ++ us) → IsReducedFrom p (configuration_from p g ts) us
-reduced-rest p g [] us h = h
-reduced-rest p g (t ∷ ts) us h = reduced-rest p (one_block_on p t.client g) ts us h.1
-
 -- where a reduced order leads, by its part after the front
 after_front : (p : ProgramShape) (front order : List Ticket) (r : IsReducedAfter p front order) → configuration_after p order ≡ configuration_from p (configuration_after p front) r.rest
 after_front p front order r = ap (configuration_after p) r.whole ∙ configuration-append p (first_configuration p) front r.rest
@@ -64,31 +56,3 @@ reduced_onward p front order rest r h = record {
   whole = ap (λ ts. ts ++ rest) r.whole ∙ append_assoc front r.rest rest;
   reduced = reduced-join p (configuration_after p front) r.rest rest r.reduced (subst (λ g. IsReducedFrom p g rest) (after_front p front order r) h);
 }
-
-pub reduced_back : (p : ProgramShape) (front order rest : List Ticket) → IsReducedAfter p front order → IsReducedAfter p front (order ++ rest) → IsReducedFrom p (configuration_after p order) rest
-reduced_back p front order rest r whole =
-    let same : r.rest ++ rest ≡ whole.rest =
-    append_cancel_left front (r.rest ++ rest) whole.rest (sym (append_assoc front r.rest rest) ∙ (ap (λ ts. ts ++ rest) (sym r.whole) ∙ whole.whole)) in
-    subst (λ g. IsReducedFrom p g rest) (sym (after_front p front order r))
-    (reduced-rest p (configuration_after p front) r.rest rest (subst (IsReducedFrom p (configuration_after p front)) (sym same) whole.reduced))
-
--- no client's count falls
-grows : (p : ProgramShape) (g : Configuration) (ts : List Ticket) (c : ℕ) → g.begun c ≤ (configuration_from p g ts).begun c
-grows p g [] c = omega arith
-grows p g (t ∷ ts) c =
-    let later : (one_block_on p t.client g).begun c ≤ (configuration_from p (one_block_on p t.client g) ts).begun c = grows p (one_block_on p t.client g) ts c in
-    ⊎_elim
-    (λ (is : t.client ≡ c).
-    let on : put g.begun t.client (suc (g.begun t.client)) c ≡ suc (g.begun c) =
-    subst (λ n. put g.begun t.client (suc (g.begun t.client)) n ≡ suc (g.begun n)) is (put_here g.begun t.client (suc (g.begun t.client))) in
-    omega (arith, on, later))
-    (λ (differs : (t.client == c) ≡ false). let on = put_there g.begun t.client (suc (g.begun t.client)) c differs in omega (arith, on, later))
-    (num_cases t.client c)
-
--- a block leads elsewhere, and never back
-pub never_back : (p : ProgramShape) (g : Configuration) (t : Ticket) (ts : List Ticket) → configuration_from p g (t ∷ ts) ≡ g → ⊥
-never_back p g t ts e =
-    let on : put g.begun t.client (suc (g.begun t.client)) t.client ≡ suc (g.begun t.client) = put_here g.begun t.client (suc (g.begun t.client)) in
-    let more : (one_block_on p t.client g).begun t.client ≤ (configuration_from p (one_block_on p t.client g) ts).begun t.client = grows p (one_block_on p t.client g) ts t.client in
-    let same : (configuration_from p (one_block_on p t.client g) ts).begun t.client ≡ g.begun t.client = ap (λ (g : Configuration). g.begun t.client) e in
-    omega (arith, on, more, same)

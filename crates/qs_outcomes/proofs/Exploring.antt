@@ -221,19 +221,6 @@ pushed_on p k front rows s c before middle after client (added, is, next) (inr (
     seen_or_not (inl seen) goes = inr seen
     seen_or_not (inr not) goes = absurd (not goes)
 
-pub none_pushed : (p : ProgramShape) (k : Classes) (front : List Ticket) (rows : List RowShape) (s : StandingShape) (before : List StandingShape)
-    → IsLonger p k front rows s (length p.clients) before before
-none_pushed p k front rows s before = (
-  [],
-  sym (append-nil before),
-  record {
-    next = tt;
-    sorted = tt;
-    each = λ c from within. absurd (omega (arith, from, within));
-    few = omega arith;
-  },
-)
-
 -- where no block is left nobody goes on
 pub none_next : (p : ProgramShape) (k : Classes) (front : List Ticket) → AreClasses p k → (rows : List RowShape) (s : StandingShape) → NoneNext p s → AreNextFrom p k front rows s 0 []
 none_next p k front are rows s none = record {

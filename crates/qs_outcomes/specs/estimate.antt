@@ -2,4 +2,3 @@
 pub mod Estimates
 pub mod Laws
 -- What crates promise one another, what proofs use, and worked examples.
-pub mod EstimateExamples

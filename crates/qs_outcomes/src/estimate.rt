@@ -5,4 +5,4 @@ mod laws;
 mod ways;
 
 pub use estimate::{Estimate, MOST_TOLD, estimate_after};
-pub use laws::{estimate_examples, least_is_there, most_suffices};
+pub use laws::{least_is_there, most_suffices};

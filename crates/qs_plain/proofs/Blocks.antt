@@ -24,7 +24,7 @@ use Rattle.qs_plain_laws.specs.orders.Quiet.{IsQuiet}
 use Rattle.qs_plain_laws.proofs.orders.AloneSteps.{IsWithin, left_of, named_append}
 use Rattle.qs_plain_laws.proofs.orders.BlockAlone.{named_turn, turn_on}
 use Rattle.qs_plain_laws.proofs.orders.BlockReached.{begin_quiet, comes_in, has_client, out_is, shown_in_order}
-use Rattle.qs_plain.specs.Blocks.{IsOneBlockOn, IsQuietNow, blocks_begun}
+use Rattle.qs_plain.specs.Blocks.{IsOneBlockOn, blocks_begun}
 use Rattle.qs_plain.specs.Rules.{RulesState, plain_of}
 use Rattle.qs_plain.proofs.Playing.{plays-append}
 
@@ -70,14 +70,6 @@ module _ (p : ProgramShape) (sound : IsSound p) (order : List Ticket) (blocks : 
       (λ (quiet : IsQuiet p later begun s). absurd (true≢false (sym (out_is (client_at s t.client).stage (quiet.stages t.client)) ∙ e)))
       now.at
 
-  -- where it is between two blocks nobody is in a block
-  pub over : (first s : Plain) → Stands p later begun t first s → is_out (client_at s t.client).stage ≡ true → IsQuiet p later begun s
-  over first s now e = ⊎_elim
-      (λ (within : IsWithin p later begun t s).
-      let inside : is_out (client_at s t.client).stage ≡ false = ap is_out within.2.stage in absurd (true≢false (sym e ∙ inside)))
-      (λ (quiet : IsQuiet p later begun s). quiet)
-      now.at
-
   module _ (first s n : Plain) (now : Stands p later begun t first s) (e : is_out (client_at s t.client).stage ≡ false)
       (is : n ≡ plays p (actors.Client t.client ∷ map actors.Handler (text_of p t).reserved) s) where
     pub stands_on : Stands p later begun t first n
@@ -101,11 +93,6 @@ pub record ArePlayed (p : ProgramShape) (clients rest : List ℕ) (r : RulesStat
 module _ (p : ProgramShape) (clients : List ℕ) (c : ℕ) (rest : List ℕ) (r : RulesState) (now : ArePlayed p clients (c ∷ rest) r) where
   counts : ◌≡◌ {A = Counts} (blocks_begun r) (configuration_after p r.order).begun
   counts = λ i d. now.quiet.begun d i
-
-  pub quiet_now : IsQuietNow r
-  quiet_now =
-      subst (λ q. IsQuiet q r.order (blocks_begun r) (plain_of r)) (sym now.program)
-      (subst (λ b. IsQuiet p r.order b (plain_of r)) (sym counts) now.quiet)
 
   pub next_left : IsLegal p (order_of clients) → blocks_begun r c < blocks_of r.program c
   next_left legal =

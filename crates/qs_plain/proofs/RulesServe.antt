@@ -48,11 +48,6 @@ handled_and_replied s h new t q v = record {
 }
 
 module _ (s : Plain) (h : ℕ) (x : HandlerState) (q : QueueState) (qs : List QueueState) where
-  item_nothing : (items : List QueueItem) (new : HandlerState) → ServesItem x q qs items Nothing new → item_step s h (handler_of_state x) q.queue (queues_of qs) items ≡ None
-  item_nothing [] new sv = refl
-  item_nothing (item.Command r ∷ items) new sv = let e : Nothing ≡ Done = sv.0 in cc
-  item_nothing (item.Query r ∷ items) new sv = let e : Nothing ≡ Replied q.queue.ticket r (run_one x.held q.queue.ticket r).1 = sv.0 in cc
-  item_nothing (item.EndMark ∷ items) new sv = let e : Nothing ≡ Done = sv.0 in cc
 
   item_done : (items : List QueueItem) (new : HandlerState) → ServesItem x q qs items Done new → item_step s h (handler_of_state x) q.queue (queues_of qs) items ≡ Some (plain_after_serving s h new)
   item_done [] new sv = let e : Done ≡ Nothing = sv.0 in cc
@@ -71,10 +66,6 @@ module _ (s : Plain) (h : ℕ) (x : HandlerState) (q : QueueState) (qs : List Qu
       let replies : (run_one x.held q.queue.ticket p).1 ≡ v = cc in
       λ k. Some (handled_and_replied s h (sym sv.1 k) (tickets k) (requests k) (replies k))
   item_replied (item.EndMark ∷ items) new t r v sv = let e : Replied t r v ≡ Done = sv.0 in cc
-
-first_nothing : (s : Plain) (h : ℕ) (x new : HandlerState) (qs : List QueueState) → ServesFirst x qs Nothing new → queue_step s h (handler_of_state x) (queues_of qs) ≡ None
-first_nothing s h x new [] sv = refl
-first_nothing s h x new (q ∷ qs) sv = item_nothing s h x q qs q.queue.items new sv
 
 first_done : (s : Plain) (h : ℕ) (x new : HandlerState) (qs : List QueueState) → ServesFirst x qs Done new → queue_step s h (handler_of_state x) (queues_of qs) ≡ Some (plain_after_serving s h new)
 first_done s h x new [] sv = let e : Done ≡ Nothing = sv.0 in cc
@@ -107,9 +98,6 @@ module _ (r : RulesState) (h : ℕ) where
 
   handler_now : (o : Option Plain) → queue_step (plain_of r) h (handler_of_state old) (queues_of old.queues) ≡ o → step r.program (plain_of r) (actor.Handler h) ≡ o
   handler_now o e = subst (λ it. handler_step (plain_of r) h it ≡ o) (sym (plain_handler r.handlers h)) e
-
-  pub nothing_steps : (new : HandlerState) → ServesFirst old old.queues Nothing new → step r.program (plain_of r) (actor.Handler h) ≡ None
-  nothing_steps new sv = handler_now None (first_nothing (plain_of r) h old new old.queues sv)
 
   pub done_steps : (new : HandlerState) → ServesFirst old old.queues Done new
       → step r.program (plain_of r) (actor.Handler h) ≡ Some (plain_of (record { program = r.program; order = r.order; clients = r.clients; handlers = set r.handlers h new }))

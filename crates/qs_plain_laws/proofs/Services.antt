@@ -181,9 +181,6 @@ module _ (p : ProgramShape) (start : State) (order : List Ticket) (h : ℕ) wher
       abbrev new_parts : Ticket → List Event
       new_parts = put_at parts t []
 
-      abbrev new_wait : Ticket → List Request
-      new_wait = put_at l.wait t []
-
       both_fresh : AllByRecursion (λ u. same t u ≡ false) (l.past ++ l.queue)
       both_fresh = subst (AllByRecursion (λ u. same t u ≡ false)) ok.mine (each_kept (λ u. same t u ≡ false) (λ u. reserves p u h) order fresh)
 

@@ -3,4 +3,3 @@ pub mod Steps
 -- What crates promise one another, what proofs use, and worked examples.
 pub mod Finishing
 pub mod Progress
-pub mod StepExamples

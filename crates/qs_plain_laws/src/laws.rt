@@ -3,13 +3,6 @@
 ghost use Rattle.qs_plain_laws.specs.IsolationExamples.{IsolationExamples};
 ghost use Rattle.qs_plain_laws.specs.PlainIsolation.{PlainRunsAreIsolated};
 ghost use Rattle.qs_plain_laws.specs.PlainSyncSums.{PlainSyncsAreCounted};
-ghost use Rattle.qs_plain_laws.specs.PlayExamples.{PlayExamples};
-
-/// Runs under the plain rules, with their orders, replies, states and syncs, computed by the definitions; it does
-/// nothing.
-pub fn play_examples()
-    ensures examples { PlayExamples }
-{}
 
 /// Two clients that meet on one object, in both orders, with the states that each finds there and its commands on their
 /// way, computed by the definitions; it does nothing.

@@ -24,10 +24,6 @@ sum_by-taken f [] i d within = absurd (omega arith)
 sum_by-taken f (x ∷ xs) zero d within = rw sum_by-cons (omega arith)
 sum_by-taken f (x ∷ xs) (suc i) d within = rw (sum_by-cons f x (take i xs), sum_by-cons f x xs) (omega (arith, sum_by-taken f xs i d (omega arith)))
 
-pub sum_by-bound : {X : Type 0} (f : X → ℕ) (m : ℕ) (xs : List X) → AllByRecursion (λ x. f x ≤ m) xs → sum_by f xs ≤ length xs * m
-sum_by-bound f m [] each = omega arith
-sum_by-bound f m (x ∷ xs) each = rw sum_by-cons (omega (arith, each.0, sum_by-bound f m xs each.1))
-
 pub blocks-bound : (objects : List Declared) (cs : List ClientShape) → AllByRecursion (IsSoundClient objects) cs → sum_by (λ (c : ClientShape). length c.blocks) cs ≤ length cs * 64
 blocks-bound objects [] each = omega arith
 blocks-bound objects (c ∷ cs) each = rw sum_by-cons (omega (arith, each.0.blocks, blocks-bound objects cs each.1))

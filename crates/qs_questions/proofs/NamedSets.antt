@@ -1,6 +1,5 @@
 -- The clients that a list names, as a byte that grows with each of the list.
-use Rattle.std.proofs.Common.{◌≡◌, ℕ, ◌+◌, ◌<◌, ◌≤◌, Bool, true, false, ◌||◌, List, [], ◌∷◌, ◌++◌, length, get_or, take, refl, ap, ap₂, sym, ◌∙◌, bit_or}
-use Rattle.std.proofs.lemmas.List.{take_all}
+use Rattle.std.proofs.Common.{◌≡◌, ℕ, ◌+◌, ◌<◌, Bool, true, false, ◌||◌, List, [], ◌∷◌, ◌++◌, length, get_or, take, refl, ap, ap₂, sym, ◌∙◌, bit_or}
 use Rattle.std.proofs.lemmas.List.Folds.{list_any-append}
 use Rattle.qs_objects.specs.ByteSets.{in_byte}
 use Rattle.qs_program.specs.audit.Program.{ProgramShape}
@@ -8,7 +7,7 @@ use Rattle.qs_conditions.specs.declared.condition.Summand.{Summand}
 use Rattle.qs_conditions.specs.declared.condition.Step.{Step}
 use Rattle.qs_conditions.specs.declared.condition.Step.TheVariants as s
 use Rattle.qs_script.specs.declared.tree.tree.Relation.{Relation}
-use Rattle.qs_standings.proofs.going.GoingSets.{in_none, in_or}
+use Rattle.qs_standings.proofs.going.GoingSets.{in_or}
 use Rattle.qs_standings.proofs.RowSteps.{take_more}
 use Rattle.qs_questions.specs.NamedClients.{is_named, named_clients, names}
 use Rattle.qs_questions.specs.Questions.{summands_of}
@@ -17,9 +16,6 @@ use Rattle.qs_questions.proofs.UnknownPlaces.{summands_append}
 or_false : (b : Bool) → (b || false) ≡ b
 or_false true = refl
 or_false false = refl
-
-pub nobody : in_byte 0 ≡ (λ c. false)
-nobody = λ i c. in_none c i
 
 pub both_sets : (a b : ℕ) (f g : ℕ → Bool) → in_byte a ≡ f → in_byte b ≡ g → (c : ℕ) → in_byte (bit_or a b) c ≡ (f c || g c)
 both_sets a b f g e h c = in_or a b c ∙ ap₂ (λ u v. u || v) (λ i. e i c) (λ i. h i c)
@@ -34,12 +30,6 @@ module _ {X : Type 0} (F : List X → ℕ → Bool)
       ∙ ap₂ (λ a b. a || b) (before c) (λ j. here j c)
       ∙ sym (join (take i xs) (x ∷ []) c)
       ∙ ap (λ ys. F ys c) (ap (λ y. take i xs ++ y ∷ []) item ∙ sym (take_more xs i x within))
-
-  pub set_all : (i set : ℕ) → length xs ≤ i → ((c : ℕ) → in_byte set c ≡ F (take i xs) c) → in_byte set ≡ F xs
-  set_all i set past each = λ j c. at c j
-    where
-      at : (c : ℕ) → in_byte set c ≡ F xs c
-      at c = each c ∙ ap (λ ys. F ys c) (take_all i xs past)
 
 module _ (p : ProgramShape) where
   pub named_join : (xs ys : List Summand) (c : ℕ) → is_named p (xs ++ ys) c ≡ (is_named p xs c || is_named p ys c)

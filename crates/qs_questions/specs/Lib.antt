@@ -5,4 +5,3 @@ pub mod Claims
 -- What crates promise one another, what proofs use, and worked examples.
 pub mod Laws
 pub mod Answering
-pub mod QuestionExamples

@@ -2,7 +2,6 @@
 
 ghost use Rattle.qs_questions.specs.Claims.{ChangesKeepSought, StepsAnswer};
 ghost use Rattle.qs_questions.specs.Laws.{AskingChangesNothing, RepliesAreThere};
-ghost use Rattle.qs_questions.specs.QuestionExamples.{QuestionExamples};
 
 /// A query that a condition may ask changes nothing; and where the program has the reply that is asked for, the object
 /// gives one, as long as it is of its declared kind. It does nothing.
@@ -19,10 +18,4 @@ pub fn steps_answer()
 /// Where alike clients change places of which a condition names none, it says the same as before; it does nothing.
 pub fn changes_keep_sought()
     ensures same { ChangesKeepSought }
-{}
-
-/// Conditions on two clients that withdraw from one account: which of them ask for what is not there, and which hold
-/// after each order, computed by the definitions; it does nothing.
-pub fn question_examples()
-    ensures examples { QuestionExamples }
 {}

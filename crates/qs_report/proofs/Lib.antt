@@ -4,6 +4,5 @@ pub mod SyncLines
 pub mod UniqueTexts
 pub mod UniqueOutcomes
 pub mod UniqueEnds
-pub mod WorkedTexts
 pub mod MarkedLines
 mod EndsApart

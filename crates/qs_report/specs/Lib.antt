@@ -13,10 +13,3 @@ pub mod EstimateText
 pub mod Faults
 -- What crates promise one another, what proofs use, and worked examples.
 pub mod Lines
-pub mod Examples
-pub mod GraphTextExamples
-pub mod OutcomesTextExamples
-pub mod EndsTextExamples
-pub mod AnswerTextExamples
-pub mod TallyTextExamples
-pub mod EstimateTextExamples

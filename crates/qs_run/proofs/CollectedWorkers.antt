@@ -10,7 +10,7 @@ use Rattle.qs_objects.specs.declared.held.Next.TheVariants.{Closed}
 use Rattle.qs_objects.specs.declared.held.Ticket.{Ticket}
 use Rattle.qs_program.specs.audit.Program.{ProgramShape}
 use Rattle.qs_program.specs.Sound.{IsSound}
-use Rattle.qs_program.specs.audit.Limits.{most_clients, most_handlers}
+use Rattle.qs_program.specs.audit.Limits.{most_handlers}
 use Rattle.qs_meaning.specs.audit.Serial.{IsLegal}
 use Rattle.qs_syncset.specs.declared.mode.Mode.{Mode}
 use Rattle.qs_handler.specs.audit.HandlerRuns.{Task}
@@ -25,7 +25,7 @@ use Rattle.qs_run.specs.declared.worker.ClientWorker.{ClientWorker}
 use Rattle.qs_run.specs.declared.worker.HandlerWorker.{HandlerWorker}
 use Rattle.qs_run.specs.Collected.{AreAllJoined, AreAllPaired, HasTakenAll, IsBooked, worker_journal, worker_state, without_lanes_below}
 use Rattle.qs_run.proofs.ListPlaces.{first_of, map_still}
-use Rattle.qs_run.proofs.CollectedRun.{IsCollected, clients_many, handlers_many}
+use Rattle.qs_run.proofs.CollectedRun.{IsCollected, handlers_many}
 
 -- what `HasTakenAll` says, by the tickets alone
 abbrev TakesAll : ProgramShape → List Ticket → TicketsView → Type 0
@@ -57,12 +57,6 @@ module _ {D : Type 0} where
     few_handlers sound =
         let many = handlers_many p mode size handlers clients ran in
         let few = sound.objects in
-        omega (arith, many, few)
-
-    pub few_clients : IsSound p → length clients ≤ most_clients
-    few_clients sound =
-        let many = clients_many p mode size handlers clients ran in
-        let few = sound.clients in
         omega (arith, many, few)
 
   -- a handler without lanes has its tickets, its journal and its state still

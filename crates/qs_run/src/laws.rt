@@ -1,3 +1,3 @@
 //! What is so of all running threads, for callers' proofs and for readers.
 
-pub use qs_run_laws::laws::{outcome_examples, settled};
+pub use qs_run_laws::laws::settled;

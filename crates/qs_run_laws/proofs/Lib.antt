@@ -5,5 +5,4 @@ pub mod ThreadHistories
 pub mod LanesMeet
 pub mod ThreadsIsolated
 pub mod RunOutcomes
-pub mod OutcomeSample
 pub mod ClientRowsEnd

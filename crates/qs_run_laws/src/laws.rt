@@ -1,6 +1,5 @@
 //! What is so of all running threads, for callers' proofs and for readers.
 
-ghost use Rattle.qs_run_laws.specs.OutcomeExamples.{OutcomeExamples};
 ghost use Rattle.qs_run_laws.specs.Outcomes.{ThreadRunsHaveOutcomes};
 
 /// The law of running threads, whatever their schedule, in each mode and with each chunk size: once all have ended,
@@ -9,10 +8,4 @@ ghost use Rattle.qs_run_laws.specs.Outcomes.{ThreadRunsHaveOutcomes};
 /// run along it, and the synchronisations are the exact counts of the mode. This function does nothing.
 pub fn settled()
     ensures outcomes { ThreadRunsHaveOutcomes }
-{}
-
-/// A run of two clients on two objects, written out, with what the law says of it, computed by the definitions. This
-/// function does nothing.
-pub fn outcome_examples()
-    ensures examples { OutcomeExamples }
 {}

@@ -8,7 +8,7 @@ use Rattle.qs_diagnosis.specs.Spots.{begin, line_length, line_end_at, moved, spo
 use Rattle.qs_script.specs.declared.tokens.token.Token.{Token}
 use Rattle.qs_script.specs.declared.tokens.lex.TokenFault.{TokenFault}
 use Rattle.qs_script.specs.audit.tokens.Tokens.{after, tokens_of}
-use Rattle.qs_script.proofs.tokens.Lexemes.{then_tokens, after-after, after-nil}
+use Rattle.qs_script.proofs.tokens.Lexemes.{then_tokens, after-after}
 use Rattle.qs_script.proofs.tokens.ByLine.{by_line}
 use Rattle.qs_script.specs.Lines.{IsLine, IsFaultLine, IsTokenLine, line_from}
 
@@ -18,9 +18,6 @@ Tokens = Result (List Token) TokenFault
 -- after the bytes before a place, which have these tokens, anything has its own
 pub record IsFront (text : List ℕ) (place : ℕ) (us : List Token) : Type 0 where
   pub joins : (ys : List ℕ) → tokens_of (take place text ++ ys) ≡ after us (tokens_of ys)
-
-pub no_front : (text : List ℕ) → IsFront text 0 []
-no_front text = record { joins = λ ys. sym (after-nil (tokens_of ys)) }
 
 front_tokens : (text : List ℕ) (place : ℕ) (us : List Token) → IsFront text place us → tokens_of (take place text) ≡ Ok us
 front_tokens text place us h =
@@ -135,16 +132,6 @@ pub tokens_there : (text : List ℕ) (place : ℕ) (us vs ts : List Token) → I
     → length us + length vs ≤ length ts
 tokens_there text place us vs ts h cut is =
     many us vs ts (drop place text) (nat_lt (line_end_at text place) (length (drop place text))) refl cut (sym (rest_tokens text place us h) ∙ is)
-
--- where no line comes after it, the text has these tokens and no others
-pub all_there : (text : List ℕ) (place : ℕ) (us vs : List Token) → IsFront text place us → length (drop place text) ≤ line_end_at text place → tokens_of (line_from text place) ≡ Ok vs
-    → tokens_of text ≡ Ok (us ++ vs)
-all_there text place us vs h last cut =
-    rest_tokens text place us h ∙ ap (after us) (of_last_line (drop place text) last ∙ cut)
-
-pub same_tokens : (r : Tokens) (ts us : List Token) → r ≡ Ok ts → r ≡ Ok us → ts ≡ us
-same_tokens (Ok vs) ts us p q = cc
-same_tokens (Err e) ts us p q = cc
 
 pub same_fault : (r : Tokens) (e f : TokenFault) → r ≡ Err e → r ≡ Err f → e ≡ f
 same_fault (Ok vs) e f p q = cc

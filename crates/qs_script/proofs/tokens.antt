@@ -1,6 +1,5 @@
 pub mod Powers
 pub mod Lexemes
 pub mod TokenCounts
-pub mod Suffixes
 pub mod Lists
 pub mod ByLine

@@ -5,7 +5,6 @@ pub mod Lines
 pub mod Reads
 -- What crates promise one another, what proofs use, and worked examples.
 pub mod Results
-pub mod Examples
 pub mod tokens
 pub mod tree
 pub mod grammar

@@ -7,16 +7,8 @@ ghost use Rattle.qs_script.specs.declared.fault.ReadFault.TheVariants.{Memory};
 ghost use Rattle.qs_script.specs.audit.Reads.{IsScriptText};
 ghost use Rattle.qs_script.specs.Reads.{IsRefused};
 ghost use Rattle.qs_script.specs.tree.Sizes.{statements};
-ghost use Rattle.qs_script.specs.Examples.{TokenExamples, ScriptExamples};
 
 pub use crate::grammar::laws::{one_place, one_tree};
-
-/// Worked examples: texts with their tokens or their first token fault, texts with their scripts, and texts that are
-/// none.
-pub fn examples()
-    ensures tokens { TokenExamples }
-    ensures scripts { ScriptExamples }
-{}
 
 /// A text is at most one script's, and what is a script's text is refused only where memory runs out: so what `read`
 /// answers is, but for memory, settled by the text.

@@ -1,20 +1,16 @@
 -- Statements run one after another end as their list does, and the objects of a list change as those of the meaning.
 -- The loops of a block alone, over statements and over turns, stand on this: what was run so far and what is left make
 -- up the whole. It goes by cases on the first statement.
-use Rattle.std.proofs.Common.{◌≡◌, ◌<◌, ◌+◌, ℕ, suc, Bool, true, false, List, [], ◌∷◌, length, get_or, drop, refl, sym, ◌∙◌, subst, arith, add-one, ◌≤◌, if◌then◌else◌, ◌==◌, ⊎_elim, Option, Some, None, ℤ, pos, get_or-set_same, get_or-set_other, ◌≢◌}
-use Rattle.std.specs.Prelude.{unwrap_or, slice_set}
+use Rattle.std.proofs.Common.{◌≡◌, ◌<◌, ◌+◌, ℕ, suc, Bool, true, false, List, [], ◌∷◌, length, get_or, drop, refl, sym, ◌∙◌, subst, arith, add-one, ◌≤◌, if◌then◌else◌, ⊎_elim}
 use Rattle.std.proofs.lemmas.Grind.{common_steps}
 use Rattle.std.proofs.Math.Seq.{drop-cons}
 use Rattle.qs_objects.specs.audit.Act.{State}
-use Rattle.qs_objects.proofs.Choices.{num_cases, apart_eqb}
 use Rattle.qs_program.specs.declared.code.Stmt.{Stmt}
 use Rattle.qs_program.specs.declared.code.Stmt.TheVariants.{Command, Query, Assign, If, Repeat, Leave}
 use Rattle.qs_program.specs.audit.Statements.{end}
 use Rattle.qs_program.specs.audit.Values.{Locals, test_value}
 use Rattle.qs_program.specs.Views.{statements_of, single}
-use Rattle.qs_meaning.specs.audit.Serial.{no_state}
-use Rattle.qs_meaning.specs.audit.Solo.{States, Ending, Runs, exec, put, then_run, turns_run, value_of}
-use Rattle.qs_meaning.proofs.TreeWalks.{put_here, put_there}
+use Rattle.qs_meaning.specs.audit.Solo.{States, Ending, Runs, exec, then_run, turns_run}
 use Rattle.qs_serial.specs.Alone.{AreCallsWithin, EndsWith, states_in}
 
 -- the same but for the trace
@@ -77,23 +73,6 @@ calls_drop n xs i s d within is h =
     let whole : AreCallsWithin n (statements_of (get_or xs i d ∷ drop (suc i) xs)) = subst (λ ys. AreCallsWithin n (statements_of ys)) e h in
     let parts = calls_first n (get_or xs i d) (drop (suc i) xs) whole in
     (subst (λ s. AreCallsWithin n (single s)) (sym is) parts.0, subst (λ k. AreCallsWithin n (statements_of (drop k xs))) (sym (add-one i)) parts.1)
-
--- the objects of a list with another one at a place
-pub states_in-set : (ss : List State) (h : ℕ) (s : State) → h < length ss → states_in (slice_set ss h s) ≡ put (states_in ss) h s
-states_in-set ss h s within = λ i g. at g i
-  where
-    at : (g : ℕ) → states_in (slice_set ss h s) g ≡ put (states_in ss) h s g
-    at g =
-        ⊎_elim
-        (λ (is : h ≡ g). subst (λ g. states_in (slice_set ss h s) g ≡ put (states_in ss) h s g) is
-        (get_or-set_same ss h s no_state within ∙ sym (put_here (states_in ss) h s)))
-        (λ (other : (h == g) ≡ false). let apart : h ≢ g = apart_eqb h g other in
-        get_or-set_other ss h g s no_state (λ e. apart (sym e)) ∙ sym (put_there (states_in ss) h s g other))
-        (num_cases h g)
-
-pub value_or_zero : (v : Option ℤ) → unwrap_or v (pos 0) ≡ value_of v
-value_or_zero None = refl
-value_or_zero (Some v) = refl
 
 -- a turn that a `leave` ended is the last
 pub turns_left : (n k : ℕ) (body : Runs) (l m : Locals) (st : States) (ss : List State) → n ≡ suc k → EndsWith (body l st) true m ss → EndsWith (turns_run n body l st) false m ss

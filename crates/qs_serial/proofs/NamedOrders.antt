@@ -1,7 +1,7 @@
 -- A list of clients is read from its beginning, with a count of the blocks that each client has begun: the order that
 -- the whole list names is legal exactly where the rest of the list names a legal rest from these counts. The loop of
 -- `names_order` has this as its invariant. It goes by cases on whether the next client has a block left.
-use Rattle.std.proofs.Common.{◌≡◌, ◌<◌, ℕ, suc, Bool, true, false, nat_lt, List, [], ◌∷◌, get_or, replicate, length, refl, sym, ap, ◌∙◌, subst, arith, length-set}
+use Rattle.std.proofs.Common.{◌≡◌, ◌<◌, ℕ, suc, Bool, true, false, nat_lt, List, [], ◌∷◌, get_or, length, refl, sym, ap, ◌∙◌, subst, arith, length-set}
 use Rattle.std.specs.Prelude.{slice_set}
 use Rattle.std.specs.List.{AllByRecursion}
 use Rattle.std.proofs.lemmas.List.{get_or_past}
@@ -10,7 +10,7 @@ use Rattle.qs_meaning.specs.audit.Reduced.{Counts}
 use Rattle.qs_meaning.specs.audit.Serial.{IsLegal, LegalFrom}
 use Rattle.qs_meaning.specs.audit.Solo.{put}
 use Rattle.qs_serial.specs.audit.NamedOrders.{order_from, order_of}
-use Rattle.qs_serial.proofs.Lookups.{lookup-replicate, lookup-set}
+use Rattle.qs_serial.proofs.Lookups.{lookup-set}
 
 abbrev pub counts : List ℕ → Counts
 counts begun c = get_or begun c 0
@@ -24,19 +24,7 @@ pub record IsReadSoFar (p : ProgramShape) (clients rest begun : List ℕ) : Type
   pub forth : IsLegal p (order_of clients) → RestIsLegal p (counts begun) rest
   pub back : RestIsLegal p (counts begun) rest → IsLegal p (order_of clients)
 
-pub read_none : (p : ProgramShape) (clients begun : List ℕ) → begun ≡ replicate 8 0 → IsReadSoFar p clients clients begun
-read_none p clients begun fresh = record {
-  long = ap length fresh;
-  forth = subst (λ b. RestIsLegal p b clients) (sym none);
-  back = subst (λ b. RestIsLegal p b clients) none;
-}
-  where
-    none : ◌≡◌ {A = Counts} (counts begun) (λ _. 0)
-    none = λ i c. (ap (λ xs. get_or xs c 0) fresh ∙ lookup-replicate 8 c 0) i
-
 module _ (p : ProgramShape) (clients : List ℕ) (c : ℕ) (rest begun : List ℕ) (now : IsReadSoFar p clients (c ∷ rest) begun) where
-  pub next_left : IsLegal p (order_of clients) → counts begun c < blocks_of p c
-  next_left legal = (now.forth legal).1
 
   pub read_on : c < 8 → counts begun c < blocks_of p c → (later : List ℕ) → later ≡ slice_set begun c (suc (counts begun c)) → IsReadSoFar p clients rest later
   read_on within left later set = record {

@@ -1,7 +1,7 @@
 -- What is due by a line and an input, in two parts: what they ask for, or what is due without a program; and what is made
 -- of a program. The functions of `asking` and `choosing` stand on it. Each goes by cases on the line, on what is due, or
 -- on whether the input's bytes are known.
-use Rattle.std.proofs.Common.{◌≡◌, ◌⊎◌, ℕ, Bool, List, Option, Some, None, false, sym, subst, inl, inr, take}
+use Rattle.std.proofs.Common.{◌⊎◌, ℕ, Bool, List, Option, Some, None, sym, subst, inr, take}
 use Rattle.std.specs.Prelude.{IfSome}
 use Rattle.qs_line.specs.declared.line.Settings.{Settings}
 use Rattle.qs_line.specs.audit.Line.{Line, Request, alike, ask, asks, check, estimate, fronts, graph, help, outcomes, play, refused, rules, run, tally, version}
@@ -15,55 +15,11 @@ use Rattle.qs_tally.specs.Tallies.{TallyShape}
 use Rattle.qs_played.specs.declared.fault.RunFault.{RunFault}
 use Rattle.qs_line.specs.declared.line.Format.{Format}
 use Rattle.qs_serve.specs.audit.Due.{longest}
-use Rattle.qs_serve.specs.Due.{HasAsked, HasAskedFor, HasAskedTimes, HasStarted, IsCounted, IsAsked, IsDue, IsDueOfProgram, IsDueOfText, IsFoundBefore, IsKeptBy, IsOfScript, IsOutOfMemory, IsProgramOf, IsProgramRead, IsRefusedBy, IsStartedBy, IsTextKept, IsTextRead, IsUnbegun, IsUnreadable, Lines, Serves, ServesStarting}
+use Rattle.qs_serve.specs.Due.{HasAsked, HasAskedFor, HasAskedTimes, HasStarted, IsCounted, IsAsked, IsDue, IsDueOfProgram, IsFoundBefore, IsOfScript, IsOutOfMemory, IsProgramRead, IsRefusedBy, IsStartedBy, IsUnbegun, Lines, Serves, ServesStarting}
 use Rattle.qs_serve.specs.Reading.{Reading}
 use Rattle.qs_serve.specs.declared.due.Due.{Due}
 use Rattle.qs_serve.specs.declared.due.Due.TheVariants.{Text, No, Refused}
-use Rattle.qs_serve.proofs.Dues.{due_by_fault, due_by_program, unreadable_is_no_input}
-
--- the text that was read is that of the known bytes, as far as they are read
-read_as : (known : Option (List ℕ)) (text : List ℕ) (P : List ℕ → Type 0) → IfSome known (λ bytes. text ≡ take longest bytes)
-    → P text → IfSome known (λ bytes. P (take longest bytes))
-read_as None text P is holds = tt
-read_as (Some bytes) text P is holds = subst P is holds
-
-pub program_read : (request : Request) (known : Option (List ℕ)) (failed : Bool) (text : List ℕ) (lines : Lines) (p : ProgramShape)
-    → failed ≡ false → IfSome known (λ bytes. text ≡ take longest bytes) → IsProgramOf request text lines p
-    → IsProgramRead request known failed lines p
-program_read request known failed text lines p fine is of =
-    (fine, read_as known text (λ it. IsProgramOf request it lines p) is of)
-
-either_known : (known : Option (List ℕ)) (text : List ℕ) (M : Type 0) (P : List ℕ → Type 0)
-    → IfSome known (λ bytes. text ≡ take longest bytes) → M ⊎ P text → M ⊎ IfSome known (λ bytes. P (take longest bytes))
-either_known known text M P is (inl memory) = inl memory
-either_known known text M P is (inr holds) = inr (read_as known text P is holds)
-
--- why the input's text has no program is due
-pub unreadable_is_due : (request : Request) (known : Option (List ℕ)) (failed : Bool) (text : List ℕ) (f : Fault) → failed ≡ false
-    → IfSome known (λ bytes. text ≡ take longest bytes) → IsUnreadable text f → IsDue (asks request) known failed (Refused f)
-unreadable_is_due request known failed text f fine is why =
-    subst (λ b. IsDue (asks request) known b (Refused f)) (sym fine) (
-      unreadable_is_no_input text f why,
-      either_known known text _ (λ it. IsDueOfText request it (Refused f)) is (due_by_fault request text f why),
-    )
-
--- a text that was read is kept, whatever is due
-pub text_kept : (known : Option (List ℕ)) (due : Due) (kept : List ℕ) → IsTextRead known kept → IsTextKept known due kept
-text_kept known (Text bytes) kept is = is
-text_kept known (No bytes) kept is = is
-text_kept known (Refused fault.Input) kept is = tt
-text_kept known (Refused fault.Memory) kept is = tt
-text_kept known (Refused fault.CommandLine) kept is = is
-text_kept known (Refused (fault.Read f)) kept is = is
-text_kept known (Refused (fault.Check f)) kept is = is
-text_kept known (Refused (fault.Play f)) kept is = is
-text_kept known (Refused (fault.Order f)) kept is = is
-text_kept known (Refused (fault.Run f)) kept is = is
-text_kept known (Refused (fault.Outcomes f)) kept is = is
-
-pub kept_by : (line : Line) (request : Request) (known : Option (List ℕ)) (due : Due) (kept : List ℕ) → line ≡ asks request
-    → IsTextKept known due kept → IsKeptBy line known due kept
-kept_by line request known due kept is stays = subst (λ l. IsKeptBy l known due kept) (sym is) stays
+use Rattle.qs_serve.proofs.Dues.{due_by_program}
 
 -- what is due of the program that was asked for is due by the line
 pub due_by_asked : (line : Line) (known : Option (List ℕ)) (failed : Bool) (settings : Settings) (lines : Lines) (p : ProgramShape) (due : Due)

@@ -16,15 +16,10 @@ use Rattle.qs_program.specs.audit.Program.{ProgramShape}
 use Rattle.qs_serial.specs.audit.NamedOrders.{order_of}
 use Rattle.qs_serial.specs.declared.fault.OrderFault.TheVariants as order_fault
 use Rattle.qs_outcomes.specs.Outcomes.{AreOutcomesAfter, OutcomesShape}
-use Rattle.qs_outcomes.specs.declared.fault.OutcomesFault.{OutcomesFault}
 use Rattle.qs_outcomes.specs.declared.fault.OutcomesFault.TheVariants as outcomes_fault
 use Rattle.qs_script.specs.declared.tree.tree.Item.{Item}
-use Rattle.qs_script.specs.declared.fault.ReadFault.{ReadFault}
 use Rattle.qs_script.specs.audit.Reads.{IsScriptText}
-use Rattle.qs_script.specs.Reads.{IsRefused}
-use Rattle.qs_check.specs.declared.fault_places.fault.CheckFault.{CheckFault}
 use Rattle.qs_check.specs.audit.Checked.{fault_of}
-use Rattle.qs_check.specs.Checked.{IsCheckOf}
 use Rattle.qs_check.specs.audit.resolution.Resolve.{program_of_items}
 use Rattle.qs_dot.specs.node_lines.NodeLines.{node_lines}
 use Rattle.qs_report.specs.EndsText.{IsEndsText}
@@ -41,7 +36,7 @@ use Rattle.qs_line.specs.declared.line.ReportStyle.{ReportStyle}
 use Rattle.qs_line.specs.audit.Line.{Line, Request, alike, ask, asks, check, estimate, fronts, graph, help, outcomes, play, refused, rules, run, tally, version}
 use Rattle.qs_conditions.specs.declared.claim.Claim.{Claim}
 use Rattle.qs_outcomes.specs.Answers.{AnswerShape}
-use Rattle.std.specs.Prelude.{Err, IfErr, IfOk, IfSome, MatchBool}
+use Rattle.std.specs.Prelude.{IfSome}
 use Rattle.std.specs.List.{AllByRecursion}
 use Rattle.qs_objects.specs.declared.held.Ticket.{Ticket}
 use Rattle.qs_meaning.specs.Configurations.{OrderOutcome}
@@ -57,8 +52,6 @@ use Rattle.qs_questions.specs.Claims.{IsAnswerBy, IsAnswerTo, is_sought}
 use Rattle.qs_questions.specs.Questions.{first_unknown_in}
 use Rattle.qs_report.specs.AnswerText.{IsAnswerText, is_yes}
 use Rattle.qs_json.specs.AnswerJson.{IsAnswerJson}
-use Rattle.qs_outcomes.specs.estimate.Estimates.{IsEstimateAfter}
-use Rattle.qs_outcomes.specs.declared.estimate.estimate.Estimate.{Estimate}
 use Rattle.qs_run.specs.many.Repeats.{IsTallyBy}
 use Rattle.qs_tally.specs.Tallies.{CountedShape, IsEnd, TallyShape, standings_in}
 use Rattle.qs_syncset.specs.declared.mode.Mode.{Mode}
@@ -67,18 +60,9 @@ use Rattle.qs_core.specs.state.CoreState.{IsShownIsolated}
 use Rattle.qs_played.specs.Isolation.{IsIsolated}
 use Rattle.qs_serve.specs.audit.RunReports.{report_by}
 use Rattle.qs_serve.specs.audit.Due.{told_report}
-use Rattle.qs_serve.specs.Due.{AreLinesFor, AreLinesWhere, IsAnswerAfterDue, IsAnswerTextTo, IsAnswered, IsCounted, IsDue, IsDueAfter, IsEstimateText, IsEstimated, answer_in, most_numbered, IsDueOfProgram, IsDueOfText, IsDueOfTextAlone, IsDueWithoutThreads, IsListOf, IsOutOfMemory, IsProgramOf, IsRefusedBy, IsReportBetween, IsReportOf, IsSomeText, IsTextBy, IsTextOfOutcomes, Lines, IsUnanswered, IsUnlisted, IsUnreadable, due_status, limit_in, listed_as, IsTextOfList, takes_threads}
-use Rattle.qs_serve.specs.Prepared.{prepared_by}
+use Rattle.qs_serve.specs.Due.{AreLinesFor, AreLinesWhere, IsAnswerAfterDue, IsAnswerTextTo, IsAnswered, IsCounted, IsDue, IsDueAfter, answer_in, most_numbered, IsDueOfProgram, IsDueOfText, IsListOf, IsOutOfMemory, IsProgramOf, IsRefusedBy, IsReportBetween, IsReportOf, IsSomeText, IsTextBy, IsTextOfOutcomes, Lines, IsUnanswered, IsUnlisted, due_status, limit_in, listed_as, IsTextOfList}
 use Rattle.qs_serve.specs.declared.due.Due.{Due}
 use Rattle.qs_serve.specs.declared.due.Due.TheVariants.{Text, No, Refused}
-
--- out of memory, whatever the line is, where no read has failed
-pub memory_is_due : (line : Line) (known : Option (List ℕ)) (failed : Bool) → failed ≡ false → IsDue line known failed (Refused fault.Memory)
-memory_is_due refused known failed fine = inl refl
-memory_is_due help known failed fine = inl refl
-memory_is_due version known failed fine = inl refl
-memory_is_due (asks request) known true fine = absurd (cc fine)
-memory_is_due (asks request) known false fine = (λ clash. absurd (cc clash), inl tt)
 
 -- of the faults only the input's has the status 4
 status_of_input : (f : Fault) → fault_status f ≡ 4 → f ≡ fault.Input
@@ -203,12 +187,6 @@ report_is_no_input style p played (Text bytes) is = λ none. none
 report_is_no_input style p played (No bytes) is = λ none. none
 report_is_no_input style p played (Refused f) is = λ e. absurd (cc (is, e))
 
-pub lines_are_no_input : (steps queues : List ℕ) (style : ReportStyle) (p : ProgramShape) (played : Played) (due : Due)
-    → IsReportBetween steps queues style p played due → ¬ IsRefusedBy fault.Input due
-lines_are_no_input steps queues style p played (Text bytes) is = λ none. none
-lines_are_no_input steps queues style p played (No bytes) is = λ none. none
-lines_are_no_input steps queues style p played (Refused f) is = λ e. absurd (cc (is, e))
-
 -- a list of outcomes, or of their ends, that is due by what was asked for, in either format
 due_by_list : (ends : Bool) (how : Format) (p : ProgramShape) (limit : ℕ) (clients : List ℕ) (all : OutcomesShape) (text : List ℕ)
     → AreOutcomesAfter p (order_of clients) all → all.configurations ≤ limit → IsTextOfList ends how p all text
@@ -226,12 +204,6 @@ due_after_list ends how p limit clients all (Text bytes) are within is = due_by_
 due_after_list ends how p limit clients all (No bytes) are within is = absurd is
 due_after_list ends how p limit clients all (Refused f) are within is =
     subst (λ g. IsDueAfter (listed_as ends how) p limit clients (Refused g)) (sym is) tt
-
--- a list has as many configurations as were asked for
-pub unlisted_in : (ends : Bool) (how : Format) (p : ProgramShape) (limit : ℕ) (clients : List ℕ) (f : OutcomesFault)
-    → IsUnlisted p limit clients f → IsDueAfter (listed_as ends how) p limit clients (Refused (fault.Outcomes f))
-unlisted_in false how p limit clients f is = is
-unlisted_in true how p limit clients f is = is
 
 -- what is due after the blocks of the clients that a list names is due by what was asked for
 pub due_by_outcomes : (how : OutcomesFormat) (p : ProgramShape) (limit threads : ℕ) (front : List Part) (clients : List ℕ) (due : Due)
@@ -333,20 +305,6 @@ tally_is_no_input how p times t (Text bytes) is = λ none. none
 tally_is_no_input how p times t (No bytes) is = λ none. none
 tally_is_no_input how p times t (Refused f) is = λ e. absurd (cc (is, e))
 
--- an estimate that is due by what was asked for
-pub due_by_estimate : (how : Format) (p : ProgramShape) (front : List Part) (clients : List ℕ) (e : Estimate) (due : Due)
-    → clients_of p front ≡ Ok clients → IsEstimateAfter p (order_of clients) e → IsEstimated how e due
-    → IsOutOfMemory due ⊎ IsDueOfProgram (estimate how front) [] p due
-due_by_estimate how p front clients e (Text bytes) named are is =
-    inr (of_named (λ xs. IsEstimateText how p xs bytes.items) (clients_of p front) clients named (e, are, is))
-due_by_estimate how p front clients e (No bytes) named are is = absurd is
-due_by_estimate how p front clients e (Refused f) named are is = inl (subst (λ g. IsOutOfMemory (Refused g)) (sym is) tt)
-
-pub estimate_is_no_input : (how : Format) (e : Estimate) (due : Due) → IsEstimated how e due → ¬ IsRefusedBy fault.Input due
-estimate_is_no_input how e (Text bytes) is = λ none. none
-estimate_is_no_input how e (No bytes) is = λ none. none
-estimate_is_no_input how e (Refused f) is = λ clash. absurd (cc (is, clash))
-
 -- a text that has no lines in it is due with any lines
 any_text : (request : Request) (found lines : Lines) (p : ProgramShape) (text : List ℕ) → AreLinesFor request found lines → IsTextBy request found p text
     → IsTextBy request lines p text
@@ -382,24 +340,6 @@ pub shown_is_legal : (p : ProgramShape) (mode : Mode) (size : ℕ) (picks : List
 unfolding IsShownIsolated IsIsolated
 shown_is_legal p mode size picks rounds played is = is.3.legal
 
--- the program of a text that was checked
-pub program_by_check : (request : Request) (text : List ℕ) (s : List Item) (found : Lines) (checked : Result ProgramShape CheckFault) → IsScriptText text s
-    → AreLinesFor request found (node_lines text s) → IsCheckOf s checked
-    → IfOk (prepared_by found checked) (λ it. IsProgramOf request text it.lines it.program)
-program_by_check request text s found (Ok p) script are is = (s, script, is.0, is.1, are)
-program_by_check request text s found (Err f) script are is = tt
-
--- the fault of a text that was checked
-pub fault_by_check : (text : List ℕ) (s : List Item) (found : Lines) (checked : Result ProgramShape CheckFault) → IsScriptText text s → IsCheckOf s checked
-    → IfErr (prepared_by found checked) (IsUnreadable text)
-fault_by_check text s found (Ok p) script is = tt
-fault_by_check text s found (Err check_fault.Memory) script is = inl tt
-fault_by_check text s found (Err f) script is = inr (s, script, is (λ e. absurd (cc e)))
-
--- and of a text that was read
-pub fault_by_read : (text : List ℕ) (f : ReadFault) → IsRefused f text → IsUnreadable text (fault.Read f)
-fault_by_read text f is = inr is
-
 -- what is due of the program of a text is due of the text
 by_program : (request : Request) (text : List ℕ) (s : List Item) (due : Due) → IsScriptText text s → fault_of s ≡ None
     → IsDueOfProgram request (node_lines text s) (program_of_items s) due → IsDueOfText request text due
@@ -421,45 +361,3 @@ due_by_program request text found p due of (inl memory) = inl memory
 due_by_program request text found p due (s, script, sound, e, are) (inr is) =
     inr (by_program request text s due script sound
     (subst (λ q. IsDueOfProgram request (node_lines text s) q due) e (due_with_lines request found (node_lines text s) p due are is)))
-
--- why a text has no program is due of the text
-pub due_by_fault : (request : Request) (text : List ℕ) (f : Fault) → IsUnreadable text f → IsOutOfMemory (Refused f) ⊎ IsDueOfText request text (Refused f)
-due_by_fault request text f (inl memory) = inl memory
-due_by_fault request text (fault.Read f) (inr is) = inr is
-due_by_fault request text (fault.Check f) (inr is) = inr is
-due_by_fault request text fault.CommandLine (inr is) = absurd is
-due_by_fault request text fault.Memory (inr is) = absurd is
-due_by_fault request text fault.Input (inr is) = absurd is
-due_by_fault request text (fault.Play f) (inr is) = absurd is
-due_by_fault request text (fault.Order f) (inr is) = absurd is
-due_by_fault request text (fault.Run f) (inr is) = absurd is
-due_by_fault request text (fault.Outcomes f) (inr is) = absurd is
-
--- and it is no fault of the input
-pub unreadable_is_no_input : (text : List ℕ) (f : Fault) → IsUnreadable text f → ¬ IsRefusedBy fault.Input (Refused f)
-unreadable_is_no_input text fault.Input (inl memory) = absurd memory
-unreadable_is_no_input text fault.Input (inr is) = absurd is
-unreadable_is_no_input text fault.CommandLine is = λ e. absurd (cc e)
-unreadable_is_no_input text fault.Memory is = λ e. absurd (cc e)
-unreadable_is_no_input text (fault.Read f) is = λ e. absurd (cc e)
-unreadable_is_no_input text (fault.Check f) is = λ e. absurd (cc e)
-unreadable_is_no_input text (fault.Play f) is = λ e. absurd (cc e)
-unreadable_is_no_input text (fault.Order f) is = λ e. absurd (cc e)
-unreadable_is_no_input text (fault.Run f) is = λ e. absurd (cc e)
-unreadable_is_no_input text (fault.Outcomes f) is = λ e. absurd (cc e)
-
--- where there are no threads: what takes them is refused, and all else is due as ever
-pub refused_alone : (request : Request) (text : List ℕ) (due : Due) → takes_threads request ≡ true → IsRefusedBy fault.CommandLine due
-    → IsDueOfTextAlone request text due
-refused_alone request text due e is =
-    inr (subst (λ b. MatchBool b (IsRefusedBy fault.CommandLine due) (IsDueOfText request text due)) (sym e) is)
-
-pub due_alone : (request : Request) (text : List ℕ) (due : Due) → takes_threads request ≡ false → IsOutOfMemory due ⊎ IsDueOfText request text due
-    → IsDueOfTextAlone request text due
-due_alone request text due e (inl memory) = inl memory
-due_alone request text due e (inr is) = inr (subst (λ b. MatchBool b (IsRefusedBy fault.CommandLine due) (IsDueOfText request text due)) (sym e) is)
-
-pub made_alone : (request : Request) (lines : Lines) (p : ProgramShape) (due : Due) → takes_threads request ≡ false
-    → IsDueWithoutThreads request lines p due → IsOutOfMemory due ⊎ IsDueOfProgram request lines p due
-made_alone request lines p due e (inl memory) = inl memory
-made_alone request lines p due e (inr is) = inr (subst (λ b. MatchBool b (IsRefusedBy fault.CommandLine due) (IsDueOfProgram request lines p due)) e is)

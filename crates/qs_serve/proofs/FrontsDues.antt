@@ -1,61 +1,30 @@
 -- What is due of the configurations after so many blocks, for one list of clients and for several. The functions of
 -- `fronts` stand on it.
-use Rattle.std.proofs.Common.{◌≡◌, ◌==◌, ◌⊎◌, ◌∙◌, ◌∷◌, ◌++◌, ℕ, List, [], Ok, false, length, append_assoc, ap, refl, sym, subst, inl, inr}
+use Rattle.std.proofs.Common.{◌≡◌, ◌==◌, ◌⊎◌, ◌∙◌, ◌∷◌, ◌++◌, ℕ, List, [], false, length, append_assoc, ap, refl, sym, subst, inl, inr}
 use Rattle.std.proofs.lemmas.List.{append-nil}
 use Rattle.std.specs.Prelude.{IsErr, IsOkAnd}
-use Rattle.std.specs.List.{AllByRecursion}
-use Rattle.qs_objects.specs.declared.held.Ticket.{Ticket}
 use Rattle.qs_program.specs.audit.Program.{ProgramShape}
 use Rattle.qs_serial.specs.audit.NamedOrders.{order_of}
-use Rattle.qs_meaning.specs.audit.Serial.{IsLegal}
-use Rattle.qs_meaning.proofs.Each.{each_map}
 use Rattle.qs_standings.specs.Lists.{HasOne}
 use Rattle.qs_standings.specs.Standings.{StandingShape}
-use Rattle.qs_outcomes.specs.Outcomes.{HasMoreThanAfter, HasPlaces}
-use Rattle.qs_outcomes.specs.declared.fault.OutcomesFault.{OutcomesFault}
-use Rattle.qs_outcomes.specs.declared.fault.OutcomesFault.TheVariants as outcomes_fault
-use Rattle.qs_levels.specs.meaning.Fronts.{AreFrontsAfter, IsAfter}
+use Rattle.qs_levels.specs.meaning.Fronts.{AreFrontsAfter}
 use Rattle.qs_report.specs.declared.faults.Fault.{Fault}
 use Rattle.qs_report.specs.declared.faults.Fault.TheVariants as fault
 use Rattle.qs_line.specs.audit.Line.{fronts}
 use Rattle.qs_line.specs.audit.Named.{clients_of}
 use Rattle.qs_line.specs.declared.line.Format.{Format}
 use Rattle.qs_line.specs.declared.parts.Part.{Part}
-use Rattle.qs_serve.specs.Due.{AreFrontsTexts, AreNoFronts, IsDueOfProgram, IsFaultOfFronts, IsFaultOfOrder, IsFrontsText, IsOutOfMemory, IsRefusedBy, fronts_in}
+use Rattle.qs_serve.specs.Due.{AreFrontsTexts, AreNoFronts, IsDueOfProgram, IsFaultOfOrder, IsFrontsText, IsOutOfMemory, fronts_in}
 use Rattle.qs_serve.specs.declared.due.Due.TheVariants.{Refused}
-use Rattle.qs_serve.proofs.Dues.{of_named}
-
-pub fronts_places : (p : ProgramShape) (front : List Ticket) (blocks : ℕ) (found : List StandingShape) → AreFrontsAfter p front blocks found → AllByRecursion (HasPlaces p) found
-fronts_places p front blocks found are =
-    each_map (λ s (a : IsAfter p front blocks s). record { locals = a.standing.locals; states = a.standing.states }) found are.sound
 
 -- a list whose length is not 0
 pub some_of : (found shown : List StandingShape) → shown ≡ found → false ≡ (length shown == 0) → (found ≡ [] → ⊥)
 some_of found shown e more none = absurd (cc (subst (λ n. false ≡ (n == 0)) (ap length (e ∙ none)) more))
 
-pub no_fronts : (p : ProgramShape) (blocks limit : ℕ) (clients : List ℕ) (f : OutcomesFault) → (f ≡ outcomes_fault.Limit → HasMoreThanAfter p (order_of clients) limit)
-    → (f ≡ outcomes_fault.Order → ¬ IsLegal p (order_of clients)) → AreNoFronts p blocks limit clients f
-no_fronts p blocks limit clients outcomes_fault.Limit more order = more refl
-no_fronts p blocks limit clients outcomes_fault.Order more order = inl (order refl)
-no_fronts p blocks limit clients outcomes_fault.Memory more order = tt
-
 pub fronts_text : (how : Format) (p : ProgramShape) (blocks : ℕ) (clients : List ℕ) (found : List StandingShape) (text : List ℕ) → AreFrontsAfter p (order_of clients) blocks found
     → (found ≡ [] → ⊥) → text ≡ fronts_in how p found → IsFrontsText how p blocks clients text
 unfolding IsFrontsText
 fronts_text how p blocks clients found text are some is = (found, are, some, is)
-
--- a fault after the blocks of the clients that a list names is one of the list
-pub fault_of_order : (p : ProgramShape) (blocks limit : ℕ) (order : List Part) (clients : List ℕ) (f : Fault) → clients_of p order ≡ Ok clients → IsFaultOfFronts p blocks limit clients f
-    → IsFaultOfOrder p blocks limit order f
-fault_of_order p blocks limit order clients fault.Memory named is = tt
-fault_of_order p blocks limit order clients (fault.Outcomes f) named is = of_named (λ xs. AreNoFronts p blocks limit xs f) (clients_of p order) clients named is
-fault_of_order p blocks limit order clients fault.CommandLine named is = absurd is
-fault_of_order p blocks limit order clients fault.Input named is = absurd is
-fault_of_order p blocks limit order clients (fault.Read f) named is = absurd is
-fault_of_order p blocks limit order clients (fault.Check f) named is = absurd is
-fault_of_order p blocks limit order clients (fault.Play f) named is = absurd is
-fault_of_order p blocks limit order clients (fault.Order f) named is = absurd is
-fault_of_order p blocks limit order clients (fault.Run f) named is = absurd is
 
 -- a text more stands behind those of the lists before
 pub texts_more : (how : Format) (p : ProgramShape) (blocks : ℕ) (orders : List (List Part)) (order : List Part) (text own : List ℕ) → AreFrontsTexts how p blocks orders text
@@ -77,6 +46,3 @@ due_by_fault how p blocks limit orders order (fault.Check f) one is = absurd is
 due_by_fault how p blocks limit orders order (fault.Play f) one is = absurd is
 due_by_fault how p blocks limit orders order (fault.Order f) one is = absurd is
 due_by_fault how p blocks limit orders order (fault.Run f) one is = absurd is
-
-pub order_is_no_input : (p : ProgramShape) (blocks limit : ℕ) (order : List Part) (f : Fault) → IsFaultOfOrder p blocks limit order f → ¬ IsRefusedBy fault.Input (Refused f)
-order_is_no_input p blocks limit order f is = λ e. subst (IsFaultOfOrder p blocks limit order) e is

@@ -1,6 +1,6 @@
 -- A list that is written place by place: the part that was written and one more element. The loops that write rows and
 -- copy objects stand on it.
-use Rattle.std.proofs.Common.{◌≡◌, ◌<◌, ◌≤◌, ◌+◌, ℕ, zero, suc, List, [], ◌∷◌, ◌++◌, length, get_or, take, flat_map, refl, sym, ap, ◌∙◌, arith, append_assoc, append-nil, add-one}
+use Rattle.std.proofs.Common.{◌≡◌, ◌<◌, ◌≤◌, ◌+◌, ℕ, zero, suc, List, [], ◌∷◌, ◌++◌, length, get_or, take, refl, sym, ap, ◌∙◌, arith, append_assoc, append-nil, add-one}
 use Rattle.std.specs.Prelude.{Some, slice_get}
 use Rattle.std.proofs.Common.{ℤ}
 use Rattle.std.proofs.lemmas.List.{length-take}
@@ -15,10 +15,6 @@ pub take_more : {X : Type 0} (xs : List X) (i : ℕ) (d : X) → i < length xs �
 take_more [] i d within = absurd (omega (arith, within))
 take_more (x ∷ xs) zero d within = refl
 take_more (x ∷ xs) (suc i) d within = rw add-one (ap (λ ys. x ∷ ys) (rw add-one at (take_more xs i d (omega (arith, within)))))
-
-flat_map-one : {X Y : Type 0} (f : X → List Y) (xs : List X) (x : X) → flat_map f (xs ++ x ∷ []) ≡ flat_map f xs ++ f x
-flat_map-one f [] x = append-nil (f x)
-flat_map-one f (y ∷ xs) x = ap (λ ys. f y ++ ys) (flat_map-one f xs x) ∙ sym (append_assoc (f y) (flat_map f xs) (f x))
 
 pub got : {X : Type 0} (xs : List X) (i : ℕ) (x : X) → slice_get xs i ≡ Some x → (i < length xs) × (x ≡ get_or xs i x)
 got [] i x e = absurd (cc)

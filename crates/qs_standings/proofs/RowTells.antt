@@ -1,7 +1,7 @@
 -- A row tells the configuration: each part of it is as long in any row of the program or says how long it is, so two
 -- rows are equal only where all their parts are; and a variable that no text names is 0. By this what was seen under a
 -- row need not be looked at again. It goes part by part, with the rest of the rows in hand.
-use Rattle.std.proofs.Common.{◌≡◌, ℕ, List, [], ◌∷◌, ◌++◌, length, flat_map, refl, sym, ap, ap₂, ◌∙◌, ℤ, pos, append_assoc, arith, inl, inr}
+use Rattle.std.proofs.Common.{◌≡◌, ℕ, List, [], ◌∷◌, ◌++◌, length, flat_map, refl, sym, ap, ap₂, ◌∙◌, ℤ, pos, append_assoc, arith}
 use Rattle.qs_objects.specs.audit.Act.{Content, State, account, buffer, grid}
 use Rattle.qs_objects.specs.Objects.{AreRowsOf, IsInRange}
 use Rattle.qs_objects.specs.audit.Rows.{join_rows}
@@ -19,7 +19,6 @@ use Rattle.qs_meaning.specs.audit.Serial.{no_state, zeros}
 use Rattle.qs_meaning.specs.audit.Solo.{States}
 use Rattle.qs_meaning.proofs.StateRanges.{orders_keep_ranges}
 use Rattle.qs_meaning.proofs.Unnamed.{unnamed_stay_zero}
-use Rattle.qs_standings.specs.Lists.{HasOne}
 use Rattle.qs_standings.specs.Standings.{IsStanding, RowShape, StandingShape, configuration_in, content_row, counted, named_from, row_of, state_row}
 use Rattle.qs_standings.proofs.Lists.{same_list}
 
@@ -150,9 +149,3 @@ same_configurations p front s t a b e =
     (same_list 0 s.begun t.begun (a.begun ∙ sym b.begun) (λ i. ap (λ (g : Configuration). g.begun i) e))
     (same_list zeros s.locals t.locals (a.locals ∙ sym b.locals) (λ i. ap (λ (g : Configuration). g.locals i) e))
     (same_list no_state s.states t.states (a.states ∙ sym b.states) (λ i. ap (λ (g : Configuration). g.states i) e))
-
--- whose row was seen
-pub pick : (p : ProgramShape) (Q : StandingShape → Type 0) (rows : List RowShape) → HasOne (λ r. (n : StandingShape) × Q n × (row_of p n ≡ r)) rows → (n : StandingShape) × Q n × HasOne (λ r. row_of p n ≡ r) rows
-pick p Q [] h = absurd h
-pick p Q (r ∷ rows) (inl (n, q, e)) = (n, q, inl e)
-pick p Q (r ∷ rows) (inr h) = let later = pick p Q rows h in (later.0, later.1, inr later.2)

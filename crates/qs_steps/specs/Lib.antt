@@ -7,7 +7,5 @@ pub mod PlainQueues
 pub mod CoreQueues
 -- What crates promise one another, what proofs use, and worked examples.
 pub mod StepReplays
-pub mod StepExamples
 pub mod Telling
-pub mod QueueExamples
 pub mod StepNames

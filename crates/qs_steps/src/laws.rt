@@ -1,24 +1,12 @@
 //! What holds of the lines of steps: worked examples, and that a run is played again by the actors that stepped in it.
 
-ghost use Rattle.qs_steps.specs.QueueExamples.{QueueExamples};
-ghost use Rattle.qs_steps.specs.StepExamples.{StepExamples};
 ghost use Rattle.qs_steps.specs.StepNames.{StepsAreNamed};
 ghost use Rattle.qs_steps.specs.StepReplays.{StepsReplay};
-
-/// Runs with the lines of their steps, worked out by hand; it does nothing.
-pub fn step_examples()
-    ensures examples { StepExamples }
-{}
 
 /// Of every run by picks and rounds, under the plain rules and on the optimised machine: the actors that stepped in it,
 /// as picks and with no round, show the same. It does nothing.
 pub fn steps_replay()
     ensures replay { StepsReplay }
-{}
-
-/// What is told of the queues after some runs, worked out by hand; it does nothing.
-pub fn queue_examples()
-    ensures examples { QueueExamples }
 {}
 
 /// Of every schedule, under the plain rules and on the optimised machine: the lines of its steps name the actors that

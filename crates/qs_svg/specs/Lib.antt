@@ -5,4 +5,3 @@ pub mod Shapes
 -- What crates promise one another, what proofs use, and worked examples.
 pub mod Few
 pub mod OneColour
-pub mod RunSvgExamples

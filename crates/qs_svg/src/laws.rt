@@ -2,12 +2,6 @@
 
 ghost use Rattle.qs_svg.specs.Few.{AreFewShapes};
 ghost use Rattle.qs_svg.specs.OneColour.{AreRowsOfWholeBlocks};
-ghost use Rattle.qs_svg.specs.RunSvgExamples.{RunSvgExamples};
-
-/// The pictures of a few runs, worked out by hand; it does nothing.
-pub fn run_svg_examples()
-    ensures examples { RunSvgExamples }
-{}
 
 /// A picture of whatever run of a sound program has at most 6,500 shapes; it does nothing.
 pub fn few_shapes()

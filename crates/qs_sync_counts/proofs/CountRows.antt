@@ -1,11 +1,11 @@
 -- The objects of each block and their counts are stored in two lists of rows, and paired they are what contracts see;
 -- the lemmas say what each row is, and what one more object or Sync changes. The functions of `SyncCounts` and those
 -- that fill it for a client stand on it. It goes by induction on the rows.
-use Rattle.std.proofs.Common.{◌≡◌, ◌<◌, ◌≤◌, ℕ, zero, suc, ◌+◌, ◌==◌, Bool, true, false, if◌then◌else◌, List, [], ◌∷◌, ◌++◌, length, get_or, set, map, take, drop, replicate, refl, sym, ap, ◌∙◌, arith, append_assoc, drop-cons, get_or-set_same, set-set}
-use Rattle.std.proofs.lemmas.List.{drop_all, take_more}
+use Rattle.std.proofs.Common.{◌≡◌, ◌<◌, ◌≤◌, ℕ, zero, suc, ◌+◌, ◌==◌, Bool, true, false, if◌then◌else◌, List, [], ◌∷◌, ◌++◌, length, get_or, set, map, take, drop, replicate, refl, sym, ap, ◌∙◌, arith, append_assoc, get_or-set_same, set-set}
+use Rattle.std.proofs.lemmas.List.{take_more}
 use Rattle.qs_sync_counts.specs.declared.sync_counts.SyncCount.{SyncCount}
 use Rattle.qs_sync_counts.specs.audit.SyncRows.{count_of, fresh_rows, no_syncs, object_of, sync_count, with_sync}
-use Rattle.qs_sync_counts.specs.SyncRows.{AreFew, HaveCounts, all_counts, begun_rows, objects_in, pair_counts, with_counts}
+use Rattle.qs_sync_counts.specs.SyncRows.{AreFew, HaveCounts, all_counts, begun_rows, pair_counts, with_counts}
 
 pub length_paired : (os cs : List ℕ) → length cs ≡ length os → length (pair_counts os cs) ≡ length os
 length_paired [] cs same = refl
@@ -233,12 +233,3 @@ list_push rows k n hs now inside less is =
     ∙ (ap (λ xs. set rows k (xs ++ next)) (get_or-set_same rows k row [] inside)
     ∙ (ap (set rows k) (append_assoc (get_or rows k []) (no_syncs (take n hs)) next)
     ∙ ap (λ xs. set rows k (get_or rows k [] ++ xs)) (sym (no_syncs_push (take n hs) (get_or hs n 0)) ∙ ap no_syncs (sym (take_more hs n 0 less))))))
-
--- the objects of the lists from one on
-pub objects_next : (lists : List (List ℕ)) (n : ℕ) → n < length lists → objects_in (drop n lists) ≡ length (get_or lists n []) + objects_in (drop (n + 1) lists)
-objects_next lists n inside =
-    let on : n + 1 ≡ suc n = omega arith in
-    ap objects_in (drop-cons lists n [] inside) ∙ sym (ap (λ m. length (get_or lists n []) + objects_in (drop m lists)) on)
-
-pub objects_end : (lists : List (List ℕ)) (n : ℕ) → length lists ≤ n → objects_in (drop n lists) ≡ 0
-objects_end lists n end = ap objects_in (drop_all n lists end)

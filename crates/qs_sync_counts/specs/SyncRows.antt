@@ -1,5 +1,5 @@
 -- Beside what the headline reaches (`audit/SyncRows.antt`): what else contracts and proofs use.
-use Rattle.std.specs.Prelude.{◌≡◌, ◌<◌, ℕ, zero, suc, ◌+◌, ◌==◌, if◌then◌else◌, List, [], ◌∷◌, map, length, sum_by}
+use Rattle.std.specs.Prelude.{◌≡◌, ◌<◌, ℕ, zero, suc, ◌==◌, if◌then◌else◌, List, [], ◌∷◌, map, length, sum_by}
 use Rattle.std.specs.List.{AllByRecursion}
 use Rattle.qs_objects.specs.Rows.{RowsState}
 use Rattle.qs_sync_counts.specs.declared.sync_counts.SyncCount.{SyncCount}
@@ -56,8 +56,3 @@ abbrev pub begun_rows : ℕ → List (List ℕ) → List (List SyncCount)
 begun_rows n [] = []
 begun_rows zero (hs ∷ lists) = [] ∷ begun_rows zero lists
 begun_rows (suc n) (hs ∷ lists) = no_syncs hs ∷ begun_rows n lists
-
--- how many objects these lists have together
-abbrev pub objects_in : List (List ℕ) → ℕ
-objects_in [] = 0
-objects_in (hs ∷ lists) = length hs + objects_in lists

@@ -10,9 +10,6 @@ pub mod SyncWalks
 pub mod CountedSyncs
 pub mod CoalescedPlaces
 pub mod WorkedGraphs
-pub mod WorkedSyncs
 pub mod QueryRuns
 pub mod ShortLists
-pub mod Unaliased
 pub mod ProgramCodes
-pub mod BuiltCodes

@@ -135,9 +135,6 @@ module _ (binding : List ℕ) (g : ControlGraph) (known : AreNamesKnown binding 
       to_false true never = absurd (never refl)
       to_false false never = refl
 
-      new_node : (n : ℕ) (v : Node) → (place_at new n).node ≡ v → (place_at left_objects n).node ≡ bound_node binding v
-      new_node n v e = ap (λ (p : GraphNode). p.node) (place_bound binding new n) ∙ ap (bound_node binding) e
-
       -- a node whose object's node is a synchronisation is one itself
       left_by : (n j : ℕ) (v : Node) → (place_at g.nodes n).node ≡ v → bound_node binding v ≡ Sync j
           → IsRemovedIfHeld (IsHeld g n) v (place_at g.nodes n) (place_at new n) → place_at left_objects n ≡ place_at objects n → held n ≡ false

@@ -7,7 +7,7 @@ use Rattle.qs_graph.specs.declared.node.Node.{Node}
 use Rattle.qs_graph.specs.declared.node.Node.TheVariants.{Entry, Local, Branch, Sync, Query, Call, Exit}
 use Rattle.qs_graph.specs.audit.Nodes.{ControlGraph, GraphNode, place_at, exit, made_local}
 use Rattle.qs_syncset.specs.audit.held.Held.{IsHeld}
-use Rattle.qs_syncset.specs.audit.Coalesced.{IsRemovedIfHeld, IsCoalesced}
+use Rattle.qs_syncset.specs.audit.Coalesced.{IsRemovedIfHeld}
 
 -- what becomes of a node's place
 abbrev pub IsRemovedAt : ControlGraph → ℕ → GraphNode → Type 0
@@ -18,12 +18,6 @@ pub record IsDone (g : ControlGraph) (now : List GraphNode) (n : ℕ) : Type 0 w
   pub count : length now ≡ length g.nodes
   pub done : (k : ℕ) → k < n → IsRemovedAt g k (place_at now k)
   pub rest : (k : ℕ) → n ≤ k → place_at now k ≡ place_at g.nodes k
-
-pub done_at_first : (g : ControlGraph) → IsDone g g.nodes 0
-done_at_first g = record { count = refl; done = λ k l. absurd (omega arith); rest = λ k l. refl }
-
-pub all_done : (g : ControlGraph) (now : List GraphNode) → IsDone g now (length g.nodes) → IsCoalesced g now
-all_done g now d = record { count = d.count; places = d.done }
 
 pub removed : (held : ℕ → Type 0) (h : ℕ) (old : GraphNode) → old.node ≡ Sync h → held h → IsRemovedIfHeld held old.node old (made_local old)
 removed held h old e is = rw e (inl (is, refl))

@@ -7,7 +7,5 @@ pub mod SyncCounts
 pub mod Shapes
 pub mod SoundSynced
 pub mod CodeLaws
-pub mod CodeExamples
 pub mod HeldExamples
-pub mod SyncExamples
 pub mod held

@@ -1,14 +1,7 @@
 //! What held sets and coalescing promise; and worked examples.
 
 ghost use Rattle.qs_syncset.specs.CodeLaws.{CoalescingIsUnique, NodesStaySound, WalksAreSound};
-ghost use Rattle.qs_syncset.specs.HeldExamples.{HeldExamples};
 ghost use Rattle.qs_syncset.specs.SyncCounts.{SetsDecide, SyncsAreCounted};
-ghost use Rattle.qs_syncset.specs.SyncExamples.{SyncExamples};
-
-/// Blocks with what is held at the nodes of their graphs, and with these graphs coalesced; it does nothing.
-pub fn held_examples()
-    ensures examples { HeldExamples }
-{}
 
 /// A graph has one coalesced form; it does nothing.
 pub fn coalescing_is_unique()
@@ -33,12 +26,6 @@ pub fn walks_are_sound()
 /// nothing.
 pub fn syncs_are_counted()
     ensures counted { SyncsAreCounted }
-{}
-
-/// Blocks with the queries that they make, and the Syncs that they send in each mode, computed by the definitions; it
-/// does nothing.
-pub fn sync_count_examples()
-    ensures examples { SyncExamples }
 {}
 
 /// The held sets of a graph are a test of where its synchronisations are held; it does nothing.

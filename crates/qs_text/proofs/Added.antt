@@ -1,12 +1,8 @@
 -- When one more text is added at the end, the whole is the texts before it and this one. The functions that write the
 -- graphs of a program, block by block and client by client, stand on it. It takes the definition of the texts up to a
 -- number one number further, and joins what each step has added.
-use Rattle.std.proofs.Common.{◌≡◌, ℕ, ◌+◌, ◌<◌, List, [], ◌∷◌, ◌++◌, codes, length, flat_map, refl, ap, sym, subst, ◌∙◌, append_assoc, add-one, arith}
-use Rattle.qs_text.specs.Texts.{list_text, AreTextsUpTo, IsAdded}
-
-pub listed_some : {X : Type 0} (text : X → List ℕ) (xs : List X) → 0 < length xs → list_text text xs ≡ flat_map (λ y. codes " " ++ text y) xs
-listed_some text [] some = absurd (omega arith)
-listed_some text (x ∷ xs) some = refl
+use Rattle.std.proofs.Common.{◌≡◌, ℕ, ◌+◌, List, [], ◌++◌, refl, ap, sym, subst, ◌∙◌, append_assoc, add-one}
+use Rattle.qs_text.specs.Texts.{AreTextsUpTo, IsAdded}
 
 -- the text of one more place
 pub one_text_more : (IsText : ℕ → List ℕ → Type 0) (n : ℕ) (before all : List ℕ) → AreTextsUpTo n IsText before → IsAdded (IsText n) before all

@@ -5,8 +5,6 @@ pub mod Digits
 pub mod Added
 pub mod SameTexts
 pub mod BlockTexts
-pub mod CheckedSets
-pub mod WorkedSets
 pub mod SameOrders
 pub mod TellApart
 pub mod SameEnds

@@ -9,5 +9,4 @@ pub mod SortedTexts
 pub mod TellApart
 -- What crates promise one another, what proofs use, and worked examples.
 pub mod Watched
-pub mod Worked
 pub mod fates

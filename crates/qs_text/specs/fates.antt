@@ -1,4 +1,3 @@
 -- What an auditor reads: what became of requests is said with these.
 pub mod Fates
 pub mod Picked
-pub mod FateExamples

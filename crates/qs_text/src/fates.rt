@@ -5,7 +5,6 @@
 
 mod fate;
 mod journals;
-pub mod laws;
 mod requests;
 mod traces;
 

@@ -96,10 +96,6 @@ filter_both p q r (y ∷ ys) e =
 equal_by : (x y : ℕ) → (x == y) ≡ true → x ≡ y
 equal_by x y h = grind arith
 
-and_false : (b : Bool) → (b && false) ≡ false
-and_false true = refl
-and_false false = refl
-
 seen_by : (seen : List ℕ) (x y : ℕ) (b : Bool) → (y == x) ≡ b → is_in seen x ≡ true → is_new seen y ≡ (not b && is_new seen y)
 seen_by seen x y true e h = ap not (ap (is_in seen) (equal_by y x e) ∙ h)
 seen_by seen x y false e h = refl

@@ -37,10 +37,6 @@ AreFine s ps = AllByRecursion (IsFine s.objects s.kinds s.reserved) ps
 pub again : (s t u : Scope) (ps : List TextPlace) → u ≡ s → scope_or_fault u ps ≡ Ok t → scope_or_fault s ps ≡ Ok t
 again s t u ps e h = ap (λ v. scope_or_fault v ps) (sym e) ∙ h
 
-left_inside : (s t : Scope) (inside : Bool) → (if inside then fine s else Err f.LeaveOutside) ≡ Ok t → inside ≡ true
-left_inside s t true h = refl
-left_inside s t false h = cc
-
 met_inside : (s t : Scope) (inside : Bool) (ps : List TextPlace) → scope_or_fault s (leaves inside ∷ ps) ≡ Ok t → inside ≡ true
 met_inside s t true ps h = refl
 met_inside s t false ps h = cc

@@ -76,10 +76,6 @@ module _ (s t u : Scope) (test first other : List TextPlace) (tested : scope_or_
       let P : ScopeOrFault → Type 0 = λ x. Meets r x v in
       subst P (sym e) h
 
--- a single place
-pub met_one : (s t : Scope) (p : TextPlace) → pass_place s p ≡ Ok t → scope_or_fault s (p ∷ []) ≡ Ok t
-met_one s t p h = ap (λ r. then_at r (λ t. scope_or_fault t [])) h
-
 -- a place before others
 pub one_then : {X : Type 0} (r : Result X CheckFault) (s t u : Scope) (p : TextPlace) (qs : List TextPlace) → pass_place s p ≡ Ok t → Meets r (scope_or_fault t qs) u → Meets r (scope_or_fault s (p ∷ (qs ++ []))) u
 one_then r s t u p qs h m =

@@ -1,6 +1,5 @@
 //! What the definitions of anchors promise; and worked examples of them.
 
-ghost use Rattle.qs_check.specs.anchors.Examples.{AnchorExamples};
 ghost use Rattle.qs_check.specs.anchors.Laws.{AnchorsAreTokens, BlocksHaveAnchors, FirstIsFirst, FirstIsAnAnchor};
 
 /// The anchors of a script are the names, the numbers, each `separate` and each `leave` of any tokens that are written
@@ -23,9 +22,4 @@ pub fn first_is_an_anchor()
 /// The anchor of a block is one of the anchors of the script. It does nothing.
 pub fn blocks_have_anchors()
     ensures within { BlocksHaveAnchors }
-{}
-
-/// Scripts with the anchors of their first faults, computed by the definitions; it does nothing.
-pub fn anchor_examples()
-    ensures examples { AnchorExamples }
 {}

@@ -3,7 +3,6 @@
 -- the holdings of one handler, so a case for the object, for the open chunk and for neither suffices; that the walk's
 -- tree is the one that the client has comes from `walk_up`.
 use Rattle.std.proofs.Common.{◌≡◌, ℕ, zero, suc, ◌<◌, ◌≤◌, false, Option, Some, None, List, length, get_or, refl, sym, ap, ◌∙◌, subst, arith}
-use Rattle.std.proofs.lemmas.List.{get_or-set_same}
 use Rattle.qs_objects.specs.audit.Journals.{HeldState}
 use Rattle.qs_objects.specs.declared.Request.{Request}
 use Rattle.qs_program.specs.audit.Limits.{most_handlers}
@@ -17,18 +16,18 @@ use Rattle.qs_syncset.specs.audit.Codes.{BlockCode}
 use Rattle.qs_syncset.specs.SoundSynced.{IsSoundSynced}
 use Rattle.qs_chunk.specs.audit.Batch.{Batch}
 use Rattle.qs_chunk.specs.declared.parcel.Parcel.TheVariants as parcels
-use Rattle.qs_client.specs.run.NextActs.{HasActed, act_by, holdings_by, clear, clear_by, send_full, with_holdings, without, without_by}
-use Rattle.qs_client.specs.audit.rules.Client.{Settings, act_at, act_of, rest_act}
-use Rattle.qs_client.specs.run.Holdings.{holding_at, chunk_at, with_chunk, holding}
+use Rattle.qs_client.specs.run.NextActs.{HasActed, act_by, holdings_by, clear, clear_by, with_holdings, without, without_by}
+use Rattle.qs_client.specs.audit.rules.Client.{Settings, act_at, rest_act}
+use Rattle.qs_client.specs.run.Holdings.{holding_at, chunk_at, holding}
 use Rattle.qs_client.specs.run.ClientOfRun.{client_of_run, stage_by}
-use Rattle.qs_client.specs.run.Running.{IsOver, IsFull, IsRunning, IsLoud}
+use Rattle.qs_client.specs.run.Running.{IsOver, IsRunning, IsLoud}
 use Rattle.qs_client.specs.run.BetweenActs.{IsOutgoingAt, IsStanding, IsSyncing}
 use Rattle.qs_client.specs.audit.rules.Outgoings.{without_act, outgoing_of}
 use Rattle.qs_client.specs.declared.rules.act.Act.{Act}
 use Rattle.qs_client.specs.declared.rules.act.Act.TheVariants.{Send, NeedChunk}
 use Rattle.qs_client.specs.run.RunState.{RunState}
 use Rattle.qs_client.proofs.run.StepRefinement.{IsAmongEight, among_eight, sized_of}
-use Rattle.qs_client.proofs.run.ClearedLanes.{clears_sized, calls_sized, without_cleared, full_sized, without_full, away_at_call, away_at_sync, cleared_running, cleared_over, emptied}
+use Rattle.qs_client.proofs.run.ClearedLanes.{clears_sized, calls_sized, without_cleared, away_at_call, away_at_sync, cleared_running, cleared_over}
 use Rattle.qs_client.specs.audit.rules.Client as clients
 use Rattle.qs_client.specs.declared.run.stage.Stage.TheVariants as stages
 
@@ -44,11 +43,6 @@ gone_at_end : (g : List places.GraphNode) (s : RunState) (h i : ℕ) (x : Option
 gone_at_end g s h i (Some x) c = tt
 gone_at_end g s h i None (Some b) = tt
 gone_at_end g s h i None None = tt
-
-gone_full : (g : List places.GraphNode) (s : RunState) (h : ℕ) (c : Option (Batch Request)) → chunk_at s.holdings h ≡ None
-    → IsOutgoingAt g (outgoing_of (send_full h c)) s (stages.Full h)
-gone_full g s h (Some b) w = w
-gone_full g s h None w = tt
 
 module _ (b : BlockCode) (settings : Settings) (blocks k begun most : ℕ) where
   -- at a call or a synchronisation with this handler
@@ -116,26 +110,6 @@ module _ (b : BlockCode) (settings : Settings) (blocks k begun most : ℕ) where
   acts_at_node (suc n) s ok few stands loud w =
       acts_by n s (move b.graph s.position) few stands refl (among_eight b.graph s.position ok w.within.0) loud w.sound w
 
-  pub acts_full : (n h : ℕ) (s : RunState) → n ≤ most → s.stage ≡ stages.Full h → IsFull b.graph settings.size k n h s
-      → HasActed b settings blocks k begun most (send_full h (chunk_at s.holdings h)) s (with_holdings s (with_chunk s.holdings h None))
-  acts_full n h s few stands w =
-      let c = chunk_at s.holdings h in
-      let new = with_holdings s (with_chunk s.holdings h None) in
-      let room : h < length s.holdings.chunks = omega (arith, w.handler, w.in_block.chunks) in
-      record {
-        act =
-            full_sized settings h c (w.in_block.opened h).0
-            ∙ sym (λ i. act_at settings blocks (client_of_run b.graph b.reserved begun s) (stage_by (stands i) b.reserved (walk b.graph limit s.position) s.position.locals));
-        rest = without_full begun (stage_by s.stage b.reserved (walk b.graph limit s.position) s.position.locals) s.holdings h room c refl;
-        position = refl;
-        traces = refl;
-        stage = refl;
-        standing = subst (IsStanding b settings.size k most new) (sym stands) ((n, few, emptied b.graph settings.size k n h s w));
-        gone =
-            subst (IsOutgoingAt b.graph (outgoing_of (send_full h c)) new) (sym stands)
-            (gone_full b.graph new h c (get_or-set_same s.holdings.chunks h None None room));
-      }
-
   pub acts_leaving : (i : ℕ) (s : RunState) → s.stage ≡ stages.Leaves i → i < length b.reserved → get_or b.reserved i 0 < most_handlers → IsOver b.graph settings.size s
       → HasActed b settings blocks k begun most (clear s.holdings (get_or b.reserved i 0) (Send (get_or b.reserved i 0) parcels.End)) s
       (with_holdings s (without s.holdings (get_or b.reserved i 0)))
@@ -158,18 +132,3 @@ module _ (b : BlockCode) (settings : Settings) (blocks k begun most : ℕ) where
         standing = subst (IsStanding b settings.size k most new) (sym stands) ((cleared_over b.graph settings.size h s x eight w, inside));
         gone = subst (IsOutgoingAt b.graph (outgoing_of given) new) (sym stands) (gone_at_end b.graph new h i x c);
       }
-
-  -- an act that carries nothing
-  pub acts_empty : (s : RunState) (given : Act) → given ≡ act_of settings blocks (client_of_run b.graph b.reserved begun s)
-      → without_act (client_of_run b.graph b.reserved begun s) given ≡ client_of_run b.graph b.reserved begun s
-      → IsStanding b settings.size k most s s.stage → IsOutgoingAt b.graph (outgoing_of given) s s.stage
-      → HasActed b settings blocks k begun most given s s
-  acts_empty s given act same w gone = record {
-    act = act;
-    rest = sym same;
-    position = refl;
-    traces = refl;
-    stage = refl;
-    standing = w;
-    gone = gone;
-  }

@@ -42,12 +42,6 @@ module _ (k : ℕ) (r : Request) (t : Spot) (s : RunState) where
       })
       ∙ (λ i. (call_by k r t s (sym none i) (sym found i)).0)
 
-  pub call_goes_on : (b : Batch Request) (full : Bool)
-      → holding_at s.holdings r.object ≡ None → chunk_at s.holdings r.object ≡ Some b
-      → full ≡ is_full (with_request b r) → not full ≡ (call k r t s).1
-  call_goes_on b full none found filled =
-      ap not filled ∙ (λ i. (call_by k r t s (sym none i) (sym found i)).1)
-
 -- where the object is held, or no chunk is open, a command changes nothing
 pub still_call : (k : ℕ) (r : Request) (t : Spot) (s : RunState) (x : Option HeldState) (c : Option (Batch Request))
     → (not (is_some x) && is_some c) ≡ false → ◌≡◌ {A = RunState × Bool} (call_by k r t s x c) (s, false)

@@ -2,7 +2,7 @@
 -- an open chunk has the size of all chunks; and what is kept after them is the client without what went, of which all
 -- still holds that held before. The proofs of the acts stand on it. The idea: a case for the object, for the chunk, and
 -- for neither.
-use Rattle.std.proofs.Common.{◌≡◌, ℕ, ◌<◌, ◌==◌, Bool, true, false, Option, Some, None, List, length, length-set, refl, sym, ap, ◌∙◌, subst, arith}
+use Rattle.std.proofs.Common.{◌≡◌, ℕ, ◌<◌, Bool, true, false, Option, Some, None, List, length, length-set, refl, sym, ap, ◌∙◌, subst, arith}
 use Rattle.qs_objects.specs.audit.Journals.{HeldState}
 use Rattle.qs_objects.specs.declared.Request.{Request}
 use Rattle.qs_program.specs.audit.Limits.{most_handlers}
@@ -13,14 +13,14 @@ use Rattle.qs_graph.specs.audit.Nodes as places
 use Rattle.qs_syncset.specs.SoundSynced.{IsSoundSynced}
 use Rattle.qs_chunk.specs.audit.Batch.{Batch, batch}
 use Rattle.qs_chunk.specs.declared.parcel.Parcel.TheVariants as parcels
-use Rattle.qs_client.specs.run.NextActs.{clear_by, send_full, without_by}
+use Rattle.qs_client.specs.run.NextActs.{clear_by, without_by}
 use Rattle.qs_client.specs.audit.rules.Client.{ClientStage, Settings, call_act, clear}
-use Rattle.qs_client.specs.run.Holdings.{HoldingsState, holding_at, chunk_at, with_held, with_chunk, holding}
+use Rattle.qs_client.specs.run.Holdings.{HoldingsState, holding_at, chunk_at, with_held, holding}
 use Rattle.qs_client.specs.run.ClientOfRun.{client_with, items_of}
-use Rattle.qs_client.specs.run.Running.{IsOpen, IsSized, IsRunning, IsFull, IsOver}
+use Rattle.qs_client.specs.run.Running.{IsOpen, IsSized, IsRunning, IsOver}
 use Rattle.qs_client.specs.audit.rules.Outgoings.{without_act}
 use Rattle.qs_client.specs.declared.rules.act.Act.{Act}
-use Rattle.qs_client.specs.declared.rules.act.Act.TheVariants.{Send, NeedChunk, Finished}
+use Rattle.qs_client.specs.declared.rules.act.Act.TheVariants.{Send, NeedChunk}
 use Rattle.qs_client.specs.run.RunState.{RunState}
 use Rattle.qs_client.proofs.run.HoldingsAsFunctions.{held_put, items_put, holding_put, chunk_each}
 use Rattle.qs_client.proofs.rules.Puts.{put_same, put_twice}
@@ -37,11 +37,6 @@ pub calls_sized : (settings : Settings) (h : ℕ) (x : Option HeldState) (c : Op
 calls_sized settings h (Some x) c w = refl
 calls_sized settings h None (Some b) w = ap (λ n. Send h (parcels.Work (batch b.items n))) w
 calls_sized settings h None None w = refl
-
-pub full_sized : (settings : Settings) (h : ℕ) (c : Option (Batch Request)) → IsSized settings.size c
-    → send_full h c ≡ clear settings h None (items_of c) Finished
-full_sized settings h (Some b) w = ap (λ n. Send h (parcels.Work (batch b.items n))) w
-full_sized settings h None w = refl
 
 -- what is kept after an act, by what the act is
 pub without_cleared : (begun : ℕ) (p : ClientStage) (s : HoldingsState) (h : ℕ) (other : Act) → without_act (client_with begun p s) other ≡ client_with begun p s
@@ -64,18 +59,6 @@ without_cleared begun p s h other same inside room None None e f =
       chunk = (items_put (with_held s h None) h None room ∙ put_same (λ n. items_of (chunk_at s n)) h None (ap items_of f)) i;
     })
     ∙ sym same
-
-pub without_full : (begun : ℕ) (p : ClientStage) (s : HoldingsState) (h : ℕ) → h < length s.chunks → (c : Option (Batch Request)) → chunk_at s h ≡ c
-    → client_with begun p (with_chunk s h None) ≡ without_act (client_with begun p s) (send_full h c)
-without_full begun p s h room (Some b) f =
-    λ i. record { begun = begun; stage = p; held = holding_at s; chunk = items_put s h None room i }
-without_full begun p s h room None f =
-    λ i. record {
-      begun = begun;
-      stage = p;
-      held = holding_at s;
-      chunk = (items_put s h None room ∙ put_same (λ n. items_of (chunk_at s n)) h None (ap items_of f)) i;
-    }
 
 without_holding : (s : HoldingsState) (h : ℕ) → h < length s.held → (x : Option HeldState) → holding (without_by s h x) ≡ put (holding s) h false
 without_holding s h inside (Some x) = holding_put s h None inside
@@ -118,16 +101,3 @@ cleared_over g size h s x eight w = record {
   chunks = without_chunks s.holdings h x ∙ w.chunks;
   opened = without_opened size s.holdings h (omega (arith, eight, w.chunks)) x w.opened;
 }
-
--- the full chunk may be away
-pub emptied : (g : List places.GraphNode) (size k n h : ℕ) (s : RunState) → IsFull g size k n h s
-    → IsFull g size k n h (record s { holdings = with_chunk s.holdings h None })
-emptied g size k n h s w =
-    let IsChunk : ℕ → Option (Batch Request) → Type 0 = λ j c. IsSized size c × ((h == j) ≡ false → IsOpen size c) in
-    let room : h < length s.holdings.chunks = omega (arith, w.handler, w.in_block.chunks) in
-    record {
-      handler = w.handler;
-      in_block = held_in_block g k (holding s.holdings) (holding s.holdings) IsChunk IsChunk s s.stage n (with_chunk s.holdings h None) w.in_block
-          w.in_block.sound w.in_block.held (length-set s.holdings.chunks h None ∙ w.in_block.chunks)
-          (chunk_each IsChunk s.holdings h None room (tt, λ other. tt) (λ j other. w.in_block.opened j));
-    }

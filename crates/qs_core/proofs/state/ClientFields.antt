@@ -42,9 +42,6 @@ traces_in s k = get_or s.mind.traces k []
 abbrev pub counts_in : ClientPart → ℕ → List SyncCount
 counts_in s k = get_or s.mind.counts k []
 
-abbrev pub with_events : List (List Event) → ℕ → List Event → ℕ → List Event
-with_events ts k es n = get_or (extend ts k es) n []
-
 -- a client that came to this by an act at its lane to handler h
 module _ (order : List Ticket) (sides : ℕ → ClientPart) (handler : ℕ → Handler) (tickets : ℕ → List Ticket) (c : ℕ) where
   abbrev pub own : ClientModel

@@ -56,14 +56,3 @@ isolated_by s mode sound codes reached =
 
 pub core_is_isolated : (s : CoreState) → IsSound s.program → IsCoreState s → IsReachedCore s → CoreIsIsolated s
 core_is_isolated s sound kept reached = isolated_by s kept.mode sound kept.codes reached
-
--- after a step that may have been made
-pub core_next_isolated : (old new : CoreState) (a : Actor) (b : Bool) → IsSound old.program → IsCoreState old → IsReachedCore old → OnTrue b (CoreSteps old a new) → (b ≡ false → new ≡ old)
-    → CoreIsIsolated new
-core_next_isolated old new a b sound kept reached steps same = by_case b steps same
-  where
-    by_case : (x : Bool) → OnTrue x (CoreSteps old a new) → (x ≡ false → new ≡ old) → CoreIsIsolated new
-    by_case true moved stays =
-        isolated_by new kept.mode (subst IsSound (sym moved.program) sound) (subst (λ p. AreCodes p kept.mode (codes_of new)) (sym moved.program) (subst (AreCodes old.program kept.mode) (sym moved.codes) kept.codes))
-        (core_stepped old new a reached moved)
-    by_case false moved stays = subst CoreIsIsolated (sym (stays refl)) (core_is_isolated old sound kept reached)

@@ -1,18 +1,12 @@
 -- How the loops over a text's bytes find the lines of its anchors: a line's anchors are counted piece by piece, and the
 -- lines of a text follow one after another.
-use Rattle.std.proofs.Common.{◌≡◌, ◌≢◌, ℕ, ◌+◌, ◌-◌, ◌≤◌, ◌<◌, Bool, true, false, if◌then◌else◌, nat_eq, List, [], ◌∷◌, ◌++◌, length, get_or, take, drop, map, replicate, Result, Ok, Err, refl, ap, sym, ◌∙◌, append_assoc, length-append, length-drop, arith}
+use Rattle.std.proofs.Common.{◌≡◌, ◌≢◌, ℕ, ◌+◌, ◌-◌, ◌≤◌, ◌<◌, Bool, true, false, if◌then◌else◌, nat_eq, List, [], ◌∷◌, ◌++◌, length, get_or, take, drop, map, replicate, Result, Ok, Err, refl, ap, sym, ◌∙◌, append_assoc, length-drop, arith}
 use Rattle.std.proofs.lemmas.Bool.Decides.{nat_tests}
 use Rattle.std.proofs.lemmas.List.{drop_more, map-append, take_more, get_or-drop}
 use Rattle.qs_script.specs.declared.tokens.token.Token.{Token}
 use Rattle.qs_script.specs.declared.tokens.lex.TokenFault.{TokenFault}
-use Rattle.qs_script.specs.audit.tokens.Tokens.{after, tokens_of}
 use Rattle.qs_check.specs.anchors.Anchors.{anchors_in, is_anchor}
-use Rattle.qs_dot.specs.node_lines.AnchorLines.{anchors_from, its_line, line_anchors, lines_in, numbered, tokens_or_none}
-
--- one token is one anchor, or none
-pub one_or_none : (t : Token) (b : Bool) → b ≡ is_anchor t → length (anchors_in (t ∷ [])) ≡ (if b then 1 else 0)
-one_or_none t true e = ap (λ (c : Bool). length ((if c then t ∷ [] else []) ++ [])) (sym e)
-one_or_none t false e = ap (λ (c : Bool). length ((if c then t ∷ [] else []) ++ [])) (sym e)
+use Rattle.qs_dot.specs.node_lines.AnchorLines.{anchors_from, its_line, line_anchors, lines_in, numbered}
 
 pub anchors_joined : (ts us : List Token) → anchors_in (ts ++ us) ≡ anchors_in ts ++ anchors_in us
 anchors_joined [] us = refl
@@ -24,18 +18,6 @@ anchors_joined (t ∷ ts) us =
 abbrev pub counted : ℕ → Result (List Token) TokenFault → ℕ
 counted n (Ok ts) = n + length (anchors_in ts)
 counted n (Err e) = 0
-
-whole : (r : Result (List Token) TokenFault) → counted 0 r ≡ length (anchors_in (tokens_or_none r))
-whole (Ok ts) = omega arith
-whole (Err e) = refl
-
-pub counted_all : (line : List ℕ) → counted 0 (tokens_of line) ≡ length (line_anchors line)
-counted_all line = whole (tokens_of line)
-
--- one piece more
-pub counted_more : (n : ℕ) (ts : List Token) (left : Result (List Token) TokenFault) → counted (n + length (anchors_in ts)) left ≡ counted n (after ts left)
-counted_more n ts (Ok us) = omega (arith, ap length (anchors_joined ts us), length-append (anchors_in ts) (anchors_in us))
-counted_more n ts (Err e) = refl
 
 -- the number of a line, once for each of its anchors
 repeated : (n : ℕ) (ts : List Token) → map its_line (map (λ t. (t, n)) ts) ≡ replicate (length ts) n

@@ -1,6 +1,5 @@
 //! What the definitions of the lines of nodes promise; and worked examples of them.
 
-ghost use Rattle.qs_dot.specs.node_lines.Examples.{NodeLineExamples};
 ghost use Rattle.qs_dot.specs.node_lines.Laws.{AnchorsHaveLines, LinesFromOne, NodesHaveLines};
 
 /// The anchors of a text's lines, one line after another, are the anchors of its script. It does nothing.
@@ -17,9 +16,4 @@ pub fn nodes_have_lines()
 /// No node of a text's script has a line below 1: each has that of an anchor of the text. It does nothing.
 pub fn lines_from_one()
     ensures lines { LinesFromOne }
-{}
-
-/// Scripts with the anchors and the lines of their nodes, computed by the definitions; it does nothing.
-pub fn node_line_examples()
-    ensures examples { NodeLineExamples }
 {}

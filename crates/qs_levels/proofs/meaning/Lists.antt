@@ -2,7 +2,7 @@
 -- goes by induction on the list.
 use Rattle.std.proofs.Common.{◌≡◌, ◌<◌, ℕ, zero, suc, List, [], ◌∷◌, ◌++◌, length, get_or, take, drop, map, flat_map, refl, sym, ap, subst, ◌∙◌, arith, inl, inr, append_assoc, append-nil}
 use Rattle.std.specs.List.{AllByRecursion, AllZip}
-use Rattle.qs_meaning.proofs.Each.{each_back, each_both, each_map}
+use Rattle.qs_meaning.proofs.Each.{each_both, each_map}
 use Rattle.qs_standings.specs.Lists.{EachTwo, HasOne, NoTwo}
 
 pub map_snoc : {X Y : Type 0} (f : X → Y) (xs : List X) (x : X) → map f (xs ++ x ∷ []) ≡ map f xs ++ f x ∷ []
@@ -57,10 +57,6 @@ mapped_has f P [] h = absurd h
 mapped_has f P (x ∷ xs) (inl h) = inl h
 mapped_has f P (x ∷ xs) (inr h) = inr (mapped_has f P xs h)
 
-pub flat_map_join : {X Y : Type 0} (f : X → List Y) (xs ys : List X) → flat_map f (xs ++ ys) ≡ flat_map f xs ++ flat_map f ys
-flat_map_join f [] ys = refl
-flat_map_join f (x ∷ xs) ys = ap (λ zs. f x ++ zs) (flat_map_join f xs ys) ∙ sym (append_assoc (f x) (flat_map f xs) (flat_map f ys))
-
 -- pairs place by place, with one pair more
 pub zip_snoc : {X Y : Type 0} (R : X → Y → Type 0) (xs : List X) (ys : List Y) (x : X) (y : Y) → AllZip R xs ys → R x y → AllZip R (xs ++ x ∷ []) (ys ++ y ∷ [])
 zip_snoc R [] [] x y h r = (r, tt)
@@ -68,28 +64,10 @@ zip_snoc R [] (z ∷ ys) x y h r = absurd h
 zip_snoc R (z ∷ xs) [] x y h r = absurd h
 zip_snoc R (w ∷ xs) (z ∷ ys) x y h r = (h.0, zip_snoc R xs ys x y h.1 r)
 
-pub zip_long : {X Y : Type 0} (R : X → Y → Type 0) (xs : List X) (ys : List Y) → AllZip R xs ys → length xs ≡ length ys
-zip_long R [] [] h = refl
-zip_long R [] (y ∷ ys) h = absurd h
-zip_long R (x ∷ xs) [] h = absurd h
-zip_long R (x ∷ xs) (y ∷ ys) h = ap suc (zip_long R xs ys h.1)
-
 -- a relation two by two from another one
 pub two_of : {X : Type 0} {Q : X → Type 0} (R S : X → X → Type 0) → ((x y : X) → Q x → Q y → R x y → S x y) → (xs : List X) → AllByRecursion Q xs → EachTwo R xs → EachTwo S xs
 two_of R S f [] each h = tt
 two_of {X = X} {Q = Q} R S f (x ∷ xs) each h = (each_both {P = Q} {Q = R x} {R = S x} (λ y q r. f x y each.0 q r) xs each.1 h.0, two_of R S f xs each.1 h.1)
-
--- those of the one list to those behind them in the other
-pub pairs_cross : {X : Type 0} (R : X → X → Type 0) (xs ys : List X) → EachTwo R (xs ++ ys) → AllByRecursion (λ x. AllByRecursion (R x) ys) xs
-pairs_cross R [] ys h = tt
-pairs_cross R (x ∷ xs) ys h = (each_back (R x) xs ys h.0, pairs_cross R xs ys h.1)
-
-pub each_flip : {X Y : Type 0} (R : X → Y → Type 0) (xs : List X) (ys : List Y) → AllByRecursion (λ x. AllByRecursion (R x) ys) xs → AllByRecursion (λ y. AllByRecursion (λ x. R x y) xs) ys
-each_flip R xs [] h = tt
-each_flip {X = X} {Y = Y} R xs (y ∷ ys) h = (
-  each_map {P = λ x. AllByRecursion (R x) (y ∷ ys)} {Q = λ x. R x y} (λ x w. w.0) xs h,
-  each_flip R xs ys (each_map {P = λ x. AllByRecursion (R x) (y ∷ ys)} {Q = λ x. AllByRecursion (R x) ys} (λ x w. w.1) xs h),
-)
 
 -- one at a place
 pub has_at : {X : Type 0} (P : X → Type 0) (xs : List X) (i : ℕ) (x : X) → i < length xs → x ≡ get_or xs i x → P x → HasOne P xs

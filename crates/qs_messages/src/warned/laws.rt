@@ -1,12 +1,6 @@
 //! What the definitions say, for readers.
 
 ghost use Rattle.qs_messages.specs.Certainties.{CertaintiesAreAll, CertaintiesAreSo};
-ghost use Rattle.qs_messages.specs.WarningExamples.{WarningExamples};
-
-/// Programs and what is warned of in them, computed by the definitions; it does nothing.
-pub fn warning_examples()
-    ensures examples { WarningExamples }
-{}
 
 /// A request of which a warning says what becomes of it fares so in each state that its object may be in; it does
 /// nothing.

@@ -254,15 +254,6 @@ stands k o count (all, are, long) = (
   long,
 )
 
-pub some_long : {X : Type 0} (P : X → Type 0) (xs : List X) → HasOne P xs → 0 < length xs
-some_long P [] h = absurd h
-some_long P (x ∷ xs) h = omega arith
-
--- an outcome is itself among what it becomes
-pub stands_for_some : (k : Classes) (o : OrderOutcome) (count : ℕ) → StandsFor k o count → 0 < count
-stands_for_some k o count (all, are, long) =
-    let some = some_long (λ b. b ≡ o) all (are.complete no_change (no_change_is k)) in omega (arith, some, long)
-
 -- whether someone before is of the class and has the same
 module _ (k : Classes) (n : ℕ) (o : OrderOutcome) (other : ℕ) where
   abbrev IsIt : ℕ → Type 0

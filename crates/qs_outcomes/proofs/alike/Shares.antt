@@ -2,7 +2,7 @@
 -- it what the client has here, there are two counts: each outcome has as many such places as there are clients with the
 -- same variables; and for each place of the class there are as many such outcomes as where the client stays, since the
 -- two can be exchanged. So the one count times those with the same is the other times all of the class.
-use Rattle.std.proofs.Common.{◌≡◌, ◌<◌, ◌≤◌, ◌+◌, ◌*◌, ◌/◌, ◌-◌, ◌^◌, ℕ, suc, List, [], ◌∷◌, length, refl, sym, ap, ap₂, ◌∙◌, subst, arith, inl, inr, ⊎_elim}
+use Rattle.std.proofs.Common.{◌≡◌, ◌<◌, ◌≤◌, ◌+◌, ◌*◌, ◌/◌, ◌-◌, ◌^◌, ℕ, suc, List, [], ◌∷◌, length, sym, ap, ap₂, ◌∙◌, subst, arith, inl, inr, ⊎_elim}
 use Rattle.std.specs.List.{AllByRecursion}
 use Rattle.std.proofs.Math.Nat.{mul-div_cancel, mul-le-mul, pow-le-pow_right, pow-suc}
 use Rattle.std.proofs.lemmas.Bool.{cases_lt}
@@ -16,15 +16,12 @@ use Rattle.qs_standings.specs.Standings.{flipped}
 use Rattle.qs_standings.proofs.Lists.{has_map}
 use Rattle.qs_outcomes.specs.alike.AlikeCounts.{AreThose, CountsThose, IsAlikeFrom, IsSameFrom}
 use Rattle.qs_alike.specs.Changes.{AreClasses, Change, Classes, changed_outcome}
-use Rattle.qs_outcomes.proofs.alike.Counting.{AreChangesFrom, CountsFrom, IsChangeFrom, counted_from, flipped_below, old_alike, same_flipped, some_long}
+use Rattle.qs_outcomes.proofs.alike.Counting.{AreChangesFrom, CountsFrom, IsChangeFrom, counted_from, flipped_below, old_alike, same_flipped}
 use Rattle.qs_alike.proofs.Exchanging.{flip, flip_is, flipped_first, flipped_second}
 use Rattle.qs_outcomes.proofs.alike.Pairs.{each_pairs, has_known, has_pairs, known, long_known, long_pairs, pairs, two_known, two_pairs}
 use Rattle.qs_alike.proofs.Composing.{then_changed, then_is}
 
 -- ---- numbers counted one after another
-
-pub those_none : (P : ℕ → Type 0) (to : ℕ) → ((c : ℕ) → c < to → P c → ⊥) → CountsThose P to 0
-those_none P to none = ([], record { sound = tt; complete = λ c less h. absurd (none c less h); once = tt }, refl)
 
 pub those_more : (P : ℕ → Type 0) (to count : ℕ) → CountsThose P to count → P to → CountsThose P (to + 1) (count + 1)
 those_more P to count (xs, are, long) h = (
@@ -55,10 +52,6 @@ those_skip P to count (xs, are, long) not = (
   where
     further : (c : ℕ) → c < to → c < to + 1
     further c less = omega (arith, less)
-
--- where there is one there are not none
-pub those_some : (P : ℕ → Type 0) (to count c : ℕ) → CountsThose P to count → c < to → P c → 0 < count
-those_some P to count c (xs, are, long) less p = let some = some_long (λ d. d ≡ c) xs (are.complete c less p) in omega (arith, some, long)
 
 -- ---- the two counts of pairs
 

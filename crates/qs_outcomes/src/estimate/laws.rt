@@ -1,6 +1,5 @@
 //! What the bounds say of a search, for callers' proofs and for readers.
 
-ghost use Rattle.qs_outcomes.specs.estimate.EstimateExamples.{EstimateExamples};
 ghost use Rattle.qs_outcomes.specs.estimate.Laws.{LeastIsThere, MostSuffices, MostSufficesForAnswers};
 
 /// No search after a front notes more configurations than there are orders of up to as many blocks of each client as it
@@ -14,9 +13,4 @@ pub fn most_suffices()
 /// choices of how many of its blocks each client has run, or more. It does nothing.
 pub fn least_is_there()
     ensures there { LeastIsThere }
-{}
-
-/// The bounds of a few numbers of blocks, computed by the definitions; it does nothing.
-pub fn estimate_examples()
-    ensures examples { EstimateExamples }
 {}

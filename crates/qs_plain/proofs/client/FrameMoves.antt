@@ -2,7 +2,7 @@
 -- does to the tree of what comes next, to the work and the load that are left, and to the frames' soundness. The
 -- contracts of `begin`, `leave` and `advance` on frames stand on them. The moves are taken one by one: a repeat, one
 -- more turn, a branch, a leave.
-use Rattle.std.proofs.Common.{length-append, ◌≡◌, ◌<◌, ◌≤◌, ℕ, zero, suc, ◌+◌, ◌-◌, ◌≢◌, ◌⊎◌, ⊎_elim, Bool, true, false, subst, List, [], ◌∷◌, ◌++◌, refl, ap, sym, ◌∙◌, arith, sub-one, slice_set}
+use Rattle.std.proofs.Common.{◌≡◌, ◌<◌, ◌≤◌, ℕ, zero, suc, ◌+◌, ◌-◌, ◌≢◌, ◌⊎◌, ⊎_elim, Bool, true, false, subst, List, [], ◌∷◌, ◌++◌, refl, ap, sym, ◌∙◌, arith, sub-one, slice_set}
 use Rattle.std.specs.List.{AllByRecursion}
 use Rattle.std.proofs.lemmas.List.Sums.{fold-append, sum_by_push}
 use Rattle.qs_program.specs.audit.Statements.{Statements, end, command, query, assign, again, leave, choose}
@@ -108,16 +108,6 @@ module _ (objects : List Declared) (reserved : List ℕ) where
   turns_sound fs n m body before last =
       AllByRecursion-push (IsSoundFrame objects reserved) (fs ++ turning m body ∷ []) (rest body) (AllByRecursion-push (IsSoundFrame objects reserved) fs (turning m body) before last) last
 
--- a list that was put aside: a frame more, or none where nothing is left
-pub pushed_aside : (fs gs : List Frame) (s : Statements) → gs ≡ fs ++ rest s ∷ [] → IsAside fs gs s
-pushed_aside fs gs s e = record {
-  ahead = rw e (ahead_of-push fs (rest s));
-  many = rw (e, length-append fs (rest s ∷ [])) (omega arith);
-  work = rw (e, work-push fs (rest s)) (omega arith);
-  load = λ h. rw e (load_left-push fs (rest s) h);
-  sound = λ objects reserved sound. rw e sound;
-}
-
 pub nothing_aside : (fs gs : List Frame) → gs ≡ fs → IsAside fs gs end
 nothing_aside fs gs e = record {
   ahead = rw e refl;
@@ -125,15 +115,6 @@ nothing_aside fs gs e = record {
   work = rw e (omega arith);
   load = λ h. rw e (omega arith);
   sound = λ objects reserved sound. rw e (AllByRecursion-popped (IsSoundFrame objects reserved) fs (rest end) sound).0;
-}
-
--- a list that was taken off: the rest of one, no more turn, one more turn
-pub opened_rest : (fs gs : List Frame) (s : Statements) → fs ≡ gs ++ rest s ∷ [] → Opens fs gs s
-opened_rest fs gs s e = record {
-  next = λ l. rw e refl;
-  work = rw e (omega arith);
-  load = λ h. rw e (omega arith);
-  sound = λ objects reserved sound. rw e at sound;
 }
 
 pub opened_none : (fs gs : List Frame) (body : Statements) → fs ≡ gs ++ turning 0 body ∷ [] → Opens fs gs end
@@ -155,16 +136,6 @@ opened_turn fs gs hs (suc n) body some e f = record {
       rw (f, sub-one) (turns_sound objects reserved gs (suc n) n body before last);
 }
 
--- one assignment more
-pub assigned_none : (s : Statements) (l : Locals) → Assigns s l s l
-assigned_none s l = record {
-  next = λ next leaves. refl;
-  above = refl;
-  work = omega arith;
-  load = λ h. refl;
-  sound = λ objects reserved sound. sound;
-}
-
 pub assigned_one : (s t u : Statements) (l m k : Locals) (x : ℕ) (e : Expr) → Assigns s l t m → t ≡ assign x e u → k ≡ slice_set m x (expr_value m e) → Assigns s l u k
 assigned_one s t u l m k x e before is sets = record {
   next = λ next leaves. before.next next leaves ∙ ap (λ r. meaning r next leaves m) is ∙ ap (λ v. meaning u next leaves v) (sym sets);
@@ -173,6 +144,3 @@ assigned_one s t u l m k x e before is sets = record {
   load = λ h. sym (ap (λ r. load_of r h) is) ∙ before.load h;
   sound = λ objects reserved sound. (subst (IsSoundBody objects reserved) is (before.sound objects reserved sound)).2;
 }
-
-pub nothing_left : (gs : List Frame) (s : Statements) (m : Locals) → s ≡ end → next_of (gs ++ rest s ∷ []) m ≡ next_of gs m
-nothing_left gs s m e = ap (λ t. next_of (gs ++ rest t ∷ []) m) e ∙ ap (λ (a : Ahead). a.next m) (ahead_of-push gs (rest end))

@@ -71,10 +71,6 @@ module _ (p : ProgramShape) (sound : IsSound p) (order : List Ticket) (begun : �
       ap (map (put_item u i)) e
       ∙ subst (λ u. map (put_item u i) (private [] ∷ []) ≡ private (i ∷ []) ∷ []) (sym is) (rw (same_self t) refl)
 
-  -- a request that was logged is there, and the handler serves it
-  waits : ℕ → QueueItem → ℕ → List Private
-  waits h i g = put served h (private (i ∷ []) ∷ []) g
-
   after : (h : ℕ) (i : QueueItem) → reserves p t h ≡ true → (g : ℕ) → put (put served h (private (i ∷ []) ∷ [])) h (private [] ∷ []) g ≡ served g
   after h i e g = ⊎_elim
       (λ (is : h ≡ g).

@@ -2,13 +2,7 @@
 
 ghost use Rattle.qs_plain_laws.specs.progress.Finishing.{EnoughRoundsFinish, FairRunsFinish, FinishedRunsStay};
 ghost use Rattle.qs_plain_laws.specs.progress.Progress.{NeverStuck};
-ghost use Rattle.qs_plain_laws.specs.progress.StepExamples.{StepExamples};
 ghost use Rattle.qs_plain_laws.specs.progress.Steps.{BoundsAreSmall, StepsAreBounded};
-
-/// The steps of some runs, and the most that there can be, computed by the definitions; it does nothing.
-pub fn step_examples()
-    ensures examples { StepExamples }
-{}
 
 /// For every checked program and every list of actors: after it all is finished, or some client or some handler of the
 /// program has a step. It does nothing.

@@ -18,7 +18,7 @@ use Rattle.qs_chunk.specs.Lanes.{MayFollow}
 use Rattle.qs_chunk.specs.declared.parcel.Parcel.{Parcel}
 use Rattle.qs_client.specs.declared.rules.act.Act.{Act}
 use Rattle.qs_client.specs.declared.rules.act.Act.TheVariants as acts
-use Rattle.qs_client.specs.audit.ClientRuns.{Deed, DeedsLead, RunsTo, next_ticket, reservations, sent_to}
+use Rattle.qs_client.specs.audit.ClientRuns.{Deed, DeedsLead, next_ticket, reservations, sent_to}
 use Rattle.qs_client.specs.audit.ClientRuns as deeds
 use Rattle.qs_client.specs.audit.ClientModel.{ClientModel, mind_after_begin, mind_after_chunk, finish, fresh_mind, mind_after_object, hands_out, next_act, next_mind}
 use Rattle.qs_desk.specs.Tickets.{ticket}
@@ -207,7 +207,3 @@ module _ (p : ProgramShape) (c : ℕ) (first : ClientModel) (start : List (Optio
                 (λ a other. (refl, refl, rw other refl));
           },
         )
-
-    -- a client that asks for nothing more has ended
-    pub kept_to_end : next_act m ≡ acts.Finished → (done : List Deed) × RunsTo c first done n × AreDone c start done share lanes
-    kept_to_end is = (kept.0, record { last = m; deeds_lead = kept.1; finished = is; end_is = at }, kept.2)

@@ -42,9 +42,6 @@ got x = Ok x
 ok_inj : {A : Type 0} (x y : A) → got x ≡ got y → x ≡ y
 ok_inj x y p = cc
 
-some_inj : {A : Type 0} (x y : A) → Some x ≡ Some y → x ≡ y
-some_inj x y p = cc
-
 -- what has to stand there stands there
 due_some : (ts : List Token) (found : Option (List Token)) (rest : List Token) → due ts found ≡ Ok rest → found ≡ Some rest
 due_some ts None rest p = cc

@@ -67,9 +67,6 @@ module _ (test : ℕ → Bool) (run : List ℕ → Pending)
 or_left : (t u v : Bool) → t ≡ true → (t || u || v) ≡ true
 or_left t u v e = rw e refl
 
-or_middle : (t u v : Bool) → t ≡ false → u ≡ true → (t || u || v) ≡ true
-or_middle t u v e f = rw (e, f) refl
-
 -- the name or reserved word at the front
 pub front_name : (text name rest : List ℕ) (n : ℕ) → 0 < length text → is_letter (get_or text 0 0) ≡ true → n ≡ run_of is_name_byte text → name ≡ take n text → rest ≡ drop n text → tokens_of text ≡ then_tokens (over (word name)) rest
 front_name [] name rest n some e en ename erest = absurd (omega arith)
@@ -122,21 +119,12 @@ front_comment [] rest n some e en erest = absurd (omega arith)
 front_comment (b ∷ bs) rest n some e en erest =
     rw (erest, en, e, one-add) (ap (after []) (comment_goes bs))
 
--- a space at the front
-pub front_space : (text rest : List ℕ) (b : ℕ) → 0 < length text → b ≡ get_or text 0 0 → rest ≡ drop 1 text → is_letter b ≡ false → is_digit b ≡ false → is_space b ≡ true → tokens_of text ≡ tokens_of rest
-front_space [] rest b some eb erest no_letter no_digit space = absurd (omega arith)
-front_space (c ∷ bs) rest b some eb erest no_letter no_digit space = rw (← eb, erest, no_letter, no_digit, space) (after-nil _)
-
 -- the sign at the front
 pub front_sign : (text rest : List ℕ) (b : ℕ) → 0 < length text → b ≡ get_or text 0 0 → rest ≡ drop 1 text → is_letter b ≡ false → is_digit b ≡ false → is_space b ≡ false → b ≢ 35 → tokens_of text ≡ going_on (any_sign b (at b equals_signs)) (λ q. tokens_from q rest)
 front_sign [] rest b some eb erest no_letter no_digit no_space no_comment = absurd (omega arith)
 front_sign (c ∷ bs) rest b some eb erest no_letter no_digit no_space no_comment =
     let e : nat_eq b 35 ≡ false = grind arith in
     rw (← eb, erest, no_letter, no_digit, no_space, e) refl
-
-pub with_equals : (alone : Option Token) (both : Token) (rest : List ℕ) → 0 < length rest → get_or rest 0 0 ≡ 61 → tokens_from (sign alone both) rest ≡ after (both ∷ []) (tokens_of (drop 1 rest))
-with_equals alone both [] some e = absurd (omega arith)
-with_equals alone both (b ∷ bs) some e = rw e refl
 
 ends_sign : (alone : Option Token) (both : Token) (b : ℕ) (bs : List ℕ) → then_tokens (over (sign alone both)) (b ∷ bs) ≡ going_on (single_sign alone) (λ q. tokens_from q (b ∷ bs))
 ends_sign None both b bs = refl
@@ -153,25 +141,6 @@ without_equals alone both (b ∷ bs) h =
 -- the digits at the front are digits
 pub front_passes : (text ds : List ℕ) (n : ℕ) → n ≡ run_of is_digit text → ds ≡ take n text → All (λ b. IsTrue (is_digit b)) ds
 front_passes text ds n en eds = rw (eds, en) (run_passes is_digit text)
-
--- the sign with = after it
-sign_and_equals : (both : Token) (b : ℕ) (rest : List ℕ) (p : Option (Option Token × Token)) → 0 < length rest → get_or rest 0 0 ≡ 61 → with_equals_of p ≡ Some both
-    → going_on (any_sign b p) (λ q. tokens_from q rest) ≡ after (both ∷ []) (tokens_of (drop 1 rest))
-sign_and_equals both b rest None some e is = cc
-sign_and_equals both b rest (Some p) some e is =
-    let same : p.1 ≡ both = cc in
-    after-nil _ ∙ with_equals p.0 p.1 rest some e ∙ rw same refl
-
-drop_two : (text : List ℕ) → drop 1 (drop 1 text) ≡ drop 2 text
-drop_two [] = refl
-drop_two (b ∷ []) = refl
-drop_two (b ∷ c ∷ bs) = refl
-
-pub front_two : (text rest : List ℕ) (b : ℕ) (both : Token) → 0 < length text → b ≡ get_or text 0 0 → rest ≡ drop 1 text → is_letter b ≡ false → is_digit b ≡ false → is_space b ≡ false → b ≢ 35
-    → 0 < length rest → get_or rest 0 0 ≡ 61 → with_equals_of (at b equals_signs) ≡ Some both → tokens_of text ≡ after (both ∷ []) (tokens_of (drop 2 text))
-front_two text rest b both some eb erest no_letter no_digit no_space no_comment more e is =
-    front_sign text rest b some eb erest no_letter no_digit no_space no_comment ∙ sign_and_equals both b rest (at b equals_signs) more e is
-    ∙ rw (erest, drop_two text) refl
 
 -- the sign without = after it, or a byte that is no sign
 sign_on_its_own : (b : ℕ) (rest : List ℕ) (p : Option (Option Token × Token)) → (0 < length rest → get_or rest 0 0 ≡ 61 → with_equals_of p ≡ None)
@@ -239,11 +208,6 @@ cut_word text n some letter e long =
 
 pub short_run : (n r : ℕ) → n ≡ min 17 r → n ≤ 16 → n ≡ r
 short_run n r e short = omega arith
-
--- a sign that no = may follow
-pub front_plain : (text : List ℕ) (token : Token) → 0 < length text → first_byte (get_or text 0 0) ≡ Ok (token ∷ [], nothing) → tokens_of text ≡ after (token ∷ []) (tokens_of (drop 1 text))
-front_plain [] token some e = absurd (omega arith)
-front_plain (b ∷ bs) token some e = rw e refl
 
 -- a name has a byte at least, so what is said of words with its first byte is said of it
 word_some : (b : ℕ) (bs : List ℕ) (end : ℕ) → is_letter b ≡ true → end ≡ min 17 (run_of is_name_byte (b ∷ bs)) → 0 < end

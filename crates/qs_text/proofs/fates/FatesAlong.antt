@@ -1,8 +1,8 @@
 -- The fates of one ticket are picked from among those of a journal, from some place on, and those of a trace are found
 -- request by request. The loops of `next_fate` and `trace_fates` go from one place to the next in this way. Each step
 -- takes the first element off the lists that are left, or finds them empty.
-use Rattle.std.proofs.Common.{◌≡◌, ◌<◌, ◌≤◌, ◌+◌, ℕ, zero, suc, nat_lt, Bool, true, false, if◌then◌else◌, ◌==◌, List, [], ◌∷◌, ◌++◌, length, replicate, get_or, set, drop, take, Option, None, slice_get, refl, sym, ap, ap₂, subst, ◌∙◌, ⊎_elim, arith, append_assoc, append-nil, get_or-set_same, get_or-set_other}
-use Rattle.std.proofs.lemmas.List.{drop_all, drop_more, drop-drop, take_more, get_or-replicate}
+use Rattle.std.proofs.Common.{◌≡◌, ◌<◌, ◌+◌, ℕ, zero, suc, nat_lt, Bool, true, false, if◌then◌else◌, ◌==◌, List, [], ◌∷◌, ◌++◌, length, replicate, get_or, drop, take, Option, slice_get, refl, sym, ap, ap₂, subst, ◌∙◌, ⊎_elim, arith, append_assoc}
+use Rattle.std.proofs.lemmas.List.{drop_more, drop-drop, take_more, get_or-replicate}
 use Rattle.std.proofs.lemmas.List.FromFn.{get_or-map-range_with_len, length-map-range_with_len}
 use Rattle.std.proofs.lemmas.List.Sums.{sum_by_push}
 use Rattle.std.proofs.lemmas.Bool.Decides.{nat_tests}
@@ -102,11 +102,6 @@ fates_step p run i trace k x fates_so_far f whole less is fate so_far =
     append_assoc fates_so_far (f ∷ []) (fates_along p run i (take (k + 1) trace) (drop (k + 1) trace))
     ∙ (ap₂ (λ g es. fates_so_far ++ (g ∷ fates_along p run i es (drop (k + 1) trace))) fate before
     ∙ (sym (ap (λ l. fates_so_far ++ fates_along p run i (take k trace) l) here) ∙ so_far))
-
-pub fates_end : (p : ProgramShape) (run : Played) (i : ℕ) (trace : List Event) (k : ℕ) (fates_so_far whole : List (Option Fate)) → length trace ≤ k
-    → fates_so_far ++ fates_along p run i (take k trace) (drop k trace) ≡ whole → fates_so_far ≡ whole
-fates_end p run i trace k fates_so_far whole past so_far =
-    sym (append-nil fates_so_far) ∙ (sym (ap (λ l. fates_so_far ++ fates_along p run i (take k trace) l) (drop_all k trace past)) ∙ so_far)
 
 -- one request more has passed on its object
 pub left_step : (p : ProgramShape) (run : Played) (i : ℕ) (trace : List Event) (k : ℕ) (x : Event) (left rest : ℕ → List Fate) → k < length trace

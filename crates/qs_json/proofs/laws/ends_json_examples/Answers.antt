@@ -1,8 +1,0 @@
--- The digits of each number are computed.
-use Rattle.std.proofs.Common.{refl}
-use Rattle.std.specs.Fmt.{digits}
-use Rattle.qs_json.proofs.laws.ends_json_examples.Goals as goal
-
-pub returns : goal.returns
-unfolding digits
-returns c = record { examples = record { one = refl; no_client = refl } }

@@ -1,2 +1,0 @@
--- What crates promise one another, what proofs use, and worked examples.
-pub mod LineExamples
