@@ -72,7 +72,7 @@ fn put_place(out: &mut Vec<u8>, spot: Spot, gutter: &[u8]) -> Result<(), AllocEr
 
 // The part of a line that is shown.
 #[derive(Clone, Copy)]
-struct Part<'a> {
+struct Excerpt<'a> {
     bytes: &'a [u8],
     is_text: bool,
     is_cut_before: bool,
@@ -84,7 +84,7 @@ fn put_source(
     alloc: Global,
     out: &mut Vec<u8>,
     line: usize,
-    part: &Part<'_>,
+    part: &Excerpt<'_>,
 ) -> Result<(), AllocError>
     ensures ok { OnOk result (out.new.items
         ≡ out.old.items
@@ -131,7 +131,7 @@ fn put_under(
     alloc: Global,
     out: &mut Vec<u8>,
     gutter: &[u8],
-    part: &Part<'_>,
+    part: &Excerpt<'_>,
     before: &[u8],
     token: &[u8],
     label: &[u8],
@@ -190,7 +190,7 @@ fn put_windowed(
     let span = diagnosis.span;
     let window = around(start, end, span.start);
     let bytes = &text[window.from..window.to];
-    let part = Part {
+    let part = Excerpt {
         bytes,
         is_text: str::from_utf8(bytes).is_ok(),
         is_cut_before: start < window.from,

@@ -35,7 +35,7 @@ program_sync = search (client_sync, declared_sync, crosses, sendable) depth 40
 packed_sync : IsSync Rattle.qs_standings.specs.contracts.packed.Packed.the_row
 packed_sync = search (crosses, sendable) depth 40
 
-part_sync : IsSync Rattle.qs_levels.specs.contracts.part.Part.the_row
+part_sync : IsSync Rattle.qs_levels.specs.contracts.part.LevelPart.the_row
 part_sync = search (packed_sync, crosses, sendable) depth 40
 
 level_sync : IsSync Rattle.qs_levels.specs.contracts.level.Level.the_row

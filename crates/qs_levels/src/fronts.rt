@@ -15,9 +15,9 @@ ghost use Rattle.qs_levels.specs.Shares.{AreGoing};
 use crate::leading::led_on;
 use crate::level::{Going, Level, Spot};
 use crate::merging::{add, next_of};
-use crate::part::Part;
+use crate::part::LevelPart;
 use crate::parts::add_part;
-use crate::share::{Share, share_of};
+use crate::share::{LevelShare, share_of};
 use crate::step::{Search, Step};
 use crate::table::{Lead, Mark, Spare, Table, add_found};
 use qs_objects::Ticket;
@@ -28,7 +28,7 @@ use qs_standings::{Standing, copied, last_blocks, placed, row_starts};
 use std::alloc::{AllocError, Global};
 
 // One standing as a part, and who goes on from it.
-fn one_part(alloc: Global, mut first: Standing, going: u8) -> Result<Part, AllocError>
+fn one_part(alloc: Global, mut first: Standing, going: u8) -> Result<LevelPart, AllocError>
     ensures found { IfOk result (λ part. part ≡ found_of (record { lead = record { source = 0; client = 0 }; going = going }) first ∷ []) }
 {
     let lead = Lead {
@@ -42,11 +42,11 @@ fn one_part(alloc: Global, mut first: Standing, going: u8) -> Result<Part, Alloc
         marks,
         standings,
     } = table;
-    Ok(Part::new(marks, standings))
+    Ok(LevelPart::new(marks, standings))
 }
 
 // The level that has the only standing of a part.
-fn one_spot(alloc: Global, part: Part, going: Going) -> Result<Level, AllocError>
+fn one_spot(alloc: Global, part: LevelPart, going: Going) -> Result<Level, AllocError>
     requires one { length part ≡ 1 }
     ensures standings { IfOk result (λ level. level.standings ≡ found_in part) }
     ensures going { IfOk result (λ level. level.going ≡ going ∷ []) }
@@ -109,7 +109,7 @@ fn after_level(alloc: Global, step: &Step<'_>) -> Result<Level, OutcomesFault>
         step.now.room }
     ensures order { ¬ IsErrOf result OutcomesFault.Order }
 {
-    let share = Share {
+    let share = LevelShare {
         number: 0,
         count: 1,
     };

@@ -12,8 +12,8 @@ ghost use Rattle.qs_levels.specs.Founds.{no_standing};
 ghost use Rattle.qs_levels.specs.meaning.Onward.{HasMoreOnward};
 ghost use Rattle.qs_levels.specs.Leads.{AreEven, AreKnown, IsLedOn, IsLedTooFar, IsLedUpTo, IsOverfull, IsPartOf, TableShape, tabled};
 
-use crate::part::Part;
-use crate::share::{Share, masks, taken};
+use crate::part::LevelPart;
+use crate::share::{LevelShare, masks, taken};
 use crate::step::{Search, Step};
 use crate::table::{Lead, Mark, Spare, Table, add_found, note};
 use qs_objects::Ticket;
@@ -147,7 +147,7 @@ fn lead_client(
 fn lead_standing(
     alloc: Global,
     step: &Step<'_>,
-    share: Share,
+    share: LevelShare,
     source: &Source<'_>,
     next: &mut Standing,
     scratch: &mut Scratch,
@@ -190,7 +190,7 @@ fn lead_place(
     alloc: Global,
     step: &Step<'_>,
     place: usize,
-    share: Share,
+    share: LevelShare,
     masks: &[u8],
     work: &mut Workspace,
     table: &mut Table,
@@ -244,9 +244,9 @@ fn lead_place(
 pub(crate) fn led_on(
     alloc: Global,
     step: &Step<'_>,
-    share: Share,
+    share: LevelShare,
     spare: Spare,
-) -> Result<Part, OutcomesFault>
+) -> Result<LevelPart, OutcomesFault>
     requires level { AllByRecursion
         (IsStanding step.now.search.program.now step.now.search.front.now) step.now.level.now.standings }
     requires sorted { AreSorted step.now.level.now.standings }
@@ -286,5 +286,5 @@ pub(crate) fn led_on(
         marks,
         standings,
     } = table;
-    Ok(Part::new(marks, standings))
+    Ok(LevelPart::new(marks, standings))
 }

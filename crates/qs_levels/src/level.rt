@@ -4,7 +4,7 @@ ghost use Rattle.std.specs.Prelude.{◌≡◌, ◌<◌, ◌∷◌, ◌++◌, [],
 ghost use Rattle.std.specs.List.{AllByRecursion};
 ghost use Rattle.qs_levels.specs.Founds.{IsSpot, level_in, no_standing};
 
-use crate::part::Part;
+use crate::part::LevelPart;
 use crate::table::Spare;
 use qs_standings::Standing;
 use std::alloc::{AllocError, Global};
@@ -36,7 +36,7 @@ pub(crate) struct Spares {
 /// Standings in the order of their orders, and who goes on from each.
 #[derive(Drop)]
 pub(crate) struct Level {
-    parts: Vec<Part>,
+    parts: Vec<LevelPart>,
     spots: Vec<Spot>,
 }
 
@@ -52,7 +52,7 @@ impl Model for Level {
 }
 
 impl Level {
-    pub(crate) fn new(parts: Vec<Part>, spots: Vec<Spot>) -> Level
+    pub(crate) fn new(parts: Vec<LevelPart>, spots: Vec<Spot>) -> Level
         requires within { AllByRecursion (IsSpot parts.items) spots.items }
         ensures level { result ≡ level_in parts.items spots.items }
     {

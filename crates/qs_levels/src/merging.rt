@@ -7,7 +7,7 @@ ghost use Rattle.qs_levels.specs.Merging.{AreParts, IsBetter, IsLeastPart, IsLes
 ghost use Rattle.qs_levels.specs.Shares.{AreGoing};
 
 use crate::level::{Going, Level, Spot};
-use crate::part::Part;
+use crate::part::LevelPart;
 use crate::step::Step;
 use crate::table::Lead;
 use qs_outcomes::OutcomesFault;
@@ -44,7 +44,7 @@ fn improve(best: &mut Option<Candidate>, number: usize, first: Option<Lead>)
 }
 
 // The part whose first lead from its place on is the least.
-fn least(parts: &[Part], places: &[usize]) -> Option<usize>
+fn least(parts: &[LevelPart], places: &[usize]) -> Option<usize>
     requires even { length places.now ≡ length parts.now }
     ensures least { IsLeastPart (rests_of places.now parts.now) result }
 {
@@ -68,7 +68,7 @@ pub(crate) fn add(spots: &mut Vec<Spot>, spot: Spot) -> Result<(), AllocError>
 
 // Adds the place of a part that comes next, and passes over it.
 fn take(
-    parts: &[Part],
+    parts: &[LevelPart],
     places: &mut Vec<usize>,
     number: usize,
     spots: &mut Vec<Spot>,
@@ -106,7 +106,7 @@ fn take(
 fn merged(
     alloc: Global,
     step: &Step<'_>,
-    parts: Vec<Part>,
+    parts: Vec<LevelPart>,
     mut spots: Vec<Spot>,
 ) -> Result<Level, OutcomesFault>
     requires level { IsSomeLevel step.now.search.program.now step.now.search.front.now step.now.level.now.standings }
@@ -135,7 +135,7 @@ fn merged(
 pub(crate) fn next_of(
     alloc: Global,
     step: &Step<'_>,
-    parts: Vec<Part>,
+    parts: Vec<LevelPart>,
     spots: Vec<Spot>,
 ) -> Result<Level, OutcomesFault>
     requires level { IsSomeLevel step.now.search.program.now step.now.search.front.now step.now.level.now.standings }

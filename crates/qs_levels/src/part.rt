@@ -11,12 +11,12 @@ use std::marker::Model;
 
 /// What was found, in the order of the leads.
 #[derive(Drop)]
-pub(crate) struct Part {
+pub(crate) struct LevelPart {
     marks: Vec<Mark>,
     standings: Packed,
 }
 
-impl Model for Part {
+impl Model for LevelPart {
     ghost use Rattle.std.specs.Prelude.{◌≡◌, List, length};
     ghost use Rattle.qs_levels.specs.Founds.{Found, zipped};
 
@@ -27,12 +27,12 @@ impl Model for Part {
     ghost invariant = { λ p. length p.marks.items ≡ length p.standings };
 }
 
-impl Part {
-    pub(crate) fn new(marks: Vec<Mark>, standings: Packed) -> Part
+impl LevelPart {
+    pub(crate) fn new(marks: Vec<Mark>, standings: Packed) -> LevelPart
         requires even { length marks.items ≡ length standings }
         ensures found { result ≡ zipped marks.items standings }
     {
-        Part { marks, standings }
+        LevelPart { marks, standings }
     }
 
     /// How much was found.
@@ -76,7 +76,7 @@ impl Part {
 
     /// Its memory, for another part.
     pub(crate) fn into_spare(self) -> Spare {
-        let Part { marks, standings } = self;
+        let LevelPart { marks, standings } = self;
         Spare { marks, standings }
     }
 }

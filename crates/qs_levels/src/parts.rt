@@ -9,8 +9,8 @@ ghost use Rattle.qs_levels.specs.Shares.{AreGoing};
 use crate::leading::led_on;
 use crate::level::{Level, Spares};
 use crate::merging::next_of;
-use crate::part::Part;
-use crate::share::Share;
+use crate::part::LevelPart;
+use crate::share::LevelShare;
 use crate::step::Step;
 use crate::table::Spare;
 use crate::threads::side_by_side;
@@ -27,7 +27,12 @@ struct Job {
 }
 
 // Leads a level on to the configurations of a share, of so many.
-fn led_part(alloc: Global, step: &Step<'_>, count: usize, job: Job) -> Result<Part, OutcomesFault>
+fn led_part(
+    alloc: Global,
+    step: &Step<'_>,
+    count: usize,
+    job: Job,
+) -> Result<LevelPart, OutcomesFault>
     requires level { IsSomeLevel step.now.search.program.now step.now.search.front.now step.now.level.now.standings }
     requires going { AreGoing step.now.search.program.now count step.now.level.now.standings step.now.level.now.going }
     requires some { 0 < count }
@@ -35,7 +40,7 @@ fn led_part(alloc: Global, step: &Step<'_>, count: usize, job: Job) -> Result<Pa
     ensures led { IsPartLed step.now.search.program.now step.now.search.front.now step.now.level.now.standings
         step.now.room job.number count result }
 {
-    let share = Share {
+    let share = LevelShare {
         number: job.number,
         count,
     };
@@ -72,7 +77,7 @@ fn led_parts<R: Threads + Sync>(
     step: &Step<'_>,
     count: usize,
     spare: Vec<Spare>,
-) -> Result<Vec<Result<Part, OutcomesFault>>, AllocError>
+) -> Result<Vec<Result<LevelPart, OutcomesFault>>, AllocError>
     requires level { IsSomeLevel step.now.search.program.now step.now.search.front.now step.now.level.now.standings }
     requires going { AreGoing step.now.search.program.now count step.now.level.now.standings step.now.level.now.going }
     requires some { 0 < count }
@@ -83,7 +88,7 @@ fn led_parts<R: Threads + Sync>(
         count (slice_index_or all.items i d)) }
 {
     let jobs = jobs_of(alloc, count, spare)?;
-    let lead = move |job: Job| -> Result<Part, OutcomesFault>
+    let lead = move |job: Job| -> Result<LevelPart, OutcomesFault>
         requires { IsSomeLevel step.now.search.program.now step.now.search.front.now step.now.level.now.standings
             × AreGoing step.now.search.program.now count step.now.level.now.standings step.now.level.now.going
             × (0 < count) × (count ≤ 256) }
@@ -111,8 +116,8 @@ fn gathered(
     alloc: Global,
     step: &Step<'_>,
     count: usize,
-    mut results: Vec<Result<Part, OutcomesFault>>,
-) -> Result<Vec<Part>, OutcomesFault>
+    mut results: Vec<Result<LevelPart, OutcomesFault>>,
+) -> Result<Vec<LevelPart>, OutcomesFault>
     requires len { vec_len results ≡ count }
     requires each { (i : ℕ) (d : _) → i < count
         → IsPartLed step.now.search.program.now step.now.search.front.now step.now.level.now.standings step.now.room i
@@ -135,7 +140,7 @@ fn gathered(
 }
 
 /// Adds a part behind others.
-pub(crate) fn add_part(parts: &mut Vec<Part>, part: Part) -> Result<(), AllocError>
+pub(crate) fn add_part(parts: &mut Vec<LevelPart>, part: LevelPart) -> Result<(), AllocError>
     ensures added { OnOk result (parts.new.items ≡ parts.old.items ++ part ∷ []) }
 {
     parts.push(part)?;

@@ -14,7 +14,7 @@ use std::alloc::{AllocError, Global};
 
 /// The share with a number, of so many.
 #[derive(Clone, Copy, Drop)]
-pub(crate) struct Share {
+pub(crate) struct LevelShare {
     pub number: usize,
     pub count: usize,
 }
@@ -45,7 +45,7 @@ pub(crate) fn share_of(begun: &[u8], count: usize) -> u8
 }
 
 // Whose next blocks lead from a share to this one, client c in bit c.
-fn mask(from: usize, share: Share) -> u8
+fn mask(from: usize, share: LevelShare) -> u8
     requires from { from < share.count }
     requires few { share.count ≤ 256 }
     ensures mask { (c : ℕ) → c < most_clients → in_byte result c ≡ ((from + weight c) % share.count == share.number) }
@@ -67,7 +67,7 @@ fn add(masks: &mut Vec<u8>, mask: u8) -> Result<(), AllocError>
 }
 
 /// For each share, whose next blocks lead from there to this one.
-pub(crate) fn masks(alloc: Global, share: Share) -> Result<Vec<u8>, AllocError>
+pub(crate) fn masks(alloc: Global, share: LevelShare) -> Result<Vec<u8>, AllocError>
     requires few { share.count ≤ 256 }
     ensures masks { IfOk result (λ masks. AreMasks share.number share.count masks.items) }
 {
@@ -83,7 +83,7 @@ pub(crate) fn taken(
     program: &Program,
     level: &Level,
     place: usize,
-    share: Share,
+    share: LevelShare,
     masks: &[u8],
 ) -> u8
     requires within { place < length level.now.standings }

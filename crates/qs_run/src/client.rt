@@ -5,5 +5,5 @@ mod client_lanes;
 pub mod laws;
 mod running;
 
-pub use client_lanes::Lanes;
+pub use client_lanes::ClientLanes;
 pub use running::run;

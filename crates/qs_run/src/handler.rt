@@ -5,5 +5,5 @@ mod handler_lanes;
 mod serving;
 
 pub use gate::{FreeGate, Gate, Passage};
-pub use handler_lanes::Lanes;
+pub use handler_lanes::HandlerLanes;
 pub use serving::serve;

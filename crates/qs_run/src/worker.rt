@@ -2,8 +2,8 @@
 
 ghost use Rattle.std.specs.Prelude.{◌≡◌};
 
-use crate::client::Lanes as ClientLanes;
-use crate::handler::Lanes as HandlerLanes;
+use crate::client::ClientLanes;
+use crate::handler::HandlerLanes;
 use qs_client::Mind;
 use qs_desk::{DeskName, Share, Tickets};
 use qs_objects::Held;

@@ -3,8 +3,8 @@
 -- what is done, joined with what the rest is read as, is what the whole is read as.
 use Rattle.std.proofs.Common.{◌≡◌, ℕ, zero, suc, ◌<◌, List, [], ◌∷◌, ◌++◌, length, refl, ap, sym, ◌∙◌, arith, append_assoc, append-nil, Option, Some, None, Ok, Err}
 use Rattle.qs_script.specs.declared.tokens.token.Token.{Token}
-use Rattle.qs_script.specs.declared.fault.Fault.{Fault}
-use Rattle.qs_script.specs.declared.fault.Fault.TheVariants.{Form, Memory}
+use Rattle.qs_script.specs.declared.fault.TreeFault.{TreeFault}
+use Rattle.qs_script.specs.declared.fault.TreeFault.TheVariants.{Form, Memory}
 use Rattle.qs_script.specs.grammar.Reading.{Loop, onto, stmt_in, close_brace_at, Read, after, many_at, run, body_loop, list_loop, one, end_at}
 use Rattle.qs_script.specs.Results.{Fails}
 use Rattle.qs_script.specs.audit.tree.Tree.{Stmts}
@@ -49,7 +49,7 @@ module _ {M : Type 0} (loop : Loop M) (lawful : IsLawful loop) where
   closes start tokens rest left done h e =
       h.continues (Ok (loop.none, left)) (runs_stop loop rest left e) ∙ ap (λ x. Ok (x, left)) (lawful.none_after done)
 
-  pub fails : (fault : Fault) (start : M) (tokens rest : List Token) (done : M) → Continues loop start tokens rest done → loop.stop rest ≡ None → Fails fault (loop.element rest) → Fails fault (after loop start (run loop tokens))
+  pub fails : (fault : TreeFault) (start : M) (tokens rest : List Token) (done : M) → Continues loop start tokens rest done → loop.stop rest ≡ None → Fails fault (loop.element rest) → Fails fault (after loop start (run loop tokens))
   fails (Form left) start tokens rest done h e s = h.continues (Err left) (runs_no_element loop left rest e s)
   fails Memory start tokens rest done h e s = tt
 
@@ -57,7 +57,7 @@ module _ {M : Type 0} (loop : Loop M) (lawful : IsLawful loop) where
   pub whole_closes : (tokens rest left : List Token) (done : M) → Continues loop loop.none tokens rest done → loop.stop rest ≡ Some left → run loop tokens ≡ Ok (done, left)
   whole_closes tokens rest left done h e = sym (after-none (run loop tokens)) ∙ closes loop.none tokens rest left done h e
 
-  pub whole_fails : (fault : Fault) (tokens rest : List Token) (done : M) → Continues loop loop.none tokens rest done → loop.stop rest ≡ None → Fails fault (loop.element rest) → Fails fault (run loop tokens)
+  pub whole_fails : (fault : TreeFault) (tokens rest : List Token) (done : M) → Continues loop loop.none tokens rest done → loop.stop rest ≡ None → Fails fault (loop.element rest) → Fails fault (run loop tokens)
   whole_fails (Form left) tokens rest done h e s =
       sym (after-none (run loop tokens)) ∙ fails (Form left) loop.none tokens rest done h e s
   whole_fails Memory tokens rest done h e s = tt
@@ -75,11 +75,11 @@ module _ {A : Type 0} (stop : List Token → Option (List Token)) (element : Lis
   list_closes start tokens rest left done h e =
       closes (list_loop stop element) (list_lawful stop element) start tokens rest left done h e
 
-  one_fails : (fault : Fault) (read : Read A) → Fails fault read → Fails fault (one read)
+  one_fails : (fault : TreeFault) (read : Read A) → Fails fault read → Fails fault (one read)
   one_fails (Form left) read h = ap one h
   one_fails Memory read h = tt
 
-  pub list_fails : (fault : Fault) (start : List A) (tokens rest : List Token) (done : List A) → Continues (list_loop stop element) start tokens rest done → stop rest ≡ None → Fails fault (element rest) → Fails fault (after (list_loop stop element) start (run (list_loop stop element) tokens))
+  pub list_fails : (fault : TreeFault) (start : List A) (tokens rest : List Token) (done : List A) → Continues (list_loop stop element) start tokens rest done → stop rest ≡ None → Fails fault (element rest) → Fails fault (after (list_loop stop element) start (run (list_loop stop element) tokens))
   list_fails fault start tokens rest done h e s =
       fails (list_loop stop element) (list_lawful stop element) fault start tokens rest done h e (one_fails fault (element rest) s)
 
@@ -87,7 +87,7 @@ module _ {A : Type 0} (stop : List Token → Option (List Token)) (element : Lis
   whole_list_closes tokens rest left done h e =
       whole_closes (list_loop stop element) (list_lawful stop element) tokens rest left done h e
 
-  pub whole_list_fails : (fault : Fault) (tokens rest : List Token) (done : List A) → Continues (list_loop stop element) [] tokens rest done → stop rest ≡ None → Fails fault (element rest) → Fails fault (run (list_loop stop element) tokens)
+  pub whole_list_fails : (fault : TreeFault) (tokens rest : List Token) (done : List A) → Continues (list_loop stop element) [] tokens rest done → stop rest ≡ None → Fails fault (element rest) → Fails fault (run (list_loop stop element) tokens)
   whole_list_fails fault tokens rest done h e s =
       whole_fails (list_loop stop element) (list_lawful stop element) fault tokens rest done h e (one_fails fault (element rest) s)
 

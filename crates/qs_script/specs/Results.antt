@@ -2,23 +2,23 @@
 use Rattle.std.specs.Borrow.{Bor}
 use Rattle.std.specs.Prelude.{◌≡◌, ℕ, List, Option, Some, None, Result, Ok, Err}
 use Rattle.qs_script.specs.declared.tokens.token.Token.{Token}
-use Rattle.qs_script.specs.declared.fault.Fault.{Fault}
-use Rattle.qs_script.specs.declared.fault.Fault.TheVariants.{Form, Memory}
+use Rattle.qs_script.specs.declared.fault.TreeFault.{TreeFault}
+use Rattle.qs_script.specs.declared.fault.TreeFault.TheVariants.{Form, Memory}
 use Rattle.qs_script.specs.audit.tree.Tree.{Stmts}
 use Rattle.qs_script.specs.grammar.Reading.{Read, onto}
 
 -- no reading goes on at a token, and so many are left there; unless memory ran out
-abbrev pub Fails : {Y : Type 0} → Fault → Result Y ℕ → Type 0
+abbrev pub Fails : {Y : Type 0} → TreeFault → Result Y ℕ → Type 0
 Fails (Form left) read = read ≡ Err left
 Fails Memory read = Unit {0}
 
 -- the code's result is what is read
-abbrev pub Gives : {X Y : Type 0} → (X → Y) → Result X Fault → Result Y ℕ → Type 0
+abbrev pub Gives : {X Y : Type 0} → (X → Y) → Result X TreeFault → Result Y ℕ → Type 0
 Gives view (Ok x) read = read ≡ Ok (view x)
 Gives view (Err f) read = Fails f read
 
 -- what is read is added to the statements of before, and the code's result is what is left
-abbrev pub Puts : Stmts → Stmts → Result (Bor (List Token)) Fault → Read Stmts → Type 0
+abbrev pub Puts : Stmts → Stmts → Result (Bor (List Token)) TreeFault → Read Stmts → Type 0
 Puts old new (Ok rest) read = onto old read ≡ Ok (new, rest.now)
 Puts old new (Err f) read = Fails f read
 

@@ -4,16 +4,16 @@ ghost use Rattle.std.specs.Prelude.{◌<◌, length, IfOk, IfSome};
 ghost use Rattle.qs_script.specs.grammar.Reading.{name_at, open_brace_at, close_brace_at, close_paren_at};
 ghost use Rattle.qs_script.specs.Results.{Gives, Finds};
 
-use crate::fault::Fault;
+use crate::fault::TreeFault;
 use crate::tokens::{Name, Token};
 
-pub(crate) fn name(tokens: &[Token]) -> Result<(Name, &[Token]), Fault>
+pub(crate) fn name(tokens: &[Token]) -> Result<(Name, &[Token]), TreeFault>
     ensures exact { Gives (λ x. (x.0, x.1.now)) result (name_at tokens.now) }
     ensures shorter { IfOk result (λ x. length x.1.now < length tokens.now) }
 {
     match tokens {
         [Token::Name(name), rest @ ..] => Ok((name.copied(), rest)),
-        _ => Err(Fault::Form(tokens.len())),
+        _ => Err(TreeFault::Form(tokens.len())),
     }
 }
 

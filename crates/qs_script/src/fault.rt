@@ -40,18 +40,18 @@ impl From<AllocError> for ReadFault {
 
 // Why the parser made no tree: no script goes on at a token, and so many tokens were left there; or memory ran out.
 #[derive(Drop)]
-pub(crate) enum Fault {
+pub(crate) enum TreeFault {
     Form(usize),
     Memory,
 }
 
-impl From<AllocError> for Fault {
+impl From<AllocError> for TreeFault {
     ghost use Rattle.std.specs.Prelude.{◌≡◌};
-    ghost use Rattle.qs_script.specs.declared.fault.Fault.TheVariants.{Memory};
+    ghost use Rattle.qs_script.specs.declared.fault.TreeFault.TheVariants.{Memory};
 
     ghost from_gives = { λ _ e. e ≡ Memory };
 
-    fn from(_: AllocError) -> Fault {
-        Fault::Memory
+    fn from(_: AllocError) -> TreeFault {
+        TreeFault::Memory
     }
 }

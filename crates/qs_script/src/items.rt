@@ -5,7 +5,7 @@ ghost use Rattle.qs_script.specs.grammar.Reading.{after, run, names_loop, block_
 ghost use Rattle.qs_script.specs.Results.{Gives};
 
 use crate::expect::{name, past_close_brace, past_open_brace};
-use crate::fault::Fault;
+use crate::fault::TreeFault;
 use crate::lists::{Listing, list};
 use crate::statements::body;
 use crate::templates::{started, template};
@@ -34,13 +34,13 @@ impl Listing for Reserved {
         past_open_brace(tokens)
     }
 
-    fn element(alloc: Global, tokens: &[Token]) -> Result<(Name, &[Token]), Fault> {
+    fn element(alloc: Global, tokens: &[Token]) -> Result<(Name, &[Token]), TreeFault> {
         name(tokens)
     }
 }
 
 // The names after the first, and the brace that opens after them.
-fn names(alloc: Global, first: Name, tokens: &[Token]) -> Result<(NameList, &[Token]), Fault>
+fn names(alloc: Global, first: Name, tokens: &[Token]) -> Result<(NameList, &[Token]), TreeFault>
     ensures exact { Gives (λ x. (x.0, x.1.now)) result (after names_loop (first ∷ []) (run names_loop tokens.now)) }
     ensures shorter { IfOk result (λ x. length x.1.now < length tokens.now) }
 {
@@ -51,7 +51,7 @@ fn names(alloc: Global, first: Name, tokens: &[Token]) -> Result<(NameList, &[To
 }
 
 // A block, after the word separate.
-fn block(alloc: Global, tokens: &[Token]) -> Result<(Block, &[Token]), Fault>
+fn block(alloc: Global, tokens: &[Token]) -> Result<(Block, &[Token]), TreeFault>
     ensures exact { Gives (λ x. (x.0, x.1.now)) result (block_at tokens.now) }
     ensures shorter { IfOk result (λ x. length x.1.now < length tokens.now) }
 {
@@ -62,13 +62,13 @@ fn block(alloc: Global, tokens: &[Token]) -> Result<(Block, &[Token]), Fault>
 }
 
 // A block with that word.
-fn separate(alloc: Global, tokens: &[Token]) -> Result<(Block, &[Token]), Fault>
+fn separate(alloc: Global, tokens: &[Token]) -> Result<(Block, &[Token]), TreeFault>
     ensures exact { Gives (λ x. (x.0, x.1.now)) result (separate_at tokens.now) }
     ensures shorter { IfOk result (λ x. length x.1.now < length tokens.now) }
 {
     match tokens {
         [Token::Separate, rest @ ..] => block(alloc, rest),
-        _ => Err(Fault::Form(tokens.len())),
+        _ => Err(TreeFault::Form(tokens.len())),
     }
 }
 
@@ -88,13 +88,13 @@ impl Listing for Separates {
         past_close_brace(tokens)
     }
 
-    fn element(alloc: Global, tokens: &[Token]) -> Result<(Block, &[Token]), Fault> {
+    fn element(alloc: Global, tokens: &[Token]) -> Result<(Block, &[Token]), TreeFault> {
         separate(alloc, tokens)
     }
 }
 
 // Blocks and the brace that closes them.
-pub(crate) fn blocks(alloc: Global, tokens: &[Token]) -> Result<(Blocks, &[Token]), Fault>
+pub(crate) fn blocks(alloc: Global, tokens: &[Token]) -> Result<(Blocks, &[Token]), TreeFault>
     ensures exact { Gives (λ x. (x.0, x.1.now)) result (run blocks_loop tokens.now) }
     ensures shorter { IfOk result (λ x. length x.1.now < length tokens.now) }
 {
@@ -103,18 +103,18 @@ pub(crate) fn blocks(alloc: Global, tokens: &[Token]) -> Result<(Blocks, &[Token
 }
 
 // An object, after that word.
-fn object(tokens: &[Token]) -> Result<(Item, &[Token]), Fault>
+fn object(tokens: &[Token]) -> Result<(Item, &[Token]), TreeFault>
     ensures exact { Gives (λ x. (x.0, x.1.now)) result (object_at tokens.now) }
     ensures shorter { IfOk result (λ x. length x.1.now < length tokens.now) }
 {
     match tokens {
         [Token::Name(name), rest @ ..] => object_called(name.copied(), rest),
-        _ => Err(Fault::Form(tokens.len())),
+        _ => Err(TreeFault::Form(tokens.len())),
     }
 }
 
 // The object of that name, from its kind on.
-fn object_called(name: Name, tokens: &[Token]) -> Result<(Item, &[Token]), Fault>
+fn object_called(name: Name, tokens: &[Token]) -> Result<(Item, &[Token]), TreeFault>
     ensures exact { Gives (λ x. (x.0, x.1.now)) result (object_called_at name tokens.now) }
     ensures shorter { IfOk result (λ x. length x.1.now < length tokens.now) }
 {
@@ -136,37 +136,39 @@ fn object_called(name: Name, tokens: &[Token]) -> Result<(Item, &[Token]), Fault
             let kind = KindText::Grid(*rows, *columns);
             Ok((Item::Object(ObjectItem { name, kind }), rest))
         }
-        [Token::Grid, Token::Number(_), rest @ ..] => Err(Fault::Form(rest.len())),
-        [Token::Account | Token::Buffer | Token::Grid, rest @ ..] => Err(Fault::Form(rest.len())),
-        _ => Err(Fault::Form(tokens.len())),
+        [Token::Grid, Token::Number(_), rest @ ..] => Err(TreeFault::Form(rest.len())),
+        [Token::Account | Token::Buffer | Token::Grid, rest @ ..] => Err(TreeFault::Form(
+            rest.len(),
+        )),
+        _ => Err(TreeFault::Form(tokens.len())),
     }
 }
 
 // A client, after that word.
-fn client(alloc: Global, tokens: &[Token]) -> Result<(Item, &[Token]), Fault>
+fn client(alloc: Global, tokens: &[Token]) -> Result<(Item, &[Token]), TreeFault>
     ensures exact { Gives (λ x. (x.0, x.1.now)) result (client_at tokens.now) }
     ensures shorter { IfOk result (λ x. length x.1.now < length tokens.now) }
 {
     match tokens {
         [Token::Name(name), rest @ ..] => client_called(alloc, name.copied(), rest),
-        _ => Err(Fault::Form(tokens.len())),
+        _ => Err(TreeFault::Form(tokens.len())),
     }
 }
 
 // The client of that name: with blocks of its own, or of a template.
-fn client_called(alloc: Global, name: Name, tokens: &[Token]) -> Result<(Item, &[Token]), Fault>
+fn client_called(alloc: Global, name: Name, tokens: &[Token]) -> Result<(Item, &[Token]), TreeFault>
     ensures exact { Gives (λ x. (x.0, x.1.now)) result (client_called_at name tokens.now) }
     ensures shorter { IfOk result (λ x. length x.1.now < length tokens.now) }
 {
     match tokens {
         [Token::OpenBrace, rest @ ..] => own_blocks(alloc, name, rest),
         [Token::Assign, rest @ ..] => started(alloc, name, rest),
-        _ => Err(Fault::Form(tokens.len())),
+        _ => Err(TreeFault::Form(tokens.len())),
     }
 }
 
 // The client of that name, after the brace that opens its blocks.
-fn own_blocks(alloc: Global, name: Name, tokens: &[Token]) -> Result<(Item, &[Token]), Fault>
+fn own_blocks(alloc: Global, name: Name, tokens: &[Token]) -> Result<(Item, &[Token]), TreeFault>
     ensures exact { Gives (λ x. (x.0, x.1.now)) result (own_blocks_at name tokens.now) }
     ensures shorter { IfOk result (λ x. length x.1.now < length tokens.now) }
 {
@@ -174,7 +176,7 @@ fn own_blocks(alloc: Global, name: Name, tokens: &[Token]) -> Result<(Item, &[To
     Ok((Item::Client(ClientItem { name, blocks }), rest))
 }
 
-fn item(alloc: Global, tokens: &[Token]) -> Result<(Item, &[Token]), Fault>
+fn item(alloc: Global, tokens: &[Token]) -> Result<(Item, &[Token]), TreeFault>
     ensures exact { Gives (λ x. (x.0, x.1.now)) result (item_at tokens.now) }
     ensures shorter { IfOk result (λ x. length x.1.now < length tokens.now) }
 {
@@ -182,12 +184,12 @@ fn item(alloc: Global, tokens: &[Token]) -> Result<(Item, &[Token]), Fault>
         [Token::Object, rest @ ..] => object(rest),
         [Token::Client, rest @ ..] => client(alloc, rest),
         [Token::Template, rest @ ..] => template(alloc, rest),
-        _ => Err(Fault::Form(tokens.len())),
+        _ => Err(TreeFault::Form(tokens.len())),
     }
 }
 
 // The script that all the tokens make.
-pub(crate) fn script(alloc: Global, tokens: &[Token]) -> Result<Script, Fault>
+pub(crate) fn script(alloc: Global, tokens: &[Token]) -> Result<Script, TreeFault>
     ensures exact { Gives (λ x. (x, [])) result (run items_loop tokens.now) }
 {
     let mut items = Vec::new(alloc);

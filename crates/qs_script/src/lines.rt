@@ -3,7 +3,7 @@
 ghost use Rattle.std.specs.Prelude.{◌≡◌, ◌<◌, ◌≤◌, ◌+◌, length, Ok, Err, IfOk, IfErr, List};
 ghost use Rattle.qs_diagnosis.specs.Spots.{spot_at};
 ghost use Rattle.qs_script.specs.declared.tokens.token.Token.{Token};
-ghost use Rattle.qs_script.specs.declared.tokens.lex.TokenFault.{TokenFault as Fault};
+ghost use Rattle.qs_script.specs.declared.tokens.lex.TokenFault.{TokenFault as TreeFault};
 ghost use Rattle.qs_script.specs.audit.tokens.Tokens.{tokens_of};
 ghost use Rattle.qs_script.specs.tokens.Cutting.{tokens_in};
 ghost use Rattle.qs_script.specs.audit.tree.Limits.{longest_text};
@@ -52,7 +52,7 @@ fn line_at(text: &[u8], place: usize) -> u32
 /// text's end.
 pub(crate) fn line_of(text: &[u8], number: usize) -> u32
     requires short { length text.now ≤ longest_text }
-    ensures fault { (fault : Fault) → tokens_of text.now ≡ Err fault → length text.now ≤ number → IsFaultLine text.now fault result }
+    ensures fault { (fault : TreeFault) → tokens_of text.now ≡ Err fault → length text.now ≤ number → IsFaultLine text.now fault result }
     ensures token { (ts : List Token) → tokens_of text.now ≡ Ok ts → number < length ts → IsTokenLine text.now number result }
     ensures end { (ts : List Token) → tokens_of text.now ≡ Ok ts → length ts ≤ number → result ≡ last_line text.now }
 {

@@ -6,7 +6,7 @@ ghost use Rattle.qs_script.specs.Reads.{HasFault, IsReadOf, IsPlaced};
 ghost use Rattle.qs_script.specs.grammar.FormPlaces.{BeginsScript, IsFormPlaceOf};
 ghost use Rattle.qs_script.specs.audit.tree.Limits.{longest_text};
 
-use crate::fault::{Fault, ReadFault};
+use crate::fault::{ReadFault, TreeFault};
 use crate::items::script;
 use crate::lines::line_of;
 use crate::tokens::{ListFault, Token, TokenFault, list_tokens};
@@ -51,10 +51,10 @@ pub fn read(alloc: Global, text: &[u8]) -> Result<Script, ReadFault>
     let tokens = tokenize(alloc, text)?;
     match script(alloc, tokens.as_slice()) {
         Ok(script) => Ok(script),
-        Err(Fault::Form(left)) => Err(ReadFault::Form {
+        Err(TreeFault::Form(left)) => Err(ReadFault::Form {
             line: line_of(text, tokens.len().saturating_sub(left)),
         }),
-        Err(Fault::Memory) => Err(ReadFault::Memory),
+        Err(TreeFault::Memory) => Err(ReadFault::Memory),
     }
 }
 
@@ -68,8 +68,8 @@ pub fn form_place(alloc: Global, tokens: &[Token]) -> Result<Option<usize>, Allo
             drop(script);
             Ok(None)
         }
-        Err(Fault::Form(left)) => Ok(Some(tokens.len().saturating_sub(left))),
-        Err(Fault::Memory) => Err(AllocError),
+        Err(TreeFault::Form(left)) => Ok(Some(tokens.len().saturating_sub(left))),
+        Err(TreeFault::Memory) => Err(AllocError),
     }
 }
 

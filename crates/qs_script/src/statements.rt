@@ -8,7 +8,7 @@ ghost use Rattle.qs_script.specs.Results.{Gives, Puts};
 ghost use Rattle.qs_script.specs.audit.tree.Tree.{end, leave, command};
 
 use crate::expect::{past_close_brace, past_close_paren};
-use crate::fault::Fault;
+use crate::fault::TreeFault;
 use crate::tokens::{Name, Token};
 use crate::tree::{ArgumentList, Atom, Body, Expr, MOST_LEVELS, Operator, Stmt};
 use crate::values::{args, atom, operator, request, several, test};
@@ -21,7 +21,11 @@ fn usual_length(levels: u8) -> usize {
 
 // Statements, at most `levels` one inside another, and the brace that closes them.
 #[cycle(body)]
-pub(crate) fn body(alloc: Global, levels: u8, tokens: &[Token]) -> Result<(Body, &[Token]), Fault>
+pub(crate) fn body(
+    alloc: Global,
+    levels: u8,
+    tokens: &[Token],
+) -> Result<(Body, &[Token]), TreeFault>
     ensures exact { Gives (λ x. (x.0, x.1.now)) result (run (body_loop levels) tokens.now) }
     ensures shorter { IfOk result (λ x. length x.1.now < length tokens.now) }
 {
@@ -43,12 +47,12 @@ fn statement<'t>(
     levels: u8,
     stmts: &mut Body,
     tokens: &'t [Token],
-) -> Result<&'t [Token], Fault>
+) -> Result<&'t [Token], TreeFault>
     ensures exact { Puts stmts.old stmts.new result (stmt_in levels tokens.now) }
     ensures shorter { IfOk result (λ rest. length rest.now < length tokens.now) }
 {
     if levels == 0 {
-        return Err(Fault::Form(tokens.len()));
+        return Err(TreeFault::Form(tokens.len()));
     }
     statement_over(alloc, levels - 1, stmts, tokens)
 }
@@ -61,7 +65,7 @@ fn statement_over<'t>(
     levels: u8,
     stmts: &mut Body,
     tokens: &'t [Token],
-) -> Result<&'t [Token], Fault>
+) -> Result<&'t [Token], TreeFault>
     ensures exact { Puts stmts.old stmts.new result (stmt_at (run (body_loop levels)) tokens.now) }
     ensures shorter { IfOk result (λ rest. length rest.now < length tokens.now) }
 {
@@ -70,13 +74,13 @@ fn statement_over<'t>(
         [Token::If, rest @ ..] => choice(alloc, levels, stmts, rest),
         [Token::Repeat, rest @ ..] => repeat(alloc, levels, stmts, rest),
         [Token::Name(name), rest @ ..] => named(alloc, name, stmts, rest),
-        _ => Err(Fault::Form(tokens.len())),
+        _ => Err(TreeFault::Form(tokens.len())),
     }
 }
 
 // Adds a leave, after that word.
 #[inline(always)]
-fn left<'t>(stmts: &mut Body, tokens: &'t [Token]) -> Result<&'t [Token], Fault>
+fn left<'t>(stmts: &mut Body, tokens: &'t [Token]) -> Result<&'t [Token], TreeFault>
     ensures exact { Puts stmts.old stmts.new result (ended_at (leave end) tokens.now) }
     ensures shorter { IfOk result (λ rest. length rest.now < length tokens.now) }
 {
@@ -91,7 +95,7 @@ fn choice<'t>(
     levels: u8,
     stmts: &mut Body,
     tokens: &'t [Token],
-) -> Result<&'t [Token], Fault>
+) -> Result<&'t [Token], TreeFault>
     ensures exact { Puts stmts.old stmts.new result (choice_at (run (body_loop levels)) tokens.now) }
     ensures shorter { IfOk result (λ rest. length rest.now < length tokens.now) }
 {
@@ -106,7 +110,7 @@ fn choice<'t>(
 
 // The second body of an if, where there is one.
 #[cycle(body)]
-fn other(alloc: Global, levels: u8, tokens: &[Token]) -> Result<(Option<Body>, &[Token]), Fault>
+fn other(alloc: Global, levels: u8, tokens: &[Token]) -> Result<(Option<Body>, &[Token]), TreeFault>
     ensures exact { Gives (λ x. (x.0, x.1.now)) result (other_at (run (body_loop levels)) tokens.now) }
     ensures within { IfOk result (λ x. length x.1.now ≤ length tokens.now) }
 {
@@ -126,7 +130,7 @@ fn repeat<'t>(
     levels: u8,
     stmts: &mut Body,
     tokens: &'t [Token],
-) -> Result<&'t [Token], Fault>
+) -> Result<&'t [Token], TreeFault>
     ensures exact { Puts stmts.old stmts.new result (repeat_at (run (body_loop levels)) tokens.now) }
     ensures shorter { IfOk result (λ rest. length rest.now < length tokens.now) }
 {
@@ -135,19 +139,19 @@ fn repeat<'t>(
             let (body, rest) = braced(alloc, levels, rest)?;
             put(stmts, Stmt::Repeat(*count, body), rest)
         }
-        _ => Err(Fault::Form(tokens.len())),
+        _ => Err(TreeFault::Form(tokens.len())),
     }
 }
 
 // A body in braces.
 #[cycle(body)]
-fn braced(alloc: Global, levels: u8, tokens: &[Token]) -> Result<(Body, &[Token]), Fault>
+fn braced(alloc: Global, levels: u8, tokens: &[Token]) -> Result<(Body, &[Token]), TreeFault>
     ensures exact { Gives (λ x. (x.0, x.1.now)) result (braced_at (run (body_loop levels)) tokens.now) }
     ensures shorter { IfOk result (λ x. length x.1.now < length tokens.now) }
 {
     match tokens {
         [Token::OpenBrace, rest @ ..] => body(alloc, levels, rest),
-        _ => Err(Fault::Form(tokens.len())),
+        _ => Err(TreeFault::Form(tokens.len())),
     }
 }
 
@@ -158,14 +162,14 @@ fn named<'t>(
     name: &Name,
     stmts: &mut Body,
     tokens: &'t [Token],
-) -> Result<&'t [Token], Fault>
+) -> Result<&'t [Token], TreeFault>
     ensures exact { Puts stmts.old stmts.new result (named_at name.now tokens.now) }
     ensures shorter { IfOk result (λ rest. length rest.now < length tokens.now) }
 {
     match tokens {
         [Token::Dot, rest @ ..] => command(alloc, name, stmts, rest),
         [Token::Assign, rest @ ..] => assigned(alloc, name, stmts, rest),
-        _ => Err(Fault::Form(tokens.len())),
+        _ => Err(TreeFault::Form(tokens.len())),
     }
 }
 
@@ -176,14 +180,14 @@ fn command<'t>(
     object: &Name,
     stmts: &mut Body,
     tokens: &'t [Token],
-) -> Result<&'t [Token], Fault>
+) -> Result<&'t [Token], TreeFault>
     ensures exact { Puts stmts.old stmts.new result (command_at object.now tokens.now) }
     ensures shorter { IfOk result (λ rest. length rest.now < length tokens.now) }
 {
     match tokens {
         [Token::Name(op), Token::OpenParen, rest @ ..] => called(alloc, object, op, stmts, rest),
-        [Token::Name(_), rest @ ..] => Err(Fault::Form(rest.len())),
-        _ => Err(Fault::Form(tokens.len())),
+        [Token::Name(_), rest @ ..] => Err(TreeFault::Form(rest.len())),
+        _ => Err(TreeFault::Form(tokens.len())),
     }
 }
 
@@ -196,7 +200,7 @@ fn called<'t>(
     op: &Name,
     stmts: &mut Body,
     tokens: &'t [Token],
-) -> Result<&'t [Token], Fault>
+) -> Result<&'t [Token], TreeFault>
     ensures exact { Puts stmts.old stmts.new result (with_args object.now op.now (args_at tokens.now)) }
     ensures shorter { IfOk result (λ rest. length rest.now < length tokens.now) }
 {
@@ -230,7 +234,7 @@ fn called_with<'t>(
     first: Atom,
     stmts: &mut Body,
     tokens: &'t [Token],
-) -> Result<&'t [Token], Fault>
+) -> Result<&'t [Token], TreeFault>
     ensures exact { Puts stmts.old stmts.new result (with_args object.now op.now (after more_loop (first ∷ []) (run more_loop tokens.now))) }
     ensures shorter { IfOk result (λ rest. length rest.now < length tokens.now) }
 {
@@ -249,7 +253,7 @@ fn put_command<'t>(
     args: ArgumentList,
     stmts: &mut Body,
     tokens: &'t [Token],
-) -> Result<&'t [Token], Fault>
+) -> Result<&'t [Token], TreeFault>
     ensures exact { Puts stmts.old stmts.new result (ended_at (command (call_of object.now op.now args) end) tokens.now) }
     ensures shorter { IfOk result (λ rest. length rest.now < length tokens.now) }
 {
@@ -265,7 +269,7 @@ fn assigned<'t>(
     variable: &Name,
     stmts: &mut Body,
     tokens: &'t [Token],
-) -> Result<&'t [Token], Fault>
+) -> Result<&'t [Token], TreeFault>
     ensures exact { Puts stmts.old stmts.new result (assigned_at variable.now tokens.now) }
     ensures shorter { IfOk result (λ rest. length rest.now < length tokens.now) }
 {
@@ -285,7 +289,7 @@ fn query<'t>(
     object: &Name,
     stmts: &mut Body,
     tokens: &'t [Token],
-) -> Result<&'t [Token], Fault>
+) -> Result<&'t [Token], TreeFault>
     ensures exact { Puts stmts.old stmts.new result (query_at variable.now object.now tokens.now) }
     ensures shorter { IfOk result (λ rest. length rest.now < length tokens.now) }
 {
@@ -301,7 +305,7 @@ fn assignment<'t>(
     variable: &Name,
     stmts: &mut Body,
     tokens: &'t [Token],
-) -> Result<&'t [Token], Fault>
+) -> Result<&'t [Token], TreeFault>
     ensures exact { Puts stmts.old stmts.new result (assign_at variable.now tokens.now) }
     ensures shorter { IfOk result (λ rest. length rest.now < length tokens.now) }
 {
@@ -324,7 +328,7 @@ fn computation<'t>(
     operator: Operator,
     stmts: &mut Body,
     tokens: &'t [Token],
-) -> Result<&'t [Token], Fault>
+) -> Result<&'t [Token], TreeFault>
     ensures exact { Puts stmts.old stmts.new result (computed_at variable.now first operator tokens.now) }
     ensures shorter { IfOk result (λ rest. length rest.now < length tokens.now) }
 {
@@ -336,19 +340,19 @@ fn computation<'t>(
 
 // What comes after a semicolon.
 #[inline(always)]
-fn past_semicolon(tokens: &[Token]) -> Result<&[Token], Fault>
+fn past_semicolon(tokens: &[Token]) -> Result<&[Token], TreeFault>
     ensures exact { Gives (λ rest. rest.now) result (semicolon_at tokens.now) }
     ensures shorter { IfOk result (λ rest. length rest.now < length tokens.now) }
 {
     match tokens {
         [Token::Semicolon, rest @ ..] => Ok(rest),
-        _ => Err(Fault::Form(tokens.len())),
+        _ => Err(TreeFault::Form(tokens.len())),
     }
 }
 
 // Adds the statement, and gives the tokens after it back.
 #[inline(always)]
-fn put<'t>(stmts: &mut Body, stmt: Stmt, rest: &'t [Token]) -> Result<&'t [Token], Fault>
+fn put<'t>(stmts: &mut Body, stmt: Stmt, rest: &'t [Token]) -> Result<&'t [Token], TreeFault>
     ensures exact { Puts stmts.old stmts.new result (Ok (single stmt, rest.now)) }
     ensures same { IfOk result (λ left. left.now ≡ rest.now) }
 {

@@ -5,7 +5,7 @@ ghost use Rattle.qs_script.specs.grammar.Reading.{after, run, formal_at, further
 ghost use Rattle.qs_script.specs.Results.{Gives};
 
 use crate::expect::{name as expect_name, past_close_paren};
-use crate::fault::Fault;
+use crate::fault::TreeFault;
 use crate::items::blocks;
 use crate::lists::{Listing, list};
 use crate::tokens::{Name, Token};
@@ -13,7 +13,7 @@ use crate::tree::{Formal, Formals, Item, KindWord, NameList, StartedItem, Templa
 use std::alloc::Global;
 
 // A formal: its kind and its name.
-fn formal(tokens: &[Token]) -> Result<(Formal, &[Token]), Fault>
+fn formal(tokens: &[Token]) -> Result<(Formal, &[Token]), TreeFault>
     ensures exact { Gives (λ x. (x.0, x.1.now)) result (formal_at tokens.now) }
     ensures shorter { IfOk result (λ x. length x.1.now < length tokens.now) }
 {
@@ -33,19 +33,21 @@ fn formal(tokens: &[Token]) -> Result<(Formal, &[Token]), Fault>
             let name = name.copied();
             Ok((Formal { kind, name }, rest))
         }
-        [Token::Account | Token::Buffer | Token::Grid, rest @ ..] => Err(Fault::Form(rest.len())),
-        _ => Err(Fault::Form(tokens.len())),
+        [Token::Account | Token::Buffer | Token::Grid, rest @ ..] => Err(TreeFault::Form(
+            rest.len(),
+        )),
+        _ => Err(TreeFault::Form(tokens.len())),
     }
 }
 
 // A further formal.
-fn further_formal(tokens: &[Token]) -> Result<(Formal, &[Token]), Fault>
+fn further_formal(tokens: &[Token]) -> Result<(Formal, &[Token]), TreeFault>
     ensures exact { Gives (λ x. (x.0, x.1.now)) result (further_formal_at tokens.now) }
     ensures shorter { IfOk result (λ x. length x.1.now < length tokens.now) }
 {
     match tokens {
         [Token::Comma, rest @ ..] => formal(rest),
-        _ => Err(Fault::Form(tokens.len())),
+        _ => Err(TreeFault::Form(tokens.len())),
     }
 }
 
@@ -65,13 +67,13 @@ impl Listing for FurtherFormals {
         past_close_paren(tokens)
     }
 
-    fn element(alloc: Global, tokens: &[Token]) -> Result<(Formal, &[Token]), Fault> {
+    fn element(alloc: Global, tokens: &[Token]) -> Result<(Formal, &[Token]), TreeFault> {
         further_formal(tokens)
     }
 }
 
 // The formals after the first, and the bracket that closes them.
-fn formals(alloc: Global, first: Formal, tokens: &[Token]) -> Result<(Formals, &[Token]), Fault>
+fn formals(alloc: Global, first: Formal, tokens: &[Token]) -> Result<(Formals, &[Token]), TreeFault>
     ensures exact { Gives (λ x. (x.0, x.1.now)) result (after formals_loop (first ∷ []) (run formals_loop tokens.now)) }
     ensures shorter { IfOk result (λ x. length x.1.now < length tokens.now) }
 {
@@ -82,13 +84,13 @@ fn formals(alloc: Global, first: Formal, tokens: &[Token]) -> Result<(Formals, &
 }
 
 // A further name.
-fn further_name(tokens: &[Token]) -> Result<(Name, &[Token]), Fault>
+fn further_name(tokens: &[Token]) -> Result<(Name, &[Token]), TreeFault>
     ensures exact { Gives (λ x. (x.0, x.1.now)) result (further_name_at tokens.now) }
     ensures shorter { IfOk result (λ x. length x.1.now < length tokens.now) }
 {
     match tokens {
         [Token::Comma, rest @ ..] => expect_name(rest),
-        _ => Err(Fault::Form(tokens.len())),
+        _ => Err(TreeFault::Form(tokens.len())),
     }
 }
 
@@ -108,13 +110,13 @@ impl Listing for FurtherNames {
         past_close_paren(tokens)
     }
 
-    fn element(alloc: Global, tokens: &[Token]) -> Result<(Name, &[Token]), Fault> {
+    fn element(alloc: Global, tokens: &[Token]) -> Result<(Name, &[Token]), TreeFault> {
         further_name(tokens)
     }
 }
 
 // The names after the first, and the bracket that closes them.
-fn given(alloc: Global, first: Name, tokens: &[Token]) -> Result<(NameList, &[Token]), Fault>
+fn given(alloc: Global, first: Name, tokens: &[Token]) -> Result<(NameList, &[Token]), TreeFault>
     ensures exact { Gives (λ x. (x.0, x.1.now)) result (after given_loop (first ∷ []) (run given_loop tokens.now)) }
     ensures shorter { IfOk result (λ x. length x.1.now < length tokens.now) }
 {
@@ -125,7 +127,7 @@ fn given(alloc: Global, first: Name, tokens: &[Token]) -> Result<(NameList, &[To
 }
 
 // A template, after that word.
-pub(crate) fn template(alloc: Global, tokens: &[Token]) -> Result<(Item, &[Token]), Fault>
+pub(crate) fn template(alloc: Global, tokens: &[Token]) -> Result<(Item, &[Token]), TreeFault>
     ensures exact { Gives (λ x. (x.0, x.1.now)) result (template_at tokens.now) }
     ensures shorter { IfOk result (λ x. length x.1.now < length tokens.now) }
 {
@@ -133,13 +135,17 @@ pub(crate) fn template(alloc: Global, tokens: &[Token]) -> Result<(Item, &[Token
         [Token::Name(name), Token::OpenParen, rest @ ..] => {
             template_called(alloc, name.copied(), rest)
         }
-        [Token::Name(_), rest @ ..] => Err(Fault::Form(rest.len())),
-        _ => Err(Fault::Form(tokens.len())),
+        [Token::Name(_), rest @ ..] => Err(TreeFault::Form(rest.len())),
+        _ => Err(TreeFault::Form(tokens.len())),
     }
 }
 
 // The template of that name, from its first formal on.
-fn template_called(alloc: Global, name: Name, tokens: &[Token]) -> Result<(Item, &[Token]), Fault>
+fn template_called(
+    alloc: Global,
+    name: Name,
+    tokens: &[Token],
+) -> Result<(Item, &[Token]), TreeFault>
     ensures exact { Gives (λ x. (x.0, x.1.now)) result (template_called_at name tokens.now) }
     ensures shorter { IfOk result (λ x. length x.1.now < length tokens.now) }
 {
@@ -154,7 +160,7 @@ fn template_blocks(
     name: Name,
     formals: Formals,
     tokens: &[Token],
-) -> Result<(Item, &[Token]), Fault>
+) -> Result<(Item, &[Token]), TreeFault>
     ensures exact { Gives (λ x. (x.0, x.1.now)) result (template_blocks_at name formals tokens.now) }
     ensures shorter { IfOk result (λ x. length x.1.now < length tokens.now) }
 {
@@ -168,7 +174,7 @@ fn template_blocks(
             };
             Ok((Item::Template(item), rest))
         }
-        _ => Err(Fault::Form(tokens.len())),
+        _ => Err(TreeFault::Form(tokens.len())),
     }
 }
 
@@ -177,7 +183,7 @@ pub(crate) fn started(
     alloc: Global,
     name: Name,
     tokens: &[Token],
-) -> Result<(Item, &[Token]), Fault>
+) -> Result<(Item, &[Token]), TreeFault>
     ensures exact { Gives (λ x. (x.0, x.1.now)) result (started_at name tokens.now) }
     ensures shorter { IfOk result (λ x. length x.1.now < length tokens.now) }
 {
@@ -185,8 +191,8 @@ pub(crate) fn started(
         [Token::Name(template), Token::OpenParen, rest @ ..] => {
             started_with(alloc, name, template.copied(), rest)
         }
-        [Token::Name(_), rest @ ..] => Err(Fault::Form(rest.len())),
-        _ => Err(Fault::Form(tokens.len())),
+        [Token::Name(_), rest @ ..] => Err(TreeFault::Form(rest.len())),
+        _ => Err(TreeFault::Form(tokens.len())),
     }
 }
 
@@ -196,7 +202,7 @@ fn started_with(
     name: Name,
     template: Name,
     tokens: &[Token],
-) -> Result<(Item, &[Token]), Fault>
+) -> Result<(Item, &[Token]), TreeFault>
     ensures exact { Gives (λ x. (x.0, x.1.now)) result (started_with_at name template tokens.now) }
     ensures shorter { IfOk result (λ x. length x.1.now < length tokens.now) }
 {

@@ -6,13 +6,13 @@ ghost use Rattle.qs_script.specs.tree.Tree.{call_of};
 ghost use Rattle.qs_script.specs.Results.{Gives, Finds};
 
 use crate::expect::past_close_paren;
-use crate::fault::Fault;
+use crate::fault::TreeFault;
 use crate::tokens::{Name, Token};
 use crate::tree::{ArgumentList, Atom, Operator, Relation, Test};
 use std::alloc::Global;
 
 #[inline(always)]
-pub(crate) fn atom(tokens: &[Token]) -> Result<(Atom, &[Token]), Fault>
+pub(crate) fn atom(tokens: &[Token]) -> Result<(Atom, &[Token]), TreeFault>
     ensures exact { Gives (λ x. (x.0, x.1.now)) result (atom_at tokens.now) }
     ensures shorter { IfOk result (λ x. length x.1.now < length tokens.now) }
 {
@@ -22,25 +22,25 @@ pub(crate) fn atom(tokens: &[Token]) -> Result<(Atom, &[Token]), Fault>
         [Token::Minus, Token::Number(number), rest @ ..] => {
             Ok((Atom::Number(-number.value()), rest))
         }
-        [Token::Minus, rest @ ..] => Err(Fault::Form(rest.len())),
-        _ => Err(Fault::Form(tokens.len())),
+        [Token::Minus, rest @ ..] => Err(TreeFault::Form(rest.len())),
+        _ => Err(TreeFault::Form(tokens.len())),
     }
 }
 
 // A further argument.
-fn further(tokens: &[Token]) -> Result<(Atom, &[Token]), Fault>
+fn further(tokens: &[Token]) -> Result<(Atom, &[Token]), TreeFault>
     ensures exact { Gives (λ x. (x.0, x.1.now)) result (further_at tokens.now) }
     ensures shorter { IfOk result (λ x. length x.1.now < length tokens.now) }
 {
     match tokens {
         [Token::Comma, rest @ ..] => atom(rest),
-        _ => Err(Fault::Form(tokens.len())),
+        _ => Err(TreeFault::Form(tokens.len())),
     }
 }
 
 // The arguments after the first, and the bracket that closes them.
 #[inline(always)]
-fn more(alloc: Global, first: Atom, tokens: &[Token]) -> Result<(ArgumentList, &[Token]), Fault>
+fn more(alloc: Global, first: Atom, tokens: &[Token]) -> Result<(ArgumentList, &[Token]), TreeFault>
     ensures exact { Gives (λ x. (x.0, x.1.now)) result (after more_loop (first ∷ []) (run more_loop tokens.now)) }
     ensures shorter { IfOk result (λ x. length x.1.now < length tokens.now) }
 {
@@ -56,7 +56,7 @@ pub(crate) fn several(
     alloc: Global,
     first: Atom,
     tokens: &[Token],
-) -> Result<(ArgumentList, &[Token]), Fault>
+) -> Result<(ArgumentList, &[Token]), TreeFault>
     ensures exact { Gives (λ x. (x.0, x.1.now)) result (after more_loop (first ∷ []) (run more_loop tokens.now)) }
     ensures shorter { IfOk result (λ x. length x.1.now < length tokens.now) }
 {
@@ -74,7 +74,7 @@ pub(crate) fn several(
 
 // The arguments, and the bracket that closes them.
 #[inline(always)]
-pub(crate) fn args(alloc: Global, tokens: &[Token]) -> Result<(ArgumentList, &[Token]), Fault>
+pub(crate) fn args(alloc: Global, tokens: &[Token]) -> Result<(ArgumentList, &[Token]), TreeFault>
     ensures exact { Gives (λ x. (x.0, x.1.now)) result (args_at tokens.now) }
     ensures shorter { IfOk result (λ x. length x.1.now < length tokens.now) }
 {
@@ -90,7 +90,7 @@ pub(crate) fn args(alloc: Global, tokens: &[Token]) -> Result<(ArgumentList, &[T
 pub(crate) fn request(
     alloc: Global,
     tokens: &[Token],
-) -> Result<(&Name, ArgumentList, &[Token]), Fault>
+) -> Result<(&Name, ArgumentList, &[Token]), TreeFault>
     ensures exact { (object : List ℕ) → Gives (λ x. (call_of object x.0.now x.1, x.2.now)) result (call_at object tokens.now) }
     ensures shorter { IfOk result (λ x. length x.2.now < length tokens.now) }
 {
@@ -99,8 +99,8 @@ pub(crate) fn request(
             let (args, rest) = args(alloc, rest)?;
             Ok((op, args, rest))
         }
-        [Token::Name(_), rest @ ..] => Err(Fault::Form(rest.len())),
-        _ => Err(Fault::Form(tokens.len())),
+        [Token::Name(_), rest @ ..] => Err(TreeFault::Form(rest.len())),
+        _ => Err(TreeFault::Form(tokens.len())),
     }
 }
 
@@ -117,7 +117,7 @@ pub(crate) fn operator(tokens: &[Token]) -> Option<(Operator, &[Token])>
     }
 }
 
-fn relation(tokens: &[Token]) -> Result<(Relation, &[Token]), Fault>
+fn relation(tokens: &[Token]) -> Result<(Relation, &[Token]), TreeFault>
     ensures exact { Gives (λ x. (x.0, x.1.now)) result (relation_at tokens.now) }
     ensures shorter { IfOk result (λ x. length x.1.now < length tokens.now) }
 {
@@ -128,11 +128,11 @@ fn relation(tokens: &[Token]) -> Result<(Relation, &[Token]), Fault>
         [Token::AtMost, rest @ ..] => Ok((Relation::AtMost, rest)),
         [Token::Greater, rest @ ..] => Ok((Relation::Greater, rest)),
         [Token::AtLeast, rest @ ..] => Ok((Relation::AtLeast, rest)),
-        _ => Err(Fault::Form(tokens.len())),
+        _ => Err(TreeFault::Form(tokens.len())),
     }
 }
 
-pub(crate) fn test(tokens: &[Token]) -> Result<(Test, &[Token]), Fault>
+pub(crate) fn test(tokens: &[Token]) -> Result<(Test, &[Token]), TreeFault>
     ensures exact { Gives (λ x. (x.0, x.1.now)) result (test_at tokens.now) }
     ensures shorter { IfOk result (λ x. length x.1.now < length tokens.now) }
 {

@@ -15,10 +15,10 @@ use qs_program::MOST_HANDLERS;
 use std::sync::Wait;
 
 /// The client's end of the lane to each handler that has one.
-pub type Lanes = [Option<LaneOut>; MOST_HANDLERS];
+pub type ClientLanes = [Option<LaneOut>; MOST_HANDLERS];
 
 /// Sends a parcel, which may follow what was sent, to a handler. Waits until there is room.
-pub(crate) fn send<R: Wait>(rt: &R, lanes: &mut Lanes, handler: u8, parcel: Parcel)
+pub(crate) fn send<R: Wait>(rt: &R, lanes: &mut ClientLanes, handler: u8, parcel: Parcel)
     requires handler { handler < most_handlers }
     requires lane { IsSome (out_lane_at lanes.old handler) }
     requires follows { (lane : OutView) → out_lane_at lanes.old handler ≡ Some lane → MayFollow lane.size (is_asked false lane.sent) parcel }
@@ -32,7 +32,7 @@ pub(crate) fn send<R: Wait>(rt: &R, lanes: &mut Lanes, handler: u8, parcel: Parc
 }
 
 /// Wakes each handler that sleeps and may have been left something to do.
-pub(crate) fn wake_all(lanes: &Lanes) {
+pub(crate) fn wake_all(lanes: &ClientLanes) {
     for lane in lanes {
         if let Some(lane) = lane {
             lane.wake_handler();
@@ -41,7 +41,7 @@ pub(crate) fn wake_all(lanes: &Lanes) {
 }
 
 /// Takes the next object that a handler gave. Sleeps until there is one.
-pub(crate) fn get<R: Wait>(rt: &R, lanes: &mut Lanes, handler: u8) -> Held
+pub(crate) fn get<R: Wait>(rt: &R, lanes: &mut ClientLanes, handler: u8) -> Held
     requires handler { handler < most_handlers }
     requires lane { IsSome (out_lane_at lanes.old handler) }
     ensures got { (lane : OutView) → out_lane_at lanes.old handler ≡ Some lane
@@ -54,7 +54,7 @@ pub(crate) fn get<R: Wait>(rt: &R, lanes: &mut Lanes, handler: u8) -> Held
 }
 
 /// Takes an empty chunk of the lane to a handler. Sleeps until there is one.
-pub(crate) fn empty<R: Wait>(rt: &R, lanes: &mut Lanes, handler: u8) -> Chunk<Request>
+pub(crate) fn empty<R: Wait>(rt: &R, lanes: &mut ClientLanes, handler: u8) -> Chunk<Request>
     requires handler { handler < most_handlers }
     requires lane { IsSome (out_lane_at lanes.old handler) }
     ensures taken { (lane : OutView) → out_lane_at lanes.old handler ≡ Some lane

@@ -12,7 +12,7 @@ ghost use Rattle.qs_meaning.specs.audit.Following.{reserves};
 ghost use Rattle.qs_syncset.specs.audit.Codes.{IsCodeOf};
 ghost use Rattle.qs_syncset.specs.declared.mode.Mode.{Mode};
 
-use crate::client::client_lanes::{Lanes, empty, get, send, wake_all};
+use crate::client::client_lanes::{ClientLanes, empty, get, send, wake_all};
 use qs_client::{Act, Mind};
 use qs_desk::{DeskName, Front, Share};
 use std::sync::Wait;
@@ -25,8 +25,8 @@ pub fn run<D: DeskName, R: Wait>(
     mind: Mind,
     front: &Front<D>,
     share: Share<D>,
-    lanes: Lanes,
-) -> (Mind, Share<D>, Lanes)
+    lanes: ClientLanes,
+) -> (Mind, Share<D>, ClientLanes)
     requires sound { IsSound D.program }
     requires code { (mode : Mode) × IsCodeOf D.program mode share.client (mind_of mind).code }
     requires begins { mind_of mind ≡ fresh_mind (mind_of mind).code (mind_of mind).size }

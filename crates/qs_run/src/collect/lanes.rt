@@ -7,7 +7,7 @@ ghost use Rattle.qs_run.specs.handler.HandlerThreads as handling;
 ghost use Rattle.qs_run.specs.Collected.{AreEndsJoined, AreLanesJoined, AreLanesPaired, without_lane_of};
 ghost use Rattle.qs_run.specs.Workers.{AreOneLane};
 
-use crate::client::Lanes as ClientLanes;
+use crate::client::ClientLanes;
 use crate::worker::HandlerWorker;
 use qs_desk::DeskName;
 use qs_lane::laws::agree;

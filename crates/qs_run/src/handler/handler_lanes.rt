@@ -16,10 +16,10 @@ use qs_program::MOST_CLIENTS;
 use std::sync::Wait;
 
 /// The handler's end of the lane from each client that has one.
-pub type Lanes = [Option<LaneIn>; MOST_CLIENTS];
+pub type HandlerLanes = [Option<LaneIn>; MOST_CLIENTS];
 
 /// Takes the next parcel of a client's lane. Sleeps until there is one.
-pub(crate) fn take_parcel<R: Wait>(rt: &R, lanes: &mut Lanes, client: u8) -> Parcel
+pub(crate) fn take_parcel<R: Wait>(rt: &R, lanes: &mut HandlerLanes, client: u8) -> Parcel
     requires client { client < most_clients }
     requires lane { IsSome (in_lane_at lanes.old client) }
     ensures took { (lane : InView) → in_lane_at lanes.old client ≡ Some lane
@@ -34,7 +34,7 @@ pub(crate) fn take_parcel<R: Wait>(rt: &R, lanes: &mut Lanes, client: u8) -> Par
 
 /// Gives the object to a client, which asked for it by the last parcel, and wakes the client. Waits while an object
 /// lies in the lane.
-pub(crate) fn give<R: Wait>(rt: &R, lanes: &mut Lanes, client: u8, held: Held)
+pub(crate) fn give<R: Wait>(rt: &R, lanes: &mut HandlerLanes, client: u8, held: Held)
     requires client { client < most_clients }
     requires lane { IsSome (in_lane_at lanes.old client) }
     requires asked { (lane : InView) → in_lane_at lanes.old client ≡ Some lane
@@ -49,7 +49,7 @@ pub(crate) fn give<R: Wait>(rt: &R, lanes: &mut Lanes, client: u8, held: Held)
 }
 
 /// Gives an empty chunk back to a client.
-pub(crate) fn spare<R: Wait>(rt: &R, lanes: &mut Lanes, client: u8, chunk: Chunk<Request>)
+pub(crate) fn spare<R: Wait>(rt: &R, lanes: &mut HandlerLanes, client: u8, chunk: Chunk<Request>)
     requires client { client < most_clients }
     requires lane { IsSome (in_lane_at lanes.old client) }
     requires empty { (lane : InView) → in_lane_at lanes.old client ≡ Some lane → chunk ≡ batch [] lane.size }

@@ -9,7 +9,7 @@ ghost use Rattle.qs_run.specs.handler.Passes.{ArePassed};
 ghost use Rattle.qs_meaning.specs.audit.Following.{reserves};
 
 use crate::handler::gate::Passage;
-use crate::handler::handler_lanes::{Lanes, give, spare, take_parcel};
+use crate::handler::handler_lanes::{HandlerLanes, give, spare, take_parcel};
 use qs_desk::{DeskName, Tickets};
 use qs_handler::{Act, Mind};
 use qs_objects::{Held, Next, Ticket};
@@ -33,8 +33,8 @@ pub fn serve<D: DeskName, L, G: Passage<L>, R: Wait>(
     log: &mut L,
     held: Held,
     tickets: Tickets<D>,
-    lanes: Lanes,
-) -> (Held, Tickets<D>, Lanes)
+    lanes: HandlerLanes,
+) -> (Held, Tickets<D>, HandlerLanes)
     requires taken { tickets.taken ≡ [] }
     requires fresh { (c : ℕ) → IsFresh (in_lane_at lanes c) }
     requires reached { (t : Ticket) → reserves D.program t tickets.handler ≡ true → (t.client < most_clients) × IsSome (in_lane_at lanes t.client) }

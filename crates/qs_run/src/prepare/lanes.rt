@@ -4,8 +4,8 @@ ghost use Rattle.std.specs.Prelude.{◌≡◌, ℕ, ◌<◌, None, length, IfOk}
 ghost use Rattle.qs_program.specs.audit.Limits.{most_handlers};
 ghost use Rattle.qs_run.specs.Prepared.{AreNewEnds, lane_end_at, ever_reserves, in_at, out_at};
 
-use crate::client::Lanes as ClientLanes;
-use crate::handler::Lanes as HandlerLanes;
+use crate::client::ClientLanes;
+use crate::handler::HandlerLanes;
 use qs_chunk::ChunkSize;
 use qs_lane::{Events, LaneIn, LaneOut, lane_at, make_events};
 use qs_program::{MOST_HANDLERS, Program};

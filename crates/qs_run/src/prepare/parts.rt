@@ -4,8 +4,8 @@ ghost use Rattle.std.specs.Prelude.{◌<◌, length, IfOk};
 ghost use Rattle.qs_run.specs.Prepared.{AreRunParts};
 ghost use Rattle.qs_run.specs.Workers.{IsListOf, IsMindAtStart, IsObjectAtStart};
 
-use crate::client::Lanes as ClientLanes;
-use crate::handler::Lanes as HandlerLanes;
+use crate::client::ClientLanes;
+use crate::handler::HandlerLanes;
 use crate::prepare::lanes::{LaneEnds, make_lanes};
 use qs_chunk::ChunkSize;
 use qs_client::Mind;

@@ -7,8 +7,8 @@ ghost use Rattle.qs_desk.specs.Places.{places, share_at};
 ghost use Rattle.qs_run.specs.Prepared.{AreRunParts, IsClientOf, IsHandlerOf, IsNewIn, IsNewOut, ever_reserves, in_at, out_at};
 ghost use Rattle.qs_run.specs.Workers.{AreReady, IsListOf, IsMindAtStart, IsObjectAtStart};
 
-use crate::client::Lanes as ClientLanes;
-use crate::handler::Lanes as HandlerLanes;
+use crate::client::ClientLanes;
+use crate::handler::HandlerLanes;
 use crate::prepare::RunParts;
 use crate::worker::{ClientWorker, HandlerWorker, Ready};
 use qs_chunk::ChunkSize;
