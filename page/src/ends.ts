@@ -1,0 +1,200 @@
+// The part of the page that shows all that a script can come to, and answers questions about it.
+import {
+  type ClientVariables,
+  type End,
+  type State,
+  type Witness,
+  endsIn,
+  estimateIn,
+  questionIn,
+  refusalIn,
+  stateText,
+} from "./answers";
+import { Chart } from "./chart";
+import { clientName } from "./drawing";
+import { byId, counted, element, fill } from "./element";
+import { type Executor, Stopped } from "./executor";
+import type { Names } from "./session";
+
+const MOST_SHOWN = 200;
+const MOST_CHARTED = 200;
+// A search through more configurations leaves a worker with much memory.
+const MANY = 50_000;
+
+export class Ends {
+  private script: string | undefined;
+  private names: Names = { clients: [], objects: [] };
+  private isCurrent = false;
+  private readonly chart: Chart;
+
+  constructor(
+    private readonly executor: Executor,
+    private readonly playOrder: (order: readonly string[]) => void,
+  ) {
+    this.chart = new Chart(byId("chart"), playOrder);
+    byId("find").addEventListener("click", () => void this.find());
+    byId("stop").addEventListener("click", () => this.executor.stop());
+    byId("ask").addEventListener("submit", (event) => {
+      event.preventDefault();
+      void this.question();
+    });
+  }
+
+  /** Another script, with the names of its clients: what is shown is of the one before. */
+  begin(script: string | undefined, names: Names): void {
+    if (script === this.script) return;
+    this.script = script;
+    this.names = names;
+    this.isCurrent = false;
+    this.executor.stop();
+    for (const id of ["ends", "chart", "answer"]) fill(byId(id));
+    byId("found").textContent = "";
+  }
+
+  /** Finds the ends when the part is looked at for the first time. */
+  async look(): Promise<void> {
+    if (!this.isCurrent) await this.find();
+  }
+
+  private limit(): string {
+    return String(Math.max(1, Math.round(Number(byId<HTMLInputElement>("limit").value)) || 1_000_000));
+  }
+
+  private async find(): Promise<void> {
+    const script = this.script;
+    if (script === undefined) return;
+    this.isCurrent = true;
+    await this.guarded("found", async () => {
+      const began = performance.now();
+      const { text } = await this.executor.ask("outcomes", script, "--limit", this.limit(), "--format", "json");
+      const refusal = refusalIn(text);
+      if (refusal !== undefined) return this.tellRefused(script, refusal.fault);
+      const { ends, configurations } = endsIn(text);
+      this.drawEnds(ends, configurations, performance.now() - began);
+      if (configurations > MANY) this.executor.end();
+      await this.drawChart(script, configurations);
+    });
+  }
+
+  /** Runs a search with the button that stops it, and says what came in between. */
+  private async guarded(id: string, act: () => Promise<void>): Promise<void> {
+    byId<HTMLButtonElement>("stop").disabled = false;
+    byId(id).textContent = "Searching ..";
+    try {
+      await act();
+    } catch (error) {
+      byId(id).textContent = error instanceof Stopped ? "The search was stopped." : String(error);
+    }
+    byId<HTMLButtonElement>("stop").disabled = true;
+  }
+
+  private async tellRefused(script: string, fault: string): Promise<void> {
+    if (fault !== "outcomes 2 Limit") {
+      byId("found").textContent = `Refused: ${fault}`;
+      return;
+    }
+    const estimate = await this.executor.ask("estimate", script, "--format", "json");
+    const most = estimateIn(estimate.text) ?? "over 10^18";
+    const limit = this.limit();
+    byId("found").textContent = `There are more than ${limit} configurations, the limit; at most there are ${most}.`;
+    fill(byId("ends"));
+    fill(byId("chart"));
+  }
+
+  private drawEnds(ends: End[], configurations: number, time: number): void {
+    const seconds = time < 1000 ? "" : ` in ${(time / 1000).toFixed(1)} seconds`;
+    const found = [counted(ends.length, "end"), counted(configurations, "configuration")];
+    byId("found").textContent = `${found.join(", ")}${seconds}`;
+    const items = ends.slice(0, MOST_SHOWN).map((it) => this.endItem(it));
+    const more = ends.length - items.length;
+    fill(byId("ends"), ...items, more > 0 && element("li", { class: "note" }, `and ${more} more`));
+  }
+
+  private endItem(end: End): HTMLElement {
+    return element(
+      "li",
+      { class: "card", "data-outcome": end.outcome },
+      element("h4", {}, `End ${end.outcome} `, this.playButton(end.order)),
+      element("p", { class: "blocks" }, ...this.blocks(end.order)),
+      this.facts(end.states, end.clients),
+    );
+  }
+
+  private playButton(order: readonly string[]): HTMLElement {
+    const play = () => this.playOrder(order);
+    return element("button", { class: "play", "data-order": order.join(","), onclick: play }, "Play it");
+  }
+
+  /** The blocks of an order, by their clients' names and numbers. */
+  private blocks(order: readonly string[]): HTMLElement[] {
+    const counts = new Map<string, number>();
+    return order.map((client) => {
+      const block = counts.get(client) ?? 0;
+      counts.set(client, block + 1);
+      const name = this.names.clients[Number(client.slice(1))]!;
+      return clientName(this.names, name, `${name} ${block}`);
+    });
+  }
+
+  private facts(states: State[], clients: ClientVariables[]): HTMLElement {
+    const objects = states.map((it) => element("li", {}, element("b", {}, it.object), ` ${stateText(it)}`));
+    const variables = clients.map(({ client, variables: own }) => {
+      const values = own.map(({ variable, value }) => ` ${variable} ${value}`).join("");
+      return element("li", {}, clientName(this.names, client), values);
+    });
+    return element("ul", { class: "facts" }, ...objects, ...variables);
+  }
+
+  private async drawChart(script: string, configurations: number): Promise<void> {
+    if (configurations > MOST_CHARTED) {
+      const text = `A chart is drawn of up to ${MOST_CHARTED} configurations.`;
+      fill(byId("chart"), element("p", { class: "note" }, text));
+      return;
+    }
+    const { text } = await this.executor.ask("outcomes", script, "--format", "dot");
+    this.chart.draw(text, this.names);
+  }
+
+  private async question(): Promise<void> {
+    const script = this.script;
+    const condition = byId<HTMLInputElement>("condition").value.trim();
+    const kind = byId<HTMLSelectElement>("kind").value;
+    if (script === undefined || condition === "") return;
+    await this.guarded("answer", async () => {
+      const words = [`--${kind}=${condition.replace(/\n/g, " ")}`, "--limit", this.limit(), "--format", "json"];
+      const { text } = await this.executor.ask("ask", script, ...words);
+      const refusal = refusalIn(text);
+      if (refusal === undefined) this.drawAnswer(kind, text);
+      else byId("answer").textContent = this.refusedQuestion(refusal.fault);
+    });
+  }
+
+  private refusedQuestion(fault: string): string {
+    const limit = this.limit();
+    if (fault === "outcomes 2 Limit") return `The search looks at more than ${limit} configurations, the limit.`;
+    const { clients, objects } = this.names;
+    const named = `Clients: ${clients.join(", ")}; objects: ${objects.join(", ")}.`;
+    return `The condition does not read, or names what the script does not have. ${named}`;
+  }
+
+  private drawAnswer(kind: string, text: string): void {
+    const { yes, witness, configurations } = questionIn(text);
+    const looked = `${counted(configurations, "configuration")} looked at`;
+    const head = element("p", { class: "verdict" }, element("b", {}, `${kind} ${yes ? "yes" : "no"}`), `, ${looked}`);
+    const holds = ["some", "ever", "never"].includes(kind);
+    fill(byId("answer"), head, witness !== null && this.witness(witness, holds));
+  }
+
+  private witness({ order, after, states, clients }: Witness, holds: boolean): HTMLElement {
+    const blocks = order ?? after ?? [];
+    const what = after === undefined ? "An end" : "A configuration";
+    const head = `${what} of which it ${holds ? "holds" : "does not hold"}`;
+    return element(
+      "div",
+      { class: "card witness" },
+      element("p", {}, `${head}: `, this.playButton(blocks)),
+      element("p", { class: "blocks" }, ...(blocks.length === 0 ? ["the beginning"] : this.blocks(blocks))),
+      this.facts(states, clients),
+    );
+  }
+}

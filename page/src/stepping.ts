@@ -1,0 +1,192 @@
+// The part of the page in which a script is stepped.
+import { type Step, blockLinesIn } from "./answers";
+import { type Scene, clientName, drawOrder, drawState, drawSteps, stepText } from "./drawing";
+import { byId, element, fill } from "./element";
+import { type Ask, Stopped } from "./executor";
+import { type Choice, type Machine, Session, type Shown } from "./session";
+
+export class Stepping {
+  private script: string | undefined;
+  private session: Session | undefined;
+  private picks: string[] = [];
+  private at = 0;
+  private turn = 0;
+  private running = 0;
+  private scene: Scene;
+  /** The state that is shown. */
+  shown: Shown | undefined;
+
+  constructor(
+    private readonly ask: Ask,
+    private readonly showLine: (line: number) => void,
+    private readonly onShown: (shown: Shown, session: Session) => void,
+  ) {
+    this.scene = { names: { clients: [], objects: [] }, lines: new Map(), showLine };
+    const restart = () => void this.begin(this.script);
+    for (const id of ["machine", "mode", "chunk"]) byId(id).addEventListener("change", restart);
+    this.onClick("to-start", () => this.goTo(0));
+    this.onClick("back", () => this.goTo(this.at - 1));
+    this.onClick("forward", () => this.forward());
+    this.onClick("to-end", () => this.toEnd());
+    const slider = byId<HTMLInputElement>("slider");
+    slider.addEventListener("input", () => void this.guarded(() => this.goTo(Number(slider.value))));
+    byId("step").addEventListener("keydown", (event) => this.onKey(event));
+  }
+
+  /** Begins anew with a script, or with none that is accepted. */
+  begin(script: string | undefined): Promise<void> {
+    return this.guarded(() => this.beginWith(script));
+  }
+
+  /** Plays whole blocks in an order, and shows what they lead to. */
+  playOrder(order: readonly string[]): Promise<void> {
+    return this.guarded(async () => {
+      const turn = ++this.turn;
+      byId("now").textContent = "Playing the order ..";
+      const picks = await this.session?.picksOf(order);
+      if (picks !== undefined && turn === this.turn) await this.take(picks, picks.length);
+    });
+  }
+
+  private async beginWith(script: string | undefined): Promise<void> {
+    const turn = ++this.turn;
+    this.script = script;
+    if (script === undefined) return;
+    const [session, graph] = await Promise.all([
+      Session.begin(this.ask, script, this.machine()),
+      this.ask("graph", script, "--format", "dot"),
+    ]);
+    if (turn !== this.turn) return;
+    this.session = session;
+    this.scene = { names: session.names, lines: blockLinesIn(graph.text), showLine: this.showLine };
+    await this.take([], 0);
+  }
+
+
+  private machine(): Machine {
+    const value = (id: string) => byId<HTMLInputElement>(id).value;
+    const word = value("machine") as Machine["word"];
+    for (const id of ["mode", "chunk"]) byId<HTMLInputElement>(id).disabled = word === "rules";
+    const chunk = Math.min(Math.max(Math.round(Number(value("chunk"))) || 8, 1), 32);
+    byId<HTMLInputElement>("chunk").value = String(chunk);
+    return { word, mode: value("mode"), chunk };
+  }
+
+  private onClick(id: string, act: () => Promise<void>): void {
+    byId(id).addEventListener("click", () => void this.guarded(act));
+  }
+
+  /** Does something that asks the program, and says what was refused. */
+  private async guarded(act: () => Promise<void>): Promise<void> {
+    this.running++;
+    byId("step").setAttribute("aria-busy", "true");
+    try {
+      await act();
+    } catch (error) {
+      if (!(error instanceof Stopped)) byId("now").textContent = String(error instanceof Error ? error.message : error);
+    }
+    this.running--;
+    if (this.running === 0) byId("step").setAttribute("aria-busy", "false");
+  }
+
+  private onKey(event: KeyboardEvent): void {
+    const isField = event.target instanceof HTMLInputElement || event.target instanceof HTMLSelectElement;
+    if (isField || event.altKey || event.ctrlKey || event.metaKey) return;
+    const acts: Record<string, () => Promise<void>> = {
+      ArrowLeft: () => this.goTo(this.at - 1),
+      ArrowRight: () => this.forward(),
+      Home: () => this.goTo(0),
+      End: () => this.toEnd(),
+    };
+    const act = acts[event.key];
+    if (act === undefined) return;
+    event.preventDefault();
+    void this.guarded(act);
+  }
+
+  private async take(picks: string[], at: number): Promise<void> {
+    this.picks = picks;
+    await this.goTo(at);
+  }
+
+  private async goTo(at: number): Promise<void> {
+    const session = this.session;
+    if (session === undefined || at < 0 || at > this.picks.length) return;
+    this.at = at;
+    const turn = ++this.turn;
+    const shown = await session.look(this.picks.slice(0, at));
+    if (turn !== this.turn) return;
+    this.draw(shown, session);
+    const choices = await session.choices(shown);
+    if (turn === this.turn) this.drawChoices(choices, shown);
+  }
+
+  private async step(actor: string): Promise<void> {
+    await this.take([...this.picks.slice(0, this.at), actor], this.at + 1);
+  }
+
+  /** The next step that was made before, or else that of the first who has one. */
+  private async forward(): Promise<void> {
+    if (this.at < this.picks.length) return this.goTo(this.at + 1);
+    const first = byId("choices").querySelector<HTMLButtonElement>("button[data-actor]")?.dataset["actor"];
+    if (first !== undefined) await this.step(first);
+  }
+
+  private async toEnd(): Promise<void> {
+    if (this.at < this.picks.length) return this.goTo(this.picks.length);
+    const picks = await this.session?.toEnd(this.picks);
+    if (picks !== undefined) await this.take(picks, picks.length);
+  }
+
+  private draw(shown: Shown, session: Session): void {
+    this.shown = shown;
+    this.drawBar(shown);
+    fill(byId("state"), ...drawState(shown, this.scene));
+    fill(byId("order"), ...drawOrder(shown, this.scene.names));
+    fill(byId("steps"), ...drawSteps(shown, this.scene.names));
+    this.onShown(shown, session);
+  }
+
+  private drawBar(shown: Shown): void {
+    const slider = byId<HTMLInputElement>("slider");
+    const where = `step ${this.at} of ${this.picks.length}`;
+    slider.max = String(this.picks.length);
+    slider.value = String(this.at);
+    slider.setAttribute("aria-valuetext", where);
+    byId("where").textContent = where;
+    for (const id of ["to-start", "back"]) byId<HTMLButtonElement>(id).disabled = this.at === 0;
+    for (const id of ["forward", "to-end"]) {
+      byId<HTMLButtonElement>(id).disabled = shown.report.finished && this.at === this.picks.length;
+    }
+    fill(byId("now"), ...this.sentence(shown, shown.steps.at(-1)));
+    byId("step").dataset["picks"] = shown.picks.join(",");
+  }
+
+  private sentence({ report }: Shown, last: Step | undefined): (Node | string)[] {
+    const end = report.finished ? " The run is finished." : "";
+    if (last === undefined) return [`Nobody has stepped yet.${end}`];
+    return [`Step ${last.number}: `, stepText(last, this.scene.names), `.${end}`];
+  }
+
+  private drawChoices(choices: Choice[], { report }: Shown): void {
+    const had = document.activeElement?.getAttribute("data-actor");
+    const next = this.picks[this.at];
+    const buttons = choices.map((choice) => this.choiceButton(choice, choice.actor === next));
+    const head = report.finished ? "Nobody has a step left." : "Who steps next?";
+    fill(byId("choices"), element("span", { class: "label" }, head), ...buttons);
+    if (had !== null && had !== undefined) {
+      (buttons.find((it) => it.dataset["actor"] === had) ?? buttons[0] ?? byId("back")).focus();
+    }
+  }
+
+  private choiceButton({ actor, name, what }: Choice, isNext: boolean): HTMLButtonElement {
+    const isClient = actor.startsWith("c");
+    const who = isClient ? clientName(this.scene.names, name) : element("b", {}, name);
+    const turn = this.turn;
+    // A button says what its actor would do now; one that is pressed while another step is on its way does nothing.
+    const step = () => turn === this.turn && void this.guarded(() => this.step(actor));
+    const title = isNext ? "made next before" : undefined;
+    const attributes = { class: isNext ? "choice next" : "choice", "data-actor": actor, title, onclick: step };
+    return element("button", attributes, who, ` ${what}`);
+  }
+}
