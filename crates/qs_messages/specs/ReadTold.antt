@@ -16,9 +16,13 @@ use Rattle.qs_messages.specs.CheckTold.{IsSaidAt}
 use Rattle.qs_messages.specs.Sources.{end_in, span_in, token_in}
 use Rattle.qs_messages.specs.Spans.{ArePlaced, IsFaultAt, tokens_in}
 
+-- a token may stand at a place: some script begins with the tokens before it and this one
+abbrev pub MayStand : List Token → ℕ → Token → Type 0
+MayStand ts place token = BeginsScript (take place ts ++ token ∷ [])
+
 -- a `;` may stand at a place
 abbrev pub MayEnd : List Token → ℕ → Type 0
-MayEnd ts place = BeginsScript (take place ts ++ t.Semicolon ∷ [])
+MayEnd ts place = MayStand ts place t.Semicolon
 
 -- the fault of form of tokens that no script has: its place, and whether a `;` may stand there; none, where a script
 -- has them

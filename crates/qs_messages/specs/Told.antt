@@ -1,9 +1,9 @@
 -- What is said of a fault, and of the limits that a script leaves.
-use Rattle.std.specs.Prelude.{◌≡◌, ◌⊎◌, ⊤, ℕ, List, [], ◌++◌, codes, Option, Some, None, Ok, Err, length}
+use Rattle.std.specs.Prelude.{◌≡◌, ◌⊎◌, ⊤, ℕ, Bool, true, false, ◌||◌, List, [], ◌++◌, codes, Option, Some, None, Ok, Err, length}
 use Rattle.std.specs.Io.KnownBytes.{Keeps}
 use Rattle.qs_script.specs.declared.tokens.token.Token.{Token}
 use Rattle.qs_script.specs.declared.tokens.lex.TokenFault.{TokenFault}
-use Rattle.qs_script.specs.audit.tokens.Tokens.{tokens_of}
+use Rattle.qs_script.specs.audit.tokens.Tokens.{same, tokens_of}
 use Rattle.qs_script.specs.audit.grammar.Grammar.{IsScript}
 use Rattle.qs_script.specs.audit.Reads.{IsScriptText}
 use Rattle.qs_script.specs.declared.fault.ReadFault.TheVariants as read
@@ -23,28 +23,41 @@ use Rattle.qs_messages.specs.LimitsText.{limits_text}
 use Rattle.qs_messages.specs.Templates.{template_use}
 use Rattle.qs_text.specs.Texts.{AppendsFront}
 
--- the words of a fault that has no place in the script and is of no part of the line; none of another
-abbrev pub plain_words : Fault → Option (List ℕ)
-plain_words Memory = Some (codes "error: memory ran out\n")
-plain_words (Read read.Size) = Some (codes "error: a script has at most 65536 bytes, and this text has more\n")
-plain_words (Read read.Memory) = Some (codes "error: memory ran out while the script was read\n")
-plain_words (Check check.Memory) = Some (codes "error: memory ran out while the script was checked\n")
-plain_words (Play play.Memory) = Some (codes "error: memory ran out while the script was played\n")
-plain_words (Play play.Rounds) = Some (codes "error: `--rounds` is at most 1000000\n")
-plain_words (Order order.Memory) = Some (codes "error: memory ran out while the script was played\n")
-plain_words (Run run.Memory) = Some (codes "error: memory ran out before the script was run\n")
-plain_words (Run run.Threads) =
+-- a word of the line asks for a drawing
+abbrev pub is_drawing : List ℕ → Bool
+is_drawing word = same word (codes "dot") || same word (codes "--format=dot")
+
+-- the words on more configurations than there may be, by whether a drawing is asked for
+abbrev pub limit_words : Bool → List ℕ
+limit_words true =
+    codes "error: a drawing has at most 200 configurations, and no more than `--limit` says; there are more\n"
+    ++ codes "  = help: `--after LIST` draws only what comes after some blocks\n"
+    ++ codes "  = help: without `--format dot` the outcomes are listed; `qs estimate` says how many configurations there"
+    ++ codes " can be\n"
+limit_words false =
+    codes "error: there are more configurations than the limit\n"
+    ++ codes "  = help: `--limit N` sets another limit, up to 4294967295; without it, it is 1000000\n"
+    ++ codes "  = help: `--after LIST` looks only at what comes after some blocks, so that a search can be cut"
+    ++ codes " into parts\n"
+
+-- the words of a fault that has no place in the script and is of no part of the line, by whether a drawing is asked
+-- for; none of another
+abbrev pub plain_words : Bool → Fault → Option (List ℕ)
+plain_words draws Memory = Some (codes "error: memory ran out\n")
+plain_words draws (Read read.Size) =
+    Some (codes "error: a script has at most 65536 bytes, and this text has more\n")
+plain_words draws (Read read.Memory) = Some (codes "error: memory ran out while the script was read\n")
+plain_words draws (Check check.Memory) = Some (codes "error: memory ran out while the script was checked\n")
+plain_words draws (Play play.Memory) = Some (codes "error: memory ran out while the script was played\n")
+plain_words draws (Play play.Rounds) = Some (codes "error: `--rounds` is at most 1000000\n")
+plain_words draws (Order order.Memory) = Some (codes "error: memory ran out while the script was played\n")
+plain_words draws (Run run.Memory) = Some (codes "error: memory ran out before the script was run\n")
+plain_words draws (Run run.Threads) =
     Some (codes "error: a thread could not be started\n"
     ++ codes "  = help: each client and each object has a thread of its own; `qs play` takes none\n")
-plain_words (Outcomes outcomes.Memory) = Some (codes "error: memory ran out while outcomes were looked for\n")
-plain_words (Outcomes outcomes.Limit) =
-    Some (codes "error: there are more configurations than the limit\n"
-    ++ codes "  = help: `--limit N` sets another limit, up to 4294967295; without it, it is 1000000\n"
-    ++ codes "  = help: a drawing, by `--format dot`, has at most 200 configurations, whatever the limit is: draw what"
-    ++ codes " comes after some blocks, or a shorter script, or take another format\n"
-    ++ codes "  = help: `--after LIST` looks only at what comes after some blocks, so that a search can be cut"
-    ++ codes " into parts\n")
-plain_words fault = None
+plain_words draws (Outcomes outcomes.Memory) = Some (codes "error: memory ran out while outcomes were looked for\n")
+plain_words draws (Outcomes outcomes.Limit) = Some (limit_words draws)
+plain_words draws fault = None
 
 -- what is said of a text that can't be read
 pub record IsReadTold (text said : List ℕ) : Type 0 where
@@ -70,10 +83,10 @@ abbrev pub IsInputTold : (old new : Option (List ℕ)) → Type 0
 IsInputTold old new =
     (why : List ℕ) × AppendsFront old new (codes "error: the script could not be read from standard input" ++ why)
 
--- what is written of a fault
-abbrev pub IsFaultTold : List ℕ → Fault → (old new : Option (List ℕ)) → Type 0
-IsFaultTold text Input old new = IsInputTold old new
-IsFaultTold text fault old new = IsToldBy text fault (plain_words fault) old new
+-- what is written of a fault, by whether the line asks for a drawing
+abbrev pub IsFaultTold : Bool → List ℕ → Fault → (old new : Option (List ℕ)) → Type 0
+IsFaultTold draws text Input old new = IsInputTold old new
+IsFaultTold draws text fault old new = IsToldBy text fault (plain_words draws fault) old new
 
 -- the lines of what the script of a text uses and leaves of each limit
 abbrev pub IsLimitsText : List ℕ → List ℕ → Type 0

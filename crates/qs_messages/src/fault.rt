@@ -1,9 +1,11 @@
 // What is said of a fault.
 
 ghost use Rattle.std.specs.Prelude.{◌≡◌, [], None, IfOk, option_map};
+ghost use Rattle.std.specs.List.{list_any};
+ghost use Rattle.qs_script.specs.audit.tokens.Tokens.{same};
 ghost use Rattle.qs_messages.specs.CheckTold.{IsCheckTold};
 ghost use Rattle.qs_report.specs.declared.faults.Fault.TheVariants.{Input};
-ghost use Rattle.qs_messages.specs.Told.{IsDueOf, IsReadTold, IsFaultTold, IsInputTold, IsToldBy, plain_words as words_of};
+ghost use Rattle.qs_messages.specs.Told.{IsDueOf, IsReadTold, IsFaultTold, IsInputTold, IsToldBy, is_drawing, limit_words, plain_words as words_of};
 
 use crate::causes::{tell_check, tell_read};
 use crate::line_causes::{put_front, put_order, put_pick, put_refused};
@@ -19,9 +21,39 @@ use std::io::{self, Write};
 
 const UNREAD: &[u8] = b"error: the script could not be read from standard input";
 
-// What is said of a fault that has no place in the script and no part of the line.
-fn plain_words(fault: &Fault) -> Option<&'static [u8]>
-    ensures words { option_map (λ words. words.now) result ≡ words_of fault.now }
+fn is(word: &[u8], other: &[u8]) -> bool
+    ensures exact { result ≡ same word.now other.now }
+{
+    word == other
+}
+
+fn is_drawing(word: &[u8]) -> bool
+    ensures exact { result ≡ is_drawing word.now }
+{
+    is(word, b"dot") || is(word, b"--format=dot")
+}
+
+// Whether a line asks for a drawing.
+fn draws<'a>(words: &'a [&'a str]) -> bool
+    ensures exact { result ≡ list_any (λ word. is_drawing word.now) words.now }
+{
+    words.iter().any(|word| is_drawing(word.as_bytes()))
+}
+
+// What is said of more configurations than there may be, by whether a drawing is asked for.
+fn limit_words(draws: bool) -> &'static [u8]
+    ensures exact { result.now ≡ limit_words draws }
+{
+    if draws {
+        b"error: a drawing has at most 200 configurations, and no more than `--limit` says; there are more\n  = help: `--after LIST` draws only what comes after some blocks\n  = help: without `--format dot` the outcomes are listed; `qs estimate` says how many configurations there can be\n"
+    } else {
+        b"error: there are more configurations than the limit\n  = help: `--limit N` sets another limit, up to 4294967295; without it, it is 1000000\n  = help: `--after LIST` looks only at what comes after some blocks, so that a search can be cut into parts\n"
+    }
+}
+
+// What is said of a fault that has no place in the script and no part of the line, by whether a drawing is asked for.
+fn plain_words(fault: &Fault, draws: bool) -> Option<&'static [u8]>
+    ensures words { option_map (λ words. words.now) result ≡ words_of draws fault.now }
 {
     match fault {
         Fault::Memory => Some(b"error: memory ran out\n"),
@@ -45,9 +77,7 @@ fn plain_words(fault: &Fault) -> Option<&'static [u8]>
         Fault::Outcomes(OutcomesFault::Memory) => Some(
             b"error: memory ran out while outcomes were looked for\n",
         ),
-        Fault::Outcomes(OutcomesFault::Limit) => Some(
-            b"error: there are more configurations than the limit\n  = help: `--limit N` sets another limit, up to 4294967295; without it, it is 1000000\n  = help: a drawing, by `--format dot`, has at most 200 configurations, whatever the limit is: draw what comes after some blocks, or a shorter script, or take another format\n  = help: `--after LIST` looks only at what comes after some blocks, so that a search can be cut into parts\n",
-        ),
+        Fault::Outcomes(OutcomesFault::Limit) => Some(limit_words(draws)),
         _ => None,
     }
 }
@@ -144,12 +174,12 @@ pub fn tell_fault<'a, W: Write>(
     why: Option<&io::Error>,
     err: &mut W,
 )
-    ensures told { IsFaultTold text.now fault.now (W.contents err.old) (W.contents err.new) }
+    ensures told { IsFaultTold (list_any (λ word. is_drawing word.now) words.now) text.now fault.now (W.contents err.old) (W.contents err.new) }
 {
     if let Fault::Input = fault {
         return tell_input(alloc, why, err);
     }
-    match plain_words(fault) {
+    match plain_words(fault, draws(words)) {
         Some(plain) => {
             let mut watch = Watch::new();
             write_text(err, &mut watch, plain);

@@ -1,6 +1,7 @@
 //! Why a command line is refused, in words: of its settings, its lists and its conditions.
 
 mod condition;
+mod hints;
 mod line;
 mod lists;
 mod order;

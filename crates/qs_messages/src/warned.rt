@@ -3,11 +3,13 @@
 mod certainties;
 mod doings;
 mod finding;
+mod held;
 pub mod laws;
 mod places;
 mod warning;
 mod words;
 
 pub use finding::warnings;
+pub use held::put_held_all;
 pub use warning::Warning;
 pub use words::warnings_text;

@@ -3,7 +3,7 @@
 ghost use Rattle.std.specs.Prelude.{◌≡◌, false};
 ghost use Rattle.std.specs.Io.KnownBytes.{Keeps};
 
-use crate::warned::warnings_text;
+use crate::warned::{put_held_all, warnings_text};
 use qs_check::check;
 use qs_script::read;
 use qs_text::{Watch, write_text};
@@ -18,7 +18,9 @@ fn said_of(alloc: Global, text: &[u8]) -> Result<Vec<u8>, AllocError> {
     let Ok(program) = check(alloc, script) else {
         return Err(AllocError);
     };
-    warnings_text(alloc, text, &program)
+    let mut out = warnings_text(alloc, text, &program)?;
+    put_held_all(alloc, &mut out, text)?;
+    Ok(out)
 }
 
 /// Says what is warned of in the script of a text, where that is asked for. A writer that fails changes nothing else,

@@ -3,14 +3,15 @@
 ghost use Rattle.std.specs.Prelude.{◌↔◌, IfOk, IsTrue};
 ghost use Rattle.qs_messages.specs.ReadTold.{IsFormFaultOf, MayEnd};
 
-use crate::causes::form::{Form, FormStage};
+use crate::causes::follow::may_stand;
 use crate::causes::known::{Declared, Known, kind_of, place_in};
 use crate::causes::operations::{Kind, operation_of};
 use crate::causes::source::Source;
+use crate::causes::stage::token_back;
 use qs_check::fault_places::CheckFault;
 use qs_objects::Op;
+use qs_script::form_place;
 use qs_script::tokens::Token;
-use qs_script::{begins_script, form_place};
 use std::alloc::{AllocError, Global};
 
 /// What there is a limit for.
@@ -86,9 +87,7 @@ fn may_end(alloc: Global, tokens: Vec<Token>, place: usize) -> Result<bool, Allo
     ensures exact { IfOk result (λ ends. IsTrue ends ↔ MayEnd tokens.items place) }
 {
     let mut tokens = tokens;
-    tokens.truncate(place);
-    tokens.push(Token::Semicolon)?;
-    begins_script(alloc, tokens.as_slice())
+    may_stand(alloc, &mut tokens, place, Token::Semicolon)
 }
 
 /// The fault of form of some tokens, where no script has them.
@@ -104,137 +103,125 @@ pub(crate) fn form_fault(alloc: Global, tokens: Vec<Token>) -> Result<Option<For
     }
 }
 
-/// What a script has come to, token by token.
-#[derive(Drop)]
-pub(crate) struct Search {
-    pub(crate) form: Form,
-    pub(crate) known: Known,
-}
-
-impl Search {
-    pub(crate) fn new(alloc: Global) -> Search {
-        Search {
-            form: Form::new(alloc),
-            known: Known::new(alloc),
-        }
-    }
-
-    /// Learns what the tokens before a place tell.
-    pub(crate) fn learn(&mut self, source: Source<'_>, place: usize) -> Result<(), AllocError> {
-        for before in 0..place {
-            let Some(token) = source.token(before) else {
-                return Ok(());
-            };
-            match token {
-                Token::Name(_) => self.learn_name(source, before)?,
-                Token::Separate => self.known.reserved.clear(),
-                _ => {}
-            }
-            self.form.pass(token)?;
-        }
-        Ok(())
-    }
-
-    fn learn_name(&mut self, source: Source<'_>, place: usize) -> Result<(), AllocError> {
-        self.leave_template();
-        match self.form.stage() {
-            FormStage::ObjectName => self.known.add_object(place, kind_after(source, place))?,
-            FormStage::FormalName => self.known.add_object(place, kind_before(source, place))?,
-            FormStage::ClientName => self.known.clients.push(place)?,
-            FormStage::TemplateName => self.known.add_template(place)?,
-            FormStage::TemplateOf => self.known.start(source, source.word(place)),
-            FormStage::GivenFirst | FormStage::GivenMore => self.known.give(),
-            FormStage::ListFirst | FormStage::ListNext => self.known.reserved.push(place)?,
+/// What the names before a place of a script tell.
+pub(crate) fn learned(
+    alloc: Global,
+    source: Source<'_>,
+    place: usize,
+) -> Result<Known, AllocError> {
+    let mut known = Known::new(alloc);
+    for before in 0..place {
+        match source.token(before) {
+            Some(Token::Name(_)) => learn_name(&mut known, source, before)?,
+            Some(Token::Separate) => known.reserved.clear(),
+            Some(Token::Object | Token::Client) => known.is_template = false,
             _ => {}
         }
-        Ok(())
     }
+    Ok(known)
+}
 
-    // An object or a client stands in no template.
-    fn leave_template(&mut self) {
-        if matches!(
-            self.form.stage(),
-            FormStage::ObjectName | FormStage::ClientName
-        ) {
-            self.known.is_template = false;
+// Learns what a name tells, by the token before it. In a block's list alone a name stands right after another.
+fn learn_name(known: &mut Known, source: Source<'_>, place: usize) -> Result<(), AllocError> {
+    match token_back(source, place, 1) {
+        Some(Token::Object) => known.add_object(place, kind_after(source, place))?,
+        Some(Token::Account | Token::Buffer | Token::Grid) => {
+            known.add_object(place, kind_before(source, place))?
         }
+        Some(Token::Client) => known.clients.push(place)?,
+        Some(Token::Template) => known.add_template(place)?,
+        Some(Token::Assign) if is_opened(source, place) => known.start(source, source.word(place)),
+        Some(Token::OpenParen | Token::Comma) => known.give(),
+        Some(Token::Separate | Token::Name(_)) => known.reserved.push(place)?,
+        _ => {}
     }
+    Ok(())
+}
 
-    /// What is wrong at a place, by the fault that stands there, once the tokens before it were learned.
-    pub(crate) fn cause_of(
-        &mut self,
-        source: Source<'_>,
-        place: usize,
-        fault: CheckFault,
-    ) -> Option<Cause> {
-        self.leave_template();
-        match fault {
-            CheckFault::Twice => self.twice(source, source.word(place)),
-            CheckFault::Limit => Some(Cause::Limit { what: self.what() }),
-            CheckFault::Range => cause_of_number(self.form.stage()),
-            CheckFault::UnknownObject => Some(Cause::UnknownObject),
-            CheckFault::ReservedTwice => Some(Cause::ReservedTwice),
-            CheckFault::NotReserved => Some(Cause::NotReserved),
-            CheckFault::UnknownOp | CheckFault::Arity => self.operation(source, place),
-            CheckFault::LeaveOutside => Some(Cause::LeaveOutside),
-            CheckFault::UnknownTemplate => Some(Cause::UnknownTemplate),
-            CheckFault::Count => self.count(source, place),
-            CheckFault::OtherKind => self.other_kind(source, source.word(place)),
-            CheckFault::Load | CheckFault::Weight | CheckFault::Memory => None,
-        }
+// Whether a `(` stands after a name, as after that of the template with which a client is started.
+fn is_opened(source: Source<'_>, place: usize) -> bool {
+    matches!(
+        source.token(place.saturating_add(1)),
+        Some(Token::OpenParen)
+    )
+}
+
+/// What is wrong at a place, by the fault that stands there and by what the tokens before it tell.
+pub(crate) fn cause_of(
+    source: Source<'_>,
+    known: &Known,
+    place: usize,
+    fault: CheckFault,
+) -> Option<Cause> {
+    match fault {
+        CheckFault::Twice => twice(source, known, place),
+        CheckFault::Limit => Some(Cause::Limit {
+            what: what_at(source, place),
+        }),
+        CheckFault::Range => cause_of_number(source, place),
+        CheckFault::UnknownObject => Some(Cause::UnknownObject),
+        CheckFault::ReservedTwice => Some(Cause::ReservedTwice),
+        CheckFault::NotReserved => Some(Cause::NotReserved),
+        CheckFault::UnknownOp | CheckFault::Arity => operation(source, known, place),
+        CheckFault::LeaveOutside => Some(Cause::LeaveOutside),
+        CheckFault::UnknownTemplate => Some(Cause::UnknownTemplate),
+        CheckFault::Count => count(source, known, place),
+        CheckFault::OtherKind => other_kind(source, known, place),
+        CheckFault::Load | CheckFault::Weight | CheckFault::Memory => None,
     }
+}
 
-    // What a token declares or begins.
-    fn what(&self) -> What {
-        match self.form.stage() {
-            FormStage::ObjectName => What::Object,
-            FormStage::FormalName => What::Formal,
-            FormStage::ClientName => What::Client,
-            FormStage::TemplateName => What::Template,
-            FormStage::Block => What::Block,
-            _ => What::Variable,
-        }
+// What a token declares or begins.
+fn what_at(source: Source<'_>, place: usize) -> What {
+    match (token_back(source, place, 1), source.token(place)) {
+        (_, Some(Token::Separate)) => What::Block,
+        (Some(Token::Object), _) => What::Object,
+        (Some(Token::Account | Token::Buffer | Token::Grid), _) => What::Formal,
+        (Some(Token::Client), _) => What::Client,
+        (Some(Token::Template), _) => What::Template,
+        _ => What::Variable,
     }
+}
 
-    fn twice(&self, source: Source<'_>, word: &[u8]) -> Option<Cause> {
-        let what = self.what();
-        let first = match what {
-            What::Client => place_in(source, self.known.clients.as_slice(), word)?,
-            What::Template => place_in(source, self.known.templates.as_slice(), word)?,
-            _ => self.known.object(source, word)?.name,
-        };
-        Some(Cause::Twice { what, first })
-    }
+fn twice(source: Source<'_>, known: &Known, place: usize) -> Option<Cause> {
+    let word = source.word(place);
+    let what = what_at(source, place);
+    let first = match what {
+        What::Client => place_in(source, known.clients.as_slice(), word)?,
+        What::Template => place_in(source, known.templates.as_slice(), word)?,
+        _ => known.object(source, word)?.name,
+    };
+    Some(Cause::Twice { what, first })
+}
 
-    // The operation of a request, or the number of its arguments.
-    fn operation(&self, source: Source<'_>, place: usize) -> Option<Cause> {
-        let object = place.saturating_sub(2);
-        let asks = self.form.asks();
-        let kind = self.known.object(source, source.word(object))?.kind;
-        match operation_of(kind, asks, source.word(place)) {
-            Some(found) => Some(Cause::Arity {
-                op: found,
-                given: count_to_paren(source, place.saturating_add(2)),
-            }),
-            None => Some(Cause::UnknownOp { kind, asks, object }),
-        }
-    }
-
-    // The number of objects that are given to a template.
-    fn count(&self, source: Source<'_>, place: usize) -> Option<Cause> {
-        let template = self.known.template_of(source, source.word(place))?;
-        Some(Cause::Count {
-            due: self.known.formal_count(template),
+// The operation of a request, or the number of its arguments.
+fn operation(source: Source<'_>, known: &Known, place: usize) -> Option<Cause> {
+    let object = place.saturating_sub(2);
+    let asks = matches!(token_back(source, place, 3), Some(Token::Assign));
+    let kind = known.object(source, source.word(object))?.kind;
+    match operation_of(kind, asks, source.word(place)) {
+        Some(found) => Some(Cause::Arity {
+            op: found,
             given: count_to_paren(source, place.saturating_add(2)),
-        })
+        }),
+        None => Some(Cause::UnknownOp { kind, asks, object }),
     }
+}
 
-    // An object that is given to a template.
-    fn other_kind(&self, source: Source<'_>, word: &[u8]) -> Option<Cause> {
-        let kind = self.known.object(source, word)?.kind;
-        let formal = self.known.formal(self.known.started, self.known.given)?;
-        Some(Cause::OtherKind { kind, formal })
-    }
+// The number of objects that are given to a template.
+fn count(source: Source<'_>, known: &Known, place: usize) -> Option<Cause> {
+    let template = known.template_of(source, source.word(place))?;
+    Some(Cause::Count {
+        due: known.formal_count(template),
+        given: count_to_paren(source, place.saturating_add(2)),
+    })
+}
+
+// An object that is given to a template.
+fn other_kind(source: Source<'_>, known: &Known, place: usize) -> Option<Cause> {
+    let kind = known.object(source, source.word(place))?.kind;
+    let formal = known.formal(known.started, known.given)?;
+    Some(Cause::OtherKind { kind, formal })
 }
 
 // The kind of an object whose name stands at a place.
@@ -260,14 +247,14 @@ fn count_to_paren(source: Source<'_>, from: usize) -> usize {
     count
 }
 
-// What a number has to be.
-fn cause_of_number(stage: FormStage) -> Option<Cause> {
-    let what: &'static [u8] = match stage {
-        FormStage::Balance => b"an account begins with 0 to 1000000000000000",
-        FormStage::Capacity => b"a buffer has 1 to 1024 places",
-        FormStage::Rows => b"a grid has 1 to 16 rows",
-        FormStage::Columns => b"a grid has 1 to 16 columns",
-        FormStage::Count => b"a `repeat` turns at most 1000 times",
+// What a number has to be, by the token before it.
+fn cause_of_number(source: Source<'_>, place: usize) -> Option<Cause> {
+    let what: &'static [u8] = match token_back(source, place, 1)? {
+        Token::Account => b"an account begins with 0 to 1000000000000000",
+        Token::Buffer => b"a buffer has 1 to 1024 places",
+        Token::Grid => b"a grid has 1 to 16 rows",
+        Token::Number(_) => b"a grid has 1 to 16 columns",
+        Token::Repeat => b"a `repeat` turns at most 1000 times",
         _ => return None,
     };
     Some(Cause::Range { what })

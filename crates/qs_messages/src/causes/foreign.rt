@@ -1,7 +1,7 @@
 // Words of other languages, and what to write here.
 
-use crate::causes::form::{Around, FormStage};
 use crate::causes::source::Source;
+use crate::causes::stage::{Around, Stage};
 use crate::causes::usual::{Usual, mistake};
 use qs_script::tokens::Token;
 
@@ -61,7 +61,7 @@ fn for_statement(word: &[u8]) -> Option<Usual> {
         ),
         b"assert" | b"check" => mistake(
             b"a script has no assertions: a condition stands on the command line",
-            b"`qs outcomes --always 'ann.x == 1'` says whether it holds at each end",
+            b"`qs ask --always 'ann.x == 1'` says whether it holds at each end",
         ),
         b"switch" | b"case" | b"match" => mistake(
             b"the only choice is an `if`",
@@ -112,18 +112,39 @@ fn for_waiting(word: &[u8]) -> Option<Usual> {
     }
 }
 
+// What there is for a word that ends a `repeat` where something holds.
+fn for_ending(word: &[u8], is_count: bool) -> Option<Usual> {
+    match word {
+        b"when" | b"unless" | b"while" | b"until" if is_count => mistake(
+            b"a `repeat` has a number, and no condition",
+            b"write `repeat 1000 { .. }`, and `if x == 3 { leave; }` in it to end it earlier",
+        ),
+        b"when" | b"unless" | b"while" | b"until" => leave_if(),
+        _ => None,
+    }
+}
+
+/// A `leave` with a condition behind it.
+pub(crate) fn leave_if() -> Option<Usual> {
+    mistake(
+        b"a `leave` has no condition: an `if` is around it",
+        b"write `if x == 3 { leave; }`",
+    )
+}
+
 // What there is for a name that stands at a place or before it.
 fn for_word(around: Around, word: &[u8], is_before: bool) -> Option<Usual> {
     match around.stage {
-        FormStage::AfterName if is_before => for_waiting(word)
+        Stage::AfterName if is_before => for_waiting(word)
             .or(for_flow(word, around.is_inside))
             .or(for_statement(word))
             .or(for_test(word)),
-        FormStage::Relation => for_test(word),
-        FormStage::BodyBrace => for_waiting(word).or(for_test(word)),
-        FormStage::AfterName | FormStage::ListNext | FormStage::TurnsBrace | FormStage::Block => {
+        Stage::Relation => for_test(word),
+        Stage::BodyBrace => for_waiting(word).or(for_test(word)),
+        Stage::AfterName | Stage::ListNext | Stage::TurnsBrace | Stage::Block => {
             for_waiting(word)
         }
+        Stage::Count | Stage::LeaveEnd => for_ending(word, around.stage == Stage::Count),
         _ => None,
     }
 }

@@ -4,7 +4,7 @@ ghost use Rattle.std.specs.Prelude.{IfOk};
 ghost use Rattle.qs_messages.specs.CheckTold.{IsExcessAt, IsRefusedAt, anchor_of};
 
 use crate::causes::excess::say_excess;
-use crate::causes::finding::Search;
+use crate::causes::finding::{cause_of, learned};
 use crate::causes::said::{Said, say};
 use crate::causes::source::Source;
 use crate::causes::words::say_cause;
@@ -65,20 +65,17 @@ fn say_fault(
     place: usize,
     fault: CheckFault,
 ) -> Result<Said, AllocError> {
-    let mut search = Search::new(alloc);
-    search.learn(source, place)?;
-    let said = match search.cause_of(source, place, fault) {
-        Some(cause) => say_cause(alloc, source, &search.known, place, cause)?,
+    let known = learned(alloc, source, place)?;
+    match cause_of(source, &known, place, fault) {
+        Some(cause) => say_cause(alloc, source, &known, place, cause),
         None => say(
             alloc,
             source.span(place),
             &[b"the script is refused here"],
             &[],
             &[],
-        )?,
-    };
-    drop(search);
-    Ok(said)
+        ),
+    }
 }
 
 /// What is said of a refusal at the place of its token.

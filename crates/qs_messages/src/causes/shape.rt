@@ -6,10 +6,11 @@ ghost use Rattle.qs_messages.specs.Sources.{end_in, span_in};
 
 use crate::causes::expected::expected;
 use crate::causes::finding::FormFault;
+use crate::causes::follow::follow_at;
 use crate::causes::foreign::{foreign_at, open_before};
-use crate::causes::form::{Around, Form, FormStage};
 use crate::causes::said::{Said, joined, line_digits, part, say};
 use crate::causes::source::Source;
+use crate::causes::stage::{Around, Stage, around_at, token_back};
 use crate::causes::usual::{Usual, usual_at};
 use crate::causes::words::is_near;
 use qs_diagnosis::Span;
@@ -46,13 +47,12 @@ pub(crate) fn say_form(
 ) -> Result<Said, AllocError>
     ensures spot { IfOk result (λ said. IsSpot source.entry.text.now source.entry.tokens.now fault.place (IsTrue fault.ends) said.span) }
 {
-    let mut form = Form::new(alloc);
-    form.pass_before(source, fault.place)?;
-    let around = form.around();
-    drop(form);
-    match say_mistake(alloc, source, around, fault.place)? {
+    let follow = follow_at(alloc, source.text(), fault.place)?;
+    let around = around_at(source, fault.place, &follow);
+    let label = expected(alloc, source, fault.place, &follow)?;
+    match say_mistake(alloc, source, around, fault.place, label.as_slice())? {
         Some(said) => Ok(said),
-        None => say_fault(alloc, source, around.stage, fault),
+        None => say_fault(alloc, source, around.stage, fault, label.as_slice()),
     }
 }
 
@@ -62,23 +62,23 @@ fn say_mistake(
     source: Source<'_>,
     around: Around,
     place: usize,
+    expected: &[u8],
 ) -> Result<Option<Said>, AllocError>
     ensures spot { IfOk result (λ found. IfSome found (λ said. IsAt source.entry.text.now source.entry.tokens.now place said.span)) }
 {
-    let stage = around.stage;
     if let Some(usual) = foreign_at(source, around, place) {
-        return Ok(Some(say_usual(alloc, source, stage, place, usual)?));
+        return Ok(Some(say_usual(alloc, source, place, usual, expected)?));
     }
-    if let Some(meant) = meant(alloc, stage, source.word(place))? {
-        return Ok(Some(say_near(alloc, source, stage, place, meant)?));
+    if let Some(meant) = meant(alloc, around.stage, source.word(place))? {
+        return Ok(Some(say_near(alloc, source, place, meant, expected)?));
     }
     if let Some(usual) = usual_at(source, around, place) {
-        return Ok(Some(say_usual(alloc, source, stage, place, usual)?));
+        return Ok(Some(say_usual(alloc, source, place, usual, expected)?));
     }
-    if stage == FormStage::AfterName {
+    if around.stage == Stage::AfterName {
         let word = source.word(place.saturating_sub(1));
         if let Some(meant) = meant_before(alloc, word, source.token(place))? {
-            return Ok(Some(say_near(alloc, source, stage, place, meant)?));
+            return Ok(Some(say_near_before(alloc, source, place, meant)?));
         }
     }
     Ok(None)
@@ -87,9 +87,9 @@ fn say_mistake(
 fn say_usual(
     alloc: Global,
     source: Source<'_>,
-    stage: FormStage,
     place: usize,
     usual: Usual,
+    expected: &[u8],
 ) -> Result<Said, AllocError>
     ensures spot { IfOk result (λ said. IsAt source.entry.text.now source.entry.tokens.now place said.span) }
 {
@@ -101,7 +101,7 @@ fn say_usual(
     let label = if usual.is_before {
         joined(alloc, &[])?
     } else {
-        joined(alloc, &[b"expected ", expected(stage)])?
+        joined(alloc, &[b"expected ", expected])?
     };
     say(
         alloc,
@@ -112,27 +112,44 @@ fn say_usual(
     )
 }
 
-// Says which word is meant at a place, or by the name before it that begins a statement.
+// Says which word is meant at a place.
 fn say_near(
     alloc: Global,
     source: Source<'_>,
-    stage: FormStage,
+    place: usize,
+    meant: &'static [u8],
+    expected: &[u8],
+) -> Result<Said, AllocError>
+    ensures spot { IfOk result (λ said. IsAt source.entry.text.now source.entry.tokens.now place said.span) }
+{
+    let word = source.word(place);
+    say(
+        alloc,
+        spot(source, place, false),
+        &[b"unexpected `", word, b"`"],
+        &[b"expected ", expected],
+        &[b"is `", word, b"` meant to be `", part(meant), b"`?"],
+    )
+}
+
+// Says which word is meant by the name before a place, which begins a statement.
+fn say_near_before(
+    alloc: Global,
+    source: Source<'_>,
     place: usize,
     meant: &'static [u8],
 ) -> Result<Said, AllocError>
     ensures spot { IfOk result (λ said. IsAt source.entry.text.now source.entry.tokens.now place said.span) }
 {
-    let is_before = stage == FormStage::AfterName;
-    let (word, stage) = if is_before {
-        (source.word(place.saturating_sub(1)), FormStage::Statement)
-    } else {
-        (source.word(place), stage)
-    };
+    let before = place.saturating_sub(1);
+    let follow = follow_at(alloc, source.text(), before)?;
+    let label = expected(alloc, source, before, &follow)?;
+    let word = source.word(before);
     say(
         alloc,
-        spot(source, place, is_before),
+        spot(source, place, true),
         &[b"unexpected `", word, b"`"],
-        &[b"expected ", expected(stage)],
+        &[b"expected ", label.as_slice()],
         &[b"is `", word, b"` meant to be `", part(meant), b"`?"],
     )
 }
@@ -141,8 +158,9 @@ fn say_near(
 fn say_fault(
     alloc: Global,
     source: Source<'_>,
-    stage: FormStage,
+    stage: Stage,
     fault: FormFault,
+    expected: &[u8],
 ) -> Result<Said, AllocError>
     ensures spot { IfOk result (λ said. IsSpot source.entry.text.now source.entry.tokens.now fault.place (IsTrue fault.ends) said.span) }
 {
@@ -155,13 +173,13 @@ fn say_fault(
     }
     if place >= source.len() {
         let help = open_help(alloc, source, place)?;
-        return say_end(alloc, source, stage, place, help.as_slice());
+        return say_end(alloc, source, place, expected, help.as_slice());
     }
     say(
         alloc,
         source.span(place),
         &[b"unexpected `", source.word(place), b"`"],
-        &[b"expected ", expected(stage)],
+        &[b"expected ", expected],
         &[],
     )
 }
@@ -173,26 +191,27 @@ struct Wanted {
     help: &'static [u8],
 }
 
-// The number that is missing at a place, where the text ends or another item begins there.
-fn number_missing(source: Source<'_>, stage: FormStage, place: usize) -> Option<Wanted> {
+// The number of a declaration that is missing at a place, where the text ends or another item begins there: by the token
+// before it.
+fn number_missing(source: Source<'_>, stage: Stage, place: usize) -> Option<Wanted> {
     match source.token(place) {
-        None | Some(Token::Object | Token::Client | Token::Template) => {}
+        None | Some(Token::Object | Token::Client | Token::Template) if stage == Stage::Size => {}
         _ => return None,
     }
-    match stage {
-        FormStage::Balance => Some(Wanted {
+    match token_back(source, place, 1)? {
+        Token::Account => Some(Wanted {
             what: b"the balance to begin with",
             help: b"write a number from 0 to 1000000000000000, as in `object a account 100`",
         }),
-        FormStage::Capacity => Some(Wanted {
+        Token::Buffer => Some(Wanted {
             what: b"the number of places",
             help: b"write a number from 1 to 1024, as in `object b buffer 4`",
         }),
-        FormStage::Rows => Some(Wanted {
+        Token::Grid => Some(Wanted {
             what: b"the numbers of rows and columns",
             help: b"write two numbers from 1 to 16, as in `object g grid 2 3`",
         }),
-        FormStage::Columns => Some(Wanted {
+        Token::Number(_) => Some(Wanted {
             what: b"the number of columns",
             help: b"write two numbers from 1 to 16, as in `object g grid 2 3`",
         }),
@@ -237,8 +256,8 @@ fn say_semicolon(alloc: Global, source: Source<'_>, before: usize) -> Result<Sai
 fn say_end(
     alloc: Global,
     source: Source<'_>,
-    stage: FormStage,
     place: usize,
+    expected: &[u8],
     help: &[u8],
 ) -> Result<Said, AllocError>
     ensures span { IfOk result (λ said. said.span ≡ span_in source.entry.text.now source.entry.tokens.now place) }
@@ -247,7 +266,7 @@ fn say_end(
         alloc,
         source.span(place),
         &[b"the text ends here, and the script does not"],
-        &[b"expected ", expected(stage)],
+        &[b"expected ", expected],
         &[help],
     )
 }
@@ -283,15 +302,11 @@ fn nearest(
 }
 
 // The word that is meant by the one at a place.
-fn meant(
-    alloc: Global,
-    stage: FormStage,
-    word: &[u8],
-) -> Result<Option<&'static [u8]>, AllocError> {
+fn meant(alloc: Global, stage: Stage, word: &[u8]) -> Result<Option<&'static [u8]>, AllocError> {
     match stage {
-        FormStage::Item => nearest(alloc, word, &[b"object", b"client", b"template"]),
-        FormStage::Block => nearest(alloc, word, &[b"separate"]),
-        FormStage::ObjectKind | FormStage::FormalKind => {
+        Stage::Item => nearest(alloc, word, &[b"object", b"client", b"template"]),
+        Stage::Block => nearest(alloc, word, &[b"separate"]),
+        Stage::ObjectKind | Stage::FormalKind => {
             nearest(alloc, word, &[b"account", b"buffer", b"grid"])
         }
         _ => Ok(None),

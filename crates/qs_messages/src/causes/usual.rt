@@ -1,8 +1,8 @@
 // What new users write, and what to write instead.
 
-use crate::causes::foreign::is_around_block;
-use crate::causes::form::{Around, FormStage};
+use crate::causes::foreign::{is_around_block, leave_if};
 use crate::causes::source::Source;
+use crate::causes::stage::{Around, Stage};
 use qs_script::tokens::Token;
 
 /// A usual mistake: what is wrong, what to write, and whether it is the word before the place.
@@ -39,32 +39,35 @@ pub(crate) fn usual_at(source: Source<'_>, around: Around, place: usize) -> Opti
         return Some(usual);
     }
     match stage {
-        FormStage::Item => at_item(token),
-        FormStage::Block => at_block(source, token, place),
-        FormStage::Statement | FormStage::AfterIf if around.is_deep => mistake(
+        Stage::Item => at_item(token),
+        Stage::Block => at_block(source, token, place),
+        Stage::Statement | Stage::AfterIf if around.is_deep => mistake(
             b"a statement stands inside at most eight `if`s and `repeat`s",
             b"one `if` on a variable that was computed before often does for several",
         ),
-        FormStage::Statement | FormStage::AfterIf => at_statement(token),
-        FormStage::AfterName => at_subject(source, token, place),
-        FormStage::ArgumentsOpen
-        | FormStage::ArgumentFirst
-        | FormStage::ArgumentNext
-        | FormStage::ArgumentMore => at_arguments(source, stage, token, place),
-        FormStage::Left | FormStage::Relation | FormStage::Right | FormStage::BodyBrace => at_test(
+        Stage::Statement | Stage::AfterIf => at_statement(token),
+        Stage::AfterName => at_subject(source, token, place),
+        Stage::ArgumentsOpen | Stage::ArgumentFirst | Stage::ArgumentNext | Stage::ArgumentMore =>
+            at_arguments(source, stage, token, place),
+        Stage::Left | Stage::Relation | Stage::Right | Stage::BodyBrace => at_test(
             source, stage, token, place,
         ),
-        FormStage::ElseBrace | FormStage::Count | FormStage::TurnsBrace => at_body(stage, token),
-        FormStage::ListFirst | FormStage::ListNext => at_list(token),
+        Stage::ElseBrace | Stage::Count | Stage::TurnsBrace => at_body(stage, token),
+        Stage::ListFirst | Stage::ListNext => at_list(token),
+        Stage::LeaveEnd if matches!(token, Token::If) => leave_if(),
+        Stage::CommandEnd | Stage::QueryEnd if matches!(token, Token::CloseParen) => mistake(
+            b"no `(` is open that this `)` closes",
+            b"leave it out",
+        ),
         stage => at_value(stage, token).or(at_declaration(stage, token)),
     }
 }
 
 // Signs of other languages that are made of two of this one: `->` and `<-`.
-fn at_arrow(source: Source<'_>, stage: FormStage, token: &Token, place: usize) -> Option<Usual> {
+fn at_arrow(source: Source<'_>, stage: Stage, token: &Token, place: usize) -> Option<Usual> {
     let next = source.token(place.saturating_add(1));
     match (token, next) {
-        (Token::Minus, Some(Token::Greater)) if stage == FormStage::ObjectKind => mistake(
+        (Token::Minus, Some(Token::Greater)) if stage == Stage::ObjectKind => mistake(
             b"an object's kind stands right after its name",
             b"write `object a account 100`",
         ),
@@ -72,7 +75,7 @@ fn at_arrow(source: Source<'_>, stage: FormStage, token: &Token, place: usize) -
             b"there is no `->`: an operation stands after a `.`, and a variable is set by `=`",
             b"write `a.deposit(1);` or `x = a.balance();`",
         ),
-        (Token::Less, Some(Token::Minus)) if stage == FormStage::AfterName => mistake(
+        (Token::Less, Some(Token::Minus)) if stage == Stage::AfterName => mistake(
             b"an assignment is written `=`",
             b"write `x = a.balance();`",
         ),
@@ -118,7 +121,7 @@ fn after_variable() -> Option<Usual> {
 
 // Where a name stands or is due: it is no word of the language, begins with a letter and has no `-`; and a number is
 // digits alone.
-fn at_name(source: Source<'_>, stage: FormStage, token: &Token, place: usize) -> Option<Usual> {
+fn at_name(source: Source<'_>, stage: Stage, token: &Token, place: usize) -> Option<Usual> {
     let before = place.saturating_sub(1);
     let touches = place > 0 && source.end_of(before).start == source.span(place).start;
     match token {
@@ -143,59 +146,50 @@ fn at_name(source: Source<'_>, stage: FormStage, token: &Token, place: usize) ->
 }
 
 // Whether a new name is due at a place.
-fn is_due(stage: FormStage) -> bool {
-    matches!(
-        stage,
-        FormStage::ObjectName
-            | FormStage::ClientName
-            | FormStage::TemplateName
-            | FormStage::FormalName
-            | FormStage::TemplateOf
-    )
+fn is_due(stage: Stage) -> bool {
+    stage == Stage::NewName
 }
 
 // Whether a name of an object or a variable is due there, and none of the words that begin something may stand there.
-fn is_used(stage: FormStage) -> bool {
+fn is_used(stage: Stage) -> bool {
     matches!(
         stage,
-        FormStage::ListFirst
-            | FormStage::GivenFirst
-            | FormStage::GivenMore
-            | FormStage::Operation
-            | FormStage::Value
-            | FormStage::Second
-            | FormStage::Left
-            | FormStage::Right
-            | FormStage::ArgumentFirst
-            | FormStage::ArgumentMore
+        Stage::ListFirst
+            | Stage::Used
+            | Stage::Value
+            | Stage::Second
+            | Stage::Left
+            | Stage::Right
+            | Stage::ArgumentFirst
+            | Stage::ArgumentMore
     ) || is_due(stage)
 }
 
 // Whether a statement begins there that gives to or asks what is named.
-fn is_subject(source: Source<'_>, stage: FormStage, place: usize) -> bool {
+fn is_subject(source: Source<'_>, stage: Stage, place: usize) -> bool {
     let next = source.token(place.saturating_add(1));
-    matches!(stage, FormStage::Statement | FormStage::AfterIf)
+    matches!(stage, Stage::Statement | Stage::AfterIf)
         && matches!(next, Some(Token::Assign | Token::Dot))
 }
 
 // Whether a name has just ended.
-fn ends_name(stage: FormStage) -> bool {
+fn ends_name(stage: Stage) -> bool {
     matches!(
         stage,
-        FormStage::ClientNext
-            | FormStage::FormalsOpen
-            | FormStage::FormalNext
-            | FormStage::GivenOpen
-            | FormStage::GivenNext
-            | FormStage::ListNext
+        Stage::ClientNext
+            | Stage::FormalsOpen
+            | Stage::FormalNext
+            | Stage::GivenOpen
+            | Stage::GivenNext
+            | Stage::ListNext
     )
 }
 
 // Whether nothing has begun at a place.
-fn is_between(stage: FormStage) -> bool {
+fn is_between(stage: Stage) -> bool {
     matches!(
         stage,
-        FormStage::Item | FormStage::Block | FormStage::Statement | FormStage::AfterIf
+        Stage::Item | Stage::Block | Stage::Statement | Stage::AfterIf
     )
 }
 
@@ -282,6 +276,10 @@ fn at_subject(source: Source<'_>, token: &Token, place: usize) -> Option<Usual> 
                 b"an assignment is written `=` alone",
                 b"write `x = x + 1;`",
             ),
+            Some(Token::Plus | Token::Minus) => mistake(
+                b"there is no `++` and no `--`",
+                b"write `x = x + 1;` and `x = x - 1;`",
+            ),
             _ => mistake(
                 b"a name that begins a statement is a variable that is set, or an object",
                 b"write `x = x + 1;`",
@@ -292,37 +290,32 @@ fn at_subject(source: Source<'_>, token: &Token, place: usize) -> Option<Usual> 
     }
 }
 
-fn at_arguments(
-    source: Source<'_>,
-    stage: FormStage,
-    token: &Token,
-    place: usize,
-) -> Option<Usual> {
+fn at_arguments(source: Source<'_>, stage: Stage, token: &Token, place: usize) -> Option<Usual> {
     match token {
-        _ if stage == FormStage::ArgumentsOpen && is_of_client(source, place.saturating_sub(2)) => {
+        _ if stage == Stage::ArgumentsOpen && is_of_client(source, place.saturating_sub(2)) => {
             after_variable()
         }
         Token::Plus | Token::Minus | Token::Times => mistake(
             b"an argument is a number or a variable, and no sum",
             b"give the sum to a variable before, as in `x = 1 + 2;`",
         ),
-        Token::Dot if stage == FormStage::ArgumentNext => at_point(source, place).or(mistake(
+        Token::Dot if stage == Stage::ArgumentNext => at_point(source, place).or(mistake(
             b"an argument is a number or a variable, and no query",
             b"ask before, as in `x = b.take();`",
         )),
-        Token::CloseParen if stage == FormStage::ArgumentMore => {
+        Token::CloseParen if stage == Stage::ArgumentMore => {
             mistake(
                 b"no comma stands after the last argument",
                 b"leave the comma out",
             )
         }
-        Token::Name(_) | Token::Number(_) if stage == FormStage::ArgumentNext => {
+        Token::Name(_) | Token::Number(_) if stage == Stage::ArgumentNext => {
             mistake(
                 b"a comma stands between two arguments",
                 b"write `g.set(0, 1, 5);`",
             )
         }
-        _ if stage == FormStage::ArgumentsOpen => mistake(
+        _ if stage == Stage::ArgumentsOpen => mistake(
             b"the arguments of a request stand in parentheses, which stand there without arguments, too",
             b"write `a.deposit(1);` and `x = a.balance();`",
         ),
@@ -330,13 +323,13 @@ fn at_arguments(
     }
 }
 
-fn at_test(source: Source<'_>, stage: FormStage, token: &Token, place: usize) -> Option<Usual> {
+fn at_test(source: Source<'_>, stage: Stage, token: &Token, place: usize) -> Option<Usual> {
     match token {
         Token::OpenParen => mistake(
             b"a condition has no parentheses",
             b"write `if x == 0 { .. }`",
         ),
-        Token::Assign if stage == FormStage::Relation => {
+        Token::Assign if stage == Stage::Relation => {
             mistake(b"equality is written `==`", b"write `if x == 0 { .. }`")
         }
         Token::Dot => at_point(source, place).or(mistake(
@@ -347,11 +340,11 @@ fn at_test(source: Source<'_>, stage: FormStage, token: &Token, place: usize) ->
             b"a condition compares numbers and variables, and no sums",
             b"give the sum to a variable before, as in `z = x + 1;`",
         ),
-        Token::OpenBrace if stage == FormStage::Relation => mistake(
+        Token::OpenBrace if stage == Stage::Relation => mistake(
             b"a condition compares two numbers or variables",
             b"write `if x != 0 { .. }`",
         ),
-        _ if stage == FormStage::BodyBrace => mistake(
+        _ if stage == Stage::BodyBrace => mistake(
             b"a body stands in braces",
             b"write `if x == 0 { .. }`",
         ),
@@ -359,27 +352,27 @@ fn at_test(source: Source<'_>, stage: FormStage, token: &Token, place: usize) ->
     }
 }
 
-fn at_body(stage: FormStage, token: &Token) -> Option<Usual> {
+fn at_body(stage: Stage, token: &Token) -> Option<Usual> {
     match token {
-        Token::If if stage == FormStage::ElseBrace => mistake(
+        Token::If if stage == Stage::ElseBrace => mistake(
             b"there is no `else if`",
             b"write `else { if .. { .. } }`",
         ),
-        Token::Name(_) if stage == FormStage::Count => mistake(
+        Token::Name(_) if stage == Stage::Count => mistake(
             b"the number of a `repeat` is no variable",
             b"write a number from 0 to 1000; `if x == 0 { leave; }` in the body ends it earlier",
         ),
-        Token::Minus if stage == FormStage::Count => {
+        Token::Minus if stage == Stage::Count => {
             mistake(
                 b"the number of a `repeat` has no sign",
                 b"write the number alone",
             )
         }
-        Token::OpenBrace if stage == FormStage::Count => mistake(
+        Token::OpenBrace if stage == Stage::Count => mistake(
             b"a `repeat` says how often it turns at most",
             b"write `repeat 1000 { .. }`, and end the loop by `leave;`",
         ),
-        _ if stage == FormStage::Count => None,
+        _ if stage == Stage::Count => None,
         _ => mistake(b"a body stands in braces", b"write `{ .. }`"),
     }
 }
@@ -402,9 +395,9 @@ fn at_list(token: &Token) -> Option<Usual> {
     }
 }
 
-fn at_value(stage: FormStage, token: &Token) -> Option<Usual> {
+fn at_value(stage: Stage, token: &Token) -> Option<Usual> {
     match stage {
-        FormStage::Value | FormStage::Second => match token {
+        Stage::Value | Stage::Second => match token {
             Token::OpenParen => mistake(
                 b"an expression has no parentheses",
                 b"write `x = a + b;`, with one operator at most",
@@ -412,11 +405,7 @@ fn at_value(stage: FormStage, token: &Token) -> Option<Usual> {
             Token::Plus => mistake(b"a number has no sign `+`", b"write the number alone"),
             _ => None,
         },
-        FormStage::ValueNumber
-        | FormStage::ArgumentNumber
-        | FormStage::SecondNumber
-        | FormStage::LeftNumber
-        | FormStage::RightNumber => match token {
+        Stage::Signed => match token {
             Token::Name(_) => mistake(
                 b"a minus before a variable is not there",
                 b"write `y = 0 - x;`, and use y",
@@ -424,17 +413,16 @@ fn at_value(stage: FormStage, token: &Token) -> Option<Usual> {
             Token::Minus => mistake(b"a number has at most one sign", b"write `x = -5;`"),
             _ => None,
         },
-        FormStage::AfterVariable
-        | FormStage::AfterNumber
-        | FormStage::ExpressionEnd
-        | FormStage::QueryEnd => { after_value(stage, token) }
+        Stage::AfterVariable | Stage::AfterNumber | Stage::ExpressionEnd | Stage::QueryEnd => {
+            after_value(stage, token)
+        }
         _ => None,
     }
 }
 
-fn after_value(stage: FormStage, token: &Token) -> Option<Usual> {
+fn after_value(stage: Stage, token: &Token) -> Option<Usual> {
     match token {
-        Token::Plus | Token::Minus | Token::Times if stage == FormStage::QueryEnd => mistake(
+        Token::Plus | Token::Minus | Token::Times if stage == Stage::QueryEnd => mistake(
             b"a query stands alone at the right of `=`",
             b"write `x = a.balance(); x = x + 1;`",
         ),
@@ -442,11 +430,11 @@ fn after_value(stage: FormStage, token: &Token) -> Option<Usual> {
             b"an expression has at most one operator",
             b"write `x = a + b; x = x + c;`",
         ),
-        Token::Dot if stage == FormStage::ExpressionEnd => mistake(
+        Token::Dot if stage == Stage::ExpressionEnd => mistake(
             b"a query stands alone at the right of `=`",
             b"ask before, as in `y = a.balance();`, and use y",
         ),
-        Token::Dot if stage == FormStage::AfterNumber => {
+        Token::Dot if stage == Stage::AfterNumber => {
             mistake(b"numbers are whole", b"write the number without a point")
         }
         Token::OpenParen => mistake(b"a query names its object", b"write `x = a.balance();`"),
@@ -472,12 +460,11 @@ fn is_word(token: &Token) -> bool {
     )
 }
 
-fn at_declaration(stage: FormStage, token: &Token) -> Option<Usual> {
+fn at_declaration(stage: Stage, token: &Token) -> Option<Usual> {
     match stage {
-        FormStage::ObjectKind => at_kind(token),
-        FormStage::Balance | FormStage::Capacity | FormStage::Rows | FormStage::Columns =>
-            at_number(token),
-        FormStage::ClientNext => match token {
+        Stage::ObjectKind => at_kind(token),
+        Stage::Size => at_number(token),
+        Stage::ClientNext => match token {
             Token::OpenParen => mistake(
                 b"a client has no parameters",
                 b"write `client ann { .. }`, or a template with formals",
@@ -488,21 +475,39 @@ fn at_declaration(stage: FormStage, token: &Token) -> Option<Usual> {
             ),
             _ => None,
         },
-        FormStage::GivenOpen => mistake(
+        stage => at_parameters(stage, token),
+    }
+}
+
+// Among the formals of a template, and the objects that are given for them.
+fn at_parameters(stage: Stage, token: &Token) -> Option<Usual> {
+    match stage {
+        Stage::GivenOpen => mistake(
             b"the objects for the formals stand in parentheses",
             b"write `client ann = pay(a)`",
         ),
-        FormStage::FormalKind => match token {
+        Stage::FormalKind => match token {
             Token::CloseParen => mistake(
                 b"a template has at least one formal",
                 b"write `template pay(account f) { .. }`",
             ),
             _ => mistake(b"a formal has a kind", b"write `account f`"),
         },
-        FormStage::FormalNext => match token {
+        Stage::GivenNext => match token {
+            Token::Name(_) => mistake(
+                b"a comma stands between two objects",
+                b"write `client ann = pay(a, b)`",
+            ),
+            _ => None,
+        },
+        Stage::FormalNext => match token {
             Token::Number(_) => mistake(
                 b"a formal has a kind and a name, and no number",
                 b"write `account f`",
+            ),
+            Token::Account | Token::Buffer | Token::Grid => mistake(
+                b"a comma stands between two formals",
+                b"write `template pay(account f, buffer g) { .. }`",
             ),
             _ => None,
         },

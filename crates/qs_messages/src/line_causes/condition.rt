@@ -1,4 +1,4 @@
-// What is said of a condition that does not read, or that asks for what the script does not have.
+// What is said of a condition that cannot be parsed, or that asks for what the script does not have.
 
 use crate::causes::{Usual, mistake, name_bytes};
 use crate::line_causes::program::program_of;
@@ -9,7 +9,7 @@ use qs_line::value_after;
 use qs_questions::first_unknown;
 use std::alloc::{AllocError, Global};
 
-const UNREAD: &[u8] = b"the condition does not read";
+const UNPARSED: &[u8] = b"the condition cannot be parsed";
 
 const UNKNOWN: &[u8] = b"the condition asks for what the script does not have";
 
@@ -83,7 +83,7 @@ fn for_name(text: &[u8], start: usize, rest: &[u8]) -> Option<Usual> {
     )
 }
 
-// What is meant where a condition does not go on: by the word there, or by the one before it.
+// What is meant at an unexpected place of a condition: by the word there, or by the one before it.
 fn meant_by_word(text: &[u8], place: usize) -> Option<(Span, Usual)> {
     let rest = &text[place.min(text.len())..];
     let here = Span {
@@ -148,21 +148,24 @@ fn put_at(
     )
 }
 
-// Where a condition does not read, and why.
+// Where a condition cannot be parsed, and why.
 fn place_of(fault: ConditionFault, condition: &str) -> Option<(usize, &'static [u8])> {
     match fault {
-        ConditionFault::Byte { place } => Some((place, b"no sign begins with this")),
+        ConditionFault::Byte { place } => Some((place, b"unexpected character")),
         ConditionFault::Number { place } => Some((place, b"a number has at most 18 digits")),
         ConditionFault::Name { place } => Some((place, b"a name has at most 16 bytes")),
         ConditionFault::Form { place } if place < condition.len() => {
-            Some((place, b"no condition goes on with this"))
+            Some((place, b"unexpected"))
         }
-        ConditionFault::Form { place } => Some((place, b"the condition is not over")),
+        ConditionFault::Form { place } => Some((
+            place,
+            b"the condition ends here, and more is expected",
+        )),
         ConditionFault::Memory => None,
     }
 }
 
-/// Puts where the condition after a setting does not read, if it stands on the line and does not.
+/// Puts where the condition after a setting cannot be parsed, if it stands on the line and cannot.
 pub(crate) fn put_condition<'a>(
     alloc: Global,
     out: &mut Vec<u8>,
@@ -181,8 +184,10 @@ pub(crate) fn put_condition<'a>(
     }
     match place_of(fault, condition) {
         Some((start, label)) => {
-            let span = Span { start, length: 1 };
-            put_at(alloc, out, condition, span, UNREAD, label, FORM)
+            let text = condition.as_bytes();
+            let length = name_bytes(&text[start.min(text.len())..]).max(1);
+            let span = Span { start, length };
+            put_at(alloc, out, condition, span, UNPARSED, label, FORM)
         }
         None => Err(AllocError),
     }

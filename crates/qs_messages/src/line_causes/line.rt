@@ -1,6 +1,7 @@
 // What is said of a command line that is refused.
 
 use crate::line_causes::condition::put_condition;
+use crate::line_causes::hints::put_hint;
 use qs_diagnosis::{put, put_all};
 use qs_line::{APART, MOST_ACTORS, Setting, Who, part_of, refusal, value_after};
 use qs_played::Actor;
@@ -11,10 +12,11 @@ const SCRIPT: &[u8] = b"\nThe script comes on standard input: qs check < my.scri
 const HELP: &[u8] =
     b"\n`qs --help` says what can be done with a script, and `qs help language` how it is written.\n";
 
-const NO_FRONT: &[u8] = b"error: '--leads <LISTS>' wants '--front <K>' beside it\n";
+const NO_CLAIM: &[u8] =
+    b"error: `ask` needs a condition: `--always`, `--some`, `--throughout`, `--ever` or `--never`\n  = help: `qs ask --help` says what each of them asks\n";
 
 const NO_WORD: &[u8] =
-    b"error: no word stands on the line: `check`, `graph`, `rules`, `play`, `run` or `outcomes`\n  = help: `qs --help` says what each of them does\n";
+    b"error: no word stands on the line: `check`, `graph`, `rules`, `play`, `run`, `outcomes`, `ask`, `fronts` or `estimate`\n  = help: `qs --help` says what each of them does\n";
 
 /// Puts what is said of a line at the end: what `clap` says where it refuses the line by an error, and else which value
 /// is wrong.
@@ -25,18 +27,46 @@ pub(crate) fn put_line<'a>(
 ) -> Result<(), AllocError> {
     match refusal(alloc, words)? {
         Some(text) => {
-            put(out, text.as_bytes())?;
-            if words.get(1) == Some(&"help") {
-                return put(out, HELP);
-            }
-            if names_file(words) {
-                return put(out, SCRIPT);
+            put_hint(out, words, text.as_str())?;
+            if out.is_empty() {
+                put(out, text.as_bytes())?;
+                put_beneath(out, words)?;
             }
             Ok(())
         }
         None if words.len() < 2 => put(out, NO_WORD),
         None => put_value(alloc, out, words),
     }
+}
+
+// Puts below what `clap` says how help is asked for, or that the script comes on standard input.
+fn put_beneath<'a>(out: &mut Vec<u8>, words: &'a [&'a str]) -> Result<(), AllocError> {
+    if words.get(1) == Some(&"help") {
+        return match words.get(2) {
+            Some(word) if is_word(word) => put_all(
+                out,
+                &[
+                    b"\n`qs ",
+                    word.as_bytes(),
+                    b" --help` says what `",
+                    word.as_bytes(),
+                    b"` does, and which settings it has.\n",
+                ],
+            ),
+            _ => put(out, HELP),
+        };
+    }
+    if names_file(words) {
+        return put(out, SCRIPT);
+    }
+    Ok(())
+}
+
+fn is_word(word: &str) -> bool {
+    matches!(
+        word,
+        "check" | "graph" | "rules" | "play" | "run" | "outcomes" | "ask" | "fronts" | "estimate"
+    )
 }
 
 // Whether a word after the first looks like the name of a file.
@@ -50,11 +80,11 @@ fn names_file<'a>(words: &'a [&'a str]) -> bool {
 }
 
 // Puts what is wrong with the line: two settings that do not stand together, a format that the word or another setting
-// does not have, or a value that does not read.
+// does not have, or a value that cannot be parsed.
 fn put_value<'a>(alloc: Global, out: &mut Vec<u8>, words: &'a [&'a str]) -> Result<(), AllocError> {
     put_apart(out, words)?;
-    if out.is_empty() && stands(words, Setting::Leads) && !stands(words, Setting::Front) {
-        return put(out, NO_FRONT);
+    if out.is_empty() && words.get(1) == Some(&"ask") && !has_claim(words) {
+        return put(out, NO_CLAIM);
     }
     if out.is_empty() {
         put_format(out, words)?;
@@ -100,28 +130,24 @@ fn shown(setting: Setting) -> &'static str {
         Setting::Counts => "--counts",
         Setting::Refusals => "--refusals",
         Setting::Ends => "--ends",
-        Setting::Estimate => "--estimate",
         Setting::Alike => "--alike",
         Setting::After => "--after <LIST>",
-        Setting::Front => "--front <K>",
         Setting::Leads => "--leads <LISTS>",
         Setting::Threads => "--threads <N>",
         Setting::Always => "--always <COND>",
         Setting::Some => "--some <COND>",
         Setting::Throughout => "--throughout <COND>",
+        Setting::Ever => "--ever <COND>",
+        Setting::Never => "--never <COND>",
     }
 }
 
-// Puts the first two settings of the line that do not stand together: those of a pair, or `--alike` and `--after` where
-// no condition stands on the line.
+// Puts the first two settings of the line that do not stand together.
 fn put_apart<'a>(out: &mut Vec<u8>, words: &'a [&'a str]) -> Result<(), AllocError> {
     for (one, other) in APART {
         if stands(words, one) && stands(words, other) {
             return put_beside(out, shown(one), shown(other));
         }
-    }
-    if stands(words, Setting::Alike) && stands(words, Setting::After) && !has_claim(words) {
-        return put_beside(out, shown(Setting::Alike), shown(Setting::After));
     }
     Ok(())
 }
@@ -131,6 +157,8 @@ fn has_claim<'a>(words: &'a [&'a str]) -> bool {
     stands(words, Setting::Always)
         || stands(words, Setting::Some)
         || stands(words, Setting::Throughout)
+        || stands(words, Setting::Ever)
+        || stands(words, Setting::Never)
 }
 
 fn put_beside(out: &mut Vec<u8>, one: &str, other: &str) -> Result<(), AllocError> {
@@ -151,15 +179,10 @@ fn picture_of(word: &str) -> &'static str {
 }
 
 // Settings whose text is no drawing and no picture, and those that stand beside a report as text alone.
-const UNDRAWN: [Setting; 9] = [
+const UNDRAWN: [Setting; 4] = [
     Setting::Ends,
-    Setting::Estimate,
     Setting::Alike,
-    Setting::Front,
     Setting::Threads,
-    Setting::Always,
-    Setting::Some,
-    Setting::Throughout,
     Setting::Times,
 ];
 
@@ -210,7 +233,7 @@ fn put_beside_format(out: &mut Vec<u8>, setting: Setting, format: &str) -> Resul
     put(out, b"'\n")
 }
 
-// Puts which mode or which number of rounds does not read.
+// Puts which mode or which number of rounds cannot be parsed.
 fn put_numbers<'a>(out: &mut Vec<u8>, words: &'a [&'a str]) -> Result<(), AllocError> {
     if let Some(mode) = value_after(words, "--mode") {
         if !is_mode(mode) {
@@ -252,7 +275,7 @@ fn put_rounds(out: &mut Vec<u8>, rounds: &str) -> Result<(), AllocError> {
 }
 
 /// The settings that take a condition.
-pub(crate) const CLAIMS: [&str; 3] = ["--always", "--some", "--throughout"];
+pub(crate) const CLAIMS: [&str; 5] = ["--always", "--some", "--throughout", "--ever", "--never"];
 
 const NO_ACTOR: &[u8] =
     b"is no actor\n  = help: an actor is `c` or `h` and one digit, or `@` and a name, as in `@ann*2,h0`: twice the client ann, and then the handler of object 0\n";

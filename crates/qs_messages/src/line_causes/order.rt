@@ -55,7 +55,7 @@ pub fn put_front<'a>(
 ) -> Result<(), AllocError> {
     put_order(alloc, out, words, text, "--after")?;
     put_orders(alloc, out, words, text)?;
-    if !out.is_empty() || value_after(words, "--front").is_none() {
+    if !out.is_empty() || words.get(1) != Some(&"fronts") {
         return Ok(());
     }
     match program_of(alloc, text) {
@@ -74,7 +74,7 @@ fn put_long_front(out: &mut Vec<u8>, program: &Program) -> Result<(), AllocError
     put_all(
         out,
         &[
-            b"error: '--front <K>' asks for more blocks than are left\n  = help: blocks of the script: ",
+            b"error: '<K>' asks for more blocks than are left\n  = help: blocks of the script: ",
             buffer.format(blocks).as_bytes(),
             b"\n",
         ],
