@@ -6,6 +6,7 @@ ghost use Rattle.qs_line.specs.Line.{is_verbose_in, warns_in};
 ghost use Rattle.qs_serve.specs.Due.{IsSomeText};
 
 use crate::due::Due;
+use crate::notes::tell_notes;
 use qs_line::asked_for;
 use qs_messages::{tell_limits, tell_warnings};
 use std::alloc::Global;
@@ -22,7 +23,8 @@ fn may_ask(words: &[&str]) -> bool {
     false
 }
 
-/// Says what was asked for beside a result, where one was due: how much of each limit is left, where the line asks for
+/// Says what was asked for beside a result, where one was due: at a terminal, how many commands a run has refused, and to
+/// how many ends other orders lead; how much of each limit is left, where the line asks for
 /// it, and what is warned of in the script, where the line asks for it or a terminal shows it. A writer that fails
 /// changes nothing else, and neither does memory that runs out.
 pub(crate) fn tell_beside<'a, W: Write>(
@@ -37,6 +39,11 @@ pub(crate) fn tell_beside<'a, W: Write>(
         → Keeps (W.contents err.old) (W.contents err.new) }
     ensures refused { ¬ IsSomeText due.now → Keeps (W.contents err.old) (W.contents err.new) }
 {
+    if let Due::Text(report) = due {
+        if is_terminal {
+            tell_notes(alloc, words, text, report.as_slice(), err);
+        }
+    }
     if let Due::Text(_) | Due::No(_) = due {
         if is_terminal || may_ask(words) {
             if let Ok(asked) = asked_for(alloc, words) {

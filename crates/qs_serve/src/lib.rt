@@ -9,6 +9,7 @@ mod due;
 mod estimates;
 mod fronts;
 mod input;
+mod notes;
 mod output;
 mod plays;
 mod progress;
