@@ -44,9 +44,21 @@ size_t qs_rules(const uint8_t *script, size_t script_length, const uint8_t *word
 size_t qs_play(const uint8_t *script, size_t script_length, const uint8_t *words, size_t words_length, uint8_t *room,
                size_t room_length, uint8_t *status);
 
-/* All that the script can come to, or the answer to a question about it. */
+/* All that the script can come to. */
 size_t qs_outcomes(const uint8_t *script, size_t script_length, const uint8_t *words, size_t words_length,
                    uint8_t *room, size_t room_length, uint8_t *status);
+
+/* The answer to a question about all that the script can come to: yes or no, with an order that shows it. */
+size_t qs_ask(const uint8_t *script, size_t script_length, const uint8_t *words, size_t words_length, uint8_t *room,
+              size_t room_length, uint8_t *status);
+
+/* Where so many blocks can lead: parts of a large search. */
+size_t qs_fronts(const uint8_t *script, size_t script_length, const uint8_t *words, size_t words_length, uint8_t *room,
+                 size_t room_length, uint8_t *status);
+
+/* How large a search can be. */
+size_t qs_estimate(const uint8_t *script, size_t script_length, const uint8_t *words, size_t words_length, uint8_t *room,
+                   size_t room_length, uint8_t *status);
 
 #ifdef __cplusplus
 }

@@ -10,7 +10,7 @@ the bytes that the program would write on its standard output, and its exit stat
 
 import ctypes
 
-WORDS = ("check", "graph", "rules", "play", "outcomes")
+WORDS = ("check", "graph", "rules", "play", "outcomes", "ask", "fronts", "estimate")
 
 
 class Library:
@@ -24,7 +24,7 @@ class Library:
             call.argtypes = (*text, *text, ctypes.c_void_p, ctypes.c_size_t, ctypes.POINTER(ctypes.c_uint8))
             call.restype = ctypes.c_size_t
 
-    def ask(self, word, script, *words, room=1 << 14):
+    def call(self, word, script, *words, room=1 << 14):
         """What `qs WORD` writes for a script and further words, and its status."""
         if any("\n" in it for it in words):
             raise ValueError("a word has no line feed in it")
@@ -40,20 +40,32 @@ class Library:
 
     def check(self, script, *words):
         """How many objects, clients and blocks a script has, its load and its weight."""
-        return self.ask("check", script, *words)
+        return self.call("check", script, *words)
 
     def graph(self, script, *words):
         """The control-flow graph of each block."""
-        return self.ask("graph", script, *words)
+        return self.call("graph", script, *words)
 
     def rules(self, script, *words):
         """The report of a run by the plain rules."""
-        return self.ask("rules", script, *words)
+        return self.call("rules", script, *words)
 
     def play(self, script, *words):
         """The report of a run in the optimised machine."""
-        return self.ask("play", script, *words)
+        return self.call("play", script, *words)
 
     def outcomes(self, script, *words):
-        """All that a script can come to, or the answer to a question about it."""
-        return self.ask("outcomes", script, *words)
+        """All that a script can come to."""
+        return self.call("outcomes", script, *words)
+
+    def ask(self, script, *words):
+        """The answer to a question about all that a script can come to."""
+        return self.call("ask", script, *words)
+
+    def fronts(self, script, *words):
+        """Where so many blocks can lead."""
+        return self.call("fronts", script, *words)
+
+    def estimate(self, script, *words):
+        """How large a search can be."""
+        return self.call("estimate", script, *words)

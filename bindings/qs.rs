@@ -11,6 +11,9 @@ unsafe extern "C" {
     fn qs_rules(_: *const u8, _: usize, _: *const u8, _: usize, _: *mut u8, _: usize, _: *mut u8) -> usize;
     fn qs_play(_: *const u8, _: usize, _: *const u8, _: usize, _: *mut u8, _: usize, _: *mut u8) -> usize;
     fn qs_outcomes(_: *const u8, _: usize, _: *const u8, _: usize, _: *mut u8, _: usize, _: *mut u8) -> usize;
+    fn qs_ask(_: *const u8, _: usize, _: *const u8, _: usize, _: *mut u8, _: usize, _: *mut u8) -> usize;
+    fn qs_fronts(_: *const u8, _: usize, _: *const u8, _: usize, _: *mut u8, _: usize, _: *mut u8) -> usize;
+    fn qs_estimate(_: *const u8, _: usize, _: *const u8, _: usize, _: *mut u8, _: usize, _: *mut u8) -> usize;
 }
 
 /// A word of the program that has a call here: all but `run`, which takes threads.
@@ -21,6 +24,9 @@ pub enum Word {
     Rules,
     Play,
     Outcomes,
+    Ask,
+    Fronts,
+    Estimate,
 }
 
 impl Word {
@@ -32,24 +38,30 @@ impl Word {
             b"rules" => Some(Word::Rules),
             b"play" => Some(Word::Play),
             b"outcomes" => Some(Word::Outcomes),
+            b"ask" => Some(Word::Ask),
+            b"fronts" => Some(Word::Fronts),
+            b"estimate" => Some(Word::Estimate),
             _ => None,
         }
     }
 
-    fn call(self) -> Call {
+    fn function(self) -> Call {
         match self {
             Word::Check => qs_check,
             Word::Graph => qs_graph,
             Word::Rules => qs_rules,
             Word::Play => qs_play,
             Word::Outcomes => qs_outcomes,
+            Word::Ask => qs_ask,
+            Word::Fronts => qs_fronts,
+            Word::Estimate => qs_estimate,
         }
     }
 }
 
 /// What the program writes on its standard output for a word, a script and further words, and its exit status. A word
 /// that has a line feed in it counts as two.
-pub fn ask<W: AsRef<OsStr>>(word: Word, script: &[u8], words: &[W]) -> (Vec<u8>, u8) {
+pub fn call<W: AsRef<OsStr>>(word: Word, script: &[u8], words: &[W]) -> (Vec<u8>, u8) {
     let words: Vec<&[u8]> = words.iter().map(|it| it.as_ref().as_bytes()).collect();
     let line = words.join(&b'\n');
     let (mut room, mut status) = (vec![0; 1 << 14], 0);
@@ -57,7 +69,7 @@ pub fn ask<W: AsRef<OsStr>>(word: Word, script: &[u8], words: &[W]) -> (Vec<u8>,
         // SAFETY: the declarations above are those of bindings/qs.h; each pointer and length are of one slice, which is
         // borrowed for the call, and the room and the status are borrowed from nobody else.
         let length = unsafe {
-            word.call()(
+            word.function()(
                 script.as_ptr(),
                 script.len(),
                 line.as_ptr(),

@@ -10,7 +10,8 @@ typedef size_t call(const uint8_t *, size_t, const uint8_t *, size_t, uint8_t *,
 static const struct {
     const char *word;
     call *call;
-} CALLS[] = {{"check", qs_check}, {"graph", qs_graph}, {"rules", qs_rules}, {"play", qs_play}, {"outcomes", qs_outcomes}};
+} CALLS[] = {{"check", qs_check}, {"graph", qs_graph}, {"rules", qs_rules}, {"play", qs_play},
+             {"outcomes", qs_outcomes}, {"ask", qs_ask}, {"fronts", qs_fronts}, {"estimate", qs_estimate}};
 
 static void *room_of(void *old, size_t length) {
     void *room = realloc(old, length ? length : 1);
@@ -61,6 +62,6 @@ int main(int count, char **words) {
         free(script), free(room), free(line);
         return status;
     }
-    fputs("ask: the first word is check, graph, rules, play or outcomes\n", stderr);
+    fputs("ask: the first word is check, graph, rules, play, outcomes, ask, fronts or estimate\n", stderr);
     return 2;
 }

@@ -10,12 +10,12 @@ use std::process::ExitCode;
 fn main() -> io::Result<ExitCode> {
     let words: Vec<_> = env::args_os().skip(1).collect();
     let Some(word) = words.first().and_then(|it| qs::Word::named(it)) else {
-        eprintln!("ask: the first word is check, graph, rules, play or outcomes");
+        eprintln!("ask: the first word is check, graph, rules, play, outcomes, ask, fronts or estimate");
         return Ok(ExitCode::from(2));
     };
     let mut script = Vec::new();
     io::stdin().read_to_end(&mut script)?;
-    let (text, status) = qs::ask(word, &script, &words[1..]);
+    let (text, status) = qs::call(word, &script, &words[1..]);
     io::stdout().write_all(&text)?;
     Ok(ExitCode::from(status))
 }

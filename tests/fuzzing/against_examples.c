@@ -34,7 +34,7 @@ static size_t lines_of(int count, char **words) {
 }
 
 int main(int count, char **words) {
-    static const char *const WORDS[] = {"check", "graph", "rules", "play", "outcomes"};
+    static const char *const WORDS[] = {"check", "graph", "rules", "play", "outcomes", "ask", "fronts", "estimate"};
     for (int i = 0; count > 1 && i < WORD_COUNT; i++) {
         if (strcmp(words[1], WORDS[i]) || (count == 3 && !*words[2]))
             continue;

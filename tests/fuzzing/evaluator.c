@@ -220,16 +220,19 @@ static int find_outcomes(void) {
     for (uint32_t i = 0; i < count; i++)
         if (!leaves_blocks(&script, &lists[i], line.front))
             return refuse("outcomes 3 Order");
-    if (line.has_estimate) {
-        write_estimate(&text, &script, &line.after);
-        return 0;
-    }
     enum found found = FOUND;
     for (uint32_t i = 0; found == FOUND && i < count; i++)
         found = write_outcomes(&text, &script, &line, &lists[i]);
     if (found == OVER_THE_LIMIT)
         return refuse("outcomes 2 Limit");
     return found == FOUND ? 0 : NOT_ANSWERED;
+}
+
+static int find_estimate(void) {
+    if (!leaves_blocks(&script, &line.after, 0))
+        return refuse("outcomes 3 Order");
+    write_estimate(&text, &script, &line.after);
+    return 0;
 }
 
 static bool look_up_all(void) {
@@ -253,6 +256,8 @@ static int answer_to(enum word word) {
     case WORD_PLAY:
         set_optimised(line.is_dynamic, line.is_static, line.chunk);
         return play(&OPTIMISED);
+    case WORD_ESTIMATE:
+        return find_estimate();
     default:
         return find_outcomes();
     }

@@ -5,7 +5,7 @@
 #include <stddef.h>
 #include <stdint.h>
 
-enum word { WORD_CHECK, WORD_GRAPH, WORD_RULES, WORD_PLAY, WORD_OUTCOMES, WORD_COUNT };
+enum word { WORD_CHECK, WORD_GRAPH, WORD_RULES, WORD_PLAY, WORD_OUTCOMES, WORD_ASK, WORD_FRONTS, WORD_ESTIMATE, WORD_COUNT };
 
 /* The status of a line or a search that the evaluator does not answer. */
 enum { NOT_ANSWERED = -1 };

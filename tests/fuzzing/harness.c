@@ -22,7 +22,8 @@ static const struct {
     const char *word;
     call *call;
 } CALLS[WORD_COUNT] = {
-    {"check", qs_check}, {"graph", qs_graph}, {"rules", qs_rules}, {"play", qs_play}, {"outcomes", qs_outcomes}};
+    {"check", qs_check}, {"graph", qs_graph}, {"rules", qs_rules}, {"play", qs_play},
+    {"outcomes", qs_outcomes}, {"ask", qs_ask}, {"fronts", qs_fronts}, {"estimate", qs_estimate}};
 
 enum { GUARD = 64, PATTERN = 0xa5, MOST_WORDS_LENGTH = 1 << 15, LIGHT = 4000, HEAVY = 60000 };
 
@@ -343,14 +344,15 @@ static void ask_plays(struct question question, const struct script *script, con
 }
 
 static void ask_outcomes(struct question question, const struct script *script, uint8_t how) {
+    bool is_estimate = how & 8 && how & 16 && how & 32;
     words_length = 0;
-    question.word = WORD_OUTCOMES;
-    if (how % 4)
+    question.word = is_estimate ? WORD_ESTIMATE : WORD_OUTCOMES;
+    if (how % 4 && !is_estimate)
         add_amount("--limit", 1 + chance(how % 4 == 1 ? 20 : 600));
     if (how & 4)
         add_order("--after", script);
-    if (how & 8)
-        add_word(how & 16 && how & 32 ? "--estimate" : "--ends");
+    if (how & 8 && !is_estimate)
+        add_word("--ends");
     add_common();
     ask(question);
 }

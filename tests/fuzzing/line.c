@@ -19,20 +19,22 @@ enum setting {
     LIMIT,
     AFTER,
     ENDS,
-    ESTIMATE,
     ALIKE,
-    BLOCKS_MORE,
     LEADS,
     THREADS,
     ALWAYS,
     SOME,
     THROUGHOUT,
+    EVER,
+    NEVER,
+    BLOCKS, /* a number by itself */
     SETTING_COUNT
 };
 
 #define OF(word) (1u << (word))
 #define OF_ALL (OF(WORD_COUNT) - 1)
 #define OF_PLAYS (OF(WORD_RULES) | OF(WORD_PLAY))
+#define OF_SEARCHES (OF(WORD_OUTCOMES) | OF(WORD_ASK) | OF(WORD_FRONTS))
 
 static const struct {
     const char *name;
@@ -50,17 +52,18 @@ static const struct {
                              [REFUSALS] = {"refusals", false, OF_PLAYS},
                              [STEPS] = {"steps", false, OF_PLAYS},
                              [QUEUES] = {"queues", false, OF_PLAYS},
-                             [LIMIT] = {"limit", true, OF(WORD_OUTCOMES)},
-                             [AFTER] = {"after", true, OF(WORD_OUTCOMES)},
+                             [LIMIT] = {"limit", true, OF_SEARCHES},
+                             [AFTER] = {"after", true, OF_SEARCHES | OF(WORD_ESTIMATE)},
                              [ENDS] = {"ends", false, OF(WORD_OUTCOMES)},
-                             [ESTIMATE] = {"estimate", false, OF(WORD_OUTCOMES)},
                              [ALIKE] = {"alike", false, OF(WORD_OUTCOMES)},
-                             [BLOCKS_MORE] = {"front", true, OF(WORD_OUTCOMES)},
-                             [LEADS] = {"leads", true, OF(WORD_OUTCOMES)},
+                             [LEADS] = {"leads", true, OF(WORD_FRONTS)},
                              [THREADS] = {"threads", true, OF(WORD_OUTCOMES)},
-                             [ALWAYS] = {"always", true, OF(WORD_OUTCOMES)},
-                             [SOME] = {"some", true, OF(WORD_OUTCOMES)},
-                             [THROUGHOUT] = {"throughout", true, OF(WORD_OUTCOMES)}};
+                             [ALWAYS] = {"always", true, OF(WORD_ASK)},
+                             [SOME] = {"some", true, OF(WORD_ASK)},
+                             [THROUGHOUT] = {"throughout", true, OF(WORD_ASK)},
+                             [EVER] = {"ever", true, OF(WORD_ASK)},
+                             [NEVER] = {"never", true, OF(WORD_ASK)},
+                             [BLOCKS] = {"", true, 0}};
 
 static const char *const RESERVED[] = {"object", "client", "template", "separate", "if",  "else",
                                        "repeat", "leave",  "account",  "buffer",   "grid"};
@@ -126,6 +129,11 @@ static enum line_kind find_settings(struct given *given, enum word word, struct 
         struct bytes one = cut_off(&rest, '\n', &is_last);
         if (is_string(one, "--help") || is_string(one, "-h"))
             return LINE_IS_NOT_KNOWN;
+        if (word == WORD_FRONTS && !given->is_there[BLOCKS] && one.length && one.at[0] != '-') {
+            given->is_there[BLOCKS] = true;
+            given->value[BLOCKS] = one;
+            continue;
+        }
         if (one.length < 2 || memcmp(one.at, "--", 2))
             return LINE_IS_REFUSED;
         const uint8_t *sign = memchr(one.at, '=', one.length);
@@ -144,7 +152,7 @@ static enum line_kind find_settings(struct given *given, enum word word, struct 
                 return LINE_IS_REFUSED;
         }
     }
-    return LINE_IS_RIGHT;
+    return word == WORD_FRONTS && !given->is_there[BLOCKS] ? LINE_IS_REFUSED : LINE_IS_RIGHT;
 }
 
 /* Reads digits: whether there are some, and nothing else; a number over 2^40 is 2^40. */
@@ -266,28 +274,25 @@ static bool is_format(struct bytes format, enum word word) {
 }
 
 /* Whether the settings may stand beside one another. */
-static bool go_together(const struct given *given) {
+static bool go_together(const struct given *given, enum word word) {
     const bool *has = given->is_there;
     bool is_text = !has[FORMAT] || is_string(given->value[FORMAT], "text");
     bool is_dot = has[FORMAT] && is_string(given->value[FORMAT], "dot");
-    int conditions = has[ALWAYS] + has[SOME] + has[THROUGHOUT];
-    bool is_alike = has[ALIKE] && !conditions; /* beside a condition it changes nothing */
-    int others = has[ESTIMATE] + is_alike + has[BLOCKS_MORE] + conditions;
     if (has[ORDER] && (has[PICK] || has[ROUNDS]))
         return false;
     if ((has[STEPS] || has[QUEUES]) && (has[ORDER] || !is_text))
         return false;
-    if ((has[THREADS] && others) || (is_dot && (has[THREADS] || has[ENDS] || others)))
+    if ((has[ALIKE] && (has[ENDS] || has[AFTER] || has[THREADS])) || (has[LEADS] && has[AFTER]))
         return false;
-    if (has[AFTER] && (is_alike || has[LEADS]))
+    if (is_dot && (has[ALIKE] || has[ENDS] || has[THREADS]))
         return false;
-    return others + has[ENDS] <= 1 && (has[BLOCKS_MORE] || !has[LEADS]);
+    return (has[ALWAYS] + has[SOME] + has[THROUGHOUT] + has[EVER] + has[NEVER] == 1) == (word == WORD_ASK);
 }
 
 static bool read_numbers(struct line *line, const struct given *given) {
     uint64_t chunk = 8, rounds = 1000000, limit = 1000000, front = 0, threads = 1;
     if (!read_number(given, CHUNK, 1, 32, &chunk) || !read_number(given, ROUNDS, 0, UINT32_MAX, &rounds) ||
-        !read_number(given, LIMIT, 1, UINT32_MAX, &limit) || !read_number(given, BLOCKS_MORE, 1, 512, &front) ||
+        !read_number(given, LIMIT, 1, UINT32_MAX, &limit) || !read_number(given, BLOCKS, 1, 512, &front) ||
         !read_number(given, THREADS, 1, 64, &threads))
         return false;
     line->chunk = (int)chunk;
@@ -318,7 +323,7 @@ enum line_kind read_line(struct line *line, enum word word, const uint8_t *words
     enum line_kind kind = find_settings(&given, word, all);
     if (kind != LINE_IS_RIGHT)
         return kind;
-    if (!read_numbers(line, &given) || !read_mode(line, &given) || !go_together(&given))
+    if (!read_numbers(line, &given) || !read_mode(line, &given) || !go_together(&given, word))
         return LINE_IS_REFUSED;
     if (has[FORMAT] && !is_format(given.value[FORMAT], word))
         return LINE_IS_REFUSED;
@@ -327,11 +332,9 @@ enum line_kind read_line(struct line *line, enum word word, const uint8_t *words
     line->has_steps = has[STEPS];
     line->has_queues = has[QUEUES];
     line->has_ends = has[ENDS];
-    line->has_estimate = has[ESTIMATE];
     line->has_alike = has[ALIKE];
     kind = read_lists(line, &given);
-    bool is_more =
-        has[ALWAYS] || has[SOME] || has[THROUGHOUT] || (has[FORMAT] && !is_string(given.value[FORMAT], "text"));
+    bool is_more = word == WORD_ASK || (has[FORMAT] && !is_string(given.value[FORMAT], "text"));
     return worse(kind, is_more ? LINE_IS_NOT_KNOWN : LINE_IS_RIGHT);
 }
 

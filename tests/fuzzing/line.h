@@ -22,7 +22,7 @@ struct list {
 };
 
 struct line {
-    bool is_dynamic, is_static, has_counts, has_refusals, has_steps, has_queues, has_ends, has_estimate, has_alike;
+    bool is_dynamic, is_static, has_counts, has_refusals, has_steps, has_queues, has_ends, has_alike;
     int chunk;
     uint32_t rounds, limit;
     uint32_t front; /* how many blocks more, or 0 where outcomes are listed */

@@ -68,7 +68,7 @@ pub extern "C" fn qs_play(
     answered(alloc, "play", script, words, room, status)
 }
 
-/// What `qs outcomes` writes: all that a program can come to, or the answer to a question about it.
+/// What `qs outcomes` writes: all that a program can come to.
 #[unsafe(no_mangle)]
 pub extern "C" fn qs_outcomes(
     alloc: Global,
@@ -80,4 +80,46 @@ pub extern "C" fn qs_outcomes(
     ensures answer { IsAnswered (codes "outcomes") words.now script.now room.old room.new status.new result }
 {
     answered(alloc, "outcomes", script, words, room, status)
+}
+
+/// What `qs ask` writes: the answer to a question about all that a program can come to, yes or no.
+#[unsafe(no_mangle)]
+pub extern "C" fn qs_ask(
+    alloc: Global,
+    script: &[u8],
+    words: &[u8],
+    room: &mut [u8],
+    status: &mut u8,
+) -> usize
+    ensures answer { IsAnswered (codes "ask") words.now script.now room.old room.new status.new result }
+{
+    answered(alloc, "ask", script, words, room, status)
+}
+
+/// What `qs fronts` writes: where so many blocks can lead, which are parts of a large search.
+#[unsafe(no_mangle)]
+pub extern "C" fn qs_fronts(
+    alloc: Global,
+    script: &[u8],
+    words: &[u8],
+    room: &mut [u8],
+    status: &mut u8,
+) -> usize
+    ensures answer { IsAnswered (codes "fronts") words.now script.now room.old room.new status.new result }
+{
+    answered(alloc, "fronts", script, words, room, status)
+}
+
+/// What `qs estimate` writes: how large a search can be.
+#[unsafe(no_mangle)]
+pub extern "C" fn qs_estimate(
+    alloc: Global,
+    script: &[u8],
+    words: &[u8],
+    room: &mut [u8],
+    status: &mut u8,
+) -> usize
+    ensures answer { IsAnswered (codes "estimate") words.now script.now room.old room.new status.new result }
+{
+    answered(alloc, "estimate", script, words, room, status)
 }

@@ -52,7 +52,6 @@ either true first later rest f g h = ap (λ x. x || rest) (f refl)
 either false first later rest f g h = or_true first rest (g h)
 
 module _ (D : List Declared) where
-
   known_within : (ks : List Kind) (os : List Name) → Known D os ks → (n : Name) → is_among os n ≡ true → found_at (names D) n < length D
   known_within ks os known n h = let w = found_within (names D) n (known n h).0 in omega (arith, w, length-map D (λ (o : Declared). o.name))
 

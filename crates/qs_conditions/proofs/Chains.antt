@@ -4,8 +4,8 @@
 use Rattle.std.proofs.Common.{◌≡◌, ℕ, zero, suc, ◌<◌, List, [], ◌∷◌, ◌++◌, length, refl, ap, ◌∙◌, arith, append_assoc, Bool, Option, Some, None, Ok, Err}
 use Rattle.qs_conditions.specs.declared.signs.Placed.{Placed}
 use Rattle.qs_conditions.specs.declared.condition.Step.{Step}
-use Rattle.qs_conditions.specs.declared.fault.Fault.{Fault}
-use Rattle.qs_conditions.specs.declared.fault.Fault.TheVariants.{Form, Memory}
+use Rattle.qs_conditions.specs.declared.fault.SignFault.{SignFault}
+use Rattle.qs_conditions.specs.declared.fault.SignFault.TheVariants.{Form, Memory}
 use Rattle.qs_conditions.specs.Conditions.{Tree, steps_of}
 use Rattle.qs_conditions.specs.Reading.{Read, ◌>>=◌, with_found, found, link_by, summand_at, sum_further, chain_at, chain}
 use Rattle.qs_conditions.specs.declared.condition.Summand.{Summand}
@@ -87,11 +87,11 @@ module _ (part : List Placed → Read Tree) (find : List Placed → Option (List
   pub added_ends : (whole : Read Tree) (old now : List Step) (rest : List Placed) → Added joined whole old now rest → find rest ≡ None → (c : Tree) × (whole ≡ Ok (c, rest)) × (now ≡ old ++ steps_of c)
   added_ends whole old now rest h e = (h.tree, closes joined whole h.tree rest h.reading (rw e refl), h.steps)
 
-  pub added_fails : (whole : Read Tree) (old now : List Step) (rest after : List Placed) (fault : Fault) → Added joined whole old now rest → find rest ≡ Some after → Fails fault (part after) → Fails fault whole
+  pub added_fails : (whole : Read Tree) (old now : List Step) (rest after : List Placed) (fault : SignFault) → Added joined whole old now rest → find rest ≡ Some after → Fails fault (part after) → Fails fault whole
   added_fails whole old now rest after (Form left) h e p = fails joined whole h.tree rest left h.reading (rw (e, p) refl)
   added_fails whole old now rest after Memory h e p = tt
 
 -- summands with signs between them
-pub sum_fails : (whole : Read (List Summand)) (done : List Summand) (rest after : List Placed) (negative : Bool) (fault : Fault) → Continues sum_further whole done rest → found link_by rest ≡ Some (negative, after) → Fails fault (summand_at negative after) → Fails fault whole
+pub sum_fails : (whole : Read (List Summand)) (done : List Summand) (rest after : List Placed) (negative : Bool) (fault : SignFault) → Continues sum_further whole done rest → found link_by rest ≡ Some (negative, after) → Fails fault (summand_at negative after) → Fails fault whole
 sum_fails whole done rest after negative (Form left) h e p = fails sum_further whole done rest left h (rw (e, p) refl)
 sum_fails whole done rest after negative Memory h e p = tt

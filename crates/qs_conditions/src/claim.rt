@@ -14,6 +14,10 @@ pub enum Quantifier {
     Some,
     /// Of where the program stands at the beginning, and after each block of each order.
     Throughout,
+    /// Of where the program stands at the beginning, or after some block of some order.
+    Ever,
+    /// Of none of these.
+    Never,
 }
 
 impl Quantifier {
@@ -25,6 +29,8 @@ impl Quantifier {
             Quantifier::Always => b"always",
             Quantifier::Some => b"some",
             Quantifier::Throughout => b"throughout",
+            Quantifier::Ever => b"ever",
+            Quantifier::Never => b"never",
         }
     }
 }

@@ -5,7 +5,7 @@ ghost use Rattle.qs_conditions.specs.Grammar.{first_place as first_place_of};
 ghost use Rattle.qs_conditions.specs.Reading.{found, open_by, close_by, minus_by, and_by, or_by, link_by, dot_at, comma_at, closed_at, name_at, relation_at};
 ghost use Rattle.qs_conditions.specs.Results.{Gives, Finds};
 
-use crate::fault::Fault;
+use crate::fault::SignFault;
 use crate::signs::{Placed, Sign};
 use qs_script::tokens::Name;
 use qs_script::tree::Relation;
@@ -125,7 +125,7 @@ pub(crate) fn past_link(signs: &[Placed]) -> Option<(bool, &[Placed])>
 }
 
 // What comes after a dot.
-pub(crate) fn dot(signs: &[Placed]) -> Result<&[Placed], Fault>
+pub(crate) fn dot(signs: &[Placed]) -> Result<&[Placed], SignFault>
     ensures exact { Gives (λ x. x.now) result (dot_at signs.now) }
     ensures shorter { IfOk result (λ x. length x.now < length signs.now) }
 {
@@ -137,12 +137,12 @@ pub(crate) fn dot(signs: &[Placed]) -> Result<&[Placed], Fault>
             },
             rest @ ..,
         ] => Ok(rest),
-        _ => Err(Fault::Form(signs.len())),
+        _ => Err(SignFault::Form(signs.len())),
     }
 }
 
 // What comes after a comma.
-pub(crate) fn comma(signs: &[Placed]) -> Result<&[Placed], Fault>
+pub(crate) fn comma(signs: &[Placed]) -> Result<&[Placed], SignFault>
     ensures exact { Gives (λ x. x.now) result (comma_at signs.now) }
     ensures shorter { IfOk result (λ x. length x.now < length signs.now) }
 {
@@ -154,12 +154,12 @@ pub(crate) fn comma(signs: &[Placed]) -> Result<&[Placed], Fault>
             },
             rest @ ..,
         ] => Ok(rest),
-        _ => Err(Fault::Form(signs.len())),
+        _ => Err(SignFault::Form(signs.len())),
     }
 }
 
 // What comes after a ).
-pub(crate) fn closed(signs: &[Placed]) -> Result<&[Placed], Fault>
+pub(crate) fn closed(signs: &[Placed]) -> Result<&[Placed], SignFault>
     ensures exact { Gives (λ x. x.now) result (closed_at signs.now) }
     ensures shorter { IfOk result (λ x. length x.now < length signs.now) }
 {
@@ -171,11 +171,11 @@ pub(crate) fn closed(signs: &[Placed]) -> Result<&[Placed], Fault>
             },
             rest @ ..,
         ] => Ok(rest),
-        _ => Err(Fault::Form(signs.len())),
+        _ => Err(SignFault::Form(signs.len())),
     }
 }
 
-pub(crate) fn name(signs: &[Placed]) -> Result<(Name, &[Placed]), Fault>
+pub(crate) fn name(signs: &[Placed]) -> Result<(Name, &[Placed]), SignFault>
     ensures exact { Gives (λ x. (x.0, x.1.now)) result (name_at signs.now) }
     ensures shorter { IfOk result (λ x. length x.1.now < length signs.now) }
 {
@@ -187,11 +187,11 @@ pub(crate) fn name(signs: &[Placed]) -> Result<(Name, &[Placed]), Fault>
             },
             rest @ ..,
         ] => Ok((name.copied(), rest)),
-        _ => Err(Fault::Form(signs.len())),
+        _ => Err(SignFault::Form(signs.len())),
     }
 }
 
-pub(crate) fn relation(signs: &[Placed]) -> Result<(Relation, &[Placed]), Fault>
+pub(crate) fn relation(signs: &[Placed]) -> Result<(Relation, &[Placed]), SignFault>
     ensures exact { Gives (λ x. (x.0, x.1.now)) result (relation_at signs.now) }
     ensures shorter { IfOk result (λ x. length x.1.now < length signs.now) }
 {
@@ -203,6 +203,6 @@ pub(crate) fn relation(signs: &[Placed]) -> Result<(Relation, &[Placed]), Fault>
             },
             rest @ ..,
         ] => Ok((*relation, rest)),
-        _ => Err(Fault::Form(signs.len())),
+        _ => Err(SignFault::Form(signs.len())),
     }
 }

@@ -36,18 +36,18 @@ impl From<AllocError> for ConditionFault {
 
 // Why no condition was read: no reading goes on at a sign, and so many signs were left there; or memory ran out.
 #[derive(Drop)]
-pub(crate) enum Fault {
+pub(crate) enum SignFault {
     Form(usize),
     Memory,
 }
 
-impl From<AllocError> for Fault {
+impl From<AllocError> for SignFault {
     ghost use Rattle.std.specs.Prelude.{◌≡◌};
-    ghost use Rattle.qs_conditions.specs.declared.fault.Fault.TheVariants.{Memory};
+    ghost use Rattle.qs_conditions.specs.declared.fault.SignFault.TheVariants.{Memory};
 
     ghost from_gives = { λ _ e. e ≡ Memory };
 
-    fn from(_: AllocError) -> Fault {
-        Fault::Memory
+    fn from(_: AllocError) -> SignFault {
+        SignFault::Memory
     }
 }

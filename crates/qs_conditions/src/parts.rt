@@ -6,7 +6,7 @@ ghost use Rattle.qs_conditions.specs.Results.{Adds};
 
 use crate::condition::{Condition, Step};
 use crate::expect::{closed, past_and, past_or, relation};
-use crate::fault::Fault;
+use crate::fault::SignFault;
 use crate::signs::{Placed, Sign};
 use crate::values::sum;
 use std::alloc::Global;
@@ -16,7 +16,7 @@ fn comparison<'t>(
     alloc: Global,
     steps: &mut Condition,
     signs: &'t [Placed],
-) -> Result<&'t [Placed], Fault>
+) -> Result<&'t [Placed], SignFault>
     ensures exact { Adds steps.old steps.new result (comparison_at signs.now) }
     ensures shorter { IfOk result (λ rest. length rest.now < length signs.now) }
 {
@@ -34,7 +34,7 @@ pub(crate) fn either<'t>(
     nested: u8,
     steps: &mut Condition,
     signs: &'t [Placed],
-) -> Result<&'t [Placed], Fault>
+) -> Result<&'t [Placed], SignFault>
     ensures exact { Adds steps.old steps.new result (either_in nested signs.now) }
     ensures shorter { IfOk result (λ rest. length rest.now < length signs.now) }
 {
@@ -55,7 +55,7 @@ fn both<'t>(
     nested: u8,
     steps: &mut Condition,
     signs: &'t [Placed],
-) -> Result<&'t [Placed], Fault>
+) -> Result<&'t [Placed], SignFault>
     ensures exact { Adds steps.old steps.new result (both_in nested signs.now) }
     ensures shorter { IfOk result (λ rest. length rest.now < length signs.now) }
 {
@@ -76,7 +76,7 @@ fn part<'t>(
     nested: u8,
     steps: &mut Condition,
     signs: &'t [Placed],
-) -> Result<&'t [Placed], Fault>
+) -> Result<&'t [Placed], SignFault>
     ensures exact { Adds steps.old steps.new result (part_in nested signs.now) }
     ensures shorter { IfOk result (λ rest. length rest.now < length signs.now) }
 {
@@ -109,7 +109,7 @@ fn negation<'t>(
     nested: u8,
     steps: &mut Condition,
     signs: &'t [Placed],
-) -> Result<&'t [Placed], Fault>
+) -> Result<&'t [Placed], SignFault>
     ensures exact { Adds steps.old steps.new result (negation_of (part_in nested) signs.now) }
     ensures shorter { IfOk result (λ rest. length rest.now < length signs.now) }
 {
@@ -125,7 +125,7 @@ fn inner<'t>(
     nested: u8,
     steps: &mut Condition,
     signs: &'t [Placed],
-) -> Result<&'t [Placed], Fault>
+) -> Result<&'t [Placed], SignFault>
     ensures exact { Adds steps.old steps.new result (nested_of (part_in nested) signs.now) }
     ensures shorter { IfOk result (λ rest. length rest.now < length signs.now) }
 {

@@ -6,20 +6,20 @@ ghost use Rattle.qs_conditions.specs.Results.{IsWhole};
 
 use crate::condition::Condition;
 use crate::expect::first_place;
-use crate::fault::{ConditionFault, Fault};
+use crate::fault::{ConditionFault, SignFault};
 use crate::limits::MOST_NESTED;
 use crate::parts::either;
 use crate::signs::{Placed, list_signs};
 use std::alloc::Global;
 
 // The steps of all the signs.
-fn whole(alloc: Global, signs: &[Placed]) -> Result<Condition, Fault>
+fn whole(alloc: Global, signs: &[Placed]) -> Result<Condition, SignFault>
     ensures exact { IsWhole signs.now result }
 {
     let mut steps = Condition::new(alloc);
     let rest = either(alloc, MOST_NESTED, &mut steps, signs)?;
     if !rest.is_empty() {
-        return Err(Fault::Form(rest.len()));
+        return Err(SignFault::Form(rest.len()));
     }
     Ok(steps)
 }
@@ -37,10 +37,10 @@ pub fn read_condition(alloc: Global, text: &[u8]) -> Result<Condition, Condition
     let all = signs.as_slice();
     match whole(alloc, all) {
         Ok(condition) => Ok(condition),
-        Err(Fault::Form(left)) => {
+        Err(SignFault::Form(left)) => {
             let place = first_place(text.len(), &all[all.len().saturating_sub(left)..]);
             Err(ConditionFault::Form { place })
         }
-        Err(Fault::Memory) => Err(ConditionFault::Memory),
+        Err(SignFault::Memory) => Err(ConditionFault::Memory),
     }
 }

@@ -8,14 +8,14 @@ use crate::condition::{Sum, Summand, Value};
 use crate::expect::{
     comma, dot, first_place, name as expect_name, past_close, past_link, past_minus, past_open,
 };
-use crate::fault::Fault;
+use crate::fault::SignFault;
 use crate::signs::{Placed, Sign};
 use qs_objects::Args;
 use qs_script::tokens::Name;
 use std::alloc::Global;
 
 // A number that may have a minus.
-fn number(signs: &[Placed]) -> Result<(i64, &[Placed]), Fault>
+fn number(signs: &[Placed]) -> Result<(i64, &[Placed]), SignFault>
     ensures exact { Gives (λ x. (x.0, x.1.now)) result (number_at signs.now) }
     ensures shorter { IfOk result (λ x. length x.1.now < length signs.now) }
 {
@@ -44,13 +44,13 @@ fn number(signs: &[Placed]) -> Result<(i64, &[Placed]), Fault>
                 ..
             },
             rest @ ..,
-        ] => Err(Fault::Form(rest.len())),
-        _ => Err(Fault::Form(signs.len())),
+        ] => Err(SignFault::Form(rest.len())),
+        _ => Err(SignFault::Form(signs.len())),
     }
 }
 
 // The arguments from these on, of which at most `left` may follow, and the bracket that closes them.
-fn more(left: u8, before: Args, signs: &[Placed]) -> Result<(Args, &[Placed]), Fault>
+fn more(left: u8, before: Args, signs: &[Placed]) -> Result<(Args, &[Placed]), SignFault>
     requires room { left + length before ≤ 3 }
     ensures exact { Gives (λ x. (x.0, x.1.now)) result (more_at left before signs.now) }
     ensures shorter { IfOk result (λ x. length x.1.now < length signs.now) }
@@ -59,7 +59,7 @@ fn more(left: u8, before: Args, signs: &[Placed]) -> Result<(Args, &[Placed]), F
         return Ok((before, rest));
     }
     if left == 0 {
-        return Err(Fault::Form(signs.len()));
+        return Err(SignFault::Form(signs.len()));
     }
     let rest = comma(signs)?;
     let (number, rest) = number(rest)?;
@@ -69,7 +69,7 @@ fn more(left: u8, before: Args, signs: &[Placed]) -> Result<(Args, &[Placed]), F
 }
 
 // The arguments, and the bracket that closes them.
-fn args(alloc: Global, signs: &[Placed]) -> Result<(Args, &[Placed]), Fault>
+fn args(alloc: Global, signs: &[Placed]) -> Result<(Args, &[Placed]), SignFault>
     ensures exact { Gives (λ x. (x.0, x.1.now)) result (args_at signs.now) }
     ensures shorter { IfOk result (λ x. length x.1.now < length signs.now) }
 {
@@ -83,7 +83,7 @@ fn args(alloc: Global, signs: &[Placed]) -> Result<(Args, &[Placed]), Fault>
 }
 
 // A value that begins with that name.
-fn named(alloc: Global, first: Name, signs: &[Placed]) -> Result<(Value, &[Placed]), Fault>
+fn named(alloc: Global, first: Name, signs: &[Placed]) -> Result<(Value, &[Placed]), SignFault>
     ensures exact { Gives (λ x. (x.0, x.1.now)) result (named_at first signs.now) }
     ensures shorter { IfOk result (λ x. length x.1.now < length signs.now) }
 {
@@ -98,7 +98,7 @@ fn named(alloc: Global, first: Name, signs: &[Placed]) -> Result<(Value, &[Place
     }
 }
 
-fn value(alloc: Global, signs: &[Placed]) -> Result<(Value, &[Placed]), Fault>
+fn value(alloc: Global, signs: &[Placed]) -> Result<(Value, &[Placed]), SignFault>
     ensures exact { Gives (λ x. (x.0, x.1.now)) result (value_at signs.now) }
     ensures shorter { IfOk result (λ x. length x.1.now < length signs.now) }
 {
@@ -117,12 +117,16 @@ fn value(alloc: Global, signs: &[Placed]) -> Result<(Value, &[Placed]), Fault>
             },
             rest @ ..,
         ] => named(alloc, name.copied(), rest),
-        _ => Err(Fault::Form(signs.len())),
+        _ => Err(SignFault::Form(signs.len())),
     }
 }
 
 // A value that is added, or taken away.
-fn summand(alloc: Global, negative: bool, signs: &[Placed]) -> Result<(Summand, &[Placed]), Fault>
+fn summand(
+    alloc: Global,
+    negative: bool,
+    signs: &[Placed],
+) -> Result<(Summand, &[Placed]), SignFault>
     ensures exact { Gives (λ x. (x.0, x.1.now)) result (summand_at negative signs.now) }
     ensures shorter { IfOk result (λ x. length x.1.now < length signs.now) }
 {
@@ -139,7 +143,7 @@ fn summand(alloc: Global, negative: bool, signs: &[Placed]) -> Result<(Summand, 
 }
 
 // The first value of a sum.
-fn first(alloc: Global, signs: &[Placed]) -> Result<(Summand, &[Placed]), Fault>
+fn first(alloc: Global, signs: &[Placed]) -> Result<(Summand, &[Placed]), SignFault>
     ensures exact { Gives (λ x. (x.0, x.1.now)) result (first_at signs.now) }
     ensures shorter { IfOk result (λ x. length x.1.now < length signs.now) }
 {
@@ -150,7 +154,7 @@ fn first(alloc: Global, signs: &[Placed]) -> Result<(Summand, &[Placed]), Fault>
 }
 
 // The sum that goes on from these values.
-fn further(alloc: Global, before: Sum, signs: &[Placed]) -> Result<(Sum, &[Placed]), Fault>
+fn further(alloc: Global, before: Sum, signs: &[Placed]) -> Result<(Sum, &[Placed]), SignFault>
     ensures exact { Gives (λ x. (x.0, x.1.now)) result (chain sum_further before signs.now) }
     ensures within { IfOk result (λ x. length x.1.now ≤ length signs.now) }
 {
@@ -166,7 +170,7 @@ fn further(alloc: Global, before: Sum, signs: &[Placed]) -> Result<(Sum, &[Place
     }
 }
 
-pub(crate) fn sum(alloc: Global, signs: &[Placed]) -> Result<(Sum, &[Placed]), Fault>
+pub(crate) fn sum(alloc: Global, signs: &[Placed]) -> Result<(Sum, &[Placed]), SignFault>
     ensures exact { Gives (λ x. (x.0, x.1.now)) result (sum_at signs.now) }
     ensures shorter { IfOk result (λ x. length x.1.now < length signs.now) }
 {

@@ -23,6 +23,8 @@ abbrev pub order_field : Quantifier → List Ticket → List ℕ
 order_field q.Always order = first_field (codes "order") (array next_client_json order)
 order_field q.Some order = first_field (codes "order") (array next_client_json order)
 order_field q.Throughout order = first_field (codes "after") (array next_client_json order)
+order_field q.Ever order = first_field (codes "after") (array next_client_json order)
+order_field q.Never order = first_field (codes "after") (array next_client_json order)
 
 -- an order, and where the program stands after it
 abbrev pub witness_json : ProgramShape → Quantifier → StandingShape → List ℕ

@@ -11,4 +11,5 @@ pub mod AnswerJson
 pub mod TallyJson
 pub mod EstimateJson
 pub mod GraphJson
+
 -- What crates promise one another, what proofs use, and worked examples.

@@ -25,6 +25,8 @@ fn put_answer(out: &mut Vec<u8>, quantifier: Quantifier, holds: bool) -> Result<
         Quantifier::Always => put_truth(out, b"{\"always\":", holds),
         Quantifier::Some => put_truth(out, b"{\"some\":", holds),
         Quantifier::Throughout => put_truth(out, b"{\"throughout\":", holds),
+        Quantifier::Ever => put_truth(out, b"{\"ever\":", holds),
+        Quantifier::Never => put_truth(out, b"{\"never\":", holds),
     }
 }
 
@@ -43,7 +45,9 @@ fn put_order(out: &mut Vec<u8>, quantifier: Quantifier, order: &[Ticket]) -> Res
 {
     match quantifier {
         Quantifier::Always | Quantifier::Some => put_named_order(out, b"{\"order\":[", order),
-        Quantifier::Throughout => put_named_order(out, b"{\"after\":[", order),
+        Quantifier::Throughout | Quantifier::Ever | Quantifier::Never => {
+            put_named_order(out, b"{\"after\":[", order)
+        }
     }
 }
 

@@ -10,6 +10,7 @@ use Rattle.clap.specs.Kinds.{Kinds}
 use Rattle.clap.specs.Words.{Row, Text, first_of, subcommand_of}
 use Rattle.clap.specs.declared.error.kind.ErrorKind.TheVariants.{DisplayHelp, DisplayVersion}
 use Rattle.clap.specs.declared.error.kind.ErrorKind.{ErrorKind}
+use Rattle.qs_conditions.specs.Claims.{word as word_of}
 use Rattle.qs_conditions.specs.Conditions.{Tree, steps_of}
 use Rattle.qs_conditions.specs.Reading.{tree_of}
 use Rattle.qs_conditions.specs.Reads.{condition_in, steps_by_signs, steps_by_tree}
@@ -27,9 +28,8 @@ use Rattle.qs_line.specs.audit.RunLines.{run_by, run_in, run_of_word, runs_at, s
 use Rattle.qs_line.specs.RunLines.{LinesOfRunsAreThese, RunsAreLines}
 use Rattle.qs_line.specs.declared.line.ReportStyle.{ReportStyle}
 use Rattle.qs_line.specs.audit.Command.{qs_app}
-use Rattle.qs_line.specs.Parts.{orders_in}
 use Rattle.qs_line.specs.audit.Line.{Request, alike, ask, asks, asks_language, check, chunk_at, estimate, fronts, graph, has_times, help, mode_at, outcomes, play, play_at, rules, rules_at, run, single_run_at, style_at, styled_plan_at, tally}
-use Rattle.qs_line.specs.Line.{alike_at, alike_or_list_at, answer_or_list_at, ask_at, blocks_at, check_at, claim_at, claim_in, estimate_at, estimate_or_list_at, format_at, front_at, fronts_at, fronts_or_list_at, graph_at, graph_format_at, has_blocks, has_claim, leads_at, limit_at, line_by, line_in, line_met, line_of_kind, list_at, one_claim, outcomes_at, outcomes_format_at, request_at, request_met, request_of_word, tally_at, threads_beside, times_at}
+use Rattle.qs_line.specs.Line.{alike_at, ask_at, blocks_at, check_at, claim_at, claim_by, claim_in, estimate_at, format_at, front_at, fronts_at, graph_at, graph_format_at, leads_at, limit_at, line_by, line_in, line_met, line_of_kind, list_at, outcomes_at, outcomes_format_at, request_at, request_met, request_of_word, tally_at, threads_beside, times_at}
 
 -- a claim whose steps are those of a condition
 abbrev IsOfCondition : Claim → Type 0
@@ -51,18 +51,19 @@ of_steps q (Some steps) claim are e = let h : record { quantifier = q; condition
 in_text : (q : Quantifier) (text : Text) (claim : Claim) → claim_in q text ≡ Some claim → IsOfCondition claim
 in_text q text claim e = of_steps q (condition_in text) claim (by_signs (signs_of text)) e
 
-of_one : (always some throughout : Option Text) (claim : Claim) → one_claim always some throughout ≡ Some claim → IsOfCondition claim
-of_one (Some text) None None claim e = in_text quantifier.Always text claim e
-of_one None (Some text) None claim e = in_text quantifier.Some text claim e
-of_one None None (Some text) claim e = in_text quantifier.Throughout text claim e
-of_one None None None claim e = absurd (cc e)
-of_one None (Some a) (Some b) claim e = absurd (cc e)
-of_one (Some a) None (Some b) claim e = absurd (cc e)
-of_one (Some a) (Some b) None claim e = absurd (cc e)
-of_one (Some a) (Some b) (Some c) claim e = absurd (cc e)
+of_setting : (q : Quantifier) (rows : List Row) (other : Option Claim) → ((claim : Claim) → other ≡ Some claim → IsOfCondition claim)
+    → (claim : Claim) → claim_by q rows other ≡ Some claim → IsOfCondition claim
+of_setting q rows other rest claim = by (first_of (word_of q) rows)
+  where
+    by : (text : Option Text) → option_map_or (claim_in q) text other ≡ Some claim → IsOfCondition claim
+    by None e = rest claim e
+    by (Some text) e = in_text q text claim e
 
 of_rows : (rows : List Row) (claim : Claim) → claim_at rows ≡ Some claim → IsOfCondition claim
-of_rows rows claim e = of_one (first_of (codes "always") rows) (first_of (codes "some") rows) (first_of (codes "throughout") rows) claim e
+of_rows rows =
+    of_setting quantifier.Always rows _ (of_setting quantifier.Some rows _
+    (of_setting quantifier.Throughout rows _ (of_setting quantifier.Ever rows _
+    (of_setting quantifier.Never rows None (λ claim e. absurd (cc e))))))
 
 -- a request that is of no run and has its condition, if it asks a claim
 abbrev IsPlain : Request → Type 0
@@ -87,10 +88,6 @@ next : {A : Type 0} (f : A → Option Request) (o : Option A) → ((a : A) → o
 next f None all q e = absurd (cc e)
 next f (Some a) all q e = all a refl q e
 
-either : {A : Type 0} (f : A → Option Request) (o : Option A) (d : Option Request) → ((a : A) → Has (f a)) → Has d → Has (option_map_or f o d)
-either f None d all other = other
-either f (Some a) d all other = all a
-
 module _ (word : Text) (rows : List Row) where
   checks : Has (check_at rows)
   checks = each check (format_at rows) (λ how. (tt, refl))
@@ -111,20 +108,28 @@ module _ (word : Text) (rows : List Row) where
   estimates = next _ (format_at rows) (λ how e. each (estimate how) (front_at rows) (λ front. (tt, refl)))
 
   those_alike : Has (alike_at rows)
-  those_alike = test _ None _ none (next _ (format_at rows) (λ how e. each (alike how) (limit_at rows) (λ limit. (tt, refl))))
+  those_alike = next _ (format_at rows) (λ how e. each (alike how) (limit_at rows) (λ limit. (tt, refl)))
 
-  fronts_of : Has (fronts_at rows)
-  fronts_of = next _ (format_at rows) (λ how e. next _ (blocks_at rows) (λ blocks f. next _ (limit_at rows) (λ limit g. each (λ front. fronts how blocks limit (front ∷ [])) (front_at rows) (λ front. (tt, refl)))))
+  those_outcomes : Has (outcomes_at rows)
+  those_outcomes = test (flag_at (codes "alike") rows) (alike_at rows) (list_at rows) those_alike lists
 
-  leads : (text : Text) → Has (leads_at text rows)
-  leads text = next _ (format_at rows) (λ how e. next _ (blocks_at rows) (λ blocks f. next _ (limit_at rows) (λ limit g. each (fronts how blocks limit) (orders_in text) (λ orders. (tt, refl)))))
+  those_fronts : Has (fronts_at rows)
+  those_fronts = next _ (format_at rows) (λ how e. next _ (blocks_at rows) (λ blocks f. next _ (limit_at rows) (λ limit g. each (fronts how blocks limit) (leads_at rows) (λ orders. (tt, refl)))))
 
-  of_outcomes : Has (outcomes_at rows)
-  of_outcomes =
-      either (λ text. leads_at text rows) (first_of (codes "leads") rows) (estimate_or_list_at rows) leads
-      (test (flag_at (codes "estimate") rows) (estimate_at rows) (alike_or_list_at rows) estimates
-      (test (flag_at (codes "alike") rows && not (has_claim rows)) (alike_at rows) (fronts_or_list_at rows) those_alike
-      (test (has_blocks rows) (fronts_at rows) (answer_or_list_at rows) fronts_of (test (has_claim rows) (ask_at rows) (list_at rows) answers lists))))
+  -- what a word asks for that is behind those of runs
+  abbrev last : Option Request
+  last =
+      if bytes_eq word (codes "outcomes") then outcomes_at rows
+      else if bytes_eq word (codes "ask") then ask_at rows
+      else if bytes_eq word (codes "fronts") then fronts_at rows
+      else if bytes_eq word (codes "estimate") then estimate_at rows else None
+
+  lasts : Has last
+  lasts =
+      test (bytes_eq word (codes "outcomes")) (outcomes_at rows) _ those_outcomes
+      (test (bytes_eq word (codes "ask")) (ask_at rows) _ answers
+      (test (bytes_eq word (codes "fronts")) (fronts_at rows) _ those_fronts
+      (test (bytes_eq word (codes "estimate")) (estimate_at rows) None estimates none)))
 
   -- what is asked for is plain, or it is the run that is asked for
   abbrev Either : (r s : Option Request) → Type 0
@@ -144,14 +149,11 @@ module _ (word : Text) (rows : List Row) where
   past true r x s p q = plain r s p
   past false r x s p q = q
 
-  abbrev last : Option Request
-  last = if bytes_eq word (codes "outcomes") then outcomes_at rows else None
-
   of_run : (named timed : Bool) → Either (if named then (if timed then tally_at rows else single_run_at rows) else last)
       (if named && not timed then single_run_at rows else None)
   of_run true true = plain (tally_at rows) None tallies
   of_run true false = same (single_run_at rows)
-  of_run false timed = plain last None (test (bytes_eq word (codes "outcomes")) (outcomes_at rows) None of_outcomes none)
+  of_run false timed = plain last None lasts
 
   of_word_alone : Either (request_of_word word rows) (run_of_word word rows)
   of_word_alone =

@@ -5,3 +5,4 @@ pub mod Answering
 pub mod Entries
 pub mod Numbers
 pub mod Claims
+pub mod CommandWords

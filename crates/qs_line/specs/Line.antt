@@ -8,6 +8,7 @@ use Rattle.clap.specs.Kinds.{IsAmong, Kinds}
 use Rattle.clap.specs.Words.{Row, Text, first_of, subcommand_of}
 use Rattle.clap.specs.declared.error.kind.ErrorKind.TheVariants.{DisplayHelp, DisplayVersion, OutOfMemory}
 use Rattle.clap.specs.declared.error.kind.ErrorKind.{ErrorKind}
+use Rattle.qs_conditions.specs.Claims.{word as word_of}
 use Rattle.qs_conditions.specs.Reads.{condition_in}
 use Rattle.qs_conditions.specs.declared.claim.Claim.{Claim}
 use Rattle.qs_conditions.specs.declared.claim.Quantifier.{Quantifier}
@@ -131,11 +132,7 @@ times_at rows = option_and_then (number_in 1 most_times) (first_of (codes "times
 
 -- how many blocks a front has
 abbrev pub blocks_at : List Row → Option ℕ
-blocks_at rows = option_and_then (number_in 1 most_front) (first_of (codes "front") rows)
-
--- such a number stands on the line
-abbrev pub has_blocks : List Row → Bool
-has_blocks rows = is_some (first_of (codes "front") rows)
+blocks_at rows = option_and_then (number_in 1 most_front) (first_of (codes "blocks") rows)
 
 -- one thread where the line has no number of them
 abbrev pub threads_at : List Row → Option ℕ
@@ -169,22 +166,15 @@ run_at rows = if has_times rows then tally_at rows else single_run_at rows
 abbrev pub claim_in : Quantifier → Text → Option Claim
 claim_in q text = option_map (λ steps. record { quantifier = q; condition = steps }) (condition_in text)
 
--- a condition stands on the line
-abbrev pub has_claim : List Row → Bool
-has_claim rows =
-    is_some (first_of (codes "always") rows) || is_some (first_of (codes "some") rows)
-    || is_some (first_of (codes "throughout") rows)
+-- the claim of a setting, where it stands on the line, and else another one
+abbrev pub claim_by : Quantifier → List Row → (other : Option Claim) → Option Claim
+claim_by q rows other = option_map_or (claim_in q) (first_of (word_of q) rows) other
 
--- a condition of all ends, one of some, or one throughout; and no two
-abbrev pub one_claim : (always some throughout : Option Text) → Option Claim
-one_claim (Some text) None None = claim_in quantifier.Always text
-one_claim None (Some text) None = claim_in quantifier.Some text
-one_claim None None (Some text) = claim_in quantifier.Throughout text
-one_claim _ _ _ = None
-
+-- the claim of a line: of all ends, of some, throughout, or of some configuration on the way or of none
 abbrev pub claim_at : List Row → Option Claim
 claim_at rows =
-    one_claim (first_of (codes "always") rows) (first_of (codes "some") rows) (first_of (codes "throughout") rows)
+    claim_by quantifier.Always rows (claim_by quantifier.Some rows
+    (claim_by quantifier.Throughout rows (claim_by quantifier.Ever rows (claim_by quantifier.Never rows None))))
 
 -- an answer, as text or as JSON
 abbrev pub ask_at : List Row → Option Request
@@ -203,54 +193,28 @@ list_at rows =
     option_and_then (λ how. option_and_then (λ limit. option_and_then (λ threads. option_map (outcomes how limit threads)
     (front_at rows)) (threads_beside how rows)) (limit_at rows)) (outcomes_format_at rows)
 
--- all outcomes, or the answer to a condition where the line has one
-abbrev pub answer_or_list_at : List Row → Option Request
-answer_or_list_at rows = if has_claim rows then ask_at rows else list_at rows
-
 -- an estimate
 abbrev pub estimate_at : List Row → Option Request
 estimate_at rows = option_and_then (λ how. option_map (estimate how) (front_at rows)) (format_at rows)
 
--- whose blocks were run before stands on the line
-abbrev pub has_front : List Row → Bool
-has_front rows = is_some (first_of (codes "after") rows)
-
--- one of all outcomes that differ by alike clients, which do not stand beside `--after`
+-- one of all outcomes that differ by alike clients
 abbrev pub alike_at : List Row → Option Request
-alike_at rows =
-    if has_front rows then None
-    else option_and_then (λ how. option_map (alike how) (limit_at rows)) (format_at rows)
+alike_at rows = option_and_then (λ how. option_map (alike how) (limit_at rows)) (format_at rows)
 
--- the configurations after so many blocks
+-- one of all alike outcomes where the line asks for these, and else all outcomes
+abbrev pub outcomes_at : List Row → Option Request
+outcomes_at rows = if flag_at (codes "alike") rows then alike_at rows else list_at rows
+
+-- the orders after which fronts are looked for: several where the line has them, and else one
+abbrev pub leads_at : List Row → Option (List (List Part))
+leads_at rows =
+    option_map_or orders_in (first_of (codes "leads") rows) (option_map (λ front. front ∷ []) (front_at rows))
+
+-- the configurations after so many blocks more than each of these
 abbrev pub fronts_at : List Row → Option Request
 fronts_at rows =
-    option_and_then (λ how. option_and_then (λ blocks. option_and_then
-    (λ limit. option_map (λ front. fronts how blocks limit (front ∷ [])) (front_at rows))
-    (limit_at rows)) (blocks_at rows)) (format_at rows)
-
--- the configurations after so many blocks where the line asks for them; else all outcomes, or the answer to a condition
-abbrev pub fronts_or_list_at : List Row → Option Request
-fronts_or_list_at rows = if has_blocks rows then fronts_at rows else answer_or_list_at rows
-
--- one of all alike outcomes where the line asks for these and has no condition; else what is left: beside a condition
--- `--alike` asks for nothing more, since an answer takes alike clients for one another by itself
-abbrev pub alike_or_list_at : List Row → Option Request
-alike_or_list_at rows =
-    if flag_at (codes "alike") rows && not (has_claim rows) then alike_at rows else fronts_or_list_at rows
-
--- an estimate where the line asks for one; else what is left
-abbrev pub estimate_or_list_at : List Row → Option Request
-estimate_or_list_at rows = if flag_at (codes "estimate") rows then estimate_at rows else alike_or_list_at rows
-
--- the configurations after so many blocks more than each of the orders of a text
-abbrev pub leads_at : Text → List Row → Option Request
-leads_at text rows =
     option_and_then (λ how. option_and_then (λ blocks. option_and_then (λ limit. option_map (fronts how blocks limit)
-    (orders_in text)) (limit_at rows)) (blocks_at rows)) (format_at rows)
-
--- these where the line has such a text; else what is left
-abbrev pub outcomes_at : List Row → Option Request
-outcomes_at rows = option_map_or (λ text. leads_at text rows) (first_of (codes "leads") rows) (estimate_or_list_at rows)
+    (leads_at rows)) (limit_at rows)) (blocks_at rows)) (format_at rows)
 
 -- what a word asks for, with the entries that clap finds after it
 abbrev pub request_of_word : Text → List Row → Option Request
@@ -260,7 +224,10 @@ request_of_word name rows =
     else if bytes_eq name (codes "rules") then rules_at rows
     else if bytes_eq name (codes "play") then play_at rows
     else if bytes_eq name (codes "run") then run_at rows
-    else if bytes_eq name (codes "outcomes") then outcomes_at rows else None
+    else if bytes_eq name (codes "outcomes") then outcomes_at rows
+    else if bytes_eq name (codes "ask") then ask_at rows
+    else if bytes_eq name (codes "fronts") then fronts_at rows
+    else if bytes_eq name (codes "estimate") then estimate_at rows else None
 
 -- the same, where no two settings stand on the line that do not stand together
 abbrev pub request_at : Text → List Row → Option Request

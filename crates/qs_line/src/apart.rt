@@ -24,14 +24,10 @@ pub enum Setting {
     Refusals,
     /// The ends alone.
     Ends,
-    /// How many configurations there can be.
-    Estimate,
     /// One of all alike outcomes.
     Alike,
     /// Whose blocks were run before.
     After,
-    /// How many blocks more.
-    Front,
     /// Whose blocks were run before, in several orders.
     Leads,
     /// How many threads search.
@@ -42,6 +38,10 @@ pub enum Setting {
     Some,
     /// A condition throughout.
     Throughout,
+    /// A condition of some configuration on the way.
+    Ever,
+    /// A condition of none of these.
+    Never,
 }
 
 impl Setting {
@@ -59,15 +59,15 @@ impl Setting {
             Setting::Counts => "counts",
             Setting::Refusals => "refusals",
             Setting::Ends => "ends",
-            Setting::Estimate => "estimate",
             Setting::Alike => "alike",
             Setting::After => "after",
-            Setting::Front => "front",
             Setting::Leads => "leads",
             Setting::Threads => "threads",
             Setting::Always => "always",
             Setting::Some => "some",
             Setting::Throughout => "throughout",
+            Setting::Ever => "ever",
+            Setting::Never => "never",
         }
     }
 
@@ -81,61 +81,43 @@ impl Setting {
             | Setting::Counts
             | Setting::Refusals
             | Setting::Ends
-            | Setting::Estimate
             | Setting::Alike => true,
             Setting::Order
             | Setting::Pick
             | Setting::Rounds
             | Setting::Times
             | Setting::After
-            | Setting::Front
             | Setting::Leads
             | Setting::Threads
             | Setting::Always
             | Setting::Some
-            | Setting::Throughout => false,
+            | Setting::Throughout
+            | Setting::Ever
+            | Setting::Never => false,
         }
     }
 }
 
 /// Settings that do not stand together on a line: no two of a pair.
-pub const APART: [(Setting, Setting); 38] = [
+pub const APART: [(Setting, Setting); 20] = [
     (Setting::Order, Setting::Pick),
     (Setting::Order, Setting::Rounds),
     (Setting::Order, Setting::Steps),
     (Setting::Order, Setting::Queues),
     (Setting::Times, Setting::Counts),
     (Setting::Times, Setting::Refusals),
-    (Setting::Estimate, Setting::Ends),
-    (Setting::Estimate, Setting::Always),
-    (Setting::Estimate, Setting::Some),
-    (Setting::Estimate, Setting::Throughout),
-    (Setting::Estimate, Setting::Alike),
-    (Setting::Estimate, Setting::Front),
-    (Setting::Estimate, Setting::Threads),
     (Setting::Alike, Setting::Ends),
-    (Setting::Alike, Setting::Front),
+    (Setting::Alike, Setting::After),
     (Setting::Alike, Setting::Threads),
-    (Setting::Front, Setting::Ends),
-    (Setting::Front, Setting::Always),
-    (Setting::Front, Setting::Some),
-    (Setting::Front, Setting::Throughout),
-    (Setting::Front, Setting::Threads),
     (Setting::Leads, Setting::After),
-    (Setting::Leads, Setting::Ends),
-    (Setting::Leads, Setting::Estimate),
-    (Setting::Leads, Setting::Alike),
-    (Setting::Leads, Setting::Always),
-    (Setting::Leads, Setting::Some),
-    (Setting::Leads, Setting::Throughout),
-    (Setting::Leads, Setting::Threads),
-    (Setting::Threads, Setting::Always),
-    (Setting::Threads, Setting::Some),
-    (Setting::Threads, Setting::Throughout),
-    (Setting::Always, Setting::Ends),
     (Setting::Always, Setting::Some),
     (Setting::Always, Setting::Throughout),
-    (Setting::Some, Setting::Ends),
+    (Setting::Always, Setting::Ever),
+    (Setting::Always, Setting::Never),
     (Setting::Some, Setting::Throughout),
-    (Setting::Throughout, Setting::Ends),
+    (Setting::Some, Setting::Ever),
+    (Setting::Some, Setting::Never),
+    (Setting::Throughout, Setting::Ever),
+    (Setting::Throughout, Setting::Never),
+    (Setting::Ever, Setting::Never),
 ];

@@ -1,15 +1,15 @@
 // The command as `clap` has it.
 
-ghost use Rattle.std.specs.Prelude.{◌≡◌, IfOk, codes, false};
-ghost use Rattle.clap.specs.Words.{app_of, new_app, rule_of, with_rule, with_subcommand};
+ghost use Rattle.std.specs.Prelude.{◌≡◌, IfOk, IsOkAnd, codes, false};
+ghost use Rattle.clap.specs.Words.{app_of, new_app, rule_of, with_rule};
 ghost use Rattle.clap.specs.declared.Command.TheViews.{out-Command as fields_of};
-ghost use Rattle.qs_line.specs.audit.Command.{check_app, chunk_rule, claimed_app, defaulted_rule, flag_rule, front_rule, graph_app, limit_rule, listing_app, machine_app, named_app, option_rule, outcomes_app, planned_app, play_app, qs_app, rules_app, run_app, scheduled_app, searched_app, shared_app, shown_app, texts_app, threads_rule, times_rule};
+ghost use Rattle.qs_line.specs.audit.Command.{after_app, ask_app, blocks_rule, check_app, chunk_rule, claimed_app, defaulted_rule, estimate_app, flag_rule, fronts_app, graph_app, limit_rule, machine_app, named_app, option_rule, outcomes_app, planned_app, play_app, qs_app, rules_app, run_app, runs_app, scheduled_app, search_app, shared_app, shown_app, threads_rule, times_rule, with_word};
 
 use crate::help;
 use clap::{Arg, ArgAction, Command, value_parser};
 use std::alloc::{AllocError, Global};
 
-const VERSION: &str = "1.0.0";
+const VERSION: &str = "2.0.0";
 
 fn option<'a>(alloc: Global, name: &'a str, value: &'a str, said: &'a str) -> Arg<'a>
     ensures rule { rule_of result ≡ option_rule name.entry.now }
@@ -54,11 +54,17 @@ fn times_option<'a>(alloc: Global) -> Arg<'a>
     option(alloc, "times", "N", help::TIMES).value_parser(value_parser!(u32).range(1..=100000))
 }
 
-fn front_option<'a>(alloc: Global) -> Arg<'a>
-    ensures rule { rule_of result ≡ front_rule }
+// How many blocks a front has, which stands on the line by itself.
+fn blocks_argument<'a>(alloc: Global) -> Arg<'a>
+    ensures rule { rule_of result ≡ blocks_rule }
     ensures local { result.global ≡ false }
 {
-    option(alloc, "front", "K", help::FRONT).value_parser(value_parser!(u32).range(1..=512))
+    Arg::new(alloc, "blocks")
+        .value_name("K")
+        .help(help::BLOCKS)
+        .action(ArgAction::Set)
+        .value_parser(value_parser!(u32).range(1..=512))
+        .required(true)
 }
 
 fn threads_option<'a>(alloc: Global) -> Arg<'a>
@@ -201,13 +207,18 @@ fn run_command<'a>(alloc: Global) -> Result<Command<'a>, AllocError>
     shared(alloc, run, help::REPORT_FORMAT)
 }
 
-// With the condition that is asked between blocks, too.
-fn with_throughout<'a>(alloc: Global, command: Command<'a>) -> Result<Command<'a>, AllocError>
+// With a setting that takes a condition.
+fn with_condition<'a>(
+    alloc: Global,
+    command: Command<'a>,
+    name: &'a str,
+    said: &'a str,
+) -> Result<Command<'a>, AllocError>
     requires local { (fields_of command).has_globals ≡ false }
-    ensures app { IfOk result (λ whole. app_of whole ≡ with_rule (app_of command.entry) (option_rule (codes "throughout"))) }
+    ensures app { IfOk result (λ whole. app_of whole ≡ with_rule (app_of command.entry) (option_rule name.entry.now)) }
     ensures local { IfOk result (λ whole. (fields_of whole).has_globals ≡ false) }
 {
-    command.arg(option(alloc, "throughout", "COND", help::THROUGHOUT))
+    command.arg(option(alloc, name, "COND", said))
 }
 
 // With the settings that take a condition.
@@ -216,44 +227,69 @@ fn claimed<'a>(alloc: Global, command: Command<'a>) -> Result<Command<'a>, Alloc
     ensures app { IfOk result (λ whole. app_of whole ≡ claimed_app (app_of command.entry)) }
     ensures local { IfOk result (λ whole. (fields_of whole).has_globals ≡ false) }
 {
-    let ends = command
-        .arg(option(alloc, "always", "COND", help::ALWAYS))?
-        .arg(option(alloc, "some", "COND", help::SOME))?;
-    with_throughout(alloc, ends)
+    let always = with_condition(alloc, command, "always", help::ALWAYS)?;
+    let some = with_condition(alloc, always, "some", help::SOME)?;
+    let throughout = with_condition(alloc, some, "throughout", help::THROUGHOUT)?;
+    let ever = with_condition(alloc, throughout, "ever", help::EVER)?;
+    with_condition(alloc, ever, "never", help::NEVER)
 }
 
-// The word `outcomes` with the settings of a list.
-fn listing_command<'a>(alloc: Global) -> Result<Command<'a>, AllocError>
-    ensures app { IfOk result (λ command. app_of command ≡ listing_app) }
-    ensures local { IfOk result (λ command. (fields_of command).has_globals ≡ false) }
-{
-    word(alloc, "outcomes", help::OUTCOMES, help::OUTCOMES_EXAMPLE)
-        .arg(limit_option(alloc))?
-        .arg(option(alloc, "after", "LIST", help::AFTER))?
-        .arg(flag(alloc, "ends", help::ENDS))?
-        .arg(flag(alloc, "estimate", help::ESTIMATE))
-}
-
-// With the settings that say what is searched for, and by how many threads.
-fn searched<'a>(alloc: Global, command: Command<'a>) -> Result<Command<'a>, AllocError>
+// With whose blocks were run before.
+fn after<'a>(alloc: Global, command: Command<'a>) -> Result<Command<'a>, AllocError>
     requires local { (fields_of command).has_globals ≡ false }
-    ensures app { IfOk result (λ whole. app_of whole ≡ searched_app (app_of command.entry)) }
+    ensures app { IfOk result (λ whole. app_of whole ≡ after_app (app_of command.entry)) }
     ensures local { IfOk result (λ whole. (fields_of whole).has_globals ≡ false) }
 {
-    command
-        .arg(flag(alloc, "alike", help::ALIKE))?
-        .arg(front_option(alloc))?
-        .arg(option(alloc, "leads", "LISTS", help::LEADS))?
-        .arg(threads_option(alloc))
+    command.arg(option(alloc, "after", "LIST", help::AFTER))
+}
+
+// With the settings of a search.
+fn search<'a>(alloc: Global, command: Command<'a>) -> Result<Command<'a>, AllocError>
+    requires local { (fields_of command).has_globals ≡ false }
+    ensures app { IfOk result (λ whole. app_of whole ≡ search_app (app_of command.entry)) }
+    ensures local { IfOk result (λ whole. (fields_of whole).has_globals ≡ false) }
+{
+    after(alloc, command.arg(limit_option(alloc))?)
 }
 
 fn outcomes_command<'a>(alloc: Global) -> Result<Command<'a>, AllocError>
     ensures app { IfOk result (λ command. app_of command ≡ outcomes_app) }
     ensures local { IfOk result (λ command. (fields_of command).has_globals ≡ false) }
 {
-    let searched = searched(alloc, listing_command(alloc)?)?;
-    let claimed = claimed(alloc, searched)?;
-    shared(alloc, claimed, help::OUTCOMES_FORMAT)
+    let outcomes = word(alloc, "outcomes", help::OUTCOMES, help::OUTCOMES_EXAMPLE);
+    let listed = search(alloc, outcomes)?
+        .arg(flag(alloc, "ends", help::ENDS))?
+        .arg(flag(alloc, "alike", help::ALIKE))?
+        .arg(threads_option(alloc))?;
+    shared(alloc, listed, help::OUTCOMES_FORMAT)
+}
+
+fn ask_command<'a>(alloc: Global) -> Result<Command<'a>, AllocError>
+    ensures app { IfOk result (λ command. app_of command ≡ ask_app) }
+    ensures local { IfOk result (λ command. (fields_of command).has_globals ≡ false) }
+{
+    let ask = word(alloc, "ask", help::ASK, help::ASK_EXAMPLE);
+    let claimed = search(alloc, claimed(alloc, ask)?)?;
+    shared(alloc, claimed, help::FORMAT)
+}
+
+fn fronts_command<'a>(alloc: Global) -> Result<Command<'a>, AllocError>
+    ensures app { IfOk result (λ command. app_of command ≡ fronts_app) }
+    ensures local { IfOk result (λ command. (fields_of command).has_globals ≡ false) }
+{
+    let fronts = word(alloc, "fronts", help::FRONTS, help::FRONTS_EXAMPLE).arg(blocks_argument(
+        alloc,
+    ))?;
+    let led = search(alloc, fronts)?.arg(option(alloc, "leads", "LISTS", help::LEADS))?;
+    shared(alloc, led, help::FORMAT)
+}
+
+fn estimate_command<'a>(alloc: Global) -> Result<Command<'a>, AllocError>
+    ensures app { IfOk result (λ command. app_of command ≡ estimate_app) }
+    ensures local { IfOk result (λ command. (fields_of command).has_globals ≡ false) }
+{
+    let estimate = word(alloc, "estimate", help::ESTIMATE, help::ESTIMATE_EXAMPLE);
+    shared(alloc, after(alloc, estimate)?, help::FORMAT)
 }
 
 // The program, before its words.
@@ -266,19 +302,16 @@ fn named_command<'a>(alloc: Global) -> Command<'a>
         .disable_help_subcommand(true)
 }
 
-fn texts_command<'a>(alloc: Global) -> Result<Command<'a>, AllocError>
-    ensures app { IfOk result (λ command. app_of command ≡ texts_app) }
+// With the word of a command of its own, where there was memory for that.
+fn with_word<'a>(
+    command: Command<'a>,
+    word: Result<Command<'a>, AllocError>,
+) -> Result<Command<'a>, AllocError>
+    requires local { IfOk word (λ word. (fields_of word).has_globals ≡ false) }
+    ensures app { IfOk result (λ whole. IsOkAnd word.entry (λ word. app_of whole ≡ with_word (app_of command.entry) (app_of word))) }
 {
-    let checked = named_command(alloc).subcommand(check_command(alloc)?)?;
-    with_graph(alloc, checked)
-}
-
-// With the word `graph`.
-fn with_graph<'a>(alloc: Global, command: Command<'a>) -> Result<Command<'a>, AllocError>
-    ensures app { IfOk result (λ whole. app_of whole ≡ with_subcommand (app_of command.entry) graph_app.top) }
-{
-    match graph_command(alloc) {
-        Ok(graph) => command.subcommand(graph),
+    match word {
+        Ok(word) => command.subcommand(word),
         Err(error) => {
             drop(command);
             Err(error)
@@ -286,62 +319,24 @@ fn with_graph<'a>(alloc: Global, command: Command<'a>) -> Result<Command<'a>, Al
     }
 }
 
-// With the word `rules`.
-fn with_rules<'a>(alloc: Global, command: Command<'a>) -> Result<Command<'a>, AllocError>
-    ensures app { IfOk result (λ whole. app_of whole ≡ with_subcommand (app_of command.entry) rules_app.top) }
+// The program, with the words of texts and of runs.
+fn runs_command<'a>(alloc: Global) -> Result<Command<'a>, AllocError>
+    ensures app { IfOk result (λ command. app_of command ≡ runs_app) }
 {
-    match rules_command(alloc) {
-        Ok(rules) => command.subcommand(rules),
-        Err(error) => {
-            drop(command);
-            Err(error)
-        }
-    }
-}
-
-// With the word `play`.
-fn with_play<'a>(alloc: Global, command: Command<'a>) -> Result<Command<'a>, AllocError>
-    ensures app { IfOk result (λ whole. app_of whole ≡ with_subcommand (app_of command.entry) play_app.top) }
-{
-    match play_command(alloc) {
-        Ok(play) => command.subcommand(play),
-        Err(error) => {
-            drop(command);
-            Err(error)
-        }
-    }
-}
-
-// With the word `run`.
-fn with_run<'a>(alloc: Global, command: Command<'a>) -> Result<Command<'a>, AllocError>
-    ensures app { IfOk result (λ whole. app_of whole ≡ with_subcommand (app_of command.entry) run_app.top) }
-{
-    match run_command(alloc) {
-        Ok(run) => command.subcommand(run),
-        Err(error) => {
-            drop(command);
-            Err(error)
-        }
-    }
-}
-
-// With the word `outcomes`.
-fn with_outcomes<'a>(alloc: Global, command: Command<'a>) -> Result<Command<'a>, AllocError>
-    ensures app { IfOk result (λ whole. app_of whole ≡ with_subcommand (app_of command.entry) outcomes_app.top) }
-{
-    match outcomes_command(alloc) {
-        Ok(outcomes) => command.subcommand(outcomes),
-        Err(error) => {
-            drop(command);
-            Err(error)
-        }
-    }
+    let checked = with_word(named_command(alloc), check_command(alloc))?;
+    let drawn = with_word(checked, graph_command(alloc))?;
+    let ruled = with_word(drawn, rules_command(alloc))?;
+    let played = with_word(ruled, play_command(alloc))?;
+    with_word(played, run_command(alloc))
 }
 
 /// The whole command.
 pub fn command<'a>(alloc: Global) -> Result<Command<'a>, AllocError>
     ensures app { IfOk result (λ command. app_of command ≡ qs_app) }
 {
-    let played = with_play(alloc, with_rules(alloc, texts_command(alloc)?)?)?;
-    with_outcomes(alloc, with_run(alloc, played)?)
+    let runs = runs_command(alloc)?;
+    let listed = with_word(runs, outcomes_command(alloc))?;
+    let asked = with_word(listed, ask_command(alloc))?;
+    let led = with_word(asked, fronts_command(alloc))?;
+    with_word(led, estimate_command(alloc))
 }

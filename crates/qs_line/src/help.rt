@@ -5,17 +5,19 @@ macro_rules! with_limits {
     ($text:literal) => {
         concat!(
             $text,
-            "\n\nThe script comes on standard input. The status is 0 where a result is written, 1 where that\n",
-            "answers a condition by no, 2 where the line, the script, a list or a limit is refused, 3 where memory or threads run\n",
-            "out, and 4 where a read or a write fails.\n",
-            "A script has at most 65536 bytes, 8 objects, 8 clients and 8 templates; a client 64 blocks and 16 variables; a repeat\n",
-            "1000 turns; all blocks 100000 requests and 1000000 steps; and a list 1000000 actors."
+            "\n\nThe script comes on standard input. The status is 0 where a result is written, 1 where that answers\n",
+            "a condition by no, 2 where the line, the script, a list or a limit is refused, 3 where memory or\n",
+            "threads run out, and 4 where a read or a write fails.\n\n",
+            "A script has at most 65536 bytes, 8 objects, 8 clients and 8 templates; a client 64 blocks and 16\n",
+            "variables; a repeat 1000 turns; all blocks 100000 requests and 1000000 steps; and a list 1000000\n",
+            "actors."
         )
     };
 }
 
 pub const ABOUT: &str = "\
-Plays scripts of SCOOP separate blocks: objects, clients, and blocks that reserve objects. The script is read from standard input.";
+Plays scripts of SCOOP separate blocks: objects, clients, and blocks that reserve objects.
+The script is read from standard input.";
 
 pub const EXAMPLES: &str = "\
 A script:
@@ -24,26 +26,36 @@ A script:
   client bob { separate a { a.withdraw(7); } }
 
 Examples, with the script in the file my.script:
-  qs check < my.script                     whether it is a script, and how large it is
-  qs play < my.script                      ann and bob take turns
-  qs play --pick '@bob*2,@a' < my.script   bob steps twice and a's handler once, before the turns
-  qs run --counts < my.script              on threads, with the synchronisations sent
-  qs outcomes < my.script                  all results that the script can have
+  qs check < my.script
+      says whether it is a script, and how large it is
+  qs play < my.script
+      plays it: ann and bob take turns
+  qs play --pick '@bob*2,@a' < my.script
+      has bob step twice and a's handler once, before the turns
+  qs run --counts < my.script
+      runs it on threads, and shows the synchronisations sent
+  qs outcomes < my.script
+      lists all results that the script can have
+  qs ask --always 'a.balance() == 98' < my.script
+      answers whether a has 98 at the end, whoever comes first
 
-A report lists the blocks in the order of their reservations, each with its requests and replies, then the
-objects' last states and how many synchronisations were sent. `qs WORD --help` says more of a word, and
-`qs help language` all of scripts: declarations, statements, and the operations of each kind of object.";
+A report lists the blocks in the order of their reservations, each with its requests and replies,
+then the objects' last states and how many synchronisations were sent. `qs WORD --help` says more of
+a word, and `qs help language` all of scripts: declarations, statements, and the operations of each
+kind of object.";
 
 pub const CHECK: &str =
-    "Checks the script and counts its objects, clients, blocks, load (requests at most) and weight (steps at most)";
+    "Checks the script, and counts its objects, clients, blocks, requests and steps";
 
 pub const CHECK_EXAMPLE: &str = with_limits!(
     "\
-Example:
+Examples:
   qs check < my.script
+      counts; the load is how many requests there are at most, the weight how many steps
   qs check --verbose < my.script
+      says, too, how much of each limit is left: `limits: 2 of 8 clients, 6 left`
 
-The second says on standard error, too, how much of each limit is left: `limits: 2 of 8 clients, 6 left`."
+What is warned of, and how much is left, stands on standard error."
 );
 
 pub const GRAPH: &str =
@@ -53,53 +65,60 @@ pub const GRAPH_EXAMPLE: &str = with_limits!(
     "\
 Examples:
   qs graph < my.script
+      shows the graphs as text
   qs graph --format dot < my.script | dot -Tsvg > my.svg
+      draws them, by `dot` of graphviz
 
-The second draws the graphs, by `dot` of graphviz. In the first a line `5 sync a removed -> 6 held a` is node 5, a synchronisation with the handler of a, which static coalescing
-removes, since on every path to it a is held; node 6 comes next."
+A line `5 sync a removed -> 6 held a` is node 5, a synchronisation with the handler of a, which
+static coalescing removes, since on every path to it a is held; node 6 comes next."
 );
 
 pub const RULES: &str = "Plays the script by the plain rules, one synchronisation for each query";
 
 pub const RULES_EXAMPLE: &str = with_limits!(
     "\
-Example:
+Examples:
   qs rules --pick '@bob*2,@a' --rounds 3 < my.script
+      has these actors step, one after another; then, three times, each client and each handler
   qs rules --order @bob,@ann < my.script
+      runs a whole block of bob, and then one of ann
 
-First the actors of LIST step, one after another; then, N times, every client steps once and every handler once.
-With --order, a whole block of bob runs first, and then one of ann.
-An actor is a client or an object, by number or by name with an @ before it: c1 or @bob, h0 or @a. `@bob*2` stands
-for `@bob,@bob`; after a number there is no `*`."
+An actor is a client or an object, by number or by name with an @ before it: c1 or @bob, h0 or @a.
+`@bob*2` stands for `@bob,@bob`; after a number there is no `*`. An order stands without picks and
+rounds. Steps and queues are told beside a report that is text, and not beside an order."
 );
 
 pub const PLAY: &str = "Plays the script on the optimised machine: lanes of chunks, and coalescing";
 
 pub const PLAY_EXAMPLE: &str = with_limits!(
     "\
-Example:
+Examples:
   qs play --mode static --chunk 4 --pick '@bob*2,@a' < my.script
+      has these actors step, one after another; then each client and each handler, round by round
   qs play --order @bob,@ann < my.script
+      runs a whole block of bob, and then one of ann
 
-First the actors of LIST step, one after another; then, N times, every client steps once and every handler once.
-With --order, a whole block of bob runs first, and then one of ann.
-An actor is a client or an object, by number or by name with an @ before it: c1 or @bob, h0 or @a. `@bob*2` stands
-for `@bob,@bob`; after a number there is no `*`.
-Along one order of reservations neither the mode nor the size of chunks changes what a block sees. They change how many
-synchronisations are sent, and may change who comes first."
+An actor is a client or an object, by number or by name with an @ before it: c1 or @bob, h0 or @a.
+`@bob*2` stands for `@bob,@bob`; after a number there is no `*`. An order stands without picks and
+rounds. Steps and queues are told beside a report that is text, and not beside an order.
+
+Along one order of reservations neither the mode nor the size of chunks changes what a block sees.
+They change how many synchronisations are sent, and may change who comes first."
 );
 
 pub const RUN: &str = "Runs the script with each client and each handler on a thread of its own";
 
 pub const RUN_EXAMPLE: &str = with_limits!(
     "\
-Example:
+Examples:
   qs run --mode none --counts < my.script
+      runs it once; the threads decide the order of reservations
   qs run --times 1000 < my.script
+      runs it 1000 times, and counts how often each end came
 
-The threads decide the order of reservations. Along it, each block shows what it does alone. The second runs the script
-1000 times, and counts how often each end came; it has the number that `qs outcomes` gives it, where there are at most
-1000000 configurations."
+Along the order of reservations each block shows what it does alone. An end that came has the number
+that `qs outcomes` gives it, where there are at most 1000000 configurations; counts of
+synchronisations, marks of what was refused and pictures are of a single run."
 );
 
 pub const OUTCOMES: &str =
@@ -107,107 +126,132 @@ pub const OUTCOMES: &str =
 
 pub const OUTCOMES_EXAMPLE: &str = with_limits!(
     "\
-Example:
+Examples:
+  qs outcomes < my.script
+      lists every end: its objects, its variables, and an order of blocks that leads there
   qs outcomes --limit 5000 < my.script
-  qs outcomes --after @bob,@ann < my.script
+      lists all of them, or nothing where there are over 5000 configurations
   qs outcomes --ends < my.script
-  qs outcomes --always 'a.balance() + b.balance() == 200' < my.script
-  qs outcomes --some '!(bob.x < 3) && a.refused() > 0' < my.script
-  qs outcomes --throughout 'a.balance() >= 0' < my.script
-  qs outcomes --estimate < my.script
+      lists the ends alone, so that `diff` compares two scripts
+  qs outcomes --after @bob,@ann < my.script
+      lists what comes after a block of bob and then one of ann
   qs outcomes --alike < my.script
-  qs outcomes --after @bob --always 'a.balance() == 200' < my.script
+      lists as one what differs only by which of some alike clients did what
   qs outcomes --threads 4 < my.script
-  qs outcomes --front 3 < my.script
+      searches by four threads, and lists the same
   qs outcomes --format dot < my.script | dot -Tsvg > my.svg
+      draws how blocks lead from one configuration to the next, up to 200 of them
 
-The second lists only what comes after a block of bob and then one of ann. The third lists the ends alone, so that `diff`
-compares two scripts. The next three answer yes or no: whether a condition holds of all ends, of some, or between
-blocks too, with an order that shows it. The seventh says before a search how large it can be. The eighth lists results
-that differ only by which of some alike clients did what as one, and the ninth answers of what comes after a block of
-bob. The next searches by four threads, and the next lists where the script can stand after three blocks, from which
-parts of a search go on by --after. The last draws how blocks lead from one configuration to the next, with a second
-outline for each outcome. A line `outcome 2 c1,c0` begins the second result: the block of client 1, bob, first, then
-that of client 0, ann. Below it stand the objects at the end, and each client with its variables. Configurations, which
-the last line counts, are where the script can stand between two blocks."
+A line `outcome 2 c1,c0` begins the second result: the block of client 1, bob, first, then that of
+client 0, ann. Below it stand the objects at the end, and each client with its variables.
+Configurations, which the last line counts, are where the script can stand between two blocks.
+Clients are alike if their texts are the same but for names. `qs ask` asks about all results."
 );
 
-pub const FORMAT: &str =
-    "How the result is written: as text for people, or as JSON for programs: text or json";
+pub const ASK: &str =
+    "Answers whether a condition holds at all ends, at some, or on the way, with an order that shows it";
 
-pub const REPORT_FORMAT: &str =
-    "How the report is written: as text for people, as JSON for programs, or as a picture that browsers show: text, json or svg";
+pub const ASK_EXAMPLE: &str = with_limits!(
+    "\
+Examples:
+  qs ask --always 'a.balance() + b.balance() == 200' < my.script
+      does it hold at every end? If not, an order shows one where it does not
+  qs ask --some '!(bob.x < 3) && a.refused() > 0' < my.script
+      does it hold at some end? If so, an order shows one
+  qs ask --throughout 'a.balance() >= 0' < my.script
+      does it hold at the beginning and after each block of each order?
+  qs ask --ever 'ann.x == 20' < my.script
+      does it hold at the beginning, or after some block of some order?
+  qs ask --never 'ann.x == 20' < my.script
+      does it hold at none of these?
+  qs ask --after @bob --always 'a.balance() == 200' < my.script
+      the same of what comes after a block of bob
 
-pub const GRAPH_FORMAT: &str =
-    "How the graphs are written: as text, as JSON for programs, or as a drawing that graphviz draws: text, json or dot";
+A condition compares sums of numbers, of variables as bob.x, and of queries as a.balance(), by ==,
+!=, <, <=, > or >=; comparisons are joined by &&, || and !, with parentheses. One that begins with a
+`-` is written after a `=`: --always='-1 < ann.x'. `qs play --order` plays an order that is shown."
+);
 
-pub const OUTCOMES_FORMAT: &str =
-    "How the outcomes are written: as text, as JSON for programs, or as a drawing of up to 200 configurations that graphviz draws: text, json or dot";
+pub const FRONTS: &str =
+    "Lists what the script can come to after so many blocks, each once: parts of a large search";
 
-pub const MODE: &str =
-    "Which synchronisations are left out: by none, dynamic or static coalescing, or by both";
+pub const FRONTS_EXAMPLE: &str = with_limits!(
+    "\
+Examples:
+  qs fronts 3 < my.script
+      lists where the script can stand after three blocks
+  qs fronts 3 --after @bob < my.script
+      lists that after a block of bob and three blocks more
+  qs fronts 1 --leads @ann:@bob,@ann < my.script
+      lists that one block after each of two orders
+
+From each of them a part of a search goes on by --after, on one machine or on many."
+);
+
+pub const ESTIMATE: &str = "Says before any search how large it can be";
+
+pub const ESTIMATE_EXAMPLE: &str = with_limits!(
+    "\
+Examples:
+  qs estimate < my.script
+      how many configurations there are at most, and for `ask --throughout` at least
+  qs estimate --after @bob,@ann < my.script
+      the same after a block of bob and then one of ann"
+);
+
+pub const FORMAT: &str = "How it is written: text or json";
+
+pub const REPORT_FORMAT: &str = "How it is written, svg being a picture: text, json or svg";
+
+pub const GRAPH_FORMAT: &str = "How it is written, dot being a drawing: text, json or dot";
+
+pub const OUTCOMES_FORMAT: &str = "How it is written, dot being a drawing: text, json or dot";
+
+pub const MODE: &str = "Which coalescing is done: none, dynamic, static or both";
 
 pub const CHUNK: &str = "How many commands travel in one chunk: 1 to 32";
 
 pub const ROUNDS: &str =
-    "How many rounds are played at most, after the picks: 0 to 1000000 [default: 1000000]";
+    "How many rounds at most, after the picks: 0 to 1000000 [default: 1000000]";
 
-pub const LIMIT: &str =
-    "How many configurations are looked at, at most: 1 to 4294967295; where there are more, nothing is listed";
+pub const LIMIT: &str = "How many configurations at most: 1 to 4294967295";
 
-pub const ENDS: &str =
-    "The ends alone, each once, without orders and numbers, in the order of their texts";
+pub const ENDS: &str = "Lists the ends alone, each once, in the order of their texts";
 
-pub const ESTIMATE: &str =
-    "Says how many configurations there can be, before any search: at most so many, and with --throughout at least so many";
+pub const ALIKE: &str = "Lists one of all results that differ by alike clients alone";
 
-pub const ALIKE: &str =
-    "Lists one of all results that differ only by which of some alike clients has which variables, and for how many it stands; clients are alike if their texts are the same but for names; beside --always, --some or --throughout it changes nothing, since an answer takes alike clients for one another by itself, but for those that the condition names";
+pub const BLOCKS: &str = "How many blocks: 1 to 512";
 
-pub const FRONT: &str =
-    "Lists what the script can come to after so many blocks in all, 1 to 512, each once: parts from which a search can go on by --after, one by one or on many machines";
+pub const LEADS: &str = "Lists that after each of several orders, joined by colons";
 
-pub const LEADS: &str =
-    "Lists these after each of some orders, joined by colons, each as --after has it: a batch of a search on many machines";
+pub const THREADS: &str = "How many threads search: 1 to 64 [default: 1]";
 
-pub const THREADS: &str =
-    "How many threads search, 1 to 64; what is listed is the same [default: 1]";
+pub const TIMES: &str = "Runs it so often, 1 to 100000, and counts how often each end came";
 
-pub const TIMES: &str =
-    "Runs the script so many times, 1 to 100000, and counts how often each end came; not with --counts or --refusals, and as text or JSON";
+pub const ALWAYS: &str = "Answers whether it holds at every end";
 
-pub const ALWAYS: &str =
-    "Answers whether a condition holds of all ends, and stops at the first where it does not: sums of numbers, of variables as bob.x, and of queries as a.balance(), that are compared by ==, !=, <, <=, > or >=, joined by &&, || and !, with parentheses";
+pub const SOME: &str = "Answers whether it holds at some end";
 
-pub const SOME: &str =
-    "Answers whether a condition holds of some end, and stops at the first where it does; conditions are as those of --always";
+pub const THROUGHOUT: &str = "Answers whether it holds at the beginning and after each block";
 
-pub const THROUGHOUT: &str =
-    "Answers whether a condition holds at the beginning and after each block of each order, and stops where it does not; conditions are as those of --always";
+pub const EVER: &str = "Answers whether it holds at the beginning or after some block";
 
-pub const AFTER: &str =
-    "Whose blocks were run before, joined by commas, each client's in turn: c0 is the first client, @bob the one called bob; @bob*2 is @bob,@bob";
+pub const NEVER: &str = "Answers whether it holds at none of these";
 
-pub const ORDER: &str =
-    "Whose blocks run, one whole block after another, joined by commas: c0 is the first client, @bob the one called bob; @bob*2 is @bob,@bob; not with --pick or --rounds";
+pub const AFTER: &str = "Whose blocks were run before, as @bob*2,@ann";
 
-pub const PICK: &str =
-    "Who steps first, joined by commas: c0 is the first client, h0 the first object, @bob the client or the object called bob; @bob*2 is @bob,@bob";
+pub const ORDER: &str = "Whose blocks run, one whole block after another, as @bob*2,@ann";
 
-pub const COUNTS: &str =
-    "Shows after each block how many synchronisations it has sent for each of its objects";
+pub const PICK: &str = "Who steps first, as @bob*2,@a";
 
-pub const REFUSALS: &str =
-    "Marks each command that its object refused, and each query of what is not there: `a.withdraw(120) refused`, `b.take() = 0 none`; not with --times";
+pub const COUNTS: &str = "Shows how many synchronisations each block has sent";
 
-pub const STEPS: &str =
-    "Writes a line for each step before the report: who made it, and what it did; not with --order, nor with another format than text";
+pub const REFUSALS: &str = "Marks what was refused, and queries of what is not there";
 
-pub const QUEUES: &str =
-    "Writes after the report of a run that has not finished who is in each object's queue, which requests wait, and what each client waits for; not with --order, nor with another format than text";
+pub const STEPS: &str = "Writes a line for each step before the report";
 
-pub const VERBOSE: &str =
-    "Says on standard error how much of each limit of the language the script uses, and how much is left";
+pub const QUEUES: &str = "Writes who waits for what after the report of an unfinished run";
 
-pub const WARN: &str =
-    "Warns on standard error of what may be meant otherwise, as a variable that is read and never set";
+pub const VERBOSE: &str = "Says how much of each limit of the language is left";
+
+pub const WARN: &str = "Warns of what may be meant otherwise, as a variable that is never set";

@@ -7,7 +7,7 @@ ghost use Rattle.std.specs.List.{list_any};
 ghost use Rattle.qs_line.specs.audit.Apart.{both_stand_at, flag_at, has_apart, stands_at};
 ghost use Rattle.qs_line.specs.audit.Command.{qs_app};
 ghost use Rattle.qs_line.specs.audit.Line.{asks_language, help, chunk_at, has_times, mode_at, number_in, play_at, report_format_at, rules_at, single_run_at, style_at, styled_plan, can_tell};
-ghost use Rattle.qs_line.specs.Line.{IsAnswer, IsFault, IsFaultAmong, alike_at, alike_or_list_at, answer_or_list_at, ask_at, blocks_at, check_at, claim_at, claim_in, estimate_at, estimate_or_list_at, fronts_at, fronts_or_list_at, has_blocks, has_claim, has_front, has_threads, list_at, format_at, front_at, graph_at, graph_format_at, is_verbose_in, is_verbose_met, leads_at, limit_at, line_in, outcomes_at, outcomes_format_at, plan_of, request_at, request_met, request_of, request_of_word, run_at, tally_at, threads_at, threads_beside, times_at, warns_in, warns_met};
+ghost use Rattle.qs_line.specs.Line.{IsAnswer, IsFault, IsFaultAmong, alike_at, ask_at, blocks_at, check_at, claim_at, claim_in, estimate_at, fronts_at, has_threads, list_at, format_at, front_at, graph_at, graph_format_at, is_verbose_in, is_verbose_met, leads_at, limit_at, line_in, outcomes_at, outcomes_format_at, plan_of, request_at, request_met, request_of, request_of_word, run_at, tally_at, threads_at, threads_beside, times_at, warns_in, warns_met};
 
 use crate::apart::{APART, Setting};
 use crate::command::command;
@@ -433,7 +433,7 @@ fn times_of(found: &ArgMatches<'_>) -> Option<u32>
 fn blocks_of(found: &ArgMatches<'_>) -> Option<u32>
     ensures blocks { result ≡ blocks_at (rows_of (found_of found.now)) }
 {
-    number_of(text_at(found, "front")?, MOST_FRONT)
+    number_of(text_at(found, "blocks")?, MOST_FRONT)
 }
 
 // The threads of a line; one where it has no number of them.
@@ -451,13 +451,6 @@ fn has_threads(found: &ArgMatches<'_>) -> bool
     ensures has { result ≡ has_threads (rows_of (found_of found.now)) }
 {
     text_at(found, "threads").is_some()
-}
-
-// Whether the line asks for fronts.
-fn has_blocks(found: &ArgMatches<'_>) -> bool
-    ensures has { result ≡ has_blocks (rows_of (found_of found.now)) }
-{
-    text_at(found, "front").is_some()
 }
 
 // Whether the line has a number of runs.
@@ -572,28 +565,25 @@ fn claim_of(alloc: Global, quantifier: Quantifier, text: &str) -> Result<Option<
     }
 }
 
-// Whether the line has a condition.
-fn has_claim(found: &ArgMatches<'_>) -> bool
-    ensures has { result ≡ has_claim (rows_of (found_of found.now)) }
-{
-    text_at(found, "always").is_some()
-        || text_at(found, "some").is_some()
-        || text_at(found, "throughout").is_some()
-}
-
-// The claim of a line: None where it has none or several, or one that is no condition.
+// The claim of a line: None where it has none, or one that is no condition.
 fn given_claim(alloc: Global, found: &ArgMatches<'_>) -> Result<Option<Claim>, AllocError>
     ensures claim { IfOk result (λ claim. claim ≡ claim_at (rows_of (found_of found.now))) }
 {
-    match (
-        text_at(found, "always"),
-        text_at(found, "some"),
-        text_at(found, "throughout"),
-    ) {
-        (Some(text), None, None) => claim_of(alloc, Quantifier::Always, text),
-        (None, Some(text), None) => claim_of(alloc, Quantifier::Some, text),
-        (None, None, Some(text)) => claim_of(alloc, Quantifier::Throughout, text),
-        _ => Ok(None),
+    if let Some(text) = text_at(found, "always") {
+        return claim_of(alloc, Quantifier::Always, text);
+    }
+    if let Some(text) = text_at(found, "some") {
+        return claim_of(alloc, Quantifier::Some, text);
+    }
+    if let Some(text) = text_at(found, "throughout") {
+        return claim_of(alloc, Quantifier::Throughout, text);
+    }
+    if let Some(text) = text_at(found, "ever") {
+        return claim_of(alloc, Quantifier::Ever, text);
+    }
+    match text_at(found, "never") {
+        Some(text) => claim_of(alloc, Quantifier::Never, text),
+        None => Ok(None),
     }
 }
 
@@ -648,17 +638,6 @@ fn list_settings(alloc: Global, found: &ArgMatches<'_>) -> Result<Option<Setting
     }))
 }
 
-// All outcomes, or the answer to a condition where the line has one.
-fn answer_or_list(alloc: Global, found: &ArgMatches<'_>) -> Result<Option<Settings>, AllocError>
-    ensures settings { IfOk result (λ settings. option_map request_of settings ≡ answer_or_list_at (rows_of (found_of found.now))) }
-{
-    if has_claim(found) {
-        ask_settings(alloc, found)
-    } else {
-        list_settings(alloc, found)
-    }
-}
-
 // An estimate.
 fn estimate_settings(alloc: Global, found: &ArgMatches<'_>) -> Result<Option<Settings>, AllocError>
     ensures settings { IfOk result (λ settings. option_map request_of settings ≡ estimate_at (rows_of (found_of found.now))) }
@@ -669,23 +648,24 @@ fn estimate_settings(alloc: Global, found: &ArgMatches<'_>) -> Result<Option<Set
     Ok(Some(Settings::Estimate { format, front }))
 }
 
-// Whether the line has a list of whose blocks were run before.
-fn has_front(found: &ArgMatches<'_>) -> bool
-    ensures has { result ≡ has_front (rows_of (found_of found.now)) }
-{
-    text_at(found, "after").is_some()
-}
-
-// One of all alike outcomes, which do not stand beside `--after`.
+// One of all alike outcomes.
 fn alike_settings(found: &ArgMatches<'_>) -> Option<Settings>
     ensures settings { option_map request_of result ≡ alike_at (rows_of (found_of found.now)) }
 {
-    if has_front(found) {
-        return None;
-    }
     let format = format_of(found)?;
     let limit = limit_of(found)?;
     Some(Settings::Alike { format, limit })
+}
+
+// One of all alike outcomes where the line asks for these, and else all outcomes.
+fn outcomes_settings(alloc: Global, found: &ArgMatches<'_>) -> Result<Option<Settings>, AllocError>
+    ensures settings { IfOk result (λ settings. option_map request_of settings ≡ outcomes_at (rows_of (found_of found.now))) }
+{
+    if has_flag(found, "alike") {
+        Ok(alike_settings(found))
+    } else {
+        list_settings(alloc, found)
+    }
 }
 
 fn one_order(alloc: Global, order: Vec<Part>) -> Result<Vec<Vec<Part>>, AllocError>
@@ -696,74 +676,28 @@ fn one_order(alloc: Global, order: Vec<Part>) -> Result<Vec<Vec<Part>>, AllocErr
     Ok(orders)
 }
 
+// The orders after which fronts are looked for: several where the line has them, and else one.
+fn given_leads(alloc: Global, found: &ArgMatches<'_>) -> Result<Option<Vec<Vec<Part>>>, AllocError>
+    ensures orders { IfOk result (λ orders. option_map (λ orders. map (λ order. order.items) orders.items) orders ≡ leads_at (rows_of (found_of found.now))) }
+{
+    if let Some(text) = text_at(found, "leads") {
+        return orders_in(alloc, text);
+    }
+    match given_front(alloc, found)? {
+        Some(front) => Ok(Some(one_order(alloc, front)?)),
+        None => Ok(None),
+    }
+}
+
 // Fronts.
 fn fronts_settings(alloc: Global, found: &ArgMatches<'_>) -> Result<Option<Settings>, AllocError>
     ensures settings { IfOk result (λ settings. option_map request_of settings ≡ fronts_at (rows_of (found_of found.now))) }
-{
-    let (Some(format), Some(blocks), Some(limit), Some(front)) = (
-        format_of(found),
-        blocks_of(found),
-        limit_of(found),
-        given_front(alloc, found)?,
-    ) else {
-        return Ok(None);
-    };
-    let orders = one_order(alloc, front)?;
-    Ok(Some(Settings::Fronts {
-        format,
-        blocks,
-        limit,
-        orders,
-    }))
-}
-
-// Fronts where the line asks for them; else all outcomes, or the answer to a condition.
-fn fronts_or_list(alloc: Global, found: &ArgMatches<'_>) -> Result<Option<Settings>, AllocError>
-    ensures settings { IfOk result (λ settings. option_map request_of settings ≡ fronts_or_list_at (rows_of (found_of found.now))) }
-{
-    if has_blocks(found) {
-        fronts_settings(alloc, found)
-    } else {
-        answer_or_list(alloc, found)
-    }
-}
-
-// One of all alike outcomes where the line asks for these and has no condition; else what is left. An answer takes
-// alike clients for one another by itself, so beside a condition `--alike` asks for nothing more.
-fn alike_or_list(alloc: Global, found: &ArgMatches<'_>) -> Result<Option<Settings>, AllocError>
-    ensures settings { IfOk result (λ settings. option_map request_of settings ≡ alike_or_list_at (rows_of (found_of found.now))) }
-{
-    if has_flag(found, "alike") && !has_claim(found) {
-        Ok(alike_settings(found))
-    } else {
-        fronts_or_list(alloc, found)
-    }
-}
-
-// An estimate where the line asks for one; else what is left.
-fn estimate_or_list(alloc: Global, found: &ArgMatches<'_>) -> Result<Option<Settings>, AllocError>
-    ensures settings { IfOk result (λ settings. option_map request_of settings ≡ estimate_or_list_at (rows_of (found_of found.now))) }
-{
-    if has_flag(found, "estimate") {
-        estimate_settings(alloc, found)
-    } else {
-        alike_or_list(alloc, found)
-    }
-}
-
-// The fronts after each of some orders.
-fn leads_settings(
-    alloc: Global,
-    found: &ArgMatches<'_>,
-    text: &str,
-) -> Result<Option<Settings>, AllocError>
-    ensures settings { IfOk result (λ settings. option_map request_of settings ≡ leads_at text.now (rows_of (found_of found.now))) }
 {
     let (Some(format), Some(blocks), Some(limit), Some(orders)) = (
         format_of(found),
         blocks_of(found),
         limit_of(found),
-        orders_in(alloc, text)?,
+        given_leads(alloc, found)?,
     ) else {
         return Ok(None);
     };
@@ -773,16 +707,6 @@ fn leads_settings(
         limit,
         orders,
     }))
-}
-
-// The fronts after each of some orders where the line has these; else what is left.
-fn outcomes_settings(alloc: Global, found: &ArgMatches<'_>) -> Result<Option<Settings>, AllocError>
-    ensures settings { IfOk result (λ settings. option_map request_of settings ≡ outcomes_at (rows_of (found_of found.now))) }
-{
-    match text_at(found, "leads") {
-        Some(text) => leads_settings(alloc, found, text),
-        None => estimate_or_list(alloc, found),
-    }
 }
 
 // What a word asks for, with what clap found after it, whichever settings stand together.
@@ -800,6 +724,9 @@ fn settings_of_word(
         "play" => play_settings(alloc, found),
         "run" => Ok(run_settings(found)),
         "outcomes" => outcomes_settings(alloc, found),
+        "ask" => ask_settings(alloc, found),
+        "fronts" => fronts_settings(alloc, found),
+        "estimate" => estimate_settings(alloc, found),
         _ => Ok(None),
     }
 }
@@ -879,12 +806,10 @@ fn page(alloc: Global) -> LineFault
 
 /// The settings of a line, whose first word is the program's name: those that `clap` finds, and its defaults. `Refused`
 /// comes exactly where `clap` refuses the words by an error, where the two settings of a pair of `APART` stand
-/// together, where a format, a mode, a number, a list or a condition does not read, where `--alike` stands beside
-/// `--after` and no condition does, where `--leads` stands without `--front`, where a number of threads stands beside a
-/// drawing, or where steps or queues are asked for beside a report that is no text; `Help` and `Version` come exactly
-/// where it answers with help or with the version, and `Help` where the words are `help language`. `Memory` may come in
-/// place of each. Beside a condition `--alike` asks for nothing more: an answer takes alike clients for one another by
-/// itself.
+/// together, where a format, a mode, a number, a list or a condition does not read, where `ask` has no condition, where
+/// a number of threads stands beside a drawing, or where steps or queues are asked for beside a report that is no text;
+/// `Help` and `Version` come exactly where it answers with help or with the version, and `Help` where the words are
+/// `help language`. `Memory` may come in place of each.
 pub fn read_line<'a>(alloc: Global, words: &'a [&'a str]) -> Result<Settings, LineFault>
     ensures line { IsAnswer (line_in (map (λ word. word.now) words.entry.now)) result }
 {

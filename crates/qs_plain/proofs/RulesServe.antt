@@ -48,7 +48,6 @@ handled_and_replied s h new t q v = record {
 }
 
 module _ (s : Plain) (h : ℕ) (x : HandlerState) (q : QueueState) (qs : List QueueState) where
-
   item_done : (items : List QueueItem) (new : HandlerState) → ServesItem x q qs items Done new → item_step s h (handler_of_state x) q.queue (queues_of qs) items ≡ Some (plain_after_serving s h new)
   item_done [] new sv = let e : Done ≡ Nothing = sv.0 in cc
   item_done (item.Command r ∷ items) new sv = ap (λ y. Some (plain_after_serving s h y)) (sym sv.1)

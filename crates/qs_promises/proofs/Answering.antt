@@ -81,6 +81,8 @@ module _ (p : ProgramShape) (front : List Ticket) (asked : OrderOutcome → Bool
   Given q.Always w = Gives (NoneMeets p front asked) IsMetEnd w
   Given q.Some w = Gives (NoneMeets p front asked) IsMetEnd w
   Given q.Throughout w = Gives (NoneMeetsOnTheWay p front asked) (IsCourseWitnessAfter p front asked) w
+  Given q.Ever w = Gives (NoneMeetsOnTheWay p front asked) (IsCourseWitnessAfter p front asked) w
+  Given q.Never w = Gives (NoneMeetsOnTheWay p front asked) (IsCourseWitnessAfter p front asked) w
 
   met_end : (k : Classes) (s : StandingShape) → IsWitnessAfter p k front asked s → IsMetEnd s
   met_end k s is = record {
@@ -94,6 +96,8 @@ module _ (p : ProgramShape) (front : List Ticket) (asked : OrderOutcome → Bool
   given q.Always k a is = gives (met_end k) a.witness (λ e. (is.none e).0) is.witness
   given q.Some k a is = gives (met_end k) a.witness (λ e. (is.none e).0) is.witness
   given q.Throughout k a is = gives (λ s way. way) a.witness (λ e. (is.none e).0) is.witness
+  given q.Ever k a is = gives (λ s way. way) a.witness (λ e. (is.none e).0) is.witness
+  given q.Never k a is = gives (λ s way. way) a.witness (λ e. (is.none e).0) is.witness
 
 -- ---- what it says of runs
 
@@ -120,15 +124,15 @@ module _ (p : ProgramShape) (sound : IsSound p) (c : Tree) (front : List Ticket)
         machine = λ mode size. machine_reaches p sound mode size order complete;
       }
 
-  every_way : ((o : OrderOutcome) → asked o ≡ false → holds_at p c o ≡ true)
-      → NoneMeetsOnTheWay p front asked → OnEveryWay p c front
-  every_way turn none way r run before later order =
+  every_way : (holds : Bool) → ((o : OrderOutcome) → asked o ≡ false → holds_at p c o ≡ holds)
+      → NoneMeetsOnTheWay p front asked → OnEveryWay holds p c front
+  every_way holds turn none way r run before later order =
       let legal : IsLegal p ((front ++ before) ++ later) = subst (IsLegal p) order (serial_order p sound way r run).legal in
       turn (passed p (front ++ before)) (none before (legal-front p (first_configuration p) (front ++ before) later legal))
 
-  some_way : ((o : OrderOutcome) → asked o ≡ true → holds_at p c o ≡ false)
-      → (s : StandingShape) → IsCourseWitnessAfter p front asked s → OnSomeWay p c front
-  some_way turn s is =
+  some_way : (holds : Bool) → ((o : OrderOutcome) → asked o ≡ true → holds_at p c o ≡ holds)
+      → (s : StandingShape) → IsCourseWitnessAfter p front asked s → OnSomeWay holds p c front
+  some_way holds turn s is =
       let whole = is.on_the_way.whole in
       let order = front ++ is.on_the_way.rest in
       let legal = subst (IsLegal p) whole is.on_the_way.legal in
@@ -147,8 +151,12 @@ module _ (p : ProgramShape) (sound : IsSound p) (c : Tree) (front : List Ticket)
   says q.Always means (Some s) end = some_end false (λ o e. not_true (holds_at p c o) (sym (means o) ∙ e)) s end
   says q.Some means None none = every_end false (λ o e. sym (means o) ∙ e) none
   says q.Some means (Some s) end = some_end true (λ o e. sym (means o) ∙ e) s end
-  says q.Throughout means None none = every_way (λ o e. not_false (holds_at p c o) (sym (means o) ∙ e)) none
-  says q.Throughout means (Some s) way = some_way (λ o e. not_true (holds_at p c o) (sym (means o) ∙ e)) s way
+  says q.Throughout means None none = every_way true (λ o e. not_false (holds_at p c o) (sym (means o) ∙ e)) none
+  says q.Throughout means (Some s) way = some_way false (λ o e. not_true (holds_at p c o) (sym (means o) ∙ e)) s way
+  says q.Ever means None none = every_way false (λ o e. sym (means o) ∙ e) none
+  says q.Ever means (Some s) way = some_way true (λ o e. sym (means o) ∙ e) s way
+  says q.Never means None none = every_way false (λ o e. sym (means o) ∙ e) none
+  says q.Never means (Some s) way = some_way true (λ o e. sym (means o) ∙ e) s way
 
 pub answers_of_runs : AnswersAreOfRuns
 answers_of_runs p sound claim c steps front a (k, classes, is) =

@@ -39,11 +39,11 @@ pub record AtSomeEnd (holds : Bool) (p : ProgramShape) (c : Tree) (front : List 
   pub rules : RulesReach p (front ++ rest)
   pub machine : (mode : Mode) (size : ℕ) → MachineReaches p mode size (front ++ rest)
 
--- Wherever the order of a run, finished or not, has come, from the front on, the condition holds there.
-abbrev pub OnEveryWay : ProgramShape → Tree → List Ticket → Type 0
-OnEveryWay p c front =
+-- Wherever the order of a run, finished or not, has come, from the front on, the condition holds there, or it does not.
+abbrev pub OnEveryWay : (holds : Bool) → ProgramShape → Tree → List Ticket → Type 0
+OnEveryWay holds p c front =
     (way : Way) (r : Played) → IsRun p way r → (before later : List Ticket) → r.order ≡ (front ++ before) ++ later
-    → holds_at p c (passed p (front ++ before)) ≡ true
+    → holds_at p c (passed p (front ++ before)) ≡ holds
 
 -- A run in this way has exactly this order, and each of its blocks has ended.
 pub record ComesTo (p : ProgramShape) (way : Way) (due : List Ticket) : Type 0 where
@@ -52,12 +52,12 @@ pub record ComesTo (p : ProgramShape) (way : Way) (due : List Ticket) : Type 0 w
   pub order : shown.order ≡ due
   pub ended : AllByRecursion (λ e. e ≡ true) shown.ended
 
--- There is a legal order that begins with the front and leads to where the condition does not hold; and some picks lead
--- the plain rules there, and the optimised machine in every mode and with every size of chunks.
-pub record OnSomeWay (p : ProgramShape) (c : Tree) (front : List Ticket) : Type 0 where
+-- There is a legal order that begins with the front and leads to where the condition holds, or does not; and some picks
+-- lead the plain rules there, and the optimised machine in every mode and with every size of chunks.
+pub record OnSomeWay (holds : Bool) (p : ProgramShape) (c : Tree) (front : List Ticket) : Type 0 where
   pub rest : List Ticket
   pub legal : IsLegal p (front ++ rest)
-  pub stands : holds_at p c (passed p (front ++ rest)) ≡ false
+  pub stands : holds_at p c (passed p (front ++ rest)) ≡ holds
   pub rules : (picks : List Actor) × ComesTo p (by_rules picks 0) (front ++ rest)
   pub machine : (mode : Mode) (size : ℕ) → (picks : List Actor) × ComesTo p (on_machine mode size picks 0) (front ++ rest)
 
@@ -67,8 +67,12 @@ Says q.Always true p c front = AtEveryEnd true p c front
 Says q.Always false p c front = AtSomeEnd false p c front
 Says q.Some true p c front = AtSomeEnd true p c front
 Says q.Some false p c front = AtEveryEnd false p c front
-Says q.Throughout true p c front = OnEveryWay p c front
-Says q.Throughout false p c front = OnSomeWay p c front
+Says q.Throughout true p c front = OnEveryWay true p c front
+Says q.Throughout false p c front = OnSomeWay false p c front
+Says q.Ever true p c front = OnSomeWay true p c front
+Says q.Ever false p c front = OnEveryWay false p c front
+Says q.Never true p c front = OnEveryWay false p c front
+Says q.Never false p c front = OnSomeWay true p c front
 
 -- for every checked program, every claim whose steps are those of a condition, and every front
 abbrev pub AnswersAreOfRuns : Type 0

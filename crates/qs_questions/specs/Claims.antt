@@ -27,6 +27,8 @@ abbrev pub IsAnswerBy : Quantifier → ProgramShape → Classes → List Ticket 
 IsAnswerBy q.Always p k front asked a = IsAnswerAfter p k front asked a
 IsAnswerBy q.Some p k front asked a = IsAnswerAfter p k front asked a
 IsAnswerBy q.Throughout p k front asked a = IsCourseAnswerAfter p k front asked a
+IsAnswerBy q.Ever p k front asked a = IsCourseAnswerAfter p k front asked a
+IsAnswerBy q.Never p k front asked a = IsCourseAnswerAfter p k front asked a
 
 -- over one of all configurations that differ by a change of alike clients
 abbrev pub IsAnswerTo : Claim → ProgramShape → List Ticket → AnswerShape → Type 0
@@ -38,6 +40,8 @@ abbrev pub orders_for : Quantifier → Orders
 orders_for q.Always = only_reduced
 orders_for q.Some = only_reduced
 orders_for q.Throughout = all_legal
+orders_for q.Ever = all_legal
+orders_for q.Never = all_legal
 
 -- there are more configurations than the limit, of those that are looked at
 abbrev pub HasMoreFor : Claim → ProgramShape → List Ticket → (limit : ℕ) → Type 0

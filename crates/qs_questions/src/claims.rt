@@ -34,7 +34,7 @@ impl Question for Sought<'_> {
         let holds = holds(alloc, &self.claim.condition, program, standing)?;
         match self.claim.quantifier {
             Quantifier::Always | Quantifier::Throughout => Ok(!holds),
-            Quantifier::Some => Ok(holds),
+            Quantifier::Some | Quantifier::Ever | Quantifier::Never => Ok(holds),
         }
     }
 }
@@ -74,7 +74,7 @@ pub fn answer<W: Watcher>(
         Quantifier::Always | Quantifier::Some => {
             ask_watched(alloc, program, &classes, front, limit, &sought, watcher)
         }
-        Quantifier::Throughout => {
+        Quantifier::Throughout | Quantifier::Ever | Quantifier::Never => {
             ask_throughout(alloc, program, &classes, front, limit, &sought, watcher)
         }
     }

@@ -21,6 +21,8 @@ abbrev pub lead_word : Quantifier → List ℕ
 lead_word q.Always = codes "order"
 lead_word q.Some = codes "order"
 lead_word q.Throughout = codes "after"
+lead_word q.Ever = codes "after"
+lead_word q.Never = codes "after"
 
 -- an order, and where the program stands after it
 abbrev pub witness_text : ProgramShape → Quantifier → StandingShape → List ℕ

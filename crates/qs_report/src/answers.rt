@@ -25,7 +25,7 @@ fn lead_word(quantifier: Quantifier) -> &'static [u8]
 {
     match quantifier {
         Quantifier::Always | Quantifier::Some => b"order",
-        Quantifier::Throughout => b"after",
+        Quantifier::Throughout | Quantifier::Ever | Quantifier::Never => b"after",
     }
 }
 
@@ -87,7 +87,7 @@ pub fn is_yes(quantifier: Quantifier, answer: &Answer) -> bool
 {
     let found = answer.witness.is_some();
     match quantifier {
-        Quantifier::Always | Quantifier::Throughout => !found,
-        Quantifier::Some => found,
+        Quantifier::Always | Quantifier::Throughout | Quantifier::Never => !found,
+        Quantifier::Some | Quantifier::Ever => found,
     }
 }

@@ -25,7 +25,6 @@ pub record IsReadSoFar (p : ProgramShape) (clients rest begun : List ℕ) : Type
   pub back : RestIsLegal p (counts begun) rest → IsLegal p (order_of clients)
 
 module _ (p : ProgramShape) (clients : List ℕ) (c : ℕ) (rest begun : List ℕ) (now : IsReadSoFar p clients (c ∷ rest) begun) where
-
   pub read_on : c < 8 → counts begun c < blocks_of p c → (later : List ℕ) → later ≡ slice_set begun c (suc (counts begun c)) → IsReadSoFar p clients rest later
   read_on within left later set = record {
     long = ap length set ∙ length-set begun c (suc (counts begun c)) ∙ now.long;

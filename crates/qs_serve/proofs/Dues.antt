@@ -242,6 +242,8 @@ places_by : (kind : Quantifier) (p : ProgramShape) (k : Classes) (front : List T
 places_by quantifier.Always p k front asked a is = places_at_end p k front asked a.witness is.witness
 places_by quantifier.Some p k front asked a is = places_at_end p k front asked a.witness is.witness
 places_by quantifier.Throughout p k front asked a is = places_on_the_way p front asked a.witness is.witness
+places_by quantifier.Ever p k front asked a is = places_on_the_way p front asked a.witness is.witness
+places_by quantifier.Never p k front asked a is = places_on_the_way p front asked a.witness is.witness
 
 pub answer_places : (claim : Claim) (p : ProgramShape) (front : List Ticket) (a : AnswerShape) → IsAnswerTo claim p front a
     → IfSome a.witness (HasPlaces p)

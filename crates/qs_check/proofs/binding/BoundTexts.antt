@@ -135,7 +135,6 @@ module _ (B : List ℕ) (F D : List Declared) (each : length B ≡ length F) (in
   list_within (i ∷ R) h = (bound_within i h.0, list_within R h.1)
 
   module _ (R : List ℕ) (reserved : AllByRecursion (λ i. i < length F) R) where
-
     sound_call : (asks : Bool) (c : Call) → IsSoundCall F R asks c → IsSoundCall D (first_of_each (map (bound B) R)) asks (bound_call B c)
     sound_call asks c h =
         let within : c.object < length F = held (λ i. i < length F) R c.object reserved h.reserves in

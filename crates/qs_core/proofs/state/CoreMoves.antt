@@ -201,7 +201,6 @@ module _ (s : CoreState) (kept : IsCoreState s) (c : ℕ) (inside : c < length s
 module _ (s : CoreState) (kept : IsCoreState s) (h : ℕ) (inside : h < length s.handlers) (old : CoreHandlerState) (here : core_handler_of s.program s.handlers h ≡ handler_with_act old)
     (queue : tickets_at s.handlers h ≡ old.tickets) (formed : IsCoreHandler old) (roomy : all_blocks s.program ≤ old.room)
     (c : ℕ) (turned : forms.turns_to old.act ≡ Some c) (there : c < length s.clients) (guest : CoreClientState) (found : client_part_at s.clients c ≡ client_part guest) (stocked : AreStocked guest) where
-
   lane_of_guest : h < length (client_part_at s.clients c).lanes
   lane_of_guest = let lanes = (kept.sides c there).lanes in omega (arith, inside, lanes, kept.handlers)
 

@@ -127,7 +127,6 @@ same_stance a b (leaves g gs l) h e = ap (λ x. if is_in (g ∷ gs) h then hand 
 
 module _ (p : ProgramShape) (sound : IsSound p) (mode : Mode) (code : ℕ → ClientCode) (codes : AreCodes p mode code) (size : ℕ) (so_far : List Ticket) (counts : ℕ → ℕ) (t : Ticket)
     (latest : counts t.client ≡ suc t.index) (n : ℕ) (s : Core) (now : IsWithin p so_far counts t (length p.objects) n s) where
-
   abbrev m : Client
   m = s.client t.client
 

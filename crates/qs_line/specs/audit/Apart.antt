@@ -18,15 +18,15 @@ name_of setting.Times = codes "times"
 name_of setting.Counts = codes "counts"
 name_of setting.Refusals = codes "refusals"
 name_of setting.Ends = codes "ends"
-name_of setting.Estimate = codes "estimate"
 name_of setting.Alike = codes "alike"
 name_of setting.After = codes "after"
-name_of setting.Front = codes "front"
 name_of setting.Leads = codes "leads"
 name_of setting.Threads = codes "threads"
 name_of setting.Always = codes "always"
 name_of setting.Some = codes "some"
 name_of setting.Throughout = codes "throughout"
+name_of setting.Ever = codes "ever"
+name_of setting.Never = codes "never"
 
 -- it stands on a line without a value
 abbrev pub is_flag : Setting → Bool
@@ -35,7 +35,6 @@ is_flag setting.Queues = true
 is_flag setting.Counts = true
 is_flag setting.Refusals = true
 is_flag setting.Ends = true
-is_flag setting.Estimate = true
 is_flag setting.Alike = true
 is_flag _ = false
 
@@ -60,17 +59,12 @@ abbrev pub apart : List (Setting × Setting)
 apart =
     with_each setting.Order (setting.Pick ∷ setting.Rounds ∷ setting.Steps ∷ setting.Queues ∷ [])
     ++ with_each setting.Times (setting.Counts ∷ setting.Refusals ∷ [])
-    ++ with_each setting.Estimate (setting.Ends ∷ setting.Always ∷ setting.Some ∷ setting.Throughout ∷ setting.Alike
-    ∷ setting.Front ∷ setting.Threads ∷ [])
-    ++ with_each setting.Alike (setting.Ends ∷ setting.Front ∷ setting.Threads ∷ [])
-    ++ with_each setting.Front (setting.Ends ∷ setting.Always ∷ setting.Some ∷ setting.Throughout ∷ setting.Threads
-    ∷ [])
-    ++ with_each setting.Leads (setting.After ∷ setting.Ends ∷ setting.Estimate ∷ setting.Alike ∷ setting.Always
-    ∷ setting.Some ∷ setting.Throughout ∷ setting.Threads ∷ [])
-    ++ with_each setting.Threads (setting.Always ∷ setting.Some ∷ setting.Throughout ∷ [])
-    ++ with_each setting.Always (setting.Ends ∷ setting.Some ∷ setting.Throughout ∷ [])
-    ++ with_each setting.Some (setting.Ends ∷ setting.Throughout ∷ [])
-    ++ with_each setting.Throughout (setting.Ends ∷ [])
+    ++ with_each setting.Alike (setting.Ends ∷ setting.After ∷ setting.Threads ∷ [])
+    ++ with_each setting.Leads (setting.After ∷ [])
+    ++ with_each setting.Always (setting.Some ∷ setting.Throughout ∷ setting.Ever ∷ setting.Never ∷ [])
+    ++ with_each setting.Some (setting.Throughout ∷ setting.Ever ∷ setting.Never ∷ [])
+    ++ with_each setting.Throughout (setting.Ever ∷ setting.Never ∷ [])
+    ++ with_each setting.Ever (setting.Never ∷ [])
 
 -- some pair of these stands on the line
 unfoldable pub has_apart : List Row → Bool

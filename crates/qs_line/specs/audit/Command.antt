@@ -73,36 +73,54 @@ times_rule = record (option_rule (codes "times")) { parser = Some (parser.Signed
 abbrev pub run_app : App
 run_app = shared_app (with_rule (shown_app (machine_app (codes "run"))) times_rule)
 
--- `WORD [--always COND] [--some COND] [--throughout COND]`
-abbrev pub claimed_app : App → App
-claimed_app app =
-    with_rule (with_rule (with_rule app (option_rule (codes "always"))) (option_rule (codes "some")))
-    (option_rule (codes "throughout"))
-
--- `outcomes [--limit N] [--after LIST] [--ends] [--estimate]`
-abbrev pub listing_app : App
-listing_app =
-    with_rule (with_rule (with_rule (with_rule (new_app (codes "outcomes")) limit_rule) (option_rule (codes "after")))
-    (flag_rule (codes "ends"))) (flag_rule (codes "estimate"))
-
--- `--front`, of 1 to 512
-abbrev pub front_rule : Rule
-front_rule = record (option_rule (codes "front")) { parser = Some (parser.Signed (pos 1) (pos 512)) }
-
 -- `--threads`, of 1 to 64
 abbrev pub threads_rule : Rule
 threads_rule = record (option_rule (codes "threads")) { parser = Some (parser.Signed (pos 1) (pos 64)) }
 
--- `.. [--alike] [--front K] [--leads LISTS] [--threads N]`
-abbrev pub searched_app : App → App
-searched_app app =
-    with_rule (with_rule (with_rule (with_rule app (flag_rule (codes "alike"))) front_rule)
-    (option_rule (codes "leads"))) threads_rule
+-- `.. [--after LIST]`
+abbrev pub after_app : App → App
+after_app app = with_rule app (option_rule (codes "after"))
 
--- `outcomes [--limit N] [--after LIST] [--ends] [--estimate] [--alike] [--front K] [--leads LISTS] [--threads N]
--- [--always COND] [--some COND] [--throughout COND] [--format F] [--warn]`
+-- `.. [--limit N] [--after LIST]`
+abbrev pub search_app : App → App
+search_app app = after_app (with_rule app limit_rule)
+
+-- `outcomes [--limit N] [--after LIST] [--ends] [--alike] [--threads N] [--format F] [--warn]`
 abbrev pub outcomes_app : App
-outcomes_app = shared_app (claimed_app (searched_app listing_app))
+outcomes_app =
+    shared_app (with_rule (with_rule (with_rule (search_app (new_app (codes "outcomes"))) (flag_rule (codes "ends")))
+    (flag_rule (codes "alike"))) threads_rule)
+
+-- `.. [--always COND] [--some COND] [--throughout COND] [--ever COND] [--never COND]`
+abbrev pub claimed_app : App → App
+claimed_app app =
+    with_rule (with_rule (with_rule (with_rule (with_rule app (option_rule (codes "always")))
+    (option_rule (codes "some"))) (option_rule (codes "throughout"))) (option_rule (codes "ever")))
+    (option_rule (codes "never"))
+
+-- `ask [--always COND] [--some COND] [--throughout COND] [--ever COND] [--never COND] [--limit N] [--after LIST]
+-- [--format F] [--warn]`
+abbrev pub ask_app : App
+ask_app = shared_app (search_app (claimed_app (new_app (codes "ask"))))
+
+-- `K`, of 1 to 512, which has to be there
+abbrev pub blocks_rule : Rule
+blocks_rule =
+    record (new_rule (codes "blocks")) {
+      action = Some Set;
+      value_names = 1;
+      parser = Some (parser.Signed (pos 1) (pos 512));
+      required = true;
+    }
+
+-- `fronts K [--limit N] [--after LIST] [--leads LISTS] [--format F] [--warn]`
+abbrev pub fronts_app : App
+fronts_app =
+    shared_app (with_rule (search_app (with_rule (new_app (codes "fronts")) blocks_rule)) (option_rule (codes "leads")))
+
+-- `estimate [--after LIST] [--format F] [--warn]`
+abbrev pub estimate_app : App
+estimate_app = shared_app (after_app (new_app (codes "estimate")))
 
 -- the program's name and its version, with no word `help`
 abbrev pub named_app : App
@@ -114,12 +132,15 @@ named_app =
       };
     }
 
--- `check [--verbose] [--format F] [--warn]` and `graph [--format F] [--warn]`
-abbrev pub texts_app : App
-texts_app = with_subcommand (with_subcommand named_app check_app.top) graph_app.top
+-- with the word of a command of its own
+abbrev pub with_word : App → App → App
+with_word app word = with_subcommand app word.top
+
+-- with the words of texts and of runs
+abbrev pub runs_app : App
+runs_app =
+    with_word (with_word (with_word (with_word (with_word named_app check_app) graph_app) rules_app) play_app) run_app
 
 -- the whole command
 abbrev pub qs_app : App
-qs_app =
-    with_subcommand (with_subcommand (with_subcommand (with_subcommand texts_app rules_app.top) play_app.top)
-    run_app.top) outcomes_app.top
+qs_app = with_word (with_word (with_word (with_word runs_app outcomes_app) ask_app) fronts_app) estimate_app

@@ -3,7 +3,7 @@ use Rattle.clap.specs.Built.{AddsArg}
 use Rattle.clap.specs.Words.{Rule, app_of, rule_of, with_rule}
 use Rattle.clap.specs.declared.builder.arg.Arg.{Arg}
 use Rattle.clap.specs.declared.builder.command.Command.{Command}
-use Rattle.qs_line.proofs.command.with_throughout.Goals as goal
+use Rattle.qs_line.proofs.command.with_condition.Goals as goal
 
 -- a command with one more argument has its rule
 adds : {E : Type 0} (old : Command) (a : Arg) (rule : Rule) (r : Result Command E) → IfOk r (λ new. AddsArg old a new) → a.global ≡ false → rule_of a ≡ rule
