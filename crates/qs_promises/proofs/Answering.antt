@@ -42,14 +42,14 @@ not_false true e = refl
 not_false false e = absurd (cc e)
 
 -- each legal order is come to
-rules_come : (p : ProgramShape) → IsSound p → (order : List Ticket) → IsLegal p order
+pub rules_come : (p : ProgramShape) → IsSound p → (order : List Ticket) → IsLegal p order
     → (picks : List Actor) × ComesTo p (by_rules picks 0) order
 rules_come p sound order legal =
     let found = orders_played p sound order legal in
     let there = found.1 in
     (there.picks, record { shown = found.0; run = run_of_played p there.picks 0 found.0 there.played; order = there.order; ended = there.ended })
 
-machine_comes : (p : ProgramShape) → IsSound p → (mode : Mode) (size : ℕ) (order : List Ticket) → IsLegal p order
+pub machine_comes : (p : ProgramShape) → IsSound p → (mode : Mode) (size : ℕ) (order : List Ticket) → IsLegal p order
     → (picks : List Actor) × ComesTo p (on_machine mode size picks 0) order
 machine_comes p sound mode size order legal =
     let codes = program_codes p sound mode in

@@ -13,6 +13,7 @@ use Rattle.qs_meaning.specs.Configurations.{OrderOutcome, outcome_of}
 use Rattle.qs_meaning.proofs.Each.{each_both, each_map}
 use Rattle.qs_meaning.proofs.Orders.{configurations_follow_orders}
 use Rattle.qs_standings.specs.Lists.{HasOne}
+use Rattle.qs_outcomes.specs.alike.AlikeOutcomes.{IsEnd}
 use Rattle.qs_outcomes.specs.Outcomes.{IsLeast, IsListed, IsListedAfter, outcome_at}
 use Rattle.qs_standings.specs.Standings.{StandingShape}
 use Rattle.qs_standings.proofs.Lists.{has_map}
@@ -22,7 +23,7 @@ use Rattle.qs_plain_laws.proofs.orders.BlockReached.{orders_played}
 use Rattle.qs_core_laws.proofs.orders.BlocksPlayed.{core_orders_played}
 use Rattle.qs_promises.specs.audit.Finished.{IsWholeRun, ShowsStates}
 use Rattle.qs_promises.specs.Finished.{FinishedRunsAreWhole}
-use Rattle.qs_promises.specs.Outcomes.{CanHappen, FinishedRunsAreCovered, Happens, IsAmong, IsCovered, ListedOutcomesCanHappen, ListsAreOfRuns, MachineReachesCompleteOrders, RulesReachCompleteOrders}
+use Rattle.qs_promises.specs.Outcomes.{AlikeListsAreOfRuns, CanHappen, FinishedRunsAreCovered, Happens, IsAmong, IsCovered, ListedOutcomesCanHappen, ListsAreOfRuns, MachineReachesCompleteOrders, RulesReachCompleteOrders}
 use Rattle.qs_promises.specs.audit.Runs.{by_rules, on_machine}
 use Rattle.qs_core_laws.proofs.ProgramCodes.{program_codes}
 use Rattle.qs_promises.proofs.Calls.{run_of_played, run_of_played_in}
@@ -130,4 +131,12 @@ lists_of_runs p sound front all are = record {
       (finished_covered p sound way r run finished).after front rest begins all.found are.complete;
   each = each_map {P = IsListedAfter p front} {Q = Happens p} (λ s listed. happens p sound s listed.complete listed.outcome) all.found
       are.sound;
+}
+
+pub alike_lists_of_runs : AlikeListsAreOfRuns
+alike_lists_of_runs p sound k all are = record {
+  every = λ way r run finished.
+      let covered = finished_covered p sound way r run finished in
+      (are.complete (outcome_of p r.order) (r.order, covered.complete, refl), covered.states);
+  each = each_map {P = IsEnd p} {Q = Happens p} (λ s end. happens p sound s end.complete end.outcome) all.found are.sound;
 }

@@ -9,3 +9,4 @@ pub mod Asked
 pub mod GoingOn
 pub mod Rounds
 pub mod Answering
+pub mod Passing

@@ -8,6 +8,7 @@ pub mod BlockAlone
 pub mod Undisturbed
 pub mod Finished
 pub mod Outcomes
+pub mod Fronts
 pub mod Answers
 pub mod AsAsked
 pub mod GoesOn

@@ -6,7 +6,9 @@ use Rattle.qs_program.specs.audit.Program.{ProgramShape}
 use Rattle.qs_program.specs.Sound.{IsSound}
 use Rattle.qs_meaning.specs.audit.Configurations.{IsComplete}
 use Rattle.qs_meaning.specs.Configurations.{outcome_of}
+use Rattle.qs_alike.specs.Changes.{Classes}
 use Rattle.qs_standings.specs.Lists.{HasOne}
+use Rattle.qs_outcomes.specs.alike.AlikeOutcomes.{AlikeShape, AreAlikeOutcomes, BecomesOutcome}
 use Rattle.qs_outcomes.specs.Outcomes.{AreAllOutcomes, AreAllOutcomesAfter, AreOutcomesAfter, IsLeast, IsListed, OutcomesShape, outcome_at}
 use Rattle.qs_standings.specs.Standings.{StandingShape}
 use Rattle.qs_syncset.specs.declared.mode.Mode.{Mode}
@@ -94,3 +96,18 @@ abbrev pub ListsAreOfRuns : Type 0
 ListsAreOfRuns =
     (p : ProgramShape) → IsSound p → (front : List Ticket) (all : OutcomesShape) → AreOutcomesAfter p front all
     → IsWholeList p front all.found
+
+-- A list that has one of all outcomes that differ by alike clients in each other's places. What every finished run comes
+-- to, in whichever way it is run, becomes one of these by such a change, and the run shows its objects; and each of
+-- these can happen.
+pub record IsWholeListUpTo (p : ProgramShape) (k : Classes) (found : List StandingShape) : Type 0 where
+  pub every : (way : Way) (r : Played) → IsRun p way r → r.finished ≡ true
+      → HasOne (λ s. BecomesOutcome k (outcome_of p r.order) (outcome_at s)) found
+      × ShowsStates p r (outcome_of p r.order).states
+  pub each : AllByRecursion (Happens p) found
+
+-- for every checked program, all classes of alike clients, and what `outcomes_alike` answers
+abbrev pub AlikeListsAreOfRuns : Type 0
+AlikeListsAreOfRuns =
+    (p : ProgramShape) → IsSound p → (k : Classes) (all : AlikeShape) → AreAlikeOutcomes p k all
+    → IsWholeListUpTo p k all.found

@@ -14,9 +14,11 @@ ghost use Rattle.qs_promises.specs.EnoughRounds.{
 };
 ghost use Rattle.qs_promises.specs.EveryBeginning.{EveryBeginningLeadsToAnOutcome};
 ghost use Rattle.qs_promises.specs.Finished.{FinishedRunsAreWhole};
+ghost use Rattle.qs_promises.specs.Fronts.{FrontsAreOfRuns};
 ghost use Rattle.qs_promises.specs.GoesOn.{MachinesGoOn, RulesGoOn, RunsGoOn};
 ghost use Rattle.qs_promises.specs.Isolated.{RunsAreIsolated};
 ghost use Rattle.qs_promises.specs.Outcomes.{
+  AlikeListsAreOfRuns,
   FinishedRunsAreCovered,
   ListedOutcomesCanHappen,
   ListsAreOfRuns,
@@ -73,9 +75,13 @@ pub fn outcomes_leave_nothing_out()
 
 /// A list of outcomes is of runs, also of those after a front: every finished run whose order begins with the front
 /// comes to one of them, and to each of them some picks lead the plain rules, and the optimised machine in each mode
-/// and with each size of chunks. It does nothing.
+/// and with each size of chunks. So it is of a list with one of all alike outcomes, up to changes of alike clients; and
+/// of fronts: what every finished run that goes on so far comes to, an order comes to that goes on from one of them. It
+/// does nothing.
 pub fn lists_are_of_runs()
     ensures lists { ListsAreOfRuns }
+    ensures alike { AlikeListsAreOfRuns }
+    ensures fronts { FrontsAreOfRuns }
 {}
 
 /// The answer to a claim is of runs. `always yes` says that its condition holds at the end of every finished run, and

@@ -1,7 +1,7 @@
 -- What is written reports a run that is as if serial, and answers are true of every run. It follows from what is due: the
 -- function `serve` stands on it. With the status 0 a text is due, of a script that is accepted, whose program is sound;
 -- by what the line asks for it is the report of a run, and all runs are as if serial.
-use Rattle.std.proofs.Common.{◌≡◌, ℕ, Bool, List, [], ◌∙◌, Option, Some, None, Result, Ok, Err, true, false, refl, sym, ap, subst, inl, inr, take, IsOkAnd, Vec}
+use Rattle.std.proofs.Common.{◌≡◌, ℕ, Bool, List, [], ◌∷◌, ◌++◌, ◌∙◌, Option, Some, None, Result, Ok, Err, true, false, refl, sym, ap, subst, inl, inr, take, IsOkAnd, Vec}
 use Rattle.std.specs.Prelude.{IfSome, MatchBool, if◌then◌else◌}
 use Rattle.std.specs.Global.{Global}
 use Rattle.std.specs.Io.KnownBytes.{Appends}
@@ -17,6 +17,9 @@ use Rattle.qs_line.specs.audit.Line.{Line, Request, alike, ask, asks, by_order, 
 use Rattle.qs_line.specs.audit.Named.{actors_of, clients_of}
 use Rattle.qs_line.specs.declared.line.Format.{Format}
 use Rattle.qs_line.specs.declared.line.Format.TheVariants as format
+use Rattle.qs_line.specs.declared.line.OutcomesFormat.{OutcomesFormat}
+use Rattle.qs_line.specs.declared.line.OutcomesFormat.TheVariants as outcomes_format
+use Rattle.qs_meaning.proofs.Each.{each_map}
 use Rattle.qs_line.specs.declared.line.ReportStyle.{ReportStyle}
 use Rattle.qs_line.specs.declared.parts.Part.{Part}
 use Rattle.qs_dot.specs.node_lines.NodeLines.{node_lines}
@@ -26,10 +29,13 @@ use Rattle.qs_program.specs.audit.Program.{ProgramShape}
 use Rattle.qs_program.specs.Sound.{IsSound}
 use Rattle.qs_promises.specs.Answers.{Says}
 use Rattle.qs_promises.specs.audit.Runs.{IsRun, Way, by_rules, on_machine, on_threads}
+use Rattle.qs_promises.specs.Fronts.{AreFrontsOfRuns}
 use Rattle.qs_promises.specs.Outcomes.{IsWholeList}
 use Rattle.qs_promises.proofs.Calls.{run_of_outcome, run_of_played, run_of_played_in}
 use Rattle.qs_promises.proofs.Answering.{answers_of_runs}
-use Rattle.qs_promises.proofs.Ending.{lists_of_runs}
+use Rattle.qs_promises.proofs.Ending.{alike_lists_of_runs, lists_of_runs}
+use Rattle.qs_promises.proofs.Passing.{fronts_of_runs}
+use Rattle.qs_run_laws.specs.Outcomes.{IsOutcome}
 use Rattle.qs_outcomes.specs.Answers.{AnswerShape}
 use Rattle.qs_outcomes.specs.Outcomes.{AreOutcomesAfter, OutcomesShape}
 use Rattle.qs_questions.specs.Claims.{IsAnswerTo}
@@ -47,9 +53,9 @@ use Rattle.qs_serve.specs.audit.RunReports.{report_by}
 use Rattle.qs_script.specs.audit.Reads.{IsScriptText}
 use Rattle.qs_serial.specs.audit.NamedOrders.{order_of}
 use Rattle.qs_serve.specs.audit.Due.{longest, told_report}
-use Rattle.qs_serve.specs.Due.{AreLinesWhere, IsAnswerBy, IsAnswerTextTo, IsDue, IsDueOfLine, IsDueOfText, IsDueOfTextAlone, IsTextBy, IsTextOfList, IsTextOfOutcomes, Lines, Serves, answer_in, due_status, due_text, listed_as, takes_threads}
+use Rattle.qs_serve.specs.Due.{AreFrontsTexts, AreLinesWhere, IsAlikeText, IsFrontsText, IsAnswerBy, IsAnswerTextTo, IsDue, IsDueOfLine, IsDueOfText, IsDueOfTextAlone, IsTextBy, IsTextOfOutcomes, Lines, Serves, answer_in, due_status, due_text, takes_threads}
 use Rattle.qs_serve.specs.audit.Headline.{IsAskedFor, IsHeadline, IsReported, IsToTheEnd}
-use Rattle.qs_serve.specs.Headline.{AreAnswersTrue, AreListsTrue, IsTrueAnswer, IsTrueList, asked_claim}
+use Rattle.qs_serve.specs.Headline.{AreAnswersTrue, AreListsTrue, AreTrueFronts, IsTextOfAll, IsTrueAnswer, IsTrueList, IsTrueOfRuns, asked_claim}
 use Rattle.qs_serve.specs.Reading.{Reading}
 use Rattle.qs_serve.specs.declared.due.Due.{Due}
 use Rattle.qs_serve.specs.declared.due.Due.TheVariants.{Text, No, Refused}
@@ -294,45 +300,81 @@ answers words before after old new failed status (due, how, is_due, formatted, f
     (sym e ∙ all.1) is all.0)
     (text_due request before.remaining after.has_failed due of_line none)
 
--- the outcomes of a list, as it was asked for
-an_outcome_list : (ends : Bool) (how : Format) (limit : ℕ) (clients : List ℕ) (p : ProgramShape) (bytes : List ℕ)
-    → IsTextOfOutcomes (listed_as ends how) p limit clients bytes
-    → (all : OutcomesShape) × AreOutcomesAfter p (order_of clients) all × IsTextOfList ends how p all bytes
+-- all outcomes, as they were asked for
+all_outcomes : (how : OutcomesFormat) (limit : ℕ) (clients : List ℕ) (p : ProgramShape) (bytes : List ℕ)
+    → IsTextOfOutcomes how p limit clients bytes
+    → (all : OutcomesShape) × AreOutcomesAfter p (order_of clients) all × IsTextOfAll how p all bytes
 unfolding IsOutcomesText IsOutcomesJson IsEndsText IsEndsJson
-an_outcome_list false format.Text limit clients p bytes (all, are, within, is) = (all, are, is)
-an_outcome_list false format.Json limit clients p bytes (all, are, within, is) = (all, are, is)
-an_outcome_list true format.Text limit clients p bytes (all, are, within, words, is) = (all, are, (words, is))
-an_outcome_list true format.Json limit clients p bytes (all, are, within, words, is) = (all, are, (words, is))
+all_outcomes (outcomes_format.List format.Text) limit clients p bytes (all, are, within, is) = (all, are, is)
+all_outcomes (outcomes_format.List format.Json) limit clients p bytes (all, are, within, is) = (all, are, is)
+all_outcomes (outcomes_format.Ends format.Text) limit clients p bytes (all, are, within, words, is) = (all, are, (words, is))
+all_outcomes (outcomes_format.Ends format.Json) limit clients p bytes (all, are, within, words, is) = (all, are, (words, is))
+all_outcomes outcomes_format.Dot limit clients p bytes is = (is.all, is.outcomes, (is.chart, is.drawn))
 
-listed_due : (ends : Bool) (how shown : Format) (limit threads : ℕ) (front : List Part) (text : List ℕ) (old new : Option (List ℕ)) (due : Due)
-    → 0 ≡ due_status due → IsDueOfText (outcomes (listed_as ends how) limit threads front) text due → Appends old new (due_text shown due)
-    → IsTrueList ends how front text old new
-listed_due ends how shown limit threads front text old new (Text bytes) e (s, script, accepted, is) written =
-    let who = named (clients_of (program_of_items s) front) _ is in
-    let found = an_outcome_list ends how limit who.0 (program_of_items s) bytes.items who.2 in
+module _ (p : ProgramShape) (sound : IsSound p) where
+  true_fronts : (how : Format) (blocks : ℕ) (orders : List (List Part)) (text : List ℕ) → AreFrontsTexts how p blocks orders text
+      → AreTrueFronts how p blocks orders text
+  unfolding IsFrontsText
+  true_fronts how blocks [] text is = is
+  true_fronts how blocks (order ∷ orders) text (own, rest, first, others, is) =
+      let who = named (clients_of p order) _ first in (
+        who.2.0,
+        rest,
+        of_named (λ xs. AreFrontsOfRuns p (order_of xs) blocks who.2.0) _ who.0 who.1
+            (fronts_of_runs p sound (order_of who.0) blocks who.2.0 who.2.1),
+        true_fronts how blocks orders rest others,
+        is ∙ ap (λ l. l ++ rest) who.2.3,
+      )
+
+  -- what a text says is so of the runs of the program
+  true_of_runs : (request : Request) (lines : Lines) (bytes : List ℕ) → IsTextBy request lines p bytes → IsTrueOfRuns request p bytes
+  unfolding IsAlikeText
+  true_of_runs (outcomes how limit threads front) lines bytes is =
+      let who = named (clients_of p front) _ is in
+      let found = all_outcomes how limit who.0 p bytes who.2 in (
+        found.0,
+        found.2,
+        of_named (λ xs. IsWholeList p (order_of xs) found.0.found) _ who.0 who.1
+            (lists_of_runs p sound (order_of who.0) found.0 found.1),
+      )
+  true_of_runs (alike how limit) lines bytes (k, classes, (all, are, within, is)) =
+      (k, classes, (all, alike_lists_of_runs p sound k all are, is))
+  true_of_runs (fronts how blocks limit orders) lines bytes is = true_fronts how blocks orders bytes is
+  true_of_runs (tally how mode size times) lines bytes (t, by, is) = (
+    t,
     record {
-      script = s;
-      read = script;
-      accepted = accepted;
-      all = found.0;
-      bytes = bytes.items;
-      list = found.2;
-      written = written;
-      of_runs = of_named (λ xs. IsWholeList (program_of_items s) (order_of xs) found.0.found) _ who.0 who.1
-          (lists_of_runs (program_of_items s) (sound_script text s script accepted) (order_of who.0) found.0 found.1);
-    }
-listed_due ends how shown limit threads front text old new (No bytes) e is written = absurd (cc e)
-listed_due ends how shown limit threads front text old new (Refused f) e is written = absurd (zero_is_none f (sym e))
+      runs = by.runs;
+      many = by.all_runs;
+      each = each_map {P = IsOutcome p mode size} {Q = λ r. IsRun p (on_threads mode size) r × (r.finished ≡ true)}
+          (λ r outcome. (run_of_outcome p mode size r outcome, outcome.finished)) by.runs by.each;
+      counted = by.counted;
+    },
+    is,
+  )
+  true_of_runs _ lines bytes is = tt
+
+listed_due : (request : Request) (shown : Format) (text : List ℕ) (old new : Option (List ℕ)) (due : Due)
+    → 0 ≡ due_status due → IsDueOfText request text due → Appends old new (due_text shown due) → IsTrueList request text old new
+listed_due request shown text old new (Text bytes) e (s, script, accepted, is) written = record {
+  script = s;
+  read = script;
+  accepted = accepted;
+  bytes = bytes.items;
+  written = written;
+  of_runs = true_of_runs (program_of_items s) (sound_script text s script accepted) request (node_lines text s) bytes.items is;
+}
+listed_due request shown text old new (No bytes) e is written = absurd (cc e)
+listed_due request shown text old new (Refused f) e is written = absurd (zero_is_none f (sym e))
 
 pub lists : (words : List (List ℕ)) (before after : Reading) (old new : Option (List ℕ)) (failed : Bool) (status : ℕ)
     → Serves words before after old new failed status → status ≡ 0 → AreListsTrue words before.remaining old new
-lists words before after old new failed status (due, how, is_due, formatted, front, ending) zero ends shown limit threads clients line =
+lists words before after old new failed status (due, how, is_due, formatted, front, ending) zero request line =
     let all = done _ failed status (due_status due) ending (λ four. absurd (cc (zero, four))) in
     let none = not_refused 0 due (λ f z. zero_is_none f (sym z)) (sym zero ∙ all.1) in
     let of_line = subst (λ l. IsDue l before.remaining after.has_failed due) line is_due in
     of_known before.remaining _ _
-    (λ bytes is. listed_due ends shown how limit threads clients (take longest bytes) old new due (sym zero ∙ all.1) is all.0)
-    (text_due (outcomes (listed_as ends shown) limit threads clients) before.remaining after.has_failed due of_line none)
+    (λ bytes is. listed_due request how (take longest bytes) old new due (sym zero ∙ all.1) is all.0)
+    (text_due request before.remaining after.has_failed due of_line none)
 
 -- Where there are no threads, a text that is due is due of the script's text.
 picked : (b : Bool) (P : Type 0) → MatchBool b ⊥ P → P

@@ -1,25 +1,39 @@
 -- Beside what the headline reaches (`audit/Headline.antt`): what else contracts and proofs use.
-use Rattle.std.specs.Prelude.{◌≡◌, ℕ, List, take, Bool, if◌then◌else◌, Option, Some, None, IfSome, IsOkAnd}
+use Rattle.std.specs.Prelude.{◌≡◌, ℕ, List, [], ◌∷◌, ◌++◌, length, map, take, Bool, true, false, if◌then◌else◌, Option, Some, None, IfSome, IsOkAnd, ⊤}
+use Rattle.std.specs.List.{AllByRecursion}
 use Rattle.std.specs.Io.KnownBytes.{Appends}
+use Rattle.qs_alike.specs.Changes.{Classes}
 use Rattle.qs_check.specs.audit.Checked.{fault_of}
 use Rattle.qs_conditions.specs.Conditions.{Tree, steps_of}
 use Rattle.qs_conditions.specs.declared.claim.Claim.{Claim}
-use Rattle.qs_line.specs.audit.Line.{Request, ask, asks, outcomes}
+use Rattle.qs_dot.specs.ChartDot.{chart_text}
+use Rattle.qs_dot.specs.Charts.{ChartShape}
+use Rattle.qs_line.specs.audit.Line.{Request, alike, ask, asks, fronts, outcomes, tally}
 use Rattle.qs_line.specs.Line.{line_in}
 use Rattle.qs_line.specs.audit.Named.{clients_of}
 use Rattle.qs_line.specs.declared.line.Format.{Format}
+use Rattle.qs_line.specs.declared.line.OutcomesFormat.{OutcomesFormat}
+use Rattle.qs_line.specs.declared.line.OutcomesFormat.TheVariants as outcomes_format
 use Rattle.qs_line.specs.declared.parts.Part.{Part}
 use Rattle.qs_outcomes.specs.Answers.{AnswerShape}
+use Rattle.qs_outcomes.specs.alike.AlikeOutcomes.{AlikeShape}
 use Rattle.qs_outcomes.specs.Outcomes.{OutcomesShape}
 use Rattle.qs_promises.specs.Answers.{Says}
-use Rattle.qs_promises.specs.Outcomes.{IsWholeList}
+use Rattle.qs_played.specs.audit.Played.{Played}
+use Rattle.qs_program.specs.audit.Program.{ProgramShape}
+use Rattle.qs_promises.specs.Fronts.{AreFrontsOfRuns}
+use Rattle.qs_promises.specs.Outcomes.{IsWholeList, IsWholeListUpTo}
+use Rattle.qs_promises.specs.audit.Runs.{IsRun, on_threads}
 use Rattle.qs_report.specs.AnswerText.{is_yes}
 use Rattle.qs_check.specs.audit.resolution.Resolve.{program_of_items}
 use Rattle.qs_script.specs.audit.Reads.{IsScriptText}
 use Rattle.qs_serial.specs.audit.NamedOrders.{order_of}
 use Rattle.qs_serve.specs.audit.Due.{longest}
-use Rattle.qs_serve.specs.Due.{IsTextOfList, answer_in, listed_as}
+use Rattle.qs_serve.specs.Due.{AreTheClasses, IsTextOfList, alike_in, answer_in, fronts_in, tally_in}
 use Rattle.qs_script.specs.declared.tree.tree.Item.{Item}
+use Rattle.qs_standings.specs.Standings.{StandingShape}
+use Rattle.qs_syncset.specs.declared.mode.Mode.{Mode}
+use Rattle.qs_tally.specs.Tallies.{IsCountOf, TallyShape}
 
 -- the claim that a request asks, in which format, and after the blocks of which clients
 abbrev pub asked_claim : Request → Option (Claim × Format × List Part)
@@ -49,24 +63,54 @@ AreAnswersTrue words known old new status =
     → asked_claim request ≡ Some (claim, how, front) → (holds : Bool) → status ≡ (if holds then 0 else 1)
     → IfSome known (λ bytes. IsTrueAnswer claim how front holds (take longest bytes) old new)
 
--- The text is a script, which is accepted; what was written lists outcomes of its program, or their ends alone; and these
--- are all to which finished runs come whose order begins with the blocks of the clients that the front names, and each
--- of them can happen (`IsWholeList`).
-pub record IsTrueList (ends : Bool) (how : Format) (front : List Part) (text : List ℕ)
-    (old new : Option (List ℕ)) : Type 0 where
+-- all outcomes after a front in a format: a list, their ends alone, or a drawing in which ends have their numbers
+abbrev pub IsTextOfAll : OutcomesFormat → ProgramShape → OutcomesShape → List ℕ → Type 0
+IsTextOfAll (outcomes_format.List how) p all text = IsTextOfList false how p all text
+IsTextOfAll (outcomes_format.Ends how) p all text = IsTextOfList true how p all text
+IsTextOfAll outcomes_format.Dot p all text = (chart : ChartShape) × (text ≡ chart_text p all.found chart)
+
+-- after each of some lists of clients, one behind another, fronts of so many blocks that are of runs
+abbrev pub AreTrueFronts : Format → ProgramShape → (blocks : ℕ) → (orders : List (List Part)) → List ℕ → Type 0
+AreTrueFronts how p blocks [] text = text ≡ []
+AreTrueFronts how p blocks (order ∷ orders) text =
+    (found : List StandingShape) × (rest : List ℕ)
+    × IsOkAnd (clients_of p order) (λ clients. AreFrontsOfRuns p (order_of clients) blocks found)
+    × AreTrueFronts how p blocks orders rest × (text ≡ fronts_in how p found ++ rest)
+
+-- so many finished runs on threads, in this mode and with chunks of this size, of whose orders this is the count
+pub record AreCountedRuns (p : ProgramShape) (mode : Mode) (size times : ℕ) (t : TallyShape) : Type 0 where
+  pub runs : List Played
+  pub many : length runs ≡ times
+  pub each : AllByRecursion (λ r. IsRun p (on_threads mode size) r × (r.finished ≡ true)) runs
+  pub counted : IsCountOf p (map (λ (r : Played). r.order) runs) t.ends
+
+-- What a list says of runs. All outcomes are those to which finished runs come whose order begins with the blocks of the
+-- clients that the front names, and each of them can happen (`IsWholeList`); one of all alike ones is so up to changes
+-- of alike clients. After fronts all such runs go on, and each front can be passed. And counts are those of runs that
+-- were made.
+abbrev pub IsTrueOfRuns : Request → ProgramShape → List ℕ → Type 0
+IsTrueOfRuns (outcomes how limit threads front) p text =
+    (all : OutcomesShape) × IsTextOfAll how p all text
+    × IsOkAnd (clients_of p front) (λ clients. IsWholeList p (order_of clients) all.found)
+IsTrueOfRuns (alike how limit) p text =
+    (k : Classes) × AreTheClasses p k × ((all : AlikeShape) × IsWholeListUpTo p k all.found × (text ≡ alike_in how p all))
+IsTrueOfRuns (fronts how blocks limit orders) p text = AreTrueFronts how p blocks orders text
+IsTrueOfRuns (tally how mode size times) p text =
+    (t : TallyShape) × AreCountedRuns p mode size times t × (text ≡ tally_in how p times t)
+IsTrueOfRuns _ p text = ⊤
+
+-- The text is a script, which is accepted; and what was written says what is true of the runs of its program.
+pub record IsTrueList (request : Request) (text : List ℕ) (old new : Option (List ℕ)) : Type 0 where
   pub script : List Item
   pub read : IsScriptText text script
   pub accepted : fault_of script ≡ None
-  pub all : OutcomesShape
   pub bytes : List ℕ
-  pub list : IsTextOfList ends how (program_of_items script) all bytes
   pub written : Appends old new bytes
-  pub of_runs : IsOkAnd (clients_of (program_of_items script) front)
-      (λ clients. IsWholeList (program_of_items script) (order_of clients) all.found)
+  pub of_runs : IsTrueOfRuns request (program_of_items script) bytes
 
--- Where the line asks for all outcomes, as a list and in no drawing, and the status is 0, the list is true of every run.
+-- Where the line asks for all outcomes (as a list, their ends alone, one of all alike ones, or a drawing), for fronts, or
+-- for the ends of many runs on threads, and the status is 0, what was written is true of every run.
 abbrev pub AreListsTrue : List (List ℕ) → Option (List ℕ) → (old new : Option (List ℕ)) → Type 0
 AreListsTrue words known old new =
-    (ends : Bool) (how : Format) (limit threads : ℕ) (front : List Part)
-    → line_in words ≡ asks (outcomes (listed_as ends how) limit threads front)
-    → IfSome known (λ bytes. IsTrueList ends how front (take longest bytes) old new)
+    (request : Request) → line_in words ≡ asks request
+    → IfSome known (λ bytes. IsTrueList request (take longest bytes) old new)

@@ -58,7 +58,7 @@ pub struct Call<'a> {
 ///
 /// The headline: where the status is 0 and the line asks for a run by `rules`, `play` or `run`, what is written is the
 /// report of a run of the input's script in which every block had what it would have had alone. Where it asks a claim,
-/// or for all outcomes as a list, what is written is true of every run.
+/// or for outcomes, fronts or the ends of many runs, what is written is true of every run.
 pub fn serve_with<
     'a,
     T: Threads + Wait + Clock + Files + Alloc<A = Global> + Sync,
