@@ -2,7 +2,7 @@
 -- after a Sync it is without its object. The proofs of the optimised machine and of a handler's thread use these laws.
 -- Each goes by cases on the handler's state, which the proof search finds from the definitions.
 use Rattle.std.proofs.Common.{rules}
-use Rattle.qs_handler.specs.HandlerLaws.{ActsLoseNothing, TicketsAreAskedFor, ParcelsStand, SyncsTakeTheObject}
+use Rattle.qs_handler.specs.HandlerLaws.{ActsLoseNothing, TicketsAreAskedFor, ParcelsStand}
 
 pub acts_lose_nothing : ActsLoseNothing
 acts_lose_nothing = search rules
@@ -12,6 +12,3 @@ tickets_are_asked_for = search rules
 
 pub parcels_stand : ParcelsStand
 parcels_stand = search rules
-
-pub syncs_take_the_object : SyncsTakeTheObject
-syncs_take_the_object = search rules

@@ -1,14 +1,13 @@
 -- A handler's whole run is a turn for each ticket: by induction over its tasks, from the last to the first. While a
 -- block is served, what is to come is the rest of its turn, by the state that the handler is in, and then the turns of
 -- the tickets after it.
-use Rattle.std.proofs.Common.{◌≡◌, ℕ, Bool, true, false, ◌==◌, if◌then◌else◌, List, [], ◌∷◌, ◌++◌, map, flat_map, refl, sym, ap, ◌∙◌, subst, Some}
+use Rattle.std.proofs.Common.{◌≡◌, ℕ, Bool, true, false, ◌==◌, if◌then◌else◌, List, [], ◌∷◌, ◌++◌, map, flat_map, refl, sym, ap, ◌∙◌, subst, Some, rules}
 use Rattle.qs_objects.specs.audit.Journals.{HeldState}
 use Rattle.qs_objects.specs.declared.held.Next.TheVariants.{Ticket, Closed}
 use Rattle.qs_objects.specs.declared.held.Ticket as tickets
 use Rattle.qs_chunk.specs.LaneViews.{HandlerLane, over}
-use Rattle.qs_chunk.specs.audit.Runs.{ran_all}
 use Rattle.qs_chunk.specs.declared.parcel.Parcel.{Parcel}
-use Rattle.qs_chunk.specs.declared.parcel.Parcel.TheVariants.{Work, Sync, Home, End}
+use Rattle.qs_chunk.specs.declared.parcel.Parcel.TheVariants.{Home, End}
 use Rattle.qs_handler.specs.audit.Handler as handlers
 use Rattle.qs_handler.specs.audit.Handler.{Handler, free, serves, away, closed, act_of, gave, accept_next, accept_parcel}
 use Rattle.qs_handler.specs.audit.HandlerRuns.{Task, takes, receives, gives, spares, TasksLead, received_from, given_to, taken_by}
@@ -50,21 +49,15 @@ Comes (closed x) tasks z = (tasks ≡ []) × (x ≡ z)
 -- what a client's turns have, with one more turn before them
 first_turn : {A : Type 0} (f : Turn → List A) (u : Turn) (us : List Turn) (c : ℕ)
     → flat_map f (turns_for c (u ∷ us)) ≡ (if u.ticket.client == c then f u else []) ++ flat_map f (turns_for c us)
-first_turn f u us c = by_case (u.ticket.client == c)
-  where
-    by_case : (b : Bool) → flat_map f (if b then u ∷ turns_for c us else turns_for c us) ≡ (if b then f u else []) ++ flat_map f (turns_for c us)
-    by_case true = refl
-    by_case false = refl
+first_turn f u us c = search rules
 
 -- one more value of a client, before those of its turn
 one_more : {A : Type 0} (b : Bool) (x : A) (xs ys all : List A)
     → all ≡ (if b then xs else []) ++ ys → (if b then x ∷ all else all) ≡ (if b then x ∷ xs else []) ++ ys
-one_more true x xs ys all e = ap (λ zs. x ∷ zs) e
-one_more false x xs ys all e = e
+one_more b x xs ys all e = search rules
 
 nothing_more : {A : Type 0} (b : Bool) (ys : List A) → ys ≡ (if b then [] else []) ++ ys
-nothing_more true ys = refl
-nothing_more false ys = refl
+nothing_more b ys = search rules
 
 -- a ticket is taken: its turn is whole
 takes_ticket : (t : tickets.Ticket) (x : HeldState) (tasks : List Task) (z : HeldState)
@@ -81,54 +74,22 @@ takes_ticket t x tasks z k =
 
 -- no further ticket comes: nothing follows
 takes_closed : (x : HeldState) (tasks : List Task) (z : HeldState) → Comes (closed x) tasks z → HasTurns x (takes Closed ∷ tasks) z
-takes_closed x tasks z k =
-    subst (λ ts. HasTurns x (takes Closed ∷ ts) z) (sym k.0)
-    (record { turns = []; lead = k.1; taken = refl; received = λ c. refl; given = λ c. refl })
+takes_closed x tasks z k = search rules
 
 module _ (t : tickets.Ticket) (Leads Led : List Parcel → List HeldState → HeldState → Type 0) (tasks : List Task) (z : HeldState) where
   parcel_more : (p : Parcel) → ((ps : List Parcel) (xs : List HeldState) (y : HeldState) → Leads ps xs y → Led (p ∷ ps) xs y)
       → RestOf t Leads tasks z → RestOf t Led (receives t.client p ∷ tasks) z
-  parcel_more p leads k = record {
-    parcels = p ∷ k.parcels;
-    objects = k.objects;
-    left = k.left;
-    turns = k.turns;
-    rest = leads k.parcels k.objects k.left k.rest;
-    lead = k.lead;
-    taken = k.taken;
-    received = λ c. one_more (t.client == c) p k.parcels (flat_map (λ (u : Turn). u.received) (turns_for c k.turns)) (received_from c tasks) (k.received c);
-    given = k.given;
-  }
+  parcel_more p leads k = search rules
 
   object_more : (x : HeldState) → ((ps : List Parcel) (xs : List HeldState) (y : HeldState) → Leads ps xs y → Led ps (x ∷ xs) y)
       → RestOf t Leads tasks z → RestOf t Led (gives t.client x ∷ tasks) z
-  object_more x leads k = record {
-    parcels = k.parcels;
-    objects = x ∷ k.objects;
-    left = k.left;
-    turns = k.turns;
-    rest = leads k.parcels k.objects k.left k.rest;
-    lead = k.lead;
-    taken = k.taken;
-    received = k.received;
-    given = λ c. one_more (t.client == c) x k.objects (flat_map (λ (u : Turn). u.gave) (turns_for c k.turns)) (given_to c tasks) (k.given c);
-  }
+  object_more x leads k = search rules
 
 -- an empty chunk that goes back changes nothing of the turn
 chunk_more : (t : tickets.Ticket) (Leads : List Parcel → List HeldState → HeldState → Type 0) (task : Task) (tasks : List Task) (z : HeldState)
     → taken_by (task ∷ tasks) ≡ taken_by tasks → ((c : ℕ) → received_from c (task ∷ tasks) ≡ received_from c tasks)
     → ((c : ℕ) → given_to c (task ∷ tasks) ≡ given_to c tasks) → RestOf t Leads tasks z → RestOf t Leads (task ∷ tasks) z
-chunk_more t Leads task tasks z no_ticket no_parcel no_object k = record {
-  parcels = k.parcels;
-  objects = k.objects;
-  left = k.left;
-  turns = k.turns;
-  rest = k.rest;
-  lead = k.lead;
-  taken = no_ticket ∙ k.taken;
-  received = λ c. no_parcel c ∙ k.received c;
-  given = λ c. no_object c ∙ k.given c;
-}
+chunk_more t Leads task tasks z no_ticket no_parcel no_object k = search rules
 
 -- the End ends the turn, and the next ones are those of a free handler
 end_more : (t : tickets.Ticket) (x : HeldState) (tasks : List Task) (z : HeldState)
@@ -153,64 +114,31 @@ comes_of h new tasks z e k = subst (λ m. Comes m tasks z) (cc (e)) k
 
 serves_on : (t : tickets.Ticket) (x : HeldState) (p : Parcel) (new : Handler) (tasks : List Task) (z : HeldState)
     → accept_parcel (serves t x) p ≡ Some new → Comes new tasks z → Comes (serves t x) (receives t.client p ∷ tasks) z
-serves_on t x (Work chunk) new tasks z e k =
-    parcel_more t (Has t (ran_all x t chunk.items)) (Has t x) tasks z (Work chunk) (λ ps xs y l. l)
-    (comes_of (handlers.spares t (ran_all x t chunk.items) chunk.capacity) new tasks z e k)
-serves_on t x Sync new tasks z e k =
-    parcel_more t (Owes t x) (Has t x) tasks z Sync (λ ps xs y l. l) (comes_of (handlers.gives t x) new tasks z e k)
 serves_on t x (Home y) new tasks z e k = absurd (cc (e))
 serves_on t x End new tasks z e k = end_more t x tasks z (comes_of (free x) new tasks z e k)
+serves_on t x _ new tasks z e k = search (rules, parcel_more, comes_of)
 
 comes_home : (t : tickets.Ticket) (p : Parcel) (new : Handler) (tasks : List Task) (z : HeldState)
     → accept_parcel (away t) p ≡ Some new → Comes new tasks z → Comes (away t) (receives t.client p ∷ tasks) z
-comes_home t (Home y) new tasks z e k =
-    parcel_more t (Has t y) (Lent t) tasks z (Home y) (λ ps xs left l x. (xs, refl, l)) (comes_of (serves t y) new tasks z e k)
-comes_home t (Work chunk) new tasks z e k = absurd (cc (e))
-comes_home t Sync new tasks z e k = absurd (cc (e))
-comes_home t End new tasks z e k = absurd (cc (e))
+comes_home t (Home y) new tasks z e k = search (rules, parcel_more, comes_of)
+comes_home t _ new tasks z e k = absurd (cc (e))
 
 run_comes : (tasks : List Task) (h : Handler) (z : HeldState) → TasksLead h tasks (closed z) → Comes h tasks z
-run_comes [] (free x) z leads = absurd (cc (leads))
-run_comes [] (serves t x) z leads = absurd (cc (leads))
-run_comes [] (handlers.spares t x n) z leads = absurd (cc (leads))
-run_comes [] (handlers.gives t x) z leads = absurd (cc (leads))
-run_comes [] (away t) z leads = absurd (cc (leads))
 run_comes [] (closed x) z leads = (refl, cc (leads))
 run_comes (takes (Ticket t) ∷ tasks) (free x) z leads =
     takes_ticket t x tasks z (comes_of (serves t x) leads.0 tasks z leads.1 (run_comes tasks leads.0 z leads.2))
 run_comes (takes Closed ∷ tasks) (free x) z leads =
     takes_closed x tasks z (comes_of (closed x) leads.0 tasks z leads.1 (run_comes tasks leads.0 z leads.2))
-run_comes (takes next ∷ tasks) (serves t x) z leads = absurd (cc (leads.1))
-run_comes (takes next ∷ tasks) (handlers.spares t x n) z leads = absurd (cc (leads.1))
-run_comes (takes next ∷ tasks) (handlers.gives t x) z leads = absurd (cc (leads.1))
-run_comes (takes next ∷ tasks) (away t) z leads = absurd (cc (leads.1))
-run_comes (takes next ∷ tasks) (closed x) z leads = absurd (cc (leads.1))
-run_comes (receives c p ∷ tasks) (free x) z leads = absurd (cc (leads.1))
-run_comes (receives c p ∷ tasks) (serves t x) z leads =
-    subst (λ c. Comes (serves t x) (receives c p ∷ tasks) z) (cc (leads.1))
-    (serves_on t x p leads.0 tasks z leads.2 (run_comes tasks leads.0 z leads.3))
-run_comes (receives c p ∷ tasks) (handlers.spares t x n) z leads = absurd (cc (leads.1))
-run_comes (receives c p ∷ tasks) (handlers.gives t x) z leads = absurd (cc (leads.1))
-run_comes (receives c p ∷ tasks) (away t) z leads =
-    subst (λ c. Comes (away t) (receives c p ∷ tasks) z) (cc (leads.1))
-    (comes_home t p leads.0 tasks z leads.2 (run_comes tasks leads.0 z leads.3))
-run_comes (receives c p ∷ tasks) (closed x) z leads = absurd (cc (leads.1))
-run_comes (gives c y ∷ tasks) (free x) z leads = absurd (cc (leads.0))
-run_comes (gives c y ∷ tasks) (serves t x) z leads = absurd (cc (leads.0))
-run_comes (gives c y ∷ tasks) (handlers.spares t x n) z leads = absurd (cc (leads.0))
+run_comes (takes next ∷ tasks) _ z leads = absurd (cc (leads.1))
+run_comes (receives c p ∷ tasks) (serves t x) z leads = search (rules, serves_on, run_comes tasks leads.0 z leads.3)
+run_comes (receives c p ∷ tasks) (away t) z leads = search (rules, comes_home, run_comes tasks leads.0 z leads.3)
+run_comes (receives c p ∷ tasks) _ z leads = absurd (cc (leads.1))
 run_comes (gives c y ∷ tasks) (handlers.gives t x) z leads =
-    subst (λ c. Comes (handlers.gives t x) (gives c y ∷ tasks) z) (cc (leads.0))
-    (subst (λ y. Comes (handlers.gives t x) (gives t.client y ∷ tasks) z) (cc (leads.0))
-    (object_more t (Lent t) (Owes t x) tasks z x (λ ps xs left l. l x) (run_comes tasks (away t) z leads.1)))
-run_comes (gives c y ∷ tasks) (away t) z leads = absurd (cc (leads.0))
-run_comes (gives c y ∷ tasks) (closed x) z leads = absurd (cc (leads.0))
-run_comes (spares c chunk ∷ tasks) (free x) z leads = absurd (cc (leads.0))
-run_comes (spares c chunk ∷ tasks) (serves t x) z leads = absurd (cc (leads.0))
+    search (rules, object_more, run_comes tasks (away t) z leads.1)
 run_comes (spares c chunk ∷ tasks) (handlers.spares t x n) z leads =
     chunk_more t (Has t x) (spares c chunk) tasks z refl (λ c. refl) (λ c. refl) (run_comes tasks (serves t x) z leads.1)
-run_comes (spares c chunk ∷ tasks) (handlers.gives t x) z leads = absurd (cc (leads.0))
-run_comes (spares c chunk ∷ tasks) (away t) z leads = absurd (cc (leads.0))
-run_comes (spares c chunk ∷ tasks) (closed x) z leads = absurd (cc (leads.0))
+run_comes (_ ∷ tasks) _ z leads = absurd (cc (leads.0))
+run_comes [] _ z leads = absurd (cc (leads))
 
 pub handlers_take_turns : HandlersTakeTurns
 handlers_take_turns x z tasks leads = run_comes tasks (free x) z leads

@@ -2,7 +2,7 @@
 -- for a Sync that is not served yet, and gives back empty chunks of the lane's size. The proof of the loop in a
 -- handler's thread stands on it. It goes by induction on the tasks of the run, with cases on whether a task is with
 -- this client or with another.
-use Rattle.std.proofs.Common.{◌≡◌, ℕ, true, false, ◌==◌, if◌then◌else◌, List, [], ◌∷◌, ◌++◌, refl, sym, subst, ⊎_elim, append_assoc, append-nil}
+use Rattle.std.proofs.Common.{◌≡◌, ℕ, false, ◌==◌, List, [], ◌∷◌, ◌++◌, refl, sym, subst, ⊎_elim, append_assoc, append-nil, rules}
 use Rattle.std.specs.List.{AllByRecursion}
 use Rattle.qs_objects.specs.audit.Journals.{HeldState}
 use Rattle.qs_objects.proofs.Choices.{apart_eqb, eqb_self, num_cases}
@@ -22,42 +22,29 @@ module _ (size client : ℕ) where
 
   module _ (end : Handler) (parcels : List Parcel) (given : List HeldState) (tasks : List Task) where
     own_parcel : (p : Parcel) → Comes end (parcels ++ p ∷ []) given tasks → Comes end parcels given (receives client p ∷ tasks)
-    own_parcel p comes =
-        subst (λ b. HandlerFitsLane size client end (parcels ++ (if b then p ∷ received_from client tasks else received_from client tasks)) (given ++ given_to client tasks)) (sym (eqb_self client))
-        (subst (λ ps. HandlerFitsLane size client end ps (given ++ given_to client tasks)) (append_assoc parcels (p ∷ []) (received_from client tasks)) comes)
+    own_parcel p comes = search (rules, eqb_self, append_assoc)
 
     other_parcel : (c : ℕ) (p : Parcel) → (c == client) ≡ false → Comes end parcels given tasks → Comes end parcels given (receives c p ∷ tasks)
-    other_parcel c p apart comes =
-        subst (λ b. HandlerFitsLane size client end (parcels ++ (if b then p ∷ received_from client tasks else received_from client tasks)) (given ++ given_to client tasks)) (sym apart) comes
+    other_parcel c p apart comes = search rules
 
     own_object : (x : HeldState) → Comes end parcels (given ++ x ∷ []) tasks → Comes end parcels given (gives client x ∷ tasks)
-    own_object x comes =
-        subst (λ b. HandlerFitsLane size client end (parcels ++ received_from client tasks) (given ++ (if b then x ∷ given_to client tasks else given_to client tasks))) (sym (eqb_self client))
-        (subst (λ xs. HandlerFitsLane size client end (parcels ++ received_from client tasks) xs) (append_assoc given (x ∷ []) (given_to client tasks)) comes)
+    own_object x comes = search (rules, eqb_self, append_assoc)
 
     other_object : (c : ℕ) (x : HeldState) → (c == client) ≡ false → Comes end parcels given tasks → Comes end parcels given (gives c x ∷ tasks)
-    other_object c x apart comes =
-        subst (λ b. HandlerFitsLane size client end (parcels ++ received_from client tasks) (given ++ (if b then x ∷ given_to client tasks else given_to client tasks))) (sym apart) comes
-
-  is_own : (c : ℕ) → c ≡ client → (c == client) ≡ true
-  is_own c same = subst (λ k. (c == k) ≡ true) same (eqb_self c)
+    other_object c x apart comes = search rules
 
   -- the sizes of the parcel that comes, and of those after it
   own_sizes : (c : ℕ) (p : Parcel) (tasks : List Task) → c ≡ client → AllByRecursion (HasSize size) (received_from client (receives c p ∷ tasks))
       → HasSize size p × AllByRecursion (HasSize size) (received_from client tasks)
-  own_sizes c p tasks same sized =
-      subst (λ b. AllByRecursion (HasSize size) (if b then p ∷ received_from client tasks else received_from client tasks)) (is_own c same) sized
+  own_sizes c p tasks same sized = search rules
 
   other_sizes : (c : ℕ) (p : Parcel) (tasks : List Task) → (c == client) ≡ false → AllByRecursion (HasSize size) (received_from client (receives c p ∷ tasks))
       → AllByRecursion (HasSize size) (received_from client tasks)
-  other_sizes c p tasks apart sized =
-      subst (λ b. AllByRecursion (HasSize size) (if b then p ∷ received_from client tasks else received_from client tasks)) apart sized
+  other_sizes c p tasks apart sized = search rules
 
   runs_on : (h end : Handler) (parcels : List Parcel) (given : List HeldState) (tasks : List Task)
       → HandlerFitsLane size client h parcels given → TasksLead h tasks end → AllByRecursion (HasSize size) (received_from client tasks) → Comes end parcels given tasks
-  runs_on h end parcels given [] stands leads sized =
-      subst (λ e. HandlerFitsLane size client e (parcels ++ []) (given ++ [])) leads
-      (subst (λ ps. HandlerFitsLane size client h ps (given ++ [])) (sym (append-nil parcels)) (subst (λ xs. HandlerFitsLane size client h parcels xs) (sym (append-nil given)) stands))
+  runs_on h end parcels given [] stands leads sized = search (rules, append-nil)
   runs_on h end parcels given (takes next ∷ tasks) stands leads sized =
       runs_on leads.0 end parcels given tasks (handler_lane_laws.tickets size client h leads.0 next parcels given leads.1 stands) leads.2 sized
   runs_on h end parcels given (receives c p ∷ tasks) stands leads sized =
@@ -95,8 +82,7 @@ parted : (h end : Handler) (before later : List Task) → TasksLead h (before ++
 parted h end [] later leads = (h, refl, leads)
 parted h end (takes next ∷ before) later leads = let r = parted leads.0 end before later leads.2 in (r.0, (leads.0, leads.1, r.1), r.2)
 parted h end (receives c p ∷ before) later leads = let r = parted leads.0 end before later leads.3 in (r.0, (leads.0, leads.1, leads.2, r.1), r.2)
-parted h end (gives c x ∷ before) later leads = let r = parted (gave h) end before later leads.1 in (r.0, (leads.0, r.1), r.2)
-parted h end (spares c chunk ∷ before) later leads = let r = parted (gave h) end before later leads.1 in (r.0, (leads.0, r.1), r.2)
+parted h end (_ ∷ before) later leads = let r = parted (gave h) end before later leads.1 in (r.0, (leads.0, r.1), r.2)
 
 gives_follow_syncs : GivesFollowSyncs
 gives_follow_syncs size client x y before later end leads sized =

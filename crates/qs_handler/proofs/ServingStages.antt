@@ -1,5 +1,5 @@
 -- A handler that serves a block is in that stage in the code, and has its object.
-use Rattle.std.proofs.Common.{◌≡◌, Option, Some, None}
+use Rattle.std.proofs.Common.{◌≡◌, Option, Some, rules}
 use Rattle.qs_objects.specs.audit.Journals.{HeldState}
 use Rattle.qs_objects.specs.declared.Request.{Request}
 use Rattle.qs_objects.specs.declared.held.Ticket.{Ticket}
@@ -7,21 +7,9 @@ use Rattle.qs_chunk.specs.audit.Batch.{Batch}
 use Rattle.qs_handler.specs.audit.Handler.{serves}
 use Rattle.qs_handler.specs.Stages.{staged_handler}
 use Rattle.qs_handler.specs.declared.mind.HandlerStage.{HandlerStage}
-use Rattle.qs_handler.specs.declared.mind.HandlerStage.TheVariants as stages
 
 pub serves_with : (s : HandlerStage) (held : Option HeldState) (spare : Option (Batch Request)) (t : Ticket) (x : HeldState) → staged_handler s held spare ≡ serves t x → held ≡ Some x
-serves_with stages.Free (Some y) spare t x e = cc
-serves_with stages.Free None spare t x e = cc
-serves_with (stages.Serves u) (Some y) spare t x e = cc
-serves_with (stages.Serves u) None spare t x e = cc
-serves_with (stages.Spares u) (Some y) (Some chunk) t x e = cc
-serves_with (stages.Spares u) (Some y) None t x e = cc
-serves_with (stages.Spares u) None spare t x e = cc
-serves_with (stages.Gives u) (Some y) spare t x e = cc
-serves_with (stages.Gives u) None spare t x e = cc
-serves_with (stages.Away u) held spare t x e = cc
-serves_with stages.Closed (Some y) spare t x e = cc
-serves_with stages.Closed None spare t x e = cc
+serves_with s held spare t x e = search rules
 
 pub one_object : (o : Option HeldState) (y x : HeldState) → o ≡ Some y → o ≡ Some x → y ≡ x
 one_object o y x e f = cc
