@@ -1,7 +1,7 @@
 -- A queue of empty chunks and a queue of parcels keep their form when a value is sent, whether it went or came back to
 -- its sender. The functions of `LaneIn` and `LaneOut` that send parcels and chunks stand on it. It goes by induction on
 -- the chunks, and by cases on the result of sending.
-use Rattle.std.proofs.Common.{◌≡◌, ℕ, List, [], ◌∷◌, ◌++◌, Ok, Err, sym, ap, subst}
+use Rattle.std.proofs.Common.{◌≡◌, ℕ, List, [], ◌∷◌, ◌++◌, rules}
 use Rattle.std.specs.Prelude.{Result, IfOk, IfErr}
 use Rattle.qs_objects.specs.declared.Request.{Request}
 use Rattle.qs_chunk.specs.audit.Batch.{Batch, batch}
@@ -21,7 +21,4 @@ pub sent_or_back : {T K : Type 0} (good : K → List T → Type 0) (r : Result (
     → good old.key old.sent → good old.key (old.sent ++ x ∷ [])
     → IfOk r (λ _. new ≡ record old { sent = old.sent ++ x ∷ [] }) → IfErr r (λ y. (y ≡ x) × (new ≡ old))
     → (new.room ≡ old.room) × (new.key ≡ old.key) × good new.key new.sent
-sent_or_back {T} {K} good (Ok u) x old new was more ok back =
-    (ap (λ (s : SenderView T K). s.room) ok, ap (λ (s : SenderView T K). s.key) ok, subst (λ (s : SenderView T K). good s.key s.sent) (sym ok) more)
-sent_or_back {T} {K} good (Err y) x old new was more ok back =
-    (ap (λ (s : SenderView T K). s.room) back.1, ap (λ (s : SenderView T K). s.key) back.1, subst (λ (s : SenderView T K). good s.key s.sent) (sym back.1) was)
+sent_or_back {T} {K} good r x old new was more ok back = search rules
