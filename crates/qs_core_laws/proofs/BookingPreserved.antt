@@ -1,6 +1,6 @@
 -- A reservation keeps the machine's invariant: it adds one ticket to the order, to its handlers' queues and to its
 -- client.
-use Rattle.std.proofs.Common.{◌≡◌, ◌<◌, ◌≤◌, arith, ℕ, zero, suc, Bool, true, false, if◌then◌else◌, ◌==◌, List, [], ◌∷◌, ◌++◌, filter, refl, sym, ap, ◌∙◌, subst, ⊎_elim, append-nil, None}
+use Rattle.std.proofs.Common.{◌≡◌, ◌<◌, ◌≤◌, arith, ℕ, zero, suc, Bool, true, false, if◌then◌else◌, ◌==◌, List, [], ◌∷◌, ◌++◌, filter, refl, sym, ap, ◌∙◌, subst, ⊎_elim, append-nil, None, rules}
 use Rattle.std.specs.List.{AllByRecursion}
 use Rattle.std.proofs.Math.Path.{fun_ext}
 use Rattle.std.proofs.lemmas.List.Elements.{filter-append}
@@ -93,18 +93,10 @@ module _ (program : ProgramShape) (fine : (t : Ticket) (l : Locals) → AsksOnly
   }
 
   fresh : AllByRecursion (λ u. same t u ≡ false) s.order
-  fresh = each_map (λ u b.
-      ⊎_elim
-      (λ (e : t ≡ u). let lt : suc n ≤ (s.client c).begun = subst (λ (u : Ticket). suc u.index ≤ (s.client u.client).begun) (sym e) b in absurd (omega (arith, lt, begun)))
-      (λ (other : same t u ≡ false). other)
-      (ticket_cases t u)) s.order k.below
+  fresh = search (rules, each_map, ticket_cases)
 
   begun_up : (d : ℕ) → (s.client d).begun ≤ (put s.client c r.client d).begun
-  begun_up d =
-      ⊎_elim
-      (λ (is : c ≡ d). subst (λ d. (s.client d).begun ≤ (put s.client c r.client d).begun) is (subst (λ (m : Client). (s.client c).begun ≤ m.begun) (sym (put_here s.client c r.client)) (let b = new_begun in omega (arith, begun, b))))
-      (λ (other : (c == d) ≡ false). subst (λ (m : Client). (s.client d).begun ≤ m.begun) (sym (put_there s.client c r.client d other)) (omega arith))
-      (num_cases c d)
+  begun_up d = search (rules, put_here, new_begun, put_there, num_cases)
 
   old_record : (u : Ticket) → same t u ≡ false → Y.block_record u ≡ y.block_record u
   old_record u e = put_at_there y.block_record t pg u e
@@ -160,11 +152,7 @@ module _ (program : ProgramShape) (fine : (t : Ticket) (l : Locals) → AsksOnly
   last_gone j h b m = k.stands c j b h ∙ (ap (λ p. standing_at program (ticket c j) (s.client c) p h) place ∙ ap (λ b. (if b then gone else sends [])) m)
 
   older_now : (j h : ℕ) → suc j < suc n → reserves program (ticket c j) h ≡ true → y.stands (ticket c j) h ≡ gone
-  older_now j h lt m =
-      ⊎_elim
-      (λ (is : n ≡ suc j). last_gone j h (begun ∙ is) m)
-      (λ (other : (n == suc j) ≡ false). let ne = apart_eqb n (suc j) other in k.older c j (omega (arith, ne, lt, begun)) h m)
-      (num_cases n (suc j))
+  older_now j h lt m = search (rules, last_gone, apart_eqb, num_cases)
 
   all_kept : CoreInvariant program reserved_core Y G
   all_kept = record {

@@ -2,7 +2,7 @@
 -- the objects. The three kinds of such acts (`send_kept`, `get_kept`, `chunk_kept`) stand on `client_moves`. Only the
 -- block record and the lanes of the client's current ticket change, so each ticket is either this one or stays as it
 -- was.
-use Rattle.std.proofs.Common.{◌≡◌, ◌<◌, ◌≤◌, arith, ℕ, suc, Bool, true, false, if◌then◌else◌, ◌==◌, List, [], ◌++◌, filter, sym, ap, ◌∙◌, subst, ⊎_elim, Option, None}
+use Rattle.std.proofs.Common.{◌≡◌, ◌<◌, ◌≤◌, arith, ℕ, suc, Bool, true, false, if◌then◌else◌, ◌==◌, List, [], ◌++◌, filter, sym, ap, ◌∙◌, subst, ⊎_elim, Option, None, rules}
 use Rattle.qs_sync_counts.specs.declared.sync_counts.SyncCount.{SyncCount}
 use Rattle.qs_objects.specs.audit.Journals.{HeldState}
 use Rattle.qs_objects.specs.audit.Parts.{part, same}
@@ -18,7 +18,7 @@ use Rattle.qs_meaning.specs.audit.Serial.{zeros}
 use Rattle.qs_meaning.specs.BlockRecords.{BlockRecord, IsDone}
 use Rattle.qs_chunk.specs.LaneViews.{ObjectStance, asks, gone, ClientLane}
 use Rattle.qs_chunk.specs.declared.parcel.Parcel.{Parcel}
-use Rattle.qs_client.specs.audit.rules.Client.{Client, ClientStage, between, runs, full, awaits, leaves}
+use Rattle.qs_client.specs.audit.rules.Client.{Client, ClientStage, between, runs}
 use Rattle.qs_played.proofs.FunctionUpdate.{put_at, put_at_here, put_at_there, put_all, put_at_field, put_at_kept, put_kept}
 use Rattle.qs_played.specs.audit.Played.{ticket}
 use Rattle.qs_core_laws.proofs.protocol.ObjectViews.{HandlerLog, IsObject}
@@ -32,29 +32,19 @@ use Rattle.qs_core_laws.proofs.LaneHistoryMoves.{begins_kept, none_after, ok_her
 
 module _ (program : ProgramShape) (t : Ticket) (snt : ℕ → List Parcel) (got : ℕ → List HeldState) where
   pub place_record : (m : Client) (pg : BlockRecord) (pl : ClientStage) → PlaceOk program t snt got m pg pl → IsOpenRecord program t pg
-  place_record m pg (between l) k = k.block_record
   place_record m pg (runs code) k = k.0.block_record
-  place_record m pg (full h code) k = k.block_record
-  place_record m pg (awaits h code) k = k.block_record
-  place_record m pg (leaves h hs l) k = k.block_record
+  place_record m pg _ k = k.block_record
 
   pub place_lane : (m : Client) (pg : BlockRecord) (pl : ClientStage) → PlaceOk program t snt got m pg pl → (h : ℕ) → ClientLane t false (snt h) (got h) (part h pg.trace) (standing_at program t m pl h)
-  place_lane m pg (between l) k h = k.lanes h
   place_lane m pg (runs code) k h = k.0.lanes h
-  place_lane m pg (full g code) k h = k.lanes h
-  place_lane m pg (awaits g code) k h = k.lanes h
-  place_lane m pg (leaves g hs l) k h = k.lanes h
+  place_lane m pg _ k h = k.lanes h
 
   awaits_gone : (b : Bool) (o : Option HeldState) (c : Option (List Request)) → (if b then asks else in_hand o c) ≡ gone → ⊥
   awaits_gone true o c e = cc
   awaits_gone false o c e = in_hand_gone o c e
 
   pub place_gone : (m : Client) (pg : BlockRecord) (pl : ClientStage) → PlaceOk program t snt got m pg pl → (h : ℕ) → standing_at program t m pl h ≡ gone → IsDone pg.rest
-  place_gone m pg (between l) k h e = subst IsDone (sym k.rest) tt
-  place_gone m pg (runs code) k h e = absurd (in_hand_gone (m.held h) (m.chunk h) e)
-  place_gone m pg (full g code) k h e = absurd (in_hand_gone (m.held h) (m.chunk h) e)
-  place_gone m pg (awaits g code) k h e = absurd (awaits_gone (g == h) (m.held h) (m.chunk h) e)
-  place_gone m pg (leaves g hs l) k h e = subst IsDone (sym k.rest) tt
+  place_gone m pg pl k h e = search (rules, in_hand_gone, awaits_gone)
 
 module _ (program : ProgramShape) (s : Core) (y : LaneHistory) (g : ℕ → HandlerLog) (kept : CoreInvariant program s y g)
     (c k : ℕ) (begun : (s.client c).begun ≡ suc k) (m : Client) (same_begun : m.begun ≡ (s.client c).begun) (events : List Event)
@@ -80,10 +70,7 @@ module _ (program : ProgramShape) (s : Core) (y : LaneHistory) (g : ℕ → Hand
   apart_from_this u low = none_after (λ d. (s.client d).begun) t (omega (arith, begun)) u.client u.index low
 
   ok_new : TicketOk program y t → suc k ≤ (s.client c).begun → TicketOk program story t
-  ok_new old low =
-      ok_here program y t pg snt got (standing_at program t m m.stage) (place_record program t snt got m pg m.stage ok)
-      (begins_kept program y t pg snt got (standing_at program t m m.stage) c k (y.block_record t).entry pg.entry (sym entry) (apart_from_this t low) old.begins)
-      (place_lane program t snt got m pg m.stage ok) (place_gone program t snt got m pg m.stage ok)
+  ok_new old low = search (rules, ok_here, standing_at, place_record, begins_kept, apart_from_this, place_lane, place_gone)
 
   ok_old : (u : Ticket) → same t u ≡ false → suc u.index ≤ (s.client u.client).begun → TicketOk program y u → TicketOk program story u
   ok_old u n low old = ok_there program y t pg snt got (standing_at program t m m.stage) u n (apart_from_this u low) old

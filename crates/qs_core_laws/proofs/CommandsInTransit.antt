@@ -2,7 +2,7 @@
 -- then those in its client's open chunk. The proof that journals follow the order of reservations needs this for each
 -- ticket. A lane's parcels are cut into the tickets that the handler has still to serve, by induction on its queue; a
 -- ticket that was served has none left.
-use Rattle.std.proofs.Common.{◌≡◌, ◌<◌, ◌≤◌, arith, ℕ, suc, Bool, true, false, true≢false, if◌then◌else◌, ◌==◌, List, [], ◌∷◌, ◌++◌, map, filter, refl, sym, ap, ap₂, ◌∙◌, subst, ◌⊎◌, inl, inr, ⊎_elim, append-nil, Option, Some, None}
+use Rattle.std.proofs.Common.{◌≡◌, ◌<◌, ◌≤◌, ℕ, suc, Bool, true, false, true≢false, if◌then◌else◌, ◌==◌, List, [], ◌∷◌, ◌++◌, map, filter, refl, sym, ap, ap₂, ◌∙◌, subst, ◌⊎◌, inl, inr, ⊎_elim, append-nil, Option, None, rules}
 use Rattle.std.specs.List.{AllByRecursion}
 use Rattle.qs_objects.specs.audit.Journals.{HeldState}
 use Rattle.qs_objects.specs.audit.Parts.{command_event, part, same}
@@ -13,7 +13,6 @@ use Rattle.qs_objects.proofs.Choices.{apart_eqb, eqb_self, eqb_true, num_cases, 
 use Rattle.qs_meaning.specs.audit.Following.{reserves}
 use Rattle.qs_meaning.specs.Following.{block_tree}
 use Rattle.qs_program.specs.audit.Program.{ProgramShape}
-use Rattle.qs_program.specs.audit.Sound.{is_in}
 use Rattle.qs_program.specs.Sound.{IsSound}
 use Rattle.qs_meaning.proofs.Each.{each_map, each_both, each_join, each_front, each_back, each_kept, each_passes}
 use Rattle.qs_meaning.proofs.Histories.{Among, Apart, parts_of}
@@ -24,9 +23,9 @@ use Rattle.qs_chunk.specs.LaneViews.{ObjectStance, sends, asks, gone, ClientLane
 use Rattle.qs_chunk.specs.declared.parcel.Parcel.{Parcel}
 use Rattle.qs_chunk.specs.LaneParts.{commands_in, lane_of}
 use Rattle.qs_chunk.specs.LaneViews as views
-use Rattle.qs_handler.specs.audit.Handler.{Handler, free, serves, spares, gives, away, closed}
+use Rattle.qs_handler.specs.audit.Handler.{Handler, free, closed}
 use Rattle.qs_handler.specs.Handler.{serving}
-use Rattle.qs_client.specs.audit.rules.Client.{Client, ClientStage, between, runs, full, awaits, leaves}
+use Rattle.qs_client.specs.audit.rules.Client.{Client, ClientStage}
 use Rattle.qs_played.proofs.Orders.{each_among, apart_kept, apart_both}
 use Rattle.qs_core_laws.proofs.protocol.ClientInvariants.{in_hand, PlaceOk, standing_at}
 use Rattle.qs_core_laws.proofs.protocol.ObjectViews.{stance, Rising, HandlerLog, ahead}
@@ -43,11 +42,7 @@ use Rattle.qs_core_laws.proofs.SendingPreserved.{among_kept, past_gone}
 -- the open chunk, by the place
 
 hand_chunk : (o : Option HeldState) (c : Option (List Request)) → (o ≡ None) ⊎ (c ≡ None) → chunk_of (in_hand o c) ≡ or_none c
-hand_chunk (Some x) None n = refl
-hand_chunk (Some x) (Some rs) (inl n) = absurd (cc)
-hand_chunk (Some x) (Some rs) (inr n) = absurd (cc)
-hand_chunk None None n = refl
-hand_chunk None (Some rs) n = refl
+hand_chunk o c n = search rules
 
 awaits_chunk : (b : Bool) (o : Option HeldState) (c : Option (List Request)) → (b ≡ true → c ≡ None) → (o ≡ None) ⊎ (c ≡ None) → chunk_of (if b then asks else in_hand o c) ≡ or_none c
 awaits_chunk true o c e n = sym (ap or_none (e refl))
@@ -64,30 +59,16 @@ leaves_chunk false b o c e n = gone_chunk b ∙ sym (ap or_none (e refl))
 
 open_chunk : (program : ProgramShape) (t : Ticket) (snt : ℕ → List Parcel) (got : ℕ → List HeldState) (m : Client) (pg : _) (pl : ClientStage) → PlaceOk program t snt got m pg pl
     → (h : ℕ) → chunk_of (standing_at program t m pl h) ≡ or_none (m.chunk h)
-open_chunk program t snt got m pg (between l) k h = leaves_chunk false (reserves program t h) (m.held h) (m.chunk h) (λ e. (k.empty h refl).1) (k.not_both h)
-open_chunk program t snt got m pg (runs code) k h = hand_chunk (m.held h) (m.chunk h) (k.0.not_both h)
-open_chunk program t snt got m pg (full g code) k h = hand_chunk (m.held h) (m.chunk h) (k.not_both h)
-open_chunk program t snt got m pg (awaits g code) k h =
-    awaits_chunk (g == h) (m.held h) (m.chunk h) (λ e. subst (λ h. m.chunk h ≡ None) (eqb_true g h e) k.chunk) (k.not_both h)
-open_chunk program t snt got m pg (leaves g hs l) k h =
-    leaves_chunk (is_in (g ∷ hs) h) (reserves program t h) (m.held h) (m.chunk h) (λ e. (k.empty h e).1) (k.not_both h)
+open_chunk program t snt got m pg pl k h = search (rules, leaves_chunk, hand_chunk, awaits_chunk, eqb_true)
 
 -- a handler serves one ticket or none
 pub serving_shape : (v : Handler) → (serving v ≡ []) ⊎ ((u : Ticket) × (serving v ≡ u ∷ []))
-serving_shape (free z) = inl refl
-serving_shape (serves u z) = inr (u, refl)
-serving_shape (spares u z n) = inr (u, refl)
-serving_shape (gives u z) = inr (u, refl)
-serving_shape (away u) = inr (u, refl)
-serving_shape (closed z) = inl refl
+serving_shape v = search rules
 
 stance_not_over : (v : Handler) (lent z : HeldState) (t : Ticket) → serving v ≡ t ∷ [] → stance v lent ≡ views.over z → ⊥
 stance_not_over (free x) lent z t one e = cc one
-stance_not_over (serves u x) lent z t one e = cc e
-stance_not_over (spares u x n) lent z t one e = cc e
-stance_not_over (gives u x) lent z t one e = cc e
-stance_not_over (away u) lent z t one e = cc e
 stance_not_over (closed x) lent z t one e = cc one
+stance_not_over _ lent z t one e = cc e
 
 first_of : (c : ℕ) (us : List Ticket) → (filter (λ (u : Ticket). u.client == c) us ≡ [] → ⊥) → (v : Ticket) × Among v us × ((v.client == c) ≡ true)
 first_of c [] some = absurd (some refl)
@@ -139,13 +120,7 @@ module _ (program : ProgramShape) (sound : IsSound program) (s : Core) (y : Lane
   chunk_none t other = ap (λ b. if b then or_none ((s.client t.client).chunk h) else []) other
 
   chunk_is : (t : Ticket) → IsMine t → chunk_of (y.stands t h) ≡ in_chunk (s.client t.client) t.index h
-  chunk_is t m =
-      ⊎_elim
-      (λ (is : (s.client t.client).begun ≡ suc t.index). chunk_last t is)
-      (λ (other : ((s.client t.client).begun == suc t.index) ≡ false).
-      let ne = apart_eqb (s.client t.client).begun (suc t.index) other in let lt = m.1 in
-      ap chunk_of (k.older t.client t.index (omega (arith, ne, lt)) h m.0) ∙ sym (chunk_none t other))
-      (num_cases (s.client t.client).begun (suc t.index))
+  chunk_is t m = search (rules, chunk_last, apart_eqb, chunk_of, chunk_none, num_cases)
 
   -- what an object's part of a block record is where the block doesn't reserve it
   pub part_out : (t : Ticket) → TicketOk program y t → reserves program t h ≡ false → parts_of y.block_record h t ≡ []

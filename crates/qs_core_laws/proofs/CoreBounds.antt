@@ -2,7 +2,7 @@
 -- nothing, and a block that was not begun has neither values at entry nor a trace. What the code may rely on in such
 -- states (`CoreReached`) takes these facts from here. They are one invariant, `CoreBounded`, which each step keeps, by
 -- cases on the actor and its act.
-use Rattle.std.proofs.Common.{◌≡◌, ◌<◌, ◌≤◌, ◌-◌, ℕ, zero, suc, nat_lt, ◌==◌, Bool, true, false, if◌then◌else◌, List, [], ◌∷◌, ◌++◌, length, refl, sym, ap, ◌∙◌, subst, ⊎_elim, Option, Some, None, arith}
+use Rattle.std.proofs.Common.{◌≡◌, ◌<◌, ◌≤◌, ◌-◌, ℕ, suc, nat_lt, ◌==◌, Bool, true, false, if◌then◌else◌, List, [], ◌∷◌, ◌++◌, length, refl, sym, ap, ◌∙◌, subst, ⊎_elim, Option, Some, None, arith, rules}
 use Rattle.std.specs.List.{AllByRecursion}
 use Rattle.qs_sync_counts.specs.declared.sync_counts.SyncCount.{SyncCount}
 use Rattle.qs_objects.specs.audit.Journals.{HeldState}
@@ -19,7 +19,6 @@ use Rattle.qs_program.specs.Sound.{IsSound}
 use Rattle.qs_program.specs.audit.Values.{Locals}
 use Rattle.qs_meaning.proofs.Each.{each_snoc}
 use Rattle.qs_meaning.proofs.TreeWalks.{put_here, put_there}
-use Rattle.qs_graph.specs.audit.Synced.{Done, Call, Sync, Query}
 use Rattle.qs_syncset.specs.declared.mode.Mode.{Mode}
 use Rattle.qs_syncset.specs.audit.Codes.{ClientCode, AreCodes, blocks_in, reserved_of}
 use Rattle.qs_chunk.specs.audit.Lanes.{HasSize}
@@ -27,7 +26,7 @@ use Rattle.qs_chunk.specs.declared.parcel.Parcel.{Parcel}
 use Rattle.qs_chunk.specs.declared.parcel.Parcel.TheVariants as parcels
 use Rattle.qs_handler.specs.audit.Handler.{Handler, free, serves, spares, gives, away, closed, accept_next, accept_parcel, gave}
 use Rattle.qs_handler.specs.audit.Handler as handlers
-use Rattle.qs_client.specs.audit.rules.Client.{Client, ClientStage, Settings, Settlement, act_at, act_of, between, runs, full, awaits, leaves, begin, call_act, clear, first_client, take_object, after_parcel, take_chunk, work}
+use Rattle.qs_client.specs.audit.rules.Client.{Client, ClientStage, Settings, Settlement, act_at, act_of, between, begin, call_act, clear, first_client, after_parcel, work}
 use Rattle.qs_client.specs.declared.rules.act.Act.{Act}
 use Rattle.qs_client.specs.declared.rules.act.Act.TheVariants.{Reserve, Send, Await, NeedChunk, Finished}
 use Rattle.qs_played.specs.audit.Played.{ticket}
@@ -67,48 +66,22 @@ end_sizes : (settings : Settings) (g h : ℕ) (parcel : Parcel) → Send g parce
 end_sizes settings g h parcel e = let is : parcels.End ≡ parcel = cc in subst (HasSize settings.size) is tt
 
 sends_sizes : (settings : Settings) (n : ℕ) (m : Client) (pl : ClientStage) (h : ℕ) (parcel : Parcel) → act_at settings n m pl ≡ Send h parcel → HasSize settings.size parcel
-sends_sizes settings n m (between l) h parcel e = absurd (outside_not_send (nat_lt m.begun n) h parcel e)
-sends_sizes settings n m (runs (Done l)) h parcel e = absurd (cc)
-sends_sizes settings n m (runs (Call r next)) h parcel e = call_sizes settings r.object (m.held r.object) (m.chunk r.object) h parcel e
-sends_sizes settings n m (runs (Sync g next)) h parcel e = clears_sizes settings g (m.held g) (m.chunk g) (Send g parcels.Sync) h parcel (sync_sizes settings g h parcel) e
-sends_sizes settings n m (runs (Query r next)) h parcel e = absurd (cc)
-sends_sizes settings n m (full g rest) h parcel e = clears_sizes settings g None (m.chunk g) Finished h parcel (λ e. absurd (cc)) e
-sends_sizes settings n m (awaits g rest) h parcel e = absurd (cc)
-sends_sizes settings n m (leaves g hs l) h parcel e = clears_sizes settings g (m.held g) (m.chunk g) (Send g parcels.End) h parcel (end_sizes settings g h parcel) e
+sends_sizes settings n m pl h parcel e = search (rules, outside_not_send, call_sizes, clears_sizes, sync_sizes, end_sizes)
 
 -- an empty chunk that a handler gives back
 abbrev pub GivesBack : ℕ → Handler → Type 0
 GivesBack size v = (t : Ticket) (x : HeldState) (n : ℕ) → v ≡ spares t x n → n ≡ size
 
 received_back : (size : ℕ) (v w : Handler) (parcel : Parcel) → HasSize size parcel → accept_parcel v parcel ≡ Some w → GivesBack size w
-received_back size (serves t x) w (parcels.Work chunk) sized e u z n is = let same_size : chunk.capacity ≡ n = cc (e, is) in sym same_size ∙ sized
-received_back size (serves t x) w parcels.Sync sized e u z n is = absurd (cc (e, is))
-received_back size (serves t x) w parcels.End sized e u z n is = absurd (cc (e, is))
-received_back size (serves t x) w (parcels.Home y) sized e u z n is = absurd (cc)
-received_back size (away t) w (parcels.Home y) sized e u z n is = absurd (cc (e, is))
-received_back size (away t) w (parcels.Work chunk) sized e u z n is = absurd (cc)
-received_back size (away t) w parcels.Sync sized e u z n is = absurd (cc)
-received_back size (away t) w parcels.End sized e u z n is = absurd (cc)
-received_back size (free x) w parcel sized e u z n is = absurd (cc)
-received_back size (spares t x m) w parcel sized e u z n is = absurd (cc)
-received_back size (gives t x) w parcel sized e u z n is = absurd (cc)
-received_back size (closed x) w parcel sized e u z n is = absurd (cc)
+received_back size v w parcel sized e u z n is = search rules
 
 taken_back : (size : ℕ) (v w : Handler) (t : Ticket) → accept_next v (nexts.Ticket t) ≡ Some w → GivesBack size w
 taken_back size (free x) w t e u z n is = absurd (cc (e, is))
-taken_back size (serves s x) w t e u z n is = absurd (cc)
-taken_back size (spares s x m) w t e u z n is = absurd (cc)
-taken_back size (gives s x) w t e u z n is = absurd (cc)
-taken_back size (away s) w t e u z n is = absurd (cc)
-taken_back size (closed x) w t e u z n is = absurd (cc)
+taken_back size _ w t e u z n is = absurd (cc)
 
 gave_back : (size : ℕ) (v : Handler) → GivesBack size v → GivesBack size (gave v)
 gave_back size (free x) b u z n is = absurd (cc)
-gave_back size (serves t x) b u z n is = absurd (cc)
-gave_back size (spares t x m) b u z n is = absurd (cc)
-gave_back size (gives t x) b u z n is = absurd (cc)
-gave_back size (away t) b u z n is = absurd (cc)
-gave_back size (closed x) b u z n is = absurd (cc)
+gave_back size _ b u z n is = absurd (cc)
 
 -- each lane of a client and a handler
 lane_holds : {A : Type 0} (P : A → Type 0) (f : ℕ → ℕ → A) (c h : ℕ) (a : A) → P a → ((d g : ℕ) → P (f d g)) → (d g : ℕ) → P (put_lane f c h a d g)
@@ -134,40 +107,13 @@ module _ (program : ProgramShape) (sound : IsSound program) (mode : Mode) (code 
 
     -- a client that is in a block is the program's
     client_inside : (c n : ℕ) → (s.client c).begun ≡ suc n → c < length program.clients
-    client_inside c n begun = by_test (nat_lt c (length program.clients)) refl
-      where
-        by_test : (z : Bool) → nat_lt c (length program.clients) ≡ z → c < length program.clients
-        by_test true e = grind (arith, e)
-        by_test false e =
-            let none : (s.client c).begun ≡ 0 = ap (λ (m : Client). m.begun) (b.idle c (grind (arith, e))) in
-            absurd (omega (arith, none, begun))
+    client_inside c n begun = search rules
 
     -- a client's act in a block
     client_bounded : (c n : ℕ) (m : Client) (events : List Event) (down : ℕ → ℕ → List Parcel) (up : ℕ → ℕ → Option HeldState) (spare : ℕ → ℕ → ℕ) (syncs : ℕ → ℕ) (tallies : Ticket → List SyncCount)
         → (s.client c).begun ≡ suc n → m.begun ≡ (s.client c).begun → ((d h : ℕ) → AllByRecursion (HasSize size) (down d h))
         → CoreBounded (record s { client = put s.client c m; trace = put_at s.trace (ticket c n) (s.trace (ticket c n) ++ events); down = down; up = up; spare = spare; syncs = syncs; sync_counts = tallies })
-    client_bounded c n m events down up spare syncs tallies begun same_begun sizes = record {
-      sizes = sizes;
-      back = b.back;
-      idle = λ d out. put_there s.client c m d (apart_of d out) ∙ b.idle d out;
-      fresh = λ u few.
-          let few' : (s.client u.client).begun ≤ u.index = subst (λ k. k ≤ u.index) (put_kept (λ (m : Client). m.begun) s.client c m same_begun u.client) few in
-          let old = b.fresh u few' in (
-            old.0,
-            ⊎_elim
-                (λ (is : ticket c n ≡ u).
-                let own : (s.client c).begun ≤ n = subst (λ (u : Ticket). (s.client u.client).begun ≤ u.index) (sym is) few' in
-                absurd (omega (arith, own, begun)))
-                (λ (other : same (ticket c n) u ≡ false). put_at_there s.trace (ticket c n) (s.trace (ticket c n) ++ events) u other ∙ old.1)
-                (ticket_cases (ticket c n) u),
-          );
-    }
-      where
-        apart_of : (d : ℕ) → length program.clients ≤ d → (c == d) ≡ false
-        apart_of d out = ⊎_elim
-            (λ (is : c ≡ d). let in_it = client_inside c n begun in absurd (omega (arith, in_it, is, out)))
-            (λ (other : (c == d) ≡ false). other)
-            (num_cases c d)
+    client_bounded c n m events down up spare syncs tallies begun same_begun sizes = search (rules, put_there, put_kept, put_at_there, ticket_cases, client_inside, num_cases)
 
     abbrev now : ℕ → Ticket
     now c = ticket c ((s.client c).begun - 1)
@@ -187,24 +133,10 @@ module _ (program : ProgramShape) (sound : IsSound program) (mode : Mode) (code 
         (each_snoc (HasSize size) (s.down c h) parcel (b.sizes c h) (sends_sizes (settings_of code size c) (blocks_in code c) (s.client c) (s.client c).stage h parcel act)) b.sizes))
 
     get_bounded : (c h : ℕ) (o : Option HeldState) (s' : Core) → asks_for c ≡ Await h → gets code size s c h o ≡ Some s' → CoreBounded s'
-    get_bounded c h None s' act e = absurd (cc)
-    get_bounded c h (Some x) s' act e =
-        subst CoreBounded (some_is _ s' e)
-        (client_bounded c ((s.client c).begun - 1) (take_object (settings_of code size c) (now c) (reserved_of code (now c)) (s.client c) x (s.client c).stage).client
-        (take_object (settings_of code size c) (now c) (reserved_of code (now c)) (s.client c) x (s.client c).stage).events
-        s.down (put_lane s.up c h None) s.spare s.syncs s.sync_counts
-        (begun_of c (Await h) act (λ l i a. not_await (settings_of code size c) (blocks_in code c) (s.client c) l h i a))
-        (got_begun (settings_of code size c) (now c) (reserved_of code (now c)) (s.client c) h x (s.client c).stage) b.sizes)
+    get_bounded c h o s' act e = search (rules, some_is, client_bounded, begun_of, not_await, got_begun)
 
     chunk_bounded : (c h n : ℕ) (s' : Core) → asks_for c ≡ NeedChunk h → takes_chunk code size s c h n ≡ Some s' → CoreBounded s'
-    chunk_bounded c h zero s' act e = absurd (cc)
-    chunk_bounded c h (suc n) s' act e =
-        subst CoreBounded (some_is _ s' e)
-        (client_bounded c ((s.client c).begun - 1) (take_chunk (settings_of code size c) (now c) (reserved_of code (now c)) (s.client c) h (s.client c).stage).client
-        (take_chunk (settings_of code size c) (now c) (reserved_of code (now c)) (s.client c) h (s.client c).stage).events
-        s.down s.up (put_lane s.spare c h n) s.syncs s.sync_counts
-        (begun_of c (NeedChunk h) act (λ l i a. not_need (settings_of code size c) (blocks_in code c) (s.client c) l h i a))
-        (chunk_begun (settings_of code size c) (now c) (reserved_of code (now c)) (s.client c) h (s.client c).stage) b.sizes)
+    chunk_bounded c h n s' act e = search (rules, some_is, client_bounded, begun_of, not_need, chunk_begun)
 
     -- a client beyond the program has ended
     pub beyond_acts : (c : ℕ) → length program.clients ≤ c → asks_for c ≡ Finished
@@ -238,10 +170,7 @@ module _ (program : ProgramShape) (sound : IsSound program) (mode : Mode) (code 
         })
       where
         apart_of : (d : ℕ) → length program.clients ≤ d → (c == d) ≡ false
-        apart_of d out = ⊎_elim
-            (λ (is : c ≡ d). absurd (not_reserve (sym (beyond_acts d out) ∙ subst (λ c. asks_for c ≡ Reserve) is act)))
-            (λ (other : (c == d) ≡ false). other)
-            (num_cases c d)
+        apart_of d out = search (rules, not_reserve, beyond_acts, num_cases)
 
         begun_up : (m : Client) → m.begun ≡ suc (s.client c).begun → (d : ℕ) → (s.client d).begun ≤ (put s.client c m d).begun
         begun_up m more d = put_all (λ d (n : Client). (s.client d).begun ≤ n.begun) s.client c m (omega (arith, more)) (λ d other. omega arith) d
@@ -259,20 +188,10 @@ module _ (program : ProgramShape) (sound : IsSound program) (mode : Mode) (code 
     handler_bounded : (h : ℕ) (v : Handler) (down : ℕ → ℕ → List Parcel) (up : ℕ → ℕ → Option HeldState) (spare : ℕ → ℕ → ℕ) (tickets : ℕ → List Ticket)
         → GivesBack size v → ((d g : ℕ) → AllByRecursion (HasSize size) (down d g))
         → CoreBounded (record s { handler = put s.handler h v; down = down; up = up; spare = spare; tickets = tickets })
-    handler_bounded h v down up spare tickets back sizes = record {
-      sizes = sizes;
-      back = put_all (λ g (w : Handler). GivesBack size w) s.handler h v back (λ g other. b.back g);
-      idle = b.idle;
-      fresh = b.fresh;
-    }
+    handler_bounded h v down up spare tickets back sizes = search (rules, put_all)
 
     ticket_bounded : (h : ℕ) (ts : List Ticket) (s' : Core) → takes_ticket code size s h ts ≡ Some s' → CoreBounded s'
-    ticket_bounded h [] s' e = absurd (cc)
-    ticket_bounded h (t ∷ ts) s' e = by_next (accept_next (s.handler h) (nexts.Ticket t)) refl e
-      where
-        by_next : (o : Option Handler) → accept_next (s.handler h) (nexts.Ticket t) ≡ o → after_handler code size (with_tickets code size s h ts) h o ≡ Some s' → CoreBounded s'
-        by_next None o e = absurd (cc)
-        by_next (Some v) o e = subst CoreBounded (some_is _ s' e) (handler_bounded h v s.down s.up s.spare (put s.tickets h ts) (taken_back size (s.handler h) v t o) b.sizes)
+    ticket_bounded h ts s' e = search (rules, some_is, handler_bounded, taken_back)
 
     parcel_bounded : (h c : ℕ) (ps : List Parcel) (s' : Core) → AllByRecursion (HasSize size) ps → takes_parcel code size s h c ps ≡ Some s' → CoreBounded s'
     parcel_bounded h c [] s' sized e = absurd (cc)
@@ -295,12 +214,7 @@ module _ (program : ProgramShape) (sound : IsSound program) (mode : Mode) (code 
         (handler_bounded h (gave (s.handler h)) s.down s.up (put_lane s.spare c h (suc (s.spare c h))) s.tickets (gave_back size (s.handler h) (b.back h)) b.sizes)
 
     handler_acts : (h : ℕ) (v : Handler) (s' : Core) → handler_step code size s h (handlers.act_of v) ≡ Some s' → CoreBounded s'
-    handler_acts h (free x) s' e = ticket_bounded h (s.tickets h) s' e
-    handler_acts h (serves t x) s' e = parcel_bounded h t.client (s.down t.client h) s' (b.sizes t.client h) e
-    handler_acts h (spares t x n) s' e = spare_bounded h t.client s' e
-    handler_acts h (gives t x) s' e = give_bounded h t.client x (s.up t.client h) s' e
-    handler_acts h (away t) s' e = parcel_bounded h t.client (s.down t.client h) s' (b.sizes t.client h) e
-    handler_acts h (closed x) s' e = absurd (cc)
+    handler_acts h v s' e = search (rules, ticket_bounded, parcel_bounded, spare_bounded, give_bounded)
 
     pub step_bounded : (a : Actor) (s' : Core) → core_step code size s a ≡ Some s' → CoreBounded s'
     step_bounded (actor.Client c) s' e = client_acts c (asks_for c) s' refl e

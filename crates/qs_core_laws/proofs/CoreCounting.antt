@@ -2,19 +2,17 @@
 -- counts in the machine say these numbers. The exact counts at the end (`CoreSyncs`) are read off this. The proof goes
 -- by cases on the actor and its act: only a client that sends a Sync changes a number, by one, and then induction on
 -- the list of actors.
-use Rattle.std.proofs.Common.{◌≡◌, ◌<◌, ◌≤◌, ℕ, zero, suc, ◌-◌, ◌==◌, nat_lt, Bool, true, false, if◌then◌else◌, is_some, List, [], ◌∷◌, ◌++◌, length, map, refl, sym, ap, ◌∙◌, subst, ⊎_elim, Option, Some, None, arith}
+use Rattle.std.proofs.Common.{◌≡◌, ◌<◌, ◌≤◌, ℕ, zero, suc, ◌-◌, ◌==◌, nat_lt, Bool, true, false, if◌then◌else◌, is_some, List, [], ◌∷◌, ◌++◌, length, map, refl, sym, ap, ◌∙◌, subst, ⊎_elim, Option, Some, None, arith, rules}
 use Rattle.std.specs.Prelude.{sum_by}
-use Rattle.std.specs.List.{IsDistinct, range_with_len}
+use Rattle.std.specs.List.{range_with_len}
 use Rattle.std.proofs.lemmas.List.Sums.{sum_by_push}
 use Rattle.qs_objects.specs.audit.Journals.{HeldState}
 use Rattle.qs_objects.specs.audit.Parts.{same}
 use Rattle.qs_objects.specs.declared.held.Event.{Event}
 use Rattle.qs_objects.specs.declared.held.Ticket.{Ticket}
 use Rattle.qs_objects.proofs.Choices.{apart_eqb, num_cases, ticket_cases}
-use Rattle.qs_objects.specs.declared.held.Next.TheVariants as nexts
 use Rattle.qs_program.specs.audit.Program.{ProgramShape, blocks_of, text_of}
 use Rattle.qs_meaning.specs.audit.Solo.{put}
-use Rattle.qs_program.specs.audit.Sound.{is_in}
 use Rattle.qs_program.specs.Sound.{IsSound}
 use Rattle.qs_meaning.specs.audit.Following.{reserves}
 use Rattle.qs_program.specs.audit.Values.{Locals}
@@ -33,11 +31,10 @@ use Rattle.qs_chunk.specs.declared.parcel.Parcel.TheVariants as parcels
 use Rattle.qs_handler.specs.audit.Handler.{Handler, gave, accept_parcel, accept_next}
 use Rattle.qs_handler.specs.audit.Handler as handlers
 use Rattle.qs_handler.specs.declared.mind.Act as handler_acts
-use Rattle.qs_handler.specs.declared.mind.Act.TheVariants as acts
 use Rattle.qs_client.specs.audit.rules.Client.{Client, Settlement, between, begin, take_object, after_parcel, take_chunk}
 use Rattle.qs_client.specs.audit.run.BlockSizes.{longest}
 use Rattle.qs_client.specs.declared.rules.act.Act.{Act}
-use Rattle.qs_client.specs.declared.rules.act.Act.TheVariants.{Reserve, Send, Await, NeedChunk, Finished}
+use Rattle.qs_client.specs.declared.rules.act.Act.TheVariants.{Reserve, Send, Await, NeedChunk}
 use Rattle.qs_played.specs.audit.Played.{ticket}
 use Rattle.qs_played.specs.declared.schedule.actor.Actor.{Actor}
 use Rattle.qs_played.proofs.ReservedObjects.{distinct_objects, reserved_inside}
@@ -51,8 +48,8 @@ use Rattle.qs_core_laws.proofs.protocol.ActObjects.{not_send, not_await, not_nee
 use Rattle.qs_core_laws.proofs.protocol.ClientCounts.{CountAt, Counts, Even, Over, chunk_counts, count_up, got_counts, send_counts, settle_counts}
 use Rattle.qs_core_laws.proofs.protocol.ClientInvariants.{PlaceOk, Leaving}
 use Rattle.qs_core_laws.proofs.protocol.ObjectViews.{HandlerLog}
-use Rattle.qs_chunk.specs.audit.Limits.{lane_room, spare_room}
-use Rattle.qs_core_laws.specs.audit.Core.{Core, client_step, core_begin, core_step, gets, gives, gives_chunk, after_handler, handler_step, handles, lies, put_ticket, after_reserve, reserves_from, sends, settings_of, after_act, takes_chunk, takes_parcel, takes_ticket, with_down, with_spare, with_tickets, with_up}
+use Rattle.qs_chunk.specs.audit.Limits.{spare_room}
+use Rattle.qs_core_laws.specs.audit.Core.{Core, client_step, core_begin, core_step, gets, gives, gives_chunk, after_handler, handler_step, handles, lies, put_ticket, after_reserve, reserves_from, sends, settings_of, after_act, takes_chunk, takes_parcel, takes_ticket, with_spare, with_up}
 use Rattle.qs_client.specs.audit.ClientModel.{synced_block}
 use Rattle.qs_core_laws.specs.audit.CoreSchedule.{core_plays}
 use Rattle.qs_played.specs.audit.Schedule.{or_stay}
@@ -210,25 +207,7 @@ module _ (program : ProgramShape) (sound : IsSound program) (mode : Mode) (code 
       -- the count that is kept is one more for h
       ok_more : (t : Ticket) (h : ℕ) → reserves program t h ≡ true
           → HaveCounts (put_ticket n t (put (n t) h (suc (n t h)))) (put_ticket s.sync_counts t (with_sync h (s.sync_counts t)))
-      ok_more t h listed u =
-          let more : ℕ → ℕ = put (n t) h (suc (n t h)) in
-          let counts = with_sync h (s.sync_counts t) in
-          let own = given t in
-          ⊎_elim
-          (λ (is : t ≡ u).
-          subst (HasCounts (put_ticket n t more) (put_ticket s.sync_counts t counts)) is (record {
-            objects = ap (map object_of) (put_at_here s.sync_counts t counts) ∙ (objects_stay h (s.sync_counts t) ∙ own.objects);
-            numbers = λ g. ap (λ xs. syncs_for xs g) (put_at_here s.sync_counts t counts)
-                ∙ (sent_for h (s.sync_counts t) (n t) (subst (λ hs. is_in hs h ≡ true) (sym own.objects) listed)
-                (subst (IsDistinct ◌==◌) (sym own.objects) (distinct_objects program sound t)) own.numbers g
-                ∙ sym (ap (λ (f : ℕ → ℕ). f g) (put_at_here n t more)));
-          }))
-          (λ (apart : same t u ≡ false). record {
-            objects = ap (map object_of) (put_at_there s.sync_counts t counts u apart) ∙ (given u).objects;
-            numbers = λ g. ap (λ xs. syncs_for xs g) (put_at_there s.sync_counts t counts u apart)
-                ∙ ((given u).numbers g ∙ sym (ap (λ (f : ℕ → ℕ). f g) (put_at_there n t more u apart)));
-          })
-          (ticket_cases t u)
+      ok_more t h listed u = search (rules, put_at_here, objects_stay, sent_for, distinct_objects, put_at_there, ticket_cases)
 
       reserved_by : (c h : ℕ) (parcel : Parcel) → asks_for c ≡ Send h parcel → (s.client c).begun ≡ suc ((s.client c).begun - 1) → h < length program.objects
       reserved_by c h parcel act b =
@@ -259,10 +238,7 @@ module _ (program : ProgramShape) (sound : IsSound program) (mode : Mode) (code 
           )
 
       send_does : (c h : ℕ) (parcel : Parcel) (s' : Core) → asks_for c ≡ Send h parcel → sends code size s c h parcel ≡ Some s' → AreCounted s'
-      send_does c h parcel s' act e =
-          let b = begun_at c (Send h parcel) act (λ l i a. not_send (settings_of code size c) (blocks_in code c) (s.client c) l h parcel i a) in
-          one_of (nat_lt (length (s.down c h)) lane_room) (after_act code size (lies code size s c h parcel) c (now c) (after_sent c h parcel)) s' e
-          (sent_by c h parcel act b)
+      send_does c h parcel s' act e = search (rules, begun_at, not_send, one_of, sent_by)
 
       get_does : (c h : ℕ) (o : Option HeldState) (s' : Core) → asks_for c ≡ Await h → gets code size s c h o ≡ Some s' → AreCounted s'
       get_does c h None s' act e = absurd (cc)
@@ -380,11 +356,7 @@ module _ (program : ProgramShape) (sound : IsSound program) (mode : Mode) (code 
           (n, reserved_counts c m at.0 refl at.1 (tree_asks c m at.0 (has_more program sound mode code codes size s y g kept c at.0 at.1 act)), given)
 
       client_does : (c : ℕ) (act : Act) (s' : Core) → asks_for c ≡ act → client_step code size s c act ≡ Some s' → AreCounted s'
-      client_does c Reserve s' act e = reserve_does c s' act e
-      client_does c (Send h parcel) s' act e = send_does c h parcel s' act e
-      client_does c (Await h) s' act e = get_does c h (s.up c h) s' act e
-      client_does c (NeedChunk h) s' act e = chunk_does c h (s.spare c h) s' act e
-      client_does c Finished s' act e = absurd (cc)
+      client_does c act s' act' e = search (rules, reserve_does, send_does, get_does, chunk_does)
 
     -- the steps of handlers change nothing of this
     handled_does : (a : Core) → CountedBy a n → HaveCounts n a.sync_counts → (h : ℕ) (o : Option Handler) (s' : Core) → after_handler code size a h o ≡ Some s' → AreCounted s'
@@ -393,16 +365,10 @@ module _ (program : ProgramShape) (sound : IsSound program) (mode : Mode) (code 
         (n, record { newest = counted.newest; older = counted.older; fresh = counted.fresh; total = counted.total }, has_counts)
 
     ticket_does : (h : ℕ) (ts : List Ticket) (s' : Core) → takes_ticket code size s h ts ≡ Some s' → AreCounted s'
-    ticket_does h [] s' e = absurd (cc)
-    ticket_does h (t ∷ ts) s' e =
-        handled_does (with_tickets code size s h ts) (record { newest = k.newest; older = k.older; fresh = k.fresh; total = k.total }) given h
-        (accept_next (s.handler h) (nexts.Ticket t)) s' e
+    ticket_does h ts s' e = search (rules, handled_does)
 
     parcel_does : (h c : ℕ) (ps : List Parcel) (s' : Core) → takes_parcel code size s h c ps ≡ Some s' → AreCounted s'
-    parcel_does h c [] s' e = absurd (cc)
-    parcel_does h c (parcel ∷ ps) s' e =
-        handled_does (with_down code size s c h ps) (record { newest = k.newest; older = k.older; fresh = k.fresh; total = k.total }) given h
-        (accept_parcel (s.handler h) parcel) s' e
+    parcel_does h c ps s' e = search (rules, handled_does)
 
     give_does : (h c : ℕ) (x : HeldState) (o : Option HeldState) (s' : Core) → gives code size s h c x o ≡ Some s' → AreCounted s'
     give_does h c x None s' e =
@@ -416,11 +382,7 @@ module _ (program : ProgramShape) (sound : IsSound program) (mode : Mode) (code 
         (n, record { newest = k.newest; older = k.older; fresh = k.fresh; total = k.total }, given)
 
     handler_does : (h : ℕ) (act : handler_acts.Act) (s' : Core) → handler_step code size s h act ≡ Some s' → AreCounted s'
-    handler_does h acts.TakeTicket s' e = ticket_does h (s.tickets h) s' e
-    handler_does h (acts.TakeParcel c) s' e = parcel_does h c (s.down c h) s' e
-    handler_does h (acts.Give c x) s' e = give_does h c x (s.up c h) s' e
-    handler_does h (acts.Spare c chunk) s' e = spare_does h c s' e
-    handler_does h acts.Closed s' e = absurd (cc)
+    handler_does h act s' e = search (rules, ticket_does, parcel_does, give_does, spare_does)
 
     step_counted : (y : LaneHistory) (g : ℕ → HandlerLog) → CoreInvariant program s y g → (a : Actor) (s' : Core) → core_step code size s a ≡ Some s' → AreCounted s'
     step_counted y g kept (actor.Client c) s' e = client_does y g kept c (next_of program sound mode code codes size s y g kept c) s' refl e
@@ -443,12 +405,7 @@ module _ (program : ProgramShape) (sound : IsSound program) (mode : Mode) (code 
       )) k)
 
   begin_counted : CountedBy (core_begin program) (λ t h. 0)
-  begin_counted = record {
-    newest = λ c j e. absurd (cc);
-    older = λ c j lt. absurd (omega (arith, lt));
-    fresh = λ c j low h. refl;
-    total = sym (sum_zero (λ c. 0) (λ c. refl) (range_with_len 0 (length program.clients)));
-  }
+  begin_counted = search (rules, sum_zero)
 
   begin_ok : HaveCounts (λ t h. 0) (core_begin program).sync_counts
   begin_ok t = record { objects = objects_none (text_of program t).reserved; numbers = λ h. none_for (text_of program t).reserved h }

@@ -1,6 +1,6 @@
 -- Runs of the optimised machine are isolated: the histories of their lanes make up an abstract run, whose journals flow
 -- as the handlers served.
-use Rattle.std.proofs.Common.{◌≡◌, ◌<◌, ◌≤◌, ℕ, zero, suc, ◌+◌, ◌&&◌, ◌||◌, Bool, true, false, nat_lt, nat_eq, List, [], ◌∷◌, ◌++◌, map, length, refl, ap, ap₂, sym, subst, ◌∙◌, arith}
+use Rattle.std.proofs.Common.{◌≡◌, ◌<◌, ◌≤◌, ℕ, zero, suc, ◌+◌, ◌&&◌, ◌||◌, Bool, true, false, nat_lt, nat_eq, List, [], ◌∷◌, ◌++◌, length, refl, ap, ap₂, sym, subst, ◌∙◌, arith, rules}
 use Rattle.std.proofs.lemmas.List.{get_or-map, get_or_past, length-map}
 use Rattle.std.proofs.lemmas.List.FromFn.{get_or-map-range_with_len, length-range_with_len}
 use Rattle.std.specs.List.{range_with_len}
@@ -17,11 +17,11 @@ use Rattle.qs_meaning.proofs.Histories.{Among, Flow, ObjectCourse, done_of, part
 use Rattle.qs_meaning.specs.BlockRecords.{IsDone}
 use Rattle.qs_meaning.proofs.SerialRuns.{line}
 use Rattle.qs_meaning.specs.audit.Interaction as tree
-use Rattle.qs_handler.specs.audit.Handler.{Handler, free, serves, spares, gives, away, closed, is_free}
+use Rattle.qs_handler.specs.audit.Handler.{Handler, free, is_free}
 use Rattle.qs_handler.specs.Handler.{serving}
-use Rattle.qs_client.specs.audit.rules.Client.{ClientStage, between, runs, full, awaits, leaves}
+use Rattle.qs_client.specs.audit.rules.Client.{ClientStage, between}
 use Rattle.qs_client.specs.audit.ClientModel.{is_between, has_ended}
-use Rattle.qs_played.specs.audit.Isolation.{journal_of, state_of, ticket_at, trace_of}
+use Rattle.qs_played.specs.audit.Isolation.{journal_of, state_of, ticket_at}
 use Rattle.qs_played.specs.Isolation.{IsIsolated}
 use Rattle.qs_played.specs.audit.Played.{ticket, Played}
 use Rattle.qs_played.proofs.Orders.{each_among, legal_among}
@@ -55,11 +55,7 @@ none_of_length (x ∷ xs) e = absurd (let n : length (x ∷ xs) ≡ 0 = grind (a
 
 free_serves_none : (v : Handler) → is_free v ≡ true → serving v ≡ []
 free_serves_none (free x) e = refl
-free_serves_none (serves t x) e = absurd (cc)
-free_serves_none (spares t x n) e = absurd (cc)
-free_serves_none (gives t x) e = absurd (cc)
-free_serves_none (away t) e = absurd (cc)
-free_serves_none (closed x) e = absurd (cc)
+free_serves_none _ e = absurd (cc)
 
 module _ (program : ProgramShape) (sound : IsSound program) (s : Core) (y : LaneHistory) (g : ℕ → HandlerLog) (k : CoreInvariant program s y g) where
   abbrev r : Played
@@ -97,13 +93,7 @@ module _ (program : ProgramShape) (sound : IsSound program) (s : Core) (y : Lane
 
   -- an object that the program doesn't have shows no journal
   no_journal : (h : ℕ) → length program.objects ≤ h → journal_of r h ≡ []
-  no_journal h out =
-      let long : length (map (λ h. (shown h).journal) (range_with_len 0 (length program.objects))) ≡ length program.objects =
-      length-map (range_with_len 0 (length program.objects)) (λ h. (shown h).journal) ∙ length-range_with_len 0 (length program.objects) in
-      get_or_past (map (λ h. (shown h).journal) (range_with_len 0 (length program.objects))) h [] (omega (arith, long, out))
-
-  trace_is : (i : ℕ) → i < length s.order → trace_of r i ≡ (y.block_record (ticket_at r i)).trace
-  trace_is i inside = get_or-map s.trace s.order i (ticket 0 0) [] inside ∙ sym (k.trace (ticket_at r i))
+  no_journal h out = search (rules, length-map, length-range_with_len, get_or_past)
 
   -- an ended block has nothing left
   ended_done : (t : Ticket) → has_ended (s.client t.client) t.index ≡ true → IsDone (y.block_record t).rest
@@ -111,10 +101,7 @@ module _ (program : ProgramShape) (sound : IsSound program) (s : Core) (y : Lane
     where
       by_place : (pl : ClientStage) → PlaceOk program t (y.sent t) (y.got t) (s.client t.client) (y.block_record t) pl → is_between pl ≡ true → IsDone (y.block_record t).rest
       by_place (between l) ok b = subst IsDone (sym ok.rest) tt
-      by_place (runs code) ok b = absurd (cc)
-      by_place (full h code) ok b = absurd (cc)
-      by_place (awaits h code) ok b = absurd (cc)
-      by_place (leaves h hs l) ok b = absurd (cc)
+      by_place _ ok b = absurd (cc)
 
       by_test : (b : Bool) → nat_lt (suc t.index) (s.client t.client).begun ≡ b → (b || (nat_eq (suc t.index) (s.client t.client).begun && is_between (s.client t.client).stage)) ≡ true → IsDone (y.block_record t).rest
       by_test true less e =
@@ -173,7 +160,7 @@ module _ (program : ProgramShape) (sound : IsSound program) (s : Core) (y : Lane
     honest = λ h own. (flows h).1;
     replayed = λ h own. (flows h).2;
     entry = λ i inside. get_or-map s.entry s.order i (ticket 0 0) [] inside ∙ sym (k.entry (ticket_at r i));
-    trace = trace_is;
+    trace = λ i inside. get_or-map s.trace s.order i (ticket 0 0) [] inside ∙ sym (k.trace (ticket_at r i));
     ended = λ i inside e. ended_done (ticket_at r i) (sym (get_or-map (λ (t : Ticket). has_ended (s.client t.client) t.index) s.order i (ticket 0 0) false inside) ∙ e);
     journals = journal_is;
     written = λ h t has. written h t (nat_lt h (length program.objects)) refl has;

@@ -2,7 +2,7 @@
 -- or the client to which it was given has it. The states that a run shows are taken from there, and isolation speaks of
 -- them. Where the handler gave the object away, both ends of the lane are compared, by induction on what the handler
 -- received.
-use Rattle.std.proofs.Common.{◌≡◌, ◌≤◌, arith, ℕ, suc, Bool, true, false, true≢false, if◌then◌else◌, ◌==◌, ◌&&◌, List, [], ◌∷◌, ◌++◌, filter, flat_map, refl, sym, ap, ap₂, ◌∙◌, subst, ◌⊎◌, inl, inr, ⊎_elim, Option, Some, None}
+use Rattle.std.proofs.Common.{◌≡◌, ◌≤◌, ℕ, suc, Bool, true, false, true≢false, if◌then◌else◌, ◌==◌, ◌&&◌, List, [], ◌∷◌, ◌++◌, filter, flat_map, refl, sym, ap, ap₂, ◌∙◌, subst, ◌⊎◌, inl, inr, Option, Some, None, rules}
 use Rattle.std.specs.List.{AllByRecursion}
 use Rattle.qs_objects.specs.audit.Journals.{HeldState}
 use Rattle.qs_objects.specs.audit.Parts.{part}
@@ -12,7 +12,6 @@ use Rattle.qs_objects.specs.declared.Request.{Request}
 use Rattle.qs_objects.proofs.Choices.{eqb_self, apart_eqb, num_cases}
 use Rattle.qs_meaning.specs.audit.Following.{reserves}
 use Rattle.qs_program.specs.audit.Program.{ProgramShape}
-use Rattle.qs_program.specs.audit.Sound.{is_in}
 use Rattle.qs_chunk.specs.LaneViews.{ObjectStance, sends, asks, holds, gone, ClientLane, HandlerLane, HandlerGives, object_of}
 use Rattle.qs_chunk.specs.declared.parcel.Parcel.{Parcel}
 use Rattle.qs_chunk.specs.audit.LaneParts.{away_at}
@@ -20,7 +19,7 @@ use Rattle.qs_chunk.specs.LaneViews as views
 use Rattle.qs_chunk.specs.declared.parcel.Parcel.TheVariants as parcels
 use Rattle.qs_handler.specs.audit.Handler.{Handler, free, serves, spares, gives, away, closed}
 use Rattle.qs_handler.specs.Handler.{serving}
-use Rattle.qs_client.specs.audit.rules.Client.{Client, ClientStage, between, runs, full, awaits, leaves}
+use Rattle.qs_client.specs.audit.rules.Client.{Client, ClientStage}
 use Rattle.qs_core_laws.proofs.protocol.ObjectViews.{stance, as_list, HandlerLog, ahead}
 use Rattle.qs_core_laws.proofs.protocol.ClientInvariants.{in_hand, objects_of_block, Lined, standing_at}
 use Rattle.qs_core_laws.proofs.protocol.LaneWays.{LastOf, none_of}
@@ -51,29 +50,17 @@ no_more (m ∷ more) up e = absurd (cc)
 
 waits_where : (t : Ticket) (x z : HeldState) (way : List Parcel) (gots gave up : List HeldState) (es : List Event) (c : ObjectStance)
     → ClientLane t true way gots es c → HandlerGives x gave (views.lent z) → gave ≡ gots ++ up → Where way up c z
-waits_where t x z way gots [] up es c k l e = absurd (cc (l))
-waits_where t x z [] [] (g ∷ gave) up es c k l e =
-    let one : z ≡ x = cc (l.2) in
-    inl (refl, sym e ∙ (ap₂ (λ g gs. g ∷ gs) (l.0 ∙ sym one) l.1), k.1)
-waits_where t x z [] (o ∷ gots) (g ∷ gave) up es c k l e = inr (inl (refl, no_more gots up (sym l.1 ∙ tail_is g o gave (gots ++ up) e), (k.0, k.2)))
-waits_where t x z (parcels.Home y ∷ w) gots (g ∷ gave) up es c k l e =
-    inr (inr (y, w, refl, no_more k.1 up (sym l.1 ∙ tail_is g k.0 gave (k.1 ++ up) (e ∙ ap (λ gs. gs ++ up) k.4))))
-waits_where t x z (parcels.Work chunk ∷ w) gots (g ∷ gave) up es c k l e = absurd k
-waits_where t x z (parcels.Sync ∷ w) gots (g ∷ gave) up es c k l e = absurd k
-waits_where t x z (parcels.End ∷ w) gots (g ∷ gave) up es c k l e = absurd k
+waits_where t x z way gots gave up es c k l e = search (rules, no_more, tail_is)
 
 pub lent_where : (t : Ticket) (x z : HeldState) (received way : List Parcel) (gots gave up : List HeldState) (es : List Event) (c : ObjectStance)
     → ClientLane t false (received ++ way) gots es c → HandlerLane t false x received gave (views.lent z) → gave ≡ gots ++ up → Where way up c z
 lent_where t x z [] way gots gave up es c k l e = absurd (cc (l.1))
 lent_where t x z (parcels.Work chunk ∷ received) way gots gave up es c k l e = lent_where t _ z received way gots gave up k.0 c k.3 l e
-lent_where t x z (parcels.Home y ∷ received) way gots gave up es c k l e = absurd k
 lent_where t x z (parcels.End ∷ received) way gots gave up es c k l e = absurd (cc (l.2))
 lent_where t x z (parcels.Sync ∷ []) way gots gave up es c k l e = waits_where t x z way gots gave up es c k l e
 lent_where t x z (parcels.Sync ∷ (parcels.Home y ∷ received)) way gots gave up es c k l e =
     lent_where t y z received way k.1 l.0 up k.3 c k.7 l.2 (tail_is x k.0 l.0 (k.1 ++ up) (sym l.1 ∙ (e ∙ ap (λ gs. gs ++ up) k.4)))
-lent_where t x z (parcels.Sync ∷ (parcels.Work chunk ∷ received)) way gots gave up es c k l e = absurd k
-lent_where t x z (parcels.Sync ∷ (parcels.Sync ∷ received)) way gots gave up es c k l e = absurd k
-lent_where t x z (parcels.Sync ∷ (parcels.End ∷ received)) way gots gave up es c k l e = absurd k
+lent_where t x z (_ ∷ _) way gots gave up es c k l e = absurd k
 
 hand_holds : (o : Option HeldState) (c : Option (List Request)) (y : HeldState) → in_hand o c ≡ holds y → o ≡ Some y
 hand_holds (Some x) c y e = ap Some (cc)
@@ -93,11 +80,7 @@ leaves_holds true b o c y e = hand_holds o c y e
 leaves_holds false b o c y e = absurd (gone_holds b y e)
 
 place_holds : (program : ProgramShape) (t : Ticket) (m : Client) (pl : ClientStage) (h : ℕ) (y : HeldState) → standing_at program t m pl h ≡ holds y → m.held h ≡ Some y
-place_holds program t m (between l) h y e = absurd (gone_holds (reserves program t h) y e)
-place_holds program t m (runs code) h y e = hand_holds (m.held h) (m.chunk h) y e
-place_holds program t m (full g code) h y e = hand_holds (m.held h) (m.chunk h) y e
-place_holds program t m (awaits g code) h y e = awaits_holds (g == h) (m.held h) (m.chunk h) y e
-place_holds program t m (leaves g hs l) h y e = leaves_holds (is_in (g ∷ hs) h) (reserves program t h) (m.held h) (m.chunk h) y e
+place_holds program t m pl h y e = search (rules, gone_holds, awaits_holds, leaves_holds, hand_holds)
 
 -- the object, wherever it is, where the handler gave `lent` last
 abbrev pub object_now : LaneHistory → ℕ → Handler → HeldState → (Ticket → List Parcel) → HeldState
@@ -114,11 +97,7 @@ module _ (program : ProgramShape) (lined : (t : Ticket) → Lined (reserves prog
 
   -- who holds an object is in its client's last block
   in_block : (t : Ticket) (h : ℕ) → reserves program t h ≡ true → suc t.index ≤ (s.client t.client).begun → (y.stands t h ≡ gone → ⊥) → (s.client t.client).begun ≡ suc t.index
-  in_block t h m lt non =
-      ⊎_elim
-      (λ (is : (s.client t.client).begun ≡ suc t.index). is)
-      (λ (other : ((s.client t.client).begun == suc t.index) ≡ false). let ne = apart_eqb (s.client t.client).begun (suc t.index) other in absurd (non (k.older t.client t.index (omega (arith, ne, lt)) h m)))
-      (num_cases (s.client t.client).begun (suc t.index))
+  in_block t h m lt non = search (rules, apart_eqb, num_cases)
 
   away_found : (h : ℕ) (t : Ticket) → s.handler h ≡ away t → away_at (s.up t.client h) (s.down t.client h) ((s.client t.client).held h) ≡ Some (object_now y h (away t) (g h).lent (g h).way)
   away_found h t v =
@@ -152,25 +131,11 @@ module _ (program : ProgramShape) (lined : (t : Ticket) → Lined (reserves prog
           → ((s.client t.client).begun ≡ suc t.index → (y.stands t h ≡ gone → ⊥) → LastOf t (t ∷ s.tickets h))
           → Where ((g h).way t) (as_list (s.up t.client h)) (y.stands t h) (g h).lent
           → away_at (s.up t.client h) (s.down t.client h) ((s.client t.client).held h) ≡ Some (object_of (views.lent (g h).lent) (y.stands t h) ((g h).way t))
-      by_case t m lt down last (inl w) =
-          ap (λ u. away_at u (s.down t.client h) ((s.client t.client).held h)) (list_some (s.up t.client h) (g h).lent w.1) ∙ ap₂ (λ c way. Some (object_of (views.lent (g h).lent) c way)) (sym w.2) (sym w.0)
-      by_case t m lt down last (inr (inl w)) =
-          let non = λ (e : y.stands t h ≡ gone). holds_gone w.2.0 (sym w.2.1 ∙ e) in
-          let b = in_block t h m lt non in
-          let held : (s.client t.client).held h ≡ Some w.2.0 = place_holds program t (s.client t.client) (s.client t.client).stage h w.2.0 (sym (k.stands t.client t.index b h) ∙ w.2.1) in
-          let none : s.down t.client h ≡ [] = down ∙ ap₂ (λ a b. a ++ b) w.0 (none_of t.client (g h).way (s.tickets h) (same_no t (s.tickets h) (last b non))) in
-          ap₂ (λ u d. away_at u d ((s.client t.client).held h)) (list_none (s.up t.client h) w.1) none ∙ (held ∙ ap₂ (λ c way. Some (object_of (views.lent (g h).lent) c way)) (sym w.2.1) (sym w.0))
-      by_case t m lt down last (inr (inr w)) =
-          ap₂ (λ u d. away_at u d ((s.client t.client).held h)) (list_none (s.up t.client h) w.3) (down ∙ ap (λ way. way ++ flat_map (g h).way (filter (λ (u : Ticket). u.client == t.client) (s.tickets h))) w.2)
-          ∙ ap (λ way. Some (object_of (views.lent (g h).lent) (y.stands t h) way)) (sym w.2)
+      by_case t m lt down last given = search (rules, list_some, holds_gone, in_block, place_holds, none_of, same_no, list_none)
 
   is_found : (h : ℕ) (v : Handler) → s.handler h ≡ v → found_by s h v ≡ Some (object_now y h v (g h).lent (g h).way)
-  is_found h (free x) e = refl
-  is_found h (serves t x) e = refl
-  is_found h (spares t x n) e = refl
-  is_found h (gives t x) e = refl
   is_found h (away t) e = away_found h t e
-  is_found h (closed x) e = refl
+  is_found h _ e = refl
 
   -- the object that the run shows
   pub object_found : (h : ℕ) → found_by s h (s.handler h) ≡ Some (now h)

@@ -2,7 +2,7 @@
 -- objects of the program, tickets come once, and each object can be found. The code relies on this for each of its
 -- steps, by `reached_keeps`. It is read off the invariant and the bounds that every run keeps; the order is no longer
 -- than the program has blocks, since it is legal.
-use Rattle.std.proofs.Common.{◌≡◌, ◌≢◌, ◌<◌, ◌≤◌, ◌+◌, ◌-◌, arith, ℕ, suc, ◌==◌, Bool, true, false, if◌then◌else◌, List, [], ◌∷◌, ◌++◌, length, filter, sum_by, refl, sym, ap, ◌∙◌, subst, ⊎_elim, IsSome, IsTrue}
+use Rattle.std.proofs.Common.{◌≡◌, ◌≢◌, ◌<◌, ◌≤◌, ◌+◌, ◌-◌, arith, ℕ, suc, ◌==◌, Bool, true, false, if◌then◌else◌, List, [], ◌∷◌, ◌++◌, length, filter, sum_by, refl, sym, ap, ◌∙◌, subst, ⊎_elim, IsSome, IsTrue, rules}
 use Rattle.std.specs.List.{AllByRecursion, range_with_len}
 use Rattle.std.proofs.lemmas.List.{length-append}
 use Rattle.qs_objects.specs.audit.Journals.{HeldState}
@@ -41,9 +41,9 @@ use Rattle.qs_played.proofs.Orders.{apart_kept, counts_after}
 use Rattle.qs_played.proofs.JournalRooms.{no_block_beyond, sum_changed, sum_same}
 use Rattle.qs_core_laws.proofs.protocol.ActObjects.{await_at, need_at, not_await, not_need, not_send, send_at}
 use Rattle.qs_core_laws.proofs.protocol.LaneWays.{MayCome}
-use Rattle.qs_core_laws.proofs.protocol.ObjectViews.{HandlerLog, PastOf}
+use Rattle.qs_core_laws.proofs.protocol.ObjectViews.{HandlerLog}
 use Rattle.qs_played.specs.audit.JournalRooms.{fresh_held}
-use Rattle.qs_core_laws.specs.audit.Core.{Core, client_step, core_begin, settings_of}
+use Rattle.qs_core_laws.specs.audit.Core.{Core, core_begin, settings_of}
 use Rattle.qs_core_laws.specs.audit.CoreSchedule.{core_plays, found_by}
 use Rattle.qs_core_laws.specs.CoreSchedule.{before_it}
 use Rattle.qs_core_laws.specs.CoreReached.{NextStands, IsBegun, HandlersServe, ClientsAsk, TicketsStand, OthersRest, CoreStands, ReachedCore}
@@ -53,7 +53,6 @@ use Rattle.qs_core_laws.proofs.CoreInvariant.{LaneHistory, CoreInvariant}
 use Rattle.qs_core_laws.proofs.CoreObjects.{object_found}
 use Rattle.qs_core_laws.proofs.CoreSteps.{begun_by}
 use Rattle.qs_core_laws.proofs.HandlerSteps.{away_first, of_ahead, serves_first}
-use Rattle.qs_core_laws.proofs.CoreBounds as bounds
 
 -- a legal order begins at most the blocks that there are
 counts_within : (p : ProgramShape) (b : ℕ → ℕ) (ts : List Ticket) → LegalFrom p b ts → ((c : ℕ) → b c ≤ blocks_of p c) → (c : ℕ) → counts_after b ts c ≤ blocks_of p c
@@ -140,15 +139,11 @@ both_none (x ∷ xs) ys e = absurd (cc)
 
 may_come_stands : (z : HeldState) (parcel : Parcel) (way : List Parcel) → MayCome (views.serves z) parcel way → may_stand false parcel ≡ true
 may_come_stands z (parcels.Home x) way m = absurd m
-may_come_stands z (parcels.Work chunk) way m = refl
-may_come_stands z parcels.Sync way m = refl
-may_come_stands z parcels.End way m = refl
+may_come_stands z _ way m = refl
 
 may_come_home : (z : HeldState) (parcel : Parcel) (way : List Parcel) → MayCome (views.lent z) parcel way → may_stand true parcel ≡ true
 may_come_home z (parcels.Home x) way m = refl
-may_come_home z (parcels.Work chunk) way m = absurd m
-may_come_home z parcels.Sync way m = absurd m
-may_come_home z parcels.End way m = absurd m
+may_come_home z _ way m = absurd m
 
 module _ (program : ProgramShape) (sound : IsSound program) (mode : Mode) (code : ℕ → ClientCode) (codes : AreCodes program mode code) (size : ℕ)
     (s : Core) (y : LaneHistory) (g : ℕ → HandlerLog) (k : CoreInvariant program s y g) (b : CoreBounded program sound mode code codes size s) where
@@ -164,10 +159,7 @@ module _ (program : ProgramShape) (sound : IsSound program) (mode : Mode) (code 
           let is : t.client ≡ c = cc in
           let f = away_first program s y g k h t parcel ps e (ap (λ c. s.down c h) is ∙ down) in
           subst (λ v. IsTrue (may_stand (is_away v) parcel)) (sym e) (may_come_home (g h).lent parcel f.0 f.3)
-      by_handler (free x) e a = absurd (cc)
-      by_handler (spares t x n) e a = absurd (cc)
-      by_handler (gives t x) e a = absurd (cc)
-      by_handler (closed x) e a = absurd (cc)
+      by_handler _ e a = absurd (cc)
 
   -- tickets
 
@@ -193,15 +185,7 @@ module _ (program : ProgramShape) (sound : IsSound program) (mode : Mode) (code 
       omega (arith, part, shorter, fits, all)
 
   tickets_stand : TicketsStand program s
-  tickets_stand = record {
-    begun = λ c. let n = k.counts c in let w = counts_within program (λ _. 0) s.order k.legal (λ c. omega arith) c in omega (arith, n, w);
-    order = order_begun;
-    before = before_begun;
-    counted = λ c. let n = k.counts c in let f = counted_from program (λ _. 0) s.order c k.legal in omega (arith, n, f);
-    once = λ h t. at_most_once t (before_it s h) (apart_ahead h);
-    few = few_before;
-    fresh = b.fresh;
-  }
+  tickets_stand = search (rules, counts_within, order_begun, before_begun, counted_from, at_most_once, apart_ahead, few_before)
 
   -- handlers
 
@@ -211,37 +195,17 @@ module _ (program : ProgramShape) (sound : IsSound program) (mode : Mode) (code 
   handler_takes : (h c : ℕ) (v : Handler) → s.handler h ≡ v → handlers.act_of v ≡ acts.TakeParcel c → c < length program.clients
   handler_takes h c (serves t x) e a = let is : t.client ≡ c = cc in subst (λ c. c < length program.clients) is (served_inside h t (ap serving e))
   handler_takes h c (away t) e a = let is : t.client ≡ c = cc in subst (λ c. c < length program.clients) is (served_inside h t (ap serving e))
-  handler_takes h c (free x) e a = absurd (cc)
-  handler_takes h c (spares t x n) e a = absurd (cc)
-  handler_takes h c (gives t x) e a = absurd (cc)
-  handler_takes h c (closed x) e a = absurd (cc)
+  handler_takes h c _ e a = absurd (cc)
 
   handler_gives : (h c : ℕ) (x : HeldState) (v : Handler) → s.handler h ≡ v → handlers.act_of v ≡ acts.Give c x → c < length program.clients
   handler_gives h c x (gives t z) e a = let is : t.client ≡ c = cc in subst (λ c. c < length program.clients) is (served_inside h t (ap serving e))
-  handler_gives h c x (free z) e a = absurd (cc)
-  handler_gives h c x (serves t z) e a = absurd (cc)
-  handler_gives h c x (spares t z n) e a = absurd (cc)
-  handler_gives h c x (away t) e a = absurd (cc)
-  handler_gives h c x (closed z) e a = absurd (cc)
+  handler_gives h c x _ e a = absurd (cc)
 
   handler_spares : (h c : ℕ) (chunk : Batch Request) (v : Handler) → s.handler h ≡ v → handlers.act_of v ≡ acts.Spare c chunk → (c < length program.clients) × (chunk.capacity ≡ size)
-  handler_spares h c chunk (spares t z n) e a =
-      let is : t.client ≡ c = cc in
-      let same_size : n ≡ chunk.capacity = cc in
-      (subst (λ c. c < length program.clients) is (served_inside h t (ap serving e)), sym same_size ∙ b.back h t z n e)
-  handler_spares h c chunk (free z) e a = absurd (cc)
-  handler_spares h c chunk (serves t z) e a = absurd (cc)
-  handler_spares h c chunk (gives t z) e a = absurd (cc)
-  handler_spares h c chunk (away t) e a = absurd (cc)
-  handler_spares h c chunk (closed z) e a = absurd (cc)
+  handler_spares h c chunk v e a = search (rules, served_inside)
 
   handlers_serve : HandlersServe program size s
-  handlers_serve = record {
-    takes = λ h c a. handler_takes h c (s.handler h) refl a;
-    gives = λ h c x a. handler_gives h c x (s.handler h) refl a;
-    spares = λ h c chunk a. handler_spares h c chunk (s.handler h) refl a;
-    opened = λ h x e. (k.objects h).opened x e;
-  }
+  handlers_serve = search (rules, handler_takes, handler_gives, handler_spares)
 
   -- clients
 
@@ -273,46 +237,22 @@ module _ (program : ProgramShape) (sound : IsSound program) (mode : Mode) (code 
   -- beyond the program
 
   none_reserve : (h : ℕ) → length program.objects ≤ h → (t : Ticket) → reserves program t h ≡ false
-  none_reserve h out t = by_test (reserves program t h) refl
-    where
-      by_test : (z : Bool) → reserves program t h ≡ z → z ≡ false
-      by_test false e = refl
-      by_test true e = absurd (let i = reserved_inside program sound t h e in omega (arith, i, out))
+  none_reserve h out t = search (rules, reserved_inside)
 
   nobody : (h : ℕ) → length program.objects ≤ h → ((g h).past ≡ []) × (before_it s h ≡ [])
   nobody h out = both_none (g h).past (before_it s h) (sym (no_filter (λ t. reserves program t h) s.order (none_reserve h out)) ∙ (k.objects h).split)
 
   rests : (h : ℕ) → (g h).past ≡ [] → (v : Handler) → s.handler h ≡ v → serving v ++ s.tickets h ≡ [] → (s.tickets h ≡ []) × (s.handler h ≡ free (fresh_held program h))
-  rests h none (free x) e q =
-      let first : fresh_held program h ≡ (g h).found = subst (λ ts. PastOf (λ t. y.sent t h) (λ t. y.got t h) (fresh_held program h) ts (g h).found) none (k.objects h).served in
-      (q, e ∙ ap free ((k.objects h).free x e ∙ sym first))
-  rests h none (serves t x) e q = absurd (cc)
-  rests h none (spares t x n) e q = absurd (cc)
-  rests h none (gives t x) e q = absurd (cc)
-  rests h none (away t) e q = absurd (cc)
-  rests h none (closed x) e q = absurd ((k.objects h).opened x e)
+  rests h none v e q = search (rules, none)
 
   others_rest : OthersRest program code size s
-  others_rest = record {
-    tickets = λ h out. let n = nobody h out in (rests h n.0 (s.handler h) refl n.1).0;
-    handler = λ h out. let n = nobody h out in (rests h n.0 (s.handler h) refl n.1).1;
-    client = b.idle;
-    steps = λ c out. ap (client_step code size s c) (bounds.beyond_acts program sound mode code codes size s (y, g, k) b c out);
-  }
+  others_rest = search (rules, nobody, rests)
 
   object_somewhere : (h : ℕ) → IsSome (found_by s h (s.handler h))
   object_somewhere h = subst IsSome (sym (object_found program (lined program sound) s y g k h)) refl
 
   stands : CoreStands program code size s
-  stands = record {
-    next = next_stands;
-    sizes = b.sizes;
-    handlers = handlers_serve;
-    clients = clients_ask;
-    tickets = tickets_stand;
-    others = others_rest;
-    found = object_somewhere;
-  }
+  stands = search (rules, next_stands, handlers_serve, clients_ask, tickets_stand, others_rest, object_somewhere)
 
   pub stands_reached : ReachedCore program code size s
   unfolding ReachedCore

@@ -2,7 +2,7 @@
 -- Isolation is read off the invariant (`run_kept`), and the bounds and the counts are kept along the same steps. The
 -- proof goes by cases on the actor and on its act, where each kind of step has its own lemma in another file, and then
 -- by induction on the list.
-use Rattle.std.proofs.Common.{◌≡◌, ◌<◌, ◌-◌, ℕ, zero, suc, nat_lt, Bool, true, false, if◌then◌else◌, List, [], ◌∷◌, ◌++◌, length, refl, sym, ap, ◌∙◌, subst, Option, Some, None, arith}
+use Rattle.std.proofs.Common.{◌≡◌, ◌<◌, ◌-◌, ℕ, zero, suc, nat_lt, Bool, true, false, if◌then◌else◌, List, [], ◌∷◌, ◌++◌, length, refl, sym, ap, ◌∙◌, subst, Option, Some, None, arith, rules}
 use Rattle.qs_objects.specs.audit.Journals.{HeldState}
 use Rattle.qs_objects.specs.declared.held.Ticket.{Ticket}
 use Rattle.qs_objects.specs.declared.held.Next.TheVariants as nexts
@@ -20,7 +20,7 @@ use Rattle.qs_chunk.specs.LaneViews.{sends}
 use Rattle.qs_chunk.specs.declared.parcel.Parcel.{Parcel}
 use Rattle.qs_handler.specs.audit.Handler.{Handler, free, serves, spares, gives, away, closed, accept_next, accept_parcel, gave}
 use Rattle.qs_handler.specs.audit.Handler as handlers
-use Rattle.qs_client.specs.audit.rules.Client.{Settlement, act_of, act_at, between, after_parcel, take_object, take_chunk, begin}
+use Rattle.qs_client.specs.audit.rules.Client.{Settlement, act_of, between, after_parcel, take_object, take_chunk, begin}
 use Rattle.qs_client.specs.declared.rules.act.Act.{Act}
 use Rattle.qs_client.specs.declared.rules.act.Act.TheVariants.{Reserve, Send, Await, NeedChunk, Finished}
 use Rattle.qs_played.specs.audit.Played.{ticket}
@@ -100,11 +100,7 @@ module _ (program : ProgramShape) (sound : IsSound program) (mode : Mode) (code 
         reserve_at program (ticket c n) (y.sent (ticket c n)) (y.got (ticket c n)) (settings_of code size c) (blocks_in code c) (s.client c) (y.block_record (ticket c n)) (s.client c).stage (k.places c n b) act
 
     pub has_more : (c : ℕ) (l : Locals) → (s.client c).stage ≡ between l → next_of c ≡ Reserve → (s.client c).begun < blocks_of program c
-    has_more c l at act =
-        let b = reserves_more (nat_lt (s.client c).begun (blocks_in code c)) (sym (ap (act_at (settings_of code size c) (blocks_in code c) (s.client c)) at) ∙ act) in
-        let long = blocks_are program sound mode code codes c in
-        let less : (s.client c).begun < blocks_in code c = grind (arith, b) in
-        omega (arith, less, long)
+    has_more c l at act = search (rules, reserves_more, blocks_are)
 
     -- the machine's own reservation, by the list that the program's text has
     abbrev booked_core : ℕ → Ticket → Locals → List ℕ → Core
@@ -135,11 +131,7 @@ module _ (program : ProgramShape) (sound : IsSound program) (mode : Mode) (code 
         (reserve_kept program (blocks_ask_only program sound) (lined program sound) s y g k (settings_of code size c) c (s.client c).begun refl some at.0 at.1 (synced_block code t at.0) w.0 w.1 w.2))
 
     client_does : (c : ℕ) (act : Act) (s' : Core) → next_of c ≡ act → client_step code size s c act ≡ Some s' → HasInvariant s'
-    client_does c Reserve s' act e = reserve_does c s' act e
-    client_does c (Send h parcel) s' act e = send_does c h parcel s' act e
-    client_does c (Await h) s' act e = get_does c h (s.up c h) s' refl act e
-    client_does c (NeedChunk h) s' act e = chunk_does c h (s.spare c h) s' act e
-    client_does c Finished s' act e = absurd (cc)
+    client_does c act s' act' e = search (rules, reserve_does, send_does, get_does, chunk_does)
 
     ticket_does : (h : ℕ) (x : HeldState) (ts : List Ticket) (s' : Core) → s.handler h ≡ free x → s.tickets h ≡ ts → takes_ticket code size s h ts ≡ Some s' → HasInvariant s'
     ticket_does h x [] s' v q e = absurd (cc)

@@ -2,7 +2,7 @@
 -- one more at one object while the block is open, and their sum is what it shows as its syncs. The law
 -- `core_syncs_are_counted` is this. The count was kept step by step; here it is read off, by cases on where the client
 -- stands in its block.
-use Rattle.std.proofs.Common.{◌≡◌, ◌<◌, ◌≤◌, ℕ, suc, ◌&&◌, nat_lt, nat_eq, Bool, true, false, List, [], ◌∷◌, length, map, refl, sym, ap, ap₂, ◌∙◌, subst, inl, inr, arith}
+use Rattle.std.proofs.Common.{◌≡◌, ◌<◌, ◌≤◌, ℕ, suc, nat_lt, Bool, true, false, List, [], ◌∷◌, length, map, refl, sym, ap, ap₂, ◌∙◌, subst, inl, inr, arith, rules}
 use Rattle.std.specs.Prelude.{sum_by}
 use Rattle.std.specs.List.{AllByRecursion}
 use Rattle.std.proofs.lemmas.List.{get_or-map}
@@ -17,7 +17,7 @@ use Rattle.qs_syncset.specs.audit.Codes.{ClientCode, AreCodes, reserved_of}
 use Rattle.qs_syncset.specs.SyncCounts.{syncs_along}
 use Rattle.qs_sync_counts.specs.audit.SyncRows.{object_of, syncs_of}
 use Rattle.qs_sync_counts.specs.SyncRows.{syncs_for}
-use Rattle.qs_client.specs.audit.rules.Client.{Client, ClientStage, between, runs, full, awaits, leaves}
+use Rattle.qs_client.specs.audit.rules.Client.{Client, ClientStage, runs, full, awaits}
 use Rattle.qs_client.specs.audit.ClientModel.{is_between, has_ended, synced_block}
 use Rattle.qs_played.specs.audit.Isolation.{ended_of, ticket_at, trace_of}
 use Rattle.qs_played.specs.Isolation.{entry_of}
@@ -52,24 +52,17 @@ module _ (program : ProgramShape) (sound : IsSound program) (mode : Mode) (code 
       m = s.client t.client
 
       open_yet : (pl : ClientStage) → m.stage ≡ pl → is_between pl ≡ false → has_ended m t.index ≡ false
-      open_yet pl at inside =
-          let less : nat_lt (suc t.index) m.begun ≡ false = grind (arith, b) in
-          rw less (ap (λ p. nat_eq (suc t.index) m.begun && is_between p) at ∙ both (nat_eq (suc t.index) m.begun) (is_between pl) inside)
-        where
-          both : (x z : Bool) → z ≡ false → (x && z) ≡ false
-          both true z e = e
-          both false z e = refl
+      open_yet pl at inside = search (rules, m)
 
       by_place : (pl : ClientStage) → m.stage ≡ pl → CountAt (settings_of code size t.client) t (reserved_of code t) (synced_block code t (s.entry t))
           (s.trace t) (n t) m pl
           → AreSent (has_ended m t.index) (n t) (by_tree t)
-      by_place (between l) at k = inl k
       by_place (runs tree) at k = inl (even_now (settings_of code size t.client) t (reserved_of code t) (synced_block code t (s.entry t)) (s.trace t)
           (n t) (holding m) tree k.0)
       by_place (full h tree) at k = inl (even_now (settings_of code size t.client) t (reserved_of code t) (synced_block code t (s.entry t)) (s.trace t)
           (n t) (holding m) tree k.0)
       by_place (awaits h tree) at k = inr (open_yet (awaits h tree) at refl, h, k.now)
-      by_place (leaves h hs l) at k = inl k
+      by_place _ at k = inl k
 
   ticket_sent : (t : Ticket) → suc t.index ≤ (s.client t.client).begun → AreSent (has_ended (s.client t.client) t.index) (n t) (by_tree t)
   ticket_sent t low = by_test (nat_lt (suc t.index) (s.client t.client).begun) refl

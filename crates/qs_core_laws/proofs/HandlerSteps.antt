@@ -1,7 +1,7 @@
 -- Each step of a handler keeps the invariant of the optimised machine. The proof that every step does (`CoreSteps`)
 -- stands on it. A handler's step moves one object's view along the lane of the ticket that is served, and nothing else
 -- changes; what lies first in that lane is of this ticket and may come, by cases on the parcel.
-use Rattle.std.proofs.Common.{◌≡◌, ◌≤◌, arith, ℕ, suc, true, false, ◌==◌, List, [], ◌∷◌, ◌++◌, filter, flat_map, refl, sym, ap, ◌∙◌, subst, ⊎_elim, Option, Some, None}
+use Rattle.std.proofs.Common.{◌≡◌, ◌≤◌, arith, ℕ, suc, true, false, ◌==◌, List, [], ◌∷◌, ◌++◌, filter, flat_map, refl, sym, ap, ◌∙◌, subst, Option, Some, None, rules}
 use Rattle.std.specs.List.{AllByRecursion}
 use Rattle.std.proofs.Math.Path.{fun_ext}
 use Rattle.qs_objects.specs.audit.Journals.{HeldState}
@@ -29,19 +29,10 @@ use Rattle.qs_core_laws.specs.audit.Core.{Core, put_lane}
 use Rattle.qs_core_laws.proofs.CoreInvariant.{LaneHistory, post, deeds, TicketOk, CoreInvariant}
 
 pub put_lane_at : {A : Type 0} (f : ℕ → ℕ → A) (c h : ℕ) (a : A) (d : ℕ) → put_lane f c h a d h ≡ put (λ c. f c h) c a d
-put_lane_at f c h a d =
-    ⊎_elim
-    (λ (is : c ≡ d). subst (λ d. put_lane f c h a d h ≡ put (λ c. f c h) c a d) is
-    (ap (λ (r : ℕ → _). r h) (put_here f c (put (f c) h a)) ∙ (put_here (f c) h a ∙ sym (put_here (λ c. f c h) c a))))
-    (λ (other : (c == d) ≡ false). ap (λ (r : ℕ → _). r h) (put_there f c (put (f c) h a) d other) ∙ sym (put_there (λ c. f c h) c a d other))
-    (num_cases c d)
+put_lane_at f c h a d = search (rules, put_here, put_there, num_cases)
 
 pub put_lane_there : {A : Type 0} (f : ℕ → ℕ → A) (c h : ℕ) (a : A) (d g : ℕ) → (h == g) ≡ false → put_lane f c h a d g ≡ f d g
-put_lane_there f c h a d g n =
-    ⊎_elim
-    (λ (is : c ≡ d). subst (λ d. put_lane f c h a d g ≡ f d g) is (ap (λ (r : ℕ → _). r g) (put_here f c (put (f c) h a)) ∙ put_there (f c) h a g n))
-    (λ (other : (c == d) ≡ false). ap (λ (r : ℕ → _). r g) (put_there f c (put (f c) h a) d other))
-    (num_cases c d)
+put_lane_there f c h a d g n = search (rules, put_here, put_there, num_cases)
 
 -- of what lies on the way up
 pub put_up_at : (f : ℕ → ℕ → Option HeldState) (c h : ℕ) (o : Option HeldState) (d : ℕ) → as_list (put_lane f c h o d h) ≡ put (λ c. as_list (f c h)) c (as_list o) d
@@ -66,27 +57,7 @@ module _ (program : ProgramShape) (s : Core) (y : LaneHistory) (g : ℕ → Hand
       → ((j : ℕ) → (h == j) ≡ false → post (record s { handler = handler; tickets = tickets; down = down; up = up; spare = spare }) j ≡ post s j)
       → IsObject (Mine h) (fresh_held program h) b (deeds y h) new
       → CoreInvariant program (record s { handler = handler; tickets = tickets; down = down; up = up; spare = spare }) y (put g h new)
-  at_post handler tickets down up spare h b new e out ok = record {
-    legal = k.legal;
-    counts = k.counts;
-    below = k.below;
-    tickets_ok = k.tickets_ok;
-    entry = k.entry;
-    trace = k.trace;
-    idle = k.idle;
-    places = k.places;
-    stands = k.stands;
-    older = k.older;
-    outside = k.outside;
-    objects = λ j. ⊎_elim
-        (λ (is : h ≡ j). subst (λ j. IsObject (Mine j) (fresh_held program j) (post (record s { handler = handler; tickets = tickets; down = down; up = up; spare = spare }) j) (deeds y j) (put g h new j)) is
-        (subst (λ (l : HandlerLog). IsObject (Mine h) (fresh_held program h) (post (record s { handler = handler; tickets = tickets; down = down; up = up; spare = spare }) h) (deeds y h) l) (sym (put_here g h new))
-        (subst (λ b. IsObject (Mine h) (fresh_held program h) b (deeds y h) new) (sym e) ok)))
-        (λ (other : (h == j) ≡ false).
-        subst (λ (l : HandlerLog). IsObject (Mine j) (fresh_held program j) (post (record s { handler = handler; tickets = tickets; down = down; up = up; spare = spare }) j) (deeds y j) l) (sym (put_there g h new j other))
-        (subst (λ b. IsObject (Mine j) (fresh_held program j) b (deeds y j) (g j)) (sym (out j other)) (k.objects j)))
-        (num_cases h j);
-  }
+  at_post handler tickets down up spare h b new e out ok = search (rules, post, deeds, put_here, put_there, num_cases)
 
   pub take_kept : (h : ℕ) (z : HeldState) (t : Ticket) (ts : List Ticket) → s.handler h ≡ free z → s.tickets h ≡ t ∷ ts
       → CoreInvariant program (record s { tickets = put s.tickets h ts; handler = put s.handler h (serves t z) }) y (put g h (record (g h) { gave = put_at (g h).gave t [] }))
@@ -145,17 +116,11 @@ module _ (program : ProgramShape) (s : Core) (y : LaneHistory) (g : ℕ → Hand
 
   pub serves_first : (h : ℕ) (t : Ticket) (z : HeldState) (p : Parcel) (ps : List Parcel) → s.handler h ≡ serves t z → s.down t.client h ≡ p ∷ ps
       → (w : List Parcel) × ((g h).way t ≡ p ∷ w) × (ps ≡ w ++ flat_map (g h).way (filter (λ (u : Ticket). u.client == t.client) (s.tickets h))) × MayCome (views.serves z) p w
-  serves_first h t z p ps e d =
-      let st : stance (s.handler h) (g h).lent ≡ views.serves z = ap (λ v. stance v (g h).lent) e in
-      let f = first_comes h t p ps (ap serving e) d (λ v n. serves_not_over z v (sym st ∙ n)) in
-      (f.0, f.1, f.2, subst (λ v. MayCome v p f.0) st f.3)
+  serves_first h t z p ps e d = search (rules, stance, first_comes, serves_not_over)
 
   pub away_first : (h : ℕ) (t : Ticket) (p : Parcel) (ps : List Parcel) → s.handler h ≡ away t → s.down t.client h ≡ p ∷ ps
       → (w : List Parcel) × ((g h).way t ≡ p ∷ w) × (ps ≡ w ++ flat_map (g h).way (filter (λ (u : Ticket). u.client == t.client) (s.tickets h))) × MayCome (views.lent (g h).lent) p w
-  away_first h t p ps e d =
-      let st : stance (s.handler h) (g h).lent ≡ views.lent (g h).lent = ap (λ v. stance v (g h).lent) e in
-      let f = first_comes h t p ps (ap serving e) d (λ v n. lent_not_over (g h).lent v (sym st ∙ n)) in
-      (f.0, f.1, f.2, subst (λ v. MayCome v p f.0) st f.3)
+  away_first h t p ps e d = search (rules, stance, first_comes, lent_not_over)
 
   pub serves_kept : (h : ℕ) (t : Ticket) (z : HeldState) (p : Parcel) (ps : List Parcel) (v : Handler) → s.handler h ≡ serves t z → s.down t.client h ≡ p ∷ ps
       → accept_parcel (serves t z) p ≡ Some v → Takes h t.client ps v
@@ -189,12 +154,10 @@ module _ (program : ProgramShape) (s : Core) (y : LaneHistory) (g : ℕ → Hand
     where
       by_parcel : (p : Parcel) (w : List Parcel) → (one : serving (s.handler h) ≡ t ∷ []) → stance (s.handler h) (g h).lent ≡ views.lent (g h).lent → (g h).way t ≡ p ∷ w → ps ≡ w ++ flat_map (g h).way (filter (λ (u : Ticket). u.client == t.client) (s.tickets h)) → MayCome (views.lent (g h).lent) p w
           → accept_parcel (away t) p ≡ Some v → Takes h t.client ps v
-      by_parcel (parcels.Work chunk) w one st a i come r = absurd come
-      by_parcel parcels.Sync w one st a i come r = absurd come
       by_parcel (parcels.Home x) w one st a i come r =
           subst (Takes h t.client ps) (some_is _ v r)
           (on_kept h (serves t x) t (parcels.Home x) ps w one refl a i (subst (λ v. HandlerGoes t v (parcels.Home x ∷ []) [] (views.serves x)) (sym st) (handler_home t (g h).lent x)))
-      by_parcel parcels.End w one st a i come r = absurd come
+      by_parcel _ w one st a i come r = absurd come
 
   pub give_kept : (h : ℕ) (t : Ticket) (z : HeldState) → s.handler h ≡ gives t z → s.up t.client h ≡ None
       → (g' : ℕ → HandlerLog) × CoreInvariant program (record s { up = put_lane s.up t.client h (Some z); handler = put s.handler h (away t) }) y g'

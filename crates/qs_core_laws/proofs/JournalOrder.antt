@@ -2,10 +2,10 @@
 -- object, but for the commands that are on their way. Isolation of the optimised machine needs this (`goes`). The proof
 -- is an induction along the order, through the tickets that were served, the one that is, and those to come; the room
 -- suffices, as no part is longer than its block's load.
-use Rattle.std.proofs.Common.{◌≡◌, ◌+◌, ◌≤◌, arith, ℕ, suc, Bool, true, false, true≢false, if◌then◌else◌, List, [], ◌∷◌, ◌++◌, map, filter, length, refl, sym, ap, ◌∙◌, subst, inl, inr, append_assoc, append-nil, None}
+use Rattle.std.proofs.Common.{◌≡◌, ◌+◌, ◌≤◌, arith, ℕ, Bool, true, false, true≢false, if◌then◌else◌, List, [], ◌∷◌, ◌++◌, map, filter, length, refl, sym, ap, ◌∙◌, subst, inl, inr, append_assoc, append-nil, rules}
 use Rattle.std.specs.List.{AllByRecursion}
-use Rattle.std.proofs.lemmas.List.{length-append, length-map, map-append}
-use Rattle.qs_objects.specs.audit.Journals.{HeldState, replay, unstamp, without_tickets, IsHonest}
+use Rattle.std.proofs.lemmas.List.{length-append}
+use Rattle.qs_objects.specs.audit.Journals.{HeldState, replay, without_tickets, IsHonest}
 use Rattle.qs_objects.specs.Laws.{IsCommand}
 use Rattle.qs_objects.specs.audit.Parts.{command_event}
 use Rattle.qs_objects.specs.Parts.{stamp}
@@ -73,14 +73,7 @@ module _ (program : ProgramShape) (sound : IsSound program) (s : Core) (y : Lane
 
   -- of a ticket of which nothing was run
   only_waits : (u : Ticket) → IsLater program sound s y g k h u → Among u (ahead (post s h)) → OnlyCommands (parts u) (waits u)
-  only_waits u l a =
-      let lane : ClientLane u false ((g h).way u) [] (parts u) (y.stands u h) =
-      subst (λ ps. ClientLane u false ps [] (parts u) (y.stands u h)) l.2 (subst (λ gs. ClientLane u false (y.sent u h) gs (parts u) (y.stands u h)) l.1 (l.0.2.lane h)) in
-      let w = waits_are u ((g h).way u) (parts u) (y.stands u h) lane in
-      let is = waits_ahead program sound s y g k h u a l.0 in (
-        w.0 ∙ ap (map command_event) (sym is),
-        subst (AllByRecursion NoQuery) (sym is) (no_queries (commands_in ((g h).way u) ++ chunk_of (y.stands u h)) w.1),
-      )
+  only_waits u l a = search (rules, waits_are, waits_ahead, no_queries, chunk_of)
 
   later_waits : AllByRecursion (λ u. OnlyCommands (parts u) (waits u)) (s.tickets h)
   later_waits =
@@ -116,15 +109,7 @@ module _ (program : ProgramShape) (sound : IsSound program) (s : Core) (y : Lane
 
   -- it serves none
   tail_free : serving (s.handler h) ≡ [] → (g h).found ≡ now → Tail (ahead (post s h)) (g h).found
-  tail_free none is = subst (λ q. Tail q (g h).found) (sym (ap (λ q. q ++ s.tickets h) none)) (by_tickets (s.tickets h) refl later_waits)
-    where
-      by_tickets : (ts : List Ticket) → s.tickets h ≡ ts → AllByRecursion (λ u. OnlyCommands (parts u) (waits u)) ts → Tail ts (g h).found
-      by_tickets [] e all = is
-      by_tickets (t ∷ us) e all = (
-        (λ empty. cc (none, e, empty)),
-        record { ran = []; parts = all.0.0; extends = is; commands = all.0.1 },
-        all.1,
-      )
+  tail_free none is = search (rules, later_waits)
 
   tail_by : (v : Handler) → s.handler h ≡ v → Tail (ahead (post s h)) (g h).found
   tail_by (free x) e = tail_free (ap serving e) (sym ((k.objects h).free x e) ∙ sym (ap (λ v. object_now y h v (g h).lent (g h).way) e))
@@ -213,8 +198,6 @@ module _ (program : ProgramShape) (sound : IsSound program) (s : Core) (y : Lane
   goes_along [] [] [] x found e p tail tickets_ok le =
       let is : x ≡ now = p.0 ∙ tail in
       ([], ap (λ (o : HeldState). o.journal) (sym is) ∙ sym (append-nil x.journal), (refl, ap (λ (o : HeldState). o.object) is), tt, ap (λ (o : HeldState). o.object) is)
-  goes_along [] [] (u ∷ q) x found e p tail tickets_ok le = absurd (cc)
-  goes_along [] (u ∷ past) q x found e p tail tickets_ok le = absurd (cc)
   goes_along (t ∷ ts) past q x found e p tail tickets_ok le = by_case (reserves program t h) refl past q e p tail (λ past q x e p tail le. goes_along ts past q x found e p tail tickets_ok.1 le)
     where
       by_case : (b : Bool) → reserves program t h ≡ b → (past q : List Ticket) → (if b then t ∷ filter (λ t. reserves program t h) ts else filter (λ t. reserves program t h) ts) ≡ past ++ q
@@ -234,6 +217,7 @@ module _ (program : ProgramShape) (sound : IsSound program) (s : Core) (y : Lane
           let o = match_over u x z (y.sent u h) (y.got u h) p.0.1 (parts u) (y.stands u h) (p.1.0.2.lane h) p.0.2 p.0.3 in
           flow_over t ts x z tickets_ok.0 (subst (λ u. waits u ≡ []) (sym is) p.2.0) (subst (λ u. Extends u x (parts u) z) (sym is) o.0) (subst (λ u. y.stands u h ≡ gone) (sym is) o.1) le
           (ih past q z more (p.0.4, p.1.1, p.2.1) tail)
+  goes_along [] _ _ x found e p tail tickets_ok le = absurd (cc)
 
   within_load : (t : Ticket) → TicketOk program y t → length (parts t) ≤ cost program h t
   within_load t tickets_ok = leads_within h (block_tree program t (y.block_record t).entry) (y.block_record t).trace (y.block_record t).rest (cost program h t) tickets_ok.block_record.path (requests_within (text_of program t).body (y.block_record t).entry h)

@@ -2,7 +2,7 @@
 -- ticket (`TicketOk`) holds of that one, and still of every other. The lemmas on a client's act and on a reservation
 -- use this for the client's last ticket. A ticket is either this one or stays as it was; none begins with what this one
 -- left, as it is its client's last.
-use Rattle.std.proofs.Common.{◌≡◌, ◌≤◌, ℕ, zero, suc, false, List, arith, refl, sym, ap, ◌∙◌, subst, ⊎_elim}
+use Rattle.std.proofs.Common.{◌≡◌, ◌≤◌, ℕ, zero, suc, false, List, refl, sym, ap, ◌∙◌, subst, ⊎_elim, rules}
 use Rattle.qs_objects.specs.audit.Journals.{HeldState}
 use Rattle.qs_objects.specs.audit.Parts.{part, same}
 use Rattle.qs_objects.specs.declared.held.Ticket.{Ticket}
@@ -20,10 +20,7 @@ use Rattle.qs_core_laws.proofs.CoreInvariant.{LaneHistory, TicketOk}
 
 -- a client's last ticket comes before none of its tickets
 pub none_after : (begun : ℕ → ℕ) (t : Ticket) → begun t.client ≤ suc t.index → (d j : ℕ) → suc j ≤ begun d → (i : ℕ) → j ≡ suc i → t ≡ ticket d i → ⊥
-none_after begun t last d j low i next is =
-    let index : t.index ≡ i = ap (λ (t : Ticket). t.index) is in
-    let counts : begun t.client ≡ begun d = ap (λ (t : Ticket). begun t.client) is in
-    omega (arith, last, low, next, index, counts)
+none_after begun t last d j low i next is = search rules
 
 module _ (program : ProgramShape) (y : LaneHistory) (t : Ticket) (pg : BlockRecord) (snt : ℕ → List Parcel) (got : ℕ → List HeldState) (stood : ℕ → ObjectStance) where
   abbrev pub story_at : LaneHistory

@@ -2,7 +2,7 @@
 -- takes an empty chunk. The proof that every step does (`CoreSteps`) stands on it. Only the client's newest ticket and
 -- the lane that it uses move; as no later ticket of this client is in that object's queue, a parcel more is the last of
 -- its lane.
-use Rattle.std.proofs.Common.{◌≡◌, ◌≢◌, ◌<◌, ◌≤◌, arith, ℕ, suc, Bool, true, false, true≢false, if◌then◌else◌, ◌==◌, List, [], ◌∷◌, ◌++◌, filter, refl, sym, ap, ◌∙◌, subst, ◌⊎◌, inl, inr, ⊎_elim, Option, Some, None}
+use Rattle.std.proofs.Common.{◌≡◌, ◌≢◌, ◌<◌, ◌≤◌, arith, ℕ, suc, Bool, true, false, true≢false, if◌then◌else◌, ◌==◌, List, [], ◌∷◌, ◌++◌, filter, refl, sym, ap, ◌∙◌, subst, ◌⊎◌, inl, inr, ⊎_elim, Option, Some, None, rules}
 use Rattle.std.specs.List.{AllByRecursion}
 use Rattle.std.proofs.Math.Path.{fun_ext}
 use Rattle.qs_sync_counts.specs.declared.sync_counts.SyncCount.{SyncCount}
@@ -41,18 +41,10 @@ use Rattle.qs_core_laws.proofs.HandlerSteps.{put_lane_at, put_lane_there, put_up
 use Rattle.qs_core_laws.proofs.ClientSteps.{client_moves, state_after, story}
 
 pub grown_here : {A : Type 0} (f : Ticket → ℕ → A) (t : Ticket) (h : ℕ) (a : A) (u : Ticket) → put_at f t (put (f t) h a) u h ≡ put_at (λ u. f u h) t a u
-grown_here f t h a u = by_case (same t u)
-  where
-    by_case : (b : Bool) → (if b then put (f t) h a else f u) h ≡ (if b then a else f u h)
-    by_case true = put_here (f t) h a
-    by_case false = refl
+grown_here f t h a u = search (rules, put_here)
 
 pub grown_there : {A : Type 0} (f : Ticket → ℕ → A) (t : Ticket) (k : ℕ → A) (j : ℕ) → k j ≡ f t j → (u : Ticket) → put_at f t k u j ≡ f u j
-grown_there f t k j e u =
-    ⊎_elim
-    (λ (is : t ≡ u). subst (λ u. put_at f t k u j ≡ f u j) is (ap (λ (r : ℕ → _). r j) (put_at_here f t k) ∙ e))
-    (λ (other : same t u ≡ false). ap (λ (r : ℕ → _). r j) (put_at_there f t k u other))
-    (ticket_cases t u)
+grown_there f t k j e u = search (rules, put_at, put_at_here, put_at_there, ticket_cases)
 
 -- of the clients' sides only what was sent and got counts
 pub object_deeds : (mine : List Ticket) (x : HeldState) (b : ObjectView) (y z : ClientLog) (g : HandlerLog) → ((t : Ticket) → y.sent t ≡ z.sent t) → ((t : Ticket) → y.got t ≡ z.got t) → IsObject mine x b y g → IsObject mine x b z g
@@ -108,10 +100,7 @@ module _ (program : ProgramShape) (lined : (t : Ticket) → Lined (reserves prog
       by_order u e (omega arith)) (ahead (post s h)) (of_ahead program s y g k (λ (u : Ticket). suc u.index ≤ (s.client u.client).begun) h k.below))
     where
       below_cases : (i j : ℕ) → i ≤ j → (i < j) ⊎ (i ≡ j)
-      below_cases i j le = ⊎_elim (λ (e : i ≡ j). inr e) (λ (e : (i == j) ≡ false). inl (by_num i j le e)) (num_cases i j)
-        where
-          by_num : (i j : ℕ) → i ≤ j → (i == j) ≡ false → i < j
-          by_num i j le e = let n : i ≢ j = apart_eqb i j e in omega (arith, le, n)
+      below_cases i j le = search (rules, num_cases, apart_eqb)
 
       by_order : (u : Ticket) → c ≡ u.client → u.index ≤ n → (u.index < n) ⊎ (ticket c n ≡ u)
       by_order u e le = ⊎_elim (λ (lt : u.index < n). inl lt) (λ (is : u.index ≡ n). inr (ticket_path e (sym is))) (below_cases u.index n le)

@@ -3,7 +3,7 @@
 -- block is over; each turn leaves fewer steps of the client, so it ends. So it goes by induction on the order, with the
 -- configuration that counts the blocks that each client has begun. At the end each block has ended; where nobody has a
 -- block left, the run is finished.
-use Rattle.std.proofs.Common.{◌≡◌, ◌<◌, ◌≤◌, ◌∙◌, ◌==◌, ◌++◌, ◌∷◌, [], ℕ, zero, suc, Bool, true, false, nat_eq, nat_lt, List, refl, sym, ap, subst, length, map, append_assoc, append-nil, ⊎_elim, arith}
+use Rattle.std.proofs.Common.{◌≡◌, ◌<◌, ◌≤◌, ◌∙◌, ◌==◌, ◌++◌, ◌∷◌, [], ℕ, zero, suc, Bool, true, false, nat_eq, nat_lt, List, refl, sym, ap, subst, length, map, append_assoc, append-nil, ⊎_elim, arith, rules}
 use Rattle.std.proofs.lemmas.Bool.{lt-ltb}
 use Rattle.std.proofs.lemmas.Bool.Decides.{nat_tests}
 use Rattle.std.specs.List.{AllByRecursion, range_with_len}
@@ -162,21 +162,11 @@ module _ (p : ProgramShape) (order : List Ticket) (counts : ℕ → ℕ) (s : Co
       rw (free, none) clear
 
   quiet_finished : ((c : ℕ) → counts c ≡ blocks_of p c) → is_finished p s ≡ true
-  quiet_finished all =
-      let first = each_of (is_done p s) (range_with_len 0 (length p.clients)) (done_each all) in
-      let second = each_of (is_idle p s) (range_with_len 0 (length p.objects)) idle_each in
-      rw first second
+  quiet_finished all = search (rules, each_of, done_each, idle_each)
 
   -- a block that was begun has ended where its client stands between two blocks
   ended_there : (t : Ticket) → t.index < counts t.client → has_ended (s.client t.client) t.index ≡ true
-  ended_there t less = by_test (nat_lt (suc t.index) (s.client t.client).begun) refl
-    where
-      by_test : (b : Bool) → nat_lt (suc t.index) (s.client t.client).begun ≡ b → has_ended (s.client t.client) t.index ≡ true
-      by_test true e = rw e refl
-      by_test false e =
-          let b = quiet.begun t.client in
-          let last : nat_eq (suc t.index) (s.client t.client).begun ≡ true = grind (arith, nat_tests, e, less, b) in
-          rw (e, last, quiet.stages t.client) refl
+  ended_there t less = search (rules, nat_tests)
 
 -- the blocks of a legal order have begun at its end
 counted_from : (p : ProgramShape) (g : Configuration) (ts : List Ticket) (c : ℕ) → g.begun c ≤ (configuration_from p g ts).begun c

@@ -2,7 +2,7 @@
 -- that is on its way up; where it needs a chunk, one lies ready. Each step changes one corner, as the client's act
 -- says, and fewer steps are left after it. Which act it is follows from the client's stage and from what it has in
 -- hand, by what is known of each place in a block (`PlaceOk`).
-use Rattle.std.proofs.Common.{◌≡◌, ◌<◌, ◌∙◌, ◌==◌, ◌+◌, ◌*◌, ◌-◌, ◌&&◌, ◌++◌, ◌∷◌, [], ℕ, suc, Bool, true, false, true≢false, if◌then◌else◌, is_some, List, Option, Some, None, refl, sym, ap, subst, length, ⊎_elim, arith}
+use Rattle.std.proofs.Common.{◌≡◌, ◌<◌, ◌∙◌, ◌==◌, ◌+◌, ◌*◌, ◌-◌, ◌&&◌, ◌∷◌, [], ℕ, suc, Bool, true, false, true≢false, if◌then◌else◌, is_some, List, Option, Some, None, refl, sym, ap, subst, length, arith, rules}
 use Rattle.qs_objects.specs.audit.Journals.{HeldState}
 use Rattle.qs_objects.specs.declared.held.Ticket.{Ticket}
 use Rattle.qs_objects.specs.declared.Request.{Request}
@@ -15,7 +15,7 @@ use Rattle.qs_meaning.specs.BlockRecords.{BlockRecord}
 use Rattle.qs_meaning.specs.audit.Following.{reserves}
 use Rattle.qs_meaning.specs.audit.Solo.{put}
 use Rattle.qs_meaning.proofs.TreeWalks.{put_here, put_there}
-use Rattle.qs_graph.specs.audit.Synced.{Synced, Done, Call, Sync, Query}
+use Rattle.qs_graph.specs.audit.Synced.{Synced, Call, Sync}
 use Rattle.qs_syncset.specs.declared.mode.Mode.{Mode}
 use Rattle.qs_syncset.specs.audit.Codes.{ClientCode, AreCodes, reserved_of, blocks_in}
 use Rattle.qs_chunk.specs.audit.Batch.{Batch, batch}
@@ -35,74 +35,28 @@ use Rattle.qs_core_laws.specs.audit.Core as core
 use Rattle.qs_core_laws.proofs.protocol.ProgramTrees.{reserved_is}
 use Rattle.qs_core_laws.proofs.CoreSteps.{HasInvariant}
 use Rattle.qs_core_laws.proofs.orders.Settling.{Asks, Gone, Holds, IsLeft, IsSettled, Sends, busy, busy_few, called, hand, settled, stance_at}
-use Rattle.qs_core_laws.proofs.orders.Corners.{Away, Booked, ComesHome, Corner, Due, Ends, Free, Giving, IsChangedAt, Lent, Serves, Sparing, Syncs, Waits, Works, corner, corner_of, lane_elsewhere, lane_here, lane_of_others, spare_of, stance_of}
+use Rattle.qs_core_laws.proofs.orders.Corners.{Away, ComesHome, Corner, Due, Ends, Free, IsChangedAt, Lent, Serves, Syncs, Waits, Works, corner, corner_of, lane_elsewhere, lane_here, lane_of_others, spare_of, stance_of}
 use Rattle.qs_core_laws.proofs.orders.Turns.{IsActAt, IsWithin, act_on, at_rest, chunks_open, stance_in}
 
 -- which corner it is where the handler waits, by the stance
 serves_of : (d : Due) → Waits d → stance_of d ≡ Sends → (x : HeldState) × (n : ℕ) × (d ≡ Serves x n)
-serves_of (Free x n) w e = absurd (cc)
-serves_of (Serves x n) w e = (x, n, refl)
-serves_of (Away n) w e = absurd (cc)
-serves_of (Lent x n) w e = absurd (cc)
-serves_of (Booked x n) w e = absurd w
-serves_of (ComesHome x n) w e = absurd w
-serves_of (Works x chunk) w e = absurd w
-serves_of (Syncs x n) w e = absurd w
-serves_of (Ends x n) w e = absurd w
-serves_of (Sparing x n) w e = absurd w
-serves_of (Giving x n) w e = absurd w
+serves_of d w e = search rules
 
 away_of : (d : Due) → Waits d → stance_of d ≡ Holds → (n : ℕ) × (d ≡ Away n)
-away_of (Free x n) w e = absurd (cc)
-away_of (Serves x n) w e = absurd (cc)
-away_of (Away n) w e = (n, refl)
-away_of (Lent x n) w e = absurd (cc)
-away_of (Booked x n) w e = absurd w
-away_of (ComesHome x n) w e = absurd w
-away_of (Works x chunk) w e = absurd w
-away_of (Syncs x n) w e = absurd w
-away_of (Ends x n) w e = absurd w
-away_of (Sparing x n) w e = absurd w
-away_of (Giving x n) w e = absurd w
+away_of d w e = search rules
 
 lent_of : (d : Due) → Waits d → stance_of d ≡ Asks → (x : HeldState) × (n : ℕ) × (d ≡ Lent x n)
-lent_of (Free x n) w e = absurd (cc)
-lent_of (Serves x n) w e = absurd (cc)
-lent_of (Away n) w e = absurd (cc)
-lent_of (Lent x n) w e = (x, n, refl)
-lent_of (Booked x n) w e = absurd w
-lent_of (ComesHome x n) w e = absurd w
-lent_of (Works x chunk) w e = absurd w
-lent_of (Syncs x n) w e = absurd w
-lent_of (Ends x n) w e = absurd w
-lent_of (Sparing x n) w e = absurd w
-lent_of (Giving x n) w e = absurd w
+lent_of d w e = search rules
 
 pub free_of : (d : Due) → Waits d → stance_of d ≡ Gone → (x : HeldState) × (n : ℕ) × (d ≡ Free x n)
-free_of (Free x n) w e = (x, n, refl)
-free_of (Serves x n) w e = absurd (cc)
-free_of (Away n) w e = absurd (cc)
-free_of (Lent x n) w e = absurd (cc)
-free_of (Booked x n) w e = absurd w
-free_of (ComesHome x n) w e = absurd w
-free_of (Works x chunk) w e = absurd w
-free_of (Syncs x n) w e = absurd w
-free_of (Ends x n) w e = absurd w
-free_of (Sparing x n) w e = absurd w
-free_of (Giving x n) w e = absurd w
+free_of d w e = search rules
 
 -- with one of the two in hand the other is not
 no_chunk : (m : Client) (h : ℕ) (x : HeldState) → NotBoth m h → m.held h ≡ Some x → m.chunk h ≡ None
-no_chunk m h x either e = ⊎_elim
-    (λ (none : m.held h ≡ None). absurd (let f : None ≡ Some x = sym none ∙ e in cc))
-    (λ (none : m.chunk h ≡ None). none)
-    either
+no_chunk m h x either e = search rules
 
 no_object : (m : Client) (h : ℕ) (rs : List Request) → NotBoth m h → m.chunk h ≡ Some rs → m.held h ≡ None
-no_object m h rs either e = ⊎_elim
-    (λ (none : m.held h ≡ None). none)
-    (λ (none : m.chunk h ≡ None). absurd (let f : None ≡ Some rs = sym none ∙ e in cc))
-    either
+no_object m h rs either e = search rules
 
 not_busy : (m : Client) (h : ℕ) → m.held h ≡ None → m.chunk h ≡ None → busy m h ≡ 0
 not_busy m h held chunk = rw (held, chunk) refl
@@ -119,11 +73,7 @@ and_false false = refl
 
 -- the stance to an object goes by the stage and by whether the client holds it
 same_stance : (a b : Client) (g : ClientStage) (h : ℕ) → is_some (a.held h) ≡ is_some (b.held h) → stance_at a g h ≡ stance_at b g h
-same_stance a b (between l) h e = refl
-same_stance a b (runs rest) h e = ap hand e
-same_stance a b (full g rest) h e = ap hand e
-same_stance a b (awaits g rest) h e = ap (λ x. if g == h then Asks else hand x) e
-same_stance a b (leaves g gs l) h e = ap (λ x. if is_in (g ∷ gs) h then hand x else Gone) e
+same_stance a b g h e = search (rules, hand)
 
 module _ (p : ProgramShape) (sound : IsSound p) (mode : Mode) (code : ℕ → ClientCode) (codes : AreCodes p mode code) (size : ℕ) (so_far : List Ticket) (counts : ℕ → ℕ) (t : Ticket)
     (latest : counts t.client ≡ suc t.index) (n : ℕ) (s : Core) (now : IsWithin p so_far counts t (length p.objects) n s) where
@@ -170,12 +120,7 @@ module _ (p : ProgramShape) (sound : IsSound p) (mode : Mode) (code : ℕ → Cl
 
   send_step : (h : ℕ) (parcel : Parcel) (r : Settlement) → next_act ≡ Send h parcel → s.down t.client h ≡ []
       → after_parcel settings u names m h parcel ≡ r → core_step code size s (actor.Client t.client) ≡ Some (sent h parcel r)
-  send_step h parcel r act empty is =
-      ap (client_step code size s t.client) act
-      ∙ (room ∙ ap (λ x. Some (sent h parcel x)) (ap (λ ns. after_parcel settings u ns m h parcel) names_are ∙ is))
-    where
-      room : sends code size s t.client h parcel ≡ Some (sent h parcel (after_parcel settings u (reserved_of code u) m h parcel))
-      room = rw empty refl
+  send_step h parcel r act empty is = search (rules, names_are)
 
   get_step : (h : ℕ) (x : HeldState) (r : Settlement) → next_act ≡ Await h → s.up t.client h ≡ Some x
       → take_object settings u names m x m.stage ≡ r → core_step code size s (actor.Client t.client) ≡ Some (got h r)
@@ -192,30 +137,15 @@ module _ (p : ProgramShape) (sound : IsSound p) (mode : Mode) (code : ℕ → Cl
   -- what they change
   sent_at : (h : ℕ) (parcel : Parcel) (r : Settlement) (q : Corner) → corner s t.client h ≡ q → q.down ≡ []
       → IsChangedAt t.client h (record { handler = q.handler; tickets = q.tickets; down = parcel ∷ []; up = q.up; spare = q.spare }) s (sent h parcel r)
-  sent_at h parcel r q e empty = record {
-    here = λ k. record { handler = (e k).handler; tickets = (e k).tickets; down = one k; up = (e k).up; spare = (e k).spare };
-    elsewhere = λ g other k. record { handler = s.handler g; tickets = s.tickets g; down = lane_elsewhere s.down t.client h (s.down t.client h ++ parcel ∷ []) g other k; up = s.up t.client g; spare = s.spare t.client g };
-    lanes = λ d other. record { down = λ g. lane_of_others s.down t.client h (s.down t.client h ++ parcel ∷ []) d g other; up = λ g. refl; spare = λ g. refl };
-  }
-    where
-      one : (sent h parcel r).down t.client h ≡ parcel ∷ []
-      one = lane_here s.down t.client h (s.down t.client h ++ parcel ∷ []) ∙ ap (λ ps. ps ++ parcel ∷ []) (ap (λ (z : Corner). z.down) e ∙ empty)
+  sent_at h parcel r q e empty = search (rules, lane_elsewhere, lane_of_others, lane_here)
 
   got_at : (h : ℕ) (r : Settlement) (q : Corner) → corner s t.client h ≡ q
       → IsChangedAt t.client h (record { handler = q.handler; tickets = q.tickets; down = q.down; up = None; spare = q.spare }) s (got h r)
-  got_at h r q e = record {
-    here = λ k. record { handler = (e k).handler; tickets = (e k).tickets; down = (e k).down; up = lane_here s.up t.client h None k; spare = (e k).spare };
-    elsewhere = λ g other k. record { handler = s.handler g; tickets = s.tickets g; down = s.down t.client g; up = lane_elsewhere s.up t.client h None g other k; spare = s.spare t.client g };
-    lanes = λ d other. record { down = λ g. refl; up = λ g. lane_of_others s.up t.client h None d g other; spare = λ g. refl };
-  }
+  got_at h r q e = search (rules, lane_here, lane_elsewhere, lane_of_others)
 
   took_at : (h k : ℕ) (r : Settlement) (q : Corner) → corner s t.client h ≡ q
       → IsChangedAt t.client h (record { handler = q.handler; tickets = q.tickets; down = q.down; up = q.up; spare = k }) s (took h k r)
-  took_at h k r q e = record {
-    here = λ i. record { handler = (e i).handler; tickets = (e i).tickets; down = (e i).down; up = (e i).up; spare = lane_here s.spare t.client h k i };
-    elsewhere = λ g other i. record { handler = s.handler g; tickets = s.tickets g; down = s.down t.client g; up = s.up t.client g; spare = lane_elsewhere s.spare t.client h k g other i };
-    lanes = λ d other. record { down = λ g. refl; up = λ g. refl; spare = λ g. lane_of_others s.spare t.client h k d g other };
-  }
+  took_at h k r q e = search (rules, lane_here, lane_elsewhere, lane_of_others)
 
   -- the corner of a handler that waits, by the client's stance
   stance_now : (h : ℕ) → reserves p t h ≡ true → stance_in p t m h ≡ stance_at m m.stage h
@@ -244,11 +174,7 @@ module _ (p : ProgramShape) (sound : IsSound p) (mode : Mode) (code : ℕ → Cl
 
   -- stances in the block, by those to reserved objects
   stances_by : (r : Client) (g : ℕ) → (reserves p t g ≡ true → stance_at r r.stage g ≡ stance_at m m.stage g) → stance_in p t r g ≡ stance_in p t m g
-  stances_by r g same = by_test (reserves p t g) refl
-    where
-      by_test : (b : Bool) → reserves p t g ≡ b → stance_in p t r g ≡ stance_in p t m g
-      by_test true e = rw e (same e)
-      by_test false e = rw e refl
+  stances_by r g same = search (rules, stance_in)
 
   -- a step after which the client has settled from another
   settled_act : (h k : ℕ) (due : Due) (later : Core) (other r : Client) → reserves p t h ≡ true → IsSettled names k other r
@@ -280,21 +206,7 @@ module _ (p : ProgramShape) (sound : IsSound p) (mode : Mode) (code : ℕ → Cl
       → ((i : ℕ) → (h == i) ≡ false → stance_at other g i ≡ stance_at m m.stage i) → ((i : ℕ) → (h == i) ≡ false → other.chunk i ≡ m.chunk i)
       → IsLeft (length names) k (set_stage other g) g
       → IsActAt p so_far counts t code size h k due s (set_stage other g) later
-  stopped_act h k due later other g listed order client changed begun stance spare before chunk left = record {
-    order = order;
-    client = client;
-    changed = changed;
-    begun = begun;
-    inside = reserved_inside p sound t h listed;
-    stance = stance ∙ (same_stance other (set_stage other g) g h refl ∙ sym (in_block (set_stage other g)));
-    spare = spare;
-    stances = λ i apart. stances_by (set_stage other g) i (λ there. same_stance (set_stage other g) other g i refl ∙ before i apart);
-    chunks = λ i apart. ap is_some (chunk i apart);
-    left = left;
-  }
-    where
-      in_block : (a : Client) → stance_in p t a h ≡ stance_at a a.stage h
-      in_block a = rw listed refl
+  stopped_act h k due later other g listed order client changed begun stance spare before chunk left = search (rules, reserved_inside, same_stance, stances_by, stance_in, stance_at)
 
   -- the object goes home
   home : (h k : ℕ) (g : ClientStage) (x : HeldState) → m.stage ≡ g → reserves p t h ≡ true → ((a : Client) → stance_at a g h ≡ hand (is_some (a.held h)))
@@ -548,13 +460,12 @@ module _ (p : ProgramShape) (sound : IsSound p) (mode : Mode) (code : ℕ → Cl
 
     by_stage : (g : ClientStage) → m.stage ≡ g → is_between g ≡ false → PlaceOk p t snt gt m pg g → IsLeft (length names) n m g → Goes
     by_stage (between l) at out place left = absurd (true≢false out)
-    by_stage (runs (Done l)) at out place left = absurd place.1
     by_stage (runs (Call r next)) at out place left = at_call r next at place left
     by_stage (runs (Sync h next)) at out place left = at_sync h next at place left
-    by_stage (runs (Query r next)) at out place left = absurd place.1
     by_stage (full h rest) at out place left = at_full h rest at place left
     by_stage (awaits h rest) at out place left = at_wait h rest at place left
     by_stage (leaves h hs l) at out place left = at_leaving h hs l at place left
+    by_stage (runs _) at out place left = absurd place.1
 
   -- in its block the client has a step, after which fewer are left
   pub client_turns : HasInvariant p sound mode code codes size s → is_between m.stage ≡ false → Goes
@@ -570,7 +481,4 @@ module _ (p : ProgramShape) (sound : IsSound p) (mode : Mode) (code : ℕ → Cl
     where
       by_stage_out : (g : ClientStage) → is_between g ≡ true → PlaceOk p t (kept.0.sent t) (kept.0.got t) m (kept.0.block_record t) g → m.chunk h ≡ None
       by_stage_out (between l) out leaving = (leaving.empty h refl).1
-      by_stage_out (runs rest) out place = absurd (true≢false (sym out))
-      by_stage_out (full g rest) out place = absurd (true≢false (sym out))
-      by_stage_out (awaits g rest) out place = absurd (true≢false (sym out))
-      by_stage_out (leaves g gs l) out place = absurd (true≢false (sym out))
+      by_stage_out _ out place = absurd (true≢false (sym out))

@@ -1,7 +1,7 @@
 -- What a client and a handler share, its *corner*: the handler, its queue of tickets, and the lane between the two.
 -- While a client has its block alone, each corner is one of a few (`Due`), and each step of the handler leads it on to
 -- one where the handler waits for the client again. A step changes one corner, and keeps all others as they are.
-use Rattle.std.proofs.Common.{◌≡◌, ◌∙◌, ◌==◌, ℕ, false, List, [], ◌∷◌, Option, Some, None, refl, sym, ap, subst}
+use Rattle.std.proofs.Common.{◌≡◌, ◌∙◌, ◌==◌, ℕ, false, List, [], ◌∷◌, Option, Some, None, refl, sym, ap, subst, rules}
 use Rattle.qs_objects.specs.audit.Journals.{HeldState}
 use Rattle.qs_objects.specs.declared.held.Ticket.{Ticket}
 use Rattle.qs_objects.specs.declared.Request.{Request}
@@ -56,16 +56,12 @@ pub data Due : Type 0 where
 -- how the client stands to the object once the handler waits
 abbrev pub stance_of : Due → Stance
 stance_of (Free x n) = Gone
-stance_of (Serves x n) = Sends
 stance_of (Away n) = Holds
 stance_of (Lent x n) = Asks
-stance_of (Booked x n) = Sends
-stance_of (ComesHome x n) = Sends
-stance_of (Works x chunk) = Sends
 stance_of (Syncs x n) = Asks
 stance_of (Ends x n) = Gone
-stance_of (Sparing x n) = Sends
 stance_of (Giving x n) = Asks
+stance_of _ = Sends
 
 -- how many empty chunks lie ready then
 abbrev pub spare_of : Due → ℕ
@@ -75,11 +71,10 @@ spare_of (Away n) = n
 spare_of (Lent x n) = n
 spare_of (Booked x n) = n
 spare_of (ComesHome x n) = n
-spare_of (Works x chunk) = 4
 spare_of (Syncs x n) = n
 spare_of (Ends x n) = n
-spare_of (Sparing x n) = 4
 spare_of (Giving x n) = n
+spare_of _ = 4
 
 -- the handler waits
 abbrev pub Waits : Due → Type 0
@@ -87,13 +82,7 @@ Waits (Free x n) = Unit {0}
 Waits (Serves x n) = Unit {0}
 Waits (Away n) = Unit {0}
 Waits (Lent x n) = Unit {0}
-Waits (Booked x n) = ⊥
-Waits (ComesHome x n) = ⊥
-Waits (Works x chunk) = ⊥
-Waits (Syncs x n) = ⊥
-Waits (Ends x n) = ⊥
-Waits (Sparing x n) = ⊥
-Waits (Giving x n) = ⊥
+Waits _ = ⊥
 
 -- after one step of the handler
 abbrev pub once : Ticket → Due → Due
@@ -111,43 +100,16 @@ once t (Giving x n) = Lent x n
 
 pub once_stance : (t : Ticket) (d : Due) → stance_of (once t d) ≡ stance_of d
 once_stance t (Free x n) = refl
-once_stance t (Serves x n) = refl
-once_stance t (Away n) = refl
-once_stance t (Lent x n) = refl
-once_stance t (Booked x n) = refl
-once_stance t (ComesHome x n) = refl
-once_stance t (Works x chunk) = refl
-once_stance t (Syncs x n) = refl
-once_stance t (Ends x n) = refl
-once_stance t (Sparing x n) = refl
-once_stance t (Giving x n) = refl
+once_stance t _ = refl
 
 pub once_spare : (t : Ticket) (d : Due) → spare_of (once t d) ≡ spare_of d
 once_spare t (Free x n) = refl
-once_spare t (Serves x n) = refl
-once_spare t (Away n) = refl
-once_spare t (Lent x n) = refl
-once_spare t (Booked x n) = refl
-once_spare t (ComesHome x n) = refl
-once_spare t (Works x chunk) = refl
-once_spare t (Syncs x n) = refl
-once_spare t (Ends x n) = refl
-once_spare t (Sparing x n) = refl
-once_spare t (Giving x n) = refl
+once_spare t _ = refl
 
 -- two steps are enough
 pub twice_waits : (t : Ticket) (d : Due) → Waits (once t (once t d))
 twice_waits t (Free x n) = tt
-twice_waits t (Serves x n) = tt
-twice_waits t (Away n) = tt
-twice_waits t (Lent x n) = tt
-twice_waits t (Booked x n) = tt
-twice_waits t (ComesHome x n) = tt
-twice_waits t (Works x chunk) = tt
-twice_waits t (Syncs x n) = tt
-twice_waits t (Ends x n) = tt
-twice_waits t (Sparing x n) = tt
-twice_waits t (Giving x n) = tt
+twice_waits t _ = tt
 
 -- which corner that is, of the client of this ticket
 abbrev pub corner_of : Ticket → Due → Corner
@@ -183,59 +145,23 @@ pub record IsServedAt (c h : ℕ) (q : Corner) (s n : Core) : Type 0 where
 
 module _ (code : ℕ → ClientCode) (size : ℕ) (s : Core) (c h : ℕ) (q : Corner) (e : corner s c h ≡ q) where
   served_none : IsServedAt c h q s s
-  served_none = record {
-    order = refl;
-    client = refl;
-    changed = record { here = e; elsewhere = λ g other. refl; lanes = λ d other. record { down = λ g. refl; up = λ g. refl; spare = λ g. refl } };
-  }
+  served_none = search rules
 
   served_ticket : (ts : List Ticket) (v : Handler)
       → IsServedAt c h (record { handler = v; tickets = ts; down = q.down; up = q.up; spare = q.spare }) s (handles code size (with_tickets code size s h ts) h v)
-  served_ticket ts v = record {
-    order = refl;
-    client = refl;
-    changed = record {
-      here = λ k. record { handler = put_here s.handler h v k; tickets = put_here s.tickets h ts k; down = (e k).down; up = (e k).up; spare = (e k).spare };
-      elsewhere = λ g other k. record { handler = put_there s.handler h v g other k; tickets = put_there s.tickets h ts g other k; down = s.down c g; up = s.up c g; spare = s.spare c g };
-      lanes = λ d other. record { down = λ g. refl; up = λ g. refl; spare = λ g. refl };
-    };
-  }
+  served_ticket ts v = search (rules, put_here, put_there)
 
   served_parcel : (ps : List Parcel) (v : Handler)
       → IsServedAt c h (record { handler = v; tickets = q.tickets; down = ps; up = q.up; spare = q.spare }) s (handles code size (with_down code size s c h ps) h v)
-  served_parcel ps v = record {
-    order = refl;
-    client = refl;
-    changed = record {
-      here = λ k. record { handler = put_here s.handler h v k; tickets = (e k).tickets; down = lane_here s.down c h ps k; up = (e k).up; spare = (e k).spare };
-      elsewhere = λ g other k. record { handler = put_there s.handler h v g other k; tickets = s.tickets g; down = lane_elsewhere s.down c h ps g other k; up = s.up c g; spare = s.spare c g };
-      lanes = λ d other. record { down = λ g. lane_of_others s.down c h ps d g other; up = λ g. refl; spare = λ g. refl };
-    };
-  }
+  served_parcel ps v = search (rules, put_here, lane_here, put_there, lane_elsewhere, lane_of_others)
 
   served_up : (x : Option HeldState) (v : Handler)
       → IsServedAt c h (record { handler = v; tickets = q.tickets; down = q.down; up = x; spare = q.spare }) s (handles code size (with_up code size s c h x) h v)
-  served_up x v = record {
-    order = refl;
-    client = refl;
-    changed = record {
-      here = λ k. record { handler = put_here s.handler h v k; tickets = (e k).tickets; down = (e k).down; up = lane_here s.up c h x k; spare = (e k).spare };
-      elsewhere = λ g other k. record { handler = put_there s.handler h v g other k; tickets = s.tickets g; down = s.down c g; up = lane_elsewhere s.up c h x g other k; spare = s.spare c g };
-      lanes = λ d other. record { down = λ g. refl; up = λ g. lane_of_others s.up c h x d g other; spare = λ g. refl };
-    };
-  }
+  served_up x v = search (rules, put_here, lane_here, put_there, lane_elsewhere, lane_of_others)
 
   served_spare : (n : ℕ) (v : Handler)
       → IsServedAt c h (record { handler = v; tickets = q.tickets; down = q.down; up = q.up; spare = n }) s (handles code size (with_spare code size s c h n) h v)
-  served_spare n v = record {
-    order = refl;
-    client = refl;
-    changed = record {
-      here = λ k. record { handler = put_here s.handler h v k; tickets = (e k).tickets; down = (e k).down; up = (e k).up; spare = lane_here s.spare c h n k };
-      elsewhere = λ g other k. record { handler = put_there s.handler h v g other k; tickets = s.tickets g; down = s.down c g; up = s.up c g; spare = lane_elsewhere s.spare c h n g other k };
-      lanes = λ d other. record { down = λ g. refl; up = λ g. refl; spare = λ g. lane_of_others s.spare c h n d g other };
-    };
-  }
+  served_spare n v = search (rules, put_here, lane_here, put_there, lane_elsewhere, lane_of_others)
 
 module _ (code : ℕ → ClientCode) (size : ℕ) where
   -- where it goes from a step that is known
@@ -245,70 +171,4 @@ module _ (code : ℕ → ClientCode) (size : ℕ) where
   -- one step of a handler
   pub serve_once : (t : Ticket) (s : Core) (h : ℕ) (d : Due) → corner s t.client h ≡ corner_of t d
       → IsServedAt t.client h (corner_of t (once t d)) s (or_stay s (core_step code size s (actor.Handler h)))
-  serve_once t s h (Free x n) e =
-      let v : s.handler h ≡ free x = ap (λ (q : Corner). q.handler) e in
-      let ts : s.tickets h ≡ [] = ap (λ (q : Corner). q.tickets) e in
-      let step : core_step code size s (actor.Handler h) ≡ None = rw (v, ts) refl in
-      went (IsServedAt t.client h (corner_of t (Free x n)) s) s (core_step code size s (actor.Handler h)) None step
-      (served_none code size s t.client h (corner_of t (Free x n)) e)
-  serve_once t s h (Serves x n) e =
-      let v : s.handler h ≡ serves t x = ap (λ (q : Corner). q.handler) e in
-      let ps : s.down t.client h ≡ [] = ap (λ (q : Corner). q.down) e in
-      let step : core_step code size s (actor.Handler h) ≡ None = rw (v, ps) refl in
-      went (IsServedAt t.client h (corner_of t (Serves x n)) s) s (core_step code size s (actor.Handler h)) None step
-      (served_none code size s t.client h (corner_of t (Serves x n)) e)
-  serve_once t s h (Away n) e =
-      let v : s.handler h ≡ away t = ap (λ (q : Corner). q.handler) e in
-      let ps : s.down t.client h ≡ [] = ap (λ (q : Corner). q.down) e in
-      let step : core_step code size s (actor.Handler h) ≡ None = rw (v, ps) refl in
-      went (IsServedAt t.client h (corner_of t (Away n)) s) s (core_step code size s (actor.Handler h)) None step
-      (served_none code size s t.client h (corner_of t (Away n)) e)
-  serve_once t s h (Lent x n) e =
-      let v : s.handler h ≡ away t = ap (λ (q : Corner). q.handler) e in
-      let ps : s.down t.client h ≡ [] = ap (λ (q : Corner). q.down) e in
-      let step : core_step code size s (actor.Handler h) ≡ None = rw (v, ps) refl in
-      went (IsServedAt t.client h (corner_of t (Lent x n)) s) s (core_step code size s (actor.Handler h)) None step
-      (served_none code size s t.client h (corner_of t (Lent x n)) e)
-  serve_once t s h (Booked x n) e =
-      let v : s.handler h ≡ free x = ap (λ (q : Corner). q.handler) e in
-      let ts : s.tickets h ≡ t ∷ [] = ap (λ (q : Corner). q.tickets) e in
-      let step : core_step code size s (actor.Handler h) ≡ Some (handles code size (with_tickets code size s h []) h (serves t x)) = rw (v, ts, v) refl in
-      went (IsServedAt t.client h (corner_of t (Serves x n)) s) s (core_step code size s (actor.Handler h)) _ step
-      (served_ticket code size s t.client h (corner_of t (Booked x n)) e [] (serves t x))
-  serve_once t s h (ComesHome x n) e =
-      let v : s.handler h ≡ away t = ap (λ (q : Corner). q.handler) e in
-      let ps : s.down t.client h ≡ parcels.Home x ∷ [] = ap (λ (q : Corner). q.down) e in
-      let step : core_step code size s (actor.Handler h) ≡ Some (handles code size (with_down code size s t.client h []) h (serves t x)) = rw (v, ps, v) refl in
-      went (IsServedAt t.client h (corner_of t (Serves x n)) s) s (core_step code size s (actor.Handler h)) _ step
-      (served_parcel code size s t.client h (corner_of t (ComesHome x n)) e [] (serves t x))
-  serve_once t s h (Works x chunk) e =
-      let v : s.handler h ≡ serves t x = ap (λ (q : Corner). q.handler) e in
-      let ps : s.down t.client h ≡ parcels.Work chunk ∷ [] = ap (λ (q : Corner). q.down) e in
-      let w : Handler = spares t (ran_all x t chunk.items) chunk.capacity in
-      let step : core_step code size s (actor.Handler h) ≡ Some (handles code size (with_down code size s t.client h []) h w) = rw (v, ps, v) refl in
-      went (IsServedAt t.client h (corner_of t (once t (Works x chunk))) s) s (core_step code size s (actor.Handler h)) _ step
-      (served_parcel code size s t.client h (corner_of t (Works x chunk)) e [] w)
-  serve_once t s h (Syncs x n) e =
-      let v : s.handler h ≡ serves t x = ap (λ (q : Corner). q.handler) e in
-      let ps : s.down t.client h ≡ parcels.Sync ∷ [] = ap (λ (q : Corner). q.down) e in
-      let step : core_step code size s (actor.Handler h) ≡ Some (handles code size (with_down code size s t.client h []) h (gives t x)) = rw (v, ps, v) refl in
-      went (IsServedAt t.client h (corner_of t (Giving x n)) s) s (core_step code size s (actor.Handler h)) _ step
-      (served_parcel code size s t.client h (corner_of t (Syncs x n)) e [] (gives t x))
-  serve_once t s h (Ends x n) e =
-      let v : s.handler h ≡ serves t x = ap (λ (q : Corner). q.handler) e in
-      let ps : s.down t.client h ≡ parcels.End ∷ [] = ap (λ (q : Corner). q.down) e in
-      let step : core_step code size s (actor.Handler h) ≡ Some (handles code size (with_down code size s t.client h []) h (free x)) = rw (v, ps, v) refl in
-      went (IsServedAt t.client h (corner_of t (Free x n)) s) s (core_step code size s (actor.Handler h)) _ step
-      (served_parcel code size s t.client h (corner_of t (Ends x n)) e [] (free x))
-  serve_once t s h (Sparing x n) e =
-      let v : s.handler h ≡ spares t x n = ap (λ (q : Corner). q.handler) e in
-      let few : s.spare t.client h ≡ 3 = ap (λ (q : Corner). q.spare) e in
-      let step : core_step code size s (actor.Handler h) ≡ Some (handles code size (with_spare code size s t.client h 4) h (serves t x)) = rw (v, few, v) refl in
-      went (IsServedAt t.client h (corner_of t (Serves x 4)) s) s (core_step code size s (actor.Handler h)) _ step
-      (served_spare code size s t.client h (corner_of t (Sparing x n)) e 4 (serves t x))
-  serve_once t s h (Giving x n) e =
-      let v : s.handler h ≡ gives t x = ap (λ (q : Corner). q.handler) e in
-      let none : s.up t.client h ≡ None = ap (λ (q : Corner). q.up) e in
-      let step : core_step code size s (actor.Handler h) ≡ Some (handles code size (with_up code size s t.client h (Some x)) h (away t)) = rw (v, none, v) refl in
-      went (IsServedAt t.client h (corner_of t (Lent x n)) s) s (core_step code size s (actor.Handler h)) _ step
-      (served_up code size s t.client h (corner_of t (Giving x n)) e (Some x) (away t))
+  serve_once t s h d e = search (rules, went, served_none, served_ticket, served_parcel, served_spare, served_up)

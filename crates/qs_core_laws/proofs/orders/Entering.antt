@@ -1,7 +1,7 @@
 -- Where nobody is in a block, a client with a block left reserves in one step, and then has this block alone: each
 -- handler of its list has the ticket in its queue, and the client has nothing in hand. Where such a block is over,
 -- again nobody is in a block.
-use Rattle.std.proofs.Common.{◌≡◌, ◌<◌, ◌∙◌, ◌==◌, ◌+◌, ◌*◌, ◌++◌, ◌∷◌, [], ℕ, zero, suc, Bool, true, false, true≢false, if◌then◌else◌, is_some, nat_lt, List, Some, inl, inr, refl, sym, ap, subst, length, replicate, ⊎_elim, arith}
+use Rattle.std.proofs.Common.{◌≡◌, ◌<◌, ◌∙◌, ◌==◌, ◌+◌, ◌*◌, ◌++◌, ◌∷◌, [], ℕ, zero, suc, Bool, true, false, true≢false, if◌then◌else◌, is_some, List, Some, inl, inr, refl, sym, ap, subst, length, replicate, ⊎_elim, arith, rules}
 use Rattle.std.proofs.lemmas.Bool.{lt-ltb}
 use Rattle.qs_objects.specs.audit.Journals.{HeldState}
 use Rattle.qs_objects.specs.declared.held.Ticket.{Ticket}
@@ -16,10 +16,9 @@ use Rattle.qs_meaning.proofs.TreeWalks.{put_here, put_there}
 use Rattle.qs_graph.specs.audit.Steps.{limit}
 use Rattle.qs_graph.specs.audit.Walk.{entry}
 use Rattle.qs_syncset.specs.declared.mode.Mode.{Mode}
-use Rattle.qs_syncset.specs.audit.Codes.{ClientCode, code_at, AreCodes, reserved_of, blocks_in}
+use Rattle.qs_syncset.specs.audit.Codes.{ClientCode, code_at, AreCodes}
 use Rattle.qs_client.specs.audit.run.BlockSizes.{longest}
-use Rattle.qs_client.specs.audit.rules.Client.{Client, ClientStage, Settlement, act_at, act_of, awaits, begin, between, full, leaves, runs}
-use Rattle.qs_client.specs.declared.rules.act.Act.TheVariants.{Finished, Reserve}
+use Rattle.qs_client.specs.audit.rules.Client.{Client, ClientStage, Settlement, begin, between}
 use Rattle.qs_client.specs.audit.ClientModel.{is_between, synced_block}
 use Rattle.qs_played.specs.audit.Played.{ticket}
 use Rattle.qs_played.specs.audit.Schedule.{or_stay}
@@ -27,8 +26,7 @@ use Rattle.qs_played.specs.declared.schedule.actor.Actor.TheVariants as actor
 use Rattle.qs_played.proofs.ReservedObjects.{reserved_inside}
 use Rattle.qs_core_laws.specs.protocol.ClientHistories.{HasNone}
 use Rattle.qs_core_laws.proofs.protocol.ClientInvariants.{PlaceOk, objects_of_block}
-use Rattle.qs_core_laws.specs.audit.Core.{Core, after_reserve, client_step, core_step, put_ticket, reserves_from, settings_of}
-use Rattle.qs_core_laws.specs.audit.Core as core
+use Rattle.qs_core_laws.specs.audit.Core.{Core, core_step, put_ticket, settings_of}
 use Rattle.qs_core_laws.proofs.protocol.ProgramTrees.{blocks_are, reserved_is}
 use Rattle.qs_core_laws.proofs.CoreSteps.{HasInvariant}
 use Rattle.qs_core_laws.specs.orders.CoreQuiet.{IsCoreQuiet, IsLaneClear}
@@ -40,10 +38,7 @@ use Rattle.qs_core_laws.proofs.orders.ClientTurns.{free_of, nothing_open}
 
 locals_of : (g : ClientStage) → is_between g ≡ true → (l : Locals) × (g ≡ between l)
 locals_of (between l) e = (l, refl)
-locals_of (runs rest) e = absurd (true≢false (sym e))
-locals_of (full h rest) e = absurd (true≢false (sym e))
-locals_of (awaits h rest) e = absurd (true≢false (sym e))
-locals_of (leaves h hs l) e = absurd (true≢false (sym e))
+locals_of _ e = absurd (true≢false (sym e))
 
 -- how many steps of its client a block takes at most
 abbrev pub most_turns : ProgramShape → Ticket → ℕ
@@ -80,19 +75,7 @@ module _ (p : ProgramShape) (sound : IsSound p) (mode : Mode) (code : ℕ → Cl
   same_ticket = ticket_path refl (quiet.begun t.client ∙ sym index)
 
   reserve_step : (l : Locals) → m.stage ≡ between l → core_step code size s (actor.Client t.client) ≡ Some (booked l names)
-  reserve_step l at =
-      ap (client_step code size s t.client) act
-      ∙ (ap (reserves_from code size s t.client) at
-      ∙ (ap (λ (u : Ticket). Some (after_reserve code size s t.client u l (begin (settings_of code size t.client) u (reserved_of code u) m (synced_block code u l)))) same_ticket
-      ∙ ap (λ ns. Some (booked l ns)) (reserved_is p sound mode code codes t)))
-    where
-      act : act_of (settings_of code size t.client) (blocks_in code t.client) m ≡ Reserve
-      act =
-          let long = blocks_are p sound mode code codes t.client in
-          let b = quiet.begun t.client in
-          let more : nat_lt m.begun (blocks_in code t.client) ≡ true = lt-ltb m.begun (blocks_in code t.client) (omega (arith, long, b, index, some)) in
-          ap (act_at (settings_of code size t.client) (blocks_in code t.client) m) at
-          ∙ ap (λ x. if x then Reserve else Finished) more
+  reserve_step l at = search (rules, same_ticket, reserved_is, blocks_are, lt-ltb)
 
   -- a client that is between two blocks has nothing in hand
   nothing_in_hand : (l : Locals) → m.stage ≡ between l → (h : ℕ) → HasNone m h
@@ -195,10 +178,7 @@ module _ (p : ProgramShape) (sound : IsSound p) (mode : Mode) (code : ℕ → Cl
     where
       gone_at : (g : ClientStage) → is_between g ≡ true → (h : ℕ) → stance_at (s.client t.client) g h ≡ Gone
       gone_at (between l) e h = refl
-      gone_at (runs rest) e h = absurd (true≢false (sym e))
-      gone_at (full i rest) e h = absurd (true≢false (sym e))
-      gone_at (awaits i rest) e h = absurd (true≢false (sym e))
-      gone_at (leaves i hs l) e h = absurd (true≢false (sym e))
+      gone_at _ e h = absurd (true≢false (sym e))
 
       gone_in : (h : ℕ) (b : Bool) → (if b then stance_at (s.client t.client) (s.client t.client).stage h else Gone) ≡ Gone
       gone_in h true = gone_at (s.client t.client).stage outside h

@@ -1,7 +1,7 @@
 -- A client that settles neither gets nor gives an object, and opens or closes no chunk: so how it stands to each object
 -- stays the same. And what is left of its block is bounded: how many steps it will take, by the depth of the rest of
 -- the tree, by what goes home first, and by the objects that it leaves at the end. Both go by induction on the tree.
-use Rattle.std.proofs.Common.{◌≡◌, ◌<◌, ◌≤◌, ◌∙◌, ◌==◌, ◌+◌, ◌*◌, ◌&&◌, ◌||◌, ℕ, suc, Bool, true, false, if◌then◌else◌, is_some, ℤ, List, [], ◌∷◌, ◌++◌, length, Option, Some, None, refl, sym, ap, subst, ⊎_elim, arith}
+use Rattle.std.proofs.Common.{◌≡◌, ◌<◌, ◌≤◌, ◌==◌, ◌+◌, ◌*◌, ◌&&◌, ◌||◌, ℕ, suc, Bool, true, false, if◌then◌else◌, is_some, ℤ, List, ◌∷◌, length, Option, Some, None, refl, arith, rules}
 use Rattle.qs_objects.specs.audit.Journals.{HeldState, run_one}
 use Rattle.qs_objects.specs.declared.held.Ticket.{Ticket}
 use Rattle.qs_objects.specs.declared.Request.{Request}
@@ -11,7 +11,7 @@ use Rattle.qs_meaning.proofs.TreeWalks.{put_here, put_there}
 use Rattle.qs_program.specs.audit.Sound.{is_in}
 use Rattle.qs_program.specs.audit.Values.{Locals}
 use Rattle.qs_graph.specs.audit.Synced.{Synced, Done, Call, Sync, Query}
-use Rattle.qs_client.specs.audit.rules.Client.{Client, ClientStage, Settings, awaits, between, call, end_block, full, leaves, query, runs, set_chunk, set_held, set_stage, settle, stop_at}
+use Rattle.qs_client.specs.audit.rules.Client.{Client, ClientStage, Settings, awaits, between, call, end_block, full, leaves, query, runs, set_held, set_stage, settle, stop_at}
 use Rattle.qs_core_laws.proofs.orders.TreeDepths.{IsWithinDepth}
 
 -- how a client stands to an object: it sends commands, has asked for the object, holds it, or has left it
@@ -28,28 +28,22 @@ hand false = Sends
 -- of an object that its block reserves, by its stage
 abbrev pub stance_at : Client → ClientStage → ℕ → Stance
 stance_at m (between l) g = Gone
-stance_at m (runs rest) g = hand (is_some (m.held g))
-stance_at m (full h rest) g = hand (is_some (m.held g))
 stance_at m (awaits h rest) g = if h == g then Asks else hand (is_some (m.held g))
 stance_at m (leaves h hs l) g = if is_in (h ∷ hs) g then hand (is_some (m.held g)) else Gone
+stance_at m _ g = hand (is_some (m.held g))
 
 -- one step more where the object goes home, or a chunk goes
 abbrev pub busy : Client → ℕ → ℕ
 busy m h = if is_some (m.held h) || is_some (m.chunk h) then 1 else 0
 
 pub busy_few : (m : Client) (h : ℕ) → busy m h ≤ 1
-busy_few m h = by_test (is_some (m.held h) || is_some (m.chunk h))
-  where
-    by_test : (b : Bool) → (if b then 1 else 0) ≤ 1
-    by_test true = omega arith
-    by_test false = omega arith
+busy_few m h = search rules
 
 -- the steps of a client before it goes on in this tree
 abbrev pub before_rest : Client → Synced → ℕ
-before_rest m (Done l) = 0
 before_rest m (Call r next) = suc (busy m r.object)
 before_rest m (Sync h next) = suc (busy m h)
-before_rest m (Query r next) = 0
+before_rest m _ = 0
 
 -- a block that reserves so many objects is over within n steps of its client
 abbrev pub IsLeft : ℕ → ℕ → Client → ClientStage → Type 0
@@ -60,11 +54,7 @@ IsLeft many n m (awaits h rest) = (d : ℕ) × IsWithinDepth d rest × (3 * d + 
 IsLeft many n m (leaves h hs l) = 2 * length hs + 1 + busy m h ≤ n
 
 pub left_more : (many n k : ℕ) (m : Client) (g : ClientStage) → n ≤ k → IsLeft many n m g → IsLeft many k m g
-left_more many n k m (between l) le left = tt
-left_more many n k m (runs rest) le (d, deep, low) = (d, deep, omega (arith, le, low))
-left_more many n k m (full h rest) le (opened, d, deep, low) = (opened, d, deep, omega (arith, le, low))
-left_more many n k m (awaits h rest) le (d, deep, low) = (d, deep, omega (arith, le, low))
-left_more many n k m (leaves h hs l) le low = omega (arith, le, low)
+left_more many n k m g le left = search rules
 
 -- a client that has settled from another, in a block that reserves these objects
 pub record IsSettled (reserved : List ℕ) (n : ℕ) (m r : Client) : Type 0 where
@@ -77,20 +67,11 @@ pub record IsSettled (reserved : List ℕ) (n : ℕ) (m r : Client) : Type 0 whe
 -- from a client with the same hands
 settled_from : (reserved : List ℕ) (n k : ℕ) (m other r : Client) → n ≤ k → other.begun ≡ m.begun → ((g : ℕ) → is_some (other.held g) ≡ is_some (m.held g))
     → ((g : ℕ) → is_some (other.chunk g) ≡ is_some (m.chunk g)) → IsSettled reserved n other r → IsSettled reserved k m r
-settled_from reserved n k m other r le begun held opened s = record {
-  begun = s.begun ∙ begun;
-  held = λ g. s.held g ∙ held g;
-  chunks = λ g. s.chunks g ∙ opened g;
-  stance = s.stance;
-  left = left_more (length reserved) n k r r.stage le s.left;
-}
+settled_from reserved n k m other r le begun held opened s = search (rules, left_more)
 
 -- what stands in place of another stays or goes with it
 same_some : {A : Type 0} (f : ℕ → Option A) (h : ℕ) (x y : A) → f h ≡ Some x → (g : ℕ) → is_some (put f h (Some y) g) ≡ is_some (f g)
-same_some f h x y e g = ⊎_elim
-    (λ (is : h ≡ g). subst (λ g. is_some (put f h (Some y) g) ≡ is_some (f g)) is (ap is_some (put_here f h (Some y)) ∙ sym (ap is_some e)))
-    (λ (other : (h == g) ≡ false). ap is_some (put_there f h (Some y) g other))
-    (num_cases h g)
+same_some f h x y e g = search (rules, put_here, put_there, num_cases)
 
 module _ (settings : Settings) (ticket : Ticket) (reserved : List ℕ) where
   -- a client that stops here
@@ -101,33 +82,13 @@ module _ (settings : Settings) (ticket : Ticket) (reserved : List ℕ) where
   -- at the end of its block
   ended : (d : ℕ) (m : Client) (l : Locals) (names : List ℕ) → reserved ≡ names
       → IsSettled reserved (3 * d + 2 * length reserved + 2) m (end_block settings ticket reserved m names l).client
-  ended d m l [] is = stopped (3 * d + 2 * length reserved + 2) m (between l)
-      (λ h there. absurd (let none : is_in [] h ≡ true = subst (λ ns. is_in ns h ≡ true) is there in cc)) tt
-  ended d m l (h ∷ hs) is = stopped (3 * d + 2 * length reserved + 2) m (leaves h hs l)
-      (λ g there. let here : is_in (h ∷ hs) g ≡ true = subst (λ ns. is_in ns g ≡ true) is there in rw here refl)
-      (let long : length reserved ≡ suc (length hs) = ap length is in let few = busy_few m h in omega (arith, long, few))
+  ended d m l names is = search (rules, stopped, busy_few)
 
   -- a command goes into an open chunk
   pub called : (d : ℕ) (m : Client) (r : Request) (next : Synced) (rs : List Request) → IsWithinDepth d next → m.chunk r.object ≡ Some rs
       → ((other : Client) → IsSettled reserved (3 * d + 2 * length reserved + 2) other (settle settings ticket reserved next other).client)
       → IsSettled reserved (3 * d + 2 * length reserved + 3) m (call settings ticket reserved m r next (λ m. settle settings ticket reserved next m) None (Some rs)).client
-  called d m r next rs deep is ih = by_full (length (rs ++ r ∷ []) == settings.size)
-    where
-      other : Client
-      other = set_chunk m r.object (Some (rs ++ r ∷ []))
-
-      opened : (g : ℕ) → is_some (other.chunk g) ≡ is_some (m.chunk g)
-      opened g = same_some m.chunk r.object rs (rs ++ r ∷ []) is g
-
-      by_full : (b : Bool) → IsSettled reserved (3 * d + 2 * length reserved + 3) m
-          (if b then stop_at other (full r.object next) else settle settings ticket reserved next other).client
-      by_full true =
-          settled_from reserved (3 * d + 2 * length reserved + 3) (3 * d + 2 * length reserved + 3) m other (set_stage other (full r.object next)) (omega arith) refl (λ g. refl) opened
-          (stopped (3 * d + 2 * length reserved + 3) other (full r.object next) (λ h there. refl)
-          (ap is_some (put_here m.chunk r.object (Some (rs ++ r ∷ []))), d, deep, omega arith))
-      by_full false =
-          settled_from reserved (3 * d + 2 * length reserved + 2) (3 * d + 2 * length reserved + 3) m other (settle settings ticket reserved next other).client (omega arith) refl (λ g. refl) opened
-          (ih other)
+  called d m r next rs deep is ih = search (rules, same_some, settled_from, stopped, put_here)
 
   abbrev Settles : ℕ → Synced → Type 0
   Settles d tree = (m : Client) → IsSettled reserved (3 * d + 2 * length reserved + 2) m (settle settings ticket reserved tree m).client
@@ -138,13 +99,11 @@ module _ (settings : Settings) (ticket : Ticket) (reserved : List ℕ) where
     where
       by_hand : (x : Option HeldState) (c : Option (List Request)) → m.chunk r.object ≡ c
           → IsSettled reserved (3 * d + 2 * length reserved + 2) m (call settings ticket reserved m r next (λ m. settle settings ticket reserved next m) x c).client
-      by_hand (Some x) c e = stopped (3 * d + 2 * length reserved + 2) m (runs (Call r next)) (λ h there. refl)
-          (d, (k, less, deep), let few = busy_few m r.object in omega (arith, few))
-      by_hand None None e = stopped (3 * d + 2 * length reserved + 2) m (runs (Call r next)) (λ h there. refl)
-          (d, (k, less, deep), let few = busy_few m r.object in omega (arith, few))
       by_hand None (Some rs) e =
           settled_from reserved (3 * k + 2 * length reserved + 3) (3 * d + 2 * length reserved + 2) m m _ (omega (arith, less)) refl (λ g. refl) (λ g. refl)
           (called k m r next rs deep e ih)
+      by_hand _ _ e = stopped (3 * d + 2 * length reserved + 2) m (runs (Call r next)) (λ h there. refl)
+          (d, (k, less, deep), let few = busy_few m r.object in omega (arith, few))
 
   -- at a synchronisation
   at_sync : (d k h : ℕ) (next : Synced) → k < d → IsWithinDepth k next → Settles k next → Settles d (Sync h next)

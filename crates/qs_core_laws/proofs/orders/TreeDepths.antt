@@ -1,9 +1,9 @@
 -- A block's tree is no deeper than its walk has nodes: on no path there are more calls, synchronisations and queries.
 -- How many turns are left of a block is bounded by this depth.
-use Rattle.std.proofs.Common.{◌<◌, ◌≤◌, ℕ, zero, suc, ℤ, List, arith}
+use Rattle.std.proofs.Common.{◌<◌, ◌≤◌, ℕ, zero, suc, ℤ, List, arith, rules}
 use Rattle.qs_graph.specs.audit.Nodes.{GraphNode}
 use Rattle.qs_graph.specs.audit.Synced.{Synced, Done, Call, Sync, Query}
-use Rattle.qs_graph.specs.audit.Walk.{Move, Ends, Goes, Calls, Syncs, Queries, Spot, move, tree_of_move, walk}
+use Rattle.qs_graph.specs.audit.Walk.{Move, Spot, move, tree_of_move, walk}
 
 -- on no path there are more than n calls, synchronisations and queries
 abbrev pub IsWithinDepth : ℕ → Synced → Type 0
@@ -14,16 +14,10 @@ IsWithinDepth n (Query r next) = (m : ℕ) × (m < n) × ((v : ℤ) → IsWithin
 
 deeper : (m n : ℕ) (tree : Synced) → m ≤ n → IsWithinDepth m tree → IsWithinDepth n tree
 deeper m n (Done l) le d = tt
-deeper m n (Call r next) le (k, less, d) = (k, omega (arith, le, less), d)
-deeper m n (Sync h next) le (k, less, d) = (k, omega (arith, le, less), d)
-deeper m n (Query r next) le (k, less, d) = (k, omega (arith, le, less), d)
+deeper m n _ le (k, less, d) = (k, omega (arith, le, less), d)
 
 by_move : (g : List GraphNode) (n : ℕ) (s : Spot) → ((to : Spot) → IsWithinDepth n (walk g n to)) → (m : Move) → IsWithinDepth (suc n) (tree_of_move (walk g n) s.locals m)
-by_move g n s ih Ends = tt
-by_move g n s ih (Goes to) = deeper n (suc n) (walk g n to) (omega arith) (ih to)
-by_move g n s ih (Calls r to) = (n, omega arith, ih to)
-by_move g n s ih (Syncs h to) = (n, omega arith, ih to)
-by_move g n s ih (Queries r to) = (n, omega arith, λ v. ih (to v))
+by_move g n s ih m = search (rules, deeper)
 
 pub walk_depth : (g : List GraphNode) (n : ℕ) (s : Spot) → IsWithinDepth n (walk g n s)
 walk_depth g zero s = tt

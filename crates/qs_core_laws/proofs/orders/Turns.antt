@@ -2,7 +2,7 @@
 -- handler has something to do, and two steps of each handler lead every corner to one where the handler waits for the
 -- client again. Here are what holds between the steps (`IsWithin`), the steps of handlers, and what is to be known of a
 -- client's step for it.
-use Rattle.std.proofs.Common.{◌≡◌, ◌<◌, ◌≤◌, ◌∙◌, ◌==◌, ◌+◌, ◌⊎◌, ◌∷◌, [], ℕ, zero, suc, true, false, if◌then◌else◌, is_some, List, inl, inr, sym, ap, subst, length, ⊎_elim, arith}
+use Rattle.std.proofs.Common.{◌≡◌, ◌<◌, ◌≤◌, ◌∙◌, ◌==◌, ◌+◌, ◌⊎◌, ◌∷◌, [], ℕ, zero, suc, true, false, if◌then◌else◌, is_some, List, inl, inr, sym, ap, subst, length, ⊎_elim, arith, rules}
 use Rattle.std.proofs.lemmas.Bool.Decides.{nat_tests}
 use Rattle.qs_objects.specs.declared.held.Ticket.{Ticket}
 use Rattle.qs_objects.proofs.Choices.{num_cases}
@@ -57,14 +57,7 @@ pub record IsWithin (p : ProgramShape) (so_far : List Ticket) (blocks : ℕ → 
 
 -- a client that did not step is still not in a block
 still_aside : (s n : Core) (d : ℕ) → n.client d ≡ s.client d → HasSameLanes s n d → IsAside s d → IsAside n d
-still_aside s n d client lanes aside = record {
-  stage = ap (λ (m : Client). is_between m.stage) client ∙ aside.stage;
-  lanes = λ h. record {
-    down = lanes.down h ∙ (aside.lanes h).down;
-    up = lanes.up h ∙ (aside.lanes h).up;
-    spare = lanes.spare h ∙ (aside.lanes h).spare;
-  };
-}
+still_aside s n d client lanes aside = search rules
 
 module _ (p : ProgramShape) (so_far : List Ticket) (blocks : ℕ → ℕ) (t : Ticket) (code : ℕ → ClientCode) (size : ℕ) where
   -- the state after one step of an actor, or without it
@@ -109,14 +102,7 @@ module _ (p : ProgramShape) (so_far : List Ticket) (blocks : ℕ → ℕ) (t : T
       mine = ap (λ (f : ℕ → Client). f t.client) clients
 
       here : HasCorner p t (suc from) last from
-      here = record {
-        due = once t (once t had.due);
-        is = second.changed.here;
-        stance = once_stance t (once t had.due) ∙ (once_stance t had.due ∙ (had.stance ∙ sym (ap (λ m. stance_in p t m from) mine)));
-        spare = ap (λ k. k + chunks_open (last.client t.client) from) (once_spare t (once t had.due) ∙ once_spare t had.due)
-            ∙ (ap (λ m. spare_of had.due + chunks_open m from) mine ∙ had.spare);
-        waits = inl (twice_waits t had.due);
-      }
+      here = search (rules, once, had, second, once_stance, mine, once_spare, spare_of, twice_waits)
 
       there : (h : ℕ) → (from == h) ≡ false → HasCorner p t (suc from) last h
       there h other =
@@ -157,10 +143,7 @@ module _ (p : ProgramShape) (so_far : List Ticket) (blocks : ℕ → ℕ) (t : T
 
   -- the corner of a client and a handler that waits
   pub at_rest : (n h : ℕ) (s : Core) (now : IsWithin p so_far blocks t (length p.objects) n s) → Waits (now.corners h).due
-  at_rest n h s now = ⊎_elim
-      (λ (w : Waits (now.corners h).due). w)
-      (λ (l : (length p.objects ≤ h) × (h < length p.objects)). absurd (let low = l.0 in let high = l.1 in omega (arith, low, high)))
-      (now.corners h).waits
+  at_rest n h s now = search rules
 
   pub act_on : (h n k : ℕ) (due : Due) (s : Core) (m : Client) (later : Core) → IsWithin p so_far blocks t (length p.objects) n s
       → IsActAt h k due s m later → IsWithin p so_far blocks t 0 k later
@@ -182,13 +165,7 @@ module _ (p : ProgramShape) (so_far : List Ticket) (blocks : ℕ → ℕ) (t : T
       theirs d other = ap (λ (f : ℕ → Client). f d) act.client ∙ put_there s.client t.client m d other
 
       here : HasCorner p t 0 later h
-      here = record {
-        due = due;
-        is = act.changed.here;
-        stance = act.stance ∙ sym (ap (λ x. stance_in p t x h) mine);
-        spare = ap (λ x. spare_of due + chunks_open x h) mine ∙ act.spare;
-        waits = inr (omega arith, act.inside);
-      }
+      here = search (rules, mine, spare_of)
 
       there : (g : ℕ) → (h == g) ≡ false → HasCorner p t 0 later g
       there g other =

@@ -1,7 +1,7 @@
 -- A run of the optimised machine makes no more steps than its blocks have. What is left is counted: of the block that
 -- each client is in (`ClientCosts`), of its blocks to come, and of what handlers have still to take and to give. Each
 -- step leaves one less.
-use Rattle.std.proofs.Common.{◌≡◌, ◌<◌, ◌≤◌, ◌∙◌, ◌+◌, ◌-◌, ◌==◌, ℕ, zero, suc, nat_lt, Bool, true, false, if◌then◌else◌, List, [], ◌∷◌, ◌++◌, Option, Some, None, length, get_or, sum_by, refl, sym, ap, ap₂, subst, ⊎_elim, inl, inr, arith}
+use Rattle.std.proofs.Common.{◌≡◌, ◌<◌, ◌≤◌, ◌∙◌, ◌+◌, ◌-◌, ◌==◌, ℕ, zero, suc, nat_lt, Bool, true, false, if◌then◌else◌, List, [], ◌∷◌, ◌++◌, Option, Some, None, length, get_or, sum_by, refl, sym, ap, ap₂, subst, ⊎_elim, inl, inr, arith, rules}
 use Rattle.std.proofs.lemmas.List.{length-append}
 use Rattle.std.proofs.lemmas.List.Sums.{sum_by-cons}
 use Rattle.qs_objects.specs.audit.Journals.{HeldState}
@@ -24,18 +24,16 @@ use Rattle.qs_syncset.proofs.CountedSyncs.{code_asks}
 use Rattle.qs_syncset.proofs.SyncTrees.{IsAsking}
 use Rattle.qs_chunk.specs.audit.Limits.{lane_room, spare_room}
 use Rattle.qs_chunk.specs.declared.parcel.Parcel.{Parcel}
-use Rattle.qs_chunk.specs.declared.parcel.Parcel.TheVariants as parcels
 use Rattle.qs_handler.specs.audit.Handler.{Handler, free, serves, spares, gives, away, closed, accept_next, accept_parcel, gave}
 use Rattle.qs_handler.specs.audit.Handler as handlers
 use Rattle.qs_client.specs.audit.run.BlockSizes.{longest}
 use Rattle.qs_client.specs.audit.rules.Client.{Client, Settlement, between, runs, act_of, after_parcel, begin, take_chunk, take_object}
 use Rattle.qs_client.specs.declared.rules.act.Act.{Act}
-use Rattle.qs_client.specs.declared.rules.act.Act.TheVariants.{Reserve, Send, Await, NeedChunk, Finished}
+use Rattle.qs_client.specs.declared.rules.act.Act.TheVariants.{Reserve, Send, Await, NeedChunk}
 use Rattle.qs_client.proofs.run.CodeBounds.{longest_covers}
 use Rattle.qs_played.specs.audit.Played.{ticket}
 use Rattle.qs_played.specs.audit.Schedule.{or_stay}
 use Rattle.qs_played.specs.declared.schedule.actor.Actor.{Actor}
-use Rattle.qs_played.specs.declared.schedule.actor.Actor.TheVariants as actor
 use Rattle.qs_plain_laws.specs.progress.Steps.{made}
 use Rattle.qs_plain_laws.proofs.progress.BlocksLeft.{left_all, left_by, left_one}
 use Rattle.qs_plain_laws.proofs.progress.RequestCounts.{AtMost, tree_within}
@@ -66,12 +64,9 @@ lane_cost [] = 0
 lane_cost (p ∷ ps) = parcel_cost p + lane_cost ps
 
 abbrev handler_cost : Handler → ℕ
-handler_cost (free x) = 0
-handler_cost (serves t x) = 0
 handler_cost (spares t x n) = 1
 handler_cost (gives t x) = 1
-handler_cost (away t) = 0
-handler_cost (closed x) = 0
+handler_cost _ = 0
 
 lane_more : (ps : List Parcel) (p : Parcel) → lane_cost (ps ++ p ∷ []) ≡ lane_cost ps + parcel_cost p
 lane_more [] p = omega arith
@@ -79,26 +74,11 @@ lane_more (q ∷ ps) p = let ih = lane_more ps p in omega (arith, ih)
 
 accepted_cost : (v w : Handler) (p : Parcel) → accept_parcel v p ≡ Some w
     → handler_cost w + 1 ≤ handler_cost v + parcel_cost p
-accepted_cost (serves t x) w (parcels.Work chunk) e = subst (λ w. handler_cost w + 1 ≤ 2) (some_is _ w e) (omega arith)
-accepted_cost (serves t x) w parcels.Sync e = subst (λ w. handler_cost w + 1 ≤ 2) (some_is _ w e) (omega arith)
-accepted_cost (serves t x) w parcels.End e = subst (λ w. handler_cost w + 1 ≤ 1) (some_is _ w e) (omega arith)
-accepted_cost (serves t x) w (parcels.Home z) e = absurd (cc (e))
-accepted_cost (away t) w (parcels.Home z) e = subst (λ w. handler_cost w + 1 ≤ 1) (some_is _ w e) (omega arith)
-accepted_cost (away t) w (parcels.Work chunk) e = absurd (cc (e))
-accepted_cost (away t) w parcels.Sync e = absurd (cc (e))
-accepted_cost (away t) w parcels.End e = absurd (cc (e))
-accepted_cost (free x) w p e = absurd (cc (e))
-accepted_cost (spares t x n) w p e = absurd (cc (e))
-accepted_cost (gives t x) w p e = absurd (cc (e))
-accepted_cost (closed x) w p e = absurd (cc (e))
+accepted_cost v w p e = search (rules, some_is)
 
 next_cost : (v w : Handler) (t : Ticket) → accept_next v (nexts.Ticket t) ≡ Some w → handler_cost w ≡ handler_cost v
 next_cost (free x) w t e = subst (λ w. handler_cost w ≡ 0) (some_is (serves t x) w e) refl
-next_cost (serves u x) w t e = absurd (cc (e))
-next_cost (spares u x n) w t e = absurd (cc (e))
-next_cost (gives u x) w t e = absurd (cc (e))
-next_cost (away u) w t e = absurd (cc (e))
-next_cost (closed x) w t e = absurd (cc (e))
+next_cost _ w t e = absurd (cc (e))
 
 below_plus : (f g e : ℕ → ℕ) (n : ℕ) → ((i : ℕ) → g i ≡ f i + e i) → below g n ≡ below f n + below e n
 below_plus f g e zero same = refl
@@ -397,29 +377,17 @@ module _ (p : ProgramShape) (sound : IsSound p) (mode : Mode) (code : ℕ → Cl
 
       reserve_less : (s' : Core) → asks_for c ≡ Reserve → reserves_from code size s c (s.client c).stage ≡ Some s'
           → Less s' n
-      reserve_less s' act e =
-          let at = is_between p sound mode code codes size s y g k c (s.client c).begun refl act in
-          subst (λ s. Less s n) (some_is _ s' (sym (ap (reserves_from code size s c) at.1) ∙ e))
-          (reserved_less at.0 at.1 (has_more p sound mode code codes size s y g k c at.0 at.1 act))
+      reserve_less s' act e = search (rules, is_between, some_is, reserved_less, has_more)
 
       client_less : (act : Act) (s' : Core) → asks_for c ≡ act → client_step code size s c act ≡ Some s' → Less s' n
-      client_less Reserve s' act e = reserve_less s' act e
-      client_less (Send h parcel) s' act e = send_less h parcel s' act e
-      client_less (Await h) s' act e = get_less h (s.up c h) s' act e
-      client_less (NeedChunk h) s' act e = chunk_less h (s.spare c h) s' act e
-      client_less Finished s' act e = absurd (cc)
+      client_less act s' act' e = search (rules, reserve_less, send_less, get_less, chunk_less)
 
     -- one handler has moved
     module _ (h : ℕ) (inside : h < length p.objects) where
       handler_moves : (v : Handler) (tickets : ℕ → List Ticket) (down : ℕ → ℕ → List Parcel)
           → suc (transit p tickets (put s.handler h v) down) ≤ in_transit
           → (l : ℕ) × (suc l ≤ n) × LeftOf s.client tickets (put s.handler h v) down l
-      handler_moves v tickets down fewer =
-          let most = left.most in (
-            all_costs s.client left.need + transit p tickets (put s.handler h v) down,
-            omega (arith, most, fewer),
-            record { need = left.need; needs = left.needs; most = omega arith },
-          )
+      handler_moves v tickets down fewer = search rules
 
       ticket_less : (ts : List Ticket) (s' : Core) → s.tickets h ≡ ts → takes_ticket code size s h ts ≡ Some s'
           → Less s' n
@@ -480,23 +448,7 @@ module _ (p : ProgramShape) (sound : IsSound p) (mode : Mode) (code : ℕ → Cl
       handler_less (closed x) s' v e = absurd (cc)
 
     step_less : (a : Actor) (s' : Core) → core_step code size s a ≡ Some s' → Less s' n
-    step_less (actor.Client c) s' e = by_number (nat_lt c (length p.clients)) refl
-      where
-        by_number : (b : Bool) → nat_lt c (length p.clients) ≡ b → Less s' n
-        by_number true less = client_less c (grind (arith, less)) (asks_for c) s' refl e
-        by_number false out = absurd (let none = st.others.steps c (grind (arith, out)) in not_some s' (sym none ∙ e))
-          where
-            not_some : (s' : Core) → None ≡ Some s' → ⊥
-            not_some s' e = cc
-    step_less (actor.Handler h) s' e = by_number (nat_lt h (length p.objects)) refl
-      where
-        by_number : (b : Bool) → nat_lt h (length p.objects) ≡ b → Less s' n
-        by_number true less = handler_less h (grind (arith, less)) (s.handler h) s' refl e
-        by_number false out =
-            absurd (not_some s' (sym (ap (λ v. handler_step code size s h (handlers.act_of v)) (st.others.handler h (grind (arith, out))) ∙ ap (takes_ticket code size s h) (st.others.tickets h (grind (arith, out)))) ∙ e))
-          where
-            not_some : (s' : Core) → None ≡ Some s' → ⊥
-            not_some s' e = cc
+    step_less a s' e = search (rules, client_less, handler_less)
 
   abbrev Kept : Core → Type 0
   Kept s = HasInvariant p sound mode code codes size s × CoreBounded p sound mode code codes size s

@@ -2,7 +2,7 @@
 -- spare queue. So where a client finds none that is empty, there is one in the lane or with the handler; and where a
 -- handler gives one back, there is room for it. Each step keeps this. A step changes what is counted of one lane;
 -- elsewhere the counts stay.
-use Rattle.std.proofs.Common.{◌≡◌, ◌⊎◌, ◌+◌, ◌-◌, inl, inr, ℕ, zero, suc, nat_lt, ◌==◌, ◌&&◌, is_some, Bool, true, false, if◌then◌else◌, List, [], ◌∷◌, ◌++◌, length, refl, sym, ap, ◌∙◌, subst, ⊎_elim, Option, Some, None, ℤ, arith}
+use Rattle.std.proofs.Common.{◌≡◌, ◌⊎◌, ◌+◌, inl, inr, ℕ, suc, ◌==◌, ◌&&◌, is_some, Bool, true, false, if◌then◌else◌, List, [], ◌∷◌, ◌++◌, refl, sym, ap, ◌∙◌, subst, Option, Some, None, ℤ, arith, rules}
 use Rattle.qs_objects.specs.audit.Journals.{HeldState, run_one}
 use Rattle.qs_objects.specs.declared.held.Ticket.{Ticket}
 use Rattle.qs_objects.specs.declared.held.Next.TheVariants as nexts
@@ -13,24 +13,21 @@ use Rattle.qs_program.specs.audit.Values.{Locals}
 use Rattle.qs_meaning.specs.audit.Solo.{put, value_of}
 use Rattle.qs_meaning.proofs.TreeWalks.{put_here, put_there}
 use Rattle.qs_graph.specs.audit.Synced.{Synced, Done, Call, Sync, Query}
-use Rattle.qs_syncset.specs.audit.Codes.{ClientCode, blocks_in, reserved_of}
+use Rattle.qs_syncset.specs.audit.Codes.{ClientCode, blocks_in}
 use Rattle.qs_chunk.specs.declared.parcel.Parcel.{Parcel}
 use Rattle.qs_chunk.specs.declared.parcel.Parcel.TheVariants as parcels
-use Rattle.qs_chunk.specs.audit.Limits.{lane_room, spare_room}
 use Rattle.qs_handler.specs.audit.Handler.{Handler, free, serves, spares, gives, away, closed, accept_next, accept_parcel, gave}
 use Rattle.qs_handler.specs.Handler as handlers
 use Rattle.qs_handler.specs.audit.Handler as handlers_audit
-use Rattle.qs_client.specs.audit.rules.Client.{Client, ClientStage, Settings, Settlement, between, runs, full, awaits, leaves, begin, stop_at, act_at, act_of, clear, call_act, end_block, call, query, settle, after_home, after_work, after_sync, after_end, after_parcel, take_chunk, take_object}
+use Rattle.qs_client.specs.audit.rules.Client.{Client, ClientStage, Settings, runs, awaits, leaves, stop_at, act_at, act_of, clear, call_act, end_block, call, query, settle, after_home, after_work, after_sync, after_end, after_parcel, take_chunk, take_object}
 use Rattle.qs_client.specs.declared.rules.act.Act.{Act}
-use Rattle.qs_client.specs.declared.rules.act.Act.TheVariants.{Reserve, Send, Await, NeedChunk, Finished}
-use Rattle.qs_played.specs.audit.Played.{ticket}
+use Rattle.qs_client.specs.declared.rules.act.Act.TheVariants.{Send, NeedChunk, Finished}
 use Rattle.qs_played.specs.audit.Schedule.{or_stay}
 use Rattle.qs_played.specs.declared.schedule.actor.Actor.{Actor}
 use Rattle.qs_played.specs.declared.schedule.actor.Actor.TheVariants as actor
 use Rattle.qs_played.proofs.FunctionUpdate.{put_kept}
 use Rattle.qs_core_laws.proofs.protocol.ActKinds.{outside_not_send, outside_not_need, clears_not_need, full_not_need}
 use Rattle.qs_core_laws.specs.audit.Core.{Core, client_step, core_begin, core_step, gets, gives_chunk, after_handler, handler_step, put_lane, reserves_from, settings_of, takes_chunk, takes_parcel, takes_ticket, with_down, with_tickets}
-use Rattle.qs_client.specs.audit.ClientModel.{synced_block}
 use Rattle.qs_core_laws.specs.audit.CoreSchedule.{core_plays}
 use Rattle.qs_core_laws.specs.audit.Core as core
 use Rattle.qs_core_laws.proofs.HandlerSteps.{put_lane_at, put_lane_there, some_is}
@@ -43,9 +40,7 @@ opened (Some rs) = 1
 -- 1 for a parcel with a chunk
 abbrev pub chunk_in : Parcel → ℕ
 chunk_in (parcels.Work chunk) = 1
-chunk_in parcels.Sync = 0
-chunk_in (parcels.Home x) = 0
-chunk_in parcels.End = 0
+chunk_in _ = 0
 
 abbrev pub chunks_in : List Parcel → ℕ
 chunks_in [] = 0
@@ -53,12 +48,8 @@ chunks_in (p ∷ ps) = chunk_in p + chunks_in ps
 
 -- 1 for a chunk that a handler is to give back to this client
 abbrev pub to_give_back : Handler → ℕ → ℕ
-to_give_back (free x) c = 0
-to_give_back (serves t x) c = 0
 to_give_back (spares t x n) c = if t.client == c then 1 else 0
-to_give_back (gives t x) c = 0
-to_give_back (away t) c = 0
-to_give_back (closed x) c = 0
+to_give_back _ c = 0
 
 abbrev one_at : ℕ → ℕ → ℕ
 one_at h g = if h == g then 1 else 0
@@ -82,19 +73,11 @@ chunks_more (q ∷ ps) p = let ih = chunks_more ps p in omega (arith, ih)
 
 more_in_hand : (f : ℕ → Option (List Request)) (h : ℕ) (rs : List Request) → f h ≡ None → (g : ℕ)
     → opened (put f h (Some rs) g) ≡ opened (f g) + one_at h g
-more_in_hand f h rs none g =
-    ⊎_elim
-    (λ (is : h ≡ g). subst (λ g. opened (put f h (Some rs) g) ≡ opened (f g) + one_at h g) is (rw (eqb_self h, none) (omega arith)))
-    (λ (other : (h == g) ≡ false). rw other (omega arith))
-    (num_cases h g)
+more_in_hand f h rs none g = search (rules, eqb_self, num_cases)
 
 less_in_hand : (f : ℕ → Option (List Request)) (h : ℕ) (rs : List Request) → f h ≡ Some rs → (g : ℕ)
     → opened (put f h None g) + one_at h g ≡ opened (f g)
-less_in_hand f h rs some g =
-    ⊎_elim
-    (λ (is : h ≡ g). subst (λ g. opened (put f h None g) + one_at h g ≡ opened (f g)) is (rw (eqb_self h, some) (omega arith)))
-    (λ (other : (h == g) ≡ false). rw other (omega arith))
-    (num_cases h g)
+less_in_hand f h rs some g = search (rules, eqb_self, num_cases)
 
 -- what a client does to its own values keeps the chunks that it has in hand
 module _ (settings : Settings) (t : Ticket) (names : List ℕ) (g : ℕ) where
@@ -107,17 +90,7 @@ module _ (settings : Settings) (t : Ticket) (names : List ℕ) (g : ℕ) where
       → m.chunk r.object ≡ ck
       → ((m : Client) → opened ((settle settings t names next m).client.chunk g) ≡ opened (m.chunk g))
       → opened ((call settings t names m r next (λ m. settle settings t names next m) hd ck).client.chunk g) ≡ opened (m.chunk g)
-  order_opened m r next (Some x) ck e ih = refl
-  order_opened m r next None None e ih = refl
-  order_opened m r next None (Some rs) e ih = by_case (length (rs ++ r ∷ []) == settings.size)
-    where
-      kept : opened (put m.chunk r.object (Some (rs ++ r ∷ [])) g) ≡ opened (m.chunk g)
-      kept = put_kept opened m.chunk r.object (Some (rs ++ r ∷ [])) (sym (ap opened e)) g
-
-      by_case : (b : Bool)
-          → opened ((if b then stop_at (record m { chunk = put m.chunk r.object (Some (rs ++ r ∷ [])) }) (full r.object next) else settle settings t names next (record m { chunk = put m.chunk r.object (Some (rs ++ r ∷ [])) })).client.chunk g) ≡ opened (m.chunk g)
-      by_case true = kept
-      by_case false = ih (record m { chunk = put m.chunk r.object (Some (rs ++ r ∷ [])) }) ∙ kept
+  order_opened m r next hd ck e ih = search (rules, put_kept)
 
   ask_opened : (m : Client) (r : Request) (next : ℤ → Synced) (hd : Option HeldState)
       → ((v : ℤ) (m : Client) → opened ((settle settings t names (next v) m).client.chunk g) ≡ opened (m.chunk g))
@@ -143,55 +116,34 @@ module _ (settings : Settings) (t : Ticket) (names : List ℕ) (g : ℕ) where
 
   home_opened : (m : Client) (h : ℕ) (pl : ClientStage)
       → opened ((after_home settings t names m h pl).client.chunk g) ≡ opened (m.chunk g)
-  home_opened m h (between l) = refl
   home_opened m h (runs code) = settle_opened code (record m { held = put m.held h None })
-  home_opened m h (full k code) = refl
-  home_opened m h (awaits k code) = refl
-  home_opened m h (leaves k hs l) = refl
+  home_opened m h _ = refl
 
   sync_sent_opened : (m : Client) (pl : ClientStage)
       → opened ((after_sync settings t names m pl).client.chunk g) ≡ opened (m.chunk g)
-  sync_sent_opened m (between l) = refl
   sync_sent_opened m (runs (Done l)) = refl
-  sync_sent_opened m (runs (Call r next)) = refl
-  sync_sent_opened m (runs (Sync h next)) = refl
-  sync_sent_opened m (runs (Query r next)) = refl
-  sync_sent_opened m (full k code) = refl
-  sync_sent_opened m (awaits k code) = refl
-  sync_sent_opened m (leaves k hs l) = refl
+  sync_sent_opened m _ = refl
 
   end_opened : (m : Client) (pl : ClientStage)
       → opened ((after_end settings t names m pl).client.chunk g) ≡ opened (m.chunk g)
-  end_opened m (between l) = refl
-  end_opened m (runs code) = refl
-  end_opened m (full k code) = refl
-  end_opened m (awaits k code) = refl
   end_opened m (leaves k hs l) = leaving_opened m hs l
+  end_opened m _ = refl
 
   got_opened : (m : Client) (x : HeldState) (pl : ClientStage)
       → opened ((take_object settings t names m x pl).client.chunk g) ≡ opened (m.chunk g)
-  got_opened m x (between l) = refl
-  got_opened m x (runs code) = refl
-  got_opened m x (full k code) = refl
   got_opened m x (awaits k code) = settle_opened code (record m { held = put m.held k (Some x) })
-  got_opened m x (leaves k hs l) = refl
+  got_opened m x _ = refl
 
 -- a chunk that is sent was in hand
 module _ (settings : Settings) where
   pub call_work : (k : ℕ) (hd : Option HeldState) (ck : Option (List Request)) (h : ℕ) (p : Parcel) → chunk_in p ≡ 1
       → call_act settings k hd ck ≡ Send h p → (k ≡ h) × (rs : List Request) × (ck ≡ Some rs)
-  call_work k (Some x) ck h p one e =
-      let is : parcels.Home x ≡ p = cc in absurd (let none = ap chunk_in is in omega (arith, none, one))
-  call_work k None None h p one e = absurd (cc)
-  call_work k None (Some rs) h p one e = (cc, rs, refl)
+  call_work k hd ck h p one e = search rules
 
   pub clears_work : (k : ℕ) (hd : Option HeldState) (ck : Option (List Request)) (other : Act) (h : ℕ) (p : Parcel)
       → (other ≡ Send h p → ⊥) → chunk_in p ≡ 1
       → clear settings k hd ck other ≡ Send h p → (k ≡ h) × (rs : List Request) × (ck ≡ Some rs)
-  clears_work k (Some x) ck other h p never one e =
-      let is : parcels.Home x ≡ p = cc in absurd (let none = ap chunk_in is in omega (arith, none, one))
-  clears_work k None None other h p never one e = absurd (never e)
-  clears_work k None (Some rs) other h p never one e = (cc, rs, refl)
+  clears_work k hd ck other h p never one e = search rules
 
   pub sync_no_work : (k h : ℕ) (p : Parcel) → chunk_in p ≡ 1 → Send k parcels.Sync ≡ Send h p → ⊥
   sync_no_work k h p one e = let is : parcels.Sync ≡ p = cc in let none = ap chunk_in is in omega (arith, none, one)
@@ -204,9 +156,8 @@ module _ (settings : Settings) where
 
   pub call_need : (k : ℕ) (hd : Option HeldState) (ck : Option (List Request)) (h : ℕ)
       → call_act settings k hd ck ≡ NeedChunk h → (k ≡ h) × (ck ≡ None)
-  call_need k (Some x) ck h e = absurd (cc)
-  call_need k None (Some rs) h e = absurd (cc)
   call_need k None None h e = (cc, refl)
+  call_need k _ _ h e = absurd (cc)
 
   pub at_same : (m : Client) (h k : ℕ) (o : Option (List Request)) → k ≡ h → m.chunk k ≡ o → m.chunk h ≡ o
   at_same m h k o is e = subst (λ h. m.chunk h ≡ o) is e
@@ -214,81 +165,31 @@ module _ (settings : Settings) where
   module _ (n : ℕ) (t : Ticket) (names : List ℕ) (m : Client) (h g : ℕ) where
     work_opened : (pl : ClientStage) (p : Parcel) → chunk_in p ≡ 1 → act_at settings n m pl ≡ Send h p
         → opened ((after_work settings t names m h pl).client.chunk g) + one_at h g ≡ opened (m.chunk g)
-    work_opened (between l) p one e = absurd (outside_not_send (nat_lt m.begun n) h p e)
-    work_opened (runs (Done l)) p one e = absurd (cc)
-    work_opened (runs (Call r next)) p one e =
-        let w = call_work r.object (m.held r.object) (m.chunk r.object) h p one e in
-        ap (λ a. a + one_at h g) (settle_opened settings t names g (Call r next) (record m { chunk = put m.chunk h None }))
-        ∙ less_in_hand m.chunk h w.1 (at_same m h r.object (Some w.1) w.0 w.2) g
-    work_opened (runs (Sync k next)) p one e =
-        let w = clears_work k (m.held k) (m.chunk k) (Send k parcels.Sync) h p (sync_no_work k h p one) one e in
-        ap (λ a. a + one_at h g) (settle_opened settings t names g (Sync k next) (record m { chunk = put m.chunk h None }))
-        ∙ less_in_hand m.chunk h w.1 (at_same m h k (Some w.1) w.0 w.2) g
-    work_opened (runs (Query r next)) p one e = absurd (cc)
-    work_opened (full k rest) p one e =
-        let w = clears_work k None (m.chunk k) Finished h p (finished_no_send h p) one e in
-        ap (λ a. a + one_at h g) (settle_opened settings t names g rest (record m { chunk = put m.chunk h None }))
-        ∙ less_in_hand m.chunk h w.1 (at_same m h k (Some w.1) w.0 w.2) g
-    work_opened (awaits k rest) p one e = absurd (cc)
-    work_opened (leaves k hs l) p one e =
-        let w = clears_work k (m.held k) (m.chunk k) (Send k parcels.End) h p (end_no_work k h p one) one e in
-        less_in_hand m.chunk h w.1 (at_same m h k (Some w.1) w.0 w.2) g
+    work_opened pl p one e = search (rules, outside_not_send, call_work, settle_opened, less_in_hand, at_same, clears_work, sync_no_work, finished_no_send, end_no_work)
 
     none_sent : (a : ℕ) → a ≡ opened (m.chunk g) → a + (if h == g then 0 else 0) ≡ opened (m.chunk g)
-    none_sent a e = by_case (h == g)
-      where
-        by_case : (b : Bool) → a + (if b then 0 else 0) ≡ opened (m.chunk g)
-        by_case true = omega (arith, e)
-        by_case false = omega (arith, e)
+    none_sent a e = search rules
 
     -- with the parcel, it's as before
     sent_opened : (p : Parcel) → act_of settings n m ≡ Send h p
         → opened ((after_parcel settings t names m h p).client.chunk g) + (if h == g then chunk_in p else 0) ≡ opened (m.chunk g)
-    sent_opened (parcels.Work chunk) e = work_opened m.stage (parcels.Work chunk) refl e
-    sent_opened (parcels.Home x) e = none_sent _ (home_opened settings t names g m h m.stage)
-    sent_opened parcels.Sync e = none_sent _ (sync_sent_opened settings t names g m m.stage)
-    sent_opened parcels.End e = none_sent _ (end_opened settings t names g m m.stage)
+    sent_opened p e = search (rules, work_opened, none_sent, home_opened, sync_sent_opened, end_opened)
 
     need_opened : (pl : ClientStage) → act_at settings n m pl ≡ NeedChunk h
         → opened ((take_chunk settings t names m h pl).client.chunk g) ≡ opened (m.chunk g) + one_at h g
-    need_opened (between l) e = absurd (outside_not_need (nat_lt m.begun n) h e)
-    need_opened (runs (Done l)) e = absurd (cc)
-    need_opened (runs (Call r next)) e =
-        let w = call_need r.object (m.held r.object) (m.chunk r.object) h e in
-        settle_opened settings t names g (Call r next) (record m { chunk = put m.chunk h (Some []) }) ∙ more_in_hand m.chunk h [] (at_same m h r.object None w.0 w.1) g
-    need_opened (runs (Sync k next)) e = absurd (clears_not_need settings k (m.held k) (m.chunk k) parcels.Sync h e)
-    need_opened (runs (Query r next)) e = absurd (cc)
-    need_opened (full k rest) e = absurd (full_not_need settings k (m.chunk k) h e)
-    need_opened (awaits k rest) e = absurd (cc)
-    need_opened (leaves k hs l) e = absurd (clears_not_need settings k (m.held k) (m.chunk k) parcels.End h e)
+    need_opened pl e = search (rules, outside_not_need, call_need, settle_opened, more_in_hand, at_same, clears_not_need, full_not_need)
 
   -- who needs a chunk has none in hand
   pub needs_none : (n : ℕ) (m : Client) (pl : ClientStage) (h : ℕ) → act_at settings n m pl ≡ NeedChunk h
       → m.chunk h ≡ None
-  needs_none n m (between l) h e = absurd (outside_not_need (nat_lt m.begun n) h e)
-  needs_none n m (runs (Done l)) h e = absurd (cc)
-  needs_none n m (runs (Call r next)) h e =
-      let w = call_need r.object (m.held r.object) (m.chunk r.object) h e in at_same m h r.object None w.0 w.1
-  needs_none n m (runs (Sync k next)) h e = absurd (clears_not_need settings k (m.held k) (m.chunk k) parcels.Sync h e)
-  needs_none n m (runs (Query r next)) h e = absurd (cc)
-  needs_none n m (full k rest) h e = absurd (full_not_need settings k (m.chunk k) h e)
-  needs_none n m (awaits k rest) h e = absurd (cc)
-  needs_none n m (leaves k hs l) h e = absurd (clears_not_need settings k (m.held k) (m.chunk k) parcels.End h e)
+  needs_none n m pl h e = search (rules, outside_not_need, call_need, at_same, clears_not_need, full_not_need)
 
 -- a place that is not this one
 abbrev pub Elsewhere : ℕ → ℕ → ℕ → ℕ → Type 0
 Elsewhere c h d g = ((c == d) ≡ false) ⊎ ((h == g) ≡ false)
 
 at_each : (P : ℕ → ℕ → Type 0) (c h : ℕ) → P c h → ((d g : ℕ) → Elsewhere c h d g → P d g) → (d g : ℕ) → P d g
-at_each P c h here there d g =
-    ⊎_elim
-    (λ (is : c ≡ d).
-    ⊎_elim
-    (λ (is' : h ≡ g). subst (λ d. P d g) is (subst (λ g. P c g) is' here))
-    (λ (other : (h == g) ≡ false). there d g (inr other))
-    (num_cases h g))
-    (λ (other : (c == d) ≡ false). there d g (inl other))
-    (num_cases c d)
+at_each P c h here there d g = search (rules, num_cases)
 
 pub lane_here : {A : Type 0} (f : ℕ → ℕ → A) (c h : ℕ) (a : A) → put_lane f c h a c h ≡ a
 lane_here f c h a = put_lane_at f c h a c ∙ put_here (λ c. f c h) c a
@@ -314,40 +215,12 @@ handler_there handler c h v d g kept (inr other) = ap (λ v. to_give_back v d) (
 -- a step of a handler that changes no count of another client
 kept_by_accepting : (v w : Handler) (p : Parcel) (t : Ticket) → accept_parcel v p ≡ Some w → handlers.serving v ≡ t ∷ []
     → (to_give_back v t.client ≡ 0) × (to_give_back w t.client ≡ chunk_in p) × ((d : ℕ) → (t.client == d) ≡ false → to_give_back w d ≡ to_give_back v d)
-kept_by_accepting (serves u x) w (parcels.Work chunk) t e one =
-    let is : spares u _ chunk.capacity ≡ w = some_is _ w e in
-    let same : u ≡ t = cc in
-    let own : (u.client == t.client) ≡ true = subst (λ (t : Ticket). (u.client == t.client) ≡ true) same (eqb_self u.client) in (
-      refl,
-      subst (λ w. to_give_back w t.client ≡ 1) is (rw own refl),
-      λ d other. subst (λ w. to_give_back w d ≡ 0) is (let other' : (u.client == d) ≡ false = ap (λ (t : Ticket). t.client == d) same ∙ other in rw other' refl),
-    )
-kept_by_accepting (serves u x) w parcels.Sync t e one =
-    let is : gives u x ≡ w = some_is _ w e in
-    (refl, subst (λ w. to_give_back w t.client ≡ 0) is refl, λ d other. subst (λ w. to_give_back w d ≡ 0) is refl)
-kept_by_accepting (serves u x) w parcels.End t e one =
-    let is : free x ≡ w = some_is _ w e in
-    (refl, subst (λ w. to_give_back w t.client ≡ 0) is refl, λ d other. subst (λ w. to_give_back w d ≡ 0) is refl)
-kept_by_accepting (serves u x) w (parcels.Home z) t e one = absurd (cc (e))
-kept_by_accepting (away u) w (parcels.Home z) t e one =
-    let is : serves u z ≡ w = some_is _ w e in
-    (refl, subst (λ w. to_give_back w t.client ≡ 0) is refl, λ d other. subst (λ w. to_give_back w d ≡ 0) is refl)
-kept_by_accepting (away u) w (parcels.Work chunk) t e one = absurd (cc (e))
-kept_by_accepting (away u) w parcels.Sync t e one = absurd (cc (e))
-kept_by_accepting (away u) w parcels.End t e one = absurd (cc (e))
-kept_by_accepting (free x) w p t e one = absurd (cc (one))
-kept_by_accepting (spares u x n) w p t e one = absurd (cc (e))
-kept_by_accepting (gives u x) w p t e one = absurd (cc (e))
-kept_by_accepting (closed x) w p t e one = absurd (cc (one))
+kept_by_accepting v w p t e one = search (rules, some_is, eqb_self)
 
 kept_by_ticket : (v w : Handler) (t : Ticket) → accept_next v (nexts.Ticket t) ≡ Some w → (d : ℕ)
     → to_give_back w d ≡ to_give_back v d
 kept_by_ticket (free x) w t e d = subst (λ w. to_give_back w d ≡ 0) (some_is (serves t x) w e) refl
-kept_by_ticket (serves u x) w t e d = absurd (cc (e))
-kept_by_ticket (spares u x n) w t e d = absurd (cc (e))
-kept_by_ticket (gives u x) w t e d = absurd (cc (e))
-kept_by_ticket (away u) w t e d = absurd (cc (e))
-kept_by_ticket (closed x) w t e d = absurd (cc (e))
+kept_by_ticket _ w t e d = absurd (cc (e))
 
 module _ (code : ℕ → ClientCode) (size : ℕ) where
   module _ (s : Core) (k : FourChunks s) where
@@ -361,160 +234,49 @@ module _ (code : ℕ → ClientCode) (size : ℕ) where
     -- the client alone changes, and what it has in hand stays
     client_kept : (c : ℕ) (m : Client) → ((g : ℕ) → opened (m.chunk g) ≡ opened ((s.client c).chunk g))
         → AllFour (put s.client c m) s.down s.handler s.spare
-    client_kept c m kept d g =
-        let old = k d g in
-        let hand : opened ((put s.client c m d).chunk g) ≡ opened ((s.client d).chunk g) = put_kept (λ (m : Client). opened (m.chunk g)) s.client c m (kept g) d in
-        omega (arith, old, hand)
+    client_kept c m kept d g = search (rules, kept, put_kept)
 
     -- it sends
     sent_four : (c h : ℕ) (p : Parcel) (m : Client)
         → ((g : ℕ) → opened (m.chunk g) + (if h == g then chunk_in p else 0) ≡ opened ((s.client c).chunk g))
         → AllFour (put s.client c m) (put_lane s.down c h (s.down c h ++ p ∷ [])) s.handler s.spare
-    sent_four c h p m sent =
-        at_each (λ d g. lane_chunks (put s.client c m) (put_lane s.down c h (s.down c h ++ p ∷ [])) s.handler s.spare d g ≡ 4) c h here there
-      where
-        now : opened (m.chunk h) + chunk_in p ≡ opened ((s.client c).chunk h)
-        now = ap (λ b. opened (m.chunk h) + (if b then chunk_in p else 0)) (sym (eqb_self h)) ∙ sent h
-
-        here : lane_chunks (put s.client c m) (put_lane s.down c h (s.down c h ++ p ∷ [])) s.handler s.spare c h ≡ 4
-        here =
-            let old = k c h in
-            let hand : opened ((put s.client c m c).chunk h) ≡ opened (m.chunk h) = ap (λ (m : Client). opened (m.chunk h)) (put_here s.client c m) in
-            let way : chunks_in (put_lane s.down c h (s.down c h ++ p ∷ []) c h) ≡ chunks_in (s.down c h) + chunk_in p = ap chunks_in (lane_here s.down c h (s.down c h ++ p ∷ [])) ∙ chunks_more (s.down c h) p in
-            let both = now in
-            omega (arith, old, hand, way, both)
-
-        apart : (g : ℕ) → (h == g) ≡ false → opened (m.chunk g) ≡ opened ((s.client c).chunk g)
-        apart g other =
-            let both : opened (m.chunk g) + 0 ≡ opened ((s.client c).chunk g) = ap (λ b. opened (m.chunk g) + (if b then chunk_in p else 0)) (sym other) ∙ sent g in omega (arith, both)
-
-        there : (d g : ℕ) → Elsewhere c h d g
-            → lane_chunks (put s.client c m) (put_lane s.down c h (s.down c h ++ p ∷ [])) s.handler s.spare d g ≡ 4
-        there d g other =
-            let old = k d g in
-            let hand = client_there s.client c h m d g (apart g) other in
-            let way = ap chunks_in (lane_there s.down c h (s.down c h ++ p ∷ []) d g other) in
-            omega (arith, old, hand, way)
+    sent_four c h p m sent = search (rules, at_each, eqb_self, put_here, lane_here, chunks_more, client_there, lane_there)
 
     -- it takes an empty chunk
     taken_four : (c h n : ℕ) (m : Client) → s.spare c h ≡ suc n
         → ((g : ℕ) → opened (m.chunk g) ≡ opened ((s.client c).chunk g) + one_at h g)
         → AllFour (put s.client c m) s.down s.handler (put_lane s.spare c h n)
-    taken_four c h n m some taken =
-        at_each (λ d g. lane_chunks (put s.client c m) s.down s.handler (put_lane s.spare c h n) d g ≡ 4) c h here there
-      where
-        now : opened (m.chunk h) ≡ opened ((s.client c).chunk h) + 1
-        now = taken h ∙ ap (λ b. opened ((s.client c).chunk h) + (if b then 1 else 0)) (eqb_self h)
-
-        here : lane_chunks (put s.client c m) s.down s.handler (put_lane s.spare c h n) c h ≡ 4
-        here =
-            let old = k c h in
-            let hand : opened ((put s.client c m c).chunk h) ≡ opened (m.chunk h) = ap (λ (m : Client). opened (m.chunk h)) (put_here s.client c m) in
-            let left = lane_here s.spare c h n in
-            let both = now in
-            omega (arith, old, hand, left, both, some)
-
-        apart : (g : ℕ) → (h == g) ≡ false → opened (m.chunk g) ≡ opened ((s.client c).chunk g)
-        apart g other =
-            let both : opened (m.chunk g) ≡ opened ((s.client c).chunk g) + 0 = taken g ∙ ap (λ b. opened ((s.client c).chunk g) + (if b then 1 else 0)) other in omega (arith, both)
-
-        there : (d g : ℕ) → Elsewhere c h d g
-            → lane_chunks (put s.client c m) s.down s.handler (put_lane s.spare c h n) d g ≡ 4
-        there d g other =
-            let old = k d g in
-            let hand = client_there s.client c h m d g (apart g) other in
-            let left = lane_there s.spare c h n d g other in
-            omega (arith, old, hand, left)
-
-    abbrev now : ℕ → Ticket
-    now c = ticket c ((s.client c).begun - 1)
+    taken_four c h n m some taken = search (rules, at_each, eqb_self, put_here, lane_here, client_there, lane_there)
 
     send_keeps : (c h : ℕ) (p : Parcel) (s' : Core) → asks_for c ≡ Send h p → core.sends code size s c h p ≡ Some s'
         → FourChunks s'
-    send_keeps c h p s' act e =
-        one_of (nat_lt (length (s.down c h)) lane_room) _ s' e
-        (sent_four c h p (after_parcel (settings_of code size c) (now c) (reserved_of code (now c)) (s.client c) h p).client
-        (λ g. sent_opened (settings_of code size c) (blocks_in code c) (now c) (reserved_of code (now c)) (s.client c) h g p act))
+    send_keeps c h p s' act e = search (rules, one_of, sent_four, sent_opened)
 
     get_keeps : (c h : ℕ) (o : Option HeldState) (s' : Core) → gets code size s c h o ≡ Some s' → FourChunks s'
-    get_keeps c h None s' e = absurd (cc)
-    get_keeps c h (Some x) s' e =
-        subst FourChunks (some_is _ s' e)
-        (client_kept c (take_object (settings_of code size c) (now c) (reserved_of code (now c)) (s.client c) x (s.client c).stage).client
-        (λ g. got_opened (settings_of code size c) (now c) (reserved_of code (now c)) g (s.client c) x (s.client c).stage))
+    get_keeps c h o s' e = search (rules, some_is, client_kept, got_opened)
 
     chunk_keeps : (c h n : ℕ) (s' : Core) → s.spare c h ≡ n → asks_for c ≡ NeedChunk h
         → takes_chunk code size s c h n ≡ Some s' → FourChunks s'
-    chunk_keeps c h zero s' some act e = absurd (cc)
-    chunk_keeps c h (suc n) s' some act e =
-        subst FourChunks (some_is _ s' e)
-        (taken_four c h n (take_chunk (settings_of code size c) (now c) (reserved_of code (now c)) (s.client c) h (s.client c).stage).client some
-        (λ g. need_opened (settings_of code size c) (blocks_in code c) (now c) (reserved_of code (now c)) (s.client c) h g (s.client c).stage act))
+    chunk_keeps c h n s' some act e = search (rules, some_is, taken_four, need_opened)
 
     reserve_keeps : (c : ℕ) (pl : ClientStage) (s' : Core) → reserves_from code size s c pl ≡ Some s' → FourChunks s'
-    reserve_keeps c (between l) s' e =
-        let t : Ticket = ticket c (s.client c).begun in
-        let r : Settlement = begin (settings_of code size c) t (reserved_of code t) (s.client c) (synced_block code t l) in
-        subst FourChunks (some_is _ s' e)
-        (client_kept c r.client
-        (λ g. settle_opened (settings_of code size c) t (reserved_of code t) g (synced_block code t l) (record (s.client c) { begun = suc (s.client c).begun })))
-    reserve_keeps c (runs rest) s' e = absurd (cc)
-    reserve_keeps c (full h rest) s' e = absurd (cc)
-    reserve_keeps c (awaits h rest) s' e = absurd (cc)
-    reserve_keeps c (leaves h hs l) s' e = absurd (cc)
+    reserve_keeps c pl s' e = search (rules, some_is, client_kept, settle_opened)
 
     client_acts : (c : ℕ) (act : Act) (s' : Core) → asks_for c ≡ act → client_step code size s c act ≡ Some s'
         → FourChunks s'
-    client_acts c Reserve s' act e = reserve_keeps c (s.client c).stage s' e
-    client_acts c (Send h p) s' act e = send_keeps c h p s' act e
-    client_acts c (Await h) s' act e = get_keeps c h (s.up c h) s' e
-    client_acts c (NeedChunk h) s' act e = chunk_keeps c h (s.spare c h) s' refl act e
-    client_acts c Finished s' act e = absurd (cc)
+    client_acts c act s' act' e = search (rules, reserve_keeps, send_keeps, get_keeps, chunk_keeps)
 
     -- the handler alone changes, and what it is to give back stays
     handler_kept : (h : ℕ) (v : Handler) → ((d : ℕ) → to_give_back v d ≡ to_give_back (s.handler h) d)
         → AllFour s.client s.down (put s.handler h v) s.spare
-    handler_kept h v kept d g =
-        let old = k d g in
-        let hand : to_give_back (put s.handler h v g) d ≡ to_give_back (s.handler g) d = put_kept (λ (v : Handler). to_give_back v d) s.handler h v (kept d) g in
-        omega (arith, old, hand)
+    handler_kept h v kept d g = search (rules, kept, put_kept)
 
     ticket_keeps : (h : ℕ) (ts : List Ticket) (s' : Core) → takes_ticket code size s h ts ≡ Some s' → FourChunks s'
-    ticket_keeps h [] s' e = absurd (cc)
-    ticket_keeps h (t ∷ ts) s' e = by_next (accept_next (s.handler h) (nexts.Ticket t)) refl e
-      where
-        by_next : (o : Option Handler) → accept_next (s.handler h) (nexts.Ticket t) ≡ o
-            → after_handler code size (with_tickets code size s h ts) h o ≡ Some s' → FourChunks s'
-        by_next None o e = absurd (cc)
-        by_next (Some v) o e =
-            subst FourChunks (some_is _ s' e) (handler_kept h v (λ d. kept_by_ticket (s.handler h) v t o d))
+    ticket_keeps h ts s' e = search (rules, some_is, handler_kept, kept_by_ticket)
 
     parcel_keeps : (h : ℕ) (t : Ticket) (ps : List Parcel) (s' : Core) → handlers.serving (s.handler h) ≡ t ∷ []
         → s.down t.client h ≡ ps → takes_parcel code size s h t.client ps ≡ Some s' → FourChunks s'
-    parcel_keeps h t [] s' one lies e = absurd (cc)
-    parcel_keeps h t (p ∷ ps) s' one lies e = by_next (accept_parcel (s.handler h) p) refl e
-      where
-        by_next : (o : Option Handler) → accept_parcel (s.handler h) p ≡ o
-            → after_handler code size (with_down code size s t.client h ps) h o ≡ Some s' → FourChunks s'
-        by_next None o e = absurd (cc)
-        by_next (Some v) o e =
-            subst FourChunks (some_is _ s' e)
-            (at_each (λ d g. lane_chunks s.client (put_lane s.down t.client h ps) (put s.handler h v) s.spare d g ≡ 4) t.client h
-            (let old = k t.client h in
-            let lane = ap chunks_in lies in
-            let way = ap chunks_in (lane_here s.down t.client h ps) in
-            let hand = ap (λ v. to_give_back v t.client) (put_here s.handler h v) in
-            let before = kept.0 in
-            let after = kept.1 in
-            omega (arith, old, lane, way, hand, before, after))
-            (λ d g other.
-            let old = k d g in
-            let way = ap chunks_in (lane_there s.down t.client h ps d g other) in
-            let hand = handler_there s.handler t.client h v d g (kept.2 d) other in
-            omega (arith, old, way, hand)))
-          where
-            kept : (to_give_back (s.handler h) t.client ≡ 0) × (to_give_back v t.client ≡ chunk_in p) × ((d : ℕ) → (t.client == d) ≡ false → to_give_back v d ≡ to_give_back (s.handler h) d)
-            kept = kept_by_accepting (s.handler h) v p t o one
+    parcel_keeps h t ps s' one lies e = search (rules, some_is, at_each, lane_here, put_here, lane_there, handler_there, kept_by_accepting)
 
     give_keeps : (h : ℕ) (t : Ticket) (x : HeldState) (o : Option HeldState) (s' : Core) → s.handler h ≡ gives t x
         → core.gives code size s h t.client x o ≡ Some s' → FourChunks s'
@@ -524,23 +286,7 @@ module _ (code : ℕ → ClientCode) (size : ℕ) where
 
     spare_keeps : (h : ℕ) (t : Ticket) (x : HeldState) (n : ℕ) (s' : Core) → s.handler h ≡ spares t x n
         → gives_chunk code size s h t.client ≡ Some s' → FourChunks s'
-    spare_keeps h t x n s' v e =
-        one_of (nat_lt (s.spare t.client h) spare_room) _ s' e
-        (at_each (λ d g. lane_chunks s.client s.down (put s.handler h (gave (s.handler h))) (put_lane s.spare t.client h (suc (s.spare t.client h))) d g ≡ 4) t.client h
-        (let old = k t.client h in
-        let before : to_give_back (s.handler h) t.client ≡ 1 = ap (λ v. to_give_back v t.client) v ∙ ap (λ b. if b then 1 else 0) (eqb_self t.client) in
-        let after : to_give_back (put s.handler h (gave (s.handler h)) h) t.client ≡ 0 = ap (λ v. to_give_back v t.client) (put_here s.handler h (gave (s.handler h))) ∙ ap (λ v. to_give_back (gave v) t.client) v in
-        let left = lane_here s.spare t.client h (suc (s.spare t.client h)) in
-        omega (arith, old, before, after, left))
-        (λ d g other.
-        let old = k d g in
-        let left = lane_there s.spare t.client h (suc (s.spare t.client h)) d g other in
-        let hand = handler_there s.handler t.client h (gave (s.handler h)) d g (kept d) other in
-        omega (arith, old, left, hand)))
-      where
-        kept : (d : ℕ) → (t.client == d) ≡ false → to_give_back (gave (s.handler h)) d ≡ to_give_back (s.handler h) d
-        kept d other =
-            ap (λ v. to_give_back (gave v) d) v ∙ sym (ap (λ v. to_give_back v d) v ∙ ap (λ b. if b then 1 else 0) other)
+    spare_keeps h t x n s' v e = search (rules, one_of, at_each, eqb_self, put_here, lane_here, lane_there, handler_there)
 
     handler_acts : (h : ℕ) (v : Handler) (s' : Core) → s.handler h ≡ v
         → handler_step code size s h (handlers_audit.act_of v) ≡ Some s' → FourChunks s'

@@ -3,13 +3,13 @@
 -- its way home, and a command at most a chunk. An object that it holds counts two, for its way home; an open chunk
 -- three; and each object of the list two, for its end. What a client does to its own values takes nothing more, and
 -- each of its acts, with what a handler makes of the parcel, is paid.
-use Rattle.std.proofs.Common.{◌≡◌, ◌≤◌, ◌+◌, ◌*◌, ◌-◌, ◌==◌, ◌&&◌, is_some, nat_lt, ℕ, suc, ℤ, Bool, true, false, if◌then◌else◌, List, [], ◌∷◌, ◌++◌, Option, Some, None, length, refl, sym, ap, subst, arith}
+use Rattle.std.proofs.Common.{◌≡◌, ◌≤◌, ◌+◌, ◌*◌, ◌-◌, ◌==◌, ◌&&◌, is_some, nat_lt, ℕ, suc, ℤ, Bool, true, false, if◌then◌else◌, List, [], ◌∷◌, ◌++◌, Option, Some, None, length, refl, sym, ap, subst, arith, rules}
 use Rattle.qs_objects.specs.audit.Journals.{HeldState, run_one}
 use Rattle.qs_objects.specs.declared.held.Ticket.{Ticket}
 use Rattle.qs_objects.specs.declared.Request.{Request}
 use Rattle.qs_program.specs.audit.Sound.{is_in}
 use Rattle.qs_program.specs.audit.Values.{Locals}
-use Rattle.qs_meaning.specs.audit.Solo.{put, value_of}
+use Rattle.qs_meaning.specs.audit.Solo.{value_of}
 use Rattle.qs_meaning.proofs.TreeWalks.{put_here, put_there}
 use Rattle.qs_graph.specs.audit.Synced.{Synced, Done, Call, Sync, Query}
 use Rattle.qs_graph.specs.Synced.{without_syncs}
@@ -40,18 +40,16 @@ hand m h = held_cost (m.held h) + chunk_cost (m.chunk h)
 
 -- a parcel in a lane: it is taken, and what it asks for is given
 abbrev pub parcel_cost : Parcel → ℕ
-parcel_cost (parcels.Work chunk) = 2
-parcel_cost parcels.Sync = 2
 parcel_cost (parcels.Home x) = 1
 parcel_cost parcels.End = 1
+parcel_cost _ = 2
 
 -- so many requests can still be made; after a Sync the query is the next
 abbrev pub Needs : ClientStage → ℕ → Type 0
-Needs (between l) n = Unit {0}
 Needs (runs rest) n = AtMost (without_syncs rest) n × IsAsking rest
 Needs (full h rest) n = AtMost (without_syncs rest) n × IsAsking rest
 Needs (awaits h rest) n = AtMost (without_syncs rest) (suc n) × IsAsking rest × IsQueryOf h rest
-Needs (leaves h hs l) n = Unit {0}
+Needs _ n = Unit {0}
 
 -- in a block with this list
 module _ (names : List ℕ) where
@@ -63,10 +61,9 @@ module _ (names : List ℕ) where
 
   abbrev pub place_cost : Client → ℕ → ClientStage → ℕ
   place_cost m n (between l) = 0
-  place_cost m n (runs rest) = in_block n m
-  place_cost m n (full h rest) = in_block n m
   place_cost m n (awaits h rest) = in_block n m + 3
   place_cost m n (leaves h hs l) = hands m + 2 * suc (length hs)
+  place_cost m n _ = in_block n m
 
   -- who has come to this has e fewer left than b
   pub record Falls (m : Client) (e b : ℕ) : Type 0 where
@@ -81,17 +78,11 @@ module _ (names : List ℕ) where
   -- what is in hand changes at one object
   module _ (may : ℕ → Bool) (lined : Lined may names) (m : Client) (h : ℕ) (mine : is_in names h ≡ true) where
     held_changed : (o : Option HeldState) → hands (set_held m h o) + held_cost (m.held h) ≡ hands m + held_cost o
-    held_changed o =
-        let all = total_changed may (hand m) (hand (set_held m h o)) h names lined (λ i other. ap (λ x. held_cost x + chunk_cost (m.chunk i)) (put_there m.held h o i other)) mine in
-        let here : held_cost (put m.held h o h) ≡ held_cost o = ap held_cost (put_here m.held h o) in
-        omega (arith, all, here)
+    held_changed o = search (rules, total_changed, put_there, put_here)
 
     chunk_changed : (o : Option (List Request))
         → hands (set_chunk m h o) + chunk_cost (m.chunk h) ≡ hands m + chunk_cost o
-    chunk_changed o =
-        let all = total_changed may (hand m) (hand (set_chunk m h o)) h names lined (λ i other. ap (λ x. held_cost (m.held i) + chunk_cost x) (put_there m.chunk h o i other)) mine in
-        let here : chunk_cost (put m.chunk h o h) ≡ chunk_cost o = ap chunk_cost (put_here m.chunk h o) in
-        omega (arith, all, here)
+    chunk_changed o = search (rules, total_changed, put_there, put_here)
 
   held_still : (m : Client) (h : ℕ) (o : Option HeldState) → held_cost o ≡ held_cost (m.held h)
       → hands (set_held m h o) ≡ hands m
@@ -137,10 +128,9 @@ module _ (names : List ℕ) where
         → m.chunk r.object ≡ ck
         → AtMost (without_syncs (Call r next)) n → IsAsking next → Goes next
         → Falls (call settings t names m r next (λ m. settle settings t names next m) hd ck).client 0 (in_block n m)
-    call_falls m r next (Some x) ck n e most asking ih = record { need = n; needs = (most, asking); fits = omega arith }
-    call_falls m r next None None n e most asking ih = record { need = n; needs = (most, asking); fits = omega arith }
     call_falls m r next None (Some rs) n e most asking ih =
         falls_by _ 0 (in_block (n - 1) m) 0 (in_block n m) (omega arith) (call_open m r next rs (n - 1) e most.1 asking ih)
+    call_falls m r next _ _ n e most asking ih = record { need = n; needs = (most, asking); fits = omega arith }
 
     query_open : (m : Client) (r : Request) (next : ℤ → Synced) (x : HeldState) (n : ℕ) → m.held r.object ≡ Some x
         → ((v : ℤ) → AtMost (without_syncs (next v)) n) → ((v : ℤ) → IsAsking (next v)) → ((v : ℤ) → Goes (next v))
@@ -197,27 +187,23 @@ module _ (names : List ℕ) where
 
     call_no_sync : (k : ℕ) (hd : Option HeldState) (ck : Option (List Request)) (h : ℕ)
         → call_act settings k hd ck ≡ Send h parcels.Sync → ⊥
-    call_no_sync k (Some z) ck h e = cc
     call_no_sync k None None h e = cc
-    call_no_sync k None (Some rs) h e = cc
+    call_no_sync k _ _ h e = cc
 
     call_no_end : (k : ℕ) (hd : Option HeldState) (ck : Option (List Request)) (h : ℕ)
         → call_act settings k hd ck ≡ Send h parcels.End → ⊥
-    call_no_end k (Some z) ck h e = cc
     call_no_end k None None h e = cc
-    call_no_end k None (Some rs) h e = cc
+    call_no_end k _ _ h e = cc
 
     clears_no_end : (k : ℕ) (hd : Option HeldState) (ck : Option (List Request)) (h : ℕ)
         → clear settings k hd ck (Send k parcels.Sync) ≡ Send h parcels.End → ⊥
-    clears_no_end k (Some z) ck h e = cc
     clears_no_end k None None h e = cc
-    clears_no_end k None (Some rs) h e = cc
+    clears_no_end k _ _ h e = cc
 
     clears_no_sync : (k : ℕ) (hd : Option HeldState) (ck : Option (List Request)) (h : ℕ)
         → clear settings k hd ck (Send k parcels.End) ≡ Send h parcels.Sync → ⊥
-    clears_no_sync k (Some z) ck h e = cc
     clears_no_sync k None None h e = cc
-    clears_no_sync k None (Some rs) h e = cc
+    clears_no_sync k _ _ h e = cc
 
     full_no_sync : (k : ℕ) (ck : Option (List Request)) (h : ℕ)
         → clear settings k None ck Finished ≡ Send h parcels.Sync → ⊥
@@ -257,21 +243,19 @@ module _ (names : List ℕ) where
           → act_at settings blocks m pl ≡ Send h (parcels.Home x)
           → Falls (after_home settings t names m h pl).client 2 (place_cost m n pl)
       home_falls (between l) n x needs e = absurd (outside_not_send (nat_lt m.begun blocks) h (parcels.Home x) e)
-      home_falls (runs (Done l)) n x needs e = absurd (cc)
       home_falls (runs (Call r next)) n x needs e =
           let w = call_home r.object (m.held r.object) (m.chunk r.object) h x e in
           home_rest (Call r next) n w.1 (held_same m h r.object (Some w.1) w.0 w.2) needs
       home_falls (runs (Sync k next)) n x needs e =
           let w = clears_home k (m.held k) (m.chunk k) (Send k parcels.Sync) h x (sync_no_home k h x) e in
           home_rest (Sync k next) n w.1 (held_same m h k (Some w.1) w.0 w.2) needs
-      home_falls (runs (Query r next)) n x needs e = absurd (cc)
       home_falls (full k rest) n x needs e = absurd (full_no_home k (m.chunk k) h x e)
-      home_falls (awaits k rest) n x needs e = absurd (cc)
       home_falls (leaves k hs l) n x needs e =
           let w = clears_home k (m.held k) (m.chunk k) (Send k parcels.End) h x (end_no_home k h x) e in
           let fewer = held_changed may lined m h mine None in
           let here : held_cost (m.held h) ≡ 2 = ap held_cost (held_same m h k (Some w.1) w.0 w.2) in
           record { need = n; needs = tt; fits = omega (arith, fewer, here) }
+      home_falls _ n x needs e = absurd (cc)
 
       -- it sends a chunk
       work_rest : (rest : Synced) (n : ℕ) (rs : List Request) → m.chunk h ≡ Some rs → Needs (runs rest) n
@@ -286,23 +270,21 @@ module _ (names : List ℕ) where
           → Falls (after_work settings t names m h pl).client 3 (place_cost m n pl)
       work_falls (between l) n chunk needs e =
           absurd (outside_not_send (nat_lt m.begun blocks) h (parcels.Work chunk) e)
-      work_falls (runs (Done l)) n chunk needs e = absurd (cc)
       work_falls (runs (Call r next)) n chunk needs e =
           let w = call_work settings r.object (m.held r.object) (m.chunk r.object) h (parcels.Work chunk) refl e in
           work_rest (Call r next) n w.1 (at_same settings m h r.object (Some w.1) w.0 w.2) needs
       work_falls (runs (Sync k next)) n chunk needs e =
           let w = clears_work settings k (m.held k) (m.chunk k) (Send k parcels.Sync) h (parcels.Work chunk) (sync_no_work settings k h (parcels.Work chunk) refl) refl e in
           work_rest (Sync k next) n w.1 (at_same settings m h k (Some w.1) w.0 w.2) needs
-      work_falls (runs (Query r next)) n chunk needs e = absurd (cc)
       work_falls (full k rest) n chunk needs e =
           let w = clears_work settings k None (m.chunk k) Finished h (parcels.Work chunk) (finished_no_send settings h (parcels.Work chunk)) refl e in
           work_rest rest n w.1 (at_same settings m h k (Some w.1) w.0 w.2) needs
-      work_falls (awaits k rest) n chunk needs e = absurd (cc)
       work_falls (leaves k hs l) n chunk needs e =
           let w = clears_work settings k (m.held k) (m.chunk k) (Send k parcels.End) h (parcels.Work chunk) (end_no_work settings k h (parcels.Work chunk) refl) refl e in
           let fewer = chunk_changed may lined m h mine None in
           let here : chunk_cost (m.chunk h) ≡ 3 = ap chunk_cost (at_same settings m h k (Some w.1) w.0 w.2) in
           record { need = n; needs = tt; fits = omega (arith, fewer, here) }
+      work_falls _ n chunk needs e = absurd (cc)
 
       -- it asks for an object
       asked_falls : (k : ℕ) (next : Synced) (n : ℕ) → AtMost (without_syncs next) n → IsQueryOf k next → IsAsking next
@@ -311,34 +293,22 @@ module _ (names : List ℕ) where
           let one = most.0 in
           let same : n ≡ suc (n - 1) = omega (arith, one) in
           record { need = n - 1; needs = (subst (λ n. AtMost (without_syncs (Query r next)) n) same most, asking, of); fits = omega (arith, one) }
-      asked_falls k (Done l) n most of asking = absurd of
-      asked_falls k (Call r next) n most of asking = absurd of
-      asked_falls k (Sync g next) n most of asking = absurd of
+      asked_falls k _ n most of asking = absurd of
 
       sync_sent_falls : (pl : ClientStage) (n : ℕ) → Needs pl n → act_at settings blocks m pl ≡ Send h parcels.Sync
           → Falls (after_sync settings t names m pl).client 3 (place_cost m n pl)
-      sync_sent_falls (between l) n needs e = absurd (outside_not_send (nat_lt m.begun blocks) h parcels.Sync e)
-      sync_sent_falls (runs (Done l)) n needs e = absurd (cc)
-      sync_sent_falls (runs (Call r next)) n needs e =
-          absurd (call_no_sync r.object (m.held r.object) (m.chunk r.object) h e)
-      sync_sent_falls (runs (Sync k next)) n needs e = asked_falls k next n needs.0 needs.1.0 needs.1.1
-      sync_sent_falls (runs (Query r next)) n needs e = absurd (cc)
-      sync_sent_falls (full k rest) n needs e = absurd (full_no_sync k (m.chunk k) h e)
-      sync_sent_falls (awaits k rest) n needs e = absurd (cc)
-      sync_sent_falls (leaves k hs l) n needs e = absurd (clears_no_sync k (m.held k) (m.chunk k) h e)
+      sync_sent_falls pl n needs e = search (rules, outside_not_send, call_no_sync, asked_falls, full_no_sync, clears_no_sync)
 
       -- it leaves an object
       end_falls : (pl : ClientStage) (n : ℕ) → Needs pl n → act_at settings blocks m pl ≡ Send h parcels.End
           → Falls (after_end settings t names m pl).client 2 (place_cost m n pl)
       end_falls (between l) n needs e = absurd (outside_not_send (nat_lt m.begun blocks) h parcels.End e)
-      end_falls (runs (Done l)) n needs e = absurd (cc)
       end_falls (runs (Call r next)) n needs e = absurd (call_no_end r.object (m.held r.object) (m.chunk r.object) h e)
       end_falls (runs (Sync k next)) n needs e = absurd (clears_no_end k (m.held k) (m.chunk k) h e)
-      end_falls (runs (Query r next)) n needs e = absurd (cc)
       end_falls (full k rest) n needs e = absurd (full_no_end k (m.chunk k) h e)
-      end_falls (awaits k rest) n needs e = absurd (cc)
       end_falls (leaves k hs l) n needs e =
           falls_by _ 0 (hands m + 2 * length hs) 2 (place_cost m n (leaves k hs l)) (omega arith) (leaving_falls m hs l)
+      end_falls _ n needs e = absurd (cc)
 
       -- whatever it sends
       pub sent_falls : (n : ℕ) (p : Parcel) → Needs m.stage n → act_of settings blocks m ≡ Send h p
@@ -360,9 +330,7 @@ module _ (names : List ℕ) where
           falls_by _ 0 (in_block n m') 1 (in_block n m + 3) (omega (arith, more))
           (subst (λ hd. Falls (query settings t names m' r next (λ v m. settle settings t names (next v) m) hd).client 0 (in_block n m')) (sym has)
           (query_open m' r next x n has most' asking (λ v. settle_falls (next v))))
-      got_rest (Done l) n x most of asking = absurd of
-      got_rest (Call r next) n x most of asking = absurd of
-      got_rest (Sync k next) n x most of asking = absurd of
+      got_rest _ n x most of asking = absurd of
 
       pub got_falls : (pl : ClientStage) (n : ℕ) (x : HeldState) → ((rest : Synced) → pl ≡ runs rest → Stops rest)
           → Needs pl n → act_at settings blocks m pl ≡ Await h
@@ -386,7 +354,6 @@ module _ (names : List ℕ) where
       pub need_falls : (pl : ClientStage) (n : ℕ) → Needs pl n → act_at settings blocks m pl ≡ NeedChunk h
           → Falls (take_chunk settings t names m h pl).client 1 (place_cost m n pl)
       need_falls (between l) n needs e = absurd (outside_not_need (nat_lt m.begun blocks) h e)
-      need_falls (runs (Done l)) n needs e = absurd (cc)
       need_falls (runs (Call r next)) n needs e =
           let w = call_need settings r.object (m.held r.object) (m.chunk r.object) h e in
           let m' = set_chunk m h (Some []) in
@@ -400,7 +367,6 @@ module _ (names : List ℕ) where
           (call_open m' r next [] (n - 1) has needs.0.1 needs.1 (settle_falls next))))
       need_falls (runs (Sync k next)) n needs e =
           absurd (clears_not_need settings k (m.held k) (m.chunk k) parcels.Sync h e)
-      need_falls (runs (Query r next)) n needs e = absurd (cc)
       need_falls (full k rest) n needs e = absurd (full_not_need settings k (m.chunk k) h e)
-      need_falls (awaits k rest) n needs e = absurd (cc)
       need_falls (leaves k hs l) n needs e = absurd (clears_not_need settings k (m.held k) (m.chunk k) parcels.End h e)
+      need_falls _ n needs e = absurd (cc)

@@ -1,7 +1,7 @@
 -- Where all is finished nobody has a step: each client stands behind its last block, and each handler is free with no
 -- ticket before it. So enough rounds finish, as for every machine that is never stuck and makes few steps (`Rounds` of
 -- `qs_plain_laws`).
-use Rattle.std.proofs.Common.{◌≡◌, ◌<◌, ◌≤◌, ◌∙◌, ◌&&◌, ⊎_elim, ℕ, zero, suc, ◌+◌, ◌==◌, Bool, true, false, true≢false, if◌then◌else◌, nat_eq, nat_lt, List, [], ◌∷◌, None, Ok, length, refl, sym, ap, subst, arith}
+use Rattle.std.proofs.Common.{◌≡◌, ◌<◌, ◌≤◌, ◌∙◌, ◌&&◌, ⊎_elim, ℕ, zero, suc, ◌+◌, ◌==◌, Bool, true, false, true≢false, nat_eq, nat_lt, List, [], ◌∷◌, None, Ok, length, refl, sym, ap, subst, arith, rules}
 use Rattle.std.specs.List.{range_with_len}
 use Rattle.qs_objects.specs.declared.held.Ticket.{Ticket}
 use Rattle.qs_objects.proofs.Choices.{and_cases, apart_eqb, num_cases}
@@ -12,9 +12,9 @@ use Rattle.qs_syncset.specs.audit.Codes.{ClientCode, AreCodes, blocks_in}
 use Rattle.qs_handler.specs.audit.Handler.{Handler, free, serves, spares, gives, away, closed, is_free}
 use Rattle.qs_handler.specs.audit.Handler as handlers
 use Rattle.qs_client.specs.audit.ClientModel.{is_between}
-use Rattle.qs_client.specs.audit.rules.Client.{ClientStage, between, runs, full, awaits, leaves, act_of}
+use Rattle.qs_client.specs.audit.rules.Client.{ClientStage, act_of}
 use Rattle.qs_client.specs.declared.rules.act.Act.{Act}
-use Rattle.qs_client.specs.declared.rules.act.Act.TheVariants.{Reserve, Finished}
+use Rattle.qs_client.specs.declared.rules.act.Act.TheVariants.{Finished}
 use Rattle.qs_played.specs.audit.Played.{Played}
 use Rattle.qs_played.specs.audit.Schedule.{most_rounds}
 use Rattle.qs_played.specs.declared.schedule.actor.Actor.{Actor}
@@ -59,14 +59,7 @@ module _ (p : ProgramShape) (sound : IsSound p) (mode : Mode) (code : ℕ → Cl
 
     done_asks : (c : ℕ) (pl : ClientStage) → (s.client c).stage ≡ pl → is_between pl ≡ true
         → (s.client c).begun ≡ blocks_of p c → asks_for c ≡ Finished
-    done_asks c (between l) at out all =
-        let long = blocks_are p sound mode code codes c in
-        let over : nat_lt (s.client c).begun (blocks_in code c) ≡ false = rw (all, long) (grind arith) in
-        between_acts (settings_of code size c) (blocks_in code c) (s.client c) l at ∙ ap (λ b. if b then Reserve else Finished) over
-    done_asks c (runs rest) at out all = absurd (true≢false (sym out))
-    done_asks c (full h rest) at out all = absurd (true≢false (sym out))
-    done_asks c (awaits h rest) at out all = absurd (true≢false (sym out))
-    done_asks c (leaves h hs l) at out all = absurd (true≢false (sym out))
+    done_asks c pl at out all = search (rules, blocks_are, between_acts)
 
     client_none : (c : ℕ) (b : Bool) → nat_lt c (length p.clients) ≡ b → core_step code size s (actor.Client c) ≡ None
     client_none c false out = st.others.steps c (grind (arith, out))
@@ -80,11 +73,7 @@ module _ (p : ProgramShape) (sound : IsSound p) (mode : Mode) (code : ℕ → Cl
         → core_step code size s (actor.Handler h) ≡ None
     free_none h (free x) is whole none =
         ap (λ v. handler_step code size s h (handlers.act_of v)) is ∙ ap (takes_ticket code size s h) none
-    free_none h (serves t x) is never none = absurd (true≢false (sym never))
-    free_none h (spares t x n) is never none = absurd (true≢false (sym never))
-    free_none h (gives t x) is never none = absurd (true≢false (sym never))
-    free_none h (away t) is never none = absurd (true≢false (sym never))
-    free_none h (closed x) is never none = absurd (true≢false (sym never))
+    free_none h _ is never none = absurd (true≢false (sym never))
 
     handler_none : (h : ℕ) (b : Bool) → nat_lt h (length p.objects) ≡ b → core_step code size s (actor.Handler h) ≡ None
     handler_none h false out =

@@ -1,22 +1,20 @@
 -- In each state that the optimised machine comes to, a client that stands with a full chunk has that chunk. So a client
 -- without an act is between two blocks. Each step of a client keeps it, by the lemmas on clients, and a handler's step
 -- changes no client.
-use Rattle.std.proofs.Common.{◌≡◌, ◌-◌, ℕ, zero, suc, nat_lt, Bool, true, false, if◌then◌else◌, List, [], ◌∷◌, length, refl, subst, Option, Some, None}
+use Rattle.std.proofs.Common.{◌≡◌, ◌-◌, ℕ, zero, suc, nat_lt, Bool, true, false, if◌then◌else◌, List, [], ◌∷◌, length, refl, subst, Option, Some, None, rules}
 use Rattle.qs_objects.specs.audit.Journals.{HeldState}
 use Rattle.qs_objects.specs.declared.held.Ticket.{Ticket}
 use Rattle.qs_objects.specs.declared.held.Next.TheVariants as nexts
 use Rattle.qs_program.specs.audit.Program.{ProgramShape}
 use Rattle.qs_meaning.specs.audit.Solo.{put}
 use Rattle.qs_syncset.specs.audit.Codes.{ClientCode, blocks_in, reserved_of}
-use Rattle.qs_chunk.specs.audit.Limits.{lane_room, spare_room}
+use Rattle.qs_chunk.specs.audit.Limits.{lane_room}
 use Rattle.qs_chunk.specs.declared.parcel.Parcel.{Parcel}
 use Rattle.qs_handler.specs.audit.Handler.{Handler, accept_next, accept_parcel}
 use Rattle.qs_handler.specs.audit.Handler as handlers
 use Rattle.qs_handler.specs.declared.mind.Act as handler_acts
-use Rattle.qs_handler.specs.declared.mind.Act.TheVariants as acts
-use Rattle.qs_client.specs.audit.rules.Client.{Client, ClientStage, between, runs, full, awaits, leaves, act_of}
+use Rattle.qs_client.specs.audit.rules.Client.{Client, ClientStage, act_of}
 use Rattle.qs_client.specs.declared.rules.act.Act.{Act}
-use Rattle.qs_client.specs.declared.rules.act.Act.TheVariants.{Reserve, Send, Await, NeedChunk, Finished}
 use Rattle.qs_played.specs.audit.Played.{ticket}
 use Rattle.qs_played.specs.audit.Schedule.{or_stay}
 use Rattle.qs_played.specs.declared.schedule.actor.Actor.{Actor}
@@ -24,7 +22,6 @@ use Rattle.qs_played.specs.declared.schedule.actor.Actor.TheVariants as actor
 use Rattle.qs_played.proofs.FunctionUpdate.{put_all}
 use Rattle.qs_core_laws.proofs.protocol.FullChunks.{HasFull, chunk_full, got_full, sent_full, settle_full}
 use Rattle.qs_core_laws.specs.audit.Core.{Core, client_step, core_begin, core_step, gets, after_handler, handler_step, reserves_from, settings_of, takes_chunk, takes_parcel, takes_ticket, with_down, with_tickets}
-use Rattle.qs_client.specs.audit.ClientModel.{synced_block}
 use Rattle.qs_core_laws.specs.audit.CoreSchedule.{core_plays}
 use Rattle.qs_core_laws.specs.audit.Core as core
 use Rattle.qs_core_laws.proofs.HandlerSteps.{some_is}
@@ -63,21 +60,10 @@ module _ (code : ℕ → ClientCode) (size : ℕ) where
         subst IsFull (some_is _ s' e) (comes c _ (chunk_full (settings_of code size c) (now c) (reserved_of code (now c)) (s.client c) h (s.client c).stage (k c)))
 
     reserve_keeps : (c : ℕ) (pl : ClientStage) (s' : Core) → reserves_from code size s c pl ≡ Some s' → IsFull s'
-    reserve_keeps c (between l) s' e =
-        let t : Ticket = ticket c (s.client c).begun in
-        subst IsFull (some_is _ s' e)
-        (comes c _ (settle_full (settings_of code size c) t (reserved_of code t) (synced_block code t l) (record (s.client c) { begun = suc (s.client c).begun })))
-    reserve_keeps c (runs rest) s' e = absurd (cc)
-    reserve_keeps c (full h rest) s' e = absurd (cc)
-    reserve_keeps c (awaits h rest) s' e = absurd (cc)
-    reserve_keeps c (leaves h hs l) s' e = absurd (cc)
+    reserve_keeps c pl s' e = search (rules, some_is, comes, settle_full)
 
     client_acts : (c : ℕ) (act : Act) (s' : Core) → client_step code size s c act ≡ Some s' → IsFull s'
-    client_acts c Reserve s' e = reserve_keeps c (s.client c).stage s' e
-    client_acts c (Send h p) s' e = send_keeps c h p s' e
-    client_acts c (Await h) s' e = get_keeps c h (s.up c h) s' e
-    client_acts c (NeedChunk h) s' e = chunk_keeps c h (s.spare c h) s' e
-    client_acts c Finished s' e = absurd (cc)
+    client_acts c act s' e = search (rules, reserve_keeps, send_keeps, get_keeps, chunk_keeps)
 
     after_keeps : (a : Core) (h : ℕ) (o : Option Handler) (s' : Core) → IsFull a
         → after_handler code size a h o ≡ Some s' → IsFull s'
@@ -99,11 +85,7 @@ module _ (code : ℕ → ClientCode) (size : ℕ) where
     give_keeps h c x (Some z) s' e = absurd (cc)
 
     handler_keeps : (h : ℕ) (act : handler_acts.Act) (s' : Core) → handler_step code size s h act ≡ Some s' → IsFull s'
-    handler_keeps h acts.TakeTicket s' e = ticket_keeps h (s.tickets h) s' e
-    handler_keeps h (acts.TakeParcel c) s' e = parcel_keeps h c (s.down c h) s' e
-    handler_keeps h (acts.Give c x) s' e = give_keeps h c x (s.up c h) s' e
-    handler_keeps h (acts.Spare c chunk) s' e = one_of (nat_lt (s.spare c h) spare_room) _ s' e k
-    handler_keeps h acts.Closed s' e = absurd (cc)
+    handler_keeps h act s' e = search (rules, ticket_keeps, parcel_keeps, give_keeps, one_of)
 
     step_full : (a : Actor) (s' : Core) → core_step code size s a ≡ Some s' → IsFull s'
     step_full (actor.Client c) s' e =

@@ -29,14 +29,11 @@ pub asks_not_served : (t : Ticket) (x z : HeldState) (sent : List Parcel) (gots 
 asks_not_served t x z [] gots gave es k l = cc (k.1)
 asks_not_served t x z (parcels.Work chunk ∷ sent) gots gave es k l =
     asks_not_served t (ran_all x t chunk.items) z sent gots gave k.0 k.3 l
-asks_not_served t x z (parcels.Home y ∷ sent) gots gave es k l = k
 asks_not_served t x z (parcels.End ∷ sent) gots gave es k l = cc (k.3)
 asks_not_served t x z (parcels.Sync ∷ []) gots gave es k l = gives_not_serves x z gave l
 asks_not_served t x z (parcels.Sync ∷ (parcels.Home y ∷ sent)) gots gave es k l =
     asks_not_served t y z sent k.1 l.0 k.3 k.7 l.2
-asks_not_served t x z (parcels.Sync ∷ (parcels.Work chunk ∷ sent)) gots gave es k l = k
-asks_not_served t x z (parcels.Sync ∷ (parcels.Sync ∷ sent)) gots gave es k l = k
-asks_not_served t x z (parcels.Sync ∷ (parcels.End ∷ sent)) gots gave es k l = k
+asks_not_served t x z (_ ∷ _) gots gave es k l = k
 
 gives_last : (x z : HeldState) (gots gave up : List HeldState) → HandlerGives x gave (views.gives z) → gave ≡ gots ++ up
     → up ≡ []
@@ -50,11 +47,8 @@ pub gives_up : (t : Ticket) (x z : HeldState) (received way : List Parcel) (gots
 gives_up t x z [] way gots gave up es c k l e = absurd (cc (l.1))
 gives_up t x z (parcels.Work chunk ∷ received) way gots gave up es c k l e =
     gives_up t (ran_all x t chunk.items) z received way gots gave up k.0 c k.3 l e
-gives_up t x z (parcels.Home y ∷ received) way gots gave up es c k l e = absurd k
 gives_up t x z (parcels.End ∷ received) way gots gave up es c k l e = absurd (cc (l.2))
 gives_up t x z (parcels.Sync ∷ []) way gots gave up es c k l e = gives_last x z gots gave up l e
 gives_up t x z (parcels.Sync ∷ (parcels.Home y ∷ received)) way gots gave up es c k l e =
     gives_up t y z received way k.1 l.0 up k.3 c k.7 l.2 (tail_is x k.0 l.0 (k.1 ++ up) (sym l.1 ∙ (e ∙ ap (λ gs. gs ++ up) k.4)))
-gives_up t x z (parcels.Sync ∷ (parcels.Work chunk ∷ received)) way gots gave up es c k l e = absurd k
-gives_up t x z (parcels.Sync ∷ (parcels.Sync ∷ received)) way gots gave up es c k l e = absurd k
-gives_up t x z (parcels.Sync ∷ (parcels.End ∷ received)) way gots gave up es c k l e = absurd k
+gives_up t x z (_ ∷ _) way gots gave up es c k l e = absurd k

@@ -1,6 +1,6 @@
 -- The steps of a checked program's blocks in the optimised machine are few: its load is limited, it has few blocks, and
 -- a list names few objects.
-use Rattle.std.proofs.Common.{◌≤◌, ◌+◌, ◌*◌, List, [], ◌∷◌, length, sum_by, arith}
+use Rattle.std.proofs.Common.{◌≤◌, ◌+◌, ◌*◌, List, [], ◌∷◌, length, sum_by, arith, rules}
 use Rattle.std.proofs.lemmas.List.Sums.{sum_by-cons}
 use Rattle.std.specs.List.{AllByRecursion}
 use Rattle.qs_program.specs.declared.program.Declared.{Declared}
@@ -29,7 +29,4 @@ module _ (objects : List Declared) (few : length objects ≤ 8) where
       (omega (arith, one, most, others))
 
 pub core_bounds_small : CoreBoundsAreSmall
-core_bounds_small p sound =
-    let all = clients_few p.objects sound.objects p.clients sound.each in
-    let clients = sound.clients in let load = sound.load in
-    omega (arith, all, clients, load)
+core_bounds_small p sound = search (rules, clients_few)

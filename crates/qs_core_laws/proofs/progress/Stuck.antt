@@ -29,7 +29,7 @@ use Rattle.qs_handler.specs.audit.Handler.{Handler, free, serves, spares, gives,
 use Rattle.qs_handler.specs.Handler.{is_away, serving}
 use Rattle.qs_handler.specs.audit.Handler as handlers
 use Rattle.qs_handler.specs.declared.mind.Act.TheVariants as acts
-use Rattle.qs_client.specs.audit.rules.Client.{Client, ClientStage, Settings, between, runs, full, awaits, leaves, act_at, act_of}
+use Rattle.qs_client.specs.audit.rules.Client.{Client, ClientStage, Settings, between, awaits, leaves, act_at, act_of}
 use Rattle.qs_client.specs.declared.rules.act.Act.{Act}
 use Rattle.qs_client.specs.declared.rules.act.Act.TheVariants.{Reserve, Send, Await, NeedChunk, Finished}
 use Rattle.qs_played.specs.audit.Played.{ticket}
@@ -84,16 +84,12 @@ all_pass is (n ∷ ns) each = rw (each n) (all_pass is ns each)
 
 serves_takes : (t : Ticket) (x : HeldState) (p : Parcel) → IsTrue (may_stand false p)
     → IsSome (accept_parcel (serves t x) p)
-serves_takes t x (parcels.Work chunk) stands = refl
-serves_takes t x parcels.Sync stands = refl
-serves_takes t x parcels.End stands = refl
 serves_takes t x (parcels.Home z) stands = absurd (cc (stands))
+serves_takes t x _ stands = refl
 
 away_takes : (t : Ticket) (p : Parcel) → IsTrue (may_stand true p) → IsSome (accept_parcel (away t) p)
 away_takes t (parcels.Home z) stands = refl
-away_takes t (parcels.Work chunk) stands = absurd (cc (stands))
-away_takes t parcels.Sync stands = absurd (cc (stands))
-away_takes t parcels.End stands = absurd (cc (stands))
+away_takes t _ stands = absurd (cc (stands))
 
 as_list_none : (o : Option HeldState) → as_list o ≡ [] → o ≡ None
 as_list_none None e = refl
@@ -125,10 +121,9 @@ waits_gives_none t v c (inr w) = ap (λ v. to_give_back v c) w
 need_stays : (p : ProgramShape) (t : Ticket) (settings : Settings) (n : ℕ) (m : Client) (pl : ClientStage) (h : ℕ)
     → act_at settings n m pl ≡ NeedChunk h → standing_at p t m pl h ≡ gone → ⊥
 need_stays p t settings n m (between l) h e left = outside_not_need (nat_lt m.begun n) h e
-need_stays p t settings n m (runs rest) h e left = in_hand_gone (m.held h) (m.chunk h) left
-need_stays p t settings n m (full k rest) h e left = in_hand_gone (m.held h) (m.chunk h) left
 need_stays p t settings n m (awaits k rest) h e left = cc
 need_stays p t settings n m (leaves k hs l) h e left = clears_not_need settings k (m.held k) (m.chunk k) parcels.End h e
+need_stays p t settings n m _ h e left = in_hand_gone (m.held h) (m.chunk h) left
 
 module _ (p : ProgramShape) (sound : IsSound p) (mode : Mode) (code : ℕ → ClientCode) (codes : AreCodes p mode code) (size : ℕ)
     (s : Core) (y : LaneHistory) (g : ℕ → HandlerLog) (k : CoreInvariant p s y g) (st : CoreStands p code size s) (four : FourChunks s) (fulls : AllFull s.client) where
@@ -421,11 +416,8 @@ module _ (p : ProgramShape) (sound : IsSound p) (mode : Mode) (code : ℕ → Cl
     rests : (h : ℕ) (v : Handler) → s.handler h ≡ v → serving v ++ s.tickets h ≡ []
         → (is_free (s.handler h) ≡ true) × (s.tickets h ≡ [])
     rests h (free x) is e = (ap is_free is, e)
-    rests h (serves t x) is e = absurd (cc)
-    rests h (spares t x n) is e = absurd (cc)
-    rests h (gives t x) is e = absurd (cc)
-    rests h (away t) is e = absurd (cc)
     rests h (closed x) is e = absurd ((k.objects h).opened x is)
+    rests h _ is e = absurd (cc)
 
     lane_empty : (h c : ℕ) → s.down c h ≡ []
     lane_empty h c =

@@ -1,5 +1,5 @@
 -- Sums of what stands at numbers, over a list and below a number, and how they change with one of them.
-use Rattle.std.proofs.Common.{◌≡◌, ◌<◌, ◌≤◌, ◌∙◌, ◌+◌, ◌==◌, ◌||◌, ℕ, zero, suc, Bool, true, false, true≢false, if◌then◌else◌, List, [], ◌∷◌, length, refl, sym, ap, subst, ⊎_elim, arith}
+use Rattle.std.proofs.Common.{◌≡◌, ◌<◌, ◌≤◌, ◌∙◌, ◌+◌, ◌==◌, ◌||◌, ℕ, zero, suc, Bool, true, false, true≢false, if◌then◌else◌, List, [], ◌∷◌, length, refl, sym, ap, subst, ⊎_elim, arith, rules}
 use Rattle.qs_objects.proofs.Choices.{apart_eqb, eqb_self, num_cases}
 use Rattle.qs_program.specs.audit.Sound.{is_in}
 use Rattle.qs_core_laws.proofs.protocol.ClientInvariants.{Lined}
@@ -98,10 +98,7 @@ below_listed (h ∷ hs) n =
     let both = split n in let one = once n in let others = below_listed hs n in omega (arith, both, one, others)
   where
     either : (a b : Bool) → one_if (a || b) ≤ one_if (a) + one_if (b)
-    either true true = omega arith
-    either true false = omega arith
-    either false true = omega arith
-    either false false = omega arith
+    either a b = search rules
 
     split : (n : ℕ)
         → below (λ i. one_if (is_in (h ∷ hs) i)) n ≤ below (λ i. one_if (h == i)) n + below (λ i. one_if (is_in hs i)) n

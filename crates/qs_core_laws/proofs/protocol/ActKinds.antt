@@ -13,9 +13,8 @@ use Rattle.qs_client.specs.declared.rules.act.Act.TheVariants.{Reserve, Send, Aw
 use Rattle.qs_core_laws.proofs.protocol.ClientInvariants.{in_hand}
 
 pub in_hand_gone : (o : Option HeldState) (c : Option (List Request)) → in_hand o c ≡ gone → ⊥
-in_hand_gone (Some x) c e = cc
 in_hand_gone None (Some rs) e = cc
-in_hand_gone None None e = cc
+in_hand_gone _ _ e = cc
 
 -- between two blocks a client reserves or has ended
 abbrev pub outside : Bool → Act
@@ -35,57 +34,49 @@ outside_not_need false h e = cc
 
 module _ (settings : Settings) where
   pub call_object : (g : ℕ) (hd : Option HeldState) (ck : Option (List Request)) (h : ℕ) (parcel : Parcel) → call_act settings g hd ck ≡ Send h parcel → g ≡ h
-  call_object g (Some x) ck h parcel e = cc
   call_object g None None h parcel e = absurd (cc)
-  call_object g None (Some rs) h parcel e = cc
+  call_object g _ _ h parcel e = cc
 
   pub clears_object : (g : ℕ) (hd : Option HeldState) (ck : Option (List Request)) (q : Parcel) (h : ℕ) (parcel : Parcel)
       → clear settings g hd ck (Send g q) ≡ Send h parcel → g ≡ h
-  clears_object g (Some x) ck q h parcel e = cc
   clears_object g None (Some rs) q h parcel e = cc
-  clears_object g None None q h parcel e = cc
+  clears_object g _ _ q h parcel e = cc
 
   pub full_object : (g : ℕ) (ck : Option (List Request)) (h : ℕ) (parcel : Parcel) → clear settings g None ck Finished ≡ Send h parcel → (g ≡ h) × (ck ≢ None)
   full_object g (Some rs) h parcel e = (cc, λ n. cc)
   full_object g None h parcel e = absurd (cc)
 
   pub need_object : (g : ℕ) (hd : Option HeldState) (ck : Option (List Request)) (h : ℕ) → call_act settings g hd ck ≡ NeedChunk h → g ≡ h
-  need_object g (Some x) ck h e = absurd (cc)
-  need_object g None (Some rs) h e = absurd (cc)
   need_object g None None h e = cc
+  need_object g _ _ h e = absurd (cc)
 
   pub call_not_await : (g : ℕ) (hd : Option HeldState) (ck : Option (List Request)) (h : ℕ) → call_act settings g hd ck ≡ Await h → ⊥
-  call_not_await g (Some x) ck h e = cc
   call_not_await g None None h e = cc
-  call_not_await g None (Some rs) h e = cc
+  call_not_await g _ _ h e = cc
 
   pub clears_not_await : (g : ℕ) (hd : Option HeldState) (ck : Option (List Request)) (parcel : Parcel) (h : ℕ) → clear settings g hd ck (Send g parcel) ≡ Await h → ⊥
-  clears_not_await g (Some x) ck parcel h e = cc
   clears_not_await g None None parcel h e = cc
-  clears_not_await g None (Some rs) parcel h e = cc
+  clears_not_await g _ _ parcel h e = cc
 
   pub full_not_await : (g : ℕ) (ck : Option (List Request)) (h : ℕ) → clear settings g None ck Finished ≡ Await h → ⊥
   full_not_await g None h e = cc
   full_not_await g (Some rs) h e = cc
 
   pub clears_not_need : (g : ℕ) (hd : Option HeldState) (ck : Option (List Request)) (parcel : Parcel) (h : ℕ) → clear settings g hd ck (Send g parcel) ≡ NeedChunk h → ⊥
-  clears_not_need g (Some x) ck parcel h e = cc
   clears_not_need g None None parcel h e = cc
-  clears_not_need g None (Some rs) parcel h e = cc
+  clears_not_need g _ _ parcel h e = cc
 
   pub full_not_need : (g : ℕ) (ck : Option (List Request)) (h : ℕ) → clear settings g None ck Finished ≡ NeedChunk h → ⊥
   full_not_need g None h e = cc
   full_not_need g (Some rs) h e = cc
 
   pub call_not_reserve : (g : ℕ) (hd : Option HeldState) (ck : Option (List Request)) → call_act settings g hd ck ≡ Reserve → ⊥
-  call_not_reserve g (Some x) ck e = cc
   call_not_reserve g None None e = cc
-  call_not_reserve g None (Some rs) e = cc
+  call_not_reserve g _ _ e = cc
 
   pub clears_not_reserve : (g : ℕ) (hd : Option HeldState) (ck : Option (List Request)) (parcel : Parcel) → clear settings g hd ck (Send g parcel) ≡ Reserve → ⊥
-  clears_not_reserve g (Some x) ck parcel e = cc
   clears_not_reserve g None None parcel e = cc
-  clears_not_reserve g None (Some rs) parcel e = cc
+  clears_not_reserve g _ _ parcel e = cc
 
   pub full_not_reserve : (g : ℕ) (ck : Option (List Request)) → clear settings g None ck Finished ≡ Reserve → ⊥
   full_not_reserve g None e = cc

@@ -2,7 +2,7 @@
 -- between blocks does it reserve; and nothing that it does to its own values begins a block. The proofs on steps of the
 -- machine and of threads need this. They go by cases on where the client stands (`PlaceOk`), and for its quiet moves by
 -- induction on its block's tree.
-use Rattle.std.proofs.Common.{◌≡◌, ℕ, nat_lt, Bool, true, false, if◌then◌else◌, ◌==◌, ◌&&◌, is_some, List, [], ◌∷◌, ◌++◌, length, refl, sym, ap, ◌∙◌, subst, Option, Some, None, ℤ}
+use Rattle.std.proofs.Common.{◌≡◌, ℕ, nat_lt, Bool, true, false, if◌then◌else◌, ◌&&◌, is_some, List, [], ◌∷◌, refl, sym, ap, ◌∙◌, subst, Option, Some, None, ℤ, rules}
 use Rattle.qs_objects.specs.audit.Journals.{HeldState, run_one}
 use Rattle.qs_objects.specs.declared.held.Ticket.{Ticket}
 use Rattle.qs_objects.specs.declared.Request.{Request}
@@ -46,7 +46,6 @@ module _ (program : ProgramShape) (t : Ticket) (snt : ℕ → List Parcel) (got 
   -- what is sent goes to a reserved object that isn't left yet
   pub send_at : (m : Client) (pg : BlockRecord) (pl : ClientStage) → PlaceOk program t snt got m pg pl → (h : ℕ) (parcel : Parcel) → act_at settings blocks m pl ≡ Send h parcel → (reserves program t h ≡ true) × (standing_at program t m pl h ≡ gone → ⊥)
   send_at m pg (between l) k h parcel e = absurd (outside_not_send (nat_lt m.begun blocks) h parcel e)
-  send_at m pg (runs (Done l)) k h parcel e = absurd k.1
   send_at m pg (runs (Call r next)) k h parcel e =
       let is = call_object settings r.object (m.held r.object) (m.chunk r.object) h parcel e in
       let fine = subst (AsksOnly (reserves program t)) k.0.rest k.0.block_record.fine in
@@ -54,7 +53,6 @@ module _ (program : ProgramShape) (t : Ticket) (snt : ℕ → List Parcel) (got 
   send_at m pg (runs (Sync g next)) k h parcel e =
       let is = clears_object settings g (m.held g) (m.chunk g) parcels.Sync h parcel e in
       (subst (λ h. reserves program t h ≡ true) is k.0.on.0, in_hand_gone (m.held h) (m.chunk h))
-  send_at m pg (runs (Query r next)) k h parcel e = absurd k.1
   send_at m pg (full g code) k h parcel e =
       let is = full_object settings g (m.chunk g) h parcel e in
       (subst (λ h. reserves program t h ≡ true) is.0 (or_true (reserves program t g) (λ no. is.1 (k.own g no).1)), in_hand_gone (m.held h) (m.chunk h))
@@ -65,41 +63,19 @@ module _ (program : ProgramShape) (t : Ticket) (snt : ℕ → List Parcel) (got 
         subst (λ h. (if is_in (g ∷ hs) h then in_hand (m.held h) (m.chunk h) else apart_from program t h) ≡ gone → ⊥) is
             (rw (eqb_self g) (in_hand_gone (m.held g) (m.chunk g))),
       )
+  send_at m pg (runs _) k h parcel e = absurd k.1
 
   -- what is awaited was asked for
   pub await_at : (m : Client) (pg : BlockRecord) (pl : ClientStage) → PlaceOk program t snt got m pg pl → (h : ℕ) → act_at settings blocks m pl ≡ Await h → (reserves program t h ≡ true) × (standing_at program t m pl h ≡ asks)
-  await_at m pg (between l) k h e = absurd (outside_not_await (nat_lt m.begun blocks) h e)
-  await_at m pg (runs (Done l)) k h e = absurd k.1
-  await_at m pg (runs (Call r next)) k h e = absurd (call_not_await settings r.object (m.held r.object) (m.chunk r.object) h e)
-  await_at m pg (runs (Sync g next)) k h e = absurd (clears_not_await settings g (m.held g) (m.chunk g) parcels.Sync h e)
-  await_at m pg (runs (Query r next)) k h e = absurd k.1
-  await_at m pg (full g code) k h e = absurd (full_not_await settings g (m.chunk g) h e)
-  await_at m pg (awaits g code) k h e =
-      let is : g ≡ h = cc in
-      subst (λ h. (reserves program t h ≡ true) × ((if g == h then asks else in_hand (m.held h) (m.chunk h)) ≡ asks)) is (k.at, rw (eqb_self g) refl)
-  await_at m pg (leaves g hs l) k h e = absurd (clears_not_await settings g (m.held g) (m.chunk g) parcels.End h e)
+  await_at m pg pl k h e = search (rules, outside_not_await, call_not_await, clears_not_await, full_not_await, in_hand, eqb_self)
 
   -- a chunk is taken of a reserved object's lane
   pub need_at : (m : Client) (pg : BlockRecord) (pl : ClientStage) → PlaceOk program t snt got m pg pl → (h : ℕ) → act_at settings blocks m pl ≡ NeedChunk h → reserves program t h ≡ true
-  need_at m pg (between l) k h e = absurd (outside_not_need (nat_lt m.begun blocks) h e)
-  need_at m pg (runs (Done l)) k h e = absurd k.1
-  need_at m pg (runs (Call r next)) k h e = subst (λ h. reserves program t h ≡ true) (need_object settings r.object (m.held r.object) (m.chunk r.object) h e) k.0.on.0
-  need_at m pg (runs (Sync g next)) k h e = absurd (clears_not_need settings g (m.held g) (m.chunk g) parcels.Sync h e)
-  need_at m pg (runs (Query r next)) k h e = absurd k.1
-  need_at m pg (full g code) k h e = absurd (full_not_need settings g (m.chunk g) h e)
-  need_at m pg (awaits g code) k h e = absurd (cc)
-  need_at m pg (leaves g hs l) k h e = absurd (clears_not_need settings g (m.held g) (m.chunk g) parcels.End h e)
+  need_at m pg pl k h e = search (rules, outside_not_need, need_object, clears_not_need, full_not_need)
 
   -- who reserves is between blocks
   pub reserve_at : (m : Client) (pg : BlockRecord) (pl : ClientStage) → PlaceOk program t snt got m pg pl → act_at settings blocks m pl ≡ Reserve → (l : Locals) × (pl ≡ between l)
-  reserve_at m pg (between l) k e = (l, refl)
-  reserve_at m pg (runs (Done l)) k e = absurd k.1
-  reserve_at m pg (runs (Call r next)) k e = absurd (call_not_reserve settings r.object (m.held r.object) (m.chunk r.object) e)
-  reserve_at m pg (runs (Sync g next)) k e = absurd (clears_not_reserve settings g (m.held g) (m.chunk g) parcels.Sync e)
-  reserve_at m pg (runs (Query r next)) k e = absurd k.1
-  reserve_at m pg (full g code) k e = absurd (full_not_reserve settings g (m.chunk g) e)
-  reserve_at m pg (awaits g code) k e = absurd (cc)
-  reserve_at m pg (leaves g hs l) k e = absurd (clears_not_reserve settings g (m.held g) (m.chunk g) parcels.End e)
+  reserve_at m pg pl k e = search (rules, call_not_reserve, clears_not_reserve, full_not_reserve)
 
 -- what a client does to its own values begins no block
 module _ (settings : Settings) (t : Ticket) (names : List ℕ) where
@@ -109,13 +85,7 @@ module _ (settings : Settings) (t : Ticket) (names : List ℕ) where
 
   order_begun : (m : Client) (r : Request) (next : Synced) (hd : Option HeldState) (ck : Option (List Request)) → ((m : Client) → (settle settings t names next m).client.begun ≡ m.begun)
       → (call settings t names m r next (λ m. settle settings t names next m) hd ck).client.begun ≡ m.begun
-  order_begun m r next (Some x) ck ih = refl
-  order_begun m r next None None ih = refl
-  order_begun m r next None (Some rs) ih = by_case (length (rs ++ r ∷ []) == settings.size)
-    where
-      by_case : (b : Bool) → (if b then stop_at (record m { chunk = put m.chunk r.object (Some (rs ++ r ∷ [])) }) (full r.object next) else settle settings t names next (record m { chunk = put m.chunk r.object (Some (rs ++ r ∷ [])) })).client.begun ≡ m.begun
-      by_case true = refl
-      by_case false = ih (record m { chunk = put m.chunk r.object (Some (rs ++ r ∷ [])) })
+  order_begun m r next hd ck ih = search rules
 
   ask_begun : (m : Client) (r : Request) (next : ℤ → Synced) (hd : Option HeldState) → ((v : ℤ) (m : Client) → (settle settings t names (next v) m).client.begun ≡ m.begun)
       → (query settings t names m r next (λ v m. settle settings t names (next v) m) hd).client.begun ≡ m.begun
@@ -133,52 +103,29 @@ module _ (settings : Settings) (t : Ticket) (names : List ℕ) where
   settle_begun (Query r next) m = ask_begun m r next (m.held r.object) (λ v m. settle_begun (next v) m)
 
   home_begun : (m : Client) (h : ℕ) (pl : ClientStage) → (after_home settings t names m h pl).client.begun ≡ m.begun
-  home_begun m h (between l) = refl
   home_begun m h (runs code) = settle_begun code (record m { held = put m.held h None })
-  home_begun m h (full g code) = refl
-  home_begun m h (awaits g code) = refl
-  home_begun m h (leaves g hs l) = refl
+  home_begun m h _ = refl
 
   work_begun : (m : Client) (h : ℕ) (pl : ClientStage) → (after_work settings t names m h pl).client.begun ≡ m.begun
-  work_begun m h (between l) = refl
   work_begun m h (runs code) = settle_begun code (record m { chunk = put m.chunk h None })
   work_begun m h (full g code) = settle_begun code (record m { chunk = put m.chunk h None })
-  work_begun m h (awaits g code) = refl
-  work_begun m h (leaves g hs l) = refl
+  work_begun m h _ = refl
 
   sync_sent_begun : (m : Client) (pl : ClientStage) → (after_sync settings t names m pl).client.begun ≡ m.begun
-  sync_sent_begun m (between l) = refl
   sync_sent_begun m (runs (Done l)) = refl
-  sync_sent_begun m (runs (Call r next)) = refl
-  sync_sent_begun m (runs (Sync h next)) = refl
-  sync_sent_begun m (runs (Query r next)) = refl
-  sync_sent_begun m (full g code) = refl
-  sync_sent_begun m (awaits g code) = refl
-  sync_sent_begun m (leaves g hs l) = refl
+  sync_sent_begun m _ = refl
 
   end_begun : (m : Client) (pl : ClientStage) → (after_end settings t names m pl).client.begun ≡ m.begun
-  end_begun m (between l) = refl
-  end_begun m (runs code) = refl
-  end_begun m (full g code) = refl
-  end_begun m (awaits g code) = refl
   end_begun m (leaves g hs l) = leaving_begun m hs l
+  end_begun m _ = refl
 
   pub sent_begun : (m : Client) (h : ℕ) (parcel : Parcel) → (after_parcel settings t names m h parcel).client.begun ≡ m.begun
-  sent_begun m h (parcels.Home x) = home_begun m h m.stage
-  sent_begun m h (parcels.Work chunk) = work_begun m h m.stage
-  sent_begun m h parcels.Sync = sync_sent_begun m m.stage
-  sent_begun m h parcels.End = end_begun m m.stage
+  sent_begun m h parcel = search (rules, home_begun, work_begun, sync_sent_begun, end_begun)
 
   pub got_begun : (m : Client) (h : ℕ) (x : HeldState) (pl : ClientStage) → (clients.take_object settings t names m x pl).client.begun ≡ m.begun
-  got_begun m h x (between l) = refl
-  got_begun m h x (runs code) = refl
-  got_begun m h x (full g code) = refl
   got_begun m h x (awaits g code) = settle_begun code (record m { held = put m.held g (Some x) })
-  got_begun m h x (leaves g hs l) = refl
+  got_begun m h x _ = refl
 
   pub chunk_begun : (m : Client) (h : ℕ) (pl : ClientStage) → (take_chunk settings t names m h pl).client.begun ≡ m.begun
-  chunk_begun m h (between l) = refl
   chunk_begun m h (runs code) = settle_begun code (record m { chunk = put m.chunk h (Some []) })
-  chunk_begun m h (full g code) = refl
-  chunk_begun m h (awaits g code) = refl
-  chunk_begun m h (leaves g hs l) = refl
+  chunk_begun m h _ = refl

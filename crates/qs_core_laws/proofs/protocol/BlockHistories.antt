@@ -1,8 +1,7 @@
 -- What one client did so far, block by block: for each block its block record, what it sent to each object and what it
 -- got from it, and what each act adds to that. The last block is where the client stands; those before it are over.
-use Rattle.std.proofs.Common.{◌≡◌, ◌<◌, ◌≤◌, arith, ℕ, zero, suc, true, false, true≢false, if◌then◌else◌, ◌==◌, List, [], ◌∷◌, ◌++◌, refl, sym, ap, ap₂, ◌∙◌, subst, ⊎_elim, append-nil}
+use Rattle.std.proofs.Common.{◌≡◌, ◌<◌, ◌≤◌, arith, ℕ, zero, suc, true, false, if◌then◌else◌, ◌==◌, List, [], ◌∷◌, ◌++◌, refl, sym, ap, ap₂, ◌∙◌, subst, ⊎_elim, append-nil, rules}
 use Rattle.qs_objects.specs.audit.Journals.{HeldState}
-use Rattle.qs_objects.specs.audit.Parts.{part}
 use Rattle.qs_objects.specs.declared.held.Event.{Event}
 use Rattle.qs_objects.specs.declared.held.Ticket.{Ticket}
 use Rattle.qs_objects.proofs.Choices.{apart_eqb, eqb_self, num_cases}
@@ -63,20 +62,7 @@ pub history_by : (program : ProgramShape) (c blocks : ℕ) (m : Client) (entry e
     (sent sent' : ℕ → List Parcel) (got got' : ℕ → List HeldState) → ((k : ℕ) → k < m.begun → entry k ≡ entry' k) → ((k : ℕ) → trace k ≡ trace' k)
     → ((h : ℕ) → sent h ≡ sent' h) → ((h : ℕ) → got h ≡ got' h)
     → BlockHistories program c blocks m entry trace sent got → BlockHistories program c blocks m entry' trace' sent' got'
-history_by program c blocks m entry entry' trace trace' sent sent' got got' en tr se go o = record {
-  block = o.block;
-  within = o.within;
-  idle = o.idle;
-  last = o.last;
-  older = o.older;
-  begins = o.begins;
-  outside = o.outside;
-  entries = λ k lt. sym (en k lt) ∙ o.entries k lt;
-  traces = λ k lt. sym (tr k) ∙ o.traces k lt;
-  fresh = λ k low. sym (tr k) ∙ o.fresh k low;
-  sent_is = λ h. sym (se h) ∙ o.sent_is h;
-  got_is = λ h. sym (go h) ∙ o.got_is h;
-}
+history_by program c blocks m entry entry' trace trace' sent sent' got got' en tr se go o = search rules
 
 -- before the first block
 pub no_history : (program : ProgramShape) (c blocks : ℕ) (m : Client) (entry : ℕ → Locals) (trace : ℕ → List Event) → m.begun ≡ 0 → m.stage ≡ between zeros
@@ -221,22 +207,12 @@ module _ (program : ProgramShape) (c blocks : ℕ) (settings : Settings) (m : Cl
 
 -- a list with one more at a place
 one_more : {A : Type 0} (f : ℕ → List A) (a : ℕ) (x : A) (h : ℕ) → put f a (f a ++ x ∷ []) h ≡ f h ++ (if a == h then x ∷ [] else [])
-one_more f a x h =
-    ⊎_elim
-    (λ (is : a ≡ h). subst (λ h. put f a (f a ++ x ∷ []) h ≡ f h ++ (if a == h then x ∷ [] else [])) is
-    (put_here f a (f a ++ x ∷ []) ∙ ap (λ b. f a ++ (if b then x ∷ [] else [])) (sym (eqb_self a))))
-    (λ (other : (a == h) ≡ false).
-    put_there f a (f a ++ x ∷ []) h other ∙ (sym (append-nil (f h)) ∙ ap (λ b. f h ++ (if b then x ∷ [] else [])) (sym other)))
-    (num_cases a h)
+one_more f a x h = search (rules, put_here, eqb_self, put_there, append-nil, num_cases)
 
 -- none at a place that is not reserved
 only_reserved : {A : Type 0} (program : ProgramShape) (t : Ticket) (a h : ℕ) (xs : List A) → reserves program t a ≡ true → reserves program t h ≡ false
     → (if a == h then xs else []) ≡ []
-only_reserved program t a h xs mine free =
-    ⊎_elim
-    (λ (is : a ≡ h). absurd (true≢false (sym mine ∙ (ap (reserves program t) is ∙ free))))
-    (λ (other : (a == h) ≡ false). ap (λ b. if b then xs else []) other)
-    (num_cases a h)
+only_reserved program t a h xs mine free = search (rules, num_cases)
 
 module _ (program : ProgramShape) (fine : (t : Ticket) (l : Locals) → AsksOnly (reserves program t) (block_tree program t l))
     (lined : (t : Ticket) → Lined (reserves program t) (objects_of_block program t)) (c blocks : ℕ) (settings : Settings) (m : Client)

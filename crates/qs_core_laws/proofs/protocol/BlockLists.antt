@@ -2,7 +2,7 @@
 -- same at its end; a new block with an empty list adds nothing. What a client did in its whole run is listed block by
 -- block (`BlockTales`, `HistoryCounts`), and grows so with each act. Only the last block's list changes, so those
 -- before it are joined as before.
-use Rattle.std.proofs.Common.{◌≡◌, ◌<◌, arith, ℕ, zero, suc, false, ◌==◌, List, [], ◌∷◌, ◌++◌, length, slice_index_or, slice_set, refl, sym, ap, ap₂, ◌∙◌, subst, ⊎_elim, append_assoc, append-nil, get_or-set_same, get_or-set_other}
+use Rattle.std.proofs.Common.{◌≡◌, ◌<◌, arith, ℕ, zero, suc, false, ◌==◌, List, [], ◌∷◌, ◌++◌, length, slice_index_or, slice_set, refl, ap₂, append_assoc, append-nil, get_or-set_same, get_or-set_other, rules}
 use Rattle.std.proofs.Math.ListN.{get_or-append}
 use Rattle.std.proofs.lemmas.List.{get_or_push}
 use Rattle.qs_objects.proofs.Choices.{eqb_apart, apart_eqb, num_cases}
@@ -24,40 +24,19 @@ before_not k j lt = eqb_apart k j (λ is. omega (arith, lt, is))
 -- the last of them grows
 pub upto_more : {A B : Type 0} (of : B → List A) (f : ℕ → B) (k : ℕ) (b : B) (more : List A) → of b ≡ of (f k) ++ more
     → upto (λ j. of (put f k b j)) (suc k) ≡ upto (λ j. of (f j)) (suc k) ++ more
-upto_more of f k b more e =
-    ap₂ (λ x y. x ++ y)
-    (upto_same (λ j. of (put f k b j)) (λ j. of (f j)) k (λ j lt. ap of (put_there f k b j (after_not k j lt))))
-    (ap of (put_here f k b) ∙ e)
-    ∙ sym (append_assoc (upto (λ j. of (f j)) k) (of (f k)) more)
+upto_more of f k b more e = search (rules, upto_same, put_there, after_not, put_here, append_assoc)
 
 -- an empty one more
 pub upto_new : {A B : Type 0} (of : B → List A) (f : ℕ → B) (k : ℕ) (b : B) → of b ≡ []
     → upto (λ j. of (put f k b j)) (suc k) ≡ upto (λ j. of (f j)) k
-upto_new of f k b e =
-    ap₂ (λ x y. x ++ y)
-    (upto_same (λ j. of (put f k b j)) (λ j. of (f j)) k (λ j lt. ap of (put_there f k b j (after_not k j lt))))
-    (ap of (put_here f k b) ∙ e)
-    ∙ append-nil (upto (λ j. of (f j)) k)
+upto_new of f k b e = search (rules, upto_same, put_there, after_not, put_here, append-nil)
 
 -- a row is another
 pub row_set : {A : Type 0} (rows : List (List A)) (k : ℕ) (row : List A) → k < length rows
     → (j : ℕ) → put (λ j. slice_index_or rows j []) k row j ≡ slice_index_or (slice_set rows k row) j []
-row_set rows k row inside j =
-    ⊎_elim
-    (λ (is : k ≡ j). subst (λ j. put (λ j. slice_index_or rows j []) k row j ≡ slice_index_or (slice_set rows k row) j []) is
-    (put_here (λ j. slice_index_or rows j []) k row ∙ sym (get_or-set_same rows k row [] inside)))
-    (λ (other : (k == j) ≡ false).
-    put_there (λ j. slice_index_or rows j []) k row j other ∙ sym (get_or-set_other rows k j row [] (λ e. apart_eqb k j other (sym e))))
-    (num_cases k j)
+row_set rows k row inside j = search (rules, slice_index_or, slice_set, put_here, get_or-set_same, put_there, get_or-set_other, apart_eqb, num_cases)
 
 -- a row comes after the rows that are there
 pub row_push : {A : Type 0} (rows : List (List A)) (k : ℕ) (row : List A) → length rows ≡ k
     → (j : ℕ) → j < suc k → put (λ j. slice_index_or rows j []) k row j ≡ slice_index_or (rows ++ row ∷ []) j []
-row_push rows k row long j lt =
-    ⊎_elim
-    (λ (is : k ≡ j). subst (λ j. put (λ j. slice_index_or rows j []) k row j ≡ slice_index_or (rows ++ row ∷ []) j []) is
-    (put_here (λ j. slice_index_or rows j []) k row ∙ sym (get_or_push rows row [] k long)))
-    (λ (other : (k == j) ≡ false).
-    let apart = apart_eqb k j other in
-    put_there (λ j. slice_index_or rows j []) k row j other ∙ sym (get_or-append rows (row ∷ []) [] j (omega (arith, long, lt, apart))))
-    (num_cases k j)
+row_push rows k row long j lt = search (rules, slice_index_or, put_here, get_or_push, apart_eqb, put_there, get_or-append, num_cases)

@@ -1,7 +1,7 @@
 -- Each single act of a client keeps what its lanes say of its trace: it sends the object home, a chunk, a Sync or an
 -- End, or takes an object or an empty chunk. The lemmas on whole acts with the quiet work after them (`ClientLogs`)
 -- stand on this. Only one object's lane goes on, by one of the moves of a lane; all others stay as they were.
-use Rattle.std.proofs.Common.{◌≡◌, ℕ, Bool, true, false, true≢false, if◌then◌else◌, ◌==◌, is_some, List, [], ◌∷◌, ◌++◌, refl, sym, ap, ap₂, ◌∙◌, subst, ◌⊎◌, inl, inr, ⊎_elim, append-nil, Option, Some, None}
+use Rattle.std.proofs.Common.{◌≡◌, ℕ, Bool, true, false, true≢false, if◌then◌else◌, ◌==◌, is_some, List, [], ◌∷◌, ◌++◌, refl, sym, ap, ap₂, ◌∙◌, subst, ◌⊎◌, inl, inr, ⊎_elim, append-nil, Option, Some, None, rules}
 use Rattle.qs_objects.specs.audit.Journals.{HeldState}
 use Rattle.qs_objects.specs.audit.Parts.{part}
 use Rattle.qs_objects.specs.declared.held.Event.{Event}
@@ -65,31 +65,13 @@ module _ (program : ProgramShape) (t : Ticket) (sent : ℕ → List Parcel) (got
       }
     where
       less : (g : ℕ) → put (holding m) h false g ≡ true → is_some (put m.held h None g) ≡ true
-      less g = by_case (h == g)
-        where
-          by_case : (b : Bool) → (if b then false else holding m g) ≡ true → is_some (if b then None else m.held g) ≡ true
-          by_case true e = absurd (true≢false (sym e))
-          by_case false e = e
+      less g = search (rules, holding)
 
   pub sound_order : (s : ℕ → Bool) (r : Request) (next : Synced) → IsSoundSynced s (Call r next) → IsSoundSynced (put s r.object false) (Call r next)
-  sound_order s r next k = sound_more (put s r.object false) (put (put s r.object false) r.object false) next again k
-    where
-      again : (g : ℕ) → put s r.object false g ≡ true → put (put s r.object false) r.object false g ≡ true
-      again g = by_case (r.object == g)
-        where
-          by_case : (b : Bool) → (if b then false else s g) ≡ true → (if b then false else (if b then false else s g)) ≡ true
-          by_case true e = e
-          by_case false e = e
+  sound_order s r next k = search (rules, sound_more)
 
   pub sound_synced : (s : ℕ → Bool) (h : ℕ) (next : Synced) → IsSoundSynced s (Sync h next) → IsSoundSynced (put s h false) (Sync h next)
-  sound_synced s h next k = sound_more (put s h true) (put (put s h false) h true) next again k
-    where
-      again : (g : ℕ) → put s h true g ≡ true → put (put s h false) h true g ≡ true
-      again g = by_case (h == g)
-        where
-          by_case : (b : Bool) → (if b then true else s g) ≡ true → (if b then true else (if b then false else s g)) ≡ true
-          by_case true e = e
-          by_case false e = e
+  sound_synced s h next k = search (rules, sound_more)
 
   pub work_ready : (settings : Settings) (m : Client) (pg : BlockRecord) (code : Synced) (h : ℕ) (rs : List Request) → m.chunk h ≡ Some rs → Ready program t sent got m pg code
       → Ready program t (put sent h (sent h ++ work settings rs ∷ [])) got (record m { chunk = put m.chunk h None }) pg code
@@ -144,11 +126,7 @@ module _ (program : ProgramShape) (t : Ticket) (sent : ℕ → List Parcel) (got
       }
     where
       more : (g : ℕ) → put (holding m) h true g ≡ true → is_some (put m.held h (Some x) g) ≡ true
-      more g = by_case (h == g)
-        where
-          by_case : (b : Bool) → (if b then true else holding m g) ≡ true → is_some (if b then Some x else m.held g) ≡ true
-          by_case true e = refl
-          by_case false e = e
+      more g = search (rules, holding)
 
   pub chunk_ready : (m : Client) (pg : BlockRecord) (code : Synced) (h : ℕ) → m.held h ≡ None → m.chunk h ≡ None → reserves program t h ≡ true → Ready program t sent got m pg code
       → Ready program t sent got (record m { chunk = put m.chunk h (Some []) }) pg code

@@ -2,7 +2,7 @@
 -- count of the whole trace, whatever replies come. The exact counts of the machine and of threads (`CoreCounting`,
 -- `HistoryCounts`) keep this with each act. What holds at each place is `CountAt`; each act keeps it, by cases on the
 -- place, and so does quiet work, by induction on the tree.
-use Rattle.std.proofs.Common.{◌≡◌, ℕ, suc, ◌+◌, nat_lt, Bool, true, false, if◌then◌else◌, ◌==◌, ◌&&◌, is_some, List, [], ◌∷◌, ◌++◌, length, refl, sym, ap, ◌∙◌, subst, ⊎_elim, append_assoc, append-nil, Option, Some, None, ℤ, arith}
+use Rattle.std.proofs.Common.{◌≡◌, ℕ, suc, ◌+◌, Bool, true, false, if◌then◌else◌, ◌==◌, ◌&&◌, is_some, List, [], ◌∷◌, ◌++◌, length, refl, sym, ap, ◌∙◌, subst, ⊎_elim, append_assoc, append-nil, Option, Some, None, ℤ, arith, rules}
 use Rattle.qs_objects.specs.audit.Journals.{HeldState, run_one}
 use Rattle.qs_objects.specs.audit.Parts.{command_event}
 use Rattle.qs_objects.specs.declared.held.Event.{Event}
@@ -37,9 +37,8 @@ module _ (settings : Settings) (t : Ticket) (names : List ℕ) (first : Synced) 
   -- the client makes no quiet move
   abbrev pub Halts : Client → Synced → Type 0
   Halts m (Done l) = ⊥
-  Halts m (Call r next) = Unit {0}
   Halts m (Sync g next) = (settings.dynamic && holding m g) ≡ false
-  Halts m (Query r next) = Unit {0}
+  Halts m _ = Unit {0}
 
   -- one more was sent for g, whose query comes next
   pub record Pending (tr : List Event) (n : ℕ → ℕ) (held : ℕ → Bool) (g : ℕ) (code : Synced) : Type 0 where
@@ -49,11 +48,10 @@ module _ (settings : Settings) (t : Ticket) (names : List ℕ) (first : Synced) 
     pub later : (h : ℕ) (e : Event) (es : List Event) → along h false first (tr ++ e ∷ es) ≡ n h + along h (put held g true h) code (e ∷ es)
 
   abbrev pub CountAt : List Event → (ℕ → ℕ) → Client → ClientStage → Type 0
-  CountAt tr n m (between l) = Over tr n
   CountAt tr n m (runs code) = Even tr n (holding m) code × Halts m code × IsAsking code
   CountAt tr n m (full g code) = Even tr n (holding m) code × IsAsking code
   CountAt tr n m (awaits g code) = Pending tr n (holding m) g code
-  CountAt tr n m (leaves g hs l) = Over tr n
+  CountAt tr n m _ = Over tr n
 
   abbrev pub Counts : List Event → (ℕ → ℕ) → Settlement → Type 0
   Counts tr n r = CountAt (tr ++ r.events) n r.client r.client.stage
@@ -71,9 +69,7 @@ module _ (settings : Settings) (t : Ticket) (names : List ℕ) (first : Synced) 
   -- of no trace there are none
   along_none : (h : ℕ) (held : Bool) (code : Synced) → along h held code [] ≡ 0
   along_none h held (Done l) = refl
-  along_none h held (Call r next) = refl
-  along_none h held (Sync g next) = refl
-  along_none h held (Query r next) = refl
+  along_none h held _ = refl
 
   -- so as much was sent as the trace so far says
   pub even_now : (tr : List Event) (n : ℕ → ℕ) (held : ℕ → Bool) (code : Synced) → Even tr n held code → Over tr n
@@ -89,30 +85,18 @@ module _ (settings : Settings) (t : Ticket) (names : List ℕ) (first : Synced) 
       ap (along h false first) (append_assoc tr (e ∷ []) es) ∙ (k h (e ∷ es) ∙ ap (λ a. n h + a) (is h es))
 
   put_false : (held : ℕ → Option HeldState) (g h : ℕ) → held g ≡ None → (if g == h then false else is_some (held h)) ≡ is_some (held h)
-  put_false held g h e = ⊎_elim
-      (λ (is : g ≡ h). subst (λ h. (if g == h then false else is_some (held h)) ≡ is_some (held h)) is (rw (eqb_self g) (sym (ap is_some e))))
-      (λ (other : (g == h) ≡ false). rw other refl)
-      (num_cases g h)
+  put_false held g h e = search (rules, eqb_self, num_cases)
 
   some_put : (held : ℕ → Option HeldState) (g h : ℕ) (x : HeldState) → is_some (put held g (Some x) h) ≡ put (λ h. is_some (held h)) g true h
-  some_put held g h x = by_case (g == h)
-    where
-      by_case : (b : Bool) → is_some (if b then Some x else held h) ≡ (if b then true else is_some (held h))
-      by_case true = refl
-      by_case false = refl
+  some_put held g h x = search rules
 
   some_same : (held : ℕ → Option HeldState) (g h : ℕ) (x y : HeldState) → held g ≡ Some x → is_some (held h) ≡ is_some (put held g (Some y) h)
-  some_same held g h x y e = ⊎_elim
-      (λ (is : g ≡ h). subst (λ h. is_some (held h) ≡ is_some (put held g (Some y) h)) is (ap is_some e ∙ sym (ap is_some (put_here held g (Some y)))))
-      (λ (other : (g == h) ≡ false). ap is_some (sym (put_there held g (Some y) h other)))
-      (num_cases g h)
+  some_same held g h x y e = search (rules, put_here, put_there, num_cases)
 
   call_counts : (tr : List Event) (n : ℕ → ℕ) (m : Client) (r : Request) (next : Synced) (hd : Option HeldState) (ck : Option (List Request))
       → m.held r.object ≡ hd → IsAsking next
       → Even tr n (holding m) (Call r next) → ((tr : List Event) (m : Client) → Even tr n (holding m) next → Counts tr n (settle settings t names next m))
       → Counts tr n (call settings t names m r next (λ m. settle settings t names next m) hd ck)
-  call_counts tr n m r next (Some x) ck a q k ih = counts_stay tr n m (runs (Call r next)) (k, tt, q)
-  call_counts tr n m r next None None a q k ih = counts_stay tr n m (runs (Call r next)) (k, tt, q)
   call_counts tr n m r next None (Some rs) a q k ih =
       let more : Even (tr ++ command_event r ∷ []) n (holding m) next =
       even_event tr n (holding m) (holding m) (Call r next) next (command_event r) (λ h es. ap (λ b. along h b next es) (put_false m.held r.object h a)) k in
@@ -122,11 +106,8 @@ module _ (settings : Settings) (t : Ticket) (names : List ℕ) (first : Synced) 
           → Counts (tr ++ command_event r ∷ []) n (settle settings t names next (record m { chunk = put m.chunk r.object (Some (rs ++ r ∷ [])) }))
           → Counts tr n (with_event (command_event r) (if x then stop_at (record m { chunk = put m.chunk r.object (Some (rs ++ r ∷ [])) })
           (full r.object next) else settle settings t names next (record m { chunk = put m.chunk r.object (Some (rs ++ r ∷ [])) })))
-      by_case true more rest =
-          let m' : Client = record m { chunk = put m.chunk r.object (Some (rs ++ r ∷ [])) } in
-          counts_event tr n (command_event r) (stop_at m' (full r.object next)) (counts_stay (tr ++ command_event r ∷ []) n m' (full r.object next) (more, q))
-      by_case false more rest = counts_event tr n (command_event r)
-          (settle settings t names next (record m { chunk = put m.chunk r.object (Some (rs ++ r ∷ [])) })) rest
+      by_case x more rest = search (rules, counts_event, counts_stay)
+  call_counts tr n m r next _ _ a q k ih = counts_stay tr n m (runs (Call r next)) (k, tt, q)
 
   query_counts : (tr : List Event) (n : ℕ → ℕ) (m : Client) (r : Request) (next : ℤ → Synced) (hd : Option HeldState) → m.held r.object ≡ hd → IsAsking
       (Query r next)
@@ -147,18 +128,7 @@ module _ (settings : Settings) (t : Ticket) (names : List ℕ) (first : Synced) 
   -- a synchronisation that is skipped
   passed : (held : ℕ → Bool) (g h : ℕ) (next : Synced) (es : List Event) → (settings.dynamic && held g) ≡ true
       → along h (held h) (Sync g next) es ≡ along h (held h) next es
-  passed held g h next [] e = sym (along_none h (held h) next)
-  passed held g h next (e ∷ es) test = ⊎_elim
-      (λ (is : g ≡ h). subst (λ h. along h (held h) (Sync g next) (e ∷ es) ≡ along h (held h) next (e ∷ es)) is
-      (rw (eqb_self g) (by_test settings.dynamic (held g) test)))
-      (λ (other : (g == h) ≡ false). rw other refl)
-      (num_cases g h)
-    where
-      by_test : (d b : Bool) → (d && b) ≡ true → (if d && b then 0 else 1) + syncs_along settings.dynamic g true next
-          (e ∷ es) ≡ syncs_along settings.dynamic g b next (e ∷ es)
-      by_test true true both = omega arith
-      by_test true false both = absurd (let never : false ≡ true = both in cc)
-      by_test false b both = absurd (let never : false ≡ true = both in cc)
+  passed held g h next es e = search (rules, along_none, eqb_self, num_cases)
 
   sync_counts : (tr : List Event) (n : ℕ → ℕ) (m : Client) (g : ℕ) (next : Synced) (b : Bool) → (settings.dynamic && holding m g) ≡ b → IsAsking (Sync g next)
       → Even tr n (holding m) (Sync g next) → (Even tr n (holding m) next → Counts tr n (settle settings t names next m))
@@ -177,12 +147,7 @@ module _ (settings : Settings) (t : Ticket) (names : List ℕ) (first : Synced) 
   -- the object goes home before a command on it
   home_call : (tr : List Event) (n : ℕ → ℕ) (m : Client) (r : Request) (next : Synced) → Even tr n (holding m) (Call r next)
       → Even tr n (holding (record m { held = put m.held r.object None })) (Call r next)
-  home_call tr n m r next k h [] = k h []
-  home_call tr n m r next k h (e ∷ es) = k h (e ∷ es) ∙ ap (λ b. n h + along h b next es) (by_case (r.object == h))
-    where
-      by_case : (b : Bool) → (if b then false else is_some (m.held h)) ≡ (if b then false else is_some (if b then None else m.held h))
-      by_case true = refl
-      by_case false = refl
+  home_call tr n m r next k h xs = search rules
 
   and_false : (b : Bool) → (b && false) ≡ false
   and_false true = refl
@@ -192,13 +157,7 @@ module _ (settings : Settings) (t : Ticket) (names : List ℕ) (first : Synced) 
   home_sync : (tr : List Event) (n : ℕ → ℕ) (m : Client) (g : ℕ) (next : Synced) → (settings.dynamic && holding m g) ≡ false → Even tr n (holding m)
       (Sync g next)
       → Even tr n (holding (record m { held = put m.held g None })) (Sync g next)
-  home_sync tr n m g next test k h [] = k h []
-  home_sync tr n m g next test k h (e ∷ es) = k h (e ∷ es) ∙ ap (λ a. n h + a) (⊎_elim
-      (λ (is : g ≡ h).
-      subst (λ h. along h (is_some (m.held h)) (Sync g next) (e ∷ es) ≡ along h (is_some (put m.held g None h)) (Sync g next) (e ∷ es)) is
-      (rw (eqb_self g) (ap (λ b. (if b then 0 else 1) + along g true next (e ∷ es)) (test ∙ sym (and_false settings.dynamic)))))
-      (λ (other : (g == h) ≡ false). ap (λ (o : Option HeldState). along h (is_some o) (Sync g next) (e ∷ es)) (sym (put_there m.held g None h other)))
-      (num_cases g h))
+  home_sync tr n m g next test k h xs = search (rules, eqb_self, and_false, put_there, num_cases)
 
   -- a Sync is sent
   sync_sent : (tr : List Event) (n : ℕ → ℕ) (m : Client) (g : ℕ) (next : Synced) → (settings.dynamic && holding m g) ≡ false → IsAsking (Sync g next)
@@ -224,9 +183,7 @@ module _ (settings : Settings) (t : Ticket) (names : List ℕ) (first : Synced) 
   -- what a parcel adds
   abbrev pub count_up : (ℕ → ℕ) → ℕ → Parcel → ℕ → ℕ
   count_up n h parcels.Sync = put n h (suc (n h))
-  count_up n h (parcels.Work rs) = n
-  count_up n h (parcels.Home x) = n
-  count_up n h parcels.End = n
+  count_up n h _ = n
 
   -- once a parcel was sent from this place
   abbrev From : List Event → (ℕ → ℕ) → Client → ClientStage → ℕ → Parcel → Type 0
@@ -236,10 +193,7 @@ module _ (settings : Settings) (t : Ticket) (names : List ℕ) (first : Synced) 
   From tr n m pl h parcels.End = Counts tr n (after_end settings t names m pl)
 
   on_send : (P : ℕ → Parcel → Type 0) (g : ℕ) (q : Parcel) (h : ℕ) (p : Parcel) → Send g q ≡ Send h p → P g q → P h p
-  on_send P g q h p e k =
-      let a : g ≡ h = cc in
-      let b : q ≡ p = cc in
-      subst (λ h. P h p) a (subst (P g) b k)
+  on_send P g q h p e k = search rules
 
   call_sent : (tr : List Event) (n : ℕ → ℕ) (m : Client) (r : Request) (next : Synced) (hd : Option HeldState) (ck : Option (List Request)) → IsAsking next
       → Even tr n (holding m) (Call r next) → (h : ℕ) (p : Parcel) → call_act settings r.object hd ck ≡ Send h p → From tr n m (runs (Call r next)) h p
@@ -272,23 +226,12 @@ module _ (settings : Settings) (t : Ticket) (names : List ℕ) (first : Synced) 
 
   leave_sent : (tr : List Event) (n : ℕ → ℕ) (m : Client) (g : ℕ) (hs : List ℕ) (l : Locals) (hd : Option HeldState) (ck : Option (List Request)) → Over tr n
       → (h : ℕ) (p : Parcel) → clear settings g hd ck (Send g parcels.End) ≡ Send h p → From tr n m (leaves g hs l) h p
-  leave_sent tr n m g hs l (Some x) ck k h p e =
-      on_send (From tr n m (leaves g hs l)) g (parcels.Home x) h p e (counts_stay tr n (record m { held = put m.held g None }) (leaves g hs l) k)
-  leave_sent tr n m g hs l None (Some rs) k h p e =
-      on_send (From tr n m (leaves g hs l)) g (work settings rs) h p e (counts_stay tr n (record m { chunk = put m.chunk g None }) (leaves g hs l) k)
-  leave_sent tr n m g hs l None None k h p e = on_send (From tr n m (leaves g hs l)) g parcels.End h p e (leaving_counts tr n m hs l k)
+  leave_sent tr n m g hs l hd ck k h p e = search (rules, on_send, counts_stay, leaving_counts)
 
   from_place : (blocks : ℕ) (tr : List Event) (n : ℕ → ℕ) (m : Client) (pl : ClientStage) → CountAt tr n m pl → (h : ℕ) (p : Parcel)
       → act_at settings blocks m pl ≡ Send h p
       → From tr n m pl h p
-  from_place blocks tr n m (between l) k h p e = absurd (outside_not_send (nat_lt m.begun blocks) h p e)
-  from_place blocks tr n m (runs (Done l)) k h p e = absurd k.1
-  from_place blocks tr n m (runs (Call r next)) k h p e = call_sent tr n m r next (m.held r.object) (m.chunk r.object) k.2 k.0 h p e
-  from_place blocks tr n m (runs (Sync g next)) k h p e = clear_sent tr n m g next (m.held g) (m.chunk g) k.1 k.2 k.0 h p e
-  from_place blocks tr n m (runs (Query r next)) k h p e = absurd (cc)
-  from_place blocks tr n m (full g code) k h p e = full_sent tr n m g code (m.chunk g) k.1 k.0 h p e
-  from_place blocks tr n m (awaits g code) k h p e = absurd (cc)
-  from_place blocks tr n m (leaves g hs l) k h p e = leave_sent tr n m g hs l (m.held g) (m.chunk g) k h p e
+  from_place blocks tr n m pl k h p e = search (rules, outside_not_send, call_sent, clear_sent, full_sent, leave_sent)
 
   pub send_counts : (blocks : ℕ) (tr : List Event) (n : ℕ → ℕ) (m : Client) → CountAt tr n m m.stage → (h : ℕ) (p : Parcel)
       → act_of settings blocks m ≡ Send h p
@@ -300,16 +243,11 @@ module _ (settings : Settings) (t : Ticket) (names : List ℕ) (first : Synced) 
 
   halts_still : (m : Client) (p : ClientStage) (code : Synced) → Halts m code → Halts (record m { stage = p }) code
   halts_still m p (Done l) k = k
-  halts_still m p (Call r next) k = k
-  halts_still m p (Sync g next) k = k
-  halts_still m p (Query r next) k = k
+  halts_still m p _ k = k
 
   -- the object came whose query is next
   query_comes : (tr : List Event) (n : ℕ → ℕ) (m : Client) (x : HeldState) (g : ℕ) (code : Synced) → Pending tr n (holding m) g code
       → Counts tr n (settle settings t names code (record m { held = put m.held g (Some x) }))
-  query_comes tr n m x g (Done l) k = absurd k.query
-  query_comes tr n m x g (Call r next) k = absurd k.query
-  query_comes tr n m x g (Sync h next) k = absurd k.query
   query_comes tr n m x g (Query r next) k =
       let m' : Client = record m { held = put m.held g (Some x) } in
       let here : put m.held g (Some x) r.object ≡ Some x = subst (λ h. put m.held g (Some x) h ≡ Some x) k.query (put_here m.held g (Some x)) in
@@ -317,6 +255,7 @@ module _ (settings : Settings) (t : Ticket) (names : List ℕ) (first : Synced) 
       (λ none. absurd (let never : None ≡ Some x = sym none ∙ here in cc))
       (λ h e es. k.later h e es ∙ ap (λ b. n h + along h b (Query r next) (e ∷ es)) (sym (some_put m.held g h x)))
       (λ v tr m k'. settle_counts (next v) tr n m (k.asks v) k')
+  query_comes tr n m x g _ k = absurd k.query
 
   pub got_counts : (tr : List Event) (n : ℕ → ℕ) (m : Client) (x : HeldState) (pl : ClientStage) → CountAt tr n m pl → Counts tr n (take_object settings t names m x pl)
   got_counts tr n m x (between l) k = counts_stay tr n m (between l) k

@@ -2,7 +2,7 @@
 -- to each object and what it got from it, and these joined are all that it sent and got. The objects that it got are
 -- arbitrary; nothing of threads, queues or other clients is in it. The run is read where nothing is left to be done for
 -- the last act, since each act begins with that.
-use Rattle.std.proofs.Common.{◌≡◌, ◌<◌, arith, ℕ, zero, suc, true, false, List, [], ◌∷◌, ◌++◌, length, replicate, slice_index_or, refl, sym, ap, ap₂, ◌∙◌, subst, append-nil, ◌+◌, length-append, length-set}
+use Rattle.std.proofs.Common.{◌≡◌, ◌<◌, arith, ℕ, zero, suc, false, List, [], ◌∷◌, ◌++◌, length, replicate, slice_index_or, refl, sym, ap, ap₂, ◌∙◌, subst, append-nil, ◌+◌, length-append, length-set, rules}
 use Rattle.std.proofs.lemmas.List.{length-replicate}
 use Rattle.qs_objects.specs.audit.Journals.{HeldState}
 use Rattle.qs_objects.specs.declared.held.Event.{Event}
@@ -79,17 +79,7 @@ module _ (program : ProgramShape) (fine : (t : Ticket) (l : Locals) → AsksOnly
   }
 
   pub own_is : (m : ClientModel) (t : Ticket) → m.code ≡ code → m.size ≡ size → m.ticket ≡ t → m ≡ own m t
-  own_is m t a b d = λ i. record {
-    code = a i;
-    size = b i;
-    ticket = d i;
-    client = m.client;
-    entries = m.entries;
-    traces = m.traces;
-    syncs = m.syncs;
-    counts = m.counts;
-    outgoing = m.outgoing;
-  }
+  own_is m t a b d = search rules
 
   module _ (before : List Deed) (m : ClientModel) (o : InClientHistory before m) where
     pub asks : act_due m ≡ act_of settings (length code.blocks) m.client
@@ -101,22 +91,7 @@ module _ (program : ProgramShape) (fine : (t : Ticket) (l : Locals) → AsksOnly
         → BlockHistories program c (length code.blocks) r.client (entry_rows m) (put (trace_rows m) k (trace_rows m k ++ r.events))
         (λ h. sent_to h before ++ sent_to h (d ∷ [])) (λ h. got_from h before ++ got_from h (d ∷ []))
         → InClientHistory (before ++ d ∷ []) (came (own m (ticket c k)) r syncs counts)
-    comes d k e r still full none syncs counts telling = record {
-      code_is = refl;
-      size_is = refl;
-      ticket_is = λ j i. ap (ticket c) (omega (arith, e, still, i));
-      entry_count = o.entry_count ∙ sym still;
-      trace_count = length-set m.traces k (trace_rows m k ++ r.events) ∙ o.trace_count;
-      reserved = let all = reservations_join before (d ∷ []) in let old = o.reserved in omega (arith, all, old, still, none);
-      full = full;
-      telling = history_by program c (length code.blocks) r.client (entry_rows m) (entry_rows m)
-          (put (trace_rows m) k (trace_rows m k ++ r.events)) (trace_rows (came (own m (ticket c k)) r syncs counts))
-          (λ h. sent_to h before ++ sent_to h (d ∷ [])) (λ h. sent_to h (before ++ d ∷ []))
-          (λ h. got_from h before ++ got_from h (d ∷ [])) (λ h. got_from h (before ++ d ∷ []))
-          (λ j lt. refl)
-          (row_set m.traces k (trace_rows m k ++ r.events) (let long = o.trace_count in let within = o.telling.within in omega (arith, e, long, within)))
-          (λ h. sym (sent_join h before (d ∷ []))) (λ h. sym (got_join h before (d ∷ []))) telling;
-    }
+    comes d k e r still full none syncs counts telling = search (rules, length-set, reservations_join, history_by, came, row_set, sent_join, got_join)
 
     pub inside : (k : ℕ) → m.client.begun ≡ suc k → k < length code.blocks
     inside k e = let within = o.telling.within in omega (arith, e, within)
@@ -179,17 +154,7 @@ module _ (program : ProgramShape) (fine : (t : Ticket) (l : Locals) → AsksOnly
 
     -- a client that reserves is between blocks, of which some are left
     pub reserves_between : act_due m ≡ acts.Reserve → (l : Locals) × (m.client.stage ≡ clients.between l) × (m.client.begun < length code.blocks)
-    reserves_between asked =
-        let act : act_of settings (length code.blocks) m.client ≡ acts.Reserve = sym asks ∙ asked in
-        let at = place_of m.client.begun refl act in
-        (at.0, at.1, reserves_more settings (length code.blocks) m.client at.0 at.1 act)
-      where
-        place_of : (n : ℕ) → m.client.begun ≡ n → act_of settings (length code.blocks) m.client ≡ acts.Reserve
-            → (l : Locals) × (m.client.stage ≡ clients.between l)
-        place_of zero e act = (zeros, (o.telling.idle e).0)
-        place_of (suc k) e act =
-            let b = o.telling.block k in
-            reserve_at program (ticket c k) b.sent b.got settings (length code.blocks) m.client b.block_record m.client.stage (o.telling.last k e) act
+    reserves_between asked = search (rules, asks, reserves_more, reserve_at)
 
     pub reserving : act_due m ≡ acts.Reserve
         → InClientHistory (before ++ deeds.reserves ∷ []) (finish (mind_after_begin (hands_out m acts.Reserve) (next_ticket c (hands_out m acts.Reserve))))
@@ -215,26 +180,7 @@ module _ (program : ProgramShape) (fine : (t : Ticket) (l : Locals) → AsksOnly
             → BlockHistories program c (length code.blocks) r.client (put (entry_rows m) m.client.begun l)
             (put (trace_rows m) m.client.begun (trace_rows m m.client.begun ++ r.events)) (λ h. sent_to h before) (λ h. got_from h before)
             → InClientHistory (before ++ deeds.reserves ∷ []) (came (enters (own m m.ticket) (ticket c m.client.begun) l) r m.syncs m.counts)
-        begun_with l less r more full telling =
-            let k = m.client.begun in
-            let old = o.entry_count in
-            record {
-              code_is = refl;
-              size_is = refl;
-              ticket_is = λ j i. ap (ticket c) (omega (arith, more, i));
-              entry_count = let long = length-append m.entries (l ∷ []) in omega (arith, long, old, more);
-              trace_count = length-set m.traces k (trace_rows m k ++ r.events) ∙ o.trace_count;
-              reserved = let all = reservations_join before (deeds.reserves ∷ []) in let was = o.reserved in omega (arith, all, was, more);
-              full = full;
-              telling = history_by program c (length code.blocks) r.client (put (entry_rows m) k l) (λ j. slice_index_or (m.entries ++ l ∷ []) j [])
-                  (put (trace_rows m) k (trace_rows m k ++ r.events)) (trace_rows (came (enters (own m m.ticket) (ticket c k) l) r m.syncs m.counts))
-                  (λ h. sent_to h before) (λ h. sent_to h (before ++ deeds.reserves ∷ []))
-                  (λ h. got_from h before) (λ h. got_from h (before ++ deeds.reserves ∷ []))
-                  (λ j lt. row_push m.entries k l old j (omega (arith, lt, more)))
-                  (row_set m.traces k (trace_rows m k ++ r.events) (let long = o.trace_count in omega (arith, long, less)))
-                  (λ h. sym (sent_join h before (deeds.reserves ∷ []) ∙ append-nil (sent_to h before)))
-                  (λ h. sym (got_join h before (deeds.reserves ∷ []) ∙ append-nil (got_from h before))) telling;
-            }
+        begun_with l less r more full telling = search (rules, length-append, length-set, reservations_join, history_by, slice_index_or, came, row_push, row_set, sent_join, append-nil, got_join)
 
   -- before the first deed
   pub fresh_tale : InClientHistory [] (finish (fresh_mind code size))
@@ -251,9 +197,8 @@ module _ (program : ProgramShape) (fine : (t : Ticket) (l : Locals) → AsksOnly
   })
     where
       none_at : (n k : ℕ) → slice_index_or (replicate n (no_events)) k [] ≡ []
-      none_at zero k = refl
-      none_at (suc n) zero = refl
       none_at (suc n) (suc k) = none_at n k
+      none_at _ _ = refl
 
   pub in_tale : (deeds : List Deed) (last : ClientModel) → DeedsLead c (fresh_mind code size) deeds last → InClientHistory deeds (finish last)
   in_tale deeds last lead = deeds_keep c InClientHistory reserving sending getting taking deeds [] (fresh_mind code size) last fresh_tale lead
@@ -294,25 +239,4 @@ module _ (program : ProgramShape) (fine : (t : Ticket) (l : Locals) → AsksOnly
 
   -- what a client's whole run says
   pub client_history : (deeds : List Deed) (end : ClientModel) → RunsTo c (fresh_mind code size) deeds end → ClientHistory program c code deeds end
-  client_history deeds end run =
-      subst (ClientHistory program c code deeds) (sym (run.end_is ∙ ap (hands_out (finish run.last)) run.finished))
-      (ended (finished_tale deeds (finish run.last) (in_tale deeds run.last run.deeds_lead) run.finished))
-    where
-      -- an act that carries nothing changes nothing of it
-      ended : ClientHistory program c code deeds (finish run.last) → ClientHistory program c code deeds (hands_out (finish run.last) acts.Finished)
-      ended w = record {
-        block_record = w.block_record;
-        sent = w.sent;
-        got = w.got;
-        begun = w.begun;
-        reserved = w.reserved;
-        between = w.between;
-        hands = w.hands;
-        first = w.first;
-        blocks = w.blocks;
-        begins = w.begins;
-        entries = w.entries;
-        traces = w.traces;
-        sent_is = w.sent_is;
-        got_is = w.got_is;
-      }
+  client_history deeds end run = search (rules, finished_tale, in_tale)

@@ -14,7 +14,7 @@ use Rattle.qs_program.specs.audit.Sound.{is_in}
 use Rattle.qs_program.specs.audit.Values.{Locals}
 use Rattle.qs_meaning.specs.BlockRecords.{BlockRecord}
 use Rattle.qs_meaning.specs.audit.Interaction as tree
-use Rattle.qs_graph.specs.audit.Synced.{Synced, Done, Call, Sync, Query}
+use Rattle.qs_graph.specs.audit.Synced.{Synced, Call, Sync}
 use Rattle.qs_graph.specs.Synced.{without_syncs}
 use Rattle.qs_syncset.specs.SoundSynced.{IsSoundSynced, IsOnReserved}
 use Rattle.qs_core_laws.specs.protocol.ClientHistories.{HasNone, IsOpenRecord, apart_from}
@@ -45,10 +45,9 @@ Lined may (h ∷ hs) = (is_in hs h ≡ false) × (may h ≡ true) × Lined may h
 
 -- where a client may stop: the end is passed, and a query's object is held
 abbrev pub Stops : Synced → Type 0
-Stops (Done l) = ⊥
 Stops (Call r next) = Unit {0}
 Stops (Sync h next) = Unit {0}
-Stops (Query r next) = ⊥
+Stops _ = ⊥
 
 module _ (p : ProgramShape) (t : Ticket) (sent : ℕ → List Parcel) (got : ℕ → List HeldState) where
   abbrev pub Lanes : BlockRecord → (ℕ → ObjectStance) → Type 0
@@ -96,7 +95,6 @@ module _ (p : ProgramShape) (t : Ticket) (sent : ℕ → List Parcel) (got : ℕ
 -- how a client stands to an object, by its place
 abbrev pub standing_at : ProgramShape → Ticket → Client → ClientStage → ℕ → ObjectStance
 standing_at p t m (between l) h = apart_from p t h
-standing_at p t m (runs code) h = in_hand (m.held h) (m.chunk h)
-standing_at p t m (full g code) h = in_hand (m.held h) (m.chunk h)
 standing_at p t m (awaits g code) h = if g == h then asks else in_hand (m.held h) (m.chunk h)
 standing_at p t m (leaves g hs l) h = if is_in (g ∷ hs) h then in_hand (m.held h) (m.chunk h) else apart_from p t h
+standing_at p t m _ h = in_hand (m.held h) (m.chunk h)

@@ -2,7 +2,7 @@
 -- say. The machine's invariant and the tale of a client's whole run take this from here (`sends_ok`, `gets_ok`,
 -- `chunks_ok`, and `books_ok` where a block begins). The proof goes by cases on the client's stage and on what it has
 -- in hand: first the act, then the quiet work.
-use Rattle.std.proofs.Common.{◌≡◌, ℕ, suc, nat_lt, false, true≢false, List, [], ◌∷◌, ◌++◌, refl, sym, ap₂, subst, inl, Option, Some, None}
+use Rattle.std.proofs.Common.{◌≡◌, ℕ, suc, nat_lt, false, true≢false, List, [], ◌∷◌, ◌++◌, refl, sym, ap₂, subst, inl, Option, Some, None, rules}
 use Rattle.qs_objects.specs.audit.Journals.{HeldState}
 use Rattle.qs_objects.specs.declared.held.Ticket.{Ticket}
 use Rattle.qs_objects.specs.declared.Request.{Request}
@@ -12,7 +12,7 @@ use Rattle.qs_program.specs.audit.Program.{ProgramShape}
 use Rattle.qs_meaning.specs.audit.Solo.{put}
 use Rattle.qs_program.specs.audit.Values.{Locals}
 use Rattle.qs_meaning.specs.BlockRecords.{BlockRecord}
-use Rattle.qs_graph.specs.audit.Synced.{Synced, Done, Call, Sync, Query}
+use Rattle.qs_graph.specs.audit.Synced.{Synced, Call, Sync}
 use Rattle.qs_graph.specs.Synced.{without_syncs}
 use Rattle.qs_syncset.specs.SoundSynced.{IsSoundSynced, IsOnReserved}
 use Rattle.qs_chunk.specs.LaneViews.{ClientLane}
@@ -34,10 +34,7 @@ sent_from settings t names m h parcels.Sync pl = after_sync settings t names m p
 sent_from settings t names m h parcels.End pl = after_end settings t names m pl
 
 moved_to : (P : ℕ → Parcel → Type 0) (g : ℕ) (q : Parcel) (h : ℕ) (parcel : Parcel) → Send g q ≡ Send h parcel → P g q → P h parcel
-moved_to P g q h parcel e k =
-    let a : g ≡ h = cc in
-    let b : q ≡ parcel = cc in
-    subst (λ h. P h parcel) a (subst (P g) b k)
+moved_to P g q h parcel e k = search rules
 
 module _ (program : ProgramShape) (t : Ticket) (snt : ℕ → List Parcel) (got : ℕ → List HeldState) (settings : Settings) (lined : Lined (reserves program t) (objects_of_block program t)) (blocks : ℕ) where
   -- after a parcel to an object
@@ -98,19 +95,16 @@ module _ (program : ProgramShape) (t : Ticket) (snt : ℕ → List Parcel) (got 
 
   sends_at : (m : Client) (pg : BlockRecord) (pl : ClientStage) → PlaceOk program t snt got m pg pl → (h : ℕ) (parcel : Parcel) → act_at settings blocks m pl ≡ Send h parcel → After pg m pl h parcel
   sends_at m pg (between l) k h parcel e = absurd (outside_not_send (nat_lt m.begun blocks) h parcel e)
-  sends_at m pg (runs (Done l)) k h parcel e = absurd k.1
   sends_at m pg (runs (Call r next)) k h parcel e = order_sends m pg r next (m.held r.object) (m.chunk r.object) refl refl k.0 h parcel e
   sends_at m pg (runs (Sync g next)) k h parcel e = sync_sends m pg g next (m.held g) (m.chunk g) refl refl k.0 h parcel e
-  sends_at m pg (runs (Query r next)) k h parcel e = absurd k.1
   sends_at m pg (full g code) k h parcel e = full_sends m pg g code (m.chunk g) refl k h parcel e
   sends_at m pg (awaits g code) k h parcel e = absurd (cc)
   sends_at m pg (leaves g hs l) k h parcel e = leaves_sends m pg g hs l (m.held g) (m.chunk g) refl refl k h parcel e
+  sends_at m pg (runs _) k h parcel e = absurd k.1
 
   from_is : (m : Client) (h : ℕ) (parcel : Parcel) → after_parcel settings t (objects_of_block program t) m h parcel ≡ sent_from settings t (objects_of_block program t) m h parcel m.stage
   from_is m h (parcels.Home x) = refl
-  from_is m h (parcels.Work chunk) = refl
-  from_is m h parcels.Sync = refl
-  from_is m h parcels.End = refl
+  from_is m h _ = refl
 
   -- a parcel that was sent
   pub sends_ok : (m : Client) (pg : BlockRecord) (h : ℕ) (parcel : Parcel) → PlaceOk program t snt got m pg m.stage → act_of settings blocks m ≡ Send h parcel
@@ -119,16 +113,15 @@ module _ (program : ProgramShape) (t : Ticket) (snt : ℕ → List Parcel) (got 
 
   gets_at : (m : Client) (pg : BlockRecord) (pl : ClientStage) (x : HeldState) → PlaceOk program t snt got m pg pl → (h : ℕ) → act_at settings blocks m pl ≡ Await h → Ends program t snt (put got h (got h ++ x ∷ [])) settings lined pg (clients.take_object settings t (objects_of_block program t) m x pl)
   gets_at m pg (between l) x k h e = absurd (outside_not_await (nat_lt m.begun blocks) h e)
-  gets_at m pg (runs (Done l)) x k h e = absurd k.1
   gets_at m pg (runs (Call r next)) x k h e = absurd (call_not_await settings r.object (m.held r.object) (m.chunk r.object) h e)
   gets_at m pg (runs (Sync g next)) x k h e = absurd (clears_not_await settings g (m.held g) (m.chunk g) parcels.Sync h e)
-  gets_at m pg (runs (Query r next)) x k h e = absurd k.1
   gets_at m pg (full g code) x k h e = absurd (full_not_await settings g (m.chunk g) h e)
   gets_at m pg (awaits g code) x k h e =
       let is : g ≡ h = cc in
       subst (λ h. Ends program t snt (put got h (got h ++ x ∷ [])) settings lined pg (clients.take_object settings t (objects_of_block program t) m x (awaits g code))) is
       (settle_ends program t snt (put got g (got g ++ x ∷ [])) settings lined code (record m { held = put m.held g (Some x) }) pg (got_ready program t snt got m pg g code x k))
   gets_at m pg (leaves g hs l) x k h e = absurd (clears_not_await settings g (m.held g) (m.chunk g) parcels.End h e)
+  gets_at m pg (runs _) x k h e = absurd k.1
 
   -- an object that came
   pub gets_ok : (m : Client) (pg : BlockRecord) (h : ℕ) (x : HeldState) → PlaceOk program t snt got m pg m.stage → act_of settings blocks m ≡ Await h
@@ -137,23 +130,15 @@ module _ (program : ProgramShape) (t : Ticket) (snt : ℕ → List Parcel) (got 
 
   chunk_order : (m : Client) (pg : BlockRecord) (r : Request) (next : Synced) (hd : Option HeldState) (ck : Option (List Request)) → m.held r.object ≡ hd → m.chunk r.object ≡ ck → Ready program t snt got m pg (Call r next)
       → (h : ℕ) → call_act settings r.object hd ck ≡ NeedChunk h → Ends program t snt got settings lined pg (settle settings t (objects_of_block program t) (Call r next) (record m { chunk = put m.chunk h (Some []) }))
-  chunk_order m pg r next (Some x) ck a b k h e = absurd (cc)
-  chunk_order m pg r next None (Some rs) a b k h e = absurd (cc)
   chunk_order m pg r next None None a b k h e =
       let is : r.object ≡ h = cc in
       let fine = subst (AsksOnly (reserves program t)) k.rest k.block_record.fine in
       subst (λ h. Ends program t snt got settings lined pg (settle settings t (objects_of_block program t) (Call r next) (record m { chunk = put m.chunk h (Some []) }))) is
       (settle_ends program t snt got settings lined (Call r next) (record m { chunk = put m.chunk r.object (Some []) }) pg (chunk_ready program t snt got m pg (Call r next) r.object a b fine.1 k))
+  chunk_order m pg r next _ _ a b k h e = absurd (cc)
 
   chunks_at : (m : Client) (pg : BlockRecord) (pl : ClientStage) → PlaceOk program t snt got m pg pl → (h : ℕ) → act_at settings blocks m pl ≡ NeedChunk h → Ends program t snt got settings lined pg (take_chunk settings t (objects_of_block program t) m h pl)
-  chunks_at m pg (between l) k h e = absurd (outside_not_need (nat_lt m.begun blocks) h e)
-  chunks_at m pg (runs (Done l)) k h e = absurd k.1
-  chunks_at m pg (runs (Call r next)) k h e = chunk_order m pg r next (m.held r.object) (m.chunk r.object) refl refl k.0 h e
-  chunks_at m pg (runs (Sync g next)) k h e = absurd (clears_not_need settings g (m.held g) (m.chunk g) parcels.Sync h e)
-  chunks_at m pg (runs (Query r next)) k h e = absurd k.1
-  chunks_at m pg (full g code) k h e = absurd (full_not_need settings g (m.chunk g) h e)
-  chunks_at m pg (awaits g code) k h e = absurd (cc)
-  chunks_at m pg (leaves g hs l) k h e = absurd (clears_not_need settings g (m.held g) (m.chunk g) parcels.End h e)
+  chunks_at m pg pl k h e = search (rules, outside_not_need, chunk_order, clears_not_need, full_not_need)
 
   -- a chunk that came
   pub chunks_ok : (m : Client) (pg : BlockRecord) (h : ℕ) → PlaceOk program t snt got m pg m.stage → act_of settings blocks m ≡ NeedChunk h

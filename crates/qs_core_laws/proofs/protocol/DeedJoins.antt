@@ -25,23 +25,17 @@ front_join false x all front back e = e
 -- what it sent and got, and reserved, by deeds one after another
 pub sent_join : (h : ℕ) (before after : List Deed) → sent_to h (before ++ after) ≡ sent_to h before ++ sent_to h after
 sent_join h [] after = refl
-sent_join h (deeds.reserves ∷ before) after = sent_join h before after
 sent_join h (deeds.sends a p ∷ before) after =
     front_join (a == h) p (sent_to h (before ++ after)) (sent_to h before) (sent_to h after) (sent_join h before after)
-sent_join h (deeds.gets a x ∷ before) after = sent_join h before after
-sent_join h (deeds.takes_chunk a ∷ before) after = sent_join h before after
+sent_join h (_ ∷ before) after = sent_join h before after
 
 pub got_join : (h : ℕ) (before after : List Deed) → got_from h (before ++ after) ≡ got_from h before ++ got_from h after
 got_join h [] after = refl
-got_join h (deeds.reserves ∷ before) after = got_join h before after
-got_join h (deeds.sends a p ∷ before) after = got_join h before after
 got_join h (deeds.gets a x ∷ before) after =
     front_join (a == h) x (got_from h (before ++ after)) (got_from h before) (got_from h after) (got_join h before after)
-got_join h (deeds.takes_chunk a ∷ before) after = got_join h before after
+got_join h (_ ∷ before) after = got_join h before after
 
 pub reservations_join : (before after : List Deed) → reservations (before ++ after) ≡ reservations after + reservations before
 reservations_join [] after = sym (add-zero (reservations after))
 reservations_join (deeds.reserves ∷ before) after = let ih = reservations_join before after in omega (arith, ih)
-reservations_join (deeds.sends a p ∷ before) after = reservations_join before after
-reservations_join (deeds.gets a x ∷ before) after = reservations_join before after
-reservations_join (deeds.takes_chunk a ∷ before) after = reservations_join before after
+reservations_join (_ ∷ before) after = reservations_join before after

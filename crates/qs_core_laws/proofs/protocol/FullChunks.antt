@@ -1,5 +1,5 @@
 -- A client that stands with a full chunk has that chunk: so where it asks for nothing more it is between blocks.
-use Rattle.std.proofs.Common.{◌≡◌, ◌<◌, ◌≤◌, arith, ℕ, nat_lt, Bool, true, false, if◌then◌else◌, ◌==◌, ◌&&◌, is_some, List, [], ◌∷◌, ◌++◌, length, refl, sym, ap, ◌∙◌, Option, Some, None, ℤ}
+use Rattle.std.proofs.Common.{◌≡◌, ◌<◌, ◌≤◌, ℕ, Bool, true, false, if◌then◌else◌, ◌&&◌, is_some, List, [], ◌∷◌, Option, Some, None, ℤ, rules}
 use Rattle.std.proofs.lemmas.Bool.Decides.{nat_tests}
 use Rattle.qs_objects.specs.audit.Journals.{HeldState, run_one}
 use Rattle.qs_objects.specs.declared.held.Ticket.{Ticket}
@@ -11,8 +11,6 @@ use Rattle.qs_meaning.specs.BlockRecords.{BlockRecord}
 use Rattle.qs_meaning.proofs.TreeWalks.{put_here}
 use Rattle.qs_graph.specs.audit.Synced.{Synced, Done, Call, Sync, Query}
 use Rattle.qs_chunk.specs.declared.parcel.Parcel.{Parcel}
-use Rattle.qs_chunk.specs.declared.parcel.Parcel.TheVariants as parcels
-use Rattle.qs_client.specs.declared.rules.act.Act.{Act}
 use Rattle.qs_client.specs.declared.rules.act.Act.TheVariants.{Reserve, Send, Finished}
 use Rattle.qs_client.specs.audit.rules.Client.{Client, ClientStage, Settings, Settlement, between, runs, full, awaits, leaves, act_at, call_act, call, clear, end_block, query, after_parcel, after_end, after_home, after_sync, after_work, settle, stop_at, take_chunk}
 use Rattle.qs_client.specs.audit.rules.Client as clients
@@ -21,10 +19,7 @@ use Rattle.qs_core_laws.proofs.protocol.ClientInvariants.{PlaceOk}
 
 abbrev pub HasFull : Client → ClientStage → Type 0
 HasFull m (full h rest) = is_some (m.chunk h) ≡ true
-HasFull m (between l) = Unit {0}
-HasFull m (runs rest) = Unit {0}
-HasFull m (awaits h rest) = Unit {0}
-HasFull m (leaves h hs l) = Unit {0}
+HasFull m _ = Unit {0}
 
 abbrev pub ComesFull : Settlement → Type 0
 ComesFull r = HasFull r.client r.client.stage
@@ -36,14 +31,7 @@ module _ (settings : Settings) (t : Ticket) (names : List ℕ) where
 
   call_full : (m : Client) (r : Request) (next : Synced) (hd : Option HeldState) (ck : Option (List Request))
       → ((m : Client) → ComesFull (settle settings t names next m)) → ComesFull (call settings t names m r next (λ m. settle settings t names next m) hd ck)
-  call_full m r next (Some x) ck ih = tt
-  call_full m r next None None ih = tt
-  call_full m r next None (Some rs) ih = by_case (length (rs ++ r ∷ []) == settings.size)
-    where
-      by_case : (b : Bool) → ComesFull (if b then stop_at (record m { chunk = put m.chunk r.object (Some (rs ++ r ∷ [])) }) (full r.object next)
-          else settle settings t names next (record m { chunk = put m.chunk r.object (Some (rs ++ r ∷ [])) }))
-      by_case true = ap is_some (put_here m.chunk r.object (Some (rs ++ r ∷ [])))
-      by_case false = ih (record m { chunk = put m.chunk r.object (Some (rs ++ r ∷ [])) })
+  call_full m r next hd ck ih = search (rules, put_here)
 
   query_full : (m : Client) (r : Request) (next : ℤ → Synced) (hd : Option HeldState) → ((v : ℤ) (m : Client) → ComesFull (settle settings t names (next v) m))
       → ComesFull (query settings t names m r next (λ v m. settle settings t names (next v) m) hd)
@@ -62,67 +50,42 @@ module _ (settings : Settings) (t : Ticket) (names : List ℕ) where
   settle_full (Query r next) m = query_full m r next (m.held r.object) (λ v m. settle_full (next v) m)
 
   home_full : (m : Client) (h : ℕ) (pl : ClientStage) → HasFull m pl → ComesFull (after_home settings t names m h pl)
-  home_full m h (between l) k = k
   home_full m h (runs code) k = settle_full code (record m { held = put m.held h None })
-  home_full m h (full g code) k = k
-  home_full m h (awaits g code) k = k
-  home_full m h (leaves g hs l) k = k
+  home_full m h _ k = k
 
   work_full : (m : Client) (h : ℕ) (pl : ClientStage) → HasFull m pl → ComesFull (after_work settings t names m h pl)
-  work_full m h (between l) k = k
   work_full m h (runs code) k = settle_full code (record m { chunk = put m.chunk h None })
   work_full m h (full g code) k = settle_full code (record m { chunk = put m.chunk h None })
-  work_full m h (awaits g code) k = k
-  work_full m h (leaves g hs l) k = k
+  work_full m h _ k = k
 
   sync_sent_full : (m : Client) (pl : ClientStage) → HasFull m pl → ComesFull (after_sync settings t names m pl)
-  sync_sent_full m (between l) k = k
   sync_sent_full m (runs (Done l)) k = k
-  sync_sent_full m (runs (Call r next)) k = k
-  sync_sent_full m (runs (Sync h next)) k = k
-  sync_sent_full m (runs (Query r next)) k = k
-  sync_sent_full m (full g code) k = k
-  sync_sent_full m (awaits g code) k = k
-  sync_sent_full m (leaves g hs l) k = k
+  sync_sent_full m _ k = k
 
   end_full : (m : Client) (pl : ClientStage) → HasFull m pl → ComesFull (after_end settings t names m pl)
-  end_full m (between l) k = k
-  end_full m (runs code) k = k
-  end_full m (full g code) k = k
-  end_full m (awaits g code) k = k
   end_full m (leaves g hs l) k = leaving_full m hs l
+  end_full m _ k = k
 
   pub sent_full : (m : Client) (h : ℕ) (parcel : Parcel) → HasFull m m.stage → ComesFull (after_parcel settings t names m h parcel)
-  sent_full m h (parcels.Home x) k = home_full m h m.stage k
-  sent_full m h (parcels.Work chunk) k = work_full m h m.stage k
-  sent_full m h parcels.Sync k = sync_sent_full m m.stage k
-  sent_full m h parcels.End k = end_full m m.stage k
+  sent_full m h parcel k = search (rules, home_full, work_full, sync_sent_full, end_full)
 
   pub got_full : (m : Client) (x : HeldState) (pl : ClientStage) → HasFull m pl → ComesFull (clients.take_object settings t names m x pl)
-  got_full m x (between l) k = k
-  got_full m x (runs code) k = k
-  got_full m x (full g code) k = k
   got_full m x (awaits g code) k = settle_full code (record m { held = put m.held g (Some x) })
-  got_full m x (leaves g hs l) k = k
+  got_full m x _ k = k
 
   pub chunk_full : (m : Client) (h : ℕ) (pl : ClientStage) → HasFull m pl → ComesFull (take_chunk settings t names m h pl)
-  chunk_full m h (between l) k = k
   chunk_full m h (runs code) k = settle_full code (record m { chunk = put m.chunk h (Some []) })
-  chunk_full m h (full g code) k = k
-  chunk_full m h (awaits g code) k = k
-  chunk_full m h (leaves g hs l) k = k
+  chunk_full m h _ k = k
 
 -- no act in a block is the last
 module _ (settings : Settings) where
   call_not_last : (h : ℕ) (hd : Option HeldState) (ck : Option (List Request)) → call_act settings h hd ck ≡ Finished → ⊥
-  call_not_last h (Some x) ck e = cc
   call_not_last h None None e = cc
-  call_not_last h None (Some rs) e = cc
+  call_not_last h _ _ e = cc
 
   clears_not_last : (h : ℕ) (hd : Option HeldState) (ck : Option (List Request)) (parcel : Parcel) → clear settings h hd ck (Send h parcel) ≡ Finished → ⊥
-  clears_not_last h (Some x) ck parcel e = cc
   clears_not_last h None (Some rs) parcel e = cc
-  clears_not_last h None None parcel e = cc
+  clears_not_last h _ _ parcel e = cc
 
   full_not_last : (h : ℕ) (ck : Option (List Request)) → is_some ck ≡ true → clear settings h None ck Finished ≡ Finished → ⊥
   full_not_last h (Some rs) some e = cc
@@ -132,31 +95,13 @@ module _ (settings : Settings) where
 pub finished_at : (program : ProgramShape) (t : Ticket) (snt : ℕ → List Parcel) (got : ℕ → List HeldState) (settings : Settings) (blocks : ℕ)
     (m : Client) (pg : BlockRecord) (pl : ClientStage) → PlaceOk program t snt got m pg pl → HasFull m pl → act_at settings blocks m pl ≡ Finished
     → (l : Locals) × (pl ≡ between l)
-finished_at program t snt got settings blocks m pg (between l) k some e = (l, refl)
-finished_at program t snt got settings blocks m pg (runs (Done l)) k some e = absurd k.1
-finished_at program t snt got settings blocks m pg (runs (Call r next)) k some e =
-    absurd (call_not_last settings r.object (m.held r.object) (m.chunk r.object) e)
-finished_at program t snt got settings blocks m pg (runs (Sync g next)) k some e =
-    absurd (clears_not_last settings g (m.held g) (m.chunk g) parcels.Sync e)
-finished_at program t snt got settings blocks m pg (runs (Query r next)) k some e = absurd k.1
-finished_at program t snt got settings blocks m pg (full g code) k some e = absurd (full_not_last settings g (m.chunk g) some e)
-finished_at program t snt got settings blocks m pg (awaits g code) k some e = absurd (cc)
-finished_at program t snt got settings blocks m pg (leaves g hs l) k some e =
-    absurd (clears_not_last settings g (m.held g) (m.chunk g) parcels.End e)
+finished_at program t snt got settings blocks m pg pl k some e = search (rules, call_not_last, clears_not_last, full_not_last)
 
 -- between blocks it reserves where a block is left, and is finished where none is
 pub reserves_more : (settings : Settings) (blocks : ℕ) (m : Client) (l : Locals) → m.stage ≡ between l
     → clients.act_of settings blocks m ≡ Reserve → m.begun < blocks
-reserves_more settings blocks m l at act = by_test (nat_lt m.begun blocks) refl (sym (between_acts settings blocks m l at) ∙ act)
-  where
-    by_test : (b : Bool) → nat_lt m.begun blocks ≡ b → ◌≡◌ {A = Act} (if b then Reserve else Finished) Reserve → m.begun < blocks
-    by_test true e is = grind (arith, nat_tests)
-    by_test false e is = absurd (cc)
+reserves_more settings blocks m l at act = search (rules, between_acts, nat_tests)
 
 pub finished_all : (settings : Settings) (blocks : ℕ) (m : Client) (l : Locals) → m.stage ≡ between l
     → clients.act_of settings blocks m ≡ Finished → blocks ≤ m.begun
-finished_all settings blocks m l at act = by_test (nat_lt m.begun blocks) refl (sym (between_acts settings blocks m l at) ∙ act)
-  where
-    by_test : (b : Bool) → nat_lt m.begun blocks ≡ b → ◌≡◌ {A = Act} (if b then Reserve else Finished) Finished → blocks ≤ m.begun
-    by_test true e is = absurd (cc)
-    by_test false e is = grind (arith, nat_tests)
+finished_all settings blocks m l at act = search (rules, between_acts, nat_tests)

@@ -1,15 +1,14 @@
 -- An object's journal that has grown by the events of one ticket: it stays honest, replays to the object's state, and
 -- keeps its room. That journals go on along the order of reservations is shown with it, ticket by ticket, of the
 -- machine and of threads.
-use Rattle.std.proofs.Common.{◌≡◌, ◌+◌, ◌≤◌, arith, ℕ, suc, Bool, true, false, if◌then◌else◌, List, [], ◌∷◌, ◌++◌, map, length, refl, sym, ap, ◌∙◌, subst, append_assoc, append-nil, None}
+use Rattle.std.proofs.Common.{◌≡◌, ◌+◌, ◌≤◌, ℕ, Bool, if◌then◌else◌, List, [], ◌∷◌, ◌++◌, map, length, refl, sym, ap, ◌∙◌, subst, append_assoc, append-nil, None, rules}
 use Rattle.std.proofs.lemmas.List.{length-append, length-map, map-append}
 use Rattle.qs_objects.specs.audit.Act.{act}
-use Rattle.qs_objects.specs.audit.Journals.{HeldState, after, answer, has_room, with_entry, replay, unstamp, without_tickets, IsHonest}
+use Rattle.qs_objects.specs.audit.Journals.{HeldState, has_room, with_entry, replay, unstamp, without_tickets, IsHonest}
 use Rattle.qs_objects.specs.Parts.{stamp}
 use Rattle.qs_objects.specs.declared.held.Entry.{Entry}
 use Rattle.qs_objects.specs.declared.held.Event.{Event}
 use Rattle.qs_objects.specs.declared.held.Ticket.{Ticket}
-use Rattle.qs_objects.specs.declared.Request.{Request}
 use Rattle.qs_objects.proofs.Replays.{replay-append, IsHonest-append}
 use Rattle.qs_meaning.proofs.Histories.{unstamp_all}
 use Rattle.qs_chunk.specs.LaneViews.{Extends}
@@ -20,13 +19,6 @@ pub record Grown (t : Ticket) (x : HeldState) (es : List Event) (y : HeldState) 
   pub state : y.object ≡ replay x.object es
   pub journal : y.journal ≡ x.journal ++ map (stamp t) es
   pub room : y.room ≡ x.room
-
--- the entry of a request that is run, and the object after it
-abbrev answered : Ticket → HeldState → Request → Entry
-answered t x r = record { ticket = t; request = r; reply = answer x.object r }
-
-abbrev once_run : Ticket → HeldState → Request → HeldState
-once_run t x r = record { object = after x.object r; journal = x.journal ++ answered t x r ∷ []; room = x.room }
 
 pub grown : (t : Ticket) (x : HeldState) (es : List Event) (y : HeldState) → Extends t x es y → length x.journal + length es ≤ x.room → Grown t x es y
 grown t x [] y k le = record {
@@ -41,17 +33,7 @@ grown t x (e ∷ es) y k le = by_case (has_room x) refl (λ x k le. grown t x es
         → (e.reply ≡ (if b then with_entry x t e.request (act x.object e.request.op e.request.args) else (x, None)).1)
         × Extends t (if b then with_entry x t e.request (act x.object e.request.op e.request.args) else (x, None)).0 es y
         → Grown t x (e ∷ es) y
-    by_case false h ih k = absurd (let le' : length x.journal + suc (length es) ≤ x.room = le in let full : x.room ≤ length x.journal = grind (arith, h) in omega (arith, le', full))
-    by_case true h ih k =
-        let more : length (x.journal ++ answered t x e.request ∷ []) ≡ length x.journal + 1 = length-append x.journal (answered t x e.request ∷ []) in
-        let m = ih (once_run t x e.request) k.1 (omega (arith, le, more)) in
-        record {
-          honest = (k.0, m.honest);
-          state = m.state;
-          journal = m.journal ∙ (append_assoc x.journal (answered t x e.request ∷ []) (map (stamp t) es)
-              ∙ ap (λ v. x.journal ++ (record { ticket = t; request = e.request; reply = v } ∷ map (stamp t) es)) (sym k.0));
-          room = m.room;
-        }
+    by_case b h ih k = search (rules, length-append, append_assoc)
 
 -- an honest journal after these events
 pub stamped_honest : (t : Ticket) (x z : HeldState) (es : List Event) (j : List Entry) → Grown t x es z → IsHonest z.object (without_tickets j) → IsHonest x.object (without_tickets (map (stamp t) es ++ j))
@@ -65,7 +47,4 @@ stamped_replay t x z es j e =
     ap (replay x.object) is ∙ (replay-append x.object es (without_tickets j) ∙ ap (λ s. replay s (without_tickets j)) (sym e.state))
 
 pub grown_room : (t : Ticket) (x z : HeldState) (es : List Event) (n : ℕ) → Grown t x es z → length x.journal + (length es + n) ≤ x.room → length z.journal + n ≤ z.room
-grown_room t x z es n e le =
-    let a : length z.journal ≡ length x.journal + length es = ap length e.journal ∙ (length-append x.journal (map (stamp t) es) ∙ ap (λ m. length x.journal + m) (length-map es (stamp t))) in
-    let b = e.room in
-    omega (arith, a, b, le)
+grown_room t x z es n e le = search (rules, length-append, length-map)

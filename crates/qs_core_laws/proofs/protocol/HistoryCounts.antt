@@ -1,6 +1,6 @@
 -- How many Syncs a client's whole run sent for each object, block by block: as many as its block's tree and trace say,
 -- and as its rows count.
-use Rattle.std.proofs.Common.{◌≡◌, ◌<◌, ◌≤◌, arith, ℕ, suc, ◌+◌, Bool, true, false, ◌==◌, is_some, List, [], ◌∷◌, ◌++◌, length, map, slice_index_or, slice_set, refl, sym, ap, ◌∙◌, subst, true≢false, ⊎_elim, length-set}
+use Rattle.std.proofs.Common.{◌≡◌, ◌<◌, ◌≤◌, arith, ℕ, suc, ◌+◌, Bool, true, false, ◌==◌, is_some, List, [], ◌∷◌, ◌++◌, length, map, slice_index_or, slice_set, refl, sym, ap, ◌∙◌, subst, true≢false, ⊎_elim, length-set, rules}
 use Rattle.std.specs.List.{AllByRecursion, IsDistinct}
 use Rattle.std.proofs.lemmas.List.{get_or-map, length-map}
 use Rattle.qs_objects.specs.audit.Journals.{HeldState}
@@ -138,14 +138,7 @@ module _ (program : ProgramShape) (fine : (t : Ticket) (l : Locals) → AsksOnly
     comes_alike : (k : ℕ) → m.client.begun ≡ suc k → (r : Settlement) → r.client.begun ≡ m.client.begun → (total : ℕ)
         → Counts set_by (ticket c k) (objects_of_block program (ticket c k)) (tree_at code k (entry_rows m k)) (trace_rows m k) (w.syncs k) r
         → InCounts (came (own program fine lined c code size reserved_is walk_is m (ticket c k)) r total m.counts)
-    comes_alike k e r still total now = comes k e r still (w.syncs k) total m.counts now w.row_count (λ j lt.
-        subst (λ f. IsTallied (objects_of_block program (ticket c j)) (count_rows m j) f) (sym (put_same j)) (w.rows j lt))
-      where
-        put_same : (j : ℕ) → put w.syncs k (w.syncs k) j ≡ w.syncs j
-        put_same j = ⊎_elim
-            (λ (is : k ≡ j). subst (λ j. put w.syncs k (w.syncs k) j ≡ w.syncs j) is (put_here w.syncs k (w.syncs k)))
-            (λ (other : (k == j) ≡ false). put_there w.syncs k (w.syncs k) j other)
-            (num_cases k j)
+    comes_alike k e r still total now = search (rules, comes, objects_of_block, put_here, put_there, num_cases)
 
     -- where a Sync was sent for h
     comes_synced : (k : ℕ) → m.client.begun ≡ suc k → (h : ℕ) → reserves program (ticket c k) h ≡ true → (r : Settlement) → r.client.begun ≡ m.client.begun
@@ -166,11 +159,7 @@ module _ (program : ProgramShape) (fine : (t : Ticket) (l : Locals) → AsksOnly
       where
         more_tallied : (hs : List ℕ) (xs : List SyncCount) (n : ℕ → ℕ) → IsDistinct ◌==◌ hs → (h : ℕ) → is_in hs h ≡ true → IsTallied hs xs n
             → IsTallied hs (with_sync h xs) (put n h (suc (n h)))
-        more_tallied hs xs n distinct h mine old = record {
-          objects_are = objects_stay h xs ∙ old.objects_are;
-          numbers = sent_for h xs n (subst (λ hs. is_in hs h ≡ true) (sym old.objects_are) mine)
-              (subst (IsDistinct ◌==◌) (sym old.objects_are) distinct) old.numbers;
-        }
+        more_tallied hs xs n distinct h mine old = search (rules, objects_stay, sent_for)
 
     -- between blocks all that were begun are over
     all_past : (l : Locals) → m.client.stage ≡ between l → (j : ℕ) → j < m.client.begun → Past j (entry_rows m j) (trace_rows m j) (w.syncs j)
@@ -352,10 +341,7 @@ module _ (program : ProgramShape) (fine : (t : Ticket) (l : Locals) → AsksOnly
 
   stands_between : (p : ClientStage) → is_between p ≡ true → (l : Locals) × (p ≡ between l)
   stands_between (between l) e = (l, refl)
-  stands_between (clients.runs rest) e = absurd (true≢false (sym e))
-  stands_between (clients.full h rest) e = absurd (true≢false (sym e))
-  stands_between (clients.awaits h rest) e = absurd (true≢false (sym e))
-  stands_between (clients.leaves h hs l) e = absurd (true≢false (sym e))
+  stands_between _ e = absurd (true≢false (sym e))
 
   -- how many Syncs a client's whole run sent
   pub history_counts : (deeds : List Deed) (end : ClientModel) → RunsTo c (fresh_mind code size) deeds end → (tale : ClientHistory program c code deeds end)

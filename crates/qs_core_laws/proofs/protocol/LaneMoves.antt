@@ -33,7 +33,6 @@ lane_goes t false [] gots es s sent' gots' es' s' k g =
 lane_goes t false (parcels.Work chunk ∷ sent) gots es s sent' gots' es' s' k g =
     (k.0 ++ es', ap (λ xs. xs ++ es') k.1 ∙ append_assoc (map command_event chunk.items) k.0 es', k.2, lane_goes t false sent gots k.0 s sent' gots' es' s' k.3 g)
 lane_goes t false (parcels.Sync ∷ sent) gots es s sent' gots' es' s' k g = lane_goes t true sent gots es s sent' gots' es' s' k g
-lane_goes t false (parcels.Home x ∷ sent) gots es s sent' gots' es' s' k g = absurd k
 lane_goes t false (parcels.End ∷ sent) gots es s sent' gots' es' s' k g =
     let e = subst (λ s. ContinuesLane t s sent' gots' es' s') k.3 g in
     (ap₂ (λ a b. a ++ b) k.0 e.0, ap₂ (λ a b. a ++ b) k.1 e.1, ap₂ (λ a b. a ++ b) k.2 e.2, e.3)
@@ -42,9 +41,7 @@ lane_goes t true [] (x ∷ gots) es s sent' gots' es' s' k g =
     subst (λ gs. ClientLane t true sent' (x ∷ (gs ++ gots')) (es ++ es') s') (sym k.1) ((subst (λ s. ContinuesLane t s sent' gots' es' s') k.2 g) x es k.3)
 lane_goes t true (parcels.Home x ∷ sent) gots es s sent' gots' es' s' k g =
     (k.0, k.1 ++ gots', k.2, k.3 ++ es', ap (λ gs. gs ++ gots') k.4, ap (λ es. es ++ es') k.5 ∙ append_assoc k.2 k.3 es', k.6, lane_goes t false sent k.1 k.3 s sent' gots' es' s' k.7 g)
-lane_goes t true (parcels.Work chunk ∷ sent) gots es s sent' gots' es' s' k g = absurd k
-lane_goes t true (parcels.Sync ∷ sent) gots es s sent' gots' es' s' k g = absurd k
-lane_goes t true (parcels.End ∷ sent) gots es s sent' gots' es' s' k g = absurd k
+lane_goes t _ (_ ∷ sent) gots es s sent' gots' es' s' k g = absurd k
 
 -- the seven moves of a client
 pub goes_put : (t : Ticket) (chunk : List Request) (r : Request) → IsCommand r.op → ContinuesLane t (sends chunk) [] [] (command_event r ∷ []) (sends (chunk ++ r ∷ []))
@@ -80,7 +77,6 @@ pub handler_goes : (t : Ticket) (asked : Bool) (x : HeldState) (got : List Parce
 handler_goes t false x [] gave s got' gave' s' k g = subst (λ gs. HandlerLane t false x got' (gs ++ gave') s') (sym k.0) (subst (λ s. HandlerGoes t s got' gave' s') k.1 g)
 handler_goes t false x (parcels.Work chunk ∷ got) gave s got' gave' s' k g = handler_goes t false (ran_all x t chunk.items) got gave s got' gave' s' k g
 handler_goes t false x (parcels.Sync ∷ got) gave s got' gave' s' k g = handler_goes t true x got gave s got' gave' s' k g
-handler_goes t false x (parcels.Home y ∷ got) gave s got' gave' s' k g = absurd k
 handler_goes t false x (parcels.End ∷ got) gave s got' gave' s' k g =
     let e = subst (λ s. HandlerGoes t s got' gave' s') k.2 g in
     (ap₂ (λ a b. a ++ b) k.0 e.0, ap₂ (λ a b. a ++ b) k.1 e.1, e.2)
@@ -88,9 +84,7 @@ handler_goes t true x [] [] s got' gave' s' k g = subst (λ s. HandlerGoes t s g
 handler_goes t true x [] (y ∷ gave) s got' gave' s' k g =
     subst (λ y. HandlerLane t true x got' (y ∷ (gave ++ gave')) s') (sym k.0) (subst (λ gs. HandlerLane t true x got' (x ∷ (gs ++ gave')) s') (sym k.1) (subst (λ s. HandlerGoes t s got' gave' s') k.2 g))
 handler_goes t true x (parcels.Home y ∷ got) gave s got' gave' s' k g = (k.0 ++ gave', ap (λ gs. gs ++ gave') k.1, handler_goes t false y got k.0 s got' gave' s' k.2 g)
-handler_goes t true x (parcels.Work chunk ∷ got) gave s got' gave' s' k g = absurd k
-handler_goes t true x (parcels.Sync ∷ got) gave s got' gave' s' k g = absurd k
-handler_goes t true x (parcels.End ∷ got) gave s got' gave' s' k g = absurd k
+handler_goes t _ x (_ ∷ got) gave s got' gave' s' k g = absurd k
 
 -- the five moves of a handler
 pub handler_work : (t : Ticket) (x : HeldState) (chunk : Batch Request) → HandlerGoes t (serves x) (parcels.Work chunk ∷ []) [] (serves (ran_all x t chunk.items))

@@ -20,31 +20,23 @@ use Rattle.qs_core_laws.proofs.protocol.LaneWholes.{IsCut, back_nil}
 abbrev pub IsEnded : List Parcel → Type 0
 IsEnded [] = ⊥
 IsEnded (parcels.End ∷ ps) = ps ≡ []
-IsEnded (parcels.Work chunk ∷ ps) = IsEnded ps
-IsEnded (parcels.Sync ∷ ps) = IsEnded ps
-IsEnded (parcels.Home x ∷ ps) = IsEnded ps
+IsEnded (_ ∷ ps) = IsEnded ps
 
 -- a client that has left has sent its end
 pub gone_ended : (t : Ticket) (asked : Bool) (sent : List Parcel) (got : List HeldState) (es : List Event) → ClientLane t asked sent got es gone → IsEnded sent
-gone_ended t false [] got es k = absurd (cc (k.1))
 gone_ended t false (parcels.Work chunk ∷ sent) got es k = gone_ended t false sent got k.0 k.3
 gone_ended t false (parcels.Sync ∷ sent) got es k = gone_ended t true sent got es k
-gone_ended t false (parcels.Home x ∷ sent) got es k = absurd k
 gone_ended t false (parcels.End ∷ sent) got es k = k.0
-gone_ended t true [] [] es k = absurd (cc (k.1))
 gone_ended t true [] (x ∷ got) es k = absurd (cc (k.2))
 gone_ended t true (parcels.Home x ∷ sent) got es k = gone_ended t false sent k.1 k.3 k.7
-gone_ended t true (parcels.Work chunk ∷ sent) got es k = absurd k
-gone_ended t true (parcels.Sync ∷ sent) got es k = absurd k
-gone_ended t true (parcels.End ∷ sent) got es k = absurd k
+gone_ended t _ (_ ∷ sent) got es k = absurd k
+gone_ended t _ [] _ es k = absurd (cc (k.1))
 
 -- what is left of it has the end
 pub ended_back : (xs ys : List Parcel) → IsEnded (xs ++ ys) → (ys ≡ [] → ⊥) → IsEnded ys
 ended_back [] ys k some = k
-ended_back (parcels.Work chunk ∷ xs) ys k some = ended_back xs ys k some
-ended_back (parcels.Sync ∷ xs) ys k some = ended_back xs ys k some
-ended_back (parcels.Home x ∷ xs) ys k some = ended_back xs ys k some
 ended_back (parcels.End ∷ xs) ys k some = absurd (some (back_nil xs ys k))
+ended_back (_ ∷ xs) ys k some = ended_back xs ys k some
 
 to_end_ended : (ps rest : List Parcel) → IsEnded ps → to_end (ps ++ rest) ≡ ps
 to_end_ended [] rest k = absurd k
@@ -55,10 +47,8 @@ to_end_ended (parcels.End ∷ ps) rest k = ap (λ qs. parcels.End ∷ qs) (sym k
 
 past_end_ended : (ps rest : List Parcel) → IsEnded ps → past_end (ps ++ rest) ≡ rest
 past_end_ended [] rest k = absurd k
-past_end_ended (parcels.Work chunk ∷ ps) rest k = past_end_ended ps rest k
-past_end_ended (parcels.Sync ∷ ps) rest k = past_end_ended ps rest k
-past_end_ended (parcels.Home x ∷ ps) rest k = past_end_ended ps rest k
 past_end_ended (parcels.End ∷ ps) rest k = ap (λ qs. qs ++ rest) k
+past_end_ended (_ ∷ ps) rest k = past_end_ended ps rest k
 
 to_end_cut : (ps : List Parcel) → IsCut ps → to_end (ps ++ []) ≡ ps
 to_end_cut [] k = refl

@@ -10,7 +10,7 @@ use Rattle.qs_objects.specs.declared.held.Event.{Event}
 use Rattle.qs_objects.specs.declared.held.Ticket.{Ticket}
 use Rattle.qs_objects.proofs.Choices.{eqb_self}
 use Rattle.qs_chunk.specs.audit.Runs.{ran_all}
-use Rattle.qs_chunk.specs.LaneViews.{ObjectStance, gone, ClientLane, Serving, serves, gives, lent, over, HandlerLane}
+use Rattle.qs_chunk.specs.LaneViews.{ObjectStance, gone, ClientLane, Serving, serves, lent, over, HandlerLane}
 use Rattle.qs_chunk.specs.declared.parcel.Parcel.{Parcel}
 use Rattle.qs_chunk.specs.declared.parcel.Parcel.TheVariants as parcels
 use Rattle.qs_played.proofs.FunctionUpdate.{put_at, put_at_here, put_at_there}
@@ -21,52 +21,38 @@ pub gone_over : (t : Ticket) (x : HeldState) (sent : List Parcel) (gots gave : L
     → ClientLane t false sent gots es gone → HandlerLane t false x sent gave s → (z : HeldState) × (s ≡ over z)
 gone_over t x [] gots gave es s k l = absurd (cc (k.1))
 gone_over t x (parcels.Work chunk ∷ sent) gots gave es s k l = gone_over t (ran_all x t chunk.items) sent gots gave k.0 s k.3 l
-gone_over t x (parcels.Home y ∷ sent) gots gave es s k l = absurd k
 gone_over t x (parcels.End ∷ sent) gots gave es s k l = (x, l.2)
 gone_over t x (parcels.Sync ∷ []) [] gave es s k l = absurd (cc (k.1))
 gone_over t x (parcels.Sync ∷ []) (g ∷ gots) gave es s k l = absurd (cc (k.2))
 gone_over t x (parcels.Sync ∷ (parcels.Home y ∷ sent)) gots gave es s k l = gone_over t y sent k.1 l.0 k.3 s k.7 l.2
-gone_over t x (parcels.Sync ∷ (parcels.Work chunk ∷ sent)) gots gave es s k l = absurd k
-gone_over t x (parcels.Sync ∷ (parcels.Sync ∷ sent)) gots gave es s k l = absurd k
-gone_over t x (parcels.Sync ∷ (parcels.End ∷ sent)) gots gave es s k l = absurd k
+gone_over t x (_ ∷ _) gots gave es s k l = absurd k
 
 -- what may come to a handler that serves, and to one that gave the object
 abbrev pub MayCome : Serving → Parcel → List Parcel → Type 0
-MayCome (serves x) (parcels.Home y) way = ⊥
 MayCome (serves x) parcels.End way = way ≡ []
 MayCome (serves x) (parcels.Work chunk) way = Unit {0}
 MayCome (serves x) parcels.Sync way = Unit {0}
 MayCome (lent x) (parcels.Home y) way = Unit {0}
-MayCome (lent x) (parcels.Work chunk) way = ⊥
-MayCome (lent x) parcels.Sync way = ⊥
-MayCome (lent x) parcels.End way = ⊥
-MayCome (gives x) p way = ⊥
-MayCome (over x) p way = ⊥
+MayCome _ _ way = ⊥
 
 come_serves : (t : Ticket) (z : HeldState) (p : Parcel) (way : List Parcel) (gots : List HeldState) (es : List Event) (c : ObjectStance) → ClientLane t false (p ∷ way) gots es c → MayCome (serves z) p way
-come_serves t z (parcels.Work chunk) way gots es c k = tt
-come_serves t z parcels.Sync way gots es c k = tt
 come_serves t z (parcels.Home y) way gots es c k = absurd k
 come_serves t z parcels.End way gots es c k = k.0
+come_serves t z _ way gots es c k = tt
 
 come_lent : (t : Ticket) (z : HeldState) (p : Parcel) (way : List Parcel) (gots : List HeldState) (es : List Event) (c : ObjectStance) → ClientLane t true (p ∷ way) gots es c → MayCome (lent z) p way
-come_lent t z (parcels.Work chunk) way gots es c k = absurd k
-come_lent t z parcels.Sync way gots es c k = absurd k
 come_lent t z (parcels.Home y) way gots es c k = tt
-come_lent t z parcels.End way gots es c k = absurd k
+come_lent t z _ way gots es c k = absurd k
 
 -- nothing comes before what was asked for was given
 come_gives : (t : Ticket) (p : Parcel) (way : List Parcel) (gots : List HeldState) (es : List Event) (c : ObjectStance) → ClientLane t true (p ∷ way) gots es c → gots ≡ [] → ⊥
-come_gives t (parcels.Work chunk) way gots es c k n = k
-come_gives t parcels.Sync way gots es c k n = k
 come_gives t (parcels.Home y) way gots es c k n = cc (k.4, n)
-come_gives t parcels.End way gots es c k n = k
+come_gives t _ way gots es c k n = k
 
 pub come : (t : Ticket) (x : HeldState) (received : List Parcel) (p : Parcel) (way : List Parcel) (gots gave : List HeldState) (es : List Event) (c : ObjectStance) (s : Serving)
     → ClientLane t false (received ++ p ∷ way) gots es c → HandlerLane t false x received gave s → IsFront gots gave → MayCome s p way
 come t x [] p way gots gave es c s k l f = subst (λ s. MayCome s p way) (sym l.1) (come_serves t x p way gots es c k)
 come t x (parcels.Work chunk ∷ received) p way gots gave es c s k l f = come t (ran_all x t chunk.items) received p way gots gave k.0 c s k.3 l f
-come t x (parcels.Home y ∷ received) p way gots gave es c s k l f = absurd k
 come t x (parcels.End ∷ []) p way gots gave es c s k l f = absurd (cc (k.0))
 come t x (parcels.End ∷ (q ∷ received)) p way gots gave es c s k l f = absurd (cc (k.0))
 come t x (parcels.Sync ∷ []) p way gots [] es c s k l f = absurd (come_gives t p way gots es c k (front_of_none gots f))
@@ -74,32 +60,26 @@ come t x (parcels.Sync ∷ []) p way gots (g ∷ gave) es c s k l f = subst (λ 
 come t x (parcels.Sync ∷ (parcels.Home y ∷ received)) p way gots gave es c s k l f =
     let both = front_rest k.0 x k.1 l.0 (subst (λ g. IsFront g (x ∷ l.0)) k.4 (subst (IsFront gots) l.1 f)) in
     come t y received p way k.1 l.0 k.3 c s k.7 l.2 both.1
-come t x (parcels.Sync ∷ (parcels.Work chunk ∷ received)) p way gots gave es c s k l f = absurd k
-come t x (parcels.Sync ∷ (parcels.Sync ∷ received)) p way gots gave es c s k l f = absurd k
-come t x (parcels.Sync ∷ (parcels.End ∷ received)) p way gots gave es c s k l f = absurd k
+come t x (_ ∷ _) p way gots gave es c s k l f = absurd k
 
 -- Where a handler has the object and isn't asked for it, all that it gave was got (and came home).
 pub serves_got : (t : Ticket) (x z : HeldState) (received way : List Parcel) (gots gave : List HeldState) (es : List Event) (c : ObjectStance)
     → ClientLane t false (received ++ way) gots es c → HandlerLane t false x received gave (serves z) → IsFront gots gave → gots ≡ gave
 serves_got t x z [] way gots gave es c k l f = front_of_none gots (subst (IsFront gots) l.0 f) ∙ sym l.0
 serves_got t x z (parcels.Work chunk ∷ received) way gots gave es c k l f = serves_got t (ran_all x t chunk.items) z received way gots gave k.0 c k.3 l f
-serves_got t x z (parcels.Home y ∷ received) way gots gave es c k l f = absurd k
 serves_got t x z (parcels.End ∷ received) way gots gave es c k l f = absurd (cc (l.2))
 serves_got t x z (parcels.Sync ∷ []) way gots [] es c k l f = absurd (cc (l))
 serves_got t x z (parcels.Sync ∷ []) way gots (g ∷ gave) es c k l f = absurd (cc (l.2))
 serves_got t x z (parcels.Sync ∷ (parcels.Home y ∷ received)) way gots gave es c k l f =
     let both = front_rest k.0 x k.1 l.0 (subst (λ g. IsFront g (x ∷ l.0)) k.4 (subst (IsFront gots) l.1 f)) in
     k.4 ∙ (ap₂ (λ g gs. g ∷ gs) both.0 (serves_got t y z received way k.1 l.0 k.3 c k.7 l.2 both.1) ∙ sym l.1)
-serves_got t x z (parcels.Sync ∷ (parcels.Work chunk ∷ received)) way gots gave es c k l f = absurd k
-serves_got t x z (parcels.Sync ∷ (parcels.Sync ∷ received)) way gots gave es c k l f = absurd k
-serves_got t x z (parcels.Sync ∷ (parcels.End ∷ received)) way gots gave es c k l f = absurd k
+serves_got t x z (_ ∷ _) way gots gave es c k l f = absurd k
 
 -- Of a ticket whose end was sent, all that was given was got.
 pub gone_got : (t : Ticket) (x : HeldState) (received way : List Parcel) (gots gave : List HeldState) (es : List Event) (s : Serving)
     → ClientLane t false (received ++ way) gots es gone → HandlerLane t false x received gave s → IsFront gots gave → gots ≡ gave
 gone_got t x [] way gots gave es s k l f = front_of_none gots (subst (IsFront gots) l.0 f) ∙ sym l.0
 gone_got t x (parcels.Work chunk ∷ received) way gots gave es s k l f = gone_got t (ran_all x t chunk.items) received way gots gave k.0 s k.3 l f
-gone_got t x (parcels.Home y ∷ received) way gots gave es s k l f = absurd k
 gone_got t x (parcels.End ∷ received) way gots gave es s k l f = front_of_none gots (subst (IsFront gots) l.1 f) ∙ sym l.1
 gone_got t x (parcels.Sync ∷ []) way gots [] es s k l f = front_of_none gots f
 gone_got t x (parcels.Sync ∷ []) [] [] (g ∷ gave) es s k l f = absurd (cc (k.1))
@@ -108,15 +88,10 @@ gone_got t x (parcels.Sync ∷ []) (parcels.Home y ∷ way) gots (g ∷ gave) es
     let both = front_rest k.0 g k.1 gave (subst (λ q. IsFront q (g ∷ gave)) k.4 f) in
     let none : k.1 ≡ [] = front_of_none k.1 (subst (IsFront k.1) l.1 both.1) in
     k.4 ∙ ap₂ (λ g gs. g ∷ gs) both.0 (none ∙ sym l.1)
-gone_got t x (parcels.Sync ∷ []) (parcels.Work chunk ∷ way) gots (g ∷ gave) es s k l f = absurd k
-gone_got t x (parcels.Sync ∷ []) (parcels.Sync ∷ way) gots (g ∷ gave) es s k l f = absurd k
-gone_got t x (parcels.Sync ∷ []) (parcels.End ∷ way) gots (g ∷ gave) es s k l f = absurd k
 gone_got t x (parcels.Sync ∷ (parcels.Home y ∷ received)) way gots gave es s k l f =
     let both = front_rest k.0 x k.1 l.0 (subst (λ g. IsFront g (x ∷ l.0)) k.4 (subst (IsFront gots) l.1 f)) in
     k.4 ∙ (ap₂ (λ g gs. g ∷ gs) both.0 (gone_got t y received way k.1 l.0 k.3 s k.7 l.2 both.1) ∙ sym l.1)
-gone_got t x (parcels.Sync ∷ (parcels.Work chunk ∷ received)) way gots gave es s k l f = absurd k
-gone_got t x (parcels.Sync ∷ (parcels.Sync ∷ received)) way gots gave es s k l f = absurd k
-gone_got t x (parcels.Sync ∷ (parcels.End ∷ received)) way gots gave es s k l f = absurd k
+gone_got t x (_ ∷ _) _ gots _ es s k l f = absurd k
 
 -- t is in the list, and no ticket of its client comes after it
 abbrev pub LastOf : Ticket → List Ticket → Type 0
@@ -133,9 +108,6 @@ pub last_more : (t : Ticket) (way : Ticket → List Parcel) (p : Parcel) (q : Li
 last_more t way p [] l = absurd l
 last_more t way p (u ∷ us) (inl l) = by_case (u.client == t.client) (last_more t way p us l.1)
   where
-    way' : Ticket → List Parcel
-    way' = put_at way t (way t ++ p ∷ [])
-
     by_case : (b : Bool) → flat_map (put_at way t (way t ++ p ∷ [])) (filter (λ (u : Ticket). u.client == t.client) us) ≡ flat_map way (filter (λ (u : Ticket). u.client == t.client) us) ++ p ∷ []
         → flat_map (put_at way t (way t ++ p ∷ [])) (if b then u ∷ filter (λ (u : Ticket). u.client == t.client) us else filter (λ (u : Ticket). u.client == t.client) us) ≡ flat_map way (if b then u ∷ filter (λ (u : Ticket). u.client == t.client) us else filter (λ (u : Ticket). u.client == t.client) us) ++ p ∷ []
     by_case true ih = ap₂ (λ a b. a ++ b) (put_at_there way t (way t ++ p ∷ []) u l.0) ih ∙ sym (append_assoc (way u) (flat_map way (filter (λ (u : Ticket). u.client == t.client) us)) (p ∷ []))

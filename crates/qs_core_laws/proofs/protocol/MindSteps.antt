@@ -1,6 +1,6 @@
 -- What each deed of a client makes of its mind, once nothing is left to be done for its act; and so what a whole run
 -- keeps.
-use Rattle.std.proofs.Common.{◌≡◌, ℕ, ◌+◌, List, [], ◌∷◌, ◌++◌, refl, sym, ap, ◌∙◌, subst, append_assoc, append-nil, add-zero}
+use Rattle.std.proofs.Common.{◌≡◌, ℕ, ◌+◌, List, [], ◌∷◌, ◌++◌, refl, sym, ap, ◌∙◌, subst, append_assoc, append-nil, add-zero, rules}
 use Rattle.qs_objects.specs.audit.Journals.{HeldState}
 use Rattle.qs_program.specs.audit.Values.{Locals}
 use Rattle.qs_syncset.specs.audit.Codes.{code_at}
@@ -8,7 +8,6 @@ use Rattle.qs_sync_counts.specs.declared.sync_counts.SyncCount.{SyncCount}
 use Rattle.qs_chunk.specs.declared.parcel.Parcel.{Parcel}
 use Rattle.qs_client.specs.audit.rules.Client.{Settlement, between, begin, take_object, after_parcel, take_chunk}
 use Rattle.qs_client.specs.audit.rules.Outgoings.{count_sync, outgoing_of}
-use Rattle.qs_client.specs.declared.rules.outgoing.Outgoing.{Outgoing}
 use Rattle.qs_client.specs.declared.rules.outgoing.Outgoing.TheVariants as outgoings
 use Rattle.qs_client.specs.declared.rules.act.Act.TheVariants as acts
 use Rattle.qs_client.proofs.rules.CarriedValues.{sends_are_parted}
@@ -30,36 +29,9 @@ came m s syncs counts = record {
   outgoing = outgoings.Nothing;
 }
 
--- with nothing left to be done
-abbrev handed_over : ClientModel → Outgoing → ClientModel
-handed_over m handed = record {
-  code = m.code;
-  size = m.size;
-  ticket = m.ticket;
-  client = m.client;
-  entries = m.entries;
-  traces = m.traces;
-  syncs = m.syncs;
-  counts = m.counts;
-  outgoing = handed;
-}
-
 -- where nothing is left to be done the mind stays
 pub done_still : (m : ClientModel) → m.outgoing ≡ outgoings.Nothing → finish m ≡ m
-done_still m e = ap (λ handed. finish (handed_over m handed)) e ∙ (nothing ∙ ap (handed_over m) (sym e))
-  where
-    nothing : finish (handed_over m outgoings.Nothing) ≡ handed_over m outgoings.Nothing
-    nothing = λ i. record {
-      code = m.code;
-      size = m.size;
-      ticket = m.ticket;
-      client = m.client;
-      entries = m.entries;
-      traces = extend_none m.traces m.ticket.index i;
-      syncs = add-zero m.syncs i;
-      counts = m.counts;
-      outgoing = outgoings.Nothing;
-    }
+done_still m e = search (rules, extend_none, add-zero)
 
 module _ (m : ClientModel) where
   -- a parcel was sent, and counted where it is a Sync

@@ -2,7 +2,7 @@
 -- (`IsObject`). The lemmas on steps of clients and handlers (`HandlerSteps`, `SendingPreserved`) stand on this. Only
 -- one ticket's lane moves: those before it in the queue are over, of those after it nothing was received, and a
 -- client's lane is its tickets' parcels joined.
-use Rattle.std.proofs.Common.{◌≡◌, ◌<◌, arith, ℕ, Bool, true, false, if◌then◌else◌, ◌==◌, List, [], ◌∷◌, ◌++◌, filter, flat_map, refl, sym, ap, ap₂, ◌∙◌, subst, ◌⊎◌, inl, inr, ⊎_elim, append_assoc, append-nil}
+use Rattle.std.proofs.Common.{◌≡◌, ◌<◌, arith, ℕ, Bool, true, false, if◌then◌else◌, ◌==◌, List, [], ◌∷◌, ◌++◌, filter, flat_map, refl, sym, ap, ap₂, ◌∙◌, subst, ◌⊎◌, inl, inr, ⊎_elim, append_assoc, append-nil, rules}
 use Rattle.std.specs.List.{AllByRecursion}
 use Rattle.std.proofs.lemmas.List.Elements.{filter-append}
 use Rattle.std.proofs.lemmas.List.Concat.{flat_map-append}
@@ -18,7 +18,7 @@ use Rattle.qs_chunk.specs.LaneViews.{gone, ClientLane, HandlerLane}
 use Rattle.qs_chunk.specs.declared.parcel.Parcel.{Parcel}
 use Rattle.qs_chunk.specs.LaneViews as views
 use Rattle.qs_chunk.specs.declared.parcel.Parcel.TheVariants as parcels
-use Rattle.qs_handler.specs.audit.Handler.{Handler, free, serves, spares, gives, away, closed}
+use Rattle.qs_handler.specs.audit.Handler.{Handler, free, serves, spares, gives, away}
 use Rattle.qs_handler.specs.Handler.{serving}
 use Rattle.qs_played.proofs.FunctionUpdate.{put_at, put_at_here, put_at_there}
 use Rattle.qs_core_laws.proofs.protocol.ObjectViews.{stance, Rising, PastOf, ObjectView, ClientLog, HandlerLog, ahead, IsObject, IsClientLog}
@@ -28,24 +28,7 @@ use Rattle.qs_core_laws.proofs.protocol.LaneWays.{gone_over, MayCome, come, serv
 -- the first ticket of the queue is taken
 pub take_ok : (mine : List Ticket) (x : HeldState) (b : ObjectView) (y : ClientLog) (g : HandlerLog) (z : HeldState) (t : Ticket) (ts : List Ticket) → b.handler ≡ free z → b.tickets ≡ t ∷ ts → IsObject mine x b y g
     → IsObject mine x (record b { handler = serves t z; tickets = ts }) y (record g { gave = put_at g.gave t [] })
-take_ok mine x b y g z t ts e q k =
-    let same_ahead : ahead b ≡ t ∷ ts = ap₂ (λ s ts. serving s ++ ts) e q in
-    let later = subst (AllByRecursion (λ t. (y.got t ≡ []) × (g.received t ≡ []))) q k.later in
-    let none = λ (c : ℕ). k.up c (subst (AllByRecursion (λ (t : Ticket). (t.client == c) ≡ false)) (sym (ap serving e)) tt) in
-    let empty : put_at g.gave t [] t ≡ [] = put_at_here g.gave t [] in
-    record {
-      split = k.split ∙ ap (λ q. g.past ++ q) same_ahead;
-      served = k.served;
-      free = λ w i. absurd (cc);
-      opened = λ w i. absurd (cc);
-      sent = subst (AllByRecursion (λ t. y.sent t ≡ g.received t ++ g.way t)) same_ahead k.sent;
-      lane = (subst (λ r. HandlerLane t false g.found r (put_at g.gave t [] t) (views.serves z)) (sym later.0.1) (empty, ap views.serves (k.free z e)), tt);
-      gots = (empty ∙ sym (ap₂ (λ a b. a ++ b) later.0.0 (none t.client)), tt);
-      later = later.1;
-      down = λ c. k.down c ∙ ap (λ q. flat_map g.way (filter (λ (t : Ticket). t.client == c) q)) same_ahead;
-      up = λ c out. none c;
-      rising = subst Rising same_ahead k.rising;
-    }
+take_ok mine x b y g z t ts e q k = search (rules, ahead, put_at, put_at_here)
 
 -- the object is given
 pub give_ok : (mine : List Ticket) (x : HeldState) (b : ObjectView) (y : ClientLog) (g : HandlerLog) (t : Ticket) (z : HeldState) → b.handler ≡ gives t z → b.up t.client ≡ [] → IsObject mine x b y g
@@ -76,21 +59,7 @@ give_ok mine x b y g t z e none k =
 
 -- an empty chunk was given back
 pub spare_ok : (mine : List Ticket) (x : HeldState) (b : ObjectView) (y : ClientLog) (g : HandlerLog) (t : Ticket) (z : HeldState) (n : ℕ) → b.handler ≡ spares t z n → IsObject mine x b y g → IsObject mine x (record b { handler = serves t z }) y g
-spare_ok mine x b y g t z n e k =
-    let same_ahead : ahead b ≡ t ∷ b.tickets = ap (λ s. serving s ++ b.tickets) e in
-    record {
-      split = k.split ∙ ap (λ q. g.past ++ q) same_ahead;
-      served = k.served;
-      free = λ w i. absurd (cc);
-      opened = λ w i. absurd (cc);
-      sent = subst (AllByRecursion (λ t. y.sent t ≡ g.received t ++ g.way t)) same_ahead k.sent;
-      lane = subst (λ s. AllByRecursion (λ t. HandlerLane t false g.found (g.received t) (g.gave t) (stance s g.lent)) (serving s)) e k.lane;
-      gots = subst (λ s. AllByRecursion (λ (t : Ticket). g.gave t ≡ y.got t ++ b.up t.client) (serving s)) e k.gots;
-      later = k.later;
-      down = λ c. k.down c ∙ ap (λ q. flat_map g.way (filter (λ (t : Ticket). t.client == c) q)) same_ahead;
-      up = λ c out. k.up c (subst (λ s. AllByRecursion (λ (t : Ticket). (t.client == c) ≡ false) (serving s)) (sym e) out);
-      rising = subst Rising same_ahead k.rising;
-    }
+spare_ok mine x b y g t z n e k = search (rules, ahead, stance)
 
 -- a parcel in a lane is of some ticket
 some_of : (t : Ticket) (way : Ticket → List Parcel) (p : Parcel) (ps : List Parcel) (us : List Ticket) → AllByRecursion (λ (v : Ticket). t.client ≡ v.client → t.index < v.index) us
@@ -103,11 +72,7 @@ some_of t way p ps (u ∷ us) k e =
     (num_cases u.client t.client)
 
 later_apart : (t : Ticket) (us : List Ticket) → AllByRecursion (λ (v : Ticket). t.client ≡ v.client → t.index < v.index) us → AllByRecursion (λ u. same t u ≡ false) us
-later_apart t us = each_map {Q = λ u. same t u ≡ false} (λ u (k : t.client ≡ u.client → t.index < u.index).
-    ⊎_elim
-    (λ (is : t ≡ u). let i : t.index ≡ u.index = ap (λ (u : Ticket). u.index) is in let l : t.index < u.index = k (ap (λ (u : Ticket). u.client) is) in absurd (omega arith))
-    (λ (other : same t u ≡ false). other)
-    (ticket_cases t u)) us
+later_apart t us = search (rules, each_map, ticket_cases)
 
 flat_same : (f : Ticket → Bool) (way : Ticket → List Parcel) (t : Ticket) (w : List Parcel) (us : List Ticket) → AllByRecursion (λ u. same t u ≡ false) us → flat_map (put_at way t w) (filter f us) ≡ flat_map way (filter f us)
 flat_same f way t w [] k = refl
@@ -203,15 +168,7 @@ module _ (mine : List Ticket) (x : HeldState) (b : ObjectView) (y : ClientLog) (
       }
     where
       downs : (c : ℕ) → put b.down t.client ps c ≡ flat_map (put_at g.way t w) (filter (λ (u : Ticket). u.client == c) (t ∷ b.tickets))
-      downs c =
-          let apart = later_apart t b.tickets rising_now.0 in
-          ⊎_elim
-          (λ (is : t.client ≡ c). subst (λ c. put b.down t.client ps c ≡ flat_map (put_at g.way t w) (filter (λ (u : Ticket). u.client == c) (t ∷ b.tickets))) is
-          (put_here b.down t.client ps ∙ (i ∙ rw (eqb_self t.client) (ap₂ (λ a b. a ++ b) (sym (put_at_here g.way t w)) (sym (flat_same (λ (u : Ticket). u.client == t.client) g.way t w b.tickets apart))))))
-          (λ (other : (t.client == c) ≡ false).
-          put_there b.down t.client ps c other ∙ (k.down c ∙ (ap (λ q. flat_map g.way (filter (λ (u : Ticket). u.client == c) q)) same_ahead
-          ∙ rw other (sym (flat_same (λ (u : Ticket). u.client == c) g.way t w b.tickets apart)))))
-          (num_cases t.client c)
+      downs c = search (rules, later_apart, rising_now, put_at, put_here, eqb_self, put_at_here, flat_same, put_there, same_ahead, num_cases)
 
   append_nothing : (xs ys : List HeldState) → xs ≡ xs ++ ys → ys ≡ []
   append_nothing [] ys e = sym e
@@ -386,34 +343,11 @@ pub up_serving : (mine : List Ticket) (x : HeldState) (b : ObjectView) (y : Clie
 up_serving mine x b y g t o os k e older lanes' = by_case (serving b.handler) refl (shape b.handler)
   where
     shape : (s : Handler) → (serving s ≡ []) ⊎ ((u : Ticket) × (serving s ≡ u ∷ []))
-    shape (free z) = inl refl
-    shape (serves u z) = inr (u, refl)
-    shape (spares u z m) = inr (u, refl)
-    shape (closed z) = inl refl
-    shape (gives u z) = inr (u, refl)
-    shape (away u) = inr (u, refl)
+    shape s = search rules
 
     nothing : (xs ys : List HeldState) → xs ≡ xs ++ ys → ys ≡ []
     nothing [] ys e = sym e
     nothing (z ∷ xs) ys e = nothing xs ys (cc)
 
     by_case : (q : List Ticket) → serving b.handler ≡ q → (serving b.handler ≡ []) ⊎ ((u : Ticket) × (serving b.handler ≡ u ∷ [])) → serving b.handler ≡ t ∷ []
-    by_case q sq (inl none) = absurd (let n = k.up t.client (subst (AllByRecursion (λ (u : Ticket). (u.client == t.client) ≡ false)) (sym none) tt) in cc (n, e))
-    by_case q sq (inr one) =
-        let u = one.0 in
-        ⊎_elim
-        (λ (at : u.client ≡ t.client). ⊎_elim
-        (λ (is : u ≡ t). one.1 ∙ ap (λ u. u ∷ []) is)
-        (λ (gone : y.stands u ≡ gone).
-        let gots = (subst (AllByRecursion (λ (t : Ticket). g.gave t ≡ y.got t ++ b.up t.client)) one.1 k.gots).0 in
-        let lane = (subst (AllByRecursion (λ t. HandlerLane t false g.found (g.received t) (g.gave t) (stance b.handler g.lent))) one.1 k.lane).0 in
-        let here = ap (λ s. s ++ b.tickets) one.1 in
-        let sent = (subst (AllByRecursion (λ t. y.sent t ≡ g.received t ++ g.way t)) here k.sent).0 in
-        let client = (subst (AllByRecursion (λ t. ClientLane t false (y.sent t) (y.got t) (y.events t) (y.stands t))) here lanes').0 in
-        let all = gone_got u g.found (g.received u) (g.way u) (y.got u) (g.gave u) (y.events u) (stance b.handler g.lent) (subst (ClientLane u false (g.received u ++ g.way u) (y.got u) (y.events u)) gone (subst (λ s. ClientLane u false s (y.got u) (y.events u) (y.stands u)) sent client)) lane (b.up u.client, sym gots) in
-        let n : b.up u.client ≡ [] = nothing (y.got u) (b.up u.client) (all ∙ gots) in
-        let m : b.up t.client ≡ [] = subst (λ c. b.up c ≡ []) at n in
-        absurd (cc (m, e)))
-        (older u one.1 at))
-        (λ (other : (u.client == t.client) ≡ false). absurd (let n = k.up t.client (subst (AllByRecursion (λ (u : Ticket). (u.client == t.client) ≡ false)) (sym one.1) (other, tt)) in cc (n, e)))
-        (num_cases u.client t.client)
+    by_case q sq given = search (rules, stance, gone_got, nothing, num_cases)

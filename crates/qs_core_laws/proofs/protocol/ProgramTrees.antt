@@ -2,16 +2,16 @@
 -- through a block's graph says the block's interaction tree. The machine and the threads go along these walks, while
 -- what is said of them speaks of the program's blocks. It is the law on sound walks where client and block are in
 -- range, and elsewhere there is no block.
-use Rattle.std.proofs.Common.{◌≡◌, ◌<◌, ◌≤◌, ℕ, nat_lt, Bool, true, false, List, length, replicate, refl, sym, ap, ◌∙◌, arith}
+use Rattle.std.proofs.Common.{◌≡◌, ◌<◌, ℕ, nat_lt, Bool, true, false, List, length, replicate, refl, arith, rules}
 use Rattle.std.proofs.lemmas.List.{get_or_past, length-replicate}
 use Rattle.qs_objects.specs.declared.held.Ticket.{Ticket}
 use Rattle.qs_meaning.specs.Following.{block_tree}
-use Rattle.qs_program.specs.audit.Program.{BlockShape, ProgramShape, blocks_of}
+use Rattle.qs_program.specs.audit.Program.{ProgramShape, blocks_of}
 use Rattle.qs_program.specs.Sound.{IsSound}
 use Rattle.qs_program.specs.audit.Values.{Locals}
 use Rattle.qs_graph.specs.Synced.{without_syncs}
 use Rattle.qs_syncset.specs.declared.mode.Mode.{Mode}
-use Rattle.qs_syncset.specs.audit.Codes.{BlockCode, ClientCode, no_code, AreCodes, blocks_in, reserved_of}
+use Rattle.qs_syncset.specs.audit.Codes.{ClientCode, AreCodes, blocks_in, reserved_of}
 use Rattle.qs_syncset.specs.SoundSynced.{IsSoundSynced, IsOnReserved}
 use Rattle.qs_syncset.proofs.CodeWalks.{walks_are_sound}
 use Rattle.qs_client.specs.audit.run.BlockSizes.{longest}
@@ -22,28 +22,10 @@ use Rattle.qs_client.specs.audit.ClientModel.{synced_block}
 
 module _ (program : ProgramShape) (sound : IsSound program) (mode : Mode) (code : ℕ → ClientCode) (codes : AreCodes program mode code) where
   pub blocks_are : (c : ℕ) → blocks_in code c ≡ blocks_of program c
-  blocks_are c = by_client (nat_lt c (length program.clients)) refl
-    where
-      by_client : (b : Bool) → nat_lt c (length program.clients) ≡ b → blocks_in code c ≡ blocks_of program c
-      by_client true e = (codes.own c (grind (arith, e))).count
-      by_client false e = ap length (codes.none c (grind (arith, e))) ∙ sym (none_beyond program sound c (grind (arith, e)))
+  blocks_are c = search (rules, none_beyond)
 
   pub reserved_is : (t : Ticket) → reserved_of code t ≡ objects_of_block program t
-  reserved_is t = by_block (nat_lt t.index (blocks_of program t.client)) refl
-    where
-      by_block : (b : Bool) → nat_lt t.index (blocks_of program t.client) ≡ b → reserved_of code t ≡ objects_of_block program t
-      by_block true e =
-          let some : t.index < blocks_of program t.client = grind (arith, e) in
-          by_client some (nat_lt t.client (length program.clients)) refl
-        where
-          by_client : t.index < blocks_of program t.client → (b : Bool) → nat_lt t.client (length program.clients) ≡ b → reserved_of code t ≡ objects_of_block program t
-          by_client some true e = ((codes.own t.client (grind (arith, e))).blocks t.index some).reserved
-          by_client some false e = let n = none_beyond program sound t.client (grind (arith, e)) in absurd (omega (arith, n, some))
-      by_block false e =
-          let out : blocks_of program t.client ≤ t.index = grind (arith, e) in
-          let long = blocks_are t.client in
-          ap (λ (b : BlockCode). b.reserved) (get_or_past (code t.client).blocks t.index no_code (omega (arith, out, long)))
-          ∙ sym (ap (λ (b : BlockShape). b.reserved) (no_text program sound t out))
+  reserved_is t = search (rules, objects_of_block, none_beyond, blocks_are, get_or_past, no_text)
 
   -- a block's tree with its synchronisations
   pub block_walk : (t : Ticket) (l : Locals) → t.index < blocks_of program t.client

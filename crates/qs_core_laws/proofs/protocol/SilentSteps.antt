@@ -131,13 +131,12 @@ module _ (program : ProgramShape) (t : Ticket) (sent : ℕ → List Parcel) (got
   order_ends : (m : Client) (pg : BlockRecord) (r : Request) (next : Synced) (hd : Option HeldState) (ck : Option (List Request)) → m.held r.object ≡ hd → m.chunk r.object ≡ ck → Ready program t sent got m pg (Call r next)
       → ((m : Client) (pg : BlockRecord) → Ready program t sent got m pg next → Ends pg (settle settings t (objects_of_block program t) next m))
       → Ends pg (call settings t (objects_of_block program t) m r next (λ m. settle settings t (objects_of_block program t) next m) hd ck)
-  order_ends m pg r next (Some x) ck a b k ih = ends_stays pg m (runs (Call r next)) (ready_at m (runs (Call r next)) pg (Call r next) k, tt)
-  order_ends m pg r next None None a b k ih = ends_stays pg m (runs (Call r next)) (ready_at m (runs (Call r next)) pg (Call r next) k, tt)
   order_ends m pg r next None (Some rs) a b k ih = ends_event pg (command_event r) (without_syncs next) _ (by_case (length (rs ++ r ∷ []) == settings.size))
     where
       by_case : (x : Bool) → Ends (advance pg (command_event r) (without_syncs next)) (if x then stop_at (record m { chunk = put m.chunk r.object (Some (rs ++ r ∷ [])) }) (full r.object next) else settle settings t (objects_of_block program t) next (record m { chunk = put m.chunk r.object (Some (rs ++ r ∷ [])) }))
       by_case true = ends_stays (advance pg (command_event r) (without_syncs next)) (record m { chunk = put m.chunk r.object (Some (rs ++ r ∷ [])) }) (full r.object next) (ready_at (record m { chunk = put m.chunk r.object (Some (rs ++ r ∷ [])) }) (full r.object next) (advance pg (command_event r) (without_syncs next)) next (put_ready m pg r next rs a b k))
       by_case false = ih (record m { chunk = put m.chunk r.object (Some (rs ++ r ∷ [])) }) (advance pg (command_event r) (without_syncs next)) (put_ready m pg r next rs a b k)
+  order_ends m pg r next _ _ a b k ih = ends_stays pg m (runs (Call r next)) (ready_at m (runs (Call r next)) pg (Call r next) k, tt)
 
   ask_ends : (m : Client) (pg : BlockRecord) (r : Request) (next : ℤ → Synced) (hd : Option HeldState) → m.held r.object ≡ hd → Ready program t sent got m pg (Query r next)
       → ((v : ℤ) (m : Client) (pg : BlockRecord) → Ready program t sent got m pg (next v) → Ends pg (settle settings t (objects_of_block program t) (next v) m))
