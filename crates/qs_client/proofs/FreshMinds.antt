@@ -31,9 +31,8 @@ use Rattle.qs_client.specs.audit.ClientModel.{lists_of_code, fresh_mind}
 use Rattle.qs_client.specs.MindState.{MindState, mind_of}
 
 none_at : {X : Type 0} (n i : ℕ) (d : X) → get_or (replicate n d) i d ≡ d
-none_at zero i d = refl
-none_at (suc n) zero d = refl
 none_at (suc n) (suc i) d = none_at n i d
+none_at _ _ d = refl
 
 no_events : (blocks : List BlockCode) → events_of (empty_rows blocks) ≡ replicate (length blocks) []
 no_events [] = refl

@@ -64,11 +64,10 @@ module _ (settings : Settings) (ticket : Ticket) (reserved : List ℕ) (h : ℕ)
 
   rests_calls : (m : Client) (r : Request) (next : Synced) (go : Client → Settlement) (x : Option HeldState) (c : Option (List Request)) → m.held r.object ≡ x → Quiet go
       → Rests (call settings ticket reserved m r next go x c).client h (is_some (m.held h))
-  rests_calls m r next go (Some x) c is quiet = record { held_is = refl; nothing = refl; free = tt }
-  rests_calls m r next go None None is quiet = record { held_is = refl; nothing = refl; free = tt }
   rests_calls m r next go None (Some rs) is quiet =
       let more = rs ++ r ∷ [] in
       rests_full m (set_chunk m r.object (Some more)) r.object next go (length more == settings.size) is refl quiet
+  rests_calls m r next go _ _ is quiet = record { held_is = refl; nothing = refl; free = tt }
 
   rests_queries : (m : Client) (r : Request) (next : ℤ → Synced) (go : ℤ → Client → Settlement) (x : Option HeldState) → m.held r.object ≡ x → ((v : ℤ) → Quiet (go v))
       → Rests (query settings ticket reserved m r next go x).client h (is_some (m.held h))
@@ -179,12 +178,11 @@ module _ (settings : Settings) (ticket : Ticket) (reserved : List ℕ) where
     calls_send r next None None held is = absurd (cc is)
 
     rest_sends : (rest : Synced) → rest_act settings m rest ≡ acts.Send g parcel → Sends m g (runs rest) parcel
-    rest_sends (Done l) is = absurd (cc is)
     rest_sends (Call r next) is = calls_send r next (m.held r.object) (m.chunk r.object) refl is
     rest_sends (Sync k next) is =
         clearing (runs (Sync k next)) k (m.held k) (m.chunk k) parcels.Sync refl is (λ h. refl) (home_runs (Sync k next)) (work_runs (Sync k next))
         (λ at same none. subst (Sends m g (runs (Sync k next))) same (subst (λ n. Sends m g (runs (Sync n next)) parcels.Sync) (sym at) (sync_sends m g next none)))
-    rest_sends (Query r next) is = absurd (cc is)
+    rest_sends _ is = absurd (cc is)
 
     no_send : (b : Bool) → (if b then acts.Reserve else acts.Finished) ≡ acts.Send g parcel → ⊥
     no_send true is = cc is
@@ -212,9 +210,7 @@ client_of m = (finish m).client
 sent_is : (settings : Settings) (ticket : Ticket) (reserved : List ℕ) (m : Client) (g : ℕ) (parcel : Parcel)
     → sent_at settings ticket reserved m g parcel m.stage ≡ after_parcel settings ticket reserved m g parcel
 sent_is settings ticket reserved m g (parcels.Home x) = refl
-sent_is settings ticket reserved m g (parcels.Work c) = refl
-sent_is settings ticket reserved m g parcels.Sync = refl
-sent_is settings ticket reserved m g parcels.End = refl
+sent_is settings ticket reserved m g _ = refl
 
 sent_done : (m : ClientModel) (g : ℕ) (parcel : Parcel) → next_act m ≡ acts.Send g parcel
     → (sent_at (settings_of m) m.ticket (reserved_by m) (client_of m) g parcel (client_of m).stage).client ≡ client_of (next_mind m)
@@ -229,10 +225,7 @@ sent_done m g parcel is =
 quiet_done : (settings : Settings) (ticket : Ticket) (reserved : List ℕ) (c : Client) (a : Act) → SendsNothing a
     → c ≡ (after_send settings ticket reserved (outgoing_of a) (without_act c a)).client
 quiet_done settings ticket reserved c (acts.Send h p) quiet = absurd quiet
-quiet_done settings ticket reserved c acts.Reserve quiet = refl
-quiet_done settings ticket reserved c (acts.Await h) quiet = refl
-quiet_done settings ticket reserved c (acts.NeedChunk h) quiet = refl
-quiet_done settings ticket reserved c acts.Finished quiet = refl
+quiet_done settings ticket reserved c _ quiet = refl
 
 -- nothing is left to be done of an act that was asked for
 asked_client : (m : ClientModel) (a : Act) → Asks m a → client_of m ≡ m.client
@@ -240,11 +233,8 @@ asked_client m a asks = ap (λ d. (after_send (settings_of m) m.ticket (reserved
 
 -- only where it waits for an object it asks for one
 not_awaited : (settings : Settings) (blocks : ℕ) (m : Client) (p : ClientStage) (h : ℕ) (a : Act) → ((g : ℕ) → acts.Await g ≢ a) → act_at settings blocks m p ≡ a → is_awaited p h ≡ false
-not_awaited settings blocks m (between l) h a other is = refl
-not_awaited settings blocks m (runs rest) h a other is = refl
-not_awaited settings blocks m (full g rest) h a other is = refl
 not_awaited settings blocks m (awaits g rest) h a other is = absurd (other g is)
-not_awaited settings blocks m (leaves g hs l) h a other is = refl
+not_awaited settings blocks m _ h a other is = refl
 
 -- a client that has come to rest
 stands_at : (c new : Client) (h : ℕ) (sent : List Parcel) → ClientFitsLane c h sent → is_awaited c.stage h ≡ false → Rests new h (is_some (c.held h)) → ClientFitsLane new h sent
@@ -256,10 +246,7 @@ stands_at c new h sent stands quiet rests = record {
 chunk_rests : (settings : Settings) (ticket : Ticket) (reserved : List ℕ) (m : Client) (g h : ℕ) (p : ClientStage) → is_awaited p h ≡ false → IsFree p m h
     → Rests (take_chunk settings ticket reserved m g p).client h (is_some (m.held h))
 chunk_rests settings ticket reserved m g h (runs rest) quiet free = rests_settle settings ticket reserved h rest (set_chunk m g (Some []))
-chunk_rests settings ticket reserved m g h (between l) quiet free = record { held_is = refl; nothing = quiet; free = free }
-chunk_rests settings ticket reserved m g h (full k rest) quiet free = record { held_is = refl; nothing = quiet; free = free }
-chunk_rests settings ticket reserved m g h (awaits k rest) quiet free = record { held_is = refl; nothing = quiet; free = free }
-chunk_rests settings ticket reserved m g h (leaves k hs l) quiet free = record { held_is = refl; nothing = quiet; free = free }
+chunk_rests settings ticket reserved m g h _ quiet free = record { held_is = refl; nothing = quiet; free = free }
 
 now_held : (b : Bool) (x : HeldState) (y : Option HeldState) → (b || is_some y) ≡ is_some (if b then Some x else y)
 now_held true x y = refl
@@ -271,10 +258,7 @@ got_stands settings ticket reserved m x h sent (awaits k rest) last free =
     let new = (settle settings ticket reserved rest (set_held m k (Some x))).client in
     let rests = rests_settle settings ticket reserved h rest (set_held m k (Some x)) in
     record { last = last ∙ (now_held (k == h) x (m.held h) ∙ sym (settles new h (is_some (put m.held k (Some x) h)) rests)); free = rests.free }
-got_stands settings ticket reserved m x h sent (between l) last free = record { last = last; free = free }
-got_stands settings ticket reserved m x h sent (runs rest) last free = record { last = last; free = free }
-got_stands settings ticket reserved m x h sent (full k rest) last free = record { last = last; free = free }
-got_stands settings ticket reserved m x h sent (leaves k hs l) last free = record { last = last; free = free }
+got_stands settings ticket reserved m x h sent _ last free = record { last = last; free = free }
 
 begins_at_lanes : BeginsAtLanes
 begins_at_lanes code size h = record { last = refl; free = tt }

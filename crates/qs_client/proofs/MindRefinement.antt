@@ -125,10 +125,7 @@ steady m some w = record {
 
 nothing_gone : (g : List places.GraphNode) (s : RunState) (stage : Stage) → IsOutgoingAt g outgoings.Nothing s stage
 nothing_gone g s stages.Between = tt
-nothing_gone g s stages.Runs = tt
-nothing_gone g s (stages.Full h) = tt
-nothing_gone g s (stages.Awaits h) = tt
-nothing_gone g s (stages.Leaves i) = tt
+nothing_gone g s _ = tt
 
 pub come_sound : (m : MindState) (by : Settlement) (most : ℕ) (new : RunState) → IsSteady m
     → HasCome (block_of m) (settings_in m) m.ticket (length m.entries) most by m.run new
@@ -163,22 +160,15 @@ block_inside m w some = omega (arith, w.ticket some, w.blocks)
 
 few_counted : (outgoing : Outgoing) → count_sync outgoing ≤ 1
 few_counted outgoings.Nothing = omega arith
-few_counted outgoings.Value = omega arith
-few_counted (outgoings.Sync h) = omega arith
-few_counted outgoings.End = omega arith
+few_counted _ = omega arith
 
 -- a Sync that is counted
 tallied_length : (outgoing : Outgoing) (k : ℕ) (rows : List (List SyncCount)) → length (tally outgoing k rows) ≡ length rows
-tallied_length outgoings.Nothing k rows = refl
-tallied_length outgoings.Value k rows = refl
 tallied_length (outgoings.Sync h) k rows = length-set rows k (with_sync h (get_or rows k []))
-tallied_length outgoings.End k rows = refl
+tallied_length _ k rows = refl
 
 tallied_few : (outgoing : Outgoing) (k n : ℕ) (rows : List (List SyncCount)) → k < length rows → ((j : ℕ) → AreFew (suc n) (get_or rows j []))
     → (j : ℕ) → AreFew (suc (n + count_sync outgoing)) (get_or (tally outgoing k rows) j [])
-tallied_few outgoings.Nothing k n rows inside few j = few_in (suc n) (suc (n + 0)) (get_or rows j []) (omega arith) (few j)
-tallied_few outgoings.Value k n rows inside few j = few_in (suc n) (suc (n + 0)) (get_or rows j []) (omega arith) (few j)
-tallied_few outgoings.End k n rows inside few j = few_in (suc n) (suc (n + 0)) (get_or rows j []) (omega arith) (few j)
 tallied_few (outgoings.Sync h) k n rows inside few j = ⊎_elim
     (λ (is : k ≡ j). subst (λ j. AreFew (suc (n + 1)) (get_or (set rows k more) j [])) is
     (subst (AreFew (suc (n + 1))) (sym (get_or-set_same rows k more [] inside))
@@ -190,6 +180,7 @@ tallied_few (outgoings.Sync h) k n rows inside few j = ⊎_elim
   where
     more : List SyncCount
     more = with_sync h (get_or rows k [])
+tallied_few _ k n rows inside few j = few_in (suc n) (suc (n + 0)) (get_or rows j []) (omega arith) (few j)
 
 -- the counts of a block have room for one Sync more
 pub counts_fit : (m : MindState) → IsSoundMind m → (k : ℕ) → AreFew 4294967295 (get_or m.counts.rows k [])
@@ -203,15 +194,12 @@ unfolding limit
 syncs_fit m w = omega (arith, w.few, w.blocks, few_blocks m.code w.code, few_counted m.outgoing)
 
 node_left : (b : BlockCode) (size k most h : ℕ) (s : RunState) (stage : Stage) → IsStanding b size k most s stage → IsOutgoingAt b.graph (outgoings.Sync h) s stage → 1 ≤ most
-node_left b size k most h s stages.Between w gone = absurd gone
-node_left b size k most h s (stages.Full o) w gone = absurd gone
-node_left b size k most h s (stages.Awaits o) w gone = absurd gone
-node_left b size k most h s (stages.Leaves i) w gone = absurd gone
 node_left b size k most h s stages.Runs w gone = some w.0 w.1 w.2.within
   where
     some : (n : ℕ) → n ≤ most → Within b.graph n s.position → 1 ≤ most
     some zero few within = absurd within
     some (suc n) few within = omega (arith, few)
+node_left b size k most h s _ w gone = absurd gone
 
 -- a Sync takes a node
 pub few_after : (m : MindState) (w : IsSoundMind m) → m.syncs + count_sync m.outgoing + nodes_left m.outgoing w.left ≤ length m.entries * limit
@@ -219,11 +207,9 @@ few_after m w = by_handed m.outgoing w.gone
   where
     by_handed : (outgoing : Outgoing) → IsOutgoingAt (block_of m).graph outgoing m.run m.run.stage
         → m.syncs + count_sync outgoing + nodes_left outgoing w.left ≤ length m.entries * limit
-    by_handed outgoings.Nothing gone = omega (arith, w.few)
-    by_handed outgoings.Value gone = omega (arith, w.few)
     by_handed (outgoings.Sync h) gone =
         omega (arith, w.few, node_left (block_of m) m.size m.ticket.index w.left h m.run m.run.stage w.standing gone)
-    by_handed outgoings.End gone = omega (arith, w.few)
+    by_handed _ gone = omega (arith, w.few)
 
 pub sound_mind : (m : MindState) → IsSoundMind m → IsMind (mind_of m)
 unfolding mind_of
@@ -392,8 +378,5 @@ begun_between m w off =
 
 -- an act that sends nothing asks for something to come
 pub quiet_asks : (m : ClientModel) (given : Act) → SendsNothing given → given ≡ act_due m → Asks (hands_out m given) given
-quiet_asks m acts.Reserve quiet e = (refl, sym e)
 quiet_asks m (acts.Send h p) quiet e = absurd quiet
-quiet_asks m (acts.Await h) quiet e = (refl, sym e)
-quiet_asks m (acts.NeedChunk h) quiet e = (refl, sym e)
-quiet_asks m acts.Finished quiet e = (refl, sym e)
+quiet_asks m _ quiet e = (refl, sym e)

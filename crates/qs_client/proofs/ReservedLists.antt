@@ -1,31 +1,22 @@
 -- A block reserves at most 8 handlers, each among the 8. The idea: a code is that of a sound program (`IsCode`), whose
 -- checks say it.
-use Rattle.std.proofs.Common.{◌≡◌, ℕ, ◌<◌, ◌≤◌, true, false, ◌==◌, ◌||◌, List, [], ◌∷◌, length, sym, ap, ◌∙◌, subst, arith, ⊎_elim}
-use Rattle.std.specs.List.{AllByRecursion}
-use Rattle.qs_objects.proofs.Choices.{num_cases}
+use Rattle.std.proofs.Common.{◌≡◌, ℕ, ◌<◌, ◌≤◌, true, List, length, ap, arith}
 use Rattle.qs_program.specs.audit.Program.{ProgramShape, block_at, blocks_of}
 use Rattle.qs_program.specs.audit.Sound.{is_in}
 use Rattle.qs_program.specs.Sound.{IsSound, IsSoundBlock}
 use Rattle.qs_program.proofs.Bounds.{sound_block}
 use Rattle.qs_program.specs.audit.Limits.{most_handlers}
+use Rattle.qs_graph.proofs.Ranges.{is_in-all}
 use Rattle.qs_syncset.proofs.ShortLists.{few_reserved}
 use Rattle.qs_syncset.specs.audit.Codes.{ClientCode, code_at}
 use Rattle.qs_syncset.specs.Codes.{IsCode}
 use Rattle.qs_client.proofs.run.CodeBounds.{client_inside}
 
-in_each : (P : ℕ → Type 0) (xs : List ℕ) (x : ℕ) → is_in xs x ≡ true → AllByRecursion P xs → P x
-in_each P [] x member each = cc
-in_each P (y ∷ ys) x member each =
-    ⊎_elim
-    (λ (is : y ≡ x). subst P is each.0)
-    (λ (other : (y == x) ≡ false). in_each P ys x (ap (λ b. b || is_in ys x) (sym other) ∙ member) each.1)
-    (num_cases y x)
-
 -- a handler of a block's list is one of 8
 pub reserved_below_eight : (p : ProgramShape) (c k : ℕ) → IsSound p → k < blocks_of p c → (h : ℕ) → is_in (block_at p c k).reserved h ≡ true → h < most_handlers
 reserved_below_eight p c k sound inside h member =
     let block : IsSoundBlock p.objects (block_at p c k) = sound_block p c k sound (client_inside p c k inside) inside in
-    let below : h < length p.objects = in_each (λ o. o < length p.objects) (block_at p c k).reserved h member block.reserved in
+    let below : h < length p.objects = is_in-all (λ o. o < length p.objects) (block_at p c k).reserved h member block.reserved in
     omega (arith, below, sound.objects)
 
 -- a block reserves at most 8 objects

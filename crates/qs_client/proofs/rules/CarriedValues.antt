@@ -28,10 +28,9 @@ module _ (settings : Settings) (ticket : Ticket) (reserved : List ℕ) (m : Clie
   home_parted : (blocks : ℕ) (x : HeldState) (p : ClientStage) → act_at settings blocks m p ≡ acts.Send h (parcels.Home x)
       → after_home settings ticket reserved m h p ≡ resume settings ticket reserved (set_held m h None) p
   home_parted blocks x (between l) e = absurd (no_home_between (nat_lt m.begun blocks) x e)
-  home_parted blocks x (runs rest) e = refl
   home_parted blocks x (full g rest) e = absurd (no_home_full g (m.chunk g) x e)
   home_parted blocks x (awaits g rest) e = absurd (cc)
-  home_parted blocks x (leaves g hs l) e = refl
+  home_parted blocks x _ e = refl
 
   no_work_between : (t : Bool) (c : Batch Request) → ◌≡◌ {A = Act} (if t then acts.Reserve else acts.Finished) (acts.Send h (parcels.Work c)) → ⊥
   no_work_between true c e = cc
@@ -40,16 +39,13 @@ module _ (settings : Settings) (ticket : Ticket) (reserved : List ℕ) (m : Clie
   work_parted : (blocks : ℕ) (c : Batch Request) (p : ClientStage) → act_at settings blocks m p ≡ acts.Send h (parcels.Work c)
       → after_work settings ticket reserved m h p ≡ resume settings ticket reserved (set_chunk m h None) p
   work_parted blocks c (between l) e = absurd (no_work_between (nat_lt m.begun blocks) c e)
-  work_parted blocks c (runs rest) e = refl
-  work_parted blocks c (full g rest) e = refl
   work_parted blocks c (awaits g rest) e = absurd (cc)
-  work_parted blocks c (leaves g hs l) e = refl
+  work_parted blocks c _ e = refl
 
 pub sends_are_parted : SendsAreParted
 sends_are_parted settings ticket reserved blocks m h (parcels.Home x) e = home_parted settings ticket reserved m h blocks x m.stage e
 sends_are_parted settings ticket reserved blocks m h (parcels.Work c) e = work_parted settings ticket reserved m h blocks c m.stage e
-sends_are_parted settings ticket reserved blocks m h parcels.Sync e = refl
-sends_are_parted settings ticket reserved blocks m h parcels.End e = refl
+sends_are_parted settings ticket reserved blocks m h _ e = refl
 
 module _ (settings : Settings) (m : Client) where
   nothing_carried : (other : Act) → with_act (without_act m other) other ≡ m → IsSizedAct settings.size other → LosesNothing settings m other

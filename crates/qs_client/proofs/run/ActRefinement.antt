@@ -8,7 +8,7 @@ use Rattle.qs_objects.specs.declared.Request.{Request}
 use Rattle.qs_program.specs.audit.Limits.{most_handlers}
 use Rattle.qs_meaning.specs.audit.Solo.{put}
 use Rattle.qs_graph.specs.audit.Steps.{limit}
-use Rattle.qs_graph.specs.audit.Walk.{Move, Ends, Goes, Calls, Syncs, Queries, move, tree_of_move, walk}
+use Rattle.qs_graph.specs.audit.Walk.{Move, Calls, Syncs, move, tree_of_move, walk}
 use Rattle.qs_graph.specs.WellFormed.{IsGraph}
 use Rattle.qs_graph.proofs.Saying.{walk_up}
 use Rattle.qs_graph.specs.audit.Nodes as places
@@ -34,15 +34,13 @@ use Rattle.qs_client.specs.declared.run.stage.Stage.TheVariants as stages
 -- what is known of what is outgoing, at a node, at the end, and with a full chunk
 gone_at_node : (g : List places.GraphNode) (s : RunState) (h : ℕ) (x : Option HeldState) (c : Option (Batch Request)) (other : Act)
     → IsOutgoingAt g (outgoing_of other) s stages.Runs → IsOutgoingAt g (outgoing_of (clear_by h x c other)) s stages.Runs
-gone_at_node g s h (Some x) c other w = tt
-gone_at_node g s h None (Some b) other w = tt
 gone_at_node g s h None None other w = w
+gone_at_node g s h _ _ other w = tt
 
 gone_at_end : (g : List places.GraphNode) (s : RunState) (h i : ℕ) (x : Option HeldState) (c : Option (Batch Request))
     → IsOutgoingAt g (outgoing_of (clear_by h x c (Send h parcels.End))) s (stages.Leaves i)
-gone_at_end g s h i (Some x) c = tt
 gone_at_end g s h i None (Some b) = tt
-gone_at_end g s h i None None = tt
+gone_at_end g s h i _ _ = tt
 
 module _ (b : BlockCode) (settings : Settings) (blocks k begun most : ℕ) where
   -- at a call or a synchronisation with this handler
@@ -89,9 +87,6 @@ module _ (b : BlockCode) (settings : Settings) (blocks k begun most : ℕ) where
       → IsSoundSynced (holding s.holdings) (tree_of_move (walk b.graph n) s.position.locals m)
       → IsRunning b.graph settings.size k (suc n) s
       → HasActed b settings blocks k begun most (act_by s.holdings m) s (with_holdings s (holdings_by s.holdings m))
-  acts_by n s Ends few stands is eight loud sound w = absurd loud
-  acts_by n s (Goes t) few stands is eight loud sound w = absurd loud
-  acts_by n s (Queries r t) few stands is eight loud sound w = absurd loud
   acts_by n s (Calls r t) few stands is eight loud sound w =
       at_node n r.object s (Calls r t) (NeedChunk r.object) few stands is eight loud (away_at_call (holding s.holdings) r (walk b.graph n t) sound) w
       (calls_sized settings r.object (holding_at s.holdings r.object) (chunk_at s.holdings r.object)
@@ -102,6 +97,7 @@ module _ (b : BlockCode) (settings : Settings) (blocks k begun most : ℕ) where
       (clears_sized settings h (holding_at s.holdings h) (chunk_at s.holdings h) (Send h parcels.Sync)
       (sized_of settings.size (chunk_at s.holdings h) (w.opened h)))
       (λ c. refl) (subst IsSyncing (sym is) tt)
+  acts_by n s _ few stands is eight loud sound w = absurd loud
 
   pub acts_at_node : (n : ℕ) (s : RunState) → IsGraph b.graph → n ≤ most → s.stage ≡ stages.Runs → IsLoud (move b.graph s.position)
       → IsRunning b.graph settings.size k n s

@@ -9,7 +9,7 @@ use Rattle.qs_objects.specs.declared.held.Event.{Event}
 use Rattle.qs_objects.specs.declared.held.Ticket.{Ticket}
 use Rattle.qs_meaning.specs.audit.Solo.{put}
 use Rattle.qs_graph.specs.audit.Steps.{limit}
-use Rattle.qs_graph.specs.audit.Walk.{Spot, Move, Ends, Goes, Calls, Syncs, Queries, move, walk}
+use Rattle.qs_graph.specs.audit.Walk.{Spot, Move, Syncs, move, walk}
 use Rattle.qs_graph.specs.Walk.{EachNext}
 use Rattle.qs_graph.specs.WellFormed.{IsGraph}
 use Rattle.qs_graph.proofs.Saying.{walk_up}
@@ -38,10 +38,6 @@ module _ (b : BlockCode) (settings : Settings) (ticket : Ticket) (begun : ℕ) w
 
   awaits_by : (o n most : ℕ) (s : RunState) (m : Move) → suc n ≤ most → IsBeforeMove b.graph settings context b.reserved begun (between []) n s m → IsSyncing m
       → HasSent b settings ticket begun most (outgoings.Sync o) s (await_by m s)
-  awaits_by o n most s (Goes t) few w loud = absurd loud
-  awaits_by o n most s Ends few w loud = absurd loud
-  awaits_by o n most s (Calls r t) few w loud = absurd loud
-  awaits_by o n most s (Queries r t) few w loud = absurd loud
   awaits_by o n most s (Syncs h t) few w loud = record {
     standing = (
       n,
@@ -62,6 +58,7 @@ module _ (b : BlockCode) (settings : Settings) (ticket : Ticket) (begun : ℕ) w
           trace = append-nil (tr s) i;
         });
   }
+  awaits_by o n most s _ few w loud = absurd loud
 
   pub awaits_sent : (o n most : ℕ) (s : RunState) → n ≤ most → IsGraph b.graph → s.stage ≡ stages.Runs → IsRunning b.graph settings.size ticket.index n s
       → IsSyncing (move b.graph s.position) → HasSent b settings ticket begun most (outgoings.Sync o) s (await_object b.graph s)

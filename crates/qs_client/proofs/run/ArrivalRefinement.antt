@@ -14,7 +14,7 @@ use Rattle.qs_meaning.specs.audit.Solo.{put}
 use Rattle.qs_graph.specs.audit.Steps.{limit}
 use Rattle.qs_graph.specs.audit.Synced.{Synced}
 use Rattle.qs_graph.specs.declared.node.Node.{Node}
-use Rattle.qs_graph.specs.audit.Walk.{Spot, Move, Ends, Goes, Calls, Syncs, Queries, at_node, move, move_by, tree_of_move, walk}
+use Rattle.qs_graph.specs.audit.Walk.{Spot, Move, Calls, Syncs, at_node, move, move_by, tree_of_move, walk}
 use Rattle.qs_graph.specs.Walk.{Within}
 use Rattle.qs_graph.specs.WellFormed.{IsGraph}
 use Rattle.qs_graph.proofs.Saying.{walk_up}
@@ -46,15 +46,13 @@ use Rattle.qs_client.specs.declared.run.stage.Stage.TheVariants as stages
 
 clears_other : (settings : Settings) (h : ℕ) (x : Option HeldState) (c : Option (List Request)) (other given : Act) → SendsNothing given
     → clear settings h x c other ≡ given → other ≡ given
-clears_other settings h (Some x) c other given quiet e = absurd (subst SendsNothing (sym e) quiet)
-clears_other settings h None (Some rs) other given quiet e = absurd (subst SendsNothing (sym e) quiet)
 clears_other settings h None None other given quiet e = e
+clears_other settings h _ _ other given quiet e = absurd (subst SendsNothing (sym e) quiet)
 
 call_other : (settings : Settings) (h : ℕ) (x : Option HeldState) (c : Option (List Request)) (given : Act) → SendsNothing given
     → call_act settings h x c ≡ given → acts.NeedChunk h ≡ given
-call_other settings h (Some x) c given quiet e = absurd (subst SendsNothing (sym e) quiet)
-call_other settings h None (Some rs) given quiet e = absurd (subst SendsNothing (sym e) quiet)
 call_other settings h None None given quiet e = e
+call_other settings h _ _ given quiet e = absurd (subst SendsNothing (sym e) quiet)
 
 -- between blocks a client reserves or has ended
 abbrev between_act : Bool → Act
@@ -102,13 +100,8 @@ pub eight_here : (g : List places.GraphNode) (n : ℕ) (s : RunState) (call : ca
 eight_here g n s call ok within is = subst IsAmongEight (moves g s.position (nodes.Call call) is) (among_eight g s.position ok (node_inside g n s.position within))
 
 no_call : (v : Node) (s t : Spot) (a b : ℕ) (r : Request) → move_by v s a b ≡ Calls r t → ((x : calls.Call) → v ≡ nodes.Call x → ⊥) → ⊥
-no_call nodes.Entry s t a b r e other = cc
-no_call (nodes.Local x) s t a b r e other = cc
-no_call (nodes.Branch x) s t a b r e other = cc
-no_call (nodes.Sync x) s t a b r e other = cc
-no_call (nodes.Query x d) s t a b r e other = cc
 no_call (nodes.Call d) s t a b r e other = other d refl
-no_call nodes.Exit s t a b r e other = cc
+no_call _ s t a b r e other = cc
 
 -- a client stands at a call where its node is one
 pub is_call : (g : List places.GraphNode) (s : RunState) (h : ℕ) → IsAtCall g s h → ((x : calls.Call) → (places.place_at g s.position.node).node ≡ nodes.Call x → ⊥) → ⊥
@@ -123,9 +116,6 @@ module _ (b : BlockCode) (settings : Settings) (ticket : Ticket) (blocks begun m
   -- at its node a client that sends nothing needs a chunk
   quiet_by : (n : ℕ) (m : Move) (given : Act) → SendsNothing given → s.stage ≡ stages.Runs → move b.graph s.position ≡ m → IsLoud m
       → rest_act settings c (tree_of_move (walk b.graph n) s.position.locals m) ≡ given → (h : ℕ) × (given ≡ acts.NeedChunk h) × IsAtCall b.graph s h
-  quiet_by n Ends given quiet stands is loud e = absurd loud
-  quiet_by n (Goes t) given quiet stands is loud e = absurd loud
-  quiet_by n (Queries r t) given quiet stands is loud e = absurd loud
   quiet_by n (Calls r t) given quiet stands is loud e = (
     r.object,
     sym (call_other settings r.object (holding_at s.holdings r.object) (items_of (chunk_at s.holdings r.object)) given quiet e),
@@ -135,6 +125,7 @@ module _ (b : BlockCode) (settings : Settings) (ticket : Ticket) (blocks begun m
       absurd
       (subst SendsNothing
       (sym (clears_other settings g (holding_at s.holdings g) (items_of (chunk_at s.holdings g)) (acts.Send g parcels.Sync) given quiet e)) quiet)
+  quiet_by n _ given quiet stands is loud e = absurd loud
 
   quiet_running : (n : ℕ) (given : Act) → SendsNothing given → s.stage ≡ stages.Runs → IsRunning b.graph settings.size ticket.index n s → IsLoud (move b.graph s.position)
       → rest_act settings c (walk b.graph limit s.position) ≡ given → (h : ℕ) × (given ≡ acts.NeedChunk h) × IsAtCall b.graph s h
@@ -153,35 +144,31 @@ module _ (b : BlockCode) (settings : Settings) (ticket : Ticket) (blocks begun m
 
   quiet_at : (given : Act) (stage : Stage) → SendsNothing given → s.stage ≡ stage → IsStanding b settings.size ticket.index most s stage
       → act_at settings blocks c (stage_by stage b.reserved (walk b.graph limit s.position) s.position.locals) ≡ given → IsQuietAt given stage
-  quiet_at given stages.Between quiet stands w e = e
   quiet_at given stages.Runs quiet stands w e = quiet_running w.0 given quiet stands w.2 w.3 e
   quiet_at given (stages.Full g) quiet stands w e = clears_other settings g None (items_of (chunk_at s.holdings g)) acts.Finished given quiet e
-  quiet_at given (stages.Awaits g) quiet stands w e = e
   quiet_at given (stages.Leaves i) quiet stands w e =
       let g = get_or b.reserved i 0 in
       subst SendsNothing
       (sym (clears_other settings g (holding_at s.holdings g) (items_of (chunk_at s.holdings g)) (acts.Send g parcels.End) given quiet e)) quiet
+  quiet_at given _ quiet stands w e = e
 
   waits_at : (h : ℕ) (stage : Stage) → IsQuietAt (acts.Await h) stage → stage ≡ stages.Awaits h
   waits_at h stages.Between w = absurd (between_waits (nat_lt begun blocks) h w)
   waits_at h stages.Runs w = let no : acts.Await h ≡ acts.NeedChunk w.0 = w.1 in cc
-  waits_at h (stages.Full g) w = cc
-  waits_at h (stages.Awaits g) w = cc
   waits_at h (stages.Leaves i) w = absurd w
+  waits_at h _ w = cc
 
   needs_at : (h : ℕ) (stage : Stage) → IsQuietAt (acts.NeedChunk h) stage → IsAtCall b.graph s h
   needs_at h stages.Between w = absurd (between_needs (nat_lt begun blocks) h w)
   needs_at h stages.Runs w = subst (IsAtCall b.graph s) (let same : acts.NeedChunk h ≡ acts.NeedChunk w.0 = w.1 in cc) w.2
-  needs_at h (stages.Full g) w = absurd (cc)
-  needs_at h (stages.Awaits g) w = absurd (cc)
   needs_at h (stages.Leaves i) w = absurd w
+  needs_at h _ w = absurd (cc)
 
   reserves_at : (stage : Stage) → IsQuietAt acts.Reserve stage → (stage ≡ stages.Between) × (nat_lt begun blocks ≡ true)
   reserves_at stages.Between w = (refl, between_reserves (nat_lt begun blocks) w)
   reserves_at stages.Runs w = absurd (let no : acts.Reserve ≡ acts.NeedChunk w.0 = w.1 in cc)
-  reserves_at (stages.Full g) w = absurd (cc)
-  reserves_at (stages.Awaits g) w = absurd (cc)
   reserves_at (stages.Leaves i) w = absurd w
+  reserves_at _ w = absurd (cc)
 
   pub awaits_here : (h : ℕ) → Wants b settings blocks ticket.index begun most s (acts.Await h) → s.stage ≡ stages.Awaits h
   awaits_here h w = waits_at h s.stage (quiet_at (acts.Await h) s.stage tt refl w.standing w.act)

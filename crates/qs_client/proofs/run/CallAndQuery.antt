@@ -45,9 +45,8 @@ module _ (k : ℕ) (r : Request) (t : Spot) (s : RunState) where
 -- where the object is held, or no chunk is open, a command changes nothing
 pub still_call : (k : ℕ) (r : Request) (t : Spot) (s : RunState) (x : Option HeldState) (c : Option (Batch Request))
     → (not (is_some x) && is_some c) ≡ false → ◌≡◌ {A = RunState × Bool} (call_by k r t s x c) (s, false)
-still_call k r t s (Some x) c e = refl
-still_call k r t s None None e = refl
 still_call k r t s None (Some b) e = absurd (cc)
+still_call k r t s _ _ e = refl
 
 -- a synchronisation that is not skipped changes nothing
 pub still_sync : (dynamic : Bool) (h : ℕ) (t : Spot) (s : RunState) → (dynamic && is_some (holding_at s.holdings h)) ≡ false

@@ -28,15 +28,13 @@ use Rattle.qs_client.proofs.run.InBlock.{held_in_block}
 
 pub clears_sized : (settings : Settings) (h : ℕ) (x : Option HeldState) (c : Option (Batch Request)) (other : Act) → IsSized settings.size c
     → clear_by h x c other ≡ clear settings h x (items_of c) other
-clears_sized settings h (Some x) c other w = refl
 clears_sized settings h None (Some b) other w = ap (λ n. Send h (parcels.Work (batch b.items n))) w
-clears_sized settings h None None other w = refl
+clears_sized settings h _ _ other w = refl
 
 pub calls_sized : (settings : Settings) (h : ℕ) (x : Option HeldState) (c : Option (Batch Request)) → IsSized settings.size c
     → clear_by h x c (NeedChunk h) ≡ call_act settings h x (items_of c)
-calls_sized settings h (Some x) c w = refl
 calls_sized settings h None (Some b) w = ap (λ n. Send h (parcels.Work (batch b.items n))) w
-calls_sized settings h None None w = refl
+calls_sized settings h _ _ w = refl
 
 -- what is kept after an act, by what the act is
 pub without_cleared : (begun : ℕ) (p : ClientStage) (s : HoldingsState) (h : ℕ) (other : Act) → without_act (client_with begun p s) other ≡ client_with begun p s

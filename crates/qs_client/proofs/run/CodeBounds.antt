@@ -1,7 +1,7 @@
 -- What a client relies on in its code: a handler of a block's list is one of 8, blocks are few, and no graph is longer
 -- than the longest. The code needs it for its indexes and its room. The idea: a code is that of a sound program
 -- (`IsCode`), whose checks say it.
-use Rattle.std.proofs.Common.{◌≡◌, inl, inr, ℕ, zero, suc, ◌<◌, ◌≤◌, List, [], ◌∷◌, length, get_or, ap, arith}
+use Rattle.std.proofs.Common.{◌≡◌, inl, inr, ℕ, suc, ◌<◌, ◌≤◌, List, ◌∷◌, length, get_or, ap, arith}
 use Rattle.std.proofs.lemmas.Bool.{cases_lt}
 use Rattle.std.proofs.lemmas.List.{get_or_past}
 use Rattle.qs_objects.proofs.Elements.{AllByRecursion-get_or}
@@ -44,6 +44,5 @@ few_blocks code w = elim (cases_lt 0 (length code.blocks)) [
 
 -- each graph is as long as the longest at most
 pub longest_covers : (bs : List BlockCode) (k : ℕ) → length (get_or bs k no_code).graph ≤ longest bs
-longest_covers [] k = omega arith
-longest_covers (b ∷ bs) zero = omega arith
 longest_covers (b ∷ bs) (suc k) = omega (arith, longest_covers bs k)
+longest_covers _ _ = omega arith

@@ -27,10 +27,5 @@ step_at g context reserved s n next other v at first second is =
 
 -- at no synchronisation there is nothing to wait for
 pub no_sync : (v : Node) (s : RunState) (a b : ℕ) → ((x : ℕ) → v ≡ nodes.Sync x → ⊥) → await_by (move_by v s.position a b) s ≡ s
-no_sync nodes.Entry s a b h = refl
-no_sync (nodes.Local x) s a b h = refl
-no_sync (nodes.Branch x) s a b h = refl
 no_sync (nodes.Sync x) s a b h = absurd (h x refl)
-no_sync (nodes.Query x c) s a b h = refl
-no_sync (nodes.Call c) s a b h = refl
-no_sync nodes.Exit s a b h = refl
+no_sync _ s a b h = refl

@@ -13,8 +13,8 @@ use Rattle.qs_objects.specs.declared.held.Ticket.{Ticket}
 use Rattle.qs_objects.proofs.Choices.{eqb_self, apart_eqb, and_cases, num_cases}
 use Rattle.qs_meaning.specs.audit.Solo.{put, event, value_of}
 use Rattle.qs_graph.specs.declared.node.Node.{Node}
-use Rattle.qs_graph.specs.declared.node.Action.TheVariants.{Assign, SetCount, Nothing}
-use Rattle.qs_graph.specs.declared.node.Choice.TheVariants.{If, Repeat}
+use Rattle.qs_graph.specs.declared.node.Action.TheVariants.{SetCount}
+use Rattle.qs_graph.specs.declared.node.Choice.TheVariants.{Repeat}
 use Rattle.qs_graph.specs.WellFormed.{IsGraph, IsGraphNode, IsInRange}
 use Rattle.qs_graph.specs.audit.Nodes.{GraphNode, place_at, first_target, second_target, exit}
 use Rattle.qs_graph.specs.audit.Steps.{limit}
@@ -67,13 +67,10 @@ noted_on tr e z t same =
     ∙ (λ i. record { client = z.client; trace = sym same i ++ z.events })
 
 eight_by : (v : Node) (s : Spot) (a b : ℕ) → IsInRange v → IsAmongEight (move_by v s a b)
-eight_by nodes.Entry s a b h = tt
-eight_by (nodes.Local x) s a b h = tt
-eight_by (nodes.Branch x) s a b h = tt
 eight_by (nodes.Sync o) s a b h = h
 eight_by (nodes.Query x c) s a b h = h.1.0
 eight_by (nodes.Call c) s a b h = h.0
-eight_by nodes.Exit s a b h = tt
+eight_by _ s a b h = tt
 
 pub among_eight : (g : List GraphNode) (s : Spot) → IsGraph g → s.node < length g → IsAmongEight (move g s)
 unfolding move
@@ -86,16 +83,11 @@ turned_counts zero s a b = refl
 turned_counts (suc k) s a b = length-set s.counts s.node k
 
 counts_by : (v : Node) (s : Spot) (a b : ℕ) → EachNext (λ t. length t.counts ≡ length s.counts) (move_by v s a b)
-counts_by nodes.Entry s a b = refl
-counts_by (nodes.Local (Assign x e)) s a b = refl
 counts_by (nodes.Local (SetCount k)) s a b = length-set s.counts a k
-counts_by (nodes.Local Nothing) s a b = refl
-counts_by (nodes.Branch (If t)) s a b = refl
 counts_by (nodes.Branch Repeat) s a b = turned_counts (get_or s.counts s.node 0) s a b
-counts_by (nodes.Sync o) s a b = refl
 counts_by (nodes.Query x c) s a b = λ v. refl
-counts_by (nodes.Call c) s a b = refl
 counts_by nodes.Exit s a b = tt
+counts_by _ s a b = refl
 
 -- a move leaves as many counts
 pub counts_kept : (g : List GraphNode) (s : Spot) → EachNext (λ t. length t.counts ≡ length s.counts) (move g s)
@@ -104,10 +96,8 @@ counts_kept g s = counts_by (place_at g s.node).node s (first_target (place_at g
 
 enough_counts : (m k : ℕ) (x : Move) → m ≤ k → EachNext (λ t. length t.counts ≡ k) x → EachNext (λ t. m ≤ length t.counts) x
 enough_counts m k Ends h w = tt
-enough_counts m k (Goes t) h w = omega (arith, h, w)
-enough_counts m k (Calls r t) h w = omega (arith, h, w)
-enough_counts m k (Syncs o t) h w = omega (arith, h, w)
 enough_counts m k (Queries r t) h w = λ v. omega (arith, h, w v)
+enough_counts m k _ h w = omega (arith, h, w)
 
 pub keeps_rows : (k : ℕ) (ts : List TraceState) → KeepsRows k ts ts
 keeps_rows k ts = record { count = refl; others = λ j other. refl }
@@ -122,9 +112,8 @@ keeps_noted k ts e = record {
 }
 
 call_rows : (k : ℕ) (r : Request) (t : Spot) (s : RunState) (x : Option HeldState) (b : Option (Batch Request)) → KeepsRows k s.traces (call_by k r t s x b).0.traces
-call_rows k r t s (Some x) b = keeps_rows k s.traces
-call_rows k r t s None None = keeps_rows k s.traces
 call_rows k r t s None (Some b) = keeps_noted k s.traces (command_event r)
+call_rows k r t s _ _ = keeps_rows k s.traces
 
 query_rows : (u : Ticket) (r : Request) (t : ℤ → Spot) (s : RunState) (x : Option HeldState) → KeepsRows u.index s.traces (query_by u r t s x).0.traces
 query_rows u r t s None = keeps_rows u.index s.traces
@@ -136,9 +125,8 @@ sync_rows k false s t = keeps_rows k s.traces
 
 call_counts : (m k : ℕ) (r : Request) (t : Spot) (s : RunState) (x : Option HeldState) (b : Option (Batch Request)) → length s.position.counts ≡ m → length t.counts ≡ m
     → length (call_by k r t s x b).0.position.counts ≡ m
-call_counts m k r t s (Some x) b h w = h
-call_counts m k r t s None None h w = h
 call_counts m k r t s None (Some b) h w = w
+call_counts m k r t s _ _ h w = h
 
 query_counts : (m : ℕ) (u : Ticket) (r : Request) (t : ℤ → Spot) (s : RunState) (x : Option HeldState) → length s.position.counts ≡ m → ((v : ℤ) → length (t v).counts ≡ m)
     → length (query_by u r t s x).0.position.counts ≡ m
@@ -162,11 +150,10 @@ all_counts : (g : List GraphNode) (context : BlockContext) (reserved : List ℕ)
 all_counts g context reserved s = step_counts context reserved (length s.position.counts) (move g s.position) s refl (counts_kept g s.position)
 
 rows_by : (context : BlockContext) (reserved : List ℕ) (m : Move) (s : RunState) → KeepsRows context.ticket.index s.traces (step_by context reserved m s).0.traces
-rows_by context reserved Ends s = keeps_rows context.ticket.index s.traces
-rows_by context reserved (Goes t) s = keeps_rows context.ticket.index s.traces
 rows_by context reserved (Calls r t) s = call_rows context.ticket.index r t s (holding_at s.holdings r.object) (chunk_at s.holdings r.object)
 rows_by context reserved (Syncs h t) s = sync_rows context.ticket.index (context.dynamic && is_some (holding_at s.holdings h)) s t
 rows_by context reserved (Queries r t) s = query_rows context.ticket r t s (holding_at s.holdings r.object)
+rows_by context reserved _ s = keeps_rows context.ticket.index s.traces
 
 rows_kept : (g : List GraphNode) (context : BlockContext) (reserved : List ℕ) (s : RunState) → KeepsRows context.ticket.index s.traces (quiet_step g context reserved s).0.traces
 rows_kept g context reserved s = rows_by context reserved (move g s.position) s
@@ -175,9 +162,7 @@ rows_kept g context reserved s = rows_by context reserved (move g s.position) s
 pub stopped_up : (g : List GraphNode) (reserved : List ℕ) (size k a b : ℕ) (s : RunState) (stage : Stage) → a ≤ b → IsStopped g reserved size k a s stage → IsStopped g reserved size k b s stage
 stopped_up g reserved size k a b s stages.Runs h w = (w.0, omega (arith, h, w.1), w.2, w.3)
 stopped_up g reserved size k a b s (stages.Full x) h w = (w.0, omega (arith, h, w.1), w.2)
-stopped_up g reserved size k a b s (stages.Awaits x) h w = w
-stopped_up g reserved size k a b s (stages.Leaves i) h w = w
-stopped_up g reserved size k a b s stages.Between h w = w
+stopped_up g reserved size k a b s _ h w = w
 
 abbrev one_more : (RunState → ℕ) → RunState × Bool → ℕ
 one_more left (t, true) = suc (left t)
@@ -287,10 +272,6 @@ module _ (g : List GraphNode) (settings : Settings) (context : BlockContext) (re
 
       by_holdings : (x : Option HeldState) (b : Option (Batch Request)) → holding_at s.holdings r.object ≡ x → chunk_at s.holdings r.object ≡ b
           → IsAfterStep n (Call r (walk g n t)) s (call_by k r t s x b)
-      by_holdings (Some x) b e f =
-          let here = stays_here n s (Calls r t) w tt in (here.0, (λ i. progress_after tr (does (e i) (f i))) ∙ here.1)
-      by_holdings None None e f =
-          let here = stays_here n s (Calls r t) w tt in (here.0, (λ i. progress_after tr (does (e i) (f i))) ∙ here.1)
       by_holdings None (Some b) e f = by_full (length items == b.capacity) refl
         where
           items : List Request
@@ -378,6 +359,8 @@ module _ (g : List GraphNode) (settings : Settings) (context : BlockContext) (re
             refl,
             begins false i_full,
           )
+      by_holdings _ _ e f =
+          let here = stays_here n s (Calls r t) w tt in (here.0, (λ i. progress_after tr (does (e i) (f i))) ∙ here.1)
 
   queries_case : (n : ℕ) (s : RunState) (r : Request) (t : ℤ → Spot) → IsBeforeMove n s (Queries r t)
       → IsAfterStep n (Query r (λ v. walk g n (t v))) s (query context.ticket r t s)
@@ -510,8 +493,7 @@ pub standing_of : (b : BlockCode) (size k less most : ℕ) (s : RunState) (stage
 standing_of b size k less most s stages.Runs h w = stopped_up b.graph b.reserved size k less most s stages.Runs h w
 standing_of b size k less most s (stages.Full x) h w = stopped_up b.graph b.reserved size k less most s (stages.Full x) h w
 standing_of b size k less most s (stages.Awaits x) h w = absurd w
-standing_of b size k less most s (stages.Leaves i) h w = w
-standing_of b size k less most s stages.Between h w = w
+standing_of b size k less most s _ h w = w
 
 room_again : (size h j : ℕ) (c : Option (Batch Request)) → ((h == j) ≡ false → IsOpen size c) → (h ≡ j → c ≡ None) → IsOpen size c
 room_again size h j c others gone =

@@ -12,13 +12,9 @@ use Rattle.qs_client.proofs.run.StepAtNode.{moves}
 use Rattle.qs_client.proofs.run.run.Run.act_at_node.Goals as goal
 
 neither : (v : Node) (s : Spot) (a b : ℕ) → IsLoud (move_by v s a b) → ((x : ℕ) → v ≡ nodes.Sync x → ⊥) → ((x : calls.Call) → v ≡ nodes.Call x → ⊥) → ⊥
-neither nodes.Entry s a b loud sync call = loud
-neither (nodes.Local x) s a b loud sync call = loud
-neither (nodes.Branch x) s a b loud sync call = loud
 neither (nodes.Sync x) s a b loud sync call = sync x refl
-neither (nodes.Query x c) s a b loud sync call = loud
 neither (nodes.Call c) s a b loud sync call = call c refl
-neither nodes.Exit s a b loud sync call = loud
+neither _ s a b loud sync call = loud
 
 pub unreachable-requires : goal.unreachable-requires
 unreachable-requires c =
