@@ -1,16 +1,14 @@
 -- Runs by the plain rules are isolated: their state is an abstract run, whose journals flow as each handler's queue of
 -- queues was served.
-use Rattle.std.proofs.Common.{◌≡◌, ◌<◌, ℕ, zero, suc, ◌+◌, ◌&&◌, ◌||◌, Bool, true, false, true≢false, if◌then◌else◌, nat_lt, nat_eq, List, [], ◌∷◌, ◌++◌, map, flat_map, length, get_or, refl, ap, sym, subst, ◌∙◌, arith}
+use Rattle.std.proofs.Common.{◌≡◌, ◌<◌, ℕ, zero, suc, ◌+◌, Bool, true, false, if◌then◌else◌, nat_eq, List, [], ◌∷◌, flat_map, length, get_or, refl, ap, sym, subst, ◌∙◌, arith, rules}
 use Rattle.std.proofs.Math.ListN.{get_or-map as get_or-map-any}
 use Rattle.std.proofs.lemmas.List.{get_or-map, length-map}
 use Rattle.std.specs.List.{AllByRecursion}
-use Rattle.qs_objects.specs.audit.Parts.{command_event, same}
+use Rattle.qs_objects.specs.audit.Parts.{same}
 use Rattle.qs_objects.specs.declared.held.Ticket.{Ticket}
 use Rattle.qs_objects.specs.declared.Request.{Request}
 use Rattle.qs_objects.proofs.Choices.{and_cases, not_same}
 use Rattle.qs_meaning.specs.audit.Following.{reserves}
-use Rattle.qs_meaning.specs.Following.{block_tree}
-use Rattle.qs_meaning.specs.audit.Interaction.{Done}
 use Rattle.qs_program.specs.audit.Program.{ProgramShape, blocks_of}
 use Rattle.qs_meaning.specs.audit.Serial.{IsLegal, LegalFrom, declared_states}
 use Rattle.qs_meaning.specs.audit.Solo.{put}
@@ -21,7 +19,7 @@ use Rattle.qs_meaning.specs.BlockRecords.{Begins, IsDone, IsBlockRecord}
 use Rattle.qs_meaning.proofs.SerialRuns.{legal_apart, line}
 use Rattle.qs_meaning.proofs.SoundTrees.{blocks_ask_only}
 use Rattle.qs_meaning.proofs.TreeWalks.{unnamed}
-use Rattle.qs_played.specs.audit.Isolation.{journal_of, state_of, ticket_at, trace_of}
+use Rattle.qs_played.specs.audit.Isolation.{journal_of, state_of, ticket_at}
 use Rattle.qs_played.specs.Isolation.{IsIsolated}
 use Rattle.qs_played.specs.audit.Played.{ticket, Played}
 use Rattle.qs_played.proofs.Orders.{counts_after, legal_among, apart_kept, apart_both}
@@ -33,10 +31,10 @@ use Rattle.qs_plain_laws.specs.audit.PlainSchedule.{all_done, all_idle, counts_o
 use Rattle.qs_plain_laws.proofs.ServedRuns.{ServedRun, Front, IsServedRun}
 use Rattle.qs_plain_laws.proofs.PlainPreserved.{RunInvariant, handlers_long, run_kept, sight_of}
 use Rattle.qs_plain_laws.proofs.ServiceFlows.{commands_private, flow, commands_found, found_each, found_none}
-use Rattle.qs_plain_laws.proofs.RunViews.{RunView, PlainStage, Stands, Runs, Awaits, stage_of}
-use Rattle.qs_plain_laws.proofs.Simulation.{Simulates, StandsAt, private, queue_may}
+use Rattle.qs_plain_laws.proofs.RunViews.{RunView, stage_of}
+use Rattle.qs_plain_laws.proofs.Simulation.{Simulates, private, queue_may}
 
-done_at : (p : ProgramShape) (n : ℕ) (cs : List Client) (i : ℕ) → all_done p n cs ≡ true → i < length cs → is_done p (n + i) (get_or cs i no_client) ≡ true
+pub done_at : (p : ProgramShape) (n : ℕ) (cs : List Client) (i : ℕ) → all_done p n cs ≡ true → i < length cs → is_done p (n + i) (get_or cs i no_client) ≡ true
 done_at p n [] i all inside = absurd (omega (arith, inside))
 done_at p n (c ∷ cs) zero all inside =
     let z : n ≡ n + 0 = omega arith in
@@ -45,7 +43,7 @@ done_at p n (c ∷ cs) (suc i) all inside =
     let z : suc n + i ≡ n + suc i = omega arith in
     subst (λ m. is_done p m (get_or cs i no_client) ≡ true) z (done_at p (suc n) cs i (and_cases (is_done p n c) (all_done p (suc n) cs) all).1 (omega (arith, inside)))
 
-idle_at : (hs : List Handler) (h : ℕ) → all_idle hs ≡ true → (handler_at hs h).queues ≡ []
+pub idle_at : (hs : List Handler) (h : ℕ) → all_idle hs ≡ true → (handler_at hs h).queues ≡ []
 idle_at [] h all = refl
 idle_at (x ∷ hs) zero all = none x.queues (and_cases (nat_eq (length x.queues) 0) (all_idle hs) all).0
   where
@@ -100,21 +98,13 @@ module _ (p : ProgramShape) (sound : IsSound p) (s : Plain) (k : RunInvariant p 
       (each_map (λ u path. idle u path) w.order good.block_records)
     where
       front : (q : List Ticket) → AllByRecursion (λ u. waits h u ≡ (w.service h).wait u) q → Front (parts_of w.block_record h) (w.service h).now (w.service h).wait q → Front (parts_of w.block_record h) (w.service h).now (waits h) q
-      front [] e f = f
-      front (t ∷ ts) e f = (
-        f.0 ∙ ap (λ ws. (w.service h).now ++ map command_event ws) (sym e.0),
-        each_both (λ u e f. f ∙ ap (map command_event) (sym e)) ts e.1 f.1,
-      )
+      front q e f = search (rules, each_both)
 
       own_queue : AllByRecursion (λ u. reserves p u h ≡ true) (w.service h).queue
       own_queue = queue_may p sound w h good
 
       idle : (u : Ticket) → IsBlockRecord p u (w.block_record u) → reserves p u h ≡ false → (parts_of w.block_record h u ≡ []) × (waits h u ≡ [])
-      idle u path e = (
-        unnamed (reserves p u) (block_tree p u (w.block_record u).entry) (w.block_record u).trace (w.block_record u).rest h (blocks_ask_only p sound u (w.block_record u).entry) path e,
-        found_none v.client h (w.service h).wait (w.service h).queue u
-            (each_map (λ q m. not_same u q (λ is. true≢false (sym m ∙ (ap (λ t. reserves p t h) (sym is) ∙ e)))) (w.service h).queue own_queue),
-      )
+      idle u path e = search (rules, unnamed, blocks_ask_only, found_none, each_map, not_same, own_queue)
 
   legal : IsLegal p s.order
   legal = subst (IsLegal p) sim.order good.legal
@@ -125,27 +115,9 @@ module _ (p : ProgramShape) (sound : IsSound p) (s : Plain) (k : RunInvariant p 
   state_is : (h : ℕ) → state_of r h ≡ (w.service h).state
   state_is h = get_or-map-any (λ (x : Handler). x.held.object) s.handlers h no_handler ∙ sym (sim.state h)
 
-  trace_is : (i : ℕ) → i < length s.order → trace_of r i ≡ (w.block_record (ticket_at r i)).trace
-  trace_is i inside = get_or-map (trace_at s) s.order i (ticket 0 0) [] inside ∙ sym (sim.trace (ticket_at r i))
-
   -- an ended block has nothing left
   ended_done : (t : Ticket) → t.client < length p.clients → has_ended (client_at s t.client) t.index ≡ true → IsDone (w.block_record t).rest
-  ended_done t inside e = by_test (nat_lt (suc t.index) (begun_blocks (client_at s t.client))) refl e
-    where
-      by_test : (b : Bool) → nat_lt (suc t.index) (begun_blocks (client_at s t.client)) ≡ b
-          → (b || (nat_eq (suc t.index) (begun_blocks (client_at s t.client)) && is_out (client_at s t.client).stage)) ≡ true → IsDone (w.block_record t).rest
-      by_test true less e = sim.older t.client t.index (grind (arith, less))
-      by_test false less e =
-          let both = and_cases (nat_eq (suc t.index) (begun_blocks (client_at s t.client))) (is_out (client_at s t.client).stage) e in
-          let last : suc t.index ≡ begun_blocks (client_at s t.client) = let b = both.0 in grind (arith, b) in
-          standing (k.stance t.client) refl (subst (λ g. is_out g ≡ true) (k.stages t.client inside) both.1) last
-        where
-          standing : (g : PlainStage) → k.stance t.client ≡ g → is_out (stage_of (k.stance t.client)) ≡ true → suc t.index ≡ begun_blocks (client_at s t.client) → IsDone (w.block_record t).rest
-          standing (Stands l) g o last =
-              let b : (w.block_record t).rest ≡ Done l = subst (λ n. StandsAt w.block_record t.client (Stands l) n) (sym last) (subst (λ x. StandsAt w.block_record t.client x (begun_blocks (client_at s t.client))) g (sim.stands t.client)) in
-              subst IsDone (sym b) tt
-          standing (Runs rest) g o last = absurd (let f : is_out (stage_of (Runs rest)) ≡ true = subst (λ g. is_out (stage_of g) ≡ true) g o in cc)
-          standing (Awaits q next) g o last = absurd (let f : is_out (stage_of (Awaits q next)) ≡ true = subst (λ g. is_out (stage_of g) ≡ true) g o in cc)
+  ended_done t inside e = search (rules, sim, and_cases, stage_of)
 
   -- a reservation's client is one of the program
   client_inside : (i : ℕ) → i < length s.order → (ticket_at r i).client < length p.clients
@@ -172,13 +144,7 @@ module _ (p : ProgramShape) (sound : IsSound p) (s : Plain) (k : RunInvariant p 
 
   -- and then no handler has a reservation before it
   none_left : is_finished p s ≡ true → (h : ℕ) → (w.service h).queue ≡ []
-  none_left e h =
-      let both = and_cases (all_done p 0 s.clients) (all_idle s.handlers) e in
-      no_queue _ (w.service h).queue (sym (sim.queues h) ∙ idle_at s.handlers h both.1)
-    where
-      no_queue : {X Y : Type 0} (f : X → Y) (xs : List X) → map f xs ≡ [] → xs ≡ []
-      no_queue f [] e = refl
-      no_queue f (y ∷ ys) e = absurd (cc)
+  none_left e h = search (rules, and_cases, sim, idle_at)
 
   run : IsRun p sound r w.block_record waits (λ h. (w.service h).state) (λ h. (w.service h).queue ≡ [] → ⊥) (λ h. (w.service h).journal)
   run = record {
@@ -197,7 +163,7 @@ module _ (p : ProgramShape) (sound : IsSound p) (s : Plain) (k : RunInvariant p 
     honest = λ h own. (good.services h).honest;
     replayed = λ h own. (good.services h).state;
     entry = λ i inside. get_or-map (entry_at s) s.order i (ticket 0 0) [] inside ∙ sym (sim.entry (ticket_at r i));
-    trace = trace_is;
+    trace = λ i inside. get_or-map (trace_at s) s.order i (ticket 0 0) [] inside ∙ sym (sim.trace (ticket_at r i));
     ended = λ i inside e. ended_done (ticket_at r i) (client_inside i inside) (sym (get_or-map (ended_at s) s.order i (ticket 0 0) false inside) ∙ e);
     journals = λ h own. journal_is h;
     written = λ h t has. journal_is h;

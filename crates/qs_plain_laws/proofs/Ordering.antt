@@ -2,61 +2,45 @@
 -- has begun. The contract of `play` promises it, and what is shown of a ticket is found by it. Over the plain rules
 -- alone it is kept that each client has begun as many blocks as it has tickets in the order, by cases on the step and
 -- induction on the actors.
-use Rattle.std.proofs.Common.{◌≡◌, ◌<◌, ℕ, zero, suc, ◌==◌, Bool, true, false, if◌then◌else◌, nat_lt, List, [], ◌∷◌, ◌++◌, map, length, get_or, Some, None, refl, ap, sym, subst, ◌∙◌, arith, add-one, get_or-set_same, get_or-set_other}
+use Rattle.std.proofs.Common.{◌≡◌, ◌<◌, ℕ, zero, suc, ◌==◌, Bool, true, false, if◌then◌else◌, nat_lt, List, [], ◌∷◌, ◌++◌, map, length, get_or, Some, None, refl, ap, sym, ◌∙◌, arith, add-one, get_or-set_same, get_or-set_other, rules}
 use Rattle.std.proofs.Math.ListN.{set}
 use Rattle.std.proofs.Math.Seq.{map-set_same}
 use Rattle.std.proofs.lemmas.List.{length-append, length-map, map-set}
 use Rattle.std.specs.List.{range_with_len}
 use Rattle.std.specs.Prelude.{Option, ℤ}
 use Rattle.qs_objects.specs.declared.held.Ticket.{Ticket}
-use Rattle.qs_objects.specs.audit.Journals.{run_one}
 use Rattle.qs_objects.specs.declared.Request.{Request}
 use Rattle.qs_meaning.specs.audit.Interaction.{Interaction, Done, Call, Query}
 use Rattle.qs_program.specs.audit.Program.{ProgramShape, blocks_of}
 use Rattle.qs_meaning.specs.audit.Serial.{LegalFrom, IsLegal}
 use Rattle.qs_meaning.specs.audit.Solo.{put}
-use Rattle.qs_played.specs.audit.Played.{ticket}
 use Rattle.qs_played.proofs.Lists.{apart}
 use Rattle.qs_played.specs.declared.schedule.actor.Actor.{Actor}
 use Rattle.qs_played.proofs.Orders.{counts_after, legal-more, counts-more, counts_grow}
 use Rattle.qs_played.specs.declared.schedule.actor.Actor.TheVariants as actor
-use Rattle.qs_plain_laws.specs.audit.Plain.{Plain, Client, Handler, Private, StageOfClient, out, within, waiting, begin, begun_blocks, client_at, handler_at, client_step, moves_on, separate, item_step, queue_step, after_reply, reply_to, step, fresh_client, no_client}
+use Rattle.qs_plain_laws.specs.audit.Plain.{Plain, Client, Handler, Private, StageOfClient, out, within, waiting, begin, begun_blocks, client_at, handler_at, client_step, moves_on, separate, item_step, queue_step, after_reply, step, fresh_client, no_client}
 use Rattle.qs_plain_laws.specs.audit.PlainSchedule.{plays}
 use Rattle.qs_played.specs.audit.Schedule.{or_stay}
 use Rattle.qs_plain_laws.specs.declared.item.QueueItem.{QueueItem}
-use Rattle.qs_plain_laws.specs.declared.item.QueueItem.TheVariants as item
 
 pub record IsOrdered (p : ProgramShape) (s : Plain) : Type 0 where
   pub legal : IsLegal p s.order
   pub counts : (c : ℕ) → counts_after (λ _. 0) s.order c ≡ get_or (map begun_blocks s.clients) c 0
 
 get_or-put : (xs : List ℕ) (c y k : ℕ) → c < length xs → get_or (set xs c y) k 0 ≡ put (λ m. get_or xs m 0) c y k
-get_or-put xs c y k less = by_test (c == k) refl
-  where
-    by_test : (b : Bool) → (c == k) ≡ b → get_or (set xs c y) k 0 ≡ (if b then y else get_or xs k 0)
-    by_test true e = let same : k ≡ c = grind (arith, e) in ap (λ n. get_or (set xs c y) n 0) same ∙ get_or-set_same xs c y 0 less
-    by_test false e = get_or-set_other xs c k y 0 (apart c k e)
+get_or-put xs c y k less = search (rules, set, get_or-set_same, get_or-set_other, apart)
 
 get_or-begun : (cs : List Client) (c : ℕ) → get_or (map begun_blocks cs) c 0 ≡ begun_blocks (get_or cs c no_client)
-get_or-begun [] c = refl
-get_or-begun (it ∷ cs) zero = refl
 get_or-begun (it ∷ cs) (suc c) = get_or-begun cs c
+get_or-begun _ _ = refl
 
 heard : (r : Request) (v : Option ℤ) (it : Client) → begun_blocks (after_reply it r v) ≡ begun_blocks it
-heard r v it = by_stage it.stage
-  where
-    by_stage : (g : StageOfClient) → begun_blocks (reply_to it r v g) ≡ begun_blocks it
-    by_stage (out l) = refl
-    by_stage (within rest) = refl
-    by_stage (waiting next) = refl
+heard r v it = search rules
 
 module _ (p : ProgramShape) (s : Plain) (o : IsOrdered p s) where
   -- the order is as it was, and so is how many blocks were begun
   same_order : (t : Plain) → t.order ≡ s.order → map begun_blocks t.clients ≡ map begun_blocks s.clients → IsOrdered p t
-  same_order t order begins = record {
-    legal = subst (IsLegal p) (sym order) o.legal;
-    counts = λ c. ap (λ ts. counts_after (λ _. 0) ts c) order ∙ o.counts c ∙ sym (ap (λ (xs : List ℕ). get_or xs c 0) begins);
-  }
+  same_order t order begins = search (rules, counts_after)
 
   one_set : (c : ℕ) (it : Client) → begun_blocks it ≡ begun_blocks (get_or s.clients c no_client) → map begun_blocks (set s.clients c it) ≡ map begun_blocks s.clients
   one_set c it same = map-set_same begun_blocks s.clients c it no_client same
@@ -74,15 +58,7 @@ module _ (p : ProgramShape) (s : Plain) (o : IsOrdered p s) where
     longer l = sym (length-append it.entries (l ∷ []) ∙ add-one (begun_blocks it))
 
     starting : (l : List ℤ) (b : Bool) → nat_lt (begun_blocks it) (blocks_of p c) ≡ b → IsOrdered p (or_stay s (if b then Some (separate p s c it l) else None))
-    starting l false e = o
-    starting l true e = record {
-      legal = legal-more p (λ _. 0) s.order (ticket c (begun_blocks it)) o.legal (sym (o.counts c ∙ get_or-begun s.clients c)) (grind (arith, e));
-      counts = λ k.
-          ap (λ (f : ℕ → ℕ). f k) (counts-more (λ _. 0) s.order (ticket c (begun_blocks it)))
-          ∙ ap (λ (f : ℕ → ℕ). put f c (suc (begun_blocks it)) k) (λ i m. o.counts m i)
-          ∙ sym (get_or-put (map begun_blocks s.clients) c (suc (begun_blocks it)) k (rw length-map less))
-          ∙ ap (λ xs. get_or xs k 0) (ap (set (map begun_blocks s.clients) c) (longer l) ∙ sym (map-set begun_blocks s.clients c _));
-    }
+    starting l b e = search (rules, legal-more, get_or-begun, counts-more, get_or-put, length-map, set, longer, map-set)
 
     staged : (g : StageOfClient) → IsOrdered p (or_stay s (client_step p s c it g))
     staged (out l) = starting l (nat_lt (begun_blocks it) (blocks_of p c)) refl
@@ -94,12 +70,7 @@ module _ (p : ProgramShape) (s : Plain) (o : IsOrdered p s) where
     handler = handler_at s.handlers h
 
     served : (q : Private) (qs : List Private) (items : List QueueItem) → IsOrdered p (or_stay s (item_step s h handler q qs items))
-    served q qs [] = o
-    served q qs (item.Command r ∷ items) = same_order (or_stay s (item_step s h handler q qs (item.Command r ∷ items))) refl refl
-    served q qs (item.Query r ∷ items) =
-        same_order (or_stay s (item_step s h handler q qs (item.Query r ∷ items))) refl
-        (one_set q.ticket.client _ (heard r (run_one handler.held q.ticket r).1 (client_at s q.ticket.client)))
-    served q qs (item.EndMark ∷ items) = same_order (or_stay s (item_step s h handler q qs (item.EndMark ∷ items))) refl refl
+    served q qs items = search (rules, same_order, one_set, heard)
 
     from_queues : (qs : List Private) → IsOrdered p (or_stay s (queue_step s h handler qs))
     from_queues [] = o
@@ -118,9 +89,8 @@ ordered_plays p s [] o = o
 ordered_plays p s (a ∷ rest) o = ordered_plays p (or_stay s (step p s a)) rest (ordered_next p s o a)
 
 none_begun : (cs : List ℕ) (c : ℕ) → get_or (map begun_blocks (map fresh_client cs)) c 0 ≡ 0
-none_begun [] c = refl
-none_begun (n ∷ cs) zero = refl
 none_begun (n ∷ cs) (suc c) = none_begun cs c
+none_begun _ _ = refl
 
 pub ordered_begin : (p : ProgramShape) → IsOrdered p (begin p)
 ordered_begin p = record { legal = tt; counts = λ c. sym (none_begun (range_with_len 0 (length p.clients)) c) }

@@ -2,7 +2,7 @@
 -- (`RunInvariant`). Isolation and the counts under the plain rules are read off this. A list with one place changed is
 -- read as a function changed at one place, so each step is one for which `Simulation` has a lemma; then the proof goes
 -- by induction on the list of actors.
-use Rattle.std.proofs.Common.{◌≡◌, ◌≢◌, ◌<◌, ◌≤◌, ℕ, zero, suc, ◌+◌, ◌-◌, ◌==◌, ◌||◌, Bool, true, false, true≢false, if◌then◌else◌, nat_lt, List, [], ◌∷◌, ◌++◌, map, length, get_or, Option, Some, None, ℤ, refl, ap, sym, subst, ◌∙◌, arith, ⊎_elim, get_or-set_same, get_or-set_other, length-set}
+use Rattle.std.proofs.Common.{◌≡◌, ◌≢◌, ◌<◌, ℕ, zero, suc, ◌+◌, ◌-◌, ◌==◌, ◌||◌, Bool, true, false, if◌then◌else◌, nat_lt, List, [], ◌∷◌, ◌++◌, map, length, get_or, Option, None, ℤ, refl, ap, sym, subst, ◌∙◌, arith, ⊎_elim, get_or-set_same, get_or-set_other, length-set, rules}
 use Rattle.std.proofs.Math.ListN.{set}
 use Rattle.std.proofs.Math.Path.{fun_ext}
 use Rattle.std.proofs.Math.Seq.{map-set_same}
@@ -11,9 +11,7 @@ use Rattle.std.proofs.lemmas.List.FromFn.{get_or-map-range_with_len, length-rang
 use Rattle.std.proofs.lemmas.Simd.{map-map}
 use Rattle.std.proofs.lemmas.Map.Keys.{IsDistinct-head, IsDistinct-tail}
 use Rattle.std.specs.List.{AllByRecursion, IsDistinct, range_with_len, list_any}
-use Rattle.qs_objects.specs.audit.Journals.{HeldState, has_room, with_entry, run_one, answer}
-use Rattle.qs_objects.specs.audit.Act.{act}
-use Rattle.qs_objects.specs.audit.Objects.{starts}
+use Rattle.qs_objects.specs.audit.Journals.{HeldState, run_one, answer}
 use Rattle.qs_objects.specs.audit.Parts.{same}
 use Rattle.qs_objects.specs.declared.held.Event.{Event}
 use Rattle.qs_objects.specs.declared.held.Ticket.{Ticket}
@@ -22,9 +20,8 @@ use Rattle.qs_objects.proofs.Choices.{num_cases, ticket_cases, ticket_path, same
 use Rattle.qs_meaning.specs.audit.Following.{reserves}
 use Rattle.qs_meaning.specs.Following.{block_tree}
 use Rattle.qs_meaning.specs.audit.Interaction.{Interaction, Done, Call, Query}
-use Rattle.qs_program.specs.audit.Program.{ProgramShape, BlockShape, text_of, blocks_of, client_at as shape_at, no_block, no_client as no_shape, no_object}
-use Rattle.qs_program.specs.declared.program.Declared.{Declared}
-use Rattle.qs_meaning.specs.audit.Serial.{zeros, declared_states, state_or_none}
+use Rattle.qs_program.specs.audit.Program.{ProgramShape, BlockShape, text_of, blocks_of, no_block, no_client as no_shape}
+use Rattle.qs_meaning.specs.audit.Serial.{zeros, declared_states}
 use Rattle.qs_meaning.specs.audit.Solo.{put, event, value_of}
 use Rattle.qs_program.specs.audit.Sound.{is_in}
 use Rattle.qs_program.specs.Sound.{IsSound}
@@ -37,7 +34,6 @@ use Rattle.qs_played.specs.audit.JournalRooms.{room_of}
 use Rattle.qs_played.specs.declared.schedule.actor.Actor.{Actor}
 use Rattle.qs_played.proofs.Lists.{apart}
 use Rattle.qs_played.proofs.FunctionUpdate.{put_at, put_at_here, put_at_there}
-use Rattle.qs_played.specs.declared.schedule.actor.Actor.TheVariants as actor
 use Rattle.qs_plain_laws.specs.audit.Plain.{Plain, Client, with_query_counted, Handler, Private, StageOfClient, out, within, waiting, begin, begun_blocks, client_at, handler_at, client_step, moves_on, item_step, queue_step, at_handler, at_each, log_in, enter, serves, stands, with_trace_event, begins, after_reply, reply_to, step, fresh_client, fresh_handler, no_client, no_handler, calls, asks, ends, runs_command, runs_query, leaves_queue}
 use Rattle.qs_plain_laws.specs.audit.PlainSchedule.{plays, entry_at, trace_at}
 use Rattle.qs_played.specs.audit.Schedule.{or_stay}
@@ -51,11 +47,7 @@ use Rattle.qs_plain_laws.specs.declared.item.QueueItem.TheVariants as item
 
 -- one place set, seen as a function
 set_is_put : {X : Type 0} (xs : List X) (n : ℕ) (x d : X) → n < length xs → (λ k. get_or (set xs n x) k d) ≡ put (λ k. get_or xs k d) n x
-set_is_put xs n x d less = fun_ext (λ k. by_test k (n == k) refl)
-  where
-    by_test : (k : ℕ) (b : Bool) → (n == k) ≡ b → get_or (set xs n x) k d ≡ (if b then x else get_or xs k d)
-    by_test k true e = let same : k ≡ n = grind (arith, e) in ap (λ m. get_or (set xs n x) m d) same ∙ get_or-set_same xs n x d less
-    by_test k false e = get_or-set_other xs n k x d (apart n k e)
+set_is_put xs n x d less = search (rules, fun_ext, set, get_or-set_same, get_or-set_other, apart)
 
 -- one element more
 snoc_here : {X : Type 0} (xs : List X) (x d : X) → get_or (xs ++ x ∷ []) (length xs) d ≡ x
@@ -64,12 +56,11 @@ snoc_here (y ∷ xs) x d = snoc_here xs x d
 
 snoc_there : {X : Type 0} (xs : List X) (x d : X) (i : ℕ) → (length xs == i) ≡ false → get_or (xs ++ x ∷ []) i d ≡ get_or xs i d
 snoc_there [] x d zero e = absurd (let f : (0 == 0) ≡ true = grind arith in cc)
-snoc_there [] x d (suc i) e = refl
-snoc_there (y ∷ xs) x d zero e = refl
 snoc_there (y ∷ xs) x d (suc i) e = snoc_there xs x d i (let n : length xs ≢ i = apart_sucs (length xs) i e in grind (arith, n))
   where
     apart_sucs : (m n : ℕ) → (suc m == suc n) ≡ false → m ≢ n
     apart_sucs m n f is = let t : (suc m == suc n) ≡ true = rw is (grind arith) in cc
+snoc_there _ x d _ e = refl
 
 -- the run with what each client waits for
 abbrev pub sight_of : Plain → (ℕ → PlainStage) → RunView
@@ -112,10 +103,7 @@ reserved_list p sound t = by_client (nat_lt t.client (length p.clients)) refl
     none e = subst (λ (b : BlockShape). IsList p b.reserved) (sym e) (record { within = tt; distinct = search })
 
     by_block : t.client < length p.clients → (b : Bool) → nat_lt t.index (blocks_of p t.client) ≡ b → IsList p (text_of p t).reserved
-    by_block less true e =
-        let block = sound_block p t.client t.index sound less (grind (arith, e)) in
-        record { within = block.reserved; distinct = block.distinct }
-    by_block less false e = none (get_or_past (shape_at p t.client).blocks t.index no_block (grind (arith, e)))
+    by_block less b e = search (rules, sound_block, none, get_or_past)
 
     by_client : (b : Bool) → nat_lt t.client (length p.clients) ≡ b → IsList p (text_of p t).reserved
     by_client true e = by_block (grind (arith, e)) (nat_lt t.index (blocks_of p t.client)) refl
@@ -149,20 +137,11 @@ each_is f hs (k ∷ ks) g inside distinct =
         rw no (not_later js far.1 e)
       where
         turned : (j : ℕ) → (k == j) ≡ false → (j == k) ≡ false
-        turned j f = by_case (j == k) refl
-          where
-            by_case : (b : Bool) → (j == k) ≡ b → b ≡ false
-            by_case true e = let same : j ≡ k = grind (arith, e) in let t : (k == j) ≡ true = rw same (grind arith) in cc
-            by_case false e = refl
+        turned j f = search rules
 
     by_test : (b : Bool) → (k == g) ≡ b → AllByRecursion (λ y. (k == y) ≡ false) ks
         → (if is_in ks g then f (handler_at (at_handler f hs k) g) else handler_at (at_handler f hs k) g) ≡ (if (b || is_in ks g) then f (handler_at hs g) else handler_at hs g)
-    by_test true e far =
-        let is : g ≡ k = grind (arith, e) in
-        rw (not_later ks far e) (ap (λ g. handler_at (at_handler f hs k) g) is ∙ (get_or-set_same hs k (f (handler_at hs k)) no_handler inside.0 ∙ ap (λ g. f (handler_at hs g)) (sym is)))
-    by_test false e far =
-        let there : handler_at (at_handler f hs k) g ≡ handler_at hs g = get_or-set_other hs k g (f (handler_at hs k)) no_handler (apart k g e) in
-        rw there refl
+    by_test b e far = search (rules, not_later, get_or-set_same, get_or-set_other, apart)
 
 -- a change that keeps the rooms
 same_rooms : (f : Handler → Handler) (hs : List Handler) (ks : List ℕ) → ((h : Handler) → room_at (f h) ≡ room_at h) → map room_at (at_each f hs ks) ≡ map room_at hs
@@ -170,11 +149,7 @@ same_rooms f hs [] keeps = refl
 same_rooms f hs (k ∷ ks) keeps = same_rooms f (at_handler f hs k) ks keeps ∙ map-set_same room_at hs k (f (handler_at hs k)) no_handler (keeps (handler_at hs k))
 
 room_stays : (x : HeldState) (t : Ticket) (r : Request) → (run_one x t r).0.room ≡ x.room
-room_stays x t r = by_case (has_room x)
-  where
-    by_case : (b : Bool) → (if b then with_entry x t r (act x.object r.op r.args) else (x, None)).0.room ≡ x.room
-    by_case true = refl
-    by_case false = refl
+room_stays x t r = search rules
 
 module _ (p : ProgramShape) (sound : IsSound p) (s : Plain) (k : RunInvariant p sound s) where
   pub handlers_long : length s.handlers ≡ length p.objects
@@ -201,29 +176,13 @@ module _ (p : ProgramShape) (sound : IsSound p) (s : Plain) (k : RunInvariant p 
     there d other = seen d ∙ put_there (λ c. client_at s c) c it d other
 
     clients_is : ◌≡◌ {A = ℕ → ClientView} (λ d. record { begun = begun_blocks (one d); stage = stance' d }) (put (λ d. record { begun = begun_blocks (client_at s d); stage = k.stance d }) c (record { begun = begun_blocks it; stage = stance }))
-    clients_is = fun_ext (λ d. ap (λ (x : Client). standing (begun_blocks x) (stance' d)) (seen d) ∙ by_test d (c == d))
-      where
-        standing : ℕ → PlainStage → ClientView
-        standing n x = record { begun = n; stage = x }
-
-        by_test : (d : ℕ) (b : Bool) → ◌≡◌ {A = ClientView} (standing (begun_blocks (if b then it else client_at s d)) (if b then stance else k.stance d))
-            (if b then standing (begun_blocks it) stance else standing (begun_blocks (client_at s d)) (k.stance d))
-        by_test d true = refl
-        by_test d false = refl
+    clients_is = search (rules, fun_ext, seen)
 
     stages_are : it.stage ≡ stage_of stance → (d : ℕ) → d < length p.clients → (one d).stage ≡ stage_of (stance' d)
-    stages_are e d inside = ap (λ (x : Client). x.stage) (seen d) ∙ by_test (c == d)
-      where
-        by_test : (b : Bool) → (if b then it else client_at s d).stage ≡ stage_of (if b then stance else k.stance d)
-        by_test true = e
-        by_test false = k.stages d inside
+    stages_are e d inside = search (rules, seen, stage_of)
 
     traces_are : length it.traces ≡ begun_blocks it → (d : ℕ) → length (one d).traces ≡ begun_blocks (one d)
-    traces_are e d = subst (λ (x : Client). length x.traces ≡ begun_blocks x) (sym (seen d)) (by_test (c == d))
-      where
-        by_test : (b : Bool) → length (if b then it else client_at s d).traces ≡ begun_blocks (if b then it else client_at s d)
-        by_test true = e
-        by_test false = k.traces d
+    traces_are e d = search (rules, seen)
 
     tallies_are : Tallied p c it (asked_of stance) → (d : ℕ) → Tallied p d (one d) (asked_of (stance' d))
     tallies_are e d = ⊎_elim
@@ -236,10 +195,7 @@ module _ (p : ProgramShape) (sound : IsSound p) (s : Plain) (k : RunInvariant p 
 
     -- what the change keeps of each client
     keeps : {A : Type 0} (f : Client → A) → f it ≡ f (client_at s c) → (d : ℕ) → f (one d) ≡ f (client_at s d)
-    keeps f e d = ⊎_elim
-        (λ (is : c ≡ d). subst (λ d. f (one d) ≡ f (client_at s d)) is (ap f here ∙ e))
-        (λ (other : (c == d) ≡ false). ap f (there d other))
-        (num_cases c d)
+    keeps f e d = search (rules, here, there, num_cases)
 
     entries_keep : it.entries ≡ (client_at s c).entries → (t : Ticket) → get_or (one t.client).entries t.index [] ≡ entry_at s t
     entries_keep e t = ap (λ (ls : List Locals). get_or ls t.index []) (keeps (λ x. x.entries) e t.client)
@@ -260,15 +216,7 @@ module _ (p : ProgramShape) (sound : IsSound p) (s : Plain) (k : RunInvariant p 
           (ticket_cases (ticket c n) t)
         where
           elsewhere : same (ticket c n) t ≡ false → get_or (f (one t.client)) t.index d ≡ get_or (f (client_at s t.client)) t.index d
-          elsewhere other = ⊎_elim
-              (λ (is : c ≡ t.client).
-              ⊎_elim
-              (λ (at_index : n ≡ t.index). absurd (true≢false (sym (subst (λ u. same (ticket c n) u ≡ true) (ticket_path {u = t} is at_index) (same_self (ticket c n))) ∙ other)))
-              (λ (out_of : (n == t.index) ≡ false).
-              subst (λ e. get_or (f (one e)) t.index d ≡ get_or (f (client_at s e)) t.index d) is (ap (λ x. get_or (f x) t.index d) here ∙ others t.index out_of))
-              (num_cases n t.index))
-              (λ (out_of : (c == t.client) ≡ false). ap (λ x. get_or (f x) t.index d) (there t.client out_of))
-              (num_cases c t.client)
+          elsewhere other = search (rules, ticket_path, same_self, here, num_cases, there)
 
   -- one handler changed
   handler_put : (h : ℕ) (x : Handler) → h < length p.objects → (λ g. handler_at (set s.handlers h x) g) ≡ put (λ g. handler_at s.handlers g) h x
@@ -407,26 +355,14 @@ module _ (p : ProgramShape) (sound : IsSound p) (s : Plain) (k : RunInvariant p 
     goes (Query r next) e = asked r next e
 
     client_kept : (g : StageOfClient) → me.stage ≡ g → RunInvariant p sound (or_stay s (client_step p s c me g))
-    client_kept (out l) e = by_test (nat_lt (begun_blocks me) (blocks_of p c)) refl
-      where
-        by_test : (b : Bool) → nat_lt (begun_blocks me) (blocks_of p c) ≡ b → RunInvariant p sound (or_stay s (if b then Some (plain.separate p s c me l) else None))
-        by_test true more = began l (grind (arith, more)) e
-        by_test false more = k
-    client_kept (within rest) e = goes rest e
-    client_kept (waiting next) e = k
+    client_kept g e = search (rules, began, goes)
 
   module _ (h : ℕ) where
     abbrev us : Handler
     us = handler_at s.handlers h
 
     served_by : (q : Private) (qs : List Private) → us.queues ≡ q ∷ qs → h < length p.objects
-    served_by q qs e = by_test (nat_lt h (length s.handlers)) refl
-      where
-        by_test : (b : Bool) → nat_lt h (length s.handlers) ≡ b → h < length p.objects
-        by_test true f = let l = handlers_long in grind (arith, f, l)
-        by_test false f =
-            let none : us ≡ no_handler = get_or_past s.handlers h no_handler (grind (arith, f)) in
-            let wrong : q ∷ qs ≡ [] = sym e ∙ ap (λ x. x.queues) none in absurd (cc)
+    served_by q qs e = search (rules, handlers_long, get_or_past)
 
     room_is : h < length p.objects → us.held.room ≡ room_of p h
     room_is inside =
@@ -434,11 +370,7 @@ module _ (p : ProgramShape) (sound : IsSound p) (s : Plain) (k : RunInvariant p 
         ∙ (ap (λ xs. get_or xs h 0) k.rooms ∙ get_or-map-range_with_len (room_of p) 0 (length p.objects) h h 0 inside (omega arith))
 
     runs_it : (t : Ticket) (r : Request) → length us.held.journal < us.held.room → run_one us.held t r ≡ (noted_held us.held t r, answer us.held.object r)
-    runs_it t r fits = by_test (has_room us.held) (grind (arith, fits))
-      where
-        by_test : (b : Bool) → b ≡ true → (if b then with_entry us.held t r (act us.held.object r.op r.args) else (us.held, None)) ≡ (noted_held us.held t r, answer us.held.object r)
-        by_test true e = refl
-        by_test false e = absurd (cc)
+    runs_it t r fits = search (rules, noted_held)
 
     done_it : (q : Private) (qs : List Private) (r : Request) (items : List QueueItem) → us.queues ≡ q ∷ qs → q.items ≡ item.Command r ∷ items → RunInvariant p sound (runs_command s h us q qs items r)
     done_it q qs r items e i =
@@ -487,15 +419,7 @@ module _ (p : ProgramShape) (sound : IsSound p) (s : Plain) (k : RunInvariant p 
       rest = asks_it.next (value_of v0)
 
       is_client : c < length s.clients
-      is_client = by_test (nat_lt c (length s.clients)) refl
-        where
-          by_test : (b : Bool) → nat_lt c (length s.clients) ≡ b → c < length s.clients
-          by_test true f = grind (arith, f)
-          by_test false f =
-              let none : you ≡ no_client = get_or_past s.clients c no_client (grind (arith, f)) in
-              let zero_begun : begun_blocks you ≡ 0 = ap begun_blocks none in
-              let last = asks_it.last in
-              absurd (omega (arith, last, zero_begun))
+      is_client = search (rules, get_or_past, asks_it)
 
       abbrev replied_to : Client
       replied_to = stands (with_trace_event you q.ticket.index (event r v0)) (within rest)
@@ -551,22 +475,14 @@ module _ (p : ProgramShape) (sound : IsSound p) (s : Plain) (k : RunInvariant p 
       asked_it = subst (RunInvariant p sound) (sym is_new) kept_new
 
     item_kept : (q : Private) (qs : List Private) (items : List QueueItem) → us.queues ≡ q ∷ qs → q.items ≡ items → RunInvariant p sound (or_stay s (item_step s h us q qs items))
-    item_kept q qs [] e i = k
-    item_kept q qs (item.Command r ∷ items) e i = done_it q qs r items e i
-    item_kept q qs (item.Query r ∷ items) e i = asked_it q qs r items e i
-    item_kept q qs (item.EndMark ∷ items) e i = over_it q qs items e i
+    item_kept q qs items e i = search (rules, done_it, asked_it, over_it)
 
     queue_kept : (qs : List Private) → us.queues ≡ qs → RunInvariant p sound (or_stay s (queue_step s h us qs))
     queue_kept [] e = k
     queue_kept (q ∷ qs) e = item_kept q qs q.items e refl
 
   pub step_kept : (a : Actor) → RunInvariant p sound (or_stay s (step p s a))
-  step_kept (actor.Handler h) = queue_kept h (handler_at s.handlers h).queues refl
-  step_kept (actor.Client c) = by_number (nat_lt c (length s.clients)) refl
-    where
-      by_number : (b : Bool) → nat_lt c (length s.clients) ≡ b → RunInvariant p sound (or_stay s (if b then client_step p s c (client_at s c) (client_at s c).stage else None))
-      by_number false e = k
-      by_number true e = client_kept c (grind (arith, e)) (client_at s c).stage refl
+  step_kept a = search (rules, queue_kept, client_kept)
 
 pub plays_kept : (p : ProgramShape) (sound : IsSound p) (actors : List Actor) (s : Plain) → RunInvariant p sound s → RunInvariant p sound (plays p actors s)
 plays_kept p sound [] s k = k
@@ -588,20 +504,6 @@ module _ (p : ProgramShape) (sound : IsSound p) where
 
   none_begun : (c : ℕ) → begun_blocks (client_at (begin p) c) ≡ 0
   none_begun = fresh_at (λ x. begun_blocks x ≡ 0) (λ n. refl) refl
-
-  object_is : (h : ℕ) → declared_states p h ≡ (handler_at (begin p).handlers h).held.object
-  object_is h = by_test (nat_lt h (length p.objects)) refl
-    where
-      by_test : (b : Bool) → nat_lt h (length p.objects) ≡ b → declared_states p h ≡ (handler_at (begin p).handlers h).held.object
-      by_test true e =
-          let inside : h < length p.objects = grind (arith, e) in
-          sym (ap (λ (x : Handler). x.held.object) (get_or-map-range_with_len (fresh_handler p) 0 (length p.objects) h h no_handler inside (omega arith)))
-      by_test false e =
-          let outside : length p.objects ≤ h = grind (arith, e) in
-          let l = length-range_with_len 0 (length p.objects) in
-          let m = length-map (range_with_len 0 (length p.objects)) (fresh_handler p) in
-          ap (λ (o : Declared). state_or_none (starts o.kind)) (get_or_past p.objects h no_object outside)
-          ∙ sym (ap (λ (x : Handler). x.held.object) (get_or_past (begin p).handlers h no_handler (omega (arith, l, m, outside))))
 
   abbrev begin_course : ServedRun
   begin_course = record {
@@ -638,17 +540,13 @@ module _ (p : ProgramShape) (sound : IsSound p) where
         older = λ c n lt. absurd (let z = none_begun c in omega (arith, z, lt));
         queues = λ h. idle_at (λ x. x.queues ≡ []) (λ n. refl) refl h;
         journal = λ h. sym (idle_at (λ x. x.held.journal ≡ []) (λ n. refl) refl h);
-        state = object_is;
+        state = λ h. search (rules, get_or-map-range_with_len, length-range_with_len, length-map, get_or_past);
       },
     );
   }
     where
       none_tallied : (c : ℕ) (it : Client) → begun_blocks it ≡ 0 → length it.counts ≡ 0 → Tallied p c it (λ h. 0)
-      none_tallied c it none counts = record {
-        long = omega (arith, none, counts);
-        objects = λ i inside. absurd (omega (arith, none, inside));
-        numbers = λ i inside h. absurd (omega (arith, none, inside));
-      }
+      none_tallied c it none counts = search (rules, none, long, inside)
 
       staged : (c : ℕ) → c < length p.clients → (client_at (begin p) c).stage ≡ out zeros
       staged c inside = ap (λ (x : Client). x.stage) (get_or-map-range_with_len fresh_client 0 (length p.clients) c c no_client inside (omega arith))

@@ -44,7 +44,7 @@ use Rattle.qs_plain_laws.proofs.ServedRunMoves.{asks_left}
 use Rattle.qs_plain_laws.proofs.ServedRuns.{ServedRun, IsServedRun}
 use Rattle.qs_plain_laws.proofs.PlainPreserved.{RunInvariant, run_kept, sight_of}
 use Rattle.qs_plain_laws.proofs.PlainTallies.{asked_of}
-use Rattle.qs_plain_laws.proofs.RunViews.{RunView, PlainStage, Stands, Runs, Awaits, stage_of}
+use Rattle.qs_plain_laws.proofs.RunViews.{RunView, PlainStage, Awaits, stage_of}
 use Rattle.qs_plain_laws.proofs.Simulation.{Simulates, StandsAt}
 use Rattle.qs_plain_laws.specs.audit.Plain as plain
 
@@ -137,8 +137,6 @@ module _ (p : ProgramShape) (sound : IsSound p) (s : Plain) (k : RunInvariant p 
 
   -- and so is what its client waits for
   asked_inside : (c n : ℕ) → begun_blocks (client_at s c) ≡ n → (g : PlainStage) → k.stance c ≡ g → sum_of p (asked_of g) ≡ waits (stage_of g)
-  asked_inside c n b (Stands l) at = sum_zero (λ h. 0) (λ h. refl) (range_with_len 0 (length p.objects))
-  asked_inside c n b (Runs rest) at = sum_zero (λ h. 0) (λ h. refl) (range_with_len 0 (length p.objects))
   asked_inside c zero b (Awaits q next) at =
       absurd (subst (λ n. StandsAt w.block_record c (Awaits q next) n) b (subst (λ g. StandsAt w.block_record c g (begun_blocks (client_at s c))) at (sim.stands c)))
   asked_inside c (suc i) b (Awaits q next) at =
@@ -147,13 +145,13 @@ module _ (p : ProgramShape) (sound : IsSound p) (s : Plain) (k : RunInvariant p 
       subst (λ n. StandsAt w.block_record c (Awaits q next) n) b (subst (λ g. StandsAt w.block_record c g (begun_blocks (client_at s c))) at (sim.stands c)) in
       let asking : AsksOnly (reserves p t) (Query q next) = subst (AsksOnly (reserves p t)) rest (asks_left p sound w t (record_ok c i (omega (arith, b)))) in
       one_of_range q.object (length p.objects) (reserved_inside p sound t q.object asking.1)
+  asked_inside c n b _ at = sum_zero (λ h. 0) (λ h. refl) (range_with_len 0 (length p.objects))
 
   -- a client between blocks waits for nothing
   none_before : (c : ℕ) → begun_blocks (client_at s c) ≡ 0 → (g : PlainStage) → k.stance c ≡ g → waits (stage_of g) ≡ 0
-  none_before c b (Stands l) at = refl
-  none_before c b (Runs rest) at = refl
   none_before c b (Awaits q next) at =
       absurd (subst (λ n. StandsAt w.block_record c (Awaits q next) n) b (subst (λ g. StandsAt w.block_record c g (begun_blocks (client_at s c))) at (sim.stands c)))
+  none_before c b _ at = refl
 
   -- what a block has asked
   block_sent : (c i : ℕ) → i < begun_blocks (client_at s c)
@@ -214,8 +212,6 @@ module _ (p : ProgramShape) (sound : IsSound p) (s : Plain) (k : RunInvariant p 
 
       by_stance : suc t.index ≡ begun_blocks it → (g : PlainStage) → k.stance t.client ≡ g
           → AreSent (ended_at s t) (λ h. asked_of g h + queries h (trace_at s t)) (λ h. queries h (trace_at s t))
-      by_stance last (Stands l) at = inl (λ h. omega arith)
-      by_stance last (Runs rest) at = inl (λ h. omega arith)
       by_stance last (Awaits q next) at =
           let less : nat_lt (suc t.index) (begun_blocks it) ≡ false = grind (arith, last) in
           let waiting_now : it.stage ≡ plain.waiting next = k.stages t.client inside ∙ ap stage_of at in
@@ -226,6 +222,7 @@ module _ (p : ProgramShape) (sound : IsSound p) (s : Plain) (k : RunInvariant p 
           both : (x : Bool) → (x && false) ≡ false
           both true = refl
           both false = refl
+      by_stance last _ at = inl (λ h. omega arith)
 
       by_case : (b : Bool) → (suc t.index == begun_blocks it) ≡ b → AreSent (ended_at s t) (sent_so_far t) (λ h. queries h (trace_at s t))
       by_case true is =

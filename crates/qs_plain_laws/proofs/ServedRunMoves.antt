@@ -2,10 +2,10 @@
 -- ticket leaves, or a new one comes. Each step of the plain rules is shown to be such a move (`Simulation`). A move
 -- changes one ticket's block record or one object's service, or adds a ticket; all other block records and services
 -- stay, and what is known of the service has its own lemmas.
-use Rattle.std.proofs.Common.{◌≡◌, ℕ, zero, suc, ◌<◌, ◌≤◌, arith, Bool, true, false, if◌then◌else◌, ◌==◌, List, [], ◌∷◌, ◌++◌, refl, sym, ap, ◌∙◌, subst, ⊎_elim, ℤ}
+use Rattle.std.proofs.Common.{◌≡◌, ℕ, zero, suc, ◌<◌, ◌≤◌, arith, Bool, true, false, if◌then◌else◌, ◌==◌, List, [], ◌∷◌, ◌++◌, refl, sym, ap, ◌∙◌, subst, ⊎_elim, ℤ, rules}
 use Rattle.std.specs.List.{AllByRecursion}
 use Rattle.qs_objects.specs.audit.Journals.{answer}
-use Rattle.qs_objects.specs.audit.Parts.{command_event, part, same}
+use Rattle.qs_objects.specs.audit.Parts.{command_event, same}
 use Rattle.qs_objects.specs.declared.held.Event.{Event}
 use Rattle.qs_objects.specs.declared.held.Ticket.{Ticket}
 use Rattle.qs_objects.specs.declared.Request.{Request}
@@ -39,25 +39,13 @@ module _ (p : ProgramShape) (sound : IsSound p) where
     block_record' = put_at w.block_record t (advance (w.block_record t) e next)
 
     entry_same : (u : Ticket) → (block_record' u).entry ≡ (w.block_record u).entry
-    entry_same u =
-        ⊎_elim
-        (λ (is : t ≡ u). subst (λ u. (block_record' u).entry ≡ (w.block_record u).entry) is (ap (λ (g : BlockRecord). g.entry) (put_at_here w.block_record t (advance (w.block_record t) e next))))
-        (λ (other : same t u ≡ false). ap (λ (g : BlockRecord). g.entry) (put_at_there w.block_record t (advance (w.block_record t) e next) u other))
-        (ticket_cases t u)
+    entry_same u = search (rules, put_at_here, advance, put_at_there, ticket_cases)
 
     done_kept : (u : Ticket) (l : Locals) → (w.block_record u).rest ≡ Done l → (block_record' u).rest ≡ Done l
-    done_kept u l d =
-        ⊎_elim
-        (λ (is : t ≡ u). absurd (busy (subst IsDone (sym (ap (λ u. (w.block_record u).rest) is ∙ d)) tt)))
-        (λ (other : same t u ≡ false). ap (λ (g : BlockRecord). g.rest) (put_at_there w.block_record t (advance (w.block_record t) e next) u other) ∙ d)
-        (ticket_cases t u)
+    done_kept u l d = search (rules, put_at_there, advance, ticket_cases)
 
     pub is_done_kept : (u : Ticket) → done_of w.block_record u → done_of block_record' u
-    is_done_kept u d =
-        ⊎_elim
-        (λ (is : t ≡ u). absurd (busy (subst (done_of w.block_record) (sym is) d)))
-        (λ (other : same t u ≡ false). subst (λ (g : BlockRecord). IsDone g.rest) (sym (put_at_there w.block_record t (advance (w.block_record t) e next) u other)) d)
-        (ticket_cases t u)
+    is_done_kept u d = search (rules, done_of, put_at_there, advance, ticket_cases)
 
     begins_one : (c k : ℕ) (a b : Locals) → a ≡ b → Begins w.block_record c k a → Begins block_record' c k b
     begins_one c zero a b is h = sym is ∙ h
@@ -67,27 +55,13 @@ module _ (p : ProgramShape) (sound : IsSound p) where
     begins_kept = each_map (λ u h. begins_one u.client u.index (w.block_record u).entry (block_record' u).entry (sym (entry_same u)) h) w.order
 
     records_kept : (IsBlockRecord p t (w.block_record t) → IsBlockRecord p t (advance (w.block_record t) e next)) → AllByRecursion (λ t. IsBlockRecord p t (w.block_record t)) w.order → AllByRecursion (λ t. IsBlockRecord p t (block_record' t)) w.order
-    records_kept f = each_map (λ u h.
-        ⊎_elim
-        (λ (is : t ≡ u). subst (λ u. IsBlockRecord p u (block_record' u)) is (subst (IsBlockRecord p t) (sym (put_at_here w.block_record t (advance (w.block_record t) e next))) (f (subst (λ u. IsBlockRecord p u (w.block_record u)) (sym is) h))))
-        (λ (other : same t u ≡ false). subst (IsBlockRecord p u) (sym (put_at_there w.block_record t (advance (w.block_record t) e next) u other)) h)
-        (ticket_cases t u)) w.order
+    records_kept f = search (rules, each_map, put_at_here, advance, put_at_there, ticket_cases)
 
     parts_here : (h : ℕ) → e.request.object ≡ h → (u : Ticket) → put_at (parts_of w.block_record h) t (parts_of w.block_record h t ++ e ∷ []) u ≡ parts_of block_record' h u
-    parts_here h at u =
-        ⊎_elim
-        (λ (is : t ≡ u). subst (λ u. put_at (parts_of w.block_record h) t (parts_of w.block_record h t ++ e ∷ []) u ≡ parts_of block_record' h u) is
-        (put_at_here (parts_of w.block_record h) t _ ∙ (sym (part_snoc_here h (w.block_record t).trace e at) ∙ ap (λ (g : BlockRecord). part h g.trace) (sym (put_at_here w.block_record t (advance (w.block_record t) e next))))))
-        (λ (other : same t u ≡ false). put_at_there (parts_of w.block_record h) t _ u other ∙ ap (λ (g : BlockRecord). part h g.trace) (sym (put_at_there w.block_record t (advance (w.block_record t) e next) u other)))
-        (ticket_cases t u)
+    parts_here h at u = search (rules, put_at, parts_of, put_at_here, part_snoc_here, advance, put_at_there, ticket_cases)
 
     parts_there : (h : ℕ) → (e.request.object == h) ≡ false → (u : Ticket) → parts_of w.block_record h u ≡ parts_of block_record' h u
-    parts_there h at u =
-        ⊎_elim
-        (λ (is : t ≡ u). subst (λ u. parts_of w.block_record h u ≡ parts_of block_record' h u) is
-        (sym (part_snoc_there h (w.block_record t).trace e at) ∙ ap (λ (g : BlockRecord). part h g.trace) (sym (put_at_here w.block_record t (advance (w.block_record t) e next)))))
-        (λ (other : same t u ≡ false). ap (λ (g : BlockRecord). part h g.trace) (sym (put_at_there w.block_record t (advance (w.block_record t) e next) u other)))
-        (ticket_cases t u)
+    parts_there h at u = search (rules, parts_of, part_snoc_there, put_at_here, advance, put_at_there, ticket_cases)
 
   not_done_call : (t r : _) (next : Interaction) → t ≡ Call r next → IsDone t → ⊥
   not_done_call t r next e d = subst IsDone e d
@@ -176,56 +150,27 @@ module _ (p : ProgramShape) (sound : IsSound p) where
     page2 = put_at w.block_record t fresh_record
 
     pub fresh : AllByRecursion (λ u. same t u ≡ false) w.order
-    fresh = each_map (λ u b.
-        ⊎_elim
-        (λ (e : t ≡ u). let k : suc t.index ≤ w.booked t.client = subst (λ u. suc u.index ≤ w.booked u.client) (sym e) b in absurd (omega arith))
-        (λ (other : same t u ≡ false). other)
-        (ticket_cases t u)) w.order ok.below
+    fresh = search (rules, each_map, ticket_cases)
 
     page2_there : (u : Ticket) → same t u ≡ false → page2 u ≡ w.block_record u
     page2_there u e = put_at_there w.block_record t fresh_record u e
 
     below2 : (u : Ticket) → suc u.index ≤ w.booked u.client → suc u.index ≤ put w.booked t.client (suc t.index) u.client
-    below2 u b =
-        ⊎_elim
-        (λ (e : t.client ≡ u.client).
-        let k : suc u.index ≤ w.booked t.client = subst (λ c. suc u.index ≤ w.booked c) (sym e) b in
-        subst (λ c. suc u.index ≤ put w.booked t.client (suc t.index) c) e (subst (λ n. suc u.index ≤ n) (sym (put_here w.booked t.client (suc t.index))) (omega arith)))
-        (λ (e : (t.client == u.client) ≡ false). subst (λ n. suc u.index ≤ n) (sym (put_there w.booked t.client (suc t.index) u.client e)) b)
-        (num_cases t.client u.client)
+    below2 u b = search (rules, put_here, put_there, num_cases)
 
     -- what stood before another ticket still stands there
     begins_old : (c k : ℕ) (a b : Locals) → a ≡ b → suc k ≤ w.booked c → Begins w.block_record c k a → Begins page2 c k b
-    begins_old c zero a b e h k = sym e ∙ k
-    begins_old c (suc j) a b e h k =
-        let u : Ticket = record { client = c; index = j } in
-        ⊎_elim
-        (λ (same_one : t ≡ u).
-        let i : t.index ≡ j = ap (λ u. u.index) same_one in
-        let m : w.booked t.client ≡ w.booked c = ap (λ u. w.booked u.client) same_one in
-        absurd (omega arith))
-        (λ (other : same t u ≡ false). ap (λ (g : BlockRecord). g.rest) (page2_there u other) ∙ (k ∙ ap Done e))
-        (ticket_cases t u)
+    begins_old c k a b e h k' = search (rules, page2_there, ticket_cases)
 
     begins_new : (c k : ℕ) → c ≡ t.client → k ≡ t.index → Begins w.block_record c k l → Begins page2 c k l
-    begins_new c zero ec ek k = k
-    begins_new c (suc j) ec ek k =
-        let u : Ticket = record { client = c; index = j } in
-        ⊎_elim
-        (λ (same_one : t ≡ u). let i : t.index ≡ j = ap (λ u. u.index) same_one in absurd (omega arith))
-        (λ (other : same t u ≡ false). ap (λ (g : BlockRecord). g.rest) (page2_there u other) ∙ k)
-        (ticket_cases t u)
+    begins_new c k ec ek k' = search (rules, page2_there, ticket_cases)
 
     service2 : (h : ℕ) (b : Bool) → reserves p t h ≡ b → IsService p (declared_states p h) (w.order ++ t ∷ []) h (put_at (parts_of w.block_record h) t []) (done_of page2) ((if b then service_reserve (w.service h) t else w.service h))
     service2 h true e = service_reserve_ok p (declared_states p h) w.order h (parts_of w.block_record h) (done_of w.block_record) (done_of page2) (w.service h) t (λ u n d. subst (λ (g : BlockRecord). IsDone g.rest) (sym (page2_there u n)) d) fresh (ok.services h) e
     service2 h false e = service_pass_ok p (declared_states p h) w.order h (parts_of w.block_record h) (done_of w.block_record) (done_of page2) (w.service h) t (λ u n d. subst (λ (g : BlockRecord). IsDone g.rest) (sym (page2_there u n)) d) fresh (ok.services h) e
 
     parts2 : (h : ℕ) (u : Ticket) → put_at (parts_of w.block_record h) t [] u ≡ parts_of page2 h u
-    parts2 h u = by_case (same t u)
-      where
-        by_case : (b : Bool) → (if b then [] else parts_of w.block_record h u) ≡ part h ((if b then record { entry = l; trace = []; rest = block_tree p t l } else w.block_record u)).trace
-        by_case true = refl
-        by_case false = refl
+    parts2 h u = search (rules, parts_of)
 
     pub reserve_ok : t.index < blocks_of p t.client → Begins w.block_record t.client t.index l → IsServedRun p (reserve p w t l)
     reserve_ok some begins = record {

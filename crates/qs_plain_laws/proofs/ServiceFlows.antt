@@ -2,7 +2,7 @@
 -- but for the commands that still lie in its private queue. Isolation under the plain rules (`Isolating`) needs this of
 -- each object of a sound served run. The proof is an induction along the order, over tickets that are over, that are
 -- served, or that don't reserve the object.
-use Rattle.std.proofs.Common.{◌≡◌, ◌≢◌, ℕ, suc, ◌==◌, Bool, true, false, true≢false, if◌then◌else◌, List, [], ◌∷◌, ◌++◌, map, filter, flat_map, refl, sym, ap, ap₂, ◌∙◌, subst, inl, inr, append_assoc, append-nil}
+use Rattle.std.proofs.Common.{◌≡◌, ◌≢◌, ℕ, Bool, true, false, true≢false, if◌then◌else◌, List, [], ◌∷◌, ◌++◌, map, filter, flat_map, refl, sym, ap, ap₂, ◌∙◌, subst, inl, inr, append_assoc, append-nil, rules}
 use Rattle.std.specs.List.{AllByRecursion}
 use Rattle.std.proofs.lemmas.List.{map-append}
 use Rattle.qs_objects.specs.audit.Act.{State}
@@ -22,7 +22,7 @@ use Rattle.qs_meaning.proofs.Histories.{ObjectCourse, Flow, OnlyCommands, NoQuer
 use Rattle.qs_plain_laws.specs.PlainIsolation.{commands_in, commands_of}
 use Rattle.qs_plain_laws.specs.declared.item.QueueItem.{QueueItem}
 use Rattle.qs_plain_laws.proofs.ServedRuns.{Service, Front, entries_shown}
-use Rattle.qs_plain_laws.proofs.RunViews.{PlainStage, Stands, Runs, Awaits, ClientView}
+use Rattle.qs_plain_laws.proofs.RunViews.{ClientView}
 use Rattle.qs_plain_laws.proofs.Simulation.{private, tail, tail_now}
 use Rattle.qs_plain_laws.specs.declared.item.QueueItem.TheVariants as item
 
@@ -99,8 +99,6 @@ module _ (p : ProgramShape) (h : ℕ) (parts : Ticket → List Event) (done : Ti
       → j ≡ blocks past ++ entries_shown q l.now → IsHonest s (without_tickets j) → replay s (without_tickets j) ≡ l.state
       → AllByRecursion (λ u. reserves p u h ≡ false → (parts u ≡ []) × (waits u ≡ [])) ts → Flow x s j ts
   flow [] [] [] s j iq e d n f c k honest state idle = (k, subst (λ j. replay s (without_tickets j) ≡ l.state) k state)
-  flow [] [] (u ∷ q) s j iq e d n f c k honest state idle = absurd (cc)
-  flow [] (u ∷ past) q s j iq e d n f c k honest state idle = absurd (cc)
   flow (t ∷ ts) past q s j iq e d n f c k honest state idle = by_case (reserves p t h) refl past q iq e d n f c k (flow ts)
     where
       by_case : (b : Bool) → reserves p t h ≡ b → (past q : List Ticket) → q ≡ l.queue → (if b then t ∷ filter (λ t. reserves p t h) ts else filter (λ t. reserves p t h) ts) ≡ past ++ q
@@ -125,24 +123,12 @@ module _ (p : ProgramShape) (h : ℕ) (parts : Ticket → List Event) (done : Ti
           flow_over t ts s j (blocks us ++ entries_shown q l.now) (subst done (sym is) d.0) (subst (λ u. waits u ≡ []) (sym is) n.0)
           (k ∙ (append_assoc (map (stamp u) (parts u)) (blocks us) (entries_shown q l.now) ∙ ap (λ u. map (stamp u) (parts u) ++ (blocks us ++ entries_shown q l.now)) (sym is)))
           honest state (λ s honest' state'. ih us q s (blocks us ++ entries_shown q l.now) iq more d.1 n.1 f c refl honest' state' idle.1)
+  flow [] _ _ s j iq e d n f c k honest state idle = absurd (cc)
 
 -- the commands in private queues
 
 commands_tail : (client : ℕ → ClientView) (h : ℕ) (u : Ticket) → commands_in (tail client h u) ≡ []
-commands_tail client h u = by_test (suc_is u) (client u.client).stage
-  where
-    suc_is : Ticket → Bool
-    suc_is u = suc u.index == (client u.client).begun
-
-    asked : (b : Bool) (r : Request) → commands_in (if b then item.Query r ∷ [] else []) ≡ []
-    asked true r = refl
-    asked false r = refl
-
-    by_test : (b : Bool) (g : PlainStage) → commands_in (if b then tail_now g h else item.EndMark ∷ []) ≡ []
-    by_test false g = refl
-    by_test true (Stands l) = refl
-    by_test true (Runs rest) = refl
-    by_test true (Awaits r next) = asked (r.object == h) r
+commands_tail client h u = search (rules, tail_now)
 
 commands_first : (rs : List Request) (items : List QueueItem) → commands_in items ≡ [] → commands_in (map item.Command rs ++ items) ≡ rs
 commands_first [] items e = e

@@ -1,7 +1,7 @@
 -- Each move of a served run keeps what is known of an object's service (`IsService`): its tickets, what waits for each,
 -- its journal and its state. The lemmas on whole served runs (`ServedRunMoves`) stand on this. Only a ticket that isn't
 -- over gets a further event, so the parts of those that are over stay; the queue is gone through by induction.
-use Rattle.std.proofs.Common.{◌≡◌, ◌≢◌, ℕ, Bool, true, false, if◌then◌else◌, List, [], ◌∷◌, ◌++◌, map, filter, flat_map, refl, sym, ap, ap₂, ◌∙◌, subst, ⊎_elim, append_assoc, append-nil, true≢false}
+use Rattle.std.proofs.Common.{◌≡◌, ◌≢◌, ℕ, Bool, true, false, if◌then◌else◌, List, [], ◌∷◌, ◌++◌, map, filter, flat_map, refl, sym, ap, ap₂, ◌∙◌, subst, ⊎_elim, append_assoc, append-nil, true≢false, rules}
 use Rattle.std.specs.List.{AllByRecursion}
 use Rattle.std.proofs.lemmas.List.{map-append}
 use Rattle.std.proofs.lemmas.List.Elements.{filter-append}
@@ -51,12 +51,7 @@ module _ (p : ProgramShape) (start : State) (order : List Ticket) (h : ℕ) wher
     -- the parts of tickets that are over stay as they are, where a ticket that isn't over gets one more event
     past_same : (t : Ticket) (es : List Event) → (done t → ⊥) → (ts : List Ticket) → AllByRecursion done ts
         → flat_map (λ u. map (stamp u) (parts u)) ts ≡ flat_map (λ u. map (stamp u) (put_at parts t es u)) ts
-    past_same t es open' ts over =
-        flat_map_same _ _ ts (each_map (λ u d.
-        ⊎_elim
-        (λ (is : t ≡ u). absurd (open' (subst done (sym is) d)))
-        (λ (other : same t u ≡ false). ap (map (stamp u)) (sym (put_at_there parts t es u other)))
-        (ticket_cases t u)) ts over)
+    past_same t es open' ts over = search (rules, flat_map_same, each_map, put_at_there, ticket_cases)
 
     pub service_log_ok : (done' : Ticket → Type 0) (l : Service) (t : Ticket) (r : Request) → ((u : Ticket) → done u → done' u) → (done t → ⊥) → NoQuery r
         → IsService p start order h parts done l → IsService p start order h (put_at parts t (parts t ++ command_event r ∷ [])) done' (service_log l t r)
@@ -78,13 +73,7 @@ module _ (p : ProgramShape) (start : State) (order : List Ticket) (h : ℕ) wher
         wait' = put_at l.wait t (l.wait t ++ r ∷ [])
 
         each : (now : List Event) (u : Ticket) → parts u ≡ now ++ map command_event (l.wait u) → parts' u ≡ now ++ map command_event (wait' u)
-        each now u e =
-            ⊎_elim
-            (λ (is : t ≡ u). subst (λ u. parts' u ≡ now ++ map command_event (wait' u)) is
-            (put_at_here parts t _ ∙ (ap (λ es. es ++ command_event r ∷ []) (subst (λ u. parts u ≡ now ++ map command_event (l.wait u)) (sym is) e)
-            ∙ (append_assoc now (map command_event (l.wait t)) (command_event r ∷ []) ∙ ap (λ es. now ++ es) (sym (map-append command_event (l.wait t) (r ∷ [])) ∙ ap (map command_event) (sym (put_at_here l.wait t _)))))))
-            (λ (other : same t u ≡ false). put_at_there parts t _ u other ∙ (e ∙ ap (λ rs. now ++ map command_event rs) (sym (put_at_there l.wait t _ u other))))
-            (ticket_cases t u)
+        each now u e = search (rules, parts', wait', put_at_here, append_assoc, map-append, put_at_there, ticket_cases)
 
         front : (q : List Ticket) → Front parts l.now l.wait q → Front parts' l.now wait' q
         front [] f = f
@@ -156,25 +145,7 @@ module _ (p : ProgramShape) (start : State) (order : List Ticket) (h : ℕ) wher
     pub service_leave_ok : (l : Service) (t : Ticket) (ts : List Ticket)
         → l.queue ≡ t ∷ ts → l.wait t ≡ [] → done t
         → IsService p start order h parts done l → IsService p start order h parts done (service_leave l t ts)
-    service_leave_ok l t ts q w d ok =
-        let f = subst (Front parts l.now l.wait) q ok.front in
-        let a = subst Apart q ok.apart in
-        let head : parts t ≡ l.now = f.0 ∙ (ap (λ rs. l.now ++ map command_event rs) w ∙ append-nil l.now) in
-        let block = λ (u : Ticket). map (stamp u) (parts u) in
-        record {
-          mine = ok.mine ∙ (ap (λ q. l.past ++ q) q ∙ sym (append_assoc l.past (t ∷ []) ts));
-          apart = a.1;
-          over = each_snoc done l.past t ok.over d;
-          front = front ts f.1;
-          entries = ok.entries ∙ (ap (λ q. flat_map block l.past ++ entries_shown q l.now) q ∙ (ap (λ es. flat_map block l.past ++ map (stamp t) es) (sym head) ∙ (sym (ap (λ es. flat_map block l.past ++ es) (append-nil (block t))) ∙ (sym (flat_map-append block l.past (t ∷ [])) ∙ (sym (append-nil (flat_map block (l.past ++ t ∷ []))) ∙ ap (λ es. flat_map block (l.past ++ t ∷ []) ++ es) (sym (shown_none ts)))))));
-          commands = ok.commands;
-          honest = ok.honest;
-          state = ok.state;
-        }
-      where
-        front : (ts : List Ticket) → AllByRecursion (λ u. parts u ≡ map command_event (l.wait u)) ts → Front parts [] l.wait ts
-        front [] f = refl
-        front (u ∷ us) f = f
+    service_leave_ok l t ts q w d ok = search (rules, append-nil, append_assoc, each_snoc, entries_shown, flat_map-append, shown_none)
 
     -- a new ticket, for an object that it reserves and for one that it doesn't
     module _ (done' : Ticket → Type 0) (l : Service) (t : Ticket) (d : (u : Ticket) → same t u ≡ false → done u → done' u) (fresh : AllByRecursion (λ u. same t u ≡ false) order) (ok : IsService p start order h parts done l) where

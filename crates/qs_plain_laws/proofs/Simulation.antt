@@ -2,7 +2,7 @@
 -- it, or none. The same steps over the machine's lists (`PlainPreserved`) are led back to this. A private queue is the
 -- commands that wait and then at most one item more, an end mark or the query that its client waits for, so its first
 -- item tells which move is made.
-use Rattle.std.proofs.Common.{◌≡◌, ◌≢◌, ℕ, zero, suc, ◌-◌, ◌<◌, ◌≤◌, arith, Bool, true, false, true≢false, if◌then◌else◌, ◌==◌, List, [], ◌∷◌, ◌++◌, map, length, refl, sym, ap, ap₂, ◌∙◌, subst, ⊎_elim, append-nil, Option, ℤ}
+use Rattle.std.proofs.Common.{◌≡◌, ℕ, zero, suc, ◌-◌, ◌<◌, ◌≤◌, arith, Bool, true, false, true≢false, if◌then◌else◌, ◌==◌, List, [], ◌∷◌, ◌++◌, map, length, refl, sym, ap, ap₂, ◌∙◌, subst, ⊎_elim, append-nil, Option, ℤ, rules}
 use Rattle.std.specs.List.{AllByRecursion}
 use Rattle.std.proofs.lemmas.List.{map-append}
 use Rattle.std.proofs.lemmas.Simd.{map-map}
@@ -53,10 +53,9 @@ private client h wait u = record { ticket = u; items = map item.Command (wait u)
 
 abbrev pub StandsAt : (Ticket → BlockRecord) → ℕ → PlainStage → ℕ → Type 0
 StandsAt block_record c (Stands l) n = Begins block_record c n l
-StandsAt block_record c (Runs t) zero = ⊥
 StandsAt block_record c (Runs t) (suc k) = (block_record (ticket c k)).rest ≡ t
-StandsAt block_record c (Awaits r next) zero = ⊥
 StandsAt block_record c (Awaits r next) (suc k) = (block_record (ticket c k)).rest ≡ Query r next
+StandsAt block_record c _ zero = ⊥
 
 pub record Simulates (s : RunView) (w : ServedRun) : Type 0 where
   pub order : w.order ≡ s.order
@@ -77,22 +76,11 @@ tail_old : (client : ℕ → ClientView) (h : ℕ) (u : Ticket) → (suc u.index
 tail_old client h u e = rw e
 
 tail_there : (s : RunView) (h c k : ℕ) (stage : PlainStage) (u : Ticket) → suc k ≡ (s.client c).begun → same (ticket c k) u ≡ false → tail (stand s c stage) h u ≡ tail s.client h u
-tail_there s h c k stage u e other =
-    ⊎_elim
-    (λ (is : c ≡ u.client).
-    let b : (s.client c).begun ≡ (s.client u.client).begun = ap (λ c. (s.client c).begun) is in
-    let new : (stand s c stage u.client).begun ≡ (s.client u.client).begun = put_kept (λ x. x.begun) s.client c (record { begun = (s.client c).begun; stage = stage }) refl u.client in
-    let out : (suc u.index == (s.client u.client).begun) ≡ false = eqb_apart (suc u.index) (s.client u.client).begun (λ i. let j : k ≡ u.index = omega arith in true≢false (sym (subst (λ t. same t u ≡ true) (sym (ticket_path is j)) (same_self u)) ∙ other)) in
-    tail_old (stand s c stage) h u (ap (λ n. suc u.index == n) new ∙ out) ∙ sym (tail_old s.client h u out))
-    (λ (out : (c == u.client) ≡ false). ap (λ (x : ClientView). (if suc u.index == x.begun then tail_now x.stage h else item.EndMark ∷ [])) (put_there s.client c (record { begun = (s.client c).begun; stage = stage }) u.client out))
-    (num_cases c u.client)
+tail_there s h c k stage u e other = search (rules, stand, put_kept, eqb_apart, ticket_path, same_self, tail_old, put_there, num_cases)
 
 -- the current ticket's tail after a change of its client's stage
 tail_new : (s : RunView) (h c k : ℕ) (stage : PlainStage) → suc k ≡ (s.client c).begun → tail (stand s c stage) h (ticket c k) ≡ tail_now stage h
-tail_new s h c k stage e =
-    let x : ClientView = record { begun = (s.client c).begun; stage = stage } in
-    let here : stand s c stage c ≡ x = put_here s.client c x in
-    tail_here (stand s c stage) h c k (e ∙ sym (ap (λ x. x.begun) here)) ∙ ap (λ x. tail_now x.stage h) here
+tail_new s h c k stage e = search (rules, stand, put_here, tail_here)
 
 private_path : (u : Ticket) (a b : List QueueItem) → a ≡ b → ◌≡◌ {A = Private} (record { ticket = u; items = a }) (record { ticket = u; items = b })
 private_path u a b e = λ i. record { ticket = u; items = e i }
@@ -102,22 +90,14 @@ item_case : (client client' : ℕ → ClientView) (h : ℕ) (wait wait' : Ticket
     → (map item.Command (wait t) ++ tail client h t) ++ i ∷ [] ≡ map item.Command (wait' t) ++ tail client' h t
     → ((u : Ticket) → same t u ≡ false → (wait' u ≡ wait u) × (tail client' h u ≡ tail client h u))
     → (u : Ticket) → put_item t i (private client h wait u) ≡ private client' h wait' u
-item_case client client' h wait wait' t i here there u =
-    ⊎_elim
-    (λ (is : t ≡ u). subst (λ u. put_item t i (private client h wait u) ≡ private client' h wait' u) is (rw (same_self t) (private_path t _ _ here)))
-    (λ (other : same t u ≡ false). let k = there u other in rw other (private_path u _ _ (ap₂ (λ a b. map item.Command a ++ b) (sym k.0) (sym k.1))))
-    (ticket_cases t u)
+item_case client client' h wait wait' t i here there u = search (rules, same_self, private_path, ticket_cases)
 
 none_case : (client client' : ℕ → ClientView) (h : ℕ) (wait wait' : Ticket → List Request) (u : Ticket) → wait' u ≡ wait u → tail client' h u ≡ tail client h u → private client h wait u ≡ private client' h wait' u
 none_case client client' h wait wait' u a b = private_path u _ _ (ap₂ (λ a b. map item.Command a ++ b) (sym a) (sym b))
 
 -- the current ticket's tail stays, and so do all
 tail_stays : (s : RunView) (h c k : ℕ) (stage : PlainStage) → suc k ≡ (s.client c).begun → tail_now stage h ≡ tail_now (s.client c).stage h → (u : Ticket) → tail (stand s c stage) h u ≡ tail s.client h u
-tail_stays s h c k stage e same_tail u =
-    ⊎_elim
-    (λ (is : ticket c k ≡ u). subst (λ u. tail (stand s c stage) h u ≡ tail s.client h u) is (tail_new s h c k stage e ∙ (same_tail ∙ sym (tail_here s.client h c k e))))
-    (λ (other : same (ticket c k) u ≡ false). tail_there s h c k stage u e other)
-    (ticket_cases (ticket c k) u)
+tail_stays s h c k stage e same_tail u = search (rules, stand, tail_new, tail_here, tail_there, ticket_cases)
 
 -- where the current ticket's tail was empty, what follows the commands is its new tail
 tail_first : (s : RunView) (h c k : ℕ) (stage : PlainStage) (i : QueueItem) (rs : List Request) → suc k ≡ (s.client c).begun → tail_now (s.client c).stage h ≡ [] → tail_now stage h ≡ i ∷ []
@@ -134,12 +114,7 @@ module _ (p : ProgramShape) (sound : IsSound p) where
   IsSimulated s = (w : ServedRun) × IsServedRun p w × Simulates s w
 
   stands_moved : (block_record block_record' : Ticket → BlockRecord) (c : ℕ) (stage : PlainStage) (n : ℕ) → ((k : ℕ) → (block_record' (ticket c k)).rest ≡ (block_record (ticket c k)).rest) → StandsAt block_record c stage n → StandsAt block_record' c stage n
-  stands_moved block_record block_record' c (Stands l) zero e h = h
-  stands_moved block_record block_record' c (Stands l) (suc k) e h = e k ∙ h
-  stands_moved block_record block_record' c (Runs t) zero e h = h
-  stands_moved block_record block_record' c (Runs t) (suc k) e h = e k ∙ h
-  stands_moved block_record block_record' c (Awaits r next) zero e h = h
-  stands_moved block_record block_record' c (Awaits r next) (suc k) e h = e k ∙ h
+  stands_moved block_record block_record' c stage n e h = search (rules, block_record')
 
   stands_after : (s : RunView) (block_record block_record' : Ticket → BlockRecord) (c : ℕ) (stage : PlainStage) → ((u : Ticket) → (c == u.client) ≡ false → (block_record' u).rest ≡ (block_record u).rest)
       → StandsAt block_record' c stage (s.client c).begun → ((d : ℕ) → StandsAt block_record d (s.client d).stage (s.client d).begun) → (d : ℕ) → StandsAt block_record' d (stand s c stage d).stage (stand s c stage d).begun
@@ -155,10 +130,7 @@ module _ (p : ProgramShape) (sound : IsSound p) where
   Here s w c t = (suc (((s.client c).begun - 1)) ≡ (s.client c).begun) × ((w.block_record (current s c)).rest ≡ t) × Among (current s c) w.order
 
   here_some : (s : RunView) (w : ServedRun) (c : ℕ) (t : Interaction) (n : ℕ) → (s.client c).begun ≡ suc n → IsServedRun p w → Simulates s w → (w.block_record (ticket c n)).rest ≡ t → Here s w c t
-  here_some s w c t n e ok sim at =
-      let last : n ≡ (s.client c).begun - 1 = omega (arith, e) in
-      let b = sim.booked c in
-      (omega (arith, e), subst (λ k. (w.block_record (ticket c k)).rest ≡ t) last at, legal_among p (λ _. 0) w.order c (((s.client c).begun - 1)) ok.legal (omega arith) (let n = ok.counts c in omega (arith, b, n, e)))
+  here_some s w c t n e ok sim at = search (rules, legal_among)
 
   here_in : (s : RunView) (w : ServedRun) (c : ℕ) (t : Interaction) → (s.client c).stage ≡ Runs t → (n : ℕ) → (s.client c).begun ≡ n → IsServedRun p w → Simulates s w → Here s w c t
   here_in s w c t is zero e ok sim = absurd (subst (λ n. StandsAt w.block_record c (Runs t) n) e (subst (λ x. StandsAt w.block_record c x (s.client c).begun) is (sim.stands c)))
@@ -338,20 +310,7 @@ module _ (p : ProgramShape) (sound : IsSound p) where
   -- a private queue of a ticket whose client enters a block
   tail_entered : (s : RunView) (h c : ℕ) (l : Locals) (tr : Interaction) (u : Ticket) → (s.client c).stage ≡ Stands l → same (ticket c (s.client c).begun) u ≡ false
       → tail (put s.client c (record { begun = suc (s.client c).begun; stage = Runs tr })) h u ≡ tail s.client h u
-  tail_entered s h c l tr u is other =
-      let x : ClientView = record { begun = suc (s.client c).begun; stage = Runs tr } in
-      ⊎_elim
-      (λ (at : c ≡ u.client).
-      let new : put s.client c x u.client ≡ x = subst (λ d. put s.client c x d ≡ x) at (put_here s.client c x) in
-      let out : (suc u.index == suc (s.client c).begun) ≡ false = eqb_apart (suc u.index) (suc (s.client c).begun) (λ i. let j : (s.client c).begun ≡ u.index = omega arith in true≢false (sym (subst (λ t. same t u ≡ true) (sym (ticket_path at j)) (same_self u)) ∙ other)) in
-      tail_old (put s.client c x) h u (ap (λ (x : ClientView). suc u.index == x.begun) new ∙ out)
-      ∙ sym (both_end (suc u.index == (s.client u.client).begun) (s.client u.client).stage h l (ap (λ d. (s.client d).stage) (sym at) ∙ is)))
-      (λ (out : (c == u.client) ≡ false). ap (λ (x : ClientView). (if suc u.index == x.begun then tail_now x.stage h else item.EndMark ∷ [])) (put_there s.client c x u.client out))
-      (num_cases c u.client)
-    where
-      both_end : (b : Bool) (stage : PlainStage) (h : ℕ) (l : Locals) → stage ≡ Stands l → (if b then tail_now stage h else item.EndMark ∷ []) ≡ item.EndMark ∷ []
-      both_end true stage h l e = ap (λ x. tail_now x h) e
-      both_end false stage h l e = refl
+  tail_entered s h c l tr u is other = search (rules, put_here, eqb_apart, ticket_path, same_self, tail_old, put_there, num_cases)
 
   pub separate_kept : (s : RunView) (c : ℕ) (l : Locals) → (s.client c).begun < blocks_of p c → (s.client c).stage ≡ Stands l → IsSimulated s → IsSimulated (separate p s c l)
   separate_kept s c l some is kept =
@@ -384,11 +343,7 @@ module _ (p : ProgramShape) (sound : IsSound p) where
       not_new k n lt = ⊎_elim (λ (e : ticket c n ≡ ticket c k). let i : n ≡ k = ap (λ t. t.index) e in absurd (omega arith)) (λ (other : same (ticket c n) (ticket c k) ≡ false). other) (ticket_cases (ticket c n) (ticket c k))
 
       old_here : (w : ServedRun) (n k : ℕ) → suc k < suc n → Begins w.block_record c n l → ((k : ℕ) → suc k < n → IsDone (w.block_record (ticket c k)).rest) → IsDone (w.block_record (ticket c k)).rest
-      old_here w n k lt b old =
-          ⊎_elim
-          (λ (e : suc k ≡ n). let b' : Begins w.block_record c (suc k) l = subst (λ n. Begins w.block_record c n l) (sym e) b in subst IsDone (sym b') tt)
-          (λ (other : (suc k == n) ≡ false). let ne : suc k ≢ n = apart_eqb (suc k) n other in old k (omega arith))
-          (num_cases (suc k) n)
+      old_here w n k lt b old = search (rules, apart_eqb, num_cases)
 
       journals : (h : ℕ) (b : Bool) → (if b then service_reserve (kept.0.service h) (ticket c (s.client c).begun) else kept.0.service h).journal ≡ (if b then enter (ticket c (s.client c).begun) (s.handler h) else s.handler h).held.journal
       journals h true = kept.2.journal h
@@ -454,29 +409,14 @@ module _ (p : ProgramShape) (sound : IsSound p) where
 
   -- what a tail may begin with
   now_do : (stage : PlainStage) (h : ℕ) (r : Request) (items : List QueueItem) → tail_now stage h ≡ item.Command r ∷ items → ⊥
-  now_do (Stands l) h r items e = cc
-  now_do (Runs t) h r items e = cc
-  now_do (Awaits q next) h r items e = by_case (q.object == h) e
-    where
-      by_case : (b : Bool) → (if b then item.Query q ∷ [] else []) ≡ item.Command r ∷ items → ⊥
-      by_case true e = cc
-      by_case false e = cc
+  now_do stage h r items e = search rules
 
   tail_do : (b : Bool) (stage : PlainStage) (h : ℕ) (r : Request) (items : List QueueItem) → (if b then tail_now stage h else item.EndMark ∷ []) ≡ item.Command r ∷ items → ⊥
   tail_do true stage h r items e = now_do stage h r items e
   tail_do false stage h r items e = cc
 
   now_ask : (stage : PlainStage) (h : ℕ) (r : Request) (items : List QueueItem) → tail_now stage h ≡ item.Query r ∷ items → (next : ℤ → Interaction) × (stage ≡ Awaits r next) × (r.object ≡ h) × (items ≡ [])
-  now_ask (Stands l) h r items e = absurd (cc)
-  now_ask (Runs t) h r items e = absurd (cc)
-  now_ask (Awaits q next) h r items e = by_case (q.object == h) refl e
-    where
-      by_case : (b : Bool) → (q.object == h) ≡ b → (if b then item.Query q ∷ [] else []) ≡ item.Query r ∷ items → (next' : ℤ → Interaction) × (Awaits q next ≡ Awaits r next') × (r.object ≡ h) × (items ≡ [])
-      by_case true is e =
-          let same_one : q ≡ r = cc in
-          let none : items ≡ [] = cc in
-          (next, ap (λ q. Awaits q next) same_one, sym (ap (λ (q : Request). q.object) same_one) ∙ eqb_true q.object h is, none)
-      by_case false is e = absurd (cc)
+  now_ask stage h r items e = search (rules, eqb_true)
 
   tail_ask : (u : Ticket) (n : ℕ) (stage : PlainStage) (h : ℕ) (r : Request) (items : List QueueItem) (b : Bool) → (suc u.index == n) ≡ b → (if b then tail_now stage h else item.EndMark ∷ []) ≡ item.Query r ∷ items
       → (suc u.index ≡ n) × ((next : ℤ → Interaction) × (stage ≡ Awaits r next) × (r.object ≡ h) × (items ≡ []))
@@ -484,13 +424,7 @@ module _ (p : ProgramShape) (sound : IsSound p) where
   tail_ask u n stage h r items false is e = absurd (cc)
 
   now_end : (stage : PlainStage) (h : ℕ) (items : List QueueItem) → tail_now stage h ≡ item.EndMark ∷ items → ((l : Locals) × (stage ≡ Stands l))
-  now_end (Stands l) h items e = (l, refl)
-  now_end (Runs t) h items e = absurd (cc)
-  now_end (Awaits q next) h items e = by_case (q.object == h) e
-    where
-      by_case : (b : Bool) → (if b then item.Query q ∷ [] else []) ≡ item.EndMark ∷ items → ((l : Locals) × (Awaits q next ≡ Stands l))
-      by_case true e = absurd (cc)
-      by_case false e = absurd (cc)
+  now_end stage h items e = search rules
 
   do_at : (s : RunView) (h : ℕ) (t : Ticket) (ts : List Ticket) (r : Request) (items : List QueueItem) (kept : IsSimulated s) (f : (kept.0.service h).queue ≡ t ∷ ts)
       → ((rest : List Request) × ((kept.0.service h).wait t ≡ r ∷ rest) × (items ≡ map item.Command rest ++ tail s.client h t))
@@ -522,11 +456,7 @@ module _ (p : ProgramShape) (sound : IsSound p) where
   -- where a command is served, the journal has room
   pub do_room : (s : RunView) (h : ℕ) (q : Private) (qs : List Private) (r : Request) (items : List QueueItem) → (s.handler h).queues ≡ q ∷ qs → q.items ≡ item.Command r ∷ items → IsSimulated s
       → length (s.handler h).held.journal < room_of p h
-  do_room s h q qs r items e i kept =
-      let w = kept.0 in
-      let f = first s w h q qs (w.service h).queue refl (sym e ∙ kept.2.queues h) in
-      let d = first_do ((w.service h).wait f.0) (tail s.client h f.0) r items (tail_do (suc f.0.index == (s.client f.0.client).begun) (s.client f.0.client).stage h r items) (sym (ap (λ q. q.items) f.3) ∙ i) in
-      subst (λ (j : List Entry). length j < room_of p h) (kept.2.journal h) (room_to_run p h w kept.1 f.0 f.1 r d.0 f.2 d.1)
+  do_room s h q qs r items e i kept = search (rules, first, first_do, tail_do, room_to_run)
 
   pub do_kept : (s : RunView) (h : ℕ) (q : Private) (qs : List Private) (r : Request) (items : List QueueItem) → (s.handler h).queues ≡ q ∷ qs → q.items ≡ item.Command r ∷ items → IsSimulated s → IsSimulated (do_step s h q qs r items)
   do_kept s h q qs r items e i kept =
@@ -622,15 +552,7 @@ module _ (p : ProgramShape) (sound : IsSound p) where
   -- behind an end mark nothing is left
   ended_done : (s : RunView) (t : Ticket) (h : ℕ) (items : List QueueItem) (kept : IsSimulated s) → suc t.index ≤ kept.0.booked t.client → (b : Bool) → (suc t.index == (s.client t.client).begun) ≡ b
       → (if b then tail_now (s.client t.client).stage h else item.EndMark ∷ []) ≡ item.EndMark ∷ items → IsDone (kept.0.block_record t).rest
-  ended_done s t h items kept below true e is =
-      let n : suc t.index ≡ (s.client t.client).begun = eqb_true (suc t.index) (s.client t.client).begun e in
-      let l = now_end (s.client t.client).stage h items is in
-      let b : Begins kept.0.block_record t.client (suc t.index) l.0 = subst (λ n. Begins kept.0.block_record t.client n l.0) (sym n) (subst (λ x. StandsAt kept.0.block_record t.client x (s.client t.client).begun) l.1 (kept.2.stands t.client)) in
-      subst IsDone (sym b) tt
-  ended_done s t h items kept below false e is =
-      let n : suc t.index ≢ (s.client t.client).begun = apart_eqb (suc t.index) (s.client t.client).begun e in
-      let m = kept.2.booked t.client in
-      kept.2.older t.client t.index (omega (arith, m))
+  ended_done s t h items kept below b e is = search (rules, eqb_true, now_end, apart_eqb)
 
   pub end_step_kept : (s : RunView) (h : ℕ) (q : Private) (qs : List Private) (items : List QueueItem) → (s.handler h).queues ≡ q ∷ qs → q.items ≡ item.EndMark ∷ items → IsSimulated s → IsSimulated (end_step s h qs)
   end_step_kept s h q qs items e i kept =

@@ -1,5 +1,5 @@
 -- Runs under the plain rules, computed by the definitions.
-use Rattle.std.specs.Prelude.{ℕ, List, []}
+use Rattle.std.specs.Prelude.{ℕ, List}
 use Rattle.qs_program.specs.audit.Program.{ProgramShape}
 use Rattle.qs_played.specs.declared.schedule.actor.Actor.{Actor}
 use Rattle.qs_played.specs.audit.Played.{Played}

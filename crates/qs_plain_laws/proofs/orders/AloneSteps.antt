@@ -1,7 +1,7 @@
 -- Steps of the plain rules, one after another, that lead from a state to one with a property; and what a client in its
 -- block, alone, has before it. The proof that each complete order is reached is put together from these: a step of the
 -- client, or of a handler, changes one client, one queue or both, and keeps all others as they are.
-use Rattle.std.proofs.Common.{◌≡◌, ◌<◌, ◌∙◌, ◌==◌, ℕ, suc, true, if◌then◌else◌, false, List, [], ◌∷◌, ◌++◌, Some, refl, sym, ap, subst, length, get_or, get_or-set_same, get_or-set_other, length-set, ⊎_elim, arith}
+use Rattle.std.proofs.Common.{◌≡◌, ◌<◌, ◌∙◌, ◌==◌, ℕ, suc, true, if◌then◌else◌, false, List, [], ◌∷◌, ◌++◌, Some, refl, sym, ap, subst, length, get_or, get_or-set_same, get_or-set_other, length-set, ⊎_elim, arith, rules}
 use Rattle.std.proofs.Math.ListN.{set}
 use Rattle.qs_objects.specs.audit.Journals.{HeldState, run_one}
 use Rattle.qs_objects.specs.declared.held.Ticket.{Ticket}
@@ -15,7 +15,7 @@ use Rattle.qs_meaning.proofs.TreeWalks.{put_here, put_there}
 use Rattle.qs_played.specs.audit.Schedule.{all_named, names_actor, or_stay}
 use Rattle.qs_played.specs.declared.schedule.actor.Actor.{Actor}
 use Rattle.qs_played.proofs.Lists.{apart}
-use Rattle.qs_plain_laws.specs.audit.Plain.{Client, Handler, Plain, Private, StageOfClient, begun_blocks, client_at, handler_at, no_client, no_handler, out, step, waiting, within}
+use Rattle.qs_plain_laws.specs.audit.Plain.{Client, Handler, Plain, Private, StageOfClient, begun_blocks, client_at, handler_at, no_client, step, within}
 use Rattle.qs_plain_laws.specs.audit.PlainSchedule.{plays}
 use Rattle.qs_plain_laws.specs.orders.Quiet.{IsOut}
 
@@ -80,9 +80,8 @@ turns_left t (Query r next) hs =
     let o = run_one (hs r.object) t r in suc (turns_left t (next (value_of o.1)) (put hs r.object o.0))
 
 abbrev pub left_at : Ticket → StageOfClient → (ℕ → HeldState) → ℕ
-left_at t (out l) hs = 0
-left_at t (waiting next) hs = 0
 left_at t (within rest) hs = turns_left t rest hs
+left_at t _ hs = 0
 
 abbrev pub left_of : Ticket → Plain → ℕ
 left_of t s = left_at t (client_at s t.client).stage (helds s)
@@ -90,26 +89,12 @@ left_of t s = left_at t (client_at s t.client).stage (helds s)
 -- the queues, where one handler was changed
 pub queue_set : (hs : List Handler) (h : ℕ) (x : Handler) (queue : ℕ → List Private) → h < length hs
     → ((g : ℕ) → (handler_at hs g).queues ≡ queue g) → (g : ℕ) → (handler_at (set hs h x) g).queues ≡ put queue h x.queues g
-queue_set hs h x queue inside before g = ⊎_elim
-    (λ (is : h ≡ g).
-    subst (λ g. (handler_at (set hs h x) g).queues ≡ put queue h x.queues g) is
-    (ap (λ (y : Handler). y.queues) (get_or-set_same hs h x no_handler inside) ∙ sym (put_here queue h x.queues)))
-    (λ (other : (h == g) ≡ false).
-    ap (λ (y : Handler). y.queues) (get_or-set_other hs h g x no_handler (apart h g other)) ∙ (before g ∙ sym (put_there queue h x.queues g other)))
-    (num_cases h g)
+queue_set hs h x queue inside before g = search (rules, set, get_or-set_same, put_here, get_or-set_other, apart, put_there, num_cases)
 
 -- the same queues by another name
 pub requeued : (p : ProgramShape) (order : List Ticket) (begun : ℕ → ℕ) (t : Ticket) (queue other : ℕ → List Private) (stage : StageOfClient) (s : Plain)
     → ((g : ℕ) → queue g ≡ other g) → IsAlone p order begun t queue stage s → IsAlone p order begun t other stage s
-requeued p order begun t queue other stage s e now = record {
-  order = now.order;
-  clients = now.clients;
-  handlers = now.handlers;
-  stage = now.stage;
-  begun = now.begun;
-  others = now.others;
-  queues = λ h. now.queues h ∙ e h;
-}
+requeued p order begun t queue other stage s e now = search rules
 
 -- the client has moved, and its handlers may have
 pub client_moved : (p : ProgramShape) (order : List Ticket) (begun : ℕ → ℕ) (t : Ticket) (queue later : ℕ → List Private) (stage : StageOfClient) (s : Plain)
@@ -140,12 +125,4 @@ client_moved p order begun t queue later stage s it hs less now entries long que
 pub handler_moved : (p : ProgramShape) (order : List Ticket) (begun : ℕ → ℕ) (t : Ticket) (queue : ℕ → List Private) (stage : StageOfClient) (s : Plain)
     (h : ℕ) (x : Handler) → h < length p.objects → IsAlone p order begun t queue stage s
     → IsAlone p order begun t (put queue h x.queues) stage (record s { handlers = set s.handlers h x })
-handler_moved p order begun t queue stage s h x less now = record {
-  order = now.order;
-  clients = now.clients;
-  handlers = length-set s.handlers h x ∙ now.handlers;
-  stage = now.stage;
-  begun = now.begun;
-  others = now.others;
-  queues = queue_set s.handlers h x queue (let long = now.handlers in omega (arith, less, long)) now.queues;
-}
+handler_moved p order begun t queue stage s h x less now = search (rules, length-set, queue_set)

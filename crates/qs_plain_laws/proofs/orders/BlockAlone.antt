@@ -3,7 +3,7 @@
 -- client and then one of each handler of the block's list, leads on in the block's interaction tree, or to where nobody
 -- is in a block. How many turns are left is known from the tree and from what the handlers hold, and falls with each
 -- turn.
-use Rattle.std.proofs.Common.{◌≡◌, ◌<◌, ◌≤◌, ◌∙◌, ◌==◌, ◌||◌, ◌⊎◌, ℕ, zero, suc, Bool, None, Some, get_or-set_same, get_or-set_other, true, false, if◌then◌else◌, nat_lt, ℤ, List, [], ◌∷◌, refl, sym, ap, subst, inl, inr, length, map, length-set, ⊎_elim, arith}
+use Rattle.std.proofs.Common.{◌≡◌, ◌<◌, ◌≤◌, ◌∙◌, ◌==◌, ◌||◌, ◌⊎◌, ℕ, zero, suc, Bool, None, Some, get_or-set_same, get_or-set_other, true, false, if◌then◌else◌, nat_lt, ℤ, List, [], ◌∷◌, refl, sym, ap, subst, inl, inr, length, map, length-set, ⊎_elim, arith, rules}
 use Rattle.std.proofs.Math.ListN.{set}
 use Rattle.std.proofs.lemmas.Bool.{lt-ltb}
 use Rattle.std.specs.List.{AllByRecursion}
@@ -25,10 +25,10 @@ use Rattle.qs_played.specs.declared.schedule.actor.Actor.{Actor}
 use Rattle.qs_played.specs.declared.schedule.actor.Actor.TheVariants as actor
 use Rattle.qs_plain_laws.specs.declared.item.QueueItem.{QueueItem}
 use Rattle.qs_plain_laws.specs.declared.item.QueueItem.TheVariants as item
-use Rattle.qs_plain_laws.specs.audit.Plain.{Handler, Plain, Private, StageOfClient, after_reply, asks, at_each, calls, client_at, current, ends, handler_at, leaves_queue, log_in, no_handler, out, put_item, queue_step, reply_to, runs_command, runs_query, step, waiting, within}
+use Rattle.qs_plain_laws.specs.audit.Plain.{Handler, Plain, Private, StageOfClient, after_reply, asks, at_each, calls, client_at, current, ends, handler_at, leaves_queue, log_in, out, put_item, queue_step, reply_to, runs_command, runs_query, step, waiting, within}
 use Rattle.qs_plain_laws.specs.audit.PlainSchedule.{plays}
 use Rattle.qs_plain_laws.proofs.PlainPreserved.{each_is, in_list, reserved_list}
-use Rattle.qs_plain_laws.specs.orders.Quiet.{IsOut, IsQuiet}
+use Rattle.qs_plain_laws.specs.orders.Quiet.{IsQuiet}
 use Rattle.qs_plain_laws.proofs.orders.AloneSteps.{IsAlone, IsWithin, Reaches, client_moved, handler_moved, helds, left_at, left_of, moves, queue_set, requeued, stay, turns_left}
 
 -- each handler of a list changed: there are as many
@@ -132,27 +132,15 @@ module _ (p : ProgramShape) (sound : IsSound p) (order : List Ticket) (begun : �
   left_is queue stage s now = ap (λ g. left_at t g (helds s)) now.stage
 
   held_set : (hs : List Handler) (h : ℕ) (x : Handler) → h < length hs → (g : ℕ) → (handler_at (set hs h x) g).held ≡ put (λ g. (handler_at hs g).held) h x.held g
-  held_set hs h x inside g = ⊎_elim
-      (λ (is : h ≡ g).
-      subst (λ g. (handler_at (set hs h x) g).held ≡ put (λ g. (handler_at hs g).held) h x.held g) is
-      (ap (λ (y : Handler). y.held) (get_or-set_same hs h x no_handler inside) ∙ sym (put_here (λ g. (handler_at hs g).held) h x.held)))
-      (λ (other : (h == g) ≡ false).
-      ap (λ (y : Handler). y.held) (get_or-set_other hs h g x no_handler (apart h g other)) ∙ sym (put_there (λ g. (handler_at hs g).held) h x.held g other))
-      (num_cases h g)
+  held_set hs h x inside g = search (rules, inside, set, get_or-set_same, put_here, get_or-set_other, apart, put_there, num_cases)
 
   put_same : (hs : ℕ → HeldState) (h g : ℕ) → put hs h (hs h) g ≡ hs g
-  put_same hs h g = ⊎_elim
-      (λ (is : h ≡ g). subst (λ g. put hs h (hs h) g ≡ hs g) is (put_here hs h (hs h)))
-      (λ (other : (h == g) ≡ false). put_there hs h (hs h) g other)
-      (num_cases h g)
+  put_same hs h g = search (rules, put_here, put_there, num_cases)
 
   -- an item is logged and served: the handler holds what the request leaves, and the others what they held
   held_on : (hs : List Handler) (h : ℕ) (i : QueueItem) (u : Ticket) (x : Handler) → h < length hs → (g : ℕ)
       → (handler_at (set (set hs h (log_in u i (handler_at hs h))) h x) g).held ≡ put (λ g. (handler_at hs g).held) h x.held g
-  held_on hs h i u x inside g =
-      let logs = set hs h (log_in u i (handler_at hs h)) in
-      held_set logs h x (let long = length-set hs h (log_in u i (handler_at hs h)) in omega (arith, inside, long)) g
-      ∙ ap (λ f. put f h x.held g) (λ j k. (held_set hs h (log_in u i (handler_at hs h)) inside k ∙ put_same (λ g. (handler_at hs g).held) h k) j)
+  held_on hs h i u x inside g = search (rules, inside, set, held_set, length-set, put_same)
 
   -- a request is logged, and served at once: from the state after the client's step the turn leads to that after the
   -- handler's
@@ -170,19 +158,7 @@ module _ (p : ProgramShape) (sound : IsSound p) (order : List Ticket) (begun : �
     holds_then : h < length s.handlers → n.handlers ≡ set s.handlers h (log_in u i (handler_at s.handlers h))
         → m.handlers ≡ set n.handlers h (record { queues = private [] ∷ []; held = (run_one (handler_at n.handlers h).held t r).0 })
         → helds m ≡ put (helds s) h (run_one (helds s h) t r).0
-    holds_then here logs served_now = λ j g. at g j
-      where
-        mine : (handler_at n.handlers h).held ≡ helds s h
-        mine =
-            ap (λ hs. (handler_at hs h).held) logs
-            ∙ held_set s.handlers h (log_in u i (handler_at s.handlers h)) here h ∙ put_same (helds s) h h
-
-        at : (g : ℕ) → helds m g ≡ put (helds s) h (run_one (helds s h) t r).0 g
-        at g =
-            ap (λ hs. (handler_at hs g).held) served_now
-            ∙ ap (λ hs. (handler_at (set hs h (record { queues = private [] ∷ []; held = (run_one (handler_at n.handlers h).held t r).0 })) g).held) logs
-            ∙ held_on s.handlers h i u (record { queues = private [] ∷ []; held = (run_one (handler_at n.handlers h).held t r).0 }) here g
-            ∙ ap (λ y. put (helds s) h (run_one y t r).0 g) mine
+    holds_then here logs served_now = search (rules, helds, held_set, put_same, set, held_on)
 
     mine_then : h < length s.handlers → n.handlers ≡ set s.handlers h (log_in u i (handler_at s.handlers h)) → (handler_at n.handlers h).held ≡ helds s h
     mine_then here logs =
@@ -262,26 +238,13 @@ module _ (p : ProgramShape) (sound : IsSound p) (order : List Ticket) (begun : �
   cleared ks queue g = if is_in ks g then [] else queue g
 
   cleared_one : (k : ℕ) (ks : List ℕ) (queue : ℕ → List Private) (g : ℕ) → cleared ks (put queue k []) g ≡ cleared (k ∷ ks) queue g
-  cleared_one k ks queue g = by_tests (k == g) (is_in ks g)
-    where
-      by_tests : (a b : Bool) → (if b then [] else if a then [] else queue g) ≡ (if (a || b) then [] else queue g)
-      by_tests true true = refl
-      by_tests true false = refl
-      by_tests false true = refl
-      by_tests false false = refl
+  cleared_one k ks queue g = search rules
 
   emptied : (queue : ℕ → List Private) (k g : ℕ) → queue k ≡ [] → queue g ≡ put queue k [] g
-  emptied queue k g e = ⊎_elim
-      (λ (is : k ≡ g). subst (λ g. queue g ≡ put queue k [] g) is (e ∙ sym (put_here queue k [])))
-      (λ (other : (k == g) ≡ false). sym (put_there queue k [] g other))
-      (num_cases k g)
+  emptied queue k g e = search (rules, put_here, put_there, num_cases)
 
   still : (queue : ℕ → List Private) (k g : ℕ) → (queue g ≡ []) ⊎ (queue g ≡ marked) → (put queue k [] g ≡ []) ⊎ (put queue k [] g ≡ marked)
-  still queue k g each = ⊎_elim
-      (λ (is : k ≡ g). subst (λ g. (put queue k [] g ≡ []) ⊎ (put queue k [] g ≡ marked)) is (inl (put_here queue k [])))
-      (λ (other : (k == g) ≡ false).
-      ⊎_elim (λ (none : queue g ≡ []). inl (put_there queue k [] g other ∙ none)) (λ (one : queue g ≡ marked). inr (put_there queue k [] g other ∙ one)) each)
-      (num_cases k g)
+  still queue k g each = search (rules, put_here, put_there, num_cases)
 
   clear : (l : Locals) (ks : List ℕ) → AllByRecursion (λ k. k < length p.objects) ks → (queue : ℕ → List Private) (s : Plain) → At queue (out l) s
       → ((g : ℕ) → (queue g ≡ []) ⊎ (queue g ≡ marked)) → At (cleared ks queue) (out l) (plays p (handlers_in ks) s)
@@ -303,17 +266,7 @@ module _ (p : ProgramShape) (sound : IsSound p) (order : List Ticket) (begun : �
 
   -- all others are out, and so is the client now
   quiet : (l : Locals) (s : Plain) → At (λ g. []) (out l) s → Over s
-  quiet l s now = record {
-    order = now.order;
-    clients = now.clients;
-    handlers = now.handlers;
-    stages = λ c. ⊎_elim
-        (λ (is : t.client ≡ c). subst (λ c. IsOut (client_at s c).stage) is (subst IsOut (sym now.stage) tt))
-        (λ (other : (t.client == c) ≡ false). now.others c other)
-        (num_cases t.client c);
-    begun = now.begun;
-    queues = now.queues;
-  }
+  quiet l s now = search (rules, num_cases)
 
   abbrev ending : ℕ → List Private
   ending h = if reserves p t h then marked else []

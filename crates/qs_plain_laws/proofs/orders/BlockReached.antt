@@ -2,7 +2,7 @@
 -- a block, the next ticket's client reserves, and has its block alone until it is over. So it goes by induction on the
 -- order, with the configuration that counts the blocks that each client has begun. At the end each block has ended;
 -- where nobody has a block left, the run is finished.
-use Rattle.std.proofs.Common.{◌≡◌, ◌<◌, ◌≤◌, ◌∙◌, ◌+◌, ◌==◌, ℕ, suc, Bool, true, false, if◌then◌else◌, nat_lt, List, [], ◌∷◌, ◌++◌, Some, map, refl, sym, ap, subst, length, get_or, get_or-set_same, get_or-set_other, length-set, append_assoc, append-nil, ⊎_elim, arith}
+use Rattle.std.proofs.Common.{◌≡◌, ◌<◌, ◌≤◌, ◌∙◌, ◌+◌, ◌==◌, ℕ, suc, Bool, true, false, if◌then◌else◌, List, [], ◌∷◌, ◌++◌, Some, map, refl, sym, ap, subst, length, get_or, get_or-set_same, get_or-set_other, length-set, append_assoc, append-nil, ⊎_elim, arith, rules}
 use Rattle.std.proofs.Math.ListN.{set}
 use Rattle.std.proofs.lemmas.Bool.{lt-ltb}
 use Rattle.std.proofs.lemmas.List.{get_or_past, length-append}
@@ -10,7 +10,7 @@ use Rattle.std.proofs.lemmas.List.FromFn.{get_or-map-range_with_len, length-map-
 use Rattle.std.specs.List.{AllByRecursion}
 use Rattle.qs_objects.specs.declared.held.Ticket.{Ticket}
 use Rattle.qs_objects.proofs.Choices.{eqb_self, num_cases, ticket_path}
-use Rattle.qs_program.specs.audit.Program.{ProgramShape, blocks_of, no_client as no_shape, text_of}
+use Rattle.qs_program.specs.audit.Program.{ProgramShape, blocks_of, text_of}
 use Rattle.qs_program.specs.Sound.{IsSound}
 use Rattle.qs_program.specs.audit.Values.{Locals}
 use Rattle.qs_meaning.specs.audit.Configurations.{Configuration, IsComplete, configuration_after, configuration_from, first_configuration, one_block_on}
@@ -26,7 +26,7 @@ use Rattle.qs_played.specs.audit.Schedule.{all_named, or_stay}
 use Rattle.qs_played.specs.declared.schedule.actor.Actor.{Actor}
 use Rattle.qs_played.specs.declared.schedule.actor.Actor.TheVariants as actor
 use Rattle.qs_played.proofs.Lists.{apart}
-use Rattle.qs_plain_laws.specs.audit.Plain.{Client, Handler, Plain, Private, StageOfClient, at_each, begin, begins, begun_blocks, client_at, enter, fresh_client, fresh_handler, handler_at, no_client, no_handler, out, step, waiting, within}
+use Rattle.qs_plain_laws.specs.audit.Plain.{Client, Handler, Plain, Private, StageOfClient, at_each, begin, begins, begun_blocks, client_at, enter, handler_at, no_client, out, step, within}
 use Rattle.qs_plain_laws.specs.PlainIsolation.{commands_in_queue}
 use Rattle.qs_plain_laws.specs.PlainSyncSums.{AreQueriesCounted}
 use Rattle.qs_plain_laws.proofs.Isolating.{runs_isolated}
@@ -41,18 +41,11 @@ use Rattle.qs_plain_laws.proofs.orders.AloneSteps.{IsAlone, IsWithin, Reaches, l
 
 -- a client with blocks is one of the program's
 pub has_client : (p : ProgramShape) (t : Ticket) → t.index < blocks_of p t.client → t.client < length p.clients
-has_client p t less = by_test (nat_lt t.client (length p.clients)) refl
-  where
-    by_test : (b : Bool) → nat_lt t.client (length p.clients) ≡ b → t.client < length p.clients
-    by_test true e = grind (arith, e)
-    by_test false e =
-        let none : blocks_of p t.client ≡ 0 = ap (λ c. length c.blocks) (get_or_past p.clients t.client no_shape (grind (arith, e))) in
-        omega (arith, less, none)
+has_client p t less = search (rules, get_or_past)
 
 variables_of : (g : StageOfClient) → IsOut g → (l : Locals) × (g ≡ out l)
 variables_of (out l) is = (l, refl)
-variables_of (within rest) is = absurd is
-variables_of (waiting next) is = absurd is
+variables_of _ is = absurd is
 
 module _ (p : ProgramShape) (sound : IsSound p) (order : List Ticket) (blocks : ℕ → ℕ) (t : Ticket)
     (index : t.index ≡ blocks t.client) (left : t.index < blocks_of p t.client) where
@@ -77,18 +70,7 @@ module _ (p : ProgramShape) (sound : IsSound p) (order : List Ticket) (blocks : 
 
   -- the step in which the client reserves
   enters : (s : Plain) (l : Locals) → IsQuiet p order blocks s → (client_at s t.client).stage ≡ out l → step p s (actor.Client t.client) ≡ Some (entered s l)
-  enters s l now stage =
-      let it = client_at s t.client in
-      let same : begun_blocks it ≡ t.index = now.begun t.client ∙ sym index in
-      let there : nat_lt t.client (length s.clients) ≡ true = lt-ltb t.client (length s.clients) (let long = now.clients in let c = client in omega (arith, c, long)) in
-      let some : nat_lt (begun_blocks it) (blocks_of p t.client) ≡ true = lt-ltb (begun_blocks it) (blocks_of p t.client) (omega (arith, left, same)) in
-      let is : record { client = t.client; index = begun_blocks it } ≡ t = ticket_path refl same in
-      rw (there, stage, some)
-      (ap (λ (u : Ticket). Some (record {
-        order = s.order ++ u ∷ [];
-        clients = set s.clients t.client (begins it l (block_tree p u l) (text_of p u).reserved);
-        handlers = at_each (enter u) s.handlers (text_of p u).reserved;
-      })) is)
+  enters s l now stage = search (rules, lt-ltb, client, ticket_path, set)
 
   entered_at : (s : Plain) (l : Locals) → IsQuiet p order blocks s → (client_at s t.client).stage ≡ out l
       → IsAlone p (order ++ t ∷ []) begun t served (within (block_tree p t l)) (entered s l)
@@ -173,50 +155,18 @@ all_are_idle (h ∷ hs) none = rw (none 0) (all_are_idle hs (λ g. none (suc g))
 
 pub out_is : (g : StageOfClient) → IsOut g → is_out g ≡ true
 out_is (out l) is = refl
-out_is (within rest) is = absurd is
-out_is (waiting next) is = absurd is
+out_is _ is = absurd is
 
 done_one : (p : ProgramShape) (c : ℕ) (it : Client) → IsOut it.stage → begun_blocks it ≡ blocks_of p c → is_done p c it ≡ true
 done_one p c it is all = rw (out_is it.stage is, all) (eqb_self (blocks_of p c))
 
 quiet_finished : (p : ProgramShape) (order : List Ticket) (blocks : ℕ → ℕ) (s : Plain) → IsQuiet p order blocks s → ((c : ℕ) → blocks c ≡ blocks_of p c)
     → is_finished p s ≡ true
-quiet_finished p order blocks s now all =
-    rw (done_from p s.clients 0 (λ i. let same : i ≡ i + 0 = omega arith in
-    subst (λ c. is_done p c (client_at s i) ≡ true) same (done_one p i (client_at s i) (now.stages i) (now.begun i ∙ all i))))
-    (all_are_idle s.handlers now.queues)
+quiet_finished p order blocks s now all = search (rules, done_from, done_one, all_are_idle)
 
 -- at the beginning nobody is in a block
 pub begin_quiet : (p : ProgramShape) → IsQuiet p [] (first_configuration p).begun (begin p)
-begin_quiet p = record {
-  order = refl;
-  clients = length-map-range_with_len fresh_client 0 (length p.clients);
-  handlers = length-map-range_with_len (fresh_handler p) 0 (length p.objects);
-  stages = λ c. by_client c (nat_lt c (length p.clients)) refl;
-  begun = λ c. none_begun c (nat_lt c (length p.clients)) refl;
-  queues = λ h. none_waits h (nat_lt h (length p.objects)) refl;
-}
-  where
-    at_client : (c : ℕ) → c < length p.clients → client_at (begin p) c ≡ fresh_client c
-    at_client c less = get_or-map-range_with_len fresh_client 0 (length p.clients) c c no_client less (omega arith)
-
-    past_client : (c : ℕ) → nat_lt c (length p.clients) ≡ false → client_at (begin p) c ≡ no_client
-    past_client c e = get_or_past (begin p).clients c no_client (let long = length-map-range_with_len fresh_client 0 (length p.clients) in grind (arith, e, long))
-
-    by_client : (c : ℕ) (b : Bool) → nat_lt c (length p.clients) ≡ b → IsOut (client_at (begin p) c).stage
-    by_client c true e = subst (λ (x : Client). IsOut x.stage) (sym (at_client c (grind (arith, e)))) tt
-    by_client c false e = subst (λ (x : Client). IsOut x.stage) (sym (past_client c e)) tt
-
-    none_begun : (c : ℕ) (b : Bool) → nat_lt c (length p.clients) ≡ b → begun_blocks (client_at (begin p) c) ≡ 0
-    none_begun c true e = ap begun_blocks (at_client c (grind (arith, e)))
-    none_begun c false e = ap begun_blocks (past_client c e)
-
-    none_waits : (h : ℕ) (b : Bool) → nat_lt h (length p.objects) ≡ b → (handler_at (begin p).handlers h).queues ≡ []
-    none_waits h true e =
-        ap (λ (x : Handler). x.queues) (get_or-map-range_with_len (fresh_handler p) 0 (length p.objects) h h no_handler (grind (arith, e)) (omega arith))
-    none_waits h false e =
-        ap (λ (x : Handler). x.queues) (get_or_past (begin p).handlers h no_handler
-        (let long = length-map-range_with_len (fresh_handler p) 0 (length p.objects) in grind (arith, e, long)))
+begin_quiet p = search (rules, length-map-range_with_len, get_or-map-range_with_len, get_or_past)
 
 -- the blocks of a legal order have begun at its end
 counted_from : (p : ProgramShape) (g : Configuration) (ts : List Ticket) (c : ℕ) → g.begun c ≤ (configuration_from p g ts).begun c
@@ -235,13 +185,7 @@ counted_from p g (t ∷ ts) c =
 
 -- a block that was begun has ended where its client stands between two blocks
 ended_there : (s : Plain) (t : Ticket) → IsOut (client_at s t.client).stage → t.index < begun_blocks (client_at s t.client) → ended_at s t ≡ true
-ended_there s t is less = by_test (nat_lt (suc t.index) (begun_blocks (client_at s t.client))) refl
-  where
-    by_test : (b : Bool) → nat_lt (suc t.index) (begun_blocks (client_at s t.client)) ≡ b → ended_at s t ≡ true
-    by_test true e = rw e refl
-    by_test false e =
-        let last : suc t.index ≡ begun_blocks (client_at s t.client) = grind (arith, e, less) in
-        rw (e, out_is (client_at s t.client).stage is, last) (rw (eqb_self (begun_blocks (client_at s t.client))) refl)
+ended_there s t is less = search (rules, out_is, eqb_self)
 
 all_ended : (p : ProgramShape) (s : Plain) (g : Configuration) (ts : List Ticket) → LegalFrom p g.begun ts
     → ((c : ℕ) → IsOut (client_at s c).stage) → ((c : ℕ) → begun_blocks (client_at s c) ≡ (configuration_from p g ts).begun c)

@@ -3,7 +3,7 @@
 -- all steps of the blocks to come; and each item in a private queue. Each step leaves one less. A request that is
 -- logged is one item more, since no handler has two private queues of one ticket, and its client has two steps fewer
 -- left.
-use Rattle.std.proofs.Common.{◌≡◌, ◌≢◌, ◌<◌, ◌≤◌, ◌∙◌, ℕ, zero, suc, ◌+◌, ◌*◌, ◌-◌, Bool, true, false, if◌then◌else◌, nat_lt, ℤ, List, [], ◌∷◌, ◌++◌, Option, None, Some, map, length, get_or, sum_by, refl, sym, ap, subst, ⊎_elim, arith}
+use Rattle.std.proofs.Common.{◌≡◌, ◌≢◌, ◌<◌, ◌≤◌, ◌∙◌, ℕ, zero, suc, ◌+◌, ◌*◌, ◌-◌, Bool, true, false, if◌then◌else◌, nat_lt, ℤ, List, [], ◌∷◌, ◌++◌, Option, None, Some, map, length, get_or, sum_by, refl, sym, ap, subst, ⊎_elim, arith, rules}
 use Rattle.std.proofs.Math.ListN.{set}
 use Rattle.std.proofs.lemmas.List.{length-append}
 use Rattle.std.proofs.lemmas.List.Sums.{sum_by-append, sum_by-cons}
@@ -18,7 +18,7 @@ use Rattle.qs_program.specs.Sound.{IsSound}
 use Rattle.qs_program.specs.audit.Values.{Locals}
 use Rattle.qs_program.proofs.Bounds.{sound_block}
 use Rattle.qs_meaning.specs.audit.Interaction.{Interaction, Done, Call, Query, tree_of}
-use Rattle.qs_meaning.specs.audit.Solo.{event, value_of}
+use Rattle.qs_meaning.specs.audit.Solo.{event}
 use Rattle.qs_meaning.proofs.Histories.{Apart}
 use Rattle.qs_played.specs.audit.Played.{ticket}
 use Rattle.qs_played.specs.audit.Schedule.{or_stay}
@@ -108,11 +108,7 @@ logged_apart : (t : Ticket) (i : QueueItem) (h : Handler) → IsApart h → IsAp
 logged_apart t i h apart = subst Apart (sym (same_tickets t i h.queues)) apart
 
 entered_same : (t : Ticket) (h : Handler) → items_in (enter t h) ≡ items_in h
-entered_same t h =
-    let new : Private = record { ticket = t; items = [] } in
-    let joined = sum_by-append items_of h.queues (new ∷ []) in
-    let one = sum_by-cons items_of new [] in
-    omega (arith, joined, one)
+entered_same t h = search (rules, sum_by-append, sum_by-cons)
 
 holds_at_each : {X : Type 0} (P : X → Type 0) (xs : List X) (k : ℕ) (x d : X) → P x → ((g : ℕ) → P (get_or xs g d))
     → (g : ℕ) → P (get_or (set xs k x) g d)
@@ -152,8 +148,7 @@ StageAtMost (waiting next) n = (v : ℤ) → AtMost (next v) n
 -- of the block that a client is in, with so many requests
 abbrev left_in_block : List ℕ → ℕ → StageOfClient → ℕ
 left_in_block reserved n (out l) = 0
-left_in_block reserved n (within rest) = 2 * n + length reserved + 1
-left_in_block reserved n (waiting next) = 2 * n + length reserved + 1
+left_in_block reserved n _ = 2 * n + length reserved + 1
 
 -- of the blocks from the k-th on
 abbrev left_from : List BlockShape → ℕ → ℕ
@@ -271,10 +266,7 @@ module _ (p : ProgramShape) (sound : IsSound p) (s : Plain) (k : RunInvariant p 
         left_then = 2 * block_load b + length b.reserved + 1 + left_from (shape_at p c).blocks (suc (begun_blocks me))
 
         fewer : (a : ℕ) → ClientLeft p c me a → left_then + 1 ≤ a
-        fewer a old =
-            let one = left_one steps_of_block (shape_at p c).blocks (begun_blocks me) more in
-            let most = old.most in
-            omega (arith, one, most)
+        fewer a old = search (rules, left_one)
 
         longer : begun_blocks it ≡ suc (begun_blocks me)
         longer = let long = length-append me.entries (l ∷ []) in omega (arith, long)
@@ -290,13 +282,7 @@ module _ (p : ProgramShape) (sound : IsSound p) (s : Plain) (k : RunInvariant p 
             tree_within p.objects b l (sound_block p c (begun_blocks me) sound inside more).body
 
         new : ClientLeft p c it left_then
-        new = record {
-          requests = block_load b;
-          stage = sound_tree;
-          most = let names = ap (λ (x : BlockShape). length x.reserved) its_block in
-              let later = ap (left_from (shape_at p c).blocks) longer in
-              omega (arith, names, later);
-        }
+        new = search (rules, b, sound_tree, its_block, longer)
 
     -- where it is in its block, with so many requests to come
     abbrev left_with : ℕ → ℕ
@@ -380,17 +366,7 @@ module _ (p : ProgramShape) (sound : IsSound p) (s : Plain) (k : RunInvariant p 
     -- the client that hears a reply has as much left
     heard : (c : ℕ) (it : Client) (r : Request) (v : Option ℤ) (a : ℕ) (g : StageOfClient) → it.stage ≡ g → ClientLeft p c it a
         → Less p c (reply_to it r v g) 0 a
-    heard c it r v a (out l) e old = (a, omega arith, old)
-    heard c it r v a (within rest) e old = (a, omega arith, old)
-    heard c it r v a (waiting next) e old = (
-      a,
-      omega arith,
-      record {
-        requests = old.requests;
-        stage = (requests_at p c it a (waiting next) e old) (value_of v);
-        most = most_at p c it a (waiting next) e old;
-      },
-    )
+    heard c it r v a g e old = search (rules, it, requests_at, most_at)
 
     module _ (q : Private) (qs : List Private) (e : us.queues ≡ q ∷ qs) where
       less_items : (i : QueueItem) (items : List QueueItem) (held : HeldState) → q.items ≡ i ∷ items

@@ -2,7 +2,7 @@
 -- reserve it are those that are over there, and behind them those in its line. So the tickets are gone through from the
 -- first on, as long as each is over at all objects of its list. The first that is not is the first in some line, and at
 -- each object of its list it is over or the first in the line. With no ticket left the lines are empty.
-use Rattle.std.proofs.Common.{◌≡◌, ◌∙◌, ◌==◌, ◌⊎◌, ◌||◌, append-nil, inl, inr, ⊎_elim, ℕ, Bool, true, false, true≢false, List, [], ◌∷◌, ◌++◌, filter, refl, sym, ap, subst}
+use Rattle.std.proofs.Common.{◌≡◌, ◌∙◌, ◌==◌, ◌⊎◌, ◌||◌, append-nil, inl, inr, ⊎_elim, ℕ, Bool, true, false, true≢false, List, [], ◌∷◌, ◌++◌, filter, refl, sym, ap, subst, rules}
 use Rattle.std.specs.List.{AllByRecursion}
 use Rattle.qs_objects.specs.declared.held.Ticket.{Ticket}
 use Rattle.qs_objects.proofs.Choices.{eqb_self, num_cases}
@@ -40,14 +40,7 @@ module _ (p : ProgramShape) (line : ℕ → List Ticket) (IsOver : ℕ → Ticke
   -- the first ticket is the first in its object's line, or over there
   first_or_over : (t : Ticket) (ts : List Ticket) (h : ℕ) → reserves p t h ≡ true → Left (t ∷ ts) h
       → ((us : List Ticket) × (line h ≡ t ∷ us)) ⊎ (IsOver h t × Left ts h)
-  first_or_over t ts h e left =
-      let cut : filter (λ t. reserves p t h) (t ∷ ts) ≡ t ∷ filter (λ t. reserves p t h) ts = rw e refl in
-      elim (head_of_all left.served (filter (λ t. reserves p t h) ts) t (line h) (sym cut ∙ left.mine)) [
-        | inl is ↦ inl (filter (λ t. reserves p t h) ts, is)
-        | inr x ↦
-            let all = subst (AllByRecursion (IsOver h)) x.1 left.over in
-            inr (all.0, record { served = x.0; over = all.1; mine = x.2 })
-      ]
+  first_or_over t ts h e left = search (rules, head_of_all)
 
   passed : (t : Ticket) (ts : List Ticket) (h : ℕ) → reserves p t h ≡ false → Left (t ∷ ts) h → Left ts h
   passed t ts h e left =

@@ -3,7 +3,7 @@
 -- somebody could go on at its beginning, and either one before him had a step or he finds the state as it was. So as
 -- many steps were made as there were such lists; but there are no more than the bound, and one more could follow. A
 -- round is such a list.
-use Rattle.std.proofs.Common.{◌≡◌, ◌<◌, ◌≤◌, ◌∙◌, ◌⊎◌, inl, inr, ⊎_elim, ℕ, zero, suc, ◌+◌, ◌==◌, Bool, true, false, true≢false, List, [], ◌∷◌, ◌++◌, Option, None, Some, IsSome, map, length, append_assoc, append-nil, flat_map, refl, sym, ap, subst, arith}
+use Rattle.std.proofs.Common.{◌≡◌, ◌<◌, ◌≤◌, ◌∙◌, ◌⊎◌, inl, inr, ⊎_elim, ℕ, zero, suc, ◌+◌, ◌==◌, Bool, true, false, true≢false, List, [], ◌∷◌, ◌++◌, Option, None, Some, IsSome, map, length, append_assoc, append-nil, flat_map, refl, sym, ap, subst, arith, rules}
 use Rattle.std.specs.List.{AllByRecursion, range_with_len}
 use Rattle.qs_objects.proofs.Choices.{apart_eqb, num_cases}
 use Rattle.qs_program.specs.audit.Program.{ProgramShape}
@@ -91,11 +91,7 @@ module _ {S : Type 0} (p : ProgramShape) (step : S → Actor → Option S) where
     where
       by_step : (o : Option S) → step s b ≡ o → (IsOneOf a rest → IsSome (step s a) → 1 ≤ steps_made_by step rest s)
           → 1 ≤ made o + steps_made_by step rest (or_stay s o)
-      by_step (Some t) e later = omega arith
-      by_step None e later = elim i [
-        | inl is ↦ absurd (true≢false (sym (subst IsSome e (subst (λ a. IsSome (step s a)) is some))))
-        | inr others ↦ let more = later others some in omega (arith, more)
-      ]
+      by_step o e later = search rules
 
   plays_joined : (xs ys : List Actor) (s : S) → plays_by step (xs ++ ys) s ≡ plays_by step ys (plays_by step xs s)
   plays_joined [] ys s = refl
@@ -133,14 +129,7 @@ module _ {S : Type 0} (p : ProgramShape) (step : S → Actor → Option S) where
       -- after a list in which everyone has a turn all is finished, or a step was made
       one_turn : (xs turn : List Actor) → HasEveryone p turn
           → IsOver (xs ++ turn) ⊎ (suc (count xs) ≤ count (xs ++ turn))
-      one_turn xs turn everyone = elim (stuck xs) [
-        | inl is ↦ inl (still_over xs turn is)
-        | inr (a, named, some) ↦
-            inr
-            (let both = steps_joined xs turn begin in
-            let one = some_made (after xs) a turn (everyone a named) some in
-            omega (arith, both, one))
-      ]
+      one_turn xs turn everyone = search (rules, still_over, steps_joined, some_made)
 
       turns_on : (xs : List Actor) (turns : List (List Actor)) → AllByRecursion (HasEveryone p) turns
           → IsOver (xs ++ joined turns) ⊎ (length turns + count xs ≤ count (xs ++ joined turns))
@@ -172,10 +161,7 @@ module _ {S : Type 0} (p : ProgramShape) (step : S → Actor → Option S) where
       -- after any picks
       pub enough_turns : (picks : List Actor) (turns : List (List Actor)) → AllByRecursion (HasEveryone p) turns
           → most ≤ length turns → IsOver (picks ++ joined turns)
-      enough_turns picks turns each many = elim (turns_on picks turns each) [
-        | inl is ↦ is
-        | inr more ↦ none_more (picks ++ joined turns) (omega (arith, many, more))
-      ]
+      enough_turns picks turns each many = search (rules, turns_on, none_more)
 
       pub enough_rounds : (picks : List Actor) (n : ℕ) → most ≤ n → IsOver (schedule p picks n)
       enough_rounds picks n many =

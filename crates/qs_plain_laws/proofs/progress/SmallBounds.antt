@@ -1,6 +1,6 @@
 -- The steps of a checked program's blocks are few: its load is limited, it has few blocks, and a list names few
 -- objects.
-use Rattle.std.proofs.Common.{◌≡◌, ◌<◌, ◌≤◌, ◌==◌, ℕ, ◌+◌, ◌*◌, Bool, true, false, ◌||◌, List, [], ◌∷◌, length, sum_by, refl, arith}
+use Rattle.std.proofs.Common.{◌≡◌, ◌<◌, ◌≤◌, ◌==◌, ℕ, ◌+◌, ◌*◌, Bool, true, false, ◌||◌, List, [], ◌∷◌, length, sum_by, refl, arith, rules}
 use Rattle.std.proofs.lemmas.List.Sums.{sum_by-cons}
 use Rattle.std.proofs.lemmas.Map.Steps.{length-le_from_distinct_below}
 use Rattle.std.specs.List.{AllByRecursion, list_any}
@@ -49,7 +49,4 @@ module _ (objects : List Declared) (few : length objects ≤ 8) where
       rw (sum_by-cons steps_of_client c cs, sum_by-cons load_of_client c cs) (omega (arith, one, most, others))
 
 pub bounds_small : BoundsAreSmall
-bounds_small p sound =
-    let all = clients_few p.objects sound.objects p.clients sound.each in
-    let clients = sound.clients in let load = sound.load in
-    record { few = omega (arith, all, clients, load); rounds = omega (arith, all, clients, load) }
+bounds_small p sound = search (rules, clients_few)

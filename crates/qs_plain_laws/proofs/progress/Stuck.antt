@@ -39,8 +39,7 @@ use Rattle.qs_plain_laws.proofs.progress.FirstLeft.{IsFirstLeft, all_over, goes_
 item_steps : (s : Plain) (h : ℕ) (it : Handler) (q : Private) (qs : List Private) (i : QueueItem) (is : List QueueItem)
     → IsSome (item_step s h it q qs (i ∷ is))
 item_steps s h it q qs (item.Command r) is = refl
-item_steps s h it q qs (item.Query r) is = refl
-item_steps s h it q qs item.EndMark is = refl
+item_steps s h it q qs _ is = refl
 
 -- all clients done, or somebody has a step
 each_done : (p : ProgramShape) (H : Type 0) (cs : List Client) (from : ℕ)
