@@ -1,12 +1,11 @@
 -- After each client the check forgets that client's variables, and this changes neither the faults that it meets later
 -- nor what it knows of the rest. The loop of `check_items` over the items of a script stands on it. Its main lemma,
 -- `forget`, goes by induction on the items: an object looks at no variables, and a client begins with none.
-use Rattle.std.proofs.Common.{◌≡◌, ℕ, suc, ◌+◌, ◌<◌, Bool, true, false, ◌||◌, nat_lt, List, [], ◌∷◌, ◌++◌, length, get_or, drop, refl, ap, sym, ◌∙◌, add-one, append_assoc, Option, Some, None, Ok, Err, if◌then◌else◌}
-use Rattle.std.proofs.Math.Seq.{drop-cons}
+use Rattle.std.proofs.Common.{◌≡◌, ℕ, suc, ◌+◌, ◌<◌, Bool, true, false, ◌||◌, nat_lt, List, [], ◌∷◌, ◌++◌, length, get_or, drop, refl, ap, sym, ◌∙◌, add-one, append_assoc, Option, Some, None, Ok, Err, if◌then◌else◌, drop-cons}
 use Rattle.qs_script.specs.declared.tree.tree.KindText.{KindText}
 use Rattle.qs_script.specs.declared.tree.tree.KindText.TheVariants.{Account, Buffer, Grid}
 use Rattle.qs_script.specs.declared.tree.tree.Item.{Item}
-use Rattle.qs_script.specs.declared.tree.tree.Item.TheVariants.{Object, Client, Template, Started}
+use Rattle.qs_script.specs.declared.tree.tree.Item.TheVariants.{Object, Template}
 use Rattle.qs_check.specs.declared.fault_places.fault.CheckFault.{CheckFault}
 use Rattle.qs_check.specs.declared.fault_places.fault.CheckFault.TheVariants as f
 use Rattle.qs_program.specs.audit.Numbering.{Name, is_among}
@@ -25,9 +24,8 @@ module _ (s t : Scope) (all left here later : List TextPlace) (so_far : over (sc
   over_goes_on u h = so_far ∙ ap (λ ps. over (scope_or_fault t ps)) parts ∙ ap over (met-then t u here later h)
 
 after_object : (b c : Bool) (s : Scope) (next : Scope → ScopeOrFault) → over (next s) ≡ over (next (without_variables s)) → over (then_at (if b then Err f.Twice else (if c then Ok s else Err f.Limit)) next) ≡ over (then_at (if b then Err f.Twice else (if c then Ok (without_variables s) else Err f.Limit)) next)
-after_object true c s next h = refl
 after_object false true s next h = h
-after_object false false s next h = refl
+after_object _ _ s next h = refl
 
 after_number : (b : Bool) (s : Scope) (next : Scope → ScopeOrFault) → over (next s) ≡ over (next (without_variables s)) → over (then_at (if b then Err f.Range else Ok s) next) ≡ over (then_at (if b then Err f.Range else Ok (without_variables s)) next)
 after_number true s next h = refl
@@ -45,9 +43,6 @@ after_text (Some e) s next h = refl
 
 -- no item asks for the variables of the client before it
 pub forget : (items : List Item) (s : Scope) → over (scope_or_fault s (script_places items)) ≡ over (scope_or_fault (without_variables s) (script_places items))
-forget [] s = refl
-forget (Client c ∷ rest) s = refl
-forget (Started c ∷ rest) s = refl
 forget (Template c ∷ rest) s =
     let u = with_template s c.name (formal_kinds c.formals) in
     after_object (is_among s.templates c.name) (nat_lt (length s.templates) most_templates) u (λ t. scope_or_fault t (text (fault_of_text c) ∷ script_places rest))
@@ -56,6 +51,7 @@ forget (Object o ∷ rest) s =
     let k = kind_of o.kind in
     after_object (is_among s.objects o.name) (nat_lt (length s.objects) most_objects) (with_object s o.name k) (λ t. scope_or_fault t (kind_places o.kind ++ script_places rest))
     (after_kind o.kind (with_object s o.name k) (script_places rest) (forget rest (with_object s o.name k)))
+forget _ s = refl
 
 -- the lists of variables of the items from i on, of which the one at i is known
 pub lists_at : (xs : List Item) (i : ℕ) (item : Item) → i < length xs → item ≡ get_or xs i item → variable_lists (drop i xs) ≡ variable_lists (item ∷ drop (i + 1) xs)

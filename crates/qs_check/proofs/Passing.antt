@@ -1,8 +1,7 @@
 -- The block with which a count passes its limit counts in the whole: so the load, or the weight, of the program is past
 -- its limit too.
-use Rattle.std.proofs.Common.{◌≡◌, ◌<◌, ◌≤◌, ◌+◌, ℕ, true, false, min, List, Option, Some, None, refl, subst, sym, sum_by, slice_index_or, nat_lt, arith}
+use Rattle.std.proofs.Common.{◌≡◌, ◌<◌, ◌≤◌, ◌+◌, ℕ, min, List, Option, Some, None, refl, subst, sym, sum_by, slice_index_or, arith, MatchOption, lt-ltb, le-ltb}
 use Rattle.std.proofs.lemmas.Bool.Decides.{nat_tests}
-use Rattle.std.specs.Prelude.{MatchOption}
 use Rattle.std.proofs.lemmas.List.Sums.{sum_by_more_le}
 use Rattle.qs_check.specs.declared.fault_places.fault.CheckFault.TheVariants as f
 use Rattle.qs_program.specs.audit.Limits.{most_requests, most_steps}
@@ -27,20 +26,10 @@ whole_passes m clients e h =
     let own = at_most (counted_by m block) (limit_by m + 1) e.count h.passed.count in
     omega (arith, inside, whole, own, h.passed.before, h.passed.passes)
 
-is_less : (limit n : ℕ) → limit < n → nat_lt limit n ≡ true
-is_less limit n h = grind (arith, nat_tests)
-
-is_not_less : (limit n : ℕ) → n ≤ limit → nat_lt limit n ≡ false
-is_not_less limit n h = grind (arith, nat_tests)
-
--- a load past its limit is the fault
-pub load_passes : (p : ProgramShape) (e : Excess) → IsPassedBy Load p.clients e → excess_of p ≡ Some f.Load
-load_passes p e h = rw (is_less 100000 (whole_load p) (whole_passes Load p.clients e h)) refl
-
 -- a weight past its limit is the fault where the load keeps its own
 pub weight_passes : (p : ProgramShape) (e : Excess) → whole_load p ≤ most_requests → IsPassedBy Weight p.clients e → excess_of p ≡ Some f.Weight
 weight_passes p e keeps h =
-    rw (is_not_less 100000 (whole_load p) keeps, is_less 1000000 (whole_weight p) (whole_passes Weight p.clients e h)) refl
+    rw (le-ltb 100000 (whole_load p) keeps, lt-ltb 1000000 (whole_weight p) (whole_passes Weight p.clients e h)) refl
 
 -- by the measure of the block that was found
 by_measure : (p : ProgramShape) (m : Measure) (e : Excess) → excess_of p ≡ Some (fault_by m) → IsPassedBy m p.clients e
@@ -49,14 +38,10 @@ by_measure p m e is h =
     subst (λ m. (excess_of p ≡ Some (fault_by m)) × IsPassedBy m p.clients e) (sym h.passed.measure) (is, h)
 
 pub first_load : (p : ProgramShape) (e : Excess) → IsPassedBy Load p.clients e → (excess_of p ≡ Some (fault_by e.measure)) × IsPassedBy e.measure p.clients e
-first_load p e h = by_measure p Load e (load_passes p e h) h
-
-first_weight : (p : ProgramShape) (e : Excess) → whole_load p ≤ most_requests → IsPassedBy Weight p.clients e
-    → (excess_of p ≡ Some (fault_by e.measure)) × IsPassedBy e.measure p.clients e
-first_weight p e keeps h = by_measure p Weight e (weight_passes p e keeps h) h
+first_load p e h = by_measure p Load e (rw (lt-ltb 100000 (whole_load p) (whole_passes Load p.clients e h)) refl) h
 
 -- what is found where the load keeps its limit
 pub after_load : (p : ProgramShape) (r : Option Excess) → counted_in Load p.clients ≤ most_requests
     → MatchOption r (counted_in Weight p.clients ≤ most_steps) (IsPassedBy Weight p.clients) → IsFirstExcess p r
 after_load p None load h = no_fault_left p load h
-after_load p (Some e) load h = first_weight p e load h
+after_load p (Some e) load h = by_measure p Weight e (weight_passes p e load h) h

@@ -4,16 +4,17 @@
 use Rattle.std.proofs.Common.{◌≡◌, ℕ, suc, ◌+◌, ◌<◌, ◌≤◌, Bool, true, false, ◌&&◌, nat_le, List, [], ◌∷◌, ◌++◌, length, IsSome, Some, None, refl, ap, sym, ◌∙◌, subst, arith, append_assoc, append-nil, length-append, Ok, if◌then◌else◌}
 use Rattle.std.proofs.lemmas.Bool.Decides.{nat_tests}
 use Rattle.std.specs.List.{AllByRecursion}
+use Rattle.std.proofs.lemmas.Bool.{and_from}
 use Rattle.qs_objects.specs.audit.Objects.{starts}
 use Rattle.qs_script.specs.declared.tree.tree.KindText.{KindText}
 use Rattle.qs_script.specs.declared.tree.tree.KindText.TheVariants.{Account, Buffer, Grid}
-use Rattle.qs_script.specs.declared.tree.tree.ClientItem.{ClientItem}
-use Rattle.qs_objects.specs.declared.object.Kind.{Kind}
 use Rattle.qs_script.specs.declared.tree.tree.ObjectItem.{ObjectItem}
-use Rattle.qs_script.specs.declared.tree.tree.StartedItem.{StartedItem}
+use Rattle.qs_script.specs.declared.tree.tree.ClientItem.{ClientItem}
 use Rattle.qs_script.specs.declared.tree.tree.TemplateItem.{TemplateItem}
+use Rattle.qs_script.specs.declared.tree.tree.StartedItem.{StartedItem}
 use Rattle.qs_script.specs.declared.tree.tree.Item.{Item}
 use Rattle.qs_script.specs.declared.tree.tree.Item.TheVariants.{Object, Client, Template, Started}
+use Rattle.qs_objects.specs.declared.object.Kind.{Kind}
 use Rattle.qs_program.specs.declared.program.Declared.{Declared}
 use Rattle.qs_program.specs.audit.Limits.{most_clients, most_objects, most_variables}
 use Rattle.qs_program.specs.audit.Kinds.{same_kind}
@@ -29,8 +30,7 @@ use Rattle.qs_check.proofs.fault_places.ScopesInBlocks.{Stays, InBlock, stays, b
 
 fine_kind : (k : KindText) → InBlock (kind_places k)
 fine_kind (Account n) = tt
-fine_kind (Buffer n) = tt
-fine_kind (Grid r c) = tt
+fine_kind _ = tt
 
 -- after an object's declaration
 pub object_stays : (s t : Scope) (o : ObjectItem) → scope_or_fault s (item_places (Object o)) ≡ Ok t → (length s.objects < most_objects) × Stays (with_object s o.name (kind_of o.kind)) t
@@ -91,10 +91,6 @@ some_if : {A : Type 0} (b : Bool) (x : A) → b ≡ true → IsSome (if b then S
 some_if true x h = refl
 some_if false x h = cc
 
-true_and : (a b : Bool) → a ≡ true → b ≡ true → (a && b) ≡ true
-true_and true b h k = k
-true_and false b h k = h
-
 -- a kind's numbers are in range
 kind_starts : (s t : Scope) (k : KindText) → scope_or_fault s (kind_places k) ≡ Ok t → IsSome (starts (kind_of k))
 kind_starts s t (Account n) h =
@@ -104,7 +100,7 @@ kind_starts s t (Buffer n) h =
 kind_starts s t (Grid r c) h =
     let w = split s t (number 1 16 r) (number 1 16 c ∷ []) h in
     let v = split w.0 t (number 1 16 c) [] w.2 in
-    some_if _ _ (true_and _ _ (both 1 16 r w.1.0 w.1.1) (both 1 16 c v.1.0 v.1.1))
+    some_if _ _ (and_from _ _ (both 1 16 r w.1.0 w.1.1) (both 1 16 c v.1.0 v.1.1))
 
 object_starts : (s t : Scope) (o : ObjectItem) → scope_or_fault s (item_places (Object o)) ≡ Ok t → IsSome (starts (kind_of o.kind))
 object_starts s t o h = let w = split s t (object o.name (kind_of o.kind)) (kind_places o.kind) h in kind_starts w.0 t o.kind w.2

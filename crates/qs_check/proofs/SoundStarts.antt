@@ -1,14 +1,13 @@
 -- A client of a template is sound where its template is well formed and each object that is given is declared and of
 -- its formal's kind. The soundness of whole programs stands on it. The template's blocks are sound over its formals,
 -- since its text is walked without a fault, and stay so once each formal stands for its object.
-use Rattle.std.proofs.Common.{◌≡◌, ℕ, zero, suc, ◌<◌, true, false, if◌then◌else◌, Bool, List, [], ◌∷◌, ◌++◌, length, map, slice_index_or, Option, Some, refl, ap, sym, ◌∙◌, subst, arith, append_assoc, length-append, pos}
-use Rattle.std.proofs.Math.ListN.{get_or-append}
+use Rattle.std.proofs.Common.{◌≡◌, ℕ, zero, suc, ◌<◌, true, false, if◌then◌else◌, Bool, List, [], ◌∷◌, ◌++◌, length, map, slice_index_or, Option, Some, refl, ap, sym, ◌∙◌, subst, arith, append_assoc}
 use Rattle.std.proofs.lemmas.List.{length-map}
-use Rattle.std.specs.List.{AllByRecursion, Contains, IsDistinct}
-use Rattle.qs_objects.specs.declared.object.Kind.TheVariants.{Account}
+use Rattle.std.specs.List.{AllByRecursion, IsDistinct}
+use Rattle.std.proofs.lemmas.List.Elements.{Contains-append_left}
 use Rattle.qs_script.specs.declared.tree.tree.Formal.{Formal}
-use Rattle.qs_script.specs.declared.tree.tree.StartedItem.{StartedItem}
 use Rattle.qs_script.specs.declared.tree.tree.TemplateItem.{TemplateItem}
+use Rattle.qs_script.specs.declared.tree.tree.StartedItem.{StartedItem}
 use Rattle.qs_script.specs.declared.tree.tree.Item.{Item}
 use Rattle.qs_script.specs.declared.tree.tree.Item.TheVariants.{Object, Client, Template, Started}
 use Rattle.qs_program.specs.declared.program.Declared.{Declared}
@@ -23,17 +22,12 @@ use Rattle.qs_check.specs.audit.fault_places.Variables.{variables_of}
 use Rattle.qs_check.specs.audit.resolution.Resolve.{as_client, binding_of, block_shape, declared_formals, objects_of, own_client, started_of, template_called, templates_in}
 use Rattle.qs_check.specs.WellFormed.{AreGiven, AreItems, IsWellFormedTemplate}
 use Rattle.qs_check.proofs.binding.BoundTexts.{sound_bounds}
-use Rattle.qs_check.proofs.SoundStatements.{Known}
+use Rattle.qs_check.proofs.SoundStatements.{Known, kind_at}
 use Rattle.qs_check.proofs.resolution.Scopes.{names, kinds}
 use Rattle.qs_check.proofs.Soundness.{AreStartsSound, sound_blocks}
 use Rattle.qs_check.proofs.Starts.{one_match, given_to}
 use Rattle.qs_check.proofs.TemplateTexts.{text_to, text_walked}
 use Rattle.qs_check.proofs.resolution.TemplateFormals.{formals_scope}
-
-kind_at : (D : List Declared) (i : ℕ) → (slice_index_or D i no_object).kind ≡ slice_index_or (kinds D) i (Account (pos 0))
-kind_at [] i = refl
-kind_at (o ∷ D) zero = refl
-kind_at (o ∷ D) (suc i) = kind_at D i
 
 abbrev declared : Formal → Declared
 declared x = record { name = x.name; kind = formal_kind x.kind }
@@ -41,19 +35,17 @@ declared x = record { name = x.name; kind = formal_kind x.kind }
 module _ (D : List Declared) (distinct : IsDistinct same_name (names D)) where
   given_inside : (fs : List Formal) (os : List Name) → AreGiven D fs os → AllByRecursion (λ h. h < length D) (map (found_at (names D)) os)
   given_inside [] [] h = tt
-  given_inside [] (o ∷ os) h = absurd h
-  given_inside (x ∷ fs) [] h = absurd h
   given_inside (x ∷ fs) (o ∷ os) h =
       (omega (arith, found_within (names D) o (one_match D distinct x o h.0).0, length-map D (λ (d : Declared). d.name)), given_inside fs os h.1)
+  given_inside _ _ h = absurd h
 
   given_kinds : (fs : List Formal) (os : List Name) → AreGiven D fs os → (i : ℕ) → i < length (declared_formals fs)
       → same_kind (slice_index_or (declared_formals fs) i no_object).kind (slice_index_or D (slice_index_or (map (found_at (names D)) os) i 0) no_object).kind ≡ true
   given_kinds [] [] h i within = absurd (omega arith)
-  given_kinds [] (o ∷ os) h i within = absurd h
-  given_kinds (x ∷ fs) [] h i within = absurd h
   given_kinds (x ∷ fs) (o ∷ os) h zero within =
       ap (same_kind (slice_index_or (declared_formals (x ∷ fs)) zero no_object).kind) (kind_at D (found_at (names D) o)) ∙ (one_match D distinct x o h.0).1
   given_kinds (x ∷ fs) (o ∷ os) h (suc i) within = given_kinds fs os h.1 i (omega arith)
+  given_kinds _ _ h i within = absurd h
 
   pub sound_start : (t : TemplateItem) (c : StartedItem) → IsWellFormedTemplate t → AreGiven D t.formals c.objects → IsSoundClient D (started_of (names D) (Some t) c)
   sound_start t c well given =
@@ -99,17 +91,13 @@ all_with (u ∷ S) t h k = (h.0, all_with S t h.1 k)
 
 -- ---- objects that are declared later change nothing
 
-declared_more : (D more : List Declared) (d : Declared) → Contains D d → Contains (D ++ more) d
-declared_more D more d (i, within, e) = (i, omega (arith, within, length-append D more), get_or-append D more d i within ∙ e)
-
 given_more : (D more : List Declared) (fs : List Formal) (os : List Name) → AreGiven D fs os → AreGiven (D ++ more) fs os
 given_more D more [] [] h = tt
-given_more D more [] (o ∷ os) h = absurd h
-given_more D more (x ∷ fs) [] h = absurd h
 given_more D more (x ∷ fs) (o ∷ os) h = (
-  record { kind = h.0.kind; declares = declared_more D more (record { name = o; kind = h.0.kind }) h.0.declares; same = h.0.same },
+  record { kind = h.0.kind; declares = Contains-append_left D more (record { name = o; kind = h.0.kind }) h.0.declares; same = h.0.same },
   given_more D more fs os h.1,
 )
+given_more D more _ _ h = absurd h
 
 -- all clients of templates are sound, where D are all objects and T all templates
 module _ (D : List Declared) (T : List TemplateItem) (distinct : IsDistinct same_name (names D)) where

@@ -2,7 +2,7 @@
 -- and the right number of arguments, so the statements by number are sound. The soundness of blocks and of whole
 -- programs stands on `sound_body`. It goes by induction on the statements, and reads each fact off the place that was
 -- passed without a fault.
-use Rattle.std.proofs.Common.{◌≡◌, ℕ, zero, suc, ◌≤◌, rules, Bool, true, false, List, [], ◌∷◌, ◌++◌, length, map, slice_index_or, Option, Some, None, refl, ap, sym, ◌∙◌, subst, arith, Ok, pos, if◌then◌else◌}
+use Rattle.std.proofs.Common.{◌≡◌, ℕ, suc, ◌≤◌, rules, Bool, true, false, List, [], ◌∷◌, ◌++◌, length, map, slice_index_or, Option, Some, None, refl, ap, sym, ◌∙◌, subst, arith, Ok, pos, if◌then◌else◌}
 use Rattle.std.proofs.lemmas.Bool.Decides.{nat_tests}
 use Rattle.std.proofs.lemmas.List.{length-map}
 use Rattle.std.specs.List.{AllByRecursion}
@@ -13,8 +13,8 @@ use Rattle.qs_objects.specs.audit.Operations.{is_query, arity, operations_of, wo
 use Rattle.qs_objects.specs.Operations.{fits}
 use Rattle.qs_script.specs.declared.tree.tree.Atom as text
 use Rattle.qs_script.specs.declared.tree.tree.Atom.TheVariants.{Variable, Number}
-use Rattle.qs_script.specs.declared.tree.tree.Expr as text_expr
 use Rattle.qs_script.specs.declared.tree.tree.Expr.TheVariants.{Plain, Binary}
+use Rattle.qs_script.specs.declared.tree.tree.Expr as text_expr
 use Rattle.qs_script.specs.declared.tree.tree.Test as text_test
 use Rattle.qs_script.specs.declared.tree.tree.Call as text_call
 use Rattle.qs_script.specs.audit.tree.Tree as tree
@@ -41,8 +41,7 @@ by_tests : (P : Op → Type 0) (m s : Bool) (op : Op) (others : Option Op)
     → is_known (if m then if s then Some op else others else others) ≡ true
     → P (op_or_refused (if m then if s then Some op else others else others))
 by_tests P true true op others here later h = here refl
-by_tests P true false op others here later h = later h
-by_tests P false s op others here later h = later h
+by_tests P _ _ op others here later h = later h
 
 asked : (asks : Bool) (op : Op) → is_meant asks op ≡ true → is_query op ≡ asks
 asked = search rules
@@ -64,10 +63,9 @@ taken : (found : Option Op) (n : ℕ) → takes found n ≡ true → n ≡ arity
 taken None n h = absurd (cc)
 taken (Some op) n h = let e : arity op ≡ n = grind (arith, nat_tests) in sym e
 
-kind_at : (D : List Declared) (i : ℕ) → (slice_index_or D i no_object).kind ≡ slice_index_or (map (λ (o : Declared). o.kind) D) i (Account (pos 0))
-kind_at [] i = refl
-kind_at (o ∷ D) zero = refl
+pub kind_at : (D : List Declared) (i : ℕ) → (slice_index_or D i no_object).kind ≡ slice_index_or (map (λ (o : Declared). o.kind) D) i (Account (pos 0))
 kind_at (o ∷ D) (suc i) = kind_at D i
+kind_at _ _ = refl
 
 module _ (D : List Declared) where
   -- the objects so far have the same kinds at the end

@@ -3,17 +3,18 @@
 use Rattle.std.proofs.Common.{◌≡◌, ◌≤◌, Bool, true, false, ◌||◌, List, [], ◌∷◌, ◌++◌, length, map, Option, Some, None, append_assoc, refl, ap, sym, ◌∙◌, subst, arith, Ok, Err}
 use Rattle.std.proofs.lemmas.List.{length-map}
 use Rattle.std.specs.List.{AllByRecursion, IsDistinct}
+use Rattle.std.proofs.lemmas.Bool.{or_right}
 use Rattle.qs_objects.specs.declared.object.Kind.{Kind}
 use Rattle.qs_script.specs.tree.Form.{HasForm}
 use Rattle.qs_script.specs.declared.tree.tree.Atom as text
 use Rattle.qs_script.specs.declared.tree.tree.Atom.TheVariants.{Variable, Number}
-use Rattle.qs_script.specs.declared.tree.tree.Block as text_block
-use Rattle.qs_script.specs.declared.tree.tree.StartedItem.{StartedItem}
-use Rattle.qs_script.specs.declared.tree.tree.TemplateItem.{TemplateItem}
-use Rattle.qs_script.specs.declared.tree.tree.Expr as text_expr
 use Rattle.qs_script.specs.declared.tree.tree.Expr.TheVariants.{Plain, Binary}
+use Rattle.qs_script.specs.declared.tree.tree.TemplateItem.{TemplateItem}
+use Rattle.qs_script.specs.declared.tree.tree.StartedItem.{StartedItem}
 use Rattle.qs_script.specs.declared.tree.tree.Item.{Item}
 use Rattle.qs_script.specs.declared.tree.tree.Item.TheVariants.{Object, Client, Template, Started}
+use Rattle.qs_script.specs.declared.tree.tree.Block as text_block
+use Rattle.qs_script.specs.declared.tree.tree.Expr as text_expr
 use Rattle.qs_script.specs.audit.tree.Tree as tree
 use Rattle.qs_program.specs.declared.program.Declared.{Declared}
 use Rattle.qs_check.specs.audit.Checked.{first_fault, fault_of, excess_of}
@@ -25,7 +26,7 @@ use Rattle.qs_check.specs.audit.fault_places.Variables.{variables_of}
 use Rattle.qs_check.specs.audit.resolution.Resolve.{as_client, atom_of, binding_of, expr_of, body_of, block_shape, clients_of, declared_formals, names_of, kinds_of, objects_of, own_client, started_of, template_called, templates_in, program_of_items}
 use Rattle.qs_program.specs.Sound.{IsAtomBelow, IsExprBelow, AreVariablesBelow, AreLeavesInside, IsFormedBlock, IsFormedClient, AreNamesApart, IsFormedProgram, IsSound}
 use Rattle.qs_check.specs.WellFormed.{atom_names, atoms_names, expr_names, test_names, variables_in, variables_in_all, AreStatements, AreItems, IsWellFormedBlock, IsWellFormedTemplate, client_names, IsWellFormed}
-use Rattle.qs_program.proofs.Found.{found_within, or_true, same_name-refl}
+use Rattle.qs_program.proofs.Found.{found_within, same_name-refl}
 use Rattle.qs_program.specs.audit.Limits.{most_requests, most_steps}
 use Rattle.qs_check.proofs.resolution.Resolving.{levels_same}
 use Rattle.qs_check.proofs.binding.BoundTexts.{formed_bounds}
@@ -114,7 +115,7 @@ module _ (N : List Name) (K : List Kind) (V : List Name) where
 -- names are among themselves
 among_more : (y : Name) (ys xs : List Name) → AllByRecursion (λ x. is_among ys x ≡ true) xs → AllByRecursion (λ x. is_among (y ∷ ys) x ≡ true) xs
 among_more y ys [] h = tt
-among_more y ys (x ∷ xs) h = (or_true (same_name x y) (is_among ys x) h.0, among_more y ys xs h.1)
+among_more y ys (x ∷ xs) h = (or_right (same_name x y) (is_among ys x) h.0, among_more y ys xs h.1)
 
 among_themselves : (xs : List Name) → AllByRecursion (λ x. is_among xs x ≡ true) xs
 among_themselves [] = tt

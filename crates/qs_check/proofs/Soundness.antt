@@ -6,6 +6,7 @@ use Rattle.std.proofs.Math.ListN.{get_or-append}
 use Rattle.std.proofs.lemmas.List.{length-map}
 use Rattle.std.specs.Cmp.Lexicographic.{same_text}
 use Rattle.std.specs.List.{AllByRecursion, IsDistinct}
+use Rattle.std.proofs.lemmas.Bool.{or_right}
 use Rattle.qs_objects.specs.declared.object.Kind.{Kind}
 use Rattle.qs_objects.specs.declared.object.Kind.TheVariants.{Account}
 use Rattle.qs_script.specs.declared.tree.tree.Block.{Block}
@@ -24,7 +25,7 @@ use Rattle.qs_check.specs.resolution.Resolve.{variable_lists}
 use Rattle.qs_check.specs.WellFormed.{client_names}
 use Rattle.qs_program.specs.audit.Sound.{is_in}
 use Rattle.qs_program.specs.Sound.{IsSoundBlock, IsSoundClient, IsFormedProgram, IsSound}
-use Rattle.qs_program.proofs.Found.{apart, same, false_not_true, or_true, is_among-append, is_among-last, found_within, found_append, found_apart}
+use Rattle.qs_program.proofs.Found.{apart, same, false_not_true, is_among-append, is_among-last, found_within, found_append, found_apart}
 use Rattle.qs_program.specs.audit.Limits.{most_objects, most_requests, most_steps, most_variables}
 use Rattle.qs_check.proofs.fault_places.Inner.{parted}
 use Rattle.qs_check.proofs.fault_places.ScopesInBlocks.{block_stays, blocks_stay}
@@ -49,7 +50,7 @@ list_kept (n ∷ ns) s t h =
 
 either : (b first later rest : Bool) → (b ≡ true → first ≡ true) → (later ≡ true → rest ≡ true) → (b || later) ≡ true → (first || rest) ≡ true
 either true first later rest f g h = ap (λ x. x || rest) (f refl)
-either false first later rest f g h = or_true first rest (g h)
+either false first later rest f g h = or_right first rest (g h)
 
 module _ (D : List Declared) where
   known_within : (ks : List Kind) (os : List Name) → Known D os ks → (n : Name) → is_among os n ≡ true → found_at (names D) n < length D

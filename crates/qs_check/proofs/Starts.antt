@@ -1,15 +1,14 @@
 -- A client of a template is walked without a fault exactly where its template is declared before it, and each object
 -- that is given is declared and of its formal's kind. The proof that well-formed scripts are those without a fault
 -- needs both directions. Both go by induction on the formals, beside the objects that are given for them.
-use Rattle.std.proofs.Common.{◌≡◌, ℕ, suc, ◌<◌, Bool, true, false, ◌||◌, nat_eq, List, [], ◌∷◌, ◌++◌, length, get_or, slice_index_or, Option, Some, None, refl, ap, sym, ◌∙◌, subst, arith, Ok, Err, pos, if◌then◌else◌}
-use Rattle.std.proofs.lemmas.Bool.Decides.{nat_tests}
+use Rattle.std.proofs.Common.{◌≡◌, ℕ, suc, ◌<◌, Bool, true, false, ◌||◌, nat_eq, List, [], ◌∷◌, ◌++◌, length, get_or, slice_index_or, Option, Some, None, refl, ap, sym, ◌∙◌, subst, arith, Ok, Err, pos, if◌then◌else◌, eq-eqb}
 use Rattle.std.proofs.lemmas.List.{length-map}
 use Rattle.std.specs.List.{IsDistinct, position_or_len}
 use Rattle.qs_objects.specs.declared.object.Kind.{Kind}
 use Rattle.qs_objects.specs.declared.object.Kind.TheVariants.{Account}
 use Rattle.qs_script.specs.declared.tree.tree.Formal.{Formal}
-use Rattle.qs_script.specs.declared.tree.tree.StartedItem.{StartedItem}
 use Rattle.qs_script.specs.declared.tree.tree.TemplateItem.{TemplateItem}
+use Rattle.qs_script.specs.declared.tree.tree.StartedItem.{StartedItem}
 use Rattle.qs_program.specs.declared.program.Declared.{Declared}
 use Rattle.qs_program.specs.audit.Kinds.{same_kind}
 use Rattle.qs_program.specs.audit.Numbering.{Name, same_name, is_among, found_at}
@@ -86,10 +85,9 @@ module _ (D : List Declared) where
 
   given_from : (fs : List Formal) (os : List Name) → length fs ≡ length os → AllMatch (names D) (kinds D) (formal_kinds fs) 0 os → AreGiven D fs os
   given_from [] [] e h = tt
-  given_from [] (o ∷ os) e h = absurd (omega (arith, e))
-  given_from (x ∷ fs) [] e h = absurd (omega (arith, e))
   given_from (x ∷ fs) (o ∷ os) e h =
       (one_given x o h.0.0 h.0.1, given_from fs os (omega (arith, e)) (shifted (formal_kind x.kind) (formal_kinds fs) 0 os h.1))
+  given_from _ _ e h = absurd (omega (arith, e))
 
   module _ (distinct : IsDistinct same_name (names D)) where
     pub one_match : (x : Formal) (o : Name) → IsGiven D x o → (is_among (names D) o ≡ true) × (same_kind (formal_kind x.kind) (kind_in (kinds D) (found_at (names D) o)) ≡ true)
@@ -107,11 +105,10 @@ module _ (D : List Declared) where
 
     pub given_to : (fs : List Formal) (os : List Name) → AreGiven D fs os → (length fs ≡ length os) × AllMatch (names D) (kinds D) (formal_kinds fs) 0 os
     given_to [] [] h = (refl, tt)
-    given_to [] (o ∷ os) h = absurd h
-    given_to (x ∷ fs) [] h = absurd h
     given_to (x ∷ fs) (o ∷ os) h =
         let more = given_to fs os h.1 in
         (ap suc more.0, (one_match x o h.0, raised (formal_kind x.kind) (formal_kinds fs) 0 os more.1))
+    given_to _ _ h = absurd h
 
 -- ---- the places of a client of a template
 
@@ -142,9 +139,6 @@ module _ (D : List Declared) (T : List TemplateItem) where
         ∙ then_step (is_given s n i o) s (Ok s) f.OtherKind h.0.1)
         (given_met n (suc i) os ps h.1)
 
-    same_count : (a b : ℕ) → a ≡ b → nat_eq a b ≡ true
-    same_count a b h = grind (arith, nat_tests)
-
     same_template : (t u : TemplateItem) (r : Option TemplateItem) → r ≡ Some t → r ≡ Some u → t ≡ u
     same_template t u None p q = cc
     same_template t u (Some v) p q = cc
@@ -162,5 +156,5 @@ module _ (D : List Declared) (T : List TemplateItem) where
         let P : List Kind → Type 0 = λ ks. AllMatch (names D) (kinds D) ks 0 c.objects in
         leads s s (starts n (length c.objects)) (given_places n 0 c.objects ++ ps) (scope_or_fault s ps)
         (then_step (is_among (template_names T) n) s (if nat_eq (length (formals_at (template_names T) (template_formals T) n)) (length c.objects) then Ok s else Err f.Count) f.UnknownTemplate known
-        ∙ then_step (nat_eq (length (formals_at (template_names T) (template_formals T) n)) (length c.objects)) s (Ok s) f.Count (same_count _ _ count))
+        ∙ then_step (nat_eq (length (formals_at (template_names T) (template_formals T) n)) (length c.objects)) s (Ok s) f.Count (eq-eqb _ _ count))
         (given_met n 0 c.objects ps (subst P (sym formals) g.1))

@@ -1,9 +1,10 @@
 -- A template's formals and blocks are walked by themselves without a fault exactly where the template is well formed.
 -- The proof that well-formed scripts are those without a fault needs both directions. Formals are walked as objects, by
 -- induction on their list; then the blocks are those of a client that has these objects.
-use Rattle.std.proofs.Common.{◌≡◌, ℕ, ◌+◌, ◌<◌, ◌≤◌, false, true, nat_lt, List, [], ◌∷◌, ◌++◌, length, None, refl, ap, sym, ◌∙◌, subst, arith, append_assoc, append-nil, Ok, Err, if◌then◌else◌}
+use Rattle.std.proofs.Common.{◌≡◌, ℕ, ◌+◌, ◌<◌, ◌≤◌, false, true, nat_lt, List, [], ◌∷◌, ◌++◌, length, None, refl, ap, sym, ◌∙◌, subst, arith, append_assoc, append-nil, Ok, Err, if◌then◌else◌, lt-ltb}
 use Rattle.std.proofs.lemmas.Map.Made.{is_member-Decides}
 use Rattle.std.specs.List.{AllByRecursion, IsDistinct}
+use Rattle.std.proofs.lemmas.List.{length_push}
 use Rattle.qs_script.specs.tree.Form.{IsFormed}
 use Rattle.qs_script.specs.declared.tree.tree.Block.{Block}
 use Rattle.qs_script.specs.declared.tree.tree.Formal.{Formal}
@@ -17,7 +18,7 @@ use Rattle.qs_check.specs.audit.fault_places.Places.{Scope, ScopeOrFault, object
 use Rattle.qs_check.specs.audit.fault_places.Variables.{variables_of}
 use Rattle.qs_check.specs.audit.resolution.Resolve.{as_client, declared_formals}
 use Rattle.qs_check.specs.WellFormed.{IsDeclared, IsWellFormedBlock, IsWellFormedTemplate}
-use Rattle.qs_check.proofs.fault_places.FinePlaces.{then_step, else_step, below, again, leads}
+use Rattle.qs_check.proofs.fault_places.FinePlaces.{then_step, else_step, again, leads}
 use Rattle.qs_check.proofs.fault_places.Inner.{parted}
 use Rattle.qs_check.proofs.fault_places.ScopesInBlocks.{blocks_stay}
 use Rattle.qs_check.proofs.resolution.Scopes.{names, kinds, scope, template_names, template_formals, names_with, grown}
@@ -74,17 +75,13 @@ formals_to (x ∷ fs) D fresh few =
     let Q : List Name → Type 0 = λ ns. Fresh ns (formal_names fs) in
     let with_name = names_with D (declared x) in
     let room : length (names D) < most_objects = omega arith in
-    let fewer : length (names E) + length fs ≤ most_objects = omega (arith, few, ap length (sym with_name), length_last (names D) x.name) in
+    let fewer : length (names E) + length fs ≤ most_objects = omega (arith, few, ap length (sym with_name), length_push (names D) x.name) in
     leads s u (object x.name (formal_kind x.kind)) (formals_places fs) (Ok (formals_scope (D ++ declared_formals (x ∷ fs))))
     (else_step (is_among (names D) x.name) (if nat_lt (length (names D)) most_objects then Ok u else Err f.Limit) f.Twice w.0
-    ∙ then_step (nat_lt (length (names D)) most_objects) s (Ok u) f.Limit (below (length (names D)) 8 room))
+    ∙ then_step (nat_lt (length (names D)) most_objects) s (Ok u) f.Limit (lt-ltb (length (names D)) 8 room))
     (ap (λ v. scope_or_fault v (formals_places fs)) (grown D [] [] 0 [] [] (declared x))
     ∙ formals_to fs E (subst Q with_name w.1) fewer
     ∙ ap (λ F. Ok (formals_scope F)) (append_assoc D (declared x ∷ []) (declared_formals fs)))
-  where
-    length_last : (ns : List Name) (n : Name) → length (ns ++ n ∷ []) ≡ length ns + 1
-    length_last [] n = refl
-    length_last (m ∷ ns) n = omega (arith, length_last ns n)
 
 -- ---- the text of a template
 
@@ -146,11 +143,10 @@ formals_apart t well = let P : List Name → Type 0 = λ ns. IsDistinct same_nam
 pub text_to : (t : TemplateItem) → IsWellFormedTemplate t → (u : Scope) × (scope_or_fault start (text_places t) ≡ Ok u)
 text_to t well =
     let F = declared_formals t.formals in
-    let s = formals_scope F in
     let g = formals_to t.formals [] (unseen (formal_names t.formals), well.apart) (omega (arith, well.formals)) in
     let small : length (variables_of (as_client t)) ≤ most_variables = omega (arith, well.client.variables, count_variables (as_client t)) in
     let b = blocks_to F [] [] (formals_apart t well) t.blocks 0 [] [] (omega (arith, well.client.blocks)) small (right_blocks F t.blocks well.client.each) in
-    (b.0, met-then start s (formals_places t.formals) (blocks_places t.blocks) g ∙ b.1)
+    (b.0, met-then start (formals_scope F) (formals_places t.formals) (blocks_places t.blocks) g ∙ b.1)
 
 pub template_to : (t : TemplateItem) → IsWellFormedTemplate t → fault_of_text t ≡ None
 template_to t well = ap fault_in (text_to t well).1

@@ -1,6 +1,6 @@
 -- Blocks are walked without a fault exactly where they are right: their lists, their statements, their number and their
 -- variables.
-use Rattle.std.proofs.Common.{◌≡◌, ℕ, ◌+◌, ◌<◌, ◌≤◌, true, false, nat_lt, List, [], ◌∷◌, ◌++◌, length, refl, ap, sym, ◌∙◌, arith, append_assoc, append-nil, Ok, Err, if◌then◌else◌}
+use Rattle.std.proofs.Common.{◌≡◌, ℕ, ◌+◌, ◌<◌, ◌≤◌, true, false, nat_lt, List, [], ◌∷◌, ◌++◌, length, refl, ap, sym, ◌∙◌, arith, append_assoc, append-nil, Ok, Err, if◌then◌else◌, lt-ltb}
 use Rattle.std.specs.List.{AllByRecursion, IsDistinct}
 use Rattle.qs_script.specs.declared.tree.tree.Block.{Block}
 use Rattle.qs_script.specs.declared.tree.tree.TemplateItem.{TemplateItem}
@@ -11,7 +11,7 @@ use Rattle.qs_program.specs.audit.Limits.{most_blocks, most_variables}
 use Rattle.qs_check.specs.audit.fault_places.Places.{Scope, listed, separate, scope_or_fault, places, listed_places, block_places, blocks_places, with_listed}
 use Rattle.qs_check.specs.audit.fault_places.Variables.{variables_at}
 use Rattle.qs_check.specs.WellFormed.{AreStatements, variables_in_all}
-use Rattle.qs_check.proofs.fault_places.FinePlaces.{then_step, else_step, below, again, leads, named_more, are_fine, fine_met}
+use Rattle.qs_check.proofs.fault_places.FinePlaces.{then_step, else_step, again, leads, named_more, are_fine, fine_met}
 use Rattle.qs_check.proofs.fault_places.Inner.{parted, inner_body, kept}
 use Rattle.qs_check.proofs.resolution.Scopes.{names, scope}
 use Rattle.qs_check.proofs.Soundness.{with_list, listed_first, list_kept}
@@ -76,8 +76,7 @@ module _ (D : List Declared) (T : List TemplateItem) (C : List Name) where
 
       pub scope_after : t ≡ scope D T C (n + 1) (variables_at V (block_places b)) b.reserved
       scope_after =
-          let w = body_met in
-          kept listing t (places false b.body) (inner_body false b.body) w.1
+          kept listing t (places false b.body) (inner_body false b.body) body_met.1
           ∙ ap (with_names listing) (variables_met (scope D T C n V R) t (block_places b) h)
 
     module _ (distinct : IsDistinct same_name (names D)) (right : IsRight D b) (room : n < most_blocks) (few : length (variables_at V (block_places b)) ≤ most_variables) where
@@ -94,7 +93,7 @@ module _ (D : List Declared) (T : List TemplateItem) (C : List Name) where
           let small : length (variables_at V (places false b.body)) ≤ most_variables = omega (arith, few, ap length names_are) in
           let body = fine_met listing (places false b.body) (inner_body false b.body) (statements_to D b.reserved distinct false b.body right.statements) small in
           leads (scope D T C n V R) scope_in_block separate (listed_places b.reserved ++ places false b.body) _
-          (then_step (nat_lt n most_blocks) scope_in_block (Ok scope_in_block) f.Limit (below n 64 room))
+          (then_step (nat_lt n most_blocks) scope_in_block (Ok scope_in_block) f.Limit (lt-ltb n 64 room))
           (met-then scope_in_block listing (listed_places b.reserved) (places false b.body) list_met ∙ body ∙ ap (λ v. Ok (with_names listing v)) (sym names_are))
 
   pub blocks_from : (bs : List Block) (n : ℕ) (V R : List Name) (t : Scope) → scope_or_fault (scope D T C n V R) (blocks_places bs) ≡ Ok t → AllByRecursion (IsRight D) bs

@@ -2,14 +2,14 @@
 -- it has, each repeat's count is in range, and each leave stands in a repeat. The proof that well-formed scripts are
 -- those without a fault needs both directions. Each goes by induction on the statements, and uses that no two objects
 -- have the same name.
-use Rattle.std.proofs.Common.{◌≡◌, ℕ, zero, suc, ◌+◌, ◌<◌, Bool, true, false, not, ◌||◌, cond, List, [], ◌∷◌, ◌++◌, length, get_or, slice_index_or, Option, Some, None, refl, ap, sym, ◌∙◌, arith, pos}
+use Rattle.std.proofs.Common.{◌≡◌, ℕ, zero, suc, ◌+◌, ◌<◌, Bool, true, false, not, ◌||◌, cond, List, [], ◌∷◌, ◌++◌, length, get_or, slice_index_or, Option, Some, None, refl, ap, sym, ◌∙◌, arith, pos, Decides}
 use Rattle.std.proofs.lemmas.Bool.Decides.{nat_tests}
 use Rattle.std.proofs.lemmas.Cmp.{nat_list_eq_equiv}
 use Rattle.std.proofs.lemmas.List.{length-map}
 use Rattle.std.proofs.lemmas.Map.Made.{is_member-Decides}
-use Rattle.std.specs.Bool.{Decides}
 use Rattle.std.specs.Cmp.Lexicographic.{same_text}
 use Rattle.std.specs.List.{AllByRecursion, IsDistinct, position_or_len}
+use Rattle.std.proofs.lemmas.Bool.{or_right}
 use Rattle.qs_objects.specs.declared.Op.{Op}
 use Rattle.qs_objects.specs.declared.object.Kind.TheVariants.{Account}
 use Rattle.qs_objects.specs.audit.Operations.{arity}
@@ -26,7 +26,7 @@ use Rattle.qs_program.specs.audit.Numbering.{Name, same_name, is_among, found_at
 use Rattle.qs_check.specs.audit.fault_places.Operators.{op_of}
 use Rattle.qs_check.specs.audit.fault_places.Places.{TextPlace, places, atom_places, atoms_places, expr_places, test_places, request_places, call_places, op_at, is_known, takes}
 use Rattle.qs_check.specs.WellFormed.{IsRequest, AreStatements}
-use Rattle.qs_program.proofs.Found.{name_at, found_is, found_within, or_true, same_name-refl}
+use Rattle.qs_program.proofs.Found.{name_at, found_is, found_within, same_name-refl}
 use Rattle.qs_check.proofs.fault_places.FinePlaces.{IsFine}
 use Rattle.qs_check.proofs.resolution.Scopes.{names, kinds}
 
@@ -51,7 +51,7 @@ module _ {A : Type 0} (P : A → Type 0) where
 pub among_at : (xs : List Name) (k : ℕ) → k < length xs → is_among xs (get_or xs k []) ≡ true
 among_at [] k within = absurd (omega arith)
 among_at (x ∷ xs) zero within = ap (λ b. b || is_among xs x) (same_name-refl x)
-among_at (x ∷ xs) (suc k) within = or_true (same_name (get_or xs k []) x) (is_among xs (get_or xs k [])) (among_at xs k (omega arith))
+among_at (x ∷ xs) (suc k) within = or_right (same_name (get_or xs k []) x) (is_among xs (get_or xs k [])) (among_at xs k (omega arith))
 
 pub place_later : (b : Bool) (i j : ℕ) → b ≡ false → i ≡ j → cond (not b) (1 + i) 0 ≡ suc j
 place_later true i j e f = cc

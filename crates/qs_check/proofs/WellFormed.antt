@@ -2,21 +2,21 @@
 -- `check` and the law on faultless scripts stand on it. One direction reads the facts off a walk without a fault, the
 -- other leads a walk through a well-formed script, both by induction on the items; then the load and the weight are
 -- compared.
-use Rattle.std.proofs.Common.{◌≡◌, ℕ, ◌+◌, ◌<◌, ◌≤◌, Bool, true, false, nat_lt, List, [], ◌∷◌, ◌++◌, length, Option, Some, None, refl, ap, sym, ◌∙◌, subst, arith, append_assoc, length-append, Result, Ok, Err, if◌then◌else◌, sum_by}
+use Rattle.std.proofs.Common.{◌≡◌, ℕ, ◌+◌, ◌<◌, ◌≤◌, Bool, false, nat_lt, List, [], ◌∷◌, ◌++◌, length, Option, Some, None, refl, ap, sym, ◌∙◌, subst, arith, append_assoc, length-append, Result, Ok, Err, if◌then◌else◌, sum_by, le-ltb, lt-ltb}
 use Rattle.std.proofs.lemmas.Bool.Decides.{nat_tests}
-use Rattle.std.proofs.lemmas.List.{length-map}
+use Rattle.std.proofs.lemmas.List.{length-map, length_push}
 use Rattle.std.proofs.lemmas.List.Sums.{sum_by-cons}
 use Rattle.std.specs.List.{AllByRecursion, IsDistinct}
 use Rattle.qs_objects.specs.declared.object.Kind.{Kind}
 use Rattle.qs_objects.specs.audit.Limits.{most_lines}
 use Rattle.qs_script.specs.tree.Form.{IsFormed, HasForm}
 use Rattle.qs_script.specs.declared.tree.tree.Block.{Block}
-use Rattle.qs_script.specs.declared.tree.tree.Item.{Item}
-use Rattle.qs_script.specs.declared.tree.tree.Item.TheVariants.{Object, Client, Template, Started}
 use Rattle.qs_script.specs.declared.tree.tree.KindText.{KindText}
 use Rattle.qs_script.specs.declared.tree.tree.KindText.TheVariants.{Account, Buffer, Grid}
 use Rattle.qs_script.specs.declared.tree.tree.ObjectItem.{ObjectItem}
 use Rattle.qs_script.specs.declared.tree.tree.TemplateItem.{TemplateItem}
+use Rattle.qs_script.specs.declared.tree.tree.Item.{Item}
+use Rattle.qs_script.specs.declared.tree.tree.Item.TheVariants.{Object, Client, Template, Started}
 use Rattle.qs_check.specs.declared.fault_places.fault.CheckFault.{CheckFault}
 use Rattle.qs_check.specs.declared.fault_places.fault.CheckFault.TheVariants as f
 use Rattle.qs_program.specs.declared.program.Declared.{Declared}
@@ -31,7 +31,7 @@ use Rattle.qs_check.specs.audit.fault_places.Variables.{variables_of}
 use Rattle.qs_check.specs.audit.resolution.Resolve.{objects_of, names_of, kinds_of, clients_of, client_shape, declared_formals, started_of, template_called, templates_in, program_of_items}
 use Rattle.qs_check.specs.TextLoads.{text_load, text_weight}
 use Rattle.qs_check.specs.WellFormed.{IsKindInRange, IsWellFormedBlock, IsWellFormedClient, AreItems, client_names, IsWellFormed, FaultlessAreWellFormed, AcceptsWellFormed}
-use Rattle.qs_check.proofs.fault_places.FinePlaces.{then_step, else_step, between, below, again, leads}
+use Rattle.qs_check.proofs.fault_places.FinePlaces.{then_step, else_step, between, again, leads}
 use Rattle.qs_check.proofs.fault_places.Inner.{parted}
 use Rattle.qs_check.proofs.fault_places.ScopesInBlocks.{blocks_stay}
 use Rattle.qs_check.proofs.Scripts.{few_variables, scripted, started_stays, template_stays}
@@ -119,10 +119,6 @@ items_from (Started c ∷ rest) D T C n V R t form h =
     let more = items_from rest D T (C ++ c.name ∷ []) 0 [] [] t form.1 (again u t w.0 (script_places rest) one.4 w.2) in
     ((started_from D T c one.1 one.2 one.3, more.0), more.1, fresh_more C c.name (client_names rest) one.5 more.2, more.3)
 
-length_last : (ns : List Name) (n : Name) → length (ns ++ n ∷ []) ≡ length ns + 1
-length_last [] n = refl
-length_last (m ∷ ns) n = omega (arith, length_last ns n)
-
 -- a script that is well formed is walked to its end
 items_to : (items : List Item) (D : List Declared) (T : List TemplateItem) (C : List Name) (n : ℕ) (V R : List Name) → IsDistinct same_name (names D) → Fresh (names D) (names_of items) → Fresh C (client_names items) → Fresh (template_names T) (template_names (templates_in items)) → length (names D) + length (names_of items) ≤ most_objects → length C + length (client_names items) ≤ most_clients → length T + length (templates_in items) ≤ most_templates → AreItems D T items → (t : Scope) × (scope_or_fault (scope D T C n V R) (script_places items) ≡ Ok t)
 items_to [] D T C n V R apart fresh others texts few few_clients few_texts each = (scope D T C n V R, refl)
@@ -135,12 +131,12 @@ items_to (Object o ∷ rest) D T C n V R apart fresh others texts few few_client
     let room : length (names D) < most_objects = omega arith in
     let u = with_object s o.name (kind_of o.kind) in
     let fewer : length (names (with_one D o)) + length (names_of rest) ≤ most_objects =
-    omega (arith, few, ap length (sym with_name), length_last (names D) o.name) in
+    omega (arith, few, ap length (sym with_name), length_push (names D) o.name) in
     let more = items_to rest (with_one D o) T C n V R (subst P with_name (distinct_last (names D) o.name apart w.0)) (subst Q with_name w.1) others texts fewer few_clients few_texts each in (
       more.0,
       leads s u (object o.name (kind_of o.kind)) (kind_places o.kind ++ script_places rest) (Ok more.0)
           (else_step (is_among (names D) o.name) (if nat_lt (length (names D)) most_objects then Ok u else Err f.Limit) f.Twice w.0
-          ∙ then_step (nat_lt (length (names D)) most_objects) s (Ok u) f.Limit (below (length (names D)) 8 room))
+          ∙ then_step (nat_lt (length (names D)) most_objects) s (Ok u) f.Limit (lt-ltb (length (names D)) 8 room))
           (met-then u u (kind_places o.kind) (script_places rest) (kind_to u o.kind kind) ∙ ap (λ v. scope_or_fault v (script_places rest)) (grown D T C n V R (declared_as o)) ∙ more.1),
     )
 items_to (Client c ∷ rest) D T C n V R apart fresh others texts few few_clients few_texts (one, each) =
@@ -150,12 +146,12 @@ items_to (Client c ∷ rest) D T C n V R apart fresh others texts few few_client
     let room : length C < most_clients = omega arith in
     let small : length (variables_of c) ≤ most_variables = omega (arith, one.variables, count_variables c) in
     let b = blocks_to D T (C ++ c.name ∷ []) apart c.blocks 0 [] [] (omega (arith, one.blocks)) small (right_blocks D c.blocks one.each) in
-    let fewer : length (C ++ c.name ∷ []) + length (client_names rest) ≤ most_clients = omega (arith, few_clients, length_last C c.name) in
+    let fewer : length (C ++ c.name ∷ []) + length (client_names rest) ≤ most_clients = omega (arith, few_clients, length_push C c.name) in
     let more = items_to rest D T (C ++ c.name ∷ []) b.2 (variables_of c) b.3 apart fresh w.1 texts few fewer few_texts each in (
       more.0,
       leads s begun (client c.name) (blocks_places c.blocks ++ script_places rest) (Ok more.0)
           (else_step (is_among C c.name) (if nat_lt (length C) most_clients then Ok begun else Err f.Limit) f.Twice w.0
-          ∙ then_step (nat_lt (length C) most_clients) s (Ok begun) f.Limit (below (length C) 8 room))
+          ∙ then_step (nat_lt (length C) most_clients) s (Ok begun) f.Limit (lt-ltb (length C) 8 room))
           (met-then begun b.0 (blocks_places c.blocks) (script_places rest) b.1 ∙ ap (λ v. scope_or_fault v (script_places rest)) b.4 ∙ more.1),
     )
 items_to (Template c ∷ rest) D T C n V R apart fresh others texts few few_clients few_texts (one, each) =
@@ -171,7 +167,7 @@ items_to (Template c ∷ rest) D T C n V R apart fresh others texts few few_clie
       more.0,
       leads s u (template c.name ks) (text (fault_of_text c) ∷ script_places rest) (Ok more.0)
           (else_step (is_among (template_names T) c.name) (if nat_lt (length (template_names T)) most_templates then Ok u else Err f.Limit) f.Twice w.0
-          ∙ then_step (nat_lt (length (template_names T)) most_templates) s (Ok u) f.Limit (below (length (template_names T)) 8 room))
+          ∙ then_step (nat_lt (length (template_names T)) most_templates) s (Ok u) f.Limit (lt-ltb (length (template_names T)) 8 room))
           (leads u u (text (fault_of_text c)) (script_places rest) (Ok more.0) (ap (λ x. unless_fault x u) (template_to c one))
           (ap (λ v. scope_or_fault v (script_places rest)) (with_last D T C n V R c) ∙ more.1)),
     )
@@ -180,12 +176,12 @@ items_to (Started c ∷ rest) D T C n V R apart fresh others texts few few_clien
     let w = fresh_rest C c.name (client_names rest) others in
     let begun = scope D T (C ++ c.name ∷ []) 0 [] [] in
     let room : length C < most_clients = omega arith in
-    let fewer : length (C ++ c.name ∷ []) + length (client_names rest) ≤ most_clients = omega (arith, few_clients, length_last C c.name) in
+    let fewer : length (C ++ c.name ∷ []) + length (client_names rest) ≤ most_clients = omega (arith, few_clients, length_push C c.name) in
     let more = items_to rest D T (C ++ c.name ∷ []) 0 [] [] apart fresh w.1 texts few fewer few_texts each in (
       more.0,
       leads s begun (client c.name) (starts c.template (length c.objects) ∷ (given_places c.template 0 c.objects ++ script_places rest)) (Ok more.0)
           (else_step (is_among C c.name) (if nat_lt (length C) most_clients then Ok begun else Err f.Limit) f.Twice w.0
-          ∙ then_step (nat_lt (length C) most_clients) s (Ok begun) f.Limit (below (length C) 8 room))
+          ∙ then_step (nat_lt (length C) most_clients) s (Ok begun) f.Limit (lt-ltb (length C) 8 room))
           (started_met D T (C ++ c.name ∷ []) apart c one (script_places rest) ∙ more.1),
     )
 
@@ -215,15 +211,11 @@ items_weights (Started c ∷ rest) T N K =
 
 -- limits of loads and weights
 no_excess : (l w : Bool) → (if l then Some f.Load else (if w then Some f.Weight else None)) ≡ None → (l ≡ false) × (w ≡ false)
-no_excess true w h = absurd (cc)
-no_excess false true h = absurd (cc)
 no_excess false false h = (refl, refl)
+no_excess _ _ h = absurd (cc)
 
 at_most : (limit n : ℕ) → nat_lt limit n ≡ false → n ≤ limit
 at_most limit n h = grind (arith, nat_tests)
-
-not_above : (limit n : ℕ) → n ≤ limit → nat_lt limit n ≡ false
-not_above limit n h = grind (arith, nat_tests)
 
 pub within_limits : (p : ProgramShape) → excess_of p ≡ None → (whole_load p ≤ most_requests) × (whole_weight p ≤ most_steps)
 within_limits p h =
@@ -231,7 +223,7 @@ within_limits p h =
     (at_most 100000 (whole_load p) w.0, at_most 1000000 (whole_weight p) w.1)
 
 pub no_fault_left : (p : ProgramShape) → whole_load p ≤ most_requests → whole_weight p ≤ most_steps → excess_of p ≡ None
-no_fault_left p h k = rw (not_above 100000 (whole_load p) h, not_above 1000000 (whole_weight p) k) refl
+no_fault_left p h k = rw (le-ltb 100000 (whole_load p) h, le-ltb 1000000 (whole_weight p) k) refl
 
 pub ends_well : (m : ScopeOrFault) (after : Option CheckFault) → first_fault m after ≡ None → (t : Scope) × (m ≡ Ok t) × (after ≡ None)
 ends_well (Ok t) after h = (t, refl, h)

@@ -4,9 +4,8 @@ pub mod audit
 pub mod Checked
 pub mod TextLoads
 pub mod WellFormed
--- What crates promise one another, what proofs use, and worked examples.
+-- What crates promise one another, and what proofs use.
 pub mod Excess
-pub mod CheckExamples
 pub mod fault_places
 pub mod resolution
 pub mod anchors

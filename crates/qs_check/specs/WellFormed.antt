@@ -14,10 +14,10 @@ use Rattle.qs_script.specs.declared.tree.tree.Call.{Call}
 use Rattle.qs_script.specs.declared.tree.tree.Block.{Block}
 use Rattle.qs_script.specs.declared.tree.tree.KindText.{KindText}
 use Rattle.qs_script.specs.declared.tree.tree.KindText.TheVariants.{Account, Buffer, Grid}
-use Rattle.qs_script.specs.declared.tree.tree.ClientItem.{ClientItem}
 use Rattle.qs_script.specs.declared.tree.tree.Formal.{Formal}
-use Rattle.qs_script.specs.declared.tree.tree.StartedItem.{StartedItem}
+use Rattle.qs_script.specs.declared.tree.tree.ClientItem.{ClientItem}
 use Rattle.qs_script.specs.declared.tree.tree.TemplateItem.{TemplateItem}
+use Rattle.qs_script.specs.declared.tree.tree.StartedItem.{StartedItem}
 use Rattle.qs_script.specs.declared.tree.tree.Item.{Item}
 use Rattle.qs_script.specs.declared.tree.tree.Item.TheVariants.{Object, Client, Template, Started}
 use Rattle.qs_script.specs.audit.tree.Tree.{Stmts, end, command, query, assign, choose, choose_else, again, leave}

@@ -1,7 +1,6 @@
 -- The anchor of a client's block is one of the script's anchors: it stands among those of the client's item. By
 -- induction on the items.
-use Rattle.std.proofs.Common.{◌≡◌, ◌<◌, ◌≤◌, ◌+◌, ℕ, zero, suc, Bool, true, false, List, [], ◌∷◌, ◌++◌, length, take, Option, Some, None, if◌then◌else◌, ap, arith, nat_lt, length-append}
-use Rattle.std.proofs.lemmas.Bool.Decides.{nat_tests}
+use Rattle.std.proofs.Common.{◌≡◌, ◌<◌, ◌+◌, ℕ, zero, suc, Bool, true, false, List, [], ◌∷◌, length, take, Some, None, if◌then◌else◌, arith, nat_lt, length-append, ltb-true}
 use Rattle.qs_script.specs.declared.tree.tree.Block.{Block}
 use Rattle.qs_script.specs.declared.tree.tree.Item.{Item}
 use Rattle.qs_script.specs.declared.tree.tree.Item.TheVariants.{Object, Client, Template, Started}
@@ -19,13 +18,10 @@ chosen : (is : Bool) (n m : ℕ) → (if is then Some n else None) ≡ Some m �
 chosen true n m h = (cc, cc)
 chosen false n m h = cc
 
-is_below : (k n : ℕ) → nat_lt k n ≡ true → k < n
-is_below k n h = grind (arith, nat_tests)
-
 own_within : (n : ℕ) (bs : List Block) (k m : ℕ) → own_number n bs k ≡ Some m → m < n + length (blocks_anchors bs) + 1
 own_within n bs k m h =
     let found = chosen (nat_lt k (length bs)) (n + length (blocks_anchors (take k bs)) + 1) m h in
-    omega (arith, found.1, fewer bs k (is_below k (length bs) found.0))
+    omega (arith, found.1, fewer bs k (ltb-true k (length bs) found.0))
 
 -- the numbers of the items after an item begin after its anchors
 after : (n : ℕ) (i : Item) (is : List Item) (m : ℕ) → m < n + length (item_anchors i) + length (script_anchors is) → m < n + length (script_anchors (i ∷ is))

@@ -4,11 +4,11 @@ use Rattle.std.proofs.Common.{◌≡◌, ℕ, suc, ◌+◌, List, [], ◌∷◌,
 use Rattle.qs_script.specs.declared.tree.tree.Atom.{Atom}
 use Rattle.qs_script.specs.declared.tree.tree.Atom.TheVariants.{Variable, Number}
 use Rattle.qs_script.specs.declared.tree.tree.Expr.{Expr}
-use Rattle.qs_script.specs.declared.tree.tree.Expr.TheVariants.{Plain, Binary}
+use Rattle.qs_script.specs.declared.tree.tree.Expr.TheVariants.{Binary, Plain}
 use Rattle.qs_script.specs.declared.tree.tree.Call.{Call}
 use Rattle.qs_script.specs.declared.tree.tree.Block.{Block}
 use Rattle.qs_script.specs.declared.tree.tree.KindText.{KindText}
-use Rattle.qs_script.specs.declared.tree.tree.KindText.TheVariants.{Account, Buffer, Grid}
+use Rattle.qs_script.specs.declared.tree.tree.KindText.TheVariants.{Account}
 use Rattle.qs_script.specs.declared.tree.tree.Formal.{Formal}
 use Rattle.qs_script.specs.declared.tree.tree.TemplateItem.{TemplateItem}
 use Rattle.qs_script.specs.declared.tree.tree.Item.{Item}
@@ -84,8 +84,7 @@ blocks (b ∷ bs) = joined (block_anchors b) (blocks_anchors bs) _ _ (block b) (
 
 kind : (k : KindText) → at_anchors (kind_anchors k) ≡ kind_places k
 kind (Account n) = refl
-kind (Buffer n) = refl
-kind (Grid r c) = refl
+kind _ = refl
 
 formals : (fs : List Formal) → at_anchors (map formal_anchor fs) ≡ formals_places fs
 formals [] = refl

@@ -2,25 +2,25 @@
 -- anchors first, and then those of the tokens after it.
 use Rattle.std.proofs.Common.{◌≡◌, ℕ, zero, suc, inl, inr, List, [], ◌∷◌, ◌++◌, Bool, true, false, map, refl, ap, sym, ◌∙◌, pos, neg_ℤ, unsigned_abs}
 use Rattle.qs_script.specs.declared.tokens.token.Token.{Token}
-use Rattle.qs_script.specs.declared.tokens.token.Token.TheVariants as t
 use Rattle.qs_script.specs.declared.tree.tree.Atom.{Atom}
 use Rattle.qs_script.specs.declared.tree.tree.Atom.TheVariants.{Variable, Number}
-use Rattle.qs_script.specs.declared.tree.tree.Operator.{Operator}
-use Rattle.qs_script.specs.declared.tree.tree.Operator.TheVariants as o
-use Rattle.qs_script.specs.declared.tree.tree.Relation.{Relation}
-use Rattle.qs_script.specs.declared.tree.tree.Relation.TheVariants as r
 use Rattle.qs_script.specs.declared.tree.tree.Expr.{Expr}
 use Rattle.qs_script.specs.declared.tree.tree.Expr.TheVariants.{Plain, Binary}
+use Rattle.qs_script.specs.declared.tree.tree.Operator.{Operator}
+use Rattle.qs_script.specs.declared.tree.tree.Relation.{Relation}
 use Rattle.qs_script.specs.declared.tree.tree.Test.{Test}
 use Rattle.qs_script.specs.declared.tree.tree.Call.{Call}
 use Rattle.qs_script.specs.declared.tree.tree.Block.{Block}
 use Rattle.qs_script.specs.declared.tree.tree.KindText.{KindText}
-use Rattle.qs_script.specs.declared.tree.tree.KindText.TheVariants.{Account, Buffer, Grid}
+use Rattle.qs_script.specs.declared.tree.tree.KindText.TheVariants.{Account}
 use Rattle.qs_script.specs.declared.tree.tree.KindWord.{KindWord}
-use Rattle.qs_script.specs.declared.tree.tree.KindWord.TheVariants as kind
 use Rattle.qs_script.specs.declared.tree.tree.Formal.{Formal}
 use Rattle.qs_script.specs.declared.tree.tree.Item.{Item}
 use Rattle.qs_script.specs.declared.tree.tree.Item.TheVariants.{Object, Client, Template, Started}
+use Rattle.qs_script.specs.declared.tokens.token.Token.TheVariants as t
+use Rattle.qs_script.specs.declared.tree.tree.Operator.TheVariants as o
+use Rattle.qs_script.specs.declared.tree.tree.Relation.TheVariants as r
+use Rattle.qs_script.specs.declared.tree.tree.KindWord.TheVariants as kind
 use Rattle.qs_script.specs.audit.tree.Limits.{most_levels}
 use Rattle.qs_script.specs.audit.tree.Tree.{Stmts, end, command, query, assign, choose, choose_else, again, leave}
 use Rattle.qs_script.specs.audit.grammar.Grammar.{IsAtom, AreMore, AreArgs, IsCall, operator_token, relation_token, IsExpr, IsTest, AreStmts, AreNames, AreSomeNames, IsBlock, AreBlocks, IsKind, kind_token, IsFormal, AreMoreFormals, AreFormals, AreMoreNames, AreGiven, IsItem, AreItems, IsScript}
@@ -62,16 +62,11 @@ call_tokens asks c ts rest (x, e, h) =
 -- operators and relations are no anchors
 operator_silent : (op : Operator) (ts : List Token) → anchors_in (operator_token op ∷ ts) ≡ anchors_in ts
 operator_silent o.Plus ts = refl
-operator_silent o.Minus ts = refl
-operator_silent o.Times ts = refl
+operator_silent _ ts = refl
 
 relation_silent : (rel : Relation) (ts : List Token) → anchors_in (relation_token rel ∷ ts) ≡ anchors_in ts
 relation_silent r.Equal ts = refl
-relation_silent r.Unequal ts = refl
-relation_silent r.Less ts = refl
-relation_silent r.AtMost ts = refl
-relation_silent r.Greater ts = refl
-relation_silent r.AtLeast ts = refl
+relation_silent _ ts = refl
 
 expr_tokens : (e : Expr) (ts rest : List Token) → IsExpr e ts rest → anchors_in ts ≡ map anchor_token (expr_anchors e) ++ anchors_in rest
 expr_tokens (Plain a) ts rest h = atom_tokens a ts rest h
@@ -139,13 +134,11 @@ blocks_tokens (b ∷ bs) ts rest (x, h, k) =
 
 kind_tokens : (k : KindText) (ts rest : List Token) → IsKind k ts rest → anchors_in ts ≡ map anchor_token (kind_anchors k) ++ anchors_in rest
 kind_tokens (Account n) ts rest h = ap anchors_in h
-kind_tokens (Buffer n) ts rest h = ap anchors_in h
-kind_tokens (Grid n k) ts rest h = ap anchors_in h
+kind_tokens _ ts rest h = ap anchors_in h
 
 kind_silent : (k : KindWord) (ts : List Token) → anchors_in (kind_token k ∷ ts) ≡ anchors_in ts
 kind_silent kind.Account ts = refl
-kind_silent kind.Buffer ts = refl
-kind_silent kind.Grid ts = refl
+kind_silent _ ts = refl
 
 formal_tokens : (f : Formal) (ts rest : List Token) → IsFormal f ts rest → anchors_in ts ≡ t.Name f.name ∷ anchors_in rest
 formal_tokens f ts rest h = ap anchors_in h ∙ kind_silent f.kind (t.Name f.name ∷ rest)

@@ -1,6 +1,5 @@
 -- The anchors that a walk has not come to yet.
-use Rattle.std.proofs.Common.{◌≡◌, ℕ, ◌+◌, List, ◌∷◌, ◌++◌, length, drop, ap, sym, ◌∙◌}
-use Rattle.std.proofs.lemmas.List.{drop-drop, drop_at}
+use Rattle.std.proofs.Common.{◌≡◌, ℕ, ◌+◌, List, ◌∷◌, ◌++◌, length, drop, ap, sym, ◌∙◌, drop-drop, drop_at}
 use Rattle.qs_check.specs.declared.anchors.anchor.Anchor.{Anchor}
 
 -- after the first of the anchors that were added at the end

@@ -2,13 +2,12 @@
 -- and the result is nested as deep as the text over formals. The proof of the functions that do this stands on it. The
 -- invariant is that the statements made so far, joined with what the rest stands for, are what the whole list stands
 -- for.
-use Rattle.std.proofs.Common.{◌≡◌, ℕ, zero, suc, ◌+◌, ◌<◌, ◌≤◌, Bool, true, false, not, ◌||◌, ◌&&◌, ◌==◌, List, [], ◌∷◌, ◌++◌, length, map, filter, get_or, drop, refl, ap, sym, ◌∙◌, add-one, append_assoc, append-nil, arith, if◌then◌else◌}
-use Rattle.std.proofs.Math.Seq.{drop-cons}
+use Rattle.std.proofs.Common.{◌≡◌, ℕ, zero, suc, ◌+◌, ◌<◌, ◌≤◌, Bool, true, false, not, ◌||◌, ◌&&◌, ◌==◌, List, [], ◌∷◌, ◌++◌, length, map, filter, get_or, drop, refl, ap, sym, ◌∙◌, add-one, append_assoc, append-nil, arith, if◌then◌else◌, drop-cons}
 use Rattle.std.proofs.lemmas.List.Folds.{list_any-append}
-use Rattle.qs_script.proofs.tree.Sizes.{drop_past}
+use Rattle.std.proofs.lemmas.List.{drop_all}
 use Rattle.qs_program.specs.audit.Binding.{bound, bound_statements, first_of_each}
 use Rattle.qs_program.specs.declared.code.Stmt.{Stmt}
-use Rattle.qs_program.specs.declared.code.Stmt.TheVariants.{Command, Query, Assign, If, Repeat, Leave}
+use Rattle.qs_program.specs.declared.code.Stmt.TheVariants.{Command}
 use Rattle.qs_program.specs.audit.Sound.{is_in}
 use Rattle.qs_program.specs.Sound.{levels_of}
 use Rattle.qs_program.specs.audit.Statements.{Statements}
@@ -19,19 +18,11 @@ use Rattle.qs_program.proofs.StatementLists.{joined_assoc, joined-end}
 
 first_levels : (s : Stmt) (xs : List Stmt) → levels_of (single s) ≤ levels_of (statements_of (s ∷ xs))
 first_levels (Command c) xs = omega arith
-first_levels (Query x c) xs = omega arith
-first_levels (Assign x e) xs = omega arith
-first_levels (If t b first other) xs = omega arith
-first_levels (Repeat n body) xs = omega arith
-first_levels Leave xs = omega arith
+first_levels _ xs = omega arith
 
 later_levels : (s : Stmt) (xs : List Stmt) → levels_of (statements_of xs) ≤ levels_of (statements_of (s ∷ xs))
 later_levels (Command c) xs = omega arith
-later_levels (Query x c) xs = omega arith
-later_levels (Assign x e) xs = omega arith
-later_levels (If t b first other) xs = omega arith
-later_levels (Repeat n body) xs = omega arith
-later_levels Leave xs = omega arith
+later_levels _ xs = omega arith
 
 -- a statement of a list is nested no deeper than the list
 pub levels_at : (xs : List Stmt) (i : ℕ) (d : Stmt) → i < length xs → levels_of (single (get_or xs i d)) ≤ levels_of (statements_of xs)
@@ -42,11 +33,7 @@ levels_at (x ∷ xs) (suc i) d within = omega (arith, levels_at xs i d (omega ar
 module _ (B : List ℕ) where
   bound-cons : (s : Stmt) (xs : List Stmt) → bound_statements B (statements_of (s ∷ xs)) ≡ join_statements (bound_statements B (single s)) (bound_statements B (statements_of xs))
   bound-cons (Command c) xs = refl
-  bound-cons (Query x c) xs = refl
-  bound-cons (Assign x e) xs = refl
-  bound-cons (If t b first other) xs = refl
-  bound-cons (Repeat n body) xs = refl
-  bound-cons Leave xs = refl
+  bound-cons _ xs = refl
 
   bound-drop : (xs : List Stmt) (i : ℕ) (d : Stmt) → i < length xs → bound_statements B (statements_of (drop i xs)) ≡ join_statements (bound_statements B (single (get_or xs i d))) (bound_statements B (statements_of (drop (i + 1) xs)))
   bound-drop xs i d within = rw (drop-cons xs i d within, add-one) (bound-cons (get_or xs i d) (drop (suc i) xs))
@@ -62,7 +49,7 @@ module _ (B : List ℕ) where
         ∙ ap (λ x. join_statements x later) (sym (new_is ∙ ap (join_statements code) same))
 
     pub all_done : length xs ≤ i → code ≡ bound_statements B (statements_of xs)
-    all_done past = sym (so_far ∙ rw (drop_past xs i past) (joined-end code))
+    all_done past = sym (so_far ∙ rw (drop_all i xs past) (joined-end code))
 
 -- ---- each number where it comes first
 
@@ -76,9 +63,8 @@ abbrev pub is_new : List ℕ → ℕ → Bool
 is_new seen y = not (is_in seen y)
 
 both_by : (y : ℕ) (b c : Bool) (p : ℕ → Bool) (xs : List ℕ) → p y ≡ c → (if b then (if p y then y ∷ xs else xs) else xs) ≡ (if b && c then y ∷ xs else xs)
-both_by y true true p xs e = ap (λ d. if d then y ∷ xs else xs) e
-both_by y true false p xs e = ap (λ d. if d then y ∷ xs else xs) e
 both_by y false c p xs e = refl
+both_by y true _ p xs e = ap (λ d. if d then y ∷ xs else xs) e
 
 filter_if : (p : ℕ → Bool) (b : Bool) (y : ℕ) (xs : List ℕ) → filter p (if b then y ∷ xs else xs) ≡ (if b then (if p y then y ∷ filter p xs else filter p xs) else filter p xs)
 filter_if p true y xs = refl

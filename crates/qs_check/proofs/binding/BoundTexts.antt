@@ -1,8 +1,10 @@
 -- A block over formals that is sound and formed stays so once each formal stands for its object: the objects are
 -- declared and of their formals' kinds, and each is reserved once. The soundness of a client of a template stands on
 -- it. It goes by induction on the statements, and on the list for what comes first in it.
-use Rattle.std.proofs.Common.{◌≡◌, ℕ, zero, suc, ◌<◌, max, Bool, true, false, not, ◌||◌, ◌==◌, List, [], ◌∷◌, length, map, get_or, filter, slice_index_or, refl, ap, sym, ◌∙◌, subst, arith, if◌then◌else◌}
+use Rattle.std.proofs.Common.{◌≡◌, ℕ, ◌<◌, max, Bool, true, false, not, ◌||◌, ◌==◌, List, [], ◌∷◌, length, map, filter, slice_index_or, refl, ap, sym, ◌∙◌, subst, arith, if◌then◌else◌}
 use Rattle.std.specs.List.{AllByRecursion, IsDistinct}
+use Rattle.std.proofs.lemmas.Bool.{not_from_false, or_right}
+use Rattle.std.proofs.lemmas.List.{get_or_default}
 use Rattle.qs_objects.specs.declared.Op.{Op}
 use Rattle.qs_objects.specs.declared.object.Kind.{Kind}
 use Rattle.qs_objects.specs.declared.object.Kind.TheVariants.{Account, Buffer, Grid}
@@ -16,7 +18,7 @@ use Rattle.qs_program.specs.audit.Program.{BlockShape, no_object}
 use Rattle.qs_program.specs.audit.Sound.{is_in}
 use Rattle.qs_program.specs.Sound.{levels_of, IsSoundCall, IsSoundBody, IsSoundBlock, AreVariablesBelow, AreLeavesInside, IsFormedBlock}
 use Rattle.qs_program.specs.audit.Statements.{Statements, end, command, query, assign, choose, again, leave}
-use Rattle.qs_program.proofs.Found.{apart, same, false_not_true, or_true}
+use Rattle.qs_program.proofs.Found.{apart, same, false_not_true}
 
 -- ---- the numbers that come first
 
@@ -60,7 +62,7 @@ all_first P (x ∷ xs) h = (h.0, all_kept P (λ y. not (y == x)) (first_of_each 
 
 in_if : (p : ℕ → Bool) (x y : ℕ) (b c : Bool) (xs : List ℕ) → p x ≡ b → (x == y) ≡ c → p y ≡ true → (c ≡ true → x ≡ y) → (c || is_in xs y) ≡ true → (is_in xs y ≡ true → is_in (filter p xs) y ≡ true) → is_in (if b then x ∷ filter p xs else filter p xs) y ≡ true
 in_if p x y true true xs e f k g h more = ap (λ d. d || is_in (filter p xs) y) f
-in_if p x y true false xs e f k g h more = or_true (x == y) (is_in (filter p xs) y) (more h)
+in_if p x y true false xs e f k g h more = or_right (x == y) (is_in (filter p xs) y) (more h)
 in_if p x y false true xs e f k g h more = absurd (false_not_true (p y) k (ap p (sym (g refl)) ∙ e))
 in_if p x y false false xs e f k g h more = more h
 
@@ -71,14 +73,11 @@ in_kept : (p : ℕ → Bool) (xs : List ℕ) (y : ℕ) → p y ≡ true → is_i
 in_kept p [] y k h = h
 in_kept p (x ∷ xs) y k h = in_if p x y (p x) (x == y) xs refl refl k (equal_by x y) h (in_kept p xs y k)
 
-not_same : (b : Bool) → b ≡ false → not b ≡ true
-not_same b h = ap not h
-
 in_first_by : (x y : ℕ) (b : Bool) (xs : List ℕ) → (x == y) ≡ b → (b || is_in xs y) ≡ true → (is_in xs y ≡ true → is_in (first_of_each xs) y ≡ true) → is_in (first_of_each (x ∷ xs)) y ≡ true
 in_first_by x y true xs e h more = ap (λ d. d || is_in (filter (λ z. not (z == x)) (first_of_each xs)) y) e
 in_first_by x y false xs e h more =
-    or_true (x == y) (is_in (filter (λ z. not (z == x)) (first_of_each xs)) y)
-    (in_kept (λ z. not (z == x)) (first_of_each xs) y (not_same (y == x) (turned y x e)) (more h))
+    or_right (x == y) (is_in (filter (λ z. not (z == x)) (first_of_each xs)) y)
+    (in_kept (λ z. not (z == x)) (first_of_each xs) y (not_from_false (y == x) (turned y x e)) (more h))
 
 in_first : (xs : List ℕ) (y : ℕ) → is_in xs y ≡ true → is_in (first_of_each xs) y ≡ true
 in_first [] y h = h
@@ -87,7 +86,7 @@ in_first (x ∷ xs) y h = in_first_by x y (x == y) xs refl h (in_first xs y)
 in_map_by : (f : ℕ → ℕ) (x y : ℕ) (b : Bool) (xs : List ℕ) → (x == y) ≡ b → (b || is_in xs y) ≡ true → (is_in xs y ≡ true → is_in (map f xs) (f y) ≡ true) → is_in (map f (x ∷ xs)) (f y) ≡ true
 in_map_by f x y true xs e h more =
     ap (λ d. d || is_in (map f xs) (f y)) (ap (λ z. f z == f y) (equal_by x y e) ∙ same (f y))
-in_map_by f x y false xs e h more = or_true (f x == f y) (is_in (map f xs) (f y)) (more h)
+in_map_by f x y false xs e h more = or_right (f x == f y) (is_in (map f xs) (f y)) (more h)
 
 in_map : (f : ℕ → ℕ) (xs : List ℕ) (y : ℕ) → is_in xs y ≡ true → is_in (map f xs) (f y) ≡ true
 in_map f [] y h = cc
@@ -97,14 +96,9 @@ in_map f (x ∷ xs) y h = in_map_by f x y (x == y) xs refl h (in_map f xs y)
 
 fits_same : (op : Op) (one other : Kind) → same_kind one other ≡ true → fits op one ≡ fits op other
 fits_same op (Account b) (Account c) h = refl
-fits_same op (Account b) (Buffer k) h = cc
-fits_same op (Account b) (Grid n k) h = cc
-fits_same op (Buffer k) (Account b) h = cc
 fits_same op (Buffer k) (Buffer l) h = refl
-fits_same op (Buffer k) (Grid n l) h = cc
-fits_same op (Grid n k) (Account b) h = cc
-fits_same op (Grid n k) (Buffer l) h = cc
 fits_same op (Grid n k) (Grid m l) h = refl
+fits_same op _ _ h = cc
 
 -- an element of a list has what holds of all
 held_by : (P : ℕ → Type 0) (x y : ℕ) (b : Bool) (xs : List ℕ) → (x == y) ≡ b → (b || is_in xs y) ≡ true → P x → (is_in xs y ≡ true → P y) → P y
@@ -117,13 +111,9 @@ held P (x ∷ xs) y all h = held_by P x y (x == y) xs refl h all.0 (held P xs y 
 
 module _ (B : List ℕ) (F D : List Declared) (each : length B ≡ length F) (inside : AllByRecursion (λ h. h < length D) B)
     (kinds : (i : ℕ) → i < length F → same_kind (slice_index_or F i no_object).kind (slice_index_or D (slice_index_or B i 0) no_object).kind ≡ true) where
-  past : (xs : List ℕ) (i d e : ℕ) → i < length xs → get_or xs i d ≡ get_or xs i e
-  past [] i d e h = absurd (omega arith)
-  past (x ∷ xs) zero d e h = refl
-  past (x ∷ xs) (suc i) d e h = past xs i d e (omega arith)
 
   bound_is : (i : ℕ) → i < length F → bound B i ≡ slice_index_or B i 0
-  bound_is i h = past B i i 0 (omega (arith, each))
+  bound_is i h = get_or_default B i i 0 (omega (arith, each))
 
   bound_within : (i : ℕ) → i < length F → bound B i < length D
   bound_within i h =

@@ -11,43 +11,29 @@ use Rattle.qs_script.specs.declared.tree.tree.Test.{Test}
 use Rattle.qs_script.specs.declared.tree.tree.Call.{Call}
 use Rattle.qs_script.specs.audit.tree.Tree.{Stmts, end, command, query, assign, choose, choose_else, again}
 use Rattle.qs_script.specs.audit.tree.Tree as tree
-use Rattle.qs_check.specs.audit.fault_places.Places.{Scope, TextPlace, object, number, client, separate, listed, target, operation, arguments, variable, leaves, template, text, starts, given, scope_or_fault, places, atom_places, atoms_places, expr_places, test_places, call_places}
+use Rattle.qs_check.specs.audit.fault_places.Places.{Scope, TextPlace, number, target, operation, arguments, variable, leaves, scope_or_fault, places, atom_places, atoms_places, expr_places, test_places, call_places}
 use Rattle.qs_check.proofs.fault_places.Steps.{with_names, split, ok_same, then_at_ok}
 use Rattle.qs_check.proofs.fault_places.Walks.{met-append}
 
 abbrev pub Inner : List TextPlace → Type 0
 Inner [] = Unit {0}
-Inner (object n k ∷ ps) = ⊥
 Inner (number low high n ∷ ps) = Inner ps
-Inner (client n ∷ ps) = ⊥
-Inner (separate ∷ ps) = ⊥
-Inner (listed o ∷ ps) = ⊥
 Inner (target o ∷ ps) = Inner ps
 Inner (operation asks o op ∷ ps) = Inner ps
 Inner (arguments asks o op n ∷ ps) = Inner ps
 Inner (variable x ∷ ps) = Inner ps
 Inner (leaves inside ∷ ps) = Inner ps
-Inner (template m ks ∷ ps) = ⊥
-Inner (text fault ∷ ps) = ⊥
-Inner (starts m count ∷ ps) = ⊥
-Inner (given m i o ∷ ps) = ⊥
+Inner _ = ⊥
 
 pub inner_append : (ps qs : List TextPlace) → Inner ps → Inner qs → Inner (ps ++ qs)
 inner_append [] qs h k = k
-inner_append (object n kind ∷ ps) qs h k = h
 inner_append (number low high n ∷ ps) qs h k = inner_append ps qs h k
-inner_append (client n ∷ ps) qs h k = h
-inner_append (separate ∷ ps) qs h k = h
-inner_append (listed o ∷ ps) qs h k = h
 inner_append (target o ∷ ps) qs h k = inner_append ps qs h k
 inner_append (operation asks o op ∷ ps) qs h k = inner_append ps qs h k
 inner_append (arguments asks o op n ∷ ps) qs h k = inner_append ps qs h k
 inner_append (variable x ∷ ps) qs h k = inner_append ps qs h k
 inner_append (leaves inside ∷ ps) qs h k = inner_append ps qs h k
-inner_append (template m ks ∷ ps) qs h k = h
-inner_append (text fault ∷ ps) qs h k = h
-inner_append (starts m count ∷ ps) qs h k = h
-inner_append (given m i o ∷ ps) qs h k = h
+inner_append _ qs h k = h
 
 inner_atom : (a : Atom) → Inner (atom_places a)
 inner_atom (Variable x) = tt
@@ -92,17 +78,10 @@ after s u t e f = f ∙ ap (λ v. with_names v t.variables) e
 
 pub kept : (s t : Scope) (ps : List TextPlace) → Inner ps → scope_or_fault s ps ≡ Ok t → t ≡ with_names s t.variables
 kept s t [] i h = let e = ok_same s t h in e ∙ ap (λ v. with_names s v.variables) (sym e)
-kept s t (object n kind ∷ ps) i h = absurd i
 kept s t (number low high n ∷ ps) i h = let w = split s t (number low high n) ps h in after s w.0 t (w.1.2 ∙ ap (λ v. with_names s v.variables) (sym w.1.2)) (kept w.0 t ps i w.2)
-kept s t (client n ∷ ps) i h = absurd i
-kept s t (separate ∷ ps) i h = absurd i
-kept s t (listed o ∷ ps) i h = absurd i
 kept s t (target o ∷ ps) i h = let w = split s t (target o) ps h in after s w.0 t (w.1.2 ∙ ap (λ v. with_names s v.variables) (sym w.1.2)) (kept w.0 t ps i w.2)
 kept s t (operation asks o op ∷ ps) i h = let w = split s t (operation asks o op) ps h in after s w.0 t (w.1.1 ∙ ap (λ v. with_names s v.variables) (sym w.1.1)) (kept w.0 t ps i w.2)
 kept s t (arguments asks o op n ∷ ps) i h = let w = split s t (arguments asks o op n) ps h in after s w.0 t (w.1.1 ∙ ap (λ v. with_names s v.variables) (sym w.1.1)) (kept w.0 t ps i w.2)
 kept s t (variable x ∷ ps) i h = let w = split s t (variable x) ps h in after s w.0 t (w.1.0 ∙ ap (λ v. with_names s v.variables) (sym w.1.0)) (kept w.0 t ps i w.2)
 kept s t (leaves inside ∷ ps) i h = let w = split s t (leaves inside) ps h in after s w.0 t (w.1 ∙ ap (λ v. with_names s v.variables) (sym w.1)) (kept w.0 t ps i w.2)
-kept s t (template m ks ∷ ps) i h = absurd i
-kept s t (text fault ∷ ps) i h = absurd i
-kept s t (starts m count ∷ ps) i h = absurd i
-kept s t (given m j o ∷ ps) i h = absurd i
+kept s t _ i h = absurd i

@@ -5,7 +5,7 @@ use Rattle.std.proofs.Common.{◌≡◌, ℕ, ◌+◌, ◌<◌, ◌≤◌, false
 use Rattle.qs_script.specs.declared.tree.tree.Block.{Block}
 use Rattle.qs_program.specs.audit.Numbering.{Name}
 use Rattle.qs_program.specs.audit.Limits.{most_blocks, most_variables}
-use Rattle.qs_check.specs.audit.fault_places.Places.{Scope, TextPlace, object, number, client, separate, listed, target, operation, arguments, variable, leaves, template, text, starts, given, scope_or_fault, places, listed_places, block_places, blocks_places, scope_of_block, with_listed}
+use Rattle.qs_check.specs.audit.fault_places.Places.{Scope, TextPlace, number, separate, listed, target, operation, arguments, variable, leaves, scope_or_fault, places, listed_places, block_places, blocks_places, scope_of_block, with_listed}
 use Rattle.qs_check.proofs.fault_places.Steps.{split, ok_same}
 use Rattle.qs_check.proofs.fault_places.Inner.{Inner, parted, inner_body}
 
@@ -22,37 +22,25 @@ pub record Stays (s t : Scope) : Type 0 where
 -- no place of an object, a client or a block
 abbrev pub InBlock : List TextPlace → Type 0
 InBlock [] = Unit {0}
-InBlock (object n k ∷ ps) = ⊥
 InBlock (number low high n ∷ ps) = InBlock ps
-InBlock (client n ∷ ps) = ⊥
-InBlock (separate ∷ ps) = ⊥
 InBlock (listed o ∷ ps) = InBlock ps
 InBlock (target o ∷ ps) = InBlock ps
 InBlock (operation asks o op ∷ ps) = InBlock ps
 InBlock (arguments asks o op n ∷ ps) = InBlock ps
 InBlock (variable x ∷ ps) = InBlock ps
 InBlock (leaves inside ∷ ps) = InBlock ps
-InBlock (template m ks ∷ ps) = ⊥
-InBlock (text fault ∷ ps) = ⊥
-InBlock (starts m count ∷ ps) = ⊥
-InBlock (given m i o ∷ ps) = ⊥
+InBlock _ = ⊥
 
 from_inner : (ps : List TextPlace) → Inner ps → InBlock ps
 from_inner [] i = tt
-from_inner (object n k ∷ ps) i = i
 from_inner (number low high n ∷ ps) i = from_inner ps i
-from_inner (client n ∷ ps) i = i
-from_inner (separate ∷ ps) i = i
 from_inner (listed o ∷ ps) i = absurd i
 from_inner (target o ∷ ps) i = from_inner ps i
 from_inner (operation asks o op ∷ ps) i = from_inner ps i
 from_inner (arguments asks o op n ∷ ps) i = from_inner ps i
 from_inner (variable x ∷ ps) i = from_inner ps i
 from_inner (leaves inside ∷ ps) i = from_inner ps i
-from_inner (template m ks ∷ ps) i = i
-from_inner (text fault ∷ ps) i = i
-from_inner (starts m count ∷ ps) i = i
-from_inner (given m j o ∷ ps) i = i
+from_inner _ i = i
 
 after_list : (names : List Name) (ps : List TextPlace) → InBlock ps → InBlock (listed_places names ++ ps)
 after_list [] ps i = i
@@ -74,10 +62,7 @@ then_stays s u t a b = record {
 
 pub stays : (s t : Scope) (ps : List TextPlace) → InBlock ps → scope_or_fault s ps ≡ Ok t → Stays s t
 stays s t [] i h = same_scope s t (ok_same s t h)
-stays s t (object n k ∷ ps) i h = absurd i
 stays s t (number low high n ∷ ps) i h = let w = split s t (number low high n) ps h in then_stays s w.0 t (same_scope s w.0 w.1.2) (stays w.0 t ps i w.2)
-stays s t (client n ∷ ps) i h = absurd i
-stays s t (separate ∷ ps) i h = absurd i
 stays s t (listed o ∷ ps) i h =
     let w = split s t (listed o) ps h in
     let P : Scope → Type 0 = λ u. Stays s u in
@@ -92,10 +77,7 @@ stays s t (variable x ∷ ps) i h =
     (record { objects = ap (λ u. u.objects) w.1.0; kinds = ap (λ u. u.kinds) w.1.0; clients = ap (λ u. u.clients) w.1.0; templates = ap (λ u. u.templates) w.1.0; formals = ap (λ u. u.formals) w.1.0; blocks = ap (λ u. u.blocks) w.1.0; few = w.1.1 })
     (stays w.0 t ps i w.2)
 stays s t (leaves inside ∷ ps) i h = let w = split s t (leaves inside) ps h in then_stays s w.0 t (same_scope s w.0 w.1) (stays w.0 t ps i w.2)
-stays s t (template m ks ∷ ps) i h = absurd i
-stays s t (text fault ∷ ps) i h = absurd i
-stays s t (starts m count ∷ ps) i h = absurd i
-stays s t (given m j o ∷ ps) i h = absurd i
+stays s t _ i h = absurd i
 
 -- after a block: one more block, and all else as before
 pub block_stays : (s t : Scope) (b : Block) → scope_or_fault s (block_places b) ≡ Ok t → (s.blocks < most_blocks) × Stays (scope_of_block s) t

@@ -1,7 +1,7 @@
 -- A place that is passed without a fault tells something: a name is new, a number is in its range, or an operation is
 -- known. Almost every proof about a check without a fault reads its facts with `stepped`, which says what each place
 -- tells, and with `split`, which cuts off the first place. Both go by cases on the place.
-use Rattle.std.proofs.Common.{◌≡◌, ℕ, ◌<◌, ◌≤◌, Bool, true, false, ◌||◌, nat_lt, List, [], ◌∷◌, ◌++◌, length, refl, ap, ◌∙◌, arith, length-append, Option, Some, None, nat_eq, Result, Ok, Err, OnOk, if◌then◌else◌}
+use Rattle.std.proofs.Common.{◌≡◌, ℕ, ◌<◌, ◌≤◌, Bool, true, false, ◌||◌, nat_lt, List, [], ◌∷◌, ◌++◌, length, refl, ap, ◌∙◌, arith, length-append, Option, Some, None, nat_eq, Result, Ok, Err, OnOk, if◌then◌else◌, ltb-true, eqb-true}
 use Rattle.std.proofs.lemmas.Bool.Decides.{nat_tests}
 use Rattle.qs_check.specs.declared.fault_places.fault.CheckFault.{CheckFault}
 use Rattle.qs_check.specs.declared.fault_places.fault.CheckFault.TheVariants as f
@@ -46,12 +46,6 @@ else_ok : (b : Bool) (m : ScopeOrFault) (e : CheckFault) (t : Scope) → (if b t
 else_ok true m e t h = cc
 else_ok false m e t h = (refl, h)
 
-below : (a b : ℕ) → nat_lt a b ≡ true → a < b
-below a b h = grind (arith, nat_tests)
-
-equal : (a b : ℕ) → nat_eq a b ≡ true → a ≡ b
-equal a b h = grind (arith, nat_tests)
-
 no_fault : (fault : Option CheckFault) (s t : Scope) → unless_fault fault s ≡ Ok t → (fault ≡ None) × (t ≡ s)
 no_fault None s t h = (refl, ok_same s t h)
 no_fault (Some e) s t h = cc
@@ -64,13 +58,13 @@ variable_stepped s t x true e h = let same = ok_same s t h in (same, λ l. rw (a
 variable_stepped s t x false e h =
     let p = then_ok (nat_lt (length s.variables) most_variables) (Ok (with_variable s x)) f.Limit t h in
     let same = ok_same (with_variable s x) t p.1 in
-    (same, λ l. rw (ap (λ u. length u.variables) same, length-append) (omega (arith, below _ _ p.0)))
+    (same, λ l. rw (ap (λ u. length u.variables) same, length-append) (omega (arith, ltb-true _ _ p.0)))
 
 pub stepped : (s t : Scope) (p : TextPlace) → pass_place s p ≡ Ok t → Stepped s p t
 stepped s t (object n k) h =
     let p = else_ok (is_among s.objects n) (if nat_lt (length s.objects) most_objects then Ok (with_object s n k) else Err f.Limit) f.Twice t h in
     let q = then_ok (nat_lt (length s.objects) most_objects) (Ok (with_object s n k)) f.Limit t p.1 in
-    (p.0, below _ _ q.0, ok_same _ t q.1)
+    (p.0, ltb-true _ _ q.0, ok_same _ t q.1)
 stepped s t (number low high n) h =
     let p = else_ok (nat_lt n low || nat_lt high n) (Ok s) f.Range t h in
     let r = in_range low high n p.0 in
@@ -78,9 +72,9 @@ stepped s t (number low high n) h =
 stepped s t (client n) h =
     let p = else_ok (is_among s.clients n) (if nat_lt (length s.clients) most_clients then Ok (with_client s n) else Err f.Limit) f.Twice t h in
     let q = then_ok (nat_lt (length s.clients) most_clients) (Ok (with_client s n)) f.Limit t p.1 in
-    (p.0, below _ _ q.0, ok_same _ t q.1)
+    (p.0, ltb-true _ _ q.0, ok_same _ t q.1)
 stepped s t separate h =
-    let q = then_ok (nat_lt s.blocks most_blocks) (Ok (scope_of_block s)) f.Limit t h in (below _ _ q.0, ok_same _ t q.1)
+    let q = then_ok (nat_lt s.blocks most_blocks) (Ok (scope_of_block s)) f.Limit t h in (ltb-true _ _ q.0, ok_same _ t q.1)
 stepped s t (listed o) h =
     let p = then_ok (is_among s.objects o) (if is_among s.reserved o then Err f.ReservedTwice else Ok (with_listed s o)) f.UnknownObject t h in
     let q = else_ok (is_among s.reserved o) (Ok (with_listed s o)) f.ReservedTwice t p.1 in
@@ -98,13 +92,13 @@ stepped s t (leaves inside) h = let q = then_ok inside (Ok s) f.LeaveOutside t h
 stepped s t (template n ks) h =
     let p = else_ok (is_among s.templates n) (if nat_lt (length s.templates) most_templates then Ok (with_template s n ks) else Err f.Limit) f.Twice t h in
     let q = then_ok (nat_lt (length s.templates) most_templates) (Ok (with_template s n ks)) f.Limit t p.1 in
-    (p.0, below _ _ q.0, ok_same _ t q.1)
+    (p.0, ltb-true _ _ q.0, ok_same _ t q.1)
 stepped s t (text fault) h = no_fault fault s t h
 stepped s t (starts n count) h =
     let ks = formals_at s.templates s.formals n in
     let p = then_ok (is_among s.templates n) (if nat_eq (length ks) count then Ok s else Err f.Count) f.UnknownTemplate t h in
     let q = then_ok (nat_eq (length ks) count) (Ok s) f.Count t p.1 in
-    (p.0, equal (length ks) count q.0, ok_same s t q.1)
+    (p.0, eqb-true (length ks) count q.0, ok_same s t q.1)
 stepped s t (given n i o) h =
     let p = then_ok (is_among s.objects o) (if is_given s n i o then Ok s else Err f.OtherKind) f.UnknownObject t h in
     let q = then_ok (is_given s n i o) (Ok s) f.OtherKind t p.1 in

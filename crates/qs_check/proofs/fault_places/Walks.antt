@@ -1,8 +1,7 @@
 -- A walk over two lists of places fails where the first list fails, and otherwise goes on from the scope that the first
 -- list leaves. The loops of the check over statements, blocks and items stand on it; their invariant is that the walk
 -- over the places that are left ends as the walk over all places does. The first lemma goes by induction on the places.
-use Rattle.std.proofs.Common.{◌≡◌, ℕ, suc, ◌+◌, ◌<◌, Bool, true, false, List, [], ◌∷◌, ◌++◌, length, get_or, drop, refl, ap, sym, ◌∙◌, subst, append_assoc, append-nil, add-one, Result, Ok, Err}
-use Rattle.std.proofs.Math.Seq.{drop-cons}
+use Rattle.std.proofs.Common.{◌≡◌, ℕ, suc, ◌+◌, ◌<◌, Bool, true, false, List, [], ◌∷◌, ◌++◌, length, get_or, drop, refl, ap, sym, ◌∙◌, subst, append_assoc, append-nil, add-one, Result, Ok, Err, drop-cons}
 use Rattle.qs_script.specs.declared.tree.tree.Stmt.{Stmt}
 use Rattle.qs_script.specs.declared.tree.tree.Stmt.TheVariants.{Command, Query, Assign, If, IfElse, Repeat, Leave}
 use Rattle.qs_script.specs.tree.Views.{stmts_of, single}

@@ -4,6 +4,7 @@ use Rattle.std.proofs.Common.{◌≡◌, Bool, true, false, ◌||◌, List, [], 
 use Rattle.std.proofs.lemmas.Cmp.{nat_list_eq_equiv}
 use Rattle.std.proofs.lemmas.List.Folds.{list_any-append}
 use Rattle.std.specs.List.{AllByRecursion, IsDistinct}
+use Rattle.std.proofs.lemmas.Bool.{or_from}
 use Rattle.qs_program.specs.audit.Numbering.{Name, same_name, is_among}
 
 pub or_false : (a : Bool) → (a || false) ≡ a
@@ -25,9 +26,6 @@ Fresh seen ns = AllByRecursion (λ n. is_among seen n ≡ false) ns × IsDistinc
 among_last : (seen : List Name) (n m : Name) → is_among (seen ++ n ∷ []) m ≡ (is_among seen m || same_name m n)
 among_last seen n m = list_any-append (same_name m) seen (n ∷ []) ∙ ap (λ b. is_among seen m || b) (or_false (same_name m n))
 
-none_of_both : (a b : Bool) → a ≡ false → b ≡ false → (a || b) ≡ false
-none_of_both a b h k = ap (λ x. x || b) h ∙ k
-
 unseen_first : (seen : List Name) (n : Name) (ns : List Name) → AllByRecursion (λ m. is_among (seen ++ n ∷ []) m ≡ false) ns → AllByRecursion (λ m. is_among seen m ≡ false) ns
 unseen_first seen n [] h = tt
 unseen_first seen n (m ∷ ns) h = (or_false_first (is_among seen m) (same_name m n) (sym (among_last seen n m) ∙ h.0), unseen_first seen n ns h.1)
@@ -40,7 +38,7 @@ unseen_last seen n (m ∷ ns) h =
 unseen_both : (seen : List Name) (n : Name) (ns : List Name) → AllByRecursion (λ m. is_among seen m ≡ false) ns → AllByRecursion (λ m. same_name n m ≡ false) ns → AllByRecursion (λ m. is_among (seen ++ n ∷ []) m ≡ false) ns
 unseen_both seen n [] h k = tt
 unseen_both seen n (m ∷ ns) h k =
-    (among_last seen n m ∙ none_of_both (is_among seen m) (same_name m n) h.0 (nat_list_eq_equiv.symm m n ∙ k.0), unseen_both seen n ns h.1 k.1)
+    (among_last seen n m ∙ or_from (is_among seen m) (same_name m n) h.0 (nat_list_eq_equiv.symm m n ∙ k.0), unseen_both seen n ns h.1 k.1)
 
 pub fresh_more : (seen : List Name) (n : Name) (ns : List Name) → is_among seen n ≡ false → Fresh (seen ++ n ∷ []) ns → Fresh seen (n ∷ ns)
 unfolding IsDistinct

@@ -1,15 +1,14 @@
 -- A loop over a list of statements that replaces names by numbers gives what the definition `body_of` says, and the
 -- result is nested as deep as the text. The proof of the function that does this stands on it. The invariant is that
 -- the statements made so far, joined with what the rest of the text stands for, are what the whole text stands for.
-use Rattle.std.proofs.Common.{◌≡◌, ℕ, zero, suc, ◌+◌, ◌<◌, ◌≤◌, max, List, [], ◌∷◌, length, get_or, drop, refl, ap, sym, ◌∙◌, add-one, arith}
-use Rattle.std.proofs.Math.Seq.{drop-cons}
+use Rattle.std.proofs.Common.{◌≡◌, ℕ, zero, suc, ◌+◌, ◌<◌, ◌≤◌, max, List, [], ◌∷◌, length, get_or, drop, refl, ap, sym, ◌∙◌, add-one, arith, drop-cons}
+use Rattle.std.proofs.lemmas.List.{drop_all}
 use Rattle.qs_objects.specs.declared.object.Kind.{Kind}
 use Rattle.qs_script.specs.tree.Form as form
 use Rattle.qs_script.specs.audit.tree.Tree as tree
 use Rattle.qs_script.specs.declared.tree.tree.Stmt as text
 use Rattle.qs_script.specs.declared.tree.tree.Stmt.TheVariants as t
 use Rattle.qs_script.specs.tree.Views as views
-use Rattle.qs_script.proofs.tree.Sizes.{drop_past}
 use Rattle.qs_program.specs.audit.Numbering.{Name}
 use Rattle.qs_program.specs.Sound.{levels_of}
 use Rattle.qs_program.specs.audit.Statements.{Statements}
@@ -20,21 +19,11 @@ use Rattle.qs_check.specs.audit.resolution.Resolve.{body_of}
 -- a list is nested as deep as its first statement, or as the others
 first_levels : (s : text.Stmt) (xs : List text.Stmt) → form.levels_of (views.single s) ≤ form.levels_of (views.stmts_of (s ∷ xs))
 first_levels (t.Command c) xs = omega arith
-first_levels (t.Query x c) xs = omega arith
-first_levels (t.Assign x e) xs = omega arith
-first_levels (t.If q first) xs = omega arith
-first_levels (t.IfElse q first other) xs = omega arith
-first_levels (t.Repeat n body) xs = omega arith
-first_levels t.Leave xs = omega arith
+first_levels _ xs = omega arith
 
 later_levels : (s : text.Stmt) (xs : List text.Stmt) → form.levels_of (views.stmts_of xs) ≤ form.levels_of (views.stmts_of (s ∷ xs))
 later_levels (t.Command c) xs = omega arith
-later_levels (t.Query x c) xs = omega arith
-later_levels (t.Assign x e) xs = omega arith
-later_levels (t.If q first) xs = omega arith
-later_levels (t.IfElse q first other) xs = omega arith
-later_levels (t.Repeat n body) xs = omega arith
-later_levels t.Leave xs = omega arith
+later_levels _ xs = omega arith
 
 -- a statement of a list is nested no deeper than the list
 pub levels_at : (xs : List text.Stmt) (i : ℕ) (d : text.Stmt) → i < length xs → form.levels_of (views.single (get_or xs i d)) ≤ form.levels_of (views.stmts_of xs)
@@ -46,12 +35,7 @@ levels_at (x ∷ xs) (suc i) d within = omega (arith, levels_at xs i d (omega ar
 module _ (os : List Name) (ks : List Kind) (vs : List Name) where
   body_of-cons : (s : text.Stmt) (xs : List text.Stmt) → body_of os ks vs (views.stmts_of (s ∷ xs)) ≡ join_statements (body_of os ks vs (views.single s)) (body_of os ks vs (views.stmts_of xs))
   body_of-cons (t.Command c) xs = refl
-  body_of-cons (t.Query x c) xs = refl
-  body_of-cons (t.Assign x e) xs = refl
-  body_of-cons (t.If q first) xs = refl
-  body_of-cons (t.IfElse q first other) xs = refl
-  body_of-cons (t.Repeat n body) xs = refl
-  body_of-cons t.Leave xs = refl
+  body_of-cons _ xs = refl
 
   body_of-drop : (xs : List text.Stmt) (i : ℕ) (d : text.Stmt) → i < length xs → body_of os ks vs (views.stmts_of (drop i xs)) ≡ join_statements (body_of os ks vs (views.single (get_or xs i d))) (body_of os ks vs (views.stmts_of (drop (i + 1) xs)))
   body_of-drop xs i d within = rw (drop-cons xs i d within, add-one) (body_of-cons (get_or xs i d) (drop (suc i) xs))
@@ -78,4 +62,4 @@ module _ (os : List Name) (ks : List Kind) (vs : List Name) where
         ∙ ap (λ x. join_statements x later) (sym new_is)
 
     pub all_done : length xs ≤ i → code ≡ body_of os ks vs (views.stmts_of xs)
-    all_done past = sym (so_far ∙ rw (drop_past xs i past) (joined-end code))
+    all_done past = sym (so_far ∙ rw (drop_all i xs past) (joined-end code))

@@ -1,7 +1,7 @@
 -- What is known after a template's text was walked without a fault: its formals are declared as objects, and they and
 -- its variables are few. So its blocks can be resolved. It goes by induction on the formals.
-use Rattle.std.proofs.Common.{◌≡◌, ◌+◌, ◌<◌, ◌≤◌, List, [], ◌∷◌, ◌++◌, length, map, ap, sym, ◌∙◌, subst, arith, append_assoc, append-nil, refl, Ok}
-use Rattle.std.proofs.lemmas.List.{length-map}
+use Rattle.std.proofs.Common.{◌≡◌, ◌+◌, ◌<◌, ◌≤◌, List, [], ◌∷◌, ◌++◌, length, map, ap, sym, ◌∙◌, subst, arith, append_assoc, append-nil, Ok}
+use Rattle.std.proofs.lemmas.List.{length-map, length_push}
 use Rattle.qs_script.specs.declared.tree.tree.Formal.{Formal}
 use Rattle.qs_script.specs.declared.tree.tree.TemplateItem.{TemplateItem}
 use Rattle.qs_program.specs.declared.program.Declared.{Declared}
@@ -29,22 +29,17 @@ formals_scope D = scope D [] [] 0 [] []
 pub formals_from : (fs : List Formal) (D : List Declared) (t : Scope) → scope_or_fault (formals_scope D) (formals_places fs) ≡ Ok t → (t ≡ formals_scope (D ++ declared_formals fs)) × Fresh (names D) (formal_names fs) × (length D ≤ most_objects → length D + length fs ≤ most_objects)
 formals_from [] D t h = (ok_same (formals_scope D) t h ∙ ap formals_scope (sym (append-nil D)), no_fresh (names D), λ l. omega arith)
 formals_from (x ∷ fs) D t h =
-    let s = formals_scope D in
-    let w = split s t (object x.name (formal_kind x.kind)) (formals_places fs) h in
+    let w = split (formals_scope D) t (object x.name (formal_kind x.kind)) (formals_places fs) h in
     let E = D ++ declared x ∷ [] in
     let e : w.0 ≡ formals_scope E = w.1.2 ∙ grown D [] [] 0 [] [] (declared x) in
     let more = formals_from fs E t (again (formals_scope E) t w.0 (formals_places fs) e w.2) in
     let P : List Name → Type 0 = λ ns. Fresh ns (formal_names fs) in
-    let longer : length E ≡ length D + 1 = length_last D (declared x) in
+    let longer : length E ≡ length D + 1 = length_push D (declared x) in
     let here : length D < most_objects = omega (arith, w.1.1, length-map D (λ (o : Declared). o.name)) in (
       more.0 ∙ ap formals_scope (append_assoc D (declared x ∷ []) (declared_formals fs)),
       fresh_more (names D) x.name (formal_names fs) w.1.0 (subst P (sym (names_with D (declared x))) more.1),
       λ l. omega (arith, longer, more.2 (omega (arith, longer, here))),
     )
-  where
-    length_last : (ds : List Declared) (d : Declared) → length (ds ++ d ∷ []) ≡ length ds + 1
-    length_last [] d = refl
-    length_last (e ∷ ds) d = omega (arith, length_last ds d)
 
 -- what is known after a template's text
 pub record TextKnown (t : TemplateItem) (u : Scope) : Type 0 where

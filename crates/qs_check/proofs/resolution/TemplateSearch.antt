@@ -1,7 +1,6 @@
 -- The loop that looks for a template of a name over the items of a script finds the first one. The proof of the
 -- function that does this stands on it, and so does that a template which is found has the form of a script's.
-use Rattle.std.proofs.Common.{◌≡◌, ◌≢◌, ℕ, suc, ◌+◌, ◌<◌, ◌≤◌, Bool, true, false, List, [], ◌∷◌, length, map, get_or, drop, None, Some, refl, ap, sym, ◌∙◌, subst, add-one, arith, if◌then◌else◌}
-use Rattle.std.proofs.Math.Seq.{drop-cons}
+use Rattle.std.proofs.Common.{◌≡◌, ◌≢◌, ℕ, suc, ◌+◌, ◌<◌, ◌≤◌, Bool, true, false, List, [], ◌∷◌, length, map, get_or, drop, None, Some, refl, ap, sym, ◌∙◌, subst, add-one, arith, if◌then◌else◌, drop-cons}
 use Rattle.std.specs.List.{AllByRecursion}
 use Rattle.qs_objects.specs.declared.object.Kind.{Kind}
 use Rattle.qs_script.specs.tree.Form.{HasForm, IsFormed}
@@ -35,10 +34,8 @@ module _ (xs : List Item) (i : ℕ) (item : Item) (within : i < length xs) (item
 
 -- an item that is no template is passed
 skipped : (item : Item) (rest : List Item) (n : Name) → ((t : TemplateItem) → item ≢ Template t) → template_called (templates_in (item ∷ rest)) n ≡ template_called (templates_in rest) n
-skipped (Object o) rest n other = refl
-skipped (Client c) rest n other = refl
 skipped (Template t) rest n other = absurd (other t refl)
-skipped (Started c) rest n other = refl
+skipped _ rest n other = refl
 
 pub other_passed : (xs : List Item) (i : ℕ) (item : Item) → i < length xs → item ≡ get_or xs i item → (n : Name) → template_called (templates_in xs) n ≡ template_called (templates_in (drop i xs)) n → ((t : TemplateItem) → item ≢ Template t) → template_called (templates_in xs) n ≡ template_called (templates_in (drop (i + 1) xs)) n
 other_passed xs i item within item_is n so_far other = so_far ∙ next

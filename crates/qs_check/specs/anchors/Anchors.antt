@@ -3,7 +3,6 @@
 -- `0` make one tree.
 use Rattle.std.specs.Prelude.{◌≡◌, ℕ, suc, ◌<◌, Bool, true, false, if◌then◌else◌, List, [], ◌∷◌, ◌++◌, length, get_or, take, map, flat_map, unsigned_abs}
 use Rattle.qs_script.specs.declared.tokens.token.Token.{Token}
-use Rattle.qs_script.specs.declared.tokens.token.Token.TheVariants as t
 use Rattle.qs_script.specs.declared.tree.tree.Atom.{Atom}
 use Rattle.qs_script.specs.declared.tree.tree.Atom.TheVariants.{Variable, Number}
 use Rattle.qs_script.specs.declared.tree.tree.Expr.{Expr}
@@ -17,6 +16,7 @@ use Rattle.qs_script.specs.declared.tree.tree.Formal.{Formal}
 use Rattle.qs_script.specs.declared.tree.tree.TemplateItem.{TemplateItem}
 use Rattle.qs_script.specs.declared.tree.tree.Item.{Item}
 use Rattle.qs_script.specs.declared.tree.tree.Item.TheVariants.{Object, Client, Template, Started}
+use Rattle.qs_script.specs.declared.tokens.token.Token.TheVariants as t
 use Rattle.qs_script.specs.audit.tree.Tree.{Stmts, end, command, query, assign, choose, choose_else, again, leave}
 use Rattle.qs_objects.specs.audit.Limits.{greatest_balance, most_lines, most_values}
 use Rattle.qs_program.specs.audit.Limits.{most_turns}
@@ -52,11 +52,10 @@ anchor_places (m.Listed o) = listed o ∷ []
 anchor_places (m.Target o) = target o ∷ []
 anchor_places (m.Operation asks o op n) = operation_places asks o op n
 anchor_places (m.Variable x) = variable x ∷ []
-anchor_places (m.Value z) = []
 anchor_places (m.Leave inside) = leaves inside ∷ []
-anchor_places (m.Template n) = []
 anchor_places (m.Starts n count) = starts n count ∷ []
 anchor_places (m.Given n i o) = given n i o ∷ []
+anchor_places _ = []
 
 abbrev pub is_anchor : Token → Bool
 is_anchor (t.Name n) = true

@@ -1,5 +1,4 @@
-use Rattle.std.proofs.Common.{◌≤◌, List, subst}
-use Rattle.std.specs.Prelude.{MatchOption}
+use Rattle.std.proofs.Common.{◌≤◌, List, subst, MatchOption}
 use Rattle.qs_program.specs.audit.Limits.{most_requests, most_steps}
 use Rattle.qs_program.specs.audit.Program.{ClientShape}
 use Rattle.qs_check.specs.declared.excess.Measure.TheVariants.{Load, Weight}

@@ -1,7 +1,7 @@
 use Rattle.std.proofs.Common.{◌∙◌, map, ap, sym}
+use Rattle.std.proofs.lemmas.List.{drop_all}
 use Rattle.qs_program.specs.audit.Binding.{bound}
 use Rattle.qs_check.proofs.binding.Binds.{first_more, firsts_are, with_firsts}
-use Rattle.qs_script.proofs.tree.Sizes.{drop_past}
 use Rattle.qs_check.proofs.binding.bind.bind_list.Goals as goal
 
 pub loop-name-preserved : goal.loop-name-preserved
@@ -15,6 +15,6 @@ returns c = record {
       sym (
       sym (firsts_are (map (bound c.args.binding.now) c.args.names.now))
       ∙ c.loop-name.invariant
-      ∙ ap (λ ns. with_firsts c.loop-name.reserved.items (map (bound c.args.binding.now) ns)) (drop_past c.args.names.now c.loop-name.name-index c.loop-name-test.false)
+      ∙ ap (λ ns. with_firsts c.loop-name.reserved.items (map (bound c.args.binding.now) ns)) (drop_all c.loop-name.name-index c.args.names.now c.loop-name-test.false)
       );
 }

@@ -26,8 +26,7 @@ bind_blocks-requires c =
 
 pub returns : goal.returns
 returns c =
-    let t = c.args.template.now in
-    let known = text_known t c.args.inner.now c.requires.walked in
+    let known = text_known c.args.template.now c.args.inner.now c.requires.walked in
     let objects = c.objects.ensures.value ∙ known.objects in
     let kinds = c.kinds.ensures.value ∙ known.kinds in
     let variables = c.variables.ensures.value ∙ known.variables in
