@@ -14,8 +14,7 @@ AreCoalesced g m _ _ = ⊥
 same_count : (g : ControlGraph) (m : ℕ) (ps qs : List GraphNode) → AreCoalesced g m ps qs → length qs ≡ length ps
 same_count g m [] [] c = refl
 same_count g m (p ∷ ps) (q ∷ qs) c = ap suc (same_count g (suc m) ps qs c.1)
-same_count g m [] (q ∷ qs) c = absurd c
-same_count g m (p ∷ ps) [] c = absurd c
+same_count g m _ _ c = absurd c
 
 each_place : (g : ControlGraph) (m : ℕ) (ps qs : List GraphNode) → AreCoalesced g m ps qs → (i : ℕ) → i < length ps
     → IsRemovedIfHeld (IsHeld g (m + i)) (place_at ps i).node (place_at ps i) (place_at qs i)

@@ -1,13 +1,12 @@
 -- A walk through a coalesced graph ends within as many nodes, says the same but for synchronisations, and each query in
 -- it is still on an object that is held. The proofs on a client's code stand on `reduced`. It goes by induction on the
 -- nodes that the walk may take, and the path behind it shows that a removed synchronisation was not needed.
-use Rattle.std.proofs.Common.{◌≡◌, inl, inr, ℕ, zero, suc, ◌<◌, true, List, ◌∷◌, length, refl, sym, ap, ◌∙◌, subst}
+use Rattle.std.proofs.Common.{◌≡◌, inl, inr, ℕ, zero, suc, ◌<◌, true, List, ◌∷◌, length, refl, sym, ap, ◌∙◌, subst, ext_get_or}
 use Rattle.std.proofs.Math.Path.{fun_ext}
 use Rattle.std.proofs.lemmas.Bool.{cases_eq}
 use Rattle.qs_meaning.specs.audit.Solo.{put}
 use Rattle.qs_graph.specs.declared.node.Node.{Node}
-use Rattle.qs_graph.specs.declared.node.Node.TheVariants.{Entry, Local, Branch, Sync, Query, Call, Exit}
-use Rattle.std.proofs.lemmas.List.{ext_get_or}
+use Rattle.qs_graph.specs.declared.node.Node.TheVariants.{Sync}
 use Rattle.qs_graph.specs.audit.Nodes.{GraphNode, place_at, exit, made_local, first_target}
 use Rattle.qs_graph.specs.Nodes.{over_objects}
 use Rattle.qs_graph.specs.audit.Paths.{IsPath}
@@ -111,16 +110,11 @@ module _ (g new : List GraphNode) (ok : IsGraph g) (c : IsSoundRemoval g new) wh
 
 one_place : (held : ℕ → Type 0) (v : Node) (old one other : GraphNode) → IsRemovedIfHeld held v old one → IsRemovedIfHeld held v old other
     → one ≡ other
-one_place held Entry old one other w u = w ∙ sym u
-one_place held (Local a) old one other w u = w ∙ sym u
-one_place held (Branch c) old one other w u = w ∙ sym u
 one_place held (Sync h) old one other (inl w) (inl u) = w.1 ∙ sym u.1
 one_place held (Sync h) old one other (inl w) (inr u) = absurd (u.0 w.0)
 one_place held (Sync h) old one other (inr w) (inl u) = absurd (w.0 u.0)
 one_place held (Sync h) old one other (inr w) (inr u) = w.1 ∙ sym u.1
-one_place held (Query x c) old one other w u = w ∙ sym u
-one_place held (Call c) old one other w u = w ∙ sym u
-one_place held Exit old one other w u = w ∙ sym u
+one_place held _ old one other w u = w ∙ sym u
 
 pub coalescing_is_unique : CoalescingIsUnique
 coalescing_is_unique g one other w u =

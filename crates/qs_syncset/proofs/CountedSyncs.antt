@@ -2,10 +2,8 @@
 -- graph say. The proofs that machines and threads count rightly stand on it. It goes by cases on the mode, of which
 -- each begins from the block's tree with all its synchronisations; and counts at nodes outside the graph make no
 -- difference.
-use Rattle.std.proofs.Common.{◌≡◌, ◌⊎◌, inl, inr, ℕ, zero, suc, ◌+◌, ◌<◌, ◌≤◌, Bool, true, false, ◌==◌, ◌&&◌, if◌then◌else◌, List, [], ◌∷◌, length, map, replicate, slice_index_or, slice_set, refl, sym, ap, ◌∙◌, subst, arith}
-use Rattle.std.specs.Prelude.{◌↔◌, nat_lt, not}
+use Rattle.std.proofs.Common.{◌≡◌, ◌⊎◌, inl, inr, ℕ, zero, suc, ◌+◌, ◌<◌, ◌≤◌, Bool, true, false, ◌==◌, ◌&&◌, if◌then◌else◌, List, ◌∷◌, length, map, replicate, slice_index_or, slice_set, refl, sym, ap, ◌∙◌, subst, arith, ◌↔◌, nat_lt, not, length-set}
 use Rattle.std.specs.List.{range_with_len}
-use Rattle.std.proofs.Math.ListN.{length-set}
 use Rattle.std.proofs.lemmas.Bool.{cases_eq}
 use Rattle.std.proofs.lemmas.List.{get_or-set_same, get_or-set_other, get_or-replicate, get_or_past, length-map, length-replicate}
 use Rattle.std.proofs.lemmas.List.FromFn.{get_or-map-range_with_len, length-range_with_len}
@@ -63,13 +61,8 @@ inside_at g n h e = by_case (nat_lt n (length g)) refl
 -- ---- a graph coalesced by a test
 
 coalesced_node : Bool → Node → GraphNode → GraphNode
-coalesced_node holds Entry p = p
-coalesced_node holds (Local a) p = p
-coalesced_node holds (Branch c) p = p
 coalesced_node holds (Sync h) p = if holds then made_local p else p
-coalesced_node holds (Query x c) p = p
-coalesced_node holds (Call c) p = p
-coalesced_node holds Exit p = p
+coalesced_node holds _ p = p
 
 coalesced_by : (ℕ → Bool) → List GraphNode → List GraphNode
 coalesced_by held g = map (λ n. coalesced_node (held n) (place_at g n).node (place_at g n)) (range_with_len 0 (length g))
@@ -78,9 +71,6 @@ module _ (g : ControlGraph) (held : ℕ → Bool) (decides : Decides g held) whe
   removed_by : (n : ℕ) (v : Node) → (place_at g.nodes n).node ≡ v
       → IsRemovedIfHeld (IsHeld g n) v (place_at g.nodes n) (coalesced_node (held n) v (place_at g.nodes n))
   unfolding coalesced_node
-  removed_by n Entry e = refl
-  removed_by n (Local a) e = refl
-  removed_by n (Branch c) e = refl
   removed_by n (Sync h) e = by_test (held n) refl
     where
       exact : (held n ≡ true → IsHeld g n h) × (IsHeld g n h → held n ≡ true)
@@ -90,9 +80,7 @@ module _ (g : ControlGraph) (held : ℕ → Bool) (decides : Decides g held) whe
           → IsRemovedIfHeld (IsHeld g n) (Sync h) (place_at g.nodes n) (if b then made_local (place_at g.nodes n) else place_at g.nodes n)
       by_test true t = inl (exact.0 t, refl)
       by_test false f = inr (λ is. (let never : false ≡ true = sym f ∙ exact.1 is in cc), refl)
-  removed_by n (Query x c) e = refl
-  removed_by n (Call c) e = refl
-  removed_by n Exit e = refl
+  removed_by n _ e = refl
 
   is_coalesced_by : IsCoalesced g (coalesced_by held g.nodes)
   unfolding coalesced_by
@@ -181,15 +169,12 @@ module _ (g : List GraphNode) (held : ℕ → Bool) (h : ℕ) where
   alike_by n later (Branch Repeat) x a b l c d es alike inside within =
       subst (λ k. kept_along g held h n (after_repeat k (spot x l d) a b) es ≡ kept_along g held h n (after_repeat (slice_index_or c x 0) (spot x l c) a b) es)
       (sym (alike.same x inside)) (turned_alike n later (slice_index_or c x 0) x a b l c d es alike within)
-  alike_by n later (Sync j) x a b l c d [] alike inside within = refl
   alike_by n later (Sync j) x a b l c d (e ∷ es) alike inside within =
       ap (λ k. (if (j == h) && not (held x) then 1 else 0) + k) (later a l c d (e ∷ es) alike within)
-  alike_by n later (Query y q) x a b l c d [] alike inside within = refl
   alike_by n later (Query y q) x a b l c d (e ∷ es) alike inside within =
       later a (slice_set l y (value_of e.reply)) c d es alike (within (value_of e.reply))
-  alike_by n later (Call q) x a b l c d [] alike inside within = refl
   alike_by n later (Call q) x a b l c d (e ∷ es) alike inside within = later a l c d es alike within
-  alike_by n later Exit x a b l c d es alike inside within = refl
+  alike_by n later _ x a b l c d _ alike inside within = refl
 
   kept_alike : (n : ℕ) → Alike n
   unfolding move
@@ -281,9 +266,8 @@ module _ (program : ProgramShape) (sound : IsSound program) (client index : ℕ)
           let tree = walk g limit (entry_with n l) in
           let is = is_tree n (omega arith) g (removal_of program client index sound true g c) in
           let same = sent_kept n (omega arith) g c in
-          let more = fewer_is h tree es false false in
           let most = most_is h may tree es false rest is.asks (only tree is) (leads_along tree is) in
-          record { least = omega (arith, sent_runs tree is, more, same); most = omega (arith, most, same) }
+          record { least = omega (arith, sent_runs tree is, fewer_is h tree es false false, same); most = omega (arith, most, same) }
 
 -- in the tree of a code each synchronisation stands directly before a query of its object
 pub code_asks : (program : ProgramShape) (mode : Mode) (client : ℕ) (code : ClientCode) → IsSound program → IsCodeOf program mode client code

@@ -9,7 +9,6 @@ pub mod SyncTrees
 pub mod SyncWalks
 pub mod CountedSyncs
 pub mod CoalescedPlaces
-pub mod WorkedGraphs
 pub mod QueryRuns
 pub mod ShortLists
 pub mod ProgramCodes

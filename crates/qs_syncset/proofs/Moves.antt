@@ -7,7 +7,7 @@ use Rattle.qs_meaning.specs.audit.Solo.{put}
 use Rattle.qs_meaning.specs.audit.Interaction as tree
 use Rattle.qs_program.specs.audit.Values.{Locals}
 use Rattle.qs_graph.specs.declared.node.Node.{Node}
-use Rattle.qs_graph.specs.declared.node.Node.TheVariants.{Entry, Local, Branch, Sync, Query, Call, Exit}
+use Rattle.qs_graph.specs.declared.node.Node.TheVariants.{Entry, Query, Call}
 use Rattle.qs_graph.specs.audit.Nodes.{GraphNode, place_at}
 use Rattle.qs_graph.specs.Nodes.{over_objects}
 use Rattle.qs_graph.specs.audit.Synced.{Synced}
@@ -24,12 +24,7 @@ after_move _ held = held
 
 after_by : (g : List GraphNode) (v : Node) (s : Spot) (n m : ℕ) (held : Holding) → after_move (move_by v s n m) held ≡ held_after (over_objects g) v held
 after_by g Entry s n m held = refl
-after_by g (Local a) s n m held = refl
-after_by g (Branch c) s n m held = refl
-after_by g (Sync h) s n m held = refl
-after_by g (Query x c) s n m held = refl
-after_by g (Call c) s n m held = refl
-after_by g Exit s n m held = refl
+after_by g _ s n m held = refl
 
 -- a move does to what is held what its node does
 pub after_is : (g : List GraphNode) (s : Spot) (held : Holding) → after_move (move g s) held ≡ held_after (over_objects g) (place_at g s.node).node held
@@ -56,24 +51,19 @@ next_three P Q R T f (Queries o s) p q r = λ v. f (s v) (p v) (q v) (r v)
 pub sound_next : (m : Move) (held : Holding) (go : Spot → Synced) (l : Locals) → IsSoundSynced held (tree_of_move go l m)
     → EachNext (λ t. IsSoundSynced (after_move m held) (go t)) m
 sound_next Ends held go l w = tt
-sound_next (Goes s) held go l w = w
-sound_next (Calls r s) held go l w = w
-sound_next (Syncs h s) held go l w = w
 sound_next (Queries r s) held go l w = w.1
+sound_next _ held go l w = w
 
 -- the same said otherwise from the next spots on
 pub sound_said : (m : Move) (held : Holding) (go other : Spot → Synced) (l : Locals) → IsSoundSynced held (tree_of_move go l m)
     → EachNext (λ t. IsSoundSynced (after_move m held) (other t)) m → IsSoundSynced held (tree_of_move other l m)
 sound_said Ends held go other l w each = tt
-sound_said (Goes s) held go other l w each = each
-sound_said (Calls r s) held go other l w each = each
-sound_said (Syncs h s) held go other l w each = each
 sound_said (Queries r s) held go other l w each = (w.0, each)
+sound_said _ held go other l w each = each
 
 pub erased_said : (m : Move) (go other : Spot → Synced) (l : Locals) → EachNext (λ t. without_syncs (other t) ≡ without_syncs (go t)) m
     → without_syncs (tree_of_move other l m) ≡ without_syncs (tree_of_move go l m)
 erased_said Ends go other l each = refl
-erased_said (Goes s) go other l each = each
 erased_said (Calls r s) go other l each = ap (tree.Call r) each
-erased_said (Syncs h s) go other l each = each
 erased_said (Queries r s) go other l each = ap (tree.Query r) (fun_ext each)
+erased_said _ go other l each = each

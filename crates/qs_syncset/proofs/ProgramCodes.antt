@@ -10,7 +10,7 @@ use Rattle.qs_program.specs.audit.Loads.{load_of}
 use Rattle.qs_program.specs.audit.Program.{ProgramShape, binding_of, block_at, blocks_of}
 use Rattle.qs_program.specs.Sound.{IsSound}
 use Rattle.qs_graph.specs.declared.node.Node.{Node}
-use Rattle.qs_graph.specs.declared.node.Node.TheVariants.{Entry, Local, Branch, Sync, Query, Call, Exit}
+use Rattle.qs_graph.specs.declared.node.Node.TheVariants.{Sync}
 use Rattle.qs_graph.specs.audit.Bound.{bound_nodes}
 use Rattle.qs_graph.specs.audit.Names.{graph_of}
 use Rattle.qs_graph.specs.audit.Nodes.{ControlGraph, GraphNode, made_local}
@@ -26,17 +26,12 @@ use Rattle.qs_syncset.proofs.CoalescedPlaces.{AreCoalesced, coalesced_one_by_one
 
 module _ (g : ControlGraph) (ok : IsGraph g.nodes) where
   one_place : (m : ℕ) (p : GraphNode) (v : Node) → IsInRange v → (q : GraphNode) × IsRemovedIfHeld (IsHeld g m) v p q
-  one_place m p Entry within = (p, refl)
-  one_place m p (Local a) within = (p, refl)
-  one_place m p (Branch c) within = (p, refl)
   one_place m p (Sync h) within =
       ⊎_elim
       (λ (held : IsHeld g m h). (made_local p, inl (held, refl)))
       (λ (not_held : IsHeld g m h → ⊥). (p, inr (not_held, refl)))
       (held_or_not g ok m h within)
-  one_place m p (Query x c) within = (p, refl)
-  one_place m p (Call c) within = (p, refl)
-  one_place m p Exit within = (p, refl)
+  one_place m p _ within = (p, refl)
 
   each_place : (m k : ℕ) (ps : List GraphNode) → AllByRecursion (IsGraphNode k) ps
       → (new : List GraphNode) × AreCoalesced g m ps new

@@ -59,13 +59,8 @@ module _ (binding : List ℕ) (g : ControlGraph) (known : AreNamesKnown binding 
   -- a call of an object is a call that may be one of each of its names
   call_back : (m sync h : ℕ) → (place_at g.nodes sync).node ≡ Sync h → (v : Node) → (place_at g.nodes m).node ≡ v
       → IsCallOf (over_objects objects) (bound binding h) (bound_node binding v) → IsCallOf g h v
-  call_back m sync h s Entry e c = c
-  call_back m sync h s (Local a) e c = c
-  call_back m sync h s (Branch b) e c = c
-  call_back m sync h s (Sync k) e c = c
-  call_back m sync h s (Query x q) e c = c
   call_back m sync h s (Call q) e c = known m sync q h e s (same_if (bound binding q.object) (bound binding h) c)
-  call_back m sync h s Exit e c = c
+  call_back m sync h s _ e c = c
 
   none_since : (sync h : ℕ) → (place_at g.nodes sync).node ≡ Sync h → (since : List ℕ)
       → AllByRecursion (λ m. IsCallOf g h (place_at g.nodes m).node → ⊥) since
@@ -104,9 +99,6 @@ module _ (binding : List ℕ) (g : ControlGraph) (known : AreNamesKnown binding 
     place_by : (n : ℕ) (v : Node) → (place_at g.nodes n).node ≡ v
         → IsRemovedIfHeld (IsHeld g n) v (place_at g.nodes n) (place_at new n)
         → (place_at left_objects n ≡ place_at objects n) ⊎ IsRemovedHere objects left_objects n
-    place_by n Entry e r = inl (kept_bound n r)
-    place_by n (Local a) e r = inl (kept_bound n r)
-    place_by n (Branch b) e r = inl (kept_bound n r)
     place_by n (Sync h) e (inl w) = inr (record {
       handler = bound binding h;
       sync = node_bound n (Sync h) e;
@@ -114,9 +106,7 @@ module _ (binding : List ℕ) (g : ControlGraph) (known : AreNamesKnown binding 
       place = gone_bound n w.1;
     })
     place_by n (Sync h) e (inr w) = inl (kept_bound n w.1)
-    place_by n (Query x q) e r = inl (kept_bound n r)
-    place_by n (Call q) e r = inl (kept_bound n r)
-    place_by n Exit e r = inl (kept_bound n r)
+    place_by n _ e r = inl (kept_bound n r)
 
     counted : length objects ≡ length g.nodes
     counted = length-map g.nodes (bound_place binding)
@@ -138,17 +128,12 @@ module _ (binding : List ℕ) (g : ControlGraph) (known : AreNamesKnown binding 
       -- a node whose object's node is a synchronisation is one itself
       left_by : (n j : ℕ) (v : Node) → (place_at g.nodes n).node ≡ v → bound_node binding v ≡ Sync j
           → IsRemovedIfHeld (IsHeld g n) v (place_at g.nodes n) (place_at new n) → place_at left_objects n ≡ place_at objects n → held n ≡ false
-      left_by n j Entry e is r same = absurd (cc)
-      left_by n j (Local a) e is r same = absurd (cc)
-      left_by n j (Branch b) e is r same = absurd (cc)
       left_by n j (Sync h) e is (inl w) same =
           let now : (place_at left_objects n).node ≡ Local Nothing = ap (λ (p : GraphNode). p.node) (gone_bound n w.1) in
           let never : Local Nothing ≡ Sync (bound binding h) = sym now ∙ (ap (λ (p : GraphNode). p.node) same ∙ node_bound n (Sync h) e) in
           absurd (cc)
       left_by n j (Sync h) e is (inr w) same = to_false (held n) (λ t. w.0 ((decides n h e).0 t))
-      left_by n j (Query x q) e is r same = absurd (cc)
-      left_by n j (Call q) e is r same = absurd (cc)
-      left_by n j Exit e is r same = absurd (cc)
+      left_by n j _ e is r same = absurd (cc)
 
       gone_by : (n : ℕ) (v : Node) → (place_at g.nodes n).node ≡ v → IsRemovedHere objects left_objects n
           → IsRemovedIfHeld (IsHeld g n) v (place_at g.nodes n) (place_at new n) → held n ≡ true

@@ -1,10 +1,9 @@
 -- One step of coalescing treats one node: its synchronisation is removed where its handler is held, and every other
 -- node stays as it is. The loop of `coalesce` stands on it. Its invariant, `IsDone`, says that the nodes before the
 -- current one are done and the others unchanged, so that at the end the whole graph is coalesced.
-use Rattle.std.proofs.Common.{◌≡◌, ℕ, ◌+◌, ◌<◌, ◌≤◌, inl, inr, List, length, set, refl, sym, ap, ◌∙◌, arith, subst, below_more}
-use Rattle.std.proofs.lemmas.List.{length-set, get_or-set_same, get_or-set_other}
+use Rattle.std.proofs.Common.{◌≡◌, ℕ, ◌+◌, ◌<◌, ◌≤◌, inl, inr, List, length, set, refl, sym, ap, ◌∙◌, arith, subst, below_more, length-set, get_or-set_same, get_or-set_other}
 use Rattle.qs_graph.specs.declared.node.Node.{Node}
-use Rattle.qs_graph.specs.declared.node.Node.TheVariants.{Entry, Local, Branch, Sync, Query, Call, Exit}
+use Rattle.qs_graph.specs.declared.node.Node.TheVariants.{Sync}
 use Rattle.qs_graph.specs.audit.Nodes.{ControlGraph, GraphNode, place_at, exit, made_local}
 use Rattle.qs_syncset.specs.audit.held.Held.{IsHeld}
 use Rattle.qs_syncset.specs.audit.Coalesced.{IsRemovedIfHeld}
@@ -26,13 +25,8 @@ pub not_held : (held : ℕ → Type 0) (h : ℕ) (old : GraphNode) → old.node 
 not_held held h old e other = rw e (inr (other, refl))
 
 no_sync_by : (held : ℕ → Type 0) (v : Node) (old : GraphNode) → ((h : ℕ) → v ≡ Sync h → ⊥) → IsRemovedIfHeld held v old old
-no_sync_by held Entry old other = refl
-no_sync_by held (Local a) old other = refl
-no_sync_by held (Branch c) old other = refl
 no_sync_by held (Sync h) old other = absurd (other h refl)
-no_sync_by held (Query x c) old other = refl
-no_sync_by held (Call c) old other = refl
-no_sync_by held Exit old other = refl
+no_sync_by held _ old other = refl
 
 pub no_sync : (held : ℕ → Type 0) (old : GraphNode) → ((h : ℕ) → old.node ≡ Sync h → ⊥) → IsRemovedIfHeld held old.node old old
 no_sync held old other = no_sync_by held old.node old other

@@ -22,6 +22,4 @@ short_list xs m distinct below = length-le_from_distinct_below xs m distinct (λ
 pub few_reserved : (p : ProgramShape) (c k : ℕ) → IsSound p → c < length p.clients → k < blocks_of p c → length (block_at p c k).reserved ≤ most_handlers
 few_reserved p c k sound client inside =
     let block : IsSoundBlock p.objects (block_at p c k) = sound_block p c k sound client inside in
-    let short = short_list (block_at p c k).reserved (length p.objects) block.distinct block.reserved in
-    let objects = sound.objects in
-    omega (arith, short, objects)
+    omega (arith, short_list (block_at p c k).reserved (length p.objects) block.distinct block.reserved, sound.objects)

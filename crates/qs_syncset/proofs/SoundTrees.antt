@@ -5,7 +5,7 @@ use Rattle.qs_program.specs.audit.Statements.{Statements, end, command, query, a
 use Rattle.qs_program.specs.audit.Values.{Locals, expr_value, test_value}
 use Rattle.qs_program.specs.declared.program.Declared.{Declared}
 use Rattle.qs_graph.specs.declared.node.Node.{Node}
-use Rattle.qs_graph.specs.declared.node.Node.TheVariants.{Entry, Local, Branch, Sync, Query, Call, Exit}
+use Rattle.qs_graph.specs.declared.node.Node.TheVariants.{Sync, Query, Call, Exit}
 use Rattle.qs_graph.specs.audit.Nodes.{GraphNode, place_at, exit}
 use Rattle.qs_graph.specs.SoundNodes.{IsSoundNode, AreSoundNodes}
 use Rattle.qs_graph.specs.audit.Synced.{Synced, Done}
@@ -54,13 +54,11 @@ block_sound b l held = meaning_sound b Done Done (λ _ _. tt) (λ _ _. tt) held 
 module _ (objects : List Declared) (reserved : List ℕ) where
   said_reserved : (go : Spot → Synced) → ((t : Spot) → IsOnReserved reserved (go t)) → (l : Locals) (v : Node) (s : Spot) (n m : ℕ)
       → IsSoundNode objects reserved v → IsOnReserved reserved (tree_of_move go l (move_by v s n m))
-  said_reserved go ok l Entry s n m sound = ok _
-  said_reserved go ok l (Local a) s n m sound = ok _
-  said_reserved go ok l (Branch c) s n m sound = ok _
   said_reserved go ok l (Sync h) s n m sound = (sound, ok _)
   said_reserved go ok l (Query x c) s n m sound = (sound.1.reserves, λ v. ok _)
   said_reserved go ok l (Call c) s n m sound = (sound.reserves, ok _)
   said_reserved go ok l Exit s n m sound = tt
+  said_reserved go ok l _ s n m sound = ok _
 
   pub walk_reserved : (g : List GraphNode) → AreSoundNodes objects reserved g → (n : ℕ) (s : Spot) → IsOnReserved reserved (walk g n s)
   unfolding move

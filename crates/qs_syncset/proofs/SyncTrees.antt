@@ -121,13 +121,10 @@ module _ (h : ℕ) where
     -- where none is removed, without the test: one for each query
     pub plain_is : (tree : Synced) (es : List Event) (held : Bool) (rest : Interaction) → IsAsking tree → AreAllSynced false tree
         → AsksOnly may (without_syncs tree) → Leads (without_syncs tree) es rest → syncs_along false h held tree es ≡ queries h es
-    plain_is (Done l) [] held rest a s o p = refl
     plain_is (Done l) (e ∷ es) held rest a s o p = absurd p
-    plain_is (Call r next) [] held rest a s o p = refl
     plain_is (Call r next) (e ∷ es) held rest a s o p =
         plain_is next es (if r.object == h then false else held) rest a s o.2 p.1
         ∙ sym (command_asks_none e es (asked_one r e false (ap (λ (e : Event). e.request) p.0) o.0))
-    plain_is (Sync g (Query r next)) [] held rest a s o p = refl
     plain_is (Sync g (Query r next)) (e ∷ es) held rest a s o p =
         let v = value_of e.reply in
         by_case (g == h) (ap (λ k. k == h) a.0 ∙ sym (on_h r e p.0))
@@ -144,14 +141,13 @@ module _ (h : ℕ) where
     plain_is (Sync g (Call r next)) es held rest a s o p = absurd a.0
     plain_is (Sync g (Sync k next)) es held rest a s o p = absurd a.0
     plain_is (Query r next) es held rest a s o p = absurd (let never : false ≡ true = s.0 in cc)
+    plain_is _ [] held rest a s o p = refl
 
     -- with the test: one for each query that comes first or after a command
     pub runs_is : (tree : Synced) (es : List Event) (held : Holding) (asked : Bool) (rest : Interaction) → (held h ≡ true → asked ≡ true)
         → IsAsking tree → IsSoundSynced held tree → AsksOnly may (without_syncs tree) → Leads (without_syncs tree) es rest
         → syncs_along true h asked tree es ≡ first_queries asked (part h es)
-    runs_is (Done l) [] held asked rest less a s o p = refl
     runs_is (Done l) (e ∷ es) held asked rest less a s o p = absurd p
-    runs_is (Call r next) [] held asked rest less a s o p = refl
     runs_is (Call r next) (e ∷ es) held asked rest less a s o p =
         let same : e.request ≡ r = ap (λ (e : Event). e.request) p.0 in
         runs_is next es (put held r.object false) (if r.object == h then false else asked) rest (by_case (r.object == h)) a s o.2 p.1
@@ -161,7 +157,6 @@ module _ (h : ℕ) where
         by_case : (b : Bool) → (if b then false else held h) ≡ true → (if b then false else asked) ≡ true
         by_case true i = i
         by_case false i = less i
-    runs_is (Sync g (Query r next)) [] held asked rest less a s o p = refl
     runs_is (Sync g (Query r next)) (e ∷ es) held asked rest less a s o p =
         let v = value_of e.reply in
         by_case (g == h) refl (ap (λ k. k == h) a.0 ∙ sym (on_h r e p.0)) asked less
@@ -178,7 +173,6 @@ module _ (h : ℕ) where
     runs_is (Sync g (Done l)) es held asked rest less a s o p = absurd a.0
     runs_is (Sync g (Call r next)) es held asked rest less a s o p = absurd a.0
     runs_is (Sync g (Sync k next)) es held asked rest less a s o p = absurd a.0
-    runs_is (Query r next) [] held asked rest less a s o p = refl
     runs_is (Query r next) (e ∷ es) held asked rest less a s o p =
         let v = value_of e.reply in
         runs_is (next v) es held asked rest less (a v) (s.1 v) (o.2 v) p.1
@@ -191,22 +185,18 @@ module _ (h : ℕ) where
             let on : asked ≡ true = less (subst (λ k. held k ≡ true) (sym (ap (λ (r : Request). r.object) p.0) ∙ same) s.0) in
             rw on (omega arith)
         by_case false here = refl
+    runs_is _ [] held asked rest less a s o p = refl
 
     -- without the test, whatever was removed: at most one for each query
     pub most_is : (tree : Synced) (es : List Event) (held : Bool) (rest : Interaction) → IsAsking tree → AsksOnly may (without_syncs tree)
         → Leads (without_syncs tree) es rest → syncs_along false h held tree es ≤ queries h es
-    most_is (Done l) es held rest a o p = omega arith
-    most_is (Call r next) [] held rest a o p = omega arith
     most_is (Call r next) (e ∷ es) held rest a o p =
-        let more = most_is next es (if r.object == h then false else held) rest a o.2 p.1 in
         let same = command_asks_none e es (asked_one r e false (ap (λ (e : Event). e.request) p.0) o.0) in
-        omega (arith, more, same)
-    most_is (Sync g (Query r next)) [] held rest a o p = omega arith
+        omega (arith, most_is next es (if r.object == h then false else held) rest a o.2 p.1, same)
     most_is (Sync g (Query r next)) (e ∷ es) held rest a o p =
         let v = value_of e.reply in
-        let same = query_counts e es (asked_one r e true p.0 o.0) in
         let here = by_case (g == h) (ap (λ k. k == h) a.0 ∙ sym (on_h r e p.0)) (λ held. most_is (next v) es held rest (a.1 v) (o.2 v) p.1) in
-        omega (arith, here, same)
+        omega (arith, here, query_counts e es (asked_one r e true p.0 o.0))
       where
         by_case : (b : Bool) → b ≡ (e.request.object == h)
             → ((held : Bool) → syncs_along false h held (next (value_of e.reply)) es ≤ queries h es)
@@ -217,18 +207,14 @@ module _ (h : ℕ) where
     most_is (Sync g (Done l)) es held rest a o p = absurd a.0
     most_is (Sync g (Call r next)) es held rest a o p = absurd a.0
     most_is (Sync g (Sync k next)) es held rest a o p = absurd a.0
-    most_is (Query r next) [] held rest a o p = omega arith
     most_is (Query r next) (e ∷ es) held rest a o p =
         let more = most_is (next (value_of e.reply)) es held rest (a (value_of e.reply)) (o.2 (value_of e.reply)) p.1 in
-        let same = query_counts e es (asked_one r e true p.0 o.0) in
-        omega (arith, more, same)
+        omega (arith, more, query_counts e es (asked_one r e true p.0 o.0))
+    most_is _ _ held rest a o p = omega arith
 
   -- the test saves Syncs
   pub fewer_is : (tree : Synced) (es : List Event) (b c : Bool) → syncs_along true h b tree es ≤ syncs_along false h c tree es
-  fewer_is (Done l) es b c = omega arith
-  fewer_is (Call r next) [] b c = omega arith
   fewer_is (Call r next) (e ∷ es) b c = fewer_is next es (if r.object == h then false else b) (if r.object == h then false else c)
-  fewer_is (Sync g next) [] b c = omega arith
   fewer_is (Sync g next) (e ∷ es) b c = by_case (g == h) b (fewer_is next (e ∷ es) true true) (fewer_is next (e ∷ es) b c)
     where
       by_case : (x b : Bool) → syncs_along true h true next (e ∷ es) ≤ syncs_along false h true next (e ∷ es)
@@ -238,5 +224,5 @@ module _ (h : ℕ) where
       by_case true true i j = omega (arith, i)
       by_case true false i j = omega (arith, i)
       by_case false b i j = j
-  fewer_is (Query r next) [] b c = omega arith
   fewer_is (Query r next) (e ∷ es) b c = fewer_is (next (value_of e.reply)) es b c
+  fewer_is _ _ b c = omega arith

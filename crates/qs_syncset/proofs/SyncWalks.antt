@@ -1,15 +1,15 @@
 -- Along a walk through a coalesced graph the synchronisations are those of the graph as it is built, but for those that
 -- a test of what is held tells. The count of Syncs in the static mode stands on `kept_is`. It goes by induction on the
 -- nodes that the walk may take, with cases on whether the node's synchronisation was removed.
-use Rattle.std.proofs.Common.{◌≡◌, inl, inr, ℕ, zero, suc, ◌+◌, ◌<◌, Bool, true, false, ◌==◌, ◌&&◌, if◌then◌else◌, List, [], ◌∷◌, length, refl, sym, ap, ◌∙◌, subst, arith}
-use Rattle.std.specs.Prelude.{not}
+use Rattle.std.proofs.Common.{◌≡◌, inl, inr, ℕ, zero, suc, ◌+◌, ◌<◌, Bool, true, false, ◌==◌, ◌&&◌, if◌then◌else◌, List, [], ◌∷◌, length, refl, sym, ap, ◌∙◌, subst, arith, not}
+use Rattle.qs_graph.proofs.Saying.{next_up}
 use Rattle.qs_objects.specs.declared.held.Event.{Event}
 use Rattle.qs_objects.proofs.Elements.{AllByRecursion-get_or}
 use Rattle.qs_meaning.specs.audit.Solo.{value_of}
 use Rattle.qs_program.specs.audit.Values.{Locals}
 use Rattle.qs_program.specs.audit.Limits.{most_handlers}
 use Rattle.qs_graph.specs.declared.node.Node.{Node}
-use Rattle.qs_graph.specs.declared.node.Node.TheVariants.{Entry, Local, Branch, Sync, Query, Call, Exit}
+use Rattle.qs_graph.specs.declared.node.Node.TheVariants.{Sync}
 use Rattle.qs_graph.specs.audit.Nodes.{GraphNode, place_at, exit, first_target, made_local}
 use Rattle.qs_graph.specs.audit.Synced.{Synced}
 use Rattle.qs_graph.specs.audit.Walk.{Spot, Move, Ends, Goes, Calls, Syncs, Queries, at_node, move, move_by, tree_of_move, walk}
@@ -27,13 +27,8 @@ beyond g s = at_node s (first_target (place_at g s.node))
 
 -- a move to a synchronisation is made at its node
 syncs_by : (v : Node) (s : Spot) (a b j : ℕ) (t : Spot) → move_by v s a b ≡ Syncs j t → v ≡ Sync j
-syncs_by Entry s a b j t e = absurd (cc)
-syncs_by (Local x) s a b j t e = absurd (cc)
-syncs_by (Branch x) s a b j t e = absurd (cc)
 syncs_by (Sync k) s a b j t e = let same : k ≡ j = cc in ap Sync same
-syncs_by (Query x c) s a b j t e = absurd (cc)
-syncs_by (Call c) s a b j t e = absurd (cc)
-syncs_by Exit s a b j t e = absurd (cc)
+syncs_by _ s a b j t e = absurd (cc)
 
 syncs_at : (g : List GraphNode) (s : Spot) (j : ℕ) (t : Spot) → move g s ≡ Syncs j t → (place_at g s.node).node ≡ Sync j
 unfolding move
@@ -41,19 +36,8 @@ syncs_at g s j t e = syncs_by (place_at g s.node).node s _ _ j t e
 
 query_said : (h : ℕ) (go other : Spot → Synced) (l : Locals) (m : Move) → EachNext (λ t. IsQueryOf h (go t) → IsQueryOf h (other t)) m
     → IsQueryOf h (tree_of_move go l m) → IsQueryOf h (tree_of_move other l m)
-query_said h go other l Ends each q = q
 query_said h go other l (Goes s) each q = each q
-query_said h go other l (Calls r s) each q = q
-query_said h go other l (Syncs k s) each q = q
-query_said h go other l (Queries r s) each q = q
-
--- the same at the next spots
-next_both : (P Q : Spot → Type 0) → ((s : Spot) → P s → Q s) → (m : Move) → EachNext P m → EachNext Q m
-next_both P Q f Ends p = tt
-next_both P Q f (Goes s) p = f s p
-next_both P Q f (Calls r s) p = f s p
-next_both P Q f (Syncs h s) p = f s p
-next_both P Q f (Queries r s) p = λ v. f (s v) (p v)
+query_said h go other l _ each q = q
 
 module _ (g new : List GraphNode) (c : IsSoundRemoval g new) where
   query_here : (h n : ℕ) (s : Spot) → Within g n s → IsQueryOf h (walk g n s) → IsQueryOf h (walk new n s)
@@ -62,17 +46,16 @@ module _ (g new : List GraphNode) (c : IsSoundRemoval g new) where
     | inl same ↦
         subst (λ m. IsQueryOf h (tree_of_move (walk new n) s.locals m)) (sym (move_same g new s same))
         (query_said h (walk g n) (walk new n) s.locals (move g s)
-        (next_both (Within g n) (λ t. IsQueryOf h (walk g n t) → IsQueryOf h (walk new n t)) (query_here h n) (move g s) within.1) q)
+        (next_up (Within g n) (λ t. IsQueryOf h (walk g n t) → IsQueryOf h (walk new n t)) (query_here h n) (move g s) within.1) q)
     | inr r ↦ absurd (subst (λ m. IsQueryOf h (tree_of_move (walk g n) s.locals m)) (sync_moves g s r.handler r.sync) q)
   ]
 
   asking_said : (n : ℕ) (l : Locals) (m : Move) → EachNext (Within g n) m → EachNext (λ t. IsAsking (walk g n t) → IsAsking (walk new n t)) m
       → IsAsking (tree_of_move (walk g n) l m) → IsAsking (tree_of_move (walk new n) l m)
   asking_said n l Ends within each a = a
-  asking_said n l (Goes s) within each a = each a
-  asking_said n l (Calls r s) within each a = each a
   asking_said n l (Syncs h s) within each a = (query_here h n s within a.0, each a.1)
   asking_said n l (Queries r s) within each a = λ v. each v (a v)
+  asking_said n l _ within each a = each a
 
   -- a synchronisation that is left stands before a query as it did
   pub asking : (n : ℕ) (s : Spot) → Within g n s → IsAsking (walk g n s) → IsAsking (walk new n s)
@@ -81,7 +64,7 @@ module _ (g new : List GraphNode) (c : IsSoundRemoval g new) where
     | inl same ↦
         subst (λ m. IsAsking (tree_of_move (walk new n) s.locals m)) (sym (move_same g new s same))
         (asking_said n s.locals (move g s) within.1
-        (next_both (Within g n) (λ t. IsAsking (walk g n t) → IsAsking (walk new n t)) (asking n) (move g s) within.1) a)
+        (next_up (Within g n) (λ t. IsAsking (walk g n t) → IsAsking (walk new n t)) (asking n) (move g s) within.1) a)
     | inr r ↦ removed r (λ t within a. asking n t within a)
   ]
     where
@@ -105,11 +88,8 @@ module _ (g new : List GraphNode) (c : IsSoundRemoval g new) (held : ℕ → Boo
   kept_none (suc n) s = by_move (move g s) (λ t. kept_none n t)
     where
       by_move : (m : Move) → ((t : Spot) → kept_along g held h n t [] ≡ 0) → kept_by g held h (kept_along g held h n) s.node m [] ≡ 0
-      by_move Ends later = refl
       by_move (Goes t) later = later t
-      by_move (Calls r t) later = refl
-      by_move (Syncs j t) later = refl
-      by_move (Queries r t) later = refl
+      by_move _ later = refl
 
   abbrev pub Same : ℕ → Spot → Type 0
   Same n t = (es : List Event) (b : Bool) → syncs_along false h b (walk new n t) es ≡ kept_along g held h n t es
@@ -117,11 +97,8 @@ module _ (g new : List GraphNode) (c : IsSoundRemoval g new) (held : ℕ → Boo
   -- the place is as it was
   same_step : (n : ℕ) (s : Spot) (m : Move) → ((j : ℕ) (t : Spot) → m ≡ Syncs j t → held s.node ≡ false) → EachNext (Same n) m
       → (es : List Event) (b : Bool) → syncs_along false h b (tree_of_move (walk new n) s.locals m) es ≡ kept_by g held h (kept_along g held h n) s.node m es
-  same_step n s Ends left each es b = refl
   same_step n s (Goes t) left each es b = each es b
-  same_step n s (Calls r t) left each [] b = refl
   same_step n s (Calls r t) left each (e ∷ es) b = each es (if r.object == h then false else b)
-  same_step n s (Syncs j t) left each [] b = refl
   same_step n s (Syncs j t) left each (e ∷ es) b = by_case (j == h) refl
     where
       by_case : (x : Bool) → (j == h) ≡ x
@@ -131,14 +108,14 @@ module _ (g new : List GraphNode) (c : IsSoundRemoval g new) (held : ℕ → Boo
           let not_held : held s.node ≡ false = left j t refl in
           rw not_held (ap (λ k. 1 + k) (each (e ∷ es) true))
       by_case false is = let i = each (e ∷ es) b in omega (arith, i)
-  same_step n s (Queries r t) left each [] b = refl
   same_step n s (Queries r t) left each (e ∷ es) b = each (value_of e.reply) es b
+  same_step n s _ left each _ b = refl
 
   -- without the test, what is sent through the graph that is left is what is not held in the whole graph
   pub kept_is : (n : ℕ) (s : Spot) → Within g n s → Same n s
   kept_is zero s within es b = absurd within
   kept_is (suc n) s within es b =
-      let each : EachNext (Same n) (move g s) = next_both (Within g n) (Same n) (kept_is n) (move g s) within.1 in
+      let each : EachNext (Same n) (move g s) = next_up (Within g n) (Same n) (kept_is n) (move g s) within.1 in
       elim (c.places s.node within.0) [
         | inl same ↦
             subst (λ m. syncs_along false h b (tree_of_move (walk new n) s.locals m) es ≡ kept_along g held h (suc n) s es) (sym (move_same g new s same))

@@ -2,5 +2,4 @@ pub mod Paths
 pub mod Bits
 pub mod Transfer
 pub mod Visits
-pub mod Tables
 pub mod HeldOrNot

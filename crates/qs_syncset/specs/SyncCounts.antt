@@ -16,8 +16,8 @@ use Rattle.qs_graph.specs.audit.Nodes.{ControlGraph, GraphNode, place_at}
 use Rattle.qs_graph.specs.declared.node.Node.{Node}
 use Rattle.qs_graph.specs.audit.Steps.{limit}
 use Rattle.qs_graph.specs.declared.node.Node.TheVariants as node
-use Rattle.qs_graph.specs.audit.Synced.{Synced, Done, Call, Sync, Query}
-use Rattle.qs_graph.specs.audit.Walk.{Spot, Move, Ends, Goes, Calls, Syncs, Queries, entry, move, walk}
+use Rattle.qs_graph.specs.audit.Synced.{Synced, Call, Sync, Query}
+use Rattle.qs_graph.specs.audit.Walk.{Spot, Move, Goes, Calls, Syncs, Queries, entry, move, walk}
 use Rattle.qs_graph.specs.WellFormed.{IsGraph}
 use Rattle.qs_syncset.specs.declared.mode.Mode.{Mode}
 use Rattle.qs_syncset.specs.declared.mode.Mode.TheVariants.{Plain, Static}
@@ -48,14 +48,11 @@ runs h es = first_queries false (part h es)
 module _ (g : List GraphNode) (held : ℕ → Bool) (h : ℕ) where
   -- at node n, where `go` counts from the next spot on
   abbrev pub kept_by : (Spot → List Event → ℕ) → (n : ℕ) → Move → List Event → ℕ
-  kept_by go n Ends es = 0
   kept_by go n (Goes s) es = go s es
-  kept_by go n (Calls r s) [] = 0
   kept_by go n (Calls r s) (e ∷ es) = go s es
-  kept_by go n (Syncs k s) [] = 0
   kept_by go n (Syncs k s) (e ∷ es) = (if (k == h) && not (held n) then 1 else 0) + go s (e ∷ es)
-  kept_by go n (Queries r s) [] = 0
   kept_by go n (Queries r s) (e ∷ es) = go (s (value_of e.reply)) es
+  kept_by go n _ _ = 0
 
   -- within so many nodes
   abbrev pub kept_along : ℕ → Spot → List Event → ℕ
@@ -81,16 +78,13 @@ HasTest g = (held : ℕ → Bool) × Decides g held
 -- The Syncs for h along a tree with synchronisations whose queries are in the trace. With the dynamic test one is
 -- skipped where h is held: a synchronisation gives it, and a call sends it home.
 abbrev pub syncs_along : (dynamic : Bool) → (h : ℕ) → (held : Bool) → Synced → List Event → ℕ
-syncs_along dynamic h held (Done l) es = 0
-syncs_along dynamic h held (Call r next) [] = 0
 syncs_along dynamic h held (Call r next) (e ∷ es) =
     syncs_along dynamic h (if r.object == h then false else held) next es
-syncs_along dynamic h held (Sync g next) [] = 0
 syncs_along dynamic h held (Sync g next) (e ∷ es) =
     if g == h then (if dynamic && held then 0 else 1) + syncs_along dynamic h true next (e ∷ es)
     else syncs_along dynamic h held next (e ∷ es)
-syncs_along dynamic h held (Query r next) [] = 0
 syncs_along dynamic h held (Query r next) (e ∷ es) = syncs_along dynamic h held (next (value_of e.reply)) es
+syncs_along dynamic h held _ _ = 0
 
 -- at most one for each query, and at least one for each of its runs
 pub record AreOrdered (body : Statements) (l : Locals) (es : List Event) (h : ℕ) (held : ℕ → Bool) : Type 0 where

@@ -1,8 +1,7 @@
 -- A byte stands for a set of handlers: setting a bit adds one, clearing it removes one, and a set that shrinks has
 -- fewer. The computation of held sets works on such bytes, and it comes to an end because the sets shrink. It goes by
 -- cases on whether two bits are the same, and counts the eight bits by induction.
-use Rattle.std.proofs.Common.{◌≡◌, ◌≢◌, ℕ, Bool, zero, suc, ◌+◌, ◌-◌, ◌*◌, ◌%◌, ◌<◌, ◌≤◌, ◌^◌, ◌⊎◌, inl, inr, true, false, get_or, refl, sym, ap, subst, ◌∙◌, arith, bit_and, bit_or, min, w8}
-use Rattle.std.specs.Prelude.{◌&&◌, ◌==◌}
+use Rattle.std.proofs.Common.{◌≡◌, ◌≢◌, ℕ, Bool, zero, suc, ◌+◌, ◌-◌, ◌*◌, ◌%◌, ◌<◌, ◌≤◌, ◌^◌, ◌⊎◌, inl, inr, true, false, get_or, refl, sym, ap, subst, ◌∙◌, arith, bit_and, bit_or, min, w8, ◌&&◌, ◌==◌}
 use Rattle.std.specs.Int.{bit_at}
 use Rattle.std.proofs.lemmas.Bool.{cases_eq, cases_lt}
 use Rattle.std.proofs.lemmas.Nat.Bits.{bit_at_and, bit_at-lt, bit_at_set_same, bit_at_set_other, bit_at_clear_same, bit_at_clear_other, bit_at-zero, same_from_bits_below}
@@ -80,15 +79,8 @@ module _ (called : ℕ → Bool) (set left n : ℕ) (inside : n < most_handlers)
   }
 
 pub truths_at : (s h : ℕ) → h < most_handlers → get_or (truths s) h true ≡ in_byte s h
-truths_at s zero below = refl
-truths_at s (suc zero) below = refl
-truths_at s (suc (suc zero)) below = refl
-truths_at s (suc (suc (suc zero))) below = refl
-truths_at s (suc (suc (suc (suc zero)))) below = refl
-truths_at s (suc (suc (suc (suc (suc zero))))) below = refl
-truths_at s (suc (suc (suc (suc (suc (suc zero)))))) below = refl
-truths_at s (suc (suc (suc (suc (suc (suc (suc zero))))))) below = refl
 truths_at s (suc (suc (suc (suc (suc (suc (suc (suc n)))))))) below = absurd (omega arith)
+truths_at s _ below = refl
 
 -- ---- how many handlers a set has
 
@@ -135,6 +127,5 @@ pub shrunk_less : (a b : ℕ) → a < 2 ^ 8 → bit_and a b < 2 ^ 8 → bit_and 
 shrunk_less a b small both shrunk = elim (cases_lt (size (bit_and a b)) (size a)) [
   | inl fewer ↦ fewer
   | inr as_many ↦
-      let each = total_same 8 (bit_at a) (bit_at (bit_and a b)) (bit_less a b) as_many in
-      absurd (shrunk (same_from_bits_below 8 (bit_and a b) a both small each))
+      absurd (shrunk (same_from_bits_below 8 (bit_and a b) a both small (total_same 8 (bit_at a) (bit_at (bit_and a b)) (bit_less a b) as_many)))
 ]

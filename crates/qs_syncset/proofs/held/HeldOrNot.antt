@@ -2,10 +2,9 @@
 -- believed: no node but Entry is reached, and everything is held elsewhere. Where what goes out of a reached node has
 -- not come to the next one, one belief is given up, with a path that shows why. There are only so many of them, so at
 -- last nothing changes any more, and what is believed then is so.
-use Rattle.std.proofs.Common.{◌≡◌, ◌≢◌, ◌⊎◌, inl, inr, ⊎_elim, ◌∙◌, ℕ, zero, suc, ◌+◌, ◌<◌, ◌≤◌, ◌==◌, arith, Bool, true, false, true≢false, if◌then◌else◌, List, [], ◌∷◌, length, refl, sym, ap, subst}
-use Rattle.std.specs.Prelude.{not}
+use Rattle.std.proofs.Common.{◌≡◌, ◌≢◌, ◌⊎◌, inl, inr, ⊎_elim, ◌∙◌, ℕ, zero, suc, ◌+◌, ◌<◌, ◌≤◌, ◌==◌, arith, Bool, true, false, true≢false, if◌then◌else◌, List, [], ◌∷◌, length, refl, sym, ap, subst, not}
 use Rattle.std.specs.List.{AllByRecursion}
-use Rattle.std.proofs.lemmas.Bool.{cases_lt}
+use Rattle.std.proofs.lemmas.Bool.{cases_lt, not-true}
 use Rattle.std.proofs.lemmas.List.{get_or_past}
 use Rattle.qs_objects.proofs.Choices.{apart_eqb, eqb_apart, num_cases}
 use Rattle.qs_objects.proofs.Elements.{AllByRecursion-get_or}
@@ -187,13 +186,9 @@ module _ (g : ControlGraph) (ok : IsGraph g.nodes) where
 
   witnessed : (s : Beliefs) → IsFair s → AreWitnessed g (reached s) s
   witnessed s fair = record {
-    reach = λ n is. (fair.shows n most_handlers (turned (s n most_handlers) is)).path refl;
+    reach = λ n is. (fair.shows n most_handlers (not-true (s n most_handlers) is)).path refl;
     miss = λ n h less f. (fair.shows n h f).missed less;
   }
-    where
-      turned : (b : Bool) → not b ≡ true → b ≡ false
-      turned true is = absurd (let never : false ≡ true = is in cc)
-      turned false is = refl
 
   -- what goes out of a node
   abbrev out : Beliefs → ℕ → ℕ → Bool

@@ -1,10 +1,9 @@
 -- An object is held along a path exactly where a synchronisation with it stands on the path and no call of it comes
 -- after that. The proofs on the computed sets and on worked graphs stand on it, and on `held_is`: what is passed on
 -- along all edges, and missing only where some path shows it, is what is held. Both go by induction on the path.
-use Rattle.std.proofs.Common.{◌≡◌, ◌≢◌, ℕ, ◌<◌, ◌⊎◌, inl, inr, Bool, true, false, ◌==◌, List, [], ◌∷◌, ◌++◌, refl, sym, ap, ◌∙◌, subst}
-use Rattle.std.proofs.lemmas.Bool.{cases_eq, eq-eqb, ne_eqb}
+use Rattle.std.proofs.Common.{◌≡◌, ◌≢◌, ℕ, ◌<◌, inl, inr, Bool, true, false, ◌==◌, List, [], ◌∷◌, ◌++◌, refl, sym, ap, ◌∙◌, subst, ◌↔◌}
+use Rattle.std.proofs.lemmas.Bool.{cases_eq, eq-eqb, ne_eqb, cases_Bool, true_from_ne_false}
 use Rattle.std.specs.List.{AllByRecursion}
-use Rattle.std.specs.Prelude.{◌↔◌}
 use Rattle.qs_program.specs.audit.Limits.{most_handlers}
 use Rattle.qs_meaning.specs.audit.Solo.{put}
 use Rattle.qs_graph.specs.declared.node.Node.{Node}
@@ -20,10 +19,6 @@ put_same f h b = let e : (h == h) ≡ true = eq-eqb h h refl in rw e refl
 
 pub put_other : (f : Holding) (k h : ℕ) (b : Bool) → k ≢ h → put f k b h ≡ f h
 put_other f k h b ne = let e : (k == h) ≡ false = ne_eqb k h ne in rw e refl
-
-is_or_not : (b : Bool) → (b ≡ true) ⊎ (b ≡ false)
-is_or_not true = inl refl
-is_or_not false = inr refl
 
 pub without_called : (called : ℕ → Bool) (f : Holding) (h : ℕ) → called h ≡ true → without called f h ≡ false
 without_called called f h t = rw t refl
@@ -56,7 +51,7 @@ synced_step g h m before held (Sync k) e synced t = elim (cases_eq k h) [
   | inr other ↦ sync_on g h m before (λ c. rw e at c) (synced (sym (put_other held k h true other) ∙ t))
 ]
 synced_step g h m before held (Query x c) e synced t = sync_on g h m before (λ c. rw e at c) (synced t)
-synced_step g h m before held (Call c) e synced t = elim (is_or_not (may_be_one g c.object h)) [
+synced_step g h m before held (Call c) e synced t = elim (cases_Bool (may_be_one g c.object h)) [
   | inl same ↦ absurd (let f : false ≡ true = sym (without_called (may_be_one g c.object) held h same) ∙ t in cc)
   | inr other ↦
       sync_on g h m before (λ d. let same : may_be_one g c.object h ≡ true = rw e at d in let f : false ≡ true = sym other ∙ same in cc)
@@ -83,7 +78,7 @@ kept g (Local a) held h other t = t
 kept g (Branch c) held h other t = t
 kept g (Sync k) held h other t = put_true held k h t
 kept g (Query x c) held h other t = t
-kept g (Call c) held h other t = elim (is_or_not (may_be_one g c.object h)) [
+kept g (Call c) held h other t = elim (cases_Bool (may_be_one g c.object h)) [
   | inl same ↦ absurd (other same)
   | inr apart ↦ without_other (may_be_one g c.object) held h apart ∙ t
 ]
@@ -121,7 +116,7 @@ missed_after g m h (Sync k) held w miss f = elim (cases_eq k h) [
       missed_on g m h (Sync k) (λ d. put_other d k h true other) (miss (sym (put_other held k h true other) ∙ f))
 ]
 missed_after g m h (Query x c) held w miss f = missed_on g m h (Query x c) (λ _. refl) (miss f)
-missed_after g m h (Call c) held w miss f = elim (is_or_not (may_be_one g c.object h)) [
+missed_after g m h (Call c) held w miss f = elim (cases_Bool (may_be_one g c.object h)) [
   | inl same ↦ record {
     before = w.before;
     path = w.path;
@@ -144,7 +139,7 @@ monotone g (Sync k) h less more up t = elim (cases_eq k h) [
   | inr other ↦ put_other more k h true other ∙ up (sym (put_other less k h true other) ∙ t)
 ]
 monotone g (Query x c) h less more up t = up t
-monotone g (Call c) h less more up t = elim (is_or_not (may_be_one g c.object h)) [
+monotone g (Call c) h less more up t = elim (cases_Bool (may_be_one g c.object h)) [
   | inl same ↦ absurd (let f : false ≡ true = sym (without_called (may_be_one g c.object) less h same) ∙ t in cc)
   | inr other ↦
       without_other (may_be_one g c.object) more h other ∙ up (sym (without_other (may_be_one g c.object) less h other) ∙ t)
@@ -181,16 +176,12 @@ module _ (g : ControlGraph) (reached : ℕ → Bool) (held : ℕ → Holding) wh
         below = λ h l t. monotone g (place_at g.nodes m).node h (held m) (held_along g before) (earlier.below h l) (come.below h l t);
       }
 
-  by_value : (b : Bool) → (b ≡ false → ⊥) → b ≡ true
-  by_value true missing = refl
-  by_value false missing = absurd (missing refl)
-
   -- where nothing changes any more, what is known to be held is what is held
   pub held_is : AreWitnessed g reached held → IsAtEntry reached held → ((m : ℕ) → reached m ≡ true → IsPassedOn g reached held m)
       → (n h : ℕ) → h < most_handlers → (held n h ≡ true) ↔ IsHeld g n h
   held_is w start closed n h l = (
     λ t before path. synced_from g h before ((below start closed before n path).below h l t),
-    λ all. by_value (held n h) (λ f.
+    λ all. true_from_ne_false (held n h) (λ f.
         let x = w.miss n h l f in
         let t : true ≡ false = sym (synced_along g h x.before (all x.before x.path)) ∙ x.missed in cc),
   )

@@ -1,8 +1,7 @@
 -- When a set is passed along an edge, all that was known of the nodes stays true: what is reached has a path, and what
 -- is missing at a node is missing along some path to it. The proofs on a visit of a node stand on it. It goes by cases
 -- on whether a node is the one at which the set arrives.
-use Rattle.std.proofs.Common.{◌≡◌, ◌≢◌, ℕ, ◌<◌, ◌/◌, ◌^◌, inl, inr, true, false, List, [], length, get_or, set, sym, ap, subst, ◌∙◌, arith, bit_and}
-use Rattle.std.specs.Prelude.{◌&&◌, ◌==◌}
+use Rattle.std.proofs.Common.{◌≡◌, ◌≢◌, ℕ, ◌<◌, ◌/◌, ◌^◌, inl, inr, true, false, List, [], length, get_or, set, sym, ap, subst, ◌∙◌, arith, bit_and, ◌&&◌, ◌==◌}
 use Rattle.std.proofs.lemmas.Bool.{and_cases, and_parts, cases_eq, cases_lt}
 use Rattle.std.proofs.lemmas.List.{get_or-map, get_or-set_other, get_or-set_same, get_or_default, get_or_past, length-map}
 use Rattle.std.proofs.lemmas.Nat.Bits.{shr_and_one}

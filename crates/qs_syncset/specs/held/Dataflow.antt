@@ -1,6 +1,5 @@
 -- What is known of the nodes while their sets are sought, and which nodes are left to visit.
-use Rattle.std.specs.Prelude.{◌≡◌, ◌≢◌, ℕ, ◌+◌, ◌<◌, ◌^◌, ◌⊎◌, Bool, true, false, cond, List, [], ◌∷◌, ◌++◌, length, slice_index_or, slice_set, bit_and, All, Contains}
-use Rattle.std.specs.List.{sum_by}
+use Rattle.std.specs.Prelude.{◌≡◌, ◌≢◌, ℕ, ◌+◌, ◌<◌, ◌^◌, ◌⊎◌, Bool, true, false, cond, List, [], ◌∷◌, ◌++◌, length, slice_index_or, slice_set, bit_and, All, Contains, sum_by}
 use Rattle.qs_program.specs.audit.Limits.{most_handlers}
 use Rattle.qs_graph.specs.audit.Nodes.{ControlGraph}
 use Rattle.qs_objects.specs.ByteSets.{in_byte}

@@ -1,5 +1,4 @@
-use Rattle.std.proofs.Common.{◌≡◌, ℕ, ◌<◌, ◌≤◌, length, slice_index_or}
-use Rattle.std.specs.Prelude.{vec_capacity}
+use Rattle.std.proofs.Common.{◌≡◌, ℕ, ◌<◌, ◌≤◌, length, slice_index_or, vec_capacity}
 use Rattle.qs_program.specs.audit.Program.{binding_of, block_at}
 use Rattle.qs_graph.specs.audit.Names.{graph_of}
 use Rattle.qs_syncset.specs.audit.Codes.{IsBlockCode, no_code}

@@ -1,5 +1,4 @@
-use Rattle.std.proofs.Common.{◌≡◌, ℕ, ◌+◌, ◌<◌, true, false, arith, sym, ap, ◌∙◌, length, subst, List}
-use Rattle.std.specs.Prelude.{◌↔◌}
+use Rattle.std.proofs.Common.{◌≡◌, ℕ, ◌+◌, ◌<◌, true, false, arith, sym, ap, ◌∙◌, length, subst, List, ◌↔◌}
 use Rattle.qs_objects.proofs.Elements.{AllByRecursion-get_or}
 use Rattle.qs_graph.specs.declared.node.Node.TheVariants.{Sync}
 use Rattle.qs_graph.specs.audit.Nodes.{ControlGraph, GraphNode, place_at}
@@ -43,7 +42,7 @@ loop-n-preserved c =
           subst (IsDoneWith g (n + 1)) (sym w.graph-is)
           (record {
             done = subst (λ (now : List GraphNode). IsDone g now (n + 1)) (sym w.make_local.ensures.change)
-                (done_set g c.loop-n.graph.nodes n (omega (arith, inside c, c.loop-n.invariant.done.count)) c.loop-n.invariant.done
+                (done_set _ _ _ (omega (arith, inside c, c.loop-n.invariant.done.count)) c.loop-n.invariant.done
                 (removed (IsHeld g n) w.in-Sync.handler (place_at g.nodes n) is held));
             names = w.make_local.ensures.same_names ∙ kept;
             aliases = w.make_local.ensures.same_aliases ∙ c.loop-n.invariant.aliases;
@@ -53,8 +52,7 @@ loop-n-preserved c =
           let missing : has c.args.sets.now n w.in-Sync.handler ≡ false = sym w.holds.ensures.value ∙ w.if-holds.false in
           subst (IsDoneWith g (n + 1)) (sym w.graph-is)
           (record {
-            done = done_kept g c.loop-n.graph.nodes n c.loop-n.invariant.done
-                (not_held (IsHeld g n) w.in-Sync.handler (place_at g.nodes n) is (λ held.
+            done = done_kept _ _ _ c.loop-n.invariant.done (not_held (IsHeld g n) w.in-Sync.handler _ is (λ held.
                 let never : true ≡ false = sym ((exact c w.in-Sync.handler is).1 held) ∙ missing in cc));
             names = kept;
             aliases = c.loop-n.invariant.aliases;
@@ -62,8 +60,7 @@ loop-n-preserved c =
       | in_default w ↦
           subst (IsDoneWith g (n + 1)) (sym w.graph-is)
           (record {
-            done = done_kept g c.loop-n.graph.nodes n c.loop-n.invariant.done
-                (no_sync (IsHeld g n) (place_at g.nodes n) (λ h e. w.in_default.not-Sync h (sym node_same ∙ e)));
+            done = done_kept _ _ _ c.loop-n.invariant.done (no_sync (IsHeld g n) _ (λ h e. w.in_default.not-Sync h (sym node_same ∙ e)));
             names = kept;
             aliases = c.loop-n.invariant.aliases;
           })

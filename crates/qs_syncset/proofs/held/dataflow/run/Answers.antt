@@ -3,6 +3,5 @@ use Rattle.qs_syncset.proofs.held.dataflow.run.Goals as goal
 
 pub visit-requires : goal.visit-requires
 visit-requires g c = record {
-  taken = work_taken c.args.graph.now c.turns.reached c.turns.sets c.turns.list c.pop.new.self c.in-Some.node c.in-Some.ensures.last
-      c.turns.invariant.work;
+  taken = work_taken _ c.turns.reached c.turns.sets _ c.pop.new.self _ c.in-Some.ensures.last c.turns.invariant.work;
 }

@@ -4,12 +4,11 @@ use Rattle.qs_syncset.proofs.held.dataflow.run.Given as goal
 
 abbrev pub invariant-turns : goal.invariant-turns
 invariant-turns g l =
-    let before = state l.fn.reached l.fn.sets l.fn.list in
     let now = state l.reached l.sets l.list in
     record {
       work : IsWork l.graph now;
       counted : l.fn.turns + length l.fn.list ≤ l.turns + length l.list;
-      cost : l.turns + turns_left now ≤ l.fn.turns + turns_left before;
+      cost : l.turns + turns_left now ≤ l.fn.turns + turns_left (state l.fn.reached l.fn.sets l.fn.list);
     }
 
 abbrev pub decreases-turns : goal.decreases-turns

@@ -1,5 +1,4 @@
-use Rattle.std.proofs.Common.{◌≡◌, ℕ, ◌<◌, length, get_or, take, sym, subst, ◌∙◌, arith}
-use Rattle.std.proofs.lemmas.List.{take_all}
+use Rattle.std.proofs.Common.{◌≡◌, ℕ, ◌<◌, length, get_or, take, sym, subst, ◌∙◌, arith, take_all}
 use Rattle.qs_program.specs.audit.Limits.{most_handlers}
 use Rattle.qs_graph.specs.audit.Nodes.{place_at}
 use Rattle.qs_graph.specs.audit.Paths.{IsAmong, HasEdge}
@@ -20,9 +19,8 @@ sent c =
     let first = state c.args.reached.now c.args.sets.now c.args.list.now in
     let known = c.requires.taken.known in
     let inside : c.args.node < length c.args.sets.now =
-    omega (arith, reached_inside first c.args.node c.requires.taken.reached, known.each_reached, known.each_set) in
-    sent_from c.args.graph.now c.node.result.now c.after-out.result first c.args.node 0 c.node.ensures.value inside
-    c.after-out.ensures.value
+    omega (arith, reached_inside first _ c.requires.taken.reached, known.each_reached, known.each_set) in
+    sent_from c.args.graph.now _ c.after-out.result first _ 0 c.node.ensures.value inside c.after-out.ensures.value
 
 pub loop-to-preserved : goal.loop-to-preserved
 loop-to-preserved c =
@@ -37,27 +35,22 @@ loop-to-preserved c =
     let visit = c.loop-to.invariant.visit in
     let passed = c.in_ok-pass_to.ensures.passed in
     let edge : HasEdge g.nodes x to =
-    subst (λ es. IsAmong to es) c.edges-to-items.ensures.value (among_at edges c.loop-to.to-index c.loop-to-test.true) in
-    let inside : to < length g.nodes = edge_inside g.nodes x to c.keeps_graph.ensures.graph edge in
-    let fair = fair_edge g first x to out c.requires.taken.known.witnessed edge c.requires.taken.reached
-    (sent (goal.at.loop-to-preserved c).After-after-out) in
-    let met = passed_met old new to out (omega (arith, visit.known.each_reached)) (omega (arith, visit.known.each_set)) passed in
+    subst (λ es. IsAmong to es) c.edges-to-items.ensures.value (among_at _ _ c.loop-to-test.true) in
+    let inside : to < length g.nodes = edge_inside g.nodes _ to c.keeps_graph.ensures.graph edge in
+    let fair = fair_edge _ first _ to _ c.requires.taken.known.witnessed edge c.requires.taken.reached (sent (goal.at.loop-to-preserved c).After-after-out) in
+    let met = passed_met _ _ to _ (omega (arith, visit.known.each_reached)) (omega (arith, visit.known.each_set)) passed in
     record {
       visit = visit_passed g x (set_at first x) (length first.list) (turns_left first) old new to out inside visit fair passed;
-      arrived = arrived_more (λ n. HasArrived (reached_at new) (holding_of_node new) n (in_byte out)) edges c.loop-to.to-index c.loop-to-test.true
-          (λ n among. arrived_still old new to out met n (in_byte out) (c.loop-to.invariant.arrived n among))
-          (arrived_there old new to out met);
+      arrived = arrived_more (λ n. HasArrived (reached_at new) (holding_of_node new) n (in_byte out)) edges _ c.loop-to-test.true
+      (λ n among. arrived_still _ _ to _ met n (in_byte out) (c.loop-to.invariant.arrived n among)) (arrived_there old new to out met);
     }
 
 pub returns-clause-work : goal.returns-clause-work
 returns-clause-work c =
-    let g = c.args.graph.now in
-    let x = c.args.node in
     let edges = c.edges-to-items.result.now in
     let first = state c.args.reached.now c.args.sets.now c.args.list.now in
-    let last = state c.loop-to.reached c.loop-to.sets c.loop-to.list in
     let whole : take c.loop-to.to-index edges ≡ edges =
     take_all c.loop-to.to-index edges (omega (arith, c.loop-to-test.false)) in
-    visit_done g x (set_at first x) (length first.list) (turns_left first) last c.after-out.result c.loop-to.invariant.visit
+    visit_done _ _ (set_at first c.args.node) (length first.list) (turns_left first) _ c.after-out.result c.loop-to.invariant.visit
     (λ n leads. c.loop-to.invariant.arrived n (subst (λ es. IsAmong n es) (sym (whole ∙ c.edges-to-items.ensures.value)) leads))
     (sent (goal.at.returns-clause-work c).After-after-out)

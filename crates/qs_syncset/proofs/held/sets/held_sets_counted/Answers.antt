@@ -1,5 +1,4 @@
-use Rattle.std.proofs.Common.{◌≡◌, ◌++◌, length, take, drop, arith}
-use Rattle.std.proofs.lemmas.List.{take_at}
+use Rattle.std.proofs.Common.{◌≡◌, ◌++◌, length, take, drop, arith, take_at}
 use Rattle.qs_syncset.proofs.held.sets.held_sets_counted.Goals as goal
 
 pub returns-clause-sets : goal.returns-clause-sets
