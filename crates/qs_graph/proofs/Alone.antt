@@ -8,7 +8,7 @@ use Rattle.qs_objects.specs.audit.Journals.{answer}
 use Rattle.qs_program.specs.audit.Statements.{Statements, end, command, query, assign, choose, again, leave}
 use Rattle.qs_program.specs.audit.Values.{Locals, test_value, request_of}
 use Rattle.qs_meaning.specs.audit.Solo.{States, BlockResult, states_after, value_of, event, solo}
-use Rattle.qs_meaning.specs.audit.Interaction.{Interaction, tree_of}
+use Rattle.qs_meaning.specs.audit.Interaction.{Interaction}
 use Rattle.qs_meaning.specs.Interaction.{after_event, run}
 use Rattle.qs_meaning.specs.Interaction as tree
 use Rattle.qs_meaning.specs.audit.Interaction as tree_audit

@@ -5,8 +5,7 @@ use Rattle.std.proofs.Common.{◌≡◌, ℕ, zero, suc, ◌<◌, Bool, true, fa
 use Rattle.qs_objects.proofs.Elements.{AllByRecursion-get_or}
 use Rattle.qs_program.specs.audit.Values.{test_value}
 use Rattle.qs_graph.specs.declared.node.Node.{Node}
-use Rattle.qs_graph.specs.declared.node.Node.TheVariants.{Entry, Local, Branch, Sync, Query, Call, Exit}
-use Rattle.qs_graph.specs.declared.node.Action.TheVariants.{Assign, SetCount, Nothing}
+use Rattle.qs_graph.specs.declared.node.Node.TheVariants.{Branch, Query, Exit, Entry, Local, Sync, Call}
 use Rattle.qs_graph.specs.declared.node.Choice.TheVariants.{If, Repeat}
 use Rattle.qs_graph.specs.audit.Nodes.{GraphNode, place_at, exit}
 use Rattle.qs_graph.specs.audit.Paths.{IsAmong, HasEdge, IsPath}
@@ -15,6 +14,7 @@ use Rattle.qs_graph.specs.audit.Walk.{Spot, move, move_by, after_repeat}
 use Rattle.qs_graph.specs.Walk.{EachNext}
 use Rattle.qs_graph.specs.WalkLaws.{WalksGoAlongPaths}
 use Rattle.qs_graph.proofs.Saying.{next_up}
+use Rattle.qs_graph.specs.declared.node.Action.TheVariants.{Assign, SetCount, Nothing}
 
 first_among : (es : List ℕ) → 0 < length es → IsAmong (slice_index_or es 0 0) es
 first_among [] h = absurd (omega arith)

@@ -14,16 +14,15 @@ use Rattle.qs_program.specs.declared.program.Declared.{Declared}
 use Rattle.qs_program.specs.audit.Statements.{Statements, end, command, query, assign, choose, again, leave}
 use Rattle.qs_graph.specs.audit.Bound.{bound_node, bound_place, bound_nodes}
 use Rattle.qs_graph.specs.declared.node.Node.{Node}
-use Rattle.qs_graph.specs.declared.node.Node.TheVariants.{Entry, Local, Branch, Sync, Query, Call, Exit}
+use Rattle.qs_graph.specs.declared.node.Node.TheVariants.{Entry, Sync, Query, Call}
 use Rattle.qs_graph.specs.audit.Graphs.{block_graph, first_node, node_count, places_of}
 use Rattle.qs_graph.specs.audit.Nodes.{GraphNode, exit, place_at}
 use Rattle.qs_graph.specs.audit.Paths.{HasEdge, IsAmong, IsPath}
 use Rattle.qs_graph.specs.WellFormed.{IsCallInRange, IsGraph, IsGraphNode, IsInRange, edge_count}
 
 pub place_bound : (binding : List ℕ) (g : List GraphNode) (n : ℕ) → place_at (bound_nodes binding g) n ≡ bound_place binding (place_at g n)
-place_bound binding [] n = refl
-place_bound binding (p ∷ ps) zero = refl
 place_bound binding (p ∷ ps) (suc n) = place_bound binding ps n
+place_bound binding _ _ = refl
 
 -- ---- the same paths
 
@@ -38,12 +37,7 @@ path_back binding g (m ∷ before) n path = (edge_back binding g m n path.0, pat
 
 node_unbound : (v : Node) → bound_node [] v ≡ v
 node_unbound Entry = refl
-node_unbound (Local a) = refl
-node_unbound (Branch c) = refl
-node_unbound (Sync h) = refl
-node_unbound (Query x c) = refl
-node_unbound (Call c) = refl
-node_unbound Exit = refl
+node_unbound _ = refl
 
 pub unbound : (g : List GraphNode) → bound_nodes [] g ≡ g
 unbound [] = refl
@@ -63,12 +57,7 @@ module _ (binding : List ℕ) where
 
   first_bound : (at next : ℕ) (b : Statements) → first_node at next (bound_statements binding b) ≡ first_node at next b
   first_bound at next end = refl
-  first_bound at next (command c rest) = refl
-  first_bound at next (query x c rest) = refl
-  first_bound at next (assign x e rest) = refl
-  first_bound at next (choose t has_else first other rest) = refl
-  first_bound at next (again n body rest) = refl
-  first_bound at next (leave rest) = refl
+  first_bound at next _ = refl
 
   places_bound : (at next out : ℕ) (b : Statements) → places_of at next out (bound_statements binding b) ≡ bound_nodes binding (places_of at next out b)
   places_bound at next out end = refl
@@ -79,7 +68,6 @@ module _ (binding : List ℕ) where
       let at_other = at + 1 + node_count first in
       let at_rest = at_other + node_count other in
       let after = first_node at_rest next rest in
-      let one = places_of (at + 1) after out first in
       let two = places_of at_other after out other in
       let three = places_of at_rest next out rest in
       rw (
@@ -91,21 +79,19 @@ module _ (binding : List ℕ) where
         places_bound (at + 1) after out first,
         places_bound at_other after out other,
         places_bound at_rest next out rest,
-        map-append (bound_place binding) one (two ++ three),
+        map-append (bound_place binding) (places_of (at + 1) after out first) (two ++ three),
         map-append (bound_place binding) two three,
       ) refl
   places_bound at next out (again n body rest) =
       let at_rest = at + 2 + node_count body in
       let after = first_node at_rest next rest in
-      let one = places_of (at + 2) (at + 1) after body in
-      let two = places_of at_rest next out rest in
       rw (
         count_bound body,
         first_bound at_rest next rest,
         first_bound (at + 2) (at + 1) body,
         places_bound (at + 2) (at + 1) after body,
         places_bound at_rest next out rest,
-        map-append (bound_place binding) one two,
+        map-append (bound_place binding) (places_of (at + 2) (at + 1) after body) (places_of at_rest next out rest),
       ) refl
   places_bound at next out (leave rest) = rw (places_bound (at + 1) next out rest) refl
 
@@ -131,12 +117,7 @@ bound_all binding old now n past b =
 
 bound_edges : (binding : List ℕ) (v : Node) → edge_count (bound_node binding v) ≡ edge_count v
 bound_edges binding Entry = refl
-bound_edges binding (Local a) = refl
-bound_edges binding (Branch c) = refl
-bound_edges binding (Sync h) = refl
-bound_edges binding (Query x c) = refl
-bound_edges binding (Call c) = refl
-bound_edges binding Exit = refl
+bound_edges binding _ = refl
 
 module _ (binding : List ℕ) (small : AllByRecursion (λ h. h < most_handlers) binding) where
   bound_small : (bs : List ℕ) → AllByRecursion (λ h. h < most_handlers) bs → (i name : ℕ) → name < most_handlers → slice_index_or bs i name < most_handlers
@@ -148,13 +129,10 @@ module _ (binding : List ℕ) (small : AllByRecursion (λ h. h < most_handlers) 
   call_range c range = (bound_small binding small c.object c.object range.0, range.1)
 
   bound_range : (v : Node) → IsInRange v → IsInRange (bound_node binding v)
-  bound_range Entry range = range
-  bound_range (Local a) range = range
-  bound_range (Branch c) range = range
   bound_range (Sync h) range = bound_small binding small h h range
   bound_range (Query x c) range = (range.0, call_range c range.1)
   bound_range (Call c) range = call_range c range
-  bound_range Exit range = range
+  bound_range _ range = range
 
   bound_each : (n m : ℕ) → m ≡ n → (ps : List GraphNode) → AllByRecursion (IsGraphNode n) ps → AllByRecursion (IsGraphNode m) (bound_nodes binding ps)
   bound_each n m same [] each = tt

@@ -1,15 +1,13 @@
 -- The graph's nodes for a list of statements are those of its first statement and then those of the rest, and there are
 -- as many as the statements count. The functions that count and build the nodes of a graph stand on it; their loops
 -- keep that the nodes so far and those of the rest make the whole list. It goes by cases on the first statement.
-use Rattle.std.proofs.Common.{◌≡◌, ℕ, zero, suc, ◌+◌, ◌<◌, ◌≤◌, List, [], ◌∷◌, ◌++◌, length, get_or, drop, refl, sym, ap, ◌∙◌, arith, add-one, append_assoc, length-append, length-drop}
-use Rattle.std.proofs.lemmas.List.{append-nil}
-use Rattle.std.proofs.Math.Seq.{drop-cons}
+use Rattle.std.proofs.Common.{◌≡◌, ℕ, zero, suc, ◌+◌, ◌<◌, ◌≤◌, List, [], ◌∷◌, ◌++◌, length, get_or, drop, refl, sym, ap, ◌∙◌, arith, add-one, append_assoc, length-append, length-drop, drop-cons, Bool}
+use Rattle.std.proofs.lemmas.List.{append-nil, drop_all}
 use Rattle.qs_program.specs.declared.code.Test.{Test}
 use Rattle.qs_program.specs.declared.code.Stmt.{Stmt}
-use Rattle.qs_program.specs.declared.code.Stmt.TheVariants.{Command, Query, Assign, If, Repeat, Leave}
+use Rattle.qs_program.specs.declared.code.Stmt.TheVariants.{Command, If, Repeat, Query, Assign, Leave}
 use Rattle.qs_program.specs.audit.Statements.{Statements, end, choose, again}
 use Rattle.qs_program.specs.Views.{statements_of, single}
-use Rattle.std.specs.Prelude.{Bool}
 use Rattle.qs_graph.specs.declared.node.Node.TheVariants.{Local, Branch}
 use Rattle.qs_graph.specs.declared.node.Action.TheVariants.{SetCount}
 use Rattle.qs_graph.specs.declared.node.Choice.TheVariants as by
@@ -19,11 +17,7 @@ use Rattle.qs_graph.proofs.StatementPlaces.{length_places}
 
 pub count_cons : (s : Stmt) (xs : List Stmt) → node_count (statements_of (s ∷ xs)) ≡ node_count (single s) + node_count (statements_of xs)
 count_cons (Command c) xs = omega arith
-count_cons (Query x c) xs = omega arith
-count_cons (Assign x e) xs = omega arith
-count_cons (If t b first other) xs = omega arith
-count_cons (Repeat n body) xs = omega arith
-count_cons Leave xs = omega arith
+count_cons _ xs = omega arith
 
 pub count_drop : (xs : List Stmt) (i : ℕ) (d : Stmt) → i < length xs
     → node_count (statements_of (drop i xs)) ≡ node_count (single (get_or xs i d)) + node_count (statements_of (drop (i + 1) xs))
@@ -66,14 +60,11 @@ repeat_joins at next out k body rest m e =
     (places_of (at + 2) (at + 1) after body) (places_of n next out rest))
 
 pub places_cons : (at next out : ℕ) (s : Stmt) (xs : List Stmt) → Joins at next out s xs
-places_cons at next out (Command c) xs = refl
-places_cons at next out (Query x c) xs = refl
-places_cons at next out (Assign x e) xs = refl
 places_cons at next out (If t b first other) xs =
     if_joins at next out t b first other (statements_of xs) (at + node_count (single (If t b first other))) (omega arith)
 places_cons at next out (Repeat n body) xs =
     repeat_joins at next out n body (statements_of xs) (at + node_count (single (Repeat n body))) (omega arith)
-places_cons at next out Leave xs = refl
+places_cons at next out _ xs = refl
 
 pub places_drop : (xs : List Stmt) (i at next out : ℕ) (d : Stmt) → i < length xs
     → places_of at next out (statements_of (drop i xs))
@@ -91,21 +82,15 @@ first_some (If t b first other ∷ xs) at next h = refl
 first_some (Repeat n body ∷ xs) at next h = refl
 first_some (Leave ∷ xs) at next h = refl
 
-drop_past : {A : Type 0} (xs : List A) (i : ℕ) → length xs ≤ i → drop i xs ≡ []
-drop_past [] zero h = refl
-drop_past [] (suc i) h = refl
-drop_past (x ∷ xs) zero h = absurd (omega arith)
-drop_past (x ∷ xs) (suc i) h = drop_past xs i (omega arith)
-
 -- nothing is left past the last statement
 pub count_past : (xs : List Stmt) (i : ℕ) → length xs ≤ i → node_count (statements_of (drop i xs)) ≡ 0
-count_past xs i h = ap (λ ys. node_count (statements_of ys)) (drop_past xs i h)
+count_past xs i h = ap (λ ys. node_count (statements_of ys)) (drop_all i xs h)
 
 pub after_more : (xs : List Stmt) (i at next : ℕ) → i + 1 < length xs → first_node at next (statements_of (drop (i + 1) xs)) ≡ at
 after_more xs i at next h = first_some (drop (i + 1) xs) at next (omega (arith, length-drop (i + 1) xs))
 
 pub after_last : (xs : List Stmt) (i at next : ℕ) → length xs ≤ i + 1 → first_node at next (statements_of (drop (i + 1) xs)) ≡ next
-after_last xs i at next h = ap (λ ys. first_node at next (statements_of ys)) (drop_past xs (i + 1) h)
+after_last xs i at next h = ap (λ ys. first_node at next (statements_of ys)) (drop_all (i + 1) xs h)
 
 -- one more statement: `now` is what was added before it, `whole` what there will be at last
 module _ (stmts : List Stmt) (now : List GraphNode) (i next out total : ℕ) (whole : List GraphNode)

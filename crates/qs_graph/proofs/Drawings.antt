@@ -19,8 +19,6 @@ stands_joined g at n (x ∷ xs) ys e h w =
 -- a graph is the list that stands in the whole of it
 stands_whole : (pre g ps : List GraphNode) → Stands (pre ++ g) (length pre) ps → length g ≡ length ps → g ≡ ps
 stands_whole pre [] [] h e = refl
-stands_whole pre [] (p ∷ ps) h e = absurd (omega (arith, e))
-stands_whole pre (q ∷ g) [] h e = absurd (omega (arith, e))
 stands_whole pre (q ∷ g) (p ∷ ps) h e =
     let same : (pre ++ q ∷ []) ++ g ≡ pre ++ q ∷ g = append_assoc pre (q ∷ []) g in
     let long : length pre + 1 ≡ length (pre ++ q ∷ []) = sym (length-append pre (q ∷ [])) in
@@ -29,6 +27,7 @@ stands_whole pre (q ∷ g) (p ∷ ps) h e =
     let first : q ≡ p = sym (at_end pre q g) ∙ h.1 in
     let rest : g ≡ ps = stands_whole (pre ++ q ∷ []) g ps more (omega (arith, e)) in
     ap (λ r. r ∷ g) first ∙ ap (λ l. p ∷ l) rest
+stands_whole pre _ _ h e = absurd (omega (arith, e))
 
 module _ (g : List GraphNode) where
   -- what stands is drawn
@@ -184,7 +183,6 @@ graph_drawn body =
     let last = 1 + node_count body in
     let places = places_of 1 last last body in
     let all : Stands (block_graph body) 0 (block_graph body) = stands_in [] (block_graph body) in
-    let long = length-append places (exit ∷ []) in
     let rest : Stands (block_graph body) last (exit ∷ []) =
     stands_rest (block_graph body) 1 (node_count body) places (exit ∷ []) (length_places 1 last last body) all.2 in
     record {
@@ -193,7 +191,7 @@ graph_drawn body =
       entry = refl;
       statements = drawn (block_graph body) body 1 last last last refl (stands_first (block_graph body) 1 places (exit ∷ []) all.2);
       exits = rest.1;
-      count = omega (arith, long, length_places 1 last last body);
+      count = omega (arith, length-append places (exit ∷ []), length_places 1 last last body);
     }
 
 drawing_alone : (g : List GraphNode) (body : Statements) → IsDrawing g body → g ≡ block_graph body

@@ -2,9 +2,7 @@
 -- and ends within a known number of nodes. The laws on walks stand on `block_says`. It goes by induction on the
 -- statements; the body of a repeat goes by induction on the turns that are left, while the counts of all earlier
 -- branches stay as they are.
-use Rattle.std.proofs.Common.{◌≡◌, ℕ, zero, suc, ◌+◌, ◌*◌, ◌<◌, ◌≤◌, max, ℤ, Bool, true, false, if◌then◌else◌, List, [], ◌∷◌, ◌++◌, length, slice_index_or, slice_set, refl, ap, ◌∙◌, arith, subst, length-append}
-use Rattle.std.proofs.Math.ListN.{length-set}
-use Rattle.std.proofs.lemmas.List.{get_or-set_same, get_or-set_other}
+use Rattle.std.proofs.Common.{◌≡◌, ℕ, zero, suc, ◌+◌, ◌*◌, ◌<◌, ◌≤◌, max, ℤ, Bool, true, false, if◌then◌else◌, List, [], ◌∷◌, ◌++◌, length, slice_index_or, slice_set, refl, ap, ◌∙◌, arith, subst, length-append, length-set, get_or-set_same, get_or-set_other}
 use Rattle.qs_program.specs.audit.Statements.{Statements, end, assign, command, query, choose, again, leave}
 use Rattle.qs_program.specs.audit.Values.{Locals, expr_value, test_value, request_of}
 use Rattle.qs_graph.specs.declared.node.Node.TheVariants as node
@@ -125,18 +123,16 @@ module _ (g : List GraphNode) where
       let xs = places_of (at + 1) after out first in
       let ys = places_of at_other after out other in
       let zs = places_of at_rest next out rest in
-      let in_first = stands_first g (at + 1) xs (ys ++ zs) h.2 in
       let others = stands_rest g (at + 1) (node_count first) xs (ys ++ zs) (length_places (at + 1) after out first) h.2 in
-      let in_other = stands_first g at_other ys zs others in
       let in_rest = stands_rest g at_other (node_count other) ys zs (length_places at_other after out other) others in
       let later_ok : Leads at j c after later = λ l d kept.
       follows rest at_rest next out in_rest k d sequel leaves (omega (arith, kept.long))
       (leads_less at at_rest k k c d next sequel (omega arith) (omega arith) kept to_next)
       (leads_less at at_rest k k c d out leaves (omega arith) (omega arith) kept to_out) l in
-      let first_ok = follows first (at + 1) after out in_first j c later leaves (omega arith)
+      let first_ok = follows first (at + 1) after out (stands_first g (at + 1) xs (ys ++ zs) h.2) j c later leaves (omega arith)
       (leads_on at (at + 1) j j c after later (omega arith) (omega arith) later_ok)
       (leads_on at (at + 1) k j c out leaves (omega arith) (omega arith) to_out) l in
-      let other_ok = follows other at_other after out in_other j c later leaves (omega arith)
+      let other_ok = follows other at_other after out (stands_first g at_other ys zs others) j c later leaves (omega arith)
       (leads_on at at_other j j c after later (omega arith) (omega arith) later_ok)
       (leads_on at at_other k j c out leaves (omega arith) (omega arith) to_out) l in
       let m = j + max (steps first) (steps other) in
@@ -179,11 +175,10 @@ block_says b l counts room =
     let beginning = to node.Entry (first_node 1 last b) in
     let inner = places_of 1 last last b in
     let whole : Stands g 1 (inner ++ exit ∷ []) = stands_in (beginning ∷ []) (inner ++ exit ∷ []) in
-    let in_block = stands_first g 1 inner (exit ∷ []) whole in
     let at_exit = stands_rest g 1 (node_count b) inner (exit ∷ []) (length_places 1 last last b) whole in
     let over : Leads g 1 1 counts last Done = λ l d kept. says_done g 0 (spot last l d) at_exit.0 (move_is g last l d exit at_exit.1) in
     let long : 1 + node_count b ≤ length counts = omega (arith, length_places 1 last last b, simp length-append at room) in
-    let block_ok = follows g b 1 last last in_block 1 counts Done Done long over over l in
+    let block_ok = follows g b 1 last last (stands_first g 1 inner (exit ∷ []) whole) 1 counts Done Done long over over l in
     says_up g (suc (1 + steps b)) (2 + steps b) _ _ (omega arith)
     (says_next g (1 + steps b) (spot 0 l counts) (omega arith)
     (spot (first_node 1 last b) l counts) _ (move_is g 0 l counts beginning refl) block_ok)

@@ -4,6 +4,7 @@
 -- range.
 use Rattle.std.proofs.Common.{◌≡◌, ℕ, zero, suc, ◌+◌, ◌<◌, ◌≤◌, Bool, true, false, ◌||◌, ◌==◌, List, [], ◌∷◌, ◌++◌, length, map, get_or, Option, Some, None, refl, sym, ap, ◌∙◌, arith, subst, length-append}
 use Rattle.std.specs.List.{AllByRecursion}
+use Rattle.qs_meaning.proofs.Each.{each_join}
 use Rattle.qs_objects.proofs.Arities.{arity_small}
 use Rattle.qs_program.specs.declared.code.Call as calls
 use Rattle.qs_program.specs.declared.program.Declared.{Declared}
@@ -13,8 +14,8 @@ use Rattle.qs_program.specs.audit.Sound.{is_in}
 use Rattle.qs_program.specs.Sound.{IsSound, IsSoundBlock, IsSoundBody, IsSoundCall, IsSoundClient, IsStartSound}
 use Rattle.qs_program.specs.audit.Limits.{most_handlers, most_objects}
 use Rattle.qs_graph.specs.declared.node.Node.{Node}
-use Rattle.qs_graph.specs.declared.node.Node.TheVariants.{Entry, Local, Branch, Sync, Query, Call, Exit}
-use Rattle.qs_graph.specs.declared.node.Action.TheVariants.{Assign, SetCount, Nothing}
+use Rattle.qs_graph.specs.declared.node.Node.TheVariants.{Local, Sync, Query, Call}
+use Rattle.qs_graph.specs.declared.node.Action.TheVariants.{Assign}
 use Rattle.qs_program.specs.audit.Binding.{bound_block}
 use Rattle.qs_graph.specs.audit.Bound.{bound_nodes}
 use Rattle.qs_graph.specs.audit.Nodes.{GraphNode, exit}
@@ -24,10 +25,6 @@ use Rattle.qs_graph.specs.SoundNodes.{AreSoundNodes, IsSoundNode}
 use Rattle.qs_graph.specs.WalkLaws.{BlocksHaveGraphs}
 use Rattle.qs_graph.proofs.Bindings.{graph_bound, unbound}
 use Rattle.qs_graph.proofs.StatementPlaces.{length_places}
-
-pub all_append : {X : Type 0} (P : X → Type 0) (xs ys : List X) → AllByRecursion P xs → AllByRecursion P ys → AllByRecursion P (xs ++ ys)
-all_append P [] ys h w = w
-all_append P (x ∷ xs) ys h w = (h.0, all_append P xs ys h.1 w)
 
 -- what holds of each element, and of the one past the last, holds at each place
 pub all_at : {X : Type 0} (P Q : X → Type 0) (xs : List X) (i : ℕ) (d : X)
@@ -46,12 +43,7 @@ is_in-all P (y ∷ ys) x member each = by_test (y == x) (λ e. e) member (λ lat
 
 first_below : (at next n : ℕ) (b : Statements) → at + node_count b ≤ n → next < n → first_node at next b < n
 first_below at next n end h w = w
-first_below at next n (command c rest) h w = omega arith
-first_below at next n (query x c rest) h w = omega arith
-first_below at next n (assign x e rest) h w = omega arith
-first_below at next n (choose t b first other rest) h w = omega arith
-first_below at next n (again k body rest) h w = omega arith
-first_below at next n (leave rest) h w = omega arith
+first_below at next n _ h w = omega arith
 
 pub all_map : {X : Type 0} (P Q : X → Type 0) (xs : List X) → ((x : X) → P x → Q x) → AllByRecursion P xs → AllByRecursion Q xs
 all_map P Q [] h each = tt
@@ -91,14 +83,13 @@ module _ (objects : List Declared) (reserved : List ℕ) (n : ℕ) where
       let at_rest = at_other + node_count other in
       let after = first_node at_rest next rest in
       let later : after < n = first_below at_rest next n rest (omega arith) w in
-      let one = first_below (at + 1) after n first (omega arith) later in
       let two = first_below at_other after n other (omega arith) later in
       let ys = places_of at_other after out other in
       let zs = places_of at_rest next out rest in (
-        record { edges = (one, (two, tt)); count = refl; sound = sound.0 },
-        all_append (IsSoundGraphNode objects reserved n) (places_of (at + 1) after out first) (ys ++ zs)
+        record { edges = (first_below (at + 1) after n first (omega arith) later, (two, tt)); count = refl; sound = sound.0 },
+        each_join (IsSoundGraphNode objects reserved n) (places_of (at + 1) after out first) (ys ++ zs)
             (places_fine first (at + 1) after out sound.1 (omega arith) later u)
-            (all_append (IsSoundGraphNode objects reserved n) ys zs
+            (each_join (IsSoundGraphNode objects reserved n) ys zs
             (places_fine other at_other after out sound.2 (omega arith) later u)
             (places_fine rest at_rest next out sound.3 (omega arith) w u)),
       )
@@ -110,7 +101,7 @@ module _ (objects : List Declared) (reserved : List ℕ) (n : ℕ) where
         record { edges = (omega arith, tt); count = refl; sound = tt },
         (
           record { edges = (one, (later, tt)); count = refl; sound = tt },
-          all_append (IsSoundGraphNode objects reserved n) (places_of (at + 2) (at + 1) after body) (places_of at_rest next out rest)
+          each_join (IsSoundGraphNode objects reserved n) (places_of (at + 2) (at + 1) after body) (places_of at_rest next out rest)
               (places_fine body (at + 2) (at + 1) after sound.1 (omega arith) (omega arith) later)
               (places_fine rest at_rest next out sound.2 (omega arith) w u),
         ),
@@ -130,15 +121,11 @@ module _ (objects : List Declared) (few : length objects ≤ most_objects) (rese
   call_ok asks c sound = (handler_ok c.object sound.reserves, omega (arith, arity_small c.op, sound.arity))
 
   node_ok : (v : Node) → IsSoundNode objects reserved v → IsInRange v
-  node_ok Entry sound = tt
   node_ok (Local (Assign x e)) sound = sound.0
-  node_ok (Local (SetCount k)) sound = tt
-  node_ok (Local Nothing) sound = tt
-  node_ok (Branch c) sound = tt
   node_ok (Sync h) sound = handler_ok h sound
   node_ok (Query x c) sound = (sound.0, call_ok true c sound.1)
   node_ok (Call c) sound = call_ok false c sound
-  node_ok Exit sound = tt
+  node_ok _ sound = tt
 
 pub length_graph : (b : Statements) → length (block_graph b) ≡ 2 + node_count b
 length_graph b =
@@ -158,7 +145,7 @@ block_fine objects b sound =
     let long : n ≡ 2 + node_count b.body = length_graph b.body in
     let below : last < n = omega arith in (
       record { edges = (first_below 1 last n b.body (omega arith) below, tt); count = refl; sound = tt },
-      all_append (IsSoundGraphNode objects b.reserved n) (places_of 1 last last b.body) (exit ∷ [])
+      each_join (IsSoundGraphNode objects b.reserved n) (places_of 1 last last b.body) (exit ∷ [])
           (places_fine objects b.reserved n b.body 1 last last sound.body (omega arith) below below)
           (record { edges = tt; count = refl; sound = tt }, tt),
     )
@@ -180,9 +167,8 @@ pub record IsSoundOwn (objects : List Declared) (blocks : List BlockShape) (star
   pub bound : block_graph (get_or blocks k no_block).body ≡ bound_nodes (binding_in start) (block_graph (own_in start k (get_or blocks k no_block)).body)
 
 bound_at : (binding : List ℕ) (bs : List BlockShape) (k : ℕ) → get_or (map (bound_block binding) bs) k no_block ≡ bound_block binding (get_or bs k no_block)
-bound_at binding [] k = refl
-bound_at binding (b ∷ bs) zero = refl
 bound_at binding (b ∷ bs) (suc k) = bound_at binding bs k
+bound_at binding _ _ = refl
 
 module _ (objects : List Declared) (few : length objects ≤ most_objects) (blocks : List BlockShape) (k : ℕ)
     (text : IsSoundText objects (get_or blocks k no_block)) where

@@ -6,7 +6,7 @@ use Rattle.std.proofs.Math.Path.{fun_ext}
 use Rattle.qs_meaning.specs.audit.Interaction as tree
 use Rattle.qs_program.specs.audit.Values.{Locals}
 use Rattle.qs_graph.specs.declared.node.Node.{Node}
-use Rattle.qs_graph.specs.declared.node.Node.TheVariants.{Entry, Local, Branch, Sync, Query, Call, Exit}
+use Rattle.qs_graph.specs.declared.node.Node.TheVariants.{Local, Sync, Query, Call}
 use Rattle.qs_graph.specs.declared.node.Action.TheVariants.{Nothing}
 use Rattle.qs_graph.specs.audit.Nodes.{GraphNode, place_at, first_target, second_target}
 use Rattle.qs_graph.specs.Nodes.{IsSync}
@@ -21,22 +21,12 @@ use Rattle.qs_graph.proofs.Saying.{next_up}
 removed_next : (P : Spot → Type 0) (v : Node) (s : Spot) (n m : ℕ) → IsSync v → EachNext P (move_by v s n m)
     → EachNext P (move_by (Local Nothing) s n m)
 removed_next P (Sync h) s n m sync w = w
-removed_next P Entry s n m sync w = absurd sync
-removed_next P (Local a) s n m sync w = absurd sync
-removed_next P (Branch c) s n m sync w = absurd sync
-removed_next P (Query x c) s n m sync w = absurd sync
-removed_next P (Call c) s n m sync w = absurd sync
-removed_next P Exit s n m sync w = absurd sync
+removed_next P _ s n m sync w = absurd sync
 
 removed_said : (f : Spot → Synced) (l : Locals) (v : Node) (s : Spot) (n m : ℕ) → IsSync v
     → without_syncs (tree_of_move f l (move_by (Local Nothing) s n m)) ≡ without_syncs (tree_of_move f l (move_by v s n m))
 removed_said f l (Sync h) s n m sync = refl
-removed_said f l Entry s n m sync = absurd sync
-removed_said f l (Local a) s n m sync = absurd sync
-removed_said f l (Branch c) s n m sync = absurd sync
-removed_said f l (Query x c) s n m sync = absurd sync
-removed_said f l (Call c) s n m sync = absurd sync
-removed_said f l Exit s n m sync = absurd sync
+removed_said f l _ s n m sync = absurd sync
 
 place_next : (P : Spot → Type 0) (p q : GraphNode) (s : Spot) → IsKeptOrRemoved p q → EachNext P (move_at p s) → EachNext P (move_at q s)
 place_next P p q s (inl same) w = subst (λ r. EachNext P (move_at r s)) (sym same) w

@@ -3,7 +3,7 @@
 -- step. It goes by induction on the limit, since the walk is the same for each limit within which it ends.
 use Rattle.std.proofs.Common.{◌≡◌, ℕ, zero, suc, ◌<◌, ◌≤◌, List, refl, sym, ap, arith, subst}
 use Rattle.qs_graph.specs.audit.Nodes.{GraphNode}
-use Rattle.qs_graph.specs.audit.Walk.{Spot, Move, Ends, Goes, Calls, Syncs, Queries, move, tree_of_move, walk}
+use Rattle.qs_graph.specs.audit.Walk.{Spot, Move, Goes, move, tree_of_move, walk}
 use Rattle.qs_graph.specs.Walk.{EachNext, Within, silent_by, silent}
 use Rattle.qs_graph.specs.audit.Steps.{limit}
 use Rattle.qs_graph.specs.WalkLaws.{WalksUnfold}
@@ -20,11 +20,8 @@ walk_unfolds g (suc n) s w =
 
 silent_by_same : (P : Spot → Type 0) (f k : Spot → ℕ) → ((s : Spot) → P s → f s ≡ k s)
     → (m : Move) → EachNext P m → silent_by f m ≡ silent_by k m
-silent_by_same P f k h Ends w = refl
 silent_by_same P f k h (Goes s) w = ap suc (h s w)
-silent_by_same P f k h (Calls r s) w = refl
-silent_by_same P f k h (Syncs o s) w = refl
-silent_by_same P f k h (Queries r s) w = refl
+silent_by_same P f k h _ w = refl
 
 pub silent_up : (g : List GraphNode) (n m : ℕ) (s : Spot) → n ≤ m → Within g n s → silent g m s ≡ silent g n s
 silent_up g zero m s h w = absurd w

@@ -20,12 +20,11 @@ length_places at next out (choose t b first other rest) =
     let at_other = at + 1 + node_count first in
     let at_rest = at_other + node_count other in
     let after = first_node at_rest next rest in
-    let xs = places_of (at + 1) after out first in
     let ys = places_of at_other after out other in
     let zs = places_of at_rest next out rest in
     omega (
       arith,
-      length-append xs (ys ++ zs),
+      length-append (places_of (at + 1) after out first) (ys ++ zs),
       length-append ys zs,
       length_places (at + 1) after out first,
       length_places at_other after out other,
@@ -35,8 +34,7 @@ length_places at next out (again n body rest) =
     let at_rest = at + 2 + node_count body in
     let after = first_node at_rest next rest in
     let xs = places_of (at + 2) (at + 1) after body in
-    let zs = places_of at_rest next out rest in
-    omega (arith, length-append xs zs, length_places (at + 2) (at + 1) after body, length_places at_rest next out rest)
+    omega (arith, length-append xs (places_of at_rest next out rest), length_places (at + 2) (at + 1) after body, length_places at_rest next out rest)
 length_places at next out (leave rest) = omega (arith, length_places (at + 1) next out rest)
 
 pub stands_first : (g : List GraphNode) (at : ℕ) (xs ys : List GraphNode) → Stands g at (xs ++ ys) → Stands g at xs

@@ -6,12 +6,10 @@ pub mod Drawn
 pub mod Synced
 pub mod Walk
 pub mod Steps
--- What crates promise one another, what proofs use, and worked examples.
+-- What crates promise one another, and what proofs use.
 pub mod Shapes
 pub mod WellFormed
 pub mod SoundNodes
 pub mod WalkAlone
 pub mod WalkLaws
 pub mod Removal
-pub mod GraphExamples
-pub mod SyncedExamples

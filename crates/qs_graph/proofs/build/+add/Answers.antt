@@ -12,11 +12,10 @@ pub add_body-add_stmt-requires : goal.add_body-add_stmt-requires
 add_body-add_stmt-requires t c =
     let stmts = c.as_slice-stmts.result.now in
     let item = c.index-stmts-i.result in
-    let small = count_at stmts c.loop-i.i item c.loop-i-test.true in
     let split = count_drop stmts c.loop-i.i item c.loop-i-test.true in
     let same = ap (λ s. node_count (single s)) c.index-stmts-i.is in
     let body = ap node_count c.as_slice-stmts.ensures.value in (
-      omega (arith, small, same, body, c.decreases),
+      omega (arith, count_at stmts c.loop-i.i item c.loop-i-test.true, same, body, c.decreases),
       omega (arith, split, same, body, c.loop-i.invariant.long, c.loop-i.invariant.room, c.requires.room),
     )
 
@@ -47,16 +46,14 @@ add_body-loop-i-preserved t c =
 pub add_stmt-add_body-requires-in-If : goal.add_stmt-add_body-requires-in-If
 add_stmt-add_body-requires-in-If t c =
     let count = ap (λ s. node_count (single s)) c.in-If.is in
-    let branch = to_either (Branch (If c.in-If.test)) c.first_node-inside.result c.first_node-otherwise.result in
-    let one = longer c.add_branch.new.places.items c.add_body.new.places.items
-    c.args.next c.args.out c.in-If.first c.in_ok-add_body-in-If.ensures.added in (
+    let one = longer c.add_branch.new.places.items _ c.args.next c.args.out c.in-If.first c.in_ok-add_body-in-If.ensures.added in (
       omega (arith, c.decreases, count),
       omega (
         arith,
         one,
         count,
         ap length c.add_branch.ensures.added,
-        length-append c.args.places.now.items (branch ∷ []),
+        length-append c.args.places.now.items ((to_either (Branch (If c.in-If.test)) c.first_node-inside.result c.first_node-otherwise.result) ∷ []),
         c.in_ok-add_body-in-If.ensures.room,
         c.add_branch.ensures.room,
         c.requires.room,
@@ -81,7 +78,6 @@ add_stmt-returns-in_ok-add_body-in-If-2-clause-added t c =
     let branch : made ≡ to_either (Branch (If c.in-If.test)) (first_node (at + 1) c.args.next first)
     (first_node (at + 1 + node_count first) c.args.next other) =
     (λ i. to_either (Branch (If c.in-If.test)) (first_is i) (other_is i)) in
-    if_done c.args.places.now.items c.add_branch.new.places.items c.add_body.new.places.items c.add_body-in-If.new.places.items
-    made c.in-If.test c.in-If.has_else first other c.args.next c.args.out
-    c.add_branch.ensures.added c.in_ok-add_body-in-If.ensures.added c.in_ok-add_body-in-If-2.ensures.added branch
+    if_done c.args.places.now.items _ _ _ _ c.in-If.test c.in-If.has_else first other c.args.next c.args.out c.add_branch.ensures.added
+    c.in_ok-add_body-in-If.ensures.added c.in_ok-add_body-in-If-2.ensures.added branch
     ∙ ap (λ s. c.args.places.now.items ++ places_of at c.args.next c.args.out (single s)) (sym c.in-If.is)

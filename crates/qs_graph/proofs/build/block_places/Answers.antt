@@ -5,11 +5,9 @@ use Rattle.qs_graph.proofs.build.block_places.Goals as goal
 pub push_reserved-requires-2 : goal.push_reserved-requires-2
 push_reserved-requires-2 c =
     let last = c.nodes_of-count.result + 1 in
-    let grown = longer c.push_reserved.new.self.items c.add_body.new.places.items last last
-    c.args.body.now c.in_ok-add_body.ensures.added in
     omega (
       arith,
-      grown,
+      (longer c.push_reserved.new.self.items _ last last c.args.body.now c.in_ok-add_body.ensures.added),
       ap length c.push_reserved.ensures.items,
       length-append c.in_ok-places.places.items (c.to.result ∷ []),
       ap length c.in_ok-places.ensures.items,

@@ -9,13 +9,11 @@ use Rattle.qs_graph.proofs.build.graph_in.Goals as goal
 
 pub of-requires : goal.of-requires
 of-requires c =
-    let program = c.args.program.now in
     let same = c.in-Ok.ensures.ok ∙ ap block_graph (c.body.ensures.value ∙ ap (λ (b : BlockShape). b.body) c.own_block.ensures.value) in
-    record { graph = subst IsGraph (sym same) (blocks_have_graphs program c.args.client c.args.block c.keeps_sound.ensures.sound).own }
+    record { graph = subst IsGraph (sym same) (blocks_have_graphs c.args.program.now c.args.client c.args.block c.keeps_sound.ensures.sound).own }
 
 pub returns-in-Ok-clause-drawn : goal.returns-in-Ok-clause-drawn
 returns-in-Ok-clause-drawn c =
-    let program = c.args.program.now in
-    let body = (own_block program c.args.client c.args.block).body in
+    let body = (own_block c.args.program.now c.args.client c.args.block).body in
     let same = c.of.ensures.value ∙ c.in-Ok.ensures.ok ∙ ap block_graph (c.body.ensures.value ∙ ap (λ (b : BlockShape). b.body) c.own_block.ensures.value) in
     subst (λ g. IsDrawing g body) (sym same) (graph_drawn body)

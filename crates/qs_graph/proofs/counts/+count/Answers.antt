@@ -6,12 +6,11 @@ use Rattle.qs_graph.proofs.counts.+count.Goals as goal
 
 pub nodes_of-nodes_of_stmt-requires : goal.nodes_of-nodes_of_stmt-requires
 nodes_of-nodes_of_stmt-requires t c =
-    let items = c.as_slice-stmt-items.result.now in
     let item = c.stmt-item.result in (
       omega (
         arith,
         c.decreases,
-        count_at items c.loop-stmt.stmt-index item c.loop-stmt-test.true,
+        count_at c.as_slice-stmt-items.result.now c.loop-stmt.stmt-index item c.loop-stmt-test.true,
         ap (λ s. node_count (single s)) c.stmt-item.is,
         ap node_count c.as_slice-stmt-items.ensures.value,
       ),
@@ -20,12 +19,11 @@ nodes_of-nodes_of_stmt-requires t c =
 
 pub nodes_of-returns : goal.nodes_of-returns
 nodes_of-returns t c =
-    let items = c.as_slice-stmt-items.result.now in
     record {
       capped = omega (
         arith,
         c.loop-stmt.invariant.whole,
-        count_past items c.loop-stmt.stmt-index c.loop-stmt-test.false,
+        count_past c.as_slice-stmt-items.result.now c.loop-stmt.stmt-index c.loop-stmt-test.false,
         ap node_count c.as_slice-stmt-items.ensures.value,
       );
     }
