@@ -2,7 +2,7 @@
 -- with the first one that does it, stands on this; it goes by cases of the statement.
 use Rattle.std.proofs.Common.{◌≡◌, ℕ, suc, ◌+◌, ◌<◌, ◌≤◌, Bool, true, false, ◌||◌, List, ◌∷◌, length, get_or, drop, refl, sym, ap, ◌∙◌, add-one}
 use Rattle.std.proofs.Math.Seq.{drop-cons}
-use Rattle.qs_script.proofs.tree.Sizes.{drop_past}
+use Rattle.std.proofs.lemmas.List.{drop_all}
 use Rattle.qs_program.specs.declared.code.Stmt.{Stmt}
 use Rattle.qs_program.specs.declared.code.Stmt.TheVariants.{Command, Query, Assign, If, Repeat, Leave}
 use Rattle.qs_program.specs.Views.{single, statements_of}
@@ -43,4 +43,4 @@ module _ (d : Doing) where
 
   -- none of them has done it
   pub none : (xs : List Stmt) (i : ℕ) → length xs ≤ i → does d (statements_of (drop i xs)) ≡ does d (statements_of xs) → false ≡ does d (statements_of xs)
-  none xs i past so_far = ap (λ ys. does d (statements_of ys)) (sym (drop_past xs i past)) ∙ so_far
+  none xs i past so_far = ap (λ ys. does d (statements_of ys)) (sym (drop_all i xs past)) ∙ so_far

@@ -1,8 +1,7 @@
 -- A script has fewer statements than its text has bytes: it has fewer of them than tokens, and a text has at least a
 -- byte for each of its tokens. The law that bounds the statements of a script is proved here.
 use Rattle.std.proofs.Common.{ℕ, ◌<◌, List, [], ◌∷◌, length, arith}
-use Rattle.qs_script.specs.declared.tokens.token.Token.{Token}
-use Rattle.qs_script.specs.declared.tree.tree.Item.{Item}
+use Rattle.qs_script.specs.Types.{Token, Item}
 use Rattle.qs_script.specs.audit.Reads.{IsScriptText}
 use Rattle.qs_script.specs.tree.Sizes.{statements}
 use Rattle.qs_script.specs.audit.grammar.Grammar.{IsScript}

@@ -1,11 +1,11 @@
 -- A loop that reads one element after another, up to a token that stops it, reads what the definition of the list says.
 -- The functions that read arguments, names, blocks, statements and items stand on it. Their invariant is `Continues`:
 -- what is done, joined with what the rest is read as, is what the whole is read as.
-use Rattle.std.proofs.Common.{◌≡◌, ℕ, zero, suc, ◌<◌, List, [], ◌∷◌, ◌++◌, length, refl, ap, sym, ◌∙◌, arith, append_assoc, append-nil, Option, Some, None, Ok, Err}
+use Rattle.std.proofs.Common.{◌≡◌, ℕ, ◌<◌, List, [], ◌∷◌, ◌++◌, length, refl, ap, sym, ◌∙◌, arith, append_assoc, append-nil, Option, Some, None, Ok, Err}
 use Rattle.qs_script.specs.declared.tokens.token.Token.{Token}
 use Rattle.qs_script.specs.declared.fault.TreeFault.{TreeFault}
 use Rattle.qs_script.specs.declared.fault.TreeFault.TheVariants.{Form, Memory}
-use Rattle.qs_script.specs.grammar.Reading.{Loop, onto, stmt_in, close_brace_at, Read, after, many_at, run, body_loop, list_loop, one, end_at}
+use Rattle.qs_script.specs.grammar.Reading.{Loop, onto, stmt_in, close_brace_at, Read, after, run, body_loop, list_loop, one, end_at}
 use Rattle.qs_script.specs.Results.{Fails}
 use Rattle.qs_script.specs.audit.tree.Tree.{Stmts}
 use Rattle.qs_script.specs.tree.Tree.{join_statements}

@@ -1,12 +1,10 @@
 -- The lines of a text before a place, as `line_of` passes them over: their tokens come before those of the rest,
 -- whatever the rest is. It stands on the law that a line feed ends what has begun.
-use Rattle.std.proofs.Common.{◌≡◌, ℕ, suc, ◌+◌, ◌-◌, ◌<◌, ◌≤◌, Bool, true, false, nat_eq, nat_lt, if◌then◌else◌, List, [], ◌∷◌, ◌++◌, length, take, drop, get_or, refl, ap, sym, ◌∙◌, arith, add-one, append_assoc, append-nil, length-append, length-drop, Result, Ok, Err}
-use Rattle.std.proofs.lemmas.List.{take-append-drop, take_all, length-take-le, get_or-drop}
+use Rattle.std.proofs.Common.{◌≡◌, ℕ, suc, ◌+◌, ◌-◌, ◌<◌, ◌≤◌, Bool, true, false, nat_eq, nat_lt, if◌then◌else◌, List, [], ◌∷◌, ◌++◌, length, take, drop, get_or, refl, ap, sym, ◌∙◌, arith, add-one, append_assoc, append-nil, length-append, length-drop, Result, Ok, Err, take-append-drop, take_all, length-take-le, get_or-drop}
 use Rattle.std.proofs.lemmas.List.Sums.{fold_more}
 use Rattle.std.proofs.Math.Seq.{take-append_seam}
 use Rattle.qs_diagnosis.specs.Spots.{begin, line_length, line_end_at, moved, spot_at}
-use Rattle.qs_script.specs.declared.tokens.token.Token.{Token}
-use Rattle.qs_script.specs.declared.tokens.lex.TokenFault.{TokenFault}
+use Rattle.qs_script.specs.Types.{Token, TokenFault}
 use Rattle.qs_script.specs.audit.tokens.Tokens.{after, tokens_of}
 use Rattle.qs_script.proofs.tokens.Lexemes.{then_tokens, after-after}
 use Rattle.qs_script.proofs.tokens.ByLine.{by_line}

@@ -1,9 +1,8 @@
 -- A text belongs to at most one script, and a text that belongs to one is refused only where memory runs out. The
 -- contract of `read` and the worked examples stand on it. It joins the two directions that are proved of the grammar:
 -- whatever is read is a script, and every script is read.
-use Rattle.std.proofs.Common.{◌≡◌, ℕ, List, [], refl, sym, subst, arith, Ok}
-use Rattle.qs_script.specs.declared.tokens.token.Token.{Token}
-use Rattle.qs_script.specs.declared.tree.tree.Item.{Item}
+use Rattle.std.proofs.Common.{◌≡◌, ℕ, List, refl, sym, subst, arith, Ok}
+use Rattle.qs_script.specs.Types.{Token, Item}
 use Rattle.qs_script.specs.declared.fault.ReadFault.{ReadFault}
 use Rattle.qs_script.specs.declared.fault.ReadFault.TheVariants as f
 use Rattle.qs_script.specs.declared.tokens.lex.TokenFault.TheVariants as e

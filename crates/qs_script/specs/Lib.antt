@@ -4,6 +4,7 @@ pub mod audit
 pub mod Lines
 pub mod Reads
 -- What crates promise one another, what proofs use, and worked examples.
+pub mod Types
 pub mod Results
 pub mod tokens
 pub mod tree

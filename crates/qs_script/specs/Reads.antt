@@ -43,18 +43,15 @@ IsReadOf text (Err fault) = IsRefused fault text
 
 -- a token fault with its line
 abbrev pub IsPlaced : TokenFault → ℕ → ReadFault → Type 0
-IsPlaced fault at f.Size = ⊥
 IsPlaced fault at (f.Byte line) = (fault ≡ token.Byte) × (line ≡ at)
 IsPlaced fault at (f.Number line) = (fault ≡ token.Number) × (line ≡ at)
 IsPlaced fault at (f.Name line) = (fault ≡ token.Name) × (line ≡ at)
-IsPlaced fault at (f.Form line) = ⊥
-IsPlaced fault at f.Memory = ⊥
+IsPlaced fault at _ = ⊥
 
 -- the first token fault of a text, unless memory ran out
 abbrev pub HasFault : ReadFault → List ℕ → Type 0
-HasFault f.Size text = ⊥
 HasFault (f.Byte line) text = IsFaultAt text token.Byte line
 HasFault (f.Number line) text = IsFaultAt text token.Number line
 HasFault (f.Name line) text = IsFaultAt text token.Name line
-HasFault (f.Form line) text = ⊥
 HasFault f.Memory text = Unit {0}
+HasFault _ text = ⊥

@@ -2,26 +2,11 @@
 -- that it refuses no script stands on it. It goes by induction on the tree; the first token of each part tells it from
 -- all others, and each part takes a token, so that the loops have steps enough.
 use Rattle.std.proofs.Common.{◌≡◌, ℕ, zero, suc, ◌<◌, inl, inr, List, [], ◌∷◌, length, refl, ap, sym, ◌∙◌, arith, Option, Some, None, Ok, Err}
-use Rattle.qs_script.specs.declared.tokens.token.Token.{Token}
+use Rattle.qs_script.specs.Types.{Token, Atom, Variable, Number, Operator, Relation, Expr, Plain, Binary, Test, Call, Block, KindText, Account, KindWord, Formal, Item, Object, Client, Template, Started}
 use Rattle.qs_script.specs.declared.tokens.token.Token.TheVariants as t
-use Rattle.qs_script.specs.declared.tree.tree.Atom.{Atom}
-use Rattle.qs_script.specs.declared.tree.tree.Atom.TheVariants.{Variable, Number}
-use Rattle.qs_script.specs.declared.tree.tree.Operator.{Operator}
 use Rattle.qs_script.specs.declared.tree.tree.Operator.TheVariants as o
-use Rattle.qs_script.specs.declared.tree.tree.Relation.{Relation}
 use Rattle.qs_script.specs.declared.tree.tree.Relation.TheVariants as r
-use Rattle.qs_script.specs.declared.tree.tree.Expr.{Expr}
-use Rattle.qs_script.specs.declared.tree.tree.Expr.TheVariants.{Plain, Binary}
-use Rattle.qs_script.specs.declared.tree.tree.Test.{Test}
-use Rattle.qs_script.specs.declared.tree.tree.Call.{Call}
-use Rattle.qs_script.specs.declared.tree.tree.Block.{Block}
-use Rattle.qs_script.specs.declared.tree.tree.KindText.{KindText}
-use Rattle.qs_script.specs.declared.tree.tree.KindText.TheVariants.{Account, Buffer, Grid}
-use Rattle.qs_script.specs.declared.tree.tree.KindWord.{KindWord}
 use Rattle.qs_script.specs.declared.tree.tree.KindWord.TheVariants as kind
-use Rattle.qs_script.specs.declared.tree.tree.Formal.{Formal}
-use Rattle.qs_script.specs.declared.tree.tree.Item.{Item}
-use Rattle.qs_script.specs.declared.tree.tree.Item.TheVariants.{Object, Client, Template, Started}
 use Rattle.qs_script.specs.audit.tree.Tree.{Stmts, end, command, query, assign, choose, choose_else, again, leave}
 use Rattle.qs_script.specs.grammar.Reading.{Read, run, one, list_loop, open_brace_at, close_brace_at, close_paren_at, atom_at, further_at, more_loop, args_at, call_at, operator_at, relation_at, expr_at, test_at, assign_at, assigned_at, other_at, stmt_at, body_loop, names_loop, name_at, separate_at, blocks_loop, kind_at, kind_word_at, formal_at, further_formal_at, formals_loop, formals_at, further_name_at, given_loop, given_at, item_at, end_at, items_loop}
 use Rattle.qs_script.specs.audit.grammar.Grammar.{IsAtom, AreMore, AreArgs, IsCall, operator_token, relation_token, IsExpr, IsTest, AreStmts, AreNames, AreSomeNames, IsBlock, AreBlocks, IsKind, kind_token, IsFormal, AreMoreFormals, AreFormals, AreMoreNames, AreGiven, IsItem, AreItems, IsScript}
@@ -65,16 +50,11 @@ call_complete c ts rest (x, e, h) = (t.Name c.op ∷ t.OpenParen ∷ x, e, rw (a
 -- expressions
 operator_complete : (op : Operator) (ts : List Token) → operator_at (operator_token op ∷ ts) ≡ Some (op, ts)
 operator_complete o.Plus ts = refl
-operator_complete o.Minus ts = refl
-operator_complete o.Times ts = refl
+operator_complete _ ts = refl
 
 relation_complete : (rel : Relation) (ts : List Token) → relation_at (relation_token rel ∷ ts) ≡ Ok (rel, ts)
 relation_complete r.Equal ts = refl
-relation_complete r.Unequal ts = refl
-relation_complete r.Less ts = refl
-relation_complete r.AtMost ts = refl
-relation_complete r.Greater ts = refl
-relation_complete r.AtLeast ts = refl
+relation_complete _ ts = refl
 
 expr_complete : (e : Expr) (ts rest : List Token) → IsExpr e ts (t.Semicolon ∷ rest) → expr_at ts ≡ Ok (e, t.Semicolon ∷ rest)
 expr_complete (Plain a) ts rest h = rw (atom_complete a ts (t.Semicolon ∷ rest) h) refl
@@ -93,8 +73,7 @@ atom_assigned v (Number z) ts rest (n, inr (e, h)) f = rw h refl
 
 operator_assigned : (v : List ℕ) (op : Operator) (ts : List Token) (m : List ℕ) → assigned_at v (t.Name m ∷ operator_token op ∷ ts) ≡ assign_at v (t.Name m ∷ operator_token op ∷ ts)
 operator_assigned v o.Plus ts m = refl
-operator_assigned v o.Minus ts m = refl
-operator_assigned v o.Times ts m = refl
+operator_assigned v _ ts m = refl
 
 expr_assigned : (v : List ℕ) (e : Expr) (ts rest : List Token) → IsExpr e ts (t.Semicolon ∷ rest) → assigned_at v ts ≡ assign_at v ts
 expr_assigned v (Plain a) ts rest h = atom_assigned v a ts (t.Semicolon ∷ rest) h (λ m. refl)
@@ -187,14 +166,12 @@ blocks_complete (b ∷ bs) ts rest (x, h, k) =
 
 kind_complete : (k : KindText) (ts rest : List Token) → IsKind k ts rest → kind_at ts ≡ Ok (k, rest)
 kind_complete (Account n) ts rest h = rw h refl
-kind_complete (Buffer n) ts rest h = rw h refl
-kind_complete (Grid n m) ts rest h = rw h refl
+kind_complete _ ts rest h = rw h refl
 
 -- formals, and objects that are given
 kind_word_complete : (k : KindWord) (ts : List Token) → kind_word_at (kind_token k ∷ ts) ≡ Ok (k, ts)
 kind_word_complete kind.Account ts = refl
-kind_word_complete kind.Buffer ts = refl
-kind_word_complete kind.Grid ts = refl
+kind_word_complete _ ts = refl
 
 formal_complete : (f : Formal) (ts rest : List Token) → IsFormal f ts rest → formal_at ts ≡ Ok (f, rest)
 formal_complete f ts rest h = rw (h, kind_word_complete f.kind (t.Name f.name ∷ rest)) refl

@@ -2,20 +2,8 @@
 -- part began with. The proof that all scripts are read needs this for the end of its loops, and so does the bound on
 -- statements by bytes. It goes by induction on the tree.
 use Rattle.std.proofs.Common.{ℕ, zero, suc, ◌<◌, ◌≤◌, ◌+◌, inl, inr, List, [], ◌∷◌, length, arith}
-use Rattle.qs_script.specs.declared.tokens.token.Token.{Token}
+use Rattle.qs_script.specs.Types.{Token, Atom, Variable, Number, Expr, Plain, Binary, Test, Call, Block, KindText, Account, Formal, Item, Object, Client, Template, Started}
 use Rattle.qs_script.specs.declared.tokens.token.Token.TheVariants as t
-use Rattle.qs_script.specs.declared.tree.tree.Atom.{Atom}
-use Rattle.qs_script.specs.declared.tree.tree.Atom.TheVariants.{Variable, Number}
-use Rattle.qs_script.specs.declared.tree.tree.Expr.{Expr}
-use Rattle.qs_script.specs.declared.tree.tree.Expr.TheVariants.{Plain, Binary}
-use Rattle.qs_script.specs.declared.tree.tree.Test.{Test}
-use Rattle.qs_script.specs.declared.tree.tree.Call.{Call}
-use Rattle.qs_script.specs.declared.tree.tree.Block.{Block}
-use Rattle.qs_script.specs.declared.tree.tree.KindText.{KindText}
-use Rattle.qs_script.specs.declared.tree.tree.KindText.TheVariants.{Account, Buffer, Grid}
-use Rattle.qs_script.specs.declared.tree.tree.Formal.{Formal}
-use Rattle.qs_script.specs.declared.tree.tree.Item.{Item}
-use Rattle.qs_script.specs.declared.tree.tree.Item.TheVariants.{Object, Client, Template, Started}
 use Rattle.qs_script.specs.audit.tree.Tree.{Stmts, end, command, query, assign, choose, choose_else, again, leave}
 use Rattle.qs_script.specs.tree.Views.{size_of}
 use Rattle.qs_script.specs.tree.Sizes.{blocks_size, item_size, statements}
@@ -81,8 +69,7 @@ blocks_counted (b ∷ bs) ts rest (x, h, k) = omega (arith, block_counted b ts x
 
 kind_shorter : (k : KindText) (ts rest : List Token) → IsKind k ts rest → length rest ≤ length ts
 kind_shorter (Account n) ts rest h = rw h (omega arith)
-kind_shorter (Buffer n) ts rest h = rw h (omega arith)
-kind_shorter (Grid n m) ts rest h = rw h (omega arith)
+kind_shorter _ ts rest h = rw h (omega arith)
 
 pub formal_shorter : (f : Formal) (ts rest : List Token) → IsFormal f ts rest → length rest < length ts
 formal_shorter f ts rest h = rw h (omega arith)

@@ -3,24 +3,14 @@
 -- on the statements, since the grammar counts one level less for each body.
 use Rattle.std.proofs.Common.{ℕ, zero, suc, ◌<◌, ◌≤◌, List, [], ◌∷◌, length, arith}
 use Rattle.std.specs.List.{AllByRecursion}
-use Rattle.qs_script.specs.declared.tokens.token.Token.{Token}
+use Rattle.qs_script.specs.Types.{Token, Block, Item, Object, Client, Template, Started}
 use Rattle.qs_script.specs.declared.tokens.token.Token.TheVariants as t
-use Rattle.qs_script.specs.declared.tree.tree.Block.{Block}
-use Rattle.qs_script.specs.declared.tree.tree.Item.{Item}
-use Rattle.qs_script.specs.declared.tree.tree.Item.TheVariants.{Object, Client, Template, Started}
 use Rattle.qs_script.specs.audit.tree.Tree.{Stmts, end, command, query, assign, choose, choose_else, again, leave}
 use Rattle.qs_script.specs.audit.grammar.Grammar.{AreStmts, AreSomeNames, AreBlocks, AreItems}
 use Rattle.qs_script.specs.tree.Form.{levels_of, IsFormed, HasForm}
 
 shallow_stmts : (n : ℕ) (s : Stmts) (ts rest : List Token) → AreStmts n s ts rest → levels_of s ≤ n
 shallow_stmts n end ts rest h = omega arith
-shallow_stmts zero (command c more) ts rest h = absurd h
-shallow_stmts zero (query v c more) ts rest h = absurd h
-shallow_stmts zero (assign v e more) ts rest h = absurd h
-shallow_stmts zero (choose c first more) ts rest h = absurd h
-shallow_stmts zero (choose_else c first other more) ts rest h = absurd h
-shallow_stmts zero (again k body more) ts rest h = absurd h
-shallow_stmts zero (leave more) ts rest h = absurd h
 shallow_stmts (suc n) (command c more) ts rest (y, e, h) = omega (arith, shallow_stmts (suc n) more y rest h)
 shallow_stmts (suc n) (query v c more) ts rest (x, y, e, d, h) = omega (arith, shallow_stmts (suc n) more y rest h)
 shallow_stmts (suc n) (assign v d more) ts rest (x, y, e, f, h) = omega (arith, shallow_stmts (suc n) more y rest h)
@@ -36,6 +26,7 @@ shallow_stmts (suc n) (choose_else c first other more) ts rest (x, y, z, w, e, d
 shallow_stmts (suc n) (again k body more) ts rest (x, y, e, g, h) =
     omega (arith, shallow_stmts n body x (t.CloseBrace ∷ y) g, shallow_stmts (suc n) more y rest h)
 shallow_stmts (suc n) (leave more) ts rest (y, e, h) = omega (arith, shallow_stmts (suc n) more y rest h)
+shallow_stmts zero _ ts rest h = absurd h
 
 some_names : (ns : List (List ℕ)) (ts rest : List Token) → AreSomeNames ns ts rest → 0 < length ns
 some_names [] ts rest h = absurd h

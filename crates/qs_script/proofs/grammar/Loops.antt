@@ -1,7 +1,7 @@
 -- What a list is read as, by its first tokens: nothing where they end it, and else an element and what the rest is read
 -- as; the number of steps does not matter, where there are enough. What reads lists, and the proof that every script is
 -- read, stand on it.
-use Rattle.std.proofs.Common.{◌≡◌, ℕ, zero, suc, ◌<◌, List, length, refl, ap, arith, Option, Some, None, Ok, Err}
+use Rattle.std.proofs.Common.{◌≡◌, ℕ, zero, suc, ◌<◌, List, length, refl, ap, arith, Some, None, Ok, Err}
 use Rattle.qs_script.specs.declared.tokens.token.Token.{Token}
 use Rattle.qs_script.specs.grammar.Reading.{Loop, after, many_at, run, Read}
 

@@ -1,11 +1,9 @@
 -- The reader stops at the place of the fault of form: what it made of the tokens before says that a script goes on
 -- there, and what it makes of one more that none does. The contract of `read` stands on it, and the law that there is
 -- one such place.
-use Rattle.std.proofs.Common.{◌≡◌, ◌↔◌, IsTrue, nat_eq, ℕ, suc, ◌-◌, ◌<◌, ◌≤◌, List, [], ◌∷◌, ◌++◌, length, take, drop, refl, ap, sym, ◌∙◌, arith, append-nil, append_assoc, Ok, Err, subst}
+use Rattle.std.proofs.Common.{◌≡◌, ◌↔◌, IsTrue, nat_eq, ℕ, suc, ◌-◌, ◌<◌, ◌≤◌, List, [], ◌∷◌, ◌++◌, length, take, drop, refl, ap, sym, ◌∙◌, arith, append-nil, append_assoc, Ok, Err, subst, length-append, length-drop, take-append-drop, take-take}
 use Rattle.std.proofs.Math.Seq.{take-length}
-use Rattle.std.proofs.lemmas.List.{length-append, length-drop, take-append-drop, take-take}
-use Rattle.qs_script.specs.declared.tokens.token.Token.{Token}
-use Rattle.qs_script.specs.declared.tree.tree.Item.{Item}
+use Rattle.qs_script.specs.Types.{Token, Item}
 use Rattle.qs_script.specs.audit.grammar.Grammar.{IsScript}
 use Rattle.qs_script.specs.grammar.Reading.{Read, run, items_loop}
 use Rattle.qs_script.specs.grammar.FormPlaces.{BeginsScript, IsFormPlace}

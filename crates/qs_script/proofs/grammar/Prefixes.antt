@@ -2,8 +2,7 @@
 -- has begun and has a way to go on to a whole. That each reader does one of the three, and what readers joined to one
 -- another do, is all that the proof of the place of a fault of form stands on. The lists go by induction on the tokens
 -- so far.
-use Rattle.std.proofs.Common.{◌≡◌, ◌⊎◌, ℕ, zero, suc, ◌<◌, ◌≤◌, inl, inr, List, [], ◌∷◌, ◌++◌, length, refl, ap, ◌∙◌, arith, append_assoc, Option, Some, None, Result, Ok, Err, subst}
-use Rattle.std.proofs.lemmas.List.{length-append}
+use Rattle.std.proofs.Common.{◌≡◌, ◌⊎◌, ℕ, zero, suc, ◌<◌, ◌≤◌, inl, inr, List, [], ◌∷◌, ◌++◌, length, refl, ap, ◌∙◌, arith, append_assoc, Option, Some, None, Result, Ok, Err, subst, length-append}
 use Rattle.qs_script.specs.declared.tokens.token.Token.{Token}
 use Rattle.qs_script.specs.grammar.Reading.{Read, ◌>>=◌, Loop, after, stop_or, then_more, many_at, run, one, list_loop}
 use Rattle.qs_script.proofs.grammar.Loops.{Runs, run_is, runs_stop, runs_no_element, runs_element}

@@ -2,17 +2,11 @@
 -- or has begun and can go on to a whole. There is a line for each of them, by the readers that it is made of; bodies go
 -- by induction on the levels that are left.
 use Rattle.std.proofs.Common.{◌≡◌, ℕ, zero, suc, ◌≤◌, inl, inr, List, [], ◌∷◌, ◌++◌, length, refl, arith, Some, None, Ok, neg_ℤ, pos}
-use Rattle.qs_script.specs.declared.tokens.token.Token.{Token}
+use Rattle.qs_script.specs.Types.{Token, Atom, Variable, Number, Operator, Plain, Binary, Account, Buffer, Grid, Formal}
 use Rattle.qs_script.specs.declared.tokens.token.Token.TheVariants as t
-use Rattle.qs_script.specs.declared.tree.tree.Atom.{Atom}
-use Rattle.qs_script.specs.declared.tree.tree.Atom.TheVariants.{Variable, Number}
-use Rattle.qs_script.specs.declared.tree.tree.Operator.{Operator}
 use Rattle.qs_script.specs.declared.tree.tree.Operator.TheVariants as o
 use Rattle.qs_script.specs.declared.tree.tree.Relation.TheVariants as r
-use Rattle.qs_script.specs.declared.tree.tree.Expr.TheVariants.{Plain, Binary}
-use Rattle.qs_script.specs.declared.tree.tree.KindText.TheVariants.{Account, Buffer, Grid}
 use Rattle.qs_script.specs.declared.tree.tree.KindWord.TheVariants as kind
-use Rattle.qs_script.specs.declared.tree.tree.Formal.{Formal}
 use Rattle.qs_script.specs.audit.tree.Tree.{Stmts, end, command, query, assign, again, leave}
 use Rattle.qs_script.specs.audit.tree.Limits.{most_levels}
 use Rattle.qs_script.specs.grammar.Reading.{Read, ◌>>=◌, due, after, run, name_at, number_at, open_brace_at, close_brace_at, open_paren_at, close_paren_at, comma_at, semicolon_at, negative_at, atom_at, further_at, more_loop, first_arg, args_at, call_at, operator_at, relation_at, expr_with, expr_at, test_of, test_at, ended_at, query_at, assign_at, assigned_at, command_at, named_at, braced_at, other_at, choice_of, choice_at, repeat_at, stmt_at, stmt_in, body_loop, names_loop, block_of, block_at, separate_at, blocks_loop, kind_at, object_of, client_of, object_at, own_blocks_at, formal_of, kind_word_at, formal_at, further_formal_at, formals_at, further_name_at, given_at, template_of, started_of, template_blocks_at, template_called_at, template_at, started_with_at, started_at, client_called_at, client_at, item_at, end_at, items_loop}

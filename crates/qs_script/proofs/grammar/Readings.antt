@@ -1,8 +1,7 @@
 -- What is read is a script, and tokens of which nothing is read are none. It joins the two directions that are proved
 -- of the grammar: whatever is read is a script, and every script is read. The contracts of all that reads stand on it.
 use Rattle.std.proofs.Common.{◌≡◌, ℕ, List, [], Result, Ok, Err}
-use Rattle.qs_script.specs.declared.tokens.token.Token.{Token}
-use Rattle.qs_script.specs.declared.tree.tree.Item.{Item}
+use Rattle.qs_script.specs.Types.{Token, Item}
 use Rattle.qs_script.specs.grammar.Reading.{run, items_loop}
 use Rattle.qs_script.specs.audit.grammar.Grammar.{IsScript}
 use Rattle.qs_script.proofs.grammar.Sound.{items_sound}

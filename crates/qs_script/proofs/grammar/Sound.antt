@@ -2,25 +2,11 @@
 -- that its result belongs to the text stands on `items_sound`. There is a lemma for each construct of the language; the
 -- lists go by induction on the steps of their loop, and bodies by induction on the levels that are left.
 use Rattle.std.proofs.Common.{◌≡◌, ℕ, zero, suc, inl, inr, List, [], ◌∷◌, ◌++◌, length, refl, ap, sym, ◌∙◌, Option, Some, None, Result, Ok, Err, subst, neg_ℤ, pos}
-use Rattle.qs_script.specs.declared.tokens.token.Token.{Token}
+use Rattle.qs_script.specs.Types.{Token, Atom, Variable, Number, Operator, Relation, Expr, Binary, Test, Call, Block, KindText, Account, Buffer, Grid, KindWord, Formal, Item}
 use Rattle.qs_script.specs.declared.tokens.token.Token.TheVariants as t
-use Rattle.qs_script.specs.declared.tree.tree.Atom.{Atom}
-use Rattle.qs_script.specs.declared.tree.tree.Atom.TheVariants.{Variable, Number}
-use Rattle.qs_script.specs.declared.tree.tree.Operator.{Operator}
 use Rattle.qs_script.specs.declared.tree.tree.Operator.TheVariants as o
-use Rattle.qs_script.specs.declared.tree.tree.Relation.{Relation}
 use Rattle.qs_script.specs.declared.tree.tree.Relation.TheVariants as r
-use Rattle.qs_script.specs.declared.tree.tree.Expr.{Expr}
-use Rattle.qs_script.specs.declared.tree.tree.Expr.TheVariants.{Binary}
-use Rattle.qs_script.specs.declared.tree.tree.Test.{Test}
-use Rattle.qs_script.specs.declared.tree.tree.Call.{Call}
-use Rattle.qs_script.specs.declared.tree.tree.Block.{Block}
-use Rattle.qs_script.specs.declared.tree.tree.KindText.{KindText}
-use Rattle.qs_script.specs.declared.tree.tree.KindText.TheVariants.{Account, Buffer, Grid}
-use Rattle.qs_script.specs.declared.tree.tree.KindWord.{KindWord}
 use Rattle.qs_script.specs.declared.tree.tree.KindWord.TheVariants as kind
-use Rattle.qs_script.specs.declared.tree.tree.Formal.{Formal}
-use Rattle.qs_script.specs.declared.tree.tree.Item.{Item}
 use Rattle.qs_script.specs.audit.tree.Tree.{Stmts, end, command, query, assign, again, leave}
 use Rattle.qs_script.specs.tree.Tree.{join_statements}
 use Rattle.qs_script.specs.grammar.Reading.{Read, ◌>>=◌, due, Loop, after, stop_or, then_more, many_at, run, one, list_loop, name_at, number_at, open_brace_at, close_brace_at, open_paren_at, close_paren_at, comma_at, semicolon_at, negative_at, atom_at, further_at, more_loop, first_arg, args_at, call_at, operator_at, relation_at, expr_with, expr_at, test_of, test_at, query_at, assign_at, assigned_at, command_at, named_at, braced_at, other_at, choice_of, choice_at, repeat_at, stmt_at, body_loop, names_loop, block_of, block_at, separate_at, blocks_loop, kind_at, object_of, client_of, object_called_at, object_at, own_blocks_at, formal_of, kind_word_at, formal_at, further_formal_at, formals_loop, formals_at, further_name_at, given_loop, given_at, template_of, started_of, template_blocks_at, template_called_at, template_at, started_with_at, started_at, client_called_at, client_at, item_at, end_at, items_loop}
@@ -249,12 +235,9 @@ module _ (n : ℕ) (inner : List Token → Read Stmts) (inner_sound : (ts : List
       let (y, e, h) = braced_sound ts b q in
       subst (λ z. IsOther z.0 (t.Else ∷ ts) z.1) s (y, ap (λ us. t.Else ∷ us) e, h)
 
-  no_other_sound : (ts : List Token) (x : Option Stmts × List Token) → got {A = Option Stmts × List Token} (None, ts) ≡ got x → IsOther x.0 ts x.1
-  no_other_sound ts x p = subst (λ z. IsOther z.0 ts z.1) (ok_inj _ x p) refl
-
   other_sound : (ts : List Token) (x : Option Stmts × List Token) → other_at inner ts ≡ Ok x → IsOther x.0 ts x.1
   other_sound (t.Else ∷ ts) x p = some_other_sound ts x p
-  other_sound ts x p = no_other_sound ts x p
+  other_sound ts x p = subst (λ z. IsOther z.0 ts z.1) (ok_inj _ x p) refl
 
   choice_whole : (c : Test) (first : Stmts) (other : Option Stmts) (x y z w : List Token) → IsTest c x (t.OpenBrace ∷ y) → AreStmts n first y (t.CloseBrace ∷ z) → IsOther other z w → ExtendsStatements n (t.If ∷ x) (choice_of c first other, w)
   choice_whole c first None x y z w h k e = λ more rest m. (x, y, z, refl, h, k, rw e m)

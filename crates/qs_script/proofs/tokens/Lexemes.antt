@@ -1,13 +1,10 @@
 -- The first token of a text is what stands at its front, a name, digits, a comment or a sign, and the other tokens are
 -- those of the rest of the text. The functions that cut off one token, such as `front_word` and `front_number`, stand
 -- on it. The definition goes byte by byte, so the proof goes by induction on the bytes that belong to the token.
-use Rattle.std.proofs.Common.{◌≡◌, ◌≢◌, ℕ, ◌+◌, ◌<◌, get_or, ◌||◌, nat_eq, not, ◌≤◌, min, zero, suc, Bool, true, false, if◌then◌else◌, List, [], ◌∷◌, ◌++◌, length, take, drop, refl, ap, sym, ◌∙◌, append_assoc, append-nil, one-add, All, IsTrue, Option, Some, None, Result, Ok, Err, arith}
-use Rattle.std.proofs.lemmas.List.{length-take-le}
+use Rattle.std.proofs.Common.{◌≡◌, ◌≢◌, ℕ, ◌+◌, ◌<◌, get_or, ◌||◌, nat_eq, not, ◌≤◌, min, zero, suc, Bool, true, false, if◌then◌else◌, List, [], ◌∷◌, ◌++◌, length, take, drop, refl, ap, sym, ◌∙◌, append_assoc, append-nil, one-add, All, IsTrue, Option, Some, None, Result, Ok, Err, arith, length-take-le, ltb}
 use Rattle.std.proofs.lemmas.List.Elements.{All-cons, All-nil}
-use Rattle.qs_script.specs.declared.tokens.token.Token.{Token}
-use Rattle.qs_script.specs.declared.tokens.lex.TokenFault.{TokenFault}
+use Rattle.qs_script.specs.Types.{Token, TokenFault}
 use Rattle.qs_script.specs.declared.tokens.lex.TokenFault.TheVariants.{Number, Name}
-use Rattle.std.proofs.Math.Dec.{ltb}
 use Rattle.qs_script.specs.audit.tokens.Tokens.{Pending, nothing, word, digits, comment, sign, is_name_byte, is_letter, is_digit, is_space, word_token, value_of, Step, over, tokens_from, tokens_of, after, ends, first_byte, before, byte_step, going_on, any_sign, single_sign, at, equals_signs}
 use Rattle.qs_script.specs.declared.tokens.token.Token.TheVariants as t
 use Rattle.qs_script.specs.tokens.Cutting.{run_of, alone, with_equals as with_equals_of}
@@ -186,9 +183,8 @@ run_take_step test n b bs true h = rw h (omega arith)
 run_take_step test n b bs false h = omega arith
 
 pub run_take : (test : ℕ → Bool) (n : ℕ) (bs : List ℕ) → run_of test (take n bs) ≡ min n (run_of test bs)
-run_take test zero bs = omega arith
-run_take test (suc n) [] = omega arith
 run_take test (suc n) (b ∷ bs) = run_take_step test n b bs (test b) (run_take test n bs)
+run_take test _ _ = omega arith
 
 run_within_step : (passes : Bool) (n m : ℕ) → n ≤ m → (if passes then 1 + n else 0) ≤ suc m
 run_within_step true n m h = omega arith

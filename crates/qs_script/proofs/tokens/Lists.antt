@@ -1,8 +1,7 @@
 -- The list of a text's tokens grows by what stands at the front, so the tokens of the text are those of the list and
 -- those of the rest. The functions that add one token, such as `add_word`, stand on it.
 use Rattle.std.proofs.Common.{◌≡◌, ◌<◌, ◌≤◌, ◌∙◌, ℕ, List, [], ◌∷◌, ◌++◌, length, take, drop, get_or, min, true, false, ap, sym, refl, Result, Ok}
-use Rattle.qs_script.specs.declared.tokens.token.Token.{Token}
-use Rattle.qs_script.specs.declared.tokens.lex.TokenFault.{TokenFault}
+use Rattle.qs_script.specs.Types.{Token, TokenFault}
 use Rattle.qs_script.specs.audit.tokens.Tokens.{tokens_of, after, is_letter, is_digit, is_name_byte, word_token, value_of}
 use Rattle.qs_script.specs.declared.tokens.token.Token.TheVariants as t
 use Rattle.qs_script.specs.tokens.Cutting.{Adds, run_of}

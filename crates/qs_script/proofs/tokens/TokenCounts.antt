@@ -2,8 +2,7 @@
 -- stands on it. It goes by induction on the bytes, each of which adds at most one token, where a token that has begun
 -- and is not over is counted already.
 use Rattle.std.proofs.Common.{◌≡◌, ℕ, ◌≤◌, ◌+◌, Bool, true, false, if◌then◌else◌, List, [], ◌∷◌, ◌++◌, length, ap, arith, Option, Some, None, Result, Ok, Err, length-append, nat_eq, nat_lt}
-use Rattle.qs_script.specs.declared.tokens.token.Token.{Token}
-use Rattle.qs_script.specs.declared.tokens.lex.TokenFault.{TokenFault}
+use Rattle.qs_script.specs.Types.{Token, TokenFault}
 use Rattle.qs_script.specs.declared.tokens.lex.TokenFault.TheVariants.{Number, Name}
 use Rattle.qs_script.specs.declared.tokens.token.Token.TheVariants as t
 use Rattle.qs_script.specs.audit.tokens.Tokens.{is_letter, is_digit, is_space, is_name_byte, word_token, value_of, Pending, nothing, word, digits, comment, sign, Step, over, tokens_from, tokens_of, after, ends, first_byte, before, byte_step, going_on, any_sign, single_sign, at, signs, equals_signs}
@@ -12,10 +11,8 @@ use Rattle.qs_script.specs.audit.tokens.Limits.{longest_name}
 -- how many tokens what has begun may still make
 abbrev weight : Pending → ℕ
 weight nothing = 0
-weight (word w) = 1
-weight (digits ds) = 1
 weight comment = 0
-weight (sign alone both) = 1
+weight _ = 1
 
 -- at most n tokens
 abbrev Few : ℕ → Result (List Token) TokenFault → Type 0
@@ -46,10 +43,8 @@ abbrev unless : Bool → Step → Step → Step
 unless b x y = if b then x else y
 
 few_begun_by : (letter digit space : Bool) (b : ℕ) (other : Step) → FewAfter 1 other → FewAfter 1 (unless letter (Ok ([], word (b ∷ []))) (unless digit (Ok ([], digits (b ∷ []))) (unless space (Ok ([], nothing)) other)))
-few_begun_by true digit space b other h = omega arith
-few_begun_by false true space b other h = omega arith
-few_begun_by false false true b other h = omega arith
 few_begun_by false false false b other h = h
+few_begun_by _ _ _ b other h = omega arith
 
 few_begun : (b : ℕ) → FewAfter 1 (first_byte b)
 few_begun b = few_begun_by (is_letter b) (is_digit b) (is_space b) b (if nat_eq b 35 then Ok ([], comment) else any_sign b (at b equals_signs)) (few_comment b)
@@ -59,12 +54,10 @@ few_long true fault token = tt
 few_long false fault token = omega arith
 
 few_over : (p : Pending) → Few (weight p) (over p)
-few_over nothing = omega arith
-few_over comment = omega arith
 few_over (word w) = few_long (nat_lt longest_name (length w)) Name (word_token w)
 few_over (digits ds) = few_long (nat_lt 18 (length ds)) Number (t.Number (value_of ds))
 few_over (sign None both) = tt
-few_over (sign (Some alone) both) = omega arith
+few_over _ = omega arith
 
 few_before : (n : ℕ) (ts : List Token) (s : Step) → length ts ≤ n → FewAfter 1 s → FewAfter (n + 1) (before ts s)
 few_before n ts (Ok p) h k = omega (arith, length-append ts p.0)

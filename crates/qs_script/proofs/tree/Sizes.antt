@@ -1,17 +1,9 @@
 -- A list of statements is the statement at an index joined with those after it, and no statement is larger than its
 -- list. By this the check's functions that go down into bodies come to an end, and their loops keep what they have so
 -- far. It goes by induction on the list.
-use Rattle.std.proofs.Common.{◌≡◌, ℕ, zero, suc, ◌<◌, ◌≤◌, List, [], ◌∷◌, length, get_or, drop, refl, arith}
-use Rattle.qs_script.specs.declared.tree.tree.Stmt.{Stmt}
-use Rattle.qs_script.specs.declared.tree.tree.Stmt.TheVariants.{Command, Query, Assign, If, IfElse, Repeat, Leave}
+use Rattle.std.proofs.Common.{ℕ, zero, suc, ◌<◌, ◌≤◌, List, [], ◌∷◌, length, get_or, arith}
+use Rattle.qs_script.specs.Types.{Stmt, Command, Query, Assign, If, IfElse, Repeat, Leave}
 use Rattle.qs_script.specs.tree.Views.{stmts_of, single, size_of}
-
--- no statements are left past the end
-pub drop_past : {A : Type 0} (xs : List A) (i : ℕ) → length xs ≤ i → drop i xs ≡ []
-drop_past [] zero h = refl
-drop_past [] (suc i) h = refl
-drop_past (x ∷ xs) zero h = absurd (omega arith)
-drop_past (x ∷ xs) (suc i) h = drop_past xs i (omega arith)
 
 -- a single statement is at most as large as the list in which it stands
 pub size_at : (xs : List Stmt) (i : ℕ) (d : Stmt) → i < length xs → size_of (single (get_or xs i d)) ≤ size_of (stmts_of xs)

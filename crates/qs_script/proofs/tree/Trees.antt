@@ -2,8 +2,7 @@
 -- a list is joined to its end. The loops of the reader stand on the first two, and the proof of `push` on the third.
 -- Each goes by induction on the list.
 use Rattle.std.proofs.Common.{◌≡◌, List, [], ◌∷◌, ◌++◌, refl, ap}
-use Rattle.qs_script.specs.declared.tree.tree.Stmt.{Stmt}
-use Rattle.qs_script.specs.declared.tree.tree.Stmt.TheVariants.{Command, Query, Assign, If, IfElse, Repeat, Leave}
+use Rattle.qs_script.specs.Types.{Stmt, Command, Query, Assign, If, IfElse, Repeat, Leave}
 use Rattle.qs_script.specs.audit.tree.Tree.{Stmts, end, command, query, assign, choose, choose_else, again, leave}
 use Rattle.qs_script.specs.tree.Tree.{join_statements}
 use Rattle.qs_script.specs.tree.Views.{stmts_of, single}

@@ -1,7 +1,6 @@
 -- What the parser makes of a list of tokens: a tree and the tokens after it, or the token with which no reading goes
 -- on.
-use Rattle.std.specs.Prelude.{◌≡◌, ℕ, zero, suc, length, List, [], ◌∷◌, ◌++◌, Option, Some, None, Result, Ok, Err, pos}
-use Rattle.std.proofs.Common.{neg_ℤ}
+use Rattle.std.specs.Prelude.{ℕ, zero, suc, length, List, [], ◌∷◌, ◌++◌, Option, Some, None, Result, Ok, Err, pos, neg_ℤ}
 use Rattle.qs_script.specs.declared.tokens.token.Token.{Token}
 use Rattle.qs_script.specs.declared.tokens.token.Token.TheVariants as t
 use Rattle.qs_script.specs.declared.tree.tree.Atom.{Atom}

@@ -25,8 +25,7 @@ run_of test (b ∷ bs) = if test b then 1 + run_of test bs else 0
 
 abbrev pub tokens_in : Piece → List Token
 tokens_in (p.Token t) = t ∷ []
-tokens_in p.Line = []
-tokens_in p.Gap = []
+tokens_in _ = []
 
 -- what all the tokens are: those of the piece and those of the bytes after it, or the first fault
 abbrev pub Cuts : Result (Piece × Bor (List ℕ)) TokenFault → Result (List Token) TokenFault → Type 0

@@ -3,7 +3,7 @@ use Rattle.std.specs.Prelude.{ℕ, ◌+◌, ◌<◌, ◌≤◌, max, List, lengt
 use Rattle.std.specs.List.{AllByRecursion}
 use Rattle.qs_script.specs.declared.tree.tree.Block.{Block}
 use Rattle.qs_script.specs.declared.tree.tree.Item.{Item}
-use Rattle.qs_script.specs.declared.tree.tree.Item.TheVariants.{Object, Client, Template, Started}
+use Rattle.qs_script.specs.declared.tree.tree.Item.TheVariants.{Client, Template}
 use Rattle.qs_script.specs.audit.tree.Tree.{Stmts, end, command, query, assign, choose, choose_else, again, leave}
 use Rattle.qs_script.specs.audit.tree.Limits.{most_levels}
 
@@ -24,10 +24,9 @@ pub record IsFormed (b : Block) : Type 0 where
   pub shallow : levels_of b.body ≤ most_levels
 
 abbrev pub IsFormedItem : Item → Type 0
-IsFormedItem (Object o) = Unit {0}
 IsFormedItem (Client c) = AllByRecursion IsFormed c.blocks
 IsFormedItem (Template c) = AllByRecursion IsFormed c.blocks
-IsFormedItem (Started c) = Unit {0}
+IsFormedItem _ = Unit {0}
 
 -- the form of every script
 abbrev pub HasForm : List Item → Type 0

@@ -2,7 +2,7 @@
 use Rattle.std.specs.Prelude.{ℕ, ◌+◌, List, [], ◌∷◌}
 use Rattle.qs_script.specs.declared.tree.tree.Block.{Block}
 use Rattle.qs_script.specs.declared.tree.tree.Item.{Item}
-use Rattle.qs_script.specs.declared.tree.tree.Item.TheVariants.{Object, Client, Template, Started}
+use Rattle.qs_script.specs.declared.tree.tree.Item.TheVariants.{Client, Template}
 use Rattle.qs_script.specs.tree.Views.{size_of}
 
 abbrev pub blocks_size : List Block → ℕ
@@ -10,10 +10,9 @@ blocks_size [] = 0
 blocks_size (b ∷ bs) = size_of b.body + blocks_size bs
 
 abbrev pub item_size : Item → ℕ
-item_size (Object x) = 0
 item_size (Client c) = blocks_size c.blocks
 item_size (Template c) = blocks_size c.blocks
-item_size (Started c) = 0
+item_size _ = 0
 
 -- all statements of all blocks, inner ones too
 abbrev pub statements : List Item → ℕ

@@ -1,5 +1,4 @@
-use Rattle.std.proofs.Common.{arith, length-drop}
-use Rattle.std.proofs.lemmas.List.{take_all}
+use Rattle.std.proofs.Common.{arith, length-drop, take_all}
 use Rattle.qs_script.proofs.tokens.Lexemes.{front_comment}
 use Rattle.qs_script.proofs.tokens.lex.front.Goals as goal
 

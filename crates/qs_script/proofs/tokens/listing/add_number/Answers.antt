@@ -1,5 +1,4 @@
-use Rattle.std.proofs.Common.{◌≡◌, ◌≤◌, ◌∙◌, ℕ, List, take, ap, arith}
-use Rattle.std.proofs.lemmas.List.{take-take}
+use Rattle.std.proofs.Common.{◌≡◌, ◌≤◌, ◌∙◌, ℕ, List, take, ap, arith, take-take}
 use Rattle.qs_script.specs.audit.tokens.Tokens.{value_of}
 use Rattle.qs_script.proofs.tokens.Lexemes.{cut_number, short_number}
 use Rattle.qs_script.proofs.tokens.Lists.{adds_number}

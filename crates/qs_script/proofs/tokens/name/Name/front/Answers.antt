@@ -1,5 +1,4 @@
-use Rattle.std.proofs.Common.{take, ◌∙◌, ap}
-use Rattle.std.proofs.lemmas.List.{take-take}
+use Rattle.std.proofs.Common.{take, ◌∙◌, ap, take-take}
 use Rattle.qs_script.proofs.tokens.name.Name.front.Goals as goal
 
 pub returns-in-Some : goal.returns-in-Some
