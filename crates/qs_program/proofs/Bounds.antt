@@ -1,9 +1,9 @@
 -- Each block of a sound program is sound, and its load, as a whole and on one object, is at most the load of the whole
 -- program. The functions that compute rooms, and many proofs about clients and machines, stand on it. It goes by
 -- induction on lists, in which each number is at most their sum, and for a block's load by induction on the statements.
-use Rattle.std.proofs.Common.{◌≡◌, ℕ, zero, suc, ◌+◌, ◌*◌, ◌<◌, ◌≤◌, Bool, true, false, ◌||◌, ◌==◌, List, [], ◌∷◌, length, get_or, take, refl, arith, sum_by}
+use Rattle.std.proofs.Common.{◌≡◌, ℕ, ◌+◌, ◌*◌, ◌<◌, ◌≤◌, Bool, true, false, ◌||◌, ◌==◌, List, [], ◌∷◌, length, refl, arith, sum_by}
 use Rattle.std.specs.List.{AllByRecursion, list_any}
-use Rattle.std.proofs.lemmas.List.Sums.{sum_by-cons}
+use Rattle.std.proofs.lemmas.List.Sums.{sum_by-cons, get_or-le-sum_by}
 use Rattle.qs_objects.proofs.Elements.{AllByRecursion-get_or}
 use Rattle.qs_program.specs.declared.program.Declared.{Declared}
 use Rattle.qs_program.specs.audit.Statements.{Statements, end, command, query, assign, choose, again, leave}
@@ -11,18 +11,6 @@ use Rattle.qs_program.specs.audit.Loads.{load_of}
 use Rattle.qs_program.specs.audit.Program.{BlockShape, ClientShape, ProgramShape, block_load, whole_load, no_block, no_client, block_at, client_at, blocks_of}
 use Rattle.qs_program.specs.audit.Sound.{is_in}
 use Rattle.qs_program.specs.Sound.{IsSound, IsSoundBlock, IsSoundBody, IsSoundClient}
-
--- a number of a list is at most the sum
-pub get_or-sum_by : {X : Type 0} (f : X → ℕ) (xs : List X) (i : ℕ) (d : X) → i < length xs → f (get_or xs i d) ≤ sum_by f xs
-get_or-sum_by f [] i d within = absurd (omega arith)
-get_or-sum_by f (x ∷ xs) zero d within = rw sum_by-cons (omega arith)
-get_or-sum_by f (x ∷ xs) (suc i) d within = rw sum_by-cons (omega (arith, get_or-sum_by f xs i d (omega arith)))
-
--- the sum before a place and the number there
-pub sum_by-taken : {X : Type 0} (f : X → ℕ) (xs : List X) (i : ℕ) (d : X) → i < length xs → sum_by f (take i xs) + f (get_or xs i d) ≤ sum_by f xs
-sum_by-taken f [] i d within = absurd (omega arith)
-sum_by-taken f (x ∷ xs) zero d within = rw sum_by-cons (omega arith)
-sum_by-taken f (x ∷ xs) (suc i) d within = rw (sum_by-cons f x (take i xs), sum_by-cons f x xs) (omega (arith, sum_by-taken f xs i d (omega arith)))
 
 pub blocks-bound : (objects : List Declared) (cs : List ClientShape) → AllByRecursion (IsSoundClient objects) cs → sum_by (λ (c : ClientShape). length c.blocks) cs ≤ length cs * 64
 blocks-bound objects [] each = omega arith
@@ -71,8 +59,8 @@ load_of-whole p c k h sound client block =
     omega (
       arith,
       load_of-in_block p.objects (block_at p c k) h its_block,
-      get_or-sum_by block_load (client_at p c).blocks k no_block block,
-      get_or-sum_by (λ (d : ClientShape). sum_by block_load d.blocks) p.clients c no_client client,
+      get_or-le-sum_by block_load (client_at p c).blocks k no_block block,
+      get_or-le-sum_by (λ (d : ClientShape). sum_by block_load d.blocks) p.clients c no_client client,
     )
 
 -- a block of a sound program is sound
@@ -86,6 +74,6 @@ pub block_load-whole : (p : ProgramShape) (c k : ℕ) → c < length p.clients �
 block_load-whole p c k client block =
     omega (
       arith,
-      get_or-sum_by block_load (client_at p c).blocks k no_block block,
-      get_or-sum_by (λ (d : ClientShape). sum_by block_load d.blocks) p.clients c no_client client,
+      get_or-le-sum_by block_load (client_at p c).blocks k no_block block,
+      get_or-le-sum_by (λ (d : ClientShape). sum_by block_load d.blocks) p.clients c no_client client,
     )

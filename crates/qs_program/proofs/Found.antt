@@ -7,6 +7,7 @@ use Rattle.std.proofs.lemmas.List.Folds.{list_any-append}
 use Rattle.std.proofs.lemmas.List.Sums.{prefix_len_stops}
 use Rattle.std.specs.Cmp.Lexicographic.{same_text, other_text}
 use Rattle.std.specs.List.{list_any, position, position_or_len}
+use Rattle.std.proofs.lemmas.Bool.{lt-ltb, or_right, not-false}
 use Rattle.qs_program.specs.audit.Numbering.{Name, same_name, is_among, found_at}
 use Rattle.qs_program.specs.audit.Limits.{most_variables}
 
@@ -25,9 +26,6 @@ picked false i h = cc
 small : (b : Bool) (i n : ℕ) → b ≡ nat_lt i n → n ≤ most_variables → unwrap_or (cond b (Some i) None) 0 < most_variables
 small true i n e h = let lt : i < n = grind (arith, nat_tests) in omega arith
 small false i n e h = omega arith
-
-less : (a b : ℕ) → a < b → nat_lt a b ≡ true
-less a b h = grind (arith, nat_tests)
 
 pub false_not_true : {P : Type 0} (b : Bool) → b ≡ true → b ≡ false → P
 false_not_true b t f = cc
@@ -48,7 +46,7 @@ module _ (p : Name → Bool) where
   place_append (x ∷ xs) ys h = append_cons (p x) (position_or_len p (xs ++ ys)) (position_or_len p xs) (list_any p xs) (place_append xs ys) h
 
   pub found_is : (xs : List Name) → list_any p xs ≡ true → unwrap_or (position p xs) 0 ≡ position_or_len p xs
-  found_is xs h = picked (nat_lt (position_or_len p xs) (length xs)) (position_or_len p xs) (less (position_or_len p xs) (length xs) (place_within xs h))
+  found_is xs h = picked (nat_lt (position_or_len p xs) (length xs)) (position_or_len p xs) (lt-ltb (position_or_len p xs) (length xs) (place_within xs h))
 
   any_front : (xs ys : List Name) → list_any p xs ≡ true → list_any p (xs ++ ys) ≡ true
   any_front xs ys h = list_any-append p xs ys ∙ ap (λ b. b || list_any p ys) h
@@ -73,24 +71,16 @@ pub found_append : (xs ys : List Name) (o : Name) → is_among xs o ≡ true →
 found_append xs ys o h =
     found_is (same_name o) (xs ++ ys) (any_front (same_name o) xs ys h) ∙ place_append (same_name o) xs ys h ∙ sym (found_is (same_name o) xs h)
 
-not_false : (b : Bool) → not b ≡ false → b ≡ true
-not_false true h = refl
-not_false false h = cc
-
 -- a name is what stands at its number
 pub name_at : (xs : List Name) (o : Name) → is_among xs o ≡ true → o ≡ get_or xs (found_at xs o) []
 name_at xs o h =
     let p = same_name o in
-    let here : p (get_or xs (position_or_len p xs) []) ≡ true = not_false (p (get_or xs (position_or_len p xs) [])) (prefix_len_stops (λ x. not (p x)) xs [] (place_within p xs h)) in
+    let here : p (get_or xs (position_or_len p xs) []) ≡ true = not-false (p (get_or xs (position_or_len p xs) [])) (prefix_len_stops (λ x. not (p x)) xs [] (place_within p xs h)) in
     same_text o (get_or xs (position_or_len p xs) []) (sym here) ∙ ap (λ i. get_or xs i []) (sym (found_is p xs h))
 
 pub found_apart : (xs : List Name) (a b : Name) → is_among xs a ≡ true → is_among xs b ≡ true → found_at xs a ≡ found_at xs b → a ≡ b
 found_apart xs a b ha hb e = name_at xs a ha ∙ ap (λ i. get_or xs i []) e ∙ sym (name_at xs b hb)
 
-pub or_true : (b c : Bool) → c ≡ true → (b || c) ≡ true
-or_true true c h = refl
-or_true false c h = h
-
 pub is_among-last : (xs : List Name) (o : Name) → is_among (xs ++ o ∷ []) o ≡ true
 is_among-last [] o = ap (λ b. b || false) (same_name-refl o)
-is_among-last (x ∷ xs) o = or_true (same_name o x) (is_among (xs ++ o ∷ []) o) (is_among-last xs o)
+is_among-last (x ∷ xs) o = or_right (same_name o x) (is_among (xs ++ o ∷ []) o) (is_among-last xs o)
