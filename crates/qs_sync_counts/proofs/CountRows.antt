@@ -2,7 +2,7 @@
 -- the lemmas say what each row is, and what one more object or Sync changes. The functions of `SyncCounts` and those
 -- that fill it for a client stand on it. It goes by induction on the rows.
 use Rattle.std.proofs.Common.{◌≡◌, ◌<◌, ◌≤◌, ℕ, zero, suc, ◌+◌, ◌==◌, Bool, true, false, if◌then◌else◌, List, [], ◌∷◌, ◌++◌, length, get_or, set, map, take, drop, replicate, refl, sym, ap, ◌∙◌, arith, append_assoc, get_or-set_same, set-set}
-use Rattle.std.proofs.lemmas.List.{take_more}
+use Rattle.std.proofs.lemmas.List.{take_more, length-set}
 use Rattle.qs_sync_counts.specs.declared.sync_counts.SyncCount.{SyncCount}
 use Rattle.qs_sync_counts.specs.audit.SyncRows.{count_of, fresh_rows, no_syncs, object_of, sync_count, with_sync}
 use Rattle.qs_sync_counts.specs.SyncRows.{AreFew, HaveCounts, all_counts, begun_rows, pair_counts, with_counts}
@@ -19,63 +19,54 @@ objects_paired (o ∷ os) (c ∷ cs) same = ap (λ rest. o ∷ rest) (objects_pa
 
 pub counts_paired : (os cs : List ℕ) → length cs ≡ length os → map count_of (pair_counts os cs) ≡ cs
 counts_paired [] [] same = refl
-counts_paired [] (c ∷ cs) same = absurd (omega (arith, same))
-counts_paired (o ∷ os) [] same = absurd (omega (arith, same))
 counts_paired (o ∷ os) (c ∷ cs) same = ap (λ rest. c ∷ rest) (counts_paired os cs (omega (arith, same)))
+counts_paired _ _ same = absurd (omega (arith, same))
 
 pub paired_at : (os cs : List ℕ) (k : ℕ) → length cs ≡ length os → get_or (pair_counts os cs) k (sync_count 0 0) ≡ sync_count (get_or os k 0) (get_or cs k 0)
-paired_at [] [] k same = refl
 paired_at [] (c ∷ cs) k same = absurd (omega (arith, same))
 paired_at (o ∷ os) [] k same = absurd (omega (arith, same))
-paired_at (o ∷ os) (c ∷ cs) zero same = refl
 paired_at (o ∷ os) (c ∷ cs) (suc k) same = paired_at os cs k (omega (arith, same))
+paired_at _ _ _ same = refl
 
 paired_push : (os cs : List ℕ) (o c : ℕ) → length cs ≡ length os → pair_counts (os ++ o ∷ []) (cs ++ c ∷ []) ≡ pair_counts os cs ++ sync_count o c ∷ []
 paired_push [] [] o c same = refl
-paired_push [] (d ∷ cs) o c same = absurd (omega (arith, same))
-paired_push (p ∷ os) [] o c same = absurd (omega (arith, same))
 paired_push (p ∷ os) (d ∷ cs) o c same = ap (λ rest. sync_count p d ∷ rest) (paired_push os cs o c (omega (arith, same)))
+paired_push _ _ o c same = absurd (omega (arith, same))
 
 paired_set : (os cs : List ℕ) (k n : ℕ) → length cs ≡ length os → pair_counts os (set cs k n) ≡ set (pair_counts os cs) k (sync_count (get_or os k 0) n)
-paired_set [] [] k n same = refl
 paired_set [] (c ∷ cs) k n same = absurd (omega (arith, same))
 paired_set (o ∷ os) [] k n same = absurd (omega (arith, same))
-paired_set (o ∷ os) (c ∷ cs) zero n same = refl
 paired_set (o ∷ os) (c ∷ cs) (suc k) n same = ap (λ rest. sync_count o c ∷ rest) (paired_set os cs k n (omega (arith, same)))
+paired_set _ _ _ n same = refl
 
 pub length_rows : (oss css : List (List ℕ)) → HaveCounts oss css → length (with_counts oss css) ≡ length oss
 length_rows [] [] have = refl
-length_rows [] (cs ∷ css) have = absurd have
-length_rows (os ∷ oss) [] have = absurd have
 length_rows (os ∷ oss) (cs ∷ css) have = ap suc (length_rows oss css have.1)
+length_rows _ _ have = absurd have
 
 pub length_counts : (oss css : List (List ℕ)) → HaveCounts oss css → length css ≡ length oss
 length_counts [] [] have = refl
-length_counts [] (cs ∷ css) have = absurd have
-length_counts (os ∷ oss) [] have = absurd have
 length_counts (os ∷ oss) (cs ∷ css) have = ap suc (length_counts oss css have.1)
+length_counts _ _ have = absurd have
 
 -- a row has as many counts as objects
 pub have_at : (oss css : List (List ℕ)) (k : ℕ) → HaveCounts oss css → length (get_or css k []) ≡ length (get_or oss k [])
 have_at [] [] k have = refl
-have_at [] (cs ∷ css) k have = absurd have
-have_at (os ∷ oss) [] k have = absurd have
 have_at (os ∷ oss) (cs ∷ css) zero have = have.0
 have_at (os ∷ oss) (cs ∷ css) (suc k) have = have_at oss css k have.1
+have_at _ _ k have = absurd have
 
 pub row_at : (oss css : List (List ℕ)) (k : ℕ) → HaveCounts oss css → get_or (with_counts oss css) k [] ≡ pair_counts (get_or oss k []) (get_or css k [])
-row_at [] [] k have = refl
 row_at [] (cs ∷ css) k have = absurd have
 row_at (os ∷ oss) [] k have = absurd have
-row_at (os ∷ oss) (cs ∷ css) zero have = refl
 row_at (os ∷ oss) (cs ∷ css) (suc k) have = row_at oss css k have.1
+row_at _ _ _ have = refl
 
 pub counts_of_rows : (oss css : List (List ℕ)) → HaveCounts oss css → all_counts (with_counts oss css) ≡ css
 counts_of_rows [] [] have = refl
-counts_of_rows [] (cs ∷ css) have = absurd have
-counts_of_rows (os ∷ oss) [] have = absurd have
 counts_of_rows (os ∷ oss) (cs ∷ css) have =
     ap (λ row. row ∷ all_counts (with_counts oss css)) (counts_paired os cs have.0) ∙ ap (λ rest. cs ∷ rest) (counts_of_rows oss css have.1)
+counts_of_rows _ _ have = absurd have
 
 -- where a row of pairs is empty, so are its objects and its counts
 pub empty_rows : (oss css : List (List ℕ)) (k : ℕ) → HaveCounts oss css → get_or (with_counts oss css) k [] ≡ [] → (get_or oss k [] ≡ []) × (get_or css k [] ≡ [])
@@ -100,9 +91,7 @@ pub have_push : (oss css : List (List ℕ)) (k o c : ℕ) → HaveCounts oss css
 have_push [] css k o c have inside = absurd (omega (arith, inside))
 have_push (os ∷ oss) [] k o c have inside = absurd have
 have_push (os ∷ oss) (cs ∷ css) zero o c have inside =
-    let new = length_more cs c in
-    let old = length_more os o in
-    (omega (arith, new, old, have.0), have.1)
+    (omega (arith, length_more cs c, length_more os o, have.0), have.1)
   where
     length_more : (xs : List ℕ) (x : ℕ) → length (xs ++ x ∷ []) ≡ suc (length xs)
     length_more [] x = refl
@@ -114,23 +103,15 @@ pub rows_set : (oss css : List (List ℕ)) (k i n : ℕ) → HaveCounts oss css
     → with_counts oss (set css k (set (get_or css k []) i n))
     ≡ set (with_counts oss css) k (set (get_or (with_counts oss css) k []) i (sync_count (get_or (get_or oss k []) i 0) n))
 rows_set [] [] k i n have = refl
-rows_set [] (cs ∷ css) k i n have = absurd have
-rows_set (os ∷ oss) [] k i n have = absurd have
 rows_set (os ∷ oss) (cs ∷ css) zero i n have = ap (λ row. row ∷ with_counts oss css) (paired_set os cs i n have.0)
 rows_set (os ∷ oss) (cs ∷ css) (suc k) i n have = ap (λ rest. pair_counts os cs ∷ rest) (rows_set oss css k i n have.1)
+rows_set _ _ k i n have = absurd have
 
 pub have_set : (oss css : List (List ℕ)) (k i n : ℕ) → HaveCounts oss css → HaveCounts oss (set css k (set (get_or css k []) i n))
 have_set [] [] k i n have = have
-have_set [] (cs ∷ css) k i n have = absurd have
-have_set (os ∷ oss) [] k i n have = absurd have
-have_set (os ∷ oss) (cs ∷ css) zero i n have = (length_same cs i n ∙ have.0, have.1)
-  where
-    length_same : (xs : List ℕ) (i n : ℕ) → length (set xs i n) ≡ length xs
-    length_same [] i n = refl
-    length_same (x ∷ xs) zero n = refl
-    length_same (x ∷ xs) (suc i) n = ap suc (length_same xs i n)
+have_set (os ∷ oss) (cs ∷ css) zero i n have = (length-set cs i n ∙ have.0, have.1)
 have_set (os ∷ oss) (cs ∷ css) (suc k) i n have = (have.0, have_set oss css k i n have.1)
-
+have_set _ _ k i n have = absurd have
 pub have_fresh : (blocks : ℕ) → HaveCounts (replicate blocks []) (replicate blocks [])
 have_fresh zero = tt
 have_fresh (suc blocks) = (refl, have_fresh blocks)
@@ -181,17 +162,15 @@ begun_all [] = refl
 begun_all (hs ∷ lists) = ap (λ rest. no_syncs hs ∷ rest) (begun_all lists)
 
 none_begun : (lists : List (List ℕ)) (j : ℕ) → get_or (begun_rows 0 lists) j [] ≡ []
-none_begun [] j = refl
-none_begun (hs ∷ lists) zero = refl
 none_begun (hs ∷ lists) (suc j) = none_begun lists j
+none_begun _ _ = refl
 
 -- a block to come has no objects yet
 pub begun_beyond : (n : ℕ) (lists : List (List ℕ)) (j : ℕ) → n ≤ j → get_or (begun_rows n lists) j [] ≡ []
-begun_beyond n [] j beyond = refl
-begun_beyond zero (hs ∷ lists) zero beyond = refl
 begun_beyond zero (hs ∷ lists) (suc j) beyond = none_begun lists j
 begun_beyond (suc n) (hs ∷ lists) zero beyond = absurd (omega (arith, beyond))
 begun_beyond (suc n) (hs ∷ lists) (suc j) beyond = begun_beyond n lists j (omega (arith, beyond))
+begun_beyond _ _ _ beyond = refl
 
 -- one block more
 pub begun_next : (n : ℕ) (lists : List (List ℕ)) → n < length lists

@@ -31,21 +31,18 @@ counts_state rows room = record { rows = rows; room = room }
 
 -- objects with their counts, in a block and in all
 abbrev pub pair_counts : List ℕ → List ℕ → List SyncCount
-pair_counts [] cs = []
-pair_counts (o ∷ os) [] = []
 pair_counts (o ∷ os) (c ∷ cs) = sync_count o c ∷ pair_counts os cs
+pair_counts _ _ = []
 
 abbrev pub with_counts : List (List ℕ) → List (List ℕ) → List (List SyncCount)
-with_counts [] css = []
-with_counts (os ∷ oss) [] = []
 with_counts (os ∷ oss) (cs ∷ css) = pair_counts os cs ∷ with_counts oss css
+with_counts _ _ = []
 
 -- each object has its count
 abbrev pub HaveCounts : List (List ℕ) → List (List ℕ) → Type 0
 HaveCounts [] [] = Unit {0}
-HaveCounts [] (cs ∷ css) = ⊥
-HaveCounts (os ∷ oss) [] = ⊥
 HaveCounts (os ∷ oss) (cs ∷ css) = (length cs ≡ length os) × HaveCounts oss css
+HaveCounts _ _ = ⊥
 
 pub record AreAlike (objects counts : RowsState ℕ) : Type 0 where
   pub each : HaveCounts objects.rows counts.rows

@@ -9,9 +9,8 @@ use Rattle.qs_sync_counts.proofs.sync_counts.SyncCounts.add.Goals as goal
 
 pub of-place-end-requires : goal.of-place-end-requires
 of-place-end-requires c =
-    let many = length_rows c.self.inside.objects.rows c.self.inside.counts.rows c.self.invariant.each in
     let given = subst (λ (s : CountsState). c.args.block < length s.rows) (sym c.self.view_is) c.requires.block in
-    record { row = omega (arith, many, given) }
+    record { row = omega (arith, length_rows c.self.inside.objects.rows c.self.inside.counts.rows c.self.invariant.each, given) }
 
 pub loop-place-init : goal.loop-place-init
 loop-place-init c =
@@ -19,12 +18,11 @@ loop-place-init c =
     let css = c.self.inside.counts.rows in
     let objects = ap (λ (xs : List ℕ). length xs) c.of-place-end.ensures.value in
     let pairs = length_paired (get_or oss c.args.block []) (get_or css c.args.block []) (have_at oss css c.args.block c.self.invariant.each) in
-    let row = ap (λ (xs : List SyncCount). length xs) (row_at oss css c.args.block c.self.invariant.each) in
     let now = ap (λ (s : CountsState). length (get_or s.rows c.args.block [])) c.self.view_is in
     record {
       rows = sym (set-get_or c.args.self.now.rows c.args.block []);
       room = refl;
-      end = omega (arith, objects, pairs, row, now);
+      end = omega (arith, objects, pairs, ap (λ (xs : List SyncCount). length xs) (row_at oss css c.args.block c.self.invariant.each), now);
     }
 
 pub add_at-requires : goal.add_at-requires
@@ -37,16 +35,14 @@ add_at-requires c =
     ap (λ (rs : List (List SyncCount)). get_or rs c.args.block []) c.loop-place.invariant.rows
     ∙ get_or-set_same rows c.args.block (changed_front (one_more c.args.object) k row) [] c.requires.block in
     let many = ap (λ (rs : List (List SyncCount)). length rs) c.loop-place.invariant.rows in
-    let same = length-set rows c.args.block (changed_front (one_more c.args.object) k row) in
     let long = ap (λ (xs : List SyncCount). length xs) now in
-    let front = front_length (one_more c.args.object) row k in
     let here : count_of (get_or (get_or c.loop-place.self.rows c.args.block []) k (sync_count 0 0)) ≡ count_of (get_or row k (sync_count 0 0)) =
     ap (λ (xs : List SyncCount). count_of (get_or xs k (sync_count 0 0))) now ∙ ap count_of (front_at (one_more c.args.object) row k (sync_count 0 0)) in
     let few : count_of (get_or row k (sync_count 0 0)) < greatest_count =
     AllByRecursion-get_or (λ (x : SyncCount). x.count < greatest_count) row k (sync_count 0 0) c.requires.few inside in
     record {
-      block = omega (arith, many, same, c.requires.block);
-      place = omega (arith, inside, long, front);
+      block = omega (arith, many, length-set rows c.args.block (changed_front (one_more c.args.object) k row), c.requires.block);
+      place = omega (arith, inside, long, front_length (one_more c.args.object) row k);
       few = omega (arith, here, few);
     }
 

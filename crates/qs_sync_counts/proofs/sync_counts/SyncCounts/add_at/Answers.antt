@@ -10,15 +10,13 @@ pub of-requires : goal.of-requires
 of-requires c =
     let many = length_rows c.self.inside.objects.rows c.self.inside.counts.rows c.self.invariant.each in
     let counts = length_counts c.self.inside.objects.rows c.self.inside.counts.rows c.self.invariant.each in
-    let given = subst (λ (s : CountsState). c.args.block < length s.rows) (sym c.self.view_is) c.requires.block in
-    record { row = omega (arith, many, given) }
+    record { row = omega (arith, many, subst (λ (s : CountsState). c.args.block < length s.rows) (sym c.self.view_is) c.requires.block) }
 
 pub of-requires-2 : goal.of-requires-2
 of-requires-2 c =
     let many = length_rows c.self.inside.objects.rows c.self.inside.counts.rows c.self.invariant.each in
-    let counts = length_counts c.self.inside.objects.rows c.self.inside.counts.rows c.self.invariant.each in
     let given = subst (λ (s : CountsState). c.args.block < length s.rows) (sym c.self.view_is) c.requires.block in
-    record { row = omega (arith, many, counts, given) }
+    record { row = omega (arith, many, length_counts c.self.inside.objects.rows c.self.inside.counts.rows c.self.invariant.each, given) }
 
 pub next_count-count-requires : goal.next_count-count-requires
 next_count-count-requires c =
@@ -33,11 +31,10 @@ next_count-count-requires c =
     subst (λ (s : CountsState). count_of (get_or (get_or s.rows c.args.block []) c.args.place (sync_count 0 0)) < greatest_count) (sym c.self.view_is) c.requires.few in
     let pair = ap (λ (xs : List SyncCount). get_or xs c.args.place (sync_count 0 0)) row ∙ paired_at (get_or c.self.inside.objects.rows c.args.block []) (get_or c.self.inside.counts.rows c.args.block []) c.args.place same in
     let count = ap count_of pair in
-    let read = ap (λ (xs : List ℕ). get_or xs c.args.place 0) c.of-2.ensures.value in
     record {
       object = omega (arith, place, whole, long, objects);
       count = omega (arith, place, whole, long, same, counts);
-      few = omega (arith, few, count, read);
+      few = omega (arith, few, count, ap (λ (xs : List ℕ). get_or xs c.args.place 0) c.of-2.ensures.value);
     }
 
 pub set-requires : goal.set-requires
@@ -48,9 +45,8 @@ set-requires c =
     let row = row_at c.self.inside.objects.rows c.self.inside.counts.rows c.args.block c.self.invariant.each in
     let same = have_at c.self.inside.objects.rows c.self.inside.counts.rows c.args.block c.self.invariant.each in
     let long = length_paired (get_or c.self.inside.objects.rows c.args.block []) (get_or c.self.inside.counts.rows c.args.block []) same in
-    let whole = ap (λ (xs : List SyncCount). length xs) row in
     let place = subst (λ (s : CountsState). c.args.place < length (get_or s.rows c.args.block [])) (sym c.self.view_is) c.requires.place in
-    record { row = omega (arith, many, counts, given); place = omega (arith, place, whole, long, same) }
+    record { row = omega (arith, many, counts, given); place = omega (arith, place, ap (λ (xs : List SyncCount). length xs) row, long, same) }
 
 pub invariant_of-self : goal.invariant_of-self
 invariant_of-self c =

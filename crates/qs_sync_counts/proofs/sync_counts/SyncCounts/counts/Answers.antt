@@ -7,9 +7,8 @@ use Rattle.qs_sync_counts.proofs.sync_counts.SyncCounts.counts.Goals as goal
 pub of-requires : goal.of-requires
 of-requires c =
     let many = length_rows c.self.inside.objects.rows c.self.inside.counts.rows c.self.invariant.each in
-    let counts = length_counts c.self.inside.objects.rows c.self.inside.counts.rows c.self.invariant.each in
     let given = subst (λ (s : CountsState). c.args.block < length s.rows) (sym c.self.view_is) c.requires.block in
-    record { row = omega (arith, many, counts, given) }
+    record { row = omega (arith, many, length_counts c.self.inside.objects.rows c.self.inside.counts.rows c.self.invariant.each, given) }
 
 pub returns : goal.returns
 returns c = record {

@@ -8,8 +8,7 @@ pub of-requires : goal.of-requires
 of-requires c =
     let many = length_rows c.self.inside.objects.rows c.self.inside.counts.rows c.self.invariant.each in
     let counts = length_counts c.self.inside.objects.rows c.self.inside.counts.rows c.self.invariant.each in
-    let given = subst (λ (s : CountsState). c.args.block < length s.rows) (sym c.self.view_is) c.requires.block in
-    record { row = omega (arith, many, given) }
+    record { row = omega (arith, many, subst (λ (s : CountsState). c.args.block < length s.rows) (sym c.self.view_is) c.requires.block) }
 
 pub returns : goal.returns
 returns c = record {

@@ -9,8 +9,7 @@ pub push-requires-clause-row : goal.push-requires-clause-row
 push-requires-clause-row c =
     let many = length_rows c.self.inside.objects.rows c.self.inside.counts.rows c.self.invariant.each in
     let counts = length_counts c.self.inside.objects.rows c.self.inside.counts.rows c.self.invariant.each in
-    let given = subst (λ (s : CountsState). c.args.block < length s.rows) (sym c.self.view_is) c.requires.block in
-    omega (arith, many, given)
+    omega (arith, many, subst (λ (s : CountsState). c.args.block < length s.rows) (sym c.self.view_is) c.requires.block)
 
 pub push-requires-clause-last : goal.push-requires-clause-last
 push-requires-clause-last c =
@@ -20,9 +19,8 @@ push-requires-clause-last c =
 pub push-requires-2-clause-row : goal.push-requires-2-clause-row
 push-requires-2-clause-row c =
     let many = length_rows c.self.inside.objects.rows c.self.inside.counts.rows c.self.invariant.each in
-    let counts = length_counts c.self.inside.objects.rows c.self.inside.counts.rows c.self.invariant.each in
     let given = subst (λ (s : CountsState). c.args.block < length s.rows) (sym c.self.view_is) c.requires.block in
-    omega (arith, many, counts, given)
+    omega (arith, many, length_counts c.self.inside.objects.rows c.self.inside.counts.rows c.self.invariant.each, given)
 
 pub push-requires-2-clause-last : goal.push-requires-2-clause-last
 push-requires-2-clause-last c =

@@ -19,10 +19,8 @@ push-requires c =
     let rows = c.args.self.now.rows in
     let k = c.args.block in
     let row : List SyncCount = get_or rows k [] ++ no_syncs (take c.loop-object.object-index c.args.list.now) in
-    let many = ap (λ (rs : List (List SyncCount)). length rs) c.loop-object.invariant.rows in
-    let same = length-set rows k row in
     record {
-      block = omega (arith, many, same, c.requires.block);
+      block = omega (arith, ap (λ (rs : List (List SyncCount)). length rs) c.loop-object.invariant.rows, length-set rows k row, c.requires.block);
       last = λ j after.
           ap (λ (rs : List (List SyncCount)). get_or rs j []) c.loop-object.invariant.rows
           ∙ (get_or-set_other rows k j row [] (λ e. omega (arith, e, after)) ∙ c.requires.last j after);
