@@ -22,8 +22,7 @@ total_zeros : (ns : List ℕ) → ((j : ℕ) → get_or ns j 0 ≡ 0) → total 
 total_zeros [] none = refl
 total_zeros (n ∷ ns) none =
     let here : n ≡ 0 = none 0 in
-    let rest = total_zeros ns (λ j. none (suc j)) in
-    omega (arith, here, rest)
+    omega (arith, here, total_zeros ns (λ j. none (suc j)))
 
 -- where no later number is more than 0, all before and this one make up the total
 pub total_last : (k : ℕ) (ns : List ℕ) → k < length ns → AreZeroAfter ns k → total (take k ns) + get_or ns k 0 ≡ total ns
@@ -43,16 +42,14 @@ module _ {X : Type 0} where
   length_cut (n ∷ ns) xs = ap suc (length_cut ns (drop n xs))
 
   pub row_of_cut : (ns : List ℕ) (xs : List X) (k : ℕ) → get_or (rows_of_lengths ns xs) k [] ≡ take (get_or ns k 0) (drop (total (take k ns)) xs)
-  row_of_cut [] xs k = refl
-  row_of_cut (n ∷ ns) xs zero = refl
   row_of_cut (n ∷ ns) xs (suc k) =
       row_of_cut ns (drop n xs) k ∙ ap (take (get_or ns k 0)) (drop-drop (total (take k ns)) n xs)
+  row_of_cut _ xs _ = refl
 
   pub length_row : (ns : List ℕ) (xs : List X) (k : ℕ) → total ns ≤ length xs → length (get_or (rows_of_lengths ns xs) k []) ≡ get_or ns k 0
   length_row ns xs k fits =
-      let front = total_front k ns in
       let left = length-drop (total (take k ns)) xs in
-      ap length (row_of_cut ns xs k) ∙ length-take-le (get_or ns k 0) (drop (total (take k ns)) xs) (omega (arith, front, left, fits))
+      ap length (row_of_cut ns xs k) ∙ length-take-le (get_or ns k 0) (drop (total (take k ns)) xs) (omega (arith, total_front k ns, left, fits))
 
   -- rows that have no values have the length 0
   pub zero_after : (ns : List ℕ) (xs : List X) (k : ℕ) → total ns ≤ length xs → IsLast (rows_of_lengths ns xs) k → AreZeroAfter ns k
@@ -81,11 +78,10 @@ module _ {X : Type 0} where
       ∙ ap (λ rows. (take n xs ++ x ∷ []) ∷ rows) (cut_zeros ns (drop (n + 1) (xs ++ x ∷ [])) (drop n xs) zeros)
   cut_push (n ∷ ns) xs x (suc k) inside all none =
       let low : n ≤ length xs = omega (arith, all) in
-      let left = length-drop n xs in
       ap (λ row. row ∷ rows_of_lengths (set ns k (get_or ns k 0 + 1)) (drop n (xs ++ x ∷ []))) (take-append-le n xs (x ∷ []) low)
       ∙ (ap (λ ys. take n xs ∷ rows_of_lengths (set ns k (get_or ns k 0 + 1)) ys) (drop-append-le n xs (x ∷ []) low)
       ∙ ap (λ rows. take n xs ∷ rows)
-      (cut_push ns (drop n xs) x k (omega (arith, inside)) (omega (arith, all, left)) (λ j after. none (suc j) (omega (arith, after)))))
+      (cut_push ns (drop n xs) x k (omega (arith, inside)) (omega (arith, all, length-drop n xs)) (λ j after. none (suc j) (omega (arith, after)))))
 
   -- a value in the place of another
   pub cut_set : (ns : List ℕ) (xs : List X) (y : X) (k i : ℕ) → i < get_or ns k 0
@@ -109,8 +105,7 @@ module _ {X : Type 0} where
   joined_cut [] [] all = refl
   joined_cut [] (x ∷ xs) all = absurd (omega (arith, all))
   joined_cut (n ∷ ns) xs all =
-      let left = length-drop n xs in
-      ap (λ rows. take n xs ++ rows) (joined_cut ns (drop n xs) (omega (arith, all, left))) ∙ take-append-drop n xs
+      ap (λ rows. take n xs ++ rows) (joined_cut ns (drop n xs) (omega (arith, all, length-drop n xs))) ∙ take-append-drop n xs
 
   -- empty rows
   pub cut_empty : (rows : ℕ) → rows_of_lengths {X = X} (replicate rows 0) [] ≡ replicate rows []
@@ -124,9 +119,8 @@ zero_starts rows k inside =
     record { within = omega (arith, start); exact = λ some. absurd (omega (arith, start, some)) }
   where
     by_length : (rows k : ℕ) → ◌≡◌ {A = ℕ} (get_or (replicate rows 0) k 0) 0
-    by_length zero k = refl
-    by_length (suc rows) zero = refl
     by_length (suc rows) (suc k) = by_length rows k
+    by_length _ _ = refl
 
 pub total_replicate : (rows : ℕ) → total (replicate rows 0) ≡ 0
 total_replicate zero = refl
@@ -157,8 +151,7 @@ starts_push starts ns k inside same is none j within =
       exact = λ some.
           let before : j ≤ k = below j apart (λ after. let z = none j after in omega (arith, some, long, z)) in
           let front : total (take j (set ns k (get_or ns k 0 + 1))) ≡ total (take j ns) = ap total (take-set-le j ns k (get_or ns k 0 + 1) before) in
-          let e = old.exact (omega (arith, some, long)) in
-          omega (arith, start, front, e);
+          omega (arith, start, front, old.exact (omega (arith, some, long)));
     })
     (num_cases k j)
   where
@@ -178,8 +171,7 @@ module _ {X : Type 0} (starts ns : List ℕ) (xs : List X) (room capacity : ℕ)
   pub row_within : (k s n : ℕ) → k < length (rows_of_lengths ns xs) → s ≡ get_or starts k 0 → n ≡ get_or ns k 0 → s + n ≤ length xs
   row_within k s n inside start long =
       let here = (is.begin k (row_inside k inside)).within in
-      let whole = is.whole in
-      omega (arith, start, long, here, whole)
+      omega (arith, start, long, here, is.whole)
 
   -- and is this part of it
   pub row_is : (k s n : ℕ) → k < length (rows_of_lengths ns xs) → s ≡ get_or starts k 0 → n ≡ get_or ns k 0 → take n (drop s xs) ≡ get_or (rows_of_lengths ns xs) k []
@@ -194,8 +186,7 @@ module _ {X : Type 0} (starts ns : List ℕ) (xs : List X) (room capacity : ℕ)
           ap (λ m. take m (drop s xs)) none
           ∙ sym (row_of_cut ns xs k ∙ ap (λ m. take m (drop (total (take k ns)) xs)) zeros)
       by_length (suc m) some =
-          let exact = here.exact (omega (arith, long, some)) in
-          let at : s ≡ total (take k ns) = omega (arith, start, exact) in
+          let at : s ≡ total (take k ns) = omega (arith, start, here.exact (omega (arith, long, some))) in
           ap (λ m. take m (drop s xs)) long ∙ (ap (λ s. take (get_or ns k 0) (drop s xs)) at ∙ sym (row_of_cut ns xs k))
 
   -- a value more at the end of the last row that has any
@@ -210,13 +201,12 @@ module _ {X : Type 0} (starts ns : List ℕ) (xs : List X) (room capacity : ℕ)
         let grown = length-append xs (x ∷ []) in
         let whole = is.whole in
         let fits = is.fits in
-        let sum = total_set k ns (get_or ns k 0 + 1) own in
         let starting : set starts k (c - n) ≡ set starts k (total ns - get_or ns k 0) =
         ap (set starts k) (let same : c - n ≡ total ns - get_or ns k 0 = omega (arith, long, count, whole) in same) in
         subst (λ m. FillList (set starts k (c - n)) (set ns k (m + 1)) (length (xs ++ x ∷ [])) (room - 1) capacity) (sym long)
         (subst (λ ss. FillList ss (set ns k (get_or ns k 0 + 1)) (length (xs ++ x ∷ [])) (room - 1) capacity) (sym starting)
         (record {
-          whole = omega (arith, sum, grown, whole);
+          whole = omega (arith, total_set k ns (get_or ns k 0 + 1) own, grown, whole);
           fits = omega (arith, grown, fits, more);
           many = length-set starts k (total ns - get_or ns k 0) ∙ (is.many ∙ sym (length-set ns k (get_or ns k 0 + 1)));
           begin = starts_push starts ns k own is.many is.begin none_after;
@@ -234,9 +224,7 @@ module _ {X : Type 0} (starts ns : List ℕ) (xs : List X) (room capacity : ℕ)
     pub place_within : s + i < length xs
     place_within =
         let here = (is.begin k (row_inside k inside)).within in
-        let whole = is.whole in
-        let own = in_row in
-        omega (arith, start, here, whole, own)
+        omega (arith, start, here, is.whole, in_row)
 
     pub rows_set : rows_of_lengths ns (set xs (s + i) y) ≡ set (rows_of_lengths ns xs) k (set (get_or (rows_of_lengths ns xs) k []) i y)
     rows_set =

@@ -3,7 +3,7 @@
 -- It goes by induction on the rows, of which each takes as many cells off the front of the list as there are columns.
 use Rattle.std.proofs.Common.{◌≡◌, ℕ, zero, suc, ◌+◌, ◌*◌, ◌-◌, ◌<◌, ◌≤◌, Bool, true, false, ◌&&◌, not, List, [], ◌∷◌, ◌++◌, length, get_or, set, take, drop, replicate, refl, ap, sym, ◌∙◌, subst, arith, ℤ, pos, negsuc, ◌+ℤ◌, None, Some, if◌then◌else◌, take-append-drop}
 use Rattle.std.proofs.lemmas.Bool.Decides.{nat_tests}
-use Rattle.std.proofs.lemmas.List.{take-replicate, drop-replicate, take-set-le, drop-set-lt, drop-set-add, length-drop, length-take-le, length-replicate, length-set, get_or-drop}
+use Rattle.std.proofs.lemmas.List.{take-replicate, drop-replicate, take-set-le, drop-set-lt, drop-set-add, length-drop, length-take-le, length-replicate, length-set, get_or-drop, get_or-take}
 use Rattle.std.proofs.Math.Seq.{take-set-lt}
 use Rattle.qs_objects.specs.audit.Act.{Content, State, account, below, buffer, cell_at, clamp_to_word, grid, grid_act, outside, unless, row_at, size_of, with_cell}
 use Rattle.qs_objects.specs.audit.Objects.{kind_of, values_of}
@@ -73,17 +73,11 @@ cut_set (suc n) k cells (suc r) c v row column =
     ∙ ap (λ xs. take k cells ∷ cut_rows n k xs) (drop-set-add k cells (r * k + c) v)
     ∙ ap (λ rows. take k cells ∷ rows) (cut_set n k (drop k cells) r c v (omega (arith, row)) column)
 
-get_or-take : (k : ℕ) (xs : List ℤ) (c : ℕ) → c < k → get_or (take k xs) c (pos 0) ≡ get_or xs c (pos 0)
-get_or-take zero xs c less = absurd (omega (arith, less))
-get_or-take (suc k) [] c less = refl
-get_or-take (suc k) (x ∷ xs) zero less = refl
-get_or-take (suc k) (x ∷ xs) (suc c) less = get_or-take k xs c (omega (arith, less))
-
 -- the number in one cell
 pub cut_get : (n k : ℕ) (cells : List ℤ) (r c : ℕ) → r < n → c < k → get_or (get_or (cut_rows n k cells) r []) c (pos 0) ≡ get_or cells (r * k + c) (pos 0)
 cut_get n k cells r c row column =
     ap (λ xs. get_or xs c (pos 0)) (cut_row n k cells r row)
-    ∙ get_or-take k (drop (r * k) cells) c column
+    ∙ get_or-take k (drop (r * k) cells) c (pos 0) column
     ∙ get_or-drop (r * k) cells c (pos 0)
 
 -- ---- by the numbers of a request
@@ -94,8 +88,7 @@ row_below (negsuc r) n h = cc
 
 both_true : (a b : Bool) → not (a && b) ≡ false → (a ≡ true) × (b ≡ true)
 both_true true true h = (refl, refl)
-both_true true false h = cc
-both_true false b h = cc
+both_true _ _ h = cc
 
 pub inside : (n k : ℕ) (r c : ℤ) → outside n k r c ≡ false → (size_of r < n) × (size_of c < k)
 inside n k r c h = let both = both_true (below r n) (below c k) h in (row_below r n both.0, row_below c k both.1)
@@ -166,18 +159,12 @@ rows_tell k (x ∷ xs) (y ∷ ys) a b long e =
 
 same_content : (c d : Content) → IsInRange c → IsInRange d → kind_of c ≡ kind_of d → values_of c ≡ values_of d → c ≡ d
 same_content (account b) (account c) x y kind values = let e : b ≡ c = cc in ap account e
-same_content (account b) (buffer k ys) x y kind values = cc
-same_content (account b) (grid k rows) x y kind values = cc
-same_content (buffer k xs) (account c) x y kind values = cc
 same_content (buffer k xs) (buffer m ys) x y kind values = let e : k ≡ m = cc in λ i. buffer (e i) (values i)
-same_content (buffer k xs) (grid m rows) x y kind values = cc
-same_content (grid k rows) (account c) x y kind values = cc
-same_content (grid k rows) (buffer m ys) x y kind values = cc
 same_content (grid k rows) (grid m others) x y kind values =
     let many : length rows ≡ length others = cc in
     let wide : k ≡ m = cc in
-    let same = rows_tell k rows others x.4 (subst (λ n. AreRowsOf n others) (sym wide) y.4) many values in
-    λ i. grid (wide i) (same i)
+    λ i. grid (wide i) ((rows_tell k rows others x.4 (subst (λ n. AreRowsOf n others) (sym wide) y.4) many values) i)
+same_content _ _ x y kind values = cc
 
 -- an object in range, by its kind, its values and its counter
 pub same_state : (s t : State) → IsInRange s.content → IsInRange t.content → kind_of s.content ≡ kind_of t.content → values_of s.content ≡ values_of t.content

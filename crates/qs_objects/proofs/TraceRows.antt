@@ -1,8 +1,7 @@
 -- The traces of a client's blocks, stored as rows of events and a list of rooms, are what contracts see of them: each
 -- block's events, and how many more it may have. The functions of `Traces` stand on these lemmas. They go by induction
 -- on the rows and the rooms together.
-use Rattle.std.proofs.Common.{◌≡◌, ◌<◌, ◌≤◌, ℕ, zero, suc, ◌+◌, ◌-◌, List, [], ◌∷◌, ◌++◌, length, get_or, set, map, replicate, refl, sym, ap, ◌∙◌, arith}
-use Rattle.std.proofs.lemmas.List.{get_or-set_other, length-append, length-set}
+use Rattle.std.proofs.Common.{◌≡◌, ◌<◌, ◌≤◌, ℕ, zero, suc, ◌+◌, ◌-◌, List, [], ◌∷◌, ◌++◌, length, get_or, set, map, replicate, refl, sym, ap, ◌∙◌, arith, get_or-set_other, length-append, length-set}
 use Rattle.qs_objects.specs.Rows.{IsLast}
 use Rattle.qs_objects.specs.Sums.{total}
 use Rattle.qs_objects.specs.Traces.{AreEmptyAfter, HaveRoom, TraceState, empty_trace, events_of, with_last_event, noted_at, rooms_left, trace_at, trace_state, with_rooms}
@@ -17,11 +16,10 @@ length_rooms (es ∷ rows) (n ∷ rooms) same = ap suc (length_rooms rows rooms 
 -- a block's trace is its row with its room
 pub trace_of_rooms : (rows : List (List Event)) (rooms : List ℕ) (k : ℕ) → length rooms ≡ length rows
     → trace_at (with_rooms rows rooms) k ≡ trace_state (get_or rows k []) (get_or rooms k 0 - length (get_or rows k []))
-trace_of_rooms [] [] k same = refl
 trace_of_rooms [] (n ∷ rooms) k same = absurd (omega (arith, same))
 trace_of_rooms (es ∷ rows) [] k same = absurd (omega (arith, same))
-trace_of_rooms (es ∷ rows) (n ∷ rooms) zero same = refl
 trace_of_rooms (es ∷ rows) (n ∷ rooms) (suc k) same = trace_of_rooms rows rooms k (omega (arith, same))
+trace_of_rooms _ _ _ same = refl
 
 pub events_of_rooms : (rows : List (List Event)) (rooms : List ℕ) → length rooms ≡ length rows → events_of (with_rooms rows rooms) ≡ rows
 events_of_rooms [] rooms same = refl
@@ -39,8 +37,7 @@ pub note_rooms : (rows : List (List Event)) (rooms : List ℕ) (k : ℕ) (e : Ev
 note_rooms [] rooms k e same inside = absurd (omega (arith, inside))
 note_rooms (es ∷ rows) [] k e same inside = absurd (omega (arith, same))
 note_rooms (es ∷ rows) (n ∷ rooms) zero e same inside =
-    let long = length-append es (e ∷ []) in
-    let one_less : n - length (es ++ e ∷ []) ≡ n - length es - 1 = omega (arith, long) in
+    let one_less : n - length (es ++ e ∷ []) ≡ n - length es - 1 = omega (arith, length-append es (e ∷ [])) in
     ap (λ left. trace_state (es ++ e ∷ []) left ∷ with_rooms rows rooms) one_less
 note_rooms (es ∷ rows) (n ∷ rooms) (suc k) e same inside =
     ap (λ rest. trace_state es (n - length es) ∷ rest) (note_rooms rows rooms k e (omega (arith, same)) (omega (arith, inside)))
@@ -58,9 +55,8 @@ fresh_left (n ∷ rooms) = ap (λ rest. n ∷ rest) (fresh_left rooms)
 
 -- what is left of a room is within what is left of all
 pub room_within : (ts : List TraceState) (k : ℕ) → (trace_at ts k).room ≤ total (rooms_left ts)
-room_within [] k = omega arith
-room_within (t ∷ ts) zero = omega arith
 room_within (t ∷ ts) (suc k) = let rest = room_within ts k in omega (arith, rest)
+room_within _ _ = omega arith
 
 -- an event takes one of what is left
 left_note : (ts : List TraceState) (k : ℕ) (e : Event) → k < length ts → 0 < (trace_at ts k).room
@@ -73,8 +69,7 @@ left_note (t ∷ ts) (suc k) e inside some = let rest = left_note ts k e (omega 
 pub within : (rows : List (List Event)) (rooms : List ℕ) (room k : ℕ) → HaveRoom rows rooms room → k < length (with_rooms rows rooms) → k < length rows
 within rows rooms room k have inside =
     let many = have.many in
-    let same = length_rooms rows rooms many in
-    omega (arith, many, same, inside)
+    omega (arith, many, length_rooms rows rooms many, inside)
 
 -- an event takes one room
 pub note_room : (rows : List (List Event)) (rooms : List ℕ) (room k : ℕ) (e : Event) → HaveRoom rows rooms room → k < length rows
@@ -82,12 +77,10 @@ pub note_room : (rows : List (List Event)) (rooms : List ℕ) (room k : ℕ) (e 
 note_room rows rooms room k e have inside some =
     let many = have.many in
     let whole = have.whole in
-    let long = length_rooms rows rooms many in
-    let noted = ap (λ ts. total (rooms_left ts)) (note_rooms rows rooms k e many inside) in
-    let less = left_note (with_rooms rows rooms) k e (omega (arith, inside, many, long)) some in
+    let less = left_note (with_rooms rows rooms) k e (omega (arith, inside, many, length_rooms rows rooms many)) some in
     record {
       many = many ∙ sym (length-set rows k (get_or rows k [] ++ e ∷ []));
-      whole = omega (arith, whole, noted, less);
+      whole = omega (arith, whole, ap (λ ts. total (rooms_left ts)) (note_rooms rows rooms k e many inside), less);
     }
 
 -- with an event more in a block's trace, later blocks have none still

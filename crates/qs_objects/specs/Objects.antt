@@ -1,6 +1,5 @@
 -- Beside what the headline reaches (`audit/Objects.antt`): what else contracts and proofs use.
-use Rattle.std.specs.Prelude.{◌≡◌, ℕ, zero, suc, ◌+◌, ◌≤◌, ◌*◌, take, drop, [], ◌∷◌, Bool, true, false, List, length, Vec, vec_len}
-use Rattle.std.specs.Prelude.{ℤ, pos, ◌≤ℤ◌}
+use Rattle.std.specs.Prelude.{◌≡◌, ℕ, zero, suc, ◌+◌, ◌≤◌, ◌*◌, take, drop, [], ◌∷◌, Bool, true, false, List, length, Vec, vec_len, ℤ, pos, ◌≤ℤ◌}
 use Rattle.std.specs.Global.{Global}
 use Rattle.std.specs.VecDeque.{deque_capacity}
 use Rattle.std.specs.declared.collections.VecDeque.{VecDeque}
@@ -55,13 +54,11 @@ KeepsContent (Grid r c v) = IsFull r c v
 -- an account needs no memory of its own
 abbrev pub needs_memory : Kind → Bool
 needs_memory (kinds.Account b) = false
-needs_memory (kinds.Buffer k) = true
-needs_memory (kinds.Grid n k) = true
+needs_memory _ = true
 
 abbrev pub has_memory : Content → Bool
 has_memory (account b) = false
-has_memory (buffer k xs) = true
-has_memory (grid k rows) = true
+has_memory _ = true
 
 -- rows of so many cells each
 abbrev pub AreRowsOf : ℕ → List (List ℤ) → Type 0

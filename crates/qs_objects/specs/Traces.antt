@@ -33,9 +33,8 @@ AreEmptyAfter ts k = (j : ℕ) → k < j → (trace_at ts j).events ≡ []
 
 -- rows of events, each with what is left of its room
 abbrev pub with_rooms : List (List Event) → List ℕ → List TraceState
-with_rooms [] rooms = []
-with_rooms (es ∷ rows) [] = []
 with_rooms (es ∷ rows) (n ∷ rooms) = trace_state es (n - length es) ∷ with_rooms rows rooms
+with_rooms _ _ = []
 
 -- how many events more there may be in each trace
 abbrev pub rooms_left : List TraceState → List ℕ

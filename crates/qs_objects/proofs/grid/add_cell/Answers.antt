@@ -1,6 +1,6 @@
 use Rattle.std.proofs.Common.{◌≡◌, ◌∙◌, ◌<◌, ◌+ℤ◌, None, Some, length, if◌then◌else◌, pos, rules, FitsSigned, w64}
-use Rattle.std.proofs.lemmas.Int.{to_z-of_z}
 use Rattle.std.proofs.lemmas.List.{get_or_default}
+use Rattle.std.proofs.lemmas.Int.{to_z-of_z}
 use Rattle.qs_objects.specs.audit.Act.{clamp_to_word, outside}
 use Rattle.qs_objects.specs.Objects.{grid_state, place}
 use Rattle.qs_objects.proofs.GridRows.{cell_added, picked}

@@ -1,5 +1,4 @@
-use Rattle.std.proofs.Common.{◌≡◌, ◌++◌, take}
-use Rattle.std.specs.VecDeque.{deque_capacity}
+use Rattle.std.proofs.Common.{◌≡◌, ◌++◌, take, deque_capacity}
 use Rattle.qs_objects.proofs.object.append.Given as goal
 
 abbrev pub invariant-loop-value : goal.invariant-loop-value

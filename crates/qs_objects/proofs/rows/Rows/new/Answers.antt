@@ -1,6 +1,5 @@
-use Rattle.std.proofs.Common.{◌≡◌, ◌-◌, [], length, replicate, refl, sym, ap, ◌∙◌, subst, arith}
+use Rattle.std.proofs.Common.{◌≡◌, ◌-◌, [], length, replicate, refl, sym, ap, ◌∙◌, subst, arith, vec_capacity}
 use Rattle.qs_objects.specs.Rows.{room_left, rows_of_lengths, rows_state, FillList}
-use Rattle.std.specs.Prelude.{vec_capacity}
 use Rattle.qs_objects.proofs.Cuts.{cut_empty, total_replicate, zero_starts}
 use Rattle.qs_objects.proofs.rows.Rows.new.Goals as goal
 

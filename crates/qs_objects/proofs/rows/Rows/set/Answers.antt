@@ -7,8 +7,7 @@ use Rattle.qs_objects.proofs.rows.Rows.set.Goals as goal
 pub index-start-requires : goal.index-start-requires
 index-start-requires g c =
     let own = start_inside _ _ _ _ _ c.self.invariant c.args.row (subst (λ (s : RowsState g.row.T.Denot). c.args.row < length s.rows) (sym c.self.view_is) c.requires.row) in
-    let count = c.self.inside.starts.ok.0 in
-    omega (arith, own, count)
+    omega (arith, own, c.self.inside.starts.ok.0)
 
 pub overflow_add-start : goal.overflow_add-start
 overflow_add-start g c =
@@ -23,8 +22,7 @@ index_mut-requires g c =
     let row = (subst (λ (s : RowsState g.row.T.Denot). c.args.row < length s.rows) (sym c.self.view_is) c.requires.row) in
     let start = c.index-start.ensures ∙ get_or_default _ c.args.row _ 0 (start_inside _ _ _ _ _ c.self.invariant c.args.row row) in
     let place = subst (λ (s : RowsState g.row.T.Denot). c.args.place < length (get_or s.rows c.args.row [])) (sym c.self.view_is) c.requires.place in
-    let within = place_within _ _ _ _ _ c.self.invariant c.args.row c.args.place _ c.args.item row place start in
-    omega (arith, within, c.self.inside.items.ok.0)
+    omega (arith, place_within _ _ _ _ _ c.self.invariant c.args.row c.args.place _ c.args.item row place start, c.self.inside.items.ok.0)
 
 pub returns : goal.returns
 returns g c =

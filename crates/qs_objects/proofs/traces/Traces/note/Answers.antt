@@ -17,8 +17,7 @@ pub push-requires-clause-room : goal.push-requires-clause-room
 push-requires-clause-room c =
     let some : 0 < (trace_at (with_rooms c.self.inside.rows.rows c.self.inside.rooms.items) c.args.block).room =
     subst (λ (ts : List TraceState). 0 < (trace_at ts c.args.block).room) (sym c.self.view_is) c.requires.room in
-    let within = room_within (with_rooms c.self.inside.rows.rows c.self.inside.rooms.items) c.args.block in
-    omega (arith, some, within, c.self.invariant.whole)
+    omega (arith, some, room_within (with_rooms c.self.inside.rows.rows c.self.inside.rooms.items) c.args.block, c.self.invariant.whole)
 
 pub invariant_of-self : goal.invariant_of-self
 invariant_of-self c =
