@@ -1,16 +1,13 @@
 -- Two arranged configurations of which one is a change of the other are the same. Else some client would have a lesser
 -- place in the one than in the other. Then all of its class up to this client would have to stand before it in the
 -- other, which are too many for the numbers that are left.
-use Rattle.std.proofs.Common.{◌≡◌, ℕ, suc, ◌<◌, ◌≤◌, arith, Bool, true, false, if◌then◌else◌, ◌==◌, List, [], ◌∷◌, drop, refl, sym, ap, ◌∙◌, subst, ⊎_elim}
-use Rattle.std.specs.Prelude.{ℤ, nat_abs, IsTrue}
+use Rattle.std.proofs.Common.{◌≡◌, ℕ, suc, ◌<◌, ◌≤◌, arith, Bool, true, false, if◌then◌else◌, ◌==◌, List, [], ◌∷◌, drop, refl, sym, ap, ◌∙◌, subst, ⊎_elim, ℤ, nat_abs, IsTrue, Ordering, Less, Equal, Greater}
 use Rattle.std.specs.Ordering.{int_cmp, ordering_reverse, is_le}
-use Rattle.std.specs.declared.cmp.Ordering.{Ordering}
-use Rattle.std.specs.declared.cmp.Ordering.TheVariants.{Less, Equal, Greater}
 use Rattle.std.specs.Cmp.{IsTotalOrder}
 use Rattle.std.specs.Cmp.Lexicographic.{slice_cmp}
 use Rattle.std.specs.BTreeMap.Comparable.{le_lt_trans}
 use Rattle.std.specs.FinMap.{int_cmp-IsAntisymmetric, slice_cmp-IsAntisymmetric}
-use Rattle.std.proofs.lemmas.Bool.{cases_lt, cases_order}
+use Rattle.std.proofs.lemmas.Bool.{cases_lt, cases_order, eqb-false}
 use Rattle.std.proofs.lemmas.Cmp.{int_cmp_total, lists_total, tied_itself}
 use Rattle.indexmap.proofs.IndexTableLemmas.Probe.{Into, OneToOne, pigeonhole}
 use Rattle.qs_objects.proofs.Choices.{eqb_self, num_cases}
@@ -33,9 +30,8 @@ at_most : (u v : List ℤ) → (IsLess v u → ⊥) → IsTrue (is_le (order u v
 at_most u v none = by (order u v) refl
   where
     by : (r : Ordering) → order u v ≡ r → IsTrue (is_le (order u v))
-    by Less e = ap is_le e
-    by Equal e = ap is_le e
     by Greater e = absurd (none (total.antisymm v u ∙ ap ordering_reverse e))
+    by _ e = ap is_le e
 
 -- lists by the numbers of clients, ordered in each class; the second has what the first has, at other numbers of the
 -- same class
@@ -55,10 +51,6 @@ module _ (k : ℕ → ℕ) (a b : ℕ → List ℤ) (to from : ℕ → ℕ)
   moved_not : (c d : ℕ) → (k d == k c) ≡ false → moved c d ≡ d
   unfolding moved
   moved_not c d f = ap (λ (t : Bool). if t then to d else d) f
-
-  differ : (m n : ℕ) → (m == n) ≡ false → m ≡ n → ⊥
-  differ m n f e = let t : (m == n) ≡ true = subst (λ x. (m == x) ≡ true) e (eqb_self m) in
-      let d : true ≡ false = sym t ∙ f in cc
 
   up_to : (f : ℕ → List ℤ) → ((c d : ℕ) → c < d → k c ≡ k d → IsLess (f d) (f c) → ⊥)
       → (c d : ℕ) → c ≤ d → k c ≡ k d → IsLess (f d) (f c) → ⊥
@@ -87,13 +79,13 @@ module _ (k : ℕ → ℕ) (a b : ℕ → List ℤ) (to from : ℕ → ℕ)
           (λ (e : k d ≡ k c). subst (λ n. n < c) (sym (moved_there c d e)) (before d (omega (arith, h)) e))
           (λ (f : (k d == k c) ≡ false). subst (λ n. n < c) (sym (moved_not c d f))
           (⊎_elim
-          (λ (is : d ≡ c). absurd (differ (k d) (k c) f (ap k is)))
+          (λ (is : d ≡ c). absurd (eqb-false (k d) (k c) f (ap k is)))
           (λ rest. ⊎_elim (λ (less : d < c). less) (λ (more : c < d). absurd (omega (arith, h, more))) rest)
           (cases_order d c)))
           (num_cases (k d) (k c))
 
       crossed : (i j : ℕ) → k i ≡ k c → (k j == k c) ≡ false → to i ≡ j → ⊥
-      crossed i j e f is = differ (k j) (k c) f (ap k (sym is) ∙ (alike i ∙ e))
+      crossed i j e f is = eqb-false (k j) (k c) f (ap k (sym is) ∙ (alike i ∙ e))
 
       one : OneToOne (moved c) (suc c)
       one i j h m is =

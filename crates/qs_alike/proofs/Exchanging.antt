@@ -1,11 +1,10 @@
 -- Where two alike clients are exchanged, a standing stays one, and what it holds becomes what it holds then. So the places
 -- of a class are put in order one after another: the least of those that are left comes first.
-use Rattle.std.proofs.Common.{◌≡◌, ℕ, ◌+◌, ◌<◌, ◌≤◌, arith, Bool, true, false, if◌then◌else◌, ◌==◌, [], length, sym, ap, ◌∙◌, subst, ⊎_elim, append-nil}
+use Rattle.std.proofs.Common.{◌≡◌, ℕ, ◌+◌, ◌<◌, ◌≤◌, arith, Bool, true, false, if◌then◌else◌, ◌==◌, [], length, sym, ap, ◌∙◌, subst, ⊎_elim, append-nil, Less, Greater}
 use Rattle.std.specs.Ordering.{int_cmp, ordering_reverse}
-use Rattle.std.specs.declared.cmp.Ordering.TheVariants.{Less, Greater}
 use Rattle.std.specs.Cmp.Lexicographic.{slice_cmp}
 use Rattle.std.proofs.lemmas.List.Edits.{length-swap}
-use Rattle.std.proofs.lemmas.Bool.{cases_lt, cases_order}
+use Rattle.std.proofs.lemmas.Bool.{cases_lt, cases_order, eqb-false}
 use Rattle.indexmap.proofs.ReorderLemmas.{exchange-twice, get_or-swap}
 use Rattle.qs_objects.proofs.Choices.{eqb_apart, eqb_self, num_cases}
 use Rattle.qs_program.specs.audit.Program.{ProgramShape}
@@ -87,13 +86,9 @@ module _ (k : Classes) (g : Configuration) (c d : ℕ) (behind : c < d) (same : 
       (λ (first : (e == c) ≡ false).
       ⊎_elim
       (λ (is : e ≡ d). subst (λ n. b < n) (sym (ap (flipped c d) is ∙ flipped_second c d)) before)
-      (λ (second : (e == d) ≡ false). subst (λ n. b < n) (sym (flipped_other c d e (apart e c first) (apart e d second))) less)
+      (λ (second : (e == d) ≡ false). subst (λ n. b < n) (sym (flipped_other c d e (eqb-false e c first) (eqb-false e d second))) less)
       (num_cases e d))
       (num_cases e c)
-    where
-      apart : (m n : ℕ) → (m == n) ≡ false → m ≡ n → ⊥
-      apart m n f is = let t : (m == n) ≡ true = subst (λ x. (m == x) ≡ true) is (eqb_self m) in
-          let z : true ≡ false = sym t ∙ f in cc
 
   -- what comes before both is in order still
   pub below_exchanged : IsArrangedBelow k g c → IsArrangedBelow k h c

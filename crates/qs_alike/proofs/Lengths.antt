@@ -23,9 +23,7 @@ total_same : (n : ℕ) (f g : ℕ → ℕ) → ((i : ℕ) → i < n → f i ≡ 
 unfolding total_of
 total_same zero f g each = refl
 total_same (suc n) f g each =
-    let before = total_same n f g (λ i less. each i (omega (arith, less))) in
-    let here = each n (omega arith) in
-    omega (arith, before, here)
+    omega (arith, total_same n f g (λ i less. each i (omega (arith, less))), each n (omega arith))
 
 total_put : (n c : ℕ) (f : ℕ → ℕ) → c < n → total_of n (put f c (suc (f c))) ≡ suc (total_of n f)
 unfolding total_of
@@ -36,28 +34,24 @@ total_put (suc n) c f less = elim (cases_eq c n) [
       let here : put f c (suc (f c)) n ≡ suc (f n) = subst (λ m. put f c (suc (f c)) m ≡ suc (f m)) same (put_here f c (suc (f c))) in
       omega (arith, before, here)
   | inr other ↦
-      let before = total_put n c f (let o : c ≡ n → ⊥ = other in omega (arith, less, o)) in
       let here : put f c (suc (f c)) n ≡ f n = put_there f c (suc (f c)) n (eqb_apart c n other) in
-      omega (arith, before, here)
+      omega (arith, total_put n c f (let o : c ≡ n → ⊥ = other in omega (arith, less, o)), here)
 ]
 
 total_after : (p : ProgramShape) (g : Configuration) (ts : List Ticket) → LegalFrom p g.begun ts
     → length ts + total_of (length p.clients) g.begun ≡ total_of (length p.clients) (configuration_from p g ts).begun
 total_after p g [] legal = omega arith
 total_after p g (t ∷ ts) legal =
-    let rest = total_after p (one_block_on p t.client g) ts (legal_on p g t ts legal) in
     let one : total_of (length p.clients) (put g.begun t.client (suc (g.begun t.client))) ≡ suc (total_of (length p.clients) g.begun) =
     total_put (length p.clients) t.client g.begun (has_place p t.client t.index legal.1) in
-    omega (arith, rest, one)
+    omega (arith, total_after p (one_block_on p t.client g) ts (legal_on p g t ts legal), one)
 
 pub equally_long : (p : ProgramShape) (g : Configuration) (ts us : List Ticket) → LegalFrom p g.begun ts → LegalFrom p g.begun us
     → configuration_from p g ts ≡ configuration_from p g us → length ts ≡ length us
 equally_long p g ts us legal other same =
-    let one = total_after p g ts legal in
-    let two = total_after p g us other in
     let ends : total_of (length p.clients) (configuration_from p g ts).begun ≡ total_of (length p.clients) (configuration_from p g us).begun =
     ap (λ (h : Configuration). total_of (length p.clients) h.begun) same in
-    omega (arith, one, two, ends)
+    omega (arith, total_after p g ts legal, total_after p g us other, ends)
 
 -- and so are those that lead to configurations of which one becomes the other
 pub alike_long : (p : ProgramShape) (k : Classes) → AreClasses p k → (ts us : List Ticket) → IsLegal p ts → IsLegal p us

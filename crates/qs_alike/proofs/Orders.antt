@@ -55,9 +55,7 @@ module _ (p : ProgramShape) (k : Classes) (are : AreClasses p k) (x : Change) (i
     pub one_changed : one_block_on p (x.new c) (changed x g) ≡ changed x (one_block_on p c g)
     one_changed =
         let o = solo (slice_index_or (client_at p c).blocks (g.begun c) no_block).body (g.locals c) g.states in
-        let counts = put_changed g.begun c (suc (g.begun c)) in
-        let values = put_changed g.locals c o.locals in
-        here ∙ (λ i. record { begun = counts i; locals = values i; states = o.states })
+        here ∙ (λ i. record { begun = (put_changed g.begun c (suc (g.begun c))) i; locals = (put_changed g.locals c o.locals) i; states = o.states })
 
   pub leads_from : (g : Configuration) (ts : List Ticket) → configuration_from p (changed x g) (changed_order x ts) ≡ changed x (configuration_from p g ts)
   leads_from g [] = refl

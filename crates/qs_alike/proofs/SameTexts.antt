@@ -42,19 +42,11 @@ many_of (leave rest) = suc (many_of rest)
 
 first_is : (x : Stmt) (xs : List Stmt) → first_of (statements_of (x ∷ xs)) ≡ single x
 first_is (Command c) xs = refl
-first_is (Query x c) xs = refl
-first_is (Assign x e) xs = refl
-first_is (If t b first other) xs = refl
-first_is (Repeat n body) xs = refl
-first_is Leave xs = refl
+first_is _ xs = refl
 
 rest_is : (x : Stmt) (xs : List Stmt) → rest_of (statements_of (x ∷ xs)) ≡ statements_of xs
 rest_is (Command c) xs = refl
-rest_is (Query x c) xs = refl
-rest_is (Assign x e) xs = refl
-rest_is (If t b first other) xs = refl
-rest_is (Repeat n body) xs = refl
-rest_is Leave xs = refl
+rest_is _ xs = refl
 
 many_are : (xs : List Stmt) → many_of (statements_of xs) ≡ length xs
 many_are [] = refl

@@ -11,8 +11,7 @@ loop-place-preserved c =
 pub returns-then-is_like : goal.returns-then-is_like
 returns-then-is_like c = record {
   goes = (
-    λ _. goes_up_to c.args.program.now (classes_in c.args.classes.now) c.args.standing.now c.args.placed.now c.args.goes c.args.client c.loop-place.place
-        c.requires.placed c.requires.goes (c.is_like.ensures.like.0 c.if-is_like.true),
+    λ _. goes_up_to _ _ _ _ _ _ _ c.requires.placed c.requires.goes (c.is_like.ensures.like.0 c.if-is_like.true),
     λ _. refl,
   );
 }

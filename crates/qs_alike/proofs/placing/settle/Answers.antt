@@ -1,5 +1,4 @@
-use Rattle.std.proofs.Common.{◌≡◌, ◌<◌, ◌+◌, arith, length, subst, sym, ◌∙◌, true≢false}
-use Rattle.std.specs.declared.cmp.Ordering.TheVariants.{Less}
+use Rattle.std.proofs.Common.{◌≡◌, ◌<◌, ◌+◌, arith, length, subst, sym, ◌∙◌, true≢false, Less}
 use Rattle.qs_standings.specs.Standings.{IsStanding, StandingShape, configuration_in, exchanged}
 use Rattle.qs_alike.specs.Changes.{Becomes}
 use Rattle.qs_alike.specs.Arranged.{IsArrangedBelow, compared}
@@ -19,8 +18,7 @@ loop-other-init c = record {
 
 within : (c : Joined-are_alike) → c.loop-other.other < length c.args.program.now.clients
 within c =
-    let less = c.loop-other-test.true in
-    let e = c.clients-other-end.ensures.value in omega (arith, less, e)
+    let e = c.clients-other-end.ensures.value in omega (arith, c.loop-other-test.true, e)
 
 behind : (c : Joined-are_alike) → c.args.place < c.loop-other.other
 behind c = let from = c.loop-other.auto.other in omega (arith, from)

@@ -1,10 +1,10 @@
 use Rattle.std.proofs.Common.{◌≡◌, ◌<◌, ◌+◌, ◌++◌, ◌∷◌, [], ℕ, List, length, get_or, take, arith, ap, ap₂, sym, true≢false, ◌∙◌}
+use Rattle.std.proofs.lemmas.List.{take_more}
 use Rattle.qs_program.specs.audit.Statements.{Statements}
 use Rattle.qs_program.specs.Statements.{join_statements}
 use Rattle.qs_program.specs.Views.{single, size_of, statements_of}
 use Rattle.qs_program.specs.declared.code.Stmt.{Stmt}
 use Rattle.qs_program.proofs.StatementLists.{size_at, statements_of-append}
-use Rattle.qs_standings.proofs.RowSteps.{take_more}
 use Rattle.qs_alike.proofs.SameTexts.{equally_many, same_at}
 use Rattle.qs_alike.proofs.texts.+same.Goals as goal
 
@@ -14,12 +14,11 @@ one_more xs i x within is = ap statements_of (take_more xs i x within ∙ ap (λ
 
 pub is_same_body-is_same_stmt-requires : goal.is_same_body-is_same_stmt-requires
 is_same_body-is_same_stmt-requires t c =
-    let items = c.as_slice-one.result.now in
     let item = c.index-one-place.result in (
       omega (
         arith,
         c.decreases,
-        size_at items c.loop-place.place item c.loop-place-test.true,
+        size_at c.as_slice-one.result.now c.loop-place.place item c.loop-place-test.true,
         ap (λ s. size_of (single s)) c.index-one-place.is,
         ap size_of c.as_slice-one.ensures.value,
       ),
@@ -43,8 +42,7 @@ is_same_body-returns-then-one-other t c =
     record {
       same = (
         λ e. absurd (true≢false (sym e)),
-        λ whole. absurd (c.if-one-other.true (equally_many xs ys
-            (same_items c.args.one.now c.args.other.now xs ys c.as_slice-one.ensures.value c.as_slice-other.ensures.value whole))),
+        λ whole. absurd (c.if-one-other.true (equally_many xs ys (same_items _ _ xs ys c.as_slice-one.ensures.value c.as_slice-other.ensures.value whole))),
       );
     }
 
@@ -52,13 +50,12 @@ pub is_same_body-returns-then-not-is_same_stmt : goal.is_same_body-returns-then-
 is_same_body-returns-then-not-is_same_stmt t c =
     let xs = c.as_slice-one.result.now in
     let ys = c.as_slice-other.result.now in
-    let i = c.loop-place.place in
     record {
       same = (
         λ e. absurd (true≢false (sym e)),
         λ whole. sym c.if-not-is_same_stmt.true ∙ c.is_same_stmt.ensures.same.1
             (ap single c.index-one-place.is
-            ∙ (same_at xs ys i c.index-one-place.result c.index-other-place.result
+            ∙ (same_at xs ys c.loop-place.place c.index-one-place.result c.index-other-place.result
             (same_items c.args.one.now c.args.other.now xs ys c.as_slice-one.ensures.value c.as_slice-other.ensures.value whole)
             c.loop-place-test.true (let less = c.loop-place-test.true in let long = c.if-one-other.false in omega (arith, less, long))
             ∙ sym (ap single c.index-other-place.is))),
