@@ -1,11 +1,11 @@
 -- A table of rows takes a row that is not among its keys to the end, and tells whether it did. By this the search looks
 -- at each configuration once. It goes by induction on the keys, with the test for equal rows.
-use Rattle.std.proofs.Common.{◌≡◌, ℕ, zero, suc, Bool, true, false, not, ◌||◌, ◌&&◌, ◌==◌, ℤ, int_eq, if◌then◌else◌, List, [], ◌∷◌, ◌++◌, refl, sym, ap, ◌∙◌, subst, inl, inr, true≢false}
-use Rattle.std.specs.Prelude.{Some, slice_get}
+use Rattle.std.proofs.Common.{◌≡◌, ℕ, zero, suc, Bool, true, false, not, ◌||◌, ◌&&◌, ◌==◌, ℤ, int_eq, if◌then◌else◌, List, [], ◌∷◌, ◌++◌, refl, sym, ap, ◌∙◌, subst, inl, inr, true≢false, Some, slice_get}
 use Rattle.std.specs.List.{list_any}
 use Rattle.std.specs.Cmp.Lexicographic.{bytes_decides, pointwise, pointwise_decides}
 use Rattle.std.proofs.lemmas.Bool.Decides.{Decides-int_eq}
 use Rattle.std.proofs.lemmas.List.{map-append}
+use Rattle.std.proofs.lemmas.Bool.{and_parts}
 use Rattle.indexmap.specs.IndexSet.{insert_key}
 use Rattle.qs_standings.specs.declared.rows.Row.{Row}
 use Rattle.qs_standings.specs.Rows.{equal, rows_in, shape_of, IsInserted}
@@ -15,13 +15,9 @@ use Rattle.qs_standings.specs.Standings.{RowShape}
 numbers : (x y : ℤ) → (int_eq x y ≡ true → x ≡ y) × (x ≡ y → int_eq x y ≡ true)
 numbers x y = let d = Decides-int_eq x y in (d.0, d.1)
 
-both : (a b : Bool) → (a && b) ≡ true → (a ≡ true) × (b ≡ true)
-both true b e = (refl, e)
-both false b e = absurd (true≢false (sym e))
-
 pub tells : (v w : RowShape) → equal v w ≡ true → v ≡ w
 tells v w e =
-    let parts = both (pointwise ◌==◌ v.begun w.begun) (pointwise int_eq v.numbers w.numbers) e in
+    let parts = and_parts (pointwise ◌==◌ v.begun w.begun) (pointwise int_eq v.numbers w.numbers) e in
     let begun = (bytes_decides v.begun w.begun).0 parts.0 in
     let rest = (pointwise_decides numbers v.numbers w.numbers).0 parts.1 in
     λ i. record { begun = begun i; numbers = rest i }

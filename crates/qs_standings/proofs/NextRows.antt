@@ -2,10 +2,9 @@
 -- and the objects. So the search writes a row without another look at the other clients. A number that is put into the
 -- front part of a row leaves the back part as it is, and the other way round; the clients' variables stand one after
 -- another, each client's as many as its text names.
-use Rattle.std.proofs.Common.{◌≡◌, ◌<◌, ◌≤◌, ◌+◌, ℕ, zero, suc, List, [], ◌∷◌, ◌++◌, length, get_or, take, drop, flat_map, refl, sym, ap, ◌∙◌, subst, arith, length-append, add-one, ℤ, replicate}
-use Rattle.std.specs.Prelude.{slice_set}
+use Rattle.std.proofs.Common.{◌≡◌, ◌<◌, ◌≤◌, ◌+◌, ℕ, zero, suc, List, [], ◌∷◌, ◌++◌, length, get_or, take, drop, flat_map, refl, sym, ap, ◌∙◌, subst, arith, length-append, add-one, ℤ, replicate, slice_set}
 use Rattle.std.proofs.Math.Seq.{drop-cons, take-append_seam}
-use Rattle.std.proofs.lemmas.List.{length-set, length-take, set-append_left}
+use Rattle.std.proofs.lemmas.List.{length-set, length-take, set-append_left, drop_all}
 use Rattle.qs_objects.specs.audit.Act.{State}
 use Rattle.qs_objects.specs.declared.held.Ticket.{Ticket}
 use Rattle.qs_program.specs.audit.Limits.{most_clients, most_variables}
@@ -15,7 +14,6 @@ use Rattle.qs_program.specs.audit.Values.{Locals}
 use Rattle.qs_meaning.specs.audit.Serial.{zeros}
 use Rattle.qs_standings.specs.Rows.{named_before, overwritten}
 use Rattle.qs_standings.specs.Standings.{IsStanding, StandingShape, named_from, padded, row_of, state_row, standing_with_block}
-use Rattle.qs_serial.proofs.Endings.{nothing_left}
 use Rattle.qs_standings.proofs.RowSteps.{few_variables}
 use Rattle.qs_standings.proofs.RowTells.{named}
 
@@ -47,7 +45,7 @@ over_more row numbers first i x d within is =
     ∙ sym (ap (overwritten row (first + i)) (drop-cons numbers i d within))
 
 pub over_end : (row numbers : List ℤ) (place i : ℕ) → length numbers ≤ i → overwritten row place (drop i numbers) ≡ row
-over_end row numbers place i past = ap (overwritten row place) (nothing_left numbers i past)
+over_end row numbers place i past = ap (overwritten row place) (drop_all i numbers past)
 
 -- a slice that is as long as all takes the place of all
 pub whole : (old new : List ℤ) (n : ℕ) → length new ≡ n → take n (new ++ drop (length new) old) ≡ new
@@ -60,10 +58,9 @@ before_more p k zero =
     let same : length (client_at p k).variables ≡ length (client_at p (k + 0)).variables = λ i. length (client_at p (e i)).variables in
     omega (arith, same)
 before_more p k (suc c) =
-    let later = before_more p (suc k) c in
     let e : suc k + c ≡ k + suc c = omega arith in
     let same : length (client_at p (suc k + c)).variables ≡ length (client_at p (k + suc c)).variables = λ i. length (client_at p (e i)).variables in
-    omega (arith, later, same)
+    omega (arith, before_more p (suc k) c, same)
 
 -- as many of each client's variables as its text names are there
 abbrev AreLong : ProgramShape → ℕ → List Locals → Type 0
@@ -79,10 +76,8 @@ rest_long p k l ls h i less =
 named_long : (p : ProgramShape) (k : ℕ) (ls : List Locals) → AreLong p k ls → length (named_from p k ls) ≡ named_before p k (length ls)
 named_long p k [] h = refl
 named_long p k (l ∷ ls) h =
-    let first = first_long p k l ls h in
-    let rest = named_long p (suc k) ls (rest_long p k l ls h) in
     let both = length-append (take (length (client_at p k).variables) l) (named_from p (suc k) ls) in
-    omega (arith, first, rest, both)
+    omega (arith, first_long p k l ls h, named_long p (suc k) ls (rest_long p k l ls h), both)
 
 -- one client's variables are others
 named_over : (p : ProgramShape) (k : ℕ) (ls : List Locals) (c j : ℕ) (v : Locals) → AreLong p k ls → c < length ls → j ≡ k + c
@@ -91,10 +86,9 @@ named_over : (p : ProgramShape) (k : ℕ) (ls : List Locals) (c j : ℕ) (v : Lo
 named_over p k [] c j v long less is here = absurd (omega (arith, less))
 named_over p k (l ∷ ls) zero j v long less is here =
     let same : j ≡ k = (let e = is in omega (arith, e)) in
-    let first = first_long p k l ls long in
     subst (λ m. overwritten (named_from p k (l ∷ ls)) 0 (take (length (client_at p m).variables) v) ≡ named_from p k (v ∷ ls)) (sym same)
     (over_whole (take (length (client_at p k).variables) l) (named_from p (suc k) ls) (take (length (client_at p k).variables) v)
-    (first ∙ sym (subst (λ m. length (take (length (client_at p m).variables) v) ≡ length (client_at p m).variables) same here)))
+    ((first_long p k l ls long) ∙ sym (subst (λ m. length (take (length (client_at p m).variables) v) ≡ length (client_at p m).variables) same here)))
 named_over p k (l ∷ ls) (suc c) j v long less is here =
     let n = length (client_at p k).variables in
     let first = first_long p k l ls long in
@@ -108,9 +102,8 @@ module _ (p : ProgramShape) (front : List Ticket) (sound : IsSound p) (s : Stand
 
   long : AreLong p 0 s.locals
   long i less =
-      let few = few_variables p sound (0 + i) (let n = is.locals in omega (arith, less, n)) in
       let all = (named p front sound s is i less).long in
-      simp length-take (omega (arith, few, all))
+      simp length-take (omega (arith, few_variables p sound (0 + i) (let n = is.locals in omega (arith, less, n)), all))
 
   locals_long : length (named_from p 0 s.locals) ≡ named_before p 0 (length p.clients)
   locals_long = named_long p 0 s.locals long ∙ ap (named_before p 0) is.locals
@@ -118,8 +111,7 @@ module _ (p : ProgramShape) (front : List Ticket) (sound : IsSound p) (s : Stand
   -- a row has as many numbers as variables, and more by the objects
   pub stem_within : stem ≤ length (row_of p s).numbers
   stem_within =
-      let a = length-append (named_from p 0 s.locals) (flat_map state_row s.states) in
-      let n = locals_long in omega (arith, a, n)
+      let n = locals_long in omega (arith, length-append (named_from p 0 s.locals) (flat_map state_row s.states), n)
 
   stem_is : take stem (row_of p s).numbers ≡ named_from p 0 s.locals
   stem_is =

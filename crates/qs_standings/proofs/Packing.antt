@@ -17,15 +17,12 @@ front_is xs ys front = sym (take-append-drop (length xs) ys) ∙ ap (λ zs. zs +
 
 front_long : {X : Type 0} (xs ys : List X) → IsFront xs ys → length xs ≤ length ys
 front_long xs ys front =
-    let all = ap length (front_is xs ys front) in
-    let both = length-append xs (drop (length xs) ys) in
-    omega (arith, all, both)
+    omega (arith, ap length (front_is xs ys front), length-append xs (drop (length xs) ys))
 
 cut_longer : {X : Type 0} (span : Span) (xs zs : List X) → span.first + span.len ≤ length xs → cut span (xs ++ zs) ≡ cut span xs
 cut_longer span xs zs within =
-    let rest = length-drop span.first xs in
     ap (take span.len) (drop-append-le span.first xs zs (omega (arith, within)))
-    ∙ take-append-le span.len (drop span.first xs) zs (omega (arith, within, rest))
+    ∙ take-append-le span.len (drop span.first xs) zs (omega (arith, within, length-drop span.first xs))
 
 cut_front : {X : Type 0} (span : Span) (xs ys : List X) → IsFront xs ys → span.first + span.len ≤ length xs → cut span ys ≡ cut span xs
 cut_front span xs ys front within = ap (cut span) (front_is xs ys front) ∙ cut_longer span xs (drop (length xs) ys) within
@@ -35,19 +32,14 @@ same_numbers old new place grown placed = cut_front place.numbers old.numbers.it
 
 still_placed : (old new : Pieces) (place : Place) → IsGrown old new → IsPlaced old place → IsPlaced new place
 still_placed old new place grown placed =
-    let orders = front_long old.orders.items new.orders.items grown.orders in
     let begun = front_long old.begun.items new.begun.items grown.begun in
     let numbers = front_long old.numbers.items new.numbers.items grown.numbers in
     let objects = front_long old.objects.items new.objects.items grown.objects in
-    let a = placed.order in
-    let b = placed.begun in
-    let c = placed.numbers in
-    let d = placed.objects in
     record {
-      order = omega (arith, orders, a);
-      begun = omega (arith, begun, b);
-      numbers = omega (arith, numbers, c);
-      objects = omega (arith, objects, d);
+      order = omega (arith, front_long old.orders.items new.orders.items grown.orders, placed.order);
+      begun = omega (arith, begun, placed.begun);
+      numbers = omega (arith, numbers, placed.numbers);
+      objects = omega (arith, objects, placed.objects);
       spread = subst (IsSpread place.width place.clients) (sym (same_numbers old new place grown placed)) placed.spread;
     }
 

@@ -1,13 +1,11 @@
 -- A row tells the configuration: each part of it is as long in any row of the program or says how long it is, so two
 -- rows are equal only where all their parts are; and a variable that no text names is 0. By this what was seen under a
 -- row need not be looked at again. It goes part by part, with the rest of the rows in hand.
-use Rattle.std.proofs.Common.{◌≡◌, ℕ, List, [], ◌∷◌, ◌++◌, length, flat_map, refl, sym, ap, ap₂, ◌∙◌, ℤ, pos, append_assoc, arith}
+use Rattle.std.proofs.Common.{◌≡◌, ℕ, List, [], ◌∷◌, ◌++◌, length, flat_map, refl, sym, ap, ap₂, ◌∙◌, ℤ, pos, append_assoc, arith, ◌<◌, ◌+◌, suc, get_or, take, drop, replicate, subst, length-take}
 use Rattle.qs_objects.specs.audit.Act.{Content, State, account, buffer, grid}
 use Rattle.qs_objects.specs.Objects.{AreRowsOf, IsInRange}
 use Rattle.qs_objects.specs.audit.Rows.{join_rows}
 use Rattle.qs_objects.proofs.GridRows.{equal_long, rows_tell}
-use Rattle.std.proofs.Common.{◌<◌, ◌+◌, suc, get_or, take, drop, replicate, subst}
-use Rattle.std.proofs.lemmas.List.{length-take}
 use Rattle.qs_objects.specs.declared.held.Ticket.{Ticket}
 use Rattle.qs_program.specs.audit.Limits.{most_clients}
 use Rattle.qs_program.specs.audit.Program.{ProgramShape, client_at}
@@ -41,20 +39,14 @@ counted_tells xs ys us vs e = equal_long xs ys us vs (pos_is (head e)) (tail e)
 
 content_tells : (c d : Content) (us vs : List ℤ) → IsInRange c → IsInRange d → content_row c ++ us ≡ content_row d ++ vs → (c ≡ d) × (us ≡ vs)
 content_tells (account b) (account c) us vs x y e = (ap account (head (tail e)), tail (tail e))
-content_tells (account b) (buffer k xs) us vs x y e = absurd (let h = pos_is (head e) in omega (arith, h))
-content_tells (account b) (grid k rows) us vs x y e = absurd (let h = pos_is (head e) in omega (arith, h))
-content_tells (buffer k xs) (account c) us vs x y e = absurd (let h = pos_is (head e) in omega (arith, h))
 content_tells (buffer k xs) (buffer m ys) us vs x y e =
     let rest = counted_tells xs ys us vs (tail (tail e)) in (ap₂ buffer (pos_is (head (tail e))) rest.0, rest.1)
-content_tells (buffer k xs) (grid m rows) us vs x y e = absurd (let h = pos_is (head e) in omega (arith, h))
-content_tells (grid k rows) (account c) us vs x y e = absurd (let h = pos_is (head e) in omega (arith, h))
-content_tells (grid k rows) (buffer m ys) us vs x y e = absurd (let h = pos_is (head e) in omega (arith, h))
 content_tells (grid k rows) (grid l others) us vs x y e =
     let rest = counted_tells (join_rows rows) (join_rows others) us vs (tail (tail (tail e))) in
-    let many = pos_is (head (tail e)) in
     let wide = pos_is (head (tail (tail e))) in
-    let same = rows_tell k rows others x.4 (subst (λ m. AreRowsOf m others) (sym wide) y.4) many rest.0 in
+    let same = rows_tell k rows others x.4 (subst (λ m. AreRowsOf m others) (sym wide) y.4) (pos_is (head (tail e))) rest.0 in
     ((λ i. grid (wide i) (same i)), rest.1)
+content_tells _ _ us vs x y e = absurd (let h = pos_is (head e) in omega (arith, h))
 
 state_tells : (s t : State) (us vs : List ℤ) → IsInRange s.content → IsInRange t.content → state_row s ++ us ≡ state_row t ++ vs → (s ≡ t) × (us ≡ vs)
 state_tells s t us vs x y e =
@@ -86,10 +78,6 @@ same_named : (p : ProgramShape) (c : ℕ) (l m : Locals) → AreNamedAlone p c l
     → take (length (client_at p c).variables) l ≡ take (length (client_at p c).variables) m → l ≡ m
 same_named p c l m a b e = a.named ∙ (ap (λ xs. xs ++ drop (length (client_at p c).variables) zeros) e ∙ sym b.named)
 
-named_long : (p : ProgramShape) (c : ℕ) (l m : Locals) → AreNamedAlone p c l → AreNamedAlone p c m
-    → length (take (length (client_at p c).variables) l) ≡ length (take (length (client_at p c).variables) m)
-named_long p c l m a b = rw (length-take, length-take) (rw (a.long, b.long) refl)
-
 -- each client's variables, from a client on
 abbrev pub NamedFrom : ProgramShape → ℕ → List Locals → Type 0
 NamedFrom p c ls = (i : ℕ) → i < length ls → AreNamedAlone p (c + i) (get_or ls i zeros)
@@ -108,7 +96,7 @@ named_tell p c (l ∷ ls) [] us vs long a b e = absurd (let h : length (l ∷ ls
 named_tell p c (l ∷ ls) (m ∷ ms) us vs long a b e =
     let n = length (client_at p c).variables in
     let first = equal_long (take n l) (take n m) (named_from p (suc c) ls ++ us) (named_from p (suc c) ms ++ vs)
-    (named_long p c l m (first_named p c l ls a) (first_named p c m ms b))
+    (rw (length-take, length-take) (rw ((first_named p c l ls a).long, (first_named p c m ms b).long) refl))
     (sym (append_assoc (take n l) (named_from p (suc c) ls) us) ∙ (e ∙ append_assoc (take n m) (named_from p (suc c) ms) vs)) in
     let rest = named_tell p (suc c) ls ms us vs (let h : length (l ∷ ls) ≡ length (m ∷ ms) = long in omega (arith, h)) (rest_named p c l ls a) (rest_named p c m ms b) first.1 in
     (ap₂ (λ z zs. z ∷ zs) (same_named p c l m (first_named p c l ls a) (first_named p c m ms b) first.0) rest.0, rest.1)

@@ -1,10 +1,7 @@
 -- The variables of all clients in one list, one client's behind another's: what is read at one client, what becomes of
 -- all where one client's are others, and that all are 0 where all numbers are. Each goes by induction on the clients,
 -- whose first one's numbers are the front of the list.
-use Rattle.std.proofs.Common.{◌≡◌, ◌<◌, ◌≤◌, ◌+◌, ◌-◌, ◌*◌, ℕ, zero, suc, List, [], ◌∷◌, ◌++◌, length, get_or, take, drop, replicate, refl, sym, ap, ap₂, ◌∙◌, arith, append_assoc, append-nil, add-one, length-append, ℤ, pos}
-use Rattle.std.specs.Prelude.{slice_set}
-use Rattle.std.specs.List.{swap}
-use Rattle.std.proofs.Math.Nat.{mul-le-mul_left}
+use Rattle.std.proofs.Common.{◌≡◌, ◌<◌, ◌≤◌, ◌+◌, ◌-◌, ◌*◌, ℕ, zero, suc, List, [], ◌∷◌, ◌++◌, length, get_or, take, drop, replicate, refl, sym, ap, ap₂, ◌∙◌, arith, append_assoc, append-nil, add-one, length-append, ℤ, pos, slice_set, swap, mul-le-mul_left}
 use Rattle.std.proofs.lemmas.List.{drop-drop, drop-replicate, drop_at, length-drop, length-replicate, length-take, nil_from_length, replicate-append-replicate, take-append-drop, take_all, take_at, take_more}
 use Rattle.std.proofs.lemmas.List.Edits.{swap_is}
 use Rattle.qs_program.specs.audit.Limits.{most_variables}
@@ -32,16 +29,12 @@ spread_at w (suc n) (suc c) vs less =
 
 widened_long : (w : ℕ) (vs : List ℤ) → w ≤ most_variables → w ≤ length vs → length (widened w vs) ≡ most_variables
 widened_long w vs few long =
-    let front = length-take w vs in
     let back : length (drop w zeros) ≡ most_variables - w = length-drop w zeros in
-    let both = length-append (take w vs) (drop w zeros) in
-    omega (arith, few, long, front, back, both)
+    omega (arith, few, long, length-take w vs, back, length-append (take w vs) (drop w zeros))
 
 pub each_long : (w n c : ℕ) (vs : List ℤ) → w ≤ most_variables → n * w ≤ length vs → c < n → length (get_or (spread w n vs) c zeros) ≡ most_variables
 each_long w n c vs few long less =
-    let within = segment c n w less in
-    let rest = length-drop (c * w) vs in
-    ap length (spread_at w n c vs less) ∙ widened_long w (drop (c * w) vs) few (omega (arith, long, within, rest))
+    ap length (spread_at w n c vs less) ∙ widened_long w (drop (c * w) vs) few (omega (arith, long, segment c n w less, length-drop (c * w) vs))
 
 -- the first client's numbers are the front
 spread_front : (w n : ℕ) (xs rest : List ℤ) → length xs ≡ w → spread w (suc n) (xs ++ rest) ≡ (xs ++ drop w zeros) ∷ spread w n rest
@@ -98,10 +91,9 @@ spread_more n xs ys long all = ap (λ m. spread most_variables m (xs ++ ys)) (ad
         ap (λ zs. spread most_variables 1 (zs ++ ys)) none ∙ ap (λ (l : Locals). l ∷ []) (append-nil (take most_variables ys) ∙ take_all most_variables ys (omega (arith, all)))
     more (suc n) xs ys long all =
         let front = front_long most_variables n xs (omega (arith, long)) in
-        let cut = length-drop most_variables xs in
         ap (spread most_variables (suc (suc n))) (ap (λ zs. zs ++ ys) (sym (take-append-drop most_variables xs)) ∙ append_assoc (take most_variables xs) (drop most_variables xs) ys)
         ∙ (spread_front most_variables (suc n) (take most_variables xs) (drop most_variables xs ++ ys) front
-        ∙ ap (λ ls. widened most_variables xs ∷ ls) (more n (drop most_variables xs) ys (omega (arith, long, cut)) all))
+        ∙ ap (λ ls. widened most_variables xs ∷ ls) (more n (drop most_variables xs) ys (omega (arith, long, length-drop most_variables xs)) all))
 
 -- a client of those that are there
 pub of_all : (w n c : ℕ) (vs : List ℤ) (ls : List Locals) → spread w n vs ≡ ls → c < length ls → c < n
@@ -125,10 +117,9 @@ read_at_client w n c place vs all ls is less here same =
 -- behind the width all are 0
 narrow : (w n c : ℕ) (vs : List ℤ) → n * w ≤ length vs → c < n → drop w (get_or (spread w n vs) c zeros) ≡ drop w zeros
 narrow w n c vs all less =
-    let within = segment c n w less in
     let rest = length-drop (c * w) vs in
     let front = length-take w (drop (c * w) vs) in
-    ap (drop w) (spread_at w n c vs less) ∙ drop_at (take w (drop (c * w) vs)) (drop w zeros) w (omega (arith, all, within, rest, front))
+    ap (drop w) (spread_at w n c vs less) ∙ drop_at (take w (drop (c * w) vs)) (drop w zeros) w (omega (arith, all, segment c n w less, rest, front))
 
 front_of : (w : ℕ) (v : Locals) → w ≤ most_variables → length v ≡ most_variables → length (take w v) ≡ w
 front_of w v few long = let cut = length-take w v in omega (arith, few, long, cut)

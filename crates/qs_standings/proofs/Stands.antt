@@ -1,10 +1,10 @@
 -- Where a client's next block has run on what the lists of a standing hold, they hold the next configuration, and the
 -- order that is longer by one ticket leads there. The functions that make standings rest on it. Lists by number are
 -- functions that are changed at one place, and the last ticket of an order is taken last.
-use Rattle.std.proofs.Common.{◌≡◌, ◌<◌, ◌≤◌, ℕ, zero, suc, Bool, true, false, ◌==◌, List, [], ◌∷◌, ◌++◌, length, get_or, replicate, refl, sym, ap, ◌∙◌, subst, arith, ⊎_elim, append_assoc, append-nil, ◌⊎◌, inl, inr, ◌||◌, ℤ}
-use Rattle.std.proofs.lemmas.List.{length-set, length-replicate}
-use Rattle.std.specs.Prelude.{slice_set}
+use Rattle.std.proofs.Common.{◌≡◌, ◌<◌, ◌≤◌, ℕ, suc, Bool, true, false, ◌==◌, List, [], ◌∷◌, ◌++◌, length, get_or, replicate, refl, sym, ap, ◌∙◌, subst, arith, ⊎_elim, append_assoc, append-nil, ◌⊎◌, inl, inr, ◌||◌, ℤ, slice_set}
+use Rattle.std.proofs.lemmas.List.{length-set, length-replicate, get_or_past, get_or_default}
 use Rattle.std.specs.List.{AllByRecursion}
+use Rattle.std.proofs.lemmas.Bool.{cases_lt}
 use Rattle.qs_objects.specs.audit.Act.{State}
 use Rattle.qs_objects.specs.audit.Objects.{starts}
 use Rattle.qs_objects.specs.declared.held.Ticket.{Ticket}
@@ -12,7 +12,7 @@ use Rattle.qs_objects.proofs.Choices.{eqb_true}
 use Rattle.qs_objects.proofs.Arities.{arity_small}
 use Rattle.qs_program.specs.declared.code.Call.{Call}
 use Rattle.qs_program.specs.declared.program.Declared.{Declared}
-use Rattle.qs_program.specs.audit.Program.{BlockShape, ClientShape, ProgramShape, block_at, blocks_of, no_client, no_object}
+use Rattle.qs_program.specs.audit.Program.{BlockShape, ProgramShape, block_at, blocks_of, no_client, no_object}
 use Rattle.qs_program.specs.audit.Sound.{is_in}
 use Rattle.qs_program.specs.Sound.{IsSoundBlock, IsSoundBody, IsSoundCall}
 use Rattle.qs_program.specs.audit.Statements.{Statements, end, command, query, assign, choose, again, leave}
@@ -27,14 +27,7 @@ use Rattle.qs_meaning.proofs.Groups.{some_go_on}
 use Rattle.qs_standings.specs.Standings.{GoesOn, HasNext, HasRun, IsFirst, IsNext, IsOneOn, IsReducedAfter, IsStanding, StandingShape, configuration_in, standing_with_block}
 
 pub below_or_past : (h n : ℕ) → (h < n) ⊎ (n ≤ h)
-below_or_past h zero = inr (omega arith)
-below_or_past zero (suc n) = inl (omega arith)
-below_or_past (suc h) (suc n) = elim (below_or_past h n) [ inl l ↦ inl (omega (arith, l)) | inr g ↦ inr (omega (arith, g)) ]
-
-pub past_end : {X : Type 0} (xs : List X) (i : ℕ) (d : X) → length xs ≤ i → get_or xs i d ≡ d
-past_end [] i d past = refl
-past_end (x ∷ xs) zero d past = absurd (omega (arith, past))
-past_end (x ∷ xs) (suc i) d past = past_end xs i d (omega (arith, past))
+below_or_past = cases_lt
 
 pub configuration-snoc : (p : ProgramShape) (g : Configuration) (ts : List Ticket) (t : Ticket) → configuration_from p g (ts ++ t ∷ []) ≡ one_block_on p t.client (configuration_from p g ts)
 configuration-snoc p g [] t = refl
@@ -61,13 +54,10 @@ goes_left p s c goes = (some_go_on p (configuration_in s).begun).undisturbed.lef
 
 -- who has a block is one of the program's clients
 pub has_place : (p : ProgramShape) (c k : ℕ) → k < blocks_of p c → c < length p.clients
-has_place p c k less =
-    ⊎_elim
-    (λ (l : c < length p.clients). l)
-    (λ (past : length p.clients ≤ c).
-    let none : blocks_of p c ≡ 0 = ap (λ (client : ClientShape). length client.blocks) (past_end p.clients c no_client past) in
-    absurd (omega (arith, less, none)))
-    (below_or_past c (length p.clients))
+has_place p c k less = elim (cases_lt c (length p.clients)) [
+  | inl inside ↦ inside
+  | inr past ↦ absurd (omega (arith, less, ap (λ (d : _). length d.blocks) (get_or_past p.clients c no_client past)))
+]
 
 -- and so is who has a block left
 pub in_program : (p : ProgramShape) (s : StandingShape) (c : ℕ) → HasNext p s c → c < length p.clients
@@ -169,14 +159,14 @@ stands_first p s order begun locals count states =
     values = λ i j. (ap (λ xs. get_or xs j zeros) locals ∙ lookup-replicate (length p.clients) j zeros) i
 
     beyond : (h : ℕ) → length p.objects ≤ h → no_state ≡ declared_states p h
-    beyond h past = sym (ap (λ (o : Declared). state_or_none (starts o.kind)) (past_end p.objects h no_object past))
+    beyond h past = sym (ap (λ (o : Declared). state_or_none (starts o.kind)) (get_or_past p.objects h no_object past))
 
     at : (h : ℕ) → states_in s.states h ≡ declared_states p h
     at h =
         ⊎_elim
         (λ (within : h < length p.objects). states h within)
-        (λ (past : length p.objects ≤ h). past_end s.states h no_state (omega (arith, past, count)) ∙ beyond h past)
-        (below_or_past h (length p.objects))
+        (λ (past : length p.objects ≤ h). get_or_past s.states h no_state (omega (arith, past, count)) ∙ beyond h past)
+        (cases_lt h (length p.objects))
 
     objects : states_in s.states ≡ declared_states p
     objects = λ i h. at h i
@@ -212,12 +202,7 @@ block_within objects b is = body_within objects b.reserved is.reserved b.body is
 -- what was read of a list at a place, by another name of the list and of the place
 pub read_at : {X : Type 0} (xs ys : List X) (i j : ℕ) (v d : X) → v ≡ get_or xs j v → j ≡ i → xs ≡ ys → i < length ys → v ≡ get_or ys i d
 read_at {X = X} xs ys i j v d is place same within =
-    is ∙ ap (λ k. get_or xs k v) place ∙ ap (λ zs. get_or zs i v) same ∙ any_default ys i v d within
-  where
-    any_default : (zs : List X) (k : ℕ) (a b : X) → k < length zs → get_or zs k a ≡ get_or zs k b
-    any_default [] k a b less = absurd (omega (arith, less))
-    any_default (z ∷ zs) zero a b less = refl
-    any_default (z ∷ zs) (suc k) a b less = any_default zs k a b (omega (arith, less))
+    is ∙ ap (λ k. get_or xs k v) place ∙ ap (λ zs. get_or zs i v) same ∙ get_or_default ys i v d within
 
 pub same_run : {a b : BlockShape} {l m : List ℤ} {ss us : List State} → a ≡ b → l ≡ m → ss ≡ us → solo a.body l (states_in ss) ≡ solo b.body m (states_in us)
 same_run e f g = λ i. solo (e i).body (f i) (states_in (g i))

@@ -1,6 +1,5 @@
 -- Configurations as they are kept: in lists, with an order that leads there, and as one row of numbers.
-use Rattle.std.specs.Prelude.{◌≡◌, ◌==◌, if◌then◌else◌, map, ℕ, List, [], ◌∷◌, ◌++◌, true, drop, length, replicate, slice_index_or, slice_set, ℤ, pos, flat_map, suc, take}
-use Rattle.std.specs.List.{swap}
+use Rattle.std.specs.Prelude.{◌≡◌, ◌==◌, if◌then◌else◌, map, ℕ, List, [], ◌∷◌, ◌++◌, true, drop, length, replicate, slice_index_or, slice_set, ℤ, pos, flat_map, suc, take, swap}
 use Rattle.qs_objects.specs.audit.Act.{State, Content, account, buffer, grid}
 use Rattle.qs_objects.specs.audit.Rows.{join_rows}
 use Rattle.qs_objects.specs.declared.held.Ticket.{Ticket}

@@ -1,19 +1,18 @@
 -- Sets as bytes, and the last block of a client that reserves an object: what each step of the loops that find who goes
 -- on does to the set that it stands for. It goes by cases on bits, and by induction on lists and rounds.
-use Rattle.std.proofs.Common.{◌≡◌, ◌<◌, ◌≤◌, ◌+◌, ◌*◌, ◌%◌, ◌/◌, ◌^◌, ℕ, zero, suc, Bool, true, false, true≢false, if◌then◌else◌, ◌==◌, ◌&&◌, ◌||◌, nat_lt, max, List, [], ◌∷◌, ◌++◌, length, get_or, drop, take, refl, sym, ap, ap₂, add-one, ◌∙◌, subst, arith, ◌⊎◌, inl, inr, bit_and, bit_or, w8, get_or-set_same, get_or-set_other}
-use Rattle.std.specs.Prelude.{slice_set}
+use Rattle.std.proofs.Common.{◌≡◌, ◌<◌, ◌≤◌, ◌+◌, ◌*◌, ◌%◌, ◌/◌, ◌^◌, ℕ, zero, suc, Bool, true, false, true≢false, if◌then◌else◌, ◌==◌, ◌&&◌, ◌||◌, nat_lt, max, List, [], ◌∷◌, ◌++◌, length, get_or, drop, take, refl, sym, ap, ap₂, add-one, ◌∙◌, subst, arith, ◌⊎◌, inl, inr, bit_and, bit_or, w8, get_or-set_same, get_or-set_other, slice_set, length-set}
 use Rattle.std.specs.Int.{bit_at}
 use Rattle.std.specs.List.{list_any}
 use Rattle.std.proofs.lemmas.Bool.{cases_eq}
 use Rattle.std.proofs.lemmas.Bool.Decides.{nat_tests}
 use Rattle.std.proofs.lemmas.List.{get_or_past, take_more}
 use Rattle.std.proofs.lemmas.Nat.Bits.{bit_at_or, bit_at-lt, bit_at-zero, bit_at_set_same, bit_at_set_other, shr_and_one}
+use mathlib.Core.Bool.{or-false, or-true}
 use Rattle.qs_objects.proofs.Choices.{eqb_apart, eqb_self}
 use Rattle.qs_program.specs.audit.Program.{BlockShape, ProgramShape, client_at, blocks_of, no_block, no_client}
 use Rattle.qs_program.specs.Sound.{IsSound}
 use Rattle.qs_meaning.specs.audit.Reduced.{Counts}
 use Rattle.qs_meaning.specs.Reduced.{Clients, block_reserves, comes_in, group_of, many_below, size_of_set, smaller, some_below, still_reserves, widened, wider}
-use Rattle.std.proofs.lemmas.List.{length-set}
 use Rattle.qs_program.specs.audit.Limits.{most_clients, most_objects}
 use Rattle.qs_standings.specs.going.Going.{AreComers, AreLast, IsGrown, begun_counts, in_byte}
 
@@ -31,22 +30,14 @@ in_or a b c =
     ap (λ x. x == 1) (bit_at_or a b c)
     ∙ either_one (bit_at a c) (bit_at b c) (zero_or_one (bit_at a c) (bit_at-lt a c)) (zero_or_one (bit_at b c) (bit_at-lt b c))
 
-or_true : (b : Bool) → (b || true) ≡ true
-or_true true = refl
-or_true false = refl
-
-or_false : (b : Bool) → (b || false) ≡ b
-or_false true = refl
-or_false false = refl
-
 -- with one more
 pub in_with : (s c k : ℕ) → c < 8 → in_byte (bit_or s (1 * 2 ^ c % 256)) k ≡ in_byte s k || (c == k)
 in_with s c k below = elim (cases_eq c k) [
   | inl same ↦
       subst (λ j. in_byte (bit_or s (1 * 2 ^ c % 256)) j ≡ in_byte s j || (c == j)) same
-      (ap (λ x. x == 1) (bit_at_set_same w8 s c below) ∙ sym (rw (eqb_self c) (or_true (in_byte s c))))
+      (ap (λ x. x == 1) (bit_at_set_same w8 s c below) ∙ sym (rw (eqb_self c) (or-true (in_byte s c))))
   | inr other ↦
-      ap (λ x. x == 1) (bit_at_set_other w8 s c below k (λ e. other (sym e))) ∙ sym (rw (eqb_apart c k other) (or_false (in_byte s k)))
+      ap (λ x. x == 1) (bit_at_set_other w8 s c below k (λ e. other (sym e))) ∙ sym (rw (eqb_apart c k other) (or-false (in_byte s k)))
 ]
 
 pub in_none : (k : ℕ) → in_byte 0 k ≡ false
@@ -64,7 +55,7 @@ pub in_shifted : (set c : ℕ) → (bit_and (set / 2 ^ c) 1 == 1) ≡ in_byte se
 in_shifted set c = ap (λ b. b == 1) (shr_and_one set c)
 
 pub any_snoc : {X : Type 0} (f : X → Bool) (xs : List X) (x : X) → list_any f (xs ++ x ∷ []) ≡ list_any f xs || f x
-any_snoc f [] x = or_false (f x)
+any_snoc f [] x = or-false (f x)
 any_snoc f (y ∷ xs) x = by_case (f y) (any_snoc f xs x)
   where
     by_case : (b : Bool) → list_any f (xs ++ x ∷ []) ≡ list_any f xs || f x → (b || list_any f (xs ++ x ∷ [])) ≡ (b || list_any f xs) || f x
@@ -81,11 +72,10 @@ client_more still i set small is before c = in_with set i c small ∙ (ap (λ b.
     step : ((nat_lt c i && still c) || (i == c)) ≡ (nat_lt c (i + 1) && still c)
     step = elim (cases_eq i c) [
       | inl same ↦ subst (λ c. ((nat_lt c i && still c) || (i == c)) ≡ (nat_lt c (i + 1) && still c)) same
-          (let self = eqb_self i in let less : nat_lt i (i + 1) ≡ true = grind (arith, nat_tests) in rw (self, less, is) (or_true (nat_lt i i && true)))
+          (let self = eqb_self i in let less : nat_lt i (i + 1) ≡ true = grind (arith, nat_tests) in rw (self, less, is) (or-true (nat_lt i i && true)))
       | inr other ↦
-          let apart = eqb_apart i c other in
           let same : nat_lt c (i + 1) ≡ nat_lt c i = grind (arith, nat_tests) in
-          rw (apart, same) (or_false (nat_lt c i && still c))
+          rw (eqb_apart i c other, same) (or-false (nat_lt c i && still c))
     ]
 
 pub client_skipped : (still : ℕ → Bool) (i set : ℕ) → still i ≡ false → ((c : ℕ) → in_byte set c ≡ (nat_lt c i && still c))
@@ -189,7 +179,7 @@ pub member_skipped : (set all i : ℕ) (comes : ℕ → ℕ → Bool) → in_byt
     → (d : ℕ) → in_byte all d ≡ (in_byte set d || some_below (i + 1) (λ c. in_byte set c && comes c d))
 member_skipped set all i comes out before d =
     before d
-    ∙ rw add-one (ap (λ b. in_byte set d || b) (sym (or_false (some_below i (λ c. in_byte set c && comes c d)))
+    ∙ rw add-one (ap (λ b. in_byte set d || b) (sym (or-false (some_below i (λ c. in_byte set c && comes c d)))
     ∙ ap (λ b. some_below i (λ c. in_byte set c && comes c d) || b) (ap (λ b. b && comes i d) (sym out))))
 
 -- a set to which nobody comes stays
@@ -254,9 +244,7 @@ same_groups p begun c d within e = same_rounds p begun (length p.clients) (λ k.
 none_below : (c n : ℕ) (f : ℕ → Bool) → n ≤ c → some_below n (λ k. (c == k) && f k) ≡ false
 none_below c zero f past = refl
 none_below c (suc n) f past =
-    let before = none_below c n f (omega (arith, past)) in
-    let apart = eqb_apart c n (λ e. omega (arith, e, past)) in
-    rw (before, apart) refl
+    rw (none_below c n f (omega (arith, past)), eqb_apart c n (λ e. omega (arith, e, past))) refl
 
 one_below : (c n : ℕ) (f : ℕ → Bool) → c < n → some_below n (λ k. (c == k) && f k) ≡ f c
 one_below c zero f within = absurd (omega (arith, within))
@@ -265,9 +253,7 @@ one_below c (suc n) f within = elim (cases_eq c n) [
       subst (λ m. some_below (suc m) (λ k. (c == k) && f k) ≡ f c) same
       (let before = none_below c c f (omega arith) in let self = eqb_self c in rw (before, self) refl)
   | inr other ↦
-      let before = one_below c n f (omega (arith, within, other)) in
-      let apart = eqb_apart c n other in
-      rw (before, apart) (or_false (f c))
+      rw (one_below c n f (omega (arith, within, other)), eqb_apart c n other) (or-false (f c))
 ]
 
 -- the set of one client after its first round: the client, and who comes in the way of its next block
@@ -284,8 +270,7 @@ first_round p begun c row within below here = λ i d. at d i
 pub first_of : (p : ProgramShape) (begun rows : List ℕ) (c place : ℕ) → IsSound p → c < length p.clients → AreComers p begun rows → place ≡ c
     → wider p (begun_counts begun) (λ k. c == k) ≡ in_byte (bit_or (1 * 2 ^ c % 256) (get_or rows place 0))
 first_of p begun rows c place sound within comers at =
-    let few = sound.clients in
-    first_round p (begun_counts begun) c (get_or rows c 0) within (omega (arith, few, within)) (comers c within)
+    first_round p (begun_counts begun) c (get_or rows c 0) within (omega (arith, sound.clients, within)) (comers c within)
     ∙ sym (ap (λ k. in_byte (bit_or (1 * 2 ^ c % 256) (get_or rows k 0))) at)
 
 -- no set is grown yet

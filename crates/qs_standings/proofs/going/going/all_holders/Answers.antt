@@ -1,5 +1,4 @@
-use Rattle.std.proofs.Common.{◌≡◌, arith, ◌∙◌}
-use Rattle.std.proofs.lemmas.List.{length-set}
+use Rattle.std.proofs.Common.{◌≡◌, arith, ◌∙◌, length-set}
 use Rattle.qs_meaning.specs.Reduced.{still_reserves}
 use Rattle.qs_standings.specs.going.Going.{begun_counts, in_byte}
 use Rattle.qs_standings.proofs.going.GoingSets.{set_more}

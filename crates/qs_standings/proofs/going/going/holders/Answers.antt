@@ -14,14 +14,12 @@ loop-client-preserved c =
     elim c.if-begun-place.branch [
       | then-begun-place w ↦
           subst (λ set. (d : ℕ) → in_byte set d ≡ (nat_lt d (c.loop-client.client + 1) && still d)) (sym w.set-is)
-          (client_more still c.loop-client.client c.loop-client.set few
-          (still_so p c.args.begun.now c.args.last.now c.requires.last c.loop-client.client c.from-place.result c.args.object inside c.requires.object c.from-place.ensures w.if-begun-place.true)
-          c.loop-client.invariant)
+          (client_more still _ c.loop-client.set few (still_so _ c.args.begun.now _ c.requires.last _ _ _ inside c.requires.object c.from-place.ensures
+          w.if-begun-place.true) c.loop-client.invariant)
       | else-begun-place w ↦
           subst (λ set. (d : ℕ) → in_byte set d ≡ (nat_lt d (c.loop-client.client + 1) && still d)) (sym w.set-is)
-          (client_skipped still c.loop-client.client c.loop-client.set
-          (no_more p c.args.begun.now c.args.last.now c.requires.last c.loop-client.client c.from-place.result c.args.object inside c.requires.object c.from-place.ensures w.if-begun-place.false)
-          c.loop-client.invariant)
+          (client_skipped still c.loop-client.client c.loop-client.set (no_more _ c.args.begun.now _ c.requires.last _ _ _ inside c.requires.object
+          c.from-place.ensures w.if-begun-place.false) c.loop-client.invariant)
     ]
 
 pub returns : goal.returns

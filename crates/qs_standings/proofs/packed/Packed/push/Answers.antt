@@ -1,6 +1,5 @@
 -- What was there lies where it lay, whether memory was refused or not, and the standing is the last.
-use Rattle.std.proofs.Common.{◌∷◌, ◌++◌, [], ap, map, subst, sym, ◌∙◌}
-use Rattle.std.specs.Prelude.{Err, Ok, OnErr, Result}
+use Rattle.std.proofs.Common.{◌∷◌, ◌++◌, [], ap, map, subst, sym, ◌∙◌, Err, Ok, OnErr, Result}
 use Rattle.std.specs.List.{AllByRecursion}
 use Rattle.qs_standings.specs.Packed.{IsPlaced, standing_at}
 use Rattle.qs_standings.proofs.Packing.{same_standings, standings_with, still, still_with}
@@ -11,8 +10,7 @@ on_err (Ok v) p = tt
 on_err (Err e) p = p
 
 pub returns-in_err-place-clause-stay : goal.returns-in_err-place-clause-stay
-returns-in_err-place-clause-stay c =
-    on_err c.from_residual.result (same_standings c.self.inside.pieces c.add.new.self c.self.inside.places.items c.add.ensures.grown c.self.invariant ∙ c.self.view_is)
+returns-in_err-place-clause-stay c = on_err _ (same_standings _ _ _ c.add.ensures.grown c.self.invariant ∙ c.self.view_is)
 
 pub invariant_of-self-in_err-push : goal.invariant_of-self-in_err-push
 invariant_of-self-in_err-push c =
@@ -21,9 +19,7 @@ invariant_of-self-in_err-push c =
 
 pub returns-in_err-push-clause-stay : goal.returns-in_err-push-clause-stay
 returns-in_err-push-clause-stay c =
-    on_err c.from_residual-in_err-push.result
-    (ap (map (standing_at c.add.new.self)) c.in_err-push.ensures.items
-    ∙ (same_standings c.self.inside.pieces c.add.new.self c.self.inside.places.items c.add.ensures.grown c.self.invariant ∙ c.self.view_is))
+    on_err _ (ap (map (standing_at c.add.new.self)) c.in_err-push.ensures.items ∙ (same_standings _ _ _ c.add.ensures.grown c.self.invariant ∙ c.self.view_is))
 
 pub invariant_of-self-2 : goal.invariant_of-self-2
 invariant_of-self-2 c =

@@ -1,6 +1,4 @@
-use Rattle.std.proofs.Common.{◌≡◌, suc, get_or, arith, add-one, ◌∙◌, ap, refl}
-use Rattle.std.specs.Prelude.{Vec}
-use Rattle.std.specs.Global.{Global}
+use Rattle.std.proofs.Common.{◌≡◌, suc, get_or, arith, add-one, ◌∙◌, ap, refl, Vec, Global}
 use Rattle.qs_objects.specs.audit.Act.{State}
 use Rattle.qs_standings.specs.Standings.{StandingShape}
 use Rattle.qs_standings.proofs.Stands.{read_at, same_longer, same_set}

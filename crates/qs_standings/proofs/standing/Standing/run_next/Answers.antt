@@ -28,8 +28,7 @@ run_block-requires c =
     let a : After-as_slice = (goal.at.run_block-requires c).After-as_slice in
     let p = c.args.program.now in
     let within : AreCallsWithin (length p.objects) (block_at p c.args.client (get_or c.args.self.now.begun c.args.client 0)).body =
-    block_within p.objects (block_at p c.args.client (get_or c.args.self.now.begun c.args.client 0))
-    (sound_block p c.args.client (get_or c.args.self.now.begun c.args.client 0) c.keeps_sound.ensures.sound c.requires.client c.requires.left) in
+    block_within p.objects _ (sound_block _ _ _ c.keeps_sound.ensures.sound c.requires.client c.requires.left) in
     let here : AreCallsWithin (length p.objects) c.block-block.result.now.body =
     subst (λ (b : BlockShape). AreCallsWithin (length p.objects) b.body) (sym (block_here a)) within in
     record { within = subst (λ n. AreCallsWithin n c.block-block.result.now.body) (sym (ap length (states_here a) ∙ c.requires.standing.states)) here }

@@ -7,9 +7,8 @@ use Rattle.qs_standings.proofs.variables.Variables.put_changed.Goals as goal
 
 pub place_of-requires-clause-client : goal.place_of-requires-clause-client
 place_of-requires-clause-client c =
-    let few = c.self.invariant.few in
     let less = of_all c.self.inside.width c.self.inside.clients c.args.client c.self.inside.numbers.items c.args.self.now c.self.view_is c.requires in
-    omega (arith, few, less)
+    omega (arith, c.self.invariant.few, less)
 
 pub invariant_of-changed-2 : goal.invariant_of-changed-2
 invariant_of-changed-2 c =

@@ -1,5 +1,4 @@
-use Rattle.std.proofs.Common.{◌≡◌, ap, arith, get_or, length, length-append, sym, ◌∙◌}
-use Rattle.std.proofs.lemmas.List.{take_all}
+use Rattle.std.proofs.Common.{◌≡◌, ap, arith, get_or, length, length-append, sym, ◌∙◌, take_all}
 use Rattle.qs_program.specs.audit.Limits.{most_variables}
 use Rattle.qs_meaning.specs.audit.Serial.{zeros}
 use Rattle.qs_standings.specs.Variables.{spread}
@@ -26,9 +25,7 @@ loop-client-preserved c =
 pub returns : goal.returns
 returns c =
     let n = all_are c.self.inside.width c.self.inside.clients c.self.inside.numbers.items c.args.self.now c.self.view_is in
-    let past = c.loop-client-test.false in
-    let end = c.loop-client.auto.client-end in
-    let e : length c.args.self.now ≡ c.loop-client.client = omega (arith, n, past, end) in
+    let e : length c.args.self.now ≡ c.loop-client.client = omega (arith, n, c.loop-client-test.false, c.loop-client.auto.client-end) in
     let long = c.loop-client.invariant.long in
     record {
       long = omega (arith, e, long);
