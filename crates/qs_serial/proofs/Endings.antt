@@ -1,12 +1,10 @@
 -- Statements run one after another end as their list does, and the objects of a list change as those of the meaning.
 -- The loops of a block alone, over statements and over turns, stand on this: what was run so far and what is left make
 -- up the whole. It goes by cases on the first statement.
-use Rattle.std.proofs.Common.{◌≡◌, ◌<◌, ◌+◌, ℕ, suc, Bool, true, false, List, [], ◌∷◌, length, get_or, drop, refl, sym, ◌∙◌, subst, arith, add-one, ◌≤◌, if◌then◌else◌, ⊎_elim}
-use Rattle.std.proofs.lemmas.Grind.{common_steps}
-use Rattle.std.proofs.Math.Seq.{drop-cons}
+use Rattle.std.proofs.Common.{◌≡◌, ◌<◌, ◌+◌, ℕ, suc, Bool, true, false, List, ◌∷◌, length, get_or, drop, refl, sym, ◌∙◌, subst, add-one, if◌then◌else◌, drop-cons}
 use Rattle.qs_objects.specs.audit.Act.{State}
 use Rattle.qs_program.specs.declared.code.Stmt.{Stmt}
-use Rattle.qs_program.specs.declared.code.Stmt.TheVariants.{Command, Query, Assign, If, Repeat, Leave}
+use Rattle.qs_program.specs.declared.code.Stmt.TheVariants.{Assign, If, Repeat, Leave}
 use Rattle.qs_program.specs.audit.Statements.{end}
 use Rattle.qs_program.specs.audit.Values.{Locals, test_value}
 use Rattle.qs_program.specs.Views.{statements_of, single}
@@ -18,9 +16,6 @@ pub record SameEnding (o e : Ending) : Type 0 where
   pub left : o.left ≡ e.left
   pub locals : o.locals ≡ e.locals
   pub states : o.states ≡ e.states
-
-pub same_ending : (o : Ending) → SameEnding o o
-same_ending o = record { left = refl; locals = refl; states = refl }
 
 pub onward : {o e f : Ending} → SameEnding o e → SameEnding e f → SameEnding o f
 onward a b = record { left = a.left ∙ b.left; locals = a.locals ∙ b.locals; states = a.states ∙ b.states }
@@ -41,12 +36,9 @@ then_first o next = by_left o.left refl
 
 -- a list of statements is its first and then the others
 pub exec_cons : (s : Stmt) (xs : List Stmt) (l : Locals) (st : States) → SameEnding (exec (statements_of (s ∷ xs)) l st) (and_then (exec (single s) l st) (exec (statements_of xs)))
-exec_cons (Command c) xs l st = record { left = refl; locals = refl; states = refl }
-exec_cons (Query x c) xs l st = record { left = refl; locals = refl; states = refl }
-exec_cons (Assign x e) xs l st = record { left = refl; locals = refl; states = refl }
 exec_cons (If t b first other) xs l st = then_first (if test_value l t then exec first l st else exec other l st) (exec (statements_of xs))
 exec_cons (Repeat n body) xs l st = then_first (turns_run n (exec body) l st) (exec (statements_of xs))
-exec_cons Leave xs l st = record { left = refl; locals = refl; states = refl }
+exec_cons _ xs l st = record { left = refl; locals = refl; states = refl }
 
 -- the statement at a place, and then the rest
 pub exec_drop : (xs : List Stmt) (i : ℕ) (s d : Stmt) (l : Locals) (st : States) → i < length xs → s ≡ get_or xs i d
@@ -59,12 +51,10 @@ exec_drop xs i s d l st within is =
     (exec_cons (get_or xs i d) (drop (suc i) xs) l st)))
 
 pub calls_first : (n : ℕ) (s : Stmt) (xs : List Stmt) → AreCallsWithin n (statements_of (s ∷ xs)) → AreCallsWithin n (single s) × AreCallsWithin n (statements_of xs)
-calls_first n (Command c) xs h = ((h.0, tt), h.1)
-calls_first n (Query x c) xs h = ((h.0, tt), h.1)
 calls_first n (Assign x e) xs h = (tt, h)
 calls_first n (If t b first other) xs h = ((h.0, h.1, tt), h.2)
-calls_first n (Repeat m body) xs h = ((h.0, tt), h.1)
 calls_first n Leave xs h = (tt, h)
+calls_first n _ xs h = ((h.0, tt), h.1)
 
 pub calls_drop : (n : ℕ) (xs : List Stmt) (i : ℕ) (s d : Stmt) → i < length xs → s ≡ get_or xs i d → AreCallsWithin n (statements_of (drop i xs))
     → AreCallsWithin n (single s) × AreCallsWithin n (statements_of (drop (i + 1) xs))
@@ -87,12 +77,9 @@ turns_on n k body l m st ss is e =
 pub known : {o : Ending} {left b : Bool} {l : Locals} {ss : List State} → EndsWith o left l ss → left ≡ b → EndsWith o b l ss
 known e is = record { left = e.left ∙ is; locals = e.locals; states = e.states }
 
-pub nothing_left : {X : Type 0} (xs : List X) (i : ℕ) → length xs ≤ i → drop i xs ≡ []
-nothing_left xs i past = grind (arith, common_steps)
-
 -- what an ending with a `leave` makes of what comes after it, and what one without it
 pub then_left : (o : Ending) (next : Runs) (l : Locals) (ss : List State) → EndsWith o true l ss → EndsWith (and_then o next) true l ss
 then_left o next l ss e = rw e.left (record { left = refl; locals = e.locals; states = e.states })
 
 pub then_on : (o : Ending) (next : Runs) (l : Locals) (ss : List State) → EndsWith o false l ss → SameEnding (and_then o next) (next l (states_in ss))
-then_on o next l ss e = rw (e.left, e.locals, e.states) (same_ending (next l (states_in ss)))
+then_on o next l ss e = rw (e.left, e.locals, e.states) (record { left = refl; locals = refl; states = refl })

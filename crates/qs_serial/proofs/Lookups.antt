@@ -1,8 +1,7 @@
 -- A list that is read by number is a function; where one place of the list is set, the function is changed at that
 -- number. What is kept in lists, such as how many blocks each client has begun, stands so to what definitions say by
 -- functions. It goes by cases on the number.
-use Rattle.std.proofs.Common.{◌≡◌, ◌≢◌, ◌<◌, ℕ, zero, suc, false, ◌==◌, List, length, get_or, replicate, refl, sym, ◌∙◌, subst, ⊎_elim, get_or-set_same, get_or-set_other}
-use Rattle.std.specs.Prelude.{slice_set}
+use Rattle.std.proofs.Common.{◌≡◌, ◌≢◌, ◌<◌, ℕ, suc, false, ◌==◌, List, length, get_or, replicate, refl, sym, ◌∙◌, subst, ⊎_elim, get_or-set_same, get_or-set_other, slice_set}
 use Rattle.qs_objects.proofs.Choices.{apart_eqb, num_cases}
 use Rattle.qs_meaning.specs.audit.Solo.{put}
 use Rattle.qs_meaning.proofs.TreeWalks.{put_here, put_there}
@@ -21,6 +20,5 @@ lookup-set xs i v d within = λ k j. at j k
         (num_cases i j)
 
 pub lookup-replicate : {X : Type 0} (n i : ℕ) (a : X) → get_or (replicate n a) i a ≡ a
-lookup-replicate zero i a = refl
-lookup-replicate (suc n) zero a = refl
 lookup-replicate (suc n) (suc i) a = lookup-replicate n i a
+lookup-replicate _ _ a = refl

@@ -1,11 +1,8 @@
 -- A list of clients is read from its beginning, with a count of the blocks that each client has begun: the order that
 -- the whole list names is legal exactly where the rest of the list names a legal rest from these counts. The loop of
 -- `names_order` has this as its invariant. It goes by cases on whether the next client has a block left.
-use Rattle.std.proofs.Common.{◌≡◌, ◌<◌, ℕ, suc, Bool, true, false, nat_lt, List, [], ◌∷◌, get_or, length, refl, sym, ap, ◌∙◌, subst, arith, length-set}
-use Rattle.std.specs.Prelude.{slice_set}
-use Rattle.std.specs.List.{AllByRecursion}
-use Rattle.std.proofs.lemmas.List.{get_or_past}
-use Rattle.qs_program.specs.audit.Program.{ClientShape, ProgramShape, blocks_of, no_client}
+use Rattle.std.proofs.Common.{◌≡◌, ◌<◌, ℕ, suc, List, ◌∷◌, get_or, length, refl, sym, ap, ◌∙◌, subst, arith, length-set, slice_set}
+use Rattle.qs_program.specs.audit.Program.{ProgramShape, blocks_of}
 use Rattle.qs_meaning.specs.audit.Reduced.{Counts}
 use Rattle.qs_meaning.specs.audit.Serial.{IsLegal, LegalFrom}
 use Rattle.qs_meaning.specs.audit.Solo.{put}
@@ -34,18 +31,3 @@ module _ (p : ProgramShape) (clients : List ℕ) (c : ℕ) (rest begun : List �
     where
       same : ◌≡◌ {A = Counts} (counts later) (put (counts begun) c (suc (counts begun c)))
       same = ap counts set ∙ lookup-set begun c (suc (counts begun c)) 0 (let long = now.long in omega (arith, within, long))
-
--- a client that has a block is one of the program's
-has_client : (p : ProgramShape) (c k : ℕ) → k < blocks_of p c → c < length p.clients
-has_client p c k left = by_test (nat_lt c (length p.clients)) refl
-  where
-    by_test : (b : Bool) → nat_lt c (length p.clients) ≡ b → c < length p.clients
-    by_test true e = grind (arith, e)
-    by_test false e =
-        let none : blocks_of p c ≡ 0 = ap (λ (x : ClientShape). length x.blocks) (get_or_past p.clients c no_client (grind (arith, e))) in
-        omega (arith, left, none)
-
--- a list that names a legal order names clients of the program
-pub named_clients : (p : ProgramShape) (begun : Counts) (cs : List ℕ) → RestIsLegal p begun cs → AllByRecursion (λ c. c < length p.clients) cs
-named_clients p begun [] legal = tt
-named_clients p begun (c ∷ cs) legal = (has_client p c (begun c) legal.1, named_clients p (put begun c (suc (begun c))) cs legal.2)

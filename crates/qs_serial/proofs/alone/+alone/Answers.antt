@@ -1,9 +1,10 @@
 use Rattle.std.proofs.Common.{◌≡◌, ◌-◌, ◌+◌, drop, [], true, false, arith, ap, subst, sym}
+use Rattle.std.proofs.lemmas.List.{drop_all}
 use Rattle.qs_program.specs.Views.{single, size_of, statements_of}
 use Rattle.qs_program.proofs.StatementLists.{size_at}
 use Rattle.qs_meaning.specs.audit.Solo.{exec, turns_run}
 use Rattle.qs_serial.specs.Alone.{AreCallsWithin, EndsWith, states_in}
-use Rattle.qs_serial.proofs.Endings.{SameEnding, calls_drop, ended, exec_drop, known, nothing_left, onward, then_left, then_on, turns_left, turns_on}
+use Rattle.qs_serial.proofs.Endings.{SameEnding, calls_drop, ended, exec_drop, known, onward, then_left, then_on, turns_left, turns_on}
 use Rattle.qs_serial.proofs.alone.+alone.Goals as goal
 
 pub run_body-run_stmt-requires : goal.run_body-run_stmt-requires
@@ -37,7 +38,7 @@ run_body-loop-stmt-preserved t c =
 pub run_body-returns : goal.run_body-returns
 run_body-returns t c =
     let items = c.as_slice-stmt-items.result.now in
-    let none = nothing_left items c.loop-stmt.stmt-index c.loop-stmt-test.false in
+    let none = drop_all c.loop-stmt.stmt-index items c.loop-stmt-test.false in
     let same : SameEnding (exec (statements_of items) c.args.locals.now (states_in c.args.objects.now)) (exec (statements_of []) c.loop-stmt.locals (states_in c.loop-stmt.objects)) =
     subst (λ xs. SameEnding (exec (statements_of items) c.args.locals.now (states_in c.args.objects.now)) (exec (statements_of xs) c.loop-stmt.locals (states_in c.loop-stmt.objects))) none c.loop-stmt.invariant.same in
     record {

@@ -1,6 +1,4 @@
-use Rattle.std.proofs.Common.{◌≡◌, ◌<◌, ◌+◌, ◌∙◌, ◌∷◌, add-one, ap, arith, drop, get_or, subst, sym}
-use Rattle.std.proofs.Math.Seq.{drop-cons}
-use Rattle.std.specs.Prelude.{slice_set}
+use Rattle.std.proofs.Common.{◌≡◌, ◌<◌, ◌+◌, ◌∙◌, ◌∷◌, add-one, ap, arith, drop, get_or, subst, sym, drop-cons, slice_set}
 use Rattle.qs_program.specs.audit.Program.{blocks_of}
 use Rattle.qs_serial.proofs.NamedOrders.{IsReadSoFar, counts, read_on}
 use Rattle.qs_serial.proofs.orders.names_order.Goals as goal
