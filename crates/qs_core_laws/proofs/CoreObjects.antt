@@ -33,11 +33,11 @@ use Rattle.qs_core_laws.proofs.SendingPreserved.{newest}
 abbrev pub Where : List Parcel → List HeldState → ObjectStance → HeldState → Type 0
 Where way up c z = ((way ≡ []) × (up ≡ z ∷ []) × (c ≡ asks)) ⊎ (((way ≡ []) × (up ≡ []) × ((y : HeldState) × (c ≡ holds y))) ⊎ ((y : HeldState) × (w : List Parcel) × (way ≡ parcels.Home y ∷ w) × (up ≡ [])))
 
-list_some : (o : Option HeldState) (x : HeldState) → as_list o ≡ x ∷ [] → o ≡ Some x
+pub list_some : (o : Option HeldState) (x : HeldState) → as_list o ≡ x ∷ [] → o ≡ Some x
 list_some None x e = absurd (cc)
 list_some (Some z) x e = ap Some (cc)
 
-list_none : (o : Option HeldState) → as_list o ≡ [] → o ≡ None
+pub list_none : (o : Option HeldState) → as_list o ≡ [] → o ≡ None
 list_none None e = refl
 list_none (Some z) e = absurd (cc)
 

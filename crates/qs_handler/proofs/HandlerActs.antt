@@ -1,6 +1,6 @@
--- An act of a handler loses nothing of what it had, it takes a ticket or a parcel exactly where it asks for one, and
--- after a Sync it is without its object. The proofs of the optimised machine and of a handler's thread use these laws.
--- Each goes by cases on the handler's state, which the proof search finds from the definitions.
+-- An act of a handler loses nothing of what it had, and it takes a ticket or a parcel exactly where it asks for one. The
+-- proofs of the optimised machine and of a handler's thread use these laws. Each goes by cases on the handler's state,
+-- which the proof search finds from the definitions.
 use Rattle.std.proofs.Common.{rules}
 use Rattle.qs_handler.specs.HandlerLaws.{ActsLoseNothing, TicketsAreAskedFor, ParcelsStand}
 

@@ -1,10 +1,10 @@
 -- Where all is finished nobody has a step: each client stands behind its last block, and each handler is free with no
 -- ticket before it. So enough rounds finish, as for every machine that is never stuck and makes few steps (`Rounds` of
 -- `qs_plain_laws`).
-use Rattle.std.proofs.Common.{◌≡◌, ◌<◌, ◌≤◌, ◌∙◌, ◌&&◌, ⊎_elim, ℕ, zero, suc, ◌+◌, ◌==◌, Bool, true, false, true≢false, nat_eq, nat_lt, List, [], ◌∷◌, None, Ok, length, refl, sym, ap, subst, arith, rules}
+use Rattle.std.proofs.Common.{◌≡◌, ◌<◌, ◌∙◌, ◌&&◌, ℕ, Bool, true, false, true≢false, nat_eq, nat_lt, List, [], ◌∷◌, None, Ok, length, refl, sym, ap, arith, rules}
 use Rattle.std.specs.List.{range_with_len}
 use Rattle.qs_objects.specs.declared.held.Ticket.{Ticket}
-use Rattle.qs_objects.proofs.Choices.{and_cases, apart_eqb, num_cases}
+use Rattle.qs_objects.proofs.Choices.{and_cases}
 use Rattle.qs_program.specs.audit.Program.{ProgramShape, blocks_of}
 use Rattle.qs_program.specs.Sound.{IsSound}
 use Rattle.qs_syncset.specs.declared.mode.Mode.{Mode}
@@ -26,6 +26,7 @@ use Rattle.qs_core_laws.specs.CoreReached.{CoreStands}
 use Rattle.qs_core_laws.specs.audit.CoreSchedule.{all_of, core_plays, is_done, is_finished, is_idle}
 use Rattle.qs_core_laws.specs.CoreSchedule.{IsPlayedIn, core_scheduled}
 use Rattle.qs_core_laws.proofs.protocol.ProgramTrees.{blocks_are}
+use Rattle.qs_core_laws.proofs.CoreIsolating.{all_of_at}
 use Rattle.qs_core_laws.proofs.CoreReached.{reached_keeps}
 use Rattle.qs_core_laws.specs.progress.CoreFinishing.{CoreEnoughRoundsFinish, CoreFinishedRunsStay}
 use Rattle.qs_core_laws.specs.progress.CoreSteps.{most_core_steps_of}
@@ -34,15 +35,6 @@ use Rattle.qs_core_laws.proofs.progress.SmallBounds.{core_bounds_small}
 use Rattle.qs_core_laws.proofs.progress.Stuck.{core_runs_never_stuck, stands_of}
 
 -- ---- where all is finished
-
-all_at : (is : ℕ → Bool) (a n i : ℕ) → all_of is (range_with_len a n) ≡ true → a ≤ i → i < a + n → is i ≡ true
-all_at is a zero i all low high = absurd (omega (arith, low, high))
-all_at is a (suc n) i all low high =
-    let both = and_cases (is a) (all_of is (range_with_len (a + 1) n)) all in
-    ⊎_elim
-    (λ (same : i ≡ a). subst (λ i. is i ≡ true) (sym same) both.0)
-    (λ (other : (i == a) ≡ false). all_at is (a + 1) n i both.1 (let differs = apart_eqb i a other in omega (arith, low, differs)) (omega (arith, high)))
-    (num_cases i a)
 
 no_tickets : (ts : List Ticket) → nat_eq (length ts) 0 ≡ true → ts ≡ []
 no_tickets [] e = refl
@@ -64,7 +56,7 @@ module _ (p : ProgramShape) (sound : IsSound p) (mode : Mode) (code : ℕ → Cl
     client_none : (c : ℕ) (b : Bool) → nat_lt c (length p.clients) ≡ b → core_step code size s (actor.Client c) ≡ None
     client_none c false out = st.others.steps c (grind (arith, out))
     client_none c true less =
-        let done = all_at (is_done p s) 0 (length p.clients) c both.0 (omega arith) (let l : c < length p.clients = grind (arith, less) in omega (arith, l)) in
+        let done = all_of_at (is_done p s) 0 (length p.clients) c both.0 (omega arith) (let l : c < length p.clients = grind (arith, less) in omega (arith, l)) in
         let parts = and_cases (is_between (s.client c).stage) (nat_eq (s.client c).begun (blocks_of p c)) done in
         let number = parts.1 in
         ap (client_step code size s c) (done_asks c (s.client c).stage refl parts.0 (grind (arith, number)))
@@ -79,7 +71,7 @@ module _ (p : ProgramShape) (sound : IsSound p) (mode : Mode) (code : ℕ → Cl
     handler_none h false out =
         free_none h _ (st.others.handler h (grind (arith, out))) refl (st.others.tickets h (grind (arith, out)))
     handler_none h true less =
-        let idle = all_at (is_idle p s) 0 (length p.objects) h both.1 (omega arith) (let l : h < length p.objects = grind (arith, less) in omega (arith, l)) in
+        let idle = all_of_at (is_idle p s) 0 (length p.objects) h both.1 (omega arith) (let l : h < length p.objects = grind (arith, less) in omega (arith, l)) in
         let parts = and_cases (is_free (s.handler h) && nat_eq (length (s.tickets h)) 0) (all_of (λ c. nat_eq (length (s.down c h)) 0) (range_with_len 0 (length p.clients))) idle in
         let first = and_cases (is_free (s.handler h)) (nat_eq (length (s.tickets h)) 0) parts.0 in
         free_none h (s.handler h) refl first.0 (no_tickets (s.tickets h) first.1)

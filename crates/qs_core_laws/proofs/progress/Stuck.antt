@@ -52,7 +52,7 @@ use Rattle.qs_core_laws.proofs.CommandsInTransit.{past_left}
 use Rattle.qs_core_laws.proofs.CoreBounds.{run_both}
 use Rattle.qs_core_laws.proofs.protocol.ProgramTrees.{blocks_are}
 use Rattle.qs_core_laws.proofs.CoreInvariant.{CoreInvariant, LaneHistory, post}
-use Rattle.qs_core_laws.proofs.CoreObjects.{Where, lent_where}
+use Rattle.qs_core_laws.proofs.CoreObjects.{Where, lent_where, list_none, list_some}
 use Rattle.qs_core_laws.proofs.CoreReached.{reached_keeps}
 use Rattle.qs_core_laws.proofs.HandlerSteps.{deeds_ok}
 use Rattle.qs_core_laws.specs.progress.CoreProgress.{CanGoOn, CoreNeverStuck}
@@ -90,14 +90,6 @@ serves_takes t x _ stands = refl
 away_takes : (t : Ticket) (p : Parcel) → IsTrue (may_stand true p) → IsSome (accept_parcel (away t) p)
 away_takes t (parcels.Home z) stands = refl
 away_takes t _ stands = absurd (cc (stands))
-
-as_list_none : (o : Option HeldState) → as_list o ≡ [] → o ≡ None
-as_list_none None e = refl
-as_list_none (Some z) e = absurd (cc)
-
-as_list_some : (o : Option HeldState) (x : HeldState) → as_list o ≡ x ∷ [] → o ≡ Some x
-as_list_some None x e = absurd (cc)
-as_list_some (Some z) x e = ap Some (cc)
 
 -- a handler that waits for a parcel of the ticket that it serves
 abbrev WaitsFor : Ticket → Handler → Type 0
@@ -220,7 +212,7 @@ module _ (p : ProgramShape) (sound : IsSound p) (mode : Mode) (code : ℕ → Cl
       let m = meets h u (ap serving is) in
       let gave = subst (λ v. HandlerLane u false (g h).found ((g h).received u) ((g h).gave u) (stance v (g h).lent)) is m.handler in
       let none : s.up u.client h ≡ None =
-      as_list_none (s.up u.client h) (gives_up u (g h).found x ((g h).received u) ((g h).way u) (y.got u h) ((g h).gave u) (as_list (s.up u.client h)) (part h (y.block_record u).trace) (y.stands u h) m.client gave m.gots) in
+      list_none (s.up u.client h) (gives_up u (g h).found x ((g h).received u) ((g h).way u) (y.got u h) ((g h).gave u) (as_list (s.up u.client h)) (part h (y.block_record u).trace) (y.stands u h) m.client gave m.gots) in
       inl (handler_goes t h mine (subst (λ v. IsSome (handler_step code size s h (handlers.act_of v))) (sym is) (subst (λ o. IsSome (core.gives code size s h u.client x o)) (sym none) refl)))
   by_handler t us h mine (closed x) is first = absurd ((k.objects h).opened x is)
 
@@ -271,7 +263,7 @@ module _ (p : ProgramShape) (sound : IsSound p) (mode : Mode) (code : ℕ → Cl
 
       by_where : Where [] (as_list (s.up t.client h)) (y.stands t h) (g h).lent
           → (x : HeldState) × (s.up t.client h ≡ Some x)
-      by_where (inl is) = ((g h).lent, as_list_some (s.up t.client h) (g h).lent is.1)
+      by_where (inl is) = ((g h).lent, list_some (s.up t.client h) (g h).lent is.1)
       by_where (inr (inl is)) = absurd (let no : asks ≡ views.holds is.2.0 = sym stands ∙ is.2.1 in cc)
       by_where (inr (inr is)) = absurd (let no = is.2 in cc)
 
