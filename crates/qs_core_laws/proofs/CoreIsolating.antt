@@ -39,7 +39,7 @@ use Rattle.qs_core_laws.proofs.CoreObjects.{now, object_found}
 use Rattle.qs_core_laws.proofs.CoreSteps.{run_kept}
 
 -- what holds of all numbers of a range holds of each
-all_of_at : (is : ℕ → Bool) (a n i : ℕ) → all_of is (range_with_len a n) ≡ true → a ≤ i → i < a + n → is i ≡ true
+pub all_of_at : (is : ℕ → Bool) (a n i : ℕ) → all_of is (range_with_len a n) ≡ true → a ≤ i → i < a + n → is i ≡ true
 all_of_at is a zero i all low high = absurd (omega (arith, low, high))
 all_of_at is a (suc n) i all low high =
     let both = and_cases (is a) (all_of is (range_with_len (a + 1) n)) all in

@@ -1,10 +1,9 @@
 -- An object's journal grows along the order of reservations, one block after another. Its handler served whole what
 -- each client sent, so for each ticket the journal gets what the block's trace says of the object; a block that does
 -- not reserve the object adds nothing. The room suffices, as no block's part is longer than its load.
-use Rattle.std.proofs.Common.{◌≡◌, ◌+◌, ◌≤◌, arith, ℕ, Bool, true, false, true≢false, if◌then◌else◌, List, [], ◌∷◌, ◌++◌, map, flat_map, filter, length, refl, sym, ap, ◌∙◌, subst, inl, append_assoc, append-nil}
+use Rattle.std.proofs.Common.{◌≡◌, ◌+◌, ◌≤◌, arith, ℕ, Bool, true, false, true≢false, if◌then◌else◌, List, [], ◌∷◌, ◌++◌, map, flat_map, filter, length, refl, sym, ap, ◌∙◌, subst, inl, append_assoc, append-nil, rules}
 use Rattle.std.specs.List.{AllByRecursion}
 use Rattle.qs_objects.specs.audit.Journals.{HeldState, replay, without_tickets, IsHonest}
-use Rattle.qs_objects.specs.audit.Parts.{command_event}
 use Rattle.qs_objects.specs.Parts.{stamp}
 use Rattle.qs_objects.specs.declared.held.Entry.{Entry}
 use Rattle.qs_objects.specs.declared.held.Event.{Event}
@@ -23,10 +22,7 @@ use Rattle.qs_core_laws.proofs.protocol.GrownJournals.{Grown, grown, grown_room,
 
 -- nothing passes between a block and an object that it does not reserve
 no_requests : (t : Ticket) (sent : List Parcel) (got : List HeldState) (es : List Event) → sent ≡ [] → got ≡ [] → ClientLane t false sent got es (sends []) → es ≡ []
-no_requests t sent got es none_sent none_got lane = only (subst (λ ps. ClientLane t false ps got es (sends [])) none_sent lane)
-  where
-    only : ClientLane t false [] got es (sends []) → es ≡ []
-    only k = let none : k.0 ≡ [] = cc (k.1) in k.3 ∙ ap (λ rs. map command_event rs) none
+no_requests t sent got es none_sent none_got lane = search rules
 
 module _ (p : ProgramShape) (block_record : Ticket → BlockRecord) (h : ℕ) (sent : Ticket → List Parcel) (got : Ticket → List HeldState) (end : HeldState) where
   abbrev parts : Ticket → List Event
@@ -55,10 +51,7 @@ module _ (p : ProgramShape) (block_record : Ticket → BlockRecord) (h : ℕ) (s
   size_of ts = total (λ t. length (parts t)) ts
 
   none_at : (t : Ticket) → IsOver t → reserves p t h ≡ false → parts t ≡ []
-  none_at t over out =
-      let none = over.outside out in
-      no_requests t (sent t) (got t) (parts t) none.0 none.1
-      (subst (λ b. ClientLane t false (sent t) (got t) (parts t) (if b then gone else sends [])) out over.lane)
+  none_at t over out = search (rules, no_requests)
 
   grows_past : (t : Ticket) (ts : List Ticket) (x : HeldState) → IsOver t → reserves p t h ≡ false → JournalGrowth x ts → JournalGrowth x (t ∷ ts)
   grows_past t ts x over out next = record {

@@ -2,7 +2,7 @@
 -- What a handler received is a front of what a client sent, and what the client got is a front of what the handler
 -- gave. The client's lists go block by block and the handler's turn by turn, each up to an `End`, with one object for
 -- each `Sync`; so the first block is the first turn, and so on.
-use Rattle.std.proofs.Common.{◌≡◌, arith, ℕ, suc, Bool, true, false, if◌then◌else◌, ◌==◌, List, [], ◌∷◌, ◌++◌, flat_map, length, refl, sym, ap, ap₂, ◌∙◌, subst}
+use Rattle.std.proofs.Common.{◌≡◌, arith, ℕ, suc, Bool, true, false, if◌then◌else◌, ◌==◌, List, [], ◌∷◌, ◌++◌, flat_map, length, refl, sym, ap, ap₂, ◌∙◌, subst, rules}
 use Rattle.std.specs.List.{AllByRecursion}
 use Rattle.qs_objects.specs.audit.Journals.{HeldState}
 use Rattle.qs_objects.specs.audit.Parts.{IsFront}
@@ -21,10 +21,8 @@ use Rattle.qs_core_laws.proofs.protocol.LaneParts.{IsEnded, gone_ended}
 -- how often the object was asked for
 abbrev syncs : List Parcel → ℕ
 syncs [] = 0
-syncs (Work chunk ∷ ps) = syncs ps
 syncs (Sync ∷ ps) = suc (syncs ps)
-syncs (Home x ∷ ps) = syncs ps
-syncs (End ∷ ps) = syncs ps
+syncs (_ ∷ ps) = syncs ps
 
 -- with the Sync that came before, if one did
 abbrev with_sync : Bool → ℕ → ℕ
@@ -41,30 +39,23 @@ turn_ended : (t : Ticket) (asked : Bool) (x z : HeldState) (received : List Parc
 turn_ended t false x z [] gave k = absurd (cc (k.1))
 turn_ended t false x z (Work chunk ∷ received) gave k = turn_ended t false (ran_all x t chunk.items) z received gave k
 turn_ended t false x z (Sync ∷ received) gave k = turn_ended t true x z received gave k
-turn_ended t false x z (Home y ∷ received) gave k = absurd k
 turn_ended t false x z (End ∷ received) gave k = (k.0, ap length k.1 ∙ sym (ap syncs k.0))
 turn_ended t true x z [] [] k = absurd (cc (k))
 turn_ended t true x z [] (g ∷ gave) k = absurd (cc (k.2))
 turn_ended t true x z (Home y ∷ received) gave k =
     let r = turn_ended t false y z received k.0 k.2 in
     (r.0, ap length k.1 ∙ ap suc r.1)
-turn_ended t true x z (Work chunk ∷ received) gave k = absurd k
-turn_ended t true x z (Sync ∷ received) gave k = absurd k
-turn_ended t true x z (End ∷ received) gave k = absurd k
+turn_ended t _ x z (_ ∷ received) gave k = absurd k
 
 block_served : (t : Ticket) (asked : Bool) (sent : List Parcel) (got : List HeldState) (es : List Event)
     → ClientLane t asked sent got es gone → length got ≡ with_sync asked (syncs sent)
-block_served t false [] got es k = absurd (cc (k.1))
 block_served t false (Work chunk ∷ sent) got es k = block_served t false sent got k.0 k.3
 block_served t false (Sync ∷ sent) got es k = block_served t true sent got es k
-block_served t false (Home y ∷ sent) got es k = absurd k
 block_served t false (End ∷ sent) got es k = ap length k.1 ∙ sym (ap syncs k.0)
-block_served t true [] [] es k = absurd (cc (k.1))
 block_served t true [] (g ∷ got) es k = absurd (cc (k.2))
 block_served t true (Home y ∷ sent) got es k = ap length k.4 ∙ ap suc (block_served t false sent k.1 k.3 k.7)
-block_served t true (Work chunk ∷ sent) got es k = absurd k
-block_served t true (Sync ∷ sent) got es k = absurd k
-block_served t true (End ∷ sent) got es k = absurd k
+block_served t _ (_ ∷ sent) got es k = absurd k
+block_served t _ [] _ es k = absurd (cc (k.1))
 
 -- what a client sent and got in a block for an object that it has left
 pub block_whole : (t : Ticket) (sent : List Parcel) (got : List HeldState) (es : List Event) → ClientLane t false sent got es gone → IsWhole sent got
@@ -101,12 +92,11 @@ first_cut (Home x ∷ a) (q ∷ b) r s ended_a ended_b f =
 -- two lists of equal length, with more behind them, of which one is a front of the other
 equal_lengths : (a b r s : List HeldState) → length a ≡ length b → IsFront (a ++ r) (b ++ s) → (a ≡ b) × IsFront r s
 equal_lengths [] [] r s e f = (refl, f)
-equal_lengths [] (y ∷ b) r s e f = absurd (omega (arith, e))
-equal_lengths (x ∷ a) [] r s e f = absurd (omega (arith, e))
 equal_lengths (x ∷ a) (y ∷ b) r s e f =
     let here = front_rest x y (a ++ r) (b ++ s) f in
     let more = equal_lengths a b r s (let l : length a ≡ length b = omega (arith, e) in l) here.1 in
     (ap₂ (λ p a. p ∷ a) here.0 more.0, more.1)
+equal_lengths _ _ r s e f = absurd (omega (arith, e))
 
 -- what the client sent and got for a ticket is what the handler received and gave in its turn
 pub record IsMet (sent : Ticket → List Parcel) (got : Ticket → List HeldState) (u : Turn) : Type 0 where
@@ -146,8 +136,4 @@ module _ (sent : Ticket → List Parcel) (got : Ticket → List HeldState) where
 
   -- of all turns of a handler: where each client's lane has it so
   pub turns_meet : (x z : HeldState) (us : List Turn) → TurnsLead x us z → Sent us → ((c : ℕ) → AreFronts (turns_for c us)) → AllByRecursion (IsMet sent got) us
-  turns_meet x z us lead whole fronts =
-      each_client (IsMet sent got) us (λ c.
-      let own : Turn → Bool = λ u. u.ticket.client == c in
-      cut (turns_for c us) (each_kept (λ (u : Turn). IsWhole u.received u.gave) own us (turns_whole x z us lead))
-      (each_kept (λ (u : Turn). IsWhole (sent u.ticket) (got u.ticket)) own us whole) (fronts c))
+  turns_meet x z us lead whole fronts = search (rules, each_client, cut, each_kept, turns_whole)

@@ -1,7 +1,7 @@
 -- The law of running threads: what is shown of a run of threads is an outcome. The run is an abstract run, so the
 -- serial run of its order has the same blocks, one place for each ticket; from that follow entries, traces, journals
 -- and states. The synchronisations of a block follow from its trace, by the lemma that the optimised machine uses too.
-use Rattle.std.proofs.Common.{◌≡◌, ◌<◌, ◌≤◌, ◌+◌, arith, ℕ, zero, suc, false, List, [], ◌∷◌, ◌++◌, map, flat_map, length, get_or, refl, sym, ap, ap₂, ◌∙◌, subst, inl}
+use Rattle.std.proofs.Common.{◌≡◌, ◌<◌, ◌≤◌, ◌+◌, arith, ℕ, zero, suc, false, List, [], ◌∷◌, ◌++◌, map, flat_map, length, refl, sym, ap, ap₂, ◌∙◌, subst, inl, rules}
 use Rattle.std.proofs.lemmas.List.{get_or-map}
 use Rattle.std.specs.List.{AllByRecursion, AllZip, range_with_len}
 use Rattle.qs_objects.specs.audit.Journals.{HeldState}
@@ -19,7 +19,7 @@ use Rattle.qs_syncset.specs.SyncCounts.{syncs_along}
 use Rattle.qs_sync_counts.specs.audit.SyncRows.{object_of}
 use Rattle.qs_sync_counts.specs.SyncRows.{syncs_for}
 use Rattle.qs_syncset.specs.declared.mode.Mode.{Mode}
-use Rattle.qs_client.specs.audit.ClientModel.{ClientModel, synced_block}
+use Rattle.qs_client.specs.audit.ClientModel.{synced_block}
 use Rattle.qs_played.specs.audit.Isolation.{ended_of, ticket_at, trace_of}
 use Rattle.qs_played.specs.Isolation.{entry_of}
 use Rattle.qs_played.specs.audit.Played.{ticket}
@@ -45,21 +45,18 @@ same_range f g a (suc n) each =
 zip_both : {X Y : Type 0} {P : X → Type 0} {R S : X → Y → Type 0} → ((x : X) (y : Y) → P x → R x y → S x y) → (xs : List X) (ys : List Y)
     → AllByRecursion P xs → AllZip R xs ys → AllZip S xs ys
 zip_both f [] [] all zip = tt
-zip_both f [] (y ∷ ys) all zip = absurd zip
-zip_both f (x ∷ xs) [] all zip = absurd zip
 zip_both f (x ∷ xs) (y ∷ ys) all zip = (f x y all.0 zip.0, zip_both f xs ys all.1 zip.1)
+zip_both f _ _ all zip = absurd zip
 
 zip_map : {X Y Z : Type 0} (f : X → Z) (g : Y → Z) (xs : List X) (ys : List Y) → AllZip (λ x y. f x ≡ g y) xs ys → map f xs ≡ map g ys
 zip_map f g [] [] zip = refl
-zip_map f g [] (y ∷ ys) zip = absurd zip
-zip_map f g (x ∷ xs) [] zip = absurd zip
 zip_map f g (x ∷ xs) (y ∷ ys) zip = ap₂ (λ z zs. z ∷ zs) zip.0 (zip_map f g xs ys zip.1)
+zip_map f g _ _ zip = absurd zip
 
 zip_flat : {X Y Z : Type 0} (f : X → List Z) (g : Y → List Z) (xs : List X) (ys : List Y) → AllZip (λ x y. f x ≡ g y) xs ys → flat_map f xs ≡ flat_map g ys
 zip_flat f g [] [] zip = refl
-zip_flat f g [] (y ∷ ys) zip = absurd zip
-zip_flat f g (x ∷ xs) [] zip = absurd zip
 zip_flat f g (x ∷ xs) (y ∷ ys) zip = ap₂ (λ z zs. z ++ zs) zip.0 (zip_flat f g xs ys zip.1)
+zip_flat f g _ _ zip = absurd zip
 
 module _ (p : ProgramShape) (sound : IsSound p) (mode : Mode) (code : ℕ → ClientCode) (codes : AreCodes p mode code) (size : ℕ) (r : ThreadRun)
     (run : IsThreadRun p code size r) where
@@ -136,11 +133,7 @@ module _ (p : ProgramShape) (sound : IsSound p) (mode : Mode) (code : ℕ → Cl
     counts_are = get_or-map (counts_by r) r.order i (ticket 0 0) [] few
 
     tallied : IsTallied (objects_of_block p t) (counts_by r t) ((tale_counts p sound mode code codes size r run t.client).syncs t.index)
-    tallied =
-        let client = no_block_beyond p t.client (let o = own in omega (arith, o)) in
-        subst (λ (m : ClientModel). IsTallied (objects_of_block p t) (get_or m.counts t.index []) ((tale_counts p sound mode code codes size r run t.client).syncs t.index))
-        (sym (mind_is p sound mode code codes size r run t.client client))
-        ((tale_counts p sound mode code codes size r run t.client).tallied t.index (block_begun p sound mode code codes size r run t own))
+    tallied = search (rules, no_block_beyond, own, objects_of_block, tale_counts, mind_is, block_begun)
 
     leads : Leads (block_tree p t (entry_of (shown p sound mode code codes size r run) i)) (trace_of (shown p sound mode code codes size r run) i) (block_record p sound mode code codes size r run t).rest
     leads =

@@ -1,7 +1,7 @@
 -- What each client and each handler of a run did: a client one block after another, a handler one turn after another.
 -- The laws on one client and on one handler say so from the deeds and the tasks alone. Beyond the clients and objects
 -- of the program nobody does anything, so that the later lemmas need not ask whether a number is one of them.
-use Rattle.std.proofs.Common.{◌≡◌, ◌<◌, ◌≤◌, arith, ℕ, Bool, true, false, if◌then◌else◌, nat_lt, List, [], ◌∷◌, ◌++◌, map, length, refl, sym, ap, ap₂, ◌∙◌, subst}
+use Rattle.std.proofs.Common.{◌≡◌, ◌<◌, ◌≤◌, arith, ℕ, Bool, true, false, if◌then◌else◌, nat_lt, List, [], ◌∷◌, ◌++◌, map, length, refl, sym, ap, ap₂, ◌∙◌, subst, rules}
 use Rattle.std.specs.List.{AllByRecursion}
 use Rattle.qs_objects.specs.audit.Journals.{HeldState}
 use Rattle.qs_objects.specs.declared.held.Next.TheVariants as nexts
@@ -45,12 +45,11 @@ use Rattle.qs_run_laws.specs.audit.ThreadRuns.{IsThreadRun, ThreadRun}
 turned_tickets : (us : List Turn) (ts : List Ticket)
     → map (λ (u : Turn). nexts.Ticket u.ticket) us ++ nexts.Closed ∷ [] ≡ map nexts.Ticket ts ++ nexts.Closed ∷ [] → map (λ (u : Turn). u.ticket) us ≡ ts
 turned_tickets [] [] e = refl
-turned_tickets [] (t ∷ ts) e = absurd (cc)
-turned_tickets (u ∷ us) [] e = absurd (cc)
 turned_tickets (u ∷ us) (t ∷ ts) e =
     let here : u.ticket ≡ t = cc in
     let more : map (λ (u : Turn). nexts.Ticket u.ticket) us ++ nexts.Closed ∷ [] ≡ map nexts.Ticket ts ++ nexts.Closed ∷ [] = cc in
     ap₂ (λ (t : Ticket) ts. t ∷ ts) here (turned_tickets us ts more)
+turned_tickets _ _ e = absurd (cc)
 
 -- no block reserves what is no object
 none_reserve : (p : ProgramShape) → IsSound p → (h : ℕ) → length p.objects ≤ h → (ts : List Ticket) → of_handler p h ts ≡ []
@@ -117,23 +116,13 @@ module _ (p : ProgramShape) (sound : IsSound p) (mode : Mode) (code : ℕ → Cl
   held_of h = if nat_lt h (length p.objects) then r.held h else fresh_held p h
 
   handler_runs : (h : ℕ) → TasksLead (free (fresh_held p h)) (tasks_of h) (closed (held_of h))
-  handler_runs h = by_test (nat_lt h (length p.objects)) refl
-    where
-      by_test : (b : Bool) → nat_lt h (length p.objects) ≡ b
-          → TasksLead (free (fresh_held p h)) (if b then r.tasks h else takes nexts.Closed ∷ []) (closed (if b then r.held h else fresh_held p h))
-      by_test true e = run.handlers h (grind (arith, e))
-      by_test false e = (closed (fresh_held p h), refl, refl)
+  handler_runs h = search rules
 
   pub turned : (h : ℕ) → HasTurns (fresh_held p h) (tasks_of h) (held_of h)
   turned h = handlers_take_turns (fresh_held p h) (held_of h) (tasks_of h) (handler_runs h)
 
   all_taken : (h : ℕ) → taken_by (tasks_of h) ≡ map nexts.Ticket (of_handler p h r.order) ++ nexts.Closed ∷ []
-  all_taken h = by_test (nat_lt h (length p.objects)) refl
-    where
-      by_test : (b : Bool) → nat_lt h (length p.objects) ≡ b
-          → taken_by (if b then r.tasks h else takes nexts.Closed ∷ []) ≡ map nexts.Ticket (of_handler p h r.order) ++ nexts.Closed ∷ []
-      by_test true e = sym (run.taken h (grind (arith, e)))
-      by_test false e = ap (λ ts. map nexts.Ticket ts ++ nexts.Closed ∷ []) (sym (none_reserve p sound h (grind (arith, e)) r.order))
+  all_taken h = search (rules, none_reserve)
 
   -- each handler served the tickets of the order that reserve it, in that order
   pub turns_are : (h : ℕ) → map (λ (u : Turn). u.ticket) (turned h).turns ≡ of_handler p h r.order

@@ -1,7 +1,7 @@
 -- A run of threads is isolated. The blocks of its clients and the turns of its handlers make up an abstract run, whose
 -- journals grow along the order of reservations; and by the one lemma on abstract runs such a run does what the serial
 -- run does.
-use Rattle.std.proofs.Common.{◌≡◌, ◌<◌, ◌≤◌, arith, ℕ, zero, suc, Bool, true, false, nat_lt, get_or, [], map, length, refl, sym, ap, ◌∙◌, subst}
+use Rattle.std.proofs.Common.{◌≡◌, ◌<◌, ◌≤◌, arith, ℕ, zero, suc, Bool, true, false, nat_lt, get_or, [], length, refl, sym, ap, ◌∙◌, subst, rules}
 use Rattle.std.proofs.lemmas.List.{get_or-map, get_or_past, length-map}
 use Rattle.std.proofs.lemmas.List.FromFn.{get_or-map-range_with_len, length-range_with_len}
 use Rattle.std.specs.List.{AllByRecursion, range_with_len}
@@ -118,10 +118,7 @@ module _ (p : ProgramShape) (sound : IsSound p) (mode : Mode) (code : ℕ → Cl
 
   -- an object that the program doesn't have shows no journal
   no_journal : (h : ℕ) → length p.objects ≤ h → journal_of shown h ≡ []
-  no_journal h out =
-      let long : length (map (λ h. (r.held h).journal) (range_with_len 0 (length p.objects))) ≡ length p.objects =
-      length-map (range_with_len 0 (length p.objects)) (λ h. (r.held h).journal) ∙ length-range_with_len 0 (length p.objects) in
-      get_or_past (map (λ h. (r.held h).journal) (range_with_len 0 (length p.objects))) h [] (omega (arith, long, out))
+  no_journal h out = search (rules, length-map, length-range_with_len, get_or_past)
 
   written : (h : ℕ) (t : Ticket) (b : Bool) → nat_lt h (length p.objects) ≡ b → HasEntry t (journal_of shown h) → journal_of shown h ≡ (end h).journal
   written h t true e has = journal_is h (grind (arith, e))
