@@ -24,7 +24,7 @@ use Rattle.qs_check.proofs.fault_places.ScopesInBlocks.{blocks_stay}
 use Rattle.qs_check.proofs.resolution.Scopes.{names, kinds, scope, template_names, template_formals, names_with, grown}
 use Rattle.qs_check.proofs.fault_places.Steps.{variables_met}
 use Rattle.qs_check.proofs.TextBlocks.{IsRight, blocks_from, blocks_to}
-use Rattle.qs_check.proofs.resolution.FreshNames.{Fresh, fresh_rest}
+use Rattle.qs_check.proofs.resolution.FreshNames.{Fresh, fresh_rest, unseen}
 use Rattle.qs_check.proofs.TextNames.{count_variables}
 use Rattle.qs_check.proofs.resolution.TemplateFormals.{declared, formal_names, formals_from, formals_scope}
 use Rattle.qs_check.proofs.TextRequests.{same_decides}
@@ -128,10 +128,6 @@ template_from t form h =
         each = well_blocks F t.blocks (blocks_from F [] [] t.blocks 0 [] [] w.last w.walk) form;
       };
     }
-
-unseen : (ns : List Name) → AllByRecursion (λ m. is_among [] m ≡ false) ns
-unseen [] = tt
-unseen (m ∷ ns) = (refl, unseen ns)
 
 formal_names_same : (fs : List Formal) → names (declared_formals fs) ≡ formal_names fs
 formal_names_same [] = refl

@@ -17,7 +17,7 @@ use Rattle.qs_check.proofs.resolution.Scopes.{names, scope}
 use Rattle.qs_check.proofs.Soundness.{with_list, listed_first, list_kept}
 use Rattle.qs_check.proofs.fault_places.Steps.{with_names, split, variables_met}
 use Rattle.qs_check.proofs.TextNames.{all_named, variables_at-append, tell_list, tell_blocks}
-use Rattle.qs_check.proofs.resolution.FreshNames.{Fresh, fresh_more, fresh_rest, no_fresh}
+use Rattle.qs_check.proofs.resolution.FreshNames.{Fresh, fresh_more, fresh_rest, no_fresh, unseen}
 use Rattle.qs_check.proofs.TextRequests.{statements_from, statements_to}
 use Rattle.qs_check.proofs.fault_places.Walks.{met-then}
 
@@ -82,10 +82,6 @@ module _ (D : List Declared) (T : List TemplateItem) (C : List Name) where
     module _ (distinct : IsDistinct same_name (names D)) (right : IsRight D b) (room : n < most_blocks) (few : length (variables_at V (block_places b)) ≤ most_variables) where
       list_met : scope_or_fault scope_in_block (listed_places b.reserved) ≡ Ok listing
       list_met = list_to b.reserved scope_in_block right.declares (unseen b.reserved, right.distinct)
-        where
-          unseen : (ns : List Name) → AllByRecursion (λ m. is_among [] m ≡ false) ns
-          unseen [] = tt
-          unseen (m ∷ ns) = (refl, unseen ns)
 
       pub right_to : scope_or_fault (scope D T C n V R) (block_places b) ≡ Ok (scope D T C (n + 1) (variables_at V (block_places b)) b.reserved)
       right_to =

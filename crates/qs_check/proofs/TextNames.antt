@@ -9,6 +9,8 @@ use Rattle.std.proofs.lemmas.Map.Made.{length-from_keys}
 use Rattle.std.specs.Cmp.Lexicographic.{same_text}
 use Rattle.std.specs.List.{AllByRecursion, IsDistinct}
 use Rattle.std.specs.Set.{distinct_count}
+use Rattle.std.proofs.lemmas.Bool.{or_parts}
+use mathlib.Core.Bool.{or-false}
 use Rattle.qs_script.specs.declared.tree.tree.Atom.{Atom}
 use Rattle.qs_script.specs.declared.tree.tree.Atom.TheVariants.{Variable, Number}
 use Rattle.qs_script.specs.declared.tree.tree.Expr.{Expr}
@@ -22,7 +24,6 @@ use Rattle.qs_program.specs.audit.Numbering.{Name, same_name, is_among, with_nam
 use Rattle.qs_check.specs.audit.fault_places.Places.{TextPlace, object, number, client, separate, listed, target, operation, arguments, variable, leaves, template, text, starts, given, places, atom_places, atoms_places, expr_places, test_places, call_places, listed_places, block_places, blocks_places}
 use Rattle.qs_check.specs.audit.fault_places.Variables.{variables_at, variables_of}
 use Rattle.qs_check.specs.WellFormed.{atom_names, atoms_names, expr_names, test_names, variables_in, variables_in_all}
-use Rattle.qs_check.proofs.resolution.FreshNames.{or_false, or_false_first, or_false_later}
 
 -- more names, each where it is new
 abbrev pub all_named : List Name → List Name → List Name
@@ -116,14 +117,14 @@ nothing_new names x q true e h =
     let P : Name → Bool = λ n. is_among names n in
     let there : is_among names q ≡ true = ap P (same_text q x (sym e)) ∙ h in
     there ∙ sym (ap (λ b. b || true) there)
-nothing_new names x q false e h = sym (or_false (is_among names q))
+nothing_new names x q false e h = sym (or-false (is_among names q))
 
 one_more : (names : List Name) (x q : Name) (b : Bool) → b ≡ is_among names x → is_among (if b then names else names ++ x ∷ []) q ≡ (is_among names q || same_name q x)
 one_more names x q true e = nothing_new names x q (same_name q x) refl (sym e)
-one_more names x q false e = list_any-append (same_name q) names (x ∷ []) ∙ ap (λ b. is_among names q || b) (or_false (same_name q x))
+one_more names x q false e = list_any-append (same_name q) names (x ∷ []) ∙ ap (λ b. is_among names q || b) (or-false (same_name q x))
 
 pub among_named : (names xs : List Name) (q : Name) → is_among (all_named names xs) q ≡ (is_among names q || is_among xs q)
-among_named names [] q = sym (or_false (is_among names q))
+among_named names [] q = sym (or-false (is_among names q))
 among_named names (x ∷ xs) q =
     among_named (with_name names x) xs q
     ∙ ap (λ b. b || is_among xs q) (one_more names x q (is_among names x) refl)
@@ -138,8 +139,8 @@ pub distinct_last : (names : List Name) (x : Name) → IsDistinct same_name name
 unfolding IsDistinct
 distinct_last [] x d h = (tt, tt)
 distinct_last (y ∷ names) x d h = (
-  apart_last names x y d.0 (nat_list_eq_equiv.symm y x ∙ or_false_first (same_name x y) (is_among names x) h),
-  distinct_last names x d.1 (or_false_later (same_name x y) (is_among names x) h),
+  apart_last names x y d.0 (nat_list_eq_equiv.symm y x ∙ (or_parts (same_name x y) (is_among names x) h).0),
+  distinct_last names x d.1 (or_parts (same_name x y) (is_among names x) h).1,
 )
 
 distinct_named : (names : List Name) (x : Name) (b : Bool) → b ≡ is_among names x → IsDistinct same_name names → IsDistinct same_name (if b then names else names ++ x ∷ [])

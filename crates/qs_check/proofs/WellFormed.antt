@@ -38,7 +38,7 @@ use Rattle.qs_check.proofs.Scripts.{few_variables, scripted, started_stays, temp
 use Rattle.qs_check.proofs.resolution.Scopes.{grown, names, names_with, scope, template_names}
 use Rattle.qs_check.proofs.fault_places.Steps.{split, ok_same}
 use Rattle.qs_check.proofs.TextBlocks.{blocks_from, blocks_to}
-use Rattle.qs_check.proofs.resolution.FreshNames.{Fresh, fresh_more, fresh_rest, no_fresh}
+use Rattle.qs_check.proofs.resolution.FreshNames.{Fresh, fresh_more, fresh_rest, no_fresh, unseen}
 use Rattle.qs_check.proofs.TemplateTexts.{right_blocks, well_blocks, template_from, template_to, template_names_with, with_last}
 use Rattle.qs_check.proofs.Starts.{started_from, started_met}
 use Rattle.qs_check.proofs.TextLoads.{blocks_loads, blocks_weights}
@@ -246,10 +246,6 @@ well_formed_from items form h =
       load = omega (arith, limits.0, items_loads items [] (templates_in items) [] (names_of items) (kinds_of items) refl each.0);
       weight = omega (arith, limits.1, items_weights items (templates_in items) (names_of items) (kinds_of items));
     }
-
-unseen : (ns : List Name) → AllByRecursion (λ m. is_among [] m ≡ false) ns
-unseen [] = tt
-unseen (m ∷ ns) = (refl, unseen ns)
 
 well_formed_to : (items : List Item) → IsWellFormed items → fault_of items ≡ None
 well_formed_to items well =

@@ -1,12 +1,11 @@
 -- How a count goes on: an end that is added has come in no run, as all places are before its own; and where one more
 -- order came to an end, the end's times and the number of the orders at its place grow by one, and all others stay.
-use Rattle.std.proofs.Common.{◌≡◌, ◌<◌, ◌≤◌, ◌+◌, ◌==◌, ℕ, zero, suc, Bool, true, false, cond, Some, List, [], ◌∷◌, ◌++◌, length, map, slice_get, slice_set, refl, sym, ap, ◌∙◌, subst, arith, inl, inr}
-use Rattle.std.specs.Prelude.{filter}
+use Rattle.std.proofs.Common.{◌≡◌, ◌<◌, ◌≤◌, ◌+◌, ◌==◌, ℕ, zero, suc, Bool, true, false, cond, Some, List, [], ◌∷◌, ◌++◌, length, map, slice_get, slice_set, refl, sym, ap, ◌∙◌, subst, arith, inl, inr, filter}
 use Rattle.std.specs.List.{AllByRecursion, AllZip}
 use Rattle.std.proofs.lemmas.List.{map-append}
 use Rattle.std.proofs.lemmas.List.Sums.{count_by-le-length, length-filter}
 use Rattle.std.proofs.lemmas.Option.{slice_get_within}
-use Rattle.std.proofs.lemmas.Slice.Zip.{AllZip-long}
+use Rattle.std.proofs.lemmas.Slice.Zip.{AllZip-long, all_zipped_more}
 use Rattle.qs_objects.specs.declared.held.Ticket.{Ticket}
 use Rattle.qs_objects.proofs.Choices.{apart_eqb, eqb_apart, eqb_self, num_cases}
 use Rattle.qs_program.specs.audit.Program.{ProgramShape}
@@ -17,7 +16,7 @@ use Rattle.qs_standings.specs.Standings.{RowShape, StandingShape, row_of}
 use Rattle.qs_standings.proofs.Lists.{two_snoc}
 use Rattle.qs_tally.specs.Counting.{AreTabled, IsAdded, IsAtEnd, IsCounted, IsPlaced, not_yet, once_more}
 use Rattle.qs_tally.specs.Tallies.{CameTo, CountedShape, IsCountOf, IsEnd, standings_in, times_of}
-use Rattle.qs_tally.proofs.Places.{get_front, get_set_other, get_set_same, get_snoc, one_more, zip_map, zip_snoc}
+use Rattle.qs_tally.proofs.Places.{get_front, get_set_other, get_set_same, get_snoc, one_more, zip_map}
 
 -- an end that is written with other times is where it was
 
@@ -39,12 +38,11 @@ times_there k j places other = let e = one_more (λ place. place == k) places j 
 
 times_past : (p : ProgramShape) (ends : List CountedShape) (orders : List (List Ticket)) (places : List ℕ) (k : ℕ) → length ends ≤ k → AllZip (CameTo p ends) orders places → times_of k places ≡ 0
 times_past p ends [] [] k past met = refl
-times_past p ends [] (j ∷ js) k past met = absurd met
-times_past p ends (o ∷ os) [] k past met = absurd met
 times_past p ends (o ∷ os) (j ∷ js) k past met =
     let less : j < length ends = slice_get_within ends j met.0.0 met.0.1 in
     let other : (j == k) ≡ false = eqb_apart j k (λ (e : j ≡ k). (let none : ⊥ = omega (arith, e, less, past) in none)) in
     ap (λ (b : Bool). length (cond b (j ∷ filter (λ place. place == k) js) (filter (λ place. place == k) js))) other ∙ times_past p ends os js k past met.1
+times_past p ends _ _ k past met = absurd met
 
 pub times_within : (p : ProgramShape) (orders : List (List Ticket)) (ends : List CountedShape) (k : ℕ) (e : CountedShape) → IsCountOf p orders ends → slice_get ends k ≡ Some e → e.times ≤ length orders
 times_within p orders ends k e count at =
@@ -127,7 +125,7 @@ module _ (p : ProgramShape) (order : List Ticket) (orders : List (List Ticket)) 
   pub counted_more : IsCountOf p (orders ++ order ∷ []) now
   counted_more = record {
     places = count.places ++ place ∷ [];
-    met = zip_snoc (CameTo p now) orders count.places order place (zip_map came_on orders count.places count.met) (came_on order place (e, at, comes));
+    met = all_zipped_more (CameTo p now) orders count.places order place (zip_map came_on orders count.places count.met) (came_on order place (e, at, comes));
     times = times_on;
     apart = subst AreApart (sym (same_standings ends place e at)) count.apart;
     sound = subst (AllByRecursion (IsEnd p)) (sym (same_standings ends place e at)) count.sound;

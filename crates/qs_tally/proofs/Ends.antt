@@ -80,8 +80,7 @@ module _ (p : ProgramShape) (sound : IsSound p) (order : List Ticket) (s : Stand
       (here : slice_get after place ≡ Some (row_of p s)) where
     pub old_tabled : new ≡ false → AreTabled p after before
     old_tabled old =
-        let in_rows = subst (λ n. IsInserted kept (row_of p s) n after) old inserted in
-        record { rows = in_rows.0 ∙ tabled.rows; at_end = tabled.at_end }
+        record { rows = (subst (λ n. IsInserted kept (row_of p s) n after) old inserted).0 ∙ tabled.rows; at_end = tabled.at_end }
 
     pub old_placed : new ≡ false → IsPlaced p order place before before
     old_placed old = record {

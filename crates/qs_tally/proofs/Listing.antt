@@ -1,10 +1,10 @@
 -- All outcomes as ends that count: each stands again after the order that it shows, one after another, so what is said
 -- of all outcomes is said of the ends. No two outcomes are equal, so each is added.
-use Rattle.std.proofs.Common.{◌≡◌, ◌≤◌, ℕ, suc, true, false, Some, List, [], ◌∷◌, ◌++◌, take, slice_get, refl, sym, ap, ◌∙◌, subst, inl, inr}
+use Rattle.std.proofs.Common.{◌≡◌, ◌≤◌, ℕ, suc, true, false, Some, List, [], ◌∷◌, ◌++◌, take, slice_get, refl, sym, ap, ◌∙◌, subst, inl, inr, option_map}
 use Rattle.std.specs.List.{AllByRecursion, AllZip}
 use Rattle.std.proofs.lemmas.List.{map-append}
 use Rattle.std.proofs.lemmas.Option.{slice_get-map}
-use Rattle.std.specs.Option.{option_map}
+use Rattle.std.proofs.lemmas.Slice.Zip.{all_zipped_more}
 use Rattle.qs_program.specs.audit.Program.{ProgramShape}
 use Rattle.qs_meaning.specs.audit.Configurations.{IsComplete}
 use Rattle.qs_meaning.specs.Configurations.{outcome_of}
@@ -16,7 +16,7 @@ use Rattle.qs_tally.specs.Counting.{AreTabled, HasNotCome, IsBegun, IsPlaced, Is
 use Rattle.qs_tally.specs.Tallies.{CountedShape, IsCountOf, standings_in}
 use Rattle.qs_tally.proofs.Counts.{standing_of}
 use Rattle.qs_tally.proofs.Ends.{is_end}
-use Rattle.qs_tally.proofs.Places.{before_at, each_at, take_one, zip_at, zip_each, zip_has, zip_snoc, zip_two}
+use Rattle.qs_tally.proofs.Places.{before_at, each_at, take_one, zip_at, zip_each, zip_has, zip_two}
 
 pub all_again : (p : ProgramShape) (all : OutcomesShape) (ends : List StandingShape) → AreOutcomes p all → AllZip (IsSameEnd p) all.found ends
     → AreOutcomes p (record { found = ends; configurations = all.configurations })
@@ -60,7 +60,7 @@ module _ (p : ProgramShape) (found : List StandingShape) (apart : AreApart found
     | inl is ↦ absurd (not_known is)
     | inr a ↦ subst (λ ts. AllZip (IsSameEnd p) ts (standings_in after)) (sym (take_one found i s at))
         (subst (AllZip (IsSameEnd p) (take i found ++ s ∷ [])) (sym (ap standings_in a.longer ∙ map-append standing_of before (not_yet a.standing ∷ [])))
-        (zip_snoc (IsSameEnd p) (take i found) (standings_in before) s a.standing same
+        (all_zipped_more (IsSameEnd p) (take i found) (standings_in before) s a.standing same
         (record { along = a.along; same = a.is_end.outcome ∙ ap (outcome_of p) a.along ∙ sym listed.outcome; places = a.is_end.places })))
   ]
 

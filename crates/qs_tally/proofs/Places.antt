@@ -1,7 +1,6 @@
 -- Elements by their places, in a list that grows or is written at a place, and two lists place by place. What a count
 -- keeps is said by places, so each step of it stands on these. Each goes by induction on the list.
-use Rattle.std.proofs.Common.{◌≡◌, ◌+◌, ℕ, zero, suc, Bool, cond, Some, List, [], ◌∷◌, ◌++◌, length, take, slice_get, slice_set, refl, ap, ◌∙◌, subst, ◌⊎◌, inl, inr, length-append}
-use Rattle.std.specs.Prelude.{filter}
+use Rattle.std.proofs.Common.{◌≡◌, ◌+◌, ℕ, zero, suc, Bool, cond, Some, List, [], ◌∷◌, ◌++◌, length, take, slice_get, slice_set, refl, ap, ◌∙◌, subst, ◌⊎◌, inl, inr, length-append, filter}
 use Rattle.std.specs.List.{AllByRecursion, AllZip}
 use Rattle.std.proofs.lemmas.List.Elements.{filter-append}
 use Rattle.qs_standings.specs.Lists.{EachTwo, HasOne}
@@ -23,11 +22,9 @@ get_set_same (z ∷ zs) zero x y e = refl
 get_set_same (z ∷ zs) (suc k) x y e = get_set_same zs k x y e
 
 pub get_set_other : {X : Type 0} (xs : List X) (k j : ℕ) (y : X) → (j ≡ k → ⊥) → slice_get (slice_set xs k y) j ≡ slice_get xs j
-get_set_other [] k j y other = refl
 get_set_other (z ∷ zs) zero zero y other = absurd (other refl)
-get_set_other (z ∷ zs) zero (suc j) y other = refl
-get_set_other (z ∷ zs) (suc k) zero y other = refl
 get_set_other (z ∷ zs) (suc k) (suc j) y other = get_set_other zs k j y (λ e. other (ap suc e))
+get_set_other _ _ _ y other = refl
 
 pub each_at : {X : Type 0} (P : X → Type 0) (xs : List X) (i : ℕ) (x : X) → slice_get xs i ≡ Some x → AllByRecursion P xs → P x
 each_at P [] i x e all = absurd (cc)
@@ -59,42 +56,30 @@ one_more f xs y b e =
 
 pub zip_map : {X Y : Type 0} {R S : X → Y → Type 0} → ((x : X) (y : Y) → R x y → S x y) → (xs : List X) (ys : List Y) → AllZip R xs ys → AllZip S xs ys
 zip_map f [] [] h = tt
-zip_map f [] (y ∷ ys) h = absurd h
-zip_map f (x ∷ xs) [] h = absurd h
 zip_map f (x ∷ xs) (y ∷ ys) h = (f x y h.0, zip_map f xs ys h.1)
-
-pub zip_snoc : {X Y : Type 0} (R : X → Y → Type 0) (xs : List X) (ys : List Y) (x : X) (y : Y) → AllZip R xs ys → R x y → AllZip R (xs ++ x ∷ []) (ys ++ y ∷ [])
-zip_snoc R [] [] x y h r = (r, tt)
-zip_snoc R [] (v ∷ vs) x y h r = absurd h
-zip_snoc R (u ∷ us) [] x y h r = absurd h
-zip_snoc R (u ∷ us) (v ∷ vs) x y h r = (h.0, zip_snoc R us vs x y h.1 r)
+zip_map f _ _ h = absurd h
 
 pub zip_at : {X Y : Type 0} (R : X → Y → Type 0) (xs : List X) (ys : List Y) (k : ℕ) (y : Y) → AllZip R xs ys → slice_get ys k ≡ Some y → (x : X) × (slice_get xs k ≡ Some x) × R x y
 zip_at R [] [] k y h e = absurd (cc)
-zip_at R [] (v ∷ vs) k y h e = absurd h
-zip_at R (u ∷ us) [] k y h e = absurd h
 zip_at R (u ∷ us) (v ∷ vs) zero y h e = (u, refl, subst (R u) (let is : v ≡ y = cc in is) h.0)
 zip_at R (u ∷ us) (v ∷ vs) (suc k) y h e = zip_at R us vs k y h.1 e
+zip_at R _ _ k y h e = absurd h
 
 -- what holds of each of the one list, of one, or of each two of it, holds of the other list, too
 module _ {X Y : Type 0} (R : X → Y → Type 0) where
   pub zip_each : {P : X → Type 0} {Q : Y → Type 0} → ((x : X) (y : Y) → R x y → P x → Q y) → (xs : List X) (ys : List Y) → AllZip R xs ys → AllByRecursion P xs → AllByRecursion Q ys
   zip_each f [] [] h all = tt
-  zip_each f [] (y ∷ ys) h all = absurd h
-  zip_each f (x ∷ xs) [] h all = absurd h
   zip_each f (x ∷ xs) (y ∷ ys) h all = (f x y h.0 all.0, zip_each f xs ys h.1 all.1)
+  zip_each f _ _ h all = absurd h
 
   pub zip_has : {P : X → Type 0} {Q : Y → Type 0} → ((x : X) (y : Y) → R x y → P x → Q y) → (xs : List X) (ys : List Y) → AllZip R xs ys → HasOne P xs → HasOne Q ys
   zip_has f [] [] h has = absurd has
-  zip_has f [] (y ∷ ys) h has = absurd h
-  zip_has f (x ∷ xs) [] h has = absurd h
   zip_has f (x ∷ xs) (y ∷ ys) h (inl has) = inl (f x y h.0 has)
   zip_has f (x ∷ xs) (y ∷ ys) h (inr has) = inr (zip_has f xs ys h.1 has)
+  zip_has f _ _ h has = absurd h
 
   pub zip_two : {S : X → X → Type 0} {T : Y → Y → Type 0} → ((x : X) (y : Y) (u : X) (v : Y) → R x y → R u v → S x u → T y v) → (xs : List X) (ys : List Y) → AllZip R xs ys → EachTwo S xs → EachTwo T ys
   zip_two {S = S} {T = T} f [] [] h all = tt
-  zip_two {S = S} {T = T} f [] (y ∷ ys) h all = absurd h
-  zip_two {S = S} {T = T} f (x ∷ xs) [] h all = absurd h
   zip_two {S = S} {T = T} f (x ∷ xs) (y ∷ ys) h all = (zip_pairs xs ys h.1 all.0, zip_two f xs ys h.1 all.1)
     where
       zip_pairs : (us : List X) (vs : List Y) → AllZip R us vs → AllByRecursion (S x) us → AllByRecursion (T y) vs
@@ -102,3 +87,4 @@ module _ {X Y : Type 0} (R : X → Y → Type 0) where
       zip_pairs [] (v ∷ vs) k each = absurd k
       zip_pairs (u ∷ us) [] k each = absurd k
       zip_pairs (u ∷ us) (v ∷ vs) k each = (f x y u v h.0 k.0 each.0, zip_pairs us vs k.1 each.1)
+  zip_two {S = S} {T = T} f _ _ h all = absurd h

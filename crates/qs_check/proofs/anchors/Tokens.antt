@@ -1,6 +1,6 @@
 -- The anchors of a tree are those of any tokens that are written for it. By induction on the tree: each part has its
 -- anchors first, and then those of the tokens after it.
-use Rattle.std.proofs.Common.{◌≡◌, ℕ, zero, suc, inl, inr, List, [], ◌∷◌, ◌++◌, Bool, true, false, map, refl, ap, sym, ◌∙◌, pos, neg_ℤ, unsigned_abs}
+use Rattle.std.proofs.Common.{◌≡◌, ℕ, zero, suc, inl, inr, List, [], ◌∷◌, ◌++◌, Bool, true, false, map, refl, ap, sym, ◌∙◌, pos, neg_ℤ, unsigned_abs, append-nil}
 use Rattle.qs_script.specs.declared.tokens.token.Token.{Token}
 use Rattle.qs_script.specs.declared.tree.tree.Atom.{Atom}
 use Rattle.qs_script.specs.declared.tree.tree.Atom.TheVariants.{Variable, Number}
@@ -177,9 +177,5 @@ items_tokens [] ts rest h = ap anchors_in h
 items_tokens (i ∷ is) ts rest (x, h, k) =
     joined (item_anchors i) (script_anchors is) (anchors_in ts) (anchors_in x) (anchors_in rest) (item_tokens i ts x h) (items_tokens is x rest k)
 
-ends : (ts : List Token) → ts ++ [] ≡ ts
-ends [] = refl
-ends (x ∷ ts) = ap (λ us. x ∷ us) (ends ts)
-
 pub anchors_are_tokens : (items : List Item) (ts : List Token) → IsScript items ts → anchors_in ts ≡ map anchor_token (script_anchors items)
-anchors_are_tokens items ts h = items_tokens items ts [] h ∙ ends (map anchor_token (script_anchors items))
+anchors_are_tokens items ts h = items_tokens items ts [] h ∙ append-nil (map anchor_token (script_anchors items))

@@ -2,9 +2,10 @@
 -- and the result is nested as deep as the text over formals. The proof of the functions that do this stands on it. The
 -- invariant is that the statements made so far, joined with what the rest stands for, are what the whole list stands
 -- for.
-use Rattle.std.proofs.Common.{◌≡◌, ℕ, zero, suc, ◌+◌, ◌<◌, ◌≤◌, Bool, true, false, not, ◌||◌, ◌&&◌, ◌==◌, List, [], ◌∷◌, ◌++◌, length, map, filter, get_or, drop, refl, ap, sym, ◌∙◌, add-one, append_assoc, append-nil, arith, if◌then◌else◌, drop-cons}
+use Rattle.std.proofs.Common.{◌≡◌, ℕ, zero, suc, ◌+◌, ◌<◌, ◌≤◌, Bool, true, false, not, ◌||◌, ◌&&◌, ◌==◌, List, [], ◌∷◌, ◌++◌, length, map, filter, get_or, drop, refl, ap, sym, ◌∙◌, add-one, append_assoc, append-nil, arith, if◌then◌else◌, drop-cons, eqb-true}
 use Rattle.std.proofs.lemmas.List.Folds.{list_any-append}
 use Rattle.std.proofs.lemmas.List.{drop_all}
+use mathlib.Core.Bool.{or-false}
 use Rattle.qs_program.specs.audit.Binding.{bound, bound_statements, first_of_each}
 use Rattle.qs_program.specs.declared.code.Stmt.{Stmt}
 use Rattle.qs_program.specs.declared.code.Stmt.TheVariants.{Command}
@@ -79,25 +80,18 @@ filter_both p q r (y ∷ ys) e =
     ∙ ap (λ zs. if q y && p y then y ∷ zs else zs) (filter_both p q r ys e)
     ∙ ap (λ d. if d then y ∷ filter r ys else filter r ys) (sym (e y))
 
-equal_by : (x y : ℕ) → (x == y) ≡ true → x ≡ y
-equal_by x y h = grind arith
-
 seen_by : (seen : List ℕ) (x y : ℕ) (b : Bool) → (y == x) ≡ b → is_in seen x ≡ true → is_new seen y ≡ (not b && is_new seen y)
-seen_by seen x y true e h = ap not (ap (is_in seen) (equal_by y x e) ∙ h)
+seen_by seen x y true e h = ap not (ap (is_in seen) (eqb-true y x e) ∙ h)
 seen_by seen x y false e h = refl
 
 in_last : (seen : List ℕ) (x y : ℕ) → is_in (seen ++ x ∷ []) y ≡ (is_in seen y || (x == y))
-in_last seen x y = list_any-append (λ z. z == y) seen (x ∷ []) ∙ ap (λ b. is_in seen y || b) (or_none (x == y))
-  where
-    or_none : (b : Bool) → (b || false) ≡ b
-    or_none true = refl
-    or_none false = refl
+in_last seen x y = list_any-append (λ z. z == y) seen (x ∷ []) ∙ ap (λ b. is_in seen y || b) (or-false (x == y))
 
 turned : (x y : ℕ) → (x == y) ≡ (y == x)
 turned x y = by_case (x == y) refl
   where
     by_case : (b : Bool) → (x == y) ≡ b → b ≡ (y == x)
-    by_case true e = sym (ap (λ z. z == x) (sym (equal_by x y e)) ∙ same x)
+    by_case true e = sym (ap (λ z. z == x) (sym (eqb-true x y e)) ∙ same x)
     by_case false e = sym (apart y x (λ q. false_not_true (x == y) (ap (λ z. z == y) (sym q) ∙ same y) e))
 
 neither : (a b : Bool) → not (a || b) ≡ (not b && not a)

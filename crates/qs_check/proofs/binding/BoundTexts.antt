@@ -1,7 +1,7 @@
 -- A block over formals that is sound and formed stays so once each formal stands for its object: the objects are
 -- declared and of their formals' kinds, and each is reserved once. The soundness of a client of a template stands on
 -- it. It goes by induction on the statements, and on the list for what comes first in it.
-use Rattle.std.proofs.Common.{◌≡◌, ℕ, ◌<◌, max, Bool, true, false, not, ◌||◌, ◌==◌, List, [], ◌∷◌, length, map, filter, slice_index_or, refl, ap, sym, ◌∙◌, subst, arith, if◌then◌else◌}
+use Rattle.std.proofs.Common.{◌≡◌, ℕ, ◌<◌, max, Bool, true, false, not, ◌||◌, ◌==◌, List, [], ◌∷◌, length, map, filter, slice_index_or, refl, ap, sym, ◌∙◌, subst, arith, if◌then◌else◌, eqb-true}
 use Rattle.std.specs.List.{AllByRecursion, IsDistinct}
 use Rattle.std.proofs.lemmas.Bool.{not_from_false, or_right}
 use Rattle.std.proofs.lemmas.List.{get_or_default}
@@ -66,12 +66,9 @@ in_if p x y true false xs e f k g h more = or_right (x == y) (is_in (filter p xs
 in_if p x y false true xs e f k g h more = absurd (false_not_true (p y) k (ap p (sym (g refl)) ∙ e))
 in_if p x y false false xs e f k g h more = more h
 
-equal_by : (x y : ℕ) → (x == y) ≡ true → x ≡ y
-equal_by x y h = grind arith
-
 in_kept : (p : ℕ → Bool) (xs : List ℕ) (y : ℕ) → p y ≡ true → is_in xs y ≡ true → is_in (filter p xs) y ≡ true
 in_kept p [] y k h = h
-in_kept p (x ∷ xs) y k h = in_if p x y (p x) (x == y) xs refl refl k (equal_by x y) h (in_kept p xs y k)
+in_kept p (x ∷ xs) y k h = in_if p x y (p x) (x == y) xs refl refl k (eqb-true x y) h (in_kept p xs y k)
 
 in_first_by : (x y : ℕ) (b : Bool) (xs : List ℕ) → (x == y) ≡ b → (b || is_in xs y) ≡ true → (is_in xs y ≡ true → is_in (first_of_each xs) y ≡ true) → is_in (first_of_each (x ∷ xs)) y ≡ true
 in_first_by x y true xs e h more = ap (λ d. d || is_in (filter (λ z. not (z == x)) (first_of_each xs)) y) e
@@ -85,7 +82,7 @@ in_first (x ∷ xs) y h = in_first_by x y (x == y) xs refl h (in_first xs y)
 
 in_map_by : (f : ℕ → ℕ) (x y : ℕ) (b : Bool) (xs : List ℕ) → (x == y) ≡ b → (b || is_in xs y) ≡ true → (is_in xs y ≡ true → is_in (map f xs) (f y) ≡ true) → is_in (map f (x ∷ xs)) (f y) ≡ true
 in_map_by f x y true xs e h more =
-    ap (λ d. d || is_in (map f xs) (f y)) (ap (λ z. f z == f y) (equal_by x y e) ∙ same (f y))
+    ap (λ d. d || is_in (map f xs) (f y)) (ap (λ z. f z == f y) (eqb-true x y e) ∙ same (f y))
 in_map_by f x y false xs e h more = or_right (f x == f y) (is_in (map f xs) (f y)) (more h)
 
 in_map : (f : ℕ → ℕ) (xs : List ℕ) (y : ℕ) → is_in xs y ≡ true → is_in (map f xs) (f y) ≡ true
@@ -102,7 +99,7 @@ fits_same op _ _ h = cc
 
 -- an element of a list has what holds of all
 held_by : (P : ℕ → Type 0) (x y : ℕ) (b : Bool) (xs : List ℕ) → (x == y) ≡ b → (b || is_in xs y) ≡ true → P x → (is_in xs y ≡ true → P y) → P y
-held_by P x y true xs e h here more = subst P (equal_by x y e) here
+held_by P x y true xs e h here more = subst P (eqb-true x y e) here
 held_by P x y false xs e h here more = more h
 
 held : (P : ℕ → Type 0) (xs : List ℕ) (y : ℕ) → AllByRecursion P xs → is_in xs y ≡ true → P y

@@ -4,36 +4,30 @@ use Rattle.std.proofs.Common.{◌≡◌, Bool, true, false, ◌||◌, List, [], 
 use Rattle.std.proofs.lemmas.Cmp.{nat_list_eq_equiv}
 use Rattle.std.proofs.lemmas.List.Folds.{list_any-append}
 use Rattle.std.specs.List.{AllByRecursion, IsDistinct}
-use Rattle.std.proofs.lemmas.Bool.{or_from}
+use Rattle.std.proofs.lemmas.Bool.{or_from, or_parts}
+use mathlib.Core.Bool.{or-false}
 use Rattle.qs_program.specs.audit.Numbering.{Name, same_name, is_among}
 
-pub or_false : (a : Bool) → (a || false) ≡ a
-or_false true = refl
-or_false false = refl
-
-pub or_false_first : (a b : Bool) → (a || b) ≡ false → a ≡ false
-or_false_first true b h = h
-or_false_first false b h = refl
-
-pub or_false_later : (a b : Bool) → (a || b) ≡ false → b ≡ false
-or_false_later true b h = absurd (cc)
-or_false_later false b h = h
+-- no name is among none
+pub unseen : (ns : List Name) → AllByRecursion (λ m. is_among [] m ≡ false) ns
+unseen [] = tt
+unseen (m ∷ ns) = (refl, unseen ns)
 
 -- names that are none of those seen, and none the same as another
 abbrev pub Fresh : List Name → List Name → Type 0
 Fresh seen ns = AllByRecursion (λ n. is_among seen n ≡ false) ns × IsDistinct same_name ns
 
 among_last : (seen : List Name) (n m : Name) → is_among (seen ++ n ∷ []) m ≡ (is_among seen m || same_name m n)
-among_last seen n m = list_any-append (same_name m) seen (n ∷ []) ∙ ap (λ b. is_among seen m || b) (or_false (same_name m n))
+among_last seen n m = list_any-append (same_name m) seen (n ∷ []) ∙ ap (λ b. is_among seen m || b) (or-false (same_name m n))
 
 unseen_first : (seen : List Name) (n : Name) (ns : List Name) → AllByRecursion (λ m. is_among (seen ++ n ∷ []) m ≡ false) ns → AllByRecursion (λ m. is_among seen m ≡ false) ns
 unseen_first seen n [] h = tt
-unseen_first seen n (m ∷ ns) h = (or_false_first (is_among seen m) (same_name m n) (sym (among_last seen n m) ∙ h.0), unseen_first seen n ns h.1)
+unseen_first seen n (m ∷ ns) h = ((or_parts (is_among seen m) (same_name m n) (sym (among_last seen n m) ∙ h.0)).0, unseen_first seen n ns h.1)
 
 unseen_last : (seen : List Name) (n : Name) (ns : List Name) → AllByRecursion (λ m. is_among (seen ++ n ∷ []) m ≡ false) ns → AllByRecursion (λ m. same_name n m ≡ false) ns
 unseen_last seen n [] h = tt
 unseen_last seen n (m ∷ ns) h =
-    (nat_list_eq_equiv.symm n m ∙ or_false_later (is_among seen m) (same_name m n) (sym (among_last seen n m) ∙ h.0), unseen_last seen n ns h.1)
+    (nat_list_eq_equiv.symm n m ∙ (or_parts (is_among seen m) (same_name m n) (sym (among_last seen n m) ∙ h.0)).1, unseen_last seen n ns h.1)
 
 unseen_both : (seen : List Name) (n : Name) (ns : List Name) → AllByRecursion (λ m. is_among seen m ≡ false) ns → AllByRecursion (λ m. same_name n m ≡ false) ns → AllByRecursion (λ m. is_among (seen ++ n ∷ []) m ≡ false) ns
 unseen_both seen n [] h k = tt

@@ -5,6 +5,7 @@ use Rattle.std.specs.List.{AllByRecursion, AllZip}
 use Rattle.std.specs.Option.{option_map}
 use Rattle.std.proofs.lemmas.List.{map-append}
 use Rattle.std.proofs.lemmas.Option.{slice_get-map, slice_get_within}
+use Rattle.std.proofs.lemmas.Slice.Zip.{all_zipped_more}
 use Rattle.qs_objects.specs.declared.held.Ticket.{Ticket}
 use Rattle.qs_program.specs.audit.Program.{ProgramShape}
 use Rattle.qs_meaning.specs.Configurations.{outcome_of}
@@ -15,7 +16,7 @@ use Rattle.qs_standings.proofs.Lists.{pairs_join}
 use Rattle.qs_tally.specs.Counting.{IsAdded, IsCounted, not_yet}
 use Rattle.qs_tally.specs.Tallies.{CameTo, CountedShape, HasCome, IsCountOf, standings_in}
 use Rattle.qs_tally.proofs.Counts.{same_standings, standing_of, times_within}
-use Rattle.qs_tally.proofs.Places.{each_at, get_front, get_snoc, zip_map, zip_snoc}
+use Rattle.qs_tally.proofs.Places.{each_at, get_front, get_snoc, zip_map}
 use Rattle.qs_run.specs.many.Repeats.{AreAsTheyCame, CameFirstBy}
 
 get_last : {X : Type 0} (xs : List X) (y : X) → slice_get (xs ++ y ∷ []) (length xs) ≡ Some y
@@ -78,7 +79,7 @@ module _ (p : ProgramShape) (order : List Ticket) (orders : List (List Ticket)) 
     came_new : AreAsTheyCame p orders (standings_in before) → AreAsTheyCame p (orders ++ order ∷ []) (standings_in after)
     came_new came = subst (AreAsTheyCame p (orders ++ order ∷ [])) (sym (ap standings_in a.longer ∙ map-append standing_of before (not_yet a.standing ∷ []))) (
       came.0 ++ length orders ∷ [],
-      zip_snoc (CameFirstBy p (orders ++ order ∷ [])) (standings_in before) came.0 a.standing (length orders) (zip_map still_first (standings_in before) came.0 came.1) first_now,
+      all_zipped_more (CameFirstBy p (orders ++ order ∷ [])) (standings_in before) came.0 a.standing (length orders) (zip_map still_first (standings_in before) came.0 came.1) first_now,
       pairs_join (λ i j. i < j) came.0 (length orders ∷ []) came.2 (tt, tt)
           (each_map {P = λ i. i < length orders} {Q = λ i. AllByRecursion (λ j. i < j) (length orders ∷ [])} (λ i less. (less, tt)) came.0 (all_within (standings_in before) came.0 came.1)),
     )

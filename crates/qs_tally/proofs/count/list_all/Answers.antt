@@ -1,6 +1,5 @@
-use Rattle.std.proofs.Common.{◌≡◌, [], Some, add-one, length, refl, slice_get, subst, sym, take}
+use Rattle.std.proofs.Common.{◌≡◌, [], Some, add-one, length, refl, slice_get, subst, sym, take, take_all}
 use Rattle.std.specs.List.{AllByRecursion, AllZip}
-use Rattle.std.proofs.lemmas.List.{take_all}
 use Rattle.std.proofs.lemmas.Option.{slice_get_read}
 use Rattle.qs_meaning.specs.audit.Configurations.{IsComplete}
 use Rattle.qs_outcomes.specs.Outcomes.{IsListed}

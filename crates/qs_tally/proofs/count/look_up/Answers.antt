@@ -1,5 +1,4 @@
-use Rattle.std.proofs.Common.{◌≡◌, ℕ, true, Some, List, slice_get, sym, ap, ◌∙◌}
-use Rattle.std.specs.Option.{option_map}
+use Rattle.std.proofs.Common.{◌≡◌, ℕ, true, Some, List, slice_get, sym, ap, ◌∙◌, option_map}
 use Rattle.std.proofs.lemmas.Option.{slice_get-map}
 use Rattle.qs_standings.specs.declared.rows.Row.{Row}
 use Rattle.qs_standings.specs.Rows.{equal, rows_in, shape_of}

@@ -16,10 +16,9 @@ pub returns-then-not-new : goal.returns-then-not-new
 returns-then-not-new c =
     let p = c.args.program.now in
     let sound = c.keeps_sound.ensures.sound in
-    let order = c.args.order.now in
     let s = c.in_ok-standing.standing in
     let first = c.in_ok-standing.ensures.first in
-    let is : IsAtEnd p s = at_end_of p order s c.requires.complete first in
+    let is : IsAtEnd p s = at_end_of _ _ _ c.requires.complete first in
     let kept = rows_in c.args.rows.now.keys in
     let after = rows_in c.look_up.new.rows.keys in
     let ends = c.args.ends.now.items in
@@ -28,18 +27,17 @@ returns-then-not-new c =
     let inserted : IsInserted kept (row_of p s) new after = subst (λ r. IsInserted kept r new after) c.in_ok-row.ensures.row c.in_ok-place.ensures.inserted in
     let here : slice_get after place ≡ Some (row_of p s) = c.in_ok-place.ensures.place ∙ ap (λ r. Some r) c.in_ok-row.ensures.row in
     record {
-      tabled = old_tabled p sound order s is first.order kept after ends ends place new c.requires.tabled inserted here c.if-not-new.true;
-      placed = old_placed p sound order s is first.order kept after ends ends place new c.requires.tabled inserted here c.if-not-new.true;
+      tabled = old_tabled _ sound _ _ is first.order _ _ _ ends place _ c.requires.tabled inserted here c.if-not-new.true;
+      placed = old_placed _ sound _ _ is first.order _ _ _ ends _ _ c.requires.tabled inserted here c.if-not-new.true;
     }
 
 pub returns : goal.returns
 returns c =
     let p = c.args.program.now in
     let sound = c.keeps_sound.ensures.sound in
-    let order = c.args.order.now in
     let s = c.in_ok-standing.standing in
     let first = c.in_ok-standing.ensures.first in
-    let is : IsAtEnd p s = at_end_of p order s c.requires.complete first in
+    let is : IsAtEnd p s = at_end_of _ _ _ c.requires.complete first in
     let kept = rows_in c.args.rows.now.keys in
     let after = rows_in c.look_up.new.rows.keys in
     let before = c.args.ends.now.items in
@@ -50,6 +48,6 @@ returns c =
     let here : slice_get after place ≡ Some (row_of p s) = c.in_ok-place.ensures.place ∙ ap (λ r. Some r) c.in_ok-row.ensures.row in
     let are : ends ≡ before ++ not_yet s ∷ [] = c.in_ok-add.ensures.added ∙ ap (λ (x : CountedShape). before ++ x ∷ []) c.new.ensures.new in
     record {
-      tabled = new_tabled p sound order s is first.order kept after before ends place new c.requires.tabled inserted here c.if-not-new.false are;
-      placed = new_placed p sound order s is first.order kept after before ends place new c.requires.tabled inserted here c.if-not-new.false are;
+      tabled = new_tabled _ sound _ _ is first.order _ _ _ _ place _ c.requires.tabled inserted here c.if-not-new.false are;
+      placed = new_placed _ sound _ _ is first.order _ _ _ _ _ _ c.requires.tabled inserted here c.if-not-new.false are;
     }
