@@ -2,7 +2,7 @@
 _qs() {
     local word="${COMP_WORDS[COMP_CWORD]}" before="${COMP_WORDS[COMP_CWORD - 1]}" settings=""
     if ((COMP_CWORD == 1)); then
-        COMPREPLY=($(compgen -W "check graph rules play run outcomes ask fronts estimate help --help --version" -- "$word"))
+        COMPREPLY=($(compgen -W "check graph rules play run syncs outcomes ask fronts estimate help --help --version" -- "$word"))
         return
     fi
     case "${COMP_WORDS[1]} $before" in
@@ -14,6 +14,7 @@ _qs() {
         "play --format") COMPREPLY=($(compgen -W "text json svg" -- "$word")); return ;;
         "run --mode") COMPREPLY=($(compgen -W "none dynamic static both" -- "$word")); return ;;
         "run --format") COMPREPLY=($(compgen -W "text json svg" -- "$word")); return ;;
+        "syncs --format") COMPREPLY=($(compgen -W "text json" -- "$word")); return ;;
         "outcomes --format") COMPREPLY=($(compgen -W "text json dot" -- "$word")); return ;;
         "ask --format") COMPREPLY=($(compgen -W "text json" -- "$word")); return ;;
         "fronts --format") COMPREPLY=($(compgen -W "text json" -- "$word")); return ;;
@@ -25,6 +26,7 @@ _qs() {
         rules) settings="--rounds --pick --order --counts --refusals --steps --queues --format --warn --help" ;;
         play) settings="--mode --chunk --rounds --pick --order --counts --refusals --steps --queues --format --warn --help" ;;
         run) settings="--mode --chunk --counts --refusals --times --format --warn --help" ;;
+        syncs) settings="--order --format --warn --help" ;;
         outcomes) settings="--limit --after --ends --alike --threads --format --warn --help" ;;
         ask) settings="--always --some --throughout --ever --never --limit --after --format --warn --help" ;;
         fronts) settings="--limit --after --leads --format --warn --help" ;;

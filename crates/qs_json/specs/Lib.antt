@@ -10,6 +10,7 @@ pub mod FrontsJson
 pub mod AnswerJson
 pub mod TallyJson
 pub mod EstimateJson
+pub mod SyncsJson
 pub mod GraphJson
 
 -- What crates promise one another, what proofs use, and worked examples.

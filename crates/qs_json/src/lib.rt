@@ -19,6 +19,7 @@ mod outcomes;
 mod pieces;
 mod runs;
 mod states;
+mod syncs;
 mod tallies;
 
 pub use alike::alike_json;
@@ -31,4 +32,5 @@ pub use fronts::fronts_json;
 pub use graphs::graph_json;
 pub use outcomes::outcomes_json;
 pub use runs::run_json;
+pub use syncs::syncs_json;
 pub use tallies::tally_json;

@@ -28,8 +28,8 @@ use Rattle.qs_line.specs.audit.RunLines.{run_by, run_in, run_of_word, runs_at, s
 use Rattle.qs_line.specs.RunLines.{LinesOfRunsAreThese, RunsAreLines}
 use Rattle.qs_line.specs.declared.line.ReportStyle.{ReportStyle}
 use Rattle.qs_line.specs.audit.Command.{qs_app}
-use Rattle.qs_line.specs.audit.Line.{Request, alike, ask, asks, asks_language, check, chunk_at, estimate, fronts, graph, has_times, help, mode_at, outcomes, play, play_at, rules, rules_at, run, single_run_at, style_at, styled_plan_at, tally}
-use Rattle.qs_line.specs.Line.{alike_at, ask_at, blocks_at, check_at, claim_at, claim_by, claim_in, estimate_at, format_at, front_at, fronts_at, graph_at, graph_format_at, leads_at, limit_at, line_by, line_in, line_met, line_of_kind, list_at, outcomes_at, outcomes_format_at, request_at, request_met, request_of_word, tally_at, threads_beside, times_at}
+use Rattle.qs_line.specs.audit.Line.{Request, alike, ask, asks, asks_language, check, chunk_at, estimate, fronts, graph, has_times, help, mode_at, outcomes, plan_at, play, play_at, rules, rules_at, run, single_run_at, style_at, styled_plan_at, syncs, tally}
+use Rattle.qs_line.specs.Line.{alike_at, ask_at, blocks_at, check_at, claim_at, claim_by, claim_in, estimate_at, format_at, front_at, fronts_at, graph_at, graph_format_at, leads_at, limit_at, line_by, line_in, line_met, line_of_kind, list_at, outcomes_at, outcomes_format_at, request_at, request_met, request_of_word, syncs_at, tally_at, threads_beside, times_at}
 
 -- a claim whose steps are those of a condition
 abbrev IsOfCondition : Claim → Type 0
@@ -95,6 +95,9 @@ module _ (word : Text) (rows : List Row) where
   graphs : Has (graph_at rows)
   graphs = each graph (graph_format_at rows) (λ how. (tt, refl))
 
+  tables : Has (syncs_at rows)
+  tables = next _ (format_at rows) (λ how e. each (syncs how) (plan_at rows) (λ plan. (tt, refl)))
+
   tallies : Has (tally_at rows)
   tallies = next _ (format_at rows) (λ how e. next _ (mode_at rows) (λ mode f. next _ (chunk_at rows) (λ chunk g. each (tally how mode chunk) (times_at rows) (λ times. (tt, refl)))))
 
@@ -119,17 +122,19 @@ module _ (word : Text) (rows : List Row) where
   -- what a word asks for that is behind those of runs
   abbrev last : Option Request
   last =
-      if bytes_eq word (codes "outcomes") then outcomes_at rows
+      if bytes_eq word (codes "syncs") then syncs_at rows
+      else if bytes_eq word (codes "outcomes") then outcomes_at rows
       else if bytes_eq word (codes "ask") then ask_at rows
       else if bytes_eq word (codes "fronts") then fronts_at rows
       else if bytes_eq word (codes "estimate") then estimate_at rows else None
 
   lasts : Has last
   lasts =
-      test (bytes_eq word (codes "outcomes")) (outcomes_at rows) _ those_outcomes
+      test (bytes_eq word (codes "syncs")) (syncs_at rows) _ tables
+      (test (bytes_eq word (codes "outcomes")) (outcomes_at rows) _ those_outcomes
       (test (bytes_eq word (codes "ask")) (ask_at rows) _ answers
       (test (bytes_eq word (codes "fronts")) (fronts_at rows) _ those_fronts
-      (test (bytes_eq word (codes "estimate")) (estimate_at rows) None estimates none)))
+      (test (bytes_eq word (codes "estimate")) (estimate_at rows) None estimates none))))
 
   -- what is asked for is plain, or it is the run that is asked for
   abbrev Either : (r s : Option Request) → Type 0
@@ -226,6 +231,7 @@ runs_have_none (play style mode size plan) own e = tt
 runs_have_none (run style mode size) own e = tt
 runs_have_none (check how) own e = absurd (cc e)
 runs_have_none (graph how) own e = absurd (cc e)
+runs_have_none (syncs how plan) own e = absurd (cc e)
 runs_have_none (tally how mode size times) own e = absurd (cc e)
 runs_have_none (ask claim how limit list) own e = absurd (cc e)
 runs_have_none (estimate how list) own e = absurd (cc e)

@@ -33,7 +33,7 @@ use Rattle.qs_line.specs.declared.line.Settings.{Settings}
 use Rattle.qs_line.specs.declared.line.Settings.TheVariants as word
 use Rattle.qs_line.specs.declared.plan.Plan.{Plan}
 use Rattle.qs_line.specs.declared.plan.Plan.TheVariants as plan
-use Rattle.qs_line.specs.audit.Line.{PlanShape, by_schedule, by_order, Request, check, graph, rules, play, run, tally, ask, estimate, fronts, alike, outcomes, number_in, mode_at, chunk_at, has_times, rules_at, play_at, single_run_at, Line, asks, help, version, refused, asks_language}
+use Rattle.qs_line.specs.audit.Line.{PlanShape, by_schedule, by_order, Request, check, graph, rules, play, syncs, run, tally, ask, estimate, fronts, alike, outcomes, number_in, mode_at, chunk_at, has_times, plan_at, rules_at, play_at, single_run_at, Line, asks, help, version, refused, asks_language}
 
 -- the format of a refusal where graphs are asked for: beside a drawing it is text
 abbrev pub format_beside : GraphFormat → Format
@@ -59,6 +59,7 @@ format_of_request (check how) = how
 format_of_request (graph how) = format_beside how
 format_of_request (rules style plan) = format_beside_report style.format
 format_of_request (play style mode chunk plan) = format_beside_report style.format
+format_of_request (syncs how plan) = how
 format_of_request (run style mode chunk) = format_beside_report style.format
 format_of_request (tally how mode chunk times) = how
 format_of_request (ask claim how limit front) = how
@@ -76,6 +77,7 @@ request_of (word.Check how) = check how
 request_of (word.Graph how) = graph how
 request_of (word.Rules style plan) = rules style (plan_of plan)
 request_of (word.Play style mode chunk plan) = play style mode chunk (plan_of plan)
+request_of (word.Syncs how plan) = syncs how (plan_of plan)
 request_of (word.Run style mode chunk) = run style mode chunk
 request_of (word.Tally how mode chunk times) = tally how mode chunk times
 request_of (word.Ask claim how limit front) = ask claim how limit front.items
@@ -152,6 +154,10 @@ check_at rows = option_map check (format_at rows)
 abbrev pub graph_at : List Row → Option Request
 graph_at rows = option_map graph (graph_format_at rows)
 
+-- the synchronisations of each mode, for an order where the line has one, and else for that of a schedule
+abbrev pub syncs_at : List Row → Option Request
+syncs_at rows = option_and_then (λ how. option_map (syncs how) (plan_at rows)) (format_at rows)
+
 -- many runs, whose ends are counted
 abbrev pub tally_at : List Row → Option Request
 tally_at rows =
@@ -224,6 +230,7 @@ request_of_word name rows =
     else if bytes_eq name (codes "rules") then rules_at rows
     else if bytes_eq name (codes "play") then play_at rows
     else if bytes_eq name (codes "run") then run_at rows
+    else if bytes_eq name (codes "syncs") then syncs_at rows
     else if bytes_eq name (codes "outcomes") then outcomes_at rows
     else if bytes_eq name (codes "ask") then ask_at rows
     else if bytes_eq name (codes "fronts") then fronts_at rows

@@ -3,7 +3,7 @@
 ghost use Rattle.std.specs.Prelude.{◌≡◌, IfOk, IsOkAnd, codes, false};
 ghost use Rattle.clap.specs.Words.{app_of, new_app, rule_of, with_rule};
 ghost use Rattle.clap.specs.declared.Command.TheViews.{out-Command as fields_of};
-ghost use Rattle.qs_line.specs.audit.Command.{after_app, ask_app, blocks_rule, check_app, chunk_rule, claimed_app, defaulted_rule, estimate_app, flag_rule, fronts_app, graph_app, limit_rule, machine_app, named_app, option_rule, outcomes_app, planned_app, play_app, qs_app, rules_app, run_app, runs_app, scheduled_app, search_app, shared_app, shown_app, threads_rule, times_rule, with_word};
+ghost use Rattle.qs_line.specs.audit.Command.{after_app, ask_app, blocks_rule, check_app, chunk_rule, claimed_app, counted_app, defaulted_rule, estimate_app, flag_rule, fronts_app, graph_app, limit_rule, machine_app, named_app, option_rule, outcomes_app, planned_app, play_app, qs_app, rules_app, run_app, runs_app, scheduled_app, search_app, shared_app, shown_app, syncs_app, threads_rule, times_rule, with_word};
 
 use crate::help;
 use clap::{Arg, ArgAction, Command, value_parser};
@@ -198,6 +198,15 @@ fn play_command<'a>(alloc: Global) -> Result<Command<'a>, AllocError>
     shared(alloc, play, help::REPORT_FORMAT)
 }
 
+fn syncs_command<'a>(alloc: Global) -> Result<Command<'a>, AllocError>
+    ensures app { IfOk result (λ command. app_of command ≡ syncs_app) }
+    ensures local { IfOk result (λ command. (fields_of command).has_globals ≡ false) }
+{
+    let syncs = word(alloc, "syncs", help::SYNCS, help::SYNCS_EXAMPLE);
+    let ordered = syncs.arg(option(alloc, "order", "LIST", help::ORDER))?;
+    shared(alloc, ordered, help::FORMAT)
+}
+
 fn run_command<'a>(alloc: Global) -> Result<Command<'a>, AllocError>
     ensures app { IfOk result (λ command. app_of command ≡ run_app) }
     ensures local { IfOk result (λ command. (fields_of command).has_globals ≡ false) }
@@ -330,12 +339,20 @@ fn runs_command<'a>(alloc: Global) -> Result<Command<'a>, AllocError>
     with_word(played, run_command(alloc))
 }
 
+// The program, with these and the word of the table of synchronisations.
+fn counted_command<'a>(alloc: Global) -> Result<Command<'a>, AllocError>
+    ensures app { IfOk result (λ command. app_of command ≡ counted_app) }
+{
+    let runs = runs_command(alloc)?;
+    with_word(runs, syncs_command(alloc))
+}
+
 /// The whole command.
 pub fn command<'a>(alloc: Global) -> Result<Command<'a>, AllocError>
     ensures app { IfOk result (λ command. app_of command ≡ qs_app) }
 {
-    let runs = runs_command(alloc)?;
-    let listed = with_word(runs, outcomes_command(alloc))?;
+    let counted = counted_command(alloc)?;
+    let listed = with_word(counted, outcomes_command(alloc))?;
     let asked = with_word(listed, ask_command(alloc))?;
     let led = with_word(asked, fronts_command(alloc))?;
     with_word(led, estimate_command(alloc))

@@ -106,6 +106,23 @@ Along one order of reservations neither the mode nor the size of chunks changes 
 They change how many synchronisations are sent, and may change who comes first."
 );
 
+pub const SYNCS: &str =
+    "Counts the synchronisations that each mode of coalescing sends, and what it saves";
+
+pub const SYNCS_EXAMPLE: &str = with_limits!(
+    "\
+Examples:
+  qs syncs < my.script
+      for each block and each of its objects, how many synchronisations each of the four modes sends
+  qs syncs --order @bob,@ann < my.script
+      the same where a whole block of bob runs first, and then one of ann
+
+The blocks run one after another, without `--order` in the order of `qs play`. A line
+`sync a none 3 dynamic 1 saves 2 static 2 saves 1 both 1 saves 2` says that the block synchronises
+with the handler of a 3 times without coalescing, and only once with `--mode both`, which saves 2.
+The last line has the sums."
+);
+
 pub const RUN: &str = "Runs the script with each client and each handler on a thread of its own";
 
 pub const RUN_EXAMPLE: &str = with_limits!(

@@ -7,7 +7,7 @@ ghost use Rattle.std.specs.List.{list_any};
 ghost use Rattle.qs_line.specs.audit.Apart.{both_stand_at, flag_at, has_apart, stands_at};
 ghost use Rattle.qs_line.specs.audit.Command.{qs_app};
 ghost use Rattle.qs_line.specs.audit.Line.{asks_language, help, chunk_at, has_times, mode_at, number_in, play_at, report_format_at, rules_at, single_run_at, style_at, styled_plan, can_tell};
-ghost use Rattle.qs_line.specs.Line.{IsAnswer, IsFault, IsFaultAmong, alike_at, ask_at, blocks_at, check_at, claim_at, claim_in, estimate_at, fronts_at, has_threads, list_at, format_at, front_at, graph_at, graph_format_at, is_verbose_in, is_verbose_met, leads_at, limit_at, line_in, outcomes_at, outcomes_format_at, plan_of, request_at, request_met, request_of, request_of_word, run_at, tally_at, threads_at, threads_beside, times_at, warns_in, warns_met};
+ghost use Rattle.qs_line.specs.Line.{IsAnswer, IsFault, IsFaultAmong, alike_at, ask_at, blocks_at, check_at, claim_at, claim_in, estimate_at, fronts_at, has_threads, list_at, format_at, front_at, graph_at, graph_format_at, is_verbose_in, is_verbose_met, leads_at, limit_at, line_in, outcomes_at, outcomes_format_at, plan_of, request_at, request_met, request_of, request_of_word, run_at, syncs_at, tally_at, threads_at, threads_beside, times_at, warns_in, warns_met};
 
 use crate::apart::{APART, Setting};
 use crate::command::command;
@@ -142,6 +142,13 @@ pub enum Settings {
         /// Who goes when.
         plan: Plan,
     },
+    /// Check it, and count the synchronisations that each mode sends for the blocks of an order.
+    Syncs {
+        /// How the counts are written.
+        format: Format,
+        /// In which order the blocks run: that of a schedule, where the line has no order.
+        plan: Plan,
+    },
     /// Check it, and run it on threads.
     Run {
         /// How the report is written.
@@ -237,6 +244,7 @@ impl Settings {
             Settings::Graph { format } => format.refusals(),
             Settings::Rules { style, .. } => style.refusals(),
             Settings::Play { style, .. } => style.refusals(),
+            Settings::Syncs { format, .. } => *format,
             Settings::Run { style, .. } => style.refusals(),
             Settings::Tally { format, .. } => *format,
             Settings::Ask { format, .. } => *format,
@@ -514,6 +522,16 @@ fn play_settings(alloc: Global, found: &ArgMatches<'_>) -> Result<Option<Setting
     }
 }
 
+// The synchronisations of each mode.
+fn syncs_settings(alloc: Global, found: &ArgMatches<'_>) -> Result<Option<Settings>, AllocError>
+    ensures settings { IfOk result (λ settings. option_map request_of settings ≡ syncs_at (rows_of (found_of found.now))) }
+{
+    let (Some(format), Some(plan)) = (format_of(found), given_plan(alloc, found)?) else {
+        return Ok(None);
+    };
+    Ok(Some(Settings::Syncs { format, plan }))
+}
+
 // Many runs, whose ends are counted.
 fn tally_settings(found: &ArgMatches<'_>) -> Option<Settings>
     ensures settings { option_map request_of result ≡ tally_at (rows_of (found_of found.now)) }
@@ -723,6 +741,7 @@ fn settings_of_word(
         "rules" => rules_settings(alloc, found),
         "play" => play_settings(alloc, found),
         "run" => Ok(run_settings(found)),
+        "syncs" => syncs_settings(alloc, found),
         "outcomes" => outcomes_settings(alloc, found),
         "ask" => ask_settings(alloc, found),
         "fronts" => fronts_settings(alloc, found),

@@ -10,6 +10,8 @@ pub mod FrontsText
 pub mod AnswerText
 pub mod TallyText
 pub mod EstimateText
+pub mod SyncTable
+pub mod SyncsText
 pub mod Faults
 -- What crates promise one another, what proofs use, and worked examples.
 pub mod Lines

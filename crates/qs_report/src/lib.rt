@@ -19,6 +19,8 @@ mod outcomes;
 mod refusals;
 mod runs;
 mod states;
+mod sync_table;
+mod syncs;
 mod tallies;
 mod tickets;
 
@@ -32,4 +34,6 @@ pub use fronts::fronts_text;
 pub use graphs::graph_text;
 pub use outcomes::{outcome_at, outcomes_text};
 pub use runs::{report, report_counts, report_run, report_run_counts, report_with_refusals};
+pub use sync_table::{ModeCounts, SyncTable};
+pub use syncs::syncs_text;
 pub use tallies::{came, end_at, tally_text};

@@ -4,7 +4,7 @@
 use Rattle.std.proofs.Common.{◌⊎◌, ℕ, Bool, List, Option, Some, None, sym, subst, inr, take}
 use Rattle.std.specs.Prelude.{IfSome}
 use Rattle.qs_line.specs.declared.line.Settings.{Settings}
-use Rattle.qs_line.specs.audit.Line.{Line, Request, alike, ask, asks, check, estimate, fronts, graph, help, outcomes, play, refused, rules, run, tally, version}
+use Rattle.qs_line.specs.audit.Line.{Line, Request, alike, ask, asks, check, estimate, fronts, graph, help, outcomes, play, refused, rules, run, syncs, tally, version}
 use Rattle.qs_line.specs.Line.{request_of}
 use Rattle.qs_program.specs.audit.Program.{ProgramShape}
 use Rattle.qs_report.specs.declared.faults.Fault.{Fault}
@@ -100,6 +100,7 @@ module _ {S : Type 0} (Answers : S → ℕ → Bool → S → Type 0) (before af
   started_for (graph how) known failed lines p due read asked = tt
   started_for (rules style plan) known failed lines p due read asked = tt
   started_for (play style mode size plan) known failed lines p due read asked = tt
+  started_for (syncs how plan) known failed lines p due read asked = tt
   started_for (ask claim how limit front) known failed lines p due read asked = tt
   started_for (estimate how front) known failed lines p due read asked = tt
   started_for (fronts how blocks limit orders) known failed lines p due read asked = tt
@@ -130,6 +131,7 @@ module _ {S : Type 0} (Answers : S → ℕ → Bool → S → Type 0) (before af
   started_unbegun (asks (graph how)) known due is = tt
   started_unbegun (asks (rules style plan)) known due is = tt
   started_unbegun (asks (play style mode size plan)) known due is = tt
+  started_unbegun (asks (syncs how plan)) known due is = tt
   started_unbegun (asks (ask claim how limit front)) known due is = tt
   started_unbegun (asks (estimate how front)) known due is = tt
   started_unbegun (asks (fronts how blocks limit orders)) known due is = tt

@@ -33,7 +33,7 @@ use Rattle.qs_line.specs.declared.line.Format.TheVariants as format
 use Rattle.qs_line.specs.declared.line.OutcomesFormat.{OutcomesFormat}
 use Rattle.qs_line.specs.declared.line.GraphFormat.TheVariants as graph_format
 use Rattle.qs_line.specs.declared.line.ReportStyle.{ReportStyle}
-use Rattle.qs_line.specs.audit.Line.{Line, Request, alike, ask, asks, check, estimate, fronts, graph, help, outcomes, play, refused, rules, run, tally, version}
+use Rattle.qs_line.specs.audit.Line.{Line, Request, alike, ask, asks, check, estimate, fronts, graph, help, outcomes, play, refused, rules, run, syncs, tally, version}
 use Rattle.qs_conditions.specs.declared.claim.Claim.{Claim}
 use Rattle.qs_outcomes.specs.Answers.{AnswerShape}
 use Rattle.std.specs.Prelude.{IfSome}
@@ -316,6 +316,7 @@ any_text (graph graph_format.Json) found lines p text are is = is
 any_text (graph graph_format.Dot) found lines p text are is = subst (λ xs. IsTextBy (graph graph_format.Dot) xs p text) are is
 any_text (rules style plan) found lines p text are is = is
 any_text (play style mode size plan) found lines p text are is = is
+any_text (syncs how plan) found lines p text are is = is
 any_text (run style mode size) found lines p text are is = is
 any_text (tally how mode size times) found lines p text are is = is
 any_text (ask claim how limit front) found lines p text are is = is

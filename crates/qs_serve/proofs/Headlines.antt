@@ -13,7 +13,7 @@ use Rattle.qs_script.proofs.grammar.Form.{formed}
 use Rattle.qs_line.proofs.Claims.{claims_have_conditions, runs_are_lines}
 use Rattle.qs_line.specs.Claims.{HasCondition}
 use Rattle.qs_line.specs.audit.RunLines.{style_of}
-use Rattle.qs_line.specs.audit.Line.{Line, Request, alike, ask, asks, by_order, by_schedule, check, estimate, fronts, graph, outcomes, play, rules, run, tally}
+use Rattle.qs_line.specs.audit.Line.{Line, Request, alike, ask, asks, by_order, by_schedule, check, estimate, fronts, graph, outcomes, play, rules, run, syncs, tally}
 use Rattle.qs_line.specs.audit.Named.{actors_of, clients_of}
 use Rattle.qs_line.specs.declared.line.Format.{Format}
 use Rattle.qs_line.specs.declared.line.Format.TheVariants as format
@@ -149,6 +149,7 @@ by_request (run own mode size) style text bytes old new s e script accepted (r, 
     (λ unasked. refl) (λ unasked. refl) (alone bytes _ is) written (λ all. outcome.finished))
 by_request (check how) style text bytes old new s e script accepted is written = absurd (cc e)
 by_request (graph how) style text bytes old new s e script accepted is written = absurd (cc e)
+by_request (syncs how plan) style text bytes old new s e script accepted is written = absurd (cc e)
 by_request (tally how mode size times) style text bytes old new s e script accepted is written = absurd (cc e)
 by_request (ask claim how limit front) style text bytes old new s e script accepted is written = absurd (cc e)
 by_request (estimate how front) style text bytes old new s e script accepted is written = absurd (cc e)
@@ -244,6 +245,7 @@ module _ (text bytes : List ℕ) (old new : Option (List ℕ)) (s : List Item) (
   by_answer (graph how) claim its front holds e has is = absurd is
   by_answer (rules style plan) claim its front holds e has is = absurd is
   by_answer (play style mode size plan) claim its front holds e has is = absurd is
+  by_answer (syncs how plan) claim its front holds e has is = absurd is
   by_answer (run style mode size) claim its front holds e has is = absurd is
   by_answer (tally how mode size times) claim its front holds e has is = absurd is
   by_answer (estimate how list) claim its front holds e has is = absurd is
@@ -259,6 +261,7 @@ yes_by (check own) claim how front lines p text e is = absurd (cc e)
 yes_by (graph own) claim how front lines p text e is = absurd (cc e)
 yes_by (rules style plan) claim how front lines p text e is = absurd (cc e)
 yes_by (play style mode size plan) claim how front lines p text e is = absurd (cc e)
+yes_by (syncs own plan) claim how front lines p text e is = absurd (cc e)
 yes_by (run style mode size) claim how front lines p text e is = absurd (cc e)
 yes_by (tally own mode size times) claim how front lines p text e is = absurd (cc e)
 yes_by (estimate own list) claim how front lines p text e is = absurd (cc e)

@@ -4,4 +4,5 @@ pub mod FrontsDues
 pub mod Headlines
 pub mod LineDues
 pub mod OtherDues
+pub mod SyncDues
 mod Gathering

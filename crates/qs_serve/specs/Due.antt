@@ -73,7 +73,12 @@ use Rattle.qs_played.specs.declared.fault.PlayFault.{PlayFault}
 use Rattle.qs_played.specs.declared.fault.RunFault.{RunFault}
 use Rattle.qs_played.specs.audit.Played.{Played}
 use Rattle.qs_played.specs.audit.Schedule.{most_rounds}
+use Rattle.qs_objects.specs.declared.held.Ticket.{Ticket}
 use Rattle.qs_syncset.specs.declared.mode.Mode.{Mode}
+use Rattle.qs_syncset.specs.declared.mode.Mode.TheVariants.{Both}
+use Rattle.qs_report.specs.SyncTable.{IsExactTable, TableShape}
+use Rattle.qs_report.specs.SyncsText.{syncs_text}
+use Rattle.qs_json.specs.SyncsJson.{syncs_json}
 use Rattle.qs_steps.specs.CoreQueues.{core_queues}
 use Rattle.qs_steps.specs.CoreSteps.{core_steps}
 use Rattle.qs_steps.specs.PlainQueues.{plain_queues}
@@ -94,7 +99,7 @@ use Rattle.qs_line.specs.declared.line.LineFault.TheVariants as line_fault
 use Rattle.qs_line.specs.declared.line.ReportStyle.{ReportStyle}
 use Rattle.qs_line.specs.declared.line.Settings.{Settings}
 use Rattle.qs_line.specs.declared.parts.Part.{Part}
-use Rattle.qs_line.specs.audit.Line.{Line, PlanShape, Request, alike, ask, asks, by_order, by_schedule, check, estimate, fronts, graph, help, outcomes, play, refused, rules, run, tally, version}
+use Rattle.qs_line.specs.audit.Line.{Line, PlanShape, Request, alike, ask, asks, by_order, by_schedule, check, estimate, fronts, graph, help, outcomes, play, refused, rules, run, syncs, tally, version}
 use Rattle.qs_line.specs.Line.{format_by, format_of_request, line_in, request_of}
 use Rattle.qs_serve.specs.audit.RunReports.{report_by}
 use Rattle.qs_serve.specs.Reading.{Reading}
@@ -278,6 +283,34 @@ IsShownByPlay mode size (by_order list) p played =
     IsOkAnd (clients_of p list) (λ clients. IsLegal p (order_of clients)
     × IsPlayedInOrderOn p mode size (order_of clients) played)
 
+-- how many requests a chunk holds by default
+abbrev pub default_chunk : ℕ
+default_chunk = 8
+
+-- the order whose blocks are counted: the one that a list names in the program; or that of the run by a schedule in the
+-- optimised machine, with the mode and the size of chunks that a line has by default
+abbrev pub IsCountedOrder : PlanShape → ProgramShape → List Ticket → Type 0
+IsCountedOrder (by_schedule rounds picks) p order =
+    (played : Played) × IsShownByPlay Both default_chunk (by_schedule rounds picks) p played × (order ≡ played.order)
+IsCountedOrder (by_order list) p order =
+    IsOkAnd (clients_of p list) (λ clients. IsLegal p (order_of clients) × (order ≡ order_of clients))
+
+-- a table of synchronisations, as text or as JSON
+abbrev pub syncs_in : Format → ProgramShape → TableShape → List ℕ
+syncs_in format.Text p t = syncs_text p t
+syncs_in format.Json p t = syncs_json p t
+
+-- this table; or that an allocation failed
+abbrev pub IsTabled : Format → ProgramShape → TableShape → Due → Type 0
+IsTabled how p t (Text bytes) = bytes.items ≡ syncs_in how p t
+IsTabled how p t (No bytes) = ⊥
+IsTabled how p t (Refused f) = f ≡ fault.Memory
+
+-- There is a table of how many synchronisations each block of an order sends in each mode, with the exact numbers, whose
+-- text this is.
+abbrev pub IsSyncsText : Format → ProgramShape → List Ticket → List ℕ → Type 0
+IsSyncsText how p order text = (t : TableShape) × IsExactTable p order t × (text ≡ syncs_in how p t)
+
 -- the lines of the steps of a schedule under the plain rules, by the actors that its picks name in the program; of an
 -- order none are told
 abbrev pub AreStepsOfRules : PlanShape → ProgramShape → List ℕ → Type 0
@@ -349,7 +382,7 @@ IsAnswerBy (ask claim how limit front) p holds text =
 IsAnswerBy _ p holds text = ⊥
 
 -- what a request makes of a program: its counts; its graphs; the report of its run by the plain rules or in the
--- optimised machine; that of an outcome which its run on threads may have, or how often each end came in so many of
+-- optimised machine; how many synchronisations each mode sends for an order; the report of an outcome which its run on threads may have, or how often each end came in so many of
 -- these; after the blocks of some clients, how many configurations there can be; or, after these and of so many
 -- configurations at most, that a claim holds, or all its outcomes, by as many threads as may be; or, after each of some
 -- lists, the configurations after so many blocks more; or one of all alike outcomes. Each is written in the format that
@@ -368,6 +401,8 @@ IsTextBy (play style mode size plan) lines p text =
     × AreLinesWhere style.steps (AreStepsOfPlay mode size plan p) steps
     × AreLinesWhere style.queues (AreQueuesOfPlay mode size plan p) queues
     × (text ≡ told_report steps queues (report_by style p played))
+IsTextBy (syncs how plan) lines p text =
+    (order : List Ticket) × IsCountedOrder plan p order × IsSyncsText how p order text
 IsTextBy (run style mode size) lines p text =
     (outcome : Played) × IsOutcome p mode size outcome × (text ≡ report_by style p outcome)
 IsTextBy (tally how mode size times) lines p text =
@@ -389,6 +424,7 @@ IsUnnamed (by_order list) p = IsErr (clients_of p list)
 abbrev pub IsUnnamedBy : Request → ProgramShape → Type 0
 IsUnnamedBy (rules style plan) p = IsUnnamed plan p
 IsUnnamedBy (play style mode size plan) p = IsUnnamed plan p
+IsUnnamedBy (syncs how plan) p = IsUnnamed plan p
 IsUnnamedBy (ask claim how limit front) p =
     (¬ (first_unknown_in p claim.condition ≡ None)) ⊎ IsErr (clients_of p front)
 IsUnnamedBy (estimate how front) p = IsErr (clients_of p front)
@@ -407,6 +443,8 @@ IsUnplayedBy (rules style (by_schedule rounds picks)) p f =
     IsOkAnd (actors_of p picks) (λ actors. IsPlayed p actors rounds (Err f))
 IsUnplayedBy (play style mode size (by_schedule rounds picks)) p f =
     IsOkAnd (actors_of p picks) (λ actors. IsPlayedIn p mode size actors rounds (Err f))
+IsUnplayedBy (syncs how (by_schedule rounds picks)) p f =
+    IsOkAnd (actors_of p picks) (λ actors. IsPlayedIn p Both default_chunk actors rounds (Err f))
 IsUnplayedBy _ p f = ⊥
 
 -- why the order of some clients is not played: it is not legal, or it is and an allocation failed
@@ -419,6 +457,7 @@ abbrev pub IsUnorderedBy : Request → ProgramShape → OrderFault → Type 0
 IsUnorderedBy (rules style (by_order list)) p f = IsOkAnd (clients_of p list) (λ clients. IsUnordered p clients f)
 IsUnorderedBy (play style mode size (by_order list)) p f =
     IsOkAnd (clients_of p list) (λ clients. IsUnordered p clients f)
+IsUnorderedBy (syncs how (by_order list)) p f = IsOkAnd (clients_of p list) (λ clients. IsUnordered p clients f)
 IsUnorderedBy _ p f = ⊥
 
 -- a run on threads is asked for; it may want memory or threads on any program
@@ -507,6 +546,19 @@ IsAnswerAfterDue how p claim limit clients (Refused (fault.Outcomes f)) =
     IsUnanswered p claim limit clients f
 IsAnswerAfterDue how p claim limit clients (Refused _) = ⊥
 
+-- what is due of a table of the order that some clients name: its text, why the order is not played, or that an
+-- allocation failed
+abbrev pub IsTableDue : Format → ProgramShape → (clients : List ℕ) → Due → Type 0
+IsTableDue how p clients (Text bytes) = IsLegal p (order_of clients) × IsSyncsText how p (order_of clients) bytes.items
+IsTableDue how p clients (No bytes) = ⊥
+IsTableDue how p clients (Refused fault.Memory) = Unit {0}
+IsTableDue how p clients (Refused (fault.Order f)) = IsUnordered p clients f
+IsTableDue how p clients (Refused _) = ⊥
+
+-- the client of a ticket
+abbrev pub client_of : Ticket → ℕ
+client_of t = t.client
+
 -- why a request makes nothing of a program
 abbrev pub IsRefusedFor : Request → ProgramShape → Fault → Type 0
 IsRefusedFor request p fault.CommandLine = IsUnnamedBy request p
@@ -530,6 +582,7 @@ AreLinesFor (graph graph_format.Json) found lines = ⊤
 AreLinesFor (check how) found lines = ⊤
 AreLinesFor (rules style plan) found lines = ⊤
 AreLinesFor (play style mode size plan) found lines = ⊤
+AreLinesFor (syncs how plan) found lines = ⊤
 AreLinesFor (run style mode size) found lines = ⊤
 AreLinesFor (tally how mode size times) found lines = ⊤
 AreLinesFor (ask claim how limit front) found lines = ⊤

@@ -14,6 +14,7 @@ use crate::fronts::due_of_fronts;
 use crate::plays::{due_of_play, due_of_rules};
 use crate::reports::due_of_outcome;
 use crate::searches::{Search, due_by_threads, due_of_alike};
+use crate::syncs::due_of_syncs;
 use qs_check::Program;
 use qs_chunk::ChunkSize;
 use qs_conditions::{Claim, Quantifier};
@@ -287,9 +288,9 @@ pub(crate) fn due_of_outcomes<P: Watcher>(
     }
 }
 
-/// What settings make of a program: a run by the plain rules or in the optimised machine, an estimate, the answer to a
-/// claim, fronts, alike outcomes, all outcomes, the counts, or the graphs. A run on threads is refused, as a fault of the
-/// command line.
+/// What settings make of a program: a run by the plain rules or in the optimised machine, a table of synchronisations,
+/// an estimate, the answer to a claim, fronts, alike outcomes, all outcomes, the counts, or the graphs. A run on threads
+/// is refused, as a fault of the command line.
 pub(crate) fn due_of_program<P: Watcher>(
     alloc: Global,
     settings: &Settings,
@@ -308,6 +309,7 @@ pub(crate) fn due_of_program<P: Watcher>(
             chunk,
             plan,
         } => due_of_play(alloc, program, *style, *mode, *chunk, plan),
+        Settings::Syncs { format, plan } => due_of_syncs(alloc, program, *format, plan),
         Settings::Run { .. } | Settings::Tally { .. } => Due::Refused(Fault::CommandLine),
         Settings::Estimate { format, front } => {
             due_of_estimate(alloc, program, *format, front.as_slice())

@@ -17,6 +17,7 @@ mod reports;
 mod run_report;
 mod searches;
 mod serving;
+mod syncs;
 mod tallies;
 mod telling;
 

@@ -65,6 +65,10 @@ machine_app word = with_rule (with_rule (new_app word) (defaulted_rule (codes "m
 abbrev pub play_app : App
 play_app = shared_app (planned_app (machine_app (codes "play")))
 
+-- `syncs [--order LIST] [--format F] [--warn]`
+abbrev pub syncs_app : App
+syncs_app = shared_app (with_rule (new_app (codes "syncs")) (option_rule (codes "order")))
+
 -- `--times`, of 1 to 100000
 abbrev pub times_rule : Rule
 times_rule = record (option_rule (codes "times")) { parser = Some (parser.Signed (pos 1) (pos 100000)) }
@@ -141,6 +145,10 @@ abbrev pub runs_app : App
 runs_app =
     with_word (with_word (with_word (with_word (with_word named_app check_app) graph_app) rules_app) play_app) run_app
 
+-- with the word of the table of synchronisations
+abbrev pub counted_app : App
+counted_app = with_word runs_app syncs_app
+
 -- the whole command
 abbrev pub qs_app : App
-qs_app = with_word (with_word (with_word (with_word runs_app outcomes_app) ask_app) fronts_app) estimate_app
+qs_app = with_word (with_word (with_word (with_word counted_app outcomes_app) ask_app) fronts_app) estimate_app

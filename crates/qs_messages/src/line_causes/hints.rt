@@ -8,7 +8,8 @@ use std::alloc::AllocError;
 fn owners_of(name: &str) -> Option<&'static str> {
     match name {
         "verbose" => Some("`check`"),
-        "rounds" | "pick" | "order" | "steps" | "queues" => Some("`rules` and `play`"),
+        "order" => Some("`rules`, `play` and `syncs`"),
+        "rounds" | "pick" | "steps" | "queues" => Some("`rules` and `play`"),
         "counts" | "refusals" => Some("`rules`, `play` and `run`"),
         "mode" | "chunk" => Some("`play` and `run`"),
         "times" => Some("`run`"),

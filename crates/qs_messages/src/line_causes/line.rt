@@ -16,7 +16,7 @@ const NO_CLAIM: &[u8] =
     b"error: `ask` needs a condition: `--always`, `--some`, `--throughout`, `--ever` or `--never`\n  = help: `qs ask --help` says what each of them asks\n";
 
 const NO_WORD: &[u8] =
-    b"error: no word stands on the line: `check`, `graph`, `rules`, `play`, `run`, `outcomes`, `ask`, `fronts` or `estimate`\n  = help: `qs --help` says what each of them does\n";
+    b"error: no word stands on the line: `check`, `graph`, `rules`, `play`, `run`, `syncs`, `outcomes`, `ask`, `fronts` or `estimate`\n  = help: `qs --help` says what each of them does\n";
 
 /// Puts what is said of a line at the end: what `clap` says where it refuses the line by an error, and else which value
 /// is wrong.
@@ -65,7 +65,16 @@ fn put_beneath<'a>(out: &mut Vec<u8>, words: &'a [&'a str]) -> Result<(), AllocE
 fn is_word(word: &str) -> bool {
     matches!(
         word,
-        "check" | "graph" | "rules" | "play" | "run" | "outcomes" | "ask" | "fronts" | "estimate"
+        "check"
+            | "graph"
+            | "rules"
+            | "play"
+            | "run"
+            | "syncs"
+            | "outcomes"
+            | "ask"
+            | "fronts"
+            | "estimate"
     )
 }
 

@@ -6,8 +6,8 @@ use Rattle.qs_line.proofs.command.command.Goals as goal
 
 pub returns : goal.returns
 returns c =
-    let listed = adds_word c.outcomes_command.result (app_of c.in_ok-listed.listed) (app_of c.in_ok-runs.runs) outcomes_app c.outcomes_command.ensures.app c.in_ok-listed.ensures.app
-    ∙ ap (λ a. with_word a outcomes_app) c.in_ok-runs.ensures.app in
+    let listed = adds_word c.outcomes_command.result (app_of c.in_ok-listed.listed) (app_of c.in_ok-counted.counted) outcomes_app c.outcomes_command.ensures.app c.in_ok-listed.ensures.app
+    ∙ ap (λ a. with_word a outcomes_app) c.in_ok-counted.ensures.app in
     let asked = adds_word c.ask_command.result (app_of c.in_ok-asked.asked) (app_of c.in_ok-listed.listed) ask_app c.ask_command.ensures.app c.in_ok-asked.ensures.app
     ∙ ap (λ a. with_word a ask_app) listed in
     let led = adds_word c.fronts_command.result (app_of c.in_ok-led.led) (app_of c.in_ok-asked.asked) fronts_app c.fronts_command.ensures.app c.in_ok-led.ensures.app
