@@ -112,6 +112,7 @@ have_set [] [] k i n have = have
 have_set (os ∷ oss) (cs ∷ css) zero i n have = (length-set cs i n ∙ have.0, have.1)
 have_set (os ∷ oss) (cs ∷ css) (suc k) i n have = (have.0, have_set oss css k i n have.1)
 have_set _ _ k i n have = absurd have
+
 pub have_fresh : (blocks : ℕ) → HaveCounts (replicate blocks []) (replicate blocks [])
 have_fresh zero = tt
 have_fresh (suc blocks) = (refl, have_fresh blocks)

@@ -108,7 +108,6 @@ held P (x ∷ xs) y all h = held_by P x y (x == y) xs refl h all.0 (held P xs y 
 
 module _ (B : List ℕ) (F D : List Declared) (each : length B ≡ length F) (inside : AllByRecursion (λ h. h < length D) B)
     (kinds : (i : ℕ) → i < length F → same_kind (slice_index_or F i no_object).kind (slice_index_or D (slice_index_or B i 0) no_object).kind ≡ true) where
-
   bound_is : (i : ℕ) → i < length F → bound B i ≡ slice_index_or B i 0
   bound_is i h = get_or_default B i i 0 (omega (arith, each))
 

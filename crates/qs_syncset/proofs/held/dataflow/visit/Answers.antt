@@ -42,7 +42,7 @@ loop-to-preserved c =
     record {
       visit = visit_passed g x (set_at first x) (length first.list) (turns_left first) old new to out inside visit fair passed;
       arrived = arrived_more (λ n. HasArrived (reached_at new) (holding_of_node new) n (in_byte out)) edges _ c.loop-to-test.true
-      (λ n among. arrived_still _ _ to _ met n (in_byte out) (c.loop-to.invariant.arrived n among)) (arrived_there old new to out met);
+          (λ n among. arrived_still _ _ to _ met n (in_byte out) (c.loop-to.invariant.arrived n among)) (arrived_there old new to out met);
     }
 
 pub returns-clause-work : goal.returns-clause-work
