@@ -30,7 +30,11 @@ fn book_and_take<D: DeskName, R: Wait>(rt: &R, raw: RawDesk) -> Option<bool>
 /// Whether the first handler finds the ticket of the first client's first block, which reserves it. A desk makes the
 /// tickets of all reservations one legal order (`Desk::into_order`), and each handler takes its own in this order (law
 /// `follows` of `qs_desk`).
-pub fn first_ticket_comes<R: Wait>(rt: &R, alloc: Global, program: &Program) -> Option<bool> {
+pub(crate) fn first_ticket_comes<R: Wait>(
+    rt: &R,
+    alloc: Global,
+    program: &Program,
+) -> Option<bool> {
     let raw = RawDesk::new(alloc, program).ok()?;
     book_and_take::<Brand, R>(rt, raw)
 }

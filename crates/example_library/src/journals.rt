@@ -6,7 +6,7 @@ use std::alloc::Global;
 
 /// How many requests the journal of an account of 7 has after a deposit of 5, and what the account holds then. `run`
 /// answers what the object answers and notes the request with its ticket at the journal's end (clause *ran*).
-pub fn after_a_deposit(alloc: Global) -> Option<(usize, i64)> {
+pub(crate) fn after_a_deposit(alloc: Global) -> Option<(usize, i64)> {
     let mut held = account(alloc, 7)?;
     let request = Request {
         object: 0,

@@ -9,7 +9,7 @@ use std::alloc::Global;
 use std::sync::Wait;
 
 /// An account by itself.
-pub fn account(alloc: Global, balance: i64) -> Option<Held> {
+pub(crate) fn account(alloc: Global, balance: i64) -> Option<Held> {
     let object = Object::new(alloc, Kind::Account { balance }).ok()?;
     Held::new(alloc, object, 1).ok()
 }
@@ -32,7 +32,7 @@ fn lend<R: Wait>(rt: &R, out: &mut LaneOut, inside: &mut LaneIn, held: Held) -> 
 }
 
 /// What an account holds that a handler lends to its client through a lane, both on one thread.
-pub fn lent_balance<R: Wait>(rt: &R, alloc: Global) -> Option<i64> {
+pub(crate) fn lent_balance<R: Wait>(rt: &R, alloc: Global) -> Option<i64> {
     let (mut out, mut inside) = lane(rt, alloc, ChunkSize::new(4)?).ok()?;
     let held = lend(rt, &mut out, &mut inside, account(alloc, 7)?)?;
     let balance = held.object().value(0);

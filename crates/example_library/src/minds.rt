@@ -12,7 +12,7 @@ use std::alloc::Global;
 /// Whether a handler has closed with its object once it has served a ticket whose block sent nothing, and no other
 /// came. Told what came of each act that it asks for, a mind says the next; whoever asks it, a loop on a thread or the
 /// optimised machine, it decides the same.
-pub fn after_an_empty_block(alloc: Global) -> Option<bool> {
+pub(crate) fn after_an_empty_block(alloc: Global) -> Option<bool> {
     let mut mind = qs_handler::Mind::new(account(alloc, 7)?);
     mind.ticket(Next::Ticket(Ticket {
         client: 0,
@@ -31,7 +31,7 @@ const ACTS: u32 = 100;
 
 /// The last reply in the first trace of the program's first client, who is given an account of 7 once, and whose
 /// parcels go nowhere. A client's mind says its next act, and is told only what came: a ticket, an object or a chunk.
-pub fn last_reply(alloc: Global, program: &Program) -> Option<i64> {
+pub(crate) fn last_reply(alloc: Global, program: &Program) -> Option<i64> {
     if program.clients() == 0 {
         return None;
     }

@@ -28,7 +28,7 @@ fn step_first(core: &mut Core<'_>, clients: usize, objects: usize) -> bool {
 
 /// The report of a run in which a handler steps only while no client can. Whoever is picked, `step` makes exactly the
 /// actor's step, and false says that it has none (clauses *steps*, *none*); what is shown stays isolated (*isolated*).
-pub fn clients_first(alloc: Global, program: &Program, mode: Mode) -> Option<Vec<u8>> {
+pub(crate) fn clients_first(alloc: Global, program: &Program, mode: Mode) -> Option<Vec<u8>> {
     let size = ChunkSize::new(8)?;
     let mut core = Core::new(alloc, program, mode, size).ok()?;
     for _ in 0..STEPS {

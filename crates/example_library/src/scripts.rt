@@ -24,7 +24,7 @@ pub const READS: &str = "object a account 7 client ann { separate a { x = a.bala
 
 /// The program of a script. `read` answers the one script that the text is, or a fault: there is none. `check` answers
 /// the script's program, or the first fault of those in SPEC, in text order.
-pub fn program(alloc: Global, text: &str) -> Option<Program> {
+pub(crate) fn program(alloc: Global, text: &str) -> Option<Program> {
     let script = qs_script::read(alloc, text.as_bytes()).ok()?;
     qs_check::check(alloc, script).ok()
 }

@@ -22,14 +22,14 @@ impl Watcher for Silent {
 
 /// The list of all outcomes. `outcomes` leaves none out and lists each once, with an order that comes to it (clause
 /// *outcomes*); `Limit` comes only where there are more configurations (*limit*).
-pub fn all_outcomes(alloc: Global, program: &Program) -> Option<Vec<u8>> {
+pub(crate) fn all_outcomes(alloc: Global, program: &Program) -> Option<Vec<u8>> {
     let all = outcomes(alloc, program, LIMIT).ok()?;
     outcomes_text(alloc, program, &all).ok()
 }
 
 /// How many outcomes there are; how many but for alike clients in each other's places, of which `outcomes_alike` lists
 /// one each (clause *outcomes*); and how many configurations it took up.
-pub fn up_to_alike(alloc: Global, program: &Program) -> Option<(usize, usize, usize)> {
+pub(crate) fn up_to_alike(alloc: Global, program: &Program) -> Option<(usize, usize, usize)> {
     let all = outcomes(alloc, program, LIMIT).ok()?;
     let some = outcomes_alike(alloc, program, &classes_of(program), LIMIT).ok()?;
     Some((all.found().len(), some.found().len(), some.configurations()))
@@ -38,7 +38,7 @@ pub fn up_to_alike(alloc: Global, program: &Program) -> Option<(usize, usize, us
 /// Whether a condition holds at the end of every run, and how many configurations it took to say so, of which none
 /// becomes another where alike clients change places; None where the condition does not read, or speaks of what the
 /// program does not have. `answer` has a witness exactly where some outcome is another one (clause *answer*).
-pub fn holds_always(alloc: Global, program: &Program, text: &str) -> Option<(bool, usize)> {
+pub(crate) fn holds_always(alloc: Global, program: &Program, text: &str) -> Option<(bool, usize)> {
     let condition = read_condition(alloc, text.as_bytes()).ok()?;
     if first_unknown(&condition, program).is_some() {
         return None;

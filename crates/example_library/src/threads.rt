@@ -44,7 +44,7 @@ impl Starter for OneAlone {
 /// Whether the second object's handler began its ticket after another one had begun. Each handler passes the gate on
 /// its own thread as it begins a ticket. Whatever the threads did, `execute` answers an outcome of the program (clause
 /// *outcome*): what its blocks do one after another, in the order of their reservations.
-pub fn second_handler_waits<R: Threads + Wait + Sync>(
+pub(crate) fn second_handler_waits<R: Threads + Wait + Sync>(
     rt: &R,
     alloc: Global,
     program: &Program,
@@ -60,7 +60,11 @@ pub fn second_handler_waits<R: Threads + Wait + Sync>(
 
 /// Whether a run is refused whose second worker may not be started: nobody has done anything then (clause *refused* of
 /// `execute_with`).
-pub fn is_refused<R: Threads + Wait + Sync>(rt: &R, alloc: Global, program: &Program) -> bool {
+pub(crate) fn is_refused<R: Threads + Wait + Sync>(
+    rt: &R,
+    alloc: Global,
+    program: &Program,
+) -> bool {
     let Some(size) = ChunkSize::new(8) else {
         return false;
     };
