@@ -5,7 +5,7 @@ ghost use Rattle.std.specs.Bool.{Decides};
 ghost use Rattle.qs_alike.specs.Changes.{AreAllAlike, AreAlone, AreClasses, HaveSameText};
 ghost use Rattle.qs_alike.specs.Texts.{IsFirstAlike, classes_in};
 
-use crate::texts::is_same_block;
+use crate::texts::is_equal_block;
 use qs_program::{MOST_CLIENTS, Program};
 
 /// The class of each client: the number of the first client with the same text.
@@ -48,7 +48,7 @@ fn have_same_text(program: &Program, one: u8, other: u8) -> bool
         return false;
     }
     for index in 0..program.blocks_of(one) as u8 {
-        if !is_same_block(program.block(one, index), program.block(other, index)) {
+        if !is_equal_block(program.block(one, index), program.block(other, index)) {
             return false;
         }
     }

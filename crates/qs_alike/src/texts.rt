@@ -6,7 +6,7 @@ ghost use Rattle.qs_program.specs.Views.{single};
 
 use qs_program::{Atom, Block, Body, Call, Expr, Stmt, Test};
 
-fn is_same_atom(one: Atom, other: Atom) -> bool
+fn is_equal_atom(one: Atom, other: Atom) -> bool
     ensures same { Decides result (one ≡ other) }
 {
     match (one, other) {
@@ -23,34 +23,34 @@ fn are_same_atoms(one: &[Atom], other: &[Atom]) -> bool
         return false;
     }
     for place in 0..one.len() {
-        if !is_same_atom(one[place], other[place]) {
+        if !is_equal_atom(one[place], other[place]) {
             return false;
         }
     }
     true
 }
 
-fn is_same_expr(one: Expr, other: Expr) -> bool
+fn is_equal_expr(one: Expr, other: Expr) -> bool
     ensures same { Decides result (one ≡ other) }
 {
     match (one, other) {
-        (Expr::Plain(one), Expr::Plain(other)) => is_same_atom(one, other),
+        (Expr::Plain(one), Expr::Plain(other)) => is_equal_atom(one, other),
         (Expr::Binary(left, operator, right), Expr::Binary(first, sign, second)) => {
-            is_same_atom(left, first) && operator == sign && is_same_atom(right, second)
+            is_equal_atom(left, first) && operator == sign && is_equal_atom(right, second)
         }
         _ => false,
     }
 }
 
-fn is_same_test(one: Test, other: Test) -> bool
+fn is_equal_test(one: Test, other: Test) -> bool
     ensures same { Decides result (one ≡ other) }
 {
-    is_same_atom(one.left, other.left)
+    is_equal_atom(one.left, other.left)
         && one.relation == other.relation
-        && is_same_atom(one.right, other.right)
+        && is_equal_atom(one.right, other.right)
 }
 
-fn is_same_call(one: &Call, other: &Call) -> bool
+fn is_equal_call(one: &Call, other: &Call) -> bool
     ensures same { Decides result (one.now ≡ other.now) }
 {
     one.object == other.object
@@ -59,7 +59,7 @@ fn is_same_call(one: &Call, other: &Call) -> bool
 }
 
 #[cycle(same)]
-fn is_same_body(one: &Body, other: &Body) -> bool
+fn is_equal_body(one: &Body, other: &Body) -> bool
     ensures same { Decides result (one.now ≡ other.now) }
 {
     let one = one.as_slice();
@@ -68,7 +68,7 @@ fn is_same_body(one: &Body, other: &Body) -> bool
         return false;
     }
     for place in 0..one.len() {
-        if !is_same_stmt(&one[place], &other[place]) {
+        if !is_equal_stmt(&one[place], &other[place]) {
             return false;
         }
     }
@@ -76,13 +76,13 @@ fn is_same_body(one: &Body, other: &Body) -> bool
 }
 
 #[cycle(same)]
-fn is_same_stmt(one: &Stmt, other: &Stmt) -> bool
+fn is_equal_stmt(one: &Stmt, other: &Stmt) -> bool
     ensures same { Decides result (single one.now ≡ single other.now) }
 {
     match (one, other) {
-        (Stmt::Command(one), Stmt::Command(other)) => is_same_call(one, other),
-        (Stmt::Query(x, one), Stmt::Query(y, other)) => *x == *y && is_same_call(one, other),
-        (Stmt::Assign(x, one), Stmt::Assign(y, other)) => *x == *y && is_same_expr(*one, *other),
+        (Stmt::Command(one), Stmt::Command(other)) => is_equal_call(one, other),
+        (Stmt::Query(x, one), Stmt::Query(y, other)) => *x == *y && is_equal_call(one, other),
+        (Stmt::Assign(x, one), Stmt::Assign(y, other)) => *x == *y && is_equal_expr(*one, *other),
         (
             Stmt::If {
                 test,
@@ -97,13 +97,13 @@ fn is_same_stmt(one: &Stmt, other: &Stmt) -> bool
                 other: second_other,
             },
         ) => {
-            is_same_test(*test, *second_test)
+            is_equal_test(*test, *second_test)
                 && *has_else == *second_else
-                && is_same_body(first, second_first)
-                && is_same_body(other, second_other)
+                && is_equal_body(first, second_first)
+                && is_equal_body(other, second_other)
         }
         (Stmt::Repeat(turns, one), Stmt::Repeat(others, other)) => {
-            *turns == *others && is_same_body(one, other)
+            *turns == *others && is_equal_body(one, other)
         }
         (Stmt::Leave, Stmt::Leave) => true,
         _ => false,
@@ -111,8 +111,8 @@ fn is_same_stmt(one: &Stmt, other: &Stmt) -> bool
 }
 
 /// Whether two blocks reserve the same objects by the same list and have the same statements.
-pub(crate) fn is_same_block(one: &Block, other: &Block) -> bool
+pub(crate) fn is_equal_block(one: &Block, other: &Block) -> bool
     ensures same { Decides result (one.now ≡ other.now) }
 {
-    one.reserved() == other.reserved() && is_same_body(one.body(), other.body())
+    one.reserved() == other.reserved() && is_equal_body(one.body(), other.body())
 }

@@ -26,4 +26,4 @@ pub use qs_objects::Traces;
 pub use qs_plain::{Awaited, Effect, Rules, play_plain, play_plain_in_order};
 pub use qs_plain_laws::QueueItem;
 pub use qs_played::twin::{Twin, twin};
-pub use qs_played::{Actor, PlayFault, Played, Row};
+pub use qs_played::{Actor, PlayFault, Played, Sequence};

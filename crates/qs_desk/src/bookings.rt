@@ -14,7 +14,7 @@ ghost use Rattle.qs_desk.specs.Wakings.{AreReserved};
 ghost use Rattle.qs_objects.specs.declared.held.Next.{Next};
 
 use crate::name::DeskName;
-use crate::plan::Plan;
+use crate::plan::ReservedLists;
 use crate::queue::{TicketSender, TicketTaker, Tickets};
 use crate::share::{Books, Share};
 use qs_objects::{Next, Ticket};
@@ -24,7 +24,7 @@ use std::sync::Wait;
 
 /// The order of all reservations, and the desk's ends of the handlers' queues of tickets.
 pub(crate) struct Bookings<D: DeskName> {
-    plan: Plan,
+    plan: ReservedLists,
     history: Vec<Ticket>,
     senders: Vec<TicketSender>,
     books: Books<D>,
@@ -65,7 +65,7 @@ impl<D: DeskName> Model for Bookings<D> {
 
 impl<D: DeskName> Bookings<D> {
     pub(crate) fn new(
-        plan: Plan,
+        plan: ReservedLists,
         history: Vec<Ticket>,
         senders: Vec<TicketSender>,
         books: Books<D>,
@@ -161,7 +161,7 @@ fn compare_queue(senders: &mut [TicketSender], handler: u8, end: TicketTaker)
 // Pushes a ticket to each handler that its block reserves, and tells which these are.
 fn push_ticket<D: DeskName, R: Wait>(
     rt: &R,
-    plan: &Plan,
+    plan: &ReservedLists,
     senders: &mut Vec<TicketSender>,
     ticket: Ticket,
 ) -> Reserved

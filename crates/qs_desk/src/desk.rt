@@ -14,7 +14,7 @@ ghost use Rattle.qs_objects.specs.declared.held.Next.{Next};
 
 use crate::bookings::Bookings;
 use crate::name::DeskName;
-use crate::plan::Plan;
+use crate::plan::ReservedLists;
 use crate::queue::{TicketSender, TicketWaker, Tickets};
 use crate::share::{Books, Share};
 use qs_objects::Ticket;
@@ -50,7 +50,7 @@ impl<D: DeskName> Model for Desk<D> {
 
 impl<D: DeskName> Desk<D> {
     pub(crate) fn new(
-        plan: Plan,
+        plan: ReservedLists,
         history: Vec<Ticket>,
         senders: Vec<TicketSender>,
         books: Books<D>,

@@ -50,17 +50,17 @@ impl Model for Blocks {
 }
 
 /// What each block of each client reserves.
-pub struct Plan {
+pub struct ReservedLists {
     clients: Vec<Blocks>,
 }
 
-impl Drop for Plan {
+impl Drop for ReservedLists {
     fn drop(self) {
-        let Plan { clients: _ } = self;
+        let ReservedLists { clients: _ } = self;
     }
 }
 
-impl Model for Plan {
+impl Model for ReservedLists {
     ghost use Rattle.std.specs.Prelude.{List, ℕ};
 
     ghost Value = { List (List (List ℕ)) };
@@ -94,9 +94,9 @@ fn blocks_by(alloc: Global, program: &Program, client: u8) -> Result<Blocks, All
     Ok(Blocks { blocks })
 }
 
-impl Plan {
+impl ReservedLists {
     /// The lists of a program's blocks. An error says that memory was refused.
-    pub(crate) fn new(alloc: Global, program: &Program) -> Result<Plan, AllocError>
+    pub(crate) fn new(alloc: Global, program: &Program) -> Result<ReservedLists, AllocError>
         ensures lists { IfOk result (λ plan. plan ≡ lists_of_program program.now) }
     {
         program.keeps_sound();
@@ -104,7 +104,7 @@ impl Plan {
         for client in 0..program.clients() {
             clients.push(blocks_by(alloc, program, client as u8)?)?;
         }
-        Ok(Plan { clients })
+        Ok(ReservedLists { clients })
     }
 
     /// How many clients there are.

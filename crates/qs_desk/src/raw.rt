@@ -8,7 +8,7 @@ ghost use Rattle.qs_desk.specs.Plans.{lists_of_program};
 
 use crate::desk::Desk;
 use crate::name::DeskName;
-use crate::plan::Plan;
+use crate::plan::ReservedLists;
 use crate::queue::{TicketSender, TicketTaker, TicketWaker, Tickets, make_queue};
 use crate::share::{BlankLedgers, Share};
 use qs_objects::Ticket;
@@ -20,7 +20,7 @@ use std::snapshot::Snapshot;
 /// A desk that has no name yet, with all the memory that it and its handlers' queues will need.
 pub struct RawDesk {
     program: Snapshot<Program>,
-    plan: Plan,
+    plan: ReservedLists,
     history: Vec<Ticket>,
     senders: Vec<TicketSender>,
     wakers: Vec<TicketWaker>,
@@ -112,7 +112,7 @@ impl RawDesk {
         ensures program { IfOk result (λ raw. raw.program ≡ program.now) }
     {
         program.keeps_sound();
-        let plan = Plan::new(alloc, program)?;
+        let plan = ReservedLists::new(alloc, program)?;
         let history = Vec::with_capacity(alloc, MOST_TICKETS)?;
         let (senders, ends) = make_queues(alloc, program)?;
         let wakers = make_wakers(alloc, &senders)?;

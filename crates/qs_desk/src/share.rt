@@ -8,7 +8,7 @@ ghost use Rattle.qs_desk.specs.Plans.{lists_of_program};
 ghost use Rattle.qs_desk.specs.Tickets.{ticket};
 
 use crate::name::DeskName;
-use crate::plan::Plan;
+use crate::plan::ReservedLists;
 use qs_objects::Ticket;
 use qs_program::MOST_CLIENTS;
 use std::marker::{Model, PhantomData};
@@ -108,7 +108,7 @@ impl<D: DeskName> Share<D> {
 
 // The share of a client that the program has.
 fn first_share<D: DeskName>(
-    plan: &Plan,
+    plan: &ReservedLists,
     client: u8,
     ledger_share: LedgerShare<D>,
 ) -> Option<Share<D>>
@@ -206,7 +206,7 @@ impl BlankLedgers {
     /// Books in which nothing is booked, and the shares of the clients that there are.
     pub(crate) fn open<D: DeskName>(
         self,
-        plan: &Plan,
+        plan: &ReservedLists,
     ) -> (Books<D>, [Option<Share<D>>; MOST_CLIENTS])
         requires ledgers { D.ledgers ≡ self }
         requires plan { plan.now ≡ lists_of_program D.program }

@@ -6,14 +6,14 @@ ghost use Rattle.qs_diagnosis.specs.Excerpts.{shown, below, hex, is_plain};
 
 use std::alloc::{AllocError, Global};
 
-/// Puts a text at the end.
+/// Puts a text at the end. An error says that an allocation failed.
 pub fn put(out: &mut Vec<u8>, text: &[u8]) -> Result<(), AllocError>
     ensures ok { OnOk result (out.new.items ≡ out.old.items ++ text.now) }
 {
     out.extend_from_slice(text)
 }
 
-/// Puts texts at the end, one after another.
+/// Puts texts at the end, one after another. An error says that an allocation failed.
 pub fn put_all(out: &mut Vec<u8>, texts: &[&[u8]]) -> Result<(), AllocError>
     ensures ok { OnOk result (out.new.items ≡ out.old.items ++ flat_map (λ text. text.now) texts.now) }
 {

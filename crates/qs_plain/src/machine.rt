@@ -20,7 +20,7 @@ use crate::handler::{
 use crate::showing;
 use qs_objects::Ticket;
 use qs_plain_laws::QueueItem;
-use qs_played::{Actor, Endings, Played, Row};
+use qs_played::{Actor, Endings, Played, Sequence};
 use qs_program::Program;
 use std::alloc::{AllocError, Global};
 use std::marker::Model;
@@ -402,6 +402,6 @@ impl<'p> Machine<'p> {
             syncs,
             finished,
         };
-        Ok(Played::new(Row::from_vec(self.order), clients, endings))
+        Ok(Played::new(Sequence::from_vec(self.order), clients, endings))
     }
 }

@@ -12,7 +12,7 @@ ghost use Rattle.qs_plain.specs.BegunBlocks.{AreBegun, AreOwn, AreRows};
 use crate::client::ClientState;
 use crate::handler::HandlerState;
 use qs_objects::{Journal, Object, Ticket};
-use qs_played::{ClientRows, Row};
+use qs_played::{ClientRows, Sequence};
 use std::alloc::{AllocError, Global};
 
 /// For each ticket whether its block has ended.
@@ -20,7 +20,7 @@ pub(crate) fn endings(
     alloc: Global,
     clients: &[ClientState],
     order: &[Ticket],
-) -> Result<Row<bool>, AllocError>
+) -> Result<Sequence<bool>, AllocError>
     requires { AreBegun clients.now order.now }
     ensures value { IfOk result (λ row. row ≡ map (λ (t : TicketShape). has_ended (client_of_state (client_state_at clients.now t.client)) t.index) order.now) }
 {
@@ -28,7 +28,7 @@ pub(crate) fn endings(
     for ticket in order {
         row.push(clients[usize::from(ticket.client)].has_ended(ticket.index))?;
     }
-    Ok(Row::from_vec(row))
+    Ok(Sequence::from_vec(row))
 }
 
 /// What each client's blocks have shown, taken from it.
@@ -80,7 +80,7 @@ pub(crate) fn are_idle(handlers: &[HandlerState]) -> bool
 pub(crate) fn parts(
     alloc: Global,
     handlers: Vec<HandlerState>,
-) -> Result<(Row<Journal>, Row<Object>), AllocError>
+) -> Result<(Sequence<Journal>, Sequence<Object>), AllocError>
     ensures journals { IfOk result (λ rows. rows.0 ≡ map (λ (h : Serving). h.held.journal) handlers.items) }
     ensures states { IfOk result (λ rows. rows.1 ≡ map (λ (h : Serving). h.held.object) handlers.items) }
 {
@@ -91,5 +91,5 @@ pub(crate) fn parts(
         journals.push(journal)?;
         states.push(object)?;
     }
-    Ok((Row::from_vec(journals), Row::from_vec(states)))
+    Ok((Sequence::from_vec(journals), Sequence::from_vec(states)))
 }

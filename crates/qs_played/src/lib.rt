@@ -14,4 +14,4 @@ pub mod twin;
 pub use fault::{PlayFault, RunFault};
 pub use journal_rooms::declared_held;
 pub use schedule::{Actor, MOST_ROUNDS, are_named};
-pub use shown::{ClientRows, Endings, Outcome, Played, Row};
+pub use shown::{ClientRows, Endings, Outcome, Played, Sequence};

@@ -5,6 +5,7 @@ mod code;
 mod hashing;
 mod kinds;
 mod limits;
+mod name_texts;
 mod names;
 mod program;
 mod totals;
@@ -17,6 +18,7 @@ pub use limits::{
     MOST_BLOCKS, MOST_CLIENTS, MOST_HANDLERS, MOST_OBJECTS, MOST_REQUESTS, MOST_STEPS,
     MOST_TICKETS, MOST_TURNS, MOST_VARIABLES,
 };
+pub use name_texts::{client_name, declared_name, object_name, short_name, variable_name};
 pub use names::Names;
 pub use program::{Block, Client, Declared, Program, Start};
 pub use totals::{all_load, all_weight, block_load};

@@ -9,7 +9,7 @@ ghost use Rattle.qs_script.specs.audit.tree.Limits.{longest_text};
 use crate::fault::{ReadFault, TreeFault};
 use crate::items::script;
 use crate::lines::line_of;
-use crate::tokens::{ListFault, Token, TokenFault, list_tokens};
+use crate::tokens::{Token, TokenFault, TokensFault, list_tokens};
 use crate::tree::{LONGEST_TEXT, Script};
 use std::alloc::{AllocError, Global};
 
@@ -32,8 +32,8 @@ fn tokenize(alloc: Global, text: &[u8]) -> Result<Vec<Token>, ReadFault>
 {
     match list_tokens(alloc, text) {
         Ok(tokens) => Ok(tokens),
-        Err(ListFault::Token(fault)) => Err(placed(fault, line_of(text, text.len()))),
-        Err(ListFault::Memory) => Err(ReadFault::Memory),
+        Err(TokensFault::Token(fault)) => Err(placed(fault, line_of(text, text.len()))),
+        Err(TokensFault::Memory) => Err(ReadFault::Memory),
     }
 }
 

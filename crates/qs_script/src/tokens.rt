@@ -8,7 +8,7 @@ mod number;
 mod token;
 
 pub use lex::{Piece, TokenFault, front};
-pub use listing::{ListFault, list_tokens};
+pub use listing::{TokensFault, list_tokens};
 pub use name::Name;
 pub use number::Number;
 pub use token::Token;

@@ -1,30 +1,13 @@
 // Texts and numbers, put at the end of bytes.
 
-ghost use Rattle.std.specs.Prelude.{◌≡◌, ◌+◌, ◌++◌, OnOk, decimal, flat_map};
+ghost use Rattle.std.specs.Prelude.{◌≡◌, ◌+◌, ◌++◌, OnOk, decimal};
 ghost use Rattle.std.specs.Fmt.{signed_decimal};
 ghost use Rattle.qs_text.specs.audit.Texts.{count_line};
 ghost use Rattle.qs_text.specs.Texts.{Puts};
 
 use itoa::Buffer;
+use qs_diagnosis::{put, put_all};
 use std::alloc::AllocError;
-
-/// Puts a text at the end. An error says that an allocation failed.
-pub fn put(out: &mut Vec<u8>, text: &[u8]) -> Result<(), AllocError>
-    ensures ok { OnOk result (out.new.items ≡ out.old.items ++ text.now) }
-{
-    out.extend_from_slice(text)
-}
-
-/// Puts texts at the end, one after another. An error says that an allocation failed.
-pub fn put_all(out: &mut Vec<u8>, texts: &[&[u8]]) -> Result<(), AllocError>
-    ensures ok { OnOk result (out.new.items
-        ≡ out.old.items ++ flat_map (λ text. text.now) texts.now) }
-{
-    for text in texts {
-        put(out, text)?;
-    }
-    Ok(())
-}
 
 /// Puts a number at the end, with a sign where it is negative. An error says that an allocation failed.
 pub fn put_number(out: &mut Vec<u8>, number: i64) -> Result<(), AllocError>

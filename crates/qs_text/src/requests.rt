@@ -5,10 +5,10 @@ ghost use Rattle.std.specs.Fmt.{signed_decimal};
 ghost use Rattle.qs_text.specs.Texts.{Puts};
 ghost use Rattle.qs_text.specs.audit.Words.{args_text, request_text, reply_text, ended_text};
 
-use crate::bytes::{put, put_number, put_short, put_word};
-use crate::names::object_name;
+use crate::bytes::{put_number, put_short, put_word};
+use qs_diagnosis::put;
 use qs_objects::Request;
-use qs_program::Program;
+use qs_program::{Program, object_name};
 use std::alloc::AllocError;
 
 // Further arguments, each after a comma.

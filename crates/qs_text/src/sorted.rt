@@ -3,7 +3,7 @@
 ghost use Rattle.std.specs.Prelude.{◌≡◌, ◌++◌, IfOk, OnOk, map};
 ghost use Rattle.qs_text.specs.SortedTexts.{IsInOrder, joined};
 
-use crate::bytes::put;
+use qs_diagnosis::put;
 use std::alloc::{AllocError, Global};
 
 // Texts one after another.

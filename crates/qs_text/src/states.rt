@@ -8,7 +8,8 @@ ghost use Rattle.qs_text.specs.TellApart.{IsOfWords, IsWord};
 ghost use Rattle.qs_text.specs.audit.Texts.{spaced_value};
 ghost use Rattle.qs_text.specs.audit.Words.{values_text, content_text, state_text};
 
-use crate::bytes::{put, put_digits, put_number};
+use crate::bytes::{put_digits, put_number};
+use qs_diagnosis::put;
 use qs_objects::{Kind, Object};
 use std::alloc::AllocError;
 

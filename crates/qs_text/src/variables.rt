@@ -5,9 +5,9 @@ ghost use Rattle.qs_text.specs.TellApart.{AreWords, IsWord};
 ghost use Rattle.qs_text.specs.audit.Texts.{texts_up_to};
 ghost use Rattle.qs_text.specs.Variables.{variable_text, variables_text};
 
-use crate::bytes::{put_all, put_number};
-use crate::names::variable_name;
-use qs_program::{Locals, Names};
+use crate::bytes::put_number;
+use qs_diagnosis::put_all;
+use qs_program::{Locals, Names, variable_name};
 use std::alloc::AllocError;
 
 // A variable with its value.

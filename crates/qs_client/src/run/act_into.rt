@@ -79,25 +79,25 @@ impl Holdings {
         false
     }
 
-    // What goes to a handler first, or an empty chunk is wanted.
-    fn clear_or_chunk(&mut self, handler: u8, act: &mut Act)
-        requires handler { handler < most_handlers }
-        ensures act { act.new ≡ clear self.old handler (Act.NeedChunk handler) }
-        ensures rest { self.new ≡ without self.old handler }
+    // What goes to a command's handler first, or an empty chunk is wanted.
+    fn clear_or_chunk(&mut self, object: u8, act: &mut Act)
+        requires handler { object < most_handlers }
+        ensures act { act.new ≡ clear self.old object (Act.NeedChunk object) }
+        ensures rest { self.new ≡ without self.old object }
     {
-        if !self.clear(handler, act) {
-            put(act, Act::NeedChunk(handler));
+        if !self.clear(object, act) {
+            put(act, Act::NeedChunk(object));
         }
     }
 
-    // What goes to a handler first, or a Sync.
-    fn clear_or_sync(&mut self, handler: u8, act: &mut Act)
-        requires handler { handler < most_handlers }
-        ensures act { act.new ≡ clear self.old handler (Act.Send handler parcels.Sync) }
-        ensures rest { self.new ≡ without self.old handler }
+    // What goes to a handler before a Sync, or the Sync.
+    fn clear_or_sync(&mut self, name: u8, act: &mut Act)
+        requires handler { name < most_handlers }
+        ensures act { act.new ≡ clear self.old name (Act.Send name parcels.Sync) }
+        ensures rest { self.new ≡ without self.old name }
     {
-        if !self.clear(handler, act) {
-            put(act, Act::Send(handler, Parcel::Sync));
+        if !self.clear(name, act) {
+            put(act, Act::Send(name, Parcel::Sync));
         }
     }
 

@@ -13,7 +13,7 @@ ghost use Rattle.qs_core.specs.parts.CoreHandlers.{IsCoreHandler, core_handler_a
 
 use crate::parts::{CoreClient, CoreHandler};
 use qs_objects::{Held, Journal, Object, Ticket};
-use qs_played::{ClientRows, Endings, Played, Row};
+use qs_played::{ClientRows, Endings, Played, Sequence};
 use std::alloc::{AllocError, Global};
 
 /// A client by its number.
@@ -34,7 +34,11 @@ fn client_of_ticket<'a>(clients: &'a [CoreClient], ticket: &Ticket) -> &'a CoreC
 }
 
 // For each ticket whether its block has ended.
-fn endings(alloc: Global, clients: &[CoreClient], order: &[Ticket]) -> Result<Row<bool>, AllocError>
+fn endings(
+    alloc: Global,
+    clients: &[CoreClient],
+    order: &[Ticket],
+) -> Result<Sequence<bool>, AllocError>
     requires begun { AreBegunBy clients.now order.now }
     ensures value { IfOk result (λ row. row ≡ map (λ (t : TicketShape). has_ended (client_part_at clients.now t.client).mind.client t.index) order.now) }
 {
@@ -42,7 +46,7 @@ fn endings(alloc: Global, clients: &[CoreClient], order: &[Ticket]) -> Result<Ro
     for ticket in order {
         row.push(client_of_ticket(clients, ticket).has_ended(ticket.index))?;
     }
-    Ok(Row::from_vec(row))
+    Ok(Sequence::from_vec(row))
 }
 
 // How many Syncs a client has sent: at most so many in each of its blocks.
@@ -176,7 +180,7 @@ fn parts(
     alloc: Global,
     clients: &[CoreClient],
     handlers: Vec<CoreHandler>,
-) -> Result<(Row<Journal>, Row<Object>), AllocError>
+) -> Result<(Sequence<Journal>, Sequence<Object>), AllocError>
     requires few { length handlers.items ≤ most_handlers }
     requires lanes { HaveLanes clients.now handlers.items }
     requires turns { TurnTo clients.now handlers.items }
@@ -192,7 +196,7 @@ fn parts(
         journals.push(journal)?;
         states.push(object)?;
     }
-    Ok((Row::from_vec(journals), Row::from_vec(states)))
+    Ok((Sequence::from_vec(journals), Sequence::from_vec(states)))
 }
 
 // What the run has shown beside the clients' rows.
@@ -243,5 +247,5 @@ pub fn shown(
 {
     let endings = shown_endings(alloc, &order, &clients, handlers)?;
     let rows = rows(alloc, clients)?;
-    Ok(Played::new(Row::from_vec(order), rows, endings))
+    Ok(Played::new(Sequence::from_vec(order), rows, endings))
 }

@@ -5,15 +5,9 @@ ghost use Rattle.qs_objects.specs.audit.Operations.{operations_of};
 ghost use Rattle.qs_line.specs.language.Language.{AddsKind, AddsLineOf, AddsLinesOf, IsWithinLine, call, declaration as declared_as, sort_of, spaces_after, title};
 
 use crate::language::words::{about, does};
+use qs_diagnosis::put;
 use qs_objects::{Kind, Op};
 use std::alloc::AllocError;
-
-/// Puts a text at the end. An error says that an allocation failed.
-pub(crate) fn put(out: &mut Vec<u8>, text: &[u8]) -> Result<(), AllocError>
-    ensures ok { OnOk result (out.new.items ≡ out.old.items ++ text.now) }
-{
-    out.extend_from_slice(text)
-}
 
 // The column in which the words of a line begin, after the four spaces before it and the two parentheses.
 const COLUMN: usize = 24;

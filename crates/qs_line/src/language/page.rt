@@ -3,8 +3,9 @@
 ghost use Rattle.std.specs.Prelude.{IfOk};
 ghost use Rattle.qs_line.specs.language.Language.{IsLanguagePage};
 
-use crate::language::operations::{put, put_kind};
+use crate::language::operations::put_kind;
 use crate::language::words::{head, tail};
+use qs_diagnosis::put;
 use qs_objects::Kind;
 use std::alloc::{AllocError, Global};
 

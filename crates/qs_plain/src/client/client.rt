@@ -128,7 +128,7 @@ impl<'p> ClientState<'p> {
             frames: Frames::over(frames),
             entries: Vec::with_capacity(alloc, count)?,
             traces: fresh_traces(alloc, program, number)?,
-            counts: fresh_counts(alloc, program, number)?,
+            counts: fresh_query_counts(alloc, program, number)?,
             prepared,
         })
     }
@@ -357,7 +357,11 @@ fn fresh_traces(alloc: Global, program: &Program, number: u8) -> Result<Traces, 
 }
 
 // Of each block of a client no query is counted yet. An error comes only where there is a block.
-fn fresh_counts(alloc: Global, program: &Program, number: u8) -> Result<SyncCounts, AllocError>
+fn fresh_query_counts(
+    alloc: Global,
+    program: &Program,
+    number: u8,
+) -> Result<SyncCounts, AllocError>
     requires { number < length program.now.clients }
     ensures fresh { IfOk result (λ counts. counts.rows ≡ fresh_rows (reserved_lists program.now number)) }
     ensures memory { IsErr result → 0 < blocks_of program.now number }

@@ -2,8 +2,8 @@
 
 mod outcome;
 mod played;
-mod row;
+mod sequence;
 
 pub use outcome::Outcome;
 pub use played::{ClientRows, Endings, Played};
-pub use row::Row;
+pub use sequence::Sequence;

@@ -5,7 +5,7 @@ ghost use Rattle.qs_objects.specs.Traces.{events_of};
 ghost use Rattle.qs_sync_counts.specs.audit.SyncRows.{count_of, object_of};
 ghost use Rattle.qs_played.specs.Played.{HaveRows, no_events, shown_with};
 
-use crate::shown::Row;
+use crate::shown::Sequence;
 use qs_objects::{Event, Journal, Object, Ticket, Traces};
 use qs_program::Locals;
 use qs_sync_counts::SyncCounts;
@@ -57,11 +57,11 @@ impl ClientRows {
 /// its journal and state; how many Syncs there were, and whether the run is finished. A ticket's trace is found by its
 /// client and number: the clients' rows are taken as they are, and no trace is copied.
 pub struct Played {
-    order: Row<Ticket>,
-    ended: Row<bool>,
+    order: Sequence<Ticket>,
+    ended: Sequence<bool>,
     clients: Vec<ClientRows>,
-    journals: Row<Journal>,
-    states: Row<Object>,
+    journals: Sequence<Journal>,
+    states: Sequence<Object>,
     syncs: u64,
     finished: bool,
 }
@@ -96,16 +96,16 @@ impl Model for Played {
 /// Syncs there were, and whether the run is finished.
 #[derive(Drop)]
 pub struct Endings {
-    pub ended: Row<bool>,
-    pub journals: Row<Journal>,
-    pub states: Row<Object>,
+    pub ended: Sequence<bool>,
+    pub journals: Sequence<Journal>,
+    pub states: Sequence<Object>,
     pub syncs: u64,
     pub finished: bool,
 }
 
 impl Played {
     /// What is shown of this order by these clients; takes no memory.
-    pub fn new(order: Row<Ticket>, clients: Vec<ClientRows>, endings: Endings) -> Played
+    pub fn new(order: Sequence<Ticket>, clients: Vec<ClientRows>, endings: Endings) -> Played
         requires rows { HaveRows clients.items order }
         ensures value { result ≡ shown_with order endings.ended clients.items endings.journals endings.states endings.syncs endings.finished }
     {

@@ -1,13 +1,15 @@
 //! Texts compared name by name, with the values of the variables that they name.
 
-ghost use Rattle.std.specs.Prelude.{◌≡◌, [], slice_index_or};
+ghost use Rattle.std.specs.Prelude.{◌≡◌};
 ghost use Rattle.std.specs.Bool.{Decides};
 ghost use Rattle.std.specs.List.{AllZip};
 ghost use Rattle.qs_program.specs.Views.{single};
-ghost use Rattle.qs_meaning.specs.Alike.{SameAtom, SameCall, SameExpr, SameStatements, SameTest, object_name as name_of_object};
+ghost use Rattle.qs_meaning.specs.Alike.{SameAtom, SameCall, SameExpr, SameStatements, SameTest};
 ghost use Rattle.qs_played.specs.twin.Twins.{SameObjects, SameVariables};
 
-use qs_program::{Atom, Body, Call, Expr, Locals, Names, Program, Stmt, Test};
+use qs_program::{
+    Atom, Body, Call, Expr, Locals, Names, Program, Stmt, Test, object_name, variable_name,
+};
 use qs_script::tree::{Operator, Relation};
 
 /// Two texts side by side: their programs, their clients' variables, and the values of these at entry.
@@ -21,39 +23,19 @@ pub(crate) struct Sides<'a> {
     pub other_entry: &'a Locals,
 }
 
-// An object's name; none past the last.
-fn object_name(program: &Program, object: u8) -> &[u8]
-    ensures value { result.now ≡ name_of_object program.now object }
-{
-    if usize::from(object) < program.objects() {
-        program.object_name(object).as_slice()
-    } else {
-        &[]
-    }
-}
-
 // Whether two objects have one name.
 pub(crate) fn is_same_object(program: &Program, other: &Program, here: u8, there: u8) -> bool
     ensures same { Decides result (SameObjects program.now other.now here there) }
 {
-    object_name(program, here) == object_name(other, there)
-}
-
-// A variable's name; none past the last.
-fn variable_name(names: &Names, variable: u8) -> &[u8]
-    ensures value { result.now ≡ slice_index_or names.now variable [] }
-{
-    match names.name(usize::from(variable)) {
-        Some(name) => name.as_slice(),
-        None => &[],
-    }
+    object_name(program, usize::from(here)) == object_name(other, usize::from(there))
 }
 
 // Whether two variables have one name, and had one value at entry.
 fn is_same_variable(sides: &Sides<'_>, here: u8, there: u8) -> bool
     ensures same { Decides result (SameVariables sides.now.variables.now sides.now.other_variables.now sides.now.entry.now sides.now.other_entry.now here there) }
 {
-    variable_name(sides.variables, here) == variable_name(sides.other_variables, there)
+    variable_name(sides.variables, usize::from(here))
+        == variable_name(sides.other_variables, usize::from(there))
         && Atom::Variable(here).value(sides.entry) == Atom::Variable(there).value(sides.other_entry)
 }
 

@@ -10,7 +10,7 @@ ghost use Rattle.qs_played.specs.Played.{HaveRows};
 ghost use Rattle.qs_run.specs.Collected.{AreCountsShort, shown_when_over};
 
 use qs_objects::{Journal, Object, Ticket};
-use qs_played::{ClientRows, Endings, Outcome, Played, Row};
+use qs_played::{ClientRows, Endings, Outcome, Played, Sequence};
 
 // Says of each ticket that its block has ended.
 fn ended_blocks(order: &[Ticket], ended: Vec<bool>) -> Vec<bool>
@@ -68,13 +68,13 @@ pub(crate) fn shown_outcome(
 {
     let ended = ended_blocks(order.as_slice(), ended);
     let endings = Endings {
-        ended: Row::from_vec(ended),
-        journals: Row::from_vec(journals),
-        states: Row::from_vec(states),
+        ended: Sequence::from_vec(ended),
+        journals: Sequence::from_vec(journals),
+        states: Sequence::from_vec(states),
         syncs: 0,
         finished: true,
     };
-    let played = Played::new(Row::from_vec(order), rows, endings);
+    let played = Played::new(Sequence::from_vec(order), rows, endings);
     let syncs = all_syncs(&played);
     Outcome::new(played.with_syncs(syncs))
 }

@@ -8,8 +8,8 @@ use Rattle.qs_script.specs.declared.tokens.lex.Run.{Run}
 use Rattle.qs_script.specs.declared.tokens.lex.Run.TheVariants as r
 use Rattle.qs_script.specs.declared.tokens.lex.Piece.{Piece}
 use Rattle.qs_script.specs.declared.tokens.lex.Piece.TheVariants as p
-use Rattle.qs_script.specs.declared.tokens.listing.ListFault.{ListFault}
-use Rattle.qs_script.specs.declared.tokens.listing.ListFault.TheVariants as l
+use Rattle.qs_script.specs.declared.tokens.listing.TokensFault.{TokensFault}
+use Rattle.qs_script.specs.declared.tokens.listing.TokensFault.TheVariants as l
 use Rattle.qs_script.specs.audit.tokens.Tokens.{is_name_byte, is_digit, tokens_of, after, at, signs, same, word_token}
 
 -- whether a byte goes on with the run
@@ -49,7 +49,7 @@ AddsAll old new (Ok u) text = after old (tokens_of text) ≡ Ok new
 AddsAll old new (Err e) text = tokens_of text ≡ Err e
 
 -- the first fault of a text, unless memory ran out
-abbrev pub IsFirstFault : Result (List Token) TokenFault → ListFault → Type 0
+abbrev pub IsFirstFault : Result (List Token) TokenFault → TokensFault → Type 0
 IsFirstFault all (l.Token e) = all ≡ Err e
 IsFirstFault all l.Memory = Unit {0}
 

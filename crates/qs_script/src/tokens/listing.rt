@@ -15,30 +15,30 @@ use std::alloc::{AllocError, Global};
 
 /// Why there is no list of a text's tokens: the first fault of the text, or memory ran out.
 #[derive(Clone, Copy)]
-pub enum ListFault {
+pub enum TokensFault {
     Token(TokenFault),
     Memory,
 }
 
-impl From<AllocError> for ListFault {
+impl From<AllocError> for TokensFault {
     ghost use Rattle.std.specs.Prelude.{◌≡◌};
-    ghost use Rattle.qs_script.specs.declared.tokens.listing.ListFault.TheVariants.{Memory};
+    ghost use Rattle.qs_script.specs.declared.tokens.listing.TokensFault.TheVariants.{Memory};
 
     ghost from_gives = { λ _ e. e ≡ Memory };
 
-    fn from(_: AllocError) -> ListFault {
-        ListFault::Memory
+    fn from(_: AllocError) -> TokensFault {
+        TokensFault::Memory
     }
 }
 
-impl From<TokenFault> for ListFault {
+impl From<TokenFault> for TokensFault {
     ghost use Rattle.std.specs.Prelude.{◌≡◌};
-    ghost use Rattle.qs_script.specs.declared.tokens.listing.ListFault.TheVariants.{Token};
+    ghost use Rattle.qs_script.specs.declared.tokens.listing.TokensFault.TheVariants.{Token};
 
     ghost from_gives = { λ t e. e ≡ Token t };
 
-    fn from(fault: TokenFault) -> ListFault {
-        ListFault::Token(fault)
+    fn from(fault: TokenFault) -> TokensFault {
+        TokensFault::Token(fault)
     }
 }
 
@@ -334,7 +334,7 @@ fn add_last(tokens: &mut Vec<Token>, text: &[u8]) -> Result<(), TokenFault>
 }
 
 /// All tokens of a text in order, or its first fault. `Memory` may come at any allocation.
-pub fn list_tokens(alloc: Global, text: &[u8]) -> Result<Vec<Token>, ListFault>
+pub fn list_tokens(alloc: Global, text: &[u8]) -> Result<Vec<Token>, TokensFault>
     ensures tokens { IfOk result (λ tokens. tokens_of text.now ≡ Ok tokens.items) }
     ensures fault { IfErr result (IsFirstFault (tokens_of text.now)) }
 {

@@ -9,14 +9,14 @@ ghost use Rattle.qs_text.specs.fates.Fates.{all_fates};
 use crate::fates::fate::Fate;
 use crate::fates::requests::run_and_tell;
 use qs_objects::{Entry, Object};
-use qs_played::{Played, Row};
+use qs_played::{Played, Sequence};
 use qs_program::Program;
 use std::alloc::{AllocError, Global};
 use std::marker::Model;
 
 /// For each object of a program, what became of the requests that it has run in a run, in the order of its journal.
 pub struct JournalFates {
-    rows: Vec<Row<Fate>>,
+    rows: Vec<Sequence<Fate>>,
 }
 
 impl Drop for JournalFates {
@@ -80,13 +80,13 @@ fn object_fates(
     program: &Program,
     played: &Played,
     object: u8,
-) -> Result<Row<Fate>, AllocError>
+) -> Result<Sequence<Fate>, AllocError>
     requires object { object < length program.now.objects }
     ensures fates { IfOk result (λ row. row ≡ fates_of program.now played.now object) }
 {
     let state = program.declared_object(alloc, object)?;
     let fates = fates_in(alloc, state, journal_at(played, usize::from(object)))?;
-    Ok(Row::from_vec(fates))
+    Ok(Sequence::from_vec(fates))
 }
 
 /// What became of all requests that the objects of a program have run: each object as it is declared runs its journal

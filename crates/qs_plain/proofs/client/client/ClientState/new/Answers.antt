@@ -40,7 +40,7 @@ invariant_of-result c =
     let empty : c.over.result.frames ≡ [] = ap (λ (s : Stack). s.frames) c.over.ensures.empty in
     let depth : c.over.result.room ≡ vec_capacity c.loop-index.frames = ap (λ (s : Stack). s.room) c.over.ensures.empty in
     let traces = c.in_ok-fresh_traces.ensures.fresh in
-    let counts = c.in_ok-fresh_counts.ensures.fresh in
+    let counts = c.in_ok-fresh_query_counts.ensures.fresh in
     let whole : c.loop-index.index ≡ blocks_of p number = omega (arith, c.loop-index-test.false, c.loop-index.auto.index-end, c.blocks_of-count.ensures.value) in
     let many : length queues ≡ blocks_of p number = c.loop-index.invariant.many ∙ whole in
     let fits : (j : ℕ) → j < blocks_of p number → places_of (rest (block_at p number j).body) ≤ c.over.result.room =
@@ -50,8 +50,8 @@ invariant_of-result c =
     let kept = client_fresh p number sound c.requires zeros c.over.result.room queues many fits each in
     let stored = stored_fresh p number sound c.requires queues many in (
       subst IsClient (sym (λ i. client_from p number stages.Out zeros (empty i) c.over.result.room (none i) (traces i) (counts i) queues)) kept,
-      subst (λ n. AreStored n c.in_ok-fresh_traces.field-0 c.in_ok-fresh_counts.field-0.rows (length queues)) (sym (ap length none))
-          (subst (λ ts. AreStored 0 ts c.in_ok-fresh_counts.field-0.rows (length queues)) (sym traces) (subst (λ cs. AreStored 0 (map empty_trace (rooms_of p number)) cs (length queues)) (sym counts) stored)),
+      subst (λ n. AreStored n c.in_ok-fresh_traces.field-0 c.in_ok-fresh_query_counts.field-0.rows (length queues)) (sym (ap length none))
+          (subst (λ ts. AreStored 0 ts c.in_ok-fresh_query_counts.field-0.rows (length queues)) (sym traces) (subst (λ cs. AreStored 0 (map empty_trace (rooms_of p number)) cs (length queues)) (sym counts) stored)),
       omega (arith, c.in_ok-with_capacity.ensures.len, c.in_ok-with_capacity.ensures.capacity, c.blocks_of-count.ensures.value, many, c.loop-index.prepared.ok),
     )
 
@@ -65,7 +65,7 @@ returns-clause-fresh c =
     let many : length queues ≡ blocks_of p number = c.loop-index.invariant.many ∙ whole in
     let stored = stored_fresh p number c.keeps_sound.ensures.sound c.requires queues many in
     let traces = c.in_ok-fresh_traces.ensures.fresh in
-    let counts = c.in_ok-fresh_counts.ensures.fresh in
+    let counts = c.in_ok-fresh_query_counts.ensures.fresh in
     let prepared = (λ i. length (prepared_of (drop (length (none i)) (traces i)) (drop (length (none i)) (counts i)) queues)) ∙ (many_prepared 0 (map empty_trace (rooms_of p number)) (fresh_rows (reserved_lists p number)) queues stored ∙ many) in
     record {
       program = refl;
@@ -74,6 +74,6 @@ returns-clause-fresh c =
       locals = refl;
       entries = none;
       traces = ap (λ es. take (length es) c.in_ok-fresh_traces.field-0) none;
-      counts = ap (λ es. take (length es) c.in_ok-fresh_counts.field-0.rows) none;
+      counts = ap (λ es. take (length es) c.in_ok-fresh_query_counts.field-0.rows) none;
       prepared = prepared;
     }

@@ -3,7 +3,7 @@ use Rattle.qs_program.specs.audit.Limits.{most_objects}
 use Rattle.qs_program.specs.audit.Program.{blocks_of}
 use Rattle.qs_sync_counts.specs.SyncRows.{begun_rows}
 use Rattle.qs_plain.specs.client.PreparedBlock.{reserved_lists}
-use Rattle.qs_plain.proofs.client.client.fresh_counts.Given as goal
+use Rattle.qs_plain.proofs.client.client.fresh_query_counts.Given as goal
 
 abbrev pub invariant-loop-index : goal.invariant-loop-index
 invariant-loop-index l = record {

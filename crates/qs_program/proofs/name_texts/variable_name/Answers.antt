@@ -2,7 +2,7 @@ use Rattle.std.proofs.Common.{◌∙◌, [], ap, sym}
 use Rattle.std.specs.Option.{option_copied}
 use Rattle.std.specs.Prelude.{unwrap_or}
 use Rattle.std.proofs.lemmas.Option.{unwrap_or-slice_get}
-use Rattle.qs_text.proofs.names.variable_name.Goals as goal
+use Rattle.qs_program.proofs.name_texts.variable_name.Goals as goal
 
 pub returns-in-None : goal.returns-in-None
 returns-in-None c = record {

@@ -1,21 +1,21 @@
-//! Values in order.
+//! Values in order, as a list.
 
 ghost use Rattle.std.specs.Prelude.{◌≡◌, length};
 
 use std::marker::Model;
 
 /// Values in order, which contracts see as a list.
-pub struct Row<T> {
+pub struct Sequence<T> {
     items: Vec<T>,
 }
 
-impl<T: Drop> Drop for Row<T> {
+impl<T: Drop> Drop for Sequence<T> {
     fn drop(self) {
-        let Row { items: _ } = self;
+        let Sequence { items: _ } = self;
     }
 }
 
-impl<T> Model for Row<T> {
+impl<T> Model for Sequence<T> {
     ghost use Rattle.std.specs.Prelude.{List};
     ghost use Rattle.std.specs.Coded.{coded_list};
 
@@ -26,12 +26,12 @@ impl<T> Model for Row<T> {
     ghost view = { λ r. r.items.items };
 }
 
-impl<T> Row<T> {
-    /// A row of these values; takes no memory.
-    pub fn from_vec(items: Vec<T>) -> Row<T>
+impl<T> Sequence<T> {
+    /// A sequence of these values; takes no memory.
+    pub fn from_vec(items: Vec<T>) -> Sequence<T>
         ensures value { result ≡ items.items }
     {
-        Row { items }
+        Sequence { items }
     }
 
     /// How many there are.

@@ -7,7 +7,7 @@ use Rattle.qs_sync_counts.specs.declared.sync_counts.SyncCount.{SyncCount}
 use Rattle.qs_sync_counts.proofs.CountRows.{begun_all, begun_beyond, begun_next, begun_none, length_begun}
 use Rattle.qs_syncset.proofs.ShortLists.{few_reserved}
 use Rattle.qs_plain.specs.client.PreparedBlock.{reserved_lists}
-use Rattle.qs_plain.proofs.client.client.fresh_counts.Goals as goal
+use Rattle.qs_plain.proofs.client.client.fresh_query_counts.Goals as goal
 
 -- a block's list is the one of that number
 listed : (p : ProgramShape) (c n : ℕ) → n < blocks_of p c → get_or (reserved_lists p c) n [] ≡ (block_at p c n).reserved
