@@ -1,16 +1,13 @@
 -- What is said of a fault, and of the limits that a script leaves.
-use Rattle.std.specs.Prelude.{◌≡◌, ◌⊎◌, ⊤, ℕ, Bool, true, false, ◌||◌, List, [], ◌++◌, codes, Option, Some, None, Ok, Err, length}
+use Rattle.std.specs.Prelude.{◌≡◌, ◌⊎◌, ⊤, ℕ, Bool, true, false, ◌||◌, List, [], ◌++◌, codes, Option, Some, None, Ok, Err}
 use Rattle.std.specs.Io.KnownBytes.{Keeps}
 use Rattle.qs_script.specs.declared.tokens.token.Token.{Token}
 use Rattle.qs_script.specs.declared.tokens.lex.TokenFault.{TokenFault}
 use Rattle.qs_script.specs.audit.tokens.Tokens.{same, tokens_of}
 use Rattle.qs_script.specs.audit.grammar.Grammar.{IsScript}
-use Rattle.qs_script.specs.audit.Reads.{IsScriptText}
 use Rattle.qs_script.specs.declared.fault.ReadFault.TheVariants as read
 use Rattle.qs_script.specs.declared.tree.tree.Item.{Item}
-use Rattle.qs_check.specs.audit.Checked.{fault_of}
 use Rattle.qs_check.specs.declared.fault_places.fault.CheckFault.TheVariants as check
-use Rattle.qs_check.specs.audit.resolution.Resolve.{program_of_items}
 use Rattle.qs_played.specs.declared.fault.PlayFault.TheVariants as play
 use Rattle.qs_played.specs.declared.fault.RunFault.TheVariants as run
 use Rattle.qs_serial.specs.declared.fault.OrderFault.TheVariants as order
@@ -20,7 +17,8 @@ use Rattle.qs_report.specs.declared.faults.Fault.TheVariants.{Input, Read, Check
 use Rattle.qs_messages.specs.CheckTold.{IsCheckTold}
 use Rattle.qs_messages.specs.ReadTold.{IsFormTold, IsTokenTold}
 use Rattle.qs_messages.specs.LimitsText.{limits_text}
-use Rattle.qs_messages.specs.Templates.{template_use}
+use Rattle.qs_messages.specs.declared.limit_use.templates.TemplateUse.{TemplateUse}
+use Rattle.qs_program.specs.audit.Program.{ProgramShape}
 use Rattle.qs_text.specs.Texts.{AppendsFront}
 
 -- a word of the line asks for a drawing
@@ -88,12 +86,7 @@ abbrev pub IsFaultTold : Bool → List ℕ → Fault → (old new : Option (List
 IsFaultTold draws text Input old new = IsInputTold old new
 IsFaultTold draws text fault old new = IsToldBy text fault (plain_words draws fault) old new
 
--- the lines of what the script of a text uses and leaves of each limit
-abbrev pub IsLimitsText : List ℕ → List ℕ → Type 0
-IsLimitsText text said =
-    (s : List Item) × IsScriptText text s × (fault_of s ≡ None)
-    × (said ≡ limits_text (length text) (template_use s) (program_of_items s))
-
--- nothing was written, or a front of these lines
-abbrev pub AreLimitsTold : List ℕ → Option (List ℕ) → Option (List ℕ) → Type 0
-AreLimitsTold text old new = Keeps old new ⊎ ((said : List ℕ) × IsLimitsText text said × AppendsFront old new said)
+-- nothing was written, or a front of the lines of what a script of so many bytes, with these templates and this program,
+-- uses and leaves of each limit
+abbrev pub AreLimitsTold : ℕ → TemplateUse → ProgramShape → Option (List ℕ) → Option (List ℕ) → Type 0
+AreLimitsTold bytes templates p old new = Keeps old new ⊎ AppendsFront old new (limits_text bytes templates p)

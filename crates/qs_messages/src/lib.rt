@@ -10,5 +10,6 @@ mod warned;
 mod warnings;
 
 pub use fault::tell_fault;
+pub use limit_use::{TemplateUse, template_use};
 pub use limits::tell_limits;
 pub use warnings::tell_warnings;

@@ -4,32 +4,31 @@ ghost use Rattle.std.specs.Prelude.{◌≡◌, false};
 ghost use Rattle.std.specs.Io.KnownBytes.{Keeps};
 
 use crate::warned::{put_held_all, warnings_text};
-use qs_check::check;
-use qs_script::read;
+use qs_check::Program;
 use qs_text::{Watch, write_text};
 use std::alloc::{AllocError, Global};
 use std::io::Write;
 
-// What is said of the script of a text.
-fn said_of(alloc: Global, text: &[u8]) -> Result<Vec<u8>, AllocError> {
-    let Ok(script) = read(alloc, text) else {
-        return Err(AllocError);
-    };
-    let Ok(program) = check(alloc, script) else {
-        return Err(AllocError);
-    };
-    let mut out = warnings_text(alloc, text, &program)?;
+// What is said of a text and its program.
+fn said_of(alloc: Global, text: &[u8], program: &Program) -> Result<Vec<u8>, AllocError> {
+    let mut out = warnings_text(alloc, text, program)?;
     put_held_all(alloc, &mut out, text)?;
     Ok(out)
 }
 
-/// Says what is warned of in the script of a text, where that is asked for. A writer that fails changes nothing else,
-/// and neither does memory that runs out.
-pub fn tell_warnings<W: Write>(alloc: Global, text: &[u8], is_asked: bool, err: &mut W)
+/// Says what is warned of in the script of a text, by its program, where that is asked for. A writer that fails changes
+/// nothing else, and neither does memory that runs out.
+pub fn tell_warnings<W: Write>(
+    alloc: Global,
+    text: &[u8],
+    program: &Program,
+    is_asked: bool,
+    err: &mut W,
+)
     ensures unasked { is_asked ≡ false → Keeps (W.contents err.old) (W.contents err.new) }
 {
     if is_asked {
-        if let Ok(said) = said_of(alloc, text) {
+        if let Ok(said) = said_of(alloc, text, program) {
             let mut watch = Watch::new();
             write_text(err, &mut watch, said.as_slice());
         }

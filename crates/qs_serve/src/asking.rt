@@ -8,6 +8,7 @@ ghost use Rattle.qs_report.specs.declared.faults.Fault.TheVariants as fault;
 ghost use Rattle.qs_script.specs.audit.Reads.{IsScriptText};
 ghost use Rattle.qs_script.specs.Reads.{IsReadOf};
 ghost use Rattle.qs_script.specs.audit.tree.Limits.{longest_text};
+ghost use Rattle.qs_messages.specs.Templates.{template_use};
 ghost use Rattle.qs_serve.specs.Prepared.{prepared_by};
 ghost use Rattle.qs_serve.specs.audit.Due.{longest};
 ghost use Rattle.qs_serve.specs.Due.{AreLinesFor, IsAsked, IsDue, IsFormat, IsFoundBefore, IsKeptBy, IsProgramOf, IsProgramRead, IsTextKept, IsTextRead, IsUnbegun, IsUnreadable};
@@ -18,6 +19,7 @@ use crate::input::{Counted, InputFault, gather};
 use qs_check::{CheckFault, Program, check};
 use qs_dot::node_lines::{NodeLines, node_lines};
 use qs_line::{Format, GraphFormat, Settings, read_line};
+use qs_messages::{TemplateUse, template_use};
 use qs_report::Fault;
 use qs_script::tree::{LONGEST_TEXT, Script};
 use qs_script::{ReadFault, read};
@@ -25,10 +27,12 @@ use std::alloc::{AllocError, Global};
 use std::io::Read;
 use std::mem;
 
-/// The program of a script's text, and the lines of the text for the nodes of its graphs, where these are to be drawn.
+/// The program of a script's text, what the script uses of the limits on templates, and the lines of the text for the
+/// nodes of its graphs, where these are to be drawn.
 #[derive(Drop)]
 pub(crate) struct PreparedText {
     pub program: Program,
+    pub templates: TemplateUse,
     pub lines: NodeLines,
 }
 
@@ -50,16 +54,22 @@ fn lines_for(
     }
 }
 
-// The program of a script that was checked with the lines for its nodes, or the fault by which it was refused.
+// The program of a script that was checked, with its templates and the lines for its nodes, or the fault by which it
+// was refused.
 fn prepared_checked(
     lines: NodeLines,
+    templates: TemplateUse,
     checked: Result<Program, CheckFault>,
 ) -> Result<PreparedText, Fault>
-    ensures exact { result ≡ prepared_by lines checked }
+    ensures exact { result ≡ prepared_by lines templates checked }
     ensures before { IfErr result IsFoundBefore }
 {
     match checked {
-        Ok(program) => Ok(PreparedText { program, lines }),
+        Ok(program) => Ok(PreparedText {
+            program,
+            templates,
+            lines,
+        }),
         Err(fault) => Err(Fault::Check(fault)),
     }
 }
@@ -73,14 +83,16 @@ fn prepared_script(
 ) -> Result<PreparedText, Fault>
     requires script { IsScriptText text.now script }
     ensures program { IfOk result (λ it. IsProgramOf (request_of settings.now) text.now it.lines it.program) }
+    ensures templates { IfOk result (λ it. it.templates ≡ template_use script) }
     ensures fault { IfErr result (IsUnreadable text.now) }
     ensures before { IfErr result IsFoundBefore }
 {
     let Ok(lines) = lines_for(alloc, settings, text, &script) else {
         return Err(Fault::Memory);
     };
+    let templates = template_use(script.as_slice());
     let checked = check(alloc, script);
-    prepared_checked(lines, checked)
+    prepared_checked(lines, templates, checked)
 }
 
 // The program of a text that was read, or the fault by which it was refused.

@@ -5,6 +5,7 @@ ghost use Rattle.std.specs.Io.KnownBytes.{Keeps};
 ghost use Rattle.qs_line.specs.Line.{is_verbose_in, warns_in};
 ghost use Rattle.qs_serve.specs.Due.{IsSomeText};
 
+use crate::asking::PreparedText;
 use crate::due::Due;
 use crate::notes::tell_notes;
 use qs_line::asked_for;
@@ -23,7 +24,7 @@ fn may_ask(words: &[&str]) -> bool {
     false
 }
 
-/// Says what was asked for beside a result, where one was due: at a terminal, how many commands a run has refused, and to
+/// Says what was asked for beside a result, where one was due, by what was prepared of the script's text: at a terminal, how many commands a run has refused, and to
 /// how many ends other orders lead; how much of each limit is left, where the line asks for
 /// it, and what is warned of in the script, where the line asks for it or a terminal shows it. A writer that fails
 /// changes nothing else, and neither does memory that runs out.
@@ -31,6 +32,7 @@ pub(crate) fn tell_beside<'a, W: Write>(
     alloc: Global,
     words: &'a [&'a str],
     text: &[u8],
+    it: &Option<PreparedText>,
     due: &Due,
     is_terminal: bool,
     err: &mut W,
@@ -39,16 +41,27 @@ pub(crate) fn tell_beside<'a, W: Write>(
         → Keeps (W.contents err.old) (W.contents err.new) }
     ensures refused { ¬ IsSomeText due.now → Keeps (W.contents err.old) (W.contents err.new) }
 {
+    let Some(it) = it else {
+        return;
+    };
     if let Due::Text(report) = due {
         if is_terminal {
-            tell_notes(alloc, words, text, report.as_slice(), err);
+            tell_notes(alloc, words, &it.program, report.as_slice(), err);
         }
     }
     if let Due::Text(_) | Due::No(_) = due {
         if is_terminal || may_ask(words) {
             if let Ok(asked) = asked_for(alloc, words) {
-                tell_limits(alloc, text, asked.limits, err);
-                tell_warnings(alloc, text, asked.warnings || is_terminal, err);
+                tell_limits(
+                    alloc,
+                    text.len(),
+                    &it.templates,
+                    &it.program,
+                    asked.limits,
+                    err,
+                );
+                let warns = asked.warnings || is_terminal;
+                tell_warnings(alloc, text, &it.program, warns, err);
             }
         }
     }

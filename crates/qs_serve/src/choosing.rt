@@ -67,7 +67,7 @@ fn due_chosen<T: Threads + Wait + Clock + Files + Sync, S: Starter, E: Write>(
 }
 
 /// What is due by a command line and an input, and in which format, as `asked_by` says it of what is due without a
-/// program. The text that was read is kept. Nothing that is shown of a search on `err` changes what is due; where `err`
+/// program. The text that was read is kept, and so is what was prepared of it. Nothing that is shown of a search on `err` changes what is due; where `err`
 /// is no terminal, nothing is written to it.
 pub(crate) fn due_of_words<
     'a,
@@ -83,7 +83,7 @@ pub(crate) fn due_of_words<
     is_terminal: bool,
     err: &mut E,
     starter: &mut S,
-) -> (Due, Format)
+) -> (Due, Format, Option<PreparedText>)
     requires fine { input.old.has_failed ≡ false }
     ensures due { IsDue (line_in (map (λ word. word.now) words.entry.now)) input.old.remaining input.new.has_failed result.0 }
     ensures format { IsFormat (line_in (map (λ word. word.now) words.entry.now)) input.old input.new result.0 result.1 }
@@ -99,9 +99,8 @@ pub(crate) fn due_of_words<
             let due = due_chosen(rt, alloc, &settings, &it, is_terminal, err, starter);
             let format = settings.format();
             drop(settings);
-            drop(it);
-            (due, format)
+            (due, format, Some(it))
         }
-        Err(due) => due,
+        Err((due, format)) => (due, format, None),
     }
 }

@@ -2,9 +2,8 @@
 // refused, and how many ends other orders of blocks lead to. No contract speaks of these words.
 
 use itoa::Buffer;
-use qs_check::{Program, check};
+use qs_check::Program;
 use qs_outcomes::{OutcomesFault, Unwatched, outcomes_watched};
-use qs_script::read;
 use qs_text::{Watch, write_text, write_texts};
 use std::alloc::Global;
 use std::io::Write;
@@ -109,7 +108,7 @@ fn tell_ends<W: Write>(alloc: Global, program: &Program, watch: &mut Watch<W>, e
 pub(crate) fn tell_notes<W: Write>(
     alloc: Global,
     words: &[&str],
-    text: &[u8],
+    program: &Program,
     report: &[u8],
     err: &mut W,
 ) {
@@ -121,13 +120,7 @@ pub(crate) fn tell_notes<W: Write>(
     };
     let mut watch = Watch::new();
     tell_refused(refused_in(report), &mut watch, err);
-    if !report.ends_with("\nfinished\n") {
-        return;
-    }
-    let Ok(script) = read(alloc, text) else {
-        return;
-    };
-    if let Ok(program) = check(alloc, script) {
-        tell_ends(alloc, &program, &mut watch, err);
+    if report.ends_with("\nfinished\n") {
+        tell_ends(alloc, program, &mut watch, err);
     }
 }

@@ -96,7 +96,7 @@ pub fn serve_with<
     let alloc = rt.alloc();
     tell_waiting(alloc, words, terminals, err);
     let mut text = Vec::new(alloc);
-    let (due, format) = due_of_words(rt, words, input, &mut text, terminals.err, err, starter);
+    let (due, format, it) = due_of_words(rt, words, input, &mut text, terminals.err, err, starter);
     let status = finish(out, watch, format, &due);
     tell(
         alloc,
@@ -107,7 +107,7 @@ pub fn serve_with<
         status != 4,
         err,
     );
-    tell_beside(alloc, words, text.as_slice(), &due, terminals.err, err);
+    tell_beside(alloc, words, text.as_slice(), &it, &due, terminals.err, err);
     status
 }
 
