@@ -67,7 +67,7 @@ sound_script : (text : List ℕ) (s : List Item) → IsScriptText text s → fau
 sound_script text s script accepted = sound_accepted s (formed s script.tokens [] script.tree) accepted
 
 -- who is named, where somebody is
-named : {A E : Type 0} (r : Result A E) (P : A → Type 0) → IsOkAnd r P → (x : A) × (r ≡ Ok x) × P x
+pub named : {A E : Type 0} (r : Result A E) (P : A → Type 0) → IsOkAnd r P → (x : A) × (r ≡ Ok x) × P x
 named (Ok x) P is = (x, refl, is)
 named (Err e) P is = absurd is
 

@@ -5,4 +5,5 @@ pub mod Headlines
 pub mod LineDues
 pub mod OtherDues
 pub mod SyncDues
+pub mod UniqueReports
 mod Gathering

@@ -8,12 +8,13 @@ use Rattle.qs_conditions.specs.Conditions.{Tree, steps_of}
 use Rattle.qs_conditions.specs.declared.claim.Claim.{Claim}
 use Rattle.qs_dot.specs.ChartDot.{chart_text}
 use Rattle.qs_dot.specs.Charts.{ChartShape}
-use Rattle.qs_line.specs.audit.Line.{Request, alike, ask, asks, fronts, outcomes, tally}
+use Rattle.qs_line.specs.audit.Line.{Request, alike, ask, asks, by_schedule, fronts, outcomes, rules, tally}
 use Rattle.qs_line.specs.Line.{line_in}
 use Rattle.qs_line.specs.audit.Named.{clients_of}
 use Rattle.qs_line.specs.declared.line.Format.{Format}
 use Rattle.qs_line.specs.declared.line.OutcomesFormat.{OutcomesFormat}
 use Rattle.qs_line.specs.declared.line.OutcomesFormat.TheVariants as outcomes_format
+use Rattle.qs_line.specs.declared.line.ReportStyle.{ReportStyle}
 use Rattle.qs_line.specs.declared.parts.Part.{Part}
 use Rattle.qs_outcomes.specs.Answers.{AnswerShape}
 use Rattle.qs_outcomes.specs.alike.AlikeOutcomes.{AlikeShape}
@@ -29,6 +30,7 @@ use Rattle.qs_check.specs.audit.resolution.Resolve.{program_of_items}
 use Rattle.qs_script.specs.audit.Reads.{IsScriptText}
 use Rattle.qs_serial.specs.audit.NamedOrders.{order_of}
 use Rattle.qs_serve.specs.audit.Due.{longest}
+use Rattle.qs_serve.specs.audit.Headline.{IsReported}
 use Rattle.qs_serve.specs.Due.{AreTheClasses, IsTextOfList, alike_in, answer_in, fronts_in, tally_in}
 use Rattle.qs_script.specs.declared.tree.tree.Item.{Item}
 use Rattle.qs_standings.specs.Standings.{StandingShape}
@@ -114,3 +116,12 @@ abbrev pub AreListsTrue : List (List ℕ) → Option (List ℕ) → (old new : O
 AreListsTrue words known old new =
     (request : Request) → line_in words ≡ asks request
     → IfSome known (λ bytes. IsTrueList request (take longest bytes) old new)
+
+-- Under the plain rules two texts that report a run of one script, by the same picks and rounds and without lines of steps
+-- or of queues, are the same.
+abbrev pub ReportsAreUnique : Type 0
+ReportsAreUnique =
+    (style : ReportStyle) (rounds : ℕ) (picks : List Part) (text old one other : List ℕ)
+    → style.steps ≡ false → style.queues ≡ false
+    → IsReported (rules style (by_schedule rounds picks)) style text (Some old) (Some one)
+    → IsReported (rules style (by_schedule rounds picks)) style text (Some old) (Some other) → one ≡ other

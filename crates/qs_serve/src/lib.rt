@@ -9,6 +9,7 @@ mod due;
 mod estimates;
 mod fronts;
 mod input;
+pub mod laws;
 mod notes;
 mod output;
 mod plays;
