@@ -44,6 +44,10 @@ size_t qs_rules(const uint8_t *script, size_t script_length, const uint8_t *word
 size_t qs_play(const uint8_t *script, size_t script_length, const uint8_t *words, size_t words_length, uint8_t *room,
                size_t room_length, uint8_t *status);
 
+/* How many synchronisations each mode of coalescing sends, block by block. */
+size_t qs_syncs(const uint8_t *script, size_t script_length, const uint8_t *words, size_t words_length, uint8_t *room,
+                size_t room_length, uint8_t *status);
+
 /* All that the script can come to. */
 size_t qs_outcomes(const uint8_t *script, size_t script_length, const uint8_t *words, size_t words_length,
                    uint8_t *room, size_t room_length, uint8_t *status);

@@ -10,7 +10,7 @@ the bytes that the program would write on its standard output, and its exit stat
 
 import ctypes
 
-WORDS = ("check", "graph", "rules", "play", "outcomes", "ask", "fronts", "estimate")
+WORDS = ("check", "graph", "rules", "play", "syncs", "outcomes", "ask", "fronts", "estimate")
 
 
 class Library:
@@ -53,6 +53,10 @@ class Library:
     def play(self, script, *words):
         """The report of a run in the optimised machine."""
         return self.call("play", script, *words)
+
+    def syncs(self, script, *words):
+        """How many synchronisations each mode of coalescing sends, block by block."""
+        return self.call("syncs", script, *words)
 
     def outcomes(self, script, *words):
         """All that a script can come to."""

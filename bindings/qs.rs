@@ -10,6 +10,7 @@ unsafe extern "C" {
     fn qs_graph(_: *const u8, _: usize, _: *const u8, _: usize, _: *mut u8, _: usize, _: *mut u8) -> usize;
     fn qs_rules(_: *const u8, _: usize, _: *const u8, _: usize, _: *mut u8, _: usize, _: *mut u8) -> usize;
     fn qs_play(_: *const u8, _: usize, _: *const u8, _: usize, _: *mut u8, _: usize, _: *mut u8) -> usize;
+    fn qs_syncs(_: *const u8, _: usize, _: *const u8, _: usize, _: *mut u8, _: usize, _: *mut u8) -> usize;
     fn qs_outcomes(_: *const u8, _: usize, _: *const u8, _: usize, _: *mut u8, _: usize, _: *mut u8) -> usize;
     fn qs_ask(_: *const u8, _: usize, _: *const u8, _: usize, _: *mut u8, _: usize, _: *mut u8) -> usize;
     fn qs_fronts(_: *const u8, _: usize, _: *const u8, _: usize, _: *mut u8, _: usize, _: *mut u8) -> usize;
@@ -23,6 +24,7 @@ pub enum Word {
     Graph,
     Rules,
     Play,
+    Syncs,
     Outcomes,
     Ask,
     Fronts,
@@ -37,6 +39,7 @@ impl Word {
             b"graph" => Some(Word::Graph),
             b"rules" => Some(Word::Rules),
             b"play" => Some(Word::Play),
+            b"syncs" => Some(Word::Syncs),
             b"outcomes" => Some(Word::Outcomes),
             b"ask" => Some(Word::Ask),
             b"fronts" => Some(Word::Fronts),
@@ -51,6 +54,7 @@ impl Word {
             Word::Graph => qs_graph,
             Word::Rules => qs_rules,
             Word::Play => qs_play,
+            Word::Syncs => qs_syncs,
             Word::Outcomes => qs_outcomes,
             Word::Ask => qs_ask,
             Word::Fronts => qs_fronts,

@@ -11,7 +11,8 @@ static const struct {
     const char *word;
     call *call;
 } CALLS[] = {{"check", qs_check}, {"graph", qs_graph}, {"rules", qs_rules}, {"play", qs_play},
-             {"outcomes", qs_outcomes}, {"ask", qs_ask}, {"fronts", qs_fronts}, {"estimate", qs_estimate}};
+             {"syncs", qs_syncs}, {"outcomes", qs_outcomes}, {"ask", qs_ask}, {"fronts", qs_fronts},
+             {"estimate", qs_estimate}};
 
 static void *room_of(void *old, size_t length) {
     void *room = realloc(old, length ? length : 1);
@@ -62,6 +63,6 @@ int main(int count, char **words) {
         free(script), free(room), free(line);
         return status;
     }
-    fputs("ask: the first word is check, graph, rules, play, outcomes, ask, fronts or estimate\n", stderr);
+    fputs("ask: the first word is check, graph, rules, play, syncs, outcomes, ask, fronts or estimate\n", stderr);
     return 2;
 }

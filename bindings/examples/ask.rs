@@ -10,7 +10,7 @@ use std::process::ExitCode;
 fn main() -> io::Result<ExitCode> {
     let words: Vec<_> = env::args_os().skip(1).collect();
     let Some(word) = words.first().and_then(|it| qs::Word::named(it)) else {
-        eprintln!("ask: the first word is check, graph, rules, play, outcomes, ask, fronts or estimate");
+        eprintln!("ask: the first word is check, graph, rules, play, syncs, outcomes, ask, fronts or estimate");
         return Ok(ExitCode::from(2));
     };
     let mut script = Vec::new();

@@ -9,7 +9,7 @@
 // the answer says so, with the status 3.
 
 /** The words that have a call. */
-export const WORDS = Object.freeze(["check", "graph", "rules", "play", "outcomes", "ask", "fronts", "estimate"]);
+export const WORDS = Object.freeze(["check", "graph", "rules", "play", "syncs", "outcomes", "ask", "fronts", "estimate"]);
 
 const FIRST_ROOM = 1 << 20;
 const encoder = new TextEncoder();

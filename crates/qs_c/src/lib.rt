@@ -68,6 +68,20 @@ pub extern "C" fn qs_play(
     answered(alloc, "play", script, words, room, status)
 }
 
+/// What `qs syncs` writes: how many synchronisations each mode of coalescing sends, block by block.
+#[unsafe(no_mangle)]
+pub extern "C" fn qs_syncs(
+    alloc: Global,
+    script: &[u8],
+    words: &[u8],
+    room: &mut [u8],
+    status: &mut u8,
+) -> usize
+    ensures answer { IsAnswered (codes "syncs") words.now script.now room.old room.new status.new result }
+{
+    answered(alloc, "syncs", script, words, room, status)
+}
+
 /// What `qs outcomes` writes: all that a program can come to.
 #[unsafe(no_mangle)]
 pub extern "C" fn qs_outcomes(
