@@ -491,6 +491,10 @@ fn at_parameters(stage: Stage, token: &Token) -> Option<Usual> {
                 b"a template has at least one formal",
                 b"write `template pay(account f) { .. }`",
             ),
+            Token::Name(_) | Token::Number(_) => mistake(
+                b"a formal is an object, and begins with its kind",
+                b"write `account f`; a number can come from an object, as in `x = f.balance();`",
+            ),
             _ => mistake(b"a formal has a kind", b"write `account f`"),
         },
         Stage::GivenNext => match token {

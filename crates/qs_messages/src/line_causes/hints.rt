@@ -33,7 +33,7 @@ fn meant_by(name: &str) -> Option<&'static str> {
     match name {
         "estimate" => Some("`qs estimate` says how many configurations there can be"),
         "front" => Some("`qs fronts K` lists where the script can stand after K blocks"),
-        "sometimes" | "eventually" => Some(
+        "sometimes" | "eventually" | "can" | "exists" => Some(
             "`qs ask --ever 'COND'` says whether a condition holds somewhere on the way, and `--some 'COND'` whether it holds at some end",
         ),
         "invariant" | "forall" | "globally" => Some(
