@@ -4,7 +4,7 @@ ghost use Rattle.std.specs.Prelude.{◌↔◌, IfOk, IsTrue};
 ghost use Rattle.qs_messages.specs.ReadTold.{MayStand};
 
 use qs_script::begins_script;
-use qs_script::tokens::{ListFault, Name, Number, Token, list_tokens};
+use qs_script::tokens::{Name, Number, Token, TokensFault, list_tokens};
 use std::alloc::{AllocError, Global};
 
 /// Tokens that may stand at the same places.
@@ -116,8 +116,8 @@ pub(crate) fn follow_at(alloc: Global, text: &[u8], place: usize) -> Result<Foll
     let mut groups = Vec::new(alloc);
     let mut tokens = match list_tokens(alloc, text) {
         Ok(tokens) => tokens,
-        Err(ListFault::Memory) => return Err(AllocError),
-        Err(ListFault::Token(_)) => return Ok(Follow { groups }),
+        Err(TokensFault::Memory) => return Err(AllocError),
+        Err(TokensFault::Token(_)) => return Ok(Follow { groups }),
     };
     for group in GROUPS {
         if may_stand(alloc, &mut tokens, place, group.token())? {

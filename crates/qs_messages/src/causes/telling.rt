@@ -21,7 +21,7 @@ use crate::causes::shape::say_form;
 use crate::causes::source::Source;
 use crate::causes::spans::{PlacedToken, SpanFault, place_of_anchor, placed_tokens};
 use qs_diagnosis::{Diagnosis, Span, put_diagnosis};
-use qs_script::tokens::{ListFault, Token, TokenFault, list_tokens};
+use qs_script::tokens::{Token, TokenFault, TokensFault, list_tokens};
 use qs_script::tree::Script;
 use qs_script::{ReadFault, read};
 use std::alloc::{AllocError, Global};
@@ -79,8 +79,8 @@ fn tell_form(
             Some(fault) => tell_place(alloc, out, text, tokens, fault),
             None => Ok(()),
         },
-        Err(ListFault::Memory) => Err(AllocError),
-        Err(ListFault::Token(_)) => unreachable!(),
+        Err(TokensFault::Memory) => Err(AllocError),
+        Err(TokensFault::Token(_)) => unreachable!(),
     }
 }
 
@@ -238,7 +238,7 @@ pub fn actors(alloc: Global, text: &[u8]) -> Result<(usize, usize), AllocError>
             count_clients(tokens.as_slice()),
             count_objects(tokens.as_slice()),
         )),
-        Err(ListFault::Memory) => Err(AllocError),
-        Err(ListFault::Token(_)) => Ok((0, 0)),
+        Err(TokensFault::Memory) => Err(AllocError),
+        Err(TokensFault::Token(_)) => Ok((0, 0)),
     }
 }
