@@ -1,13 +1,14 @@
 -- A line's claim is that of a text which was read as a condition, whichever words stand beside it: what a word asks for
 -- is found test by test, and each request with a claim comes of one place.
 use Rattle.std.proofs.Common.{◌≡◌, ◌∙◌, Bool, true, false, ℕ, List, [], ◌∷◌, codes, Option, Some, None, Result, Ok, Err, if◌then◌else◌, ◌&&◌, ◌⊎◌, not, inl, inr, refl, sym, ap, subst}
-use Rattle.std.specs.Prelude.{option_and_then, option_map}
+use Rattle.std.specs.Prelude.{◌++◌, option_and_then, option_map, unwrap_or}
+use Rattle.std.specs.List.{AllByRecursion}
 use Rattle.std.specs.Option.{option_map_or}
 use Rattle.std.specs.Str.{bytes_eq}
 use Rattle.std.proofs.lemmas.Slice.Eq.{bytes_eq-Decides}
 use Rattle.clap.specs.Faults.{fault_of}
 use Rattle.clap.specs.Kinds.{Kinds}
-use Rattle.clap.specs.Words.{Row, Text, first_of, subcommand_of}
+use Rattle.clap.specs.Words.{Row, Text, all_of, first_of, subcommand_of}
 use Rattle.clap.specs.declared.error.kind.ErrorKind.TheVariants.{DisplayHelp, DisplayVersion}
 use Rattle.clap.specs.declared.error.kind.ErrorKind.{ErrorKind}
 use Rattle.qs_conditions.specs.Claims.{word as word_of}
@@ -22,18 +23,15 @@ use Rattle.qs_conditions.specs.declared.condition.Step.{Step}
 use Rattle.qs_conditions.specs.declared.fault.ConditionFault.{ConditionFault}
 use Rattle.qs_conditions.specs.declared.signs.Placed.{Placed}
 use Rattle.qs_line.proofs.Answering.{other_line}
-use Rattle.qs_line.specs.Claims.{ClaimsHaveConditions, HasCondition}
+use Rattle.qs_line.specs.Claims.{ClaimsHaveConditions, HaveConditions, IsOfCondition}
 use Rattle.qs_line.specs.audit.Apart.{flag_at, has_apart}
+use Rattle.qs_line.specs.audit.Parts.{each_in}
 use Rattle.qs_line.specs.audit.RunLines.{run_by, run_in, run_of_word, runs_at, style_of}
 use Rattle.qs_line.specs.RunLines.{LinesOfRunsAreThese, RunsAreLines}
 use Rattle.qs_line.specs.declared.line.ReportStyle.{ReportStyle}
 use Rattle.qs_line.specs.audit.Command.{qs_app}
 use Rattle.qs_line.specs.audit.Line.{Request, alike, ask, asks, asks_language, check, chunk_at, estimate, fronts, graph, has_times, help, mode_at, outcomes, plan_at, play, play_at, rules, rules_at, run, single_run_at, style_at, styled_plan_at, syncs, tally}
-use Rattle.qs_line.specs.Line.{alike_at, ask_at, blocks_at, check_at, claim_at, claim_by, claim_in, estimate_at, format_at, front_at, fronts_at, graph_at, graph_format_at, leads_at, limit_at, line_by, line_in, line_met, line_of_kind, list_at, outcomes_at, outcomes_format_at, request_at, request_met, request_of_word, syncs_at, tally_at, threads_beside, times_at}
-
--- a claim whose steps are those of a condition
-abbrev IsOfCondition : Claim → Type 0
-IsOfCondition claim = (c : Tree) × (claim.condition ≡ steps_of c)
+use Rattle.qs_line.specs.Line.{alike_at, ask_at, blocks_at, check_at, claim_in, claims_at, claims_by, estimate_at, format_at, front_at, fronts_at, graph_at, graph_format_at, leads_at, limit_at, line_by, line_in, line_met, line_of_kind, list_at, outcomes_at, outcomes_format_at, request_at, request_met, request_of_word, some_claims, syncs_at, tally_at, threads_beside, times_at}
 
 by_tree : (t : Result Tree ℕ) (steps : List Step) → steps_by_tree t ≡ Some steps → (c : Tree) × (steps ≡ steps_of c)
 by_tree (Ok c) steps e = (c, (let h : steps_of c ≡ steps = cc e in sym h))
@@ -51,23 +49,55 @@ of_steps q (Some steps) claim are e = let h : record { quantifier = q; condition
 in_text : (q : Quantifier) (text : Text) (claim : Claim) → claim_in q text ≡ Some claim → IsOfCondition claim
 in_text q text claim e = of_steps q (condition_in text) claim (by_signs (signs_of text)) e
 
-of_setting : (q : Quantifier) (rows : List Row) (other : Option Claim) → ((claim : Claim) → other ≡ Some claim → IsOfCondition claim)
-    → (claim : Claim) → claim_by q rows other ≡ Some claim → IsOfCondition claim
-of_setting q rows other rest claim = by (first_of (word_of q) rows)
+-- the claims of texts, where each is a condition
+each_of : (one : Text → Option Claim) → ((text : Text) (claim : Claim) → one text ≡ Some claim → IsOfCondition claim)
+    → (texts : List Text) (claims : List Claim) → each_in one texts ≡ Some claims → AllByRecursion IsOfCondition claims
+each_of one are [] claims e = let h : [] ≡ claims = cc e in subst (AllByRecursion IsOfCondition) h tt
+each_of one are (text ∷ texts) claims e = by (one text) (each_in one texts) (are text) (each_of one are texts) e
   where
-    by : (text : Option Text) → option_map_or (claim_in q) text other ≡ Some claim → IsOfCondition claim
-    by None e = rest claim e
-    by (Some text) e = in_text q text claim e
+    by : (o : Option Claim) (os : Option (List Claim)) → ((claim : Claim) → o ≡ Some claim → IsOfCondition claim)
+        → ((rest : List Claim) → os ≡ Some rest → AllByRecursion IsOfCondition rest)
+        → option_and_then (λ first. option_map (λ rest. first ∷ rest) os) o ≡ Some claims → AllByRecursion IsOfCondition claims
+    by None os its rests f = absurd (cc f)
+    by (Some first) None its rests f = absurd (cc f)
+    by (Some first) (Some rest) its rests f =
+        let h : first ∷ rest ≡ claims = cc f in subst (AllByRecursion IsOfCondition) h (its first refl, rests rest refl)
 
-of_rows : (rows : List Row) (claim : Claim) → claim_at rows ≡ Some claim → IsOfCondition claim
-of_rows rows =
-    of_setting quantifier.Always rows _ (of_setting quantifier.Some rows _
-    (of_setting quantifier.Throughout rows _ (of_setting quantifier.Ever rows _
-    (of_setting quantifier.Never rows None (λ claim e. absurd (cc e))))))
+joined : (xs ys : List Claim) → AllByRecursion IsOfCondition xs → AllByRecursion IsOfCondition ys
+    → AllByRecursion IsOfCondition (xs ++ ys)
+joined [] ys a b = b
+joined (x ∷ xs) ys a b = (a.0, joined xs ys a.1 b)
+
+of_setting : (q : Quantifier) (rows : List Row) (before : Option (List Claim))
+    → ((claims : List Claim) → before ≡ Some claims → AllByRecursion IsOfCondition claims)
+    → (claims : List Claim) → claims_by q rows before ≡ Some claims → AllByRecursion IsOfCondition claims
+of_setting q rows None are claims e = absurd (cc e)
+of_setting q rows (Some first) are claims e =
+    by (each_in (claim_in q) (unwrap_or (all_of (word_of q) rows) []))
+    (each_of (claim_in q) (in_text q) (unwrap_or (all_of (word_of q) rows) [])) e
+  where
+    by : (o : Option (List Claim)) → ((own : List Claim) → o ≡ Some own → AllByRecursion IsOfCondition own)
+        → option_map (λ own. first ++ own) o ≡ Some claims → AllByRecursion IsOfCondition claims
+    by None its f = absurd (cc f)
+    by (Some own) its f =
+        let h : first ++ own ≡ claims = cc f in
+        subst (AllByRecursion IsOfCondition) h (joined first own (are first refl) (its own refl))
+
+-- where there are some claims, they are these
+some : (o : Option (List Claim)) (claims : List Claim) → option_and_then some_claims o ≡ Some claims → o ≡ Some claims
+some None claims e = absurd (cc e)
+some (Some []) claims e = absurd (cc e)
+some (Some (first ∷ rest)) claims e = e
+
+of_rows : (rows : List Row) (claims : List Claim) → claims_at rows ≡ Some claims → AllByRecursion IsOfCondition claims
+of_rows rows claims e =
+    of_setting quantifier.Never rows _ (of_setting quantifier.Ever rows _ (of_setting quantifier.Throughout rows _
+    (of_setting quantifier.Some rows _ (of_setting quantifier.Always rows (Some [])
+    (λ none is. let h : [] ≡ none = cc is in subst (AllByRecursion IsOfCondition) h tt))))) claims (some _ claims e)
 
 -- a request that is of no run and has its condition, if it asks a claim
 abbrev IsPlain : Request → Type 0
-IsPlain q = HasCondition q × (style_of q ≡ None)
+IsPlain q = HaveConditions q × (style_of q ≡ None)
 
 -- what is asked for is such a request, where something is
 abbrev Has : Option Request → Type 0
@@ -102,7 +132,7 @@ module _ (word : Text) (rows : List Row) where
   tallies = next _ (format_at rows) (λ how e. next _ (mode_at rows) (λ mode f. next _ (chunk_at rows) (λ chunk g. each (tally how mode chunk) (times_at rows) (λ times. (tt, refl)))))
 
   answers : Has (ask_at rows)
-  answers = next _ (claim_at rows) (λ claim is. next _ (format_at rows) (λ how e. next _ (limit_at rows) (λ limit f. each (ask claim how limit) (front_at rows) (λ front. (of_rows rows claim is, refl)))))
+  answers = next _ (claims_at rows) (λ claims is. next _ (format_at rows) (λ how e. next _ (limit_at rows) (λ limit f. each (ask claims how limit) (front_at rows) (λ front. (of_rows rows claims is, refl)))))
 
   lists : Has (list_at rows)
   lists = next _ (outcomes_format_at rows) (λ how e. next _ (limit_at rows) (λ limit f. next _ (threads_beside how rows) (λ threads g. each (outcomes how limit threads) (front_at rows) (λ front. (tt, refl)))))
@@ -225,7 +255,7 @@ of_runs word rows q = by (has_apart rows)
     by false e = of_runs_alone word rows q e
 
 -- a run's request has no claim
-runs_have_none : (q : Request) (style : ReportStyle) → style_of q ≡ Some style → HasCondition q
+runs_have_none : (q : Request) (style : ReportStyle) → style_of q ≡ Some style → HaveConditions q
 runs_have_none (rules style plan) own e = tt
 runs_have_none (play style mode size plan) own e = tt
 runs_have_none (run style mode size) own e = tt
@@ -233,7 +263,7 @@ runs_have_none (check how) own e = absurd (cc e)
 runs_have_none (graph how) own e = absurd (cc e)
 runs_have_none (syncs how plan) own e = absurd (cc e)
 runs_have_none (tally how mode size times) own e = absurd (cc e)
-runs_have_none (ask claim how limit list) own e = absurd (cc e)
+runs_have_none (ask claims how limit list) own e = absurd (cc e)
 runs_have_none (estimate how list) own e = absurd (cc e)
 runs_have_none (fronts how blocks limit orders) own e = absurd (cc e)
 runs_have_none (alike how limit) own e = absurd (cc e)
@@ -252,11 +282,11 @@ of_kinds : (kinds : Kinds) (r : Option Request) (request : Request) → line_by 
 of_kinds [] r request e = (refl, of_request r request e)
 of_kinds (kind ∷ kinds) r request e = absurd (no_kind kind request e)
 
-of_met : (entry : Option (Text × List Row)) (request : Request) → request_met entry ≡ Some request → HasCondition request × ((style : ReportStyle) → style_of request ≡ Some style → run_by [] entry ≡ Some request)
+of_met : (entry : Option (Text × List Row)) (request : Request) → request_met entry ≡ Some request → HaveConditions request × ((style : ReportStyle) → style_of request ≡ Some style → run_by [] entry ≡ Some request)
 of_met None request e = absurd (cc e)
 of_met (Some entry) request e = by_case (of_word entry.0 entry.1 request e)
   where
-    by_case : IsPlain request ⊎ (runs_at entry.0 entry.1 ≡ Some request) → HasCondition request × ((style : ReportStyle) → style_of request ≡ Some style → runs_at entry.0 entry.1 ≡ Some request)
+    by_case : IsPlain request ⊎ (runs_at entry.0 entry.1 ≡ Some request) → HaveConditions request × ((style : ReportStyle) → style_of request ≡ Some style → runs_at entry.0 entry.1 ≡ Some request)
     by_case (inl plain) = (plain.0, λ style own. absurd (let h : None ≡ Some style = sym plain.1 ∙ own in cc h))
     by_case (inr is) = let own = runs_styled entry.0 entry.1 request is in (runs_have_none request own.0 own.1, λ style own. is)
 

@@ -1,11 +1,11 @@
 -- Beside what the headline reaches (`audit/Line.antt`): what else contracts and proofs use.
-use Rattle.std.specs.Prelude.{◌≡◌, ◌≢◌, ℕ, List, [], ◌∷◌, map, Vec, codes, Option, Some, None, Result, Ok, Err, ⊤, Bool, false, if◌then◌else◌, ◌||◌, ◌&&◌, not, is_some, option_map, option_and_then, unwrap_or}
+use Rattle.std.specs.Prelude.{◌≡◌, ◌≢◌, ℕ, List, [], ◌∷◌, ◌++◌, map, Vec, codes, Option, Some, None, Result, Ok, Err, ⊤, Bool, false, if◌then◌else◌, ◌||◌, ◌&&◌, not, is_some, option_map, option_and_then, unwrap_or}
 use Rattle.std.specs.Option.{option_map_or}
 use Rattle.std.specs.Global.{Global}
 use Rattle.std.specs.Str.{bytes_eq}
 use Rattle.clap.specs.Faults.{fault_of}
 use Rattle.clap.specs.Kinds.{IsAmong, Kinds}
-use Rattle.clap.specs.Words.{Row, Text, first_of, subcommand_of}
+use Rattle.clap.specs.Words.{Row, Text, all_of, first_of, subcommand_of}
 use Rattle.clap.specs.declared.error.kind.ErrorKind.TheVariants.{DisplayHelp, DisplayVersion, OutOfMemory}
 use Rattle.clap.specs.declared.error.kind.ErrorKind.{ErrorKind}
 use Rattle.qs_conditions.specs.Claims.{word as word_of}
@@ -13,7 +13,7 @@ use Rattle.qs_conditions.specs.Reads.{condition_in}
 use Rattle.qs_conditions.specs.declared.claim.Claim.{Claim}
 use Rattle.qs_conditions.specs.declared.claim.Quantifier.{Quantifier}
 use Rattle.qs_conditions.specs.declared.claim.Quantifier.TheVariants as quantifier
-use Rattle.qs_line.specs.audit.Parts.{clients_in}
+use Rattle.qs_line.specs.audit.Parts.{clients_in, each_in}
 use Rattle.qs_line.specs.Parts.{orders_in}
 use Rattle.qs_line.specs.declared.parts.Part.{Part}
 use Rattle.qs_line.specs.audit.Apart.{flag_at, has_apart}
@@ -62,7 +62,7 @@ format_of_request (play style mode chunk plan) = format_beside_report style.form
 format_of_request (syncs how plan) = how
 format_of_request (run style mode chunk) = format_beside_report style.format
 format_of_request (tally how mode chunk times) = how
-format_of_request (ask claim how limit front) = how
+format_of_request (ask claims how limit front) = how
 format_of_request (estimate how front) = how
 format_of_request (fronts how blocks limit orders) = how
 format_of_request (alike how limit) = how
@@ -80,7 +80,7 @@ request_of (word.Play style mode chunk plan) = play style mode chunk (plan_of pl
 request_of (word.Syncs how plan) = syncs how (plan_of plan)
 request_of (word.Run style mode chunk) = run style mode chunk
 request_of (word.Tally how mode chunk times) = tally how mode chunk times
-request_of (word.Ask claim how limit front) = ask claim how limit front.items
+request_of (word.Ask claims how limit front) = ask claims.items how limit front.items
 request_of (word.Estimate how front) = estimate how front.items
 request_of (word.Fronts how blocks limit orders) =
     fronts how blocks limit (map (λ (order : Vec Part Global). order.items) orders.items)
@@ -172,21 +172,30 @@ run_at rows = if has_times rows then tally_at rows else single_run_at rows
 abbrev pub claim_in : Quantifier → Text → Option Claim
 claim_in q text = option_map (λ steps. record { quantifier = q; condition = steps }) (condition_in text)
 
--- the claim of a setting, where it stands on the line, and else another one
-abbrev pub claim_by : Quantifier → List Row → (other : Option Claim) → Option Claim
-claim_by q rows other = option_map_or (claim_in q) (first_of (word_of q) rows) other
+-- the claims before these, and the claims of a setting, one for each of its texts, where each is a condition
+abbrev pub claims_by : Quantifier → List Row → (before : Option (List Claim)) → Option (List Claim)
+claims_by q rows before =
+    option_and_then (λ claims. option_map (λ own. claims ++ own)
+    (each_in (claim_in q) (unwrap_or (all_of (word_of q) rows) []))) before
 
--- the claim of a line: of all ends, of some, throughout, or of some configuration on the way or of none
-abbrev pub claim_at : List Row → Option Claim
-claim_at rows =
-    claim_by quantifier.Always rows (claim_by quantifier.Some rows
-    (claim_by quantifier.Throughout rows (claim_by quantifier.Ever rows (claim_by quantifier.Never rows None))))
+-- where there are some
+abbrev pub some_claims : List Claim → Option (List Claim)
+some_claims [] = None
+some_claims (claim ∷ claims) = Some (claim ∷ claims)
 
--- an answer, as text or as JSON
+-- the claims of a line: first those of all ends, then those of some, throughout, of some configuration on the way and of
+-- none, each as they follow one another on the line
+abbrev pub claims_at : List Row → Option (List Claim)
+claims_at rows =
+    option_and_then some_claims (claims_by quantifier.Never rows (claims_by quantifier.Ever rows
+    (claims_by quantifier.Throughout rows (claims_by quantifier.Some rows
+    (claims_by quantifier.Always rows (Some []))))))
+
+-- answers, as text or as JSON
 abbrev pub ask_at : List Row → Option Request
 ask_at rows =
-    option_and_then (λ claim. option_and_then (λ how. option_and_then (λ limit. option_map (ask claim how limit)
-    (front_at rows)) (limit_at rows)) (format_at rows)) (claim_at rows)
+    option_and_then (λ claims. option_and_then (λ how. option_and_then (λ limit. option_map (ask claims how limit)
+    (front_at rows)) (limit_at rows)) (format_at rows)) (claims_at rows)
 
 -- by how many threads outcomes are searched for: a drawing by one alone
 abbrev pub threads_beside : OutcomesFormat → List Row → Option ℕ

@@ -32,16 +32,6 @@ pub enum Setting {
     Leads,
     /// How many threads search.
     Threads,
-    /// A condition of all ends.
-    Always,
-    /// A condition of some end.
-    Some,
-    /// A condition throughout.
-    Throughout,
-    /// A condition of some configuration on the way.
-    Ever,
-    /// A condition of none of these.
-    Never,
 }
 
 impl Setting {
@@ -63,11 +53,6 @@ impl Setting {
             Setting::After => "after",
             Setting::Leads => "leads",
             Setting::Threads => "threads",
-            Setting::Always => "always",
-            Setting::Some => "some",
-            Setting::Throughout => "throughout",
-            Setting::Ever => "ever",
-            Setting::Never => "never",
         }
     }
 
@@ -88,18 +73,13 @@ impl Setting {
             | Setting::Times
             | Setting::After
             | Setting::Leads
-            | Setting::Threads
-            | Setting::Always
-            | Setting::Some
-            | Setting::Throughout
-            | Setting::Ever
-            | Setting::Never => false,
+            | Setting::Threads => false,
         }
     }
 }
 
 /// Settings that do not stand together on a line: no two of a pair.
-pub const APART: [(Setting, Setting); 20] = [
+pub const APART: [(Setting, Setting); 10] = [
     (Setting::Order, Setting::Pick),
     (Setting::Order, Setting::Rounds),
     (Setting::Order, Setting::Steps),
@@ -110,14 +90,4 @@ pub const APART: [(Setting, Setting); 20] = [
     (Setting::Alike, Setting::After),
     (Setting::Alike, Setting::Threads),
     (Setting::Leads, Setting::After),
-    (Setting::Always, Setting::Some),
-    (Setting::Always, Setting::Throughout),
-    (Setting::Always, Setting::Ever),
-    (Setting::Always, Setting::Never),
-    (Setting::Some, Setting::Throughout),
-    (Setting::Some, Setting::Ever),
-    (Setting::Some, Setting::Never),
-    (Setting::Throughout, Setting::Ever),
-    (Setting::Throughout, Setting::Never),
-    (Setting::Ever, Setting::Never),
 ];

@@ -3,7 +3,7 @@
 ghost use Rattle.std.specs.Prelude.{◌≡◌, IfOk, IsOkAnd, codes, false};
 ghost use Rattle.clap.specs.Words.{app_of, new_app, rule_of, with_rule};
 ghost use Rattle.clap.specs.declared.Command.TheViews.{out-Command as fields_of};
-ghost use Rattle.qs_line.specs.audit.Command.{after_app, ask_app, blocks_rule, check_app, chunk_rule, claimed_app, counted_app, defaulted_rule, estimate_app, flag_rule, fronts_app, graph_app, limit_rule, machine_app, named_app, option_rule, outcomes_app, planned_app, play_app, qs_app, rules_app, run_app, runs_app, scheduled_app, search_app, shared_app, shown_app, syncs_app, threads_rule, times_rule, with_word};
+ghost use Rattle.qs_line.specs.audit.Command.{after_app, ask_app, blocks_rule, check_app, chunk_rule, claimed_app, condition_rule, counted_app, defaulted_rule, estimate_app, flag_rule, fronts_app, graph_app, limit_rule, machine_app, named_app, option_rule, outcomes_app, planned_app, play_app, qs_app, rules_app, run_app, runs_app, scheduled_app, search_app, shared_app, shown_app, syncs_app, threads_rule, times_rule, with_word};
 
 use crate::help;
 use clap::{Arg, ArgAction, Command, value_parser};
@@ -20,6 +20,13 @@ fn option<'a>(alloc: Global, name: &'a str, value: &'a str, said: &'a str) -> Ar
         .value_name(value)
         .help(said)
         .action(ArgAction::Set)
+}
+
+fn condition_option<'a>(alloc: Global, name: &'a str, said: &'a str) -> Arg<'a>
+    ensures rule { rule_of result ≡ condition_rule name.entry.now }
+    ensures local { result.global ≡ false }
+{
+    option(alloc, name, "COND", said).action(ArgAction::Append)
 }
 
 fn mode_option<'a>(alloc: Global) -> Arg<'a>
@@ -224,10 +231,10 @@ fn with_condition<'a>(
     said: &'a str,
 ) -> Result<Command<'a>, AllocError>
     requires local { (fields_of command).has_globals ≡ false }
-    ensures app { IfOk result (λ whole. app_of whole ≡ with_rule (app_of command.entry) (option_rule name.entry.now)) }
+    ensures app { IfOk result (λ whole. app_of whole ≡ with_rule (app_of command.entry) (condition_rule name.entry.now)) }
     ensures local { IfOk result (λ whole. (fields_of whole).has_globals ≡ false) }
 {
-    command.arg(option(alloc, name, "COND", said))
+    command.arg(condition_option(alloc, name, said))
 }
 
 // With the settings that take a condition.

@@ -1,17 +1,18 @@
 // The settings of a line.
 
-ghost use Rattle.std.specs.Prelude.{◌≡◌, [], ◌∷◌, Err, IfOk, IfErr, map, option_and_then, option_map};
-ghost use Rattle.clap.specs.Words.{found_of, kind_of, rows_of, subcommand_of, subcommand_rows_of};
+ghost use Rattle.std.specs.Prelude.{◌≡◌, [], ◌∷◌, Err, IfOk, IfErr, map, option_and_then, option_map, unwrap_or};
+ghost use Rattle.clap.specs.Words.{all_of, found_of, kind_of, rows_of, subcommand_of, subcommand_rows_of};
 ghost use Rattle.clap.specs.Faults.{fault_of};
+ghost use Rattle.qs_conditions.specs.Claims.{word as word_of};
 ghost use Rattle.std.specs.List.{list_any};
 ghost use Rattle.qs_line.specs.audit.Apart.{both_stand_at, flag_at, has_apart, stands_at};
 ghost use Rattle.qs_line.specs.audit.Command.{qs_app};
 ghost use Rattle.qs_line.specs.audit.Line.{asks_language, help, chunk_at, has_times, mode_at, number_in, play_at, report_format_at, rules_at, single_run_at, style_at, styled_plan, can_tell};
-ghost use Rattle.qs_line.specs.Line.{IsAnswer, IsFault, IsFaultAmong, alike_at, ask_at, blocks_at, check_at, claim_at, claim_in, estimate_at, fronts_at, has_threads, list_at, format_at, front_at, graph_at, graph_format_at, is_verbose_in, is_verbose_met, leads_at, limit_at, line_in, outcomes_at, outcomes_format_at, plan_of, request_at, request_met, request_of, request_of_word, run_at, syncs_at, tally_at, threads_at, threads_beside, times_at, warns_in, warns_met};
+ghost use Rattle.qs_line.specs.Line.{IsAnswer, IsFault, IsFaultAmong, alike_at, ask_at, blocks_at, check_at, claim_in, claims_at, claims_by, estimate_at, fronts_at, has_threads, list_at, format_at, front_at, graph_at, graph_format_at, is_verbose_in, is_verbose_met, leads_at, limit_at, line_in, outcomes_at, outcomes_format_at, plan_of, request_at, request_met, request_of, request_of_word, run_at, syncs_at, tally_at, threads_at, threads_beside, times_at, warns_in, warns_met};
 
 use crate::apart::{APART, Setting};
 use crate::command::command;
-use crate::found::text_at;
+use crate::found::{text_at, texts_at};
 use crate::language::language_page;
 use crate::limits::{MOST_FRONT, MOST_THREADS, MOST_TIMES};
 use crate::parts::Part;
@@ -169,11 +170,11 @@ pub enum Settings {
         /// How many times it is run.
         times: u32,
     },
-    /// Check it, and answer whether a condition holds of all ends, of some, or throughout.
+    /// Check it, and answer whether conditions hold of all ends, of some, or throughout.
     Ask {
-        /// The condition, and of what it is to hold.
-        claim: Claim,
-        /// How the answer is written.
+        /// The conditions, and of what they are to hold; at least one.
+        claims: Vec<Claim>,
+        /// How the answers are written.
         format: Format,
         /// How many configurations are looked at, at most.
         limit: u32,
@@ -569,6 +570,19 @@ fn run_settings(found: &ArgMatches<'_>) -> Option<Settings>
     }
 }
 
+// The name of the setting of a quantifier.
+fn setting_of(quantifier: Quantifier) -> &'static str
+    ensures name { result.now ≡ word_of quantifier }
+{
+    match quantifier {
+        Quantifier::Always => "always",
+        Quantifier::Some => "some",
+        Quantifier::Throughout => "throughout",
+        Quantifier::Ever => "ever",
+        Quantifier::Never => "never",
+    }
+}
+
 // The claim of a text: None where it is no condition.
 fn claim_of(alloc: Global, quantifier: Quantifier, text: &str) -> Result<Option<Claim>, AllocError>
     ensures claim { IfOk result (λ claim. claim ≡ claim_in quantifier text.now) }
@@ -583,33 +597,51 @@ fn claim_of(alloc: Global, quantifier: Quantifier, text: &str) -> Result<Option<
     }
 }
 
-// The claim of a line: None where it has none, or one that is no condition.
-fn given_claim(alloc: Global, found: &ArgMatches<'_>) -> Result<Option<Claim>, AllocError>
-    ensures claim { IfOk result (λ claim. claim ≡ claim_at (rows_of (found_of found.now))) }
+// The claims before these, and those of a setting: None where one of them is no condition.
+fn with_claims(
+    alloc: Global,
+    found: &ArgMatches<'_>,
+    quantifier: Quantifier,
+    before: Option<Vec<Claim>>,
+) -> Result<Option<Vec<Claim>>, AllocError>
+    ensures claims { IfOk result (λ claims. option_map (λ all. all.items) claims
+        ≡ claims_by quantifier (rows_of (found_of found.now)) (option_map (λ all. all.items) before)) }
 {
-    if let Some(text) = text_at(found, "always") {
-        return claim_of(alloc, Quantifier::Always, text);
+    let Some(mut claims) = before else {
+        return Ok(None);
+    };
+    let Some(texts) = texts_at(found, setting_of(quantifier)) else {
+        return Ok(Some(claims));
+    };
+    for text in texts {
+        match claim_of(alloc, quantifier, text)? {
+            Some(claim) => claims.push(claim)?,
+            None => return Ok(None),
+        }
     }
-    if let Some(text) = text_at(found, "some") {
-        return claim_of(alloc, Quantifier::Some, text);
-    }
-    if let Some(text) = text_at(found, "throughout") {
-        return claim_of(alloc, Quantifier::Throughout, text);
-    }
-    if let Some(text) = text_at(found, "ever") {
-        return claim_of(alloc, Quantifier::Ever, text);
-    }
-    match text_at(found, "never") {
-        Some(text) => claim_of(alloc, Quantifier::Never, text),
-        None => Ok(None),
+    Ok(Some(claims))
+}
+
+// The claims of a line: None where it has none, or one that is no condition.
+fn given_claims(alloc: Global, found: &ArgMatches<'_>) -> Result<Option<Vec<Claim>>, AllocError>
+    ensures claims { IfOk result (λ claims. option_map (λ all. all.items) claims ≡ claims_at (rows_of (found_of found.now))) }
+{
+    let always = with_claims(alloc, found, Quantifier::Always, Some(Vec::new(alloc)))?;
+    let some = with_claims(alloc, found, Quantifier::Some, always)?;
+    let throughout = with_claims(alloc, found, Quantifier::Throughout, some)?;
+    let ever = with_claims(alloc, found, Quantifier::Ever, throughout)?;
+    let never = with_claims(alloc, found, Quantifier::Never, ever)?;
+    match never {
+        Some(claims) if !claims.is_empty() => Ok(Some(claims)),
+        _ => Ok(None),
     }
 }
 
 fn ask_settings(alloc: Global, found: &ArgMatches<'_>) -> Result<Option<Settings>, AllocError>
     ensures settings { IfOk result (λ settings. option_map request_of settings ≡ ask_at (rows_of (found_of found.now))) }
 {
-    let (Some(claim), Some(format), Some(limit), Some(front)) = (
-        given_claim(alloc, found)?,
+    let (Some(claims), Some(format), Some(limit), Some(front)) = (
+        given_claims(alloc, found)?,
         format_of(found),
         limit_of(found),
         given_front(alloc, found)?,
@@ -617,7 +649,7 @@ fn ask_settings(alloc: Global, found: &ArgMatches<'_>) -> Result<Option<Settings
         return Ok(None);
     };
     Ok(Some(Settings::Ask {
-        claim,
+        claims,
         format,
         limit,
         front,

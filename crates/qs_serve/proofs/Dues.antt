@@ -264,25 +264,6 @@ answer_after how p claim limit clients a (Text bytes) are within is = answered_b
 answer_after how p claim limit clients a (No bytes) are within is = answered_by false how p claim limit clients a bytes.items are within is.0 is.1
 answer_after how p claim limit clients a (Refused f) are within is = subst (λ g. IsAnswerAfterDue how p claim limit clients (Refused g)) (sym is) tt
 
--- and it is due by what was asked for, where the condition speaks of what the program has
-pub due_by_claim : (how : Format) (p : ProgramShape) (claim : Claim) (limit : ℕ) (front : List Part) (clients : List ℕ) (due : Due)
-    → first_unknown_in p claim.condition ≡ None → clients_of p front ≡ Ok clients → IsAnswerAfterDue how p claim limit clients due
-    → IsOutOfMemory due ⊎ IsDueOfProgram (ask claim how limit front) [] p due
-due_by_claim how p claim limit front clients (Text bytes) known named is =
-    inr (known, of_named (λ xs. IsAnswerTextTo how p claim limit xs true bytes.items) (clients_of p front) clients named is)
-due_by_claim how p claim limit front clients (No bytes) known named is =
-    inr (known, of_named (λ xs. IsAnswerTextTo how p claim limit xs false bytes.items) (clients_of p front) clients named is)
-due_by_claim how p claim limit front clients (Refused fault.Memory) known named is = inl tt
-due_by_claim how p claim limit front clients (Refused (fault.Outcomes f)) known named is =
-    inr (of_named (λ xs. IsUnanswered p claim limit xs f) (clients_of p front) clients named is)
-due_by_claim how p claim limit front clients (Refused fault.CommandLine) known named is = absurd is
-due_by_claim how p claim limit front clients (Refused fault.Input) known named is = absurd is
-due_by_claim how p claim limit front clients (Refused (fault.Read f)) known named is = absurd is
-due_by_claim how p claim limit front clients (Refused (fault.Check f)) known named is = absurd is
-due_by_claim how p claim limit front clients (Refused (fault.Play f)) known named is = absurd is
-due_by_claim how p claim limit front clients (Refused (fault.Order f)) known named is = absurd is
-due_by_claim how p claim limit front clients (Refused (fault.Run f)) known named is = absurd is
-
 -- each end of a tally has its places
 places_of : (p : ProgramShape) (ends : List CountedShape) → AllByRecursion (IsEnd p) (standings_in ends)
     → AllByRecursion (λ (e : CountedShape). HasPlaces p e.standing) ends

@@ -2,6 +2,7 @@
 -- function `serve` stands on it. With the status 0 a text is due, of a script that is accepted, whose program is sound;
 -- by what the line asks for it is the report of a run, and all runs are as if serial.
 use Rattle.std.proofs.Common.{◌≡◌, ℕ, Bool, List, [], ◌∷◌, ◌++◌, ◌∙◌, Option, Some, None, Result, Ok, Err, true, false, refl, sym, ap, subst, inl, inr, take, IsOkAnd, Vec}
+use Rattle.std.specs.List.{AllByRecursion}
 use Rattle.std.specs.Prelude.{IfSome, MatchBool, if◌then◌else◌}
 use Rattle.std.specs.Global.{Global}
 use Rattle.std.specs.Io.KnownBytes.{Appends}
@@ -11,7 +12,7 @@ use Rattle.qs_conditions.specs.Conditions.{Tree, steps_of}
 use Rattle.qs_conditions.specs.declared.claim.Claim.{Claim}
 use Rattle.qs_script.proofs.grammar.Form.{formed}
 use Rattle.qs_line.proofs.Claims.{claims_have_conditions, runs_are_lines}
-use Rattle.qs_line.specs.Claims.{HasCondition}
+use Rattle.qs_line.specs.Claims.{IsOfCondition}
 use Rattle.qs_line.specs.audit.RunLines.{style_of}
 use Rattle.qs_line.specs.audit.Line.{Line, Request, alike, ask, asks, by_order, by_schedule, check, estimate, fronts, graph, outcomes, play, rules, run, syncs, tally}
 use Rattle.qs_line.specs.audit.Named.{actors_of, clients_of}
@@ -53,9 +54,9 @@ use Rattle.qs_serve.specs.audit.RunReports.{report_by}
 use Rattle.qs_script.specs.audit.Reads.{IsScriptText}
 use Rattle.qs_serial.specs.audit.NamedOrders.{order_of}
 use Rattle.qs_serve.specs.audit.Due.{longest, told_report}
-use Rattle.qs_serve.specs.Due.{AreFrontsTexts, AreLinesWhere, IsAlikeText, IsFrontsText, IsAnswerBy, IsAnswerTextTo, IsDue, IsDueOfLine, IsDueOfText, IsDueOfTextAlone, IsTextBy, IsTextOfOutcomes, Lines, Serves, answer_in, due_status, due_text, takes_threads}
+use Rattle.qs_serve.specs.Due.{AreAnswersTo, AreFrontsTexts, AreLinesWhere, IsAlikeText, IsFrontsText, IsAnswerBy, IsAnswerTextTo, IsDue, IsDueOfLine, IsDueOfText, IsDueOfTextAlone, IsTextBy, IsTextOfOutcomes, Lines, Serves, answer_in, due_status, due_text, takes_threads}
 use Rattle.qs_serve.specs.audit.Headline.{IsAskedFor, IsHeadline, IsReported, IsToTheEnd}
-use Rattle.qs_serve.specs.Headline.{AreAnswersTrue, AreListsTrue, AreTrueFronts, IsTextOfAll, IsTrueAnswer, IsTrueList, IsTrueOfRuns, asked_claim}
+use Rattle.qs_serve.specs.Headline.{AreAnsweredTruly, AreAnswersTrue, AreListsTrue, AreTrueAnswers, AreTrueFronts, IsTextOfAll, IsTrueList, IsTrueOfRuns}
 use Rattle.qs_serve.specs.Reading.{Reading}
 use Rattle.qs_serve.specs.declared.due.Due.{Due}
 use Rattle.qs_serve.specs.declared.due.Due.TheVariants.{Text, No, Refused}
@@ -211,77 +212,59 @@ unfolding IsAnswerText IsAnswerJson
 an_answer claim format.Text limit clients holds p bytes (a, are, within, holding, is) = (a, are, holding, is)
 an_answer claim format.Json limit clients holds p bytes (a, are, within, holding, is) = (a, are, holding, is)
 
--- an answer that is written is true of all runs
-module _ (text bytes : List ℕ) (old new : Option (List ℕ)) (s : List Item) (script : IsScriptText text s) (accepted : fault_of s ≡ None)
-    (written : Appends old new bytes) where
-  truly : (claim : Claim) (how : Format) (front : List Part) (holds : Bool) (clients : List ℕ) → clients_of (program_of_items s) front ≡ Ok clients
-      → (c : Tree) → claim.condition ≡ steps_of c → (a : AnswerShape) → holds ≡ is_yes claim.quantifier a
-      → bytes ≡ answer_in how (program_of_items s) claim.quantifier a
-      → Says claim.quantifier (is_yes claim.quantifier a) (program_of_items s) c (order_of clients) → IsTrueAnswer claim how front holds text old new
-  truly claim how front holds clients e c steps a holding is says = record {
-    script = s;
-    read = script;
-    accepted = accepted;
-    answer = a;
-    is = sym holding;
-    written = subst (Appends old new) is written;
-    condition = c;
-    steps = steps;
-    of_runs = of_named (λ xs. Says claim.quantifier holds (program_of_items s) c (order_of xs)) _ clients e
-        (subst (λ b. Says claim.quantifier b (program_of_items s) c (order_of clients)) (sym holding) says);
-  }
+-- answers that are written are true of all runs
+true_answers : (p : ProgramShape) → IsSound p → (how : Format) (limit : ℕ) (front : List Part) (clients : List ℕ)
+    → clients_of p front ≡ Ok clients → (claims : List Claim) → AllByRecursion IsOfCondition claims → (hold : Bool)
+    (text : List ℕ) → AreAnswersTo how p limit clients claims hold text → AreTrueAnswers p how front claims hold text
+true_answers p sound how limit front clients named [] have hold text is = is
+true_answers p sound how limit front clients named (claim ∷ claims) (own, have) hold text (first, rest, holds, others, is, are, both, e) =
+    let found = an_answer claim how limit clients holds p first is in (
+      first,
+      rest,
+      holds,
+      others,
+      record {
+        answer = found.0;
+        is = sym found.2;
+        told = found.3;
+        condition = own.0;
+        steps = own.1;
+        of_runs = of_named (λ xs. Says claim.quantifier holds p own.0 (order_of xs)) _ clients named
+            (subst (λ b. Says claim.quantifier b p own.0 (order_of clients)) (sym found.2)
+            (answers_of_runs p sound claim own.0 own.1 (order_of clients) found.0 found.1));
+      },
+      true_answers p sound how limit front clients named claims have others rest are,
+      both,
+      e,
+    )
 
-  by_answer : (request : Request) (claim : Claim) (how : Format) (front : List Part) (holds : Bool)
-      → asked_claim request ≡ Some (claim, how, front) → HasCondition request → IsAnswerBy request (program_of_items s) holds bytes
-      → IsTrueAnswer claim how front holds text old new
-  by_answer (ask own its limit list) claim how front holds e (c, steps) (known, is) =
-      let who = named (clients_of (program_of_items s) list) _ is in
-      let found = an_answer own its limit who.0 holds (program_of_items s) bytes who.2 in
-      let same : (own, its, list) ≡ (claim, how, front) = cc e in
-      subst (λ (t : Claim × Format × List Part). IsTrueAnswer t.0 t.1 t.2 holds text old new) same
-      (truly own its list holds who.0 who.1 c steps found.0 found.2 found.3
-      (answers_of_runs (program_of_items s) (sound_script text s script accepted) own c steps (order_of who.0) found.0 found.1))
-  by_answer (check how) claim its front holds e has is = absurd is
-  by_answer (graph how) claim its front holds e has is = absurd is
-  by_answer (rules style plan) claim its front holds e has is = absurd is
-  by_answer (play style mode size plan) claim its front holds e has is = absurd is
-  by_answer (syncs how plan) claim its front holds e has is = absurd is
-  by_answer (run style mode size) claim its front holds e has is = absurd is
-  by_answer (tally how mode size times) claim its front holds e has is = absurd is
-  by_answer (estimate how list) claim its front holds e has is = absurd is
-  by_answer (fronts how blocks limit orders) claim its front holds e has is = absurd is
-  by_answer (alike how limit) claim its front holds e has is = absurd is
-  by_answer (outcomes how limit threads list) claim its front holds e has is = absurd is
+by_answers : (claims : List Claim) (how : Format) (limit : ℕ) (front : List Part) (hold : Bool) (text bytes : List ℕ)
+    (old new : Option (List ℕ)) (s : List Item) → IsScriptText text s → fault_of s ≡ None
+    → AllByRecursion IsOfCondition claims → IsAnswerBy (ask claims how limit front) (program_of_items s) hold bytes
+    → Appends old new bytes → AreAnsweredTruly claims how front hold text old new
+by_answers claims how limit front hold text bytes old new s script accepted have (known, is) written =
+    let who = named (clients_of (program_of_items s) front) _ is in
+    record {
+      script = s;
+      read = script;
+      accepted = accepted;
+      bytes = bytes;
+      written = written;
+      answers = true_answers (program_of_items s) (sound_script text s script accepted) how limit front who.0 who.1 claims have hold bytes who.2;
+    }
 
--- a text of a request with a claim is an answer of yes
-yes_by : (request : Request) (claim : Claim) (how : Format) (front : List Part) (lines : Lines) (p : ProgramShape) (text : List ℕ)
-    → asked_claim request ≡ Some (claim, how, front) → IsTextBy request lines p text → IsAnswerBy request p true text
-yes_by (ask own its limit list) claim how front lines p text e is = is
-yes_by (check own) claim how front lines p text e is = absurd (cc e)
-yes_by (graph own) claim how front lines p text e is = absurd (cc e)
-yes_by (rules style plan) claim how front lines p text e is = absurd (cc e)
-yes_by (play style mode size plan) claim how front lines p text e is = absurd (cc e)
-yes_by (syncs own plan) claim how front lines p text e is = absurd (cc e)
-yes_by (run style mode size) claim how front lines p text e is = absurd (cc e)
-yes_by (tally own mode size times) claim how front lines p text e is = absurd (cc e)
-yes_by (estimate own list) claim how front lines p text e is = absurd (cc e)
-yes_by (fronts own blocks limit orders) claim how front lines p text e is = absurd (cc e)
-yes_by (alike own limit) claim how front lines p text e is = absurd (cc e)
-yes_by (outcomes own limit threads list) claim how front lines p text e is = absurd (cc e)
-
-answered_due : (request : Request) (claim : Claim) (how shown : Format) (front : List Part) (holds : Bool) (text : List ℕ)
-    (old new : Option (List ℕ)) (due : Due) → asked_claim request ≡ Some (claim, how, front) → HasCondition request
-    → (if holds then 0 else 1) ≡ due_status due → IsDueOfText request text due → Appends old new (due_text shown due)
-    → IsTrueAnswer claim how front holds text old new
-answered_due request claim how shown front true text old new (Text bytes) asked has e (s, script, accepted, is) written =
-    by_answer text bytes.items old new s script accepted written request claim how front true asked has
-    (yes_by request claim how front (node_lines text s) (program_of_items s) bytes.items asked is)
-answered_due request claim how shown front true text old new (No bytes) asked has e is written = absurd (cc e)
-answered_due request claim how shown front true text old new (Refused f) asked has e is written = absurd (zero_is_none f (sym e))
-answered_due request claim how shown front false text old new (Text bytes) asked has e is written = absurd (cc e)
-answered_due request claim how shown front false text old new (No bytes) asked has e (s, script, accepted, is) written =
-    by_answer text bytes.items old new s script accepted written request claim how front false asked has is
-answered_due request claim how shown front false text old new (Refused f) asked has e is written = absurd (one_is_none f (sym e))
+answered_due : (claims : List Claim) (how shown : Format) (limit : ℕ) (front : List Part) (hold : Bool) (text : List ℕ)
+    (old new : Option (List ℕ)) (due : Due) → AllByRecursion IsOfCondition claims
+    → (if hold then 0 else 1) ≡ due_status due → IsDueOfText (ask claims how limit front) text due
+    → Appends old new (due_text shown due) → AreAnsweredTruly claims how front hold text old new
+answered_due claims how shown limit front true text old new (Text bytes) have e (s, script, accepted, is) written =
+    by_answers claims how limit front true text bytes.items old new s script accepted have is written
+answered_due claims how shown limit front true text old new (No bytes) have e is written = absurd (cc e)
+answered_due claims how shown limit front true text old new (Refused f) have e is written = absurd (zero_is_none f (sym e))
+answered_due claims how shown limit front false text old new (Text bytes) have e is written = absurd (cc e)
+answered_due claims how shown limit front false text old new (No bytes) have e (s, script, accepted, is) written =
+    by_answers claims how limit front false text bytes.items old new s script accepted have is written
+answered_due claims how shown limit front false text old new (Refused f) have e is written = absurd (one_is_none f (sym e))
 
 -- a status of yes or no is not that of a fault, and not that of a failed write
 no_fault : (holds : Bool) (f : Fault) → (if holds then 0 else 1) ≡ due_status (Refused f) → ⊥
@@ -294,14 +277,14 @@ no_four false status e four = absurd (cc (e, four))
 
 pub answers : (words : List (List ℕ)) (before after : Reading) (old new : Option (List ℕ)) (failed : Bool) (status : ℕ)
     → Serves words before after old new failed status → AreAnswersTrue words before.remaining old new status
-answers words before after old new failed status (due, how, is_due, formatted, front, ending) request claim shown clients line asked holds e =
+answers words before after old new failed status (due, how, is_due, formatted, front, ending) claims shown limit clients line holds e =
     let all = done _ failed status (due_status due) ending (no_four holds status e) in
     let none = not_refused (if holds then 0 else 1) due (no_fault holds) (sym e ∙ all.1) in
     let of_line = subst (λ l. IsDue l before.remaining after.has_failed due) line is_due in
     of_known before.remaining _ _
-    (λ bytes is. answered_due request claim shown how clients holds (take longest bytes) old new due asked (claims_have_conditions words request line)
-    (sym e ∙ all.1) is all.0)
-    (text_due request before.remaining after.has_failed due of_line none)
+    (λ bytes is. answered_due claims shown how limit clients holds (take longest bytes) old new due
+    (claims_have_conditions words (ask claims shown limit clients) line) (sym e ∙ all.1) is all.0)
+    (text_due (ask claims shown limit clients) before.remaining after.has_failed due of_line none)
 
 -- all outcomes, as they were asked for
 all_outcomes : (how : OutcomesFormat) (limit : ℕ) (clients : List ℕ) (p : ProgramShape) (bytes : List ℕ)

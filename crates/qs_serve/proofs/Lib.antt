@@ -1,4 +1,5 @@
 pub mod AskedDues
+pub mod ClaimsDues
 pub mod Dues
 pub mod FrontsDues
 pub mod Headlines

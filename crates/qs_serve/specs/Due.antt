@@ -1,5 +1,5 @@
 -- Beside what the headline reaches (`audit/Due.antt`): what else contracts and proofs use.
-use Rattle.std.specs.Prelude.{◌≡◌, ◌≤◌, ℕ, ◌⊎◌, List, [], ◌∷◌, ◌++◌, min, take, Bool, true, false, if◌then◌else◌, Option, Some, None, Ok, Err, Result, Vec, ⊤, IfSome, IsErr, IsOkAnd, MatchBool}
+use Rattle.std.specs.Prelude.{◌≡◌, ◌≤◌, ℕ, ◌⊎◌, List, [], ◌∷◌, ◌++◌, min, take, Bool, true, false, if◌then◌else◌, ◌&&◌, Option, Some, None, Ok, Err, Result, Vec, ⊤, IfSome, IsErr, IsOkAnd, MatchBool}
 use Rattle.std.specs.Global.{Global}
 use Rattle.std.specs.Io.KnownBytes.{Appends}
 use Rattle.qs_script.specs.declared.fault.ReadFault.TheVariants as read
@@ -374,11 +374,23 @@ abbrev pub IsAnswerTextTo : Format → ProgramShape → Claim → (limit : ℕ) 
 IsAnswerTextTo format.Text p claim limit clients holds text = IsAnswerText p claim limit clients holds text
 IsAnswerTextTo format.Json p claim limit clients holds text = IsAnswerJson p claim limit clients holds text
 
--- the answer to a request whose condition speaks of what the program has
+-- the answers to claims, one behind another; together they are yes where each of them is
+abbrev pub AreAnswersTo : Format → ProgramShape → (limit : ℕ) → (clients : List ℕ) → List Claim → (hold : Bool) → List ℕ
+    → Type 0
+AreAnswersTo how p limit clients [] hold text = (hold ≡ true) × (text ≡ [])
+AreAnswersTo how p limit clients (claim ∷ claims) hold text =
+    (own rest : List ℕ) × (holds others : Bool) × IsAnswerTextTo how p claim limit clients holds own
+    × AreAnswersTo how p limit clients claims others rest × (hold ≡ (holds && others)) × (text ≡ own ++ rest)
+
+-- a claim's condition speaks of what the program has
+abbrev pub IsOfProgram : ProgramShape → Claim → Type 0
+IsOfProgram p claim = first_unknown_in p claim.condition ≡ None
+
+-- the answers to a request whose conditions speak of what the program has
 abbrev pub IsAnswerBy : Request → ProgramShape → (holds : Bool) → List ℕ → Type 0
-IsAnswerBy (ask claim how limit front) p holds text =
-    (first_unknown_in p claim.condition ≡ None)
-    × IsOkAnd (clients_of p front) (λ clients. IsAnswerTextTo how p claim limit clients holds text)
+IsAnswerBy (ask claims how limit front) p holds text =
+    AllByRecursion (IsOfProgram p) claims
+    × IsOkAnd (clients_of p front) (λ clients. AreAnswersTo how p limit clients claims holds text)
 IsAnswerBy _ p holds text = ⊥
 
 -- what a request makes of a program: its counts; its graphs; the report of its run by the plain rules or in the
@@ -409,7 +421,7 @@ IsTextBy (tally how mode size times) lines p text =
     (t : TallyShape) × IsTallyBy p mode size times most_numbered t × (text ≡ tally_in how p times t)
 IsTextBy (estimate how front) lines p text =
     IsOkAnd (clients_of p front) (λ clients. IsEstimateText how p clients text)
-IsTextBy (ask claim how limit front) lines p text = IsAnswerBy (ask claim how limit front) p true text
+IsTextBy (ask claims how limit front) lines p text = IsAnswerBy (ask claims how limit front) p true text
 IsTextBy (fronts how blocks limit orders) lines p text = AreFrontsTexts how p blocks orders text
 IsTextBy (alike how limit) lines p text = IsAlikeText how p limit text
 IsTextBy (outcomes how limit threads front) lines p text =
@@ -420,13 +432,13 @@ abbrev pub IsUnnamed : PlanShape → ProgramShape → Type 0
 IsUnnamed (by_schedule rounds picks) p = IsErr (actors_of p picks)
 IsUnnamed (by_order list) p = IsErr (clients_of p list)
 
--- so does the list that a request asks by, or its condition speaks of what the program does not have
+-- so does the list that a request asks by, or one of its conditions speaks of what the program does not have
 abbrev pub IsUnnamedBy : Request → ProgramShape → Type 0
 IsUnnamedBy (rules style plan) p = IsUnnamed plan p
 IsUnnamedBy (play style mode size plan) p = IsUnnamed plan p
 IsUnnamedBy (syncs how plan) p = IsUnnamed plan p
-IsUnnamedBy (ask claim how limit front) p =
-    (¬ (first_unknown_in p claim.condition ≡ None)) ⊎ IsErr (clients_of p front)
+IsUnnamedBy (ask claims how limit front) p =
+    HasOne (λ claim. ¬ IsOfProgram p claim) claims ⊎ IsErr (clients_of p front)
 IsUnnamedBy (estimate how front) p = IsErr (clients_of p front)
 IsUnnamedBy (fronts how blocks limit orders) p = HasOne (λ order. IsErr (clients_of p order)) orders
 IsUnnamedBy (outcomes how limit threads front) p = IsErr (clients_of p front)
@@ -500,8 +512,8 @@ AreUnlistedAlike p limit outcomes_fault.Memory = Unit {0}
 
 -- why outcomes that a request asks for are not listed
 abbrev pub IsUnlistedBy : Request → ProgramShape → OutcomesFault → Type 0
-IsUnlistedBy (ask claim how limit front) p f =
-    IsOkAnd (clients_of p front) (λ clients. IsUnanswered p claim limit clients f)
+IsUnlistedBy (ask claims how limit front) p f =
+    IsOkAnd (clients_of p front) (λ clients. HasOne (λ claim. IsUnanswered p claim limit clients f) claims)
 IsUnlistedBy (estimate how front) p f = IsOkAnd (clients_of p front) (λ clients. IsUnestimated p clients f)
 IsUnlistedBy (fronts how blocks limit orders) p f =
     HasOne (λ order. IsOkAnd (clients_of p order) (λ clients. AreNoFronts p blocks limit clients f)) orders
@@ -546,6 +558,21 @@ IsAnswerAfterDue how p claim limit clients (Refused (fault.Outcomes f)) =
     IsUnanswered p claim limit clients f
 IsAnswerAfterDue how p claim limit clients (Refused _) = ⊥
 
+-- what is due of claims after the blocks of some clients: the answers, why there is none to one of them, or that an
+-- allocation failed
+abbrev pub AreAnswersDue : Format → ProgramShape → List Claim → (limit : ℕ) → (clients : List ℕ) → Due → Type 0
+AreAnswersDue how p claims limit clients (Text bytes) = AreAnswersTo how p limit clients claims true bytes.items
+AreAnswersDue how p claims limit clients (No bytes) = AreAnswersTo how p limit clients claims false bytes.items
+AreAnswersDue how p claims limit clients (Refused fault.Memory) = Unit {0}
+AreAnswersDue how p claims limit clients (Refused (fault.Outcomes f)) =
+    HasOne (λ claim. IsUnanswered p claim limit clients f) claims
+AreAnswersDue how p claims limit clients (Refused _) = ⊥
+
+-- an answer in parts: its text, and whether it is yes
+abbrev pub HasParts : Due → Result (Vec ℕ Global × Bool) Fault → Type 0
+HasParts due (Ok part) = due ≡ (if part.1 then Text part.0 else No part.0)
+HasParts due (Err f) = due ≡ Refused f
+
 -- what is due of a table of the order that some clients name: its text, why the order is not played, or that an
 -- allocation failed
 abbrev pub IsTableDue : Format → ProgramShape → (clients : List ℕ) → Due → Type 0
@@ -585,7 +612,7 @@ AreLinesFor (play style mode size plan) found lines = ⊤
 AreLinesFor (syncs how plan) found lines = ⊤
 AreLinesFor (run style mode size) found lines = ⊤
 AreLinesFor (tally how mode size times) found lines = ⊤
-AreLinesFor (ask claim how limit front) found lines = ⊤
+AreLinesFor (ask claims how limit front) found lines = ⊤
 AreLinesFor (estimate how front) found lines = ⊤
 AreLinesFor (fronts how blocks limit orders) found lines = ⊤
 AreLinesFor (alike how limit) found lines = ⊤

@@ -1,5 +1,5 @@
 -- Beside what the headline reaches (`audit/Headline.antt`): what else contracts and proofs use.
-use Rattle.std.specs.Prelude.{◌≡◌, ℕ, List, [], ◌∷◌, ◌++◌, length, map, take, Bool, true, false, if◌then◌else◌, Option, Some, None, IfSome, IsOkAnd, ⊤}
+use Rattle.std.specs.Prelude.{◌≡◌, ℕ, List, [], ◌∷◌, ◌++◌, length, map, take, Bool, true, false, if◌then◌else◌, ◌&&◌, Option, Some, None, IfSome, IsOkAnd, ⊤}
 use Rattle.std.specs.List.{AllByRecursion}
 use Rattle.std.specs.Io.KnownBytes.{Appends}
 use Rattle.qs_alike.specs.Changes.{Classes}
@@ -37,33 +37,41 @@ use Rattle.qs_standings.specs.Standings.{StandingShape}
 use Rattle.qs_syncset.specs.declared.mode.Mode.{Mode}
 use Rattle.qs_tally.specs.Tallies.{IsCountOf, TallyShape}
 
--- the claim that a request asks, in which format, and after the blocks of which clients
-abbrev pub asked_claim : Request → Option (Claim × Format × List Part)
-asked_claim (ask claim how limit front) = Some (claim, how, front)
-asked_claim _ = None
+-- This is the text of an answer to the claim on the program, yes or no; and that is true of every run whose order begins
+-- with the blocks of the clients that the front names (`Says`), by the condition whose steps are the claim's.
+pub record IsTrueAnswer (p : ProgramShape) (how : Format) (front : List Part) (claim : Claim) (holds : Bool) (text : List ℕ)
+    : Type 0 where
+  pub answer : AnswerShape
+  pub is : is_yes claim.quantifier answer ≡ holds
+  pub told : text ≡ answer_in how p claim.quantifier answer
+  pub condition : Tree
+  pub steps : claim.condition ≡ steps_of condition
+  pub of_runs : IsOkAnd (clients_of p front) (λ clients. Says claim.quantifier holds p condition (order_of clients))
 
--- The text is a script, which is accepted; what was written is an answer to the claim on its program, yes or no; and
--- that is true of every run whose order begins with the blocks of the clients that the front names (`Says`), by the
--- condition whose steps are the claim's.
-pub record IsTrueAnswer (claim : Claim) (how : Format) (front : List Part) (holds : Bool) (text : List ℕ)
+-- such answers to claims, one behind another; together they are yes where each of them is
+abbrev pub AreTrueAnswers : ProgramShape → Format → (front : List Part) → List Claim → (hold : Bool) → List ℕ → Type 0
+AreTrueAnswers p how front [] hold text = (hold ≡ true) × (text ≡ [])
+AreTrueAnswers p how front (claim ∷ claims) hold text =
+    (own rest : List ℕ) × (holds others : Bool) × IsTrueAnswer p how front claim holds own
+    × AreTrueAnswers p how front claims others rest × (hold ≡ (holds && others)) × (text ≡ own ++ rest)
+
+-- The text is a script, which is accepted, and what was written are true answers to the claims on its program.
+pub record AreAnsweredTruly (claims : List Claim) (how : Format) (front : List Part) (hold : Bool) (text : List ℕ)
     (old new : Option (List ℕ)) : Type 0 where
   pub script : List Item
   pub read : IsScriptText text script
   pub accepted : fault_of script ≡ None
-  pub answer : AnswerShape
-  pub is : is_yes claim.quantifier answer ≡ holds
-  pub written : Appends old new (answer_in how (program_of_items script) claim.quantifier answer)
-  pub condition : Tree
-  pub steps : claim.condition ≡ steps_of condition
-  pub of_runs : IsOkAnd (clients_of (program_of_items script) front)
-      (λ clients. Says claim.quantifier holds (program_of_items script) condition (order_of clients))
+  pub bytes : List ℕ
+  pub written : Appends old new bytes
+  pub answers : AreTrueAnswers (program_of_items script) how front claims hold bytes
 
--- Where the line asks a claim, the status 0 says yes and the status 1 says no, and what was written says so truly.
+-- Where the line asks claims, the status 0 says yes to all of them and the status 1 says no to one, and what was written
+-- says so truly.
 abbrev pub AreAnswersTrue : List (List ℕ) → Option (List ℕ) → (old new : Option (List ℕ)) → (status : ℕ) → Type 0
 AreAnswersTrue words known old new status =
-    (request : Request) (claim : Claim) (how : Format) (front : List Part) → line_in words ≡ asks request
-    → asked_claim request ≡ Some (claim, how, front) → (holds : Bool) → status ≡ (if holds then 0 else 1)
-    → IfSome known (λ bytes. IsTrueAnswer claim how front holds (take longest bytes) old new)
+    (claims : List Claim) (how : Format) (limit : ℕ) (front : List Part) → line_in words ≡ asks (ask claims how limit front)
+    → (hold : Bool) → status ≡ (if hold then 0 else 1)
+    → IfSome known (λ bytes. AreAnsweredTruly claims how front hold (take longest bytes) old new)
 
 -- all outcomes after a front in a format: a list, their ends alone, or a drawing in which ends have their numbers
 abbrev pub IsTextOfAll : OutcomesFormat → ProgramShape → OutcomesShape → List ℕ → Type 0

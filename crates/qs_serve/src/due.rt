@@ -1,16 +1,17 @@
 // What a run has to write.
 
-ghost use Rattle.std.specs.Prelude.{◌≡◌, ◌⊎◌, [], IfSome};
+ghost use Rattle.std.specs.Prelude.{◌≡◌, ◌⊎◌, [], false, true, IfSome};
 ghost use Rattle.qs_report.specs.declared.faults.Fault.TheVariants as fault;
 ghost use Rattle.qs_line.specs.declared.line.OutcomesFormat.TheVariants as outcomes_format;
 ghost use Rattle.qs_line.specs.audit.Line.{ask, check, graph, outcomes, run};
 ghost use Rattle.qs_line.specs.Line.{request_of};
-ghost use Rattle.qs_serve.specs.Due.{HasAsked, IsAnswerAfterDue, IsAnswered, IsDueAfter, IsDueOfFault, IsDueOfList, IsDueOfProgram, IsDueWithoutThreads, IsRefusedBy, IsListOf, IsTextOf, IsOutOfMemory, due_status, listed_as};
+ghost use Rattle.qs_serve.specs.Due.{AreAnswersDue, HasAsked, HasParts, IsAnswerAfterDue, IsAnswered, IsDueAfter, IsDueOfFault, IsDueOfList, IsDueOfProgram, IsDueWithoutThreads, IsOfProgram, IsRefusedBy, IsListOf, IsTextOf, IsOutOfMemory, due_status, listed_as};
 ghost use Rattle.std.specs.List.{AllByRecursion};
 ghost use Rattle.qs_outcomes.specs.Outcomes.{HasPlaces};
+ghost use Rattle.qs_standings.specs.Lists.{HasOne};
 
 use crate::estimates::due_of_estimate;
-use crate::fronts::due_of_fronts;
+use crate::fronts::{add, due_of_fronts};
 use crate::plays::{due_of_play, due_of_rules};
 use crate::reports::due_of_outcome;
 use crate::searches::{Search, due_by_threads, due_of_alike};
@@ -169,31 +170,86 @@ fn due_of_claim_after<P: Watcher>(
     }
 }
 
-// The answer to a claim after the blocks of the clients that a list names. A condition that speaks of what the program
-// does not have is refused.
-fn due_of_claim<P: Watcher>(
+// An answer in parts: its text, and whether it is yes.
+fn parts_of(due: Due) -> Result<(Vec<u8>, bool), Fault>
+    ensures parts { HasParts due result }
+{
+    match due {
+        Due::Text(text) => Ok((text, true)),
+        Due::No(text) => Ok((text, false)),
+        Due::Refused(fault) => Err(fault),
+    }
+}
+
+// Whether the condition of some claim speaks of what the program does not have.
+fn has_unknown(program: &Program, claims: &[Claim]) -> bool
+    ensures known { result ≡ false → AllByRecursion (IsOfProgram program.now) claims.now }
+    ensures unknown { result ≡ true → HasOne (λ claim. ¬ IsOfProgram program.now claim) claims.now }
+{
+    for claim in claims {
+        if first_unknown(&claim.condition, program).is_some() {
+            return true;
+        }
+    }
+    false
+}
+
+// The answers to claims after the blocks of some clients, one behind another, each found over so many configurations at
+// most; a watcher is told of each.
+fn due_of_claims_after<P: Watcher>(
     alloc: Global,
     program: &Program,
-    claim: &Claim,
+    claims: &[Claim],
+    format: Format,
+    limit: u32,
+    clients: &[u8],
+    watcher: &mut P,
+) -> Due
+    ensures not_input { ¬ IsRefusedBy fault.Input result }
+    ensures due { AreAnswersDue format program.now claims.now limit clients.now result }
+{
+    let mut text = Vec::new(alloc);
+    let mut hold = true;
+    for claim in claims {
+        let due = due_of_claim_after(alloc, program, claim, format, limit, clients, watcher);
+        match parts_of(due) {
+            Ok((own, holds)) => {
+                hold = hold && holds;
+                let Ok(()) = add(&mut text, own) else {
+                    return Due::Refused(Fault::Memory);
+                };
+            }
+            Err(fault) => return Due::Refused(fault),
+        }
+    }
+    if hold { Due::Text(text) } else { Due::No(text) }
+}
+
+// The answers to claims after the blocks of the clients that a list names. A condition that speaks of what the program
+// does not have is refused.
+fn due_of_claims<P: Watcher>(
+    alloc: Global,
+    program: &Program,
+    claims: &[Claim],
     format: Format,
     limit: u32,
     front: &[Part],
     watcher: &mut P,
 ) -> Due
     ensures not_input { ¬ IsRefusedBy fault.Input result }
-    ensures due { IsOutOfMemory result ⊎ IsDueOfProgram (ask claim.now format limit front.now) [] program.now result }
+    ensures due { IsOutOfMemory result ⊎ IsDueOfProgram (ask claims.now format limit front.now) [] program.now result }
 {
-    if first_unknown(&claim.condition, program).is_some() {
+    if has_unknown(program, claims) {
         return Due::Refused(Fault::CommandLine);
     }
     let clients = match clients_of(alloc, program, front) {
         Ok(clients) => clients,
         Err(fault) => return due_of_list(fault),
     };
-    due_of_claim_after(
+    due_of_claims_after(
         alloc,
         program,
-        claim,
+        claims,
         format,
         limit,
         clients.as_slice(),
@@ -289,7 +345,7 @@ pub(crate) fn due_of_outcomes<P: Watcher>(
 }
 
 /// What settings make of a program: a run by the plain rules or in the optimised machine, a table of synchronisations,
-/// an estimate, the answer to a claim, fronts, alike outcomes, all outcomes, the counts, or the graphs. A run on threads
+/// an estimate, the answers to claims, fronts, alike outcomes, all outcomes, the counts, or the graphs. A run on threads
 /// is refused, as a fault of the command line.
 pub(crate) fn due_of_program<P: Watcher>(
     alloc: Global,
@@ -315,14 +371,14 @@ pub(crate) fn due_of_program<P: Watcher>(
             due_of_estimate(alloc, program, *format, front.as_slice())
         }
         Settings::Ask {
-            claim,
+            claims,
             format,
             limit,
             front,
-        } => due_of_claim(
+        } => due_of_claims(
             alloc,
             program,
-            claim,
+            claims.as_slice(),
             *format,
             *limit,
             front.as_slice(),

@@ -78,8 +78,8 @@ fn text_of_order(
     }
 }
 
-// Adds a text behind another one.
-fn add(text: &mut Vec<u8>, own: Vec<u8>) -> Result<(), AllocError>
+/// Adds a text behind another one. An error says that an allocation failed.
+pub(crate) fn add(text: &mut Vec<u8>, own: Vec<u8>) -> Result<(), AllocError>
     ensures added { OnOk result (text.new.items ≡ text.old.items ++ own.items) }
 {
     if text.as_slice().is_empty() {

@@ -22,11 +22,6 @@ name_of setting.Alike = codes "alike"
 name_of setting.After = codes "after"
 name_of setting.Leads = codes "leads"
 name_of setting.Threads = codes "threads"
-name_of setting.Always = codes "always"
-name_of setting.Some = codes "some"
-name_of setting.Throughout = codes "throughout"
-name_of setting.Ever = codes "ever"
-name_of setting.Never = codes "never"
 
 -- it stands on a line without a value
 abbrev pub is_flag : Setting → Bool
@@ -61,10 +56,6 @@ apart =
     ++ with_each setting.Times (setting.Counts ∷ setting.Refusals ∷ [])
     ++ with_each setting.Alike (setting.Ends ∷ setting.After ∷ setting.Threads ∷ [])
     ++ with_each setting.Leads (setting.After ∷ [])
-    ++ with_each setting.Always (setting.Some ∷ setting.Throughout ∷ setting.Ever ∷ setting.Never ∷ [])
-    ++ with_each setting.Some (setting.Throughout ∷ setting.Ever ∷ setting.Never ∷ [])
-    ++ with_each setting.Throughout (setting.Ever ∷ setting.Never ∷ [])
-    ++ with_each setting.Ever (setting.Never ∷ [])
 
 -- some pair of these stands on the line
 unfoldable pub has_apart : List Row → Bool

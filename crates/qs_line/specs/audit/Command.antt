@@ -1,7 +1,7 @@
 -- The command as clap's data.
 use Rattle.std.specs.Prelude.{[], ◌∷◌, codes, Some, pos, true}
 use Rattle.clap.specs.Words.{App, Rule, Text, new_app, new_rule, with_rule, with_subcommand}
-use Rattle.clap.specs.declared.builder.ArgAction.TheVariants.{Set, SetTrue}
+use Rattle.clap.specs.declared.builder.ArgAction.TheVariants.{Append, Set, SetTrue}
 use Rattle.clap.specs.declared.builder.ValueParser.TheVariants as parser
 
 -- `--NAME VALUE`, whose value has a name in the help
@@ -95,15 +95,19 @@ outcomes_app =
     shared_app (with_rule (with_rule (with_rule (search_app (new_app (codes "outcomes"))) (flag_rule (codes "ends")))
     (flag_rule (codes "alike"))) threads_rule)
 
--- `.. [--always COND] [--some COND] [--throughout COND] [--ever COND] [--never COND]`
+-- `--NAME COND`, as often as one likes
+abbrev pub condition_rule : Text → Rule
+condition_rule name = record (option_rule name) { action = Some Append }
+
+-- `.. [--always COND].. [--some COND].. [--throughout COND].. [--ever COND].. [--never COND]..`
 abbrev pub claimed_app : App → App
 claimed_app app =
-    with_rule (with_rule (with_rule (with_rule (with_rule app (option_rule (codes "always")))
-    (option_rule (codes "some"))) (option_rule (codes "throughout"))) (option_rule (codes "ever")))
-    (option_rule (codes "never"))
+    with_rule (with_rule (with_rule (with_rule (with_rule app (condition_rule (codes "always")))
+    (condition_rule (codes "some"))) (condition_rule (codes "throughout"))) (condition_rule (codes "ever")))
+    (condition_rule (codes "never"))
 
--- `ask [--always COND] [--some COND] [--throughout COND] [--ever COND] [--never COND] [--limit N] [--after LIST]
--- [--format F] [--warn]`
+-- `ask [--always COND].. [--some COND].. [--throughout COND].. [--ever COND].. [--never COND].. [--limit N]
+-- [--after LIST] [--format F] [--warn]`
 abbrev pub ask_app : App
 ask_app = shared_app (search_app (claimed_app (new_app (codes "ask"))))
 

@@ -28,7 +28,7 @@ pub data PlanShape : Type 0 where
 -- what is asked for: the counts; the graphs; a run by the plain rules; one in the optimised machine, in a mode and by
 -- chunks of a size; how many synchronisations each mode sends for the blocks of an order; a run on threads, or so many
 -- of them, whose ends are counted; after the blocks of some clients, how many configurations there can be; or, after
--- these and with so many configurations at most, whether a condition holds of all ends, of some or throughout, or all
+-- these and with so many configurations at most, whether conditions hold of all ends, of some or throughout, or all
 -- outcomes, or their ends alone, by so many threads; or, after the blocks of each of some lists of clients, the
 -- configurations after so many blocks more; or, with so many configurations at most, one of all outcomes that differ by
 -- alike clients in each other's places. Each is asked for in a format, and of a run the counts of synchronisations and
@@ -41,7 +41,7 @@ pub data Request : Type 0 where
   syncs : Format → PlanShape → Request
   run : ReportStyle → Mode → ℕ → Request
   tally : Format → Mode → (chunk : ℕ) → (times : ℕ) → Request
-  ask : Claim → Format → (limit : ℕ) → (front : List Part) → Request
+  ask : (claims : List Claim) → Format → (limit : ℕ) → (front : List Part) → Request
   estimate : Format → (front : List Part) → Request
   fronts : Format → (blocks : ℕ) → (limit : ℕ) → (orders : List (List Part)) → Request
   alike : Format → (limit : ℕ) → Request

@@ -165,16 +165,33 @@ fn place_of(fault: ConditionFault, condition: &str) -> Option<(usize, &'static [
     }
 }
 
-/// Puts where the condition after a setting cannot be parsed, if it stands on the line and cannot.
+// Whether a word of a line is a setting, with its value behind a `=` or in the next word.
+fn is_setting(word: &str, setting: &str) -> bool {
+    match word.strip_prefix(setting) {
+        Some(rest) => rest.is_empty() || rest.starts_with("="),
+        None => false,
+    }
+}
+
+/// Puts where the first condition after a setting that cannot be parsed cannot, if one stands on the line.
 pub(crate) fn put_condition<'a>(
     alloc: Global,
     out: &mut Vec<u8>,
     words: &'a [&'a str],
     setting: &str,
 ) -> Result<(), AllocError> {
-    let Some(condition) = value_after(words, setting) else {
-        return Ok(());
-    };
+    for (place, word) in words.iter().enumerate() {
+        if out.is_empty() && is_setting(word, setting) {
+            if let Some(condition) = value_after(&words[place..], setting) {
+                put_unparsed(alloc, out, condition)?;
+            }
+        }
+    }
+    Ok(())
+}
+
+// Puts where a condition cannot be parsed, if it cannot.
+fn put_unparsed(alloc: Global, out: &mut Vec<u8>, condition: &str) -> Result<(), AllocError> {
     let fault = match read_condition(alloc, condition.as_bytes()) {
         Ok(_) => return Ok(()),
         Err(fault) => fault,
@@ -193,7 +210,8 @@ pub(crate) fn put_condition<'a>(
     }
 }
 
-/// Puts where the condition after a setting asks for what the script of a text does not have, if it does.
+/// Puts where the first condition after a setting that asks for what the script of a text does not have does so, if one
+/// does.
 pub(crate) fn put_unknown<'a>(
     alloc: Global,
     out: &mut Vec<u8>,
@@ -201,9 +219,23 @@ pub(crate) fn put_unknown<'a>(
     text: &[u8],
     setting: &str,
 ) -> Result<(), AllocError> {
-    let Some(condition) = value_after(words, setting) else {
-        return Ok(());
-    };
+    for (place, word) in words.iter().enumerate() {
+        if out.is_empty() && is_setting(word, setting) {
+            if let Some(condition) = value_after(&words[place..], setting) {
+                put_unknown_in(alloc, out, condition, text)?;
+            }
+        }
+    }
+    Ok(())
+}
+
+// Puts where a condition asks for what the script of a text does not have, if it does.
+fn put_unknown_in(
+    alloc: Global,
+    out: &mut Vec<u8>,
+    condition: &str,
+    text: &[u8],
+) -> Result<(), AllocError> {
     let Some(program) = program_of(alloc, text) else {
         return Ok(());
     };

@@ -143,11 +143,6 @@ fn shown(setting: Setting) -> &'static str {
         Setting::After => "--after <LIST>",
         Setting::Leads => "--leads <LISTS>",
         Setting::Threads => "--threads <N>",
-        Setting::Always => "--always <COND>",
-        Setting::Some => "--some <COND>",
-        Setting::Throughout => "--throughout <COND>",
-        Setting::Ever => "--ever <COND>",
-        Setting::Never => "--never <COND>",
     }
 }
 
@@ -163,11 +158,12 @@ fn put_apart<'a>(out: &mut Vec<u8>, words: &'a [&'a str]) -> Result<(), AllocErr
 
 // Whether a condition stands on the line.
 fn has_claim<'a>(words: &'a [&'a str]) -> bool {
-    stands(words, Setting::Always)
-        || stands(words, Setting::Some)
-        || stands(words, Setting::Throughout)
-        || stands(words, Setting::Ever)
-        || stands(words, Setting::Never)
+    for setting in CLAIMS {
+        if value_after(words, setting).is_some() {
+            return true;
+        }
+    }
+    false
 }
 
 fn put_beside(out: &mut Vec<u8>, one: &str, other: &str) -> Result<(), AllocError> {

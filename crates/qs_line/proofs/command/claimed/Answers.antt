@@ -1,12 +1,12 @@
 use Rattle.std.proofs.Common.{◌∙◌, ap, codes}
 use Rattle.clap.specs.Words.{with_rule}
-use Rattle.qs_line.specs.audit.Command.{option_rule}
+use Rattle.qs_line.specs.audit.Command.{condition_rule}
 use Rattle.qs_line.proofs.CommandWords.{follows}
 use Rattle.qs_line.proofs.command.claimed.Goals as goal
 
 pub returns-clause-app : goal.returns-clause-app
 returns-clause-app c =
-    let some = c.in_ok-some.ensures.app ∙ ap (λ a. with_rule a (option_rule (codes "some"))) c.in_ok-always.ensures.app in
-    let throughout = c.in_ok-throughout.ensures.app ∙ ap (λ a. with_rule a (option_rule (codes "throughout"))) some in
-    let ever = c.in_ok-ever.ensures.app ∙ ap (λ a. with_rule a (option_rule (codes "ever"))) throughout in
-    follows c.with_condition-5.result _ _ (λ whole is. is ∙ ap (λ a. with_rule a (option_rule (codes "never"))) ever) c.with_condition-5.ensures.app
+    let some = c.in_ok-some.ensures.app ∙ ap (λ a. with_rule a (condition_rule (codes "some"))) c.in_ok-always.ensures.app in
+    let throughout = c.in_ok-throughout.ensures.app ∙ ap (λ a. with_rule a (condition_rule (codes "throughout"))) some in
+    let ever = c.in_ok-ever.ensures.app ∙ ap (λ a. with_rule a (condition_rule (codes "ever"))) throughout in
+    follows c.with_condition-5.result _ _ (λ whole is. is ∙ ap (λ a. with_rule a (condition_rule (codes "never"))) ever) c.with_condition-5.ensures.app

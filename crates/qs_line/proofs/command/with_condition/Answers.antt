@@ -12,4 +12,4 @@ adds old a rule (Ok new) added local is = added.shape local ∙ ap (with_rule (a
 adds old a rule (Err e) added local is = tt
 
 pub returns-clause-app : goal.returns-clause-app
-returns-clause-app c = adds c.args.command c.option.result _ c.arg.result c.arg.ensures c.option.ensures.local c.option.ensures.rule
+returns-clause-app c = adds c.args.command c.condition_option.result _ c.arg.result c.arg.ensures c.condition_option.ensures.local c.condition_option.ensures.rule
