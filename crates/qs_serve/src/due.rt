@@ -1,6 +1,6 @@
 // What a run has to write.
 
-ghost use Rattle.std.specs.Prelude.{◌≡◌, ◌⊎◌, [], false, true, IfSome};
+ghost use Rattle.std.specs.Prelude.{◌≡◌, ◌⊎◌, ◌&&◌, [], false, true, IfSome};
 ghost use Rattle.qs_report.specs.declared.faults.Fault.TheVariants as fault;
 ghost use Rattle.qs_line.specs.declared.line.OutcomesFormat.TheVariants as outcomes_format;
 ghost use Rattle.qs_line.specs.audit.Line.{ask, check, graph, outcomes, run};
@@ -181,6 +181,13 @@ fn parts_of(due: Due) -> Result<(Vec<u8>, bool), Fault>
     }
 }
 
+// Whether both are so.
+fn both(one: bool, other: bool) -> bool
+    ensures both { result ≡ (one && other) }
+{
+    one && other
+}
+
 // Whether the condition of some claim speaks of what the program does not have.
 fn has_unknown(program: &Program, claims: &[Claim]) -> bool
     ensures known { result ≡ false → AllByRecursion (IsOfProgram program.now) claims.now }
@@ -214,7 +221,7 @@ fn due_of_claims_after<P: Watcher>(
         let due = due_of_claim_after(alloc, program, claim, format, limit, clients, watcher);
         match parts_of(due) {
             Ok((own, holds)) => {
-                hold = hold && holds;
+                hold = both(hold, holds);
                 let Ok(()) = add(&mut text, own) else {
                     return Due::Refused(Fault::Memory);
                 };
