@@ -5,24 +5,10 @@ use Rattle.std.proofs.Common.{◌≡◌, ◌≢◌, ◌<◌, ◌≤◌, ℕ, zer
 use Rattle.std.specs.List.{AllByRecursion, IsDistinct}
 use Rattle.std.specs.Cmp.Lexicographic.{other_text}
 use Rattle.std.proofs.Math.IntN.{ℤ_discrete}
-use Rattle.std.proofs.lemmas.List.{length-set, length-map, get_or-map}
-use Rattle.qs_objects.specs.audit.Act.{State, act, ActResult}
-use Rattle.qs_objects.specs.audit.Journals.{after, answer}
-use Rattle.qs_objects.specs.audit.Operations.{is_query}
-use Rattle.qs_objects.specs.audit.Parts.{IsFront, part}
-use Rattle.qs_objects.specs.declared.Request.{Request}
-use Rattle.qs_objects.specs.declared.held.Event.{Event}
-use Rattle.qs_objects.specs.declared.held.Ticket.{Ticket}
-use Rattle.qs_objects.proofs.Choices.{eqb_self, eqb_apart, apart_eqb, num_cases}
+use Rattle.qs_meaning.proofs.Common.{act, ActResult, after, again, answer, apart_eqb, assign, BlockShape, cases_Bool, choose, client_at, ClientShape, command, Declared, end, eqb_apart, eqb_self, Event, expr_value, get_or-map, is_in, is_query, IsFront, leave, length-map, length-set, Locals, most_variables, no_block, no_client, no_object, num_cases, part, ProgramShape, query, Request, State, Statements, test_value, text_of, Ticket}
 use Rattle.qs_objects.proofs.Elements.{AllByRecursion-get_or}
 use Rattle.qs_program.specs.audit.Numbering.{Name, same_name}
-use Rattle.qs_program.specs.declared.program.Declared.{Declared}
-use Rattle.qs_program.specs.audit.Program.{BlockShape, ClientShape, ProgramShape, client_at, text_of, no_block, no_client, no_object}
-use Rattle.qs_program.specs.audit.Sound.{is_in}
 use Rattle.qs_program.specs.Sound.{AreVariablesBelow, IsFormedBlock, IsFormedClient, IsFormedProgram, IsSound, IsSoundBlock, IsSoundClient}
-use Rattle.qs_program.specs.audit.Statements.{Statements, end, command, query, assign, choose, again, leave}
-use Rattle.qs_program.specs.audit.Values.{Locals, expr_value, test_value}
-use Rattle.qs_program.specs.audit.Limits.{most_variables}
 use Rattle.qs_meaning.specs.Alike.{SameStatements, SameText, SameValues, SameObject, SameRequest, SameEvent, SameTrace, StartAlike, AskAlike, AlikeFrom, HasValues, BlocksAlike, PlacesAlike, ValuesByName, object_name, variable_name, value_at}
 use Rattle.qs_meaning.specs.audit.Following.{reserves}
 use Rattle.qs_meaning.specs.Following.{AsksOnly}
@@ -101,8 +87,7 @@ reserved_below p sound t =
 
 member : (P : ℕ → Type 0) (xs : List ℕ) (x : ℕ) → is_in xs x ≡ true → AllByRecursion P xs → P x
 member P [] x is each = absurd (true≢false (sym is))
-member P (y ∷ ys) x is each =
-    ⊎_elim (λ (same : y ≡ x). subst P same each.0) (λ (other : (y == x) ≡ false). member P ys x (rw other at is) each.1) (num_cases y x)
+member P (y ∷ ys) x is each = elim (num_cases y x) [ inl same ↦ subst P same each.0 | inr other ↦ member P ys x (rw other at is) each.1 ]
 
 in_range : (p : ProgramShape) → IsSound p → (t : Ticket) (h : ℕ) → reserves p t h ≡ true → h < length p.objects
 in_range p sound t h is = member (λ h. h < length p.objects) (text_of p t).reserved h is (reserved_below p sound t)
@@ -111,25 +96,13 @@ option_dec : (v w : Option ℤ) → (v ≡ w) ⊎ (v ≢ w)
 option_dec None None = inl refl
 option_dec None (Some y) = inr (λ e. cc (e))
 option_dec (Some x) None = inr (λ e. cc (e))
-option_dec (Some x) (Some y) = by_case (ℤ_discrete x y)
-  where
-    by_case : Dec (x ≡ y) → (Some x ≡ Some y) ⊎ (Some x ≢ Some y)
-    by_case (yes e) = inl (ap Some e)
-    by_case (no f) = inr (λ e. f (cc (e)))
+option_dec (Some x) (Some y) = elim (ℤ_discrete x y) [ yes e ↦ inl (ap Some e) | no f ↦ inr (λ e. f (cc (e))) ]
 
 part_more : (h : ℕ) (e : Event) (es : List Event) → part h es ≢ [] → part h (e ∷ es) ≢ []
-part_more h e es k = by_case (e.request.object == h)
-  where
-    by_case : (b : Bool) → (if b then e ∷ part h es else part h es) ≢ []
-    by_case true i = cc (i)
-    by_case false i = k i
+part_more h e es k = elim (cases_Bool (e.request.object == h)) [ inl is ↦ rw is (λ i. cc (i)) | inr other ↦ rw other k ]
 
 part_has : (h : ℕ) (e : Event) (es : List Event) → e.request.object ≡ h → part h (e ∷ es) ≢ []
-part_has h e es is i = by_case (e.request.object == h) (ap (λ n. n == h) is ∙ eqb_self h) i
-  where
-    by_case : (b : Bool) → b ≡ true → (if b then e ∷ part h es else part h es) ≢ []
-    by_case true t i = cc (i)
-    by_case false t i = true≢false (sym t)
+part_has h e es is = rw (ap (λ n. n == h) is ∙ eqb_self h) (λ i. cc (i))
 
 -- a block of each of two sound programs, and the states from which they start
 module _ (p q : ProgramShape) (sound : IsSound p) (right : IsSound q) (t u : Ticket) (st tu : States) where
@@ -213,13 +186,12 @@ module _ (p q : ProgramShape) (sound : IsSound p) (right : IsSound q) (t u : Tic
 
   equal_traces : (es ds : List Event) → Alike es ds → StartAlike p q t u st tu es ds → SameTrace p q es ds
   equal_traces [] [] k start = tt
-  equal_traces [] (d ∷ ds) k start = absurd k
-  equal_traces (e ∷ es) [] k start = absurd k
   equal_traces (e ∷ es) (d ∷ ds) (inl k) start =
       (k.0, equal_traces es ds k.1 (λ h g same a b. start h g same (part_more h e es a) (part_more g d ds b)))
   equal_traces (e ∷ es) (d ∷ ds) (inr k) start =
       let h : ℕ = e.request.object in let g : ℕ = d.request.object in
       absurd (k.apart (start h g k.same (part_has h e es refl) (part_has g d ds refl)))
+  equal_traces _ _ k start = absurd k
 
   equal_front : (xs rest ds : List Event) → Alike (xs ++ rest) ds → AskAlike p q t u st tu xs → (ys : List Event) × IsFront ys ds × SameTrace p q xs ys
   equal_front [] rest ds k asks = ([], (ds, refl), tt)
@@ -232,10 +204,9 @@ module _ (p q : ProgramShape) (sound : IsSound p) (right : IsSound q) (t u : Tic
 
   equal_whole : (es ds : List Event) → Alike es ds → AskAlike p q t u st tu es → SameTrace p q es ds
   equal_whole [] [] k asks = tt
-  equal_whole [] (d ∷ ds) k asks = absurd k
-  equal_whole (e ∷ es) [] k asks = absurd k
   equal_whole (e ∷ es) (d ∷ ds) (inl k) asks = (k.0, equal_whole es ds k.1 asks.1)
   equal_whole (e ∷ es) (d ∷ ds) (inr k) asks = absurd (k.apart (asks.0 k.asks d.request.object k.same))
+  equal_whole _ _ k asks = absurd k
 
   alike_from : (es ds : List Event) → Alike es ds → AlikeFrom p q t u st tu es ds
   alike_from es ds k = record {

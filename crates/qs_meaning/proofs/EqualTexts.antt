@@ -2,20 +2,13 @@
 -- interaction trees of blocks of equal text ask for the same, reply by reply. Variables of one name have one number in
 -- each client, so an assignment keeps equal values equal.
 use Rattle.std.proofs.Common.{◌≡◌, ◌<◌, ◌≤◌, ℕ, zero, suc, ℤ, pos, Bool, true, false, ◌==◌, if◌then◌else◌, List, [], ◌∷◌, length, map, slice_set, refl, sym, ap₂, ◌∙◌, subst, ⊎_elim, arith}
-use Rattle.std.specs.List.{AllByRecursion, AllZip}
-use Rattle.std.proofs.lemmas.List.{length-set, get_or-set_same, get_or-set_other}
-use Rattle.qs_objects.specs.audit.Act.{clamp_to_word}
-use Rattle.qs_objects.proofs.Choices.{num_cases, apart_eqb}
+use Rattle.qs_meaning.proofs.Common.{again, AllByRecursion, AllZip, apart_eqb, AreVariablesBelow, assign, atom_value, choose, clamp_to_word, command, end, exact, expr_value, get_or-set_other, get_or-set_same, IsAtomBelow, IsExprBelow, leave, length-set, Locals, num_cases, ProgramShape, query, relates, request_of, Statements, test_value}
 use Rattle.qs_program.specs.declared.code.Atom.{Atom}
 use Rattle.qs_program.specs.declared.code.Atom.TheVariants.{Variable, Number}
 use Rattle.qs_program.specs.declared.code.Expr.{Expr}
 use Rattle.qs_program.specs.declared.code.Expr.TheVariants.{Plain, Binary}
 use Rattle.qs_program.specs.declared.code.Test.{Test}
 use Rattle.qs_program.specs.declared.code.Call.{Call as TextCall}
-use Rattle.qs_program.specs.audit.Program.{ProgramShape}
-use Rattle.qs_program.specs.Sound.{IsAtomBelow, IsExprBelow, AreVariablesBelow}
-use Rattle.qs_program.specs.audit.Statements.{Statements, end, command, query, assign, choose, again, leave}
-use Rattle.qs_program.specs.audit.Values.{Locals, atom_value, exact, expr_value, relates, test_value, request_of}
 use Rattle.qs_meaning.specs.Alike.{SameAtom, SameExpr, SameTest, SameCall, SameStatements, SameRequest, object_name, value_at}
 use Rattle.qs_meaning.specs.audit.Interaction.{Interaction, Done, Call, Query, Next, meaning, tree_of}
 use Rattle.qs_meaning.specs.Interaction.{turns}
@@ -25,20 +18,17 @@ module _ (O P Q V W Z : ℕ → ℕ → Type 0) (objects : (h g : ℕ) → O h g
   both_atom : (a b : Atom) → SameAtom O V a b → SameAtom P W a b → SameAtom Q Z a b
   both_atom (Variable x) (Variable y) s r = variables x y s r
   both_atom (Number n) (Number m) s r = s
-  both_atom (Variable x) (Number m) s r = absurd s
-  both_atom (Number n) (Variable y) s r = absurd s
+  both_atom _ _ s r = absurd s
 
   both_args : (xs ys : List Atom) → AllZip (SameAtom O V) xs ys → AllZip (SameAtom P W) xs ys → AllZip (SameAtom Q Z) xs ys
   both_args [] [] s r = tt
-  both_args [] (b ∷ ys) s r = absurd s
-  both_args (a ∷ xs) [] s r = absurd s
   both_args (a ∷ xs) (b ∷ ys) s r = (both_atom a b s.0 r.0, both_args xs ys s.1 r.1)
+  both_args _ _ s r = absurd s
 
   both_expr : (e f : Expr) → SameExpr O V e f → SameExpr P W e f → SameExpr Q Z e f
   both_expr (Plain a) (Plain b) s r = both_atom a b s r
   both_expr (Binary a op c) (Binary b other d) s r = (both_atom a b s.0 r.0, s.1, both_atom c d s.2 r.2)
-  both_expr (Plain a) (Binary b other d) s r = absurd s
-  both_expr (Binary a op c) (Plain b) s r = absurd s
+  both_expr _ _ s r = absurd s
 
   both_call : (c d : TextCall) → SameCall O V c d → SameCall P W c d → SameCall Q Z c d
   both_call c d s r = (objects c.object d.object s.0 r.0, s.1, both_args c.args d.args s.2 r.2)
@@ -65,21 +55,18 @@ module _ (O V : ℕ → ℕ → Type 0) (n m : ℕ) where
   below_atom : (a b : Atom) → SameAtom O V a b → IsAtomBelow n a → IsAtomBelow m b → SameAtom O (Below n m) a b
   below_atom (Variable x) (Variable y) s i j = (i, j)
   below_atom (Number k) (Number l) s i j = s
-  below_atom (Variable x) (Number l) s i j = absurd s
-  below_atom (Number k) (Variable y) s i j = absurd s
+  below_atom _ _ s i j = absurd s
 
   below_args : (xs ys : List Atom) → AllZip (SameAtom O V) xs ys → AllByRecursion (IsAtomBelow n) xs → AllByRecursion (IsAtomBelow m) ys
       → AllZip (SameAtom O (Below n m)) xs ys
   below_args [] [] s i j = tt
-  below_args [] (b ∷ ys) s i j = absurd s
-  below_args (a ∷ xs) [] s i j = absurd s
   below_args (a ∷ xs) (b ∷ ys) s i j = (below_atom a b s.0 i.0 j.0, below_args xs ys s.1 i.1 j.1)
+  below_args _ _ s i j = absurd s
 
   below_expr : (e f : Expr) → SameExpr O V e f → IsExprBelow n e → IsExprBelow m f → SameExpr O (Below n m) e f
   below_expr (Plain a) (Plain b) s i j = below_atom a b s i j
   below_expr (Binary a op c) (Binary b other d) s i j = (below_atom a b s.0 i.0 j.0, s.1, below_atom c d s.2 i.1 j.1)
-  below_expr (Plain a) (Binary b other d) s i j = absurd s
-  below_expr (Binary a op c) (Plain b) s i j = absurd s
+  below_expr _ _ s i j = absurd s
 
   below_call : (c d : TextCall) → SameCall O V c d → AllByRecursion (IsAtomBelow n) c.args → AllByRecursion (IsAtomBelow m) d.args
       → SameCall O (Below n m) c d
@@ -123,14 +110,12 @@ module _ (p q : ProgramShape) (V : ℕ → ℕ → Type 0) (n m : ℕ)
   atom_same : (l k : Locals) → Equal l k → (a b : Atom) → SameAtom Objects V a b → atom_value l a ≡ atom_value k b
   atom_same l k e (Variable x) (Variable y) s = e.same x y s
   atom_same l k e (Number i) (Number j) s = s
-  atom_same l k e (Variable x) (Number j) s = absurd s
-  atom_same l k e (Number i) (Variable y) s = absurd s
+  atom_same l k e _ _ s = absurd s
 
   args_same : (l k : Locals) → Equal l k → (xs ys : List Atom) → AllZip (SameAtom Objects V) xs ys → map (atom_value l) xs ≡ map (atom_value k) ys
   args_same l k e [] [] s = refl
-  args_same l k e [] (b ∷ ys) s = absurd s
-  args_same l k e (a ∷ xs) [] s = absurd s
   args_same l k e (a ∷ xs) (b ∷ ys) s = ap₂ (λ v vs. v ∷ vs) (atom_same l k e a b s.0) (args_same l k e xs ys s.1)
+  args_same l k e _ _ s = absurd s
 
   expr_same : (l k : Locals) → Equal l k → (f g : Expr) → SameExpr Objects V f g → expr_value l f ≡ expr_value k g
   expr_same l k e (Plain a) (Plain b) s = atom_same l k e a b s
@@ -138,8 +123,7 @@ module _ (p q : ProgramShape) (V : ℕ → ℕ → Type 0) (n m : ℕ)
       let first = atom_same l k e a b s.0 in
       let second = atom_same l k e c d s.2 in
       λ i. clamp_to_word (exact (s.1 i) (first i) (second i))
-  expr_same l k e (Plain a) (Binary b other d) s = absurd s
-  expr_same l k e (Binary a op c) (Plain b) s = absurd s
+  expr_same l k e _ _ s = absurd s
 
   test_same : (l k : Locals) → Equal l k → (t u : Test) → SameTest Objects V t u → test_value l t ≡ test_value k u
   test_same l k e t u s =

@@ -2,34 +2,25 @@
 -- clients, since each round that changes it adds a client; the first of the smallest is one of these sets; and it is
 -- there where somebody has a block left. Reduced orders stand on it. It goes by induction on the rounds and on the
 -- clients.
-use Rattle.std.proofs.Common.{◌≡◌, ◌<◌, ◌≤◌, ℕ, zero, suc, Bool, true, false, true≢false, if◌then◌else◌, ◌==◌, ◌&&◌, ◌||◌, nat_lt, List, [], ◌∷◌, length, drop, refl, sym, ap, ◌∙◌, subst, arith, ◌⊎◌, inl, inr, ⊎_elim}
-use Rattle.std.proofs.lemmas.Bool.{cases_Bool}
-use Rattle.std.proofs.lemmas.Bool.Decides.{nat_tests}
-use Rattle.std.proofs.lemmas.List.{get_or_past}
-use Rattle.std.specs.List.{list_any}
-use Rattle.qs_objects.proofs.Choices.{and_cases, eqb_self, eqb_true, num_cases}
-use Rattle.qs_program.specs.audit.Program.{ProgramShape, block_at, blocks_of, client_at, no_client}
-use Rattle.qs_program.specs.audit.Sound.{is_in}
+use Rattle.std.proofs.Common.{◌≡◌, ◌<◌, ◌≤◌, ℕ, zero, suc, Bool, true, false, true≢false, if◌then◌else◌, ◌==◌, ◌&&◌, ◌||◌, nat_lt, List, [], ◌∷◌, length, drop, refl, sym, ap, ◌∙◌, subst, arith, ◌⊎◌, inl, inr}
+use Rattle.qs_meaning.proofs.Common.{and_cases, block_at, blocks_of, cases_Bool, client_at, eqb_self, eqb_true, get_or_past, is_in, list_any, nat_tests, no_client, ProgramShape}
 use Rattle.qs_meaning.specs.audit.Reduced.{Counts}
 use Rattle.qs_meaning.specs.Reduced.{Clients, IsUndisturbed, SomeGoOn, block_reserves, comes_in, first_smallest, goes_on, group_of, has_block_left, many_below, size_of_set, smaller, some_below, still_reserves, widened, wider}
 
 pub or_left : (a b : Bool) → a ≡ true → (a || b) ≡ true
-or_left a b e = rw e refl
+or_left a b e = grind arith
 
 pub or_right : (a b : Bool) → b ≡ true → (a || b) ≡ true
-or_right true b e = refl
-or_right false b e = e
+or_right a b e = grind arith
 
 pub or_cases : (a b : Bool) → (a || b) ≡ true → (a ≡ true) ⊎ (b ≡ true)
-or_cases true b e = inl refl
-or_cases false b e = inr e
+or_cases a b e = grind arith
 
 pub neither : (a b : Bool) → (a || b) ≡ false → (a ≡ false) × (b ≡ false)
-neither true b e = absurd (true≢false e)
-neither false b e = (refl, e)
+neither a b e = grind arith
 
 pub both_true : (a b : Bool) → a ≡ true → b ≡ true → (a && b) ≡ true
-both_true a b e f = rw (e, f) refl
+both_true a b e f = grind arith
 
 -- a number below n that is in the set
 some_one : (n : ℕ) (set : ℕ → Bool) → some_below n set ≡ true → (i : ℕ) × (i < n) × (set i ≡ true)
@@ -41,55 +32,26 @@ some_one (suc n) set e = elim (or_cases (some_below n set) (set n) e) [
 
 one_of : (n i : ℕ) (set : ℕ → Bool) → i < n → set i ≡ true → some_below n set ≡ true
 one_of zero i set less e = absurd (omega (arith, less))
-one_of (suc n) i set less e =
-    ⊎_elim
-    (λ (is : i ≡ n). or_right (some_below n set) (set n) (subst (λ k. set k ≡ true) is e))
-    (λ (other : (i == n) ≡ false). or_left (some_below n set) (set n) (one_of n i set (let d = apart_at other in omega (arith, less, d)) e))
-    (num_cases i n)
-  where
-    apart_at : (i == n) ≡ false → i ≡ n → ⊥
-    apart_at other at = true≢false (sym (subst (λ k. (i == k) ≡ true) at (eqb_self i)) ∙ other)
+one_of (suc n) i set less e = let before : i < n → some_below n set ≡ true = λ l. one_of n i set l e in grind (arith, nat_tests)
 
 none_of : (n i : ℕ) (set : ℕ → Bool) → some_below n set ≡ false → i < n → set i ≡ false
-none_of n i set none less = elim (cases_Bool (set i)) [ inl e ↦ absurd (true≢false (sym (one_of n i set less e) ∙ none)) | inr out ↦ out ]
+none_of n i set none less = let some : set i ≡ true → some_below n set ≡ true = λ e. one_of n i set less e in grind arith
 
 -- how many a larger set has
 many_more : (n : ℕ) (a b : ℕ → Bool) → ((i : ℕ) → a i ≡ true → b i ≡ true) → many_below n a ≤ many_below n b
 many_more zero a b h = omega arith
-many_more (suc n) a b h = by_case (a n) (b n) refl refl (many_more n a b h)
-  where
-    by_case : (x y : Bool) → a n ≡ x → b n ≡ y → many_below n a ≤ many_below n b → many_below (suc n) a ≤ many_below (suc n) b
-    by_case true true e f m = rw (e, f) (omega (arith, m))
-    by_case true false e f m = absurd (true≢false (sym (h n e) ∙ f))
-    by_case false true e f m = rw (e, f) (omega (arith, m))
-    by_case false false e f m = rw (e, f) m
+many_more (suc n) a b h = let m = many_more n a b h in let k = h n in grind (arith, m, k)
 
 -- and with one more
 one_more : (n i : ℕ) (a b : ℕ → Bool) → ((j : ℕ) → a j ≡ true → b j ≡ true) → i < n → a i ≡ false → b i ≡ true → many_below n a < many_below n b
 one_more zero i a b h less out within = absurd (omega (arith, less))
 one_more (suc n) i a b h less out within =
-    ⊎_elim
-    (λ (is : i ≡ n).
-    let there : a n ≡ false = subst (λ k. a k ≡ false) is out in let here : b n ≡ true = subst (λ k. b k ≡ true) is within in
-    rw (there, here) (let m = many_more n a b h in omega (arith, m)))
-    (λ (other : (i == n) ≡ false).
-    let d : i ≡ n → ⊥ = λ at. true≢false (sym (subst (λ k. (i == k) ≡ true) at (eqb_self i)) ∙ other) in
-    by_case (a n) (b n) refl refl (one_more n i a b h (omega (arith, less, d)) out within))
-    (num_cases i n)
-  where
-    by_case : (x y : Bool) → a n ≡ x → b n ≡ y → many_below n a < many_below n b → many_below (suc n) a < many_below (suc n) b
-    by_case true true e f m = rw (e, f) (omega (arith, m))
-    by_case true false e f m = absurd (true≢false (sym (h n e) ∙ f))
-    by_case false true e f m = rw (e, f) (omega (arith, m))
-    by_case false false e f m = rw (e, f) m
+    let m = many_more n a b h in let k = h n in
+    let before : i < n → many_below n a < many_below n b = λ l. one_more n i a b h l out within in grind (arith, nat_tests, m, k)
 
 many_most : (n : ℕ) (a : ℕ → Bool) → many_below n a ≤ n
 many_most zero a = omega arith
-many_most (suc n) a = by_case (a n) refl (many_most n a)
-  where
-    by_case : (x : Bool) → a n ≡ x → many_below n a ≤ n → many_below (suc n) a ≤ suc n
-    by_case true e m = rw e (omega (arith, m))
-    by_case false e m = rw e (omega (arith, m))
+many_most (suc n) a = let m = many_most n a in grind (arith, m)
 
 -- ---- one of a list
 
@@ -122,13 +84,8 @@ module _ (p : ProgramShape) (begun : Counts) where
       some_left (block_reserves h.0) (client_at p d).blocks (begun d) h.1
 
   pub left_in : (d : ℕ) → begun d < blocks_of p d → d < n
-  left_in d left = elim (cases_Bool (nat_lt d n)) [
-    | inl e ↦ grind (arith, nat_tests)
-    | inr out ↦
-        let past : n ≤ d = grind (arith, nat_tests) in
-        let none : blocks_of p d ≡ 0 = ap (λ client. length client.blocks) (get_or_past p.clients d no_client past) in
-        absurd (omega (arith, left, none))
-  ]
+  left_in d left =
+      let none : n ≤ d → blocks_of p d ≡ 0 = λ past. ap (λ client. length client.blocks) (get_or_past p.clients d no_client past) in grind (arith, none)
 
   abbrev Stays : Clients → Type 0
   Stays set = (d : ℕ) → wider p begun set d ≡ true → set d ≡ true
@@ -257,12 +214,7 @@ module _ (p : ProgramShape) (begun : Counts) where
       let more = one_more n c (λ d. false) (group_of p begun c) (λ j e. absurd (true≢false (sym e))) less refl (widened_has c n) in omega (arith, more)
 
   smaller_has : (one other : Clients) → HasMember other → HasMember (smaller p one other)
-  smaller_has one other has = by_case (size_of_set p one == 0) (nat_lt (size_of_set p other) (size_of_set p one)) refl
-    where
-      by_case : (x y : Bool) → (size_of_set p one == 0) ≡ x → HasMember (if x || y then other else one)
-      by_case true y e = has
-      by_case false true e = has
-      by_case false false e = grind (arith, nat_tests)
+  smaller_has one other has = grind (arith, nat_tests)
 
   first_has : (k c : ℕ) → c < k → begun c < blocks_of p c → HasMember (first_smallest p begun k)
   first_has zero c less left = absurd (omega (arith, less))
@@ -274,22 +226,11 @@ module _ (p : ProgramShape) (begun : Counts) where
       by_case : (b : Bool) → has_block_left p begun k ≡ b → (c < k → begun c < blocks_of p c → HasMember (first_smallest p begun k))
           → HasMember (if b then smaller p (first_smallest p begun k) (group_of p begun k) else first_smallest p begun k)
       by_case true e before = here e
-      by_case false e before =
-          ⊎_elim
-          (λ (is : c ≡ k).
-          let none : nat_lt (begun c) (blocks_of p c) ≡ false = subst (λ j. has_block_left p begun j ≡ false) (sym is) e in absurd (grind (arith, nat_tests)))
-          (λ (other : (c == k) ≡ false).
-          let d : c ≡ k → ⊥ = λ at. true≢false (sym (subst (λ j. (c == j) ≡ true) at (eqb_self c)) ∙ other) in
-          before (omega (arith, less, d)) left)
-          (num_cases c k)
+      by_case false e before = before (grind (arith, nat_tests)) left
 
 many_one : (m : ℕ) (set : ℕ → Bool) → 0 < many_below m set → (i : ℕ) × (set i ≡ true)
 many_one zero set some = absurd (omega (arith, some))
-many_one (suc m) set some = by_case (set m) refl some (many_one m set)
-  where
-    by_case : (b : Bool) → set m ≡ b → 0 < (if b then suc (many_below m set) else many_below m set) → (0 < many_below m set → (i : ℕ) × (set i ≡ true)) → (i : ℕ) × (set i ≡ true)
-    by_case true e h before = (m, e)
-    by_case false e h before = before h
+many_one (suc m) set some = elim (cases_Bool (set m)) [ inl e ↦ (m, e) | inr out ↦ many_one m set (rw out at some) ]
 
 pub some_go_on : SomeGoOn
 some_go_on p begun = record {

@@ -3,19 +3,7 @@
 -- The main lemma, `ticket_by_ticket`, goes by induction on the order, with cases on whether the first ticket is through
 -- or the object is still busy with it.
 use Rattle.std.proofs.Common.{◌≡◌, ◌≢◌, ℕ, Bool, true, false, true≢false, List, [], ◌∷◌, ◌++◌, map, flat_map, refl, sym, ap, ap₂, ◌∙◌, subst, ◌⊎◌, inl, inr, append-nil}
-use Rattle.std.proofs.lemmas.List.Elements.{filter-append}
-use Rattle.std.specs.List.{AllByRecursion}
-use Rattle.qs_objects.specs.audit.Act.{State}
-use Rattle.qs_objects.specs.audit.Journals.{after, replay, without_tickets, IsHonest}
-use Rattle.qs_objects.specs.audit.Operations.{is_query}
-use Rattle.qs_objects.specs.audit.Parts.{command_event, part, same, entries_of}
-use Rattle.qs_objects.specs.Parts.{stamp, HasEntry}
-use Rattle.qs_objects.specs.declared.held.Entry.{Entry}
-use Rattle.qs_objects.specs.declared.held.Event.{Event}
-use Rattle.qs_objects.specs.declared.held.Ticket.{Ticket}
-use Rattle.qs_objects.specs.declared.Request.{Request}
-use Rattle.qs_objects.proofs.Choices.{same_self, not_same}
-use Rattle.qs_objects.proofs.ObjectLaws.{never_answers}
+use Rattle.qs_meaning.proofs.Common.{after, AllByRecursion, command_event, entries_of, Entry, Event, filter-append, HasEntry, is_query, IsHonest, never_answers, not_same, part, replay, Request, same, same_self, stamp, State, Ticket, without_tickets}
 use Rattle.qs_meaning.specs.BlockRecords.{BlockRecord, IsDone}
 use Rattle.qs_meaning.specs.audit.Interaction.{Interaction}
 use Rattle.qs_meaning.proofs.Each.{each_map, each_join, flat_map_same, flat_map_none}

@@ -1,3 +1,4 @@
+pub mod Common
 pub mod RequestPaths
 pub mod Trees
 pub mod TreeWalks

@@ -1,23 +1,18 @@
 -- Every complete order comes to what a reduced one comes to. The first of its blocks whose client goes on comes before
 -- all others as well as where it stands: the blocks before it are of other clients, and share no object with it. So it
 -- is moved to the front, one neighbour after another, and what is left is shorter by one.
-use Rattle.std.proofs.Common.{◌≡◌, ◌<◌, ◌≤◌, ℕ, zero, suc, Bool, true, false, true≢false, ◌==◌, List, [], ◌∷◌, length, get_or, drop, refl, sym, ap, ◌∙◌, subst, arith, ◌⊎◌, inl, inr, ⊎_elim}
-use Rattle.std.specs.List.{list_any}
-use Rattle.qs_objects.specs.declared.held.Ticket.{Ticket}
-use Rattle.qs_objects.proofs.Choices.{eqb_apart, num_cases}
-use Rattle.qs_program.specs.audit.Program.{ProgramShape, block_at, blocks_of, client_at, no_block}
-use Rattle.qs_program.specs.audit.Sound.{is_in}
-use Rattle.qs_program.specs.Sound.{IsSound}
+use Rattle.std.proofs.Common.{◌≡◌, ◌<◌, ◌≤◌, ℕ, zero, suc, Bool, true, false, true≢false, ◌==◌, List, [], ◌∷◌, length, get_or, drop, refl, sym, ap, ◌∙◌, subst, arith, ◌⊎◌, inl, inr}
+use Rattle.qs_meaning.proofs.Common.{block_at, blocks_of, client_at, eqb_apart, is_in, IsSound, list_any, nat_tests, no_block, ProgramShape, Ticket}
 use Rattle.qs_meaning.specs.audit.Configurations.{Configuration, configuration_from, first_configuration, one_block_on}
 use Rattle.qs_meaning.specs.Configurations.{outcome_in}
 use Rattle.qs_meaning.specs.audit.Reduced.{Counts}
-use Rattle.qs_meaning.specs.Reduced.{Clients, IsReducedFrom, IsUndisturbed, ReducedOrdersSuffice, block_reserves, goes_on, still_reserves}
+use Rattle.qs_meaning.specs.Reduced.{Clients, IsReducedFrom, IsUndisturbed, ReducedOrdersSuffice, block_reserves, goes_on}
 use Rattle.qs_meaning.specs.audit.Serial.{LegalFrom}
 use Rattle.qs_meaning.specs.audit.Solo.{put}
 use Rattle.qs_meaning.proofs.Groups.{neither, some_go_on}
 use Rattle.qs_meaning.proofs.Orders.{complete_orders_leave_none, configurations_follow_orders, legal_on}
 use Rattle.qs_meaning.proofs.Swaps.{neighbours_swap}
-use Rattle.qs_meaning.proofs.TreeWalks.{put_here, put_there}
+use Rattle.qs_meaning.proofs.TreeWalks.{put_there}
 
 -- no block from a place on has the property: nor has the one at the place
 none_here : {X : Type 0} (f : X → Bool) (xs : List X) (n : ℕ) (d : X) → list_any f (drop n xs) ≡ false → n < length xs → f (get_or xs n d) ≡ false
@@ -41,15 +36,8 @@ still_undisturbed p begun set d out is = record {
   left = λ c member. subst (λ n. n < blocks_of p c) (sym (here c member)) (is.left c member);
   apart = λ c e h member outside reserved.
       (let own : is_in (block_at p c (begun c)).reserved h ≡ true = subst (λ n. is_in (block_at p c n).reserved h ≡ true) (here c member) reserved in
-      ⊎_elim
-      (λ (same : d ≡ e).
-      subst (λ e. still_reserves p (put begun d (suc (begun d))) e h ≡ false) same
-      (subst (λ n. list_any (block_reserves h) (drop n (client_at p d).blocks) ≡ false) (sym (put_here begun d (suc (begun d))))
-      (none_later (block_reserves h) (client_at p d).blocks (begun d) (is.apart c d h member out own))))
-      (λ (other : (d == e) ≡ false).
-      subst (λ n. list_any (block_reserves h) (drop n (client_at p e).blocks) ≡ false) (sym (put_there begun d (suc (begun d)) e other))
-      (is.apart c e h member outside own))
-      (num_cases d e));
+      let at_d = none_later (block_reserves h) (client_at p d).blocks (begun d) (is.apart c d h member out own) in
+      let at_e = is.apart c e h member outside own in grind (arith, nat_tests));
 }
   where
     here : (c : ℕ) → set c ≡ true → put begun d (suc (begun d)) c ≡ begun c

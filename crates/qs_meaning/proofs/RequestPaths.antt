@@ -2,11 +2,9 @@
 -- traces, queues and journals have enough room stand on it, since their rooms are made from the loads. It goes by
 -- induction on the statements, and for a repeat by induction on its turns.
 use Rattle.std.proofs.Common.{ℕ, zero, suc, ◌+◌, ◌*◌, ◌-◌, ◌≤◌, max, Bool, true, false, if◌then◌else◌, slice_set, arith}
-use Rattle.qs_program.specs.audit.Statements.{Statements, end, command, query, assign, choose, again, leave}
-use Rattle.qs_program.specs.audit.Values.{Locals, expr_value, test_value, request_of}
+use Rattle.qs_meaning.proofs.Common.{again, assign, choose, command, end, expr_value, leave, load_of, Locals, query, request_of, Statements, test_value}
 use Rattle.qs_meaning.specs.audit.Interaction.{Interaction, Done, Call, Query, Next, meaning, tree_of}
 use Rattle.qs_meaning.specs.Interaction.{turns}
-use Rattle.qs_program.specs.audit.Loads.{load_of}
 use Rattle.qs_meaning.specs.Paths.{counts, Within, RequestsWithinLoad}
 
 more : (h : ℕ) (t : Interaction) (n m : ℕ) → Within h t n → n ≤ m → Within h t m

@@ -3,28 +3,15 @@
 -- on the order; the invariant is that each client has the variables, and each object the state, that the blocks before
 -- left to them.
 use Rattle.std.proofs.Common.{◌≡◌, ◌≢◌, ℕ, zero, suc, ◌≤◌, arith, Bool, true, false, ◌==◌, List, [], ◌∷◌, ◌++◌, map, refl, sym, ap, ◌∙◌, subst, ◌⊎◌, inl, inr, ⊎_elim, append_assoc, append-nil}
-use Rattle.std.proofs.lemmas.List.{map-append}
-use Rattle.std.specs.List.{AllByRecursion, AllZip}
-use Rattle.qs_objects.specs.audit.Act.{State}
-use Rattle.qs_objects.specs.audit.Journals.{replay, without_tickets, IsHonest}
-use Rattle.qs_objects.specs.audit.Parts.{IsFront, command_event, part, same}
-use Rattle.qs_objects.specs.Parts.{stamp, HasEntry, before}
-use Rattle.qs_objects.specs.declared.held.Entry.{Entry}
-use Rattle.qs_objects.specs.declared.held.Event.{Event}
-use Rattle.qs_objects.specs.declared.held.Ticket.{Ticket}
-use Rattle.qs_objects.specs.declared.Request.{Request}
-use Rattle.qs_objects.proofs.Choices.{num_cases, not_same, same_self}
+use Rattle.qs_meaning.proofs.Common.{AllByRecursion, AllZip, before, command_event, Entry, Event, HasEntry, IsFront, IsHonest, IsSound, Locals, map-append, nat_tests, not_same, num_cases, part, ProgramShape, replay, Request, same, same_self, stamp, State, text_of, Ticket, without_tickets}
 use Rattle.qs_objects.proofs.Replays.{replay-append, IsHonest-append}
 use Rattle.qs_meaning.specs.audit.Following.{reserves}
 use Rattle.qs_meaning.specs.Following.{AsksOnly, block_tree, changed_all, noted_all}
 use Rattle.qs_meaning.specs.audit.Interaction.{Interaction, Done, Call, Query}
 use Rattle.qs_meaning.specs.Interaction.{run}
-use Rattle.qs_program.specs.audit.Program.{ProgramShape, text_of}
 use Rattle.qs_meaning.specs.audit.Serial.{LegalFrom, declared_states, zeros}
 use Rattle.qs_meaning.specs.Serial.{SerialBlock, serial_from}
 use Rattle.qs_meaning.specs.audit.Solo.{States, BlockResult, put, solo}
-use Rattle.qs_program.specs.Sound.{IsSound}
-use Rattle.qs_program.specs.audit.Values.{Locals}
 use Rattle.qs_meaning.proofs.Each.{each_map, each_both, each_join}
 use Rattle.qs_meaning.proofs.Histories.{parts_of, done_of, Apart, OnlyCommands, Piece, ObjectCourse, Flow, ClearOf, clear_stamped, clear_later, commands_honest, has_append, has_clear, unstamp_all}
 use Rattle.qs_meaning.specs.BlockRecords.{BlockRecord, IsBlockRecord, IsDone, Begins}
@@ -38,17 +25,15 @@ done_is (Call r next) d = absurd d
 done_is (Query r next) d = absurd d
 
 -- each of a client's later tickets has a greater index
+later : (c d i j : ℕ) (n : ℕ → ℕ) → i ≡ n c → put n c (suc i) d ≤ j → n d ≤ j
+later c d i j n e k = grind (arith, nat_tests)
+
 legal_above : (p : ProgramShape) (n : ℕ → ℕ) (ts : List Ticket) → LegalFrom p n ts → AllByRecursion (λ u. n u.client ≤ u.index) ts
 legal_above p n [] g = tt
 legal_above p n (t ∷ ts) g = (
   let e : t.index ≡ n t.client = g.0 in omega (arith, e),
-  each_map (λ u (k : put n t.client (suc t.index) u.client ≤ u.index).
-      ⊎_elim
-      (λ (is : t.client ≡ u.client).
-      let b : put n t.client (suc t.index) u.client ≡ suc t.index = subst (λ c. put n t.client (suc t.index) c ≡ suc t.index) is (put_here n t.client (suc t.index)) in
-      let e : t.index ≡ n t.client = g.0 in let f : n t.client ≡ n u.client = ap n is in omega (arith, b, e, f, k))
-      (λ (other : (t.client == u.client) ≡ false). let b = put_there n t.client (suc t.index) u.client other in omega (arith, b, k))
-      (num_cases t.client u.client)) ts (legal_above p (put n t.client (suc t.index)) ts g.2),
+  each_map (λ u (k : put n t.client (suc t.index) u.client ≤ u.index). (let e = g.0 in later t.client u.client t.index u.index n e k)) ts
+      (legal_above p (put n t.client (suc t.index)) ts g.2),
 )
 
 legal_first : (p : ProgramShape) (n : ℕ → ℕ) (t : Ticket) (ts : List Ticket) → LegalFrom p n (t ∷ ts) → AllByRecursion (λ u. t ≢ u) ts

@@ -2,17 +2,11 @@
 -- isolation and of what clients send need this to leave all other objects aside. It goes by induction on the
 -- statements, and for a repeat by induction on its turns.
 use Rattle.std.proofs.Common.{◌≡◌, ◌<◌, ℕ, zero, suc, Bool, true, false, if◌then◌else◌, nat_lt, List, length, get_or, refl, sym, ap, subst, arith, slice_set}
-use Rattle.std.proofs.lemmas.List.{get_or_past}
-use Rattle.qs_program.specs.declared.program.Declared.{Declared}
+use Rattle.qs_meaning.proofs.Common.{again, assign, blocks_of, BlockShape, choose, client_at, command, Declared, end, expr_value, get_or_past, is_in, IsSoundBody, leave, Locals, no_block, no_client, query, Statements, test_value, text_of}
 use Rattle.qs_meaning.specs.audit.Following.{reserves}
 use Rattle.qs_meaning.specs.Following.{AsksOnly, BlocksAskOnly, block_tree}
 use Rattle.qs_meaning.specs.audit.Interaction.{Interaction, Done, Next, meaning}
 use Rattle.qs_meaning.specs.Interaction.{turns}
-use Rattle.qs_program.specs.audit.Program.{BlockShape, text_of, client_at, no_block, no_client, blocks_of}
-use Rattle.qs_program.specs.audit.Sound.{is_in}
-use Rattle.qs_program.specs.Sound.{IsSoundBody}
-use Rattle.qs_program.specs.audit.Statements.{Statements, end, command, query, assign, choose, again, leave}
-use Rattle.qs_program.specs.audit.Values.{Locals, expr_value, test_value}
 use Rattle.qs_program.proofs.Bounds.{sound_block}
 
 module _ (objects : List Declared) (reserved : List ℕ) where

@@ -1,25 +1,12 @@
 -- No request changes an object's kind; so the states of a serial run stay of the declared kinds, from the declared
 -- states on.
 use Rattle.std.proofs.Common.{◌≡◌, ℕ, Bool, true, false, true≢false, ◌&&◌, replicate, pos, if◌then◌else◌, List, [], ◌∷◌, Option, Some, None, refl, sym, ◌∙◌}
-use Rattle.std.specs.List.{AllByRecursion}
-use Rattle.std.specs.Prelude.{IsSome}
-use Rattle.qs_objects.specs.audit.Act.{State, Content, account, buffer, grid, size_of}
-use Rattle.qs_objects.specs.audit.Journals.{after}
+use Rattle.qs_meaning.proofs.Common.{account, after, AllByRecursion, between, buffer, Content, Declared, fresh, grid, IsSome, IsSound, Kind, kind_of, Locals, no_object, object_at, ProgramShape, Request, same_shape, size_of, starts, State, Statements, text_of, Ticket}
 use Rattle.qs_objects.specs.Laws.{SameShape}
-use Rattle.qs_objects.specs.audit.Objects.{kind_of, starts, between, fresh}
 use Rattle.qs_objects.specs.Operations.{fits}
 use Rattle.qs_objects.specs.declared.Op.{Op}
-use Rattle.qs_objects.specs.declared.Request.{Request}
-use Rattle.qs_objects.specs.declared.held.Ticket.{Ticket}
-use Rattle.qs_objects.specs.declared.object.Kind.{Kind}
 use Rattle.qs_objects.specs.declared.object.Kind.TheVariants as kinds
-use Rattle.qs_objects.proofs.ObjectLaws.{same_shape}
 use Rattle.qs_objects.specs.audit.Limits.{most_lines}
-use Rattle.qs_program.specs.declared.program.Declared.{Declared}
-use Rattle.qs_program.specs.audit.Program.{ProgramShape, object_at, text_of, no_object}
-use Rattle.qs_program.specs.Sound.{IsSound}
-use Rattle.qs_program.specs.audit.Statements.{Statements}
-use Rattle.qs_program.specs.audit.Values.{Locals}
 use Rattle.qs_meaning.specs.audit.Serial.{declared_states, state_or_none, zeros}
 use Rattle.qs_meaning.specs.Serial.{SerialBlock, serial_from}
 use Rattle.qs_meaning.specs.audit.Solo as alone

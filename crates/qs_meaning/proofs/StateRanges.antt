@@ -1,17 +1,8 @@
 -- Objects begin in range, and no request leads out of it; so they are in range after any order of blocks. By this a row
 -- of the search tells which configuration it is. It goes by induction on the order.
 use Rattle.std.proofs.Common.{◌≡◌, List, [], ◌∷◌, Option, Some, None, refl}
-use Rattle.std.specs.Prelude.{IsSome}
-use Rattle.qs_objects.specs.audit.Act.{State}
-use Rattle.qs_objects.specs.audit.Objects.{starts}
+use Rattle.qs_meaning.proofs.Common.{begins_in_range, block_at, Declared, IsSome, IsSound, Kind, no_object, object_at, ProgramShape, Request, starts, State, stays_in_range, Ticket}
 use Rattle.qs_objects.specs.Objects.{IsInRange}
-use Rattle.qs_objects.specs.declared.Request.{Request}
-use Rattle.qs_objects.specs.declared.held.Ticket.{Ticket}
-use Rattle.qs_objects.specs.declared.object.Kind.{Kind}
-use Rattle.qs_objects.proofs.ObjectLaws.{begins_in_range, stays_in_range}
-use Rattle.qs_program.specs.declared.program.Declared.{Declared}
-use Rattle.qs_program.specs.audit.Program.{ProgramShape, block_at, no_object, object_at}
-use Rattle.qs_program.specs.Sound.{IsSound}
 use Rattle.qs_meaning.specs.audit.Configurations.{Configuration, configuration_from, first_configuration, one_block_on}
 use Rattle.qs_meaning.specs.audit.Serial.{declared_states, state_or_none}
 use Rattle.qs_meaning.specs.StateRanges.{AreInRange, OrdersKeepRanges}

@@ -1,12 +1,7 @@
 -- What each request leaves true of an object's state stays true of all objects while a block runs alone. That states
 -- stay of their kinds and in their ranges stands on it. It goes by induction on the block's tree.
 use Rattle.std.proofs.Common.{◌≡◌, ℕ, false, ◌==◌, sym, subst, ⊎_elim}
-use Rattle.qs_objects.specs.audit.Act.{State}
-use Rattle.qs_objects.specs.audit.Journals.{after, answer}
-use Rattle.qs_objects.specs.declared.Request.{Request}
-use Rattle.qs_objects.proofs.Choices.{num_cases}
-use Rattle.qs_program.specs.audit.Statements.{Statements}
-use Rattle.qs_program.specs.audit.Values.{Locals}
+use Rattle.qs_meaning.proofs.Common.{after, answer, Locals, num_cases, Request, State, Statements}
 use Rattle.qs_meaning.specs.audit.Interaction.{Interaction, Done, Call, Query, tree_of}
 use Rattle.qs_meaning.specs.Interaction.{run}
 use Rattle.qs_meaning.specs.audit.Solo as alone

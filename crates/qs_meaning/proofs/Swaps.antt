@@ -1,15 +1,8 @@
 -- Two blocks that reserve no object both may be run in either order: a block reads and writes its own objects and its
 -- own client's variables alone. Reduced orders stand on it. It goes along the interaction tree of a block, whose
 -- requests are on its objects.
-use Rattle.std.proofs.Common.{◌≡◌, ℕ, suc, Bool, true, false, true≢false, ◌==◌, refl, sym, ap, ◌∙◌, subst, ⊎_elim, inl, inr}
-use Rattle.std.proofs.lemmas.Bool.{cases_Bool}
-use Rattle.qs_objects.specs.audit.Act.{State}
-use Rattle.qs_objects.specs.audit.Journals.{after, answer}
-use Rattle.qs_objects.proofs.Choices.{eqb_apart, eqb_self, num_cases}
-use Rattle.qs_program.specs.audit.Program.{BlockShape, ProgramShape, block_at}
-use Rattle.qs_program.specs.audit.Sound.{is_in}
-use Rattle.qs_program.specs.Sound.{IsSound}
-use Rattle.qs_program.specs.audit.Values.{Locals}
+use Rattle.std.proofs.Common.{◌≡◌, ℕ, suc, Bool, true, false, true≢false, ◌==◌, refl, sym, ap, ◌∙◌, subst, arith, inl, inr}
+use Rattle.qs_meaning.proofs.Common.{after, answer, block_at, BlockShape, cases_Bool, is_in, IsSound, Locals, nat_tests, ProgramShape, State}
 use Rattle.qs_meaning.specs.audit.Configurations.{Configuration, one_block_on}
 use Rattle.qs_meaning.specs.Following.{AsksOnly}
 use Rattle.qs_meaning.specs.audit.Interaction.{Interaction, Done, Call, Query, tree_of}
@@ -18,7 +11,7 @@ use Rattle.qs_meaning.specs.Reduced.{AreNextApart, NeighboursSwap}
 use Rattle.qs_meaning.specs.audit.Solo.{BlockResult, States, put, solo, states_after, value_of}
 use Rattle.qs_meaning.proofs.SoundTrees.{blocks_ask_only}
 use Rattle.qs_meaning.proofs.Trees.{trees_agree}
-use Rattle.qs_meaning.proofs.TreeWalks.{put_here, put_there, untouched}
+use Rattle.qs_meaning.proofs.TreeWalks.{put_there, untouched}
 
 -- the states are the same on all objects that may be reached
 abbrev SameOn : (ℕ → Bool) → States → States → Type 0
@@ -30,11 +23,7 @@ record EndsSame (may : ℕ → Bool) (a b : BlockResult) : Type 0 where
   pub states : SameOn may a.states b.states
 
 after_same : (may : ℕ → Bool) (st su : States) (o : ℕ) (s t : State) → SameOn may st su → s ≡ t → SameOn may (put st o s) (put su o t)
-after_same may st su o s t same e h m =
-    ⊎_elim
-    (λ (is : o ≡ h). subst (λ k. put st o s k ≡ put su o t k) is (put_here st o s ∙ (e ∙ sym (put_here su o t))))
-    (λ (other : (o == h) ≡ false). put_there st o s h other ∙ (same h m ∙ sym (put_there su o t h other)))
-    (num_cases o h)
+after_same may st su o s t same e h m = let k = same h m in grind (arith, nat_tests)
 
 -- where a tree reads the same, it does the same
 runs_same : (may : ℕ → Bool) (t : Interaction) (st su : States) → AsksOnly may t → SameOn may st su → EndsSame may (run t st) (run t su)
@@ -52,25 +41,11 @@ runs_same may (Query r next) st su f same =
     record { locals = rest.locals; states = rest.states }
 
 -- of two values at two places, either may be put first
-put_twice : {A : Type 0} (f : ℕ → A) (c d : ℕ) (a b : A) → (c == d) ≡ false → put (put f c a) d b ≡ put (put f d b) c a
-put_twice f c d a b apart = λ i n. at n i
-  where
-    turned : (d == c) ≡ false
-    turned = eqb_apart d c (λ e. true≢false (sym (subst (λ k. (k == d) ≡ true) e (eqb_self d)) ∙ apart))
+put_twice_at : {A : Type 0} (f : ℕ → A) (c d : ℕ) (a b : A) → (c == d) ≡ false → (n : ℕ) → put (put f c a) d b n ≡ put (put f d b) c a n
+put_twice_at f c d a b apart n = grind (arith, nat_tests)
 
-    at : (n : ℕ) → put (put f c a) d b n ≡ put (put f d b) c a n
-    at n =
-        ⊎_elim
-        (λ (is : c ≡ n). subst (λ n. put (put f c a) d b n ≡ put (put f d b) c a n) is
-        (put_there (put f c a) d b c turned ∙ (put_here f c a ∙ sym (put_here (put f d b) c a))))
-        (λ (other : (c == n) ≡ false).
-        ⊎_elim
-        (λ (is : d ≡ n). subst (λ n. put (put f c a) d b n ≡ put (put f d b) c a n) is
-        (put_here (put f c a) d b ∙ (sym (put_here f d b) ∙ sym (put_there (put f d b) c a d apart))))
-        (λ (differs : (d == n) ≡ false). put_there (put f c a) d b n differs
-        ∙ (put_there f c a n other ∙ (sym (put_there f d b n differs) ∙ sym (put_there (put f d b) c a n other))))
-        (num_cases d n))
-        (num_cases c n)
+put_twice : {A : Type 0} (f : ℕ → A) (c d : ℕ) (a b : A) → (c == d) ≡ false → put (put f c a) d b ≡ put (put f d b) c a
+put_twice f c d a b apart = λ i n. put_twice_at f c d a b apart n i
 
 -- a tree that touches these objects alone, and another that touches none of them
 module _ (t u : Interaction) (may can : ℕ → Bool) (first : AsksOnly may t) (other : AsksOnly can u) (apart : (h : ℕ) → may h ≡ true → can h ≡ false) (st : States) where
@@ -129,7 +104,7 @@ module _ (p : ProgramShape) (sound : IsSound p) where
 
   module _ (g : Configuration) (c d : ℕ) (differ : (c == d) ≡ false) (apart : AreNextApart p g.begun c d) where
     turned : (d == c) ≡ false
-    turned = eqb_apart d c (λ e. true≢false (sym (subst (λ k. (k == d) ≡ true) e (eqb_self d)) ∙ differ))
+    turned = grind (arith, nat_tests)
 
     abbrev mine : ℕ → Bool
     mine = is_in (next_of p g c).reserved

@@ -2,14 +2,7 @@
 -- on traces and loads is proved here. It goes by induction on the interaction tree along the path that the trace takes,
 -- and for a serial run by induction on the order.
 use Rattle.std.proofs.Common.{◌≡◌, ℕ, ◌-◌, ◌≤◌, Bool, true, false, ◌==◌, if◌then◌else◌, List, [], ◌∷◌, length, ap, arith, None}
-use Rattle.std.specs.List.{AllByRecursion}
-use Rattle.qs_objects.specs.audit.Journals.{answer}
-use Rattle.qs_objects.specs.audit.Parts.{part}
-use Rattle.qs_objects.specs.declared.held.Event.{Event}
-use Rattle.qs_objects.specs.declared.held.Ticket.{Ticket}
-use Rattle.qs_program.specs.audit.Loads.{load_of}
-use Rattle.qs_program.specs.audit.Program.{ProgramShape, text_of}
-use Rattle.qs_program.specs.audit.Values.{Locals}
+use Rattle.qs_meaning.proofs.Common.{AllByRecursion, answer, Event, load_of, Locals, part, ProgramShape, text_of, Ticket}
 use Rattle.qs_meaning.specs.audit.Interaction.{Interaction, Done, Call, Query, tree_of}
 use Rattle.qs_meaning.specs.Interaction.{run}
 use Rattle.qs_meaning.specs.Paths.{counts, Within}

@@ -1,13 +1,8 @@
 -- A trace whose replies are the objects' own is a beginning of what the block does alone, and an object that a block
 -- may not reach is in neither its trace nor its changes. The proofs on histories, isolation and both machines use these
 -- facts about traces. They go by induction on the trace and on the tree along which it leads.
-use Rattle.std.proofs.Common.{◌≡◌, ℕ, Bool, false, true≢false, ◌==◌, List, [], ◌∷◌, ◌++◌, refl, ⊎_elim, sym, ap, ◌∙◌, subst, Option, ℤ, append-nil, if◌then◌else◌}
-use Rattle.std.proofs.lemmas.List.Elements.{filter-append}
-use Rattle.qs_objects.specs.audit.Journals.{after, answer, replay, IsHonest}
-use Rattle.qs_objects.specs.audit.Parts.{command_event, part}
-use Rattle.qs_objects.specs.declared.held.Event.{Event}
-use Rattle.qs_objects.specs.declared.Request.{Request}
-use Rattle.qs_objects.proofs.Choices.{eqb_self, num_cases}
+use Rattle.std.proofs.Common.{◌≡◌, ℕ, Bool, true, false, arith, ◌==◌, List, [], ◌∷◌, ◌++◌, refl, ⊎_elim, sym, ap, ◌∙◌, subst, Option, ℤ, append-nil, if◌then◌else◌}
+use Rattle.qs_meaning.proofs.Common.{after, answer, command_event, eqb_self, Event, filter-append, IsHonest, nat_tests, num_cases, part, replay, Request}
 use Rattle.qs_meaning.specs.audit.Interaction.{Interaction, Done, Call, Query}
 use Rattle.qs_meaning.specs.Interaction.{run, after_event}
 use Rattle.qs_meaning.specs.Following.{Leads, changed_all, noted_all, HonestTracesRun, AsksOnly}
@@ -65,35 +60,25 @@ honest_traces_run (Query r next) (e ∷ es) rest st path ok =
     subst (λ r. P r (answer (st r.object) r)) path.0 (subst (P e.request) first (ap (after_event e) ih))
 
 -- a block does not touch what it may not reach
+put_outside : {A : Type 0} (may : ℕ → Bool) (f : ℕ → A) (n : ℕ) (a : A) (h : ℕ) → may n ≡ true → may h ≡ false → put f n a h ≡ f h
+put_outside may f n a h is not = grind (arith, nat_tests)
+
 pub untouched : (may : ℕ → Bool) (t : Interaction) (st : States) (h : ℕ) → AsksOnly may t → may h ≡ false → (run t st).states h ≡ st h
 untouched may (Done l) st h f e = refl
-untouched may (Call r next) st h f e =
-    ⊎_elim
-    (λ (is : r.object ≡ h). absurd (true≢false (sym f.1 ∙ (ap may is ∙ e))))
-    (λ (other : (r.object == h) ≡ false). untouched may next (states_after st r) h f.2 e ∙ put_there st r.object (after (st r.object) r) h other)
-    (num_cases r.object h)
+untouched may (Call r next) st h f e = untouched may next (states_after st r) h f.2 e ∙ put_outside may st r.object (after (st r.object) r) h f.1 e
 untouched may (Query r next) st h f e =
-    ⊎_elim
-    (λ (is : r.object ≡ h). absurd (true≢false (sym f.1 ∙ (ap may is ∙ e))))
-    (λ (other : (r.object == h) ≡ false). untouched may (next (value_of (answer (st r.object) r))) (states_after st r) h (f.2 _) e ∙ put_there st r.object (after (st r.object) r) h other)
-    (num_cases r.object h)
+    untouched may (next (value_of (answer (st r.object) r))) (states_after st r) h (f.2 _) e ∙ put_outside may st r.object (after (st r.object) r) h f.1 e
 
 -- nor does its trace name it
+part_outside : (may : ℕ → Bool) (d : Event) (es : List Event) (h n : ℕ) → d.request.object ≡ n → may n ≡ true → may h ≡ false → part h (d ∷ es) ≡ part h es
+part_outside may d es h n at is not = grind (arith, nat_tests)
+
 pub unnamed : (may : ℕ → Bool) (t : Interaction) (es : List Event) (rest : Interaction) (h : ℕ) → AsksOnly may t → Leads t es rest → may h ≡ false → part h es ≡ []
 unnamed may t [] rest h f p e = refl
 unnamed may (Done l) (d ∷ es) rest h f p e = absurd p
-unnamed may (Call r next) (d ∷ es) rest h f p e =
-    let is : d.request.object ≡ r.object = ap (λ d. d.request.object) p.0 in
-    ⊎_elim
-    (λ (at : d.request.object ≡ h). absurd (true≢false (sym f.1 ∙ (ap may (sym is ∙ at) ∙ e))))
-    (λ (other : (d.request.object == h) ≡ false). rw other (unnamed may next es rest h f.2 p.1 e))
-    (num_cases d.request.object h)
+unnamed may (Call r next) (d ∷ es) rest h f p e = part_outside may d es h r.object (ap (λ d. d.request.object) p.0) f.1 e ∙ unnamed may next es rest h f.2 p.1 e
 unnamed may (Query r next) (d ∷ es) rest h f p e =
-    let is : d.request.object ≡ r.object = ap (λ r. r.object) p.0 in
-    ⊎_elim
-    (λ (at : d.request.object ≡ h). absurd (true≢false (sym f.1 ∙ (ap may (sym is ∙ at) ∙ e))))
-    (λ (other : (d.request.object == h) ≡ false). rw other (unnamed may (next (value_of d.reply)) es rest h (f.2 _) p.1 e))
-    (num_cases d.request.object h)
+    part_outside may d es h r.object (ap (λ r. r.object) p.0) f.1 e ∙ unnamed may (next (value_of d.reply)) es rest h (f.2 _) p.1 e
 
 -- the trace of a whole run leads to its end
 pub run_leads : (t : Interaction) (st : States) → Leads t (run t st).trace (Done (run t st).locals)

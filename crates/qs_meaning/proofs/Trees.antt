@@ -1,12 +1,8 @@
 -- A block that is run alone by its statements makes the trace, the variables and the states that its interaction tree
 -- makes. The serial run is defined by statements and the machines follow trees, so isolation stands on `trees_agree`.
 -- It goes by induction on the statements, with one tree for what comes next and one for what follows a leave.
-use Rattle.std.proofs.Common.{◌≡◌, ℕ, zero, suc, Bool, true, false, if◌then◌else◌, List, [], ◌∷◌, ◌++◌, refl, sym, ap, ◌∙◌, None, append_assoc}
-use Rattle.std.proofs.lemmas.List.{append-nil}
-use Rattle.qs_objects.specs.declared.held.Event.{Event}
-use Rattle.qs_objects.specs.audit.Journals.{answer}
-use Rattle.qs_program.specs.audit.Statements.{Statements, end, command, query, assign, choose, again, leave}
-use Rattle.qs_program.specs.audit.Values.{Locals, test_value, request_of}
+use Rattle.std.proofs.Common.{◌≡◌, ℕ, zero, suc, Bool, true, false, if◌then◌else◌, List, [], ◌∷◌, ◌++◌, refl, sym, ap, ◌∙◌, None, append_assoc, inl, inr}
+use Rattle.qs_meaning.proofs.Common.{again, answer, append-nil, assign, cases_Bool, choose, command, end, Event, leave, Locals, query, request_of, Statements, test_value}
 use Rattle.qs_meaning.specs.audit.Solo.{States, BlockResult, Ending, Runs, states_after, event, with_trace, then_run, left_none, turns_run, exec}
 use Rattle.qs_meaning.specs.audit.Interaction.{Next, Done, meaning}
 use Rattle.qs_meaning.specs.Interaction.{turns, after_event, run, TreesAgree}
@@ -34,13 +30,10 @@ finish_more es o next leaves = noted_twice es o.trace (run (if o.left then leave
 then_means : (o : Ending) (runs : Runs) (later next leaves : Next) → Means later runs next leaves
     → finish o later leaves ≡ finish (then_run o runs) next leaves
 unfolding finish
-then_means o runs later next leaves m = by_case o.left refl
-  where
-    by_case : (b : Bool) → o.left ≡ b → finish o later leaves ≡ finish (then_run o runs) next leaves
-    by_case true e = rw e
-    by_case false e =
-        let step = ap (noted_all o.trace) (m o.locals o.states) in
-        rw e (step ∙ sym (finish_more o.trace (runs o.locals o.states) next leaves))
+then_means o runs later next leaves m = elim (cases_Bool o.left) [
+  | inl e ↦ rw e refl
+  | inr e ↦ rw e (ap (noted_all o.trace) (m o.locals o.states) ∙ sym (finish_more o.trace (runs o.locals o.states) next leaves))
+]
 
 -- one turn and the others
 turn_case : (o : Ending) (n : ℕ) (runs : Runs) (tree later : Next) → Means tree (turns_run n runs) later later → (b : Bool) → o.left ≡ b

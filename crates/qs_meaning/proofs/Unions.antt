@@ -2,9 +2,7 @@
 -- there, over all of these. By it a search is cut into parts that any machine can do. A complete order after the front
 -- has the outcome of a reduced one, whose first block is that of one who goes on.
 use Rattle.std.proofs.Common.{◌≡◌, ◌<◌, ℕ, List, [], ◌∷◌, ◌++◌, length, refl, sym, ap, ◌∙◌, subst, arith, append_assoc}
-use Rattle.qs_objects.specs.declared.held.Ticket.{Ticket}
-use Rattle.qs_program.specs.audit.Program.{ProgramShape, blocks_of}
-use Rattle.qs_program.specs.Sound.{IsSound}
+use Rattle.qs_meaning.proofs.Common.{blocks_of, IsSound, ProgramShape, Ticket}
 use Rattle.qs_meaning.specs.audit.Configurations.{Configuration, IsComplete, configuration_after, configuration_from, first_configuration}
 use Rattle.qs_meaning.specs.Configurations.{OrderOutcome, outcome_in, outcome_of}
 use Rattle.qs_meaning.specs.Reduced.{GoesOnTo, IsOutcomeAfter, IsReducedFrom, OutcomesAreUnion, with_next}

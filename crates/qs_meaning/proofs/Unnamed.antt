@@ -1,34 +1,14 @@
 -- A variable that its client's text does not name stays 0, since a block sets no other variables than those that its
 -- text names. A row of the search for all outcomes leaves such variables out. It goes by induction on the statements,
 -- on turns and on the order.
-use Rattle.std.proofs.Common.{◌≡◌, ◌<◌, ℕ, zero, suc, Bool, true, false, if◌then◌else◌, ◌==◌, List, [], ◌∷◌, ◌++◌, length, take, drop, refl, sym, ap, ◌∙◌, arith, slice_set, ⊎_elim, ℤ}
-use Rattle.std.proofs.lemmas.List.{length-set, length-replicate}
+use Rattle.std.proofs.Common.{◌≡◌, ◌<◌, ℕ, zero, suc, Bool, true, false, if◌then◌else◌, ◌==◌, List, [], ◌∷◌, ◌++◌, length, take, drop, refl, sym, ap, ◌∙◌, slice_set, inl, inr, ⊎_elim, ℤ}
+use Rattle.qs_meaning.proofs.Common.{again, answer, AreVariablesBelow, assign, block_at, cases_Bool, choose, client_at, command, drop-set-lt, end, expr_value, IsSound, leave, length-replicate, length-set, Locals, most_variables, num_cases, ProgramShape, query, request_of, Statements, take-append-drop, test_value, Ticket}
 use Rattle.std.proofs.Common.{pos}
-use Rattle.qs_program.specs.audit.Limits.{most_variables}
-use Rattle.qs_objects.specs.audit.Journals.{answer}
-use Rattle.qs_objects.specs.declared.held.Ticket.{Ticket}
-use Rattle.qs_objects.proofs.Choices.{num_cases}
-use Rattle.qs_program.specs.audit.Program.{ProgramShape, block_at, client_at}
-use Rattle.qs_program.specs.Sound.{AreVariablesBelow, IsSound}
-use Rattle.qs_program.specs.audit.Statements.{Statements, end, command, query, assign, choose, again, leave}
-use Rattle.qs_program.specs.audit.Values.{Locals, expr_value, request_of, test_value}
 use Rattle.qs_meaning.specs.audit.Configurations.{Configuration, configuration_from, first_configuration, one_block_on}
 use Rattle.qs_meaning.specs.Configurations.{UnnamedStayZero}
 use Rattle.qs_meaning.specs.audit.Solo.{Ending, Runs, States, exec, solo, states_after, then_run, turns_run, value_of}
 use Rattle.qs_meaning.proofs.AlikeTraces.{variables_below}
 use Rattle.qs_meaning.proofs.TreeWalks.{put_here, put_there}
-
-drop_set : {X : Type 0} (l : List X) (n x : ℕ) (v : X) → x < n → drop n (slice_set l x v) ≡ drop n l
-drop_set [] n x v less = refl
-drop_set (y ∷ l) zero x v less = absurd (omega (arith, less))
-drop_set (y ∷ l) (suc n) zero v less = refl
-drop_set (y ∷ l) (suc n) (suc x) v less = drop_set l n x v (omega (arith, less))
-
-take_drop : {X : Type 0} (l : List X) (n : ℕ) → l ≡ take n l ++ drop n l
-take_drop [] zero = refl
-take_drop [] (suc n) = refl
-take_drop (x ∷ l) zero = refl
-take_drop (x ∷ l) (suc n) = ap (λ xs. x ∷ xs) (take_drop l n)
 
 -- what no setting of a named variable changes, no block changes
 module _ {X : Type 0} (F : Locals → X) (n : ℕ) (kept : (l : Locals) (x : ℕ) (v : ℤ) → x < n → F (slice_set l x v) ≡ F l) where
@@ -36,20 +16,14 @@ module _ {X : Type 0} (F : Locals → X) (n : ℕ) (kept : (l : Locals) (x : ℕ
   Keeps runs = (l : Locals) (st : States) → F (runs l st).locals ≡ F l
 
   then_keeps : (o : Ending) (next : Runs) → Keeps next → F (then_run o next).locals ≡ F o.locals
-  then_keeps o next keeps = by_case o.left refl
-    where
-      by_case : (b : Bool) → o.left ≡ b → F (then_run o next).locals ≡ F o.locals
-      by_case true e = rw e refl
-      by_case false e = rw e (keeps o.locals o.states)
+  then_keeps o next keeps = elim (cases_Bool o.left) [ inl e ↦ rw e refl | inr e ↦ rw e (keeps o.locals o.states) ]
 
   turns_keep : (k : ℕ) (body : Runs) → Keeps body → Keeps (turns_run k body)
   turns_keep zero body keeps l st = refl
-  turns_keep (suc k) body keeps l st = by_case (body l st).left refl (turns_keep k body keeps (body l st).locals (body l st).states)
-    where
-      by_case : (b : Bool) → (body l st).left ≡ b → F (turns_run k body (body l st).locals (body l st).states).locals ≡ F (body l st).locals
-          → F (turns_run (suc k) body l st).locals ≡ F l
-      by_case true e later = rw e (keeps l st)
-      by_case false e later = rw e (later ∙ keeps l st)
+  turns_keep (suc k) body keeps l st = elim (cases_Bool (body l st).left) [
+    | inl e ↦ rw e (keeps l st)
+    | inr e ↦ rw e (turns_keep k body keeps (body l st).locals (body l st).states ∙ keeps l st)
+  ]
 
   exec_keeps : (body : Statements) → AreVariablesBelow n body → Keeps (exec body)
   exec_keeps end below l st = refl
@@ -92,7 +66,7 @@ module _ {X : Type 0} (F : Locals → X) (p : ProgramShape) (sound : IsSound p) 
 pub unnamed_stay_zero : UnnamedStayZero
 unnamed_stay_zero p sound order c = record {
   long = order_keeps (λ l. length l) p sound c (λ l x v less. length-set l x v) (first_configuration p) order ∙ length-replicate most_variables (pos 0);
-  named = take_drop ((configuration_from p (first_configuration p) order).locals c) (length (client_at p c).variables)
+  named = sym (take-append-drop (length (client_at p c).variables) ((configuration_from p (first_configuration p) order).locals c))
       ∙ ap (λ xs. take (length (client_at p c).variables) ((configuration_from p (first_configuration p) order).locals c) ++ xs)
-      (order_keeps (λ l. drop (length (client_at p c).variables) l) p sound c (λ l x v. drop_set l (length (client_at p c).variables) x v) (first_configuration p) order);
+      (order_keeps (λ l. drop (length (client_at p c).variables) l) p sound c (λ l x v. drop-set-lt (length (client_at p c).variables) l x v) (first_configuration p) order);
 }

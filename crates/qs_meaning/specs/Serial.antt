@@ -1,6 +1,5 @@
 -- Beside what the headline reaches (`audit/Serial.antt`): what else contracts and proofs use.
 use Rattle.std.specs.Prelude.{ℕ, List, [], ◌∷◌}
-use Rattle.qs_objects.specs.audit.Objects.{starts}
 use Rattle.qs_objects.specs.declared.held.Event.{Event}
 use Rattle.qs_objects.specs.declared.held.Ticket.{Ticket}
 use Rattle.qs_program.specs.audit.Values.{Locals}
