@@ -3,13 +3,7 @@
 -- whole order is not legal; and at the end of the list the whole order was run. A legal order is named by the clients
 -- of its tickets.
 use Rattle.std.proofs.Common.{◌≡◌, ℕ, suc, List, [], ◌∷◌, ◌++◌, map, refl, sym, ap, ap₂, ◌∙◌, subst, append_assoc, append-nil}
-use Rattle.qs_objects.specs.declared.held.Ticket.{Ticket}
-use Rattle.qs_program.specs.audit.Program.{ProgramShape}
-use Rattle.qs_meaning.specs.audit.Configurations.{Configuration, configuration_after, first_configuration, one_block_on}
-use Rattle.qs_meaning.specs.audit.Solo.{put}
-use Rattle.qs_serial.specs.audit.NamedOrders.{order_from, order_of}
-use Rattle.qs_meaning.specs.audit.Serial.{IsLegal, LegalFrom}
-use Rattle.qs_meaning.proofs.Orders.{legal-rest}
+use Rattle.qs_standings.proofs.Common.{Configuration, configuration_after, first_configuration, IsLegal, legal-rest, LegalFrom, one_block_on, order_from, order_of, ProgramShape, put, Ticket}
 use Rattle.qs_standings.specs.Standings.{HasNext, IsFirst, IsOneOn, IsStanding, StandingShape, configuration_in}
 
 -- the order so far, and what the rest of the list names after it

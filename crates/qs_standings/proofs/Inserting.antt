@@ -1,11 +1,8 @@
 -- A table of rows takes a row that is not among its keys to the end, and tells whether it did. By this the search looks
 -- at each configuration once. It goes by induction on the keys, with the test for equal rows.
-use Rattle.std.proofs.Common.{◌≡◌, ℕ, zero, suc, Bool, true, false, not, ◌||◌, ◌&&◌, ◌==◌, ℤ, int_eq, if◌then◌else◌, List, [], ◌∷◌, ◌++◌, refl, sym, ap, ◌∙◌, subst, inl, inr, true≢false, Some, slice_get}
-use Rattle.std.specs.List.{list_any}
+use Rattle.std.proofs.Common.{◌≡◌, ℕ, zero, suc, Bool, true, false, not, ◌||◌, ◌&&◌, ◌==◌, ℤ, int_eq, List, [], ◌∷◌, sym, ap, ◌∙◌, subst, arith, inl, inr, true≢false, Some, slice_get}
+use Rattle.qs_standings.proofs.Common.{and_parts, cases_Bool, Decides-int_eq, list_any, map-append}
 use Rattle.std.specs.Cmp.Lexicographic.{bytes_decides, pointwise, pointwise_decides}
-use Rattle.std.proofs.lemmas.Bool.Decides.{Decides-int_eq}
-use Rattle.std.proofs.lemmas.List.{map-append}
-use Rattle.std.proofs.lemmas.Bool.{and_parts}
 use Rattle.indexmap.specs.IndexSet.{insert_key}
 use Rattle.qs_standings.specs.declared.rows.Row.{Row}
 use Rattle.qs_standings.specs.Rows.{equal, rows_in, shape_of, IsInserted}
@@ -29,33 +26,27 @@ holds v w e =
 
 pub among : (v : RowShape) (keys : List Row) → list_any (λ w. equal v (shape_of w)) keys ≡ true → HasOne (λ r. v ≡ r) (rows_in keys)
 among v [] h = absurd (true≢false (sym h))
-among v (w ∷ keys) h = by_case (equal v (shape_of w)) refl h (among v keys)
-  where
-    by_case : (b : Bool) → equal v (shape_of w) ≡ b → (b || list_any (λ w. equal v (shape_of w)) keys) ≡ true → (list_any (λ w. equal v (shape_of w)) keys ≡ true → HasOne (λ r. v ≡ r) (rows_in keys)) → HasOne (λ r. v ≡ r) (rows_in (w ∷ keys))
-    by_case true e any later = inl (tells v (shape_of w) e)
-    by_case false e any later = inr (later any)
+among v (w ∷ keys) h = elim (cases_Bool (equal v (shape_of w))) [ inl e ↦ inl (tells v (shape_of w) e) | inr e ↦ inr (among v keys (rw e at h)) ]
 
 not_among : (v : RowShape) (keys : List Row) → list_any (λ w. equal v (shape_of w)) keys ≡ false → HasOne (λ r. v ≡ r) (rows_in keys) → ⊥
 not_among v [] h has = has
 not_among v (w ∷ keys) h (inl e) = true≢false (sym (ap (λ b. b || list_any (λ w. equal v (shape_of w)) keys) (holds v (shape_of w) e)) ∙ h)
-not_among v (w ∷ keys) h (inr later) = not_among v keys (rest (equal v (shape_of w)) h) later
+not_among v (w ∷ keys) h (inr later) = not_among v keys (rest (equal v (shape_of w)) (list_any (λ w. equal v (shape_of w)) keys) h) later
   where
-    rest : (b : Bool) → (b || list_any (λ w. equal v (shape_of w)) keys) ≡ false → list_any (λ w. equal v (shape_of w)) keys ≡ false
-    rest true e = absurd (true≢false e)
-    rest false e = e
+    rest : (a b : Bool) → (a || b) ≡ false → b ≡ false
+    rest a b e = grind arith
 
 -- the test for equal rows as the table has it
 abbrev pub same : Row → Row → Bool
 same v w = equal (shape_of v) (shape_of w)
 
 pub inserted : (v : Row) (keys after : List Row) (new : Bool) → new ≡ not (list_any (same v) keys) → after ≡ insert_key same keys v → IsInserted (rows_in keys) (shape_of v) new (rows_in after)
-inserted v keys after new is now = by_case (list_any (same v) keys) refl is now
-  where
-    by_case : (b : Bool) → list_any (same v) keys ≡ b → new ≡ not b → after ≡ (if b then keys else keys ++ v ∷ []) → IsInserted (rows_in keys) (shape_of v) new (rows_in after)
-    by_case true e old kept = subst (λ n. IsInserted (rows_in keys) (shape_of v) n (rows_in after)) (sym old) (ap rows_in kept, among (shape_of v) keys e)
-    by_case false e new_one longer =
-        subst (λ n. IsInserted (rows_in keys) (shape_of v) n (rows_in after)) (sym new_one)
-        (ap rows_in longer ∙ map-append shape_of keys (v ∷ []), not_among (shape_of v) keys e)
+inserted v keys after new is now = elim (cases_Bool (list_any (same v) keys)) [
+  | inl e ↦ subst (λ n. IsInserted (rows_in keys) (shape_of v) n (rows_in after)) (sym (rw e at is)) (ap rows_in (rw e at now), among (shape_of v) keys e)
+  | inr e ↦
+      subst (λ n. IsInserted (rows_in keys) (shape_of v) n (rows_in after)) (sym (rw e at is))
+      (ap rows_in (rw e at now) ∙ map-append shape_of keys (v ∷ []), not_among (shape_of v) keys e)
+]
 
 -- a row is among the keys if it is equal to the one at a place
 pub among_at : (v : RowShape) (keys : List Row) (i : ℕ) (k : Row) → slice_get keys i ≡ Some k → equal v (shape_of k) ≡ true → HasOne (λ r. v ≡ r) (rows_in keys)

@@ -1,3 +1,4 @@
+pub mod Common
 pub mod Flips
 pub mod Fronts
 pub mod RowSteps

@@ -1,9 +1,8 @@
 -- One of a list has a property, and no two of a list are related: what becomes of that where lists grow or lose their
 -- last element, and lists that agree place by place. The search keeps such facts of what it has seen and found. Each
 -- goes by induction on the list.
-use Rattle.std.proofs.Common.{◌≡◌, ℕ, suc, List, [], ◌∷◌, ◌++◌, length, get_or, refl, ap₂, arith, ◌⊎◌, inl, inr}
-use Rattle.std.specs.List.{AllByRecursion}
-use Rattle.qs_meaning.proofs.Each.{each_back, each_front, each_join, each_map}
+use Rattle.std.proofs.Common.{◌≡◌, ℕ, List, [], ◌∷◌, ◌++◌, length, get_or, ◌⊎◌, inl, inr}
+use Rattle.qs_standings.proofs.Common.{AllByRecursion, each_back, each_front, each_join, each_map, ext_get_or}
 use Rattle.qs_standings.specs.Lists.{EachTwo, HasOne, NoTwo}
 
 pub has_map : {X : Type 0} {P Q : X → Type 0} → ((x : X) → P x → Q x) → (xs : List X) → HasOne P xs → HasOne Q xs
@@ -61,8 +60,4 @@ none_of P [] h = tt
 none_of P (x ∷ xs) h = (λ p. h (inl p), none_of P xs (λ p. h (inr p)))
 
 pub same_list : {X : Type 0} (d : X) (xs ys : List X) → length xs ≡ length ys → ((i : ℕ) → get_or xs i d ≡ get_or ys i d) → xs ≡ ys
-same_list d [] [] long each = refl
-same_list d [] (y ∷ ys) long each = absurd (let e : 0 ≡ length (y ∷ ys) = long in omega (arith, e))
-same_list d (x ∷ xs) [] long each = absurd (let e : length (x ∷ xs) ≡ 0 = long in omega (arith, e))
-same_list d (x ∷ xs) (y ∷ ys) long each =
-    ap₂ (λ z zs. z ∷ zs) (each 0) (same_list d xs ys (let e : length (x ∷ xs) ≡ length (y ∷ ys) = long in omega (arith, e)) (λ i. each (suc i)))
+same_list d xs ys long each = ext_get_or d xs ys long (λ i less. each i)

@@ -4,14 +4,7 @@
 -- another, each client's as many as its text names.
 use Rattle.std.proofs.Common.{◌≡◌, ◌<◌, ◌≤◌, ◌+◌, ℕ, zero, suc, List, [], ◌∷◌, ◌++◌, length, get_or, take, drop, flat_map, refl, sym, ap, ◌∙◌, subst, arith, length-append, add-one, ℤ, replicate, slice_set}
 use Rattle.std.proofs.Math.Seq.{drop-cons, take-append_seam}
-use Rattle.std.proofs.lemmas.List.{length-set, length-take, set-append_left, drop_all}
-use Rattle.qs_objects.specs.audit.Act.{State}
-use Rattle.qs_objects.specs.declared.held.Ticket.{Ticket}
-use Rattle.qs_program.specs.audit.Limits.{most_clients, most_variables}
-use Rattle.qs_program.specs.audit.Program.{ProgramShape, client_at}
-use Rattle.qs_program.specs.Sound.{IsSound}
-use Rattle.qs_program.specs.audit.Values.{Locals}
-use Rattle.qs_meaning.specs.audit.Serial.{zeros}
+use Rattle.qs_standings.proofs.Common.{client_at, drop_all, IsSound, length-set, length-take, Locals, most_clients, most_variables, ProgramShape, set-append_left, State, Ticket, zeros}
 use Rattle.qs_standings.specs.Rows.{named_before, overwritten}
 use Rattle.qs_standings.specs.Standings.{IsStanding, StandingShape, named_from, padded, row_of, state_row, standing_with_block}
 use Rattle.qs_standings.proofs.RowSteps.{few_variables}

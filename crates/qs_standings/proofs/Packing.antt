@@ -2,9 +2,7 @@
 -- another is added, or where memory was refused in the middle. A list that has another as its front is this one with a
 -- rest behind it, of which a part of the front has nothing.
 use Rattle.std.proofs.Common.{◌≡◌, ◌≤◌, ◌+◌, List, [], ◌∷◌, ◌++◌, length, take, drop, map, refl, sym, ap, ap₂, ◌∙◌, subst, arith, length-append}
-use Rattle.std.proofs.lemmas.List.{drop-append-le, length-drop, map-append, take-append-drop, take-append-le}
-use Rattle.std.specs.List.{AllByRecursion}
-use Rattle.qs_meaning.proofs.Each.{each_join, each_map}
+use Rattle.qs_standings.proofs.Common.{AllByRecursion, drop-append-le, each_join, each_map, length-drop, map-append, take-append-drop, take-append-le}
 use Rattle.qs_standings.specs.Packed.{IsFront, IsGrown, IsKept, IsPlaced, cut, standing_at}
 use Rattle.qs_standings.specs.Standings.{StandingShape}
 use Rattle.qs_standings.specs.Variables.{IsSpread, spread}

@@ -2,8 +2,7 @@
 -- is tied to one of the other, and two that are tied to the same one are related. It takes out of the other list what
 -- the first element is tied to; all others are tied to what is left.
 use Rattle.std.proofs.Common.{◌≡◌, suc, ◌≤◌, List, [], ◌∷◌, length, refl, ap, arith, ◌⊎◌, inl, inr}
-use Rattle.std.specs.List.{AllByRecursion}
-use Rattle.qs_meaning.proofs.Each.{each_both}
+use Rattle.qs_standings.proofs.Common.{AllByRecursion, each_both}
 use Rattle.qs_standings.specs.Lists.{HasOne, NoTwo}
 
 module _ {X Z : Type 0} (R : X → Z → Type 0) (S : X → X → Type 0) (same : (x y : X) (z : Z) → R x z → R y z → S x y) where

@@ -1,14 +1,8 @@
 -- A list that is written place by place: the part that was written and one more element. The loops that write rows and
 -- copy objects stand on it.
 use Rattle.std.proofs.Common.{◌≡◌, ◌<◌, ◌≤◌, ◌+◌, ℕ, zero, suc, List, [], ◌∷◌, ◌++◌, length, get_or, take, refl, sym, ap, ◌∙◌, arith, append_assoc, append-nil, add-one}
-use Rattle.std.specs.Prelude.{Some, slice_get}
+use Rattle.qs_standings.proofs.Common.{AllByRecursion-get_or, client_at, IsSound, IsSoundClient, length-take, Locals, most_variables, no_client, ProgramShape, slice_get, Some}
 use Rattle.std.proofs.Common.{ℤ}
-use Rattle.std.proofs.lemmas.List.{length-take}
-use Rattle.qs_objects.proofs.Elements.{AllByRecursion-get_or}
-use Rattle.qs_program.specs.audit.Limits.{most_variables}
-use Rattle.qs_program.specs.audit.Program.{ProgramShape, client_at, no_client}
-use Rattle.qs_program.specs.Sound.{IsSound, IsSoundClient}
-use Rattle.qs_program.specs.audit.Values.{Locals}
 use Rattle.qs_standings.specs.Standings.{named_from}
 
 pub take_more : {X : Type 0} (xs : List X) (i : ℕ) (d : X) → i < length xs → take (i + 1) xs ≡ take i xs ++ get_or xs i d ∷ []

@@ -1,20 +1,12 @@
 -- A row tells the configuration: each part of it is as long in any row of the program or says how long it is, so two
 -- rows are equal only where all their parts are; and a variable that no text names is 0. By this what was seen under a
 -- row need not be looked at again. It goes part by part, with the rest of the rows in hand.
-use Rattle.std.proofs.Common.{◌≡◌, ℕ, List, [], ◌∷◌, ◌++◌, length, flat_map, refl, sym, ap, ap₂, ◌∙◌, ℤ, pos, append_assoc, arith, ◌<◌, ◌+◌, suc, get_or, take, drop, replicate, subst, length-take}
-use Rattle.qs_objects.specs.audit.Act.{Content, State, account, buffer, grid}
+use Rattle.std.proofs.Common.{◌≡◌, ℕ, List, [], ◌∷◌, ◌++◌, length, flat_map, refl, sym, ap, ap₂, ◌∙◌, ℤ, pos, append_assoc, append-nil, arith, ◌<◌, ◌+◌, suc, get_or, take, drop, replicate, subst, length-take}
+use Rattle.qs_standings.proofs.Common.{account, buffer, client_at, Configuration, Content, grid, IsSound, Locals, most_clients, no_state, ProgramShape, State, States, Ticket, zeros}
 use Rattle.qs_objects.specs.Objects.{AreRowsOf, IsInRange}
 use Rattle.qs_objects.specs.audit.Rows.{join_rows}
 use Rattle.qs_objects.proofs.GridRows.{equal_long, rows_tell}
-use Rattle.qs_objects.specs.declared.held.Ticket.{Ticket}
-use Rattle.qs_program.specs.audit.Limits.{most_clients}
-use Rattle.qs_program.specs.audit.Program.{ProgramShape, client_at}
-use Rattle.qs_program.specs.Sound.{IsSound}
-use Rattle.qs_program.specs.audit.Values.{Locals}
-use Rattle.qs_meaning.specs.audit.Configurations.{Configuration}
 use Rattle.qs_meaning.specs.Configurations.{AreNamedAlone}
-use Rattle.qs_meaning.specs.audit.Serial.{no_state, zeros}
-use Rattle.qs_meaning.specs.audit.Solo.{States}
 use Rattle.qs_meaning.proofs.StateRanges.{orders_keep_ranges}
 use Rattle.qs_meaning.proofs.Unnamed.{unnamed_stay_zero}
 use Rattle.qs_standings.specs.Standings.{IsStanding, RowShape, StandingShape, configuration_in, content_row, counted, named_from, row_of, state_row}
@@ -69,10 +61,6 @@ states_tell (s ∷ ss) (t ∷ ts) us vs x y long e =
     (let h : length (s ∷ ss) ≡ length (t ∷ ts) = long in omega (arith, h)) first.1 in
     (ap₂ (λ z zs. z ∷ zs) first.0 rest.0, rest.1)
 
-append_none : (xs : List ℤ) → xs ++ [] ≡ xs
-append_none [] = refl
-append_none (x ∷ xs) = ap (λ ys. x ∷ ys) (append_none xs)
-
 -- the variables of two clients that are the same as far as they are named
 same_named : (p : ProgramShape) (c : ℕ) (l m : Locals) → AreNamedAlone p c l → AreNamedAlone p c m
     → take (length (client_at p c).variables) l ≡ take (length (client_at p c).variables) m → l ≡ m
@@ -119,7 +107,7 @@ standings_tell p sound front other s t a b e =
     (ap (λ (r : RowShape). r.begun) e)).0 in
     let second = named_tell p 0 s.locals t.locals (flat_map state_row s.states) (flat_map state_row t.states) (a.locals ∙ sym b.locals) (named p front sound s a) (named p other sound t b) (ap (λ (r : RowShape). r.numbers) e) in
     let third = states_tell s.states t.states [] [] (in_range p front sound s a) (in_range p other sound t b) (a.states ∙ sym b.states)
-    (append_none (flat_map state_row s.states) ∙ (second.1 ∙ sym (append_none (flat_map state_row t.states)))) in
+    (append-nil (flat_map state_row s.states) ∙ (second.1 ∙ sym (append-nil (flat_map state_row t.states)))) in
     λ i. configuration_in (record { order = s.order; begun = begun i; locals = second.0 i; states = third.0 i })
 
 module _ (p : ProgramShape) (front : List Ticket) (sound : IsSound p) where

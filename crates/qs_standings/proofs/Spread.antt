@@ -2,11 +2,8 @@
 -- all where one client's are others, and that all are 0 where all numbers are. Each goes by induction on the clients,
 -- whose first one's numbers are the front of the list.
 use Rattle.std.proofs.Common.{◌≡◌, ◌<◌, ◌≤◌, ◌+◌, ◌-◌, ◌*◌, ℕ, zero, suc, List, [], ◌∷◌, ◌++◌, length, get_or, take, drop, replicate, refl, sym, ap, ap₂, ◌∙◌, arith, append_assoc, append-nil, add-one, length-append, ℤ, pos, slice_set, swap, mul-le-mul_left}
-use Rattle.std.proofs.lemmas.List.{drop-drop, drop-replicate, drop_at, length-drop, length-replicate, length-take, nil_from_length, replicate-append-replicate, take-append-drop, take_all, take_at, take_more}
+use Rattle.qs_standings.proofs.Common.{drop-drop, drop-replicate, drop_at, length-drop, length-replicate, length-take, Locals, most_variables, nil_from_length, replicate-append-replicate, take-append-drop, take_all, take_at, take_more, zeros}
 use Rattle.std.proofs.lemmas.List.Edits.{swap_is}
-use Rattle.qs_program.specs.audit.Limits.{most_variables}
-use Rattle.qs_program.specs.audit.Values.{Locals}
-use Rattle.qs_meaning.specs.audit.Serial.{zeros}
 use Rattle.qs_standings.specs.Rows.{overwritten}
 use Rattle.qs_standings.specs.Variables.{IsSpread, spread, widened}
 use Rattle.qs_standings.proofs.NextRows.{over_behind, over_whole}

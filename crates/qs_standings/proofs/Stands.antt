@@ -1,28 +1,13 @@
 -- Where a client's next block has run on what the lists of a standing hold, they hold the next configuration, and the
 -- order that is longer by one ticket leads there. The functions that make standings rest on it. Lists by number are
 -- functions that are changed at one place, and the last ticket of an order is taken last.
-use Rattle.std.proofs.Common.{◌≡◌, ◌<◌, ◌≤◌, ℕ, suc, Bool, true, false, ◌==◌, List, [], ◌∷◌, ◌++◌, length, get_or, replicate, refl, sym, ap, ◌∙◌, subst, arith, ⊎_elim, append_assoc, append-nil, ◌⊎◌, inl, inr, ◌||◌, ℤ, slice_set}
-use Rattle.std.proofs.lemmas.List.{length-set, length-replicate, get_or_past, get_or_default}
-use Rattle.std.specs.List.{AllByRecursion}
-use Rattle.std.proofs.lemmas.Bool.{cases_lt}
-use Rattle.qs_objects.specs.audit.Act.{State}
-use Rattle.qs_objects.specs.audit.Objects.{starts}
-use Rattle.qs_objects.specs.declared.held.Ticket.{Ticket}
-use Rattle.qs_objects.proofs.Choices.{eqb_true}
+use Rattle.std.proofs.Common.{◌≡◌, ◌<◌, ◌≤◌, ℕ, suc, Bool, true, false, ◌==◌, List, [], ◌∷◌, ◌++◌, length, get_or, replicate, refl, sym, ap, ◌∙◌, subst, arith, ⊎_elim, append_assoc, append-nil, ◌⊎◌, inl, inr, ℤ, slice_set}
+use Rattle.qs_standings.proofs.Common.{AllByRecursion, AreCallsWithin, block_at, BlockResult, blocks_of, BlockShape, cases_Bool, cases_lt, Configuration, configuration-append, configuration_after, configuration_from, declared_states, eqb_true, first_configuration, get_or_default, get_or_past, goes_on, is_in, IsCallWithin, IsLegal, IsReducedFrom, IsSoundBlock, IsSoundBody, IsSoundCall, legal_on, LegalFrom, length-replicate, length-set, no_client, no_object, no_state, one_block_on, ProgramShape, put, solo, starts, State, state_or_none, states_in, Ticket, zeros}
 use Rattle.qs_objects.proofs.Arities.{arity_small}
 use Rattle.qs_program.specs.declared.code.Call.{Call}
 use Rattle.qs_program.specs.declared.program.Declared.{Declared}
-use Rattle.qs_program.specs.audit.Program.{BlockShape, ProgramShape, block_at, blocks_of, no_client, no_object}
-use Rattle.qs_program.specs.audit.Sound.{is_in}
-use Rattle.qs_program.specs.Sound.{IsSoundBlock, IsSoundBody, IsSoundCall}
 use Rattle.qs_program.specs.audit.Statements.{Statements, end, command, query, assign, choose, again, leave}
-use Rattle.qs_meaning.specs.audit.Configurations.{Configuration, configuration_after, configuration_from, first_configuration, one_block_on}
-use Rattle.qs_meaning.specs.audit.Serial.{IsLegal, LegalFrom, declared_states, no_state, state_or_none, zeros}
-use Rattle.qs_meaning.specs.audit.Solo.{BlockResult, put, solo}
-use Rattle.qs_meaning.proofs.Orders.{configuration-append, legal_on}
 use Rattle.qs_serial.proofs.Lookups.{lookup-replicate, lookup-set}
-use Rattle.qs_serial.specs.Alone.{AreCallsWithin, IsCallWithin, states_in}
-use Rattle.qs_meaning.specs.Reduced.{IsReducedFrom, goes_on}
 use Rattle.qs_meaning.proofs.Groups.{some_go_on}
 use Rattle.qs_standings.specs.Standings.{GoesOn, HasNext, HasRun, IsFirst, IsNext, IsOneOn, IsReducedAfter, IsStanding, StandingShape, configuration_in, standing_with_block}
 
@@ -174,11 +159,10 @@ stands_first p s order begun locals count states =
 -- an object of a list of objects below n
 below_in : (n x : ℕ) (xs : List ℕ) → AllByRecursion (λ h. h < n) xs → is_in xs x ≡ true → x < n
 below_in n x [] each is = absurd (cc)
-below_in n x (y ∷ xs) each is = by_case (y == x) refl is (below_in n x xs each.1)
-  where
-    by_case : (b : Bool) → (y == x) ≡ b → (b || is_in xs x) ≡ true → (is_in xs x ≡ true → x < n) → x < n
-    by_case true e h later = let same : y ≡ x = eqb_true y x e in let less : y < n = each.0 in omega (arith, same, less)
-    by_case false e h later = later h
+below_in n x (y ∷ xs) each is = elim (cases_Bool (y == x)) [
+  | inl e ↦ let same : y ≡ x = eqb_true y x e in let less : y < n = each.0 in omega (arith, same, less)
+  | inr e ↦ below_in n x xs each.1 (rw e at is)
+]
 
 module _ (objects : List Declared) (reserved : List ℕ) (within : AllByRecursion (λ h. h < length objects) reserved) where
   call_within : (asks : Bool) (c : Call) → IsSoundCall objects reserved asks c → IsCallWithin (length objects) c

@@ -1,34 +1,18 @@
 -- Sets as bytes, and the last block of a client that reserves an object: what each step of the loops that find who goes
 -- on does to the set that it stands for. It goes by cases on bits, and by induction on lists and rounds.
-use Rattle.std.proofs.Common.{◌≡◌, ◌<◌, ◌≤◌, ◌+◌, ◌*◌, ◌%◌, ◌/◌, ◌^◌, ℕ, zero, suc, Bool, true, false, true≢false, if◌then◌else◌, ◌==◌, ◌&&◌, ◌||◌, nat_lt, max, List, [], ◌∷◌, ◌++◌, length, get_or, drop, take, refl, sym, ap, ap₂, add-one, ◌∙◌, subst, arith, ◌⊎◌, inl, inr, bit_and, bit_or, w8, get_or-set_same, get_or-set_other, slice_set, length-set}
+use Rattle.std.proofs.Common.{◌≡◌, ◌<◌, ◌≤◌, ◌+◌, ◌*◌, ◌%◌, ◌/◌, ◌^◌, ℕ, zero, suc, Bool, true, false, true≢false, if◌then◌else◌, ◌==◌, ◌&&◌, ◌||◌, nat_lt, max, List, [], ◌∷◌, ◌++◌, length, get_or, drop, take, refl, sym, ap, ap₂, add-one, ◌∙◌, subst, arith, inl, inr, bit_and, bit_or, w8, get_or-set_same, get_or-set_other, slice_set, length-set}
 use Rattle.std.specs.Int.{bit_at}
-use Rattle.std.specs.List.{list_any}
-use Rattle.std.proofs.lemmas.Bool.{cases_eq}
-use Rattle.std.proofs.lemmas.Bool.Decides.{nat_tests}
-use Rattle.std.proofs.lemmas.List.{get_or_past, take_more}
+use Rattle.qs_standings.proofs.Common.{block_reserves, blocks_of, BlockShape, cases_Bool, cases_eq, client_at, Clients, comes_in, eqb_apart, eqb_self, get_or_past, group_of, IsSound, list_any, many_below, most_clients, most_objects, nat_tests, no_block, no_client, ProgramShape, size_of_set, smaller, some_below, still_reserves, take_more, widened, wider}
 use Rattle.std.proofs.lemmas.Nat.Bits.{bit_at_or, bit_at-lt, bit_at-zero, bit_at_set_same, bit_at_set_other, shr_and_one}
 use mathlib.Core.Bool.{or-false, or-true}
-use Rattle.qs_objects.proofs.Choices.{eqb_apart, eqb_self}
-use Rattle.qs_program.specs.audit.Program.{BlockShape, ProgramShape, client_at, blocks_of, no_block, no_client}
-use Rattle.qs_program.specs.Sound.{IsSound}
 use Rattle.qs_meaning.specs.audit.Reduced.{Counts}
-use Rattle.qs_meaning.specs.Reduced.{Clients, block_reserves, comes_in, group_of, many_below, size_of_set, smaller, some_below, still_reserves, widened, wider}
-use Rattle.qs_program.specs.audit.Limits.{most_clients, most_objects}
 use Rattle.qs_standings.specs.going.Going.{AreComers, AreLast, IsGrown, begun_counts, in_byte}
 
-zero_or_one : (x : ℕ) → x < 2 → (x ≡ 0) ⊎ (x ≡ 1)
-zero_or_one x small = elim (cases_eq x 0) [ inl e ↦ inl e | inr ne ↦ inr (omega arith) ]
-
-either_one : (x y : ℕ) → (x ≡ 0) ⊎ (x ≡ 1) → (y ≡ 0) ⊎ (y ≡ 1) → (max x y == 1) ≡ (x == 1) || (y == 1)
-either_one x y (inl a) (inl b) = rw (a, b) refl
-either_one x y (inl a) (inr b) = rw (a, b) refl
-either_one x y (inr a) (inl b) = rw (a, b) refl
-either_one x y (inr a) (inr b) = rw (a, b) refl
+either_one : (x y : ℕ) → x < 2 → y < 2 → (max x y == 1) ≡ (x == 1) || (y == 1)
+either_one x y a b = grind (arith, nat_tests)
 
 pub in_or : (a b c : ℕ) → in_byte (bit_or a b) c ≡ in_byte a c || in_byte b c
-in_or a b c =
-    ap (λ x. x == 1) (bit_at_or a b c)
-    ∙ either_one (bit_at a c) (bit_at b c) (zero_or_one (bit_at a c) (bit_at-lt a c)) (zero_or_one (bit_at b c) (bit_at-lt b c))
+in_or a b c = ap (λ x. x == 1) (bit_at_or a b c) ∙ either_one (bit_at a c) (bit_at b c) (bit_at-lt a c) (bit_at-lt b c)
 
 -- with one more
 pub in_with : (s c k : ℕ) → c < 8 → in_byte (bit_or s (1 * 2 ^ c % 256)) k ≡ in_byte s k || (c == k)
@@ -56,11 +40,7 @@ in_shifted set c = ap (λ b. b == 1) (shr_and_one set c)
 
 pub any_snoc : {X : Type 0} (f : X → Bool) (xs : List X) (x : X) → list_any f (xs ++ x ∷ []) ≡ list_any f xs || f x
 any_snoc f [] x = or-false (f x)
-any_snoc f (y ∷ xs) x = by_case (f y) (any_snoc f xs x)
-  where
-    by_case : (b : Bool) → list_any f (xs ++ x ∷ []) ≡ list_any f xs || f x → (b || list_any f (xs ++ x ∷ [])) ≡ (b || list_any f xs) || f x
-    by_case true e = refl
-    by_case false e = e
+any_snoc f (y ∷ xs) x = let e = any_snoc f xs x in grind (arith, e)
 
 -- ---- who reserves an object still
 
@@ -70,28 +50,14 @@ pub client_more : (still : ℕ → Bool) (i set : ℕ) → i < 8 → still i ≡
 client_more still i set small is before c = in_with set i c small ∙ (ap (λ b. b || (i == c)) (before c) ∙ step)
   where
     step : ((nat_lt c i && still c) || (i == c)) ≡ (nat_lt c (i + 1) && still c)
-    step = elim (cases_eq i c) [
-      | inl same ↦ subst (λ c. ((nat_lt c i && still c) || (i == c)) ≡ (nat_lt c (i + 1) && still c)) same
-          (let self = eqb_self i in let less : nat_lt i (i + 1) ≡ true = grind (arith, nat_tests) in rw (self, less, is) (or-true (nat_lt i i && true)))
-      | inr other ↦
-          let same : nat_lt c (i + 1) ≡ nat_lt c i = grind (arith, nat_tests) in
-          rw (eqb_apart i c other, same) (or-false (nat_lt c i && still c))
-    ]
+    step = let e = is in grind (arith, nat_tests)
 
 pub client_skipped : (still : ℕ → Bool) (i set : ℕ) → still i ≡ false → ((c : ℕ) → in_byte set c ≡ (nat_lt c i && still c))
     → (c : ℕ) → in_byte set c ≡ (nat_lt c (i + 1) && still c)
 client_skipped still i set no_more before c = before c ∙ step
   where
-    and_false : (b : Bool) → (b && false) ≡ false
-    and_false true = refl
-    and_false false = refl
-
     step : (nat_lt c i && still c) ≡ (nat_lt c (i + 1) && still c)
-    step = elim (cases_eq i c) [
-      | inl same ↦ subst (λ c. (nat_lt c i && still c) ≡ (nat_lt c (i + 1) && still c)) same
-          (rw no_more (and_false (nat_lt i i) ∙ sym (and_false (nat_lt i (i + 1)))))
-      | inr other ↦ (let same : nat_lt c i ≡ nat_lt c (i + 1) = grind (arith, nat_tests) in ap (λ b. b && still c) same)
-    ]
+    step = let e = no_more in grind (arith, nat_tests)
 
 -- what the last block tells of a client
 module _ (p : ProgramShape) (begun : List ℕ) (last : List (List ℕ)) (are : AreLast p last) (i place h : ℕ) (client : i < length p.clients) (small : h < most_objects) (is : place ≡ i) where
@@ -171,8 +137,7 @@ member_more set all row i comes here is before d =
     ∙ rw add-one (ap (λ b. in_byte set d || (some_below i (λ c. in_byte set c && comes c d) || b)) (ap (λ b. b && comes i d) (sym is)))))
   where
     or_assoc : (a b c : Bool) → ((a || b) || c) ≡ (a || (b || c))
-    or_assoc true b c = refl
-    or_assoc false b c = refl
+    or_assoc a b c = grind arith
 
 pub member_skipped : (set all i : ℕ) (comes : ℕ → ℕ → Bool) → in_byte set i ≡ false
     → ((d : ℕ) → in_byte all d ≡ (in_byte set d || some_below i (λ c. in_byte set c && comes c d)))
@@ -248,13 +213,9 @@ none_below c (suc n) f past =
 
 one_below : (c n : ℕ) (f : ℕ → Bool) → c < n → some_below n (λ k. (c == k) && f k) ≡ f c
 one_below c zero f within = absurd (omega (arith, within))
-one_below c (suc n) f within = elim (cases_eq c n) [
-  | inl same ↦
-      subst (λ m. some_below (suc m) (λ k. (c == k) && f k) ≡ f c) same
-      (let before = none_below c c f (omega arith) in let self = eqb_self c in rw (before, self) refl)
-  | inr other ↦
-      rw (one_below c n f (omega (arith, within, other)), eqb_apart c n other) (or-false (f c))
-]
+one_below c (suc n) f within =
+    let before : c < n → some_below n (λ k. (c == k) && f k) ≡ f c = one_below c n f in
+    let none : n ≤ c → some_below n (λ k. (c == k) && f k) ≡ false = none_below c n f in grind (arith, nat_tests)
 
 -- the set of one client after its first round: the client, and who comes in the way of its next block
 pub first_round : (p : ProgramShape) (begun : Counts) (c row : ℕ) → c < length p.clients → c < 8 → in_byte row ≡ comes_in p begun c
@@ -282,8 +243,4 @@ none_grown p begun c within e = absurd (true≢false (sym here ∙ (ap (λ (f : 
 
 -- of a set and itself
 pub smaller_same : (p : ProgramShape) (set : Clients) → set ≡ smaller p set set
-smaller_same p set = by_case (size_of_set p set == 0 || nat_lt (size_of_set p set) (size_of_set p set))
-  where
-    by_case : (b : Bool) → set ≡ (if b then set else set)
-    by_case true = refl
-    by_case false = refl
+smaller_same p set = elim (cases_Bool (size_of_set p set == 0 || nat_lt (size_of_set p set) (size_of_set p set))) [ inl e ↦ rw e refl | inr e ↦ rw e refl ]

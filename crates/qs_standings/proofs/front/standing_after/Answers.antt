@@ -1,6 +1,5 @@
 use Rattle.std.proofs.Common.{ap, subst, sym, ◌∙◌, IfOk}
-use Rattle.qs_serial.specs.audit.NamedOrders.{order_of}
-use Rattle.qs_meaning.specs.audit.Serial.{IsLegal}
+use Rattle.qs_standings.proofs.Common.{IsLegal, order_of}
 use Rattle.qs_standings.specs.Standings.{IsFirst}
 use Rattle.qs_standings.proofs.Fronts.{named_by_clients}
 use Rattle.qs_standings.proofs.front.standing_after.Goals as goal

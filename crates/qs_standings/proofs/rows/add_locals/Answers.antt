@@ -1,6 +1,5 @@
 use Rattle.std.proofs.Common.{◌≡◌, ◌<◌, ◌++◌, ap, arith, get_or, length, take, ◌∙◌, refl}
-use Rattle.qs_program.specs.audit.Program.{client_at}
-use Rattle.qs_meaning.specs.audit.Serial.{zeros}
+use Rattle.qs_standings.proofs.Common.{client_at, zeros}
 use Rattle.qs_standings.proofs.RowSteps.{named_more}
 use Rattle.qs_standings.proofs.rows.add_locals.Goals as goal
 

@@ -1,8 +1,7 @@
 use Rattle.std.proofs.Common.{sym, rules}
-use Rattle.std.proofs.lemmas.Int.{to_z-of_z}
+use Rattle.qs_standings.proofs.Common.{to_z-of_z, values_of}
 use mir.Val.{SFits}
 use mir.Syntax.{w64}
-use Rattle.qs_objects.specs.audit.Objects.{values_of}
 use Rattle.qs_standings.proofs.RowSteps.{take_got}
 use Rattle.qs_standings.proofs.rows.add_object_values.Goals as goal
 

@@ -1,7 +1,6 @@
 use Rattle.std.proofs.Common.{◌-◌, arith, drop, sym, take, ◌∙◌}
 use Rattle.std.specs.Cmp.Rules.{signed_items}
-use Rattle.qs_program.specs.audit.Limits.{most_variables}
-use Rattle.qs_meaning.specs.audit.Serial.{zeros}
+use Rattle.qs_standings.proofs.Common.{most_variables, zeros}
 use Rattle.qs_standings.proofs.Spread.{rest_zeros}
 use Rattle.qs_standings.proofs.variables.is_zero_from.Goals as goal
 

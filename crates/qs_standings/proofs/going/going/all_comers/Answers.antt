@@ -1,8 +1,5 @@
 use Rattle.std.proofs.Common.{◌≡◌, ◌<◌, ◌≤◌, ◌+◌, arith, ap, get_or, length, slice_set, subst, sym, ◌∙◌}
-use Rattle.std.specs.List.{list_any}
-use Rattle.qs_program.specs.audit.Limits.{most_clients}
-use Rattle.qs_program.specs.audit.Program.{BlockShape, block_at, blocks_of}
-use Rattle.qs_meaning.specs.Reduced.{comes_in, still_reserves}
+use Rattle.qs_standings.proofs.Common.{block_at, blocks_of, BlockShape, comes_in, list_any, most_clients, still_reserves}
 use Rattle.qs_standings.specs.going.Going.{begun_counts, in_byte}
 use Rattle.qs_standings.proofs.going.GoingSets.{RowsUpTo, row_left, row_written}
 use Rattle.qs_standings.proofs.going.going.all_comers.Goals as goal

@@ -1,6 +1,5 @@
 use Rattle.std.proofs.Common.{◌≡◌, ◌<◌, ℕ, length, slice_index_or}
-use Rattle.qs_program.specs.audit.Limits.{most_objects}
-use Rattle.qs_meaning.specs.Reduced.{still_reserves}
+use Rattle.qs_standings.proofs.Common.{most_objects, still_reserves}
 use Rattle.qs_standings.specs.going.Going.{begun_counts, in_byte}
 use Rattle.qs_standings.proofs.going.going.all_holders.Given as goal
 

@@ -1,6 +1,5 @@
 use Rattle.std.proofs.Common.{◌<◌, length, subst, sym}
-use Rattle.qs_objects.proofs.Elements.{AllByRecursion-get_or}
-use Rattle.qs_meaning.specs.Reduced.{still_reserves}
+use Rattle.qs_standings.proofs.Common.{AllByRecursion-get_or, still_reserves}
 use Rattle.qs_standings.specs.going.Going.{begun_counts}
 use Rattle.qs_standings.proofs.going.GoingSets.{objects_more}
 use Rattle.qs_standings.proofs.going.going.comers.Goals as goal

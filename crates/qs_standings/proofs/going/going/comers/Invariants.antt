@@ -1,6 +1,5 @@
 use Rattle.std.proofs.Common.{◌≡◌, ℕ, take}
-use Rattle.std.specs.List.{list_any}
-use Rattle.qs_meaning.specs.Reduced.{still_reserves}
+use Rattle.qs_standings.proofs.Common.{list_any, still_reserves}
 use Rattle.qs_standings.specs.going.Going.{begun_counts, in_byte}
 use Rattle.qs_standings.proofs.going.going.comers.Given as goal
 

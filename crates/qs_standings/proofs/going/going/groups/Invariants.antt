@@ -1,6 +1,5 @@
 use Rattle.std.proofs.Common.{◌≡◌, ◌<◌, ℕ, get_or, length}
-use Rattle.qs_program.specs.audit.Limits.{most_clients}
-use Rattle.qs_meaning.specs.Reduced.{group_of}
+use Rattle.qs_standings.proofs.Common.{group_of, most_clients}
 use Rattle.qs_standings.specs.going.Going.{begun_counts, in_byte}
 use Rattle.qs_standings.proofs.going.going.groups.Given as goal
 

@@ -1,8 +1,5 @@
 use Rattle.std.proofs.Common.{◌≡◌, ◌<◌, ℕ, drop, nat_lt, slice_index_or, take}
-use Rattle.std.specs.List.{list_any}
-use Rattle.qs_program.specs.audit.Limits.{most_objects}
-use Rattle.qs_program.specs.audit.Program.{client_at}
-use Rattle.qs_meaning.specs.Reduced.{block_reserves}
+use Rattle.qs_standings.proofs.Common.{block_reserves, client_at, list_any, most_objects}
 use Rattle.qs_standings.proofs.going.going.last_of.Given as goal
 
 abbrev pub invariant-loop-index : goal.invariant-loop-index

@@ -1,6 +1,5 @@
 use Rattle.std.proofs.Common.{◌≡◌, ◌<◌, ℕ, if◌then◌else◌, slice_index_or, take}
-use Rattle.qs_program.specs.audit.Limits.{most_objects}
-use Rattle.qs_program.specs.audit.Sound.{is_in}
+use Rattle.qs_standings.proofs.Common.{is_in, most_objects}
 use Rattle.qs_standings.proofs.going.going.mark.Given as goal
 
 abbrev pub invariant-loop-object : goal.invariant-loop-object

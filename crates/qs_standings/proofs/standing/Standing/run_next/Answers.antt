@@ -1,9 +1,6 @@
 use Rattle.std.proofs.Common.{◌≡◌, get_or, length, sym, subst, arith, ◌∙◌, ap}
-use Rattle.qs_program.specs.audit.Program.{BlockShape, block_at}
+use Rattle.qs_standings.proofs.Common.{AreCallsWithin, block_at, BlockResult, BlockShape, zeros}
 use Rattle.qs_program.proofs.Bounds.{sound_block}
-use Rattle.qs_meaning.specs.audit.Serial.{zeros}
-use Rattle.qs_meaning.specs.audit.Solo.{BlockResult}
-use Rattle.qs_serial.specs.Alone.{AreCallsWithin}
 use Rattle.qs_standings.specs.Standings.{StandingShape}
 use Rattle.qs_standings.proofs.Stands.{block_within, read_at, same_run}
 use Rattle.qs_standings.proofs.standing.Standing.run_next.Goals as goal

@@ -1,6 +1,5 @@
 use Rattle.std.proofs.Common.{◌≡◌, ap, arith, get_or, length, length-append, sym, ◌∙◌, take_all}
-use Rattle.qs_program.specs.audit.Limits.{most_variables}
-use Rattle.qs_meaning.specs.audit.Serial.{zeros}
+use Rattle.qs_standings.proofs.Common.{most_variables, zeros}
 use Rattle.qs_standings.specs.Variables.{spread}
 use Rattle.qs_standings.proofs.Spread.{all_are, each_long, in_all, wide_more}
 use Rattle.qs_standings.proofs.variables.Variables.put_wide.Goals as goal
