@@ -1,16 +1,13 @@
 -- Two arranged configurations of which one is a change of the other are the same. Else some client would have a lesser
 -- place in the one than in the other. Then all of its class up to this client would have to stand before it in the
 -- other, which are too many for the numbers that are left.
-use Rattle.std.proofs.Common.{◌≡◌, ℕ, suc, ◌<◌, ◌≤◌, arith, Bool, true, false, if◌then◌else◌, ◌==◌, List, [], ◌∷◌, drop, refl, sym, ap, ◌∙◌, subst, ⊎_elim, ℤ, nat_abs, IsTrue, Ordering, Less, Equal, Greater}
-use Rattle.std.specs.Ordering.{int_cmp, ordering_reverse, is_le}
+use Rattle.std.proofs.Common.{◌≡◌, ℕ, suc, ◌<◌, ◌≤◌, arith, if◌then◌else◌, ◌==◌, List, [], ◌∷◌, drop, refl, sym, ap, ◌∙◌, subst, inl, inr, ℤ, nat_abs, IsTrue, Ordering, Less, Equal, Greater}
+use Rattle.qs_alike.proofs.Common.{cases_eq, cases_lt, int_cmp, is_le, nat_tests, ordering_reverse, slice_cmp}
 use Rattle.std.specs.Cmp.{IsTotalOrder}
-use Rattle.std.specs.Cmp.Lexicographic.{slice_cmp}
 use Rattle.std.specs.BTreeMap.Comparable.{le_lt_trans}
 use Rattle.std.specs.FinMap.{int_cmp-IsAntisymmetric, slice_cmp-IsAntisymmetric}
-use Rattle.std.proofs.lemmas.Bool.{cases_lt, cases_order, eqb-false}
 use Rattle.std.proofs.lemmas.Cmp.{int_cmp_total, lists_total, tied_itself}
 use Rattle.indexmap.proofs.IndexTableLemmas.Probe.{Into, OneToOne, pigeonhole}
-use Rattle.qs_objects.proofs.Choices.{eqb_self, num_cases}
 use Rattle.qs_alike.specs.Changes.{changed}
 use Rattle.qs_alike.specs.Arranged.{ArrangedOnce, place_of}
 
@@ -42,65 +39,30 @@ module _ (k : ℕ → ℕ) (a b : ℕ → List ℤ) (to from : ℕ → ℕ)
   moved : ℕ → ℕ → ℕ
   moved c d = if k d == k c then to d else d
 
-  moved_there : (c d : ℕ) → k d ≡ k c → moved c d ≡ to d
-  unfolding moved
-  moved_there c d e =
-      let t : (k d == k c) ≡ true = subst (λ n. (k d == n) ≡ true) e (eqb_self (k d)) in
-      ap (λ (t : Bool). if t then to d else d) t
-
-  moved_not : (c d : ℕ) → (k d == k c) ≡ false → moved c d ≡ d
-  unfolding moved
-  moved_not c d f = ap (λ (t : Bool). if t then to d else d) f
-
   up_to : (f : ℕ → List ℤ) → ((c d : ℕ) → c < d → k c ≡ k d → IsLess (f d) (f c) → ⊥)
       → (c d : ℕ) → c ≤ d → k c ≡ k d → IsLess (f d) (f c) → ⊥
-  up_to f sorted c d h e l =
-      ⊎_elim
-      (λ (is : c ≡ d). not_before_itself (f c) (subst (λ n. IsLess (f n) (f c)) (sym is) l))
-      (λ rest.
-      ⊎_elim (λ (less : c < d). sorted c d less e l) (λ (more : d < c). absurd (omega (arith, h, more))) rest)
-      (cases_order c d)
+  up_to f sorted c d h e l = elim (cases_eq c d) [
+    | inl is ↦ not_before_itself (f c) (subst (λ n. IsLess (f n) (f c)) (sym is) l)
+    | inr apart ↦ sorted c d (let other : c ≡ d → ⊥ = apart in omega (arith, h, other)) e l
+  ]
 
   none_less : (c : ℕ) → IsLess (a c) (b c) → ⊥
+  unfolding moved
   none_less c l = let q : suc c ≤ c = pigeonhole (suc c) c (moved c) into one in omega (arith, q)
     where
       before : (d : ℕ) → d ≤ c → k d ≡ k c → to d < c
-      before d h e =
-          ⊎_elim
-          (λ (less : to d < c). less)
-          (λ (past : c ≤ to d).
-          let low : IsLess (a d) (b c) = le_lt_trans total (a d) (a c) (b c) (at_most (a d) (a c) (up_to a first d c h e)) l in
-          absurd (up_to b other c (to d) past (sym e ∙ sym (alike d)) (subst (λ u. IsLess u (b c)) (sym (same d)) low)))
-          (cases_lt (to d) c)
+      before d h e = elim (cases_lt (to d) c) [
+        | inl less ↦ less
+        | inr past ↦
+            let low : IsLess (a d) (b c) = le_lt_trans total (a d) (a c) (b c) (at_most (a d) (a c) (up_to a first d c h e)) l in
+            absurd (up_to b other c (to d) past (sym e ∙ sym (alike d)) (subst (λ u. IsLess u (b c)) (sym (same d)) low))
+      ]
 
       into : Into (moved c) (suc c) c
-      into d h =
-          ⊎_elim
-          (λ (e : k d ≡ k c). subst (λ n. n < c) (sym (moved_there c d e)) (before d (omega (arith, h)) e))
-          (λ (f : (k d == k c) ≡ false). subst (λ n. n < c) (sym (moved_not c d f))
-          (⊎_elim
-          (λ (is : d ≡ c). absurd (eqb-false (k d) (k c) f (ap k is)))
-          (λ rest. ⊎_elim (λ (less : d < c). less) (λ (more : c < d). absurd (omega (arith, h, more))) rest)
-          (cases_order d c)))
-          (num_cases (k d) (k c))
-
-      crossed : (i j : ℕ) → k i ≡ k c → (k j == k c) ≡ false → to i ≡ j → ⊥
-      crossed i j e f is = eqb-false (k j) (k c) f (ap k (sym is) ∙ (alike i ∙ e))
+      into d h = let behind = before d in grind (arith, nat_tests)
 
       one : OneToOne (moved c) (suc c)
-      one i j h m is =
-          ⊎_elim
-          (λ (e : k i ≡ k c).
-          ⊎_elim
-          (λ (f : k j ≡ k c). sym (there i) ∙ (ap from (sym (moved_there c i e) ∙ (is ∙ moved_there c j f)) ∙ there j))
-          (λ (f : (k j == k c) ≡ false). absurd (crossed i j e f (sym (moved_there c i e) ∙ (is ∙ moved_not c j f))))
-          (num_cases (k j) (k c)))
-          (λ (e : (k i == k c) ≡ false).
-          ⊎_elim
-          (λ (f : k j ≡ k c). absurd (crossed j i f e (sym (moved_there c j f) ∙ (sym is ∙ moved_not c i e))))
-          (λ (f : (k j == k c) ≡ false). sym (moved_not c i e) ∙ (is ∙ moved_not c j f))
-          (num_cases (k j) (k c)))
-          (num_cases (k i) (k c))
+      one i j h m is = let i_there = there i in let j_there = there j in let i_alike = alike i in let j_alike = alike j in grind (arith, nat_tests)
 
 count_in : List ℤ → ℕ
 count_in [] = 0

@@ -1,8 +1,7 @@
 -- Changes one after another, none, and undone: so what configurations become is an equivalence. Of what one becomes one
 -- alone is arranged.
 use Rattle.std.proofs.Common.{◌≡◌, ℕ, refl, sym, ap, ◌∙◌, subst, arith, length}
-use Rattle.qs_program.specs.audit.Program.{ProgramShape, client_at}
-use Rattle.qs_meaning.specs.audit.Configurations.{Configuration}
+use Rattle.qs_alike.proofs.Common.{client_at, Configuration, ProgramShape}
 use Rattle.qs_alike.specs.Arranged.{IsArranged}
 use Rattle.qs_alike.specs.Changes.{AreAlone, AreClasses, Becomes, Change, Classes, IsChange, changed}
 use Rattle.qs_alike.proofs.Arranging.{arranged_once}

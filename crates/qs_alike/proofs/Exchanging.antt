@@ -1,16 +1,10 @@
 -- Where two alike clients are exchanged, a standing stays one, and what it holds becomes what it holds then. So the places
 -- of a class are put in order one after another: the least of those that are left comes first.
-use Rattle.std.proofs.Common.{◌≡◌, ℕ, ◌+◌, ◌<◌, ◌≤◌, arith, Bool, true, false, if◌then◌else◌, ◌==◌, [], length, sym, ap, ◌∙◌, subst, ⊎_elim, append-nil, Less, Greater}
-use Rattle.std.specs.Ordering.{int_cmp, ordering_reverse}
-use Rattle.std.specs.Cmp.Lexicographic.{slice_cmp}
+use Rattle.std.proofs.Common.{◌≡◌, ℕ, ◌+◌, ◌<◌, ◌≤◌, arith, true, false, ◌==◌, [], length, sym, ap, ◌∙◌, subst, ⊎_elim, inl, inr, append-nil, Less, Greater}
+use Rattle.qs_alike.proofs.Common.{cases_eq, cases_lt, Configuration, configuration_in, exchanged, flipped, int_cmp, IsStanding, nat_tests, ordering_reverse, ProgramShape, slice_cmp, StandingShape, zeros}
 use Rattle.std.proofs.lemmas.List.Edits.{length-swap}
-use Rattle.std.proofs.lemmas.Bool.{cases_lt, cases_order, eqb-false}
 use Rattle.indexmap.proofs.ReorderLemmas.{exchange-twice, get_or-swap}
-use Rattle.qs_objects.proofs.Choices.{eqb_apart, eqb_self, num_cases}
-use Rattle.qs_program.specs.audit.Program.{ProgramShape}
-use Rattle.qs_meaning.specs.audit.Configurations.{Configuration}
-use Rattle.qs_meaning.specs.audit.Serial.{zeros}
-use Rattle.qs_standings.specs.Standings.{IsStanding, StandingShape, configuration_in, exchanged, flipped}
+use Rattle.qs_objects.proofs.Choices.{eqb_self, num_cases}
 use Rattle.qs_alike.specs.Arranged.{IsArranged, IsArrangedBelow, compared, place_of}
 use Rattle.qs_alike.specs.Changes.{AreClasses, Becomes, Change, Classes, IsChange, changed}
 use Rattle.qs_alike.proofs.Arranging.{total}
@@ -22,30 +16,17 @@ abbrev pub flip : ℕ → ℕ → Change
 flip c d = record { new = flipped c d; old = flipped c d }
 
 pub flipped_first : (c d : ℕ) → flipped c d c ≡ d
-flipped_first c d = ap (λ (b : Bool). if b then d else (if c == d then c else c)) (eqb_self c)
+flipped_first c d = grind (arith, nat_tests)
 
 pub flipped_second : (c d : ℕ) → flipped c d d ≡ c
-flipped_second c d = ap (flipped c d) (sym (flipped_first c d)) ∙ exchange-twice c d c
+flipped_second c d = grind (arith, nat_tests)
 
 pub flipped_other : (c d n : ℕ) → (n ≡ c → ⊥) → (n ≡ d → ⊥) → flipped c d n ≡ n
-flipped_other c d n one two =
-    ap (λ (b : Bool). if b then d else (if n == d then c else n)) (eqb_apart n c one)
-    ∙ ap (λ (b : Bool). if b then c else n) (eqb_apart n d two)
+flipped_other c d n one two = grind (arith, nat_tests)
 
 -- what two have in common they have in each other's places
 pub flip_alike : {A : Type 0} (k : ℕ → A) (c d : ℕ) → k c ≡ k d → (n : ℕ) → k (flipped c d n) ≡ k n
-flip_alike k c d same n =
-    ⊎_elim
-    (λ (is : n ≡ c). ap (λ m. k (flipped c d m)) is ∙ (ap k (flipped_first c d) ∙ (sym same ∙ ap k (sym is))))
-    (λ (first : (n == c) ≡ false).
-    ⊎_elim
-    (λ (is : n ≡ d).
-    ap (λ (b : Bool). k (if b then d else (if n == d then c else n))) first
-    ∙ (ap (λ (b : Bool). k (if b then c else n)) (subst (λ m. (n == m) ≡ true) is (eqb_self n)) ∙ (same ∙ ap k (sym is))))
-    (λ (second : (n == d) ≡ false).
-    ap (λ (b : Bool). k (if b then d else (if n == d then c else n))) first ∙ ap (λ (b : Bool). k (if b then c else n)) second)
-    (num_cases n d))
-    (num_cases n c)
+flip_alike k c d same n = grind (arith, nat_tests)
 
 pub flip_is : (k : Classes) (c d : ℕ) → k c ≡ k d → IsChange k (flip c d)
 flip_is k c d same = record { there = exchange-twice c d; back = exchange-twice c d; alike = flip_alike k c d same }
@@ -80,15 +61,7 @@ module _ (k : Classes) (g : Configuration) (c d : ℕ) (behind : c < d) (same : 
   h = changed (flip c d) g
 
   stays_behind : (b e : ℕ) → b < c → b < e → b < flipped c d e
-  stays_behind b e before less =
-      ⊎_elim
-      (λ (is : e ≡ c). subst (λ n. b < n) (sym (ap (flipped c d) is ∙ flipped_first c d)) (omega (arith, before, behind)))
-      (λ (first : (e == c) ≡ false).
-      ⊎_elim
-      (λ (is : e ≡ d). subst (λ n. b < n) (sym (ap (flipped c d) is ∙ flipped_second c d)) before)
-      (λ (second : (e == d) ≡ false). subst (λ n. b < n) (sym (flipped_other c d e (eqb-false e c first) (eqb-false e d second))) less)
-      (num_cases e d))
-      (num_cases e c)
+  stays_behind b e before less = let after = behind in grind (arith, nat_tests)
 
   -- what comes before both is in order still
   pub below_exchanged : IsArrangedBelow k g c → IsArrangedBelow k h c
@@ -139,12 +112,10 @@ module _ (p : ProgramShape) (k : Classes) (are : AreClasses p k) (s t : Standing
   least_now lesser least = subst (λ g. IsLeastUpTo k g c (d + 1)) (sym flips_now) (least_exchanged k (configuration_in s) c d behind same lesser least)
 
 pub least_kept : (k : Classes) (g : Configuration) (c d : ℕ) → (k c ≡ k d → compared g d c ≡ Less → ⊥) → IsLeastUpTo k g c d → IsLeastUpTo k g c (d + 1)
-least_kept k g c d not least e after within alike l =
-    ⊎_elim
-    (λ (is : e ≡ d). not (subst (λ n. k c ≡ k n) is alike) (subst (λ n. compared g n c ≡ Less) is l))
-    (λ rest.
-    ⊎_elim (λ (less : e < d). least e after less alike l) (λ (more : d < e). absurd (omega (arith, within, more))) rest)
-    (cases_order e d)
+least_kept k g c d not least e after within alike l = elim (cases_eq e d) [
+  | inl is ↦ not (subst (λ n. k c ≡ k n) is alike) (subst (λ n. compared g n c ≡ Less) is l)
+  | inr apart ↦ least e after (let other : e ≡ d → ⊥ = apart in omega (arith, within, other)) alike l
+]
 
 pub none_before : (k : Classes) (g : Configuration) (c : ℕ) → IsLeastUpTo k g c (c + 1)
 none_before k g c e after within alike l = omega (arith, after, within)
@@ -152,17 +123,13 @@ none_before k g c e after within alike l = omega (arith, after, within)
 -- all that are behind are looked at: a number that is no client's is in a class of its own
 pub below_more : (p : ProgramShape) (k : Classes) → AreClasses p k → (g : Configuration) (c to : ℕ) → c < length p.clients → length p.clients ≤ to
     → IsArrangedBelow k g c → IsLeastUpTo k g c to → IsArrangedBelow k g (c + 1)
-below_more p k are g c to within all below least b e before less alike l =
-    ⊎_elim
-    (λ (is : b ≡ c).
-    ⊎_elim
-    (λ (inside : e < to). least e (subst (λ n. n < e) is less) inside (subst (λ n. k n ≡ k e) is alike) (subst (λ n. compared g e n ≡ Less) is l))
-    (λ (past : to ≤ e).
-    let same : e ≡ b = are.alone e b (omega (arith, all, past)) (sym alike) in omega (arith, same, less))
-    (cases_lt e to))
-    (λ rest.
-    ⊎_elim (λ (under : b < c). below b e under less alike l) (λ (more : c < b). absurd (omega (arith, before, more))) rest)
-    (cases_order b c)
+below_more p k are g c to within all below least b e before less alike l = elim (cases_eq b c) [
+  | inl is ↦ elim (cases_lt e to) [
+    | inl inside ↦ least e (subst (λ n. n < e) is less) inside (subst (λ n. k n ≡ k e) is alike) (subst (λ n. compared g e n ≡ Less) is l)
+    | inr past ↦ let same : e ≡ b = are.alone e b (omega (arith, all, past)) (sym alike) in omega (arith, same, less)
+  ]
+  | inr apart ↦ below b e (let other : b ≡ c → ⊥ = apart in omega (arith, before, other)) less alike l
+]
 
 pub nothing_below : (k : Classes) (g : Configuration) → IsArrangedBelow k g 0
 nothing_below k g b e before less alike l = omega (arith, before)

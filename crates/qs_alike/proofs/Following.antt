@@ -1,19 +1,10 @@
 -- Who is followed is so by its new number after a change: with the places of each class in order both are the same. So
 -- the change of an order that is followed is followed, by induction on it. Where all are alone, those are followed who go
 -- on themselves.
-use Rattle.std.proofs.Common.{◌≡◌, ◌<◌, ◌≤◌, ◌+◌, ◌++◌, ℕ, true, List, [], ◌∷◌, length, sym, ap, ◌∙◌, subst, arith, ⊎_elim, append_assoc}
-use Rattle.std.proofs.lemmas.Bool.{cases_lt}
-use Rattle.std.proofs.lemmas.List.{append_cancel_left}
-use Rattle.qs_objects.specs.declared.held.Ticket.{Ticket}
-use Rattle.qs_program.specs.audit.Program.{ProgramShape, blocks_of}
-use Rattle.qs_meaning.specs.audit.Configurations.{Configuration, configuration_after, configuration_from, first_configuration, one_block_on}
-use Rattle.qs_meaning.specs.audit.Serial.{LegalFrom}
+use Rattle.std.proofs.Common.{◌≡◌, ◌<◌, ◌≤◌, ◌+◌, ◌++◌, ℕ, true, List, [], ◌∷◌, length, sym, ap, ◌∙◌, subst, arith, inl, inr, append_assoc}
+use Rattle.qs_alike.proofs.Common.{append_cancel_left, blocks_of, cases_lt, Configuration, configuration-append, configuration_after, configuration_from, configuration_in, first_configuration, has_place, in_byte, IsReducedAfter, legal_on, LegalFrom, one_block_on, ProgramShape, StandingShape, Ticket}
 use Rattle.qs_meaning.specs.Reduced.{IsReducedFrom, goes_on}
 use Rattle.qs_meaning.proofs.Groups.{some_go_on}
-use Rattle.qs_meaning.proofs.Orders.{configuration-append, legal_on}
-use Rattle.qs_objects.specs.ByteSets.{in_byte}
-use Rattle.qs_standings.specs.Standings.{IsReducedAfter, StandingShape, configuration_in}
-use Rattle.qs_standings.proofs.Stands.{has_place}
 use Rattle.qs_alike.specs.Changes.{AreAlone, AreClasses, Change, Classes, IsChange, changed, changed_order}
 use Rattle.qs_alike.specs.Followed.{Follows, GoesOnUpTo, IsFollowedAfter, IsFollowedFrom, Orders, all_legal, only_reduced}
 use Rattle.qs_alike.specs.Keys.{IsPlacedAs}
@@ -144,11 +135,10 @@ IsLikeAt k s t goes client place =
 pub none_more : (k : Classes) (s t : StandingShape) (goes client place : ℕ)
     → ((i : ℕ) → i < place → IsLikeAt k s t goes client i → ⊥) → (IsLikeAt k s t goes client place → ⊥)
     → (i : ℕ) → i < place + 1 → IsLikeAt k s t goes client i → ⊥
-none_more k s t goes client place before here i less like =
-    ⊎_elim
-    (λ (under : i < place). before i under like)
-    (λ (past : place ≤ i). let same : i ≡ place = omega (arith, less, past) in here (subst (IsLikeAt k s t goes client) same like))
-    (cases_lt i place)
+none_more k s t goes client place before here i less like = elim (cases_lt i place) [
+  | inl under ↦ before i under like
+  | inr past ↦ let same : i ≡ place = omega (arith, less, past) in here (subst (IsLikeAt k s t goes client) same like)
+]
 
 module _ (p : ProgramShape) (k : Classes) (s t : StandingShape) (goes client : ℕ) (place : ℕ) (placed : IsPlacedAs p k s t)
     (are : in_byte goes ≡ goes_on p (configuration_in t).begun) where

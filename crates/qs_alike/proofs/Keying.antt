@@ -1,11 +1,8 @@
 -- Two standings have one key exactly where the one becomes the other by a change of alike clients: what both become with
 -- the places of each class in order is one and the same.
 use Rattle.std.proofs.Common.{◌≡◌, ap, refl, sym, ◌∙◌}
-use Rattle.qs_program.specs.audit.Program.{ProgramShape}
+use Rattle.qs_alike.proofs.Common.{Configuration, configuration_in, IsStanding, no_state, ProgramShape, row_of, RowShape, StandingShape, zeros}
 use Rattle.qs_program.specs.Sound.{IsSound}
-use Rattle.qs_meaning.specs.audit.Configurations.{Configuration}
-use Rattle.qs_meaning.specs.audit.Serial.{no_state, zeros}
-use Rattle.qs_standings.specs.Standings.{IsStanding, RowShape, StandingShape, configuration_in, row_of}
 use Rattle.qs_standings.proofs.Lists.{same_list}
 use Rattle.qs_standings.proofs.RowTells.{same_row, standings_tell}
 use Rattle.qs_alike.specs.Changes.{AreAlone, Becomes, Classes}

@@ -1,17 +1,7 @@
 -- From one configuration to another, or to what that becomes by a change of alike clients, all legal orders are equally
 -- long: each block adds one to the count of a client.
-use Rattle.std.proofs.Common.{◌≡◌, ℕ, zero, suc, ◌+◌, ◌<◌, arith, List, [], ◌∷◌, length, refl, sym, ap, ◌∙◌, subst, inl, inr}
-use Rattle.std.proofs.lemmas.List.{length-map}
-use Rattle.std.proofs.lemmas.Bool.{cases_eq}
-use Rattle.qs_objects.specs.declared.held.Ticket.{Ticket}
-use Rattle.qs_objects.proofs.Choices.{eqb_apart}
-use Rattle.qs_program.specs.audit.Program.{ProgramShape}
-use Rattle.qs_meaning.specs.audit.Configurations.{Configuration, configuration_after, configuration_from, first_configuration, one_block_on}
-use Rattle.qs_meaning.specs.audit.Serial.{IsLegal, LegalFrom}
-use Rattle.qs_meaning.specs.audit.Solo.{put}
-use Rattle.qs_meaning.proofs.Orders.{legal_on}
-use Rattle.qs_meaning.proofs.TreeWalks.{put_here, put_there}
-use Rattle.qs_standings.proofs.Stands.{has_place}
+use Rattle.std.proofs.Common.{◌≡◌, ℕ, zero, suc, ◌+◌, ◌<◌, arith, List, [], ◌∷◌, length, refl, sym, ap, ◌∙◌}
+use Rattle.qs_alike.proofs.Common.{Configuration, configuration_after, configuration_from, first_configuration, has_place, IsLegal, legal_on, LegalFrom, length-map, nat_tests, one_block_on, ProgramShape, put, Ticket}
 use Rattle.qs_alike.specs.Changes.{AreClasses, Becomes, Classes, changed_order, changed_ticket}
 use Rattle.qs_alike.proofs.Orders.{leads, legal_changed}
 
@@ -25,18 +15,15 @@ total_same zero f g each = refl
 total_same (suc n) f g each =
     omega (arith, total_same n f g (λ i less. each i (omega (arith, less))), each n (omega arith))
 
+put_below : (f : ℕ → ℕ) (c n v i : ℕ) → c ≡ n → i < n → put f c v i ≡ f i
+put_below f c n v i e less = grind (arith, nat_tests)
+
 total_put : (n c : ℕ) (f : ℕ → ℕ) → c < n → total_of n (put f c (suc (f c))) ≡ suc (total_of n f)
 unfolding total_of
 total_put zero c f less = absurd (omega (arith, less))
-total_put (suc n) c f less = elim (cases_eq c n) [
-  | inl same ↦
-      let before = total_same n (put f c (suc (f c))) f (λ i under. put_there f c (suc (f c)) i (eqb_apart c i (λ e. omega (arith, same, under, e)))) in
-      let here : put f c (suc (f c)) n ≡ suc (f n) = subst (λ m. put f c (suc (f c)) m ≡ suc (f m)) same (put_here f c (suc (f c))) in
-      omega (arith, before, here)
-  | inr other ↦
-      let here : put f c (suc (f c)) n ≡ f n = put_there f c (suc (f c)) n (eqb_apart c n other) in
-      omega (arith, total_put n c f (let o : c ≡ n → ⊥ = other in omega (arith, less, o)), here)
-]
+total_put (suc n) c f less =
+    let same : c ≡ n → total_of n (put f c (suc (f c))) ≡ total_of n f = λ e. total_same n (put f c (suc (f c))) f (λ i under. put_below f c n (suc (f c)) i e under) in
+    let before : c < n → total_of n (put f c (suc (f c))) ≡ suc (total_of n f) = total_put n c f in grind (arith, nat_tests)
 
 total_after : (p : ProgramShape) (g : Configuration) (ts : List Ticket) → LegalFrom p g.begun ts
     → length ts + total_of (length p.clients) g.begun ≡ total_of (length p.clients) (configuration_from p g ts).begun

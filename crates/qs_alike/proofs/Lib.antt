@@ -1,3 +1,4 @@
+pub mod Common
 pub mod SameTexts
 pub mod SettingApart
 pub mod Orders

@@ -1,15 +1,8 @@
 -- A block is run by its client's new number as it was by the old one, since the text and the variables there are the
 -- same. So an order and its change lead to a configuration and its change, by induction on the order.
-use Rattle.std.proofs.Common.{◌≡◌, ℕ, suc, ◌<◌, true, false, ◌==◌, List, [], ◌∷◌, length, slice_index_or, refl, sym, ap, ◌∙◌, subst, ⊎_elim}
-use Rattle.qs_objects.specs.declared.held.Ticket.{Ticket}
-use Rattle.qs_objects.proofs.Choices.{eqb_apart, eqb_self, num_cases}
-use Rattle.qs_program.specs.audit.Program.{BlockShape, ProgramShape, blocks_of, client_at, no_block}
-use Rattle.qs_meaning.specs.audit.Configurations.{Configuration, IsComplete, configuration_after, configuration_from, first_configuration, one_block_on}
+use Rattle.std.proofs.Common.{◌≡◌, ℕ, suc, ◌<◌, List, [], ◌∷◌, length, slice_index_or, refl, sym, ap, ◌∙◌, subst, arith}
+use Rattle.qs_alike.proofs.Common.{blocks_of, BlockShape, client_at, complete_orders_leave_none, Configuration, configuration_after, configuration_from, configurations_follow_orders, first_configuration, IsComplete, IsLegal, LegalFrom, nat_tests, no_block, one_block_on, ProgramShape, put, solo, Ticket}
 use Rattle.qs_meaning.specs.Configurations.{outcome_in, outcome_of}
-use Rattle.qs_meaning.specs.audit.Serial.{IsLegal, LegalFrom}
-use Rattle.qs_meaning.specs.audit.Solo.{put, solo}
-use Rattle.qs_meaning.proofs.Orders.{complete_orders_leave_none, configurations_follow_orders}
-use Rattle.qs_meaning.proofs.TreeWalks.{put_here, put_there}
 use Rattle.qs_alike.specs.Changes.{AreClasses, Change, ChangesKeepOrders, ChangesKeepOutcomes, Classes, IsChange, changed, changed_order, changed_outcome}
 
 module _ (p : ProgramShape) (k : Classes) (are : AreClasses p k) (x : Change) (is : IsChange k x) where
@@ -20,20 +13,8 @@ module _ (p : ProgramShape) (k : Classes) (are : AreClasses p k) (x : Change) (i
   put_changed : {A : Type 0} (f : ℕ → A) (c : ℕ) (v : A) → put (λ m. f (x.old m)) (x.new c) v ≡ (λ m. put f c v (x.old m))
   put_changed f c v = λ i k. at k i
     where
-      apart : (k : ℕ) → (x.new c == k) ≡ false → (c == x.old k) ≡ false
-      apart k differs =
-          eqb_apart c (x.old k)
-          (λ e. let same : x.new c ≡ k = ap x.new e ∙ is.back k in
-          let d : true ≡ false = sym (subst (λ m. (x.new c == m) ≡ true) same (eqb_self (x.new c))) ∙ differs in cc)
-
       at : (k : ℕ) → put (λ k. f (x.old k)) (x.new c) v k ≡ put f c v (x.old k)
-      at k =
-          ⊎_elim
-          (λ (same : x.new c ≡ k). subst (λ k. put (λ m. f (x.old m)) (x.new c) v k ≡ put f c v (x.old k)) same
-          (put_here (λ m. f (x.old m)) (x.new c) v ∙ sym (subst (λ d. put f c v d ≡ v) (sym (is.there c)) (put_here f c v))))
-          (λ (differs : (x.new c == k) ≡ false).
-          put_there (λ m. f (x.old m)) (x.new c) v k differs ∙ sym (put_there f c v (x.old k) (apart k differs)))
-          (num_cases (x.new c) k)
+      at k = let back = is.back k in let there = is.there c in grind (arith, nat_tests)
 
   -- the next block of a client by its new number
   module _ (g : Configuration) (c : ℕ) where

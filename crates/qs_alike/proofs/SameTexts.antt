@@ -1,12 +1,8 @@
 -- Two texts that are equal are so statement by statement, and are equally long. By this the comparison of two texts
 -- says yes wherever they are equal. It goes by induction on the list of statements. The first client with the text of
 -- one is the first with the text of each that has the same, so that these are of one class.
-use Rattle.std.proofs.Common.{◌≡◌, ◌<◌, ℕ, zero, suc, List, [], ◌∷◌, length, get_or, refl, sym, ap, ◌∙◌, arith, ⊎_elim}
-use Rattle.std.proofs.lemmas.Bool.{cases_order}
-use Rattle.qs_program.specs.audit.Program.{ProgramShape}
-use Rattle.qs_program.specs.audit.Statements.{Statements, end, command, query, assign, choose, again, leave}
-use Rattle.qs_program.specs.Views.{single, statements_of}
-use Rattle.qs_program.specs.declared.code.Stmt.{Stmt}
+use Rattle.std.proofs.Common.{◌≡◌, ◌<◌, ℕ, zero, suc, List, [], ◌∷◌, length, get_or, refl, sym, ap, ◌∙◌, arith}
+use Rattle.qs_alike.proofs.Common.{again, assign, choose, command, end, leave, ProgramShape, query, single, Statements, statements_of, Stmt}
 use Rattle.qs_program.specs.declared.code.Stmt.TheVariants.{Command, Query, Assign, If, Repeat, Leave}
 use Rattle.qs_alike.specs.Changes.{HaveSameText}
 use Rattle.qs_alike.specs.Texts.{IsFirstAlike}
@@ -77,11 +73,5 @@ same_back p c d same = record { blocks = sym same.blocks; variables = sym same.v
 -- the first with the text of one is the first with the text of the other
 pub one_first : (p : ProgramShape) (c d i j : ℕ) → HaveSameText p c d → IsFirstAlike p c i → IsFirstAlike p d j → i ≡ j
 one_first p c d i j same one other =
-    ⊎_elim
-    (λ (e : i ≡ j). e)
-    (λ rest.
-    ⊎_elim
-    (λ (less : i < j). absurd (other.none i less (same_then p i c d one.same same)))
-    (λ (more : j < i). absurd (one.none j more (same_then p j d c other.same (same_back p c d same))))
-    rest)
-    (cases_order i j)
+    let less : i < j → ⊥ = λ l. other.none i l (same_then p i c d one.same same) in
+    let more : j < i → ⊥ = λ l. one.none j l (same_then p j d c other.same (same_back p c d same)) in omega (arith, less, more)

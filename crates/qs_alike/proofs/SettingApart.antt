@@ -1,8 +1,7 @@
 -- Where each client of a set has its own number for its class, and each other one the number of the first of its class
 -- outside of the set, the clients of the set are alone, and the others are of one class exactly where they were.
-use Rattle.std.proofs.Common.{◌≡◌, ℕ, ◌<◌, ◌≤◌, arith, Bool, true, false, true≢false, length, refl, sym, ap, ◌∙◌, ⊎_elim}
-use Rattle.std.proofs.lemmas.Bool.{cases_lt, cases_order}
-use Rattle.qs_program.specs.audit.Program.{ProgramShape}
+use Rattle.std.proofs.Common.{◌≡◌, ℕ, ◌<◌, ◌≤◌, arith, Bool, true, false, true≢false, length, refl, sym, ap, ◌∙◌, inl, inr}
+use Rattle.qs_alike.proofs.Common.{cases_lt, ProgramShape}
 use Rattle.qs_alike.specs.Apart.{AreApartUpTo, AreSetApart}
 use Rattle.qs_alike.specs.Changes.{AreClasses, Classes}
 
@@ -25,35 +24,20 @@ module _ (p : ProgramShape) (before : Classes) (apart : ℕ → Bool) (k : Class
       let here : k d ≡ c = sym e ∙ ((split c).0 low).alone is in
       absurd (true≢false (sym is ∙ (ap apart (sym here) ∙ out)))
 
+  -- two of one class are both below 8, or none of them is
+  sides : {A : Type 0} (c d : ℕ) → k c ≡ k d → (c < 8 → d < 8 → A) → (8 ≤ c → 8 ≤ d → A) → A
+  sides c d e under past = elim (cases_lt c 8) [
+    | inl low ↦ elim (cases_lt d 8) [ inl lower ↦ under low lower | inr high ↦ absurd (crossed c d low high e) ]
+    | inr high ↦ elim (cases_lt d 8) [ inl lower ↦ absurd (crossed d c lower high (sym e)) | inr higher ↦ past high higher ]
+  ]
+
   alone : (c d : ℕ) → apart c ≡ true → k c ≡ k d → c ≡ d
-  alone c d is e =
-      ⊎_elim
-      (λ (low : c < 8).
-      ⊎_elim
-      (λ (lower : d < 8). low_alone c d (apart d) low lower is refl e)
-      (λ (high : 8 ≤ d). absurd (crossed c d low high e))
-      (cases_lt d 8))
-      (λ (high : 8 ≤ c).
-      ⊎_elim
-      (λ (lower : d < 8). absurd (crossed d c lower high (sym e)))
-      (λ (higher : 8 ≤ d). sym ((split c).1 high) ∙ e ∙ (split d).1 higher)
-      (cases_lt d 8))
-      (cases_lt c 8)
+  alone c d is e = sides c d e (λ low lower. low_alone c d (apart d) low lower is refl e) (λ high higher. sym ((split c).1 high) ∙ e ∙ (split d).1 higher)
 
   were_alike : (c d : ℕ) → k c ≡ k d → before c ≡ before d
   were_alike c d e =
-      ⊎_elim
-      (λ (low : c < 8).
-      ⊎_elim
-      (λ (lower : d < 8). sym ((split c).0 low).alike ∙ ap before e ∙ ((split d).0 lower).alike)
-      (λ (high : 8 ≤ d). absurd (crossed c d low high e))
-      (cases_lt d 8))
-      (λ (high : 8 ≤ c).
-      ⊎_elim
-      (λ (lower : d < 8). absurd (crossed d c lower high (sym e)))
-      (λ (higher : 8 ≤ d). ap before (sym ((split c).1 high) ∙ e ∙ (split d).1 higher))
-      (cases_lt d 8))
-      (cases_lt c 8)
+      sides c d e (λ low lower. sym ((split c).0 low).alike ∙ ap before e ∙ ((split d).0 lower).alike)
+      (λ high higher. ap before (sym ((split c).1 high) ∙ e ∙ (split d).1 higher))
 
   -- the first of a class is the first for each of it
   not_before : (c d : ℕ) → c < 8 → d < 8 → apart c ≡ false → apart d ≡ false → before c ≡ before d → k c < k d → ⊥
@@ -62,23 +46,15 @@ module _ (p : ProgramShape) (before : Classes) (apart : ℕ → Bool) (k : Class
       ((split d).0 lower).none too (k c) less (first.outside out) (first.alike ∙ e)
 
   are_alike : (c d : ℕ) → apart c ≡ false → apart d ≡ false → before c ≡ before d → k c ≡ k d
-  are_alike c d out too e =
-      ⊎_elim
-      (λ (low : c < 8).
-      ⊎_elim
-      (λ (lower : d < 8).
-      ⊎_elim
-      (λ (is : k c ≡ k d). is)
-      (λ rest.
-      ⊎_elim
-      (λ (less : k c < k d). absurd (not_before c d low lower out too e less))
-      (λ (more : k d < k c). absurd (not_before d c lower low too out (sym e) more))
-      rest)
-      (cases_order (k c) (k d)))
-      (λ (high : 8 ≤ d). ap k (sym (are.alone d c (omega (arith, few, high)) (sym e))))
-      (cases_lt d 8))
-      (λ (high : 8 ≤ c). ap k (are.alone c d (omega (arith, few, high)) e))
-      (cases_lt c 8)
+  are_alike c d out too e = elim (cases_lt c 8) [
+    | inl low ↦ elim (cases_lt d 8) [
+      | inl lower ↦
+          let less : k c < k d → ⊥ = not_before c d low lower out too e in
+          let more : k d < k c → ⊥ = not_before d c lower low too out (sym e) in omega (arith, less, more)
+      | inr high ↦ ap k (sym (are.alone d c (omega (arith, few, high)) (sym e)))
+    ]
+    | inr high ↦ ap k (are.alone c d (omega (arith, few, high)) e)
+  ]
 
   pub set_apart : AreSetApart before apart k
   set_apart = record {

@@ -1,9 +1,6 @@
 use Rattle.std.proofs.Common.{◌≡◌, ◌<◌, ◌+◌, ◌++◌, ◌∷◌, [], ℕ, List, length, get_or, take, arith, ap, ap₂, sym, true≢false, ◌∙◌}
-use Rattle.std.proofs.lemmas.List.{take_more}
-use Rattle.qs_program.specs.audit.Statements.{Statements}
+use Rattle.qs_alike.proofs.Common.{single, size_of, Statements, statements_of, Stmt, take_more}
 use Rattle.qs_program.specs.Statements.{join_statements}
-use Rattle.qs_program.specs.Views.{single, size_of, statements_of}
-use Rattle.qs_program.specs.declared.code.Stmt.{Stmt}
 use Rattle.qs_program.proofs.StatementLists.{size_at, statements_of-append}
 use Rattle.qs_alike.proofs.SameTexts.{equally_many, same_at}
 use Rattle.qs_alike.proofs.texts.+same.Goals as goal
