@@ -1,14 +1,9 @@
 -- Orders compared by their clients' numbers: one that is before another stays so however the two go on, and none is
 -- before an order that it goes on from. A reduced order in two parts is reduced in both, and no order leads back to
 -- where it began. The least order that leads to a configuration is found by these. Each goes by induction on an order.
-use Rattle.std.proofs.Common.{◌≡◌, ◌<◌, List, [], ◌∷◌, ◌++◌, refl, ap, ◌∙◌, subst, arith, inl, inr, ⊎_elim, append_assoc}
-use Rattle.qs_objects.specs.declared.held.Ticket.{Ticket}
-use Rattle.qs_program.specs.audit.Program.{ProgramShape}
-use Rattle.qs_meaning.specs.audit.Configurations.{Configuration, configuration_after, configuration_from, first_configuration, one_block_on}
-use Rattle.qs_meaning.specs.Reduced.{IsReducedFrom}
-use Rattle.qs_meaning.proofs.Orders.{configuration-append}
+use Rattle.std.proofs.Common.{◌≡◌, ◌<◌, List, [], ◌∷◌, ◌++◌, refl, ap, ◌∙◌, subst, arith, inl, inr, append_assoc}
+use Rattle.qs_outcomes.proofs.Common.{Configuration, configuration-append, configuration_after, configuration_from, first_configuration, IsReducedAfter, IsReducedFrom, one_block_on, ProgramShape, Ticket}
 use Rattle.qs_outcomes.specs.LeastOrders.{IsBefore}
-use Rattle.qs_standings.specs.Standings.{IsReducedAfter}
 
 pub before_onward : (ts us rest : List Ticket) → IsBefore ts us → IsBefore (ts ++ rest) us
 before_onward [] us rest h = absurd h

@@ -4,34 +4,14 @@
 -- that was found is the end of its own complete order, the least that comes to what becomes it. The rows that were seen
 -- count the configurations.
 use Rattle.std.proofs.Common.{◌≡◌, ◌<◌, ◌≤◌, ℕ, zero, suc, List, [], ◌∷◌, ◌++◌, length, get_or, refl, sym, ap, ◌∙◌, subst, arith, inl, inr, length-append}
-use Rattle.std.proofs.lemmas.List.{length-map}
-use Rattle.std.specs.List.{AllByRecursion}
-use Rattle.qs_objects.specs.declared.held.Ticket.{Ticket}
-use Rattle.qs_program.specs.audit.Program.{ProgramShape, blocks_of}
-use Rattle.qs_program.specs.Sound.{IsSound}
-use Rattle.qs_meaning.specs.audit.Configurations.{Configuration, IsComplete, configuration_after, configuration_from, first_configuration, one_block_on}
-use Rattle.qs_meaning.specs.Configurations.{outcome_in}
-use Rattle.qs_meaning.specs.audit.Serial.{LegalFrom}
-use Rattle.qs_meaning.specs.Reduced.{IsReducedFrom}
+use Rattle.qs_outcomes.proofs.Common.{AllByRecursion, AllZip, AllZip-long, AreClasses, as_many, Becomes, becomes_across, becomes_back, becomes_itself, becomes_same, becomes_then, begun_within, blocks_of, Change, changed, changed_order, changed_ticket, Classes, complete_orders_leave_none, Configuration, configuration-append, configuration_after, configuration_from, configuration_in, configurations_follow_orders, each_map, each_snoc, equally_long, first_configuration, follows_changed, GoesOnUpTo, has_map, has_some, HasOne, IsChange, IsComplete, IsFirst, IsFollowedFrom, IsKey, IsReducedFrom, IsSound, IsStanding, key_kept, key_tells, leads_from, legal-rest, legal_from, legal_on, LegalFrom, length-map, none_of, NoneNext, NoTwo, one_block_on, one_changed, one_key, only_reduced, Orders, outcome_in, ProgramShape, RowShape, StandingShape, Ticket, two_snoc}
 use Rattle.qs_meaning.proofs.Reductions.{ReducedFrom, reduced_from}
-use Rattle.qs_meaning.proofs.Each.{each_map, each_snoc}
-use Rattle.qs_meaning.proofs.Orders.{begun_within, complete_orders_leave_none, configuration-append, configurations_follow_orders, legal-rest, legal_on}
 use Rattle.qs_outcomes.specs.Answers.{IsEndAfter}
 use Rattle.qs_outcomes.specs.Outcomes.{IsListedAfter}
-use Rattle.qs_outcomes.specs.Reached.{AreUnlike, HasMore, HasNoted, HasReached, IsFollowedTo}
+use Rattle.qs_outcomes.specs.Reached.{AreUnlike, HasNoted, HasReached, IsFollowedTo}
 use Rattle.qs_outcomes.specs.Search.{IsExplored, IsFound, IsOn, IsSeen, IsSeenOrAhead}
-use Rattle.qs_standings.specs.Lists.{HasOne, NoTwo}
-use Rattle.qs_standings.specs.Standings.{IsFirst, IsStanding, NoneNext, RowShape, StandingShape, configuration_in}
-use Rattle.qs_standings.proofs.Lists.{has_map, has_some, none_of, two_snoc}
-use Rattle.qs_alike.specs.Changes.{AreClasses, Becomes, Change, Classes, IsChange, changed, changed_order, changed_ticket}
-use Rattle.qs_alike.specs.Followed.{GoesOnUpTo, IsFollowedFrom, Orders, only_reduced}
-use Rattle.qs_alike.specs.Keys.{IsKey}
-use Rattle.qs_alike.proofs.Composing.{becomes_across, becomes_back, becomes_itself, becomes_same, becomes_then}
-use Rattle.qs_alike.proofs.Following.{follows_changed}
-use Rattle.qs_alike.proofs.Keying.{key_kept, key_tells, one_key}
-use Rattle.qs_alike.proofs.Lengths.{equally_long}
-use Rattle.qs_alike.proofs.Orders.{as_many, leads_from, legal_from, one_changed}
 use Rattle.qs_outcomes.proofs.LeastFirst.{picked_key}
+use Rattle.qs_outcomes.proofs.Zips.{zip_each, zip_has, zip_two}
 
 -- no block left: each client has begun all that it has
 pub all_begun : (p : ProgramShape) (front : List Ticket) (s : StandingShape) → IsStanding p front s → NoneNext p s → (c : ℕ) → get_or s.begun c 0 ≡ blocks_of p c
@@ -41,28 +21,19 @@ all_begun p front s is none c =
     let over : get_or s.begun c 0 < blocks_of p c → ⊥ = none c in
     omega (arith, same, within, over)
 
-complete_end : (p : ProgramShape) (front : List Ticket) (s : StandingShape) → IsStanding p front s → NoneNext p s → IsComplete p s.order
-complete_end p front s is over =
-    (complete_orders_leave_none p s.order is.legal).1
-    (λ c. sym (ap (λ (g : Configuration). g.begun c) is.stands) ∙ all_begun p front s is over c)
-
 -- where no block is left, an order is complete
 pub listed_end : (p : ProgramShape) (front : List Ticket) (s : StandingShape) → IsStanding p front s → NoneNext p s → IsListedAfter p front s
 listed_end p front s is over = record {
-  complete = complete_end p front s is over;
+  complete = (complete_orders_leave_none p s.order is.legal).1 (λ c. sym (ap (λ (g : Configuration). g.begun c) is.stands) ∙ all_begun p front s is over c);
   reduced = is.reduced;
   outcome = ap outcome_in is.stands ∙ configurations_follow_orders p s.order is.legal;
   places = record { locals = is.locals; states = is.states };
 }
 
-pub end_after : (p : ProgramShape) (k : Classes) (front : List Ticket) (s : StandingShape) → IsFollowedTo p k only_reduced front s → NoneNext p s
-    → IsEndAfter p k front s
-end_after p k front s to over = record {
-  complete = complete_end p s.order s to.standing over;
-  followed = to.followed;
-  outcome = ap outcome_in to.standing.stands ∙ configurations_follow_orders p s.order to.standing.legal;
-  places = record { locals = to.standing.locals; states = to.standing.states };
-}
+pub end_after : {p : ProgramShape} {k : Classes} {front : List Ticket} {s : StandingShape} → IsFollowedTo p k only_reduced front s → NoneNext p s → IsEndAfter p k front s
+end_after {p} {s = s} to over =
+    let listed = listed_end p s.order s to.standing over in
+    record { complete = listed.complete; followed = to.followed; outcome = listed.outcome; places = listed.places }
 
 -- where no client has a block left, none has before a change
 pub ends_before : (p : ProgramShape) (k : Classes) → AreClasses p k → (x : Change) → IsChange k x → (g h : Configuration) → h ≡ changed x g
@@ -85,10 +56,10 @@ pub record Reaches (p : ProgramShape) (k : Classes) (front : List Ticket) (rows 
   pub becomes : Becomes k g (configuration_in standing)
 
 -- what a standing that was seen is
-pub met : (p : ProgramShape) (k : Classes) (front : List Ticket) → IsSound p → (rows : List RowShape) (stack found : List StandingShape)
-    → AllByRecursion (λ r. (t : StandingShape) × IsSeen p k front rows stack found r t) rows
-    → (n : StandingShape) → HasOne (IsKey p k n) rows → (g : Configuration) → Becomes k g (configuration_in n) → Reaches p k front rows stack found g
-met p k front sound rows stack found all n seen g becomes =
+pub met : {p : ProgramShape} {k : Classes} {front : List Ticket} {rows : List RowShape} {stack found : List StandingShape} → IsSound p
+    → IsExplored p k front rows stack found → (n : StandingShape) → HasOne (IsKey p k n) rows → {g : Configuration} → Becomes k g (configuration_in n)
+    → Reaches p k front rows stack found g
+met {p} {k} {front} {rows} {stack} {found} sound explored n seen {g} becomes =
     has_some
     (λ r (key : IsKey p k n r) (w : (t : StandingShape) × IsSeen p k front rows stack found r t).
     let there : Becomes k (configuration_in n) (configuration_in w.0) = key_tells p k sound n w.0 r key w.1.key in
@@ -99,10 +70,10 @@ met p k front sound rows stack found all n seen g becomes =
       there = has_map (λ q. key_kept p k n w.0 q there) rows seen;
       becomes = becomes_then k g (configuration_in n) (configuration_in w.0) becomes there;
     })
-    rows seen all
+    rows seen explored.seen
 
-module _ (p : ProgramShape) (k : Classes) (front : List Ticket) (sound : IsSound p) (are : AreClasses p k) (rows : List RowShape)
-    (found : List StandingShape) (explored : IsExplored p k front rows [] found) where
+module _ {p : ProgramShape} {k : Classes} {front : List Ticket} (sound : IsSound p) (are : AreClasses p k) {rows : List RowShape}
+    {found : List StandingShape} (explored : IsExplored p k front rows [] found) where
   abbrev At : Configuration → Type 0
   At g = Reaches p k front rows [] found g
 
@@ -113,8 +84,7 @@ module _ (p : ProgramShape) (k : Classes) (front : List Ticket) (sound : IsSound
   first_met : At (configuration_after p front)
   first_met =
       let n = seen_now (IsFirst p front) explored.first in
-      met p k front sound rows [] found explored.seen n.0 n.2 (configuration_after p front)
-      (becomes_same k (configuration_after p front) (configuration_in n.0) n.1.first)
+      met sound explored n.0 n.2 (becomes_same k (configuration_after p front) (configuration_in n.0) n.1.first)
 
   -- where the next block of one who goes on leads
   next_met : (g : Configuration) (c : ℕ) → At g → GoesOnUpTo p k g c → At (one_block_on p c g)
@@ -124,8 +94,7 @@ module _ (p : ProgramShape) (k : Classes) (front : List Ticket) (sound : IsSound
       let on : GoesOnUpTo p k (configuration_in m.standing) (x.new c) =
       subst (λ h. GoesOnUpTo p k h (x.new c)) (sym m.becomes.2) (follows_changed p k are x is only_reduced g c goes) in
       let n = seen_now (IsOn p k front m.standing (x.new c)) (m.seen.closed (x.new c) on) in
-      met p k front sound rows [] found explored.seen n.0 n.2 (one_block_on p c g)
-      (x, is, n.1.on.next ∙ (ap (one_block_on p (x.new c)) m.becomes.2 ∙ one_changed p k are x is g c))
+      met sound explored n.0 n.2 (x, is, n.1.on.next ∙ (ap (one_block_on p (x.new c)) m.becomes.2 ∙ one_changed p k are x is g c))
 
   along : (g : Configuration) (ts : List Ticket) → At g → IsFollowedFrom p k only_reduced g ts → At (configuration_from p g ts)
   along g [] m followed = m
@@ -208,112 +177,91 @@ module _ (p : ProgramShape) (k : Classes) (front : List Ticket) (sound : IsSound
     ends_reduced : (c : ℕ) → (configuration_from p a reduced.reduced).begun c ≡ blocks_of p c
     ends_reduced c = ap (λ (q : Configuration). q.begun c) reduced.same ∙ ends_us c
 
-  -- an order that leaves no block, of at most so many tickets
-  reaches : (many : ℕ) (g : Configuration) (ts : List Ticket) → length ts ≤ many → At g → LegalFrom p g.begun ts
+  -- an order that leaves no block, of fewer tickets than so many
+  reaches : (many : ℕ) (g : Configuration) (ts : List Ticket) → length ts < many → At g → LegalFrom p g.begun ts
       → ((c : ℕ) → (configuration_from p g ts).begun c ≡ blocks_of p c) → Found (configuration_from p g ts)
-  reaches zero g ts few m legal ends =
-      let r = reduced g ts m legal ends in
-      back g ts m legal ends
-      (by_list g ts m legal ends r.reduced r.legal r.is_reduced (ends_reduced g ts m legal ends)
-      (λ q vs less met_q legal_q ends_q. absurd (let l = long g ts m legal ends in omega (arith, less, l, few))))
+  reaches zero g ts few m legal ends = absurd (omega (arith, few))
   reaches (suc many) g ts few m legal ends =
       let r = reduced g ts m legal ends in
       back g ts m legal ends
       (by_list g ts m legal ends r.reduced r.legal r.is_reduced (ends_reduced g ts m legal ends)
-      (λ q vs less met_q legal_q ends_q. reaches many q vs (let l = long g ts m legal ends in omega (arith, less, l, few)) met_q legal_q ends_q))
+      (λ q vs less. reaches many q vs (let l = long g ts m legal ends in omega (arith, less, l, few))))
 
   -- what a complete order leads to becomes one that was found
   pub all_found : (rest : List Ticket) → IsComplete p (front ++ rest) → Found (configuration_after p (front ++ rest))
   all_found rest complete =
       let whole = configuration-append p (first_configuration p) front rest in
       subst Found (sym whole)
-      (reaches (length rest) (configuration_after p front) rest (omega arith) first_met (legal-rest p (first_configuration p) front rest complete.legal)
+      (reaches (suc (length rest)) (configuration_after p front) rest (omega arith) first_met (legal-rest p (first_configuration p) front rest complete.legal)
       (λ c. ap (λ (g : Configuration). g.begun c) (sym whole) ∙ (complete_orders_leave_none p (front ++ rest) complete.legal).0 complete c))
 
   pub all_ends : AllByRecursion (IsEndAfter p k front) found
-  all_ends = each_map (λ s (f : IsFound p k front rows s). end_after p k front s f.to f.over) found explored.found
+  all_ends = each_map (λ s (f : IsFound p k front rows s). end_after f.to f.over) found explored.found
 
--- the standings that were kept, one for each row, which is its key
-module _ (p : ProgramShape) (k : Classes) (o : Orders) (front : List Ticket) (Kept : RowShape → StandingShape → Type 0)
-    (to : (r : RowShape) (s : StandingShape) → Kept r s → IsFollowedTo p k o front s) (key : (r : RowShape) (s : StandingShape) → Kept r s → IsKey p k s r) where
-  abbrev pub AllKept : List RowShape → Type 0
-  AllKept rows = AllByRecursion (λ r. (s : StandingShape) × Kept r s) rows
+-- standings of which these rows are the keys, none of which becomes another
+pub record AreKept (p : ProgramShape) (k : Classes) (o : Orders) (front : List Ticket) (rows : List RowShape) (ss : List StandingShape) : Type 0 where
+  pub keys : AllZip (λ r s. IsKey p k s r) rows ss
+  pub reached : AllByRecursion (IsFollowedTo p k o front) ss
+  pub apart : NoTwo (λ s t. Becomes k (configuration_in s) (configuration_in t)) ss
 
-  pub picked : (rows : List RowShape) → AllKept rows → List StandingShape
-  picked [] h = []
-  picked (r ∷ rows) h = h.0.0 ∷ picked rows h.1
+module _ {p : ProgramShape} {k : Classes} {o : Orders} {front : List Ticket} {rows : List RowShape} {ss : List StandingShape} (kept : AreKept p k o front rows ss) where
+  pub kept_long : length ss ≡ length rows
+  kept_long = AllZip-long (λ r s. IsKey p k s r) rows ss kept.keys
 
-  picked_long : (rows : List RowShape) (h : AllKept rows) → length (picked rows h) ≡ length rows
-  unfolding picked
-  picked_long [] h = refl
-  picked_long (r ∷ rows) h = ap suc (picked_long rows h.1)
+  pub unlike : AreUnlike p k o front ss (length rows)
+  unlike = record { count = kept_long; reached = kept.reached; unlike = kept.apart }
 
-  picked_to : (rows : List RowShape) (h : AllKept rows) → AllByRecursion (IsFollowedTo p k o front) (picked rows h)
-  unfolding picked
-  picked_to [] h = tt
-  picked_to (r ∷ rows) h = (to r h.0.0 h.0.1, picked_to rows h.1)
+  -- whose key is among the rows becomes one of them
+  pub kept_there : IsSound p → (s : StandingShape) → HasOne (IsKey p k s) rows → HasOne (λ t. Becomes k (configuration_in s) (configuration_in t)) ss
+  kept_there sound s = zip_has (λ r t. IsKey p k t r) {P = IsKey p k s} (λ r t own is. key_tells p k sound s t r is own) rows ss kept.keys
 
-  picked_other : (s : StandingShape) (q : RowShape) → IsKey p k s q → (rows : List RowShape) (h : AllKept rows) → AllByRecursion (λ r. q ≡ r → ⊥) rows
-      → AllByRecursion (λ t. Becomes k (configuration_in s) (configuration_in t) → ⊥) (picked rows h)
-  unfolding picked
-  picked_other s q is [] h other = tt
-  picked_other s q is (r ∷ rows) h other =
-      (λ b. other.0 (one_key p k s h.0.0 q r b is (key r h.0.0 h.0.1)), picked_other s q is rows h.1 other.1)
+  module _ {s : StandingShape} (is : IsFollowedTo p k o front s) (new : HasOne (IsKey p k s) rows → ⊥) where
+    pub apart_more : NoTwo (λ t u. Becomes k (configuration_in t) (configuration_in u)) (ss ++ s ∷ [])
+    apart_more = two_snoc (λ t u. Becomes k (configuration_in t) (configuration_in u)) ss s kept.apart
+        (zip_each (λ r t. IsKey p k t r) {P = λ r. IsKey p k s r → ⊥} {Q = λ t. Becomes k (configuration_in t) (configuration_in s) → ⊥}
+        (λ r t own other b. other (key_kept p k t s r b own)) rows ss kept.keys (none_of (IsKey p k s) rows new))
 
-  picked_into : (s : StandingShape) (rows : List RowShape) (h : AllKept rows) → AllByRecursion (λ r. IsKey p k s r → ⊥) rows
-      → AllByRecursion (λ t. Becomes k (configuration_in t) (configuration_in s) → ⊥) (picked rows h)
-  unfolding picked
-  picked_into s [] h other = tt
-  picked_into s (r ∷ rows) h other = (λ b. other.0 (key_kept p k h.0.0 s r b (key r h.0.0 h.0.1)), picked_into s rows h.1 other.1)
+    pub one_more : (many : ℕ) → many ≡ suc (length rows) → HasNoted p k o front many
+    one_more many e = (
+      ss ++ s ∷ [],
+      record {
+        count = (let long = kept_long in omega (arith, e, long, length-append ss (s ∷ [])));
+        reached = each_snoc (IsFollowedTo p k o front) ss s kept.reached is;
+        unlike = apart_more;
+      },
+    )
 
-  picked_unlike : (rows : List RowShape) (h : AllKept rows) → NoTwo ◌≡◌ rows → NoTwo (λ s t. Becomes k (configuration_in s) (configuration_in t)) (picked rows h)
-  unfolding picked
-  picked_unlike [] h once = tt
-  picked_unlike (r ∷ rows) h once = (picked_other h.0.0 r (key r h.0.0 h.0.1) rows h.1 once.0, picked_unlike rows h.1 once.1)
+-- of the rows that were seen
+module _ {p : ProgramShape} {k : Classes} {front : List Ticket} {rows : List RowShape} {stack found : List StandingShape} (explored : IsExplored p k front rows stack found) where
+  picked : (rs : List RowShape) → AllByRecursion (λ r. (s : StandingShape) × IsSeen p k front rows stack found r s) rs
+      → (ss : List StandingShape) × AllZip (λ r s. IsKey p k s r) rs ss × AllByRecursion (IsFollowedTo p k only_reduced front) ss
+  picked [] h = ([], tt, tt)
+  picked (r ∷ rs) h = let later = picked rs h.1 in (h.0.0 ∷ later.0, (h.0.1.key, later.1), (h.0.1.to, later.2))
 
-  pub picked_has : IsSound p → (w : StandingShape) (rows : List RowShape) (h : AllKept rows) → HasOne (IsKey p k w) rows
-      → HasOne (λ s. Becomes k (configuration_in w) (configuration_in s)) (picked rows h)
-  unfolding picked
-  picked_has sound w [] h seen = absurd seen
-  picked_has sound w (r ∷ rows) h (inl own) = inl (key_tells p k sound w h.0.0 r own (key r h.0.0 h.0.1))
-  picked_has sound w (r ∷ rows) h (inr later) = inr (picked_has sound w rows h.1 later)
+  kept : (ss : List StandingShape) × AreKept p k only_reduced front rows ss
+  kept =
+      let all = picked rows explored.seen in (
+        all.0,
+        record {
+          keys = all.1;
+          reached = all.2;
+          apart = zip_two (λ r s. IsKey p k s r) {S = λ r q. r ≡ q → ⊥} {T = λ s t. Becomes k (configuration_in s) (configuration_in t) → ⊥}
+              (λ r s q t own its other b. other (one_key p k s t r q b own its)) rows all.0 all.1 explored.once;
+        },
+      )
 
-  pub unlike : (rows : List RowShape) (h : AllKept rows) → NoTwo ◌≡◌ rows → AreUnlike p k o front (picked rows h) (length rows)
-  unlike rows h once = record { count = picked_long rows h; reached = picked_to rows h; unlike = picked_unlike rows h once }
-
-  pub one_more : (rows : List RowShape) (h : AllKept rows) → NoTwo ◌≡◌ rows → (s : StandingShape) → IsFollowedTo p k o front s → (HasOne (IsKey p k s) rows → ⊥)
-      → AreUnlike p k o front (picked rows h ++ s ∷ []) (suc (length rows))
-  one_more rows h once s is new = record {
-    count = (let long = picked_long rows h in omega (arith, long, length-append (picked rows h) (s ∷ [])));
-    reached = each_snoc (IsFollowedTo p k o front) (picked rows h) s (picked_to rows h) is;
-    unlike = two_snoc (λ s t. Becomes k (configuration_in s) (configuration_in t)) (picked rows h) s (picked_unlike rows h once)
-        (picked_into s rows h (none_of (IsKey p k s) rows new));
-  }
+  pub noted_one_more : {s : StandingShape} → IsFollowedTo p k only_reduced front s → (HasOne (IsKey p k s) rows → ⊥) → (many : ℕ) → many ≡ suc (length rows)
+      → HasNoted p k only_reduced front many
+  noted_one_more is new = one_more kept.1 is new
 
 -- all were noted to which followed orders lead, but for changes
-pub has_reached : (p : ProgramShape) (k : Classes) (front : List Ticket) → IsSound p → AreClasses p k → (rows : List RowShape) (found : List StandingShape)
+pub has_reached : {p : ProgramShape} {k : Classes} {front : List Ticket} → IsSound p → AreClasses p k → {rows : List RowShape} {found : List StandingShape}
     → IsExplored p k front rows [] found → HasReached p k only_reduced front (length rows)
-has_reached p k front sound are rows found explored = (
-  picked p k only_reduced front (IsSeen p k front rows [] found) (λ r s w. w.to) (λ r s w. w.key) rows explored.seen,
-  unlike p k only_reduced front (IsSeen p k front rows [] found) (λ r s w. w.to) (λ r s w. w.key) rows explored.seen explored.once,
+has_reached {p} {k} {front} sound are explored = (
+  (kept explored).0,
+  unlike (kept explored).1,
   λ rest legal followed.
-      (let last = reached p k front sound are rows found explored rest followed in
+      (let last = reached sound are explored rest followed in
       has_map (λ s. becomes_then k (configuration_after p (front ++ rest)) (configuration_in last.standing) (configuration_in s) last.becomes)
-      (picked p k only_reduced front (IsSeen p k front rows [] found) (λ r s w. w.to) (λ r s w. w.key) rows explored.seen)
-      (picked_has p k only_reduced front (IsSeen p k front rows [] found) (λ r s w. w.to) (λ r s w. w.key) sound last.standing rows explored.seen last.there)),
+      (kept explored).0 (kept_there (kept explored).1 sound last.standing last.there)),
 )
-
--- one more configuration was noted
-pub noted_one_more : (p : ProgramShape) (k : Classes) (front : List Ticket) (rows : List RowShape) (stack found : List StandingShape) (s : StandingShape)
-    → IsExplored p k front rows stack found → IsFollowedTo p k only_reduced front s → (HasOne (IsKey p k s) rows → ⊥)
-    → HasNoted p k only_reduced front (suc (length rows))
-noted_one_more p k front rows stack found s explored is new = (
-  picked p k only_reduced front (IsSeen p k front rows stack found) (λ r s w. w.to) (λ r s w. w.key) rows explored.seen ++ s ∷ [],
-  one_more p k only_reduced front (IsSeen p k front rows stack found) (λ r s w. w.to) (λ r s w. w.key) rows explored.seen explored.once s is new,
-)
-
-pub has_more : (p : ProgramShape) (k : Classes) (front : List Ticket) (limit : ℕ) (rows : List RowShape) (stack found : List StandingShape) (s : StandingShape)
-    → IsExplored p k front rows stack found → IsFollowedTo p k only_reduced front s → length rows ≡ limit → (HasOne (IsKey p k s) rows → ⊥)
-    → HasMore p k only_reduced front limit
-has_more p k front limit rows stack found s explored is full new =
-    subst (λ n. HasNoted p k only_reduced front (suc n)) full (noted_one_more p k front rows stack found s explored is new)

@@ -2,33 +2,17 @@
 -- or on the stack, and it is found where no block is left, but for a change. So once the stack is empty, what was seen is
 -- closed, and by induction along any legal order its configuration was seen; where the order is complete, it was found.
 use Rattle.std.proofs.Common.{◌≡◌, ◌<◌, ◌≤◌, ◌+◌, ℕ, suc, Bool, true, false, List, [], ◌∷◌, ◌++◌, length, sym, ap, ◌∙◌, subst, arith, ◌⊎◌, inl, inr, ⊎_elim, append_assoc, append-nil, length-append}
-use Rattle.std.specs.List.{AllByRecursion}
-use Rattle.qs_objects.specs.declared.held.Ticket.{Ticket}
-use Rattle.qs_program.specs.audit.Program.{ProgramShape}
-use Rattle.qs_program.specs.Sound.{IsSound}
-use Rattle.qs_meaning.proofs.Each.{each_back, each_front, each_join, each_map, each_snoc}
+use Rattle.qs_outcomes.proofs.Common.{AllByRecursion, AreClasses, Becomes, becomes_itself, Classes, configuration_in, each_back, each_front, each_join, each_map, each_snoc, follows_left, GoesOnUpTo, has_back, has_either, has_front, has_map, has_only, has_place, HasOne, IsFirst, IsKey, IsOneOn, IsSound, IsStanding, key_kept, nil_from_length, none_of, NoneNext, NoTwo, only_reduced, Orders, pairs_join, ProgramShape, RowShape, StandingShape, Ticket, two_snoc}
 use Rattle.qs_outcomes.specs.LeastOrders.{IsBefore, IsLeastFirst}
-use Rattle.qs_outcomes.specs.Reached.{IsFollowedTo}
-use Rattle.qs_standings.specs.Lists.{HasOne, NoTwo}
+use Rattle.qs_outcomes.specs.Reached.{HasNoted, IsFollowedTo}
 use Rattle.qs_outcomes.specs.Search.{AreNextFrom, IsExplored, IsFound, IsLonger, IsNoted, IsOn, IsPushed, IsReachedBy, IsSeen, IsSeenOrAhead, WasSeen}
-use Rattle.qs_standings.specs.Standings.{IsFirst, IsOneOn, IsStanding, NoneNext, RowShape, StandingShape, configuration_in}
-use Rattle.qs_alike.specs.Changes.{AreClasses, Becomes, Classes}
-use Rattle.qs_alike.specs.Followed.{GoesOnUpTo, Orders, only_reduced}
-use Rattle.qs_alike.specs.Keys.{IsKey}
-use Rattle.qs_alike.proofs.Composing.{becomes_itself}
-use Rattle.qs_alike.proofs.Following.{follows_left}
-use Rattle.qs_alike.proofs.Keying.{key_kept, one_key}
 use Rattle.qs_outcomes.proofs.Before.{fork}
+use Rattle.qs_outcomes.proofs.Explored.{noted_one_more}
 use Rattle.qs_outcomes.proofs.LeastFirst.{first_ends, first_pushes, first_skips}
-use Rattle.qs_standings.proofs.Lists.{has_back, has_either, has_front, has_map, has_only, none_of, pairs_join, two_snoc}
-use Rattle.qs_standings.proofs.Stands.{below_or_past, has_place}
+use Rattle.qs_outcomes.proofs.Steps.{key_new}
 
 here_or_above : (c d : ℕ) → c ≤ d → (c ≡ d) ⊎ (suc c ≤ d)
-here_or_above c d h =
-    ⊎_elim
-    (λ (below : c < d). inr (omega (arith, below)))
-    (λ (past : d ≤ c). inl (omega (arith, h, past)))
-    (below_or_past c d)
+here_or_above c d h = grind arith
 
 -- whatever was reached stays so, where the last of the stack was seen
 reached_on : (p : ProgramShape) (k : Classes) (Q : StandingShape → Type 0) (rows later : List RowShape) (stack now : List StandingShape) (s : StandingShape)
@@ -48,21 +32,18 @@ other_key p k s q key rows new =
     each_map {Q = λ r. r ≡ q → ⊥} (λ r (other : IsKey p k s r → ⊥) e. other (subst (IsKey p k s) (sym e) key)) rows (none_of (IsKey p k s) rows new)
 
 -- a next block makes an order longer by one
-pub longer_on : (p : ProgramShape) (s n : StandingShape) (c : ℕ) → IsOneOn p s c n → length n.order ≡ suc (length s.order)
-longer_on p s n c on =
-    let ticket : Ticket = record { client = c; index = (configuration_in s).begun c } in
-    let e : length n.order ≡ length (s.order ++ ticket ∷ []) = ap length on.order in
-    let long = length-append s.order (ticket ∷ []) in omega (arith, e, long)
+pub longer_on : {p : ProgramShape} {s n : StandingShape} {c : ℕ} → IsOneOn p s c n → length n.order ≡ suc (length s.order)
+longer_on on = omega (arith, simp length-append at (ap (length {A = Ticket}) on.order))
 
-module _ (p : ProgramShape) (k : Classes) (front : List Ticket) (sound : IsSound p) (are : AreClasses p k) (rows : List RowShape)
-    (stack found : List StandingShape) (s : StandingShape) (explored : IsExplored p k front rows (stack ++ s ∷ []) found) where
+module _ {p : ProgramShape} {k : Classes} {front : List Ticket} (sound : IsSound p) (are : AreClasses p k) {rows : List RowShape}
+    (stack : List StandingShape) {found : List StandingShape} (s : StandingShape) (explored : IsExplored p k front rows (stack ++ s ∷ []) found) where
   abbrev To : StandingShape → Type 0
   To t = IsFollowedTo p k only_reduced front t
 
   pub taken : IsFollowedTo p k only_reduced front s
   taken = (each_back To stack (s ∷ []) explored.stack).0
 
-  pub near_top : IsReachedBy front (length rows) s
+  near_top : IsReachedBy front (length rows) s
   near_top = (each_back (IsReachedBy front (length rows)) stack (s ∷ []) explored.near).0
 
   -- a standing whose key was seen is done with
@@ -83,7 +64,7 @@ module _ (p : ProgramShape) (k : Classes) (front : List Ticket) (sound : IsSound
     once = explored.once;
     found = explored.found;
     apart = explored.apart;
-    least = first_skips p k front sound are rows stack found s taken explored.least seen;
+    least = first_skips sound are stack s taken explored.least seen;
   }
 
   module _ (q : RowShape) (key : IsKey p k s q) (new : HasOne (IsKey p k s) rows → ⊥) (added results : List StandingShape)
@@ -103,19 +84,16 @@ module _ (p : ProgramShape) (k : Classes) (front : List Ticket) (sound : IsSound
     ahead c (inl h) = inl (has_back (IsOn p k front s c) stack added h)
     ahead c (inr h) = inr h
 
-    rows_longer : length (rows ++ q ∷ []) ≡ suc (length rows)
-    rows_longer = let e = length-append rows (q ∷ []) in omega (arith, e)
-
     -- with one more noted, so are those on the stack
     near_on : AllByRecursion (IsReachedBy front (length (rows ++ q ∷ []))) (stack ++ added)
     near_on =
-        let one = rows_longer in
+        let one : length (rows ++ q ∷ []) ≡ suc (length rows) = omega (arith, length-append rows (q ∷ [])) in
         each_join (IsReachedBy front (length (rows ++ q ∷ []))) stack added
         (each_map (λ t (near : IsReachedBy front (length rows) t).
         let far : length t.order ≤ length front + length (rows ++ q ∷ []) = omega (arith, one, near) in far)
         stack (each_front (IsReachedBy front (length rows)) stack (s ∷ []) explored.near))
         (each_map (λ n (on : (c : ℕ) × (0 ≤ c) × IsOn p k front s c n).
-        let long = longer_on p s n on.0 on.2.on in let top = near_top in
+        let long = longer_on on.2.on in let top = near_top in
         let far : length n.order ≤ length front + length (rows ++ q ∷ []) = omega (arith, one, long, top) in far)
         added next.next)
 
@@ -157,7 +135,7 @@ module _ (p : ProgramShape) (k : Classes) (front : List Ticket) (sound : IsSound
   pub sees_on : (q : RowShape) → IsKey p k s q → (HasOne (IsKey p k s) rows → ⊥) → (added : List StandingShape) → AreNextFrom p k front (rows ++ q ∷ []) s 0 added
       → (NoneNext p s → ⊥) → IsExplored p k front (rows ++ q ∷ []) (stack ++ added) found
   sees_on q key new added next some = sees q key new added found next (λ P h. h) (λ none. absurd (some none)) (found_on q found explored.found) explored.apart
-      (first_pushes p k front sound are rows stack found s taken explored.least q key added next)
+      (first_pushes sound are stack s taken explored.least q key added next)
 
   -- where none is left, the standing is found
   pub sees_end : (q : RowShape) → IsKey p k s q → (HasOne (IsKey p k s) rows → ⊥) → AreNextFrom p k front (rows ++ q ∷ []) s 0 [] → NoneNext p s
@@ -170,7 +148,7 @@ module _ (p : ProgramShape) (k : Classes) (front : List Ticket) (sound : IsSound
       (two_snoc (λ x y. Becomes k (configuration_in x) (configuration_in y)) found s explored.apart
       (each_map {Q = λ x. Becomes k (configuration_in x) (configuration_in s) → ⊥}
       (λ x (f : IsFound p k front rows x) becomes. new (has_map (λ r. key_kept p k x s r becomes) rows f.seen)) found explored.found))
-      (first_ends p k front sound are rows stack found s taken explored.least q key new next)
+      (first_ends sound are stack s taken explored.least q key new next)
 
 -- one more pushed: those of one more client
 pub pushed_on : (p : ProgramShape) (k : Classes) (front : List Ticket) (rows : List RowShape) (s : StandingShape) (c : ℕ) (before middle after : List StandingShape) → c < length p.clients
@@ -222,7 +200,7 @@ pushed_on p k front rows s c before middle after client (added, is, next) (inr (
     seen_or_not (inr not) goes = absurd (not goes)
 
 -- where no block is left nobody goes on
-pub none_next : (p : ProgramShape) (k : Classes) (front : List Ticket) → AreClasses p k → (rows : List RowShape) (s : StandingShape) → NoneNext p s → AreNextFrom p k front rows s 0 []
+none_next : (p : ProgramShape) (k : Classes) (front : List Ticket) → AreClasses p k → (rows : List RowShape) (s : StandingShape) → NoneNext p s → AreNextFrom p k front rows s 0 []
 none_next p k front are rows s none = record {
   next = tt;
   sorted = tt;
@@ -231,50 +209,59 @@ none_next p k front are rows s none = record {
 }
 
 -- a standing that was taken up, by what was noted of it under its key and what was added
-module _ (p : ProgramShape) (k : Classes) (front : List Ticket) (sound : IsSound p) (are : AreClasses p k) (limit : ℕ) (rows later : List RowShape)
-    (stack found : List StandingShape) (s : StandingShape) (explored : IsExplored p k front rows (stack ++ s ∷ []) found)
-    (q : RowShape) (key : IsKey p k s q) (new : Bool) (noted : IsNoted rows q limit new later) where
+module _ {p : ProgramShape} {k : Classes} {front : List Ticket} (sound : IsSound p) (are : AreClasses p k) (limit : ℕ) {rows : List RowShape} (later : List RowShape)
+    (stack : List StandingShape) {found : List StandingShape} {s : StandingShape} (explored : IsExplored p k front rows (stack ++ s ∷ []) found)
+    {q : RowShape} (key : IsKey p k s q) (new : Bool) (noted : IsNoted rows q limit new later) where
   pub skipped : new ≡ false → IsExplored p k front later stack found
   skipped old =
       let same : IsNoted rows q limit false later = subst (λ b. IsNoted rows q limit b later) old noted in
       subst (λ rs. IsExplored p k front rs stack found) (sym same.0.0)
-      (skips p k front sound are rows stack found s explored (has_map (λ r (e : q ≡ r). subst (IsKey p k s) e key) rows same.0.1))
+      (skips sound are stack s explored (has_map (λ r (e : q ≡ r). subst (IsKey p k s) e key) rows same.0.1))
 
-  fresh : new ≡ true → IsNoted rows q limit true later
-  fresh is = subst (λ b. IsNoted rows q limit b later) is noted
+  module _ (is : new ≡ true) where
+    fresh : IsNoted rows q limit true later
+    fresh = subst (λ b. IsNoted rows q limit b later) is noted
 
-  -- no other row was its key
-  pub unseen : new ≡ true → HasOne (IsKey p k s) rows → ⊥
-  unseen is seen = (fresh is).0.1 (has_map (λ r (other : IsKey p k s r). one_key p k s s q r (becomes_itself k (configuration_in s)) key other) rows seen)
+    -- no other row was its key
+    unseen : HasOne (IsKey p k s) rows → ⊥
+    unseen = key_new key rows fresh.0.1
 
-  pub gone_on : new ≡ true → (now : List StandingShape) → IsLonger p k front later s 0 stack now → (NoneNext p s → ⊥) → IsExplored p k front later now found
-  gone_on is now (added, e, next) some =
-      let n = fresh is in
-      subst (λ rs. IsExplored p k front rs now found) (sym n.0.0)
-      (subst (λ ts. IsExplored p k front (rows ++ q ∷ []) ts found) (sym e)
-      (sees_on p k front sound are rows stack found s explored q key (unseen is) added (subst (λ rs. AreNextFrom p k front rs s 0 added) n.0.0 next) some))
+    -- one more configuration was noted, and these are more than the blocks that lead to it from the front on
+    longer : length later ≡ suc (length rows)
+    longer = omega (arith, simp length-append at (ap (length {A = RowShape}) fresh.0.0))
 
-  pub ended : new ≡ true → NoneNext p s → (results : List StandingShape) → results ≡ found ++ s ∷ [] → IsExplored p k front later stack results
-  ended is none results last =
-      let n = fresh is in
-      subst (λ rs. IsExplored p k front rs stack results) (sym n.0.0)
-      (subst (λ ts. IsExplored p k front (rows ++ q ∷ []) ts results) (append-nil stack)
-      (subst (λ xs. IsExplored p k front (rows ++ q ∷ []) (stack ++ []) xs) (sym last)
-      (sees_end p k front sound are rows stack found s explored q key (unseen is) (none_next p k front are (rows ++ q ∷ []) s none) none)))
+    pub noted_top : HasNoted p k only_reduced front (length later)
+    noted_top = noted_one_more explored (taken sound are stack s explored) unseen (length later) longer
+
+    pub enough_top : length s.order < length front + length later
+    enough_top = let long = longer in let near = near_top sound are stack s explored in omega (arith, long, near)
+
+    pub gone_on : (now : List StandingShape) → IsLonger p k front later s 0 stack now → (NoneNext p s → ⊥) → IsExplored p k front later now found
+    gone_on now (added, e, next) some =
+        subst (λ rs. IsExplored p k front rs now found) (sym fresh.0.0)
+        (subst (λ ts. IsExplored p k front (rows ++ q ∷ []) ts found) (sym e)
+        (sees_on sound are stack s explored q key unseen added (subst (λ rs. AreNextFrom p k front rs s 0 added) fresh.0.0 next) some))
+
+    pub ended : NoneNext p s → (results : List StandingShape) → results ≡ found ++ s ∷ [] → IsExplored p k front later stack results
+    ended none results last =
+        subst (λ rs. IsExplored p k front rs stack results) (sym fresh.0.0)
+        (subst (λ ts. IsExplored p k front (rows ++ q ∷ []) ts results) (append-nil stack)
+        (subst (λ xs. IsExplored p k front (rows ++ q ∷ []) (stack ++ []) xs) (sym last)
+        (sees_end sound are stack s explored q key unseen (none_next p k front are (rows ++ q ∷ []) s none) none)))
 
 -- where the program stands after the front, to begin with
-pub reached_first : (p : ProgramShape) (k : Classes) (o : Orders) (front : List Ticket) (s : StandingShape) → IsFirst p front s → IsFollowedTo p k o front s
-reached_first p k o front s first = record {
+pub reached_first : {p : ProgramShape} {k : Classes} {o : Orders} {front : List Ticket} {s : StandingShape} → IsFirst p front s → IsFollowedTo p k o front s
+reached_first {p} {front = front} {s = s} first = record {
   standing = subst (λ ts. IsStanding p ts s) (sym first.order) first.standing;
   followed = record { rest = []; whole = first.order ∙ sym (append-nil front); followed = tt };
 }
 
-pub begun : (p : ProgramShape) (k : Classes) (front : List Ticket) (s : StandingShape) → IsFirst p front s → (rows : List RowShape) (stack found : List StandingShape)
+pub begun : {p : ProgramShape} {k : Classes} {front : List Ticket} {s : StandingShape} → IsFirst p front s → {rows : List RowShape} {stack found : List StandingShape}
     → rows ≡ [] → stack ≡ s ∷ [] → found ≡ [] → IsExplored p k front rows stack found
-begun p k front s first rows stack found none one nothing =
+begun {p} {k} {front} {s} first {rows} {stack} {found} none one nothing =
     let at : IsExplored p k front [] (s ∷ []) [] =
     record {
-      stack = (reached_first p k only_reduced front s first, tt);
+      stack = (reached_first first, tt);
       near = (
         let e : length s.order ≡ length front = ap (length {A = Ticket}) first.order in
             let far : length s.order ≤ length front + 0 = omega (arith, e) in far,
@@ -298,7 +285,6 @@ begun p k front s first rows stack found none one nothing =
     (subst (λ ts. IsExplored p k front [] ts found) (sym one) (subst (IsExplored p k front [] (s ∷ [])) (sym nothing) at))
 
 -- nothing is left on the stack
-pub over : (p : ProgramShape) (k : Classes) (front : List Ticket) (rows : List RowShape) (stack found : List StandingShape) → length stack ≡ 0
+pub over : {p : ProgramShape} {k : Classes} {front : List Ticket} {rows : List RowShape} {stack found : List StandingShape} → length stack ≡ 0
     → IsExplored p k front rows stack found → IsExplored p k front rows [] found
-over p k front rows [] found none explored = explored
-over p k front rows (s ∷ stack) found none explored = absurd (let e : length (s ∷ stack) ≡ 0 = none in omega (arith, e))
+over {p} {k} {front} {rows} {stack} {found} none explored = subst (λ ts. IsExplored p k front rows ts found) (nil_from_length stack none) explored

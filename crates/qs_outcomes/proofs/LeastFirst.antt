@@ -5,30 +5,11 @@
 -- there instead, as the change of what goes on from the top, is before the top, too: so nothing is lost where it is
 -- passed over.
 use Rattle.std.proofs.Common.{◌≡◌, ◌≤◌, ◌+◌, ℕ, List, [], ◌∷◌, ◌++◌, length, sym, ap, ◌∙◌, subst, arith, ◌⊎◌, inl, inr, append_assoc, append-nil, length-append}
-use Rattle.std.specs.List.{AllByRecursion}
-use Rattle.qs_objects.specs.declared.held.Ticket.{Ticket}
-use Rattle.qs_program.specs.audit.Program.{ProgramShape}
-use Rattle.qs_program.specs.Sound.{IsSound}
-use Rattle.qs_meaning.specs.audit.Configurations.{Configuration, configuration_after, configuration_from, first_configuration, one_block_on}
-use Rattle.qs_meaning.specs.audit.Serial.{IsLegal, LegalFrom}
-use Rattle.qs_meaning.proofs.Each.{each_back, each_front, each_join, each_map, each_snoc}
-use Rattle.qs_meaning.proofs.Orders.{configuration-append, legal-front, legal-join, legal-rest}
+use Rattle.qs_outcomes.proofs.Common.{alike_long, AllByRecursion, AreClasses, Becomes, becomes_across, becomes_same, becomes_then, changed, changed_order, Classes, Configuration, configuration-append, configuration-snoc, configuration_after, configuration_from, configuration_in, each_back, each_front, each_join, each_map, each_snoc, first_configuration, followed_back, followed_changed, followed_onward, follows_left, GoesOnUpTo, has_back, has_either, has_front, has_map, has_only, has_place, has_some, HasOne, IsFollowedAfter, IsFollowedFrom, IsKey, IsLegal, IsSound, key_kept, key_tells, leads_from, legal-front, legal-join, legal-rest, legal_from, LegalFrom, one_block_on, only_reduced, pairs_front, pairs_join, pairs_last, ProgramShape, RowShape, StandingShape, Ticket}
 use Rattle.qs_outcomes.specs.LeastOrders.{IsAheadOf, IsBefore, IsLeastFirst, IsLeastUpTo, IsLongerBy, IsNotedAhead, IsSeenAfter}
 use Rattle.qs_outcomes.specs.Reached.{IsFollowedTo}
-use Rattle.qs_standings.specs.Lists.{HasOne}
 use Rattle.qs_outcomes.specs.Search.{AreNextFrom, IsOn}
-use Rattle.qs_standings.specs.Standings.{RowShape, StandingShape, configuration_in}
-use Rattle.qs_alike.specs.Changes.{AreClasses, Becomes, Classes, changed, changed_order}
-use Rattle.qs_alike.specs.Followed.{GoesOnUpTo, IsFollowedAfter, IsFollowedFrom, only_reduced}
-use Rattle.qs_alike.specs.Keys.{IsKey}
-use Rattle.qs_alike.proofs.Composing.{becomes_across, becomes_same, becomes_then}
-use Rattle.qs_alike.proofs.Following.{followed_back, followed_changed, followed_onward, follows_left}
-use Rattle.qs_alike.proofs.Keying.{key_kept, key_tells}
-use Rattle.qs_alike.proofs.Lengths.{alike_long}
-use Rattle.qs_alike.proofs.Orders.{leads_from, legal_from}
 use Rattle.qs_outcomes.proofs.Before.{before_both, before_longer, before_onward, not_before}
-use Rattle.qs_standings.proofs.Lists.{has_back, has_either, has_front, has_map, has_only, has_some, pairs_front, pairs_join, pairs_last}
-use Rattle.qs_standings.proofs.Stands.{configuration-snoc, has_place}
 
 abbrev pub GoesThrough : List Ticket → StandingShape → Type 0
 GoesThrough order s = (rest : List Ticket) × IsLongerBy s.order rest order
@@ -43,8 +24,8 @@ picked_key p k Q [] h = absurd h
 picked_key p k Q (r ∷ rows) (inl (n, q, key)) = (n, q, inl key)
 picked_key p k Q (r ∷ rows) (inr h) = let later = picked_key p k Q rows h in (later.0, later.1, inr later.2)
 
-module _ (p : ProgramShape) (k : Classes) (front : List Ticket) (sound : IsSound p) (are : AreClasses p k) (rows : List RowShape)
-    (stack found : List StandingShape) (s : StandingShape) (to : IsFollowedTo p k only_reduced front s)
+module _ {p : ProgramShape} {k : Classes} {front : List Ticket} (sound : IsSound p) (are : AreClasses p k) {rows : List RowShape}
+    (stack : List StandingShape) {found : List StandingShape} (s : StandingShape) (to : IsFollowedTo p k only_reduced front s)
     (first : IsLeastFirst p k front rows (stack ++ s ∷ []) found) where
   abbrev Follows : List Ticket → Type 0
   Follows order = IsFollowedAfter p k only_reduced front order

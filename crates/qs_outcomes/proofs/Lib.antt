@@ -1,4 +1,7 @@
+pub mod Common
 pub mod Before
+pub mod Zips
+pub mod Mapped
 pub mod LeastFirst
 pub mod Exploring
 pub mod Explored

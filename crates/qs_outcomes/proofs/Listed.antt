@@ -2,26 +2,11 @@
 -- configurations to which reduced orders lead: who is followed is who goes on, and what becomes another is the same. Two
 -- ends that come to the same are of one configuration.
 use Rattle.std.proofs.Common.{◌≡◌, ℕ, List, [], ◌∷◌, ◌++◌, length, sym, ap, ◌∙◌, subst}
-use Rattle.std.specs.List.{AllByRecursion}
-use Rattle.qs_objects.specs.declared.held.Ticket.{Ticket}
-use Rattle.qs_program.specs.audit.Program.{ProgramShape}
-use Rattle.qs_program.specs.Sound.{IsSound}
-use Rattle.qs_meaning.specs.audit.Configurations.{configuration_after}
-use Rattle.qs_meaning.specs.Configurations.{outcome_in}
-use Rattle.qs_meaning.specs.audit.Serial.{IsLegal}
-use Rattle.qs_meaning.proofs.Each.{each_both, each_map}
-use Rattle.qs_meaning.proofs.Orders.{complete_orders_leave_none, configurations_follow_orders}
+use Rattle.qs_outcomes.proofs.Common.{AllByRecursion, AreAlone, AreClasses, Becomes, becomes_alone, becomes_same, Classes, complete_orders_leave_none, configuration_after, configuration_in, configurations_follow_orders, each_both, each_map, followed_reduced_after, has_map, IsLegal, IsSound, IsStanding, NoTwo, only_reduced, outcome_in, ProgramShape, reduced_followed, reduced_followed_after, RowShape, StandingShape, Ticket}
 use Rattle.qs_outcomes.specs.LeastOrders.{IsLeastUpTo}
 use Rattle.qs_outcomes.specs.Outcomes.{AreAllOutcomesAfter, AreApart, AreDifferent, AreOutcomesAfter, HasConfigurationsAfter, HasMoreThanAfter, IsLeastAfter, outcome_at}
 use Rattle.qs_outcomes.specs.Reached.{AreUnlike, HasMore, HasReached, IsFollowedTo}
 use Rattle.qs_outcomes.specs.Search.{IsExplored, IsFound}
-use Rattle.qs_standings.specs.Lists.{NoTwo}
-use Rattle.qs_standings.specs.Standings.{IsStanding, RowShape, StandingShape, configuration_in}
-use Rattle.qs_standings.proofs.Lists.{has_map}
-use Rattle.qs_alike.specs.Changes.{AreAlone, AreClasses, Becomes, Classes}
-use Rattle.qs_alike.specs.Followed.{only_reduced}
-use Rattle.qs_alike.proofs.Composing.{becomes_alone, becomes_same}
-use Rattle.qs_alike.proofs.Following.{followed_reduced_after, reduced_followed, reduced_followed_after}
 use Rattle.qs_outcomes.proofs.Explored.{all_begun, all_found, has_reached, listed_end}
 
 all_but : {X : Type 0} {Q : X → Type 0} (R S : X → X → Type 0) → ((x y : X) → Q x → Q y → S x y → R x y) → (x : X) → Q x → (ys : List X) → AllByRecursion Q ys
@@ -66,13 +51,13 @@ module _ (p : ProgramShape) (k : Classes) (front : List Ticket) (alone : AreAlon
   pub more_than : (limit : ℕ) → HasMore p k only_reduced front limit → HasMoreThanAfter p front limit
   more_than limit (ss, are) = (ss, different ss _ are)
 
-  module _ (sound : IsSound p) (are : AreClasses p k) (rows : List RowShape) (found : List StandingShape) (explored : IsExplored p k front rows [] found) where
+  module _ (sound : IsSound p) (are : AreClasses p k) {rows : List RowShape} {found : List StandingShape} (explored : IsExplored p k front rows [] found) where
     all_outcomes : AreAllOutcomesAfter p front found
     all_outcomes rest complete =
         has_map
         (λ t (b : Becomes k (configuration_after p (front ++ rest)) (configuration_in t)).
         ap outcome_in (becomes_alone k alone (configuration_after p (front ++ rest)) (configuration_in t) b) ∙ configurations_follow_orders p (front ++ rest) complete.legal)
-        found (all_found p k front sound are rows found explored rest complete)
+        found (all_found sound are explored rest complete)
 
     all_least : AllByRecursion (IsLeastAfter p front) found
     all_least = each_both {R = IsLeastAfter p front} (λ s (f : IsFound p k front rows s) (l : IsLeastUpTo p k front s). λ order complete reduced same before.
@@ -100,5 +85,5 @@ module _ (p : ProgramShape) (k : Classes) (front : List Ticket) (alone : AreAlon
       least = all_least;
       sorted = explored.least.sorted;
       once = all_apart;
-      counted = subst (HasConfigurationsAfter p front) (sym same) (configurations (length rows) (has_reached p k front sound are rows found explored));
+      counted = subst (HasConfigurationsAfter p front) (sym same) (configurations (length rows) (has_reached sound are explored));
     }

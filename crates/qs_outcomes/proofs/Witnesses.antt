@@ -1,42 +1,28 @@
 -- Where the top of the stack is what is asked for, and nothing was before: an order before the top leads to what was
 -- seen, but for a change, and at the end of a complete one this was found, so it is not what is asked for. The question
 -- says the same of what becomes one another.
-use Rattle.std.proofs.Common.{◌≡◌, ◌<◌, ◌+◌, ℕ, suc, Bool, true, false, List, [], ◌∷◌, ◌++◌, length, refl, sym, ap, ◌∙◌, subst, arith, true≢false, Option, Some, None, length-append}
-use Rattle.std.specs.Prelude.{IfSome}
-use Rattle.qs_objects.specs.declared.held.Ticket.{Ticket}
-use Rattle.qs_program.specs.audit.Program.{ProgramShape, blocks_of}
-use Rattle.qs_program.specs.Sound.{IsSound}
-use Rattle.qs_meaning.specs.audit.Configurations.{Configuration, IsComplete, configuration_after}
-use Rattle.qs_meaning.specs.Configurations.{OrderOutcome, outcome_in, outcome_of}
-use Rattle.qs_meaning.proofs.Orders.{complete_orders_leave_none, configurations_follow_orders}
+use Rattle.std.proofs.Common.{◌≡◌, ◌<◌, ℕ, Bool, true, false, List, [], ◌∷◌, ◌++◌, refl, sym, ap, ◌∙◌, arith, true≢false, Option, Some, None}
+use Rattle.qs_outcomes.proofs.Common.{AreClasses, Becomes, becomes_then, blocks_of, Classes, complete_orders_leave_none, Configuration, configuration_after, configuration_in, configurations_follow_orders, has_map, has_some, HasOne, IfSome, IsComplete, IsFollowedAfter, IsSound, NoneNext, only_reduced, OrderOutcome, outcome_in, outcome_of, ProgramShape, RowShape, StandingShape, Ticket}
 use Rattle.qs_outcomes.specs.Answers.{AreUnmet, IsBlind, IsWitnessAfter, NoneMeets}
 use Rattle.qs_outcomes.specs.LeastOrders.{IsBefore, IsSeenAfter}
 use Rattle.qs_outcomes.specs.Outcomes.{outcome_at}
-use Rattle.qs_outcomes.specs.Reached.{HasNoted}
-use Rattle.qs_outcomes.specs.Search.{IsExplored, IsNoted}
-use Rattle.qs_standings.specs.Lists.{HasOne}
-use Rattle.qs_standings.specs.Standings.{NoneNext, RowShape, StandingShape, configuration_in}
-use Rattle.qs_standings.proofs.Lists.{has_map, has_some}
-use Rattle.qs_alike.specs.Changes.{AreClasses, Becomes, Classes}
-use Rattle.qs_alike.specs.Followed.{IsFollowedAfter, only_reduced}
-use Rattle.qs_alike.specs.Keys.{IsKey}
-use Rattle.qs_alike.proofs.Composing.{becomes_then}
-use Rattle.qs_outcomes.proofs.Explored.{end_after, ends_changed, met, noted_one_more}
-use Rattle.qs_outcomes.proofs.Exploring.{near_top, taken, unseen}
+use Rattle.qs_outcomes.specs.Search.{IsExplored}
+use Rattle.qs_outcomes.proofs.Explored.{end_after, ends_changed, met}
+use Rattle.qs_outcomes.proofs.Exploring.{taken}
 use Rattle.qs_outcomes.proofs.LeastFirst.{seen_before}
 
 -- of what becomes one another the question says the same
 pub asked_alike : (k : Classes) (asked : OrderOutcome → Bool) → IsBlind k asked → (g h : Configuration) → Becomes k g h → asked (outcome_in h) ≡ asked (outcome_in g)
 asked_alike k asked blind g h (x, is, e) = ap (λ q. asked (outcome_in q)) e ∙ blind x is (outcome_in g)
 
-module _ (p : ProgramShape) (k : Classes) (front : List Ticket) (sound : IsSound p) (are : AreClasses p k) (rows : List RowShape)
-    (stack found : List StandingShape) (s : StandingShape) (explored : IsExplored p k front rows (stack ++ s ∷ []) found)
+module _ {p : ProgramShape} {k : Classes} {front : List Ticket} (sound : IsSound p) (are : AreClasses p k) {rows : List RowShape}
+    (stack : List StandingShape) {found : List StandingShape} (s : StandingShape) (explored : IsExplored p k front rows (stack ++ s ∷ []) found)
     (asked : OrderOutcome → Bool) (blind : IsBlind k asked) (unmet : AreUnmet asked found) where
   -- what a complete order leads to becomes what was found
   found_there : (order : List Ticket) → IsComplete p order → (t : StandingShape) → IsSeenAfter p k front rows order t
       → HasOne (λ x. Becomes k (configuration_after p order) (configuration_in x)) found
   found_there order complete t seen =
-      let m = met p k front sound rows (stack ++ s ∷ []) found explored.seen t seen.key (configuration_after p order) seen.there in
+      let m = met sound explored t seen.key {g = configuration_after p order} seen.there in
       let ends : (c : ℕ) → (configuration_after p order).begun c ≡ blocks_of p c = (complete_orders_leave_none p order complete.legal).0 complete in
       let none : NoneNext p m.standing = λ c left.
       (let over : (configuration_in m.standing).begun c ≡ blocks_of p c = ends_changed p k are m.becomes.0 m.becomes.1 (configuration_after p order) (configuration_in m.standing) m.becomes.2 ends c in
@@ -47,7 +33,7 @@ module _ (p : ProgramShape) (k : Classes) (front : List Ticket) (sound : IsSound
   -- nothing that was found is what is asked for
   none_before : (order : List Ticket) → IsComplete p order → IsFollowedAfter p k only_reduced front order → asked (outcome_of p order) ≡ true → IsBefore order s.order → ⊥
   none_before order complete followed is before =
-      let seen = seen_before p k front sound are rows stack found s (taken p k front sound are rows stack found s explored) explored.least order complete.legal followed before in
+      let seen = seen_before sound are stack s (taken sound are stack s explored) explored.least order complete.legal followed before in
       has_some
       (λ x (there : Becomes k (configuration_after p order) (configuration_in x)) (not : asked (outcome_at x) ≡ false).
       true≢false (sym is ∙ (ap asked (sym (configurations_follow_orders p order complete.legal))
@@ -56,36 +42,16 @@ module _ (p : ProgramShape) (k : Classes) (front : List Ticket) (sound : IsSound
 
   pub is_witness : NoneNext p s → asked (outcome_at s) ≡ true → IsWitnessAfter p k front asked s
   is_witness over is = record {
-    end = end_after p k front s (taken p k front sound are rows stack found s explored) over;
+    end = end_after (taken sound are stack s explored) over;
     met = is;
     least = none_before;
   }
 
--- where the key of the top was new, one more configuration was noted
-pub noted_top : (p : ProgramShape) (k : Classes) (front : List Ticket) → IsSound p → AreClasses p k → (limit : ℕ) (rows later : List RowShape)
-    (stack found : List StandingShape) (s : StandingShape) → IsExplored p k front rows (stack ++ s ∷ []) found
-    → (q : RowShape) → IsKey p k s q → (new : Bool) → IsNoted rows q limit new later → new ≡ true → HasNoted p k only_reduced front (length later)
-noted_top p k front sound are limit rows later stack found s explored q key new noted is =
-    let n : IsNoted rows q limit true later = subst (λ b. IsNoted rows q limit b later) is noted in
-    let longer : length later ≡ suc (length rows) = ap length n.0.0 ∙ (let e = length-append rows (q ∷ []) in omega (arith, e)) in
-    subst (HasNoted p k only_reduced front) (sym longer)
-    (noted_one_more p k front rows (stack ++ s ∷ []) found s explored (taken p k front sound are rows stack found s explored)
-    (unseen p k front sound are limit rows later stack found s explored q key new noted is))
-
--- and these are more than the blocks that lead to it from the front on
-pub enough_top : (p : ProgramShape) (k : Classes) (front : List Ticket) → IsSound p → AreClasses p k → (limit : ℕ) (rows later : List RowShape)
-    (stack found : List StandingShape) (s : StandingShape) → IsExplored p k front rows (stack ++ s ∷ []) found
-    → (q : RowShape) (new : Bool) → IsNoted rows q limit new later → new ≡ true → length s.order < length front + length later
-enough_top p k front sound are limit rows later stack found s explored q new noted is =
-    let n : IsNoted rows q limit true later = subst (λ b. IsNoted rows q limit b later) is noted in
-    let longer : length later ≡ suc (length rows) = ap length n.0.0 ∙ (let e = length-append rows (q ∷ []) in omega (arith, e)) in
-    let near = near_top p k front sound are rows stack found s explored in omega (arith, longer, near)
-
 -- where what all complete orders lead to becomes what was found, and none of these is what is asked for
-pub none_meets : (p : ProgramShape) (k : Classes) (front : List Ticket) (asked : OrderOutcome → Bool) → IsBlind k asked → (found : List StandingShape)
+pub none_meets : {p : ProgramShape} {k : Classes} (front : List Ticket) {asked : OrderOutcome → Bool} → IsBlind k asked → (found : List StandingShape)
     → ((rest : List Ticket) → IsComplete p (front ++ rest) → HasOne (λ t. Becomes k (configuration_after p (front ++ rest)) (configuration_in t)) found)
     → AreUnmet asked found → NoneMeets p front asked
-none_meets p k front asked blind found all unmet rest complete =
+none_meets {p} {k} front {asked} blind found all unmet rest complete =
     has_some
     (λ x (there : Becomes k (configuration_after p (front ++ rest)) (configuration_in x)) (not : asked (outcome_at x) ≡ false).
     ap asked (sym (configurations_follow_orders p (front ++ rest) complete.legal))

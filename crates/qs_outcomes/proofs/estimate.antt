@@ -1,4 +1,3 @@
-pub mod Mapped
 pub mod Words
 pub mod Choosing
 pub mod Rows

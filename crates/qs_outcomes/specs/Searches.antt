@@ -2,8 +2,15 @@
 use Rattle.std.specs.Prelude.{◌≡◌, ℕ, Bool, true, false, List, Option, Some, None}
 use Rattle.qs_program.specs.audit.Program.{ProgramShape}
 use Rattle.qs_alike.specs.Changes.{AreAlone, AreClasses, Classes}
+use Rattle.qs_alike.specs.Followed.{Orders}
 use Rattle.qs_alike.specs.Keys.{IsKey, IsPlacedAs}
+use Rattle.qs_alike.specs.Texts.{classes_in}
+use Rattle.qs_meaning.specs.Configurations.{OrderOutcome}
 use Rattle.qs_meaning.specs.Reduced.{goes_on}
+use Rattle.qs_outcomes.specs.declared.search.Search.{Search}
+use Rattle.qs_outcomes.specs.Reached.{HasMore}
+use Rattle.qs_outcomes.specs.Search.{IsExplored}
+use Rattle.qs_outcomes.specs.throughout.Walked.{HasWalked, IsGoingOn}
 use Rattle.qs_standings.specs.going.Going.{AreLast, in_byte}
 use Rattle.qs_standings.specs.Lists.{HasOne}
 use Rattle.qs_standings.specs.Rows.{AreStarts}
@@ -34,3 +41,27 @@ abbrev pub IsLed : ProgramShape → Classes → List RowShape → StandingShape 
     → Option StandingShape → Type 0
 IsLed p k rows s c key (Some n) = IsOneOn p s c n × IsKey p k n key
 IsLed p k rows s c key None = (n : StandingShape) × IsOneOn p s c n × HasOne (IsKey p k n) rows
+
+-- ---- the same of a search, by what it is made for
+
+abbrev pub classes_of : Search → Classes
+classes_of search = classes_in search.classes.now
+
+abbrev pub IsReady : Search → Type 0
+IsReady search = IsPrepared search.program.now (classes_of search) search.alone search.last.items search.starts.items
+
+abbrev pub IsWrittenIn : Search → StandingShape → (base : RowShape) → (copy : StandingShape) → Type 0
+IsWrittenIn search = IsWritten search.program.now (classes_of search) search.alone
+
+abbrev pub HasMoreIn : Search → Orders → Type 0
+HasMoreIn search o = HasMore search.program.now (classes_of search) o search.front.now search.limit
+
+abbrev pub IsExploredIn : Search → List RowShape → (ahead found : List StandingShape) → Type 0
+IsExploredIn search = IsExplored search.program.now (classes_of search) search.front.now
+
+abbrev pub HasWalkedIn : Search → (OrderOutcome → Bool) → List RowShape → (waiting : List StandingShape) → Type 0
+HasWalkedIn search = HasWalked search.program.now (classes_of search) search.front.now search.limit
+
+abbrev pub IsGoingOnIn : Search → (OrderOutcome → Bool) → List RowShape → StandingShape → (client : ℕ)
+    → (waiting : List StandingShape) → Type 0
+IsGoingOnIn search = IsGoingOn search.program.now (classes_of search) search.front.now search.limit

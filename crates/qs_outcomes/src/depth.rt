@@ -3,11 +3,10 @@
 ghost use Rattle.std.specs.Prelude.{◌≡◌, ◌<◌, ◌≤◌, ◌+◌, true, None, IfOk, IfSome, OnOk, IsErrOf, ◌∷◌, [], ◌++◌, length};
 ghost use Rattle.qs_alike.specs.Followed.{GoesOnUpTo, only_reduced};
 ghost use Rattle.qs_alike.specs.Keys.{IsKey};
-ghost use Rattle.qs_alike.specs.Texts.{classes_in};
 ghost use Rattle.qs_outcomes.specs.Answers.{AreUnmet, IsBlind, IsWitnessAfter};
-ghost use Rattle.qs_outcomes.specs.Reached.{HasMore, HasNoted, IsFollowedTo};
-ghost use Rattle.qs_outcomes.specs.Search.{IsExplored, IsLonger, IsNoted, IsPushed, work_left};
-ghost use Rattle.qs_outcomes.specs.Searches.{IsPrepared, IsWritten};
+ghost use Rattle.qs_outcomes.specs.Reached.{HasNoted, IsFollowedTo};
+ghost use Rattle.qs_outcomes.specs.Search.{IsLonger, IsNoted, IsPushed, work_left};
+ghost use Rattle.qs_outcomes.specs.Searches.{HasMoreIn, IsExploredIn, IsReady, IsWrittenIn, classes_of};
 ghost use Rattle.qs_standings.specs.Lists.{HasOne};
 ghost use Rattle.qs_standings.specs.Rows.{drafted, rows_in};
 ghost use Rattle.qs_standings.specs.Standings.{IsFirst, IsStanding, configuration_in};
@@ -28,17 +27,14 @@ fn note(
     scratch: &mut Scratch,
     seen: &mut IndexSet<Row>,
 ) -> Result<bool, OutcomesFault>
-    requires prepared { IsPrepared search.now.program.now (classes_in search.now.classes.now) search.now.alone
-        search.now.last.items search.now.starts.items }
+    requires prepared { IsReady search.now }
     requires standing { IsStanding search.now.program.now standing.now.order standing.now }
     requires small { length (rows_in seen.old.keys) ≤ search.now.limit }
-    ensures written { OnOk result (IsWritten search.now.program.now (classes_in search.now.classes.now) search.now.alone
-        standing.now (drafted scratch.new.base) scratch.new.copy) }
+    ensures written { OnOk result (IsWrittenIn search.now standing.now (drafted scratch.new.base) scratch.new.copy) }
     ensures noted { IfOk result (λ new. IsNoted (rows_in seen.old.keys) (drafted scratch.new.base) search.now.limit new
         (rows_in seen.new.keys)) }
-    ensures full { IsErrOf result OutcomesFault.Limit → (length (rows_in seen.old.keys) ≡ search.now.limit)
-        × (HasOne (IsKey search.now.program.now (classes_in search.now.classes.now) standing.now)
-        (rows_in seen.old.keys) → ⊥) }
+    ensures full { IsErrOf result OutcomesFault.Limit → (length (rows_in seen.old.keys) ≡ search.now.limit) ×
+        (HasOne (IsKey search.now.program.now (classes_of search.now) standing.now) (rows_in seen.old.keys) → ⊥) }
     ensures order { ¬ IsErrOf result OutcomesFault.Order }
 {
     search.write(alloc, standing, scratch)?;
@@ -69,18 +65,15 @@ fn push_one(
     seen: &IndexSet<Row>,
     stack: &mut Vec<Standing>,
 ) -> Result<(), AllocError>
-    requires prepared { IsPrepared search.now.program.now (classes_in search.now.classes.now) search.now.alone
-        search.now.last.items search.now.starts.items }
+    requires prepared { IsReady search.now }
     requires client { client < length search.now.program.now.clients }
-    requires to { IsFollowedTo search.now.program.now (classes_in search.now.classes.now) only_reduced
-        search.now.front.now standing.now }
-    requires goes { GoesOnUpTo search.now.program.now (classes_in search.now.classes.now)
-        (configuration_in standing.now) client }
-    requires written { IsWritten search.now.program.now (classes_in search.now.classes.now) search.now.alone
-        standing.now (drafted scratch.old.base) scratch.old.copy }
+    requires to { IsFollowedTo search.now.program.now (classes_of search.now) only_reduced search.now.front.now
+        standing.now }
+    requires goes { GoesOnUpTo search.now.program.now (classes_of search.now) (configuration_in standing.now) client }
+    requires written { IsWrittenIn search.now standing.now (drafted scratch.old.base) scratch.old.copy }
     ensures base { scratch.new.base ≡ scratch.old.base }
     ensures copy { scratch.new.copy ≡ scratch.old.copy }
-    ensures pushed { OnOk result (IsPushed search.now.program.now (classes_in search.now.classes.now)
+    ensures pushed { OnOk result (IsPushed search.now.program.now (classes_of search.now)
         search.now.front.now (rows_in seen.now.keys) standing.now client stack.old.items stack.new.items) }
 {
     if let Some(next) = search.lead(alloc, standing, client, scratch, seen)? {
@@ -98,13 +91,11 @@ fn push_next(
     seen: &IndexSet<Row>,
     stack: &mut Vec<Standing>,
 ) -> Result<(), AllocError>
-    requires prepared { IsPrepared search.now.program.now (classes_in search.now.classes.now) search.now.alone
-        search.now.last.items search.now.starts.items }
-    requires to { IsFollowedTo search.now.program.now (classes_in search.now.classes.now) only_reduced
-        search.now.front.now standing.now }
-    requires written { IsWritten search.now.program.now (classes_in search.now.classes.now) search.now.alone
-        standing.now (drafted scratch.old.base) scratch.old.copy }
-    ensures longer { OnOk result (IsLonger search.now.program.now (classes_in search.now.classes.now)
+    requires prepared { IsReady search.now }
+    requires to { IsFollowedTo search.now.program.now (classes_of search.now) only_reduced search.now.front.now
+        standing.now }
+    requires written { IsWrittenIn search.now standing.now (drafted scratch.old.base) scratch.old.copy }
+    ensures longer { OnOk result (IsLonger search.now.program.now (classes_of search.now)
         search.now.front.now (rows_in seen.now.keys) standing.now 0 stack.old.items stack.new.items) }
 {
     search.program.keeps_sound();
@@ -141,34 +132,27 @@ fn visit<Q: Question, W: Watcher>(
     standing: Standing,
     state: &mut Searched,
 ) -> Result<Option<Standing>, OutcomesFault>
-    requires prepared { IsPrepared search.now.program.now (classes_in search.now.classes.now) search.now.alone
-        search.now.last.items search.now.starts.items }
-    requires blind { IsBlind (classes_in search.now.classes.now) (Q.asked question.now search.now.program.now) }
+    requires prepared { IsReady search.now }
+    requires blind { IsBlind (classes_of search.now) (Q.asked question.now search.now.program.now) }
     requires small { length (rows_in state.old.seen.keys) ≤ search.now.limit }
-    requires explored { IsExplored search.now.program.now (classes_in search.now.classes.now) search.now.front.now
-        (rows_in state.old.seen.keys)
-        (state.old.stack.items ++ standing ∷ []) state.old.found.items }
+    requires explored { IsExploredIn search.now (rows_in state.old.seen.keys) (state.old.stack.items ++ standing ∷ [])
+        state.old.found.items }
     requires unmet { AreUnmet (Q.asked question.now search.now.program.now) state.old.found.items }
     ensures same { state.new.witness ≡ state.old.witness }
-    ensures explored { IfOk result (λ met. met ≡ None
-        → IsExplored search.now.program.now (classes_in search.now.classes.now) search.now.front.now
-        (rows_in state.new.seen.keys) state.new.stack.items state.new.found.items) }
+    ensures explored { IfOk result (λ met. met ≡ None → IsExploredIn search.now (rows_in state.new.seen.keys)
+        state.new.stack.items state.new.found.items) }
     ensures unmet { IfOk result (λ met. met ≡ None → AreUnmet (Q.asked question.now search.now.program.now)
         state.new.found.items) }
-    ensures witness { IfOk result (λ met. IfSome met
-        (IsWitnessAfter search.now.program.now (classes_in search.now.classes.now) search.now.front.now
-        (Q.asked question.now search.now.program.now))) }
-    ensures noted { IfOk result (λ met. IfSome met
-        (λ _. HasNoted search.now.program.now (classes_in search.now.classes.now) only_reduced search.now.front.now
-        (length (rows_in state.new.seen.keys)))) }
+    ensures witness { IfOk result (λ met. IfSome met (IsWitnessAfter search.now.program.now (classes_of search.now)
+        search.now.front.now (Q.asked question.now search.now.program.now))) }
+    ensures noted { IfOk result (λ met. IfSome met (λ _. HasNoted search.now.program.now (classes_of search.now)
+        only_reduced search.now.front.now (length (rows_in state.new.seen.keys)))) }
     ensures enough { IfOk result (λ met. IfSome met
         (λ s. length s.order < length search.now.front.now + length (rows_in state.new.seen.keys))) }
     ensures small { OnOk result (length (rows_in state.new.seen.keys) ≤ search.now.limit) }
     ensures less { OnOk result (work_left search.now.limit (rows_in state.new.seen.keys) state.new.stack.items
         < work_left search.now.limit (rows_in state.old.seen.keys) state.old.stack.items + 1) }
-    ensures limit { IsErrOf result OutcomesFault.Limit
-        → HasMore search.now.program.now (classes_in search.now.classes.now) only_reduced search.now.front.now
-        search.now.limit }
+    ensures limit { IsErrOf result OutcomesFault.Limit → HasMoreIn search.now only_reduced }
     ensures order { ¬ IsErrOf result OutcomesFault.Order }
 {
     search.program.keeps_sound();
@@ -213,27 +197,22 @@ pub(crate) fn search_ends<Q: Question, W: Watcher>(
     watcher: &mut W,
     first: Standing,
 ) -> Result<Searched, OutcomesFault>
-    requires prepared { IsPrepared search.now.program.now (classes_in search.now.classes.now) search.now.alone
-        search.now.last.items search.now.starts.items }
+    requires prepared { IsReady search.now }
     requires first { IsFirst search.now.program.now search.now.front.now first }
-    requires blind { IsBlind (classes_in search.now.classes.now) (Q.asked question.now search.now.program.now) }
-    ensures explored { IfOk result (λ searched. searched.witness ≡ None
-        → IsExplored search.now.program.now (classes_in search.now.classes.now) search.now.front.now
+    requires blind { IsBlind (classes_of search.now) (Q.asked question.now search.now.program.now) }
+    ensures explored { IfOk result (λ searched. searched.witness ≡ None → IsExploredIn search.now
         (rows_in searched.seen.keys) [] searched.found.items) }
     ensures unmet { IfOk result (λ searched. searched.witness ≡ None
         → AreUnmet (Q.asked question.now search.now.program.now) searched.found.items) }
     ensures witness { IfOk result (λ searched. IfSome searched.witness
-        (IsWitnessAfter search.now.program.now (classes_in search.now.classes.now) search.now.front.now
+        (IsWitnessAfter search.now.program.now (classes_of search.now) search.now.front.now
         (Q.asked question.now search.now.program.now))) }
-    ensures noted { IfOk result (λ searched. HasNoted search.now.program.now (classes_in search.now.classes.now)
-        only_reduced search.now.front.now
-        (length (rows_in searched.seen.keys))) }
+    ensures noted { IfOk result (λ searched. HasNoted search.now.program.now (classes_of search.now) only_reduced
+        search.now.front.now (length (rows_in searched.seen.keys))) }
     ensures enough { IfOk result (λ searched. IfSome searched.witness
         (λ s. length s.order < length search.now.front.now + length (rows_in searched.seen.keys))) }
     ensures within { IfOk result (λ searched. length (rows_in searched.seen.keys) ≤ search.now.limit) }
-    ensures limit { IsErrOf result OutcomesFault.Limit
-        → HasMore search.now.program.now (classes_in search.now.classes.now) only_reduced search.now.front.now
-        search.now.limit }
+    ensures limit { IsErrOf result OutcomesFault.Limit → HasMoreIn search.now only_reduced }
     ensures order { ¬ IsErrOf result OutcomesFault.Order }
 {
     search.program.keeps_sound();

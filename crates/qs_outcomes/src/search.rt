@@ -6,7 +6,7 @@ ghost use Rattle.qs_alike.specs.Changes.{AreAlone, AreClasses};
 ghost use Rattle.qs_alike.specs.Followed.{GoesOnUpTo};
 ghost use Rattle.qs_alike.specs.Keys.{IsKey};
 ghost use Rattle.qs_alike.specs.Texts.{classes_in};
-ghost use Rattle.qs_outcomes.specs.Searches.{AreGoing, IsLed, IsPrepared, IsWritten};
+ghost use Rattle.qs_outcomes.specs.Searches.{AreGoing, IsLed, IsReady, IsWrittenIn, classes_of};
 ghost use Rattle.qs_standings.specs.Rows.{drafted, rows_in};
 ghost use Rattle.qs_standings.specs.Standings.{HasNext, HasRun, IsOneOn, IsStanding, configuration_in, row_of, standing_with_block};
 
@@ -42,8 +42,7 @@ impl<'a> Search<'a> {
         limit: u32,
     ) -> Result<Search<'a>, AllocError>
         requires classes { AreClasses program.now (classes_in classes.now) }
-        ensures prepared { IfOk result (λ search. IsPrepared search.program.now (classes_in search.classes.now)
-            search.alone search.last.items search.starts.items) }
+        ensures prepared { IfOk result IsReady }
         ensures made { IfOk result (λ search. (search.program.now ≡ program.entry.now)
             × (search.classes.now ≡ classes.entry.now)
             × (search.front.now ≡ front.entry.now) × (search.limit ≡ limit)) }
@@ -67,11 +66,9 @@ impl<'a> Search<'a> {
         standing: &Standing,
         scratch: &mut Scratch,
     ) -> Result<(), AllocError>
-        requires prepared { IsPrepared self.now.program.now (classes_in self.now.classes.now) self.now.alone
-            self.now.last.items self.now.starts.items }
+        requires prepared { IsReady self.now }
         requires standing { IsStanding self.now.program.now standing.now.order standing.now }
-        ensures written { OnOk result (IsWritten self.now.program.now (classes_in self.now.classes.now) self.now.alone
-            standing.now (drafted scratch.new.base) scratch.new.copy) }
+        ensures written { OnOk result (IsWrittenIn self.now standing.now (drafted scratch.new.base) scratch.new.copy) }
     {
         if self.alone {
             standing.write_row(self.program, standing.order(), &mut scratch.base)?;
@@ -91,11 +88,9 @@ impl<'a> Search<'a> {
 
     /// Who goes on where the places of each class are in order, client c in bit c. It takes no memory.
     pub(crate) fn going(&self, standing: &Standing, scratch: &Scratch) -> u8
-        requires prepared { IsPrepared self.now.program.now (classes_in self.now.classes.now) self.now.alone
-            self.now.last.items self.now.starts.items }
+        requires prepared { IsReady self.now }
         requires standing { IsStanding self.now.program.now standing.now.order standing.now }
-        requires written { IsWritten self.now.program.now (classes_in self.now.classes.now) self.now.alone standing.now
-            (drafted scratch.now.base) scratch.now.copy }
+        requires written { IsWrittenIn self.now standing.now (drafted scratch.now.base) scratch.now.copy }
         ensures going { AreGoing self.now.program.now self.now.alone standing.now scratch.now.copy result }
     {
         let placed = if self.alone { standing } else { &scratch.copy };
@@ -110,14 +105,12 @@ impl<'a> Search<'a> {
         goes: u8,
         client: u8,
     ) -> bool
-        requires prepared { IsPrepared self.now.program.now (classes_in self.now.classes.now) self.now.alone
-            self.now.last.items self.now.starts.items }
+        requires prepared { IsReady self.now }
         requires client { client < length self.now.program.now.clients }
         requires standing { IsStanding self.now.program.now standing.now.order standing.now }
-        requires written { IsWritten self.now.program.now (classes_in self.now.classes.now) self.now.alone standing.now
-            (drafted scratch.now.base) scratch.now.copy }
+        requires written { IsWrittenIn self.now standing.now (drafted scratch.now.base) scratch.now.copy }
         requires going { AreGoing self.now.program.now self.now.alone standing.now scratch.now.copy goes }
-        ensures follows { Decides result (GoesOnUpTo self.now.program.now (classes_in self.now.classes.now)
+        ensures follows { Decides result (GoesOnUpTo self.now.program.now (classes_of self.now)
             (configuration_in standing.now) client) }
     {
         self.program.keeps_sound();
@@ -144,17 +137,16 @@ impl<'a> Search<'a> {
         scratch: &mut Scratch,
         seen: &IndexSet<Row>,
     ) -> Result<Option<Standing>, AllocError>
-        requires prepared { IsPrepared self.now.program.now (classes_in self.now.classes.now) self.now.alone
-            self.now.last.items self.now.starts.items }
+        requires prepared { IsReady self.now }
         requires client { client < length self.now.program.now.clients }
         requires standing { IsStanding self.now.program.now standing.now.order standing.now }
         requires left { HasNext self.now.program.now standing.now client }
-        requires alone { AreAlone (classes_in self.now.classes.now) }
+        requires alone { AreAlone (classes_of self.now) }
         requires base { drafted scratch.old.base ≡ row_of self.now.program.now standing.now }
         requires ran { HasRun self.now.program.now standing.now client scratch.old.values scratch.old.left.items }
         ensures base { scratch.new.base ≡ scratch.old.base }
         ensures copy { scratch.new.copy ≡ scratch.old.copy }
-        ensures led { IfOk result (IsLed self.now.program.now (classes_in self.now.classes.now) (rows_in seen.now.keys)
+        ensures led { IfOk result (IsLed self.now.program.now (classes_of self.now) (rows_in seen.now.keys)
             standing.now client (drafted scratch.new.row)) }
     {
         standing.write_next_row(
@@ -186,12 +178,11 @@ impl<'a> Search<'a> {
         standing: &Standing,
         scratch: &mut Scratch,
     ) -> Result<(), AllocError>
-        requires prepared { IsPrepared self.now.program.now (classes_in self.now.classes.now) self.now.alone
-            self.now.last.items self.now.starts.items }
+        requires prepared { IsReady self.now }
         requires standing { IsStanding self.now.program.now standing.now.order standing.now }
         ensures base { scratch.new.base ≡ scratch.old.base }
         ensures copy { scratch.new.copy ≡ scratch.old.copy }
-        ensures key { OnOk result (IsKey self.now.program.now (classes_in self.now.classes.now) standing.now
+        ensures key { OnOk result (IsKey self.now.program.now (classes_of self.now) standing.now
             (drafted scratch.new.row)) }
     {
         let mut placed = spare_standing(alloc, &mut scratch.spare);
@@ -209,15 +200,14 @@ impl<'a> Search<'a> {
         scratch: &mut Scratch,
         seen: &IndexSet<Row>,
     ) -> Result<Option<Standing>, AllocError>
-        requires prepared { IsPrepared self.now.program.now (classes_in self.now.classes.now) self.now.alone
-            self.now.last.items self.now.starts.items }
+        requires prepared { IsReady self.now }
         requires client { client < length self.now.program.now.clients }
         requires standing { IsStanding self.now.program.now standing.now.order standing.now }
         requires left { HasNext self.now.program.now standing.now client }
         requires ran { HasRun self.now.program.now standing.now client scratch.old.values scratch.old.left.items }
         ensures base { scratch.new.base ≡ scratch.old.base }
         ensures copy { scratch.new.copy ≡ scratch.old.copy }
-        ensures led { IfOk result (IsLed self.now.program.now (classes_in self.now.classes.now) (rows_in seen.now.keys)
+        ensures led { IfOk result (IsLed self.now.program.now (classes_of self.now) (rows_in seen.now.keys)
             standing.now client (drafted scratch.new.row)) }
     {
         let mut next = spare_standing(alloc, &mut scratch.spare);
@@ -247,16 +237,14 @@ impl<'a> Search<'a> {
         scratch: &mut Scratch,
         seen: &IndexSet<Row>,
     ) -> Result<Option<Standing>, AllocError>
-        requires prepared { IsPrepared self.now.program.now (classes_in self.now.classes.now) self.now.alone
-            self.now.last.items self.now.starts.items }
+        requires prepared { IsReady self.now }
         requires client { client < length self.now.program.now.clients }
         requires standing { IsStanding self.now.program.now standing.now.order standing.now }
         requires left { HasNext self.now.program.now standing.now client }
-        requires written { IsWritten self.now.program.now (classes_in self.now.classes.now) self.now.alone standing.now
-            (drafted scratch.old.base) scratch.old.copy }
+        requires written { IsWrittenIn self.now standing.now (drafted scratch.old.base) scratch.old.copy }
         ensures base { scratch.new.base ≡ scratch.old.base }
         ensures copy { scratch.new.copy ≡ scratch.old.copy }
-        ensures led { IfOk result (IsLed self.now.program.now (classes_in self.now.classes.now) (rows_in seen.now.keys)
+        ensures led { IfOk result (IsLed self.now.program.now (classes_of self.now) (rows_in seen.now.keys)
             standing.now client (drafted scratch.new.row)) }
     {
         standing.run_next(

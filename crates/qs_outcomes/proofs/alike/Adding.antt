@@ -3,19 +3,9 @@
 -- and what two of them become is never the same, since one of the two would become the other. Two lists of the same,
 -- each once, are equally long.
 use Rattle.std.proofs.Common.{◌≡◌, ◌≤◌, ◌+◌, ℕ, List, [], ◌∷◌, ◌++◌, length, refl, sym, ap, ◌∙◌, subst, arith, inl, inr, length-append}
-use Rattle.std.specs.List.{AllByRecursion, AllZip, sum}
-use Rattle.std.proofs.lemmas.List.Sums.{sum_by-cons}
-use Rattle.qs_meaning.specs.Configurations.{OrderOutcome, outcome_of}
-use Rattle.qs_meaning.proofs.Each.{each_join, each_map}
-use Rattle.qs_standings.proofs.Pigeonhole.{at_most}
+use Rattle.qs_outcomes.proofs.Common.{AllByRecursion, AllZip, at_most, changed_outcome, changes_keep_outcomes, Classes, each_join, each_map, has_back, has_front, has_map, has_some, HasOne, NoTwo, OrderOutcome, outcome_of, pairs_join, StandingShape, sum, sum_by-cons, then_changed, then_is, undone, undone_is}
 use Rattle.qs_outcomes.specs.Outcomes.{IsListed, outcome_at}
-use Rattle.qs_standings.specs.Lists.{HasOne, NoTwo}
-use Rattle.qs_standings.specs.Standings.{StandingShape}
-use Rattle.qs_standings.proofs.Lists.{has_back, has_front, has_map, has_some, pairs_join}
 use Rattle.qs_outcomes.specs.alike.AlikeOutcomes.{AreChangesOf, BecomesOutcome, CountsAreAll, IsEnd, StandsFor}
-use Rattle.qs_alike.specs.Changes.{Classes, changed_outcome}
-use Rattle.qs_alike.proofs.Orders.{changes_keep_outcomes}
-use Rattle.qs_alike.proofs.Composing.{then_changed, then_is, undone, undone_is}
 
 pub undone_becomes : (k : Classes) (a b : OrderOutcome) → BecomesOutcome k a b → BecomesOutcome k b a
 undone_becomes k a b (x, is, e) = (
@@ -73,12 +63,11 @@ module _ (f : StandingShape → OrderOutcome) (k : Classes) where
   pub gathered : (found : List StandingShape) (counts : List ℕ) → NoTwo (λ s t. BecomesOutcome k (f s) (f t)) found
       → AllZip (λ s n. StandsFor k (f s) n) found counts → (all : List OrderOutcome) × AreGathered f k found counts all
   gathered [] [] once stand = ([], record { long = refl; sound = tt; complete = λ o h. absurd h; once = tt })
-  gathered [] (n ∷ ns) once stand = absurd stand
-  gathered (s ∷ ss) [] once stand = absurd stand
   gathered (s ∷ ss) (n ∷ ns) once stand =
       let mine = stand.0 in
       let rest = gathered ss ns once.1 stand.1 in
       (mine.0 ++ rest.0, joined s ss n ns mine.0 rest.0 mine.1 mine.2 once.0 rest.1)
+  gathered _ _ once stand = absurd stand
 
 pub counts_are_all : CountsAreAll
 counts_are_all p k are full every alike listed =

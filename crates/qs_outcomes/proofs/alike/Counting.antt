@@ -3,24 +3,10 @@
 -- exchanged, what is left to change stands behind the number. Where a change puts there what another equal one has, the
 -- two are exchanged first, which makes no difference to the outcome.
 use Rattle.std.proofs.Common.{◌≡◌, ◌<◌, ◌≤◌, ◌+◌, ◌⊎◌, ◌==◌, ℕ, zero, suc, Bool, true, false, List, [], ◌∷◌, ◌++◌, length, refl, sym, ap, ◌∙◌, subst, arith, inl, inr, ⊎_elim, true≢false, length-append}
-use Rattle.std.specs.Prelude.{ℤ}
-use Rattle.std.specs.List.{AllByRecursion}
+use Rattle.qs_outcomes.proofs.Common.{AllByRecursion, AreClasses, cases_lt, Change, changed_outcome, Classes, each_join, each_map, eqb_self, exchange-twice, flip, flip_alike, flip_is, flipped, flipped_first, flipped_other, flipped_second, has_back, has_front, has_map, HasOne, IsChange, nat_tests, no_change, no_change_is, NoTwo, num_cases, OrderOutcome, pairs_join, ProgramShape, signed_items, then_changed, then_is, ℤ}
 use Rattle.std.specs.Ordering.{int_eq}
 use Rattle.std.specs.Cmp.Lexicographic.{pointwise}
-use Rattle.std.specs.Cmp.Rules.{signed_items}
-use Rattle.std.proofs.lemmas.Bool.{cases_lt}
-use Rattle.indexmap.proofs.ReorderLemmas.{exchange-twice}
-use Rattle.qs_objects.proofs.Choices.{eqb_self, num_cases}
-use Rattle.qs_program.specs.audit.Program.{ProgramShape}
-use Rattle.qs_meaning.specs.Configurations.{OrderOutcome}
-use Rattle.qs_meaning.proofs.Each.{each_join, each_map}
-use Rattle.qs_standings.specs.Lists.{HasOne, NoTwo}
-use Rattle.qs_standings.specs.Standings.{flipped}
-use Rattle.qs_standings.proofs.Lists.{has_back, has_front, has_map, pairs_join}
 use Rattle.qs_outcomes.specs.alike.AlikeOutcomes.{StandsFor}
-use Rattle.qs_alike.specs.Changes.{AreClasses, Change, Classes, IsChange, changed_outcome}
-use Rattle.qs_alike.proofs.Exchanging.{flip, flip_alike, flip_is, flipped_first, flipped_other, flipped_second}
-use Rattle.qs_alike.proofs.Composing.{no_change, no_change_is, then_changed, then_is}
 
 -- a change that leaves all below a number where they are
 pub record IsChangeFrom (k : Classes) (n : ℕ) (x : Change) : Type 0 where
@@ -136,18 +122,14 @@ module _ (k : Classes) (n : ℕ) (o : OrderOutcome) where
 
     -- a change that puts there what stood below, or just what is looked at
     split : (x : Change) → x.old n < to + 1 → ((x.old n < to) ⊎ (x.old n ≡ to))
-    split x less =
-        ⊎_elim (λ (under : x.old n < to). inl under) (λ (past : to ≤ x.old n). inr (omega (arith, less, past))) (cases_lt (x.old n) to)
+    split x less = grind arith
 
     abbrev firsts : AllByRecursion (λ b. (m : ℕ) × (n ≤ m) × (m < to + 1) × (k m ≡ k n) × (o.locals m ≡ b.locals n)) all
     firsts =
         each_map
         (λ (b : OrderOutcome) (w : (m : ℕ) × (n ≤ m) × (m < to) × (k m ≡ k n) × (o.locals m ≡ b.locals n)).
-        (w.0, w.1, further w.0 w.2, w.3, w.4))
+        (w.0, w.1, (let less = w.2 in let z : w.0 < to + 1 = omega (arith, less) in z), w.3, w.4))
         all so_far.1.first
-      where
-        further : (m : ℕ) → m < to → m < to + 1
-        further m less = omega (arith, less)
 
     -- what is looked at cannot stand there, or was counted already
     pub counts_skip : (k n ≡ k to → HasEarlier k o n to) → CountsTo k n o (to + 1) count
@@ -211,12 +193,7 @@ module _ (k : Classes) (n : ℕ) (o : OrderOutcome) where
           twice = λ i. record { locals = λ c. o.locals (exchange-twice n to (x.old c) i); states = o.states }
 
           kept : (c : ℕ) → c < n + 1 → flipped n to (x.old c) ≡ c
-          kept c less =
-              ⊎_elim
-              (λ (under : c < n). ap (flipped n to) (is.kept c under) ∙ flipped_below n to c under behind)
-              (λ (past : n ≤ c).
-              let e : c ≡ n = omega (arith, less, past) in ap (λ m. flipped n to (x.old m)) e ∙ (ap (flipped n to) put ∙ (flipped_second n to ∙ sym e)))
-              (cases_lt c n)
+          kept c less = let stays = is.kept c in let at = put in let past = behind in grind (arith, nat_tests)
 
       pub counts_more : CountsTo k n o (to + 1) (count + more)
       counts_more = (
@@ -270,49 +247,35 @@ module _ (k : Classes) (n : ℕ) (o : OrderOutcome) (other : ℕ) where
       by false e = inr (λ same. true≢false (sym ((signed_items u v).1 same) ∙ e))
 
   is_it : (c : ℕ) → IsIt c ⊎ (IsIt c → ⊥)
-  is_it c =
-      ⊎_elim
-      (λ (before : c < n). inr (λ w. (let from = w.0 in omega (arith, before, from))))
-      (λ (from : n ≤ c).
-      ⊎_elim
-      (λ (alike : k c ≡ k n).
-      ⊎_elim (λ (same : o.locals c ≡ o.locals other). inl (from, alike, same)) (λ (not : o.locals c ≡ o.locals other → ⊥). inr (λ w. not w.2))
-      (same_lists (o.locals c) (o.locals other)))
-      (λ (not : (k c == k n) ≡ false).
-      inr (λ w. true≢false (sym (subst (λ m. (k c == m) ≡ true) w.1 (eqb_self (k c))) ∙ not)))
-      (num_cases (k c) (k n)))
-      (cases_lt c n)
+  is_it c = elim (cases_lt c n) [
+    | inl before ↦ inr (λ w. (let from = w.0 in omega (arith, before, from)))
+    | inr from ↦ elim (num_cases (k c) (k n)) [
+      | inl alike ↦ elim (same_lists (o.locals c) (o.locals other)) [ inl same ↦ inl (from, alike, same) | inr not ↦ inr (λ w. not w.2) ]
+      | inr not ↦ inr (λ w. true≢false (sym (subst (λ m. (k c == m) ≡ true) w.1 (eqb_self (k c))) ∙ not))
+    ]
+  ]
 
   has_below : (m : ℕ) → HasBelow m ⊎ (HasBelow m → ⊥)
   has_below zero = inr (λ w. (let less = w.2 in omega (arith, less)))
-  has_below (suc m) =
-      ⊎_elim
-      (λ (w : HasBelow m). inl (w.0, w.1, (let less = w.2 in omega (arith, less)), w.3, w.4))
-      (λ (none : HasBelow m → ⊥).
-      ⊎_elim
-      (λ (it : IsIt m). inl (m, it.0, omega arith, it.1, it.2))
-      (λ (not : IsIt m → ⊥).
-      inr (λ w.
-      ⊎_elim
-      (λ (under : w.0 < m). none (w.0, w.1, under, w.3, w.4))
-      (λ (past : m ≤ w.0).
-      let e : w.0 ≡ m = (let less = w.2 in omega (arith, less, past)) in
-      not (subst IsIt e (w.1, w.3, w.4)))
-      (cases_lt w.0 m)))
-      (is_it m))
-      (has_below m)
+  has_below (suc m) = elim (has_below m) [
+    | inl w ↦ inl (w.0, w.1, (let less = w.2 in omega (arith, less)), w.3, w.4)
+    | inr none ↦ elim (is_it m) [
+      | inl it ↦ inl (m, it.0, omega arith, it.1, it.2)
+      | inr not ↦ inr (λ w. elim (cases_lt w.0 m) [
+        | inl under ↦ none (w.0, w.1, under, w.3, w.4)
+        | inr past ↦ let e : w.0 ≡ m = (let less = w.2 in omega (arith, less, past)) in not (subst IsIt e (w.1, w.3, w.4))
+      ])
+    ]
+  ]
 
   choice : IsChoice k o n other ⊎ (k n ≡ k other → HasEarlier k o n other)
-  choice =
-      ⊎_elim
-      (λ (w : HasEarlier k o n other). inr (λ _. w))
-      (λ (none : HasEarlier k o n other → ⊥).
-      ⊎_elim
-      (λ (alike : k n ≡ k other). inl (record { alike = alike; new = none }))
-      (λ (not : (k n == k other) ≡ false).
-      inr (λ alike. absurd (true≢false (sym (subst (λ m. (k n == m) ≡ true) alike (eqb_self (k n))) ∙ not))))
-      (num_cases (k n) (k other)))
-      (has_below other)
+  choice = elim (has_below other) [
+    | inl w ↦ inr (λ _. w)
+    | inr none ↦ elim (num_cases (k n) (k other)) [
+      | inl alike ↦ inl (record { alike = alike; new = none })
+      | inr not ↦ inr (λ alike. absurd (true≢false (sym (subst (λ m. (k n == m) ≡ true) alike (eqb_self (k n))) ∙ not)))
+    ]
+  ]
 
 -- So what each client can come to have is gone through, and behind it what is left.
 counted_to : (k : Classes) (n : ℕ) (o : OrderOutcome) → ((q : OrderOutcome) → (count : ℕ) × CountsFrom k (n + 1) q count) → (more : ℕ)

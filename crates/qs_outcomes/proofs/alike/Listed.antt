@@ -2,17 +2,7 @@
 -- complete order comes to becomes one that was found, and none of these becomes another, since at an end all clients have
 -- begun all their blocks.
 use Rattle.std.proofs.Common.{◌≡◌, ℕ, List, [], ap, get_or, sym, ◌∙◌}
-use Rattle.std.specs.List.{AllByRecursion}
-use Rattle.qs_program.specs.audit.Program.{ProgramShape}
-use Rattle.qs_program.specs.Sound.{IsSound}
-use Rattle.qs_meaning.specs.audit.Configurations.{configuration_after}
-use Rattle.qs_meaning.specs.Configurations.{outcome_in}
-use Rattle.qs_meaning.proofs.Each.{each_map}
-use Rattle.qs_meaning.proofs.Orders.{configurations_follow_orders}
-use Rattle.qs_standings.specs.Standings.{RowShape, StandingShape, configuration_in}
-use Rattle.qs_standings.proofs.Lists.{has_map}
-use Rattle.qs_alike.specs.Changes.{AreClasses, Becomes, Classes, changed_outcome}
-use Rattle.qs_alike.proofs.Orders.{as_many}
+use Rattle.qs_outcomes.proofs.Common.{AllByRecursion, AreClasses, as_many, Becomes, changed_outcome, Classes, configuration_after, configuration_in, configurations_follow_orders, each_map, has_map, IsSound, outcome_in, ProgramShape, RowShape, StandingShape}
 use Rattle.qs_outcomes.specs.Answers.{IsEndAfter}
 use Rattle.qs_outcomes.specs.Outcomes.{outcome_at}
 use Rattle.qs_outcomes.specs.Search.{IsExplored, IsFound}
@@ -20,18 +10,18 @@ use Rattle.qs_outcomes.specs.alike.AlikeOutcomes.{AreAllBecoming, BecomesOutcome
 use Rattle.qs_outcomes.proofs.Explored.{all_begun, all_ends, all_found}
 use Rattle.qs_outcomes.proofs.Listed.{two_map}
 
-module _ (p : ProgramShape) (k : Classes) (sound : IsSound p) (are : AreClasses p k) (rows : List RowShape) (found : List StandingShape)
+module _ {p : ProgramShape} {k : Classes} (sound : IsSound p) (are : AreClasses p k) {rows : List RowShape} {found : List StandingShape}
     (explored : IsExplored p k [] rows [] found) where
   pub each_end : AllByRecursion (IsEnd p) found
   each_end = each_map (λ s (e : IsEndAfter p k [] s). record { complete = e.complete; outcome = e.outcome; places = e.places }) found
-      (all_ends p k [] sound are rows found explored)
+      (all_ends sound are explored)
 
   pub all_becoming : AreAllBecoming p k found
   all_becoming o (order, complete, same) =
       has_map
       (λ t (b : Becomes k (configuration_after p order) (configuration_in t)).
       (b.0, b.1, ap outcome_in b.2 ∙ ap (changed_outcome b.0) (configurations_follow_orders p order complete.legal ∙ same)))
-      found (all_found p k [] sound are rows found explored order complete)
+      found (all_found sound are explored order complete)
 
   -- ends of which the outcome of one becomes that of the other become one another
   ends_become : (s t : StandingShape) → IsFound p k [] rows s → IsFound p k [] rows t → BecomesOutcome k (outcome_at s) (outcome_at t)

@@ -1,11 +1,8 @@
 -- All pairs of two lists: how many there are, that each has what its two parts have, and that no two of them are
 -- related where no two of their parts are. Each goes by induction on the first list.
 use Rattle.std.proofs.Common.{◌≡◌, ◌*◌, List, [], ◌∷◌, ◌++◌, length, map, refl, arith, inl, inr, length-append}
-use Rattle.std.proofs.lemmas.List.{length-map}
-use Rattle.std.specs.List.{AllByRecursion}
-use Rattle.qs_meaning.proofs.Each.{each_join, each_map}
-use Rattle.qs_standings.specs.Lists.{EachTwo, HasOne, NoTwo}
-use Rattle.qs_standings.proofs.Lists.{has_back, has_front, has_map, pairs_join}
+use Rattle.qs_outcomes.proofs.Common.{AllByRecursion, each_join, each_map, EachTwo, every, has_back, has_front, HasOne, length-map, NoTwo, pairs_join}
+use Rattle.qs_outcomes.proofs.Mapped.{each_mapped, has_mapped, two_mapped}
 
 abbrev pub pairs : {X Y : Type 0} → List X → List Y → List (X × Y)
 pairs [] ys = []
@@ -17,29 +14,12 @@ long_pairs {X} {Y} (x ∷ xs) ys =
     let rest = long_pairs xs ys in
     omega (arith, rest, length-append (map (λ y. (x, y)) ys) (pairs xs ys), length-map {B = X × Y} ys (λ y. (x, y)))
 
-each_mapped : {X Y : Type 0} (P : Y → Type 0) (f : X → Y) (xs : List X) → AllByRecursion (λ x. P (f x)) xs → AllByRecursion P (map f xs)
-each_mapped P f [] h = tt
-each_mapped P f (x ∷ xs) h = (h.0, each_mapped P f xs h.1)
-
-has_mapped : {X Y : Type 0} (P : Y → Type 0) (f : X → Y) (xs : List X) → HasOne (λ x. P (f x)) xs → HasOne P (map f xs)
-has_mapped P f [] h = absurd h
-has_mapped P f (x ∷ xs) (inl h) = inl h
-has_mapped P f (x ∷ xs) (inr h) = inr (has_mapped P f xs h)
-
-two_mapped : {X Y : Type 0} (R : Y → Y → Type 0) (f : X → Y) (xs : List X) → EachTwo (λ x y. R (f x) (f y)) xs → EachTwo R (map f xs)
-two_mapped R f [] h = tt
-two_mapped R f (x ∷ xs) h = (each_mapped (R (f x)) f xs h.0, two_mapped R f xs h.1)
-
-two_map : {X : Type 0} (R S : X → X → Type 0) → ((x y : X) → R x y → S x y) → (xs : List X) → EachTwo R xs → EachTwo S xs
-two_map R S f [] h = tt
-two_map R S f (x ∷ xs) h = (each_map (f x) xs h.0, two_map R S f xs h.1)
-
 pub each_pairs : {X Y : Type 0} (P : X → Type 0) (Q : Y → Type 0) (xs : List X) (ys : List Y) → AllByRecursion P xs → AllByRecursion Q ys
     → AllByRecursion (λ (w : X × Y). P w.0 × Q w.1) (pairs xs ys)
 each_pairs P Q [] ys h k = tt
 each_pairs {X} {Y} P Q (x ∷ xs) ys h k =
     each_join (λ (w : X × Y). P w.0 × Q w.1) (map (λ y. (x, y)) ys) (pairs xs ys)
-    (each_mapped (λ (w : X × Y). P w.0 × Q w.1) (λ y. (x, y)) ys (each_map {Q = λ y. P x × Q y} (λ y q. (h.0, q)) ys k))
+    (each_mapped (λ (w : X × Y). P w.0 × Q w.1) (λ y. (x, y)) (λ y (q : Q y). (h.0, q)) ys k)
     (each_pairs P Q xs ys h.1 k)
 
 -- one of the first list, and one of the second that goes with it
@@ -48,18 +28,15 @@ pub has_pairs : {X Y : Type 0} (P : X → Type 0) (Q : X → Y → Type 0) (xs :
 has_pairs P Q [] ys f h = absurd h
 has_pairs {X} {Y} P Q (x ∷ xs) ys f (inl h) =
     has_front (λ (w : X × Y). P w.0 × Q w.0 w.1) (map (λ y. (x, y)) ys) (pairs xs ys)
-    (has_mapped (λ (w : X × Y). P w.0 × Q w.0 w.1) (λ y. (x, y)) ys (has_map (λ y q. (h, q)) ys (f x h)))
+    (has_mapped (λ (w : X × Y). P w.0 × Q w.0 w.1) (λ y. (x, y)) (λ y (q : Q x y). (h, q)) ys (f x h))
 has_pairs {X} {Y} P Q (x ∷ xs) ys f (inr h) =
     has_back (λ (w : X × Y). P w.0 × Q w.0 w.1) (map (λ y. (x, y)) ys) (pairs xs ys) (has_pairs P Q xs ys f h)
 
 firsts : {X Y : Type 0} (P : X → Type 0) (xs : List X) (ys : List Y) → AllByRecursion P xs → AllByRecursion (λ (w : X × Y). P w.0) (pairs xs ys)
 firsts P [] ys h = tt
 firsts {X} {Y} P (x ∷ xs) ys h =
-    each_join (λ (w : X × Y). P w.0) (map (λ y. (x, y)) ys) (pairs xs ys) (each_mapped (λ (w : X × Y). P w.0) (λ y. (x, y)) ys (all ys)) (firsts P xs ys h.1)
-  where
-    all : (zs : List Y) → AllByRecursion (λ z. P x) zs
-    all [] = tt
-    all (z ∷ zs) = (h.0, all zs)
+    each_join (λ (w : X × Y). P w.0) (map (λ y. (x, y)) ys) (pairs xs ys)
+    (each_mapped {P = λ y. P x} (λ (w : X × Y). P w.0) (λ y. (x, y)) (λ y q. q) ys (every (λ y. h.0) ys)) (firsts P xs ys h.1)
 
 -- no two pairs are related where their firsts are not, nor their seconds where the first is the same
 pub two_pairs : {X Y : Type 0} (T : X × Y → X × Y → Type 0) (U : X → X → Type 0) (V : Y → Y → Type 0)
@@ -68,13 +45,10 @@ pub two_pairs : {X Y : Type 0} (T : X × Y → X × Y → Type 0) (U : X → X �
 two_pairs T U V first second [] ys h k = tt
 two_pairs {X} {Y} T U V first second (x ∷ xs) ys h k =
     pairs_join (λ a b. T a b → ⊥) (map (λ y. (x, y)) ys) (pairs xs ys)
-    (two_mapped (λ a b. T a b → ⊥) (λ y. (x, y)) ys (two_map (λ y w. V y w → ⊥) (λ y w. T (x, y) (x, w) → ⊥) (λ y w not t. not (second x y w t)) ys k))
+    (two_mapped (λ y w. V y w → ⊥) (λ a b. T a b → ⊥) (λ y. (x, y)) (λ y w not t. not (second x y w t)) ys k)
     (two_pairs T U V first second xs ys h.1 k)
-    (each_mapped (λ a. AllByRecursion (λ b. T a b → ⊥) (pairs xs ys)) (λ y. (x, y)) ys (all ys))
-  where
-    all : (zs : List Y) → AllByRecursion (λ y. AllByRecursion (λ b. T (x, y) b → ⊥) (pairs xs ys)) zs
-    all [] = tt
-    all (z ∷ zs) = (each_map {Q = λ b. T (x, z) b → ⊥} (λ (b : X × Y) (not : U x b.0 → ⊥) t. not (first x b.0 z b.1 t)) (pairs xs ys) (firsts (λ c. U x c → ⊥) xs ys h.0), all zs)
+    (each_mapped {P = λ y. AllByRecursion (λ b. T (x, y) b → ⊥) (pairs xs ys)} (λ a. AllByRecursion (λ b. T a b → ⊥) (pairs xs ys)) (λ y. (x, y)) (λ y q. q) ys
+    (every (λ z. each_map {Q = λ b. T (x, z) b → ⊥} (λ (b : X × Y) (not : U x b.0 → ⊥) t. not (first x b.0 z b.1 t)) (pairs xs ys) (firsts (λ c. U x c → ⊥) xs ys h.0)) ys))
 
 -- each of a list with what is known of it
 module _ {X : Type 0} (P : X → Type 0) where

@@ -2,46 +2,33 @@
 -- it what the client has here, there are two counts: each outcome has as many such places as there are clients with the
 -- same variables; and for each place of the class there are as many such outcomes as where the client stays, since the
 -- two can be exchanged. So the one count times those with the same is the other times all of the class.
-use Rattle.std.proofs.Common.{◌≡◌, ◌<◌, ◌≤◌, ◌+◌, ◌*◌, ◌/◌, ◌-◌, ◌^◌, ℕ, suc, List, [], ◌∷◌, length, sym, ap, ap₂, ◌∙◌, subst, arith, inl, inr, ⊎_elim}
-use Rattle.std.specs.List.{AllByRecursion}
-use Rattle.std.proofs.Math.Nat.{mul-div_cancel, mul-le-mul, pow-le-pow_right, pow-suc}
-use Rattle.std.proofs.lemmas.Bool.{cases_lt}
-use Rattle.indexmap.proofs.ReorderLemmas.{exchange-twice}
-use Rattle.qs_standings.proofs.Pigeonhole.{at_most}
-use Rattle.qs_program.specs.audit.Program.{ProgramShape}
-use Rattle.qs_meaning.specs.Configurations.{OrderOutcome}
-use Rattle.qs_meaning.proofs.Each.{each_map}
-use Rattle.qs_standings.specs.Lists.{HasOne}
-use Rattle.qs_standings.specs.Standings.{flipped}
-use Rattle.qs_standings.proofs.Lists.{has_map}
+use Rattle.std.proofs.Common.{◌≡◌, ◌<◌, ◌≤◌, ◌+◌, ◌*◌, ◌/◌, ◌-◌, ◌^◌, ℕ, suc, List, ◌∷◌, length, sym, ap, ap₂, ◌∙◌, subst, arith, inl, inr, ⊎_elim}
+use Rattle.qs_outcomes.proofs.Common.{AreClasses, at_most, cases_lt, Change, changed_outcome, Classes, each_map, every, exchange-twice, flip, flip_is, flipped, flipped_second, has_map, HasOne, mul-div_cancel, mul-le-mul, nat_tests, OrderOutcome, pow-le-pow_right, pow-suc, ProgramShape, then_changed, then_is}
 use Rattle.qs_outcomes.specs.alike.AlikeCounts.{AreThose, CountsThose, IsAlikeFrom, IsSameFrom}
-use Rattle.qs_alike.specs.Changes.{AreClasses, Change, Classes, changed_outcome}
 use Rattle.qs_outcomes.proofs.alike.Counting.{AreChangesFrom, CountsFrom, IsChangeFrom, counted_from, flipped_below, old_alike, same_flipped}
-use Rattle.qs_alike.proofs.Exchanging.{flip, flip_is, flipped_first, flipped_second}
 use Rattle.qs_outcomes.proofs.alike.Pairs.{each_pairs, has_known, has_pairs, known, long_known, long_pairs, pairs, two_known, two_pairs}
-use Rattle.qs_alike.proofs.Composing.{then_changed, then_is}
 
 -- ---- numbers counted one after another
+
+further : (c to : ℕ) → c < to → c < to + 1
+further c to less = omega (arith, less)
 
 pub those_more : (P : ℕ → Type 0) (to count : ℕ) → CountsThose P to count → P to → CountsThose P (to + 1) (count + 1)
 those_more P to count (xs, are, long) h = (
   to ∷ xs,
   record {
-    sound = (((let z : to < to + 1 = omega arith in z), h), each_map {Q = λ c. (c < to + 1) × P c} (λ c (w : (c < to) × P c). (further c w.0, w.1)) xs are.sound);
+    sound = (((let z : to < to + 1 = omega arith in z), h), each_map {Q = λ c. (c < to + 1) × P c} (λ c (w : (c < to) × P c). (further c to w.0, w.1)) xs are.sound);
     complete = λ c less p. ⊎_elim (λ (under : c < to). inr (are.complete c under p)) (λ (past : to ≤ c). inl (omega (arith, less, past))) (cases_lt c to);
     once = (each_map {Q = λ c. to ≡ c → ⊥} (λ c (w : (c < to) × P c) e. (let less = w.0 in omega (arith, less, e))) xs are.sound, are.once);
   },
   omega (arith, long),
 )
-  where
-    further : (c : ℕ) → c < to → c < to + 1
-    further c less = omega (arith, less)
 
 pub those_skip : (P : ℕ → Type 0) (to count : ℕ) → CountsThose P to count → (P to → ⊥) → CountsThose P (to + 1) count
 those_skip P to count (xs, are, long) not = (
   xs,
   record {
-    sound = each_map {Q = λ c. (c < to + 1) × P c} (λ c (w : (c < to) × P c). (further c w.0, w.1)) xs are.sound;
+    sound = each_map {Q = λ c. (c < to + 1) × P c} (λ c (w : (c < to) × P c). (further c to w.0, w.1)) xs are.sound;
     complete = λ c less p.
         ⊎_elim (λ (under : c < to). are.complete c under p)
         (λ (past : to ≤ c). absurd (not (subst P (let z : c ≡ to = omega (arith, less, past) in z) p))) (cases_lt c to);
@@ -49,9 +36,6 @@ those_skip P to count (xs, are, long) not = (
   },
   long,
 )
-  where
-    further : (c : ℕ) → c < to → c < to + 1
-    further c less = omega (arith, less)
 
 -- ---- the two counts of pairs
 
@@ -64,24 +48,14 @@ module _ (p : ProgramShape) (k : Classes) (are : AreClasses p k) (o : OrderOutco
 
   -- one of the class is a client
   inside : (c : ℕ) → k c ≡ k n → c < many
-  inside c alike =
-      ⊎_elim (λ (less : c < many). less)
-      (λ (past : many ≤ c). absurd (let e : c ≡ n = are.alone c n past alike in omega (arith, past, e, within))) (cases_lt c many)
+  inside c alike = let same : many ≤ c → c ≡ n = λ past. are.alone c n past alike in let less = within in grind (arith, same)
 
   -- what stands from there on comes from there on, and goes there
   from_old : (x : Change) → IsChangeFrom k n x → (c : ℕ) → n ≤ c → n ≤ x.old c
-  from_old x is c from =
-      ⊎_elim
-      (λ (under : x.old c < n).
-      absurd (let e : x.old c ≡ c = sym (is.change.back (x.old c)) ∙ (ap x.new (is.kept (x.old c) under) ∙ is.change.back c) in omega (arith, under, e, from)))
-      (λ (past : n ≤ x.old c). past) (cases_lt (x.old c) n)
+  from_old x is c from = let stays = is.kept (x.old c) in let back = is.change.back (x.old c) in let own = is.change.back c in grind arith
 
   from_new : (x : Change) → IsChangeFrom k n x → (c : ℕ) → n ≤ c → n ≤ x.new c
-  from_new x is c from =
-      ⊎_elim
-      (λ (under : x.new c < n).
-      absurd (let e : x.new c ≡ c = sym (is.kept (x.new c) under) ∙ is.change.there c in omega (arith, under, e, from)))
-      (λ (past : n ≤ x.new c). past) (cases_lt (x.new c) n)
+  from_new x is c from = let stays = is.kept (x.new c) in let there = is.change.there c in grind arith
 
   exchanged_back : (j : ℕ) (q : OrderOutcome) → q ≡ changed_outcome (flip n j) (changed_outcome (flip n j) q)
   exchanged_back j q = sym (λ i. record { locals = λ c. q.locals (exchange-twice n j c i); states = q.states })
@@ -116,15 +90,7 @@ module _ (p : ProgramShape) (k : Classes) (are : AreClasses p k) (o : OrderOutco
       where
         kept : (c : ℕ) → c < n + 1 → flipped n s (x.old (flipped n (x.new s) c)) ≡ c
         kept c less =
-            ⊎_elim
-            (λ (under : c < n).
-            ap (λ m. flipped n s (x.old m)) (flipped_below n (x.new s) c under (from_new x is s same.0))
-            ∙ (ap (flipped n s) (is.kept c under) ∙ flipped_below n s c under same.0))
-            (λ (past : n ≤ c).
-            let e : c ≡ n = omega (arith, less, past) in
-            ap (λ m. flipped n s (x.old (flipped n (x.new s) m))) e
-            ∙ (ap (λ m. flipped n s (x.old m)) (flipped_first n (x.new s)) ∙ (ap (flipped n s) (is.change.there s) ∙ (flipped_second n s ∙ sym e))))
-            (cases_lt c n)
+            let stays = is.kept c in let up = from_new x is s same.0 in let there = is.change.there s in let from = same.0 in grind (arith, nat_tests)
 
     stays_put : (x : Change) → IsChangeFrom k n x → (s : ℕ) → IsSameFrom k o n s
         → HasOne (λ q. q ≡ changed_outcome (flip n (x.new s)) (changed_outcome x o)) later
@@ -158,14 +124,10 @@ module _ (p : ProgramShape) (k : Classes) (are : AreClasses p k) (o : OrderOutco
         let most = at_most IsTied IsSamePair one_pair (pairs entries sames) (pairs alikes later)
         (two_pairs IsSamePair (λ e f. e.0 ≡ f.0) ◌≡◌ (λ e f s t h. h.0) same_one entries sames (two_known Made (λ a b. a ≡ b → ⊥) all changes.sound changes.once) of_same.once)
         (each_map (λ (w : Entry × ℕ) (h : Unit {0} × ((w.1 < many) × IsSameFrom k o n w.1)). tied w h.1) (pairs entries sames)
-        (each_pairs (λ e. Unit {0}) (λ s. (s < many) × IsSameFrom k o n s) entries sames (nothing entries) of_same.sound)) in
+        (each_pairs (λ e. Unit {0}) (λ s. (s < many) × IsSameFrom k o n s) entries sames (every (λ e. tt) entries) of_same.sound)) in
         let one = long_pairs entries sames ∙ ap (λ m. m * length sames) (long_known Made all changes.sound) in
         let other = long_pairs alikes later in
         subst (λ m. m ≤ length alikes * length later) one (subst (λ m. length (pairs entries sames) ≤ m) other most)
-      where
-        nothing : (es : List Entry) → AllByRecursion (λ e. Unit {0}) es
-        nothing [] = tt
-        nothing (e ∷ es) = (tt, nothing es)
 
     -- and back: where the client stays, it is exchanged with a place
     module _ (j : ℕ) (from : n ≤ j) (alike : k j ≡ k n) (y : Change) (is : IsChangeFrom k (n + 1) y) where

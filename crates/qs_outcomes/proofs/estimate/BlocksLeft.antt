@@ -1,22 +1,11 @@
 -- How many blocks each client has left after an order: it has begun as many as the order has of its tickets, so what is
 -- left is a difference of two numbers. And a legal order goes on with no more blocks of a client than it has left.
-use Rattle.std.proofs.Common.{◌≡◌, ◌==◌, ◌<◌, ◌≤◌, ◌+◌, ◌-◌, ℕ, zero, suc, false, List, [], ◌∷◌, ◌++◌, length, map, get_or, take, set, get_or-set_same, get_or-set_other, true, true≢false, refl, sym, ap, ap₂, ◌∙◌, subst, arith, ⊎_elim}
-use Rattle.std.specs.List.{AllByRecursion}
-use Rattle.std.proofs.lemmas.List.{get_or-take, length-take-le}
-use Rattle.qs_objects.specs.declared.held.Ticket.{Ticket}
-use Rattle.qs_objects.proofs.Choices.{eqb_self, num_cases}
+use Rattle.std.proofs.Common.{◌≡◌, ◌==◌, ◌<◌, ◌≤◌, ◌+◌, ◌-◌, ℕ, zero, suc, if◌then◌else◌, List, [], ◌∷◌, ◌++◌, length, map, get_or, take, set, refl, sym, ap, ◌∙◌, subst, arith}
+use Rattle.qs_outcomes.proofs.Common.{AllByRecursion, begun_within, blocks_of, ClientShape, Configuration, configuration_after, configuration_from, Counts, ext_get_or, first_configuration, get_or-take, IsLegal, IsSound, IsSoundClient, legal-front, legal-rest, length-take-le, nat_tests, no_client, one_block_on, order_from, order_of, ProgramShape, put, Ticket}
+use Rattle.std.proofs.lemmas.Grind.{common_steps}
 use Rattle.qs_program.specs.audit.Limits.{most_blocks}
-use Rattle.qs_program.specs.audit.Program.{ClientShape, ProgramShape, blocks_of, no_client}
-use Rattle.qs_program.specs.Sound.{IsSound, IsSoundClient}
-use Rattle.qs_meaning.specs.audit.Configurations.{Configuration, configuration_after, configuration_from, first_configuration, one_block_on}
-use Rattle.qs_meaning.specs.audit.Reduced.{Counts}
-use Rattle.qs_meaning.specs.audit.Serial.{IsLegal}
-use Rattle.qs_meaning.specs.audit.Solo.{put}
-use Rattle.qs_meaning.proofs.Orders.{begun_within, legal-front, legal-rest}
-use Rattle.qs_meaning.proofs.TreeWalks.{put_here, put_there}
-use Rattle.qs_serial.specs.audit.NamedOrders.{order_from, order_of}
 use Rattle.qs_outcomes.specs.estimate.Estimates.{AreBlocksLeft, left, left_from}
-use Rattle.qs_outcomes.proofs.estimate.Words.{AreFew, below_all, times, times-here, times-there}
+use Rattle.qs_outcomes.proofs.estimate.Words.{AreFew, below_all, times, times-cons}
 
 -- the clients of an order, as a word
 abbrev pub word : List Ticket → List ℕ
@@ -24,21 +13,14 @@ word ts = map (λ t. t.client) ts
 
 -- ---- how many a client has begun
 
+one_more : (f : ℕ → ℕ) (a c n m : ℕ) → m ≡ (if a == c then suc n else n) → put f a (suc (f a)) c + n ≡ f c + m
+one_more f a c n m e = grind (arith, nat_tests)
+
 pub begun_more : (p : ProgramShape) (g : Configuration) (ts : List Ticket) (c : ℕ) → (configuration_from p g ts).begun c ≡ g.begun c + times c (word ts)
 begun_more p g [] c = omega arith
 begun_more p g (t ∷ ts) c =
     let rest : (configuration_from p (one_block_on p t.client g) ts).begun c ≡ put g.begun t.client (suc (g.begun t.client)) c + times c (word ts) = begun_more p (one_block_on p t.client g) ts c in
-    ⊎_elim
-    (λ (is : t.client ≡ c).
-    let on : put g.begun t.client (suc (g.begun t.client)) c ≡ suc (g.begun c) =
-    subst (λ d. put g.begun t.client (suc (g.begun t.client)) d ≡ suc (g.begun d)) is (put_here g.begun t.client (suc (g.begun t.client))) in
-    let more : times c (t.client ∷ word ts) ≡ suc (times c (word ts)) = times-here c t.client (word ts) is in
-    rest ∙ omega (arith, on, more))
-    (λ (other : (t.client == c) ≡ false).
-    let on = put_there g.begun t.client (suc (g.begun t.client)) c other in
-    let same : times c (t.client ∷ word ts) ≡ times c (word ts) = times-there c t.client (word ts) other in
-    rest ∙ omega (arith, on, same))
-    (num_cases t.client c)
+    let more = times-cons c t.client (word ts) in rest ∙ one_more g.begun t.client c (times c (word ts)) (times c (word (t ∷ ts))) more
 
 pub word_named : (begun : Counts) (cs : List ℕ) → word (order_from begun cs) ≡ cs
 word_named begun [] = refl
@@ -68,27 +50,13 @@ left_of p front c =
 
 -- one more place of a list is written
 pub each_on : (f : ℕ → ℕ) (xs : List ℕ) (c at v : ℕ) → at ≡ c → c < length xs → v ≡ f c → ((i : ℕ) → i < c → get_or xs i 0 ≡ f i) → (i : ℕ) → i < c + 1 → get_or (set xs at v) i 0 ≡ f i
-each_on f xs c at v here within is before i less =
-    subst (λ k. get_or (set xs k v) i 0 ≡ f i) (sym here)
-    (⊎_elim
-    (λ (same : c ≡ i). subst (λ k. get_or (set xs c v) k 0 ≡ f k) same (get_or-set_same xs c v 0 within ∙ is))
-    (λ (other : (c == i) ≡ false).
-    get_or-set_other xs c i v 0 (λ e. true≢false (sym (subst (λ k. (c == k) ≡ true) (sym e) (eqb_self c)) ∙ other))
-    ∙ before i (let apart : c ≡ i → ⊥ = λ e. true≢false (sym (subst (λ k. (c == k) ≡ true) e (eqb_self c)) ∙ other) in omega (arith, less, apart)))
-    (num_cases c i))
-
-same_by_place : (xs ys : List ℕ) → length xs ≡ length ys → ((i : ℕ) → i < length xs → get_or xs i 0 ≡ get_or ys i 0) → xs ≡ ys
-same_by_place [] [] long each = refl
-same_by_place [] (y ∷ ys) long each = absurd (let e : 0 ≡ length (y ∷ ys) = long in omega (arith, e))
-same_by_place (x ∷ xs) [] long each = absurd (let e : length (x ∷ xs) ≡ 0 = long in omega (arith, e))
-same_by_place (x ∷ xs) (y ∷ ys) long each =
-    ap₂ (λ z zs. z ∷ zs) (each 0 (omega arith)) (same_by_place xs ys (let e : length (x ∷ xs) ≡ length (y ∷ ys) = long in omega (arith, e)) (λ i less. each (suc i) (omega (arith, less))))
+each_on f xs c at v here within is before i less = grind (arith, common_steps)
 
 -- a list of eight that has at each client's place how many blocks it has besides these has what is left of each
 pub all_left_is : (p : ProgramShape) (cs xs : List ℕ) → length p.clients ≤ 8 → length xs ≡ 8
     → ((i : ℕ) → i < length p.clients → get_or xs i 0 ≡ blocks_of p i - times i cs) → take (length p.clients) xs ≡ left p (order_of cs)
 all_left_is p cs xs few long each =
-    same_by_place (take (length p.clients) xs) (left p (order_of cs))
+    ext_get_or 0 (take (length p.clients) xs) (left p (order_of cs))
     (taken ∙ sym (left-long (configuration_after p (order_of cs)).begun 0 p.clients))
     (λ i less. (let within : i < length p.clients = omega (arith, less, taken) in
     get_or-take (length p.clients) xs i 0 within ∙ each i within ∙ ap (λ n. blocks_of p i - n) (sym (begun_named p cs i)) ∙ sym (left_of p (order_of cs) i)))

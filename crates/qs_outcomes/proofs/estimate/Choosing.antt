@@ -1,13 +1,9 @@
 -- All choices of how many blocks each client has done, up to so many of each: one list, in which no two are equal. It
 -- is as long as the product of one more than each number.
 use Rattle.std.proofs.Common.{◌≡◌, ℕ, zero, suc, ◌≤◌, ◌*◌, List, [], ◌∷◌, ◌++◌, length, map, refl, sym, ap, ◌∙◌, subst, arith, length-append}
-use Rattle.std.specs.List.{AllByRecursion, AllZip}
-use Rattle.std.proofs.lemmas.List.{length-map}
-use Rattle.qs_meaning.proofs.Each.{each_join, each_map, every}
-use Rattle.qs_standings.proofs.Lists.{pairs_join}
-use Rattle.qs_outcomes.proofs.estimate.Mapped.{each_mapped}
+use Rattle.qs_outcomes.proofs.Common.{AllByRecursion, AllZip, each_join, each_map, every, length-map, NoTwo, pairs_join}
+use Rattle.qs_outcomes.proofs.Mapped.{each_mapped, two_mapped}
 use Rattle.qs_outcomes.specs.estimate.Estimates.{least_orders}
-use Rattle.qs_standings.specs.Lists.{NoTwo}
 
 -- each number up to one, before each of these
 abbrev with_first : ℕ → List (List ℕ) → List (List ℕ)
@@ -46,9 +42,7 @@ begin_within (suc k) vs =
     up (x ∷ v) h = omega (arith, h)
 
 map_apart : (x : ℕ) (vs : List (List ℕ)) → NoTwo ◌≡◌ vs → NoTwo ◌≡◌ (map (λ v. x ∷ v) vs)
-map_apart x [] apart = tt
-map_apart x (v ∷ vs) apart =
-    (each_mapped (λ w. x ∷ v ≡ w → ⊥) (λ u. x ∷ u) (λ u (differ : v ≡ u → ⊥) (e : x ∷ v ≡ x ∷ u). differ (let tail : v ≡ u = cc in tail)) vs apart.0, map_apart x vs apart.1)
+map_apart x vs apart = two_mapped (λ v w. v ≡ w → ⊥) (λ v w. v ≡ w → ⊥) (λ v. x ∷ v) (λ v w differ (e : x ∷ v ≡ x ∷ w). differ (let tail : v ≡ w = cc in tail)) vs apart
 
 first_apart : (k : ℕ) (vs : List (List ℕ)) → NoTwo ◌≡◌ vs → NoTwo ◌≡◌ (with_first k vs)
 first_apart zero vs apart = map_apart zero vs apart

@@ -1,29 +1,14 @@
 -- A search over all that is on the way comes to each choice of how many of its blocks each client has run: there is a
 -- legal order for each choice, client by client, and where it leads tells the choice.
-use Rattle.std.proofs.Common.{◌≡◌, ◌==◌, ◌<◌, ◌≤◌, ◌+◌, ℕ, zero, suc, false, List, [], ◌∷◌, ◌++◌, length, get_or, replicate, refl, sym, ap, ◌∙◌, subst, arith, ⊎_elim}
-use Rattle.std.specs.List.{AllZip}
-use Rattle.qs_objects.specs.declared.held.Ticket.{Ticket}
-use Rattle.qs_objects.proofs.Choices.{eqb_apart, num_cases}
-use Rattle.qs_program.specs.audit.Program.{ProgramShape, blocks_of}
-use Rattle.qs_meaning.specs.audit.Configurations.{Configuration, configuration_after, first_configuration}
-use Rattle.qs_meaning.specs.audit.Reduced.{Counts}
-use Rattle.qs_meaning.specs.audit.Serial.{IsLegal, LegalFrom}
-use Rattle.qs_meaning.specs.audit.Solo.{put}
-use Rattle.qs_meaning.proofs.Each.{each_map}
-use Rattle.qs_meaning.proofs.Orders.{configuration-append, legal-join, legal-rest}
-use Rattle.qs_alike.proofs.Composing.{becomes_alone}
-use Rattle.qs_alike.proofs.Following.{legal_followed}
-use Rattle.qs_meaning.proofs.TreeWalks.{put_here, put_there}
-use Rattle.qs_serial.specs.audit.NamedOrders.{order_from}
-use Rattle.qs_standings.specs.Lists.{HasOne}
-use Rattle.qs_standings.specs.Standings.{StandingShape, configuration_in}
-use Rattle.qs_standings.proofs.Lists.{has_map, same_list}
+use Rattle.std.proofs.Common.{◌≡◌, ◌==◌, ◌<◌, ◌≤◌, ◌+◌, ◌*◌, ℕ, cond, if◌then◌else◌, zero, suc, false, List, [], ◌∷◌, ◌++◌, length, get_or, replicate, refl, sym, ap, ◌∙◌, arith}
+use Rattle.qs_outcomes.proofs.Common.{AllZip, at_most, becomes_alone, blocks_of, Configuration, configuration-append, configuration_after, configuration_in, Counts, each_map, eqb_apart, eqb_self, first_configuration, has_map, HasOne, IsLegal, legal-join, legal-rest, legal_followed, LegalFrom, nat_tests, order_from, ProgramShape, put, same_list, StandingShape, Ticket}
+use Rattle.std.proofs.lemmas.List.Elements.{length_all_zip}
+use Rattle.std.proofs.lemmas.List.Folds.{sum_by-replicate}
 use Rattle.qs_outcomes.specs.estimate.Estimates.{left}
 use Rattle.qs_outcomes.specs.estimate.Laws.{LeastIsThere}
 use Rattle.qs_outcomes.proofs.estimate.BlocksLeft.{begun_few, begun_more, left-long, left_of, word_named}
 use Rattle.qs_outcomes.proofs.estimate.Choosing.{vectors, vectors-long, vectors_apart, vectors_within}
-use Rattle.qs_standings.proofs.Pigeonhole.{at_most}
-use Rattle.qs_outcomes.proofs.estimate.Words.{times, times-append, times-here, times-there}
+use Rattle.qs_outcomes.proofs.estimate.Words.{times, times-append, times-cons, times-here}
 
 -- ---- an order for a choice
 
@@ -33,12 +18,10 @@ runs_from c [] = []
 runs_from c (k ∷ ks) = replicate k c ++ runs_from (suc c) ks
 
 times-same : (c k : ℕ) → times c (replicate k c) ≡ k
-times-same c zero = refl
-times-same c (suc k) = times-here c c (replicate k c) refl ∙ ap suc (times-same c k)
+times-same c k = sum_by-replicate (λ y. cond (y == c) 1 0) k c ∙ (ap (λ b. k * cond b 1 0) (eqb_self c) ∙ omega arith)
 
 times-other : (d c k : ℕ) → (c == d) ≡ false → times d (replicate k c) ≡ 0
-times-other d c zero other = refl
-times-other d c (suc k) other = times-there d c (replicate k c) other ∙ times-other d c k other
+times-other d c k other = sum_by-replicate (λ y. cond (y == d) 1 0) k c ∙ (ap (λ b. k * cond b 1 0) other ∙ omega arith)
 
 runs_before : (d c : ℕ) (ks : List ℕ) → d < c → times d (runs_from c ks) ≡ 0
 runs_before d c [] less = refl
@@ -63,35 +46,25 @@ runs_at c (suc i) (k ∷ ks) =
     ap (λ d. times d (runs_from c (k ∷ ks))) e ∙ omega (arith, joined, first, rest)
 
 -- a word with no more of a client than it has blocks left names a legal order
+one_within : (f : ℕ → ℕ) (a d n m most : ℕ) → m ≡ (if a == d then suc n else n) → f d + m ≤ most → put f a (suc (f a)) d + n ≤ most
+one_within f a d n m most e few = grind (arith, nat_tests)
+
 named_legal : (p : ProgramShape) (begun : Counts) (cs : List ℕ) → ((d : ℕ) → begun d + times d cs ≤ blocks_of p d) → LegalFrom p begun (order_from begun cs)
 named_legal p begun [] within = tt
 named_legal p begun (c ∷ cs) within = (
   refl,
   (let few = within c in let more = times-here c c cs refl in omega (arith, few, more)),
   named_legal p (put begun c (suc (begun c))) cs
-      (λ d. ⊎_elim
-      (λ (is : c ≡ d).
-      let on : put begun c (suc (begun c)) d ≡ suc (begun d) = subst (λ e. put begun c (suc (begun c)) e ≡ suc (begun e)) is (put_here begun c (suc (begun c))) in
-      let more = times-here d c cs is in let few = within d in omega (arith, on, more, few))
-      (λ (other : (c == d) ≡ false).
-      let on = put_there begun c (suc (begun c)) d other in let same = times-there d c cs other in let few = within d in omega (arith, on, same, few))
-      (num_cases c d)),
+      (λ d. one_within begun c d (times d cs) (times d (c ∷ cs)) (blocks_of p d) (times-cons d c cs) (within d)),
 )
 
 -- ---- choices, place by place
 
-zip_long : (v bs : List ℕ) → AllZip ◌≤◌ v bs → length v ≡ length bs
-zip_long [] [] h = refl
-zip_long [] (b ∷ bs) h = absurd h
-zip_long (x ∷ v) [] h = absurd h
-zip_long (x ∷ v) (b ∷ bs) h = ap suc (zip_long v bs h.1)
-
 zip_within : (v bs : List ℕ) (i : ℕ) → AllZip ◌≤◌ v bs → get_or v i 0 ≤ get_or bs i 0
 zip_within [] [] i h = omega arith
-zip_within [] (b ∷ bs) i h = absurd h
-zip_within (x ∷ v) [] i h = absurd h
 zip_within (x ∷ v) (b ∷ bs) zero h = h.0
 zip_within (x ∷ v) (b ∷ bs) (suc i) h = zip_within v bs i h.1
+zip_within _ _ i h = absurd h
 
 module _ (p : ProgramShape) (front : List Ticket) (legal : IsLegal p front) where
   -- where a choice was made: a number for each client, and each has begun so many more
@@ -132,7 +105,7 @@ module _ (p : ProgramShape) (front : List Ticket) (legal : IsLegal p front) wher
   chosen ss all v h =
       has_map {P = λ s. configuration_in s ≡ configuration_after p (front ++ rest_of v)}
       (λ s e. record {
-        long = zip_long v (left p front) h ∙ left-long (configuration_after p front).begun 0 p.clients;
+        long = length_all_zip ◌≤◌ v (left p front) h ∙ left-long (configuration_after p front).begun 0 p.clients;
         begun = λ c. ap (λ (g : Configuration). g.begun c) e ∙ rest_begun v c;
       })
       ss (all (rest_of v) (rest_legal v h))

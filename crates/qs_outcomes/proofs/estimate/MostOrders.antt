@@ -1,25 +1,13 @@
 -- A search notes no more configurations than there are words: each is where a legal order leads that begins with the
 -- front, and what an order leads to is told by the word of its clients alone, which is one of the list of words.
 use Rattle.std.proofs.Common.{◌≡◌, ◌≤◌, ℕ, List, [], ◌∷◌, ◌++◌, length, map, refl, sym, ap, ◌∙◌, subst, arith}
-use Rattle.std.specs.List.{AllByRecursion}
-use Rattle.std.proofs.lemmas.List.{length-map}
-use Rattle.qs_objects.specs.declared.held.Ticket.{Ticket}
-use Rattle.qs_program.specs.audit.Program.{ProgramShape}
-use Rattle.qs_meaning.specs.audit.Configurations.{Configuration, configuration_after, configuration_from, first_configuration, one_block_on}
-use Rattle.qs_meaning.specs.audit.Serial.{IsLegal}
-use Rattle.qs_meaning.proofs.Each.{each_map}
-use Rattle.qs_meaning.proofs.Orders.{configuration-append}
-use Rattle.qs_standings.specs.Lists.{HasOne, NoTwo}
-use Rattle.qs_standings.specs.Standings.{IsStanding, StandingShape, configuration_in}
-use Rattle.qs_alike.specs.Changes.{Becomes}
-use Rattle.qs_alike.proofs.Composing.{becomes_same}
+use Rattle.qs_outcomes.proofs.Common.{AllByRecursion, at_most, Becomes, becomes_same, Configuration, configuration-append, configuration_after, configuration_from, configuration_in, each_map, first_configuration, HasOne, IsLegal, IsStanding, length-map, NoTwo, one_block_on, ProgramShape, StandingShape, Ticket}
 use Rattle.qs_outcomes.specs.Reached.{IsFollowedTo}
 use Rattle.qs_outcomes.proofs.Listed.{two_map}
 use Rattle.qs_outcomes.specs.estimate.Estimates.{left, most_orders}
 use Rattle.qs_outcomes.specs.estimate.Laws.{MostSuffices, MostSufficesForAnswers}
 use Rattle.qs_outcomes.proofs.estimate.BlocksLeft.{word, word_few}
-use Rattle.qs_outcomes.proofs.estimate.Mapped.{has_mapped}
-use Rattle.qs_standings.proofs.Pigeonhole.{at_most}
+use Rattle.qs_outcomes.proofs.Mapped.{has_mapped}
 use Rattle.qs_outcomes.proofs.estimate.Words.{word_in, words, words_few}
 
 -- where the next blocks of these clients lead

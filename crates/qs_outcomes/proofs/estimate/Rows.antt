@@ -1,12 +1,10 @@
 -- A row of numbers of ways is made from the row for one letter less, from its beginning to its end: each number is the
 -- sum of the old one in its place and the new one before it. Where numbers are capped, so are the sums.
-use Rattle.std.proofs.Common.{◌≡◌, ℕ, zero, suc, ◌+◌, ◌*◌, ◌^◌, ◌⊎◌, inl, inr, drop, replicate, add-one, pow-suc, ◌<◌, ◌≤◌, List, length, get_or, set, get_or-set_other, get_or-set_same, min, refl, sym, ap, ◌∙◌, arith, ⊎_elim, length-set}
-use Rattle.std.proofs.Math.Nat.{mul-le-mul_left, mul-le-mul_right, pow-le-pow_right}
+use Rattle.std.proofs.Common.{◌≡◌, ℕ, zero, suc, ◌+◌, ◌*◌, ◌^◌, ◌⊎◌, drop, replicate, add-one, pow-suc, ◌<◌, ◌≤◌, List, length, get_or, set, get_or-set_other, get_or-set_same, min, refl, sym, ap, ◌∙◌, arith, ⊎_elim, length-set}
+use Rattle.qs_outcomes.proofs.Common.{drop_all, get_or-replicate, mul-le-mul_left, mul-le-mul_right, pow-le-pow_right}
 use Rattle.std.proofs.Math.Seq.{drop-cons}
 use Rattle.qs_program.proofs.Loads.{min_mul}
 use Rattle.qs_outcomes.specs.estimate.Estimates.{IsRow, capped, insertions, least_orders, most_from, most_orders, past_told}
-use Rattle.qs_objects.proofs.Choices.{num_cases}
-use Rattle.std.proofs.lemmas.List.{drop_all}
 use Rattle.qs_outcomes.proofs.estimate.Words.{no_others}
 
 -- what is added at a place: the number before it, and 1 at the first
@@ -19,13 +17,8 @@ pub record IsRowUpTo (b i before : ℕ) (row : List ℕ) : Type 0 where
   pub ahead : (m : ℕ) → i ≤ m → m < length row → get_or row m 0 ≡ capped (insertions b m)
   pub carried : before ≡ capped (added_at b i)
 
-first_row : (n m : ℕ) → m < n → ◌≡◌ {A = ℕ} (get_or (replicate n 1) m 0) 1
-first_row zero m less = absurd (omega (arith, less))
-first_row (suc n) zero less = refl
-first_row (suc n) (suc m) less = first_row n m (omega (arith, less))
-
 pub row_of_none : (row : List ℕ) → row ≡ replicate 449 1 → IsRow 0 row
-row_of_none row e m within = ap (λ xs. get_or xs m 0) e ∙ first_row 449 m (let long : length row ≡ 449 = ap length e in omega (arith, long, within))
+row_of_none row e m within = ap (λ xs. get_or xs m 0) e ∙ get_or-replicate 449 m 1 0 (let long : length row ≡ 449 = ap length e in omega (arith, long, within))
 
 sum_at : (b i : ℕ) → insertions b i + added_at b i ≡ insertions (suc b) i
 sum_at b zero = let e = no_others b in omega (arith, e)
@@ -33,9 +26,6 @@ sum_at b (suc m) = refl
 
 pub row_begun : (b : ℕ) (row : List ℕ) → IsRow b row → IsRowUpTo b 0 1 row
 row_begun b row is = record { done = λ m less within. absurd (omega (arith, less)); ahead = λ m low within. is m within; carried = refl }
-
-less_or_same : (m i : ℕ) → m < i + 1 → (m < i) ⊎ (m ≡ i)
-less_or_same m i less = elim (num_cases m i) [ inl same ↦ inr same | inr other ↦ inl (grind (arith, other, less)) ]
 
 pub row_on : (b i before : ℕ) (row : List ℕ) → i < length row → IsRowUpTo b i before row → (next : ℕ) → next ≡ capped (get_or row i 0 + before) → IsRowUpTo b (i + 1) next (set row i next)
 row_on b i before row within is next e =
@@ -46,7 +36,7 @@ row_on b i before row within is next e =
       done = λ m less inside. ⊎_elim
           (λ (l : m < i). get_or-set_other row i m next 0 (λ same. omega (arith, same, l)) ∙ is.done m l (omega (arith, inside, long)))
           (λ (same : m ≡ i). ap (λ k. get_or (set row i next) k 0) same ∙ get_or-set_same row i next 0 within ∙ all ∙ ap (λ k. capped (insertions (suc b) k)) (sym same))
-          (less_or_same m i less);
+          (let either : (m < i) ⊎ (m ≡ i) = grind arith in either);
       ahead = λ m low inside. get_or-set_other row i m next 0 (λ same. omega (arith, same, low)) ∙ is.ahead m (omega (arith, low)) (omega (arith, inside, long));
       carried = all ∙ ap (λ k. capped (added_at b k)) (sym (add-one i));
     }

@@ -1,18 +1,10 @@
 -- All words with so many of each letter at most stand in one list, which is made by putting in one letter after
 -- another: of each word what has only the letters before stands in the list before, and `puts` has each way to put in
 -- the next letter. The list is as long as Pascal's recursion says, or shorter.
-use Rattle.std.proofs.Common.{◌≡◌, ◌==◌, ℕ, zero, suc, ◌+◌, ◌-◌, ◌≤◌, ◌<◌, ◌*◌, Bool, true, false, cond, List, [], ◌∷◌, ◌++◌, length, map, filter, flat_map, count_by, nat_lt, refl, sym, ap, ◌∙◌, subst, arith, ◌⊎◌, inl, inr, length-append}
-use Rattle.std.specs.List.{AllByRecursion}
-use Rattle.std.proofs.Math.Nat.{mul-le-mul_right}
-use Rattle.std.proofs.lemmas.Bool.{lt-ltb, le-ltb}
-use Rattle.std.proofs.lemmas.List.{length-map}
-use Rattle.std.proofs.lemmas.List.Sums.{sum_by-cons}
-use Rattle.qs_objects.proofs.Choices.{eqb_apart, eqb_self, num_cases}
-use Rattle.qs_meaning.proofs.Each.{each_join, each_map}
-use Rattle.qs_standings.proofs.Lists.{has_back, has_front, has_map}
-use Rattle.qs_outcomes.proofs.estimate.Mapped.{each_mapped, has_flat, has_mapped}
+use Rattle.std.proofs.Common.{◌≡◌, ◌==◌, ℕ, zero, suc, ◌+◌, ◌-◌, ◌≤◌, ◌<◌, ◌*◌, Bool, true, false, cond, if◌then◌else◌, List, [], ◌∷◌, ◌++◌, length, map, filter, flat_map, count_by, nat_lt, refl, sym, ap, ◌∙◌, subst, arith, ◌⊎◌, inl, inr, length-append}
+use Rattle.qs_outcomes.proofs.Common.{AllByRecursion, each_join, each_map, eqb_apart, eqb_self, has_back, has_front, has_map, HasOne, le-ltb, length-map, lt-ltb, mul-le-mul_right, num_cases, sum_by-append, sum_by-cons}
+use Rattle.qs_outcomes.proofs.Mapped.{each_mapped, has_flat, has_mapped}
 use Rattle.qs_outcomes.specs.estimate.Estimates.{insertions, most_from, most_orders}
-use Rattle.qs_standings.specs.Lists.{HasOne}
 
 -- how often a letter stands in a word
 abbrev pub times : ℕ → List ℕ → ℕ
@@ -30,6 +22,9 @@ times-here c x v e =
 pub times-there : (c x : ℕ) (v : List ℕ) → (x == c) ≡ false → times c (x ∷ v) ≡ times c v
 times-there c x v e = sum_by-cons (λ y. cond (y == c) 1 0) x v ∙ ap (λ b. cond b 1 0 + times c v) e ∙ omega arith
 
+pub times-cons : (c x : ℕ) (v : List ℕ) → times c (x ∷ v) ≡ (if x == c then suc (times c v) else times c v)
+times-cons c x v = let e = sum_by-cons (λ y. cond (y == c) 1 0) x v in grind (arith, e)
+
 below-in : (k x : ℕ) (v : List ℕ) → x < k → below k (x ∷ v) ≡ x ∷ below k v
 below-in k x v less = ap (λ b. cond b (x ∷ below k v) (below k v)) (lt-ltb x k less)
 
@@ -37,11 +32,7 @@ below-out : (k x : ℕ) (v : List ℕ) → k ≤ x → below k (x ∷ v) ≡ bel
 below-out k x v past = ap (λ b. cond b (x ∷ below k v) (below k v)) (le-ltb x k past)
 
 pub times-append : (c : ℕ) (v w : List ℕ) → times c (v ++ w) ≡ times c v + times c w
-times-append c [] w = omega arith
-times-append c (x ∷ v) w =
-    let joined = sum_by-cons (λ y. cond (y == c) 1 0) x (v ++ w) in
-    let first = sum_by-cons (λ y. cond (y == c) 1 0) x v in
-    let rest = times-append c v w in omega (arith, joined, first, rest)
+times-append c v w = sum_by-append (λ y. cond (y == c) 1 0) v w
 
 -- ---- where a letter stands among the next ones
 

@@ -21,7 +21,7 @@ use Rattle.qs_standings.specs.Standings.{HasNext, RowShape, StandingShape, confi
 -- than there are of them, and none is what is asked for.
 pub record AreNoted (p : ProgramShape) (k : Classes) (front : List Ticket) (limit : ℕ) (asked : OrderOutcome → Bool)
     (kept : List RowShape) (places : List StandingShape) : Type 0 where
-  pub keys : AllZip (IsKey p k) places kept
+  pub keys : AllZip (λ r s. IsKey p k s r) kept places
   pub reached : AllByRecursion (IsFollowedTo p k all_legal front) places
   pub apart : NoTwo (λ s t. Becomes k (configuration_in s) (configuration_in t)) places
   pub near : AllByRecursion (λ s. length s.order < length front + length places) places

@@ -10,9 +10,9 @@ ghost use Rattle.qs_alike.specs.Texts.{classes_in};
 ghost use Rattle.qs_outcomes.specs.Answers.{IsBlind};
 ghost use Rattle.qs_outcomes.specs.Outcomes.{HasPlaces, outcome_at};
 ghost use Rattle.qs_outcomes.specs.Reached.{HasMore, HasNotedUntil};
-ghost use Rattle.qs_outcomes.specs.Searches.{IsPrepared, IsWritten};
+ghost use Rattle.qs_outcomes.specs.Searches.{HasMoreIn, HasWalkedIn, IsGoingOnIn, IsReady, IsWrittenIn, classes_of};
 ghost use Rattle.qs_outcomes.specs.throughout.Courses.{IsCourseAnswerAfter, IsCourseWitnessAfter};
-ghost use Rattle.qs_outcomes.specs.throughout.Walked.{HasWalked, IsGoingOn, IsTakenIn};
+ghost use Rattle.qs_outcomes.specs.throughout.Walked.{IsTakenIn};
 ghost use Rattle.qs_standings.specs.Lists.{HasOne};
 ghost use Rattle.qs_standings.specs.Rows.{IsInserted, drafted, rows_in};
 ghost use Rattle.qs_standings.specs.Standings.{IsFirst};
@@ -98,36 +98,26 @@ fn note_next<Q: Question, W: Watcher>(
     client: u8,
     state: &mut State,
 ) -> Result<Option<Standing>, OutcomesFault>
-    requires prepared { IsPrepared search.now.program.now (classes_in search.now.classes.now) search.now.alone
-        search.now.last.items search.now.starts.items }
-    requires blind { IsBlind (classes_in search.now.classes.now) (Q.asked question.now search.now.program.now) }
+    requires prepared { IsReady search.now }
+    requires blind { IsBlind (classes_of search.now) (Q.asked question.now search.now.program.now) }
     requires client { client < length search.now.program.now.clients }
-    requires written { IsWritten search.now.program.now (classes_in search.now.classes.now) search.now.alone
-        standing.now
-        (drafted state.old.scratch.base) state.old.scratch.copy }
-    requires going { IsGoingOn search.now.program.now (classes_in search.now.classes.now) search.now.front.now
-        search.now.limit
-        (Q.asked question.now search.now.program.now) (rows_in state.old.rows.keys) standing.now client
-        state.old.waiting.items }
+    requires written { IsWrittenIn search.now standing.now (drafted state.old.scratch.base) state.old.scratch.copy }
+    requires going { IsGoingOnIn search.now (Q.asked question.now search.now.program.now) (rows_in state.old.rows.keys)
+        standing.now client state.old.waiting.items }
     ensures base { OnOk result (state.new.scratch.base ≡ state.old.scratch.base) }
     ensures copy { OnOk result (state.new.scratch.copy ≡ state.old.scratch.copy) }
-    ensures going { IfOk result (λ met. met ≡ None
-        → IsGoingOn search.now.program.now (classes_in search.now.classes.now) search.now.front.now search.now.limit
+    ensures going { IfOk result (λ met. met ≡ None → IsGoingOnIn search.now
         (Q.asked question.now search.now.program.now) (rows_in state.new.rows.keys) standing.now (client + 1)
         state.new.waiting.items) }
     ensures kept { IfOk result (λ met. met ≡ None → length (rows_in state.new.rows.keys) + length
         state.old.waiting.items
         ≡ length (rows_in state.old.rows.keys) + length state.new.waiting.items) }
-    ensures witness { IfOk result (λ met. IfSome met
-        (IsCourseWitnessAfter search.now.program.now search.now.front.now
+    ensures witness { IfOk result (λ met. IfSome met (IsCourseWitnessAfter search.now.program.now search.now.front.now
         (Q.asked question.now search.now.program.now))) }
-    ensures many { IfOk result (λ met. IfSome met
-        (HasNotedUntil search.now.program.now (classes_in search.now.classes.now) all_legal search.now.front.now
-        (length (rows_in state.new.rows.keys)))) }
+    ensures many { IfOk result (λ met. IfSome met (HasNotedUntil search.now.program.now (classes_of search.now)
+        all_legal search.now.front.now (length (rows_in state.new.rows.keys)))) }
     ensures small { OnOk result (length (rows_in state.new.rows.keys) ≤ search.now.limit) }
-    ensures limit { IsErrOf result OutcomesFault.Limit
-        → HasMore search.now.program.now (classes_in search.now.classes.now) all_legal search.now.front.now
-        search.now.limit }
+    ensures limit { IsErrOf result OutcomesFault.Limit → HasMoreIn search.now all_legal }
     ensures order { ¬ IsErrOf result OutcomesFault.Order }
 {
     search.program.keeps_sound();
@@ -167,29 +157,21 @@ fn note_all<Q: Question, W: Watcher>(
     standing: Standing,
     state: &mut State,
 ) -> Result<Option<Standing>, OutcomesFault>
-    requires prepared { IsPrepared search.now.program.now (classes_in search.now.classes.now) search.now.alone
-        search.now.last.items search.now.starts.items }
-    requires blind { IsBlind (classes_in search.now.classes.now) (Q.asked question.now search.now.program.now) }
-    requires walked { HasWalked search.now.program.now (classes_in search.now.classes.now) search.now.front.now
-        search.now.limit
-        (Q.asked question.now search.now.program.now) (rows_in state.old.rows.keys)
+    requires prepared { IsReady search.now }
+    requires blind { IsBlind (classes_of search.now) (Q.asked question.now search.now.program.now) }
+    requires walked { HasWalkedIn search.now (Q.asked question.now search.now.program.now) (rows_in state.old.rows.keys)
         (standing ∷ state.old.waiting.items) }
-    ensures walked { IfOk result (λ met. met ≡ None
-        → HasWalked search.now.program.now (classes_in search.now.classes.now) search.now.front.now search.now.limit
+    ensures walked { IfOk result (λ met. met ≡ None → HasWalkedIn search.now
         (Q.asked question.now search.now.program.now) (rows_in state.new.rows.keys) state.new.waiting.items) }
     ensures kept { IfOk result (λ met. met ≡ None → length (rows_in state.new.rows.keys) + length
         state.old.waiting.items
         ≡ length (rows_in state.old.rows.keys) + length state.new.waiting.items) }
-    ensures witness { IfOk result (λ met. IfSome met
-        (IsCourseWitnessAfter search.now.program.now search.now.front.now
+    ensures witness { IfOk result (λ met. IfSome met (IsCourseWitnessAfter search.now.program.now search.now.front.now
         (Q.asked question.now search.now.program.now))) }
-    ensures many { IfOk result (λ met. IfSome met
-        (HasNotedUntil search.now.program.now (classes_in search.now.classes.now) all_legal search.now.front.now
-        (length (rows_in state.new.rows.keys)))) }
+    ensures many { IfOk result (λ met. IfSome met (HasNotedUntil search.now.program.now (classes_of search.now)
+        all_legal search.now.front.now (length (rows_in state.new.rows.keys)))) }
     ensures small { OnOk result (length (rows_in state.new.rows.keys) ≤ search.now.limit) }
-    ensures limit { IsErrOf result OutcomesFault.Limit
-        → HasMore search.now.program.now (classes_in search.now.classes.now) all_legal search.now.front.now
-        search.now.limit }
+    ensures limit { IsErrOf result OutcomesFault.Limit → HasMoreIn search.now all_legal }
     ensures order { ¬ IsErrOf result OutcomesFault.Order }
 {
     search.program.keeps_sound();
@@ -213,25 +195,19 @@ fn note_first<Q: Question, W: Watcher>(
     first: Standing,
     state: &mut State,
 ) -> Result<Option<Standing>, OutcomesFault>
-    requires prepared { IsPrepared search.now.program.now (classes_in search.now.classes.now) search.now.alone
-        search.now.last.items search.now.starts.items }
-    requires blind { IsBlind (classes_in search.now.classes.now) (Q.asked question.now search.now.program.now) }
+    requires prepared { IsReady search.now }
+    requires blind { IsBlind (classes_of search.now) (Q.asked question.now search.now.program.now) }
     requires first { IsFirst search.now.program.now search.now.front.now first }
     requires rows { rows_in state.old.rows.keys ≡ [] }
     requires waiting { state.old.waiting.items ≡ [] }
-    ensures walked { IfOk result (λ met. met ≡ None
-        → HasWalked search.now.program.now (classes_in search.now.classes.now) search.now.front.now search.now.limit
+    ensures walked { IfOk result (λ met. met ≡ None → HasWalkedIn search.now
         (Q.asked question.now search.now.program.now) (rows_in state.new.rows.keys) state.new.waiting.items) }
-    ensures witness { IfOk result (λ met. IfSome met
-        (IsCourseWitnessAfter search.now.program.now search.now.front.now
+    ensures witness { IfOk result (λ met. IfSome met (IsCourseWitnessAfter search.now.program.now search.now.front.now
         (Q.asked question.now search.now.program.now))) }
-    ensures many { IfOk result (λ met. IfSome met
-        (HasNotedUntil search.now.program.now (classes_in search.now.classes.now) all_legal search.now.front.now
-        (length (rows_in state.new.rows.keys)))) }
+    ensures many { IfOk result (λ met. IfSome met (HasNotedUntil search.now.program.now (classes_of search.now)
+        all_legal search.now.front.now (length (rows_in state.new.rows.keys)))) }
     ensures small { OnOk result (length (rows_in state.new.rows.keys) ≤ search.now.limit) }
-    ensures limit { IsErrOf result OutcomesFault.Limit
-        → HasMore search.now.program.now (classes_in search.now.classes.now) all_legal search.now.front.now
-        search.now.limit }
+    ensures limit { IsErrOf result OutcomesFault.Limit → HasMoreIn search.now all_legal }
     ensures order { ¬ IsErrOf result OutcomesFault.Order }
 {
     search.program.keeps_sound();
@@ -260,26 +236,19 @@ fn walk<Q: Question, W: Watcher>(
     watcher: &mut W,
     state: &mut State,
 ) -> Result<Option<Standing>, OutcomesFault>
-    requires prepared { IsPrepared search.now.program.now (classes_in search.now.classes.now) search.now.alone
-        search.now.last.items search.now.starts.items }
-    requires blind { IsBlind (classes_in search.now.classes.now) (Q.asked question.now search.now.program.now) }
-    requires walked { HasWalked search.now.program.now (classes_in search.now.classes.now) search.now.front.now
-        search.now.limit
+    requires prepared { IsReady search.now }
+    requires blind { IsBlind (classes_of search.now) (Q.asked question.now search.now.program.now) }
+    requires walked { HasWalkedIn search.now
         (Q.asked question.now search.now.program.now) (rows_in state.old.rows.keys) state.old.waiting.items }
     requires small { length (rows_in state.old.rows.keys) ≤ search.now.limit }
-    ensures walked { IfOk result (λ met. met ≡ None
-        → HasWalked search.now.program.now (classes_in search.now.classes.now) search.now.front.now search.now.limit
+    ensures walked { IfOk result (λ met. met ≡ None → HasWalkedIn search.now
         (Q.asked question.now search.now.program.now) (rows_in state.new.rows.keys) []) }
-    ensures witness { IfOk result (λ met. IfSome met
-        (IsCourseWitnessAfter search.now.program.now search.now.front.now
+    ensures witness { IfOk result (λ met. IfSome met (IsCourseWitnessAfter search.now.program.now search.now.front.now
         (Q.asked question.now search.now.program.now))) }
-    ensures many { IfOk result (λ met. IfSome met
-        (HasNotedUntil search.now.program.now (classes_in search.now.classes.now) all_legal search.now.front.now
-        (length (rows_in state.new.rows.keys)))) }
+    ensures many { IfOk result (λ met. IfSome met (HasNotedUntil search.now.program.now (classes_of search.now)
+        all_legal search.now.front.now (length (rows_in state.new.rows.keys)))) }
     ensures small { OnOk result (length (rows_in state.new.rows.keys) ≤ search.now.limit) }
-    ensures limit { IsErrOf result OutcomesFault.Limit
-        → HasMore search.now.program.now (classes_in search.now.classes.now) all_legal search.now.front.now
-        search.now.limit }
+    ensures limit { IsErrOf result OutcomesFault.Limit → HasMoreIn search.now all_legal }
     ensures order { ¬ IsErrOf result OutcomesFault.Order }
 {
     while let Some(standing) = state.waiting.pop_front() {
@@ -310,17 +279,13 @@ fn search_from<Q: Question, W: Watcher>(
     watcher: &mut W,
     first: Standing,
 ) -> Result<Answer, OutcomesFault>
-    requires prepared { IsPrepared search.now.program.now (classes_in search.now.classes.now) search.now.alone
-        search.now.last.items search.now.starts.items }
-    requires blind { IsBlind (classes_in search.now.classes.now) (Q.asked question.now search.now.program.now) }
+    requires prepared { IsReady search.now }
+    requires blind { IsBlind (classes_of search.now) (Q.asked question.now search.now.program.now) }
     requires first { IsFirst search.now.program.now search.now.front.now first }
-    ensures answer { IfOk result (IsCourseAnswerAfter search.now.program.now (classes_in search.now.classes.now)
-        search.now.front.now
-        (Q.asked question.now search.now.program.now)) }
+    ensures answer { IfOk result (IsCourseAnswerAfter search.now.program.now (classes_of search.now)
+        search.now.front.now (Q.asked question.now search.now.program.now)) }
     ensures within { IfOk result (λ answer. answer.configurations ≤ search.now.limit) }
-    ensures limit { IsErrOf result OutcomesFault.Limit
-        → HasMore search.now.program.now (classes_in search.now.classes.now) all_legal search.now.front.now
-        search.now.limit }
+    ensures limit { IsErrOf result OutcomesFault.Limit → HasMoreIn search.now all_legal }
     ensures order { ¬ IsErrOf result OutcomesFault.Order }
 {
     search.program.keeps_sound();

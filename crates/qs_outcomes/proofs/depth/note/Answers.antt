@@ -1,7 +1,5 @@
 use Rattle.std.proofs.Common.{true, subst, arith}
-use Rattle.std.proofs.lemmas.List.{length-map}
-use Rattle.qs_alike.specs.Texts.{classes_in}
-use Rattle.qs_standings.specs.Rows.{IsInserted, drafted, rows_in, shape_of}
+use Rattle.qs_outcomes.proofs.Common.{drafted, IsInserted, length-map, rows_in, shape_of}
 use Rattle.qs_outcomes.proofs.Steps.{key_new, limit_met}
 use Rattle.qs_outcomes.proofs.depth.note.Goals as goal
 
@@ -14,5 +12,5 @@ returns-then-len-search-clause-full c = λ _.
     subst (λ b. IsInserted rows q b later) c.if-new.true (subst (λ r. IsInserted rows r c.in_ok-new.new later) c.in_ok-row.ensures.same c.in_ok-new.ensures.inserted) in (
       limit_met rows later q c.args.search.now.limit inserted.0 c.requires.small
           (let e = c.len.ensures.len in let long = length-map c.insert.new.seen.keys shape_of in let past = c.if-len-search.true in omega (arith, e, long, past)),
-      key_new c.args.search.now.program.now (classes_in c.args.search.now.classes.now) c.args.standing.now q c.in_ok-write.ensures.written.0 rows inserted.1,
+      key_new c.in_ok-write.ensures.written.0 rows inserted.1,
     )

@@ -1,6 +1,5 @@
 use Rattle.std.proofs.Common.{◌-◌, ◌+◌, ◌∙◌, ap, arith, inr, subst, sym, true≢false}
-use Rattle.qs_alike.specs.Texts.{classes_in}
-use Rattle.qs_standings.specs.Rows.{rows_in}
+use Rattle.qs_outcomes.proofs.Common.{classes_in, rows_in}
 use Rattle.qs_outcomes.specs.Search.{IsLonger, IsPushed}
 use Rattle.qs_outcomes.proofs.Exploring.{pushed_on}
 use Rattle.qs_outcomes.proofs.depth.push_next.Goals as goal

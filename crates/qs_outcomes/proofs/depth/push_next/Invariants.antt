@@ -1,6 +1,5 @@
 use Rattle.std.proofs.Common.{◌≡◌, ◌-◌}
-use Rattle.qs_alike.specs.Texts.{classes_in}
-use Rattle.qs_standings.specs.Rows.{rows_in}
+use Rattle.qs_outcomes.proofs.Common.{classes_in, rows_in}
 use Rattle.qs_outcomes.specs.Search.{IsLonger}
 use Rattle.qs_outcomes.proofs.depth.push_next.Given as goal
 

@@ -1,9 +1,5 @@
 use Rattle.std.proofs.Common.{◌≡◌, Err, ap, refl, sym, ◌∙◌}
-use Rattle.std.proofs.lemmas.List.{length-map}
-use Rattle.qs_serial.specs.audit.NamedOrders.{order_of}
-use Rattle.qs_alike.specs.Texts.{classes_in}
-use Rattle.qs_alike.proofs.Composing.{alone_classes}
-use Rattle.qs_standings.specs.Rows.{rows_in, shape_of}
+use Rattle.qs_outcomes.proofs.Common.{alone_classes, classes_in, length-map, order_of, shape_of}
 use Rattle.qs_outcomes.specs.declared.fault.OutcomesFault.TheVariants.{Limit}
 use Rattle.qs_outcomes.proofs.Listed.{all_listed, more_than}
 use Rattle.qs_outcomes.proofs.Witnesses.{nothing_met}
@@ -21,7 +17,7 @@ returns-in-Ok-clause-outcomes g c =
     let k = classes_in c.each_alone-classes.result in
     let alone = c.each_alone-classes.ensures.alone in
     let front = order_of c.args.front.now in
-    all_listed p k front alone c.keeps_sound.ensures.sound (alone_classes p k alone) (rows_in c.in-Ok.field-0.seen.keys) c.in-Ok.field-0.found.items
+    all_listed p k front alone c.keeps_sound.ensures.sound (alone_classes p k alone)
     (c.in-Ok.ensures.explored (nothing_met p k front c.in-Ok.field-0.witness c.in-Ok.ensures.witness)) c.in-Ok.ensures.legal c.len.result
     (c.len.ensures.len ∙ sym (length-map c.in-Ok.field-0.seen.keys shape_of))
 

@@ -1,7 +1,5 @@
 use Rattle.std.proofs.Common.{◌≡◌, [], subst, ◌∙◌}
-use Rattle.qs_serial.specs.audit.NamedOrders.{order_of}
-use Rattle.qs_alike.specs.Texts.{classes_in}
-use Rattle.qs_standings.specs.Rows.{rows_in}
+use Rattle.qs_outcomes.proofs.Common.{classes_in, order_of, rows_in}
 use Rattle.qs_outcomes.specs.Search.{IsExplored}
 use Rattle.qs_outcomes.proofs.lists.search_after.Goals as goal
 

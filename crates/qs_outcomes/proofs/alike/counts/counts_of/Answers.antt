@@ -1,10 +1,8 @@
 use Rattle.std.proofs.Common.{ℕ, List, ◌<◌, length, get_or, ◌≡◌, ◌++◌, ◌∷◌, [], ap, subst, sym, take, ◌∙◌, ◌+◌}
-use Rattle.indexmap.proofs.SetLemmas.{AllZip-push}
+use Rattle.qs_outcomes.proofs.Common.{AllZip-push, classes_in, StandingShape}
 use Rattle.qs_outcomes.specs.Outcomes.{outcome_at}
-use Rattle.qs_standings.specs.Standings.{StandingShape}
 use Rattle.qs_standings.proofs.RowSteps.{take_more}
 use Rattle.qs_outcomes.specs.alike.AlikeOutcomes.{AreCounted, StandsFor}
-use Rattle.qs_alike.specs.Texts.{classes_in}
 use Rattle.qs_outcomes.proofs.alike.counts.counts_of.Goals as goal
 
 one_more : (found : List StandingShape) (i : ℕ) (s : StandingShape) → i < length found → s ≡ get_or found i s → take (i + 1) found ≡ take i found ++ s ∷ []

@@ -1,10 +1,7 @@
 use Rattle.std.proofs.Common.{ℕ, ◌≡◌, ◌<◌, ◌≤◌, ◌+◌, ◌-◌, ◌*◌, ◌/◌, arith, length, subst}
-use Rattle.std.proofs.Math.Nat.{div-le_self}
-use Rattle.qs_meaning.specs.Configurations.{OrderOutcome}
+use Rattle.qs_outcomes.proofs.Common.{Classes, classes_in, div-le_self, OrderOutcome}
 use Rattle.qs_outcomes.specs.Outcomes.{outcome_at}
 use Rattle.qs_outcomes.specs.alike.AlikeOutcomes.{StandsFor}
-use Rattle.qs_alike.specs.Changes.{Classes}
-use Rattle.qs_alike.specs.Texts.{classes_in}
 use Rattle.qs_outcomes.proofs.alike.Counting.{CountsFrom, counts_none, stands}
 use Rattle.qs_outcomes.proofs.alike.Shares.{counts_back, product_few, product_fits}
 use Rattle.qs_outcomes.proofs.alike.counts.stands_for.Goals as goal

@@ -1,7 +1,5 @@
 use Rattle.std.proofs.Common.{sym, ◌∙◌}
-use Rattle.qs_alike.specs.Texts.{classes_in}
-use Rattle.qs_alike.proofs.Following.{alone_goes, goes_alone}
-use Rattle.qs_standings.specs.Standings.{configuration_in}
+use Rattle.qs_outcomes.proofs.Common.{alone_goes, classes_in, configuration_in, goes_alone}
 use Rattle.qs_standings.proofs.going.GoingSets.{in_shifted}
 use Rattle.qs_outcomes.proofs.search.Search.follows.Goals as goal
 

@@ -1,34 +1,24 @@
 use Rattle.std.proofs.Common.{◌≡◌, refl, ap, ◌∙◌}
-use Rattle.qs_alike.specs.Texts.{classes_in}
-use Rattle.qs_standings.specs.Rows.{drafted, rows_in}
-use Rattle.qs_standings.specs.Standings.{standing_with_block}
+use Rattle.qs_outcomes.proofs.Common.{rows_in, standing_with_block}
 use Rattle.qs_outcomes.proofs.Steps.{key_seen, one_on, row_key}
 use Rattle.qs_outcomes.proofs.search.Search.lead_alone.Goals as goal
 
 pub returns-then-was_seen-clause-led : goal.returns-then-was_seen-clause-led
-returns-then-was_seen-clause-led c =
-    let p = c.args.self.now.program.now in
-    let k = classes_in c.args.self.now.classes.now in
-    let n = standing_with_block c.args.standing.now c.args.client c.args.scratch.now.values c.args.scratch.now.left.items in (
-      n,
-      one_on p k c.args.standing.now c.args.client _ _ c.requires.standing c.requires.client c.requires.left c.requires.ran n refl,
-      key_seen p k n (drafted c.write_next_row.new.scratch.row)
-          (row_key p k c.args.standing.now c.args.client _ _ c.requires.standing c.requires.client c.requires.left c.requires.ran c.requires.alone n refl
-          (drafted c.write_next_row.new.scratch.row) c.in_ok-write_next_row.ensures.row)
-          (rows_in c.args.seen.now.keys) (c.was_seen.ensures.seen c.if-was_seen.true),
-    )
+returns-then-was_seen-clause-led c = (
+  standing_with_block c.args.standing.now c.args.client c.args.scratch.now.values c.args.scratch.now.left.items,
+  one_on c.requires.standing c.requires.client c.requires.left c.requires.ran refl,
+  key_seen (row_key c.requires.standing c.requires.client c.requires.left c.requires.ran refl c.requires.alone c.in_ok-write_next_row.ensures.row)
+      (rows_in c.args.seen.now.keys) (c.was_seen.ensures.seen c.if-was_seen.true),
+)
 
 pub returns-clause-led : goal.returns-clause-led
 returns-clause-led c =
-    let p = c.args.self.now.program.now in
-    let k = classes_in c.args.self.now.classes.now in
     let s = c.args.standing.now in
     let client = c.args.client in
     let there : c.put_next.new.next ≡ standing_with_block s client c.args.scratch.now.values c.args.scratch.now.left.items =
     c.in_ok-put_next.ensures.next
     ∙ (ap (λ v. standing_with_block s client v c.write_next_row.new.scratch.left.items) c.write_next_row.ensures.values
     ∙ ap (λ xs. standing_with_block s client c.args.scratch.now.values xs) (ap (λ (l : _). l.items) c.write_next_row.ensures.left)) in (
-      one_on p k s client _ _ c.requires.standing c.requires.client c.requires.left c.requires.ran c.put_next.new.next there,
-      row_key p k s client _ _ c.requires.standing c.requires.client c.requires.left c.requires.ran c.requires.alone c.put_next.new.next
-          there (drafted c.write_next_row.new.scratch.row) c.in_ok-write_next_row.ensures.row,
+      one_on c.requires.standing c.requires.client c.requires.left c.requires.ran there,
+      row_key c.requires.standing c.requires.client c.requires.left c.requires.ran there c.requires.alone c.in_ok-write_next_row.ensures.row,
     )

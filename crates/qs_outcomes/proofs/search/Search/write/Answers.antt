@@ -1,7 +1,5 @@
 use Rattle.std.proofs.Common.{subst, sym, true≢false, ◌∙◌}
-use Rattle.qs_alike.specs.Keys.{IsKey}
-use Rattle.qs_alike.specs.Texts.{classes_in}
-use Rattle.qs_alike.proofs.Keying.{key_alone}
+use Rattle.qs_outcomes.proofs.Common.{classes_in, IsKey, key_alone}
 use Rattle.qs_outcomes.proofs.search.Search.write.Goals as goal
 
 pub returns-then-self : goal.returns-then-self

@@ -1,10 +1,5 @@
 use Rattle.std.proofs.Common.{◌<◌, ◌+◌, length, subst, sym, ◌∙◌}
-use Rattle.std.specs.Prelude.{IfSome}
-use Rattle.qs_meaning.specs.audit.Serial.{IsLegal}
-use Rattle.qs_alike.specs.Followed.{all_legal}
-use Rattle.qs_alike.specs.Texts.{classes_in}
-use Rattle.qs_standings.specs.Rows.{rows_in}
-use Rattle.qs_standings.specs.Standings.{StandingShape}
+use Rattle.qs_outcomes.proofs.Common.{all_legal, classes_in, IfSome, IsLegal, rows_in, StandingShape}
 use Rattle.qs_outcomes.specs.Reached.{HasNoted, HasNotedUntil, HasReached}
 use Rattle.qs_outcomes.specs.throughout.Courses.{IsCourseWitnessAfter}
 use Rattle.qs_outcomes.proofs.throughout.Walking.{all_reached, either, none_met, some_map}
@@ -23,11 +18,11 @@ returns-clause-answer g c =
       witness = subst (λ w. IfSome w (IsCourseWitnessAfter p front asked)) (sym c.answered-2.ensures.witness) c.in_ok-found.ensures.witness;
       none = λ is. (
           let has = c.in_ok-found.ensures.walked (sym c.answered-2.ensures.witness ∙ is) in (
-            none_met p k are front c.args.search.now.limit asked rows has c.requires.blind,
-            subst (HasReached p k all_legal front) (sym c.answered-2.ensures.configurations) (all_reached p k are front c.args.search.now.limit asked rows has),
+            none_met are has c.requires.blind,
+            subst (HasReached p k all_legal front) (sym c.answered-2.ensures.configurations) (all_reached are has),
           ));
       noted = subst (HasNoted p k all_legal front) (sym c.answered-2.ensures.configurations)
-          (either c.in_ok-found.found (λ is. (let all = all_reached p k are front c.args.search.now.limit asked rows (c.in_ok-found.ensures.walked is) in (all.0, all.1)))
+          (either c.in_ok-found.found (λ is. (let all = all_reached are (c.in_ok-found.ensures.walked is) in (all.0, all.1)))
           (some_map (λ s (until : HasNotedUntil p k all_legal front (length rows) s). until.0) c.in_ok-found.found c.in_ok-found.ensures.many));
       enough = subst (λ w. IfSome w (λ (s : StandingShape). length s.order < length front + c.answered-2.result.configurations)) (sym c.answered-2.ensures.witness)
           (subst (λ n. IfSome c.in_ok-found.found (λ (s : StandingShape). length s.order < length front + n)) (sym c.answered-2.ensures.configurations)

@@ -1,13 +1,11 @@
 use Rattle.std.proofs.Common.{◌≤◌, ◌+◌, ◌-◌, length}
-use Rattle.qs_alike.specs.Texts.{classes_in}
 use Rattle.qs_standings.specs.Rows.{rows_in}
-use Rattle.qs_outcomes.specs.throughout.Walked.{HasWalked}
+use Rattle.qs_outcomes.specs.Searches.{HasWalkedIn}
 use Rattle.qs_outcomes.proofs.throughout.search.walk.Given as goal
 
 abbrev pub invariant-loop-standing : goal.invariant-loop-standing
 invariant-loop-standing g l = record {
-  walked : HasWalked l.search.program.now (classes_in l.search.classes.now) l.search.front.now l.search.limit (g.Q.Question.asked l.question l.search.program.now)
-      (rows_in l.state.rows.keys) l.state.waiting.items;
+  walked : HasWalkedIn l.search (g.Q.Question.asked l.question l.search.program.now) (rows_in l.state.rows.keys) l.state.waiting.items;
   small : length (rows_in l.state.rows.keys) ≤ l.search.limit;
 }
 
