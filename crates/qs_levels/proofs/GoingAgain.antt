@@ -1,31 +1,19 @@
 -- Who goes on is the same once a client's next block has run, if the block behind it reserves the same objects: then the
 -- client comes in the way of the same clients, and the same come in its way, with a block left as before. So each set
 -- that is grown from a client is the same, and so is the first of the smallest. It goes by induction on rounds and clients.
-use Rattle.std.proofs.Common.{◌≡◌, ◌<◌, ℕ, zero, suc, Bool, true, false, if◌then◌else◌, ◌==◌, ◌&&◌, ◌||◌, nat_lt, List, [], ◌∷◌, length, get_or, drop, refl, sym, ap, ◌∙◌, subst, arith, ⊎_elim}
-use Rattle.std.proofs.lemmas.Bool.Decides.{nat_tests}
-use Rattle.std.specs.List.{list_any}
-use Rattle.qs_objects.proofs.Choices.{num_cases}
-use Rattle.qs_program.specs.audit.Program.{BlockShape, ProgramShape, block_at, blocks_of, client_at, no_block}
+use Rattle.std.proofs.Common.{◌≡◌, ◌<◌, ℕ, zero, suc, if◌then◌else◌, ◌==◌, ◌&&◌, ◌||◌, nat_lt, List, ◌∷◌, length, get_or, drop, refl, sym, ap, ◌∙◌, arith}
+use Rattle.qs_levels.proofs.Common.{block_at, block_reserves, blocks_of, BlockShape, client_at, Clients, comes_in, Counts, first_smallest, goes_on, has_block_left, list_any, nat_tests, no_block, ProgramShape, put, smaller, some_below, still_reserves, widened, wider}
 use Rattle.qs_program.specs.audit.Sound.{is_in}
-use Rattle.qs_meaning.specs.audit.Reduced.{Counts}
-use Rattle.qs_meaning.specs.Reduced.{Clients, block_reserves, comes_in, first_smallest, goes_on, has_block_left, smaller, some_below, still_reserves, widened, wider}
-use Rattle.qs_meaning.specs.audit.Solo.{put}
-use Rattle.qs_meaning.proofs.TreeWalks.{put_here, put_there}
 use Rattle.qs_levels.specs.Shares.{ReservesAgain}
-
-twice : (x r : Bool) → (x || (x || r)) ≡ (x || r)
-twice true r = refl
-twice false r = refl
 
 -- the block behind has what the block before it has
 behind : (bs : List BlockShape) (n h : ℕ) → suc n < length bs → (get_or bs n no_block).reserved ≡ (get_or bs (suc n) no_block).reserved
     → list_any (block_reserves h) (drop (suc n) bs) ≡ list_any (block_reserves h) (drop n bs)
-behind [] n h less same = absurd (omega (arith, less))
-behind (b ∷ []) n h less same = absurd (let z : suc n < length (b ∷ []) = less in omega (arith, z))
 behind (b ∷ d ∷ bs) zero h less same =
     let e : block_reserves h b ≡ block_reserves h d = ap (λ xs. is_in xs h) same in
-    sym (twice (block_reserves h d) (list_any (block_reserves h) bs)) ∙ ap (λ x. x || (block_reserves h d || list_any (block_reserves h) bs)) (sym e)
+    let any : (block_reserves h d || list_any (block_reserves h) bs) ≡ (block_reserves h b || (block_reserves h d || list_any (block_reserves h) bs)) = grind (arith, e) in any
 behind (b ∷ d ∷ bs) (suc n) h less same = behind (d ∷ bs) n h (let z : suc (suc n) < length (b ∷ d ∷ bs) = less in omega (arith, z)) same
+behind _ n h less same = absurd (omega (arith, less))
 
 module _ (p : ProgramShape) (begun : Counts) (c : ℕ) (again : ReservesAgain p begun c) where
   abbrev later : Counts
@@ -33,11 +21,7 @@ module _ (p : ProgramShape) (begun : Counts) (c : ℕ) (again : ReservesAgain p 
 
   -- what holds of the client by both counts, and of each other one by the same count, holds of all
   by_client : {A : Type 0} (f : ℕ → ℕ → A) → f c (suc (begun c)) ≡ f c (begun c) → (d : ℕ) → f d (later d) ≡ f d (begun d)
-  by_client f own d =
-      ⊎_elim
-      (λ (is : c ≡ d). subst (λ d. f d (later d) ≡ f d (begun d)) is (ap (f c) (put_here begun c (suc (begun c))) ∙ own))
-      (λ (other : (c == d) ≡ false). ap (f d) (put_there begun c (suc (begun c)) d other))
-      (num_cases c d)
+  by_client f own d = grind (arith, nat_tests)
 
   still : (d h : ℕ) → still_reserves p later d h ≡ still_reserves p begun d h
   still d h = by_client (λ d n. list_any (block_reserves h) (drop n (client_at p d).blocks)) (behind (client_at p c).blocks (begun c) h again.left again.same) d
@@ -49,10 +33,7 @@ module _ (p : ProgramShape) (begun : Counts) (c : ℕ) (again : ReservesAgain p 
   left d = by_client (λ d n. nat_lt n (blocks_of p d)) own d
     where
       own : nat_lt (suc (begun c)) (blocks_of p c) ≡ nat_lt (begun c) (blocks_of p c)
-      own =
-          let less = again.left in
-          let one : nat_lt (suc (begun c)) (blocks_of p c) ≡ true = grind (arith, nat_tests, less) in
-          let two : nat_lt (begun c) (blocks_of p c) ≡ true = grind (arith, nat_tests, less) in one ∙ sym two
+      own = let less = again.left in grind (arith, nat_tests)
 
   comes : (a b : ℕ) → comes_in p later a b ≡ comes_in p begun a b
   comes a b = let xs = next a in λ i. list_any (λ h. still b h i) (xs i)

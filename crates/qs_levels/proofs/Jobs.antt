@@ -2,11 +2,9 @@
 use mathlib.Core.Logic.{⊎_elim}
 use denote.Param.Members.{Shared}
 use Rattle.std.proofs.Common.{◌≡◌, ◌++◌, ◌-◌, ◌+◌, List, ap, arith, drop, length, length-append, refl, slice_index_or, subst, sym, take, ℕ, ◌∙◌}
-use Rattle.std.proofs.lemmas.Bool.{cases_lt}
-use Rattle.std.proofs.lemmas.List.{get_or-append_right, get_or-drop, get_or-take, get_or_append_left, length-drop, length-take, take-append-drop}
+use Rattle.qs_levels.proofs.Common.{cases_lt, get_or-append_right, get_or-drop, get_or-take, get_or_append_left, GivesFor, length-drop, length-take, take-append-drop}
 use Rattle.std.specs.Fn.{FnReturns}
 use Rattle.std.specs.Fork.{AcceptsJobs, GivesJob}
-use Rattle.std.specs.Fork.Halves.{GivesFor}
 
 module _ {F J R : Type 0} (g : Shared F (J × Unit {0}) R) (f : F) where
   job_moved : (js ks : List J) (i k : ℕ) (r s : R) → ((d : J) → slice_index_or ks k d ≡ slice_index_or js i d) → r ≡ s

@@ -2,18 +2,7 @@
 -- lead is added; where it is there, the lead there came by an order that is before. So of all orders that lead to one
 -- configuration the least is kept.
 use Rattle.std.proofs.Common.{◌≡◌, ◌<◌, ℕ, zero, suc, Bool, true, false, true≢false, if◌then◌else◌, List, [], ◌∷◌, ◌++◌, length, map, slice_index_or, refl, sym, ap, ◌∙◌, subst, arith, ◌⊎◌, inl, inr, append_assoc, append-nil}
-use Rattle.std.specs.List.{AllByRecursion}
-use Rattle.qs_objects.specs.declared.held.Ticket.{Ticket}
-use Rattle.qs_program.specs.audit.Program.{ProgramShape}
-use Rattle.qs_program.specs.Sound.{IsSound}
-use Rattle.qs_meaning.specs.audit.Configurations.{configuration_after}
-use Rattle.qs_meaning.proofs.Each.{each_both, each_map, each_snoc}
-use Rattle.qs_outcomes.specs.LeastOrders.{IsBefore}
-use Rattle.qs_outcomes.proofs.Before.{before_both, before_longer, fork}
-use Rattle.qs_standings.specs.Lists.{HasOne}
-use Rattle.qs_standings.specs.Standings.{IsNext, IsStanding, StandingShape, configuration_in, row_of}
-use Rattle.qs_standings.proofs.Lists.{has_back, has_front, has_of, none_of, pairs_join, two_snoc}
-use Rattle.qs_standings.proofs.RowTells.{row_tells}
+use Rattle.qs_levels.proofs.Common.{AllByRecursion, before_both, before_longer, cases_Bool, configuration_after, configuration_in, each_both, each_map, each_snoc, fork, has_back, has_front, has_of, HasOne, IsBefore, IsNext, IsSound, IsStanding, none_of, pairs_join, ProgramShape, row_of, row_tells, StandingShape, Ticket, two_snoc}
 use Rattle.qs_levels.specs.Founds.{Found, found_in, no_standing}
 use Rattle.qs_levels.specs.meaning.Onward.{IsReached, StandsFor, order_on}
 use Rattle.qs_levels.specs.Leads.{AreKept, IsLead, IsLedOn, IsLedUpTo, IsTableOf, TableShape, leads_below, with_lead}
@@ -133,11 +122,10 @@ module _ (p : ProgramShape) (front : List Ticket) (sound : IsSound p) where
       };
       ahead = each_map (λ m b. before_longer m.order s.order (record { client = 0; index = (configuration_in s).begun 0 } ∷ []) b) (found_in t.found) before;
     })
-    up_to (suc c) after (middle, far, on, off) = by_case (is_taken p number count s c) refl (up_to c middle far)
-      where
-        by_case : (b : Bool) → is_taken p number count s c ≡ b → IsFarOn c middle → IsFarOn (suc c) after
-        by_case true e so_far = leads_one c middle after e so_far (on e)
-        by_case false e so_far = subst (IsFarOn (suc c)) (sym (off e)) (leads_none c middle e so_far)
+    up_to (suc c) after (middle, far, on, off) = elim (cases_Bool (is_taken p number count s c)) [
+      | inl taken ↦ leads_one c middle after taken (up_to c middle far) (on taken)
+      | inr stays ↦ subst (IsFarOn (suc c)) (sym (off stays)) (leads_none c middle stays (up_to c middle far))
+    ]
 
 -- nobody leads on
 pub none_up_to : (p : ProgramShape) (front : List Ticket) (number count : ℕ) (s : StandingShape) (place : ℕ) (t : TableShape) (c : ℕ) → ((d : ℕ) → d < c → is_taken p number count s d ≡ false) → IsLedUpTo p front number count s place c t t

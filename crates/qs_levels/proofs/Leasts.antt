@@ -1,6 +1,6 @@
 -- The part with the least first lead, as parts come up one after another. Leads are in one order, so what is no more
 -- than one lead is no more than all that this one is no more than.
-use Rattle.std.proofs.Common.{◌≡◌, ◌<◌, ◌+◌, ℕ, List, [], ◌∷◌, Option, None, Some, length, slice_index_or, refl, sym, ◌∙◌, subst, arith, inl, inr}
+use Rattle.std.proofs.Common.{◌≡◌, ◌<◌, ◌+◌, ℕ, List, [], ◌∷◌, Option, None, Some, length, slice_index_or, refl, sym, subst, arith, inl, inr}
 use Rattle.std.proofs.lemmas.Bool.{cases_eq}
 use Rattle.qs_levels.specs.Merging.{IsBetter, IsLeastPart, IsLeastTo, IsLess, IsNoMore, IsNoMoreThanFirst, first_lead}
 use Rattle.qs_levels.specs.declared.merging.Candidate.{Candidate}
@@ -8,59 +8,44 @@ use Rattle.qs_levels.specs.Founds.{Found}
 use Rattle.qs_levels.specs.declared.table.Lead.{Lead}
 
 no_more_both : (l k m : Lead) → IsLess l k → IsNoMore k m → IsNoMore l m
-no_more_both l k m (inl a) (inl (inl b)) = inl (inl (omega (arith, a, b)))
-no_more_both l k m (inl a) (inl (inr (e, b))) = inl (inl (omega (arith, a, e)))
-no_more_both l k m (inl a) (inr (e, f)) = inl (inl (omega (arith, a, e)))
-no_more_both l k m (inr (e, a)) (inl (inl b)) = inl (inl (omega (arith, e, b)))
-no_more_both l k m (inr (e, a)) (inl (inr (f, b))) = inl (inr (e ∙ f, omega (arith, a, b)))
-no_more_both l k m (inr (e, a)) (inr (f, g)) = inl (inr (e ∙ f, omega (arith, a, g)))
+no_more_both l k m less no_more = grind arith
 
 no_more_first : (l k : Lead) (first : Option Lead) → IsLess l k → IsNoMoreThanFirst k first → IsNoMoreThanFirst l first
 no_more_first l k None less no_more = tt
 no_more_first l k (Some m) less no_more = no_more_both l k m less no_more
 
 module _ (parts : List (List Found)) (n : ℕ) where
-  at : ℕ → Option Lead
+  abbrev at : ℕ → Option Lead
   at i = first_lead (slice_index_or parts i [])
 
   -- what holds of the parts below n and of this one holds of one part more
   one_more : (P : ℕ → Type 0) → ((i : ℕ) → i < n → P i) → P n → (i : ℕ) → i < n + 1 → P i
   one_more P before here i less = elim (cases_eq i n) [ inl same ↦ subst P (sym same) here | inr other ↦ before i (let o : i ≡ n → ⊥ = other in omega (arith, less, o)) ]
 
-  pub least_on : (best better : Option Candidate) → IsLeastTo parts n best → IsBetter best n (first_lead (slice_index_or parts n [])) better → IsLeastTo parts (n + 1) better
-  least_on best better least is = by_first (first_lead (slice_index_or parts n [])) refl best least is
-    where
-      by_first : (first : Option Lead) → first_lead (slice_index_or parts n []) ≡ first → (b : Option Candidate) → IsLeastTo parts n b → IsBetter b n first better → IsLeastTo parts (n + 1) better
-      by_first None e None least same = subst (IsLeastTo parts (n + 1)) {x = None} (sym same) (one_more (λ i. first_lead (slice_index_or parts i []) ≡ None) least e)
-      by_first None e (Some b) least same = subst (IsLeastTo parts (n + 1)) {x = Some b} (sym same) (
-        (let l = least.0 in omega (arith, l)),
-        least.1,
-        one_more (λ i. IsNoMoreThanFirst b.lead (first_lead (slice_index_or parts i []))) least.2 (subst (IsNoMoreThanFirst b.lead) (sym e) tt),
-      )
-      by_first (Some l) e None least same = subst (IsLeastTo parts (n + 1)) {x = Some (record { number = n; lead = l })} (sym same) (
-        omega arith,
-        e,
-        one_more (λ i. IsNoMoreThanFirst l (first_lead (slice_index_or parts i []))) (λ i less. subst (IsNoMoreThanFirst l) (sym (least i less)) tt) (subst (IsNoMoreThanFirst l) (sym e) (inr (refl, refl))),
-      )
-      by_first (Some l) e (Some b) least (inl (less, same)) = subst (IsLeastTo parts (n + 1)) {x = Some (record { number = n; lead = l })} (sym same) (
-        omega arith,
-        e,
-        one_more (λ i. IsNoMoreThanFirst l (first_lead (slice_index_or parts i []))) (λ i under. no_more_first l b.lead (first_lead (slice_index_or parts i [])) less (least.2 i under))
-            (subst (IsNoMoreThanFirst l) (sym e) (inr (refl, refl))),
-      )
-      by_first (Some l) e (Some b) least (inr (no_more, same)) = subst (IsLeastTo parts (n + 1)) {x = Some b} (sym same) (
-        (let l = least.0 in omega (arith, l)),
-        least.1,
-        one_more (λ i. IsNoMoreThanFirst b.lead (first_lead (slice_index_or parts i []))) least.2 (subst (IsNoMoreThanFirst b.lead) (sym e) no_more),
-      )
+  -- the best so far stays, or this part is the best
+  old_best : (b : Candidate) → IsLeastTo parts n (Some b) → IsNoMoreThanFirst b.lead (at n) → IsLeastTo parts (n + 1) (Some b)
+  old_best b least here = ((let l = least.0 in omega (arith, l)), least.1, one_more (λ i. IsNoMoreThanFirst b.lead (at i)) least.2 here)
 
-some_not_none : {X : Type 0} (x : X) → Some x ≡ None → ⊥
-some_not_none x e = cc
+  new_best : (l : Lead) → at n ≡ Some l → ((i : ℕ) → i < n → IsNoMoreThanFirst l (at i)) → IsLeastTo parts (n + 1) (Some (record { number = n; lead = l }))
+  new_best l e least = (omega arith, e, one_more (λ i. IsNoMoreThanFirst l (at i)) least (subst (IsNoMoreThanFirst l) (sym e) (inr (refl, refl))))
+
+  pub least_on : (best better : Option Candidate) → IsLeastTo parts n best → IsBetter best n (first_lead (slice_index_or parts n [])) better → IsLeastTo parts (n + 1) better
+  least_on best better least is = by_first (at n) refl best least is
+    where
+      by_first : (first : Option Lead) → at n ≡ first → (b : Option Candidate) → IsLeastTo parts n b → IsBetter b n first better → IsLeastTo parts (n + 1) better
+      by_first None e None least same = subst (IsLeastTo parts (n + 1)) {x = None} (sym same) (one_more (λ i. at i ≡ None) least e)
+      by_first None e (Some b) least same = subst (IsLeastTo parts (n + 1)) {x = Some b} (sym same) (old_best b least (subst (IsNoMoreThanFirst b.lead) (sym e) tt))
+      by_first (Some l) e None least same =
+          subst (IsLeastTo parts (n + 1)) {x = Some (record { number = n; lead = l })} (sym same) (new_best l e (λ i less. subst (IsNoMoreThanFirst l) (sym (least i less)) tt))
+      by_first (Some l) e (Some b) least (inl (less, same)) =
+          subst (IsLeastTo parts (n + 1)) {x = Some (record { number = n; lead = l })} (sym same) (new_best l e (λ i under. no_more_first l b.lead (at i) less (least.2 i under)))
+      by_first (Some l) e (Some b) least (inr (no_more, same)) =
+          subst (IsLeastTo parts (n + 1)) {x = Some b} (sym same) (old_best b least (subst (IsNoMoreThanFirst b.lead) (sym e) no_more))
 
 -- a part without a first lead is empty
 pub none_first : (fs : List Found) → first_lead fs ≡ None → fs ≡ []
 none_first [] e = refl
-none_first (f ∷ fs) e = absurd (some_not_none f.lead e)
+none_first (f ∷ fs) e = absurd cc
 
 pub least_none : (parts : List (List Found)) → IsLeastTo parts (length parts) None → IsLeastPart parts None
 least_none parts least i less = none_first (slice_index_or parts i []) (least i less)
@@ -70,8 +55,6 @@ least_some parts b least = let at = by_part (slice_index_or parts b.number []) r
   where
     by_part : (fs : List Found) → slice_index_or parts b.number [] ≡ fs → first_lead fs ≡ Some b.lead
         → (f : Found) × (rest : List Found) × (slice_index_or parts b.number [] ≡ f ∷ rest) × ((i : ℕ) → i < length parts → IsNoMoreThanFirst f.lead (first_lead (slice_index_or parts i [])))
-    by_part [] same e = absurd (some_not_none b.lead (sym e))
-    by_part (f ∷ rest) same e = (f, rest, same, λ i less. subst (λ l. IsNoMoreThanFirst l (first_lead (slice_index_or parts i []))) (sym (inner e)) (least.2 i less))
-      where
-        inner : Some f.lead ≡ Some b.lead → f.lead ≡ b.lead
-        inner e = cc
+    by_part [] same e = absurd cc
+    by_part (f ∷ rest) same e =
+        let lead : f.lead ≡ b.lead = cc e in (f, rest, same, λ i less. subst (λ l. IsNoMoreThanFirst l (first_lead (slice_index_or parts i []))) (sym lead) (least.2 i less))

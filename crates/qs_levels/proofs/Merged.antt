@@ -2,25 +2,10 @@
 -- and two parts have no lead in common, as each is in the share of one; so what is taken is before all that is left.
 -- What was taken and what is left are together what all parts had: nothing is lost, and whatever holds of what the
 -- parts had holds of what was merged.
-use Rattle.std.proofs.Common.{◌≡◌, ◌<◌, ◌≤◌, ◌+◌, ◌%◌, ◌==◌, ◌&&◌, ℕ, zero, suc, Bool, true, List, [], ◌∷◌, ◌++◌, length, get_or, take, drop, map, flat_map, replicate, slice_index_or, refl, sym, ap, ap₂, ◌∙◌, subst, arith, ◌⊎◌, inl, inr, Some, get_or-set_same, get_or-set_other}
-use Rattle.std.proofs.lemmas.Bool.{cases_eq}
-use Rattle.std.proofs.lemmas.List.{length-append, length-set, length-take-le, take-append-drop}
-use Rattle.std.specs.List.{AllByRecursion}
-use Rattle.std.specs.Prelude.{slice_set}
-use Rattle.qs_objects.specs.declared.held.Ticket.{Ticket}
-use Rattle.qs_objects.proofs.Choices.{and_cases, eqb_self, eqb_true}
-use Rattle.qs_program.specs.audit.Program.{ProgramShape}
-use Rattle.qs_program.specs.Sound.{IsSound}
-use Rattle.qs_meaning.specs.audit.Configurations.{Configuration, one_block_on}
-use Rattle.qs_meaning.specs.Reduced.{goes_on}
-use Rattle.qs_meaning.specs.audit.Serial.{no_state, zeros}
-use Rattle.qs_meaning.proofs.Each.{each_both, each_front, each_join, each_map, each_snoc}
-use Rattle.qs_outcomes.specs.LeastOrders.{AreSorted, IsBefore, IsLongerBy}
-use Rattle.qs_outcomes.proofs.Before.{before_both, before_longer, before_onward, fork, not_before}
-use Rattle.qs_standings.specs.Lists.{EachTwo, HasOne}
-use Rattle.qs_standings.specs.Standings.{GoesOn, IsNext, IsStanding, StandingShape, configuration_in}
-use Rattle.qs_standings.proofs.Lists.{has_back, has_front, has_map, has_some, pairs_front, pairs_join, same_list}
-use Rattle.qs_standings.proofs.Stands.{below_or_past, goes_left, in_program}
+use Rattle.std.proofs.Common.{◌≡◌, ◌<◌, ◌+◌, ◌%◌, ◌&&◌, ℕ, zero, suc, true, List, [], ◌∷◌, ◌++◌, length, get_or, take, drop, map, flat_map, replicate, slice_index_or, refl, sym, ap, ap₂, ◌∙◌, subst, arith, ◌⊎◌, inl, inr, Some, get_or-set_same, get_or-set_other}
+use Rattle.qs_levels.proofs.Common.{AllByRecursion, and_cases, append-nil, AreSorted, before_both, before_longer, before_onward, below_or_past, cases_eq, Configuration, configuration_in, drop-cons, each_both, each_front, each_join, each_map, each_snoc, EachTwo, eqb_self, eqb_true, fork, get_or-append_seam, get_or_append_left, goes_left, goes_on, GoesOn, has_back, has_front, has_map, has_some, HasOne, in_byte, in_program, IsBefore, IsLongerBy, IsNext, IsSound, IsStanding, length-append, length-drop, length-set, length-take-le, no_state, not_before, one_block_on, pairs_front, pairs_join, ProgramShape, same_list, slice_set, StandingShape, take-append-drop, Ticket, zeros}
+use Rattle.indexmap.proofs.SetLemmas.{AllZip-push}
+use Rattle.qs_outcomes.proofs.Mapped.{each_mapped}
 use Rattle.qs_levels.specs.meaning.Fronts.{AreDistinct}
 use Rattle.qs_levels.specs.Founds.{Found, found_in, level_in, no_found, no_standing, standing_at}
 use Rattle.qs_levels.specs.declared.level.Spot.{Spot}
@@ -30,8 +15,7 @@ use Rattle.qs_levels.specs.meaning.Levels.{IsNextOf}
 use Rattle.qs_levels.specs.Merging.{AreParts, IsLeastPart, IsLess, IsNoMore, IsNoMoreThanFirst, first_lead, rests_of, spot_of}
 use Rattle.qs_levels.specs.Shares.{AreGoing, IsGoing, is_taken, mark_of, weight}
 use Rattle.qs_levels.specs.declared.level.Going.{Going}
-use Rattle.qs_standings.specs.going.Going.{in_byte}
-use Rattle.qs_levels.proofs.meaning.Lists.{all_among, each_at, map_snoc, mapped_has, two_of, zip_snoc}
+use Rattle.qs_levels.proofs.meaning.Lists.{all_among, each_at, map_snoc, mapped_has, two_of}
 use Rattle.qs_levels.proofs.NextLevels.{among_below, each_lead, kept_distinct, kept_onward, lead_each, one_longer, taken_goes}
 use Rattle.qs_levels.proofs.meaning.Weights.{weighted_more}
 
@@ -53,10 +37,6 @@ mapped_each : {X Y : Type 0} (f : X → Y) (P : Y → Type 0) (xs : List X) → 
 mapped_each f P [] h = tt
 mapped_each f P (x ∷ xs) h = (h.0, mapped_each f P xs h.1)
 
-each_mapped : {X Y : Type 0} (f : X → Y) (P : Y → Type 0) (xs : List X) → AllByRecursion (λ x. P (f x)) xs → AllByRecursion P (map f xs)
-each_mapped f P [] h = tt
-each_mapped f P (x ∷ xs) h = (h.0, each_mapped f P xs h.1)
-
 mapped_two : {X Y : Type 0} (f : X → Y) (R : Y → Y → Type 0) (xs : List X) → EachTwo R (map f xs) → EachTwo (λ x y. R (f x) (f y)) xs
 mapped_two f R [] h = tt
 mapped_two f R (x ∷ xs) h = (mapped_each f (R (f x)) xs h.0, mapped_two f R xs h.1)
@@ -72,15 +52,8 @@ two_by_order {X = X} R B both never (x ∷ xs) two = (
       (two_by_order R B both never xs two.1),
 )
 
-both_true : (a b : Bool) → a ≡ true → b ≡ true → (a && b) ≡ true
-both_true a b e f = ap₂ (λ x y. x && y) e f
-
 never_before : (ts : List Ticket) → IsBefore ts ts → ⊥
-never_before ts h = not_before ts [] (subst (λ us. IsBefore us ts) (sym (append_nil ts)) h)
-  where
-    append_nil : (us : List Ticket) → us ++ [] ≡ us
-    append_nil [] = refl
-    append_nil (u ∷ us) = ap (λ vs. u ∷ vs) (append_nil us)
+never_before ts h = not_before ts [] (subst (λ us. IsBefore us ts) (sym (append-nil ts)) h)
 
 -- ---- leads and orders
 
@@ -110,11 +83,9 @@ module _ (p : ProgramShape) (front : List Ticket) (level : List StandingShape) (
         ap (λ (g : Configuration). mark_of p g.begun % count) lead.next.next ∙ (ap (λ m. m % count) more ∙ eqb_true _ _ taken.1)
 
   sorted_at : (ss : List StandingShape) (i j : ℕ) → AreSorted ss → i < j → j < length ss → IsBefore (slice_index_or ss i no_standing).order (slice_index_or ss j no_standing).order
-  sorted_at [] i j two less within = absurd (omega (arith, within))
-  sorted_at (s ∷ ss) zero zero two less within = absurd (omega (arith, less))
   sorted_at (s ∷ ss) zero (suc j) two less within = each_at (λ t. IsBefore s.order t.order) ss j no_standing (omega (arith, within)) two.0
-  sorted_at (s ∷ ss) (suc i) zero two less within = absurd (omega (arith, less))
   sorted_at (s ∷ ss) (suc i) (suc j) two less within = sorted_at ss i j two.1 (omega (arith, less)) (omega (arith, within))
+  sorted_at _ _ _ two less within = absurd (omega (arith, less, within))
 
   -- of leads of two shares, the less one gives the order that is before
   module _ (i j count : ℕ) (f g : Found) (a : IsLead p front i count level f) (b : IsLead p front j count level g) where
@@ -198,20 +169,12 @@ merging_begins p front level parts are = record {
   none_lost = each_flat (λ u. HasOne (λ a. a ≡ u) [] ⊎ IsLeftIn parts u) found_in parts []
       (λ i less.
       let part = slice_index_or parts i [] in
-      each_mapped (λ (f : Found). f.standing) (λ u. HasOne (λ a. a ≡ u) [] ⊎ IsLeftIn parts u) part
-      (each_map {P = λ (f : Found). HasOne (λ g. g ≡ f) part} {Q = λ (f : Found). HasOne (λ a. a ≡ f.standing) [] ⊎ IsLeftIn parts f.standing}
-      (λ f h. inr (i, less, has_map (λ g (e : g ≡ f). ap (λ (x : Found). x.standing) e) part h)) part (all_among part)));
+      each_mapped {P = λ (f : Found). HasOne (λ g. g ≡ f) part} (λ u. HasOne (λ a. a ≡ u) [] ⊎ IsLeftIn parts u) (λ (f : Found). f.standing)
+      (λ f h. inr (i, less, has_map (λ g (e : g ≡ f). ap (λ (x : Found). x.standing) e) part h)) part (all_among part));
   going = tt;
 }
 
 -- ---- a standing more is taken
-
--- a list that is read at its first place
-set_here : (parts : List (List Found)) (k : ℕ) (fs : List Found) → k < length parts → slice_index_or (slice_set parts k fs) k [] ≡ fs
-set_here parts k fs less = get_or-set_same parts k fs [] less
-
-set_there : (parts : List (List Found)) (k i : ℕ) (fs : List Found) → (i ≡ k → ⊥) → slice_index_or (slice_set parts k fs) i [] ≡ slice_index_or parts i []
-set_there parts k i fs apart = get_or-set_other parts k i fs [] apart
 
 module _ (p : ProgramShape) (front : List Ticket) (count : ℕ) (level had : List StandingShape) (parts : List (List Found)) (all : List StandingShape) (gs : List Going) (level_sorted : AreSorted level)
     (m : IsMerging p front count level had parts all gs) (k : ℕ) (within : k < length parts) (f : Found) (fs : List Found) (here : slice_index_or parts k [] ≡ f ∷ fs)
@@ -250,10 +213,10 @@ module _ (p : ProgramShape) (front : List Ticket) (count : ℕ) (level had : Lis
   left_now i less = elim (cases_eq i k) [
     | inl same ↦
         subst (λ j. IsLeft p front j count level had all_now (slice_index_or (slice_set parts k fs) j [])) (sym same)
-        (subst (IsLeft p front k count level had all_now) (sym (set_here parts k fs within))
+        (subst (IsLeft p front k count level had all_now) (sym (get_or-set_same parts k fs [] within))
         (left_behind k fs (record { each = left_here.each.1; sorted = left_here.sorted.1 }) left_here.sorted.0))
     | inr apart ↦
-        subst (IsLeft p front i count level had all_now) (sym (set_there parts k i fs apart))
+        subst (IsLeft p front i count level had all_now) (sym (get_or-set_other parts k i fs [] apart))
         (left_behind i (slice_index_or parts i []) (m.left i less) (other_behind i apart (slice_index_or parts i []) (m.left i less) (least i (let l = m.long in omega (arith, l, less)))))
   ]
 
@@ -262,12 +225,12 @@ module _ (p : ProgramShape) (front : List Ticket) (count : ℕ) (level had : Lis
   kept_there u (inl taken) = inl (has_front (λ a. a ≡ u) all (f.standing ∷ []) taken)
   kept_there u (inr (i, less, h)) = elim (cases_eq i k) [
     | inl same ↦ by_place (subst (HasOne (λ (g : Found). g.standing ≡ u)) (ap (λ j. slice_index_or parts j []) same ∙ here) h)
-    | inr apart ↦ inr (i, (let l = length-set parts k fs in omega (arith, l, less)), subst (HasOne (λ (g : Found). g.standing ≡ u)) (sym (set_there parts k i fs apart)) h)
+    | inr apart ↦ inr (i, (let l = length-set parts k fs in omega (arith, l, less)), subst (HasOne (λ (g : Found). g.standing ≡ u)) (sym (get_or-set_other parts k i fs [] apart)) h)
   ]
     where
       by_place : HasOne (λ (g : Found). g.standing ≡ u) (f ∷ fs) → HasOne (λ a. a ≡ u) all_now ⊎ IsLeftIn (slice_set parts k fs) u
       by_place (inl e) = inl (has_back (λ a. a ≡ u) all (f.standing ∷ []) (inl e))
-      by_place (inr later) = inr (k, (let l = length-set parts k fs in omega (arith, l, within)), subst (HasOne (λ (g : Found). g.standing ≡ u)) (sym (set_here parts k fs within)) later)
+      by_place (inr later) = inr (k, (let l = length-set parts k fs in omega (arith, l, within)), subst (HasOne (λ (g : Found). g.standing ≡ u)) (sym (get_or-set_same parts k fs [] within)) later)
 
   pub merging_goes_on : IsMerging p front count level had (slice_set parts k fs) (all ++ f.standing ∷ []) (gs ++ record { clients = f.going; share = k } ∷ [])
   merging_goes_on = record {
@@ -278,7 +241,7 @@ module _ (p : ProgramShape) (front : List Ticket) (count : ℕ) (level had : Lis
         (each_map {P = λ (a : StandingShape). IsBefore a.order f.standing.order} {Q = λ (a : StandingShape). AllByRecursion (λ (t : StandingShape). IsBefore a.order t.order) (f.standing ∷ [])}
         (λ a b. (b, tt)) all left_here.each.0.ahead);
     none_lost = each_map (λ u h. kept_there u h) had m.none_lost;
-    going = zip_snoc (IsGoing p count) all gs f.standing (record { clients = f.going; share = k }) m.going
+    going = AllZip-push (IsGoing p count) all gs f.standing (record { clients = f.going; share = k }) m.going
         (record { clients = left_here.each.0.known; share = sym (in_share p front level level_sorted k count f left_here.each.0.lead) });
   }
 
@@ -315,8 +278,8 @@ module _ (p : ProgramShape) (front : List Ticket) (sound : IsSound p) (level : L
 
   -- the share of what a part keeps
   had_share : (i : ℕ) → i < length parts → AllByRecursion (λ n. mark_of p (configuration_in n).begun % length parts ≡ i) (found_in (part i))
-  had_share i less = each_mapped (λ (f : Found). f.standing) (λ n. mark_of p (configuration_in n).begun % length parts ≡ i) (part i)
-      (each_map (λ f lead. in_share p front level level_sorted i (length parts) f lead) (part i) (are i less).by_lead)
+  had_share i less = each_mapped (λ n. mark_of p (configuration_in n).begun % length parts ≡ i) (λ (f : Found). f.standing)
+      (λ f (lead : IsLead p front i (length parts) level f). in_share p front level level_sorted i (length parts) f lead) (part i) (are i less).by_lead
 
   -- no two that stand apart in their orders are one configuration
   abbrev IsApart : StandingShape → StandingShape → Type 0
@@ -359,7 +322,7 @@ module _ (p : ProgramShape) (front : List Ticket) (sound : IsSound p) (level : L
       here s each c goes =
           let i = (mark_of p (configuration_in s).begun + weight c) % length parts in
           let less : i < length parts = omega (arith, some) in
-          let taken : is_taken p i (length parts) s c ≡ true = both_true (goes_on p (configuration_in s).begun c) (i == i) goes (eqb_self i) in
+          let taken : is_taken p i (length parts) s c ≡ true = ap₂ (λ x y. x && y) goes (eqb_self i) in
           flat_has (StandsFor p (order_on s c)) found_in parts [] i less
           (among_below (IsReached p (found_in (part i))) p i (length parts) s c (length p.clients) (in_program p s c (goes_left p s c goes)) taken (each i less))
 
@@ -410,45 +373,32 @@ more_onward p front level next room led more =
 pub parts_more : (p : ProgramShape) (front : List Ticket) (level : List StandingShape) (count : ℕ) (parts : List (List Found)) (new : List Found)
     → ((i : ℕ) → i < length parts → IsPartOf p front i count level (slice_index_or parts i [])) → IsPartOf p front (length parts) count level new
     → (i : ℕ) → i < length (parts ++ new ∷ []) → IsPartOf p front i count level (slice_index_or (parts ++ new ∷ []) i [])
-parts_more p front level count parts new are is i less = by_place (below_or_past i (length parts))
-  where
-    first_of : (ps : List (List Found)) (i : ℕ) → i < length ps → slice_index_or (ps ++ new ∷ []) i [] ≡ slice_index_or ps i []
-    first_of [] i less = absurd (omega (arith, less))
-    first_of (q ∷ ps) zero less = refl
-    first_of (q ∷ ps) (suc i) less = first_of ps i (omega (arith, less))
-
-    last_of_all : (ps : List (List Found)) → slice_index_or (ps ++ new ∷ []) (length ps) [] ≡ new
-    last_of_all [] = refl
-    last_of_all (q ∷ ps) = last_of_all ps
-
-    by_place : (i < length parts) ⊎ (length parts ≤ i) → IsPartOf p front i count level (slice_index_or (parts ++ new ∷ []) i [])
-    by_place (inl before) = subst (IsPartOf p front i count level) (sym (first_of parts i before)) (are i before)
-    by_place (inr past) =
-        subst (λ k. IsPartOf p front k count level (slice_index_or (parts ++ new ∷ []) k [])) {x = length parts} {y = i}
-        (let long = length-append parts (new ∷ []) in omega (arith, past, less, long))
-        (subst (IsPartOf p front (length parts) count level) (sym (last_of_all parts)) is)
+parts_more p front level count parts new are is i less = elim (below_or_past i (length parts)) [
+  | inl before ↦ subst (IsPartOf p front i count level) (sym (get_or_append_left parts (new ∷ []) [] i before)) (are i before)
+  | inr past ↦
+      subst (λ k. IsPartOf p front k count level (slice_index_or (parts ++ new ∷ []) k [])) {x = length parts} {y = i}
+      (let long = length-append parts (new ∷ []) in omega (arith, past, less, long))
+      (subst (IsPartOf p front (length parts) count level) (sym (get_or-append_seam parts new [] [])) is)
+]
 
 -- ---- what is left from places on
 
 pub rests_long : (ns : List ℕ) (parts : List (List Found)) → length ns ≡ length parts → length (rests_of ns parts) ≡ length parts
 rests_long [] [] even = refl
-rests_long [] (p ∷ parts) even = absurd (let e : 0 ≡ suc (length parts) = even in omega (arith, e))
-rests_long (n ∷ ns) [] even = absurd (let e : suc (length ns) ≡ 0 = even in omega (arith, e))
-rests_long (n ∷ ns) (p ∷ parts) even = ap suc (rests_long ns parts (let e : suc (length ns) ≡ suc (length parts) = even in omega (arith, e)))
+rests_long (n ∷ ns) (p ∷ parts) even = ap suc (rests_long ns parts (omega (arith, even)))
+rests_long _ _ even = absurd (omega (arith, even))
 
 pub rests_at : (ns : List ℕ) (parts : List (List Found)) (i : ℕ) → length ns ≡ length parts → i < length parts → slice_index_or (rests_of ns parts) i [] ≡ drop (slice_index_or ns i 0) (slice_index_or parts i [])
-rests_at ns [] i even less = absurd (omega (arith, less))
-rests_at [] (p ∷ parts) i even less = absurd (let e : 0 ≡ suc (length parts) = even in omega (arith, e))
 rests_at (n ∷ ns) (p ∷ parts) zero even less = refl
-rests_at (n ∷ ns) (p ∷ parts) (suc i) even less = rests_at ns parts i (let e : suc (length ns) ≡ suc (length parts) = even in omega (arith, e)) (omega (arith, less))
+rests_at (n ∷ ns) (p ∷ parts) (suc i) even less = rests_at ns parts i (omega (arith, even)) (omega (arith, less))
+rests_at _ _ i even less = absurd (omega (arith, even, less))
 
 -- a place later in one of them
 pub rests_on : (ns : List ℕ) (parts : List (List Found)) (k n : ℕ) → length ns ≡ length parts → k < length parts
     → rests_of (slice_set ns k n) parts ≡ slice_set (rests_of ns parts) k (drop n (slice_index_or parts k []))
-rests_on ns [] k n even less = absurd (omega (arith, less))
-rests_on [] (p ∷ parts) k n even less = absurd (let e : 0 ≡ suc (length parts) = even in omega (arith, e))
 rests_on (m ∷ ns) (p ∷ parts) zero n even less = refl
-rests_on (m ∷ ns) (p ∷ parts) (suc k) n even less = ap (λ ps. drop m p ∷ ps) (rests_on ns parts k n (let e : suc (length ns) ≡ suc (length parts) = even in omega (arith, e)) (omega (arith, less)))
+rests_on (m ∷ ns) (p ∷ parts) (suc k) n even less = ap (λ ps. drop m p ∷ ps) (rests_on ns parts k n (omega (arith, even)) (omega (arith, less)))
+rests_on _ _ k n even less = absurd (omega (arith, even, less))
 
 pub none_taken : (parts : List (List Found)) → rests_of (replicate (length parts) 0) parts ≡ parts
 none_taken [] = refl
@@ -461,12 +411,10 @@ record IsHead (fs : List Found) (n : ℕ) (f : Found) (rest : List Found) : Type
   pub behind : drop (suc n) fs ≡ rest
 
 head_of : (fs : List Found) (n : ℕ) (f : Found) (rest : List Found) → drop n fs ≡ f ∷ rest → IsHead fs n f rest
-head_of [] zero f rest e = absurd (let l : 0 ≡ suc (length rest) = ap length e in omega (arith, l))
-head_of [] (suc n) f rest e = absurd (let l : 0 ≡ suc (length rest) = ap length e in omega (arith, l))
-head_of (g ∷ fs) zero f rest e = record { within = omega arith; here = ap (λ xs. slice_index_or xs 0 no_found) e; behind = ap (drop 1) e }
-head_of (g ∷ fs) (suc n) f rest e =
-    let later = head_of fs n f rest e in
-    record { within = (let l = later.within in omega (arith, l)); here = later.here; behind = later.behind }
+head_of fs n f rest e =
+    let less : n < length fs = omega (arith, length-drop n fs, ap length e) in
+    let parts : get_or fs n no_found ∷ drop (suc n) fs ≡ f ∷ rest = sym (drop-cons fs n no_found less) ∙ e in
+    record { within = less; here = cc; behind = cc }
 
 -- The part with the least lead from its place on: its place is within it, and what stands there is taken next.
 pub record IsNextTaken (parts : List (List Found)) (ns : List ℕ) (k : ℕ) : Type 0 where

@@ -1,17 +1,8 @@
 -- Where a level is more than the limit, and where none is: a level has all configurations after its number of blocks,
 -- so no more of them are different than it has standings.
 use Rattle.std.proofs.Common.{◌≡◌, ◌<◌, ◌≤◌, ℕ, suc, List, [], ◌∷◌, ◌++◌, length, refl, sym, ap, ◌∙◌, subst, arith, inl, inr, length-append}
-use Rattle.std.specs.List.{AllByRecursion}
-use Rattle.qs_objects.specs.declared.held.Ticket.{Ticket}
-use Rattle.qs_program.specs.audit.Program.{ProgramShape}
-use Rattle.qs_meaning.specs.audit.Configurations.{configuration_after}
-use Rattle.qs_meaning.proofs.Each.{each_map}
-use Rattle.qs_outcomes.specs.Outcomes.{HasMoreThanAfter}
-use Rattle.qs_standings.specs.Lists.{HasOne}
-use Rattle.qs_standings.specs.Standings.{IsFirst, StandingShape, configuration_in}
-use Rattle.qs_standings.proofs.Lists.{has_map}
+use Rattle.qs_levels.proofs.Common.{AllByRecursion, below_or_past, configuration_after, configuration_in, each_map, has_map, HasMoreThanAfter, HasOne, IsFirst, ProgramShape, StandingShape, Ticket}
 use Rattle.qs_standings.proofs.Pigeonhole.{at_most}
-use Rattle.qs_standings.proofs.Stands.{below_or_past}
 use Rattle.qs_levels.specs.meaning.Fronts.{AreDistinct, IsAfter, IsOnward}
 use Rattle.qs_levels.specs.meaning.Levels.{IsLevel}
 use Rattle.qs_levels.specs.meaning.Onward.{HasMoreOnward, StandsFor}

@@ -1,21 +1,7 @@
 -- A table into which a whole level was led on, or a part of one, keeps all to which this leads. It is sorted, so each
 -- order that comes up is after all that are kept.
 use Rattle.std.proofs.Common.{◌≡◌, ◌<◌, ◌+◌, ℕ, zero, suc, ◌%◌, ◌==◌, Bool, true, false, if◌then◌else◌, List, [], ◌∷◌, ◌++◌, length, get_or, take, drop, slice_index_or, refl, sym, ap, ◌∙◌, subst, arith, inl, inr}
-use Rattle.std.proofs.lemmas.Bool.{cases_eq}
-use Rattle.qs_objects.proofs.Choices.{and_cases}
-use Rattle.std.proofs.lemmas.List.{length-map, take_more}
-use Rattle.std.specs.List.{AllByRecursion}
-use Rattle.qs_objects.specs.declared.held.Ticket.{Ticket}
-use Rattle.qs_program.specs.audit.Program.{ProgramShape}
-use Rattle.qs_program.specs.Sound.{IsSound}
-use Rattle.qs_meaning.specs.Reduced.{goes_on}
-use Rattle.qs_meaning.proofs.Each.{each_back, each_front, each_join, each_map, each_snoc}
-use Rattle.qs_outcomes.specs.LeastOrders.{AreSorted, IsBefore, IsLongerBy}
-use Rattle.qs_outcomes.proofs.Before.{before_onward}
-use Rattle.qs_standings.specs.Lists.{HasOne}
-use Rattle.qs_standings.specs.Standings.{GoesOn, IsStanding, StandingShape, configuration_in, row_of}
-use Rattle.qs_standings.proofs.Lists.{has_map, has_some, pairs_front, pairs_last}
-use Rattle.qs_standings.proofs.RowTells.{same_configurations}
+use Rattle.qs_levels.proofs.Common.{AllByRecursion, and_cases, AreSorted, before_onward, cases_eq, configuration_in, each_back, each_front, each_join, each_map, each_snoc, goes_on, GoesOn, has_map, has_some, HasOne, IsBefore, IsLongerBy, IsSound, IsStanding, length-map, pairs_front, pairs_last, ProgramShape, row_of, same_configurations, StandingShape, take_more, Ticket}
 use Rattle.qs_levels.specs.meaning.Fronts.{AreDistinct}
 use Rattle.qs_levels.specs.Founds.{found_in, no_standing}
 use Rattle.qs_levels.specs.meaning.Onward.{HasMoreOnward, IsOneLonger, order_on}

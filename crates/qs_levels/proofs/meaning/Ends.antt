@@ -2,26 +2,9 @@
 -- is as long as any other, so each comes to one of this level; and no longer order is left. What was noted level by
 -- level are all configurations, as those of two levels have begun different numbers of blocks.
 use Rattle.std.proofs.Common.{◌≡◌, ◌<◌, ◌≤◌, ◌+◌, ◌-◌, ℕ, suc, true, List, [], ◌∷◌, ◌++◌, length, refl, sym, ap, ◌∙◌, subst, arith, ◌⊎◌, inl, inr, length-append}
-use Rattle.std.specs.List.{AllByRecursion}
-use Rattle.qs_objects.specs.declared.held.Ticket.{Ticket}
-use Rattle.qs_program.specs.audit.Program.{ProgramShape, blocks_of}
-use Rattle.qs_program.specs.Sound.{IsSound}
-use Rattle.qs_meaning.specs.audit.Configurations.{Configuration, IsComplete, configuration_after, first_configuration}
-use Rattle.qs_meaning.specs.Configurations.{OrderOutcome, outcome_in, outcome_of}
-use Rattle.qs_meaning.specs.Reduced.{IsReducedFrom, goes_on}
-use Rattle.qs_meaning.specs.audit.Serial.{IsLegal}
-use Rattle.qs_meaning.proofs.Each.{each_both, each_join, each_map}
+use Rattle.qs_levels.proofs.Common.{AllByRecursion, AreApart, AreOutcomesAfter, begun_within, below_or_past, blocks_of, complete_orders_leave_none, Configuration, configuration-append, configuration_after, configuration_in, configurations_follow_orders, each_both, each_join, each_map, first_configuration, goes_left, goes_on, GoesOn, has_back, has_front, has_map, HasConfigurationsAfter, HasMoreThanAfter, HasOne, IsComplete, IsFirst, IsLeastAfter, IsLeastThere, IsLegal, IsListedAfter, IsReducedAfter, IsReducedFrom, IsSound, IsStanding, legal-front, legal-join, legal-rest, NoneNext, OrderOutcome, outcome_at, outcome_in, outcome_of, pairs_join, ProgramShape, reduced_from, reduced_onward, ReducedFrom, StandingShape, Ticket}
 use Rattle.qs_meaning.proofs.Groups.{some_go_on}
-use Rattle.qs_meaning.proofs.Orders.{begun_within, complete_orders_leave_none, configuration-append, configurations_follow_orders, legal-front, legal-join, legal-rest}
-use Rattle.qs_meaning.proofs.Reductions.{ReducedFrom, reduced_from}
-use Rattle.qs_outcomes.specs.LeastOrders.{IsLeastThere}
-use Rattle.qs_outcomes.specs.Outcomes.{AreApart, AreOutcomesAfter, HasConfigurationsAfter, HasMoreThanAfter, IsLeastAfter, IsListedAfter, outcome_at}
-use Rattle.qs_outcomes.proofs.Before.{reduced_onward}
 use Rattle.qs_outcomes.proofs.Explored.{listed_end}
-use Rattle.qs_standings.specs.Lists.{HasOne}
-use Rattle.qs_standings.specs.Standings.{GoesOn, IsFirst, IsReducedAfter, IsStanding, NoneNext, StandingShape, configuration_in}
-use Rattle.qs_standings.proofs.Lists.{has_back, has_front, has_map, pairs_join}
-use Rattle.qs_standings.proofs.Stands.{below_or_past, goes_left}
 use Rattle.qs_levels.specs.meaning.Fronts.{IsAfter, IsOnward}
 use Rattle.qs_levels.specs.meaning.Onward.{HasMoreOnward, StandsFor}
 use Rattle.qs_levels.specs.meaning.Levels.{AreNotedTo, IsLevel, IsNextOf, IsSearched}

@@ -1,12 +1,7 @@
 -- Orders that lead to one configuration go on alike: what comes after an order is legal, complete and comes to what it
 -- comes to by the configuration alone to which the order leads.
 use Rattle.std.proofs.Common.{◌≡◌, ◌∙◌, List, ◌++◌, sym, ap, subst}
-use Rattle.qs_objects.specs.declared.held.Ticket.{Ticket}
-use Rattle.qs_program.specs.audit.Program.{ProgramShape}
-use Rattle.qs_meaning.specs.audit.Configurations.{Configuration, IsComplete, configuration_after, configuration_from, first_configuration}
-use Rattle.qs_meaning.specs.Configurations.{outcome_in}
-use Rattle.qs_meaning.specs.audit.Serial.{IsLegal, LegalFrom}
-use Rattle.qs_meaning.proofs.Orders.{complete_orders_leave_none, configuration-append, configurations_follow_orders, legal-join, legal-rest}
+use Rattle.qs_levels.proofs.Common.{complete_orders_leave_none, Configuration, configuration-append, configuration_after, configuration_from, configurations_follow_orders, first_configuration, IsComplete, IsLegal, legal-join, legal-rest, LegalFrom, outcome_in, ProgramShape, Ticket}
 use Rattle.qs_levels.specs.meaning.Joining.{EqualConfigurationsGoOnAlike}
 
 legal_on_alike : (p : ProgramShape) (one other : List Ticket) → IsLegal p other

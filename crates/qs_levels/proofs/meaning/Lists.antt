@@ -1,17 +1,16 @@
 -- Lists that are mapped or cut, and a list in which no two agree: whoever agrees with one of them is that one. Each
 -- goes by induction on the list.
-use Rattle.std.proofs.Common.{◌≡◌, ◌<◌, ℕ, zero, suc, List, [], ◌∷◌, ◌++◌, length, get_or, take, drop, map, flat_map, refl, sym, ap, subst, ◌∙◌, arith, inl, inr, append_assoc, append-nil}
-use Rattle.std.specs.List.{AllByRecursion, AllZip}
-use Rattle.qs_meaning.proofs.Each.{each_both, each_map}
-use Rattle.qs_standings.specs.Lists.{EachTwo, HasOne, NoTwo}
+use Rattle.std.proofs.Common.{◌≡◌, ◌<◌, ℕ, zero, suc, List, [], ◌∷◌, ◌++◌, length, get_or, take, drop, map, flat_map, refl, sym, ap, subst, ◌∙◌, arith, inl, inr, append-nil}
+use Rattle.qs_levels.proofs.Common.{AllByRecursion, each_both, each_map, EachTwo, HasOne, map-append, NoTwo, take-append-drop, take-suc}
+use Rattle.std.proofs.lemmas.Grind.{flat_map-append}
+use Rattle.qs_objects.proofs.Elements.{AllByRecursion-get_or}
+use Rattle.qs_outcomes.proofs.Mapped
 
 pub map_snoc : {X Y : Type 0} (f : X → Y) (xs : List X) (x : X) → map f (xs ++ x ∷ []) ≡ map f xs ++ f x ∷ []
-map_snoc f [] x = refl
-map_snoc f (y ∷ xs) x = ap (λ ys. f y ∷ ys) (map_snoc f xs x)
+map_snoc f xs x = map-append f xs (x ∷ [])
 
 pub flat_map_snoc : {X Y : Type 0} (f : X → List Y) (xs : List X) (x : X) → flat_map f (xs ++ x ∷ []) ≡ flat_map f xs ++ f x
-flat_map_snoc f [] x = append-nil (f x)
-flat_map_snoc f (y ∷ xs) x = ap (λ ys. f y ++ ys) (flat_map_snoc f xs x) ∙ sym (append_assoc (f y) (flat_map f xs) (f x))
+flat_map_snoc f xs x = flat_map-append f xs (x ∷ []) ∙ ap (λ ys. flat_map f xs ++ ys) (append-nil (f x))
 
 pub has_mapped : {X Y : Type 0} (f : X → Y) (P : Y → Type 0) (xs : List X) → HasOne P (map f xs) → HasOne (λ x. P (f x)) xs
 has_mapped f P [] h = absurd h
@@ -44,25 +43,10 @@ only_one {X = X} {I = I} f Q (x ∷ xs) apart = (here, each_both later xs apart.
 
 -- a list cut behind a place
 pub cut_at : {X : Type 0} (xs : List X) (i : ℕ) (x : X) → i < length xs → x ≡ get_or xs i x → (take i xs ++ x ∷ []) ++ drop (suc i) xs ≡ xs
-cut_at [] i x less is = absurd (omega (arith, less))
-cut_at (y ∷ xs) zero x less is = ap (λ z. z ∷ xs) is
-cut_at (y ∷ xs) (suc i) x less is = ap (λ ys. y ∷ ys) (cut_at xs i x (omega (arith, less)) is)
-
-pub nothing : {X : Type 0} (xs : List X) → length xs ≡ 0 → xs ≡ []
-nothing [] e = refl
-nothing (x ∷ xs) e = absurd (let long : length (x ∷ xs) ≡ 0 = e in omega (arith, long))
+cut_at xs i x less is = ap (λ ys. ys ++ drop (suc i) xs) (ap (λ y. take i xs ++ y ∷ []) is ∙ sym (take-suc xs i x less)) ∙ take-append-drop (suc i) xs
 
 pub mapped_has : {X Y : Type 0} (f : X → Y) (P : Y → Type 0) (xs : List X) → HasOne (λ x. P (f x)) xs → HasOne P (map f xs)
-mapped_has f P [] h = absurd h
-mapped_has f P (x ∷ xs) (inl h) = inl h
-mapped_has f P (x ∷ xs) (inr h) = inr (mapped_has f P xs h)
-
--- pairs place by place, with one pair more
-pub zip_snoc : {X Y : Type 0} (R : X → Y → Type 0) (xs : List X) (ys : List Y) (x : X) (y : Y) → AllZip R xs ys → R x y → AllZip R (xs ++ x ∷ []) (ys ++ y ∷ [])
-zip_snoc R [] [] x y h r = (r, tt)
-zip_snoc R [] (z ∷ ys) x y h r = absurd h
-zip_snoc R (z ∷ xs) [] x y h r = absurd h
-zip_snoc R (w ∷ xs) (z ∷ ys) x y h r = (h.0, zip_snoc R xs ys x y h.1 r)
+mapped_has f P xs h = Mapped.has_mapped P f (λ x h. h) xs h
 
 -- a relation two by two from another one
 pub two_of : {X : Type 0} {Q : X → Type 0} (R S : X → X → Type 0) → ((x y : X) → Q x → Q y → R x y → S x y) → (xs : List X) → AllByRecursion Q xs → EachTwo R xs → EachTwo S xs
@@ -76,17 +60,4 @@ has_at P (y ∷ xs) zero x less is h = inl (subst P is h)
 has_at P (y ∷ xs) (suc i) x less is h = inr (has_at P xs i x (omega (arith, less)) is h)
 
 pub each_at : {X : Type 0} (P : X → Type 0) (xs : List X) (i : ℕ) (d : X) → i < length xs → AllByRecursion P xs → P (get_or xs i d)
-each_at P [] i d less h = absurd (omega (arith, less))
-each_at P (x ∷ xs) zero d less h = h.0
-each_at P (x ∷ xs) (suc i) d less h = each_at P xs i d (omega (arith, less)) h.1
-
--- what stands at a place, whatever is read past the end
-pub own_default : {X : Type 0} (xs : List X) (i : ℕ) (d : X) → i < length xs → get_or xs i d ≡ get_or xs i (get_or xs i d)
-own_default [] i d less = absurd (omega (arith, less))
-own_default (x ∷ xs) zero d less = refl
-own_default (x ∷ xs) (suc i) d less = own_default_of xs i d (get_or xs i d) (omega (arith, less))
-  where
-    own_default_of : {X : Type 0} (ys : List X) (j : ℕ) (a b : X) → j < length ys → get_or ys j a ≡ get_or ys j b
-    own_default_of [] j a b less = absurd (omega (arith, less))
-    own_default_of (y ∷ ys) zero a b less = refl
-    own_default_of (y ∷ ys) (suc j) a b less = own_default_of ys j a b (omega (arith, less))
+each_at P xs i d less h = AllByRecursion-get_or P xs i d h less

@@ -1,29 +1,12 @@
 -- From level to level: a reduced order of one block more goes through the level, and where it goes on from there the
 -- least order of the level does so, too, no later. So the next level has the least orders again, and no order that
 -- leads to one of its configurations is before the one that stands there.
-use Rattle.std.proofs.Common.{◌≡◌, ◌≤◌, ◌+◌, ℕ, zero, suc, true, List, [], ◌∷◌, ◌++◌, length, take, drop, refl, sym, ap, ◌∙◌, subst, arith, inl, inr, append_assoc, append-nil, length-append}
-use Rattle.std.proofs.lemmas.List.{length-take-le}
-use Rattle.std.specs.List.{AllByRecursion}
-use Rattle.qs_objects.specs.declared.held.Ticket.{Ticket}
-use Rattle.qs_program.specs.audit.Program.{ProgramShape, blocks_of}
-use Rattle.qs_meaning.specs.audit.Configurations.{Configuration, IsComplete, configuration_after, configuration_from, first_configuration, one_block_on}
-use Rattle.qs_meaning.specs.Configurations.{outcome_in, outcome_of}
-use Rattle.qs_meaning.specs.Reduced.{IsOutcomeAfter, IsReducedFrom, goes_on}
-use Rattle.qs_meaning.specs.audit.Serial.{IsLegal, LegalFrom}
-use Rattle.qs_meaning.proofs.Each.{each_both, each_map}
-use Rattle.qs_meaning.proofs.Orders.{complete_orders_leave_none, configuration-append, configurations_follow_orders, legal-front, legal-join, legal-rest, legal_on}
-use Rattle.qs_meaning.proofs.Reductions.{ReducedFrom, reduced_from}
-use Rattle.qs_outcomes.specs.LeastOrders.{IsBefore, IsLeastThere}
-use Rattle.qs_outcomes.specs.Outcomes.{HasMoreThanAfter}
-use Rattle.qs_outcomes.proofs.Before.{before_both, before_longer, before_onward, not_before}
-use Rattle.qs_standings.specs.Lists.{HasOne}
-use Rattle.qs_standings.specs.Standings.{GoesOn, IsFirst, IsReducedAfter, IsStanding, StandingShape, configuration_in}
-use Rattle.qs_standings.proofs.Lists.{has_map, has_of, has_some}
-use Rattle.qs_standings.proofs.Stands.{configuration-snoc, has_place}
+use Rattle.std.proofs.Common.{◌≡◌, ◌<◌, ◌≤◌, ◌+◌, ℕ, suc, true, List, [], ◌∷◌, ◌++◌, length, get_or, take, drop, refl, sym, ap, ◌∙◌, subst, arith, inl, inr, append_assoc, append-nil, length-append}
+use Rattle.qs_levels.proofs.Common.{AllByRecursion, before_both, before_longer, before_onward, blocks_of, complete_orders_leave_none, Configuration, configuration-append, configuration-snoc, configuration_after, configuration_from, configuration_in, configurations_follow_orders, each_both, each_map, first_configuration, goes_on, GoesOn, has_map, has_of, has_place, has_some, HasMoreThanAfter, HasOne, IsBefore, IsComplete, IsFirst, IsLeastThere, IsLegal, IsOutcomeAfter, IsReducedAfter, IsReducedFrom, IsStanding, legal-front, legal-join, legal-rest, legal_on, LegalFrom, length-take-le, nil_from_length, not_before, one_block_on, outcome_in, outcome_of, ProgramShape, reduced_from, ReducedFrom, StandingShape, take-append-drop, take-suc, take_all, Ticket}
 use Rattle.qs_levels.specs.meaning.Fronts.{AreFrontsAfter, FrontsCover, IsAfter, IsOnward}
 use Rattle.qs_levels.specs.meaning.Onward.{IsNoLater, IsOneLonger, IsReached, StandsFor, order_on}
 use Rattle.qs_levels.specs.meaning.Levels.{IsLevel, IsNextOf}
-use Rattle.qs_levels.proofs.meaning.Lists.{nothing, only_one}
+use Rattle.qs_levels.proofs.meaning.Lists.{only_one}
 use Rattle.qs_levels.proofs.meaning.Weights.{sum_below, sum_more}
 
 pub no_later_both : (ts us vs : List Ticket) → IsNoLater ts us → IsNoLater us vs → IsNoLater ts vs
@@ -38,11 +21,6 @@ reduced-front p g (t ∷ ts) us h = (h.0, reduced-front p (one_block_on p t.clie
 reduced-last : (p : ProgramShape) (g : Configuration) (ts us : List Ticket) → IsReducedFrom p g (ts ++ us) → IsReducedFrom p (configuration_from p g ts) us
 reduced-last p g [] us h = h
 reduced-last p g (t ∷ ts) us h = reduced-last p (one_block_on p t.client g) ts us h.1
-
-pub take_drop : (k : ℕ) (ts : List Ticket) → take k ts ++ drop k ts ≡ ts
-take_drop zero ts = refl
-take_drop (suc k) [] = refl
-take_drop (suc k) (t ∷ ts) = ap (λ us. t ∷ us) (take_drop k ts)
 
 -- ---- lengths
 
@@ -71,12 +49,10 @@ onward_of p front order r legal = record { legal = subst (IsLegal p) r.whole leg
 
 last_of : (rest : List Ticket) (n : ℕ) → length rest ≡ suc n → (init : List Ticket) × (t : Ticket) × (rest ≡ init ++ t ∷ []) × (length init ≡ n)
 last_of [] n e = absurd (omega (arith, e))
-last_of (t ∷ []) zero e = ([], t, refl, refl)
-last_of (t ∷ []) (suc n) e = absurd (omega (arith, e))
-last_of (t ∷ (u ∷ rest)) zero e = absurd (omega (arith, e))
-last_of (t ∷ (u ∷ rest)) (suc n) e =
-    let l = last_of (u ∷ rest) n (let long : length (t ∷ (u ∷ rest)) ≡ suc (suc n) = e in omega (arith, long)) in
-    (t ∷ l.0, l.1, ap (λ ts. t ∷ ts) l.2, (let long = l.3 in omega (arith, long)))
+last_of (t ∷ rest) n e =
+    let ts = t ∷ rest in
+    let less : n < length ts = omega (arith, e) in
+    (take n ts, get_or ts n t, sym (take_all (suc n) ts (omega (arith, e))) ∙ take-suc ts n t less, length-take-le n ts (omega (arith, less)))
 
 -- an order that goes on by its last block
 pub goes_last : (ts us : List Ticket) (t u : Ticket) → IsNoLater ts us → t ≡ u → IsNoLater (ts ++ t ∷ []) (us ++ u ∷ [])
@@ -150,7 +126,7 @@ module _ (p : ProgramShape) (front : List Ticket) where
     once = tt;
     sorted = tt;
     reached = λ rest on.
-        (let whole : take k rest ++ drop k rest ≡ rest = take_drop k rest in
+        (let whole : take k rest ++ drop k rest ≡ rest = take-append-drop k rest in
         is.reached (take k rest) (record {
           legal = legal-front p (first_configuration p) (front ++ take k rest) (drop k rest)
               (subst (IsLegal p) (ap (λ ts. front ++ ts) (sym whole) ∙ sym (append_assoc front (take k rest) (drop k rest))) on.legal);
@@ -166,7 +142,7 @@ module _ (p : ProgramShape) (front : List Ticket) where
     once = (tt, tt);
     sorted = (tt, tt);
     reached = λ rest on.
-        (let none : rest ≡ [] = nothing rest on.long in
+        (let none : rest ≡ [] = nil_from_length rest on.long in
         let same : front ≡ front ++ rest = sym (append-nil front) ∙ ap (λ ts. front ++ ts) (sym none) in
         inl (record { there = first.first ∙ ap (configuration_after p) same; early = inl (first.order ∙ same) }));
   }
@@ -226,7 +202,7 @@ fronts_cover p sound front k found are = record {
         let g = configuration_after p front in
         let one = take k r.reduced in
         let two = drop k r.reduced in
-        let parts : one ++ two ≡ r.reduced = take_drop k r.reduced in
+        let parts : one ++ two ≡ r.reduced = take-append-drop k r.reduced in
         let same : configuration_from p g (one ++ two) ≡ configuration_after p (front ++ rest) =
         ap (configuration_from p g) parts ∙ r.same ∙ sym (configuration-append p (first_configuration p) front rest) in
         let legal_parts : LegalFrom p g.begun (one ++ two) = subst (LegalFrom p g.begun) (sym parts) r.legal in

@@ -2,10 +2,7 @@
 -- share of the lead by which it is reached, and orders from one configuration to another are equally long; and counts
 -- that are no larger are no more in all. Each goes by induction on the number of clients.
 use Rattle.std.proofs.Common.{◌≡◌, ◌<◌, ◌≤◌, ◌+◌, ◌*◌, ℕ, zero, suc, subst, arith, inl, inr, ap}
-use Rattle.std.proofs.lemmas.Bool.{cases_eq}
-use Rattle.qs_objects.proofs.Choices.{eqb_apart}
-use Rattle.qs_meaning.specs.audit.Reduced.{Counts}
-use Rattle.qs_meaning.specs.audit.Solo.{put}
+use Rattle.qs_levels.proofs.Common.{cases_eq, Counts, eqb_apart, put}
 use Rattle.qs_meaning.proofs.TreeWalks.{put_here, put_there}
 use Rattle.qs_levels.specs.meaning.Weights.{weighted}
 

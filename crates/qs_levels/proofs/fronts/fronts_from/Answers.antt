@@ -1,10 +1,7 @@
 use Rattle.std.proofs.Common.{◌≡◌, ◌≤◌, ◌+◌, Err, [], ap, arith, length, subst, suc, sym}
-use Rattle.std.proofs.lemmas.Result.{err_from_is_err_and}
-use Rattle.qs_meaning.specs.audit.Serial.{IsLegal}
-use Rattle.qs_outcomes.specs.declared.fault.OutcomesFault.TheVariants.{Limit}
+use Rattle.qs_levels.proofs.Common.{err_from_is_err_and, IsLegal, Limit, nil_from_length}
 use Rattle.qs_levels.specs.meaning.Fronts.{AreFrontsAfter}
 use Rattle.qs_levels.specs.meaning.Levels.{IsLevel}
-use Rattle.qs_levels.proofs.meaning.Lists.{nothing}
 use Rattle.qs_levels.proofs.meaning.Reaching.{fronts_of, level_first, level_on, none_later}
 use Rattle.qs_levels.specs.MoreFronts.{HasMoreFronts}
 use Rattle.qs_levels.proofs.MoreFronts.{few_first, few_later, few_next, more_on, more_than_no_fronts}
@@ -19,19 +16,12 @@ returns-in_err-level-clause-many c = λ is.
     subst (HasMoreFronts c.args.program.now c.args.front.now c.args.blocks) (sym none)
     (more_than_no_fronts c.args.program.now c.args.front.now c.args.first c.args.blocks c.requires.first)
 
-first_is : (c : In_ok-level) → IsLevel c.args.program.now c.args.front.now 0 c.in_ok-level.level.standings
-first_is c = subst (IsLevel c.args.program.now c.args.front.now 0) (sym c.in_ok-level.ensures.first) (level_first c.args.program.now c.args.front.now c.args.first c.requires.first)
-
-small_first : (c : In_ok-level) → length c.in_ok-level.level.standings ≤ c.args.limit
-small_first c = let one = ap length c.in_ok-level.ensures.first in let within = c.in_ok-level.ensures.within in omega (arith, one, within)
-
 pub loop-done-init : goal.loop-done-init
-loop-done-init c = record {
-  level = first_is (goal.at.loop-done-init c).In_ok-level;
-  going = c.in_ok-level.ensures.going;
-  small = small_first (goal.at.loop-done-init c).In_ok-level;
-  few = few_first c.args.program.now c.args.front.now c.args.limit c.in_ok-level.level.standings (first_is (goal.at.loop-done-init c).In_ok-level) (small_first (goal.at.loop-done-init c).In_ok-level);
-}
+loop-done-init c =
+    let is : IsLevel c.args.program.now c.args.front.now 0 c.in_ok-level.level.standings =
+    subst (IsLevel c.args.program.now c.args.front.now 0) (sym c.in_ok-level.ensures.first) (level_first c.args.program.now c.args.front.now c.args.first c.requires.first) in
+    let small : length c.in_ok-level.level.standings ≤ c.args.limit = (let one = ap length c.in_ok-level.ensures.first in let within = c.in_ok-level.ensures.within in omega (arith, one, within)) in
+    record { level = is; going = c.in_ok-level.ensures.going; small = small; few = few_first c.args.program.now c.args.front.now c.args.limit c.in_ok-level.level.standings is small }
 
 pub after_level-requires-clause-level : goal.after_level-requires-clause-level
 after_level-requires-clause-level c =
@@ -62,28 +52,22 @@ loop-done-preserved c = record {
       (next_few (goal.at.loop-done-preserved c).In_ok-level-2);
 }
 
+-- the next level has nobody
+none_next : (c : In_ok-level-2) → length c.in_ok-level-2.level.standings ≡ 0 → IsLevel c.args.program.now c.args.front.now (suc c.loop-done.done) []
+none_next c none = subst (IsLevel c.args.program.now c.args.front.now (suc c.loop-done.done)) (nil_from_length c.in_ok-level-2.level.standings none) (next_is c)
+
 pub returns-then-len-eq0-clause-fronts : goal.returns-then-len-eq0-clause-fronts
 returns-then-len-eq0-clause-fronts c =
-    let p = c.args.program.now in
-    let front = c.args.front.now in
-    let found = c.in_ok-level-2.level.standings in
-    let none : found ≡ [] = nothing found
-    (let n = c.if-len-eq0.true in let e = c.len.ensures.len in omega (arith, n, e)) in
-    subst (AreFrontsAfter p front c.args.blocks) (sym c.new.ensures.items)
-    (fronts_of p front c.args.blocks [] (subst (IsLegal p) c.requires.first.order c.requires.first.standing.legal)
-    (none_later p front (suc c.loop-done.done) c.args.blocks (let more = c.loop-done-test.true in omega (arith, more))
-    (subst (IsLevel p front (suc c.loop-done.done)) none (next_is (goal.at.returns-then-len-eq0-clause-fronts c).In_ok-level-2))))
+    subst (AreFrontsAfter c.args.program.now c.args.front.now c.args.blocks) (sym c.new.ensures.items)
+    (fronts_of c.args.program.now c.args.front.now c.args.blocks [] (subst (IsLegal c.args.program.now) c.requires.first.order c.requires.first.standing.legal)
+    (none_later c.args.program.now c.args.front.now (suc c.loop-done.done) c.args.blocks (let more = c.loop-done-test.true in omega (arith, more))
+    (none_next (goal.at.returns-then-len-eq0-clause-fronts c).In_ok-level-2 (let n = c.if-len-eq0.true in let e = c.len.ensures.len in omega (arith, n, e)))))
 
 pub returns-then-len-eq0-clause-few : goal.returns-then-len-eq0-clause-few
 returns-then-len-eq0-clause-few c =
-    let p = c.args.program.now in
-    let front = c.args.front.now in
-    let found = c.in_ok-level-2.level.standings in
-    let none : found ≡ [] = nothing found
-    (let n = c.if-len-eq0.true in let e = c.len.ensures.len in omega (arith, n, e)) in
-    few_later p front (suc c.loop-done.done) c.args.blocks c.args.limit
-    (subst (IsLevel p front (suc c.loop-done.done)) none (next_is (goal.at.returns-then-len-eq0-clause-few c).In_ok-level-2))
-    (next_few (goal.at.returns-then-len-eq0-clause-few c).In_ok-level-2)
+    let next = (goal.at.returns-then-len-eq0-clause-few c).In_ok-level-2 in
+    few_later c.args.program.now c.args.front.now (suc c.loop-done.done) c.args.blocks c.args.limit
+    (none_next next (let n = c.if-len-eq0.true in let e = c.len.ensures.len in omega (arith, n, e))) (next_few next)
 
 pub returns-clause-fronts : goal.returns-clause-fronts
 returns-clause-fronts c =

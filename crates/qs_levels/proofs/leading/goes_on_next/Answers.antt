@@ -1,8 +1,5 @@
 use Rattle.std.proofs.Common.{ap, sym, ◌∙◌}
-use Rattle.qs_meaning.specs.audit.Configurations.{Configuration}
-use Rattle.qs_meaning.specs.Reduced.{goes_on}
-use Rattle.qs_standings.specs.Standings.{configuration_in}
-use Rattle.qs_standings.proofs.Stands.{goes_left}
+use Rattle.qs_levels.proofs.Common.{Configuration, configuration_in, goes_left, goes_on}
 use Rattle.qs_levels.proofs.GoingAgain.{goes_on_again}
 use Rattle.qs_levels.proofs.leading.goes_on_next.Goals as goal
 

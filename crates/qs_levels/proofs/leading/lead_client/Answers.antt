@@ -1,14 +1,6 @@
 use Rattle.std.proofs.Common.{◌≡◌, ◌++◌, ◌∷◌, [], Err, ap, subst, inl, inr, sym, ◌∙◌, refl, arith, true, false, length-append}
-use Rattle.std.proofs.lemmas.Result.{err_from_is_err_and}
-use Rattle.qs_outcomes.specs.declared.fault.OutcomesFault.TheVariants.{Limit}
+use Rattle.qs_levels.proofs.Common.{block_next, configuration_in, drafted, each_snoc, err_from_is_err_and, goes_left, goes_on, has_map, in_byte, IsNext, Limit, row_of, rows_in, standing_with_block, StandingShape}
 use Rattle.qs_outcomes.specs.Search.{IsNoted}
-use Rattle.qs_standings.specs.Rows.{drafted, rows_in}
-use Rattle.qs_standings.specs.Standings.{IsNext, StandingShape, configuration_in, row_of, standing_with_block}
-use Rattle.qs_standings.proofs.Lists.{has_map}
-use Rattle.qs_standings.proofs.Stands.{block_next, goes_left}
-use Rattle.qs_meaning.specs.Reduced.{goes_on}
-use Rattle.qs_meaning.proofs.Each.{each_snoc}
-use Rattle.qs_standings.specs.going.Going.{in_byte}
 use Rattle.qs_levels.specs.Leads.{AreKnown, tabled}
 use Rattle.qs_levels.specs.Founds.{Found}
 use Rattle.qs_levels.proofs.leading.lead_client.Goals as goal

@@ -1,9 +1,5 @@
 use Rattle.std.proofs.Common.{◌∙◌, ap, length, slice_index_or, subst, sym}
-use Rattle.qs_standings.specs.going.Going.{in_byte}
-use Rattle.qs_meaning.specs.Reduced.{goes_on}
-use Rattle.qs_meaning.proofs.Each.{zip_at}
-use Rattle.qs_standings.specs.Standings.{IsStanding, StandingShape, configuration_in}
-use Rattle.qs_standings.proofs.going.GoingSets.{in_none}
+use Rattle.qs_levels.proofs.Common.{configuration_in, goes_on, in_byte, in_none, IsStanding, StandingShape, zip_at}
 use Rattle.qs_levels.specs.Founds.{no_standing}
 use Rattle.qs_levels.specs.Leads.{tabled}
 use Rattle.qs_levels.specs.Shares.{AreTaken, IsGoing}

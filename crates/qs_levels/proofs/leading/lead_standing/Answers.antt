@@ -1,8 +1,5 @@
 use Rattle.std.proofs.Common.{◌≡◌, ◌<◌, ◌+◌, ◌≤◌, Err, ap, arith, length, subst, suc, sym, true, false, true≢false, ◌∙◌}
-use Rattle.std.proofs.lemmas.Result.{err_from_is_err_and}
-use Rattle.qs_outcomes.specs.declared.fault.OutcomesFault.TheVariants.{Limit}
-use Rattle.qs_standings.specs.Rows.{drafted}
-use Rattle.qs_standings.proofs.going.GoingSets.{in_set, out_of_set}
+use Rattle.qs_levels.proofs.Common.{drafted, err_from_is_err_and, in_set, Limit, out_of_set}
 use Rattle.qs_levels.specs.Leads.{AreEven, AreKnown, IsLedOn, IsLedUpTo, tabled}
 use Rattle.qs_levels.specs.Shares.{is_taken}
 use Rattle.qs_levels.proofs.NextLevels.{taken_goes}

@@ -1,6 +1,5 @@
 use Rattle.std.proofs.Common.{◌≡◌, ◌≤◌, length}
-use Rattle.qs_standings.specs.Rows.{drafted}
-use Rattle.qs_standings.specs.Standings.{row_of}
+use Rattle.qs_levels.proofs.Common.{drafted, row_of}
 use Rattle.qs_levels.specs.Leads.{AreEven, AreKnown, IsLedUpTo, tabled}
 use Rattle.qs_levels.proofs.leading.lead_standing.Given as goal
 

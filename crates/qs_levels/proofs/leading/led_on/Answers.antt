@@ -1,11 +1,8 @@
 use Rattle.std.proofs.Common.{◌≡◌, ◌<◌, Err, [], ap, arith, length, slice_index_or, subst, refl, sym}
-use Rattle.std.proofs.lemmas.List.{take_all}
-use Rattle.std.proofs.lemmas.Result.{err_from_is_err_and}
-use Rattle.qs_outcomes.specs.declared.fault.OutcomesFault.TheVariants.{Limit}
+use Rattle.qs_levels.proofs.Common.{err_from_is_err_and, get_or_default, Limit, take_all}
 use Rattle.qs_levels.specs.Leads.{AreKnown, IsPartOf, IsTableOf, TableShape, leads, tabled}
 use Rattle.qs_levels.specs.Founds.{no_standing}
 use Rattle.qs_levels.proofs.NextLevels.{led_at, no_table, too_many}
-use Rattle.qs_levels.proofs.meaning.Lists.{own_default}
 use Rattle.qs_levels.proofs.leading.led_on.Goals as goal
 
 pub loop-place-init : goal.loop-place-init
@@ -26,7 +23,7 @@ returns-in_err-lead_place-clause-limit c = λ is.
     let place = c.loop-place.place in
     let s = slice_index_or level place no_standing in
     let less : place < length level = (let e = c.len-place-end.ensures.len in let l = c.loop-place-test.true in omega (arith, e, l)) in
-    too_many c.args.step.now.search.program.now c.args.step.now.search.front.now c.keeps_sound.ensures.sound c.args.share.number c.args.share.count level place s less (own_default level place no_standing less) refl c.requires.sorted
+    too_many c.args.step.now.search.program.now c.args.step.now.search.front.now c.keeps_sound.ensures.sound c.args.share.number c.args.share.count level place s less (get_or_default level place no_standing s less) refl c.requires.sorted
     (tabled c.loop-place.table) c.loop-place.invariant.table c.args.step.now.room more.0 more.1 more.2 more.3
 
 pub loop-place-preserved : goal.loop-place-preserved
@@ -36,7 +33,7 @@ loop-place-preserved c =
     let s = slice_index_or level place no_standing in
     let less : place < length level = (let e = c.len-place-end.ensures.len in let l = c.loop-place-test.true in omega (arith, e, l)) in
     record {
-      table = led_at c.args.step.now.search.program.now c.args.step.now.search.front.now c.keeps_sound.ensures.sound c.args.share.number c.args.share.count level place s less (own_default level place no_standing less) refl c.requires.sorted
+      table = led_at c.args.step.now.search.program.now c.args.step.now.search.front.now c.keeps_sound.ensures.sound c.args.share.number c.args.share.count level place s less (get_or_default level place no_standing s less) refl c.requires.sorted
           (tabled c.loop-place.table) (tabled c.lead_place.new.table) c.loop-place.invariant.table c.in_ok-lead_place.ensures.led;
       small = c.in_ok-lead_place.ensures.small;
       known = c.in_ok-lead_place.ensures.known;

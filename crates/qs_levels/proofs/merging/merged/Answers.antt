@@ -1,8 +1,5 @@
 use Rattle.std.proofs.Common.{◌≡◌, ◌<◌, ◌≤◌, ◌∙◌, ◌∷◌, [], ◌++◌, None, Some, ap, arith, length, replicate, slice_index_or, subst, suc, sym}
-use Rattle.std.proofs.lemmas.List.{length-replicate, length-set}
-use Rattle.std.specs.List.{AllByRecursion}
-use Rattle.std.specs.Prelude.{slice_set}
-use Rattle.qs_meaning.proofs.Each.{each_snoc}
+use Rattle.qs_levels.proofs.Common.{AllByRecursion, each_snoc, length-replicate, length-set, slice_set}
 use Rattle.qs_levels.specs.Founds.{IsSpot, LevelShape, level_in}
 use Rattle.qs_levels.specs.meaning.Levels.{IsNextOf}
 use Rattle.qs_levels.specs.Shares.{AreGoing}

@@ -1,12 +1,8 @@
 use Rattle.std.proofs.Common.{◌≡◌, ◌<◌, ◌+◌, ◌-◌, Err, [], ap, arith, length, subst, sym, ◌∙◌}
-use Rattle.std.proofs.lemmas.Result.{err_from_is_err_and}
-use Rattle.qs_meaning.specs.audit.Serial.{IsLegal}
-use Rattle.qs_outcomes.specs.Outcomes.{AreOutcomesAfter, HasMoreThanAfter}
-use Rattle.qs_outcomes.specs.declared.fault.OutcomesFault.TheVariants.{Limit}
+use Rattle.qs_levels.proofs.Common.{AreOutcomesAfter, err_from_is_err_and, HasMoreThanAfter, IsLegal, Limit, nil_from_length}
 use Rattle.qs_levels.specs.meaning.Onward.{HasMoreOnward}
 use Rattle.qs_levels.specs.meaning.Levels.{IsLevel, IsSearched}
 use Rattle.qs_levels.proofs.meaning.Ends.{no_room, no_room_first, outcomes_of_level, search_begins, search_goes_on}
-use Rattle.qs_levels.proofs.meaning.Lists.{nothing}
 use Rattle.qs_levels.proofs.meaning.Reaching.{level_first, more_than_none}
 use Rattle.qs_levels.proofs.search.search_from.Goals as goal
 
@@ -63,7 +59,7 @@ returns-clause-outcomes g c =
     let p = c.args.search.now.program.now in
     let front = c.args.search.now.front.now in
     let none : c.levels.next.standings ≡ [] =
-    nothing c.levels.next.standings (let n = c.levels-test.false in let e = c.len.ensures.len in omega (arith, n, e)) in
+    nil_from_length c.levels.next.standings (let n = c.levels-test.false in let e = c.len.ensures.len in omega (arith, n, e)) in
     subst (AreOutcomesAfter p front) {x = record { found = c.levels.level.standings; configurations = c.levels.noted }}
     (ap (λ (ss : _). record { found = ss; configurations = c.levels.noted }) (sym c.in_ok-found.ensures.all) ∙ sym c.new-3.ensures.all)
     (outcomes_of_level p front c.keeps_sound.ensures.sound c.levels.level.standings c.levels.noted (subst (λ ts. IsSearched p front c.levels.level.standings ts c.levels.noted) none c.levels.invariant.searched)

@@ -1,7 +1,5 @@
 use Rattle.std.proofs.Common.{◌≡◌, ◌+◌, ◌%◌, ◌==◌, ◌∙◌, ℕ, Bool, ap, sym, subst, true}
-use Rattle.qs_objects.proofs.Choices.{eqb_apart, eqb_self}
-use Rattle.qs_standings.proofs.going.GoingSets.{client_more, client_skipped}
-use Rattle.qs_standings.specs.going.Going.{in_byte}
+use Rattle.qs_levels.proofs.Common.{client_more, client_skipped, eqb_apart, eqb_self, in_byte}
 use Rattle.qs_levels.specs.Shares.{weight}
 use Rattle.qs_levels.proofs.share.mask.Goals as goal
 use Rattle.qs_levels.proofs.share.mask.Goals.{then-from-weight, else-from-weight}

@@ -1,6 +1,5 @@
 use Rattle.std.proofs.Common.{◌≡◌, ◌<◌, ◌+◌, ◌%◌, ◌==◌, ℕ, length, slice_index_or}
-use Rattle.qs_program.specs.audit.Limits.{most_clients}
-use Rattle.qs_standings.specs.going.Going.{in_byte}
+use Rattle.qs_levels.proofs.Common.{in_byte, most_clients}
 use Rattle.qs_levels.specs.Shares.{weight}
 use Rattle.qs_levels.proofs.share.masks.Given as goal
 

@@ -1,6 +1,5 @@
 use Rattle.std.proofs.Common.{◌<◌, ◌%◌, arith, bit_and, slice_index_or, subst, sym}
-use Rattle.qs_meaning.proofs.Each.{zip_at}
-use Rattle.qs_standings.specs.Standings.{configuration_in}
+use Rattle.qs_levels.proofs.Common.{configuration_in, zip_at}
 use Rattle.qs_levels.specs.Founds.{no_standing}
 use Rattle.qs_levels.specs.Shares.{AreTaken, IsGoing, mark_of}
 use Rattle.qs_levels.specs.declared.level.Going.{Going}

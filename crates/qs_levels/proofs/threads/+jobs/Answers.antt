@@ -1,7 +1,6 @@
 use borrow.Author.Rules.{rules}
 use denote.Param.Send.{sendable}
-use Rattle.std.proofs.lemmas.Result.{IfOk-at_ok}
-use Rattle.std.specs.Fork.Halves.{GivesFor}
+use Rattle.qs_levels.proofs.Common.{GivesFor, IfOk-at_ok}
 use Rattle.qs_levels.proofs.Jobs.{accepts_parts, given_parts}
 use Rattle.qs_levels.proofs.threads.+jobs.Goals as goal
 
