@@ -1,19 +1,8 @@
 -- How a count goes on: an end that is added has come in no run, as all places are before its own; and where one more
 -- order came to an end, the end's times and the number of the orders at its place grow by one, and all others stay.
 use Rattle.std.proofs.Common.{◌≡◌, ◌<◌, ◌≤◌, ◌+◌, ◌==◌, ℕ, zero, suc, Bool, true, false, cond, Some, List, [], ◌∷◌, ◌++◌, length, map, slice_get, slice_set, refl, sym, ap, ◌∙◌, subst, arith, inl, inr, filter}
-use Rattle.std.specs.List.{AllByRecursion, AllZip}
-use Rattle.std.proofs.lemmas.List.{map-append}
+use Rattle.qs_tally.proofs.Common.{all_zipped_more, AllByRecursion, AllZip, AllZip-long, apart_eqb, AreApart, each_map, each_snoc, eqb_apart, eqb_self, map-append, num_cases, outcome_at, outcome_of, ProgramShape, row_of, RowShape, slice_get_within, StandingShape, Ticket, two_snoc}
 use Rattle.std.proofs.lemmas.List.Sums.{count_by-le-length, length-filter}
-use Rattle.std.proofs.lemmas.Option.{slice_get_within}
-use Rattle.std.proofs.lemmas.Slice.Zip.{AllZip-long, all_zipped_more}
-use Rattle.qs_objects.specs.declared.held.Ticket.{Ticket}
-use Rattle.qs_objects.proofs.Choices.{apart_eqb, eqb_apart, eqb_self, num_cases}
-use Rattle.qs_program.specs.audit.Program.{ProgramShape}
-use Rattle.qs_meaning.specs.Configurations.{outcome_of}
-use Rattle.qs_meaning.proofs.Each.{each_map, each_snoc}
-use Rattle.qs_outcomes.specs.Outcomes.{AreApart, outcome_at}
-use Rattle.qs_standings.specs.Standings.{RowShape, StandingShape, row_of}
-use Rattle.qs_standings.proofs.Lists.{two_snoc}
 use Rattle.qs_tally.specs.Counting.{AreTabled, IsAdded, IsAtEnd, IsCounted, IsPlaced, not_yet, once_more}
 use Rattle.qs_tally.specs.Tallies.{CameTo, CountedShape, IsCountOf, IsEnd, standings_in, times_of}
 use Rattle.qs_tally.proofs.Places.{get_front, get_set_other, get_set_same, get_snoc, one_more, zip_map}

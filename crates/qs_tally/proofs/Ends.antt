@@ -1,24 +1,12 @@
 -- Standings at the end of complete orders: each client has begun all its blocks, so equal rows are those of equal
 -- outcomes, whatever the orders. By this the end to which an order comes is found by its row.
-use Rattle.std.proofs.Common.{◌≡◌, ℕ, zero, suc, Bool, true, false, Some, List, [], ◌∷◌, ◌++◌, length, get_or, map, drop, flat_map, replicate, slice_get, refl, sym, ap, ◌∙◌, subst, inl, inr, append-nil}
-use Rattle.std.specs.List.{AllByRecursion}
-use Rattle.std.proofs.lemmas.List.{map-append}
-use Rattle.qs_objects.specs.declared.held.Ticket.{Ticket}
-use Rattle.qs_objects.proofs.GridRows.{equal_long}
-use Rattle.qs_program.specs.audit.Limits.{most_clients}
-use Rattle.qs_program.specs.audit.Program.{ProgramShape, blocks_of}
+use Rattle.std.proofs.Common.{◌≡◌, ℕ, zero, suc, Bool, true, false, Some, List, [], ◌∷◌, ◌++◌, get_or, map, slice_get, refl, sym, ap, ◌∙◌, subst, inl, inr}
+use Rattle.qs_tally.proofs.Common.{AllByRecursion, blocks_of, Configuration, each_snoc, IsComplete, IsFirst, IsInserted, IsStanding, map-append, OrderOutcome, outcome_at, outcome_in, outcome_of, ProgramShape, row_of, RowShape, same_list, StandingShape, Ticket}
 use Rattle.qs_program.specs.Sound.{IsSound}
-use Rattle.qs_meaning.specs.audit.Configurations.{Configuration, IsComplete}
-use Rattle.qs_meaning.specs.Configurations.{OrderOutcome, outcome_in, outcome_of}
 use Rattle.qs_meaning.specs.audit.Serial.{no_state, zeros}
-use Rattle.qs_meaning.proofs.Each.{each_snoc}
 use Rattle.qs_meaning.proofs.Orders.{complete_orders_leave_none, configurations_follow_orders}
-use Rattle.qs_outcomes.specs.Outcomes.{outcome_at}
 use Rattle.qs_standings.specs.Lists.{HasOne}
-use Rattle.qs_standings.specs.Rows.{IsInserted}
-use Rattle.qs_standings.specs.Standings.{IsFirst, IsStanding, RowShape, StandingShape, row_of, state_row}
-use Rattle.qs_standings.proofs.Lists.{same_list}
-use Rattle.qs_standings.proofs.RowTells.{in_range, named, named_tell, same_row, states_tell}
+use Rattle.qs_standings.proofs.RowTells.{same_row, standings_tell}
 use Rattle.qs_tally.specs.Counting.{AreTabled, ComesToNone, IsAtEnd, IsPlaced, not_yet}
 use Rattle.qs_tally.specs.Tallies.{CameTo, CountedShape, IsEnd, standings_in}
 
@@ -50,15 +38,7 @@ same_rows p s t a b e =
     (same_list no_state s.states t.states (a.standing.states ∙ sym b.standing.states) (λ i. ap (λ (o : OrderOutcome). o.states i) e))
 
 pub same_ends : (p : ProgramShape) → IsSound p → (s t : StandingShape) → IsAtEnd p s → IsAtEnd p t → row_of p s ≡ row_of p t → outcome_at s ≡ outcome_at t
-same_ends p sound s t a b e =
-    let begun : s.begun ≡ t.begun =
-    (equal_long s.begun t.begun (drop (length s.begun) (replicate most_clients 0)) (drop (length t.begun) (replicate most_clients 0)) (a.standing.begun ∙ sym b.standing.begun)
-    (ap (λ (r : RowShape). r.begun) e)).0 in
-    let second = named_tell p 0 s.locals t.locals (flat_map state_row s.states) (flat_map state_row t.states) (a.standing.locals ∙ sym b.standing.locals)
-    (named p s.order sound s a.standing) (named p t.order sound t b.standing) (ap (λ (r : RowShape). r.numbers) e) in
-    let third = states_tell s.states t.states [] [] (in_range p s.order sound s a.standing) (in_range p t.order sound t b.standing) (a.standing.states ∙ sym b.standing.states)
-    (append-nil (flat_map state_row s.states) ∙ (second.1 ∙ sym (append-nil (flat_map state_row t.states)))) in
-    λ i. outcome_at (record { order = s.order; begun = begun i; locals = second.0 i; states = third.0 i })
+same_ends p sound s t a b e = ap outcome_in (standings_tell p sound s.order t.order s t a.standing b.standing e)
 
 -- the place of an end, by the place of its row
 

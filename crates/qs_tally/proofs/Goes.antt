@@ -1,14 +1,7 @@
 -- One more run of a program whose ends were counted so far. Where all outcomes are listed its order comes to one of
 -- them, so nothing is added; and where they are not, an end that is added is the one that has now come.
 use Rattle.std.proofs.Common.{◌≡◌, ◌<◌, ℕ, suc, Some, List, [], ◌∷◌, length, slice_get, slice_set, sym, ap, ◌∙◌, subst, arith, inl, inr}
-use Rattle.std.specs.List.{AllByRecursion}
-use Rattle.qs_objects.specs.declared.held.Ticket.{Ticket}
-use Rattle.qs_objects.proofs.Choices.{apart_eqb, num_cases}
-use Rattle.qs_program.specs.audit.Program.{ProgramShape}
-use Rattle.qs_meaning.specs.audit.Configurations.{IsComplete}
-use Rattle.qs_meaning.specs.Configurations.{outcome_of}
-use Rattle.qs_outcomes.specs.Outcomes.{outcome_at}
-use Rattle.qs_standings.proofs.Lists.{has_some}
+use Rattle.qs_tally.proofs.Common.{AllByRecursion, apart_eqb, has_some, IsComplete, num_cases, outcome_at, outcome_of, ProgramShape, Ticket}
 use Rattle.qs_tally.specs.Counting.{ComesToNone, IsAdded, IsCounted, not_yet, once_more}
 use Rattle.qs_tally.specs.Tallies.{AreListed, AreUnlisted, CountedShape, HasCome, standings_in}
 use Rattle.qs_tally.proofs.Counts.{same_standings}

@@ -1,22 +1,14 @@
 -- All outcomes as ends that count: each stands again after the order that it shows, one after another, so what is said
 -- of all outcomes is said of the ends. No two outcomes are equal, so each is added.
 use Rattle.std.proofs.Common.{◌≡◌, ◌≤◌, ℕ, suc, true, false, Some, List, [], ◌∷◌, ◌++◌, take, slice_get, refl, sym, ap, ◌∙◌, subst, inl, inr, option_map}
-use Rattle.std.specs.List.{AllByRecursion, AllZip}
-use Rattle.std.proofs.lemmas.List.{map-append}
-use Rattle.std.proofs.lemmas.Option.{slice_get-map}
-use Rattle.std.proofs.lemmas.Slice.Zip.{all_zipped_more}
-use Rattle.qs_program.specs.audit.Program.{ProgramShape}
-use Rattle.qs_meaning.specs.audit.Configurations.{IsComplete}
-use Rattle.qs_meaning.specs.Configurations.{outcome_of}
-use Rattle.qs_meaning.proofs.Each.{each_map, each_snoc}
+use Rattle.qs_tally.proofs.Common.{all_zipped_more, AllByRecursion, AllZip, AreApart, AreOutcomes, each_map, each_snoc, HasMoreThan, IsComplete, IsLeastAfter, IsListedAfter, IsReducedAfter, map-append, outcome_at, outcome_of, OutcomesShape, ProgramShape, RowShape, slice_get-map, StandingShape}
 use Rattle.qs_outcomes.specs.LeastOrders.{IsBefore}
-use Rattle.qs_outcomes.specs.Outcomes.{AreApart, AreOutcomes, HasMoreThan, IsLeastAfter, IsListedAfter, OutcomesShape, outcome_at}
-use Rattle.qs_standings.specs.Standings.{IsReducedAfter, RowShape, StandingShape}
 use Rattle.qs_tally.specs.Counting.{AreTabled, HasNotCome, IsBegun, IsPlaced, IsSameEnd, not_yet}
 use Rattle.qs_tally.specs.Tallies.{CountedShape, IsCountOf, standings_in}
+use Rattle.qs_outcomes.proofs.Zips.{zip_each, zip_has, zip_two}
 use Rattle.qs_tally.proofs.Counts.{standing_of}
 use Rattle.qs_tally.proofs.Ends.{is_end}
-use Rattle.qs_tally.proofs.Places.{before_at, each_at, take_one, zip_at, zip_each, zip_has, zip_two}
+use Rattle.qs_tally.proofs.Places.{before_at, each_at, take_one, zip_at}
 
 pub all_again : (p : ProgramShape) (all : OutcomesShape) (ends : List StandingShape) → AreOutcomes p all → AllZip (IsSameEnd p) all.found ends
     → AreOutcomes p (record { found = ends; configurations = all.configurations })

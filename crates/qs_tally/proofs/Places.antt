@@ -2,8 +2,8 @@
 -- keeps is said by places, so each step of it stands on these. Each goes by induction on the list.
 use Rattle.std.proofs.Common.{◌≡◌, ◌+◌, ℕ, zero, suc, Bool, cond, Some, List, [], ◌∷◌, ◌++◌, length, take, slice_get, slice_set, refl, ap, ◌∙◌, subst, ◌⊎◌, inl, inr, length-append, filter}
 use Rattle.std.specs.List.{AllByRecursion, AllZip}
+use Rattle.qs_standings.specs.Lists.{EachTwo}
 use Rattle.std.proofs.lemmas.List.Elements.{filter-append}
-use Rattle.qs_standings.specs.Lists.{EachTwo, HasOne}
 
 pub get_front : {X : Type 0} (xs ys : List X) (k : ℕ) (x : X) → slice_get xs k ≡ Some x → slice_get (xs ++ ys) k ≡ Some x
 get_front [] ys k x e = absurd (cc)
@@ -64,27 +64,3 @@ zip_at R [] [] k y h e = absurd (cc)
 zip_at R (u ∷ us) (v ∷ vs) zero y h e = (u, refl, subst (R u) (let is : v ≡ y = cc in is) h.0)
 zip_at R (u ∷ us) (v ∷ vs) (suc k) y h e = zip_at R us vs k y h.1 e
 zip_at R _ _ k y h e = absurd h
-
--- what holds of each of the one list, of one, or of each two of it, holds of the other list, too
-module _ {X Y : Type 0} (R : X → Y → Type 0) where
-  pub zip_each : {P : X → Type 0} {Q : Y → Type 0} → ((x : X) (y : Y) → R x y → P x → Q y) → (xs : List X) (ys : List Y) → AllZip R xs ys → AllByRecursion P xs → AllByRecursion Q ys
-  zip_each f [] [] h all = tt
-  zip_each f (x ∷ xs) (y ∷ ys) h all = (f x y h.0 all.0, zip_each f xs ys h.1 all.1)
-  zip_each f _ _ h all = absurd h
-
-  pub zip_has : {P : X → Type 0} {Q : Y → Type 0} → ((x : X) (y : Y) → R x y → P x → Q y) → (xs : List X) (ys : List Y) → AllZip R xs ys → HasOne P xs → HasOne Q ys
-  zip_has f [] [] h has = absurd has
-  zip_has f (x ∷ xs) (y ∷ ys) h (inl has) = inl (f x y h.0 has)
-  zip_has f (x ∷ xs) (y ∷ ys) h (inr has) = inr (zip_has f xs ys h.1 has)
-  zip_has f _ _ h has = absurd h
-
-  pub zip_two : {S : X → X → Type 0} {T : Y → Y → Type 0} → ((x : X) (y : Y) (u : X) (v : Y) → R x y → R u v → S x u → T y v) → (xs : List X) (ys : List Y) → AllZip R xs ys → EachTwo S xs → EachTwo T ys
-  zip_two {S = S} {T = T} f [] [] h all = tt
-  zip_two {S = S} {T = T} f (x ∷ xs) (y ∷ ys) h all = (zip_pairs xs ys h.1 all.0, zip_two f xs ys h.1 all.1)
-    where
-      zip_pairs : (us : List X) (vs : List Y) → AllZip R us vs → AllByRecursion (S x) us → AllByRecursion (T y) vs
-      zip_pairs [] [] k each = tt
-      zip_pairs [] (v ∷ vs) k each = absurd k
-      zip_pairs (u ∷ us) [] k each = absurd k
-      zip_pairs (u ∷ us) (v ∷ vs) k each = (f x y u v h.0 k.0 each.0, zip_pairs us vs k.1 each.1)
-  zip_two {S = S} {T = T} f _ _ h all = absurd h

@@ -1,7 +1,5 @@
 use Rattle.std.proofs.Common.{false, subst, sym}
-use Rattle.std.specs.List.{AllByRecursion, AllZip}
-use Rattle.qs_outcomes.specs.Outcomes.{AreApart, IsListed}
-use Rattle.qs_standings.specs.Rows.{rows_in}
+use Rattle.qs_tally.proofs.Common.{AllByRecursion, AllZip, AreApart, IsListed, rows_in}
 use Rattle.qs_tally.specs.Counting.{AreTabled, IsBegun, IsSameEnd}
 use Rattle.qs_tally.specs.Tallies.{standings_in}
 use Rattle.qs_tally.proofs.Listing.{begun_listed, begun_unlisted}

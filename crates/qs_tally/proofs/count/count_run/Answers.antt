@@ -1,6 +1,5 @@
 use Rattle.std.proofs.Common.{◌≡◌, ◌^◌, Some, length, lit<, refl, slice_get, slice_set, sym, ap, subst, ◌∙◌}
-use Rattle.std.proofs.lemmas.Option.{slice_get_read, slice_get_within}
-use Rattle.qs_standings.specs.Rows.{rows_in}
+use Rattle.qs_tally.proofs.Common.{rows_in, slice_get_read, slice_get_within}
 use Rattle.qs_tally.specs.Counting.{AreTabled, once_more}
 use Rattle.qs_tally.specs.Tallies.{CountedShape}
 use Rattle.qs_tally.proofs.Counts.{few_between, tabled_more}

@@ -1,8 +1,5 @@
 use Rattle.std.proofs.Common.{◌≡◌, [], Some, add-one, length, refl, slice_get, subst, sym, take, take_all}
-use Rattle.std.specs.List.{AllByRecursion, AllZip}
-use Rattle.std.proofs.lemmas.Option.{slice_get_read}
-use Rattle.qs_meaning.specs.audit.Configurations.{IsComplete}
-use Rattle.qs_outcomes.specs.Outcomes.{IsListed}
+use Rattle.qs_tally.proofs.Common.{AllByRecursion, AllZip, IsComplete, IsListed, slice_get_read}
 use Rattle.qs_tally.specs.Counting.{HasNotCome, IsPlaced, IsSameEnd}
 use Rattle.qs_tally.specs.Tallies.{standings_in}
 use Rattle.qs_tally.proofs.Listing.{none_on, same_on}

@@ -1,6 +1,5 @@
 use Rattle.std.proofs.Common.{take}
-use Rattle.std.specs.List.{AllByRecursion, AllZip}
-use Rattle.qs_standings.specs.Rows.{rows_in}
+use Rattle.qs_tally.proofs.Common.{AllByRecursion, AllZip, rows_in}
 use Rattle.qs_tally.specs.Counting.{AreTabled, HasNotCome, IsSameEnd}
 use Rattle.qs_tally.specs.Tallies.{standings_in}
 use Rattle.qs_tally.proofs.count.list_all.Given as goal

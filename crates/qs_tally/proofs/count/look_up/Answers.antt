@@ -1,7 +1,6 @@
 use Rattle.std.proofs.Common.{◌≡◌, ℕ, true, Some, List, slice_get, sym, ap, ◌∙◌, option_map}
-use Rattle.std.proofs.lemmas.Option.{slice_get-map}
+use Rattle.qs_tally.proofs.Common.{equal, rows_in, shape_of, slice_get-map}
 use Rattle.qs_standings.specs.declared.rows.Row.{Row}
-use Rattle.qs_standings.specs.Rows.{equal, rows_in, shape_of}
 use Rattle.qs_standings.proofs.Inserting.{inserted, tells}
 use Rattle.qs_tally.proofs.count.look_up.Goals as goal
 

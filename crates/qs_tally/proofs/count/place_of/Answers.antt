@@ -1,6 +1,5 @@
 use Rattle.std.proofs.Common.{◌≡◌, [], ◌∷◌, ◌++◌, Some, slice_get, ap, subst, ◌∙◌}
-use Rattle.qs_standings.specs.Rows.{IsInserted, rows_in}
-use Rattle.qs_standings.specs.Standings.{row_of}
+use Rattle.qs_tally.proofs.Common.{IsInserted, row_of, rows_in}
 use Rattle.qs_tally.specs.Counting.{IsAtEnd, not_yet}
 use Rattle.qs_tally.specs.Tallies.{CountedShape}
 use Rattle.qs_tally.proofs.Ends.{at_end_of, new_placed, new_tabled, old_placed, old_tabled}
