@@ -1,7 +1,7 @@
 -- What goes on from what is read so far: nothing where no link stands, and else what is read with one more; the number
 -- of steps does not matter, where there are enough. The loops that read sums and conditions stand on it, and so does
 -- the proof that every condition is read. The invariant of the loops is `Continues`.
-use Rattle.std.proofs.Common.{◌≡◌, ℕ, zero, suc, ◌<◌, List, [], ◌∷◌, ◌++◌, length, refl, ap, ◌∙◌, arith, append_assoc, Bool, Option, Some, None, Ok, Err}
+use Rattle.std.proofs.Common.{◌≡◌, ℕ, zero, suc, ◌<◌, ◌≤◌, List, [], ◌∷◌, ◌++◌, length, refl, ap, ◌∙◌, arith, append_assoc, Bool, Option, Some, None, Ok, Err}
 use Rattle.qs_conditions.specs.declared.signs.Placed.{Placed}
 use Rattle.qs_conditions.specs.declared.condition.Step.{Step}
 use Rattle.qs_conditions.specs.declared.fault.SignFault.{SignFault}
@@ -20,26 +20,21 @@ module _ {M : Type 0} (further : M → List Placed → Option (Read M)) where
   unfolding chain
   chain_is m ts read r = r.runs (suc (length ts)) (omega arith)
 
-  ends_at : (n : ℕ) (m : M) (ts : List Placed) → length ts < n → further m ts ≡ None → chain_at further n m ts ≡ Ok (m, ts)
-  ends_at zero m ts lt e = absurd (omega arith)
-  ends_at (suc n) m ts lt e = rw e refl
+  by_steps : (m : M) (ts : List Placed) (read : Read M) → ((n : ℕ) → length ts ≤ n → chain_at further (suc n) m ts ≡ read) → Runs further m ts read
+  by_steps m ts read h = record { runs = at }
+    where
+      at : (n : ℕ) → length ts < n → chain_at further n m ts ≡ read
+      at zero lt = absurd (omega arith)
+      at (suc n) lt = h n (omega arith)
 
   pub runs_end : (m : M) (ts : List Placed) → further m ts ≡ None → Runs further m ts (Ok (m, ts))
-  runs_end m ts e = record { runs = λ n lt. ends_at n m ts lt e }
-
-  fails_at : (n left : ℕ) (m : M) (ts : List Placed) → length ts < n → further m ts ≡ Some (Err left) → chain_at further n m ts ≡ Err left
-  fails_at zero left m ts lt e = absurd (omega arith)
-  fails_at (suc n) left m ts lt e = rw e refl
+  runs_end m ts e = by_steps m ts (Ok (m, ts)) (λ n lt. rw e refl)
 
   pub runs_fail : (left : ℕ) (m : M) (ts : List Placed) → further m ts ≡ Some (Err left) → Runs further m ts (Err left)
-  runs_fail left m ts e = record { runs = λ n lt. fails_at n left m ts lt e }
-
-  on_at : (n : ℕ) (m : M) (ts : List Placed) (x : M × List Placed) (read : Read M) → length ts < n → further m ts ≡ Some (Ok x) → length x.1 < length ts → Runs further x.0 x.1 read → chain_at further n m ts ≡ read
-  on_at zero m ts x read lt e less r = absurd (omega arith)
-  on_at (suc n) m ts x read lt e less r = rw e (r.runs n (omega arith))
+  runs_fail left m ts e = by_steps m ts (Err left) (λ n lt. rw e refl)
 
   pub runs_on : (m : M) (ts : List Placed) (x : M × List Placed) (read : Read M) → further m ts ≡ Some (Ok x) → length x.1 < length ts → Runs further x.0 x.1 read → Runs further m ts read
-  runs_on m ts x read e less r = record { runs = λ n lt. on_at n m ts x read lt e less r }
+  runs_on m ts x read e less r = by_steps m ts read (λ n lt. rw e (r.runs n (omega (arith, lt, less))))
 
 -- the code has read done and the signs from rest on are left; the whole is what goes on from there
 pub record Continues {M : Type 0} (further : M → List Placed → Option (Read M)) (whole : Read M) (done : M) (rest : List Placed) : Type 0 where

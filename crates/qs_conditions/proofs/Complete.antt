@@ -1,7 +1,7 @@
 -- Whatever is a condition by the grammar is read, and so a list of signs has at most one tree. The promise of the
 -- reader that it refuses no condition stands on it. It goes by induction on the tree; the first sign of each part tells
 -- it from all others, and each part takes a sign, so that the chains have steps enough.
-use Rattle.std.proofs.Common.{◌≡◌, ℕ, zero, suc, ◌<◌, ◌≤◌, inl, inr, Bool, true, false, List, [], ◌∷◌, ◌++◌, length, refl, ap, sym, subst, ◌∙◌, arith, append_assoc, append-nil, Option, Some, None, Result, Ok, Err, ℤ}
+use Rattle.std.proofs.Common.{◌≡◌, ℕ, zero, suc, ◌<◌, ◌≤◌, inl, inr, Bool, true, false, List, [], ◌∷◌, ◌++◌, length, refl, ap, sym, subst, ◌∙◌, arith, append_assoc, append-nil, Option, Some, None, Ok, Err, ℤ}
 use Rattle.qs_conditions.specs.declared.signs.Sign.{Sign}
 use Rattle.qs_conditions.specs.declared.signs.Sign.TheVariants as s
 use Rattle.qs_conditions.specs.declared.signs.Placed.{Placed}
@@ -121,9 +121,7 @@ module _ (Part : Phrase) (part : List Placed → Read Tree)
   both_runs (both c d) ts rest read (inr (x, y, h, b, k)) u r =
       both_runs c ts x read h (found_is open_by s.And x y b, found_is link_by s.And x y b)
       (runs_on (and_further part) c x (both c d, rest) read (rw (found_is and_by s.And x y b, complete d y rest k u) refl) (omega (arith, begins_shorter s.And x y b, shorter d y rest k)) r)
-  both_runs (compare left r' right) ts rest read h u r = part_runs (compare left r' right) ts rest read h u r
-  both_runs (negation c) ts rest read h u r = part_runs (negation c) ts rest read h u r
-  both_runs (either c d) ts rest read h u r = part_runs (either c d) ts rest read h u r
+  both_runs c ts rest read h u r = part_runs c ts rest read h u r
 
   both_complete : (c : Tree) (ts rest : List Placed) → IsBothOf Part c ts rest → IsUnlinked rest → found and_by rest ≡ None → both_of part ts ≡ Ok (c, rest)
   both_complete c ts rest h u a = both_runs c ts rest (Ok (c, rest)) h u (runs_end (and_further part) c rest (rw a refl))
@@ -136,9 +134,7 @@ module _ (Part : Phrase) (part : List Placed → Read Tree)
   either_runs (either c d) ts rest read (inr (x, y, h, b, k)) u a r =
       either_runs c ts x read h (found_is open_by s.Or x y b, found_is link_by s.Or x y b) (found_is and_by s.Or x y b)
       (runs_on (or_further part) c x (either c d, rest) read (rw (found_is or_by s.Or x y b, both_complete d y rest k u a) refl) (omega (arith, begins_shorter s.Or x y b, both_shorter Part shorter d y rest k)) r)
-  either_runs (compare left r' right) ts rest read h u a r = whole_runs (compare left r' right) ts rest read h u a r
-  either_runs (negation c) ts rest read h u a r = whole_runs (negation c) ts rest read h u a r
-  either_runs (both c d) ts rest read h u a r = whole_runs (both c d) ts rest read h u a r
+  either_runs c ts rest read h u a r = whole_runs c ts rest read h u a r
 
   either_complete : (c : Tree) (ts rest : List Placed) → IsEitherOf Part c ts rest → IsUnlinked rest → found and_by rest ≡ None → found or_by rest ≡ None → either_of part ts ≡ Ok (c, rest)
   either_complete c ts rest h u a o = either_runs c ts rest (Ok (c, rest)) h u a (runs_end (or_further part) c rest (rw o refl))
@@ -158,18 +154,10 @@ pub condition_complete : (c : Tree) (ts : List Placed) → IsCondition c ts → 
 condition_complete c ts h =
     rw (either_complete (IsPart 16) (part_in 16) (part_complete 16) (part_shorter 16) c ts [] h (refl, refl) refl refl) refl
 
-both_ok : (r : Result Tree ℕ) (x y : Tree) → r ≡ Ok x → r ≡ Ok y → x ≡ y
-both_ok (Ok z) x y p q = cc
-both_ok (Err e) x y p q = cc
-
-not_both : (r : Result Tree ℕ) (x : Tree) (left : ℕ) → r ≡ Ok x → r ≡ Err left → ⊥
-not_both (Ok z) x left p q = cc
-not_both (Err e) x left p q = cc
-
 -- signs have at most one tree
 pub one_tree : (c d : Tree) (ts : List Placed) → IsCondition c ts → IsCondition d ts → c ≡ d
-one_tree c d ts g h = both_ok (tree_of ts) c d (condition_complete c ts g) (condition_complete d ts h)
+one_tree c d ts g h = cc (condition_complete c ts g, condition_complete d ts h)
 
 -- where no reading goes on there is no condition
 pub no_condition : (ts : List Placed) (left : ℕ) → tree_of ts ≡ Err left → (c : Tree) → IsCondition c ts → ⊥
-no_condition ts left e c h = not_both (tree_of ts) c left (condition_complete c ts h) e
+no_condition ts left e c h = cc (e, condition_complete c ts h)

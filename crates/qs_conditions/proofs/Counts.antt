@@ -60,17 +60,13 @@ module _ (Part : Phrase) (shorter : (c : Tree) (ts rest : List Placed) → Part 
   both_shorter (both c d) ts rest (inl h) = shorter (both c d) ts rest h
   both_shorter (both c d) ts rest (inr (x, y, h, b, k)) =
       omega (arith, both_shorter c ts x h, begins_shorter s.And x y b, shorter d y rest k)
-  both_shorter (compare left r right) ts rest h = shorter (compare left r right) ts rest h
-  both_shorter (negation c) ts rest h = shorter (negation c) ts rest h
-  both_shorter (either c d) ts rest h = shorter (either c d) ts rest h
+  both_shorter c ts rest h = shorter c ts rest h
 
   either_shorter : (c : Tree) (ts rest : List Placed) → IsEitherOf Part c ts rest → length rest < length ts
   either_shorter (either c d) ts rest (inl h) = both_shorter (either c d) ts rest h
   either_shorter (either c d) ts rest (inr (x, y, h, b, k)) =
       omega (arith, either_shorter c ts x h, begins_shorter s.Or x y b, both_shorter d y rest k)
-  either_shorter (compare left r right) ts rest h = both_shorter (compare left r right) ts rest h
-  either_shorter (negation c) ts rest h = both_shorter (negation c) ts rest h
-  either_shorter (both c d) ts rest h = both_shorter (both c d) ts rest h
+  either_shorter c ts rest h = both_shorter c ts rest h
 
   negation_shorter : (c : Tree) (ts rest : List Placed) → IsNegation Part c ts rest → length rest < length ts
   negation_shorter (negation c) ts rest (x, b, h) = omega (arith, begins_shorter s.Not ts x b, shorter c x rest h)

@@ -2,7 +2,6 @@
 -- reader that its result belongs to the text stands on `condition_sound`. There is a lemma for each construct; the
 -- chains go by induction on their steps, and parts by induction on how many may stand one inside another.
 use Rattle.std.proofs.Common.{◌≡◌, ◌⊎◌, ℕ, zero, suc, ◌≤◌, inl, inr, Bool, true, false, List, [], ◌∷◌, ◌++◌, length, refl, ap, sym, subst, ◌∙◌, arith, append_assoc, append-nil, Option, Some, None, Result, Ok, Err, ℤ, pos, neg_ℤ}
-use Rattle.qs_script.specs.declared.tree.tree.Relation.{Relation}
 use Rattle.qs_conditions.specs.declared.signs.Sign.{Sign}
 use Rattle.qs_conditions.specs.declared.signs.Sign.TheVariants as s
 use Rattle.qs_conditions.specs.declared.signs.Placed.{Placed}
@@ -99,19 +98,16 @@ alone_begins by sign ts rest alone p =
     let (y, us, e, q) = found_some by ts (Ok rest) (due_some ts (found by ts) rest p) in
     let k = alone y.sign us rest q in (y, k.0, e ∙ ap (λ ws. y ∷ ws) k.1)
 
-some_ok : (us rest : List Placed) → Some (got us) ≡ Some (got rest) → us ≡ rest
-some_ok us rest p = cc
-
 dot_alone : IsAlone dot_by s.Dot
-dot_alone s.Dot us rest p = (refl, some_ok us rest p)
+dot_alone s.Dot us rest p = (refl, cc)
 dot_alone _ us rest p = cc
 
 comma_alone : IsAlone comma_by s.Comma
-comma_alone s.Comma us rest p = (refl, some_ok us rest p)
+comma_alone s.Comma us rest p = (refl, cc)
 comma_alone _ us rest p = cc
 
 closed_alone : IsAlone closed_by s.Close
-closed_alone s.Close us rest p = (refl, some_ok us rest p)
+closed_alone s.Close us rest p = (refl, cc)
 closed_alone _ us rest p = cc
 
 -- numbers
@@ -260,29 +256,22 @@ sum_sound ts x p =
     let (y, h, q) = bind_some (first_at ts) (λ y. chain sum_further (y.0 ∷ []) y.1) x p in
     chain_sound sum_further (λ xs us. IsSum xs ts us) (sum_goes ts) (y.0 ∷ []) y.1 x (y.1, first_sound ts y h, refl) q
 
-comparison_of : (ts y z rest : List Placed) (left right : List Summand) (r : Relation) (x : Tree × List Placed) → IsSum left ts y → Begins (s.Relation r) y z → IsSum right z rest → (compare left r right, rest) ≡ x → IsComparison x.0 ts x.1
-comparison_of ts y z rest left right r x h b k e = subst (λ w. IsComparison w.0 ts w.1) e (y, z, h, b, k)
-
 comparison_sound : (ts : List Placed) (x : Tree × List Placed) → comparison_at ts ≡ Ok x → IsComparison x.0 ts x.1
 comparison_sound ts x p =
     let (a, h, p') = bind_some (sum_at ts) (λ a. relation_at a.1 >>= λ r. sum_at r.1 >>= λ b. Ok (compare a.0 r.0 b.0, b.1)) x p in
     let (r, b, p'') = bind_some (relation_at a.1) (λ r. sum_at r.1 >>= λ b. Ok (compare a.0 r.0 b.0, b.1)) x p' in
     let (d, k, q) = bind_last (sum_at r.1) (λ b. (compare a.0 r.0 b.0, b.1)) x p'' in
-    comparison_of ts a.1 r.1 d.1 a.0 d.0 r.0 x (sum_sound ts a h) (due_begins relation_by (λ r. s.Relation r) a.1 r relation_holds b) (sum_sound r.1 d k) q
+    subst (λ w. IsComparison w.0 ts w.1) q (a.1, r.1, sum_sound ts a h, due_begins relation_by (λ r. s.Relation r) a.1 r relation_holds b, sum_sound r.1 d k)
 
 -- conditions with signs between them
 module _ (Part : Phrase) (part : List Placed → Read Tree) (sound : (ts : List Placed) (x : Tree × List Placed) → part ts ≡ Ok x → Part x.0 ts x.1) where
   both_of_part : (c : Tree) (ts rest : List Placed) → Part c ts rest → IsBothOf Part c ts rest
   both_of_part (both c d) ts rest h = inl h
-  both_of_part (compare left r right) ts rest h = h
-  both_of_part (negation c) ts rest h = h
-  both_of_part (either c d) ts rest h = h
+  both_of_part _ ts rest h = h
 
   either_of_both : (c : Tree) (ts rest : List Placed) → IsBothOf Part c ts rest → IsEitherOf Part c ts rest
   either_of_both (either c d) ts rest h = inl h
-  either_of_both (compare left r right) ts rest h = h
-  either_of_both (negation c) ts rest h = h
-  either_of_both (both c d) ts rest h = h
+  either_of_both _ ts rest h = h
 
   and_goes : (start : List Placed) (c : Tree) (ts : List Placed) (x : Tree × List Placed) → IsBothOf Part c start ts → and_further part c ts ≡ Some (Ok x) → IsBothOf Part x.0 start x.1
   and_goes start c ts x h p =
