@@ -1,3 +1,4 @@
+pub mod Common
 pub mod Firsts
 pub mod UnknownPlaces
 pub mod Running

@@ -1,13 +1,8 @@
 -- The clients that a list names, as a byte that grows with each of the list.
 use Rattle.std.proofs.Common.{◌≡◌, ℕ, ◌+◌, ◌<◌, Bool, true, false, ◌||◌, List, [], ◌∷◌, ◌++◌, length, get_or, take, refl, ap, ap₂, sym, ◌∙◌, bit_or}
 use Rattle.std.proofs.lemmas.List.Folds.{list_any-append}
-use Rattle.qs_objects.specs.ByteSets.{in_byte}
-use Rattle.qs_program.specs.audit.Program.{ProgramShape}
-use Rattle.qs_conditions.specs.declared.condition.Summand.{Summand}
-use Rattle.qs_conditions.specs.declared.condition.Step.{Step}
+use Rattle.qs_questions.proofs.Common.{in_byte, in_or, ProgramShape, Relation, Step, Summand}
 use Rattle.qs_conditions.specs.declared.condition.Step.TheVariants as s
-use Rattle.qs_script.specs.declared.tree.tree.Relation.{Relation}
-use Rattle.qs_standings.proofs.going.GoingSets.{in_or}
 use Rattle.qs_standings.proofs.RowSteps.{take_more}
 use Rattle.qs_questions.specs.NamedClients.{is_named, named_clients, names}
 use Rattle.qs_questions.specs.Questions.{summands_of}

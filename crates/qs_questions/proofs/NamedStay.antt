@@ -1,20 +1,11 @@
 -- A change of alike clients of which a condition names none leaves each value as it was, and with them what the
 -- condition says.
-use Rattle.std.proofs.Common.{◌≡◌, ℕ, subst, Bool, true, false, if◌then◌else◌, ◌||◌, List, [], ◌∷◌, ◌++◌, slice_index_or, Option, Some, None, refl, ap, ap₂, sym, ◌∙◌, ℤ, pos, ◌+ℤ◌, ◌-ℤ◌}
-use Rattle.std.specs.List.{AllByRecursion}
-use Rattle.qs_objects.specs.ByteSets.{in_byte}
+use Rattle.std.proofs.Common.{◌≡◌, ℕ, subst, Bool, true, false, if◌then◌else◌, ◌||◌, List, [], ◌∷◌, ◌++◌, slice_index_or, Option, Some, None, refl, ap, ap₂, sym, arith, ◌∙◌, ℤ, pos, ◌+ℤ◌, ◌-ℤ◌}
+use Rattle.qs_questions.proofs.Common.{AllByRecursion, client_at, found_at, in_byte, is_among, Name, OrderOutcome, ProgramShape, seeks, Step, sum_of, Summand, Value}
 use Rattle.qs_objects.proofs.Choices.{eqb_self}
-use Rattle.qs_program.specs.audit.Numbering.{Name, found_at, is_among}
-use Rattle.qs_program.specs.audit.Program.{ProgramShape, client_at}
 use Rattle.qs_program.specs.audit.Values.{relates}
-use Rattle.qs_meaning.specs.Configurations.{OrderOutcome}
 use Rattle.qs_meaning.proofs.Each.{each_back, each_front}
-use Rattle.qs_conditions.specs.Claims.{seeks}
-use Rattle.qs_conditions.specs.Conditions.{sum_of}
-use Rattle.qs_conditions.specs.declared.condition.Value.{Value}
 use Rattle.qs_conditions.specs.declared.condition.Value.TheVariants.{Number, Variable, Reply}
-use Rattle.qs_conditions.specs.declared.condition.Summand.{Summand}
-use Rattle.qs_conditions.specs.declared.condition.Step.{Step}
 use Rattle.qs_conditions.specs.declared.condition.Step.TheVariants as s
 use Rattle.qs_alike.specs.Changes.{AreAllAlike, AreClasses, Change, Classes, changed_outcome}
 use Rattle.qs_alike.specs.Apart.{AreSetApart}
@@ -22,10 +13,6 @@ use Rattle.qs_questions.specs.NamedClients.{AreClassesFor, is_client, is_named, 
 use Rattle.qs_questions.specs.Answering.{answered, last_of, run_steps}
 use Rattle.qs_questions.specs.Claims.{ChangesKeepSought}
 use Rattle.qs_questions.specs.Questions.{client_of, summands_of, value_at, variable_in, variable_value}
-
-or_true : (b : Bool) → (b || true) ≡ true
-or_true true = refl
-or_true false = refl
 
 -- ---- values
 
@@ -55,7 +42,7 @@ module _ (p : ProgramShape) (x : Change) (o : OrderOutcome) where
   values_same [] stay = tt
   values_same (y ∷ ys) stay = (
     value_same y.value (λ c h. stay c (ap (λ b. b || is_named p ys c) h)),
-    values_same ys (λ c h. stay c (ap (λ b. names p y.value c || b) h ∙ or_true (names p y.value c))),
+    values_same ys (λ c h. stay c (let e : (names p y.value c || is_named p ys c) ≡ true = grind (arith, h) in e)),
   )
 
 -- ---- the answer by values
@@ -77,9 +64,7 @@ module _ (f g : Value → ℤ) where
       ap₂ (λ a b. run_steps f steps (relates relation a b ∷ stack)) first second
       ∙ run_same steps (relates relation (sum_of g left) (sum_of g right) ∷ stack)
       (each_back Same right (summands_of steps) rest)
-  run_same (s.Not ∷ steps) stack h = run_same steps (answered g stack s.Not) h
-  run_same (s.And ∷ steps) stack h = run_same steps (answered g stack s.And) h
-  run_same (s.Or ∷ steps) stack h = run_same steps (answered g stack s.Or) h
+  run_same (step ∷ steps) stack h = run_same steps (answered g stack step) h
 
 pub changes_keep_sought : ChangesKeepSought
 changes_keep_sought p claim k are x is o =

@@ -1,9 +1,6 @@
 -- The steps of a condition leave its answer on the stack, by induction on the condition.
 use Rattle.std.proofs.Common.{◌≡◌, ℕ, ◌≤◌, Bool, List, [], ◌∷◌, ◌++◌, length, drop, refl, ap, sym, ◌∙◌, ℤ}
-use Rattle.std.proofs.lemmas.List.{drop_all}
-use Rattle.qs_conditions.specs.Conditions.{Tree, compare, negation, both, either, holds, steps_of}
-use Rattle.qs_conditions.specs.declared.condition.Value.{Value}
-use Rattle.qs_conditions.specs.declared.condition.Step.{Step}
+use Rattle.qs_questions.proofs.Common.{both, compare, drop_all, either, holds, negation, Step, steps_of, Tree, Value}
 use Rattle.qs_conditions.specs.declared.condition.Step.TheVariants as s
 use Rattle.qs_questions.specs.Answering.{answer_of, answered, last_of, run_steps}
 

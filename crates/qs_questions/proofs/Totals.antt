@@ -1,10 +1,6 @@
 -- The sum of summands from a place on is the first of them and the sum of the others.
 use Rattle.std.proofs.Common.{◌≡◌, ℕ, ◌+◌, ◌<◌, cond, List, length, get_or, drop, refl, ap, sym, ◌∙◌, arith, ℤ, pos, ◌+ℤ◌, ◌-ℤ◌, add-one}
-use Rattle.std.proofs.lemmas.Int.{ints}
-use Rattle.std.proofs.Math.Seq.{drop-cons}
-use Rattle.qs_conditions.specs.Conditions.{sum_of}
-use Rattle.qs_conditions.specs.declared.condition.Value.{Value}
-use Rattle.qs_conditions.specs.declared.condition.Summand.{Summand}
+use Rattle.qs_questions.proofs.Common.{drop-cons, ints, sum_of, Summand, Value}
 
 sum_drop : (value : Value → ℤ) (xs : List Summand) (i : ℕ) (d : Summand) → i < length xs
     → sum_of value (drop i xs)

@@ -1,14 +1,7 @@
 -- The first unknown summand of steps is looked for step by step, and there is none exactly where the program has all
 -- values of the condition. The proofs go by induction on lists, and on the condition.
 use Rattle.std.proofs.Common.{◌≡◌, ◌≤◌, ℕ, suc, ◌+◌, ◌<◌, Bool, true, false, cond, List, [], ◌∷◌, ◌++◌, length, get_or, drop, Option, Some, None, refl, ap, sym, ◌∙◌, append_assoc, add-one}
-use Rattle.std.proofs.lemmas.List.{drop_all}
-use Rattle.std.proofs.Math.Seq.{drop-cons}
-use Rattle.std.specs.Option.{is_some, option_or}
-use Rattle.qs_script.specs.declared.tree.tree.Relation.{Relation}
-use Rattle.qs_program.specs.audit.Program.{ProgramShape}
-use Rattle.qs_conditions.specs.Conditions.{Tree, compare, negation, both, either, steps_of}
-use Rattle.qs_conditions.specs.declared.condition.Summand.{Summand}
-use Rattle.qs_conditions.specs.declared.condition.Step.{Step}
+use Rattle.qs_questions.proofs.Common.{both, compare, drop-cons, drop_all, either, is_some, negation, option_or, ProgramShape, Relation, Step, steps_of, Summand, Tree}
 use Rattle.qs_conditions.specs.declared.condition.Step.TheVariants as s
 use Rattle.qs_questions.specs.Questions.{HasAllValues, HasValues, first_unknown_in, first_unknown_of, has_value, summands_of}
 
@@ -21,9 +14,7 @@ summands_append [] ys = refl
 summands_append (s.Compare left relation right ∷ xs) ys =
     ap (λ t. left ++ (right ++ t)) (summands_append xs ys)
     ∙ simp append_assoc
-summands_append (s.Not ∷ xs) ys = summands_append xs ys
-summands_append (s.And ∷ xs) ys = summands_append xs ys
-summands_append (s.Or ∷ xs) ys = summands_append xs ys
+summands_append (_ ∷ xs) ys = summands_append xs ys
 
 module _ (p : ProgramShape) where
   pub unknown_append : (xs ys : List Summand)
@@ -82,6 +73,14 @@ module _ (p : ProgramShape) where
       → first_unknown_in p ((c ++ d) ++ step ∷ []) ≡ option_or (first_unknown_in p c) (first_unknown_in p d)
   two c d step none = one (c ++ d) step none ∙ steps_append c d
 
+  none_in : (c d : List Step) (step : Step) → summands_of (step ∷ []) ≡ [] → first_unknown_in p ((c ++ d) ++ step ∷ []) ≡ None
+      → (first_unknown_in p c ≡ None) × (first_unknown_in p d ≡ None)
+  none_in c d step none h = none_both (first_unknown_in p c) (first_unknown_in p d) (sym (two c d step none) ∙ h)
+
+  none_of_two : (c d : List Step) (step : Step) → summands_of (step ∷ []) ≡ [] → (first_unknown_in p c ≡ None) × (first_unknown_in p d ≡ None)
+      → first_unknown_in p ((c ++ d) ++ step ∷ []) ≡ None
+  none_of_two c d step none h = two c d step none ∙ both_none (first_unknown_in p c) (first_unknown_in p d) h
+
   compared : (left right : List Summand) (relation : Relation)
       → first_unknown_in p (s.Compare left relation right ∷ [])
       ≡ option_or (first_unknown_of p left) (first_unknown_of p right)
@@ -94,28 +93,16 @@ module _ (p : ProgramShape) where
       let k = none_both (first_unknown_of p left) (first_unknown_of p right) (sym (compared left right relation) ∙ h) in
       (has_values left k.0, has_values right k.1)
   tree_has (negation c) h = tree_has c (sym (one (steps_of c) s.Not refl) ∙ h)
-  tree_has (both c d) h =
-      let k = none_both (first_unknown_in p (steps_of c)) (first_unknown_in p (steps_of d))
-      (sym (two (steps_of c) (steps_of d) s.And refl) ∙ h) in
-      (tree_has c k.0, tree_has d k.1)
-  tree_has (either c d) h =
-      let k = none_both (first_unknown_in p (steps_of c)) (first_unknown_in p (steps_of d))
-      (sym (two (steps_of c) (steps_of d) s.Or refl) ∙ h) in
-      (tree_has c k.0, tree_has d k.1)
+  tree_has (both c d) h = let k = none_in (steps_of c) (steps_of d) s.And refl h in (tree_has c k.0, tree_has d k.1)
+  tree_has (either c d) h = let k = none_in (steps_of c) (steps_of d) s.Or refl h in (tree_has c k.0, tree_has d k.1)
 
   pub tree_known : (c : Tree) → HasAllValues p c → first_unknown_in p (steps_of c) ≡ None
   tree_known (compare left relation right) h =
       compared left right relation
       ∙ both_none (first_unknown_of p left) (first_unknown_of p right) (none_unknown left h.0, none_unknown right h.1)
   tree_known (negation c) h = one (steps_of c) s.Not refl ∙ tree_known c h
-  tree_known (both c d) h =
-      two (steps_of c) (steps_of d) s.And refl
-      ∙ both_none (first_unknown_in p (steps_of c)) (first_unknown_in p (steps_of d))
-      (tree_known c h.0, tree_known d h.1)
-  tree_known (either c d) h =
-      two (steps_of c) (steps_of d) s.Or refl
-      ∙ both_none (first_unknown_in p (steps_of c)) (first_unknown_in p (steps_of d))
-      (tree_known c h.0, tree_known d h.1)
+  tree_known (both c d) h = none_of_two (steps_of c) (steps_of d) s.And refl (tree_known c h.0, tree_known d h.1)
+  tree_known (either c d) h = none_of_two (steps_of c) (steps_of d) s.Or refl (tree_known c h.0, tree_known d h.1)
 
   -- what one step that compares has
   pub at_compare : (step : Step) (left right : List Summand) (relation : Relation) (u v : Option ℕ)

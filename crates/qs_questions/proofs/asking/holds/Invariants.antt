@@ -1,6 +1,5 @@
 use Rattle.std.proofs.Common.{◌≡◌, [], drop}
-use Rattle.qs_meaning.specs.Configurations.{outcome_in}
-use Rattle.qs_standings.specs.Standings.{configuration_in}
+use Rattle.qs_questions.proofs.Common.{configuration_in, outcome_in}
 use Rattle.qs_questions.specs.Answering.{run_steps}
 use Rattle.qs_questions.specs.Questions.{value_at}
 use Rattle.qs_questions.proofs.asking.holds.Given as goal

@@ -1,6 +1,5 @@
 use Rattle.std.proofs.Common.{◌≡◌, ◌<◌, true, length, sym, arith}
-use Rattle.qs_program.specs.audit.Numbering.{same_name}
-use Rattle.qs_program.specs.audit.Program.{ClientShape, client_at, no_client}
+use Rattle.qs_questions.proofs.Common.{client_at, ClientShape, no_client, same_name}
 use Rattle.qs_questions.proofs.Firsts.{first_at, first_none}
 use Rattle.qs_questions.proofs.named.client_of.Goals as goal
 

@@ -1,6 +1,5 @@
 use Rattle.std.proofs.Common.{◌≡◌, ◌<◌, ℕ, false}
-use Rattle.qs_program.specs.audit.Numbering.{same_name}
-use Rattle.qs_program.specs.audit.Program.{client_at}
+use Rattle.qs_questions.proofs.Common.{client_at, same_name}
 use Rattle.qs_questions.proofs.named.client_of.Given as goal
 
 abbrev pub invariant-loop-client : goal.invariant-loop-client

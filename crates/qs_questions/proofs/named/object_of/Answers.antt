@@ -1,6 +1,5 @@
 use Rattle.std.proofs.Common.{◌≡◌, ◌<◌, true, length, sym, arith}
-use Rattle.qs_program.specs.audit.Numbering.{same_name}
-use Rattle.qs_program.specs.audit.Program.{no_object, object_at}
+use Rattle.qs_questions.proofs.Common.{no_object, object_at, same_name}
 use Rattle.qs_program.specs.declared.program.Declared.{Declared}
 use Rattle.qs_questions.proofs.Firsts.{first_at, first_none}
 use Rattle.qs_questions.proofs.named.object_of.Goals as goal

@@ -1,6 +1,5 @@
 use Rattle.std.proofs.Common.{◌≡◌, ◌<◌, ℕ, false}
-use Rattle.qs_program.specs.audit.Numbering.{same_name}
-use Rattle.qs_program.specs.audit.Program.{object_at}
+use Rattle.qs_questions.proofs.Common.{object_at, same_name}
 use Rattle.qs_questions.proofs.named.object_of.Given as goal
 
 abbrev pub invariant-loop-object : goal.invariant-loop-object

@@ -1,7 +1,5 @@
 use Rattle.std.proofs.Common.{◌≡◌, ◌==◌, ◌&&◌, drop}
-use Rattle.std.specs.List.{find}
-use Rattle.qs_objects.specs.audit.Operations.{arity, word}
-use Rattle.qs_program.specs.audit.Numbering.{same_name}
+use Rattle.qs_questions.proofs.Common.{arity, find, same_name, word}
 use Rattle.qs_questions.specs.Questions.{only_asks}
 use Rattle.qs_questions.proofs.named.query_of.Given as goal
 

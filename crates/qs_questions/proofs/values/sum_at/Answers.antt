@@ -1,8 +1,6 @@
 use Rattle.std.proofs.Common.{◌<◌, length, get_or, cond, ap, ◌∙◌, arith, rules, ℤ, pos, ◌-ℤ◌, FitsSigned, to_z, w64}
 use Rattle.std.specs.Int.{w128}
-use Rattle.std.proofs.lemmas.Int.{ints, to_z-of_z}
-use Rattle.qs_meaning.specs.Configurations.{outcome_in}
-use Rattle.qs_standings.specs.Standings.{configuration_in}
+use Rattle.qs_questions.proofs.Common.{configuration_in, ints, outcome_in, to_z-of_z}
 use Rattle.qs_questions.specs.Questions.{value_at}
 use Rattle.qs_questions.proofs.Totals.{one_more}
 use Rattle.qs_questions.proofs.values.sum_at.Goals as goal

@@ -1,7 +1,5 @@
 use Rattle.std.proofs.Common.{◌≡◌, ◌*◌, drop, ◌+ℤ◌, ◌-ℤ◌, ◌≤ℤ◌, pos}
-use Rattle.qs_conditions.specs.Conditions.{sum_of}
-use Rattle.qs_meaning.specs.Configurations.{outcome_in}
-use Rattle.qs_standings.specs.Standings.{configuration_in}
+use Rattle.qs_questions.proofs.Common.{configuration_in, outcome_in, sum_of}
 use Rattle.qs_questions.specs.Questions.{value_at}
 use Rattle.qs_questions.proofs.values.sum_at.Given as goal
 
