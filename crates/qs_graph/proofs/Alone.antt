@@ -3,10 +3,8 @@
 -- walks follow their blocks stands on it. The first goes by induction on the nodes that the walk may take, the second
 -- by induction on the statements.
 use Rattle.std.proofs.Common.{◌≡◌, ℕ, zero, suc, Bool, true, false, if◌then◌else◌, List, slice_set, refl, sym, ap, ◌∙◌, None}
-use Rattle.std.proofs.Math.Path.{fun_ext}
+use Rattle.qs_graph.proofs.Common.{again, assign, choose, command, end, fun_ext, leave, Locals, query, request_of, Statements, test_value}
 use Rattle.qs_objects.specs.audit.Journals.{answer}
-use Rattle.qs_program.specs.audit.Statements.{Statements, end, command, query, assign, choose, again, leave}
-use Rattle.qs_program.specs.audit.Values.{Locals, test_value, request_of}
 use Rattle.qs_meaning.specs.audit.Solo.{States, BlockResult, states_after, value_of, event, solo}
 use Rattle.qs_meaning.specs.audit.Interaction.{Interaction}
 use Rattle.qs_meaning.specs.Interaction.{after_event, run}

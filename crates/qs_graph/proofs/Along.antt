@@ -2,8 +2,7 @@
 -- that coalescing is right needs this, because it knows what is held only along paths. It goes by cases on the node at
 -- which the walk stands, and then puts that node in front of the path.
 use Rattle.std.proofs.Common.{◌≡◌, ℕ, zero, suc, ◌<◌, Bool, true, false, if◌then◌else◌, inl, inr, List, [], ◌∷◌, length, slice_index_or, refl, arith}
-use Rattle.qs_objects.proofs.Elements.{AllByRecursion-get_or}
-use Rattle.qs_program.specs.audit.Values.{test_value}
+use Rattle.qs_graph.proofs.Common.{AllByRecursion-get_or, test_value}
 use Rattle.qs_graph.specs.declared.node.Node.{Node}
 use Rattle.qs_graph.specs.declared.node.Node.TheVariants.{Branch, Query, Exit, Entry, Local, Sync, Call}
 use Rattle.qs_graph.specs.declared.node.Choice.TheVariants.{If, Repeat}

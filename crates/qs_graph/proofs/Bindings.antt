@@ -2,16 +2,9 @@
 -- which the names were replaced. The proofs on coalescing by names stand on the first, and those on a client's code on
 -- the second. Both go by induction: on the path, and on the statements.
 use Rattle.std.proofs.Common.{◌≡◌, ℕ, zero, suc, ◌+◌, ◌<◌, ◌≤◌, List, [], ◌∷◌, ◌++◌, length, slice_index_or, Option, Some, None, refl, sym, ap, ◌∙◌, subst, arith}
-use Rattle.std.specs.List.{AllByRecursion}
-use Rattle.std.proofs.lemmas.List.{ext_get_or, length-map, map-append}
-use Rattle.qs_objects.proofs.Elements.{AllByRecursion-get_or}
-use Rattle.qs_program.specs.audit.Binding.{bound_call, bound_statements}
+use Rattle.qs_graph.proofs.Common.{again, AllByRecursion, AllByRecursion-get_or, assign, binding_in, binding_of, BlockShape, bound_call, bound_statements, choose, client_at, command, Declared, end, ext_get_or, IsSound, IsSoundClient, IsStartSound, leave, length-map, map-append, most_handlers, most_objects, no_client, ProgramShape, query, StartShape, Statements}
+use Rattle.qs_meaning.proofs.Each.{each_map}
 use Rattle.qs_program.specs.declared.code.Call as calls
-use Rattle.qs_program.specs.audit.Limits.{most_handlers, most_objects}
-use Rattle.qs_program.specs.audit.Program.{BlockShape, ProgramShape, StartShape, binding_in, binding_of, client_at, no_client}
-use Rattle.qs_program.specs.Sound.{IsSound, IsSoundClient, IsStartSound}
-use Rattle.qs_program.specs.declared.program.Declared.{Declared}
-use Rattle.qs_program.specs.audit.Statements.{Statements, end, command, query, assign, choose, again, leave}
 use Rattle.qs_graph.specs.audit.Bound.{bound_node, bound_place, bound_nodes}
 use Rattle.qs_graph.specs.declared.node.Node.{Node}
 use Rattle.qs_graph.specs.declared.node.Node.TheVariants.{Entry, Sync, Query, Call}
@@ -155,11 +148,7 @@ module _ (binding : List ℕ) (small : AllByRecursion (λ h. h < most_handlers) 
 small_start : (objects : List Declared) → length objects ≤ most_objects → (blocks : List BlockShape) (start : Option StartShape)
     → IsStartSound objects blocks start → AllByRecursion (λ h. h < most_handlers) (binding_in start)
 small_start objects few blocks None sound = tt
-small_start objects few blocks (Some s) sound = smaller s.binding sound.inside
-  where
-    smaller : (bs : List ℕ) → AllByRecursion (λ h. h < length objects) bs → AllByRecursion (λ h. h < most_handlers) bs
-    smaller [] each = tt
-    smaller (b ∷ bs) each = (omega (arith, each.0, few), smaller bs each.1)
+small_start objects few blocks (Some s) sound = each_map {P = λ h. h < length objects} {Q = λ h. h < most_handlers} (λ h below. omega (arith, below, few)) s.binding sound.inside
 
 pub small_binding : (p : ProgramShape) (c : ℕ) → IsSound p → c < length p.clients → AllByRecursion (λ h. h < most_handlers) (binding_of p c)
 small_binding p c sound inside =

@@ -2,12 +2,10 @@
 -- as many as the statements count. The functions that count and build the nodes of a graph stand on it; their loops
 -- keep that the nodes so far and those of the rest make the whole list. It goes by cases on the first statement.
 use Rattle.std.proofs.Common.{◌≡◌, ℕ, zero, suc, ◌+◌, ◌<◌, ◌≤◌, List, [], ◌∷◌, ◌++◌, length, get_or, drop, refl, sym, ap, ◌∙◌, arith, add-one, append_assoc, length-append, length-drop, drop-cons, Bool}
-use Rattle.std.proofs.lemmas.List.{append-nil, drop_all}
+use Rattle.qs_graph.proofs.Common.{again, append-nil, choose, drop_all, end, single, Statements, statements_of}
 use Rattle.qs_program.specs.declared.code.Test.{Test}
 use Rattle.qs_program.specs.declared.code.Stmt.{Stmt}
-use Rattle.qs_program.specs.declared.code.Stmt.TheVariants.{Command, If, Repeat, Query, Assign, Leave}
-use Rattle.qs_program.specs.audit.Statements.{Statements, end, choose, again}
-use Rattle.qs_program.specs.Views.{statements_of, single}
+use Rattle.qs_program.specs.declared.code.Stmt.TheVariants.{Command, If, Repeat}
 use Rattle.qs_graph.specs.declared.node.Node.TheVariants.{Local, Branch}
 use Rattle.qs_graph.specs.declared.node.Action.TheVariants.{SetCount}
 use Rattle.qs_graph.specs.declared.node.Choice.TheVariants as by
@@ -76,11 +74,7 @@ places_drop xs i at next out d within = rw (drop-cons xs i d within, add-one) (p
 pub first_some : (xs : List Stmt) (at next : ℕ) → 0 < length xs → first_node at next (statements_of xs) ≡ at
 first_some [] at next h = absurd (omega arith)
 first_some (Command c ∷ xs) at next h = refl
-first_some (Query x c ∷ xs) at next h = refl
-first_some (Assign x e ∷ xs) at next h = refl
-first_some (If t b first other ∷ xs) at next h = refl
-first_some (Repeat n body ∷ xs) at next h = refl
-first_some (Leave ∷ xs) at next h = refl
+first_some _ at next h = refl
 
 -- nothing is left past the last statement
 pub count_past : (xs : List Stmt) (i : ℕ) → length xs ≤ i → node_count (statements_of (drop i xs)) ≡ 0

@@ -3,8 +3,7 @@
 -- statements; the body of a repeat goes by induction on the turns that are left, while the counts of all earlier
 -- branches stay as they are.
 use Rattle.std.proofs.Common.{◌≡◌, ℕ, zero, suc, ◌+◌, ◌*◌, ◌<◌, ◌≤◌, max, ℤ, Bool, true, false, if◌then◌else◌, List, [], ◌∷◌, ◌++◌, length, slice_index_or, slice_set, refl, ap, ◌∙◌, arith, subst, length-append, length-set, get_or-set_same, get_or-set_other}
-use Rattle.qs_program.specs.audit.Statements.{Statements, end, assign, command, query, choose, again, leave}
-use Rattle.qs_program.specs.audit.Values.{Locals, expr_value, test_value, request_of}
+use Rattle.qs_graph.proofs.Common.{again, assign, choose, command, end, expr_value, leave, Locals, query, request_of, Statements, test_value}
 use Rattle.qs_graph.specs.declared.node.Node.TheVariants as node
 use Rattle.qs_graph.specs.declared.node.Choice.TheVariants.{Repeat}
 use Rattle.qs_graph.specs.audit.Nodes.{GraphNode, to, to_either, exit, place_at}

@@ -1,3 +1,4 @@
+pub mod Common
 pub mod StatementPlaces
 pub mod Drawings
 pub mod Saying

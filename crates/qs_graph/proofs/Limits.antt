@@ -3,11 +3,7 @@
 -- whole program, and a walk takes at most three nodes for each unit of weight.
 use Rattle.std.proofs.Common.{◌≡◌, ℕ, zero, suc, ◌+◌, ◌*◌, ◌≤◌, List, [], ◌∷◌, get_or, arith, sum_by, refl}
 use Rattle.std.proofs.lemmas.List.Sums.{sum_by-cons}
-use Rattle.qs_program.specs.audit.Statements.{Statements}
-use Rattle.qs_program.specs.audit.Values.{Locals}
-use Rattle.qs_program.specs.audit.Loads.{weight_of}
-use Rattle.qs_program.specs.audit.Program.{BlockShape, ClientShape, ProgramShape, no_block, no_client, client_at, block_at, whole_weight}
-use Rattle.qs_program.specs.audit.Limits.{most_steps}
+use Rattle.qs_graph.proofs.Common.{block_at, BlockShape, client_at, ClientShape, Locals, most_steps, no_block, no_client, ProgramShape, Statements, weight_of, whole_weight}
 use Rattle.qs_graph.specs.audit.Graphs.{block_graph}
 use Rattle.qs_graph.specs.Synced.{synced_of}
 use Rattle.qs_graph.specs.audit.Walk.{entry}

@@ -3,20 +3,14 @@
 -- sets begin from it. It goes by induction on the statements; the invariant is that the nodes to which they lead are in
 -- range.
 use Rattle.std.proofs.Common.{◌≡◌, ℕ, zero, suc, ◌+◌, ◌<◌, ◌≤◌, Bool, true, false, ◌||◌, ◌==◌, List, [], ◌∷◌, ◌++◌, length, map, get_or, Option, Some, None, refl, sym, ap, ◌∙◌, arith, subst, length-append}
-use Rattle.std.specs.List.{AllByRecursion}
-use Rattle.qs_meaning.proofs.Each.{each_join}
+use Rattle.qs_graph.proofs.Common.{again, AllByRecursion, assign, binding_in, block_at, BlockShape, bound_block, choose, client_at, ClientShape, command, declarations_in, declarations_of, Declared, end, IsSound, IsSoundBlock, IsSoundBody, IsSoundCall, IsSoundClient, IsStartSound, leave, most_handlers, most_objects, no_block, no_client, own_block, own_in, ProgramShape, query, StartShape, Statements}
+use Rattle.qs_meaning.proofs.Each.{each_join, each_map}
 use Rattle.qs_objects.proofs.Arities.{arity_small}
 use Rattle.qs_program.specs.declared.code.Call as calls
-use Rattle.qs_program.specs.declared.program.Declared.{Declared}
-use Rattle.qs_program.specs.audit.Statements.{Statements, end, command, query, assign, choose, again, leave}
-use Rattle.qs_program.specs.audit.Program.{BlockShape, ClientShape, ProgramShape, StartShape, binding_in, client_at, declarations_in, declarations_of, own_block, own_in, no_block, no_client, block_at}
 use Rattle.qs_program.specs.audit.Sound.{is_in}
-use Rattle.qs_program.specs.Sound.{IsSound, IsSoundBlock, IsSoundBody, IsSoundCall, IsSoundClient, IsStartSound}
-use Rattle.qs_program.specs.audit.Limits.{most_handlers, most_objects}
 use Rattle.qs_graph.specs.declared.node.Node.{Node}
 use Rattle.qs_graph.specs.declared.node.Node.TheVariants.{Local, Sync, Query, Call}
 use Rattle.qs_graph.specs.declared.node.Action.TheVariants.{Assign}
-use Rattle.qs_program.specs.audit.Binding.{bound_block}
 use Rattle.qs_graph.specs.audit.Bound.{bound_nodes}
 use Rattle.qs_graph.specs.audit.Nodes.{GraphNode, exit}
 use Rattle.qs_graph.specs.audit.Graphs.{node_count, first_node, places_of, block_graph}
@@ -44,10 +38,6 @@ is_in-all P (y ∷ ys) x member each = by_test (y == x) (λ e. e) member (λ lat
 first_below : (at next n : ℕ) (b : Statements) → at + node_count b ≤ n → next < n → first_node at next b < n
 first_below at next n end h w = w
 first_below at next n _ h w = omega arith
-
-pub all_map : {X : Type 0} (P Q : X → Type 0) (xs : List X) → ((x : X) → P x → Q x) → AllByRecursion P xs → AllByRecursion Q xs
-all_map P Q [] h each = tt
-all_map P Q (x ∷ xs) h each = (h x each.0, all_map P Q xs h each.1)
 
 -- a place among n nodes, sound by a block's list
 pub record IsSoundGraphNode (objects : List Declared) (reserved : List ℕ) (n : ℕ) (p : GraphNode) : Type 0 where
@@ -202,17 +192,14 @@ module _ (objects : List Declared) (few : length objects ≤ most_objects) (b : 
   pub text_has_graph : IsGraph text_graph
   text_has_graph = record {
     entry = refl;
-    places = all_map (IsSoundGraphNode objects b.reserved (length text_graph)) (IsGraphNode (length text_graph)) text_graph
-        (λ q w. record {
-          edges = w.edges;
-          count = w.count;
-          in_range = node_ok objects few b.reserved text.known q.node w.sound;
-        }) (block_fine objects b text);
+    places = each_map {P = IsSoundGraphNode objects b.reserved (length text_graph)} {Q = IsGraphNode (length text_graph)}
+        (λ q w. record { edges = w.edges; count = w.count; in_range = node_ok objects few b.reserved text.known q.node w.sound })
+        text_graph (block_fine objects b text);
   }
 
   pub text_is_sound : AreSoundNodes objects b.reserved text_graph
-  text_is_sound = all_map (IsSoundGraphNode objects b.reserved (length text_graph)) (λ (q : GraphNode). IsSoundNode objects b.reserved q.node) text_graph
-      (λ q w. w.sound) (block_fine objects b text)
+  text_is_sound = each_map {P = IsSoundGraphNode objects b.reserved (length text_graph)} {Q = λ (q : GraphNode). IsSoundNode objects b.reserved q.node}
+      (λ q w. w.sound) text_graph (block_fine objects b text)
 
 pub blocks_have_graphs : BlocksHaveGraphs
 blocks_have_graphs p c k sound =

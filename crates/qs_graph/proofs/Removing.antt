@@ -2,11 +2,10 @@
 -- synchronisations. The law `RemovalsKeepWalks` is proved here. It goes by induction on the nodes that the walk may
 -- take; at a removed synchronisation the walk goes on silently to the same spot.
 use Rattle.std.proofs.Common.{◌≡◌, inl, inr, ℕ, zero, suc, ◌<◌, List, length, refl, sym, ap, subst, ◌∙◌, arith}
-use Rattle.std.proofs.Math.Path.{fun_ext}
+use Rattle.qs_graph.proofs.Common.{fun_ext, Locals}
 use Rattle.qs_meaning.specs.audit.Interaction as tree
-use Rattle.qs_program.specs.audit.Values.{Locals}
 use Rattle.qs_graph.specs.declared.node.Node.{Node}
-use Rattle.qs_graph.specs.declared.node.Node.TheVariants.{Local, Sync, Query, Call}
+use Rattle.qs_graph.specs.declared.node.Node.TheVariants.{Local, Sync}
 use Rattle.qs_graph.specs.declared.node.Action.TheVariants.{Nothing}
 use Rattle.qs_graph.specs.audit.Nodes.{GraphNode, place_at, first_target, second_target}
 use Rattle.qs_graph.specs.Nodes.{IsSync}

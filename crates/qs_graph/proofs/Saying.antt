@@ -2,9 +2,8 @@
 -- the rest of the walk says. The proofs on whole walks, on coalescing and on a client in its block build on these
 -- steps. They go by induction on the limit, or by cases on one move.
 use Rattle.std.proofs.Common.{◌≡◌, ℕ, zero, suc, ◌<◌, ◌≤◌, ℤ, List, length, refl, ap, ◌∙◌, arith}
-use Rattle.std.proofs.Math.Path.{fun_ext}
+use Rattle.qs_graph.proofs.Common.{fun_ext, Locals}
 use Rattle.qs_objects.specs.declared.Request.{Request}
-use Rattle.qs_program.specs.audit.Values.{Locals}
 use Rattle.qs_graph.specs.audit.Nodes.{GraphNode, place_at}
 use Rattle.qs_graph.specs.audit.Synced.{Synced, Done, Call, Sync, Query}
 use Rattle.qs_graph.specs.audit.Walk.{Spot, Move, Ends, Goes, Calls, Syncs, Queries, move, move_at, tree_of_move, walk}

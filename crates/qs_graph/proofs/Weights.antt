@@ -2,8 +2,7 @@
 -- checked program stands on it. It goes by induction on the statements, together with a second bound for the body of a
 -- repeat, which takes one node more and weighs at least 1.
 use Rattle.std.proofs.Common.{◌≡◌, ℕ, zero, suc, ◌+◌, ◌*◌, ◌≤◌, max, arith}
-use Rattle.qs_program.specs.audit.Statements.{Statements, end, command, query, assign, choose, again, leave}
-use Rattle.qs_program.specs.audit.Loads.{weight_of}
+use Rattle.qs_graph.proofs.Common.{again, assign, choose, command, end, leave, query, Statements, weight_of}
 use Rattle.qs_graph.specs.Steps.{steps}
 use Rattle.qs_graph.specs.WalkLaws.{StepsWithinWeight}
 

@@ -1,6 +1,5 @@
 use Rattle.std.proofs.Common.{◌≡◌, ◌++◌, List, length, take, drop, sym, ap, ◌∙◌, subst, arith}
-use Rattle.std.proofs.lemmas.List.{length-map, take_at}
-use Rattle.qs_program.specs.audit.Program.{binding_of}
+use Rattle.qs_graph.proofs.Common.{binding_of, length-map, take_at}
 use Rattle.qs_graph.specs.audit.Bound.{bound_nodes, bound_place}
 use Rattle.qs_graph.specs.audit.Nodes.{GraphNode}
 use Rattle.qs_graph.specs.WellFormed.{IsGraph}
