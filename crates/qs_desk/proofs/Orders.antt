@@ -1,7 +1,7 @@
 -- A legal order stays legal when the next ticket of a client comes at its end, and it never has more tickets than a
 -- desk has room for. The desk's invariant needs both at each booking. The length is bounded by sharing the tickets out
 -- among the eight clients that there can be, each of which has a limited number of blocks.
-use Rattle.std.proofs.Common.{◌≡◌, ℕ, zero, suc, ◌+◌, ◌<◌, ◌≤◌, ◌==◌, Bool, true, false, List, [], ◌∷◌, ◌++◌, cond, length, slice_index_or, refl, ap, ◌∙◌, arith}
+use Rattle.std.proofs.Common.{◌≡◌, ℕ, zero, suc, ◌+◌, ◌<◌, ◌≤◌, ◌==◌, Bool, true, false, List, [], ◌∷◌, ◌++◌, cond, length, slice_index_or, refl, ap, ◌∙◌, arith, rules}
 use Rattle.std.specs.List.{AllByRecursion}
 use Rattle.qs_objects.specs.declared.held.Ticket.{Ticket}
 use Rattle.qs_program.specs.audit.Program.{ClientShape, ProgramShape, no_client, blocks_of}
@@ -19,11 +19,7 @@ eqb_true m n e = grind (arith, e)
 -- a ticket moves from those that are to come to those that were
 counted : (b : ℕ → ℕ) (u : Ticket) (c : ℕ) (ts : List Ticket) → u.index ≡ b u.client
     → b c + length (of_client c (u ∷ ts)) ≡ put b u.client (suc u.index) c + length (of_client c ts)
-counted b u c ts at = by (u.client == c) (eqb_true u.client c)
-  where
-    by : (x : Bool) → (x ≡ true → u.client ≡ c) → b c + length (cond x (u ∷ of_client c ts) (of_client c ts)) ≡ cond x (suc u.index) (b c) + length (of_client c ts)
-    by true same = omega (arith, at, ap b (same refl))
-    by false same = refl
+counted b u c ts at = search (rules, u, eqb_true)
 
 pub legal_more : (p : ProgramShape) (b : ℕ → ℕ) (ts : List Ticket) (t : Ticket) → LegalFrom p b ts
     → t.index ≡ b t.client + length (of_client t.client ts) → t.index < blocks_of p t.client → LegalFrom p b (ts ++ t ∷ [])
@@ -60,22 +56,10 @@ abbrev one : Bool → ℕ
 one x = cond x 1 0
 
 exactly_one : (k : ℕ) → k < most_clients → one (k == 0) + one (k == 1) + one (k == 2) + one (k == 3) + one (k == 4) + one (k == 5) + one (k == 6) + one (k == 7) ≡ 1
-exactly_one zero less = refl
-exactly_one (suc zero) less = refl
-exactly_one (suc (suc zero)) less = refl
-exactly_one (suc (suc (suc zero))) less = refl
-exactly_one (suc (suc (suc (suc zero)))) less = refl
-exactly_one (suc (suc (suc (suc (suc zero))))) less = refl
-exactly_one (suc (suc (suc (suc (suc (suc zero)))))) less = refl
-exactly_one (suc (suc (suc (suc (suc (suc (suc zero))))))) less = refl
-exactly_one (suc (suc (suc (suc (suc (suc (suc (suc k)))))))) less = absurd (omega (arith, less))
+exactly_one v less = search rules
 
 of_one : (c : ℕ) (u : Ticket) (ts : List Ticket) → length (of_client c (u ∷ ts)) ≡ one (u.client == c) + length (of_client c ts)
-of_one c u ts = by (u.client == c)
-  where
-    by : (x : Bool) → length (cond x (u ∷ of_client c ts) (of_client c ts)) ≡ one x + length (of_client c ts)
-    by true = omega arith
-    by false = omega arith
+of_one c u ts = search (rules, u, one)
 
 -- each ticket is of one of the eight places
 shared_out : (p : ProgramShape) (b : ℕ → ℕ) (ts : List Ticket) → length p.clients ≤ most_clients → LegalFrom p b ts

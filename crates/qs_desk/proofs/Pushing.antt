@@ -1,7 +1,7 @@
 -- What a desk pushes to a handler are the tickets that reserve the handler, in the order of the bookings, and nothing
 -- comes after the closing mark. The steps of booking and closing stand on it, and so does what a handler knows of a
 -- ticket that it takes. It goes by induction on the history, with cases on whether a ticket reserves the handler.
-use Rattle.std.proofs.Common.{◌≡◌, ℕ, suc, ◌<◌, ◌≤◌, Bool, true, false, List, [], ◌∷◌, ◌++◌, cond, map, length, refl, ap, sym, ◌∙◌, subst, arith, append-nil}
+use Rattle.std.proofs.Common.{◌≡◌, ℕ, suc, ◌<◌, ◌≤◌, Bool, true, false, List, [], ◌∷◌, ◌++◌, cond, map, length, refl, ap, sym, ◌∙◌, subst, arith, append-nil, rules}
 use Rattle.std.proofs.lemmas.List.{map-append}
 use Rattle.std.proofs.lemmas.List.Elements.{filter-append}
 use Rattle.atomic_table.specs.Seated.{TableId}
@@ -16,8 +16,7 @@ use Rattle.qs_desk.specs.audit.Tickets.{of_handler, pushed_to}
 use Rattle.qs_desk.specs.Tickets.{IsFor, AreFor, for_front}
 
 alone : (p : ProgramShape) (h : ℕ) (x : Next) → IsFor p h x → AreFor p h (x ∷ [])
-alone p h (Ticket t) is = (is, tt)
-alone p h Closed is = tt
+alone p h v is = search rules
 
 -- tickets of the handler, and one thing more
 pub for_more : (p : ProgramShape) (h : ℕ) (ts : List held.Ticket) (x : Next) → IsFor p h x → AreFor p h (map Ticket (of_handler p h ts) ++ x ∷ [])
@@ -72,18 +71,10 @@ module _ (p : ProgramShape) (names : List TableId) (history : List held.Ticket) 
   may_grow t short = (roomy short, is.2, λ r. subst (λ xs. AreFor p h (xs ++ Ticket t ∷ [])) (sym sent) (for_more p h history (Ticket t) r))
 
   pub may_close : length history ≤ all_bookings → MayClose l
-  may_close short =
-      (roomy short, subst (λ w. AreFor w.program w.handler (l.sent ++ Closed ∷ [])) (sym is.2) (subst (λ xs. AreFor p h (xs ++ Closed ∷ [])) (sym sent) (for_more p h history Closed tt)))
+  may_close short = search (rules, roomy, is, sent, for_more)
 
   pub is_grown : (t : held.Ticket) → IsQueueOf p names (history ++ t ∷ []) false h (with_ticket p t h l)
-  is_grown t = by (reserves p t h) refl
-    where
-      both : (b : Bool) → reserves p t h ≡ b → map Ticket (of_handler p h (history ++ t ∷ [])) ≡ map Ticket (of_handler p h history) ++ map Ticket (cond b (t ∷ []) [])
-      both b e = ap (map Ticket) (filter-append (λ u. reserves p u h) history (t ∷ []) ∙ ap (λ x. of_handler p h history ++ cond x (t ∷ []) []) e) ∙ map-append Ticket (of_handler p h history) (cond b (t ∷ []) [])
-
-      by : (b : Bool) → reserves p t h ≡ b → IsQueueOf p names (history ++ t ∷ []) false h (cond b (record l { sent = l.sent ++ Ticket t ∷ [] }) l)
-      by true e = (is.0, is.1, is.2, ap (λ xs. xs ++ Ticket t ∷ []) sent ∙ sym (both true e) ∙ sym (open_is p h (history ++ t ∷ [])))
-      by false e = (is.0, is.1, is.2, sent ∙ sym (append-nil (map Ticket (of_handler p h history))) ∙ sym (both false e) ∙ sym (open_is p h (history ++ t ∷ [])))
+  is_grown t = search (rules, map, filter-append, map-append, sent, is, open_is, append-nil)
 
   pub is_closed : IsQueueOf p names history true h (closed_queue l)
   is_closed = (is.0, is.1, is.2, ap (λ xs. xs ++ Closed ∷ []) sent)

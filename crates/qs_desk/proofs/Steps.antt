@@ -1,7 +1,7 @@
 -- A desk stays a desk: its history is a legal order, each handler's queue has the tickets that reserve it, and the
 -- books count each client's tickets. The proofs of `book` and `close` stand on it. Each field of the invariant `IsDesk`
 -- is shown again for the history with one more ticket, or for the closed queues.
-use Rattle.std.proofs.Common.{◌≡◌, ℕ, ◌+◌, ◌<◌, ◌≤◌, ◌==◌, Bool, true, false, List, [], ◌∷◌, ◌++◌, cond, length, refl, ap, sym, ◌∙◌, subst, arith, length-append, length-set, ◌≢◌, ⊎_elim, get_or-set_other}
+use Rattle.std.proofs.Common.{◌≡◌, ℕ, ◌+◌, ◌<◌, ◌≤◌, ◌==◌, true, false, List, [], ◌∷◌, ◌++◌, cond, length, ap, sym, ◌∙◌, subst, arith, length-append, length-set, ◌≢◌, ⊎_elim, get_or-set_other, rules}
 use Rattle.std.proofs.lemmas.Grind.{get_or-set_at}
 use Rattle.std.proofs.lemmas.Bool.Decides.{eqb_tells}
 use Rattle.std.proofs.lemmas.List.Elements.{filter-append}
@@ -40,11 +40,7 @@ module _ (p : ProgramShape) (names : List TableId) (history : List Ticket) (send
     room_left = omega (arith, short p (history ++ t ∷ []) is.sound legal, length-append history (t ∷ []))
 
     more : (k : ℕ) → length (of_client k (history ++ t ∷ [])) ≡ length (of_client k history) + cond (c == k) 1 0
-    more k = ap length (filter-append (λ (u : Ticket). u.client == k) history (t ∷ [])) ∙ length-append (of_client k history) (cond (c == k) (t ∷ []) []) ∙ ap (λ m. length (of_client k history) + m) (by (c == k))
-      where
-        by : (b : Bool) → length (cond b (t ∷ []) []) ≡ cond b 1 0
-        by true = refl
-        by false = refl
+    more k = search (rules, filter-append, t, length-append)
 
     book_more : (k : ℕ) → slice_index (slice_set books c (n + 1)) k ≡ slice_index books k + cond (c == k) 1 0
     book_more k =
@@ -71,13 +67,4 @@ module _ (p : ProgramShape) (names : List TableId) (history : List Ticket) (send
 
   pub desk_closed : (lines' : List QueueView) → length lines' ≡ length senders → ((h : ℕ) → h < length senders → queue_at lines' h ≡ closed_queue (queue_at senders h))
       → IsDesk p names history true lines' books
-  desk_closed lines' len grew = record {
-    sound = is.sound;
-    legal = is.legal;
-    pushed = λ h less.
-        let less' : h < length senders = omega (arith, less, len) in
-        subst (IsQueueOf p names history true h) (sym (grew h less')) (is_closed p names history h (queue_at senders h) (is.pushed h less'));
-    all = (len ∙ is.all.0, is.all.1);
-    counted = is.counted;
-    eight = is.eight;
-  }
+  desk_closed lines' len grew = search (rules, is, legal, is_closed)

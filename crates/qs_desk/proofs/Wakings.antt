@@ -1,6 +1,6 @@
 -- What a loop over what wakes handlers has done, turn by turn: whatever is woken by the rest of it makes, together with
 -- what was woken so far, all that is to be woken. It goes by induction on the number of turns.
-use Rattle.std.proofs.Common.{◌≡◌, ℕ, zero, suc, ◌+◌, ◌<◌, Bool, true, false, List, [], ◌∷◌, length, drop, slice_index_or, sym, subst, ◌∙◌, arith}
+use Rattle.std.proofs.Common.{◌≡◌, ℕ, zero, suc, ◌+◌, ◌<◌, Bool, true, false, List, [], ◌∷◌, length, drop, slice_index_or, sym, subst, ◌∙◌, arith, rules}
 use Rattle.qs_desk.specs.Wakings.{AreWoken, IsWokenIf}
 
 -- after n turns the log has come from `log` to `now`
@@ -27,6 +27,4 @@ one_turn moves (w ∷ ws) (t ∷ told) (suc n) d log then end less step rest = o
 
 pub leads_on : {L W : Type 0} (moves : W → L → L → Type 0) (ws : List W) (told : List Bool) (n : ℕ) (d : W) (log now then : L) → n < length ws
     → IsWokenIf moves (slice_index_or ws n d) (slice_index_or told n false) now then → Leads moves ws told n log now → Leads moves ws told (n + 1) log then
-leads_on moves ws told n d log now then less step leads end rest =
-    let next : n + 1 ≡ suc n = omega arith in
-    leads end (one_turn moves ws told n d now then end less step (subst (λ k. AreWoken moves (drop k ws) (drop k told) then end) next rest))
+leads_on moves ws told n d log now then less step leads end rest = search (rules, one_turn, drop)
