@@ -3,30 +3,9 @@
 -- and the commands on their way. Where each journal flows through the order of reservations, ticket by ticket, the
 -- serial run along that order has the same entries, traces and states; so the run that is shown is isolated. Nothing
 -- here knows of queues, lanes or threads.
-use Rattle.std.proofs.Common.{◌≡◌, ◌<◌, ℕ, zero, suc, true, List, [], ◌∷◌, ◌++◌, map, flat_map, length, get_or, refl, ap, sym, subst, ◌∙◌, inl, inr, arith, append-nil}
-use Rattle.std.proofs.lemmas.List.Elements.{filter-append}
-use Rattle.std.specs.List.{AllByRecursion, AllZip}
-use Rattle.qs_objects.specs.audit.Act.{State}
-use Rattle.qs_objects.specs.audit.Journals.{replay, without_tickets, IsHonest}
-use Rattle.qs_objects.specs.audit.Operations.{is_query}
-use Rattle.qs_objects.specs.audit.Parts.{entries_of, command_event, part}
-use Rattle.qs_objects.specs.Parts.{HasEntry, before}
-use Rattle.qs_objects.specs.declared.held.Entry.{Entry}
-use Rattle.qs_objects.specs.declared.held.Event.{Event}
-use Rattle.qs_objects.specs.declared.held.Ticket.{Ticket}
-use Rattle.qs_objects.specs.declared.Request.{Request}
-use Rattle.qs_objects.proofs.Elements.{AllByRecursion-get_or}
-use Rattle.qs_program.specs.audit.Program.{ProgramShape, blocks_of}
-use Rattle.qs_meaning.specs.audit.Serial.{IsLegal, declared_states}
-use Rattle.qs_meaning.specs.Serial.{serial}
-use Rattle.qs_program.specs.Sound.{IsSound}
-use Rattle.qs_meaning.proofs.Each.{each_map, zip_at}
-use Rattle.qs_meaning.proofs.Histories.{Among, Flow, InTurn, ObjectCourse, NoQuery, OnlyCommands, PartIs, Through, IsTicketByTicket, parts_of, ticket_by_ticket}
-use Rattle.qs_meaning.specs.BlockRecords.{Begins, IsDone, IsBlockRecord, BlockRecord}
-use Rattle.qs_meaning.proofs.SerialRuns.{Agrees, legal_apart, line, runs_serially}
-use Rattle.qs_played.specs.audit.Isolation.{ended_of, journal_of, state_of, ticket_at, trace_of}
+use Rattle.std.proofs.Common.{◌≡◌, ◌<◌, ℕ, zero, suc, true, List, [], ◌∷◌, ◌++◌, map, flat_map, length, get_or, refl, ap, sym, subst, ◌∙◌, inl, inr, arith, append-nil, rules}
+use Rattle.qs_played.proofs.Names.{filter-append, AllByRecursion, AllZip, State, replay, without_tickets, IsHonest, entries_of, command_event, part, HasEntry, before, Entry, Ticket, Request, AllByRecursion-get_or, ProgramShape, blocks_of, IsLegal, declared_states, serial, IsSound, each_map, zip_at, Among, Flow, InTurn, ObjectCourse, NoQuery, OnlyCommands, PartIs, Through, IsTicketByTicket, parts_of, ticket_by_ticket, Begins, IsDone, IsBlockRecord, BlockRecord, Agrees, legal_apart, line, runs_serially, ended_of, journal_of, state_of, ticket_at, trace_of, ticket, Played}
 use Rattle.qs_played.specs.Isolation.{IsFitting, IsIsolated, IsIsolatedObject, IsIsolatedBlock, IsWhole, entry_of, no_block, serial_block, queries_of}
-use Rattle.qs_played.specs.audit.Played.{ticket, Played}
 use Rattle.qs_played.proofs.Orders.{among_once}
 
 -- where a later ticket has an entry, an earlier one is through
@@ -104,15 +83,10 @@ module _ (p : ProgramShape) (sound : IsSound p) (r : Played) (block_record : Tic
 
     module _ (h : ℕ) (own : h < length p.objects) where
       shown_part : part h (trace_of r i) ≡ without_tickets (entries_of t (journal_of r h)) ++ map command_event (waits h t)
-      shown_part =
-          ap (part h) (run.trace i inside)
-          ∙ (part_is h ∙ ap (λ j. without_tickets (entries_of t j) ++ map command_event (waits h t)) (sym (run.journals h own)))
+      shown_part = search (rules, run, part_is, t, map)
 
       shown_queries : AllByRecursion NoQuery (waits h t) → queries_of (part h (trace_of r i)) ≡ queries_of (without_tickets (entries_of t (journal_of r h)))
-      shown_queries commands =
-          ap queries_of shown_part
-          ∙ (filter-append (λ (e : Event). is_query e.request.op) (without_tickets (entries_of t (journal_of r h))) (map command_event (waits h t))
-          ∙ (ap (λ es. queries_of (without_tickets (entries_of t (journal_of r h))) ++ es) (commands_have_no_reply (waits h t) commands) ∙ append-nil (queries_of (without_tickets (entries_of t (journal_of r h))))))
+      shown_queries commands = search (rules, shown_part, filter-append, t, map, commands_have_no_reply, append-nil)
 
       -- where a later reservation has an entry
       through : (m : ℕ) → i < m → m < length r.order → HasEntry (ticket_at r m) (journal_of r h) → without_tickets (entries_of t (journal_of r h)) ≡ part h (serial_block p r i).trace
@@ -149,10 +123,4 @@ module _ (p : ProgramShape) (sound : IsSound p) (r : Played) (block_record : Tic
   -- what an abstract run shows is isolated
   pub run_isolated : IsIsolated p r waits
   unfolding IsIsolated
-  run_isolated = record {
-    fits = run.fits;
-    legal = run.legal;
-    places = is_place;
-    objects = is_line;
-    finished = is_whole;
-  }
+  run_isolated = search (rules, run, is_place, is_line, is_whole)

@@ -1,22 +1,10 @@
 -- Sums of loads, for the room of a journal: what is run of each reservation is within its block's load, and a legal
 -- order has no block twice.
-use Rattle.std.proofs.Common.{◌≡◌, ◌<◌, ◌≤◌, ◌+◌, ◌-◌, arith, ℕ, zero, suc, Bool, true, false, if◌then◌else◌, nat_lt, ◌==◌, List, [], ◌∷◌, ◌++◌, length, filter, sum_by, refl, sym, ap, ◌∙◌, ⊎_elim}
-use Rattle.std.specs.List.{AllByRecursion, range_with_len}
-use Rattle.std.proofs.lemmas.List.{get_or_past}
-use Rattle.std.proofs.lemmas.List.Sums.{sum_by-cons}
-use Rattle.qs_objects.specs.audit.Parts.{part}
-use Rattle.qs_objects.specs.declared.held.Event.{Event}
-use Rattle.qs_objects.specs.declared.held.Ticket.{Ticket}
-use Rattle.qs_objects.proofs.Choices.{num_cases, eqb_apart, apart_eqb}
-use Rattle.qs_meaning.specs.Following.{Leads}
+use Rattle.std.proofs.Common.{◌≡◌, ◌<◌, ◌≤◌, ◌+◌, ◌-◌, arith, ℕ, zero, suc, Bool, true, false, if◌then◌else◌, ◌==◌, List, [], ◌∷◌, ◌++◌, length, filter, sum_by, refl, sym, ap, ◌∙◌, ⊎_elim, rules}
+use Rattle.qs_played.proofs.Names.{AllByRecursion, range_with_len, get_or_past, sum_by-cons, part, Event, Ticket, num_cases, eqb_apart, apart_eqb, Leads, load_of, LegalFrom, put, value_of, put_here, put_there, room_of}
 use Rattle.qs_meaning.specs.audit.Interaction.{Interaction, Done, Call, Query}
-use Rattle.qs_program.specs.audit.Loads.{load_of}
 use Rattle.qs_meaning.specs.Paths.{counts, Within}
-use Rattle.qs_program.specs.audit.Program.{ProgramShape, block_at, blocks_of, client_at, no_client, text_of}
-use Rattle.qs_meaning.specs.audit.Serial.{LegalFrom}
-use Rattle.qs_meaning.specs.audit.Solo.{put, value_of}
-use Rattle.qs_meaning.proofs.TreeWalks.{put_here, put_there}
-use Rattle.qs_played.specs.audit.JournalRooms.{room_in, room_of}
+use Rattle.qs_program.specs.audit.Program.{ProgramShape, block_at, blocks_of, text_of}
 
 abbrev pub total : (Ticket → ℕ) → List Ticket → ℕ
 total f [] = 0
@@ -39,11 +27,7 @@ total_filter f k (t ∷ ts) = by_case (k t) (total_filter f k ts)
     by_case false ih = omega (arith, ih)
 
 part_counts : (h : ℕ) (e : Event) (es : List Event) → length (part h (e ∷ es)) ≡ counts h e.request + length (part h es)
-part_counts h e es = by_case (e.request.object == h)
-  where
-    by_case : (b : Bool) → length (if b then e ∷ part h es else part h es) ≡ (if b then 1 else 0) + length (part h es)
-    by_case true = omega arith
-    by_case false = omega arith
+part_counts h e es = search (rules, e)
 
 -- a trace along a tree has at most as many requests on an object as any path
 pub leads_within : (h : ℕ) (t : Interaction) (es : List Event) (rest : Interaction) (n : ℕ) → Leads t es rest → Within h t n → length (part h es) ≤ n
@@ -64,14 +48,7 @@ leads_within h (Query r next) (e ∷ es) rest n p w =
 
 -- beyond the clients there is no block
 pub no_block_beyond : (p : ProgramShape) (c : ℕ) → 0 < blocks_of p c → c < length p.clients
-no_block_beyond p c some = by_case (nat_lt c (length p.clients)) refl
-  where
-    by_case : (b : Bool) → nat_lt c (length p.clients) ≡ b → c < length p.clients
-    by_case true e = grind (arith, e)
-    by_case false e =
-        let out : client_at p c ≡ no_client = get_or_past p.clients c no_client (grind (arith, e)) in
-        let none : blocks_of p c ≡ 0 = ap (λ k. length k.blocks) out in
-        absurd (omega (arith, none, some))
+no_block_beyond p c some = search (rules, get_or_past)
 
 -- sums over clients, of which one number changes
 pub sum_same : (f g : ℕ → ℕ) (a n : ℕ) → ((c : ℕ) → a ≤ c → f c ≡ g c) → sum_by f (range_with_len a n) ≡ sum_by g (range_with_len a n)
@@ -137,5 +114,4 @@ module _ (p : ProgramShape) (h : ℕ) where
       omega (arith, ih, all, changed_one, step, own)
 
   pub all_left : left_after (λ _. 0) ≡ room_of p h
-  all_left = sum_same (λ c. left_of c 0) (λ c. room_in p c h) 0 (length p.clients)
-      (λ c le. ap (λ m. sum_by (λ j. load_of (block_at p c j).body h) (range_with_len 0 m)) (let z : blocks_of p c - 0 ≡ blocks_of p c = omega arith in z))
+  all_left = search (rules, sum_same, left_of)

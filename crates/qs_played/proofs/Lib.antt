@@ -8,3 +8,4 @@ pub mod AbstractRun
 pub mod FunctionUpdate
 pub mod JournalRooms
 pub mod Playing
+pub mod Names

@@ -1,11 +1,8 @@
 -- These are small facts about lists that are read up to some place or grow by one element at the end, and about ranges
 -- of numbers and their sums. The proofs of loops in several crates use them, since a loop goes from one place to the
 -- next. They are shown by induction on the list or on the number.
-use Rattle.std.proofs.Common.{◌≡◌, ◌≢◌, ◌<◌, ℕ, zero, suc, ◌+◌, ◌==◌, true, false, List, [], ◌∷◌, length, get_or, drop, refl, ap, sym, ◌∙◌, arith, add-one, ◌++◌, sum_by, subst, below_more, add-zero, zero-add}
-use Rattle.std.proofs.Math.Seq.{drop-cons, get_or-append_seam}
-use Rattle.std.specs.List.{range_with_len}
-use Rattle.std.proofs.lemmas.List.Sums.{sum_by_push}
-use Rattle.std.proofs.lemmas.List.{get_or_append_left}
+use Rattle.std.proofs.Common.{◌≡◌, ◌≢◌, ◌<◌, ℕ, zero, suc, ◌+◌, ◌==◌, true, false, List, [], ◌∷◌, length, get_or, drop, refl, ap, sym, ◌∙◌, arith, add-one, ◌++◌, sum_by, subst, below_more, add-zero, zero-add, rules}
+use Rattle.qs_played.proofs.Names.{drop-cons, get_or-append_seam, range_with_len, sum_by_push, get_or_append_left}
 
 pub apart : (h k : ℕ) → (h == k) ≡ false → k ≢ h
 apart h k differs same = let equal : (h == k) ≡ true = rw same (grind arith) in cc

@@ -1,16 +1,7 @@
 -- Legal orders of reservations: how many blocks of each client were begun after one, which tickets are in it, and that
 -- none is twice.
-use Rattle.std.proofs.Common.{List, [], ◌∷◌, sym, subst, inl, inr, ◌≡◌, ◌≢◌, suc, Bool, true, false, if◌then◌else◌, ◌++◌, filter, length, refl, ap, ◌<◌, ◌≤◌, ℕ, ◌==◌, arith, ⊎_elim}
-use Rattle.std.specs.List.{AllByRecursion}
-use Rattle.qs_objects.specs.declared.held.Ticket.{Ticket}
-use Rattle.qs_objects.specs.audit.Parts.{same}
-use Rattle.qs_objects.proofs.Choices.{not_same, same_self, apart_eqb, num_cases, ticket_path}
-use Rattle.qs_meaning.proofs.Histories.{Among, Apart, among_apart}
-use Rattle.qs_meaning.proofs.Each.{each_map, each_kept}
-use Rattle.qs_program.specs.audit.Program.{ProgramShape, blocks_of}
-use Rattle.qs_meaning.specs.audit.Serial.{LegalFrom}
-use Rattle.qs_meaning.specs.audit.Solo.{put}
-use Rattle.qs_meaning.proofs.TreeWalks.{put_here, put_there}
+use Rattle.std.proofs.Common.{List, [], ◌∷◌, sym, subst, inl, inr, ◌≡◌, ◌≢◌, suc, Bool, true, false, if◌then◌else◌, ◌++◌, filter, length, refl, ap, ◌<◌, ◌≤◌, ℕ, ◌==◌, arith, ⊎_elim, rules}
+use Rattle.qs_played.proofs.Names.{AllByRecursion, Ticket, same, not_same, same_self, apart_eqb, num_cases, ticket_path, Among, Apart, among_apart, each_map, each_kept, ProgramShape, blocks_of, LegalFrom, put, put_here, put_there}
 
 pub each_among : (P : Ticket → Type 0) → (t : Ticket) (ts : List Ticket) → AllByRecursion P ts → Among t ts → P t
 each_among P t [] h a = absurd a
@@ -60,11 +51,7 @@ counts-more b (u ∷ ts) t = counts-more (put b u.client (suc u.index)) ts t
 
 -- more blocks are begun, not fewer
 put_more : (b : ℕ → ℕ) (c k : ℕ) → b k ≤ put b c (suc (b c)) k
-put_more b c k = by_test (c == k) refl
-  where
-    by_test : (z : Bool) → (c == k) ≡ z → b k ≤ (if z then suc (b c) else b k)
-    by_test true e = let same : k ≡ c = grind (arith, e) in rw same (omega arith)
-    by_test false e = omega arith
+put_more b c k = search rules
 
 pub counts_grow : (p : ProgramShape) (b : ℕ → ℕ) (ts : List Ticket) (c : ℕ) → LegalFrom p b ts → b c ≤ counts_after b ts c
 counts_grow p b [] c legal = omega arith

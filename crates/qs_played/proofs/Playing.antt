@@ -1,10 +1,7 @@
 -- Lists of actors, one actor and one round longer, and what playing them comes to, whatever the step function is: both
 -- machines' loops over actors and rounds keep their invariants by these.
-use Rattle.std.proofs.Common.{◌≡◌, ℕ, ◌+◌, List, [], ◌∷◌, ◌++◌, Option, IsSome, map, refl, ap, sym, ◌∙◌, add-one, zero-add, append_assoc, inl, inr}
-use Rattle.std.specs.List.{range_with_len}
-use Rattle.qs_program.specs.audit.Program.{ProgramShape}
-use Rattle.qs_played.specs.audit.Schedule.{HasStep, actors_of, or_stay, plays_by, rounds_of, schedule}
-use Rattle.qs_played.specs.declared.schedule.actor.Actor.{Actor}
+use Rattle.std.proofs.Common.{◌≡◌, ℕ, ◌+◌, List, [], ◌∷◌, ◌++◌, Option, IsSome, map, refl, ap, sym, ◌∙◌, add-one, zero-add, append_assoc, inl, inr, rules}
+use Rattle.qs_played.proofs.Names.{range_with_len, ProgramShape, HasStep, actors_of, or_stay, plays_by, rounds_of, schedule, Actor}
 use Rattle.qs_played.proofs.Lists.{range_more}
 
 mapped_more : (f : ℕ → Actor) (xs : List ℕ) (n : ℕ) → map f (xs ++ n ∷ []) ≡ map f xs ++ f n ∷ []

@@ -1,15 +1,9 @@
 -- What a sound program says of its blocks: none beyond those of its clients, and each reserved object is one of the
 -- program.
-use Rattle.std.proofs.Common.{◌≡◌, ◌<◌, ◌≤◌, ℕ, nat_lt, ◌==◌, Bool, true, false, List, [], ◌∷◌, length, refl, sym, ap, subst, arith, ⊎_elim}
-use Rattle.std.proofs.lemmas.List.{get_or_past}
+use Rattle.std.proofs.Common.{◌≡◌, ◌<◌, ◌≤◌, ℕ, nat_lt, ◌==◌, Bool, true, false, List, [], ◌∷◌, length, refl, ap, subst, arith, ⊎_elim, rules}
+use Rattle.qs_played.proofs.Names.{get_or_past, Ticket, num_cases, reserves, is_in, IsSound, sound_block}
 use Rattle.std.specs.List.{AllByRecursion, IsDistinct}
-use Rattle.qs_objects.specs.declared.held.Ticket.{Ticket}
-use Rattle.qs_objects.proofs.Choices.{num_cases}
-use Rattle.qs_meaning.specs.audit.Following.{reserves}
 use Rattle.qs_program.specs.audit.Program.{BlockShape, ProgramShape, blocks_of, client_at, no_block, no_client, text_of}
-use Rattle.qs_program.specs.audit.Sound.{is_in}
-use Rattle.qs_program.specs.Sound.{IsSound}
-use Rattle.qs_program.proofs.Bounds.{sound_block}
 
 module _ (program : ProgramShape) (sound : IsSound program) where
   pub no_text : (t : Ticket) → blocks_of program t.client ≤ t.index → text_of program t ≡ no_block
@@ -44,30 +38,7 @@ module _ (program : ProgramShape) (sound : IsSound program) where
   -- no object stands twice in a block's list, and each is one of the program
   pub distinct_objects : (t : Ticket) → IsDistinct ◌==◌ (text_of program t).reserved
   unfolding IsDistinct
-  distinct_objects t = by_client (nat_lt t.client (length program.clients)) refl
-    where
-      none : text_of program t ≡ no_block → IsDistinct ◌==◌ (text_of program t).reserved
-      none e = subst (λ (b : BlockShape). IsDistinct ◌==◌ b.reserved) (sym e) tt
-
-      by_block : t.client < length program.clients → (b : Bool) → nat_lt t.index (blocks_of program t.client) ≡ b → IsDistinct ◌==◌ (text_of program t).reserved
-      by_block inside true e = (sound_block program t.client t.index sound inside (grind (arith, e))).distinct
-      by_block inside false e = none (no_text t (grind (arith, e)))
-
-      by_client : (b : Bool) → nat_lt t.client (length program.clients) ≡ b → IsDistinct ◌==◌ (text_of program t).reserved
-      by_client true e = by_block (grind (arith, e)) (nat_lt t.index (blocks_of program t.client)) refl
-      by_client false e = let n = none_beyond t.client (grind (arith, e)) in none (no_text t (omega (arith, n)))
+  distinct_objects t = search (rules, sound_block, no_text, none_beyond)
 
   pub listed_inside : (t : Ticket) → AllByRecursion (λ h. h < length program.objects) (text_of program t).reserved
-  listed_inside t = by_client (nat_lt t.client (length program.clients)) refl
-    where
-      none : text_of program t ≡ no_block → AllByRecursion (λ h. h < length program.objects) (text_of program t).reserved
-      none e = subst (λ (b : BlockShape). AllByRecursion (λ h. h < length program.objects) b.reserved) (sym e) tt
-
-      by_block : t.client < length program.clients → (b : Bool) → nat_lt t.index (blocks_of program t.client) ≡ b
-          → AllByRecursion (λ h. h < length program.objects) (text_of program t).reserved
-      by_block inside true e = (sound_block program t.client t.index sound inside (grind (arith, e))).reserved
-      by_block inside false e = none (no_text t (grind (arith, e)))
-
-      by_client : (b : Bool) → nat_lt t.client (length program.clients) ≡ b → AllByRecursion (λ h. h < length program.objects) (text_of program t).reserved
-      by_client true e = by_block (grind (arith, e)) (nat_lt t.index (blocks_of program t.client)) refl
-      by_client false e = let n = none_beyond t.client (grind (arith, e)) in none (no_text t (omega (arith, n)))
+  listed_inside t = search (rules, sound_block, no_text, none_beyond)

@@ -1,18 +1,8 @@
 -- In a sum over objects or tickets, one more at one place adds one to the sum, and the tickets of a legal order may be
 -- summed client by client. Both machines keep a sum for each client and show the counts by ticket and object, and these
 -- lemmas lead from one to the other. They are shown by induction on the list, or on the order.
-use Rattle.std.proofs.Common.{ℕ, List, length, ◌≡◌, ◌<◌, ◌≤◌, zero, suc, ◌+◌, ◌-◌, true, false, ◌==◌, [], ◌∷◌, filter, get_or, refl, sym, ap, ◌∙◌, subst, ⊎_elim, arith, add-one}
-use Rattle.std.specs.Prelude.{sum_by}
-use Rattle.std.specs.List.{range_with_len, AllByRecursion}
-use Rattle.std.proofs.lemmas.List.Sums.{sum_by-cons}
-use Rattle.qs_objects.specs.declared.held.Ticket.{Ticket}
-use Rattle.qs_objects.specs.audit.Parts.{same}
-use Rattle.qs_objects.proofs.Choices.{same_self, ticket_cases}
-use Rattle.qs_program.specs.audit.Program.{ProgramShape, blocks_of}
-use Rattle.qs_meaning.specs.audit.Serial.{LegalFrom}
-use Rattle.qs_meaning.specs.audit.Solo.{put}
-use Rattle.qs_meaning.proofs.TreeWalks.{put_here, put_there}
-use Rattle.qs_played.specs.audit.Played.{ticket}
+use Rattle.std.proofs.Common.{ℕ, List, length, ◌≡◌, ◌<◌, ◌≤◌, zero, suc, ◌+◌, ◌-◌, true, false, ◌==◌, [], ◌∷◌, filter, get_or, refl, sym, ap, ◌∙◌, subst, ⊎_elim, arith, add-one, rules}
+use Rattle.qs_played.proofs.Names.{sum_by, range_with_len, AllByRecursion, sum_by-cons, Ticket, same, same_self, ticket_cases, ProgramShape, blocks_of, LegalFrom, put, put_here, put_there, ticket}
 use Rattle.qs_played.proofs.Orders.{counts_after, counts_grow}
 use Rattle.qs_played.proofs.JournalRooms.{no_block_beyond, sum_changed}
 

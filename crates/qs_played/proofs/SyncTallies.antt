@@ -1,19 +1,9 @@
 -- One Sync more for an object adds one to that object's count in its block's row, and changes neither the other counts
 -- nor the row's objects; the row's sum is the sum over all objects. The proofs that both machines count exactly use
 -- this for each step. It is shown by induction on the row, in which each object stands once.
-use Rattle.std.proofs.Common.{◌≡◌, ◌<◌, ℕ, suc, ◌+◌, ◌==◌, Bool, true, false, if◌then◌else◌, List, [], ◌∷◌, map, refl, sym, ap, ◌∙◌, subst, ⊎_elim, inl, inr, arith}
-use Rattle.std.specs.Prelude.{sum_by}
+use Rattle.std.proofs.Common.{◌≡◌, ◌<◌, ℕ, suc, ◌+◌, ◌==◌, Bool, true, false, if◌then◌else◌, List, [], ◌∷◌, map, refl, sym, ap, subst, ⊎_elim, arith, rules}
+use Rattle.qs_played.proofs.Names.{sum_by, sum_by-cons, IsDistinct-head, IsDistinct-tail, eqb_self, num_cases, put, put_here, put_there, is_in, no_syncs, object_of, sync_count, syncs_of, with_sync, syncs_for, SyncCount, AreSent}
 use Rattle.std.specs.List.{AllByRecursion, IsDistinct, range_with_len}
-use Rattle.std.proofs.lemmas.List.Sums.{sum_by-cons}
-use Rattle.std.proofs.lemmas.Map.Keys.{IsDistinct-head, IsDistinct-tail}
-use Rattle.qs_objects.proofs.Choices.{eqb_self, num_cases}
-use Rattle.qs_meaning.specs.audit.Solo.{put}
-use Rattle.qs_meaning.proofs.TreeWalks.{put_here, put_there}
-use Rattle.qs_program.specs.audit.Sound.{is_in}
-use Rattle.qs_sync_counts.specs.audit.SyncRows.{no_syncs, object_of, sync_count, syncs_of, with_sync}
-use Rattle.qs_sync_counts.specs.SyncRows.{syncs_for}
-use Rattle.qs_sync_counts.specs.declared.sync_counts.SyncCount.{SyncCount}
-use Rattle.qs_played.specs.SyncSums.{AreSent}
 use Rattle.qs_played.proofs.SyncLists.{sum_add, sum_inside, sum_one, sum_zero}
 
 pub objects_stay : (h : ℕ) (xs : List SyncCount) → map object_of (with_sync h xs) ≡ map object_of xs
@@ -89,19 +79,7 @@ one_more_for h (x ∷ xs) inside distinct g = ⊎_elim
 -- a Sync more for an object of the list, where each stands once
 pub sent_for : (h : ℕ) (xs : List SyncCount) (n : ℕ → ℕ) → is_in (map object_of xs) h ≡ true → IsDistinct ◌==◌ (map object_of xs)
     → ((g : ℕ) → syncs_for xs g ≡ n g) → (g : ℕ) → syncs_for (with_sync h xs) g ≡ put n h (suc (n h)) g
-sent_for h xs n inside distinct same g =
-    let all = one_more_for h xs inside distinct g in
-    let old = same g in
-    ⊎_elim
-    (λ (is : h ≡ g).
-    let here : put n h (suc (n h)) g ≡ suc (n g) = subst (λ g. put n h (suc (n h)) g ≡ suc (n g)) is (put_here n h (suc (n h))) in
-    let one : ◌≡◌ {A = ℕ} (if h == g then 1 else 0) 1 = subst (λ g. ◌≡◌ {A = ℕ} (if h == g then 1 else 0) 1) is (rw (eqb_self h) refl) in
-    omega (arith, all, old, here, one))
-    (λ (other : (h == g) ≡ false).
-    let there = put_there n h (suc (n h)) g other in
-    let none : ◌≡◌ {A = ℕ} (if h == g then 1 else 0) 0 = rw other refl in
-    omega (arith, all, old, there, none))
-    (num_cases h g)
+sent_for h xs n inside distinct same g = search (rules, one_more_for, put_here, eqb_self, put_there, num_cases)
 
 -- the counts of a list of objects below m, object by object
 pub total_for : (m : ℕ) (xs : List SyncCount) → AllByRecursion (λ o. o < m) (map object_of xs) → syncs_of xs ≡ sum_by (syncs_for xs) (range_with_len 0 m)
@@ -119,5 +97,4 @@ total_for m (x ∷ xs) inside =
 
 -- what was sent, by numbers that are the same
 pub sent_of : (ended : Bool) (sent others counts : ℕ → ℕ) → ((h : ℕ) → sent h ≡ others h) → AreSent ended sent counts → AreSent ended others counts
-sent_of ended sent others counts same (inl exact) = inl (λ h. sym (same h) ∙ exact h)
-sent_of ended sent others counts same (inr one) = inr (one.0, one.1, λ h. sym (same h) ∙ one.2 h)
+sent_of ended sent others counts same v = search rules

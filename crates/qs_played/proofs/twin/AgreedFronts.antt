@@ -1,31 +1,11 @@
 -- Blocks that agree, of isolated runs, have equal traces as far as the shorter one goes: the first replies that differ
 -- would be of a query that both blocks made, on an object on which both have an entry, and which both found in the same
 -- state.
-use Rattle.std.proofs.Common.{◌≡◌, ◌<◌, ◌≤◌, ◌⊎◌, inl, inr, ⊎_elim, ℕ, zero, suc, Bool, true, false, true≢false, ◌==◌, if◌then◌else◌, List, [], ◌∷◌, ◌++◌, length, get_or, take, refl, sym, ap, subst, ◌∙◌, arith}
-use Rattle.std.specs.List.{AllByRecursion}
-use Rattle.qs_objects.specs.audit.Journals.{without_tickets}
-use Rattle.qs_objects.specs.audit.Operations.{is_query}
-use Rattle.qs_objects.specs.audit.Parts.{entries_of, part, same}
-use Rattle.qs_objects.specs.Parts.{HasEntry}
-use Rattle.qs_objects.specs.declared.Request.{Request}
-use Rattle.qs_objects.specs.declared.held.Entry.{Entry}
-use Rattle.qs_objects.specs.declared.held.Event.{Event}
-use Rattle.qs_objects.specs.declared.held.Ticket.{Ticket}
-use Rattle.qs_objects.proofs.Choices.{apart_eqb, ticket_cases}
-use Rattle.qs_objects.proofs.Elements.{AllByRecursion-get_or}
-use Rattle.qs_program.specs.audit.Program.{ProgramShape, text_of}
-use Rattle.qs_program.specs.Sound.{IsSound}
-use Rattle.qs_program.specs.audit.Values.{Locals}
-use Rattle.qs_meaning.specs.Alike.{HasValues, SameTrace, SameValues}
-use Rattle.qs_meaning.specs.audit.Serial.{declared_states, zeros}
-use Rattle.qs_meaning.specs.Serial.{SerialBlock, serial, serial_from}
-use Rattle.qs_meaning.specs.audit.Solo.{States, put, solo}
+use Rattle.std.proofs.Common.{◌≡◌, ◌<◌, ◌≤◌, ◌⊎◌, inl, inr, ⊎_elim, ℕ, zero, suc, Bool, true, false, true≢false, ◌==◌, if◌then◌else◌, List, [], ◌∷◌, ◌++◌, length, get_or, take, refl, sym, ap, subst, ◌∙◌, arith, rules}
+use Rattle.qs_played.proofs.Names.{AllByRecursion, without_tickets, is_query, entries_of, part, same, HasEntry, Request, Entry, Event, Ticket, apart_eqb, ticket_cases, AllByRecursion-get_or, ProgramShape, text_of, IsSound, Locals, HasValues, SameTrace, SameValues, declared_states, zeros, SerialBlock, serial, serial_from, States, put, solo, journal_of, ticket_at, trace_of, Played, ticket, Agreement, SameObjects, shorter}
 use Rattle.qs_meaning.proofs.AlikeTraces.{Alike, IsPlaceOf, places_of, solo_traces}
-use Rattle.qs_played.specs.audit.Isolation.{journal_of, ticket_at, trace_of}
 use Rattle.qs_played.specs.Isolation.{IsIsolated, IsIsolatedBlock, entry_of, no_block, serial_block, queries_of}
-use Rattle.qs_played.specs.audit.Played.{Played, ticket}
 use Rattle.qs_played.proofs.ReservedObjects.{reserved_inside}
-use Rattle.qs_played.specs.twin.Twins.{Agreement, SameObjects, shorter}
 
 -- a query of a trace has an entry, since it was answered
 

@@ -2,33 +2,22 @@
 -- statements are the same where each two at one place are. The code's comparisons (`are_same_lists`, `are_same_values`,
 -- and of two texts) go over two lists at once and use this. The lists are taken apart at the place, and the statements
 -- by cases on their form.
-use Rattle.std.proofs.Common.{◌≡◌, ◌<◌, ◌≤◌, ◌+◌, ℕ, suc, List, [], ◌∷◌, length, get_or, drop, drop-cons, map, slice_get, unwrap_or, sym, subst, ap, ap₂, ◌∙◌, arith}
-use Rattle.std.proofs.lemmas.List.{drop_all, get_or-map}
-use Rattle.std.proofs.lemmas.List.Elements.{AllZip-get_or}
-use Rattle.std.proofs.lemmas.Option.{unwrap_or-slice_get}
-use Rattle.std.specs.List.{AllZip}
+use Rattle.std.proofs.Common.{◌≡◌, ◌<◌, ◌≤◌, ◌+◌, ℕ, suc, List, [], ◌∷◌, length, get_or, drop, drop-cons, map, slice_get, unwrap_or, sym, subst, ap, ap₂, ◌∙◌, arith, rules}
+use Rattle.qs_played.proofs.Names.{drop_all, get_or-map, AllZip-get_or, unwrap_or-slice_get, AllZip, Statements, single, statements_of, SameStatements}
 use Rattle.qs_program.specs.declared.code.Stmt.{Stmt}
-use Rattle.qs_program.specs.declared.code.Stmt.TheVariants.{Command, Query, Assign, If, Repeat, Leave}
-use Rattle.qs_program.specs.audit.Statements.{Statements}
-use Rattle.qs_program.specs.Views.{single, statements_of}
-use Rattle.qs_meaning.specs.Alike.{SameStatements}
 
 pub zip_step : {X : Type 0} (R : X → X → Type 0) (xs ys : List X) (i : ℕ) (d e : X) → i < length xs → i < length ys
     → R (get_or xs i d) (get_or ys i e) → AllZip R (drop (i + 1) xs) (drop (i + 1) ys) → AllZip R (drop i xs) (drop i ys)
-zip_step R xs ys i d e a b here later =
-    let next : i + 1 ≡ suc i = omega arith in
-    rw (drop-cons xs i d a, drop-cons ys i e b) (here, subst (λ n. AllZip R (drop n xs) (drop n ys)) next later)
+zip_step R xs ys i d e a b here later = search (rules, drop-cons, drop)
 
 -- the same by two items of which it is known where they stand
 pub zip_at : {X : Type 0} (R : X → X → Type 0) (xs ys : List X) (i : ℕ) (x y : X) → i < length xs → x ≡ get_or xs i x → y ≡ get_or ys i y
     → AllZip R xs ys → R x y
-zip_at R xs ys i x y a is is' whole =
-    subst (λ z. R z y) (sym is) (subst (λ z. R (get_or xs i x) z) (sym is') (AllZip-get_or R xs ys i x y whole a))
+zip_at R xs ys i x y a is is' whole = search (rules, AllZip-get_or)
 
 pub zip_step_at : {X : Type 0} (R : X → X → Type 0) (xs ys : List X) (i : ℕ) (x y : X) → i < length xs → i < length ys → x ≡ get_or xs i x
     → y ≡ get_or ys i y → R x y → AllZip R (drop (i + 1) xs) (drop (i + 1) ys) → AllZip R (drop i xs) (drop i ys)
-zip_step_at R xs ys i x y a b is is' here later =
-    zip_step R xs ys i x y a b (subst (λ z. R z (get_or ys i y)) is (subst (λ z. R x z) is' here)) later
+zip_step_at R xs ys i x y a b is is' here later = search (rules, zip_step)
 
 pub zip_end : {X : Type 0} (R : X → X → Type 0) (xs ys : List X) (i : ℕ) → length xs ≤ i → length ys ≤ i → AllZip R (drop i xs) (drop i ys)
 zip_end R xs ys i a b = rw (drop_all i xs a, drop_all i ys b) tt
@@ -45,9 +34,7 @@ same_step xs ys i d a b is later =
 -- two functions give equal lists from a place on
 pub map_step : {X Y : Type 0} (f g : X → Y) (xs ys : List X) (i : ℕ) (d e : X) → i < length xs → i < length ys → f (get_or xs i d) ≡ g (get_or ys i e)
     → map f (drop (i + 1) xs) ≡ map g (drop (i + 1) ys) → map f (drop i xs) ≡ map g (drop i ys)
-map_step f g xs ys i d e a b is later =
-    let next : i + 1 ≡ suc i = omega arith in
-    rw (drop-cons xs i d a, drop-cons ys i e b) (ap₂ (λ z zs. z ∷ zs) is (subst (λ n. map f (drop n xs) ≡ map g (drop n ys)) next later))
+map_step f g xs ys i d e a b is later = search (rules, drop-cons, map, drop)
 
 pub map_at : {X Y : Type 0} (f g : X → Y) (xs ys : List X) (i : ℕ) (d e : X) (y : Y) → i < length xs → i < length ys → map f xs ≡ map g ys
     → f (get_or xs i d) ≡ g (get_or ys i e)
@@ -60,23 +47,11 @@ module _ (O V : ℕ → ℕ → Type 0) where
 
   joined : (x y : Stmt) (xs ys : List Stmt) → SameStmt x y → SameStatements O V (statements_of xs) (statements_of ys)
       → SameStatements O V (statements_of (x ∷ xs)) (statements_of (y ∷ ys))
-  joined (Command c) (Command d) xs ys s r = (s.0, r)
-  joined (Query x c) (Query y d) xs ys s r = (s.0, s.1, r)
-  joined (Assign x e) (Assign y f) xs ys s r = (s.0, s.1, r)
-  joined (If t b first other) (If u c one two) xs ys s r = (s.0, s.1, s.2, s.3, r)
-  joined (Repeat n body) (Repeat m text) xs ys s r = (s.0, s.1, r)
-  joined Leave Leave xs ys s r = r
-  joined _ _ xs ys s r = absurd s
+  joined v w xs ys s r = search rules
 
   parted : (x y : Stmt) (xs ys : List Stmt) → SameStatements O V (statements_of (x ∷ xs)) (statements_of (y ∷ ys))
       → SameStmt x y × SameStatements O V (statements_of xs) (statements_of ys)
-  parted (Command c) (Command d) xs ys s = ((s.0, tt), s.1)
-  parted (Query x c) (Query y d) xs ys s = ((s.0, s.1, tt), s.2)
-  parted (Assign x e) (Assign y f) xs ys s = ((s.0, s.1, tt), s.2)
-  parted (If t b first other) (If u c one two) xs ys s = ((s.0, s.1, s.2, s.3, tt), s.4)
-  parted (Repeat n body) (Repeat m text) xs ys s = ((s.0, s.1, tt), s.2)
-  parted Leave Leave xs ys s = (tt, s)
-  parted _ _ xs ys s = absurd s
+  parted v w xs ys s = search rules
 
   pub statements_same : (xs ys : List Stmt) → AllZip SameStmt xs ys → SameStatements O V (statements_of xs) (statements_of ys)
   statements_same [] [] s = tt
@@ -86,20 +61,10 @@ module _ (O V : ℕ → ℕ → Type 0) where
 
   -- one list is empty and the other is not
   none_some : (y : Stmt) (ys : List Stmt) → SameStatements O V (statements_of []) (statements_of (y ∷ ys)) → ⊥
-  none_some (Command c) ys s = s
-  none_some (Query x c) ys s = s
-  none_some (Assign x e) ys s = s
-  none_some (If t b first other) ys s = s
-  none_some (Repeat n body) ys s = s
-  none_some Leave ys s = s
+  none_some v ys s = search rules
 
   some_none : (x : Stmt) (xs : List Stmt) → SameStatements O V (statements_of (x ∷ xs)) (statements_of []) → ⊥
-  some_none (Command c) xs s = s
-  some_none (Query x c) xs s = s
-  some_none (Assign x e) xs s = s
-  some_none (If t b first other) xs s = s
-  some_none (Repeat n body) xs s = s
-  some_none Leave xs s = s
+  some_none v xs s = search rules
 
   pub same_statements : (xs ys : List Stmt) → SameStatements O V (statements_of xs) (statements_of ys) → AllZip SameStmt xs ys
   same_statements [] [] s = tt
@@ -108,9 +73,7 @@ module _ (O V : ℕ → ℕ → Type 0) where
   same_statements (x ∷ xs) (y ∷ ys) s = let k = parted x y xs ys s in (k.0, same_statements xs ys k.1)
 
   pub listed : (b c : Statements) (xs ys : List Stmt) → b ≡ statements_of xs → c ≡ statements_of ys → SameStatements O V b c → AllZip SameStmt xs ys
-  listed b c xs ys e f s =
-      same_statements xs ys (subst (λ b. SameStatements O V b (statements_of ys)) e (subst (λ c. SameStatements O V b c) f s))
+  listed b c xs ys e f s = search (rules, same_statements)
 
   pub unlisted : (b c : Statements) (xs ys : List Stmt) → b ≡ statements_of xs → c ≡ statements_of ys → AllZip SameStmt xs ys → SameStatements O V b c
-  unlisted b c xs ys e f s =
-      subst (λ b. SameStatements O V b c) (sym e) (subst (λ c. SameStatements O V (statements_of xs) c) (sym f) (statements_same xs ys s))
+  unlisted b c xs ys e f s = search (rules, statements_same)

@@ -1,6 +1,5 @@
 use Rattle.std.proofs.Common.{arith}
-use Rattle.qs_program.specs.audit.Loads.{load_of}
-use Rattle.qs_program.specs.audit.Program.{block_at}
+use Rattle.qs_played.proofs.Names.{load_of, block_at}
 use Rattle.qs_played.proofs.Lists.{sum_by-range_more}
 use Rattle.qs_played.proofs.journal_rooms.client_room.Goals as goal
 

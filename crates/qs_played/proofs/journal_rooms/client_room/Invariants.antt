@@ -1,7 +1,5 @@
 use Rattle.std.proofs.Common.{◌≡◌, ◌≤◌, ◌*◌, sum_by}
-use Rattle.std.specs.List.{range_with_len}
-use Rattle.qs_program.specs.audit.Loads.{load_of}
-use Rattle.qs_program.specs.audit.Program.{block_at}
+use Rattle.qs_played.proofs.Names.{range_with_len, load_of, block_at}
 use Rattle.qs_played.proofs.journal_rooms.client_room.Given as goal
 
 abbrev pub invariant-loop-block : goal.invariant-loop-block

@@ -1,6 +1,5 @@
 use Rattle.std.proofs.Common.{◌≡◌, ◌≤◌, ◌*◌, sum_by}
-use Rattle.std.specs.List.{range_with_len}
-use Rattle.qs_played.specs.audit.JournalRooms.{room_in}
+use Rattle.qs_played.proofs.Names.{range_with_len, room_in}
 use Rattle.qs_played.proofs.journal_rooms.journal_room.Given as goal
 
 abbrev pub invariant-loop-client : goal.invariant-loop-client

@@ -1,6 +1,5 @@
 use Rattle.std.proofs.Common.{drop, Option}
-use Rattle.qs_objects.specs.audit.Act.{State}
-use Rattle.qs_played.specs.twin.Twins.{IsStart}
+use Rattle.qs_played.proofs.Names.{State, IsStart}
 use Rattle.qs_played.proofs.twin.starts.state_before.Given as goal
 
 abbrev pub invariant-loop-entry : goal.invariant-loop-entry

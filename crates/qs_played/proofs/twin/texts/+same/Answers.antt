@@ -1,8 +1,6 @@
 use Rattle.std.proofs.Common.{ℕ, true≢false, sym, ap, ◌∙◌, refl, arith}
-use Rattle.std.proofs.lemmas.List.Elements.{length_all_zip}
-use Rattle.qs_program.specs.Views.{single, size_of}
+use Rattle.qs_played.proofs.Names.{length_all_zip, single, size_of, SameObjects, SameVariables}
 use Rattle.qs_program.proofs.StatementLists.{size_at}
-use Rattle.qs_played.specs.twin.Twins.{SameObjects, SameVariables}
 use Rattle.qs_played.proofs.twin.Zips.{SameStmt, listed, unlisted, zip_at, zip_end, zip_step_at}
 use Rattle.qs_played.proofs.twin.texts.+same.Goals as goal
 

@@ -1,8 +1,6 @@
 use Rattle.std.proofs.Common.{◌+◌, ◌*◌, drop}
-use Rattle.std.specs.List.{AllZip}
+use Rattle.qs_played.proofs.Names.{AllZip, SameObjects, SameVariables, single, size_of}
 use Rattle.qs_program.specs.declared.code.Stmt.{Stmt}
-use Rattle.qs_played.specs.twin.Twins.{SameObjects, SameVariables}
-use Rattle.qs_program.specs.Views.{single, size_of}
 use Rattle.qs_played.proofs.twin.Zips.{SameStmt}
 use Rattle.qs_played.proofs.twin.texts.+same.Given as goal
 

@@ -1,8 +1,6 @@
 use Rattle.std.proofs.Common.{drop}
-use Rattle.std.specs.List.{AllZip}
+use Rattle.qs_played.proofs.Names.{AllZip, SameAtom, SameObjects, SameVariables}
 use Rattle.qs_program.specs.declared.code.Atom.{Atom}
-use Rattle.qs_meaning.specs.Alike.{SameAtom}
-use Rattle.qs_played.specs.twin.Twins.{SameObjects, SameVariables}
 use Rattle.qs_played.proofs.twin.texts.are_same_atoms.Given as goal
 
 abbrev pub invariant-loop-place : goal.invariant-loop-place

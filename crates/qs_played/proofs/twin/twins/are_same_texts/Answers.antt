@@ -1,7 +1,5 @@
 use Rattle.std.proofs.Common.{ap, ◌∙◌}
-use Rattle.qs_program.specs.audit.Program.{BlockShape}
-use Rattle.qs_played.specs.audit.Isolation.{ticket_at}
-use Rattle.qs_played.specs.Isolation.{entry_of}
+use Rattle.qs_played.proofs.Names.{BlockShape, ticket_at, entry_of}
 use Rattle.qs_played.proofs.twin.TextParts.{bodies_decided, bodies_from, lists_decided, texts_from}
 use Rattle.qs_played.proofs.twin.twins.are_same_texts.Goals as goal
 

@@ -1,7 +1,5 @@
 use Rattle.std.proofs.Common.{◌≡◌, length, min, take, sym, subst, ◌∙◌}
-use Rattle.qs_meaning.specs.Alike.{SameTrace}
-use Rattle.qs_played.specs.audit.Isolation.{trace_of}
-use Rattle.qs_played.specs.twin.Twins.{Agreement, TextsAlike, shorter}
+use Rattle.qs_played.proofs.Names.{SameTrace, trace_of, Agreement, TextsAlike, shorter}
 use Rattle.qs_played.proofs.twin.FirstEntries.{reserved_at}
 use Rattle.qs_played.proofs.twin.AgreedFronts.{agreed_fronts}
 use Rattle.qs_played.proofs.twin.twins.twin.Goals as goal
