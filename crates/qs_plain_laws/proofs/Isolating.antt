@@ -2,30 +2,10 @@
 -- queues was served.
 use Rattle.std.proofs.Common.{◌≡◌, ◌<◌, ℕ, zero, suc, ◌+◌, Bool, true, false, if◌then◌else◌, nat_eq, List, [], ◌∷◌, flat_map, length, get_or, refl, ap, sym, subst, ◌∙◌, arith, rules}
 use Rattle.std.proofs.Math.ListN.{get_or-map as get_or-map-any}
-use Rattle.std.proofs.lemmas.List.{get_or-map, length-map}
-use Rattle.std.specs.List.{AllByRecursion}
-use Rattle.qs_objects.specs.audit.Parts.{same}
-use Rattle.qs_objects.specs.declared.held.Ticket.{Ticket}
-use Rattle.qs_objects.specs.declared.Request.{Request}
-use Rattle.qs_objects.proofs.Choices.{and_cases, not_same}
-use Rattle.qs_meaning.specs.audit.Following.{reserves}
-use Rattle.qs_program.specs.audit.Program.{ProgramShape, blocks_of}
-use Rattle.qs_meaning.specs.audit.Serial.{IsLegal, LegalFrom, declared_states}
-use Rattle.qs_meaning.specs.audit.Solo.{put}
-use Rattle.qs_program.specs.Sound.{IsSound}
-use Rattle.qs_meaning.proofs.Each.{each_map, each_both, each_join}
-use Rattle.qs_meaning.proofs.Histories.{Among, Apart, Flow, ObjectCourse, NoQuery, done_of, parts_of}
-use Rattle.qs_meaning.specs.BlockRecords.{Begins, IsDone, IsBlockRecord}
-use Rattle.qs_meaning.proofs.SerialRuns.{legal_apart, line}
-use Rattle.qs_meaning.proofs.SoundTrees.{blocks_ask_only}
-use Rattle.qs_meaning.proofs.TreeWalks.{unnamed}
-use Rattle.qs_played.specs.audit.Isolation.{journal_of, state_of, ticket_at}
+use Rattle.qs_played.proofs.Names.{get_or-map, length-map, AllByRecursion, same, Ticket, Request, and_cases, not_same, reserves, ProgramShape, blocks_of, IsLegal, LegalFrom, declared_states, put, IsSound, each_map, each_both, each_join, Among, Apart, Flow, ObjectCourse, NoQuery, done_of, parts_of, Begins, IsDone, IsBlockRecord, legal_apart, line, blocks_ask_only, unnamed, journal_of, state_of, ticket_at, ticket, Played}
 use Rattle.qs_played.specs.Isolation.{IsIsolated}
-use Rattle.qs_played.specs.audit.Played.{ticket, Played}
-use Rattle.qs_played.proofs.Orders.{counts_after, legal_among, apart_kept, apart_both}
-use Rattle.qs_played.proofs.JournalRooms.{no_block_beyond}
+use Rattle.qs_plain_laws.proofs.Names.{counts_after, legal_among, apart_kept, apart_both, no_block_beyond, PlainRunsAreIsolated, commands_of, commands_in, commands_in_queue}
 use Rattle.qs_played.proofs.AbstractRun.{IsRun, run_isolated}
-use Rattle.qs_plain_laws.specs.PlainIsolation.{PlainRunsAreIsolated, commands_of, commands_in, commands_in_queue}
 use Rattle.qs_plain_laws.specs.audit.Plain.{Plain, Client, Handler, begun_blocks, client_at, handler_at, begin, no_client, no_handler}
 use Rattle.qs_plain_laws.specs.audit.PlainSchedule.{all_done, all_idle, counts_of, ended_at, entry_at, has_ended, is_done, is_finished, is_out, played_of, plays, trace_at}
 use Rattle.qs_plain_laws.proofs.ServedRuns.{ServedRun, Front, IsServedRun}
@@ -36,12 +16,8 @@ use Rattle.qs_plain_laws.proofs.Simulation.{Simulates, private, queue_may}
 
 pub done_at : (p : ProgramShape) (n : ℕ) (cs : List Client) (i : ℕ) → all_done p n cs ≡ true → i < length cs → is_done p (n + i) (get_or cs i no_client) ≡ true
 done_at p n [] i all inside = absurd (omega (arith, inside))
-done_at p n (c ∷ cs) zero all inside =
-    let z : n ≡ n + 0 = omega arith in
-    subst (λ m. is_done p m c ≡ true) z (and_cases (is_done p n c) (all_done p (suc n) cs) all).0
-done_at p n (c ∷ cs) (suc i) all inside =
-    let z : suc n + i ≡ n + suc i = omega arith in
-    subst (λ m. is_done p m (get_or cs i no_client) ≡ true) z (done_at p (suc n) cs i (and_cases (is_done p n c) (all_done p (suc n) cs) all).1 (omega (arith, inside)))
+done_at p n (c ∷ cs) zero all inside = grind (arith, and_cases)
+done_at p n (c ∷ cs) (suc i) all inside = grind (arith, and_cases, done_at p (suc n) cs i (and_cases (is_done p n c) (all_done p (suc n) cs) all).1 (omega (arith, inside)))
 
 pub idle_at : (hs : List Handler) (h : ℕ) → all_idle hs ≡ true → (handler_at hs h).queues ≡ []
 idle_at [] h all = refl

@@ -10,3 +10,4 @@ pub mod ServiceFlows
 pub mod Services
 pub mod RunViews
 pub mod Simulation
+pub mod Names

@@ -3,25 +3,12 @@
 -- alone it is kept that each client has begun as many blocks as it has tickets in the order, by cases on the step and
 -- induction on the actors.
 use Rattle.std.proofs.Common.{◌≡◌, ◌<◌, ℕ, zero, suc, ◌==◌, Bool, true, false, if◌then◌else◌, nat_lt, List, [], ◌∷◌, ◌++◌, map, length, get_or, Some, None, refl, ap, sym, ◌∙◌, arith, add-one, get_or-set_same, get_or-set_other, rules}
-use Rattle.std.proofs.Math.ListN.{set}
-use Rattle.std.proofs.Math.Seq.{map-set_same}
-use Rattle.std.proofs.lemmas.List.{length-append, length-map, map-set}
-use Rattle.std.specs.List.{range_with_len}
-use Rattle.std.specs.Prelude.{Option, ℤ}
-use Rattle.qs_objects.specs.declared.held.Ticket.{Ticket}
-use Rattle.qs_objects.specs.declared.Request.{Request}
-use Rattle.qs_meaning.specs.audit.Interaction.{Interaction, Done, Call, Query}
-use Rattle.qs_program.specs.audit.Program.{ProgramShape, blocks_of}
-use Rattle.qs_meaning.specs.audit.Serial.{LegalFrom, IsLegal}
-use Rattle.qs_meaning.specs.audit.Solo.{put}
-use Rattle.qs_played.proofs.Lists.{apart}
+use Rattle.qs_played.proofs.Names.{set, map-set_same, length-append, length-map, map-set, range_with_len, Option, ℤ, Ticket, Request, ProgramShape, blocks_of, LegalFrom, IsLegal, put, or_stay}
 use Rattle.qs_played.specs.declared.schedule.actor.Actor.{Actor}
-use Rattle.qs_played.proofs.Orders.{counts_after, legal-more, counts-more, counts_grow}
+use Rattle.qs_meaning.specs.audit.Interaction.{Interaction}
+use Rattle.qs_plain_laws.proofs.Names.{apart, counts_after, legal-more, counts-more, counts_grow, plays, QueueItem}
 use Rattle.qs_played.specs.declared.schedule.actor.Actor.TheVariants as actor
 use Rattle.qs_plain_laws.specs.audit.Plain.{Plain, Client, Handler, Private, StageOfClient, out, within, waiting, begin, begun_blocks, client_at, handler_at, client_step, moves_on, separate, item_step, queue_step, after_reply, step, fresh_client, no_client}
-use Rattle.qs_plain_laws.specs.audit.PlainSchedule.{plays}
-use Rattle.qs_played.specs.audit.Schedule.{or_stay}
-use Rattle.qs_plain_laws.specs.declared.item.QueueItem.{QueueItem}
 
 pub record IsOrdered (p : ProgramShape) (s : Plain) : Type 0 where
   pub legal : IsLegal p s.order
@@ -50,9 +37,7 @@ module _ (p : ProgramShape) (s : Plain) (o : IsOrdered p s) where
     it = client_at s c
 
     going : (rest : Interaction) → IsOrdered p (moves_on p s c it rest)
-    going (Done l) = same_order (moves_on p s c it (Done l)) refl (one_set c _ refl)
-    going (Call r next) = same_order (moves_on p s c it (Call r next)) refl (one_set c _ refl)
-    going (Query r next) = same_order (moves_on p s c it (Query r next)) refl (one_set c _ refl)
+    going v = search (rules, same_order, it, one_set)
 
     longer : (l : List ℤ) → suc (begun_blocks it) ≡ length (it.entries ++ l ∷ [])
     longer l = sym (length-append it.entries (l ∷ []) ∙ add-one (begun_blocks it))
@@ -73,8 +58,7 @@ module _ (p : ProgramShape) (s : Plain) (o : IsOrdered p s) where
     served q qs items = search (rules, same_order, one_set, heard)
 
     from_queues : (qs : List Private) → IsOrdered p (or_stay s (queue_step s h handler qs))
-    from_queues [] = o
-    from_queues (q ∷ qs) = served q qs q.items
+    from_queues v = search (rules, served)
 
   ordered_next : (a : Actor) → IsOrdered p (or_stay s (step p s a))
   ordered_next (actor.Handler h) = from_queues h (handler_at s.handlers h).queues
@@ -101,8 +85,7 @@ put_here b c y = let same : (c == c) ≡ true = grind arith in ap (λ z. if z th
 counted : (p : ProgramShape) (b : ℕ → ℕ) (ts : List Ticket) (i : ℕ) (d : Ticket) → LegalFrom p b ts → i < length ts
     → (get_or ts i d).index < counts_after b ts (get_or ts i d).client
 counted p b [] i d legal less = absurd (omega (arith, less))
-counted p b (t ∷ ts) zero d legal less =
-    omega (arith, counts_grow p (put b t.client (suc t.index)) ts t.client legal.2, put_here b t.client (suc t.index))
+counted p b (t ∷ ts) zero d legal less = grind (arith, counts_grow, put_here)
 counted p b (t ∷ ts) (suc i) d legal less = counted p (put b t.client (suc t.index)) ts i d legal.2 (omega (arith, less))
 
 some_within : (xs : List ℕ) (c : ℕ) → 0 < get_or xs c 0 → c < length xs

@@ -2,42 +2,16 @@
 -- (`RunInvariant`). Isolation and the counts under the plain rules are read off this. A list with one place changed is
 -- read as a function changed at one place, so each step is one for which `Simulation` has a lemma; then the proof goes
 -- by induction on the list of actors.
-use Rattle.std.proofs.Common.{◌≡◌, ◌≢◌, ◌<◌, ℕ, zero, suc, ◌+◌, ◌-◌, ◌==◌, ◌||◌, Bool, true, false, if◌then◌else◌, nat_lt, List, [], ◌∷◌, ◌++◌, map, length, get_or, Option, None, ℤ, refl, ap, sym, subst, ◌∙◌, arith, ⊎_elim, get_or-set_same, get_or-set_other, length-set, rules}
-use Rattle.std.proofs.Math.ListN.{set}
-use Rattle.std.proofs.Math.Path.{fun_ext}
-use Rattle.std.proofs.Math.Seq.{map-set_same}
-use Rattle.std.proofs.lemmas.List.{get_or-map, get_or_past, length-append, length-map}
-use Rattle.std.proofs.lemmas.List.FromFn.{get_or-map-range_with_len, length-range_with_len}
-use Rattle.std.proofs.lemmas.Simd.{map-map}
-use Rattle.std.proofs.lemmas.Map.Keys.{IsDistinct-head, IsDistinct-tail}
-use Rattle.std.specs.List.{AllByRecursion, IsDistinct, range_with_len, list_any}
-use Rattle.qs_objects.specs.audit.Journals.{HeldState, run_one, answer}
-use Rattle.qs_objects.specs.audit.Parts.{same}
-use Rattle.qs_objects.specs.declared.held.Event.{Event}
-use Rattle.qs_objects.specs.declared.held.Ticket.{Ticket}
-use Rattle.qs_objects.specs.declared.Request.{Request}
-use Rattle.qs_objects.proofs.Choices.{num_cases, ticket_cases, ticket_path, same_self}
-use Rattle.qs_meaning.specs.audit.Following.{reserves}
-use Rattle.qs_meaning.specs.Following.{block_tree}
-use Rattle.qs_meaning.specs.audit.Interaction.{Interaction, Done, Call, Query}
-use Rattle.qs_program.specs.audit.Program.{ProgramShape, BlockShape, text_of, blocks_of, no_block, no_client as no_shape}
-use Rattle.qs_meaning.specs.audit.Serial.{zeros, declared_states}
-use Rattle.qs_meaning.specs.audit.Solo.{put, event, value_of}
-use Rattle.qs_program.specs.audit.Sound.{is_in}
-use Rattle.qs_program.specs.Sound.{IsSound}
-use Rattle.qs_program.specs.audit.Values.{Locals}
-use Rattle.qs_program.proofs.Bounds.{sound_block}
-use Rattle.qs_meaning.specs.BlockRecords.{Begins}
-use Rattle.qs_meaning.proofs.TreeWalks.{put_here, put_there}
-use Rattle.qs_played.specs.audit.Played.{ticket}
-use Rattle.qs_played.specs.audit.JournalRooms.{room_of}
+use Rattle.std.proofs.Common.{◌≡◌, ◌≢◌, ◌<◌, ℕ, zero, suc, ◌+◌, ◌-◌, ◌==◌, ◌||◌, Bool, true, false, if◌then◌else◌, nat_lt, List, [], ◌∷◌, ◌++◌, map, length, get_or, Option, None, ℤ, refl, ap, sym, subst, ◌∙◌, arith, get_or-set_same, get_or-set_other, length-set, rules}
+use Rattle.qs_played.proofs.Names.{set, fun_ext, map-set_same, get_or-map, get_or_past, length-append, length-map, get_or-map-range_with_len, length-range_with_len, IsDistinct-head, IsDistinct-tail, Event, Ticket, Request, num_cases, ticket_cases, ticket_path, same_self, reserves, block_tree, ProgramShape, BlockShape, text_of, blocks_of, no_block, no_client as no_shape, zeros, declared_states, put, event, value_of, is_in, IsSound, Locals, sound_block, Begins, put_here, put_there, ticket, room_of, or_stay}
 use Rattle.qs_played.specs.declared.schedule.actor.Actor.{Actor}
-use Rattle.qs_played.proofs.Lists.{apart}
-use Rattle.qs_played.proofs.FunctionUpdate.{put_at, put_at_here, put_at_there}
+use Rattle.std.proofs.lemmas.Simd.{map-map}
+use Rattle.std.specs.List.{AllByRecursion, IsDistinct, range_with_len}
+use Rattle.qs_objects.specs.audit.Journals.{HeldState, run_one, answer}
+use Rattle.qs_meaning.specs.audit.Interaction.{Interaction, Done, Call, Query}
+use Rattle.qs_plain_laws.proofs.Names.{apart, put_at, put_at_here, put_at_there, QueueItem}
 use Rattle.qs_plain_laws.specs.audit.Plain.{Plain, Client, with_query_counted, Handler, Private, StageOfClient, out, within, waiting, begin, begun_blocks, client_at, handler_at, client_step, moves_on, item_step, queue_step, at_handler, at_each, log_in, enter, serves, stands, with_trace_event, begins, after_reply, reply_to, step, fresh_client, fresh_handler, no_client, no_handler, calls, asks, ends, runs_command, runs_query, leaves_queue}
 use Rattle.qs_plain_laws.specs.audit.PlainSchedule.{plays, entry_at, trace_at}
-use Rattle.qs_played.specs.audit.Schedule.{or_stay}
-use Rattle.qs_plain_laws.specs.declared.item.QueueItem.{QueueItem}
 use Rattle.qs_plain_laws.proofs.PlainTallies.{Tallied, asked_of, tallied_ask, tallied_begin, tallied_call, tallied_reply, tallied_stand}
 use Rattle.qs_plain_laws.proofs.ServedRuns.{ServedRun}
 use Rattle.qs_plain_laws.proofs.RunViews.{PlainStage, Stands, Runs, Awaits, stage_of, ClientView, RunView, after_answer, noted_held, reserved_by}
@@ -111,11 +85,7 @@ reserved_list p sound t = by_client (nat_lt t.client (length p.clients)) refl
 
 pub in_list : (p : ProgramShape) (hs : List ℕ) (h : ℕ) → AllByRecursion (λ h. h < length p.objects) hs → is_in hs h ≡ true → h < length p.objects
 in_list p [] h each member = cc
-in_list p (g ∷ hs) h each member = by_test (g == h) refl member (in_list p hs h each.1)
-  where
-    by_test : (b : Bool) → (g == h) ≡ b → (b || list_any (λ z. z == h) hs) ≡ true → (is_in hs h ≡ true → h < length p.objects) → h < length p.objects
-    by_test true e m later = let same : g ≡ h = grind (arith, e) in subst (λ g. g < length p.objects) same each.0
-    by_test false e m later = later m
+in_list p (g ∷ hs) h each member = grind (arith, in_list p hs h each.1)
 
 -- each handler of a list changed, seen as a function
 pub each_is : (f : Handler → Handler) (hs : List Handler) (ks : List ℕ) (g : ℕ) → AllByRecursion (λ k. k < length hs) ks → IsDistinct ◌==◌ ks
@@ -126,8 +96,7 @@ each_is f hs (k ∷ ks) g inside distinct =
     ∙ by_test (k == g) refl (IsDistinct-head ◌==◌ k ks distinct)
   where
     still : (js : List ℕ) → AllByRecursion (λ j. j < length hs) js → AllByRecursion (λ j. j < length (at_handler f hs k)) js
-    still [] e = tt
-    still (j ∷ js) e = (rw length-set e.0, still js e.1)
+    still v e = search (rules, length-set, e)
 
     not_later : (js : List ℕ) → AllByRecursion (λ y. (k == y) ≡ false) js → (k == g) ≡ true → is_in js g ≡ false
     not_later [] far e = refl
@@ -185,13 +154,7 @@ module _ (p : ProgramShape) (sound : IsSound p) (s : Plain) (k : RunInvariant p 
     traces_are e d = search (rules, seen)
 
     tallies_are : Tallied p c it (asked_of stance) → (d : ℕ) → Tallied p d (one d) (asked_of (stance' d))
-    tallies_are e d = ⊎_elim
-        (λ (is : c ≡ d). subst (λ d. Tallied p d (one d) (asked_of (stance' d))) is
-        (subst (λ x. Tallied p c x (asked_of (stance' c))) (sym here) (subst (λ g. Tallied p c it (asked_of g)) (sym (put_here k.stance c stance)) e)))
-        (λ (other : (c == d) ≡ false).
-        subst (λ x. Tallied p d x (asked_of (stance' d))) (sym (there d other))
-        (subst (λ g. Tallied p d (client_at s d) (asked_of g)) (sym (put_there k.stance c stance d other)) (k.tallies d)))
-        (num_cases c d)
+    tallies_are e d = search (rules, c, one, asked_of, here, put_here, k, there, put_there, num_cases)
 
     -- what the change keeps of each client
     keeps : {A : Type 0} (f : Client → A) → f it ≡ f (client_at s c) → (d : ℕ) → f (one d) ≡ f (client_at s d)
@@ -207,16 +170,7 @@ module _ (p : ProgramShape) (sound : IsSound p) (s : Plain) (k : RunInvariant p 
     module _ {A : Type 0} (f : Client → List A) (d : A) (n : ℕ) (a : A) (at : get_or (f it) n d ≡ a)
         (others : (i : ℕ) → (n == i) ≡ false → get_or (f it) i d ≡ get_or (f (client_at s c)) i d) where
       at_ticket : (t : Ticket) → get_or (f (one t.client)) t.index d ≡ put_at (λ t. get_or (f (client_at s t.client)) t.index d) (ticket c n) a t
-      at_ticket t = ⊎_elim
-          (λ (is : ticket c n ≡ t).
-          subst (λ t. get_or (f (one t.client)) t.index d ≡ put_at (λ t. get_or (f (client_at s t.client)) t.index d) (ticket c n) a t) is
-          (ap (λ x. get_or (f x) n d) here ∙ (at ∙ sym (put_at_here (λ t. get_or (f (client_at s t.client)) t.index d) (ticket c n) a))))
-          (λ (other : same (ticket c n) t ≡ false).
-          elsewhere other ∙ sym (put_at_there (λ t. get_or (f (client_at s t.client)) t.index d) (ticket c n) a t other))
-          (ticket_cases (ticket c n) t)
-        where
-          elsewhere : same (ticket c n) t ≡ false → get_or (f (one t.client)) t.index d ≡ get_or (f (client_at s t.client)) t.index d
-          elsewhere other = search (rules, ticket_path, same_self, here, num_cases, there)
+      at_ticket t = search (rules, c, one, put_at, here, put_at_here, put_at_there, ticket_cases, ticket_path, same_self, num_cases, there)
 
   -- one handler changed
   handler_put : (h : ℕ) (x : Handler) → h < length p.objects → (λ g. handler_at (set s.handlers h x) g) ≡ put (λ g. handler_at s.handlers g) h x
@@ -252,14 +206,10 @@ module _ (p : ProgramShape) (sound : IsSound p) (s : Plain) (k : RunInvariant p 
 
     -- the client's stance where its stage is known
     stance_runs : (rest : Interaction) → me.stage ≡ within rest → (x : PlainStage) → me.stage ≡ stage_of x → x ≡ Runs rest
-    stance_runs rest e (Stands l) f = absurd (let g : within rest ≡ out l = sym e ∙ f in cc)
-    stance_runs rest e (Runs other) f = let g : within rest ≡ within other = sym e ∙ f in ap Runs (let h : other ≡ rest = cc in h)
-    stance_runs rest e (Awaits r next) f = absurd (let g : within rest ≡ waiting next = sym e ∙ f in cc)
+    stance_runs rest e v f = search (rules, rest)
 
     stance_stands : (l : Locals) → me.stage ≡ out l → (x : PlainStage) → me.stage ≡ stage_of x → x ≡ Stands l
-    stance_stands l e (Stands m) f = let g : out l ≡ out m = sym e ∙ f in ap Stands (let h : m ≡ l = cc in h)
-    stance_stands l e (Runs other) f = absurd (let g : out l ≡ within other = sym e ∙ f in cc)
-    stance_stands l e (Awaits r next) f = absurd (let g : out l ≡ waiting next = sym e ∙ f in cc)
+    stance_stands l e v f = search rules
 
     called : (r : Request) (next : Interaction) → me.stage ≡ within (Call r next) → RunInvariant p sound (calls p s c me r next)
     called r next e =
@@ -350,9 +300,7 @@ module _ (p : ProgramShape) (sound : IsSound p) (s : Plain) (k : RunInvariant p 
         standing n x = record { begun = n; stage = x }
 
     goes : (rest : Interaction) → me.stage ≡ within rest → RunInvariant p sound (moves_on p s c me rest)
-    goes (Done l) e = ended l e
-    goes (Call r next) e = called r next e
-    goes (Query r next) e = asked r next e
+    goes v e = search (rules, ended, called, asked)
 
     client_kept : (g : StageOfClient) → me.stage ≡ g → RunInvariant p sound (or_stay s (client_step p s c me g))
     client_kept g e = search (rules, began, goes)
@@ -478,8 +426,7 @@ module _ (p : ProgramShape) (sound : IsSound p) (s : Plain) (k : RunInvariant p 
     item_kept q qs items e i = search (rules, done_it, asked_it, over_it)
 
     queue_kept : (qs : List Private) → us.queues ≡ qs → RunInvariant p sound (or_stay s (queue_step s h us qs))
-    queue_kept [] e = k
-    queue_kept (q ∷ qs) e = item_kept q qs q.items e refl
+    queue_kept v e = search (rules, item_kept)
 
   pub step_kept : (a : Actor) → RunInvariant p sound (or_stay s (step p s a))
   step_kept a = search (rules, queue_kept, client_kept)

@@ -2,41 +2,14 @@
 -- client waits for a reply; their sum is what the run shows. The law `plain_syncs_are_counted` is this, and `play`
 -- promises it. A legal order has each client's tickets once each, so the clients' counts are summed along the order, by
 -- cases on how a client stands.
-use Rattle.std.proofs.Common.{◌≡◌, ◌<◌, ◌≤◌, ℕ, zero, suc, ◌+◌, ◌-◌, ◌==◌, ◌&&◌, nat_lt, nat_eq, Bool, true, false, if◌then◌else◌, List, [], ◌∷◌, length, get_or, map, refl, sym, ap, ◌∙◌, subst, inl, inr, arith}
-use Rattle.std.specs.Prelude.{sum_by}
-use Rattle.std.specs.List.{AllByRecursion, range_with_len}
-use Rattle.std.proofs.lemmas.List.{get_or-map, length-map}
-use Rattle.std.proofs.lemmas.List.Sums.{sum_by-cons}
-use Rattle.qs_objects.specs.declared.held.Event.{Event}
-use Rattle.qs_objects.specs.declared.held.Ticket.{Ticket}
-use Rattle.qs_objects.specs.declared.Request.{Request}
-use Rattle.qs_objects.proofs.Choices.{apart_eqb, eqb_apart, eqb_self}
-use Rattle.qs_objects.proofs.Elements.{AllByRecursion-get_or}
-use Rattle.qs_meaning.specs.audit.Following.{reserves}
-use Rattle.qs_meaning.specs.Following.{AsksOnly, Leads, block_tree}
+use Rattle.std.proofs.Common.{◌≡◌, ◌<◌, ℕ, zero, suc, ◌+◌, ◌-◌, ◌==◌, ◌&&◌, nat_lt, nat_eq, Bool, true, false, if◌then◌else◌, List, [], ◌∷◌, length, get_or, map, refl, sym, ap, ◌∙◌, subst, inl, inr, arith, rules}
+use Rattle.qs_played.proofs.Names.{sum_by, AllByRecursion, range_with_len, get_or-map, length-map, sum_by-cons, Event, Ticket, Request, apart_eqb, eqb_apart, eqb_self, AllByRecursion-get_or, reserves, AsksOnly, Leads, block_tree, ProgramShape, blocks_of, text_of, IsLegal, value_of, IsSound, Among, IsBlockRecord, each_map, blocks_ask_only, object_of, syncs_of as syncs_of_row, syncs_for, command_asks_none, query_counts, ended_of, ticket_at, trace_of, ticket, queries_in, AreSent, counts_at, syncs_at, Played}
 use Rattle.qs_meaning.specs.audit.Interaction.{Interaction, Done, Call, Query}
-use Rattle.qs_program.specs.audit.Program.{ProgramShape, blocks_of, text_of}
-use Rattle.qs_meaning.specs.audit.Serial.{IsLegal}
-use Rattle.qs_meaning.specs.audit.Solo.{value_of}
-use Rattle.qs_program.specs.Sound.{IsSound}
-use Rattle.qs_meaning.proofs.Histories.{Among}
-use Rattle.qs_meaning.specs.BlockRecords.{IsBlockRecord}
-use Rattle.qs_meaning.proofs.Each.{each_map}
-use Rattle.qs_meaning.proofs.SoundTrees.{blocks_ask_only}
 use Rattle.qs_syncset.specs.SyncCounts.{asks, queries}
-use Rattle.qs_sync_counts.specs.audit.SyncRows.{object_of, syncs_of as syncs_of_row}
-use Rattle.qs_sync_counts.specs.SyncRows.{syncs_for}
-use Rattle.qs_syncset.proofs.SyncTrees.{command_asks_none, query_counts}
-use Rattle.qs_played.specs.audit.Isolation.{ended_of, ticket_at, trace_of}
-use Rattle.qs_played.specs.audit.Played.{ticket}
-use Rattle.qs_played.specs.audit.Schedule.{queries_in}
-use Rattle.qs_played.specs.SyncSums.{AreSent, counts_at, syncs_at}
-use Rattle.qs_played.specs.audit.Played.{Played}
 use Rattle.qs_played.proofs.ReservedObjects.{listed_inside, reserved_inside}
 use Rattle.qs_played.proofs.SyncTallies.{sent_of, total_for}
 use Rattle.qs_played.proofs.SyncLists.{sum_of, total_of, legal_blocks, sum_add, sum_at, sum_inside, sum_legal, sum_of_client, sum_one, sum_zero}
-use Rattle.qs_played.proofs.Orders.{each_among, counts_after, legal_among}
-use Rattle.qs_played.proofs.JournalRooms.{no_block_beyond}
+use Rattle.qs_plain_laws.proofs.Names.{each_among, counts_after, legal_among, no_block_beyond}
 use Rattle.qs_plain_laws.specs.audit.Plain.{Plain, Client, begin, begun_blocks, client_at, no_client}
 use Rattle.qs_plain_laws.specs.audit.PlainSchedule.{counts_of, ended_at, has_ended, is_out, played_of, plays, syncs_of, trace_at, waits}
 use Rattle.qs_plain_laws.specs.PlainSyncSums.{AreQueriesCounted, PlainSyncsAreCounted, waiting}
@@ -119,9 +92,7 @@ module _ (p : ProgramShape) (sound : IsSound p) (s : Plain) (k : RunInvariant p 
 
   -- each block that was begun stands in the order
   in_order : (c i : ℕ) → i < begun_blocks (client_at s c) → Among (ticket c i) w.order
-  in_order c i less =
-      legal_among p (λ _. 0) w.order c i good.legal (omega arith)
-      (let many : counts_after (λ _. 0) w.order c ≡ begun_blocks (client_at s c) = good.counts c ∙ sim.booked c in omega (arith, less, many))
+  in_order c i less = grind (arith, less, legal_among)
 
   record_ok : (c i : ℕ) → i < begun_blocks (client_at s c) → IsBlockRecord p (ticket c i) (w.block_record (ticket c i))
   record_ok c i less = each_among (λ t. IsBlockRecord p t (w.block_record t)) (ticket c i) w.order good.block_records (in_order c i less)
@@ -137,8 +108,7 @@ module _ (p : ProgramShape) (sound : IsSound p) (s : Plain) (k : RunInvariant p 
 
   -- and so is what its client waits for
   asked_inside : (c n : ℕ) → begun_blocks (client_at s c) ≡ n → (g : PlainStage) → k.stance c ≡ g → sum_of p (asked_of g) ≡ waits (stage_of g)
-  asked_inside c zero b (Awaits q next) at =
-      absurd (subst (λ n. StandsAt w.block_record c (Awaits q next) n) b (subst (λ g. StandsAt w.block_record c g (begun_blocks (client_at s c))) at (sim.stands c)))
+  asked_inside c zero b (Awaits q next) at = search rules
   asked_inside c (suc i) b (Awaits q next) at =
       let t = ticket c i in
       let rest : (w.block_record t).rest ≡ Query q next =
@@ -149,9 +119,7 @@ module _ (p : ProgramShape) (sound : IsSound p) (s : Plain) (k : RunInvariant p 
 
   -- a client between blocks waits for nothing
   none_before : (c : ℕ) → begun_blocks (client_at s c) ≡ 0 → (g : PlainStage) → k.stance c ≡ g → waits (stage_of g) ≡ 0
-  none_before c b (Awaits q next) at =
-      absurd (subst (λ n. StandsAt w.block_record c (Awaits q next) n) b (subst (λ g. StandsAt w.block_record c g (begun_blocks (client_at s c))) at (sim.stands c)))
-  none_before c b _ at = refl
+  none_before c b v at = search rules
 
   -- what a block has asked
   block_sent : (c i : ℕ) → i < begun_blocks (client_at s c)
@@ -220,8 +188,7 @@ module _ (p : ProgramShape) (sound : IsSound p) (s : Plain) (k : RunInvariant p 
           inr (open_yet, q.object, λ h. refl)
         where
           both : (x : Bool) → (x && false) ≡ false
-          both true = refl
-          both false = refl
+          both v = search rules
       by_stance last _ at = inl (λ h. omega arith)
 
       by_case : (b : Bool) → (suc t.index == begun_blocks it) ≡ b → AreSent (ended_at s t) (sent_so_far t) (λ h. queries h (trace_at s t))
@@ -240,11 +207,7 @@ module _ (p : ProgramShape) (sound : IsSound p) (s : Plain) (k : RunInvariant p 
     own = AllByRecursion-get_or (λ (t : Ticket). t.index < blocks_of p t.client) s.order i (ticket 0 0) (legal_blocks p (λ _. 0) s.order legal) inside
 
     less : t.index < begun_blocks (client_at s t.client)
-    less =
-        let booked = AllByRecursion-get_or (λ (t : Ticket). suc t.index ≤ w.booked t.client) s.order i (ticket 0 0)
-        (subst (AllByRecursion (λ (t : Ticket). suc t.index ≤ w.booked t.client)) sim.order good.below) inside in
-        let same = sim.booked t.client in
-        omega (arith, booked, same)
+    less = grind (arith, AllByRecursion-get_or)
 
     counts_are : counts_at r i ≡ counts_of s t
     counts_are = get_or-map (counts_of s) s.order i (ticket 0 0) [] inside

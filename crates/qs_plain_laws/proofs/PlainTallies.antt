@@ -3,22 +3,8 @@
 -- that happens to a client keeps it so.
 use Rattle.std.proofs.Common.{◌≡◌, ◌≢◌, ◌<◌, ℕ, zero, suc, ◌+◌, ◌-◌, ◌==◌, true, false, if◌then◌else◌, List, [], ◌∷◌, ◌++◌, map, length, get_or, Option, None, ℤ, refl, subst, arith, get_or-set_same, get_or-set_other, length-set, rules}
 use Rattle.std.specs.List.{IsDistinct}
-use Rattle.std.proofs.lemmas.List.{length-append}
-use Rattle.std.proofs.lemmas.List.Elements.{filter-append}
-use Rattle.qs_objects.specs.audit.Operations.{is_query}
-use Rattle.qs_objects.specs.declared.held.Event.{Event}
-use Rattle.qs_objects.specs.declared.Request.{Request}
-use Rattle.qs_objects.proofs.Choices.{apart_eqb, eqb_apart, eqb_self, num_cases}
-use Rattle.qs_program.specs.audit.Program.{ProgramShape, text_of}
-use Rattle.qs_program.specs.audit.Sound.{is_in}
-use Rattle.qs_program.specs.audit.Values.{Locals}
-use Rattle.qs_meaning.specs.audit.Interaction.{Interaction}
-use Rattle.qs_meaning.specs.audit.Solo.{event}
+use Rattle.qs_played.proofs.Names.{length-append, filter-append, is_query, Event, Request, apart_eqb, eqb_apart, eqb_self, num_cases, ProgramShape, text_of, is_in, Locals, Interaction, event, object_of, syncs_for, command_asks_none, query_counts, ticket}
 use Rattle.qs_syncset.specs.SyncCounts.{asks, queries}
-use Rattle.qs_sync_counts.specs.audit.SyncRows.{object_of}
-use Rattle.qs_sync_counts.specs.SyncRows.{syncs_for}
-use Rattle.qs_syncset.proofs.SyncTrees.{command_asks_none, query_counts}
-use Rattle.qs_played.specs.audit.Played.{ticket}
 use Rattle.qs_played.proofs.SyncTallies.{none_for, objects_none, objects_stay, one_more_for}
 use Rattle.qs_plain_laws.specs.audit.Plain.{Client, StageOfClient, begins, begun_blocks, with_query_counted, stands, with_trace_event, waiting, within}
 use Rattle.qs_plain_laws.proofs.RunViews.{PlainStage, Awaits}

@@ -1,23 +1,6 @@
 -- A journal's room suffices under the plain rules: what was run of each reservation is within its block's load.
-use Rattle.std.proofs.Common.{◌≡◌, ◌<◌, ◌≤◌, ◌+◌, arith, ℕ, suc, List, [], ◌∷◌, ◌++◌, length, map, flat_map, refl, ap, ap₂, ◌∙◌, subst, ℤ, None}
-use Rattle.std.specs.List.{AllByRecursion}
-use Rattle.std.proofs.lemmas.List.{length-append, length-map}
-use Rattle.qs_objects.specs.audit.Parts.{command_event, part}
-use Rattle.qs_objects.specs.Parts.{stamp}
-use Rattle.qs_objects.specs.declared.held.Event.{Event}
-use Rattle.qs_objects.specs.declared.held.Ticket.{Ticket}
-use Rattle.qs_objects.specs.declared.Request.{Request}
-use Rattle.qs_meaning.specs.audit.Following.{reserves}
-use Rattle.qs_meaning.specs.Following.{Leads, block_tree}
-use Rattle.qs_meaning.specs.audit.Interaction.{Interaction, Query}
-use Rattle.qs_program.specs.audit.Program.{ProgramShape, text_of}
-use Rattle.qs_meaning.specs.audit.Solo.{event, value_of}
-use Rattle.qs_meaning.proofs.Each.{each_map, each_front, each_back, each_kept}
-use Rattle.qs_meaning.proofs.Histories.{parts_of}
-use Rattle.qs_meaning.specs.BlockRecords.{IsBlockRecord}
-use Rattle.qs_meaning.proofs.RequestPaths.{requests_within}
-use Rattle.qs_meaning.proofs.TreeWalks.{leads_query, part_snoc_here}
-use Rattle.qs_played.specs.audit.JournalRooms.{room_of}
+use Rattle.std.proofs.Common.{◌≡◌, ◌<◌, ◌≤◌, ◌+◌, arith, ℕ, suc, List, [], ◌∷◌, ◌++◌, length, map, flat_map, refl, ap, ap₂, ◌∙◌, subst, ℤ, None, rules}
+use Rattle.qs_played.proofs.Names.{AllByRecursion, length-append, length-map, command_event, part, stamp, Event, Ticket, Request, reserves, Leads, block_tree, Interaction, Query, ProgramShape, text_of, event, value_of, each_map, each_front, each_back, each_kept, parts_of, IsBlockRecord, requests_within, leads_query, part_snoc_here, room_of}
 use Rattle.qs_played.proofs.JournalRooms.{total, total_less, total_append, total_filter, leads_within, cost, order_fits, all_left}
 use Rattle.qs_plain_laws.proofs.ServedRuns.{Service, ServedRun, Front, entries_shown, IsServedRun}
 
@@ -32,8 +15,7 @@ module _ (p : ProgramShape) (h : ℕ) (w : ServedRun) (ok : IsServedRun p w) whe
   within_load t path = leads_within h (block_tree p t (w.block_record t).entry) (w.block_record t).trace (w.block_record t).rest (cost p h t) path (requests_within (text_of p t).body (w.block_record t).entry h)
 
   all_within : AllByRecursion (λ t. length (parts t) ≤ cost p h t) (l.past ++ l.queue)
-  all_within = subst (AllByRecursion (λ t. length (parts t) ≤ cost p h t)) (ok.services h).mine
-      (each_kept (λ t. length (parts t) ≤ cost p h t) (λ t. reserves p t h) w.order (each_map within_load w.order ok.block_records))
+  all_within = search (rules, parts, cost, ok, each_kept, each_map, within_load)
 
   stamped_length : (ts : List Ticket) → length (flat_map (λ t. map (stamp t) (parts t)) ts) ≡ total (λ t. length (parts t)) ts
   stamped_length [] = refl

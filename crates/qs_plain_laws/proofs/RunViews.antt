@@ -1,21 +1,8 @@
 -- A run by the plain rules as functions: each client and each handler by its number, each reservation by its ticket.
 use Rattle.std.proofs.Common.{ℕ, suc, ◌-◌, ℤ, List, [], ◌∷◌, ◌++◌, if◌then◌else◌}
 use Rattle.qs_objects.specs.audit.Journals.{HeldState, after, answer}
-use Rattle.qs_objects.specs.audit.Parts.{command_event}
-use Rattle.qs_objects.specs.Parts.{stamp}
-use Rattle.qs_objects.specs.declared.held.Event.{Event}
-use Rattle.qs_objects.specs.declared.held.Ticket.{Ticket}
-use Rattle.qs_objects.specs.declared.Request.{Request}
-use Rattle.qs_meaning.specs.audit.Following.{reserves}
-use Rattle.qs_meaning.specs.Following.{block_tree}
-use Rattle.qs_meaning.specs.audit.Interaction.{Interaction}
-use Rattle.qs_program.specs.audit.Program.{ProgramShape}
-use Rattle.qs_meaning.specs.audit.Solo.{put, event, value_of}
-use Rattle.qs_program.specs.audit.Values.{Locals}
-use Rattle.qs_played.specs.audit.Played.{ticket}
-use Rattle.qs_played.proofs.FunctionUpdate.{put_at}
-use Rattle.qs_plain_laws.specs.audit.Plain.{Private, Handler, StageOfClient, out, within, waiting, enter, log_in, serves}
-use Rattle.qs_plain_laws.specs.declared.item.QueueItem.{QueueItem}
+use Rattle.qs_played.proofs.Names.{command_event, stamp, Event, Ticket, Request, reserves, block_tree, Interaction, ProgramShape, put, event, value_of, Locals, ticket}
+use Rattle.qs_plain_laws.proofs.Names.{put_at, Private, Handler, StageOfClient, out, within, waiting, enter, log_in, serves, QueueItem}
 use Rattle.qs_plain_laws.specs.declared.item.QueueItem.TheVariants as item
 
 -- as a stage of the plain rules, with the query that a client waits for

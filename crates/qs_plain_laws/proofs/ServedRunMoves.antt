@@ -2,29 +2,11 @@
 -- ticket leaves, or a new one comes. Each step of the plain rules is shown to be such a move (`Simulation`). A move
 -- changes one ticket's block record or one object's service, or adds a ticket; all other block records and services
 -- stay, and what is known of the service has its own lemmas.
-use Rattle.std.proofs.Common.{◌≡◌, ℕ, zero, suc, ◌<◌, ◌≤◌, arith, Bool, true, false, if◌then◌else◌, ◌==◌, List, [], ◌∷◌, ◌++◌, refl, sym, ap, ◌∙◌, subst, ⊎_elim, ℤ, rules}
-use Rattle.std.specs.List.{AllByRecursion}
+use Rattle.std.proofs.Common.{◌≡◌, ℕ, suc, ◌<◌, ◌≤◌, arith, Bool, true, false, if◌then◌else◌, ◌==◌, List, [], ◌∷◌, ◌++◌, refl, sym, ap, ◌∙◌, subst, ⊎_elim, ℤ, rules}
+use Rattle.qs_played.proofs.Names.{AllByRecursion, command_event, same, Event, Ticket, Request, num_cases, ticket_cases, reserves, Leads, AsksOnly, block_tree, ProgramShape, blocks_of, declared_states, put, event, value_of, IsSound, Locals, each_map, each_both, each_snoc, Among, parts_of, done_of, advance, BlockRecord, IsBlockRecord, IsDone, Begins, blocks_ask_only, put_here, put_there, leads_call, leads_query, asks_rest, part_snoc_here, part_snoc_there}
 use Rattle.qs_objects.specs.audit.Journals.{answer}
-use Rattle.qs_objects.specs.audit.Parts.{command_event, same}
-use Rattle.qs_objects.specs.declared.held.Event.{Event}
-use Rattle.qs_objects.specs.declared.held.Ticket.{Ticket}
-use Rattle.qs_objects.specs.declared.Request.{Request}
-use Rattle.qs_objects.proofs.Choices.{num_cases, ticket_cases}
-use Rattle.qs_meaning.specs.audit.Following.{reserves}
-use Rattle.qs_meaning.specs.Following.{Leads, AsksOnly, block_tree}
 use Rattle.qs_meaning.specs.audit.Interaction.{Interaction, Done, Call, Query}
-use Rattle.qs_program.specs.audit.Program.{ProgramShape, blocks_of}
-use Rattle.qs_meaning.specs.audit.Serial.{declared_states}
-use Rattle.qs_meaning.specs.audit.Solo.{put, event, value_of}
-use Rattle.qs_program.specs.Sound.{IsSound}
-use Rattle.qs_program.specs.audit.Values.{Locals}
-use Rattle.qs_meaning.proofs.Each.{each_map, each_both, each_snoc}
-use Rattle.qs_meaning.proofs.Histories.{Among, parts_of, done_of, advance}
-use Rattle.qs_meaning.specs.BlockRecords.{BlockRecord, IsBlockRecord, IsDone, Begins}
-use Rattle.qs_meaning.proofs.SoundTrees.{blocks_ask_only}
-use Rattle.qs_meaning.proofs.TreeWalks.{put_here, put_there, leads_call, leads_query, asks_rest, part_snoc_here, part_snoc_there}
-use Rattle.qs_played.proofs.Orders.{legal-more, counts-more, each_among}
-use Rattle.qs_played.proofs.FunctionUpdate.{put_at, put_at_here, put_at_there}
+use Rattle.qs_plain_laws.proofs.Names.{legal-more, counts-more, each_among, put_at, put_at_here, put_at_there}
 use Rattle.qs_plain_laws.proofs.ServedRuns.{Service, ServedRun, log, reply, end_block, run_first, reserve, service_log, service_answer, service_run, service_leave, service_reserve, IsService, IsServedRun}
 use Rattle.qs_plain_laws.proofs.Services.{service_same, service_log_ok, service_answer_ok, service_run_ok, service_leave_ok, service_pass_ok, service_reserve_ok}
 
@@ -48,8 +30,7 @@ module _ (p : ProgramShape) (sound : IsSound p) where
     is_done_kept u d = search (rules, done_of, put_at_there, advance, ticket_cases)
 
     begins_one : (c k : ℕ) (a b : Locals) → a ≡ b → Begins w.block_record c k a → Begins block_record' c k b
-    begins_one c zero a b is h = sym is ∙ h
-    begins_one c (suc k) a b is h = done_kept (record { client = c; index = k }) b (h ∙ ap Done is)
+    begins_one c v a b is h = search (rules, done_kept)
 
     begins_kept : AllByRecursion (λ t. Begins w.block_record t.client t.index (w.block_record t).entry) w.order → AllByRecursion (λ t. Begins block_record' t.client t.index (block_record' t).entry) w.order
     begins_kept = each_map (λ u h. begins_one u.client u.index (w.block_record u).entry (block_record' u).entry (sym (entry_same u)) h) w.order
@@ -120,18 +101,7 @@ module _ (p : ProgramShape) (sound : IsSound p) where
   one_service : (w : ServedRun) (h : ℕ) (l : Service) → IsServedRun p w
       → (IsService p (declared_states p h) w.order h (parts_of w.block_record h) (done_of w.block_record) (w.service h) → IsService p (declared_states p h) w.order h (parts_of w.block_record h) (done_of w.block_record) l)
       → IsServedRun p (record { order = w.order; booked = w.booked; block_record = w.block_record; service = put w.service h l })
-  one_service w h l ok f = record {
-    legal = ok.legal;
-    counts = ok.counts;
-    below = ok.below;
-    block_records = ok.block_records;
-    begins = ok.begins;
-    services = λ g. ⊎_elim
-        (λ (at : h ≡ g). subst (λ g. IsService p (declared_states p g) w.order g (parts_of w.block_record g) (done_of w.block_record) (put w.service h l g)) at
-        (subst (IsService p (declared_states p h) w.order h (parts_of w.block_record h) (done_of w.block_record)) (sym (put_here w.service h l)) (f (ok.services h))))
-        (λ (at : (h == g) ≡ false). subst (IsService p (declared_states p g) w.order g (parts_of w.block_record g) (done_of w.block_record)) (sym (put_there w.service h l g at)) (ok.services g))
-        (num_cases h g);
-  }
+  one_service w h l ok f = search (rules, ok, parts_of, put_here, put_there, num_cases)
 
   pub run_ok : (w : ServedRun) (h : ℕ) (t : Ticket) (ts : List Ticket) (r : Request) (rs : List Request) → (w.service h).queue ≡ t ∷ ts → (w.service h).wait t ≡ r ∷ rs
       → IsServedRun p w → IsServedRun p (run_first w h t r rs)

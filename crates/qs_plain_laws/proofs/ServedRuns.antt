@@ -3,26 +3,9 @@
 -- keeps one beside the machine's state. A journal is said by tickets: first the parts of those that are over, and then
 -- what was run of the first in the queue.
 use Rattle.std.proofs.Common.{◌≡◌, ℕ, suc, ◌≤◌, ℤ, if◌then◌else◌, List, [], ◌∷◌, ◌++◌, map, filter, flat_map}
-use Rattle.std.specs.List.{AllByRecursion}
-use Rattle.qs_objects.specs.audit.Act.{State}
+use Rattle.qs_played.proofs.Names.{AllByRecursion, State, command_event, stamp, Entry, Event, Ticket, Request, reserves, block_tree, Interaction, ProgramShape, IsLegal, declared_states, put, event, value_of, Locals, Apart, NoQuery, parts_of, done_of, advance, BlockRecord, IsBlockRecord, Begins}
 use Rattle.qs_objects.specs.audit.Journals.{after, answer, replay, without_tickets, IsHonest}
-use Rattle.qs_objects.specs.audit.Parts.{command_event}
-use Rattle.qs_objects.specs.Parts.{stamp}
-use Rattle.qs_objects.specs.declared.held.Entry.{Entry}
-use Rattle.qs_objects.specs.declared.held.Event.{Event}
-use Rattle.qs_objects.specs.declared.held.Ticket.{Ticket}
-use Rattle.qs_objects.specs.declared.Request.{Request}
-use Rattle.qs_meaning.specs.audit.Following.{reserves}
-use Rattle.qs_meaning.specs.Following.{block_tree}
-use Rattle.qs_meaning.specs.audit.Interaction.{Interaction}
-use Rattle.qs_program.specs.audit.Program.{ProgramShape}
-use Rattle.qs_meaning.specs.audit.Serial.{IsLegal, declared_states}
-use Rattle.qs_meaning.specs.audit.Solo.{put, event, value_of}
-use Rattle.qs_program.specs.audit.Values.{Locals}
-use Rattle.qs_meaning.proofs.Histories.{Apart, NoQuery, parts_of, done_of, advance}
-use Rattle.qs_meaning.specs.BlockRecords.{BlockRecord, IsBlockRecord, Begins}
-use Rattle.qs_played.proofs.Orders.{counts_after}
-use Rattle.qs_played.proofs.FunctionUpdate.{put_at}
+use Rattle.qs_plain_laws.proofs.Names.{counts_after, put_at}
 
 -- An object's service: the tickets whose requests were all run; those that are still to be served, in order; what was
 -- run of the first of them; for each the commands that wait; the journal, and the state.

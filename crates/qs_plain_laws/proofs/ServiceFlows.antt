@@ -2,25 +2,9 @@
 -- but for the commands that still lie in its private queue. Isolation under the plain rules (`Isolating`) needs this of
 -- each object of a sound served run. The proof is an induction along the order, over tickets that are over, that are
 -- served, or that don't reserve the object.
-use Rattle.std.proofs.Common.{◌≡◌, ◌≢◌, ℕ, Bool, true, false, true≢false, if◌then◌else◌, List, [], ◌∷◌, ◌++◌, map, filter, flat_map, refl, sym, ap, ap₂, ◌∙◌, subst, inl, inr, append_assoc, append-nil, rules}
-use Rattle.std.specs.List.{AllByRecursion}
-use Rattle.std.proofs.lemmas.List.{map-append}
-use Rattle.qs_objects.specs.audit.Act.{State}
-use Rattle.qs_objects.specs.audit.Journals.{replay, unstamp, without_tickets, IsHonest}
-use Rattle.qs_objects.specs.audit.Parts.{command_event, same}
-use Rattle.qs_objects.specs.Parts.{stamp}
-use Rattle.qs_objects.specs.declared.held.Entry.{Entry}
-use Rattle.qs_objects.specs.declared.held.Event.{Event}
-use Rattle.qs_objects.specs.declared.held.Ticket.{Ticket}
-use Rattle.qs_objects.specs.declared.Request.{Request}
-use Rattle.qs_objects.proofs.Choices.{not_same, same_self}
-use Rattle.qs_objects.proofs.Replays.{replay-append, IsHonest-front, IsHonest-back}
-use Rattle.qs_meaning.specs.audit.Following.{reserves}
-use Rattle.qs_program.specs.audit.Program.{ProgramShape}
-use Rattle.qs_meaning.proofs.Each.{each_map, each_both, each_unfiltered}
-use Rattle.qs_meaning.proofs.Histories.{ObjectCourse, Flow, OnlyCommands, NoQuery, Apart, unstamp_all}
-use Rattle.qs_plain_laws.specs.PlainIsolation.{commands_in, commands_of}
-use Rattle.qs_plain_laws.specs.declared.item.QueueItem.{QueueItem}
+use Rattle.std.proofs.Common.{◌≡◌, ℕ, Bool, true, false, true≢false, if◌then◌else◌, List, [], ◌∷◌, ◌++◌, map, filter, flat_map, refl, sym, ap, ◌∙◌, subst, inl, inr, append_assoc, append-nil, rules}
+use Rattle.qs_played.proofs.Names.{AllByRecursion, map-append, State, replay, unstamp, without_tickets, IsHonest, command_event, same, stamp, Entry, Event, Ticket, Request, not_same, same_self, replay-append, IsHonest-front, IsHonest-back, reserves, ProgramShape, each_map, each_both, each_unfiltered, ObjectCourse, Flow, OnlyCommands, NoQuery, Apart, unstamp_all}
+use Rattle.qs_plain_laws.proofs.Names.{commands_in, commands_of, QueueItem}
 use Rattle.qs_plain_laws.proofs.ServedRuns.{Service, Front, entries_shown}
 use Rattle.qs_plain_laws.proofs.RunViews.{ClientView}
 use Rattle.qs_plain_laws.proofs.Simulation.{private, tail, tail_now}
@@ -152,10 +136,4 @@ module _ (client : ℕ → ClientView) (h : ℕ) (wait : Ticket → List Request
   -- of each that has one
   pub found_each : (q : List Ticket) → Apart q → AllByRecursion (λ u. commands_found q u ≡ wait u) q
   found_each [] apart = tt
-  found_each (t ∷ q) apart = (
-    ap₂ (λ a b. a ++ b) own (found_none q t (each_map (λ u n. not_same t u n) q apart.0)) ∙ append-nil (wait t),
-    each_both (λ u (n : t ≢ u) (e : commands_found q u ≡ wait u). found_skip q t u (not_same u t (λ is. n (sym is))) ∙ e) q apart.0 (found_each q apart.1),
-  )
-    where
-      own : commands_of t (private client h wait t) ≡ wait t
-      own = ap (λ b. if b then commands_in (private client h wait t).items else []) (same_self t) ∙ commands_private client h wait t
+  found_each (t ∷ q) apart = search (rules, found_none, each_map, not_same, append-nil, each_both, found_skip, same_self, commands_private, found_each q apart.1)

@@ -1,51 +1,26 @@
 -- Each move of a served run keeps what is known of an object's service (`IsService`): its tickets, what waits for each,
 -- its journal and its state. The lemmas on whole served runs (`ServedRunMoves`) stand on this. Only a ticket that isn't
 -- over gets a further event, so the parts of those that are over stay; the queue is gone through by induction.
-use Rattle.std.proofs.Common.{◌≡◌, ◌≢◌, ℕ, Bool, true, false, if◌then◌else◌, List, [], ◌∷◌, ◌++◌, map, filter, flat_map, refl, sym, ap, ap₂, ◌∙◌, subst, ⊎_elim, append_assoc, append-nil, true≢false, rules}
-use Rattle.std.specs.List.{AllByRecursion}
-use Rattle.std.proofs.lemmas.List.{map-append}
-use Rattle.std.proofs.lemmas.List.Elements.{filter-append}
+use Rattle.std.proofs.Common.{◌≡◌, ◌≢◌, ℕ, Bool, true, false, if◌then◌else◌, List, [], ◌∷◌, ◌++◌, map, filter, flat_map, sym, ap, ap₂, ◌∙◌, subst, ⊎_elim, append_assoc, append-nil, true≢false, rules}
+use Rattle.qs_played.proofs.Names.{AllByRecursion, map-append, filter-append, State, command_event, same, stamp, Event, Ticket, Request, ticket_cases, same_self, never_answers, replay-append, IsHonest-append, reserves, ProgramShape, event, each_map, each_both, each_snoc, each_front, each_back, each_kept, flat_map_same, Apart, NoQuery}
 use Rattle.std.proofs.lemmas.List.Concat.{flat_map-append}
-use Rattle.std.proofs.Math.Path.{fun_ext}
-use Rattle.qs_objects.specs.audit.Act.{State}
-use Rattle.qs_objects.specs.audit.Journals.{after, answer, replay, unstamp, without_tickets, IsHonest}
-use Rattle.qs_objects.specs.audit.Parts.{command_event, same}
-use Rattle.qs_objects.specs.Parts.{stamp}
-use Rattle.qs_objects.specs.declared.held.Event.{Event}
-use Rattle.qs_objects.specs.declared.held.Ticket.{Ticket}
-use Rattle.qs_objects.specs.declared.Request.{Request}
-use Rattle.qs_objects.proofs.Choices.{ticket_cases, same_self}
-use Rattle.qs_objects.proofs.ObjectLaws.{never_answers}
-use Rattle.qs_objects.proofs.Replays.{replay-append, IsHonest-append}
-use Rattle.qs_meaning.specs.audit.Following.{reserves}
-use Rattle.qs_program.specs.audit.Program.{ProgramShape}
-use Rattle.qs_meaning.specs.audit.Solo.{event}
-use Rattle.qs_meaning.proofs.Each.{each_map, each_both, each_snoc, each_front, each_back, each_kept, flat_map_same}
-use Rattle.qs_meaning.proofs.Histories.{Apart, NoQuery}
+use Rattle.qs_objects.specs.audit.Journals.{after, answer, replay, without_tickets, IsHonest}
 use Rattle.qs_played.proofs.FunctionUpdate.{put_at, put_at_here, put_at_there, put_at_holds}
 use Rattle.qs_plain_laws.proofs.ServedRuns.{Service, service_log, service_answer, service_run, service_leave, service_reserve, Front, entries_shown, IsService}
 
 shown_none : (ts : List Ticket) → entries_shown ts [] ≡ []
-shown_none [] = refl
-shown_none (t ∷ ts) = refl
+shown_none v = search rules
 
 module _ (p : ProgramShape) (start : State) (order : List Ticket) (h : ℕ) where
   -- another way to say what the parts are
   pub service_same : (parts parts' : Ticket → List Event) (done done' : Ticket → Type 0) (l : Service) → ((t : Ticket) → parts t ≡ parts' t) → ((t : Ticket) → done t → done' t) → IsService p start order h parts done l → IsService p start order h parts' done' l
-  service_same parts parts' done done' l e d ok =
-      let k = subst (λ ps. IsService p start order h ps done l) (fun_ext e) ok in
-      record { mine = k.mine; apart = k.apart; over = each_map d l.past k.over; front = k.front; entries = k.entries; commands = k.commands; honest = k.honest; state = k.state }
+  service_same parts parts' done done' l e d ok = search (rules, each_map)
 
   -- an entry more
   honest_more : (l : Service) (parts : Ticket → List Event) (done : Ticket → Type 0) (t : Ticket) (r : Request) → IsService p start order h parts done l
       → IsHonest start (without_tickets (l.journal ++ stamp t (event r (answer l.state r)) ∷ []))
       × (replay start (without_tickets (l.journal ++ stamp t (event r (answer l.state r)) ∷ [])) ≡ after l.state r)
-  honest_more l parts done t r ok =
-      let e = event r (answer l.state r) in
-      let is = map-append unstamp l.journal (stamp t e ∷ []) in (
-        subst (IsHonest start) (sym is) (IsHonest-append start (without_tickets l.journal) (e ∷ []) ok.honest (ap (λ s. answer s r) (sym ok.state), tt)),
-        ap (replay start) is ∙ (replay-append start (without_tickets l.journal) (e ∷ []) ∙ ap (λ s. after s r) ok.state),
-      )
+  honest_more l parts done t r ok = search (rules, map-append, IsHonest-append, ok, replay-append)
 
   module _ (parts : Ticket → List Event) (done : Ticket → Type 0) where
     -- the parts of tickets that are over stay as they are, where a ticket that isn't over gets one more event
@@ -183,8 +158,7 @@ module _ (p : ProgramShape) (start : State) (order : List Ticket) (h : ℕ) wher
       }
         where
           front : (q : List Ticket) → AllByRecursion (λ u. same t u ≡ false) q → Front parts l.now l.wait q → Front (put_at parts t []) l.now l.wait q
-          front [] n f = f
-          front (v ∷ vs) n f = (put_at_there parts t [] v n.0 ∙ f.0, each_both (λ u e g. put_at_there parts t [] u e ∙ g) vs n.1 f.1)
+          front w n f = search (rules, put_at_there, each_both)
 
       pub service_reserve_ok : reserves p t h ≡ true → IsService p start (order ++ t ∷ []) h new_parts done' (service_reserve l t)
       service_reserve_ok e = record {
@@ -203,8 +177,7 @@ module _ (p : ProgramShape) (start : State) (order : List Ticket) (h : ℕ) wher
           apart (v ∷ vs) n a = (each_snoc (λ u. v ≢ u) vs t a.0 (λ is. true≢false (sym (subst (λ u. same t u ≡ true) (sym is) (same_self t)) ∙ n.0)), apart vs n.1 a.1)
 
           seen : (q : List Ticket) → Front parts l.now l.wait q → entries_shown q l.now ≡ entries_shown (q ++ t ∷ []) l.now
-          seen [] f = ap (map (stamp t)) (sym f)
-          seen (v ∷ vs) f = refl
+          seen w f = search (rules, map)
 
           front : (q : List Ticket) → AllByRecursion (λ u. same t u ≡ false) q → Front parts l.now l.wait q → Front (put_at parts t []) l.now (put_at l.wait t []) (q ++ t ∷ [])
           front [] n f = (put_at_here parts t [] ∙ ap₂ (λ es rs. es ++ map command_event rs) (sym f) (sym (put_at_here l.wait t [])), tt)

@@ -3,36 +3,11 @@
 -- commands that wait and then at most one item more, an end mark or the query that its client waits for, so its first
 -- item tells which move is made.
 use Rattle.std.proofs.Common.{◌≡◌, ℕ, zero, suc, ◌-◌, ◌<◌, ◌≤◌, arith, Bool, true, false, true≢false, if◌then◌else◌, ◌==◌, List, [], ◌∷◌, ◌++◌, map, length, refl, sym, ap, ap₂, ◌∙◌, subst, ⊎_elim, append-nil, Option, ℤ, rules}
-use Rattle.std.specs.List.{AllByRecursion}
-use Rattle.std.proofs.lemmas.List.{map-append}
+use Rattle.qs_played.proofs.Names.{AllByRecursion, map-append, State, is_query, command_event, same, stamp, Entry, Event, Ticket, Request, eqb_self, eqb_true, eqb_apart, apart_eqb, num_cases, ticket_cases, ticket_path, same_self, reserves, AsksOnly, block_tree, ProgramShape, blocks_of, put, event, value_of, IsSound, Locals, each_map, each_kept, each_back, each_passes, every, map_same, Among, Apart, advance, BlockRecord, IsBlockRecord, IsDone, Begins, put_here, put_there, ticket, room_of}
 use Rattle.std.proofs.lemmas.Simd.{map-map}
-use Rattle.qs_objects.specs.audit.Act.{State}
 use Rattle.qs_objects.specs.audit.Journals.{after, answer}
-use Rattle.qs_objects.specs.audit.Operations.{is_query}
-use Rattle.qs_objects.specs.audit.Parts.{command_event, same}
-use Rattle.qs_objects.specs.Parts.{stamp}
-use Rattle.qs_objects.specs.declared.held.Entry.{Entry}
-use Rattle.qs_objects.specs.declared.held.Event.{Event}
-use Rattle.qs_objects.specs.declared.held.Ticket.{Ticket}
-use Rattle.qs_objects.specs.declared.Request.{Request}
-use Rattle.qs_objects.proofs.Choices.{eqb_self, eqb_true, eqb_apart, apart_eqb, num_cases, ticket_cases, ticket_path, same_self}
-use Rattle.qs_meaning.specs.audit.Following.{reserves}
-use Rattle.qs_meaning.specs.Following.{AsksOnly, block_tree}
 use Rattle.qs_meaning.specs.audit.Interaction.{Interaction, Done, Call, Query}
-use Rattle.qs_program.specs.audit.Program.{ProgramShape, blocks_of}
-use Rattle.qs_meaning.specs.audit.Solo.{put, event, value_of}
-use Rattle.qs_program.specs.Sound.{IsSound}
-use Rattle.qs_program.specs.audit.Values.{Locals}
-use Rattle.qs_meaning.proofs.Each.{each_map, each_kept, each_back, each_passes, every, map_same}
-use Rattle.qs_meaning.proofs.Histories.{Among, Apart, advance}
-use Rattle.qs_meaning.specs.BlockRecords.{BlockRecord, IsBlockRecord, IsDone, Begins}
-use Rattle.qs_meaning.proofs.TreeWalks.{put_here, put_there}
-use Rattle.qs_played.specs.audit.Played.{ticket}
-use Rattle.qs_played.specs.audit.JournalRooms.{room_of}
-use Rattle.qs_played.proofs.Orders.{counts_after, each_among, legal_among}
-use Rattle.qs_played.proofs.FunctionUpdate.{put_at, put_at_here, put_at_there, put_at_field, put_field, put_at_kept, put_kept, put_all, put_both}
-use Rattle.qs_plain_laws.specs.audit.Plain.{Private, Handler, put_item, log_in, enter}
-use Rattle.qs_plain_laws.specs.declared.item.QueueItem.{QueueItem}
+use Rattle.qs_plain_laws.proofs.Names.{counts_after, each_among, legal_among, put_at, put_at_here, put_at_there, put_at_field, put_field, put_at_kept, put_kept, put_all, put_both, Private, Handler, put_item, log_in, enter, QueueItem}
 use Rattle.qs_plain_laws.proofs.ServedRuns.{Service, ServedRun, log, reply, end_block, run_first, reserve, service_reserve, IsServedRun}
 use Rattle.qs_plain_laws.proofs.ServedRunMoves.{asks_left, log_ok, reply_ok, run_ok, leave_ok, reserve_ok, fresh, block_record', is_done_kept}
 use Rattle.qs_plain_laws.proofs.Rooms.{room_to_run, room_to_ask}
@@ -102,12 +77,10 @@ tail_stays s h c k stage e same_tail u = search (rules, stand, tail_new, tail_he
 -- where the current ticket's tail was empty, what follows the commands is its new tail
 tail_first : (s : RunView) (h c k : ℕ) (stage : PlainStage) (i : QueueItem) (rs : List Request) → suc k ≡ (s.client c).begun → tail_now (s.client c).stage h ≡ [] → tail_now stage h ≡ i ∷ []
     → (map item.Command rs ++ tail s.client h (ticket c k)) ++ i ∷ [] ≡ map item.Command rs ++ tail (stand s c stage) h (ticket c k)
-tail_first s h c k stage i rs e a b =
-    ap (λ x. (map item.Command rs ++ x) ++ i ∷ []) (tail_here s.client h c k e ∙ a) ∙ (ap (λ x. x ++ i ∷ []) (append-nil (map item.Command rs)) ∙ ap (λ x. map item.Command rs ++ x) (sym b ∙ sym (tail_new s h c k stage e)))
+tail_first s h c k stage i rs e a b = search (rules, map, tail_here, append-nil, tail_new)
 
 call_item : (tl tl' : List QueueItem) (rs rs' : List Request) (r : Request) → tl ≡ [] → tl' ≡ [] → rs' ≡ rs ++ r ∷ [] → (map item.Command rs ++ tl) ++ item.Command r ∷ [] ≡ map item.Command rs' ++ tl'
-call_item tl tl' rs rs' r a b e =
-    ap (λ x. (map item.Command rs ++ x) ++ item.Command r ∷ []) a ∙ (ap (λ x. x ++ item.Command r ∷ []) (append-nil (map item.Command rs)) ∙ (sym (map-append item.Command rs (r ∷ [])) ∙ (sym (append-nil (map item.Command (rs ++ r ∷ []))) ∙ ap₂ (λ x y. map item.Command x ++ y) (sym e) (sym b))))
+call_item tl tl' rs rs' r a b e = search (rules, map, append-nil, map-append)
 
 module _ (p : ProgramShape) (sound : IsSound p) where
   abbrev pub IsSimulated : RunView → Type 0
@@ -118,9 +91,7 @@ module _ (p : ProgramShape) (sound : IsSound p) where
 
   stands_after : (s : RunView) (block_record block_record' : Ticket → BlockRecord) (c : ℕ) (stage : PlainStage) → ((u : Ticket) → (c == u.client) ≡ false → (block_record' u).rest ≡ (block_record u).rest)
       → StandsAt block_record' c stage (s.client c).begun → ((d : ℕ) → StandsAt block_record d (s.client d).stage (s.client d).begun) → (d : ℕ) → StandsAt block_record' d (stand s c stage d).stage (stand s c stage d).begun
-  stands_after s block_record block_record' c stage e here there =
-      put_all (λ d (x : ClientView). StandsAt block_record' d x.stage x.begun) s.client c (record { begun = (s.client c).begun; stage = stage }) here
-      (λ d other. stands_moved block_record block_record' d (s.client d).stage (s.client d).begun (λ k. e (ticket d k) other) (there d))
+  stands_after s v w c stage e here there = search (rules, put_all, stands_moved)
 
   begun_same : (s : RunView) (c : ℕ) (stage : PlainStage) (d : ℕ) → (stand s c stage d).begun ≡ (s.client d).begun
   begun_same s c stage d = put_kept (λ x. x.begun) s.client c (record { begun = (s.client c).begun; stage = stage }) refl d
@@ -142,8 +113,7 @@ module _ (p : ProgramShape) (sound : IsSound p) where
 
   -- a stage that stands at what is left of the current block
   stands_here : (block_record : Ticket → BlockRecord) (c n : ℕ) (t : Interaction) → suc ((n - 1)) ≡ n → (block_record (ticket c ((n - 1)))).rest ≡ t → StandsAt block_record c (Runs t) n
-  stands_here block_record c zero t e h = absurd (omega arith)
-  stands_here block_record c (suc k) t e h = subst (λ k. (block_record (ticket c k)).rest ≡ t) (let p : suc k - 1 ≡ k = omega arith in p) h
+  stands_here v c w t e h = grind arith
 
   -- a client in a block has begun one
   pub begun_some : (s : RunView) (c : ℕ) (t : Interaction) → (s.client c).stage ≡ Runs t → IsSimulated s → 0 < (s.client c).begun
@@ -169,8 +139,7 @@ module _ (p : ProgramShape) (sound : IsSound p) where
 
   pub waits_for_query : (s : RunView) (c : ℕ) (r : Request) (next : ℤ → Interaction) (n : ℕ) → (s.client c).stage ≡ Awaits r next → (s.client c).begun ≡ n
       → IsSimulated s → is_query r.op ≡ true
-  waits_for_query s c r next zero is b kept =
-      absurd (subst (λ n. StandsAt (kept.0).block_record c (Awaits r next) n) b (subst (λ g. StandsAt (kept.0).block_record c g (s.client c).begun) is (kept.2.stands c)))
+  waits_for_query s c r next zero is b kept = search (rules, kept)
   waits_for_query s c r next (suc i) is b kept =
       let w = kept.0 in
       let t = ticket c i in
@@ -196,10 +165,7 @@ module _ (p : ProgramShape) (sound : IsSound p) where
           booked = λ d. sim.booked d ∙ sym (begun_same s c (Runs next) d);
           entry = λ u. put_at_kept (λ p. p.entry) w.block_record t adv refl u ∙ sim.entry u;
           trace = put_at_field (λ p. p.trace) w.block_record s.trace t adv (s.trace t ++ command_event r ∷ []) sim.trace (ap (λ es. es ++ command_event r ∷ []) (sim.trace t));
-          stands = stands_after s w.block_record (put_at w.block_record t adv) c (Runs next)
-              (λ u other. ap (λ p. p.rest) (put_at_there w.block_record t adv u (rw other)))
-              (stands_here (put_at w.block_record t adv) c (s.client c).begun next here.0 (ap (λ p. p.rest) (put_at_here w.block_record t adv)))
-              sim.stands;
+          stands = search (rules, stands_after, put_at, put_at_there, stands_here, put_at_here);
           older = λ d k lt. is_done_kept p sound w t (command_event r) next busy (ticket d k) (sim.older d k (subst (λ n. suc k < n) (begun_same s c (Runs next) d) lt));
           queues = put_both (λ h (x : Handler) (l : Service). x.queues ≡ map (private (stand s c (Runs next)) h l.wait) l.queue) s.handler w.service r.object _ _
               (ap (map (put_item t (item.Command r))) (sim.queues r.object) ∙ (map-map (put_item t (item.Command r)) _ (w.service r.object).queue ∙ map_same _ _ (w.service r.object).queue (every
@@ -245,8 +211,7 @@ module _ (p : ProgramShape) (sound : IsSound p) where
       )
     where
       waits_here : (block_record : Ticket → BlockRecord) (c n : ℕ) (r : Request) (next : ℤ → Interaction) → suc ((n - 1)) ≡ n → (block_record (ticket c ((n - 1)))).rest ≡ Query r next → StandsAt block_record c (Awaits r next) n
-      waits_here block_record c zero r next e h = absurd (omega arith)
-      waits_here block_record c (suc k) r next e h = subst (λ k. (block_record (ticket c k)).rest ≡ Query r next) (let p : suc k - 1 ≡ k = omega arith in p) h
+      waits_here v c w r next e h = grind arith
 
   -- the tickets in an object's queue reserve it
   pub queue_may : (w : ServedRun) (h : ℕ) → IsServedRun p w → AllByRecursion (λ u. reserves p u h ≡ true) (w.service h).queue
@@ -276,16 +241,13 @@ module _ (p : ProgramShape) (sound : IsSound p) where
       )
     where
       out_here : (block_record : Ticket → BlockRecord) (c n : ℕ) (l : Locals) → suc ((n - 1)) ≡ n → (block_record (ticket c ((n - 1)))).rest ≡ Done l → StandsAt block_record c (Stands l) n
-      out_here block_record c zero l e h = absurd (omega arith)
-      out_here block_record c (suc k) l e h = subst (λ k. (block_record (ticket c k)).rest ≡ Done l) (let p : suc k - 1 ≡ k = omega arith in p) h
+      out_here v c w l e h = grind arith
 
       journals : (h : ℕ) (b : Bool) → (s.handler h).held.journal ≡ (if b then log_in (current s c) item.EndMark (s.handler h) else s.handler h).held.journal
-      journals h true = refl
-      journals h false = refl
+      journals h v = search rules
 
       states : (h : ℕ) (b : Bool) → (s.handler h).held.object ≡ (if b then log_in (current s c) item.EndMark (s.handler h) else s.handler h).held.object
-      states h true = refl
-      states h false = refl
+      states h v = search rules
 
       marks : (h : ℕ) (b : Bool) → reserves p (current s c) h ≡ b → (if b then log_in (current s c) item.EndMark (s.handler h) else s.handler h).queues ≡ map (private (stand s c (Stands l)) h ((kept.0).service h).wait) ((kept.0).service h).queue
       marks h true e =
@@ -328,30 +290,19 @@ module _ (p : ProgramShape) (sound : IsSound p) where
           booked = λ d. sym (put_field (λ (x : ClientView). x.begun) s.client w.booked c x (suc n) (λ d. sym (sim.booked d)) refl d);
           entry = put_at_field (λ (p : BlockRecord). p.entry) w.block_record s.entry t pg l sim.entry refl;
           trace = put_at_field (λ (p : BlockRecord). p.trace) w.block_record s.trace t pg [] sim.trace refl;
-          stands = put_all (λ d (x : ClientView). StandsAt (put_at w.block_record t pg) d x.stage x.begun) s.client c x (ap (λ (p : BlockRecord). p.rest) (put_at_here w.block_record t pg))
-              (λ d other. stands_moved w.block_record (put_at w.block_record t pg) d (s.client d).stage (s.client d).begun (λ k. ap (λ (p : BlockRecord). p.rest) (put_at_there w.block_record t pg (ticket d k) (rw other))) (sim.stands d));
-          older = put_all (λ d (x : ClientView). (k : ℕ) → suc k < x.begun → IsDone (put_at w.block_record t pg (ticket d k)).rest) s.client c x
-              (λ k lt. subst (λ (p : BlockRecord). IsDone p.rest) (sym (put_at_there w.block_record t pg (ticket c k) (not_new k n lt))) (old_here w n k lt begins (λ k lt. sim.older c k lt)))
-              (λ d other k lt. subst (λ (p : BlockRecord). IsDone p.rest) (sym (put_at_there w.block_record t pg (ticket d k) (rw other))) (sim.older d k lt));
+          stands = search (rules, put_all, put_at, put_at_here, stands_moved, put_at_there);
+          older = search (rules, put_all, put_at, put_at_there);
           queues = λ h. lists h (reserves p t h) refl;
           journal = λ h. journals h (reserves p t h);
           state = λ h. states h (reserves p t h);
         },
       )
     where
-      not_new : (k n : ℕ) → suc k < suc n → same (ticket c n) (ticket c k) ≡ false
-      not_new k n lt = ⊎_elim (λ (e : ticket c n ≡ ticket c k). let i : n ≡ k = ap (λ t. t.index) e in absurd (omega arith)) (λ (other : same (ticket c n) (ticket c k) ≡ false). other) (ticket_cases (ticket c n) (ticket c k))
-
-      old_here : (w : ServedRun) (n k : ℕ) → suc k < suc n → Begins w.block_record c n l → ((k : ℕ) → suc k < n → IsDone (w.block_record (ticket c k)).rest) → IsDone (w.block_record (ticket c k)).rest
-      old_here w n k lt b old = search (rules, apart_eqb, num_cases)
-
       journals : (h : ℕ) (b : Bool) → (if b then service_reserve (kept.0.service h) (ticket c (s.client c).begun) else kept.0.service h).journal ≡ (if b then enter (ticket c (s.client c).begun) (s.handler h) else s.handler h).held.journal
-      journals h true = kept.2.journal h
-      journals h false = kept.2.journal h
+      journals h v = search (rules, kept)
 
       states : (h : ℕ) (b : Bool) → (if b then service_reserve (kept.0.service h) (ticket c (s.client c).begun) else kept.0.service h).state ≡ (if b then enter (ticket c (s.client c).begun) (s.handler h) else s.handler h).held.object
-      states h true = kept.2.state h
-      states h false = kept.2.state h
+      states h v = search (rules, kept)
 
       fresh_in : (h : ℕ) → AllByRecursion (λ u. same (ticket c (s.client c).begun) u ≡ false) (kept.0.service h).queue
       fresh_in h =
@@ -381,23 +332,12 @@ module _ (p : ProgramShape) (sound : IsSound p) where
 
   first : (s : RunView) (w : ServedRun) (h : ℕ) (q : Private) (qs : List Private) (ts : List Ticket) → (w.service h).queue ≡ ts → q ∷ qs ≡ map (private s.client h (w.service h).wait) ts → First s w h q qs
   first s w h q qs [] e is = absurd (cc)
-  first s w h q qs (t ∷ ts) e is = (t, ts, e, ap (head_or q) is, ap rest_of is)
-    where
-      head_or : Private → List Private → Private
-      head_or q [] = q
-      head_or q (p ∷ ps) = p
-
-      rest_of : List Private → List Private
-      rest_of [] = []
-      rest_of (p ∷ ps) = ps
+  first s w h q qs (t ∷ ts) e is = search rules
 
   -- a private queue is its commands and its tail
   first_do : (rs : List Request) (tl : List QueueItem) (r : Request) (items : List QueueItem) → (tl ≡ item.Command r ∷ items → ⊥) → map item.Command rs ++ tl ≡ item.Command r ∷ items → (rest : List Request) × (rs ≡ r ∷ rest) × (items ≡ map item.Command rest ++ tl)
   first_do [] tl r items n e = absurd (n e)
-  first_do (q ∷ rs) tl r items n e =
-      let is : q ≡ r = cc in
-      let more : map item.Command rs ++ tl ≡ items = cc in
-      (rs, ap (λ q. q ∷ rs) is, sym more)
+  first_do (q ∷ rs) tl r items n e = search (rules, map)
 
   first_ask : (rs : List Request) (tl : List QueueItem) (r : Request) (items : List QueueItem) → map item.Command rs ++ tl ≡ item.Query r ∷ items → (rs ≡ []) × (tl ≡ item.Query r ∷ items)
   first_ask [] tl r items e = (refl, e)
@@ -412,16 +352,14 @@ module _ (p : ProgramShape) (sound : IsSound p) where
   now_do stage h r items e = search rules
 
   tail_do : (b : Bool) (stage : PlainStage) (h : ℕ) (r : Request) (items : List QueueItem) → (if b then tail_now stage h else item.EndMark ∷ []) ≡ item.Command r ∷ items → ⊥
-  tail_do true stage h r items e = now_do stage h r items e
-  tail_do false stage h r items e = cc
+  tail_do v stage h r items e = search (rules, now_do)
 
   now_ask : (stage : PlainStage) (h : ℕ) (r : Request) (items : List QueueItem) → tail_now stage h ≡ item.Query r ∷ items → (next : ℤ → Interaction) × (stage ≡ Awaits r next) × (r.object ≡ h) × (items ≡ [])
   now_ask stage h r items e = search (rules, eqb_true)
 
   tail_ask : (u : Ticket) (n : ℕ) (stage : PlainStage) (h : ℕ) (r : Request) (items : List QueueItem) (b : Bool) → (suc u.index == n) ≡ b → (if b then tail_now stage h else item.EndMark ∷ []) ≡ item.Query r ∷ items
       → (suc u.index ≡ n) × ((next : ℤ → Interaction) × (stage ≡ Awaits r next) × (r.object ≡ h) × (items ≡ []))
-  tail_ask u n stage h r items true is e = (eqb_true (suc u.index) n is, now_ask stage h r items e)
-  tail_ask u n stage h r items false is e = absurd (cc)
+  tail_ask u n stage h r items v is e = search (rules, eqb_true, now_ask)
 
   now_end : (stage : PlainStage) (h : ℕ) (items : List QueueItem) → tail_now stage h ≡ item.EndMark ∷ items → ((l : Locals) × (stage ≡ Stands l))
   now_end stage h items e = search rules
@@ -491,11 +429,7 @@ module _ (p : ProgramShape) (sound : IsSound p) where
           booked = λ d. sim.booked d ∙ sym (begun_same s c stage' d);
           entry = λ u. put_at_kept (λ (p : BlockRecord). p.entry) w.block_record t adv refl u ∙ sim.entry u;
           trace = put_at_field (λ (p : BlockRecord). p.trace) w.block_record s.trace t adv (s.trace t ++ event r v ∷ []) sim.trace (ap₂ (λ (es : List Event) (v : Option ℤ). es ++ event r v ∷ []) (sim.trace t) v_is);
-          stands = stands_after s w.block_record (put_at w.block_record t adv) c stage'
-              (λ u other. ap (λ (p : BlockRecord). p.rest) (put_at_there w.block_record t adv u (rw other)))
-              (subst (λ x. StandsAt (put_at w.block_record t adv) c x (s.client c).begun) stage_is
-              (stands_here (put_at w.block_record t adv) c (s.client c).begun (next (value_of vw)) here.0 (subst (λ u. (put_at w.block_record t adv u).rest ≡ next (value_of vw)) (sym k) (ap (λ (p : BlockRecord). p.rest) (put_at_here w.block_record t adv)))))
-              sim.stands;
+          stands = search (rules, stands_after, put_at, put_at_there, stands_here, put_at_here);
           older = λ d k lt. is_done_kept p sound w t (event r vw) (next (value_of vw)) busy (ticket d k) (sim.older d k (subst (λ n. suc k < n) (begun_same s c stage' d) lt));
           queues = put_both (λ h (x : Handler) (l : Service). x.queues ≡ map (private (stand s c stage') h l.wait) l.queue) s.handler w.service h _ _
               (ap₂ (λ p ps. p ∷ ps)

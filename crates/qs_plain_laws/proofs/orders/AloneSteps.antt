@@ -1,23 +1,12 @@
 -- Steps of the plain rules, one after another, that lead from a state to one with a property; and what a client in its
 -- block, alone, has before it. The proof that each complete order is reached is put together from these: a step of the
 -- client, or of a handler, changes one client, one queue or both, and keeps all others as they are.
-use Rattle.std.proofs.Common.{◌≡◌, ◌<◌, ◌∙◌, ◌==◌, ℕ, suc, true, if◌then◌else◌, false, List, [], ◌∷◌, ◌++◌, Some, refl, sym, ap, subst, length, get_or, get_or-set_same, get_or-set_other, length-set, ⊎_elim, arith, rules}
-use Rattle.std.proofs.Math.ListN.{set}
-use Rattle.qs_objects.specs.audit.Journals.{HeldState, run_one}
-use Rattle.qs_objects.specs.declared.held.Ticket.{Ticket}
-use Rattle.qs_objects.proofs.Choices.{and_cases, num_cases}
-use Rattle.qs_program.specs.audit.Program.{ProgramShape}
-use Rattle.qs_meaning.specs.audit.Following.{reserves}
-use Rattle.qs_meaning.specs.Following.{AsksOnly}
-use Rattle.qs_meaning.specs.audit.Interaction.{Interaction, Done, Call, Query}
-use Rattle.qs_meaning.specs.audit.Solo.{put, value_of}
-use Rattle.qs_meaning.proofs.TreeWalks.{put_here, put_there}
-use Rattle.qs_played.specs.audit.Schedule.{all_named, names_actor, or_stay}
+use Rattle.std.proofs.Common.{◌≡◌, ◌<◌, ◌==◌, ℕ, suc, true, if◌then◌else◌, false, List, [], ◌∷◌, ◌++◌, Some, refl, sym, subst, length, get_or-set_same, get_or-set_other, length-set, arith, rules}
+use Rattle.qs_played.proofs.Names.{set, HeldState, run_one, Ticket, and_cases, num_cases, ProgramShape, reserves, AsksOnly, put, value_of, put_here, put_there, all_named, names_actor, or_stay}
 use Rattle.qs_played.specs.declared.schedule.actor.Actor.{Actor}
-use Rattle.qs_played.proofs.Lists.{apart}
-use Rattle.qs_plain_laws.specs.audit.Plain.{Client, Handler, Plain, Private, StageOfClient, begun_blocks, client_at, handler_at, no_client, step, within}
-use Rattle.qs_plain_laws.specs.audit.PlainSchedule.{plays}
-use Rattle.qs_plain_laws.specs.orders.Quiet.{IsOut}
+use Rattle.qs_meaning.specs.audit.Interaction.{Interaction, Done, Call, Query}
+use Rattle.qs_plain_laws.proofs.Names.{apart, plays, IsOut}
+use Rattle.qs_plain_laws.specs.audit.Plain.{Client, Handler, Plain, Private, StageOfClient, begun_blocks, client_at, handler_at, step, within}
 
 -- some actors of the program, by whose steps a state with a property comes
 abbrev pub Reaches : ProgramShape → Plain → (Plain → Type 0) → Type 0
@@ -101,25 +90,7 @@ pub client_moved : (p : ProgramShape) (order : List Ticket) (begun : ℕ → ℕ
     (it : Client) (hs : List Handler) → t.client < length p.clients → IsAlone p order begun t queue stage s
     → it.entries ≡ (client_at s t.client).entries → length hs ≡ length p.objects → ((h : ℕ) → (handler_at hs h).queues ≡ later h)
     → IsAlone p order begun t later it.stage (record { order = s.order; clients = set s.clients t.client it; handlers = hs })
-client_moved p order begun t queue later stage s it hs less now entries long queues = record {
-  order = now.order;
-  clients = length-set s.clients t.client it ∙ now.clients;
-  handlers = long;
-  stage = ap (λ (x : Client). x.stage) here;
-  begun = λ c. ⊎_elim
-      (λ (is : t.client ≡ c).
-      subst (λ c. begun_blocks (get_or (set s.clients t.client it) c no_client) ≡ begun c) is (ap begun_blocks here ∙ (ap length entries ∙ now.begun t.client)))
-      (λ (other : (t.client == c) ≡ false). ap begun_blocks (there c other) ∙ now.begun c)
-      (num_cases t.client c);
-  others = λ c other. subst (λ (x : Client). IsOut x.stage) (sym (there c other)) (now.others c other);
-  queues = queues;
-}
-  where
-    here : get_or (set s.clients t.client it) t.client no_client ≡ it
-    here = get_or-set_same s.clients t.client it no_client (let long_so = now.clients in omega (arith, less, long_so))
-
-    there : (c : ℕ) → (t.client == c) ≡ false → get_or (set s.clients t.client it) c no_client ≡ client_at s c
-    there c other = get_or-set_other s.clients t.client c it no_client (apart t.client c other)
+client_moved p order begun t queue later stage s it hs less now entries long queues = grind (arith, length-set, set, num_cases, get_or-set_same, get_or-set_other, apart)
 
 -- a handler has moved
 pub handler_moved : (p : ProgramShape) (order : List Ticket) (begun : ℕ → ℕ) (t : Ticket) (queue : ℕ → List Private) (stage : StageOfClient) (s : Plain)

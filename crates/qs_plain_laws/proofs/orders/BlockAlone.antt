@@ -4,31 +4,13 @@
 -- is in a block. How many turns are left is known from the tree and from what the handlers hold, and falls with each
 -- turn.
 use Rattle.std.proofs.Common.{◌≡◌, ◌<◌, ◌≤◌, ◌∙◌, ◌==◌, ◌||◌, ◌⊎◌, ℕ, zero, suc, Bool, None, Some, get_or-set_same, get_or-set_other, true, false, if◌then◌else◌, nat_lt, ℤ, List, [], ◌∷◌, refl, sym, ap, subst, inl, inr, length, map, length-set, ⊎_elim, arith, rules}
-use Rattle.std.proofs.Math.ListN.{set}
-use Rattle.std.proofs.lemmas.Bool.{lt-ltb}
-use Rattle.std.specs.List.{AllByRecursion}
-use Rattle.qs_objects.specs.audit.Journals.{HeldState, run_one}
-use Rattle.qs_objects.specs.declared.held.Ticket.{Ticket}
-use Rattle.qs_objects.specs.declared.Request.{Request}
-use Rattle.qs_objects.proofs.Choices.{apart_eqb, eqb_true, num_cases, same_self, ticket_path}
-use Rattle.qs_program.specs.audit.Program.{ProgramShape, text_of}
-use Rattle.qs_program.specs.audit.Sound.{is_in}
-use Rattle.qs_program.specs.Sound.{IsSound}
-use Rattle.qs_program.specs.audit.Values.{Locals}
-use Rattle.qs_meaning.specs.audit.Following.{reserves}
-use Rattle.qs_meaning.specs.audit.Interaction.{Interaction, Done, Call, Query}
-use Rattle.qs_meaning.specs.audit.Solo.{put, value_of}
-use Rattle.qs_meaning.proofs.TreeWalks.{put_here, put_there}
-use Rattle.qs_played.proofs.Lists.{apart}
-use Rattle.qs_played.specs.audit.Schedule.{all_named, or_stay}
+use Rattle.qs_played.proofs.Names.{set, lt-ltb, AllByRecursion, HeldState, run_one, Ticket, Request, apart_eqb, eqb_true, num_cases, same_self, ticket_path, ProgramShape, text_of, is_in, IsSound, Locals, reserves, put, value_of, put_here, put_there, all_named, or_stay}
 use Rattle.qs_played.specs.declared.schedule.actor.Actor.{Actor}
+use Rattle.qs_meaning.specs.audit.Interaction.{Interaction, Done, Call, Query}
+use Rattle.qs_plain_laws.proofs.Names.{apart, QueueItem, Handler, Plain, Private, StageOfClient, after_reply, asks, at_each, calls, client_at, current, ends, handler_at, leaves_queue, log_in, out, queue_step, reply_to, runs_command, runs_query, step, waiting, within, plays, IsQuiet}
 use Rattle.qs_played.specs.declared.schedule.actor.Actor.TheVariants as actor
-use Rattle.qs_plain_laws.specs.declared.item.QueueItem.{QueueItem}
 use Rattle.qs_plain_laws.specs.declared.item.QueueItem.TheVariants as item
-use Rattle.qs_plain_laws.specs.audit.Plain.{Handler, Plain, Private, StageOfClient, after_reply, asks, at_each, calls, client_at, current, ends, handler_at, leaves_queue, log_in, out, put_item, queue_step, reply_to, runs_command, runs_query, step, waiting, within}
-use Rattle.qs_plain_laws.specs.audit.PlainSchedule.{plays}
 use Rattle.qs_plain_laws.proofs.PlainPreserved.{each_is, in_list, reserved_list}
-use Rattle.qs_plain_laws.specs.orders.Quiet.{IsQuiet}
 use Rattle.qs_plain_laws.proofs.orders.AloneSteps.{IsAlone, IsWithin, Reaches, client_moved, handler_moved, helds, left_at, left_of, moves, queue_set, requeued, stay, turns_left}
 
 -- each handler of a list changed: there are as many
@@ -67,24 +49,14 @@ module _ (p : ProgramShape) (sound : IsSound p) (order : List Ticket) (begun : �
   is_there queue stage s now = lt-ltb t.client (length s.clients) (let long = now.clients in omega (arith, client, long))
 
   logged : (u : Ticket) (i : QueueItem) (g : Handler) → u ≡ t → g.queues ≡ private [] ∷ [] → (log_in u i g).queues ≡ private (i ∷ []) ∷ []
-  logged u i g is e =
-      ap (map (put_item u i)) e
-      ∙ subst (λ u. map (put_item u i) (private [] ∷ []) ≡ private (i ∷ []) ∷ []) (sym is) (rw (same_self t) refl)
+  logged u i g is e = search (rules, map, same_self)
 
   after : (h : ℕ) (i : QueueItem) → reserves p t h ≡ true → (g : ℕ) → put (put served h (private (i ∷ []) ∷ [])) h (private [] ∷ []) g ≡ served g
-  after h i e g = ⊎_elim
-      (λ (is : h ≡ g).
-      subst (λ g. put (put served h (private (i ∷ []) ∷ [])) h (private [] ∷ []) g ≡ served g) is
-      (put_here (put served h (private (i ∷ []) ∷ [])) h (private [] ∷ []) ∙ sym (served_at h e)))
-      (λ (other : (h == g) ≡ false).
-      put_there (put served h (private (i ∷ []) ∷ [])) h (private [] ∷ []) g other ∙ put_there served h (private (i ∷ []) ∷ []) g other)
-      (num_cases h g)
+  after h i e g = search (rules, h, served, put_here, served_at, put_there, num_cases)
 
   in_queue : (s : Plain) (stage : StageOfClient) (h : ℕ) (i : QueueItem) → reserves p t h ≡ true → At served stage s → (u : Ticket) → u ≡ t
       → (g : ℕ) → (handler_at (set s.handlers h (log_in u i (handler_at s.handlers h))) g).queues ≡ put served h (private (i ∷ []) ∷ []) g
-  in_queue s stage h i e now u is g =
-      queue_set s.handlers h (log_in u i (handler_at s.handlers h)) served (let long = now.handlers in let l = inside h e in omega (arith, long, l)) now.queues g
-      ∙ ap (λ qs. put served h qs g) (logged u i (handler_at s.handlers h) is (now.queues h ∙ served_at h e))
+  in_queue s stage h i e now u is g = search (rules, h, queue_set, served, inside, logged, served_at)
 
   first_of : (s : Plain) (stage : StageOfClient) (h : ℕ) (i : QueueItem) → At (put served h (private (i ∷ []) ∷ [])) stage s
       → (handler_at s.handlers h).queues ≡ private (i ∷ []) ∷ []
@@ -98,8 +70,7 @@ module _ (p : ProgramShape) (sound : IsSound p) (order : List Ticket) (begun : �
   turn = actor.Client t.client ∷ handlers_in (text_of p t).reserved
 
   nothing_waits : (s : Plain) (k : ℕ) (it : Handler) (b : Bool) → queue_step s k it (if b then private [] ∷ [] else []) ≡ None
-  nothing_waits s k it true = refl
-  nothing_waits s k it false = refl
+  nothing_waits s k it v = search rules
 
   -- where each has served all so far, no handler has a step
   idle_plays : (stage : StageOfClient) (s : Plain) → At served stage s → (ks : List ℕ) → plays p (handlers_in ks) s ≡ s
@@ -110,8 +81,7 @@ module _ (p : ProgramShape) (sound : IsSound p) (order : List Ticket) (begun : �
       ∙ idle_plays stage s now ks
 
   still_in : (h k : ℕ) (ks : List ℕ) → (h == k) ≡ false → (b : Bool) → (k == h) ≡ b → (b || is_in ks h) ≡ true → is_in ks h ≡ true
-  still_in h k ks other true e is = absurd (apart_eqb h k other (sym (eqb_true k h e)))
-  still_in h k ks other false e is = is
+  still_in h k ks other v e is = search (rules, h, apart_eqb, eqb_true)
 
   -- of the handlers of a list only the one steps at which the request waits
   settle : (stage later : StageOfClient) (h : ℕ) (i : QueueItem) (n m : Plain) → At (put served h (private (i ∷ []) ∷ [])) stage n
@@ -161,9 +131,7 @@ module _ (p : ProgramShape) (sound : IsSound p) (order : List Ticket) (begun : �
     holds_then here logs served_now = search (rules, helds, held_set, put_same, set, held_on)
 
     mine_then : h < length s.handlers → n.handlers ≡ set s.handlers h (log_in u i (handler_at s.handlers h)) → (handler_at n.handlers h).held ≡ helds s h
-    mine_then here logs =
-        ap (λ hs. (handler_at hs h).held) logs
-        ∙ held_set s.handlers h (log_in u i (handler_at s.handlers h)) here h ∙ put_same (helds s) h h
+    mine_then here logs = search (rules, h, held_set, put_same, helds)
 
   -- a command
   called : (s : Plain) (r : Request) (next : Interaction) → reserves p t r.object ≡ true → At served (within (Call r next)) s
@@ -305,12 +273,10 @@ module _ (p : ProgramShape) (sound : IsSound p) (order : List Ticket) (begun : �
       by_test s stage g now {u} is false e = now.queues g ∙ rw e refl
 
       kinds : (g : ℕ) (b : Bool) → ((if b then marked else []) ≡ []) ⊎ ((if b then marked else []) ≡ marked)
-      kinds g true = inr refl
-      kinds g false = inl refl
+      kinds g v = search rules
 
       none_left : (g : ℕ) (b : Bool) → (if b then [] else (if b then marked else [])) ≡ []
-      none_left g true = refl
-      none_left g false = refl
+      none_left g v = search rules
 
   -- the block goes on
   abbrev GoesOn : Plain → Type 0

@@ -3,39 +3,17 @@
 -- order, with the configuration that counts the blocks that each client has begun. At the end each block has ended;
 -- where nobody has a block left, the run is finished.
 use Rattle.std.proofs.Common.{◌≡◌, ◌<◌, ◌≤◌, ◌∙◌, ◌+◌, ◌==◌, ℕ, suc, Bool, true, false, if◌then◌else◌, List, [], ◌∷◌, ◌++◌, Some, map, refl, sym, ap, subst, length, get_or, get_or-set_same, get_or-set_other, length-set, append_assoc, append-nil, ⊎_elim, arith, rules}
-use Rattle.std.proofs.Math.ListN.{set}
-use Rattle.std.proofs.lemmas.Bool.{lt-ltb}
-use Rattle.std.proofs.lemmas.List.{get_or_past, length-append}
-use Rattle.std.proofs.lemmas.List.FromFn.{get_or-map-range_with_len, length-map-range_with_len}
-use Rattle.std.specs.List.{AllByRecursion}
-use Rattle.qs_objects.specs.declared.held.Ticket.{Ticket}
-use Rattle.qs_objects.proofs.Choices.{eqb_self, num_cases, ticket_path}
-use Rattle.qs_program.specs.audit.Program.{ProgramShape, blocks_of, text_of}
-use Rattle.qs_program.specs.Sound.{IsSound}
-use Rattle.qs_program.specs.audit.Values.{Locals}
-use Rattle.qs_meaning.specs.audit.Configurations.{Configuration, IsComplete, configuration_after, configuration_from, first_configuration, one_block_on}
-use Rattle.qs_meaning.specs.audit.Following.{reserves}
-use Rattle.qs_meaning.specs.Following.{block_tree}
-use Rattle.qs_meaning.specs.audit.Serial.{IsLegal, LegalFrom}
-use Rattle.qs_meaning.specs.audit.Solo.{put}
-use Rattle.qs_meaning.proofs.Orders.{complete_orders_leave_none, legal_on}
-use Rattle.qs_meaning.proofs.SoundTrees.{blocks_ask_only}
-use Rattle.qs_meaning.proofs.TreeWalks.{put_here, put_there}
-use Rattle.qs_played.specs.Isolation.{IsIsolated}
-use Rattle.qs_played.specs.audit.Schedule.{all_named, or_stay}
+use Rattle.qs_played.proofs.Names.{set, lt-ltb, get_or_past, length-append, get_or-map-range_with_len, length-map-range_with_len, AllByRecursion, Ticket, eqb_self, num_cases, ticket_path, ProgramShape, blocks_of, text_of, IsSound, Locals, Configuration, IsComplete, configuration_after, configuration_from, first_configuration, one_block_on, reserves, block_tree, IsLegal, LegalFrom, put, complete_orders_leave_none, legal_on, blocks_ask_only, put_here, put_there, all_named, or_stay}
 use Rattle.qs_played.specs.declared.schedule.actor.Actor.{Actor}
+use Rattle.qs_played.specs.Isolation.{IsIsolated}
 use Rattle.qs_played.specs.declared.schedule.actor.Actor.TheVariants as actor
-use Rattle.qs_played.proofs.Lists.{apart}
+use Rattle.qs_plain_laws.proofs.Names.{apart, commands_in_queue, all_done, all_idle, ended_at, is_done, is_finished, is_out, played_of, plays, IsPlayedInOrder, OrdersArePlayed, IsOut, IsQuiet}
 use Rattle.qs_plain_laws.specs.audit.Plain.{Client, Handler, Plain, Private, StageOfClient, at_each, begin, begins, begun_blocks, client_at, enter, handler_at, no_client, out, step, within}
-use Rattle.qs_plain_laws.specs.PlainIsolation.{commands_in_queue}
 use Rattle.qs_plain_laws.specs.PlainSyncSums.{AreQueriesCounted}
 use Rattle.qs_plain_laws.proofs.Isolating.{runs_isolated}
 use Rattle.qs_plain_laws.proofs.PlainSyncs.{plain_syncs_counted}
-use Rattle.qs_plain_laws.specs.audit.PlainSchedule.{all_done, all_idle, ended_at, is_done, is_finished, is_out, played_of, plays}
 use Rattle.qs_plain_laws.specs.PlainSchedule.{scheduled}
 use Rattle.qs_plain_laws.proofs.PlainPreserved.{each_is, reserved_list}
-use Rattle.qs_plain_laws.specs.orders.PlainOrders.{IsPlayedInOrder, OrdersArePlayed}
-use Rattle.qs_plain_laws.specs.orders.Quiet.{IsOut, IsQuiet}
 use Rattle.qs_plain_laws.proofs.orders.BlockAlone.{block_over, each_long}
 use Rattle.qs_plain_laws.proofs.orders.AloneSteps.{IsAlone, IsWithin, Reaches, left_of, move, onward, stay}
 
@@ -44,8 +22,7 @@ pub has_client : (p : ProgramShape) (t : Ticket) → t.index < blocks_of p t.cli
 has_client p t less = search (rules, get_or_past)
 
 variables_of : (g : StageOfClient) → IsOut g → (l : Locals) × (g ≡ out l)
-variables_of (out l) is = (l, refl)
-variables_of _ is = absurd is
+variables_of v is = search rules
 
 module _ (p : ProgramShape) (sound : IsSound p) (order : List Ticket) (blocks : ℕ → ℕ) (t : Ticket)
     (index : t.index ≡ blocks t.client) (left : t.index < blocks_of p t.client) where
@@ -108,8 +85,7 @@ module _ (p : ProgramShape) (sound : IsSound p) (order : List Ticket) (blocks : 
 
       by_test : (g : ℕ) → (handler_at s.handlers g).queues ≡ [] → (b : Bool)
           → (if b then enter t (handler_at s.handlers g) else handler_at s.handlers g).queues ≡ (if b then record { ticket = t; items = [] } ∷ [] else [])
-      by_test g none true = ap (λ qs. qs ++ record { ticket = t; items = [] } ∷ []) none
-      by_test g none false = none
+      by_test g none v = search rules
 
   -- in one step the client comes into its block
   pub comes_in : (s : Plain) → IsQuiet p order blocks s → IsWithin p (order ++ t ∷ []) begun t (or_stay s (step p s (actor.Client t.client)))
@@ -129,8 +105,7 @@ module _ (p : ProgramShape) (sound : IsSound p) (order : List Ticket) (blocks : 
 -- one block after another
 order_reached : (p : ProgramShape) → IsSound p → (ts : List Ticket) (g : Configuration) (order : List Ticket) (s : Plain) → IsQuiet p order g.begun s
     → LegalFrom p g.begun ts → Reaches p s (IsQuiet p (order ++ ts) (configuration_from p g ts).begun)
-order_reached p sound [] g order s now legal =
-    stay p s (IsQuiet p (order ++ []) g.begun) (subst (λ o. IsQuiet p o g.begun s) (sym (append-nil order)) now)
+order_reached p sound [] g order s now legal = search (rules, stay, append-nil)
 order_reached p sound (t ∷ ts) g order s now (index, left, legal) =
     let next = one_block_on p t.client g in
     let goal = IsQuiet p (order ++ t ∷ ts) (configuration_from p next ts).begun in
@@ -154,8 +129,7 @@ all_are_idle [] none = refl
 all_are_idle (h ∷ hs) none = rw (none 0) (all_are_idle hs (λ g. none (suc g)))
 
 pub out_is : (g : StageOfClient) → IsOut g → is_out g ≡ true
-out_is (out l) is = refl
-out_is _ is = absurd is
+out_is v is = search rules
 
 done_one : (p : ProgramShape) (c : ℕ) (it : Client) → IsOut it.stage → begun_blocks it ≡ blocks_of p c → is_done p c it ≡ true
 done_one p c it is all = rw (out_is it.stage is, all) (eqb_self (blocks_of p c))
@@ -171,17 +145,7 @@ begin_quiet p = search (rules, length-map-range_with_len, get_or-map-range_with_
 -- the blocks of a legal order have begun at its end
 counted_from : (p : ProgramShape) (g : Configuration) (ts : List Ticket) (c : ℕ) → g.begun c ≤ (configuration_from p g ts).begun c
 counted_from p g [] c = omega arith
-counted_from p g (t ∷ ts) c =
-    let later = counted_from p (one_block_on p t.client g) ts c in
-    ⊎_elim
-    (λ (is : t.client ≡ c).
-    let more : put g.begun t.client (suc (g.begun t.client)) c ≡ suc (g.begun c) =
-    subst (λ c. put g.begun t.client (suc (g.begun t.client)) c ≡ suc (g.begun c)) is (put_here g.begun t.client (suc (g.begun t.client))) in
-    omega (arith, later, more))
-    (λ (other : (t.client == c) ≡ false).
-    let same : put g.begun t.client (suc (g.begun t.client)) c ≡ g.begun c = put_there g.begun t.client (suc (g.begun t.client)) c other in
-    omega (arith, later, same))
-    (num_cases t.client c)
+counted_from p g (t ∷ ts) c = grind (arith, put_here, put_there, num_cases, counted_from p (one_block_on p t.client g) ts c)
 
 -- a block that was begun has ended where its client stands between two blocks
 ended_there : (s : Plain) (t : Ticket) → IsOut (client_at s t.client).stage → t.index < begun_blocks (client_at s t.client) → ended_at s t ≡ true

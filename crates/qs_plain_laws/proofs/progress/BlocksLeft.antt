@@ -1,8 +1,7 @@
 -- What is left of a client's blocks from one of them on, where each block counts for some number: that block's, and
 -- what is left after it.
 use Rattle.std.proofs.Common.{◌≡◌, ◌<◌, ◌∙◌, ◌+◌, ℕ, zero, suc, List, [], ◌∷◌, length, get_or, sum_by, refl, sym, ap, arith}
-use Rattle.std.proofs.lemmas.List.Sums.{sum_by-cons}
-use Rattle.qs_program.specs.audit.Program.{BlockShape, no_block}
+use Rattle.qs_played.proofs.Names.{sum_by-cons, BlockShape, no_block}
 
 module _ (each : BlockShape → ℕ) where
   -- from the k-th block on

@@ -4,32 +4,16 @@
 -- logged is one item more, since no handler has two private queues of one ticket, and its client has two steps fewer
 -- left.
 use Rattle.std.proofs.Common.{◌≡◌, ◌≢◌, ◌<◌, ◌≤◌, ◌∙◌, ℕ, zero, suc, ◌+◌, ◌*◌, ◌-◌, Bool, true, false, if◌then◌else◌, nat_lt, ℤ, List, [], ◌∷◌, ◌++◌, Option, None, Some, map, length, get_or, sum_by, refl, sym, ap, subst, ⊎_elim, arith, rules}
-use Rattle.std.proofs.Math.ListN.{set}
-use Rattle.std.proofs.lemmas.List.{length-append}
-use Rattle.std.proofs.lemmas.List.Sums.{sum_by-append, sum_by-cons}
-use Rattle.std.specs.List.{AllByRecursion, range_with_len}
-use Rattle.qs_objects.specs.audit.Journals.{HeldState, run_one}
-use Rattle.qs_objects.specs.audit.Parts.{same}
-use Rattle.qs_objects.specs.declared.held.Ticket.{Ticket}
-use Rattle.qs_objects.specs.declared.Request.{Request}
-use Rattle.qs_objects.proofs.Choices.{not_same, ticket_cases}
-use Rattle.qs_program.specs.audit.Program.{BlockShape, ClientShape, ProgramShape, block_load, blocks_of, client_at as shape_at, no_client as no_shape, text_of}
-use Rattle.qs_program.specs.Sound.{IsSound}
-use Rattle.qs_program.specs.audit.Values.{Locals}
-use Rattle.qs_program.proofs.Bounds.{sound_block}
-use Rattle.qs_meaning.specs.audit.Interaction.{Interaction, Done, Call, Query, tree_of}
-use Rattle.qs_meaning.specs.audit.Solo.{event}
-use Rattle.qs_meaning.proofs.Histories.{Apart}
-use Rattle.qs_played.specs.audit.Played.{ticket}
-use Rattle.qs_played.specs.audit.Schedule.{or_stay}
+use Rattle.qs_played.proofs.Names.{set, length-append, sum_by-append, sum_by-cons, AllByRecursion, range_with_len, HeldState, run_one, same, Ticket, Request, not_same, ticket_cases, IsSound, Locals, sound_block, event, Apart, ticket, or_stay}
 use Rattle.qs_played.specs.declared.schedule.actor.Actor.{Actor}
+use Rattle.qs_program.specs.audit.Program.{BlockShape, ClientShape, ProgramShape, block_load, blocks_of, client_at as shape_at, no_client as no_shape, text_of}
+use Rattle.qs_meaning.specs.audit.Interaction.{Interaction, Done, Call, Query, tree_of}
 use Rattle.qs_played.specs.declared.schedule.actor.Actor.TheVariants as actor
 use Rattle.qs_plain_laws.specs.audit.Plain.{Client, Handler, Plain, Private, StageOfClient, after_reply, at_each, at_handler, begin, begins, begun_blocks, client_at, client_step, current, enter, fresh_client, fresh_handler, moves_on, handler_at, item_step, log_in, no_client, no_handler, out, put_item, queue_step, reply_to, separate, serves, stands, step, waiting, with_query_counted, with_trace_event, within}
-use Rattle.qs_plain_laws.specs.declared.item.QueueItem.{QueueItem}
+use Rattle.qs_plain_laws.proofs.Names.{QueueItem, StepsAreBounded, made, most_steps_of, steps_made, steps_of_block, steps_of_client}
 use Rattle.qs_plain_laws.specs.declared.item.QueueItem.TheVariants as item
 use Rattle.qs_plain_laws.proofs.PlainPreserved.{RunInvariant, begin_kept, sight_of, step_kept}
 use Rattle.qs_plain_laws.proofs.Simulation.{private}
-use Rattle.qs_plain_laws.specs.progress.Steps.{StepsAreBounded, made, most_steps_of, steps_made, steps_of_block, steps_of_client}
 use Rattle.qs_plain_laws.proofs.progress.BlocksLeft.{left_all, left_by, left_one}
 use Rattle.qs_plain_laws.proofs.progress.RequestCounts.{AtMost, tree_within}
 
@@ -48,17 +32,13 @@ more_items : (hs : List Handler) (h : ℕ) (x : Handler) (e : ℕ) → items_in 
     → all_items (set hs h x) ≤ all_items hs + e
 more_items [] h x e le = omega arith
 more_items (y ∷ hs) zero x e le = rw (sum_by-cons items_in x hs, sum_by-cons items_in y hs) (omega (arith, le))
-more_items (y ∷ hs) (suc h) x e le =
-    let ih = more_items hs h x e le in
-    rw (sum_by-cons items_in y (set hs h x), sum_by-cons items_in y hs) (omega (arith, ih))
+more_items (y ∷ hs) (suc h) x e le = search (rules, sum_by-cons, set, more_items hs h x e le)
 
 fewer_items : (hs : List Handler) (h : ℕ) (x : Handler) → suc (items_in x) ≤ items_in (handler_at hs h)
     → suc (all_items (set hs h x)) ≤ all_items hs
 fewer_items [] h x less = absurd (omega (arith, less))
 fewer_items (y ∷ hs) zero x less = rw (sum_by-cons items_in x hs, sum_by-cons items_in y hs) (omega (arith, less))
-fewer_items (y ∷ hs) (suc h) x less =
-    let ih = fewer_items hs h x less in
-    rw (sum_by-cons items_in y (set hs h x), sum_by-cons items_in y hs) (omega (arith, ih))
+fewer_items (y ∷ hs) (suc h) x less = search (rules, sum_by-cons, set, fewer_items hs h x less)
 
 abbrev tickets_in : List Private → List Ticket
 tickets_in qs = map (λ (q : Private). q.ticket) qs
@@ -91,8 +71,7 @@ one_more t i (q ∷ qs) apart =
     (ticket_cases t q.ticket))
   where
     put_longer : (b : Bool) → length (if b then q.items ++ i ∷ [] else q.items) ≤ length q.items + 1
-    put_longer true = let long = length-append q.items (i ∷ []) in omega (arith, long)
-    put_longer false = omega arith
+    put_longer v = grind (arith, length-append)
 
 abbrev IsApart : Handler → Type 0
 IsApart h = Apart (tickets_in h.queues)
@@ -389,9 +368,7 @@ module _ (p : ProgramShape) (sound : IsSound p) (s : Plain) (k : RunInvariant p 
 
       item_falls : (items : List QueueItem) → q.items ≡ items → Falls p s n (item_step s h us q qs items)
       item_falls [] is = none_falls p s n left
-      item_falls (item.Command r ∷ items) is =
-          handler_falls s.clients left.inside _ (omega arith) left.clients
-          (less_items (item.Command r) items (run_one us.held q.ticket r).0 is)
+      item_falls (item.Command r ∷ items) is = search (rules, handler_falls, left, less_items)
       item_falls (item.Query r ∷ items) is =
           let c = q.ticket.client in
           let it = client_at s c in
@@ -403,8 +380,7 @@ module _ (p : ProgramShape) (sound : IsSound p) (s : Plain) (k : RunInvariant p 
           let fewer = new.1 in
           handler_falls _ new.0 _ (omega (arith, fewer)) new.2
           (less_items (item.Query r) items (run_one us.held q.ticket r).0 is)
-      item_falls (item.EndMark ∷ items) is =
-          handler_falls s.clients left.inside _ (omega arith) left.clients (gone_items item.EndMark items is)
+      item_falls (item.EndMark ∷ items) is = search (rules, handler_falls, left, gone_items)
 
     queue_falls : (qs : List Private) → us.queues ≡ qs → Falls p s n (queue_step s h us qs)
     queue_falls [] e = none_falls p s n left
@@ -452,9 +428,7 @@ fresh_left p from (c ∷ cs) each =
 
 fresh_items : (p : ProgramShape) (ns : List ℕ) → all_items (map (fresh_handler p) ns) ≡ 0
 fresh_items p [] = refl
-fresh_items p (n ∷ ns) =
-    let ih = fresh_items p ns in
-    rw (sum_by-cons items_in (fresh_handler p n) (map (fresh_handler p) ns)) (omega (arith, ih))
+fresh_items p (n ∷ ns) = grind (arith, sum_by-cons, map, fresh_items p ns)
 
 begin_left : (p : ProgramShape) → StepsLeft p (begin p) (most_steps_of p)
 begin_left p = record {

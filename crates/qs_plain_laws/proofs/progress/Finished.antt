@@ -1,18 +1,12 @@
 -- Where all is finished nobody has a step: each client stands behind its last block, and each handler's queue is empty.
 -- So enough rounds finish, as for every machine that is never stuck and makes few steps (`Rounds`).
 use Rattle.std.proofs.Common.{◌≡◌, ◌∙◌, ℕ, ◌+◌, Bool, true, false, if◌then◌else◌, nat_eq, nat_lt, List, [], None, Ok, length, refl, ap, subst, arith, rules}
-use Rattle.qs_objects.proofs.Choices.{and_cases}
-use Rattle.qs_program.specs.audit.Program.{ProgramShape, blocks_of}
-use Rattle.qs_program.specs.Sound.{IsSound}
-use Rattle.qs_played.specs.audit.Played.{Played}
-use Rattle.qs_played.specs.audit.Schedule.{most_rounds}
+use Rattle.qs_played.proofs.Names.{and_cases, ProgramShape, blocks_of, IsSound, Played, most_rounds}
 use Rattle.qs_played.specs.declared.schedule.actor.Actor.{Actor}
 use Rattle.qs_played.specs.declared.schedule.actor.Actor.TheVariants as actor
-use Rattle.qs_plain_laws.specs.audit.Plain.{Client, Plain, StageOfClient, begin, begun_blocks, client_at, client_step, handler_at, queue_step, step}
-use Rattle.qs_plain_laws.specs.audit.PlainSchedule.{all_done, all_idle, is_done, is_finished, is_out, plays}
+use Rattle.qs_plain_laws.proofs.Names.{Client, Plain, StageOfClient, begin, begun_blocks, client_at, client_step, handler_at, queue_step, step, all_done, all_idle, is_done, is_finished, is_out, plays, most_steps_of}
 use Rattle.qs_plain_laws.specs.PlainSchedule.{IsPlayed, scheduled}
 use Rattle.qs_plain_laws.specs.progress.Finishing.{EnoughRoundsFinish, FairRunsFinish, FinishedRunsStay}
-use Rattle.qs_plain_laws.specs.progress.Steps.{most_steps_of}
 use Rattle.qs_plain_laws.proofs.Isolating.{done_at, idle_at}
 use Rattle.qs_plain_laws.proofs.progress.Bounded.{steps_bounded}
 use Rattle.qs_plain_laws.proofs.progress.Rounds.{enough_rounds, enough_turns}

@@ -3,24 +3,14 @@
 -- first on, as long as each is over at all objects of its list. The first that is not is the first in some line, and at
 -- each object of its list it is over or the first in the line. With no ticket left the lines are empty.
 use Rattle.std.proofs.Common.{◌≡◌, ◌∙◌, ◌==◌, ◌⊎◌, ◌||◌, append-nil, inl, inr, ⊎_elim, ℕ, Bool, true, false, true≢false, List, [], ◌∷◌, ◌++◌, filter, refl, sym, ap, subst, rules}
-use Rattle.std.specs.List.{AllByRecursion}
-use Rattle.qs_objects.specs.declared.held.Ticket.{Ticket}
-use Rattle.qs_objects.proofs.Choices.{eqb_self, num_cases}
-use Rattle.qs_program.specs.audit.Program.{ProgramShape, text_of}
-use Rattle.qs_program.specs.audit.Sound.{is_in}
-use Rattle.qs_meaning.specs.audit.Following.{reserves}
-use Rattle.qs_meaning.proofs.Each.{each_map, each_unfiltered, every}
-use Rattle.qs_meaning.proofs.Histories.{Among}
+use Rattle.qs_played.proofs.Names.{AllByRecursion, Ticket, eqb_self, num_cases, ProgramShape, text_of, is_in, reserves, each_map, each_unfiltered, every, Among}
 use Rattle.qs_played.proofs.Orders.{each_among}
 
 -- where a list that is all of one part or another is
 head_of_all : {X : Type 0} (xs ys : List X) (y : X) (zs : List X) → y ∷ ys ≡ xs ++ zs
     → (zs ≡ y ∷ ys) ⊎ ((later : List X) × (xs ≡ y ∷ later) × (ys ≡ later ++ zs))
 head_of_all [] ys y zs e = inl (sym e)
-head_of_all (x ∷ xs) ys y zs e =
-    let first : x ≡ y = cc in
-    let rest : ys ≡ xs ++ zs = cc in
-    inr (xs, ap (λ x. x ∷ xs) first, rest)
+head_of_all (x ∷ xs) ys y zs e = search rules
 
 back_none : {X : Type 0} (xs ys : List X) → [] ≡ xs ++ ys → ys ≡ []
 back_none [] ys e = sym e
@@ -43,9 +33,7 @@ module _ (p : ProgramShape) (line : ℕ → List Ticket) (IsOver : ℕ → Ticke
   first_or_over t ts h e left = search (rules, head_of_all)
 
   passed : (t : Ticket) (ts : List Ticket) (h : ℕ) → reserves p t h ≡ false → Left (t ∷ ts) h → Left ts h
-  passed t ts h e left =
-      let cut : filter (λ t. reserves p t h) (t ∷ ts) ≡ filter (λ t. reserves p t h) ts = rw e refl in
-      record { served = left.served; over = left.over; mine = sym cut ∙ left.mine }
+  passed t ts h e left = search (rules, filter, left)
 
   module _ (t : Ticket) (ts : List Ticket) (left : (h : ℕ) → Left (t ∷ ts) h) where
     is_first : IsFirstLeft t
@@ -72,12 +60,10 @@ module _ (p : ProgramShape) (line : ℕ → List Ticket) (IsOver : ℕ → Ticke
         ]
       where
         later : (h : ℕ) (b : Bool) → is_in ks h ≡ true → (b || is_in ks h) ≡ true
-        later h true e = refl
-        later h false e = e
+        later h v e = search rules
 
         rest_of : (h : ℕ) (b : Bool) → b ≡ false → (b || is_in ks h) ≡ true → is_in ks h ≡ true
-        rest_of h true apart e = absurd (true≢false apart)
-        rest_of h false apart e = e
+        rest_of h v apart e = search (rules, true≢false)
 
     -- over at all of them, it is left behind
     all_passed : ((h : ℕ) → is_in (text_of p t).reserved h ≡ true → Left ts h) → (h : ℕ) → Left ts h

@@ -1,18 +1,10 @@
 -- Whatever the replies are, a sound block makes at most as many requests in all as its load says. It goes by induction
 -- on the statements, and for a repeat by induction on its turns, as for the requests on one object; then the requests
 -- are shared out among the objects of the block's list.
-use Rattle.std.proofs.Common.{◌≡◌, ◌≤◌, ◌==◌, ℕ, zero, suc, ◌+◌, ◌*◌, ◌-◌, max, Bool, true, false, if◌then◌else◌, ℤ, List, [], ◌∷◌, slice_set, sum_by, refl, arith}
+use Rattle.std.proofs.Common.{◌≡◌, ◌≤◌, ◌==◌, ℕ, zero, suc, ◌+◌, ◌*◌, ◌-◌, max, Bool, true, if◌then◌else◌, ℤ, List, [], ◌∷◌, slice_set, sum_by, refl, arith, rules}
 use Rattle.std.proofs.Math.Nat.{mul-le-mul_left}
-use Rattle.std.proofs.lemmas.List.Sums.{sum_by-cons, sum_by-le-sum_by}
-use Rattle.qs_objects.proofs.Choices.{eqb_self}
-use Rattle.qs_program.specs.declared.program.Declared.{Declared}
-use Rattle.qs_program.specs.audit.Loads.{load_of}
-use Rattle.qs_program.specs.audit.Program.{BlockShape, block_load}
-use Rattle.qs_program.specs.audit.Sound.{is_in}
-use Rattle.qs_program.specs.Sound.{IsSoundBody}
+use Rattle.qs_played.proofs.Names.{sum_by-cons, sum_by-le-sum_by, eqb_self, Declared, load_of, BlockShape, block_load, is_in, IsSoundBody, Locals, expr_value, test_value, is_in-sum_by}
 use Rattle.qs_program.specs.audit.Statements.{Statements, end, command, query, assign, choose, again, leave}
-use Rattle.qs_program.specs.audit.Values.{Locals, expr_value, test_value}
-use Rattle.qs_program.proofs.Bounds.{is_in-sum_by}
 use Rattle.qs_meaning.specs.audit.Interaction.{Interaction, Done, Call, Query, Next, meaning, tree_of}
 use Rattle.qs_meaning.specs.Interaction.{turns}
 
@@ -38,8 +30,7 @@ requests_of (again n body rest) = n * requests_of body + requests_of rest
 requests_of (leave rest) = requests_of rest
 
 either : (n : ℕ) (b : Bool) (t u : Interaction) → AtMost t n → AtMost u n → AtMost (if b then t else u) n
-either n true t u w v = w
-either n false t u w v = v
+either n z t u w v = search rules
 
 turns_within : (k load n : ℕ) (body : Next → Next) (next : Next)
     → ((m : ℕ) (f : Next) → n ≤ m → ((l : Locals) → AtMost (f l) m) → (l : Locals) → AtMost (body f l) (load + m))
@@ -55,18 +46,13 @@ meaning_within : (body : Statements) (n : ℕ) (next leaves : Next) → ((l : Lo
     → ((l : Locals) → AtMost (leaves l) n)
     → (l : Locals) → AtMost (meaning body next leaves l) (requests_of body + n)
 meaning_within end n next leaves a b l = more (next l) n (0 + n) (a l) (omega arith)
-meaning_within (command c rest) n next leaves a b l = (
-  omega arith,
-  more (meaning rest next leaves l) (requests_of rest + n) ((1 + requests_of rest + n) - 1)
-      (meaning_within rest n next leaves a b l) (omega arith),
-)
+meaning_within (command c rest) n next leaves a b l = grind (arith, more, meaning_within rest n next leaves a b l)
 meaning_within (query x c rest) n next leaves a b l = (
   omega arith,
   λ v. more (meaning rest next leaves (slice_set l x v)) (requests_of rest + n) ((1 + requests_of rest + n) - 1)
       (meaning_within rest n next leaves a b (slice_set l x v)) (omega arith),
 )
-meaning_within (assign x e rest) n next leaves a b l =
-    meaning_within rest n next leaves a b (slice_set l x (expr_value l e))
+meaning_within (assign x e rest) n next leaves a b l = search (rules, meaning_within rest n next leaves a b (slice_set l x (expr_value l e)))
 meaning_within (choose t has_else first other rest) n next leaves a b l =
     let later : Next = meaning rest next leaves in
     let m : ℕ = requests_of rest + n in
@@ -93,9 +79,7 @@ meaning_within (leave rest) n next leaves a b l = more (leaves l) n (requests_of
 -- sums of sums
 sum_of_both : (f g : ℕ → ℕ) (xs : List ℕ) → sum_by (λ h. f h + g h) xs ≡ sum_by f xs + sum_by g xs
 sum_of_both f g [] = refl
-sum_of_both f g (x ∷ xs) =
-    let ih = sum_of_both f g xs in
-    rw (sum_by-cons (λ h. f h + g h) x xs, sum_by-cons f x xs, sum_by-cons g x xs) (omega (arith, ih))
+sum_of_both f g (x ∷ xs) = search (rules, sum_by-cons, sum_of_both f g xs)
 
 sum_of_times : (n : ℕ) (f : ℕ → ℕ) (xs : List ℕ) → sum_by (λ h. n * f h) xs ≡ n * sum_by f xs
 sum_of_times n f [] = omega arith

@@ -3,11 +3,8 @@
 -- somebody could go on at its beginning, and either one before him had a step or he finds the state as it was. So as
 -- many steps were made as there were such lists; but there are no more than the bound, and one more could follow. A
 -- round is such a list.
-use Rattle.std.proofs.Common.{◌≡◌, ◌<◌, ◌≤◌, ◌∙◌, ◌⊎◌, inl, inr, ⊎_elim, ℕ, zero, suc, ◌+◌, ◌==◌, Bool, true, false, true≢false, List, [], ◌∷◌, ◌++◌, Option, None, Some, IsSome, map, length, append_assoc, append-nil, flat_map, refl, sym, ap, subst, arith, rules}
-use Rattle.std.specs.List.{AllByRecursion, range_with_len}
-use Rattle.qs_objects.proofs.Choices.{apart_eqb, num_cases}
-use Rattle.qs_program.specs.audit.Program.{ProgramShape}
-use Rattle.qs_played.specs.audit.Schedule.{actors_of, names_actor, or_stay, plays_by, rounds_of, schedule}
+use Rattle.std.proofs.Common.{◌≡◌, ◌<◌, ◌≤◌, ◌∙◌, ◌⊎◌, inl, inr, ⊎_elim, ℕ, zero, suc, ◌+◌, ◌==◌, Bool, true, false, true≢false, List, [], ◌∷◌, ◌++◌, Option, None, IsSome, map, length, append_assoc, append-nil, flat_map, refl, sym, ap, subst, arith, rules}
+use Rattle.qs_played.proofs.Names.{AllByRecursion, range_with_len, apart_eqb, num_cases, ProgramShape, actors_of, names_actor, or_stay, plays_by, rounds_of, schedule}
 use Rattle.qs_played.specs.declared.schedule.actor.Actor.{Actor}
 use Rattle.qs_played.specs.declared.schedule.actor.Actor.TheVariants as actor
 use Rattle.qs_plain_laws.specs.progress.Finishing.{HasEveryone, IsOneOf}
@@ -62,8 +59,7 @@ repeated (suc n) turn = turn ∷ repeated n turn
 
 one_before : (n : ℕ) (turn : List Actor) → turn ++ rounds_of n turn ≡ rounds_of (suc n) turn
 one_before zero turn = append-nil turn
-one_before (suc n) turn =
-    sym (append_assoc turn (rounds_of n turn) turn) ∙ ap (λ xs. xs ++ turn) (one_before n turn)
+one_before (suc n) turn = search (rules, append_assoc, one_before n turn)
 
 rounds_joined : (n : ℕ) (turn : List Actor) → joined (repeated n turn) ≡ rounds_of n turn
 rounds_joined zero turn = refl
@@ -81,17 +77,12 @@ repeated_many (suc n) turn = ap suc (repeated_many n turn)
 
 module _ {S : Type 0} (p : ProgramShape) (step : S → Actor → Option S) where
   one_made : (o : Option S) → IsSome o → made o ≡ 1
-  one_made None some = absurd (true≢false (sym some))
-  one_made (Some t) some = refl
+  one_made v some = search (rules, true≢false)
 
   some_made : (s : S) (a : Actor) (actors : List Actor) → IsOneOf a actors → IsSome (step s a)
       → 1 ≤ steps_made_by step actors s
   some_made s a [] i some = absurd i
-  some_made s a (b ∷ rest) i some = by_step (step s b) refl (some_made s a rest)
-    where
-      by_step : (o : Option S) → step s b ≡ o → (IsOneOf a rest → IsSome (step s a) → 1 ≤ steps_made_by step rest s)
-          → 1 ≤ made o + steps_made_by step rest (or_stay s o)
-      by_step o e later = search rules
+  some_made s a (b ∷ rest) i some = search (rules, some_made s a rest)
 
   plays_joined : (xs ys : List Actor) (s : S) → plays_by step (xs ++ ys) s ≡ plays_by step ys (plays_by step xs s)
   plays_joined [] ys s = refl
@@ -123,8 +114,7 @@ module _ {S : Type 0} (p : ProgramShape) (step : S → Actor → Option S) where
         → IsOver actors ⊎ ((a : Actor) × (names_actor p a ≡ true) × IsSome (step (after actors) a)))
         (most : ℕ) (bounded : (actors : List Actor) → count actors ≤ most) where
       still_over : (xs ys : List Actor) → IsOver xs → IsOver (xs ++ ys)
-      still_over xs ys is =
-          subst (λ s. over s ≡ true) (sym (plays_joined xs ys begin ∙ plays_nothing (after xs) ys (stay xs is))) is
+      still_over xs ys is = search (rules, plays_joined, plays_nothing, after)
 
       -- after a list in which everyone has a turn all is finished, or a step was made
       one_turn : (xs turn : List Actor) → HasEveryone p turn
@@ -134,17 +124,7 @@ module _ {S : Type 0} (p : ProgramShape) (step : S → Actor → Option S) where
       turns_on : (xs : List Actor) (turns : List (List Actor)) → AllByRecursion (HasEveryone p) turns
           → IsOver (xs ++ joined turns) ⊎ (length turns + count xs ≤ count (xs ++ joined turns))
       turns_on xs [] each = inr (subst (λ ys. 0 + count xs ≤ count ys) (sym (append-nil xs)) (omega arith))
-      turns_on xs (turn ∷ turns) each =
-          subst (λ ys. IsOver ys ⊎ (suc (length turns) + count xs ≤ count ys))
-          (append_assoc xs turn (joined turns))
-          (elim (one_turn xs turn each.0) [
-            | inl is ↦ inl (still_over (xs ++ turn) (joined turns) is)
-            | inr more ↦
-                elim (turns_on (xs ++ turn) turns each.1) [
-                  | inl is ↦ inl is
-                  | inr others ↦ inr (omega (arith, more, others))
-                ]
-          ])
+      turns_on xs (turn ∷ turns) each = grind (arith, count, append_assoc, joined, one_turn, still_over, turns_on (xs ++ turn) turns each.1)
 
       -- with as many steps as there can be, nobody has one more
       none_more : (xs : List Actor) → most ≤ count xs → IsOver xs

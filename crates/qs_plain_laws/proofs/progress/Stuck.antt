@@ -3,43 +3,24 @@
 -- private queue has an item, the handler has a step. If it has none, the client is in the ticket's block, and has a
 -- step there; or it waits for a query, and the query lies first at the handler that was asked, where all earlier
 -- tickets were served too. With no ticket left, nobody waits, so a client with a block left has a step.
-use Rattle.std.proofs.Common.{◌≡◌, ◌<◌, ◌≤◌, ◌∙◌, ◌==◌, ◌⊎◌, ◌+◌, inl, inr, ⊎_elim, ℕ, zero, suc, Bool, true, false, if◌then◌else◌, nat_lt, ℤ, List, [], ◌∷◌, ◌++◌, None, IsSome, map, length, get_or, refl, sym, ap, subst, arith}
-use Rattle.std.proofs.lemmas.Bool.{lt-ltb}
-use Rattle.qs_objects.specs.declared.held.Ticket.{Ticket}
-use Rattle.qs_objects.specs.declared.Request.{Request}
-use Rattle.qs_objects.proofs.Choices.{eqb_self, num_cases}
-use Rattle.qs_program.specs.audit.Program.{ProgramShape, blocks_of, text_of}
-use Rattle.qs_program.specs.Sound.{IsSound}
-use Rattle.qs_program.specs.audit.Values.{Locals}
-use Rattle.qs_meaning.specs.BlockRecords.{IsBlockRecord, IsDone}
-use Rattle.qs_meaning.specs.audit.Following.{reserves}
-use Rattle.qs_meaning.specs.Following.{AsksOnly}
-use Rattle.qs_meaning.specs.audit.Interaction.{Interaction, Query}
-use Rattle.qs_meaning.specs.audit.Serial.{LegalFrom}
-use Rattle.qs_meaning.specs.audit.Solo.{put}
-use Rattle.qs_meaning.proofs.Histories.{Among, done_of}
-use Rattle.qs_played.specs.audit.Played.{ticket}
-use Rattle.qs_played.specs.audit.Schedule.{names_actor}
+use Rattle.std.proofs.Common.{◌≡◌, ◌<◌, ◌≤◌, ◌∙◌, ◌==◌, ◌⊎◌, ◌+◌, inl, inr, ⊎_elim, ℕ, zero, suc, Bool, true, false, if◌then◌else◌, nat_lt, ℤ, List, [], ◌∷◌, ◌++◌, None, IsSome, map, length, get_or, refl, sym, ap, subst, arith, rules}
+use Rattle.qs_played.proofs.Names.{lt-ltb, Ticket, Request, eqb_self, num_cases, ProgramShape, blocks_of, text_of, IsSound, Locals, IsDone, reserves, Interaction, Query, LegalFrom, put, Among, done_of, ticket, names_actor}
 use Rattle.qs_played.specs.declared.schedule.actor.Actor.TheVariants as actor
-use Rattle.qs_played.proofs.Orders.{counts_after, each_among, legal_among}
-use Rattle.qs_played.proofs.JournalRooms.{no_block_beyond}
+use Rattle.qs_plain_laws.proofs.Names.{each_among, legal_among, no_block_beyond, all_done, all_idle, is_done, is_finished, plays, QueueItem}
 use Rattle.qs_plain_laws.specs.audit.Plain.{Client, Handler, Plain, Private, StageOfClient, begin, begun_blocks, client_at, client_step, handler_at, item_step, no_client, out, queue_step, within}
-use Rattle.qs_plain_laws.specs.audit.PlainSchedule.{all_done, all_idle, is_done, is_finished, plays}
-use Rattle.qs_plain_laws.specs.declared.item.QueueItem.{QueueItem}
 use Rattle.qs_plain_laws.specs.declared.item.QueueItem.TheVariants as item
 use Rattle.qs_plain_laws.proofs.PlainPreserved.{RunInvariant, in_list, reserved_list, run_kept, sight_of}
 use Rattle.qs_plain_laws.proofs.RunViews.{Awaits, PlainStage, RunView, Runs, Stands, stage_of}
 use Rattle.qs_plain_laws.proofs.ServedRuns.{IsServedRun, ServedRun}
 use Rattle.qs_plain_laws.proofs.ServedRunMoves.{asks_left}
-use Rattle.qs_plain_laws.proofs.Simulation.{Simulates, StandsAt, private, tail}
+use Rattle.qs_plain_laws.proofs.Simulation.{Simulates, private, tail}
 use Rattle.qs_plain_laws.specs.progress.Progress.{CanGoOn, NeverStuck}
 use Rattle.qs_plain_laws.proofs.progress.FirstLeft.{IsFirstLeft, all_over, goes_or_none}
 
 -- a handler whose first private queue has an item has a step
 item_steps : (s : Plain) (h : ℕ) (it : Handler) (q : Private) (qs : List Private) (i : QueueItem) (is : List QueueItem)
     → IsSome (item_step s h it q qs (i ∷ is))
-item_steps s h it q qs (item.Command r) is = refl
-item_steps s h it q qs _ is = refl
+item_steps s h it q qs v is = search rules
 
 -- all clients done, or somebody has a step
 each_done : (p : ProgramShape) (H : Type 0) (cs : List Client) (from : ℕ)
@@ -102,9 +83,7 @@ module _ (p : ProgramShape) (sound : IsSound p) (s : Plain) (k : RunInvariant p 
 
   -- the ticket of a client's last block is in the order
   last_among : (c i : ℕ) → begun_blocks (client_at s c) ≡ suc i → Among (ticket c i) w.order
-  last_among c i e =
-      let many : counts_after (λ _. 0) w.order c ≡ suc i = ok.counts c ∙ (sim.booked c ∙ e) in
-      legal_among p (λ _. 0) w.order c i ok.legal (omega arith) (omega (arith, many))
+  last_among c i e = grind (arith, legal_among)
 
   begun_within : (c n : ℕ) → begun_blocks (client_at s c) ≡ n → n ≤ blocks_of p c
   begun_within c zero e = omega arith
@@ -113,16 +92,12 @@ module _ (p : ProgramShape) (sound : IsSound p) (s : Plain) (k : RunInvariant p 
   -- a query that a client waits for is one of its block's list
   waits_at : (t : Ticket) (r : Request) (next : ℤ → Interaction) → Among t w.order → (w.block_record t).rest ≡ Query r next
       → reserves p t r.object ≡ true
-  waits_at t r next a e =
-      (subst (AsksOnly (reserves p t)) e
-      (asks_left p sound w t (each_among (λ t. IsBlockRecord p t (w.block_record t)) t w.order ok.block_records a))).1
+  waits_at t r next a e = search (rules, asks_left, w, each_among)
 
   waits_still : (t : Ticket) (r : Request) (next : ℤ → Interaction) → suc t.index ≡ begun_blocks (client_at s t.client)
       → k.stance t.client ≡ Awaits r next
       → (w.block_record t).rest ≡ Query r next
-  waits_still t r next last is =
-      subst (λ g. StandsAt w.block_record t.client g (suc t.index)) is
-      (subst (StandsAt w.block_record t.client (k.stance t.client)) (sym last) (sim.stands t.client))
+  waits_still t r next last is = search (rules, k)
 
   not_over : (t : Ticket) (r : Request) (next : ℤ → Interaction) → (w.block_record t).rest ≡ Query r next → done_of w.block_record t → ⊥
   not_over t r next e d = subst IsDone e d
@@ -196,9 +171,7 @@ module _ (p : ProgramShape) (sound : IsSound p) (s : Plain) (k : RunInvariant p 
 
       by_stance : (g : PlainStage) → k.stance t.client ≡ g → suc t.index ≡ begun_blocks (client_at s t.client)
           → CanGoOn p s
-      by_stance (Stands l) is last = mark_steps (rw (← last, is) (rw (eqb_self (suc t.index)) refl))
-      by_stance (Runs rest) is last = in_block_steps t.client rest (is_client t among) is
-      by_stance (Awaits r next) is last = asked_steps r next last is
+      by_stance v is last = search (rules, mark_steps, eqb_self, in_block_steps, is_client, asked_steps)
 
       first_steps : CanGoOn p s
       first_steps = ⊎_elim
@@ -215,9 +188,7 @@ module _ (p : ProgramShape) (sound : IsSound p) (s : Plain) (k : RunInvariant p 
   module _ (none : (h : ℕ) → (w.service h).queue ≡ []) where
     waits_for_none : (c : ℕ) (r : Request) (next : ℤ → Interaction) (n : ℕ) → begun_blocks (client_at s c) ≡ n
         → k.stance c ≡ Awaits r next → ⊥
-    waits_for_none c r next zero e is =
-        subst (λ n. StandsAt w.block_record c (Awaits r next) n) e
-        (subst (λ g. StandsAt w.block_record c g (begun_blocks (client_at s c))) is (sim.stands c))
+    waits_for_none c r next zero e is = search rules
     waits_for_none c r next (suc i) e is =
         let t = ticket c i in
         let among = last_among c i e in
