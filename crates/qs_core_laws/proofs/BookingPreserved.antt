@@ -1,38 +1,13 @@
 -- A reservation keeps the machine's invariant: it adds one ticket to the order, to its handlers' queues and to its
 -- client.
 use Rattle.std.proofs.Common.{◌≡◌, ◌<◌, ◌≤◌, arith, ℕ, zero, suc, Bool, true, false, if◌then◌else◌, ◌==◌, List, [], ◌∷◌, ◌++◌, filter, refl, sym, ap, ◌∙◌, subst, ⊎_elim, append-nil, None, rules}
-use Rattle.std.specs.List.{AllByRecursion}
-use Rattle.std.proofs.Math.Path.{fun_ext}
-use Rattle.std.proofs.lemmas.List.Elements.{filter-append}
-use Rattle.qs_objects.specs.audit.Journals.{HeldState}
-use Rattle.qs_objects.specs.audit.Parts.{same}
-use Rattle.qs_objects.specs.declared.held.Ticket.{Ticket}
-use Rattle.qs_objects.proofs.Choices.{apart_eqb, num_cases, ticket_cases}
-use Rattle.qs_meaning.specs.audit.Solo.{put}
-use Rattle.qs_meaning.proofs.Each.{each_map, each_both, each_snoc, each_front, each_kept}
-use Rattle.qs_meaning.proofs.TreeWalks.{put_here, put_there}
-use Rattle.qs_meaning.specs.audit.Following.{reserves}
-use Rattle.qs_meaning.specs.Following.{block_tree, AsksOnly}
-use Rattle.qs_program.specs.audit.Program.{ProgramShape, blocks_of}
-use Rattle.qs_meaning.specs.audit.Serial.{zeros}
-use Rattle.qs_program.specs.audit.Values.{Locals}
-use Rattle.qs_meaning.specs.BlockRecords.{BlockRecord, Begins}
-use Rattle.qs_graph.specs.audit.Synced.{Synced}
-use Rattle.qs_graph.specs.Synced.{without_syncs}
-use Rattle.qs_syncset.specs.SoundSynced.{IsSoundSynced, IsOnReserved}
-use Rattle.qs_chunk.specs.LaneViews.{ObjectStance, sends, gone}
-use Rattle.qs_chunk.specs.declared.parcel.Parcel.{Parcel}
-use Rattle.qs_client.specs.audit.rules.Client.{Client, Settings, Settlement, between, begin}
-use Rattle.qs_played.proofs.FunctionUpdate.{put_at, put_at_here, put_at_there, put_all, put_field, put_at_field}
-use Rattle.qs_played.specs.audit.Played.{ticket}
-use Rattle.qs_played.proofs.Orders.{legal-more, counts-more}
+use Rattle.qs_played.proofs.Names.{AllByRecursion, fun_ext, filter-append, HeldState, same, Ticket, apart_eqb, num_cases, ticket_cases, put, each_map, each_both, each_snoc, each_front, each_kept, put_here, put_there, reserves, block_tree, AsksOnly, ProgramShape, blocks_of, zeros, Locals, BlockRecord, Begins, ticket, fresh_held}
+use Rattle.qs_core_laws.proofs.Names.{Synced, without_syncs, IsSoundSynced, IsOnReserved, ObjectStance, sends, gone, Parcel, Client, Settings, Settlement, between, begin, put_at, put_at_here, put_at_there, put_all, put_field, put_at_field, legal-more, counts-more, Core}
 use Rattle.qs_core_laws.proofs.protocol.ObjectViews.{as_list, HandlerLog, ahead, IsObject}
 use Rattle.qs_core_laws.proofs.protocol.ClientInvariants.{objects_of_block, Lined, Leaving, PlaceOk, standing_at}
 use Rattle.qs_core_laws.proofs.protocol.ClientLogs.{books_ok}
 use Rattle.qs_core_laws.proofs.protocol.ObjectSteps.{enter_ok}
 use Rattle.qs_core_laws.proofs.protocol.ActObjects.{settle_begun}
-use Rattle.qs_played.specs.audit.JournalRooms.{fresh_held}
-use Rattle.qs_core_laws.specs.audit.Core.{Core}
 use Rattle.qs_core_laws.proofs.CoreInvariant.{LaneHistory, post, deeds, TicketOk, CoreInvariant}
 use Rattle.qs_core_laws.proofs.HandlerSteps.{of_ahead}
 use Rattle.qs_core_laws.proofs.ClientSteps.{place_record, place_lane, place_gone}
@@ -136,12 +111,10 @@ module _ (program : ProgramShape) (fine : (t : Ticket) (l : Locals) → AsksOnly
       (k.objects h)))
     where
       sent_is : (b : Bool) (u : Ticket) → (if b then [] else y.sent u h) ≡ (if b then (λ h. []) else y.sent u) h
-      sent_is true u = refl
-      sent_is false u = refl
+      sent_is v u = search rules
 
       got_is : (b : Bool) (u : Ticket) → (if b then [] else y.got u h) ≡ (if b then (λ h. []) else y.got u) h
-      got_is true u = refl
-      got_is false u = refl
+      got_is v u = search rules
   object h false e =
       let o = k.outside t h e in
       subst (λ q. IsObject q (fresh_held program h) (post s h) (deeds Y h) (g h)) (sym (one_more h false e ∙ append-nil (filter (λ t. reserves program t h) s.order)))
@@ -157,13 +130,8 @@ module _ (program : ProgramShape) (fine : (t : Ticket) (l : Locals) → AsksOnly
   all_kept : CoreInvariant program reserved_core Y G
   all_kept = record {
     legal = legal-more program (λ _. 0) s.order t k.legal (sym (k.counts c ∙ begun)) some;
-    counts = λ d.
-        ap (λ (f : ℕ → ℕ). f d) (counts-more (λ _. 0) s.order t)
-        ∙ ap (λ (f : ℕ → ℕ). put f c (suc n) d) (fun_ext k.counts)
-        ∙ sym (put_field (λ (m : Client). m.begun) s.client (λ c. (s.client c).begun) c r.client (suc n) (λ m. refl) new_begun d);
-    below = each_snoc (λ (u : Ticket). suc u.index ≤ (put s.client c r.client u.client).begun) s.order t
-        (each_map (λ (u : Ticket) (lt : suc u.index ≤ (s.client u.client).begun). let up = begun_up u.client in omega (arith, lt, up)) s.order k.below)
-        (subst (λ (m : Client). suc n ≤ m.begun) (sym (put_here s.client c r.client)) (let b = new_begun in omega (arith, b)));
+    counts = search (rules, counts-more, k, put_field, new_begun);
+    below = grind (arith, each_snoc, each_map, begun_up, k, put_here, new_begun);
     tickets_ok = each_snoc (TicketOk program Y) s.order t
         (each_both (λ u (n : same t u ≡ false) (h : (suc u.index ≤ (s.client u.client).begun) × TicketOk program y u). ok_old u n h.0 h.1) s.order fresh
         (each_both (λ u a b. (a, b)) s.order k.below k.tickets_ok))
@@ -181,24 +149,9 @@ module _ (program : ProgramShape) (fine : (t : Ticket) (l : Locals) → AsksOnly
         subst (λ (f : ℕ → List Parcel). PlaceOk program (ticket d j) f (Y.got (ticket d j)) (s.client d) (Y.block_record (ticket d j)) (s.client d).stage) (sym (put_at_there y.sent t (λ h. []) (ticket d j) n))
         (subst (λ (f : ℕ → List HeldState). PlaceOk program (ticket d j) (y.sent (ticket d j)) f (s.client d) (Y.block_record (ticket d j)) (s.client d).stage) (sym (put_at_there y.got t (λ h. []) (ticket d j) n))
         (subst (λ (p : BlockRecord). PlaceOk program (ticket d j) (y.sent (ticket d j)) (y.got (ticket d j)) (s.client d) p (s.client d).stage) (sym (old_record (ticket d j) n)) (k.places d j e)))) d j;
-    stands = λ d j. put_all (λ d (m : Client). (j : ℕ) → m.begun ≡ suc j → (h : ℕ) → Y.stands (ticket d j) h ≡ standing_at program (ticket d j) m m.stage h) s.client c r.client
-        (λ j e h. let b = new_begun in let i : n ≡ j = omega (arith, b, e) in subst (λ j. Y.stands (ticket c j) h ≡ standing_at program (ticket c j) r.client r.client.stage h) i (ap (λ (f : ℕ → ObjectStance). f h) (put_at_here y.stands t (standing_at program t r.client r.client.stage))))
-        (λ d other j e h. ap (λ (f : ℕ → ObjectStance). f h) (put_at_there y.stands t (standing_at program t r.client r.client.stage) (ticket d j) (not_this d j other)) ∙ k.stands d j e h) d j;
-    older = λ d j. put_all (λ d (m : Client). (j : ℕ) → suc j < m.begun → (h : ℕ) → reserves program (ticket d j) h ≡ true → Y.stands (ticket d j) h ≡ gone) s.client c r.client
-        (λ j lt h m.
-        let b = new_begun in
-        let lt' : suc j < suc n = omega (arith, b, lt) in
-        ⊎_elim
-        (λ (is : t ≡ ticket c j). let p : n ≡ j = ap (λ (t : Ticket). t.index) is in absurd (omega (arith, p, lt')))
-        (λ (other : same t (ticket c j) ≡ false). ap (λ (f : ℕ → ObjectStance). f h) (put_at_there y.stands t (standing_at program t r.client r.client.stage) (ticket c j) other) ∙ older_now j h lt' m)
-        (ticket_cases t (ticket c j)))
-        (λ d other j lt h m. ap (λ (f : ℕ → ObjectStance). f h) (put_at_there y.stands t (standing_at program t r.client r.client.stage) (ticket d j) (not_this d j other)) ∙ k.older d j lt h m) d j;
-    outside = λ u h none. ⊎_elim
-        (λ (is : t ≡ u). subst (λ u. (Y.sent u h ≡ []) × (Y.got u h ≡ [])) is
-        (ap (λ (f : ℕ → List Parcel). f h) (put_at_here y.sent t (λ h. [])), ap (λ (f : ℕ → List HeldState). f h) (put_at_here y.got t (λ h. []))))
-        (λ (other : same t u ≡ false). let o = k.outside u h none in
-        (ap (λ (f : ℕ → List Parcel). f h) (put_at_there y.sent t (λ h. []) u other) ∙ o.0, ap (λ (f : ℕ → List HeldState). f h) (put_at_there y.got t (λ h. []) u other) ∙ o.1))
-        (ticket_cases t u);
+    stands = grind (arith, put_all, new_begun, put_at_here, put_at_there, not_this, k);
+    older = grind (arith, put_all, new_begun, put_at_there, older_now, ticket_cases, not_this, k);
+    outside = search (rules, put_at_here, k, put_at_there, ticket_cases);
     objects = λ h. object h (reserves program t h) refl;
   }
 

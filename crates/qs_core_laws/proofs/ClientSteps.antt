@@ -3,45 +3,23 @@
 -- block record and the lanes of the client's current ticket change, so each ticket is either this one or stays as it
 -- was.
 use Rattle.std.proofs.Common.{◌≡◌, ◌<◌, ◌≤◌, arith, ℕ, suc, Bool, true, false, if◌then◌else◌, ◌==◌, List, [], ◌++◌, filter, sym, ap, ◌∙◌, subst, ⊎_elim, Option, None, rules}
-use Rattle.qs_sync_counts.specs.declared.sync_counts.SyncCount.{SyncCount}
-use Rattle.qs_objects.specs.audit.Journals.{HeldState}
-use Rattle.qs_objects.specs.audit.Parts.{part, same}
-use Rattle.qs_objects.specs.declared.held.Event.{Event}
-use Rattle.qs_objects.specs.declared.held.Ticket.{Ticket}
-use Rattle.qs_objects.specs.declared.Request.{Request}
-use Rattle.qs_objects.proofs.Choices.{ticket_cases}
-use Rattle.qs_meaning.specs.audit.Solo.{put}
-use Rattle.qs_meaning.proofs.Each.{each_map, each_both}
-use Rattle.qs_meaning.specs.audit.Following.{reserves}
-use Rattle.qs_program.specs.audit.Program.{ProgramShape}
-use Rattle.qs_meaning.specs.audit.Serial.{zeros}
-use Rattle.qs_meaning.specs.BlockRecords.{BlockRecord, IsDone}
-use Rattle.qs_chunk.specs.LaneViews.{ObjectStance, asks, gone, ClientLane}
-use Rattle.qs_chunk.specs.declared.parcel.Parcel.{Parcel}
-use Rattle.qs_client.specs.audit.rules.Client.{Client, ClientStage, between, runs}
-use Rattle.qs_played.proofs.FunctionUpdate.{put_at, put_at_here, put_at_there, put_all, put_at_field, put_at_kept, put_kept}
-use Rattle.qs_played.specs.audit.Played.{ticket}
+use Rattle.qs_played.proofs.Names.{SyncCount, HeldState, part, same, Event, Ticket, Request, ticket_cases, put, each_map, each_both, reserves, ProgramShape, zeros, BlockRecord, IsDone, ticket, fresh_held}
+use Rattle.qs_core_laws.proofs.Names.{ObjectStance, asks, gone, ClientLane, Parcel, Client, ClientStage, between, runs, put_at, put_at_here, put_at_there, put_all, put_at_field, put_at_kept, put_kept, IsOpenRecord, Core}
 use Rattle.qs_core_laws.proofs.protocol.ObjectViews.{HandlerLog, IsObject}
 use Rattle.qs_core_laws.proofs.protocol.ClientInvariants.{in_hand, PlaceOk, standing_at}
-use Rattle.qs_core_laws.specs.protocol.ClientHistories.{IsOpenRecord}
 use Rattle.qs_core_laws.proofs.protocol.ActKinds.{in_hand_gone}
-use Rattle.qs_played.specs.audit.JournalRooms.{fresh_held}
-use Rattle.qs_core_laws.specs.audit.Core.{Core}
 use Rattle.qs_core_laws.proofs.CoreInvariant.{LaneHistory, post, deeds, TicketOk, CoreInvariant}
 use Rattle.qs_core_laws.proofs.LaneHistoryMoves.{begins_kept, none_after, ok_here, ok_there}
 
 module _ (program : ProgramShape) (t : Ticket) (snt : ℕ → List Parcel) (got : ℕ → List HeldState) where
   pub place_record : (m : Client) (pg : BlockRecord) (pl : ClientStage) → PlaceOk program t snt got m pg pl → IsOpenRecord program t pg
-  place_record m pg (runs code) k = k.0.block_record
-  place_record m pg _ k = k.block_record
+  place_record m pg v k = search rules
 
   pub place_lane : (m : Client) (pg : BlockRecord) (pl : ClientStage) → PlaceOk program t snt got m pg pl → (h : ℕ) → ClientLane t false (snt h) (got h) (part h pg.trace) (standing_at program t m pl h)
-  place_lane m pg (runs code) k h = k.0.lanes h
-  place_lane m pg _ k h = k.lanes h
+  place_lane m pg v k h = search rules
 
   awaits_gone : (b : Bool) (o : Option HeldState) (c : Option (List Request)) → (if b then asks else in_hand o c) ≡ gone → ⊥
-  awaits_gone true o c e = cc
-  awaits_gone false o c e = in_hand_gone o c e
+  awaits_gone v o c e = search (rules, in_hand_gone)
 
   pub place_gone : (m : Client) (pg : BlockRecord) (pl : ClientStage) → PlaceOk program t snt got m pg pl → (h : ℕ) → standing_at program t m pl h ≡ gone → IsDone pg.rest
   place_gone m pg pl k h e = search (rules, in_hand_gone, awaits_gone)
@@ -103,24 +81,8 @@ module _ (program : ProgramShape) (s : Core) (y : LaneHistory) (g : ℕ → Hand
         subst (λ (f : ℕ → List Parcel). PlaceOk program (ticket d j) f (story.got (ticket d j)) (s.client d) (story.block_record (ticket d j)) (s.client d).stage) (sym (put_at_there y.sent t snt (ticket d j) n))
         (subst (λ (f : ℕ → List HeldState). PlaceOk program (ticket d j) (y.sent (ticket d j)) f (s.client d) (story.block_record (ticket d j)) (s.client d).stage) (sym (put_at_there y.got t got (ticket d j) n))
         (subst (λ (p : BlockRecord). PlaceOk program (ticket d j) (y.sent (ticket d j)) (y.got (ticket d j)) (s.client d) p (s.client d).stage) (sym (old_record (ticket d j) n)) (kept.places d j e)))) d j;
-    stands = λ d j. put_all (λ d (m : Client). (j : ℕ) → m.begun ≡ suc j → (h : ℕ) → story.stands (ticket d j) h ≡ standing_at program (ticket d j) m m.stage h) s.client c m
-        (λ j e h. let i : k ≡ j = omega arith in subst (λ j. story.stands (ticket c j) h ≡ standing_at program (ticket c j) m m.stage h) i (ap (λ (f : ℕ → ObjectStance). f h) (put_at_here y.stands t (standing_at program t m m.stage))))
-        (λ d other j e h. ap (λ (f : ℕ → ObjectStance). f h) (put_at_there y.stands t (standing_at program t m m.stage) (ticket d j) (not_this d j other)) ∙ kept.stands d j e h) d j;
-    older = λ d j lt h reserved.
-        ⊎_elim
-        (λ (is : t ≡ ticket d j).
-        let p : k ≡ j = ap (λ (t : Ticket). t.index) is in
-        let q : (s.client c).begun ≡ (s.client d).begun = ap (λ (t : Ticket). (s.client t.client).begun) is in
-        let b = begun_kept d in
-        absurd (omega (arith, b)))
-        (λ (other : same t (ticket d j) ≡ false). ap (λ (f : ℕ → ObjectStance). f h) (put_at_there y.stands t (standing_at program t m m.stage) (ticket d j) other) ∙ kept.older d j (subst (λ n. suc j < n) (begun_kept d) lt) h reserved)
-        (ticket_cases t (ticket d j));
-    outside = λ u h none. ⊎_elim
-        (λ (is : t ≡ u). subst (λ u. (story.sent u h ≡ []) × (story.got u h ≡ [])) is
-        (let o = out h (subst (λ u. reserves program u h ≡ false) (sym is) none) in
-        (ap (λ (f : ℕ → List Parcel). f h) (put_at_here y.sent t snt) ∙ o.0, ap (λ (f : ℕ → List HeldState). f h) (put_at_here y.got t got) ∙ o.1)))
-        (λ (other : same t u ≡ false). let o = kept.outside u h none in
-        (ap (λ (f : ℕ → List Parcel). f h) (put_at_there y.sent t snt u other) ∙ o.0, ap (λ (f : ℕ → List HeldState). f h) (put_at_there y.got t got u other) ∙ o.1))
-        (ticket_cases t u);
+    stands = search (rules, put_all, put_at_here, put_at_there, not_this, kept);
+    older = grind (arith, begun_kept, put_at_there, kept, ticket_cases);
+    outside = search (rules, put_at_here, kept, put_at_there, ticket_cases);
     objects = objects;
   }

@@ -2,39 +2,15 @@
 -- then those in its client's open chunk. The proof that journals follow the order of reservations needs this for each
 -- ticket. A lane's parcels are cut into the tickets that the handler has still to serve, by induction on its queue; a
 -- ticket that was served has none left.
-use Rattle.std.proofs.Common.{◌≡◌, ◌<◌, ◌≤◌, ℕ, suc, Bool, true, false, true≢false, if◌then◌else◌, ◌==◌, List, [], ◌∷◌, ◌++◌, map, filter, refl, sym, ap, ap₂, ◌∙◌, subst, ◌⊎◌, inl, inr, ⊎_elim, append-nil, Option, None, rules}
-use Rattle.std.specs.List.{AllByRecursion}
-use Rattle.qs_objects.specs.audit.Journals.{HeldState}
-use Rattle.qs_objects.specs.audit.Parts.{command_event, part, same}
-use Rattle.qs_objects.specs.declared.held.Event.{Event}
-use Rattle.qs_objects.specs.declared.held.Ticket.{Ticket}
-use Rattle.qs_objects.specs.declared.Request.{Request}
-use Rattle.qs_objects.proofs.Choices.{apart_eqb, eqb_self, eqb_true, num_cases, not_same}
-use Rattle.qs_meaning.specs.audit.Following.{reserves}
-use Rattle.qs_meaning.specs.Following.{block_tree}
-use Rattle.qs_program.specs.audit.Program.{ProgramShape}
-use Rattle.qs_program.specs.Sound.{IsSound}
-use Rattle.qs_meaning.proofs.Each.{each_map, each_both, each_join, each_front, each_back, each_kept, each_passes}
-use Rattle.qs_meaning.proofs.Histories.{Among, Apart, parts_of}
-use Rattle.qs_meaning.proofs.SerialRuns.{legal_apart}
-use Rattle.qs_meaning.proofs.SoundTrees.{blocks_ask_only}
-use Rattle.qs_meaning.proofs.TreeWalks.{unnamed}
-use Rattle.qs_chunk.specs.LaneViews.{ObjectStance, sends, asks, gone, ClientLane, HandlerLane}
-use Rattle.qs_chunk.specs.declared.parcel.Parcel.{Parcel}
-use Rattle.qs_chunk.specs.LaneParts.{commands_in, lane_of}
+use Rattle.std.proofs.Common.{◌≡◌, ◌<◌, ◌≤◌, ℕ, suc, Bool, true, false, true≢false, if◌then◌else◌, ◌==◌, List, [], ◌∷◌, ◌++◌, map, filter, refl, sym, ap, ap₂, ◌∙◌, subst, ◌⊎◌, inl, inr, ⊎_elim, append-nil, Option, None, rules, arith}
+use Rattle.qs_played.proofs.Names.{AllByRecursion, HeldState, command_event, part, same, Event, Ticket, Request, apart_eqb, eqb_self, eqb_true, num_cases, not_same, reserves, block_tree, ProgramShape, IsSound, each_map, each_both, each_join, each_front, each_back, each_kept, each_passes, Among, Apart, parts_of, legal_apart, blocks_ask_only, unnamed, fresh_held}
+use Rattle.qs_core_laws.proofs.Names.{ObjectStance, sends, asks, gone, ClientLane, HandlerLane, Parcel, commands_in, lane_of, Handler, free, closed, serving, Client, ClientStage, each_among, apart_kept, apart_both, Core, in_chunk, on_way, or_none}
 use Rattle.qs_chunk.specs.LaneViews as views
-use Rattle.qs_handler.specs.audit.Handler.{Handler, free, closed}
-use Rattle.qs_handler.specs.Handler.{serving}
-use Rattle.qs_client.specs.audit.rules.Client.{Client, ClientStage}
-use Rattle.qs_played.proofs.Orders.{each_among, apart_kept, apart_both}
 use Rattle.qs_core_laws.proofs.protocol.ClientInvariants.{in_hand, PlaceOk, standing_at}
 use Rattle.qs_core_laws.proofs.protocol.ObjectViews.{stance, Rising, HandlerLog, ahead}
 use Rattle.qs_core_laws.proofs.protocol.LaneParts.{IsEnded, AreCut, ended_back, gone_ended, lane_of_other, lane_of_own}
 use Rattle.qs_core_laws.proofs.protocol.LaneWays.{gone_over}
 use Rattle.qs_core_laws.proofs.protocol.LaneWholes.{IsCut, chunk_of, cut_back, sent_cut}
-use Rattle.qs_played.specs.audit.JournalRooms.{fresh_held}
-use Rattle.qs_core_laws.specs.audit.Core.{Core}
-use Rattle.qs_core_laws.specs.CoreSchedule.{in_chunk, on_way, or_none}
 use Rattle.qs_core_laws.proofs.CoreInvariant.{LaneHistory, post, TicketOk, CoreInvariant}
 use Rattle.qs_core_laws.proofs.HandlerSteps.{deeds_ok, may_ahead}
 use Rattle.qs_core_laws.proofs.SendingPreserved.{among_kept, past_gone}
@@ -45,17 +21,14 @@ hand_chunk : (o : Option HeldState) (c : Option (List Request)) → (o ≡ None)
 hand_chunk o c n = search rules
 
 awaits_chunk : (b : Bool) (o : Option HeldState) (c : Option (List Request)) → (b ≡ true → c ≡ None) → (o ≡ None) ⊎ (c ≡ None) → chunk_of (if b then asks else in_hand o c) ≡ or_none c
-awaits_chunk true o c e n = sym (ap or_none (e refl))
-awaits_chunk false o c e n = hand_chunk o c n
+awaits_chunk v o c e n = search (rules, hand_chunk)
 
 gone_chunk : (b : Bool) → chunk_of (if b then gone else sends []) ≡ []
-gone_chunk true = refl
-gone_chunk false = refl
+gone_chunk v = search rules
 
 leaves_chunk : (a b : Bool) (o : Option HeldState) (c : Option (List Request)) → (a ≡ false → c ≡ None) → (o ≡ None) ⊎ (c ≡ None)
     → chunk_of (if a then in_hand o c else (if b then gone else sends [])) ≡ or_none c
-leaves_chunk true b o c e n = hand_chunk o c n
-leaves_chunk false b o c e n = gone_chunk b ∙ sym (ap or_none (e refl))
+leaves_chunk v b o c e n = search (rules, hand_chunk, gone_chunk)
 
 open_chunk : (program : ProgramShape) (t : Ticket) (snt : ℕ → List Parcel) (got : ℕ → List HeldState) (m : Client) (pg : _) (pl : ClientStage) → PlaceOk program t snt got m pg pl
     → (h : ℕ) → chunk_of (standing_at program t m pl h) ≡ or_none (m.chunk h)
@@ -66,19 +39,11 @@ pub serving_shape : (v : Handler) → (serving v ≡ []) ⊎ ((u : Ticket) × (s
 serving_shape v = search rules
 
 stance_not_over : (v : Handler) (lent z : HeldState) (t : Ticket) → serving v ≡ t ∷ [] → stance v lent ≡ views.over z → ⊥
-stance_not_over (free x) lent z t one e = cc one
-stance_not_over (closed x) lent z t one e = cc one
-stance_not_over _ lent z t one e = cc e
+stance_not_over v lent z t one e = search rules
 
 first_of : (c : ℕ) (us : List Ticket) → (filter (λ (u : Ticket). u.client == c) us ≡ [] → ⊥) → (v : Ticket) × Among v us × ((v.client == c) ≡ true)
 first_of c [] some = absurd (some refl)
-first_of c (u ∷ us) some = by_case (u.client == c) refl some (first_of c us)
-  where
-    by_case : (b : Bool) → (u.client == c) ≡ b → ((if b then u ∷ filter (λ (u : Ticket). u.client == c) us else filter (λ (u : Ticket). u.client == c) us) ≡ [] → ⊥)
-        → ((filter (λ (u : Ticket). u.client == c) us ≡ [] → ⊥) → (v : Ticket) × Among v us × ((v.client == c) ≡ true))
-        → (v : Ticket) × Among v (u ∷ us) × ((v.client == c) ≡ true)
-    by_case true e some ih = (u, inl refl, e)
-    by_case false e some ih = let r = ih some in (r.0, inr r.1, r.2)
+first_of c (u ∷ us) some = search (rules, filter, first_of c us)
 
 module _ (program : ProgramShape) (sound : IsSound program) (s : Core) (y : LaneHistory) (g : ℕ → HandlerLog) (k : CoreInvariant program s y g) (h : ℕ) where
   abbrev pub way : Ticket → List Parcel

@@ -3,44 +3,15 @@
 -- states (`CoreReached`) takes these facts from here. They are one invariant, `CoreBounded`, which each step keeps, by
 -- cases on the actor and its act.
 use Rattle.std.proofs.Common.{◌≡◌, ◌<◌, ◌≤◌, ◌-◌, ℕ, suc, nat_lt, ◌==◌, Bool, true, false, if◌then◌else◌, List, [], ◌∷◌, ◌++◌, length, refl, sym, ap, ◌∙◌, subst, ⊎_elim, Option, Some, None, arith, rules}
-use Rattle.std.specs.List.{AllByRecursion}
-use Rattle.qs_sync_counts.specs.declared.sync_counts.SyncCount.{SyncCount}
-use Rattle.qs_objects.specs.audit.Journals.{HeldState}
-use Rattle.qs_objects.specs.audit.Parts.{same}
-use Rattle.qs_objects.specs.declared.held.Event.{Event}
-use Rattle.qs_objects.specs.declared.held.Ticket.{Ticket}
-use Rattle.qs_objects.specs.declared.Request.{Request}
-use Rattle.qs_objects.proofs.Choices.{num_cases, ticket_cases}
-use Rattle.qs_objects.specs.declared.held.Next.TheVariants as nexts
-use Rattle.qs_program.specs.audit.Program.{ProgramShape}
-use Rattle.qs_meaning.specs.audit.Serial.{zeros}
-use Rattle.qs_meaning.specs.audit.Solo.{put}
-use Rattle.qs_program.specs.Sound.{IsSound}
-use Rattle.qs_program.specs.audit.Values.{Locals}
-use Rattle.qs_meaning.proofs.Each.{each_snoc}
-use Rattle.qs_meaning.proofs.TreeWalks.{put_here, put_there}
-use Rattle.qs_syncset.specs.declared.mode.Mode.{Mode}
-use Rattle.qs_syncset.specs.audit.Codes.{ClientCode, AreCodes, blocks_in, reserved_of}
-use Rattle.qs_chunk.specs.audit.Lanes.{HasSize}
-use Rattle.qs_chunk.specs.declared.parcel.Parcel.{Parcel}
-use Rattle.qs_chunk.specs.declared.parcel.Parcel.TheVariants as parcels
-use Rattle.qs_handler.specs.audit.Handler.{Handler, free, serves, spares, gives, away, closed, accept_next, accept_parcel, gave}
-use Rattle.qs_handler.specs.audit.Handler as handlers
-use Rattle.qs_client.specs.audit.rules.Client.{Client, ClientStage, Settings, Settlement, act_at, act_of, between, begin, call_act, clear, first_client, after_parcel, work}
-use Rattle.qs_client.specs.declared.rules.act.Act.{Act}
-use Rattle.qs_client.specs.declared.rules.act.Act.TheVariants.{Reserve, Send, Await, NeedChunk, Finished}
-use Rattle.qs_played.specs.audit.Played.{ticket}
+use Rattle.qs_played.proofs.Names.{AllByRecursion, SyncCount, HeldState, same, Event, Ticket, Request, num_cases, ticket_cases, ProgramShape, zeros, put, IsSound, Locals, each_snoc, put_here, put_there, ticket, or_stay}
 use Rattle.qs_played.specs.declared.schedule.actor.Actor.{Actor}
-use Rattle.qs_played.proofs.ReservedObjects.{none_beyond}
-use Rattle.qs_played.proofs.FunctionUpdate.{put_all, put_at, put_at_there, put_kept}
+use Rattle.qs_objects.specs.declared.held.Next.TheVariants as nexts
+use Rattle.qs_core_laws.proofs.Names.{Mode, ClientCode, AreCodes, blocks_in, reserved_of, HasSize, Parcel, Handler, free, serves, spares, gives, away, closed, accept_next, accept_parcel, gave, Client, ClientStage, Settings, Settlement, act_at, act_of, between, begin, call_act, clear, first_client, after_parcel, work, Act, Reserve, Send, Await, NeedChunk, Finished, none_beyond, put_all, put_at, put_at_there, put_kept, lane_room, spare_room, Core, client_step, core_begin, core_step, gets, gives_chunk, after_handler, handler_step, put_lane, reserves_from, settings_of, takes_chunk, takes_parcel, takes_ticket, with_down, with_tickets, synced_block, core_plays}
+use Rattle.qs_chunk.specs.declared.parcel.Parcel.TheVariants as parcels
+use Rattle.qs_handler.specs.audit.Handler as handlers
 use Rattle.qs_played.specs.declared.schedule.actor.Actor.TheVariants as actor
 use Rattle.qs_core_laws.proofs.protocol.ActKinds.{outside_not_send}
 use Rattle.qs_core_laws.proofs.protocol.ActObjects.{sent_begun, got_begun, chunk_begun, settle_begun, not_send, not_await, not_need}
-use Rattle.qs_chunk.specs.audit.Limits.{lane_room, spare_room}
-use Rattle.qs_core_laws.specs.audit.Core.{Core, client_step, core_begin, core_step, gets, gives_chunk, after_handler, handler_step, put_lane, reserves_from, settings_of, takes_chunk, takes_parcel, takes_ticket, with_down, with_tickets}
-use Rattle.qs_client.specs.audit.ClientModel.{synced_block}
-use Rattle.qs_core_laws.specs.audit.CoreSchedule.{core_plays}
-use Rattle.qs_played.specs.audit.Schedule.{or_stay}
 use Rattle.qs_core_laws.proofs.protocol.ProgramTrees.{blocks_are}
 use Rattle.qs_core_laws.proofs.HandlerSteps.{some_is}
 use Rattle.qs_core_laws.proofs.CoreSteps.{HasInvariant, begin_kept, begun_by, is_between, step_kept}
@@ -49,15 +20,11 @@ use Rattle.qs_core_laws.specs.audit.Core as core
 -- what a client sends has the chunks' size
 
 call_sizes : (settings : Settings) (g : ℕ) (hd : Option HeldState) (ck : Option (List Request)) (h : ℕ) (parcel : Parcel) → call_act settings g hd ck ≡ Send h parcel → HasSize settings.size parcel
-call_sizes settings g (Some x) ck h parcel e = let is : parcels.Home x ≡ parcel = cc in subst (HasSize settings.size) is tt
-call_sizes settings g None None h parcel e = absurd (cc)
-call_sizes settings g None (Some rs) h parcel e = let is : work settings rs ≡ parcel = cc in subst (HasSize settings.size) is refl
+call_sizes settings g v ck h parcel e = search rules
 
 clears_sizes : (settings : Settings) (g : ℕ) (hd : Option HeldState) (ck : Option (List Request)) (other : Act) (h : ℕ) (parcel : Parcel)
     → (other ≡ Send h parcel → HasSize settings.size parcel) → clear settings g hd ck other ≡ Send h parcel → HasSize settings.size parcel
-clears_sizes settings g (Some x) ck other h parcel more e = let is : parcels.Home x ≡ parcel = cc in subst (HasSize settings.size) is tt
-clears_sizes settings g None (Some rs) other h parcel more e = let is : work settings rs ≡ parcel = cc in subst (HasSize settings.size) is refl
-clears_sizes settings g None None other h parcel more e = more e
+clears_sizes settings g v ck other h parcel more e = search rules
 
 sync_sizes : (settings : Settings) (g h : ℕ) (parcel : Parcel) → Send g parcels.Sync ≡ Send h parcel → HasSize settings.size parcel
 sync_sizes settings g h parcel e = let is : parcels.Sync ≡ parcel = cc in subst (HasSize settings.size) is tt
@@ -76,12 +43,10 @@ received_back : (size : ℕ) (v w : Handler) (parcel : Parcel) → HasSize size 
 received_back size v w parcel sized e u z n is = search rules
 
 taken_back : (size : ℕ) (v w : Handler) (t : Ticket) → accept_next v (nexts.Ticket t) ≡ Some w → GivesBack size w
-taken_back size (free x) w t e u z n is = absurd (cc (e, is))
-taken_back size _ w t e u z n is = absurd (cc)
+taken_back size v w t e u z n is = search rules
 
 gave_back : (size : ℕ) (v : Handler) → GivesBack size v → GivesBack size (gave v)
-gave_back size (free x) b u z n is = absurd (cc)
-gave_back size _ b u z n is = absurd (cc)
+gave_back size v b u z n is = search rules
 
 -- each lane of a client and a handler
 lane_holds : {A : Type 0} (P : A → Type 0) (f : ℕ → ℕ → A) (c h : ℕ) (a : A) → P a → ((d g : ℕ) → P (f d g)) → (d g : ℕ) → P (put_lane f c h a d g)
@@ -102,8 +67,7 @@ module _ (program : ProgramShape) (sound : IsSound program) (mode : Mode) (code 
     asks_for c = act_of (settings_of code size c) (blocks_in code c) (s.client c)
 
     one_of : (test : Bool) (a s' : Core) → (if test then Some a else None) ≡ Some s' → CoreBounded a → CoreBounded s'
-    one_of true a s' e h = subst CoreBounded (some_is a s' e) h
-    one_of false a s' e h = absurd (cc)
+    one_of v a s' e h = search (rules, some_is)
 
     -- a client that is in a block is the program's
     client_inside : (c n : ℕ) → (s.client c).begun ≡ suc n → c < length program.clients
@@ -140,40 +104,13 @@ module _ (program : ProgramShape) (sound : IsSound program) (mode : Mode) (code 
 
     -- a client beyond the program has ended
     pub beyond_acts : (c : ℕ) → length program.clients ≤ c → asks_for c ≡ Finished
-    beyond_acts c out =
-        let none : blocks_in code c ≡ 0 = blocks_are program sound mode code codes c ∙ none_beyond program sound c out in
-        ap (λ (m : Client). act_of (settings_of code size c) (blocks_in code c) m) (b.idle c out) ∙ ap (λ n. if nat_lt 0 n then Reserve else Finished) none
+    beyond_acts c out = search (rules, blocks_are, none_beyond, b)
 
     not_reserve : Finished ≡ Reserve → ⊥
     not_reserve e = cc
 
     reserve_bounded : (c : ℕ) (l : Locals) (s' : Core) → asks_for c ≡ Reserve → reserves_from code size s c (between l) ≡ Some s' → CoreBounded s'
-    reserve_bounded c l s' act e =
-        let t : Ticket = ticket c (s.client c).begun in
-        let r : Settlement = begin (settings_of code size c) t (reserved_of code t) (s.client c) (synced_block code t l) in
-        let more : r.client.begun ≡ suc (s.client c).begun =
-        settle_begun (settings_of code size c) t (reserved_of code t) (synced_block code t l) (record (s.client c) { begun = suc (s.client c).begun }) in
-        subst CoreBounded (some_is _ s' e) (record {
-          sizes = b.sizes;
-          back = b.back;
-          idle = λ d out. put_there s.client c r.client d (apart_of d out) ∙ b.idle d out;
-          fresh = λ u few.
-              let few' : (s.client u.client).begun ≤ u.index = (let up = begun_up r.client more u.client in omega (arith, up, few)) in
-              let old = b.fresh u few' in
-              ⊎_elim
-              (λ (is : t ≡ u).
-              let own : (put s.client c r.client c).begun ≤ (s.client c).begun = subst (λ (u : Ticket). (put s.client c r.client u.client).begun ≤ u.index) (sym is) few in
-              let new : (put s.client c r.client c).begun ≡ suc (s.client c).begun = ap (λ (m : Client). m.begun) (put_here s.client c r.client) ∙ more in
-              absurd (omega (arith, own, new)))
-              (λ (other : same t u ≡ false). (put_at_there s.entry t l u other ∙ old.0, put_at_there s.trace t r.events u other ∙ old.1))
-              (ticket_cases t u);
-        })
-      where
-        apart_of : (d : ℕ) → length program.clients ≤ d → (c == d) ≡ false
-        apart_of d out = search (rules, not_reserve, beyond_acts, num_cases)
-
-        begun_up : (m : Client) → m.begun ≡ suc (s.client c).begun → (d : ℕ) → (s.client d).begun ≤ (put s.client c m d).begun
-        begun_up m more d = put_all (λ d (n : Client). (s.client d).begun ≤ n.begun) s.client c m (omega (arith, more)) (λ d other. omega arith) d
+    reserve_bounded c l s' act e = grind (arith, settle_begun, some_is, b, put_there, put_here, put_at_there, ticket_cases, not_reserve, beyond_acts, num_cases, put_all)
 
     client_acts : (c : ℕ) (act : Act) (s' : Core) → asks_for c ≡ act → client_step code size s c act ≡ Some s' → CoreBounded s'
     client_acts c Reserve s' act e =
@@ -205,20 +142,16 @@ module _ (program : ProgramShape) (sound : IsSound program) (mode : Mode) (code 
             (lane_holds (AllByRecursion (HasSize size)) s.down c h ps sized.1 b.sizes))
 
     give_bounded : (h c : ℕ) (x : HeldState) (o : Option HeldState) (s' : Core) → core.gives code size s h c x o ≡ Some s' → CoreBounded s'
-    give_bounded h c x None s' e = subst CoreBounded (some_is _ s' e) (handler_bounded h (gave (s.handler h)) s.down (put_lane s.up c h (Some x)) s.spare s.tickets (gave_back size (s.handler h) (b.back h)) b.sizes)
-    give_bounded h c x (Some y) s' e = absurd (cc)
+    give_bounded h c x v s' e = search (rules, some_is, handler_bounded, gave_back, b)
 
     spare_bounded : (h c : ℕ) (s' : Core) → gives_chunk code size s h c ≡ Some s' → CoreBounded s'
-    spare_bounded h c s' e =
-        one_of (nat_lt (s.spare c h) spare_room) _ s' e
-        (handler_bounded h (gave (s.handler h)) s.down s.up (put_lane s.spare c h (suc (s.spare c h))) s.tickets (gave_back size (s.handler h) (b.back h)) b.sizes)
+    spare_bounded h c s' e = search (rules, one_of, handler_bounded, gave_back, b)
 
     handler_acts : (h : ℕ) (v : Handler) (s' : Core) → handler_step code size s h (handlers.act_of v) ≡ Some s' → CoreBounded s'
     handler_acts h v s' e = search (rules, ticket_bounded, parcel_bounded, spare_bounded, give_bounded)
 
     pub step_bounded : (a : Actor) (s' : Core) → core_step code size s a ≡ Some s' → CoreBounded s'
-    step_bounded (actor.Client c) s' e = client_acts c (asks_for c) s' refl e
-    step_bounded (actor.Handler h) s' e = handler_acts h (s.handler h) s' e
+    step_bounded v s' e = search (rules, client_acts, handler_acts)
 
   stays_both : (s : Core) (o : Option Core) → ((s' : Core) → o ≡ Some s' → KeptOf s' × CoreBounded s') → KeptOf s × CoreBounded s → KeptOf (or_stay s o) × CoreBounded (or_stay s o)
   stays_both s None step k = k

@@ -3,57 +3,18 @@
 -- by cases on the actor and its act: only a client that sends a Sync changes a number, by one, and then induction on
 -- the list of actors.
 use Rattle.std.proofs.Common.{◌≡◌, ◌<◌, ◌≤◌, ℕ, zero, suc, ◌-◌, ◌==◌, nat_lt, Bool, true, false, if◌then◌else◌, is_some, List, [], ◌∷◌, ◌++◌, length, map, refl, sym, ap, ◌∙◌, subst, ⊎_elim, Option, Some, None, arith, rules}
-use Rattle.std.specs.Prelude.{sum_by}
-use Rattle.std.specs.List.{range_with_len}
-use Rattle.std.proofs.lemmas.List.Sums.{sum_by_push}
-use Rattle.qs_objects.specs.audit.Journals.{HeldState}
-use Rattle.qs_objects.specs.audit.Parts.{same}
-use Rattle.qs_objects.specs.declared.held.Event.{Event}
-use Rattle.qs_objects.specs.declared.held.Ticket.{Ticket}
-use Rattle.qs_objects.proofs.Choices.{apart_eqb, num_cases, ticket_cases}
-use Rattle.qs_program.specs.audit.Program.{ProgramShape, blocks_of, text_of}
-use Rattle.qs_meaning.specs.audit.Solo.{put}
-use Rattle.qs_program.specs.Sound.{IsSound}
-use Rattle.qs_meaning.specs.audit.Following.{reserves}
-use Rattle.qs_program.specs.audit.Values.{Locals}
-use Rattle.qs_meaning.proofs.Histories.{Among}
-use Rattle.qs_meaning.proofs.SerialRuns.{legal_apart}
-use Rattle.qs_syncset.specs.declared.mode.Mode.{Mode}
-use Rattle.qs_syncset.specs.audit.Codes.{ClientCode, AreCodes, blocks_in, reserved_of}
-use Rattle.qs_syncset.specs.SyncCounts.{syncs_along}
-use Rattle.qs_sync_counts.specs.audit.SyncRows.{object_of, with_sync}
-use Rattle.qs_sync_counts.specs.SyncRows.{syncs_for}
-use Rattle.qs_sync_counts.specs.declared.sync_counts.SyncCount.{SyncCount}
-use Rattle.qs_syncset.proofs.CountedSyncs.{code_asks}
-use Rattle.qs_syncset.proofs.SyncTrees.{IsAsking}
-use Rattle.qs_chunk.specs.declared.parcel.Parcel.{Parcel}
+use Rattle.qs_played.proofs.Names.{sum_by, range_with_len, sum_by_push, HeldState, same, Event, Ticket, apart_eqb, num_cases, ticket_cases, ProgramShape, blocks_of, text_of, put, IsSound, reserves, Locals, Among, legal_apart, syncs_along, object_of, with_sync, syncs_for, SyncCount, IsAsking, ticket, or_stay}
+use Rattle.qs_played.specs.declared.schedule.actor.Actor.{Actor}
+use Rattle.qs_core_laws.proofs.Names.{Mode, ClientCode, AreCodes, blocks_in, reserved_of, code_asks, Parcel, Handler, gave, accept_parcel, accept_next, Client, Settlement, between, begin, take_object, after_parcel, take_chunk, longest, Act, Reserve, Send, Await, NeedChunk, distinct_objects, reserved_inside, none_for, objects_none, objects_stay, sent_for, each_among, among_once, legal_among, put_all, put_at_here, put_at_there, no_block_beyond, legal_blocks, sum_tickets, sum_up, sum_zero, sum_of, total_of, spare_room, synced_block, core_plays, longest_covers}
 use Rattle.qs_chunk.specs.declared.parcel.Parcel.TheVariants as parcels
-use Rattle.qs_handler.specs.audit.Handler.{Handler, gave, accept_parcel, accept_next}
 use Rattle.qs_handler.specs.audit.Handler as handlers
 use Rattle.qs_handler.specs.declared.mind.Act as handler_acts
-use Rattle.qs_client.specs.audit.rules.Client.{Client, Settlement, between, begin, take_object, after_parcel, take_chunk}
-use Rattle.qs_client.specs.audit.run.BlockSizes.{longest}
-use Rattle.qs_client.specs.declared.rules.act.Act.{Act}
-use Rattle.qs_client.specs.declared.rules.act.Act.TheVariants.{Reserve, Send, Await, NeedChunk}
-use Rattle.qs_played.specs.audit.Played.{ticket}
-use Rattle.qs_played.specs.declared.schedule.actor.Actor.{Actor}
-use Rattle.qs_played.proofs.ReservedObjects.{distinct_objects, reserved_inside}
-use Rattle.qs_played.proofs.SyncTallies.{none_for, objects_none, objects_stay, sent_for}
-use Rattle.qs_played.proofs.Orders.{each_among, among_once, legal_among}
-use Rattle.qs_played.proofs.FunctionUpdate.{put_all, put_at_here, put_at_there}
-use Rattle.qs_played.proofs.JournalRooms.{no_block_beyond}
-use Rattle.qs_played.proofs.SyncLists.{legal_blocks, sum_tickets, sum_up, sum_zero, sum_of, total_of}
 use Rattle.qs_played.specs.declared.schedule.actor.Actor.TheVariants as actor
 use Rattle.qs_core_laws.proofs.protocol.ActObjects.{not_send, not_await, not_need, send_at, settle_begun, sent_begun, got_begun, chunk_begun}
 use Rattle.qs_core_laws.proofs.protocol.ClientCounts.{CountAt, Counts, Even, Over, chunk_counts, count_up, got_counts, send_counts, settle_counts}
 use Rattle.qs_core_laws.proofs.protocol.ClientInvariants.{PlaceOk, Leaving}
 use Rattle.qs_core_laws.proofs.protocol.ObjectViews.{HandlerLog}
-use Rattle.qs_chunk.specs.audit.Limits.{spare_room}
 use Rattle.qs_core_laws.specs.audit.Core.{Core, client_step, core_begin, core_step, gets, gives, gives_chunk, after_handler, handler_step, handles, lies, put_ticket, after_reserve, reserves_from, sends, settings_of, after_act, takes_chunk, takes_parcel, takes_ticket, with_spare, with_up}
-use Rattle.qs_client.specs.audit.ClientModel.{synced_block}
-use Rattle.qs_core_laws.specs.audit.CoreSchedule.{core_plays}
-use Rattle.qs_played.specs.audit.Schedule.{or_stay}
-use Rattle.qs_client.proofs.run.CodeBounds.{longest_covers}
 use Rattle.qs_core_laws.proofs.CoreInvariant.{LaneHistory, CoreInvariant}
 use Rattle.qs_core_laws.proofs.CoreSteps.{HasInvariant, begin_kept, begun_by, has_more, is_between, next_of, step_kept}
 use Rattle.qs_core_laws.proofs.HandlerSteps.{some_is}
@@ -94,8 +55,7 @@ module _ (program : ProgramShape) (sound : IsSound program) (mode : Mode) (code 
   AreCounted s = (n : Ticket → ℕ → ℕ) × CountedBy s n × HaveCounts n s.sync_counts
 
   one_of : (b : Bool) (a s' : Core) → (if b then Some a else None) ≡ Some s' → AreCounted a → AreCounted s'
-  one_of true a s' e h = subst AreCounted (some_is a s' e) h
-  one_of false a s' e h = absurd (cc)
+  one_of v a s' e h = search (rules, some_is)
 
   module _ (s : Core) (n : Ticket → ℕ → ℕ) (k : CountedBy s n) (given : HaveCounts n s.sync_counts) where
     -- what a client does in its block, where this is counted of it then and others stay
@@ -118,13 +78,7 @@ module _ (program : ProgramShape) (sound : IsSound program) (mode : Mode) (code 
               (sym (put_at_there s.trace t (s.trace t ++ r.events) (ticket d i) apart))
               (subst (λ f. At (ticket d i) (s.entry (ticket d i)) (s.trace (ticket d i)) f (s.client d)) (sym (others (ticket d i) apart))
               (k.newest d i e))) d i;
-          older = λ d i. put_all (λ d (x : Client). (i : ℕ) → suc i < x.begun → Past (ticket d i) (s.entry (ticket d i)) (tr (ticket d i))
-              (m (ticket d i))) s.client c r.client
-              (λ i lt. ⊎_elim
-              (λ (is : t ≡ ticket c i). let p : j ≡ i = ap (λ (t : Ticket). t.index) is in absurd (omega (arith, p, b, rb, lt)))
-              (λ (apart : same t (ticket c i) ≡ false). past_still (ticket c i) apart (k.older c i (omega (arith, rb, lt))))
-              (ticket_cases t (ticket c i)))
-              (λ d other i lt. past_still (ticket d i) (rw other refl) (k.older d i lt)) d i;
+          older = grind (arith, put_all, k, ticket_cases);
           fresh = λ d i. put_all (λ d (x : Client). (i : ℕ) → x.begun ≤ i → (h : ℕ) → m (ticket d i) h ≡ 0) s.client c r.client
               (λ i low h. ⊎_elim
               (λ (is : t ≡ ticket c i). let p : j ≡ i = ap (λ (t : Ticket). t.index) is in absurd (omega (arith, p, b, rb, low)))
@@ -136,9 +90,7 @@ module _ (program : ProgramShape) (sound : IsSound program) (mode : Mode) (code 
       where
         past_still : (u : Ticket) → same (ticket c j) u ≡ false → Past u (s.entry u) (s.trace u) (n u)
             → Past u (s.entry u) (put_ticket s.trace (ticket c j) (s.trace (ticket c j) ++ r.events) u) (m u)
-        past_still u apart past =
-            subst (λ es. Past u (s.entry u) es (m u)) (sym (put_at_there s.trace (ticket c j) (s.trace (ticket c j) ++ r.events) u apart))
-            (subst (λ f. Past u (s.entry u) (s.trace u) f) (sym (others u apart)) past)
+        past_still u apart past = search (rules, put_at_there)
 
     -- where no Sync is sent
     without_sync : (c j : ℕ) → (s.client c).begun ≡ suc j → (r : Settlement) → r.client.begun ≡ (s.client c).begun
@@ -323,25 +275,14 @@ module _ (program : ProgramShape) (sound : IsSound program) (mode : Mode) (code 
                 subst (λ e. At (ticket d i) e (tr (ticket d i)) (n (ticket d i)) (s.client d)) (sym (put_at_there s.entry t l (ticket d i) apart))
                 (subst (λ es. At (ticket d i) (s.entry (ticket d i)) es (n (ticket d i)) (s.client d))
                 (sym (put_at_there s.trace t r.events (ticket d i) apart)) (k.newest d i e))) d i;
-            older = λ d i. put_all (λ d (x : Client). (i : ℕ) → suc i < x.begun → Past (ticket d i) (en (ticket d i)) (tr (ticket d i))
-                (n (ticket d i))) s.client c r.client
-                (λ i lt. ⊎_elim
-                (λ (is : t ≡ ticket c i). let p : m ≡ i = ap (λ (t : Ticket). t.index) is in absurd (omega (arith, p, rb, lt)))
-                (λ (apart : same t (ticket c i) ≡ false). past_still (ticket c i) apart (all_past c m i l b at (omega (arith, rb, lt))))
-                (ticket_cases t (ticket c i)))
-                (λ d other i lt. past_still (ticket d i) (rw other refl) (k.older d i lt)) d i;
-            fresh = λ d i. put_all (λ d (x : Client). (i : ℕ) → x.begun ≤ i → (h : ℕ) → n (ticket d i) h ≡ 0) s.client c r.client
-                (λ i low h. k.fresh c i (omega (arith, rb, b, low)) h)
-                (λ d other i low h. k.fresh d i low h) d i;
-            total = sum_by_push (λ u. sum_of program (n u)) s.order t
-                ∙ (let zero_here = sum_zero (n t) none (range_with_len 0 (length program.objects)) in let old = k.total in omega (arith, zero_here, old));
+            older = grind (arith, put_all, all_past, ticket_cases, k);
+            fresh = grind (arith, put_all, k);
+            total = grind (arith, sum_by_push, sum_zero, k);
           }
         where
           past_still : (u : Ticket) → same (ticket c m) u ≡ false → Past u (s.entry u) (s.trace u) (n u)
               → Past u (put_ticket s.entry (ticket c m) l u) (put_ticket s.trace (ticket c m) (after_booked c m l).events u) (n u)
-          past_still u apart past =
-              subst (λ e. Past u e (put_ticket s.trace (ticket c m) (after_booked c m l).events u) (n u)) (sym (put_at_there s.entry (ticket c m) l u apart))
-              (subst (λ es. Past u (s.entry u) es (n u)) (sym (put_at_there s.trace (ticket c m) (after_booked c m l).events u apart)) past)
+          past_still u apart past = search (rules, put_at_there)
 
       tree_asks : (c m : ℕ) (l : Locals) → m < blocks_of program c → IsAsking (synced_block code (ticket c m) l)
       tree_asks c m l inside =
@@ -377,9 +318,7 @@ module _ (program : ProgramShape) (sound : IsSound program) (mode : Mode) (code 
     give_does h c x (Some u) s' e = absurd (cc)
 
     spare_does : (h c : ℕ) (s' : Core) → gives_chunk code size s h c ≡ Some s' → AreCounted s'
-    spare_does h c s' e =
-        one_of (nat_lt (s.spare c h) spare_room) (handles code size (with_spare code size s c h (suc (s.spare c h))) h (gave (s.handler h))) s' e
-        (n, record { newest = k.newest; older = k.older; fresh = k.fresh; total = k.total }, given)
+    spare_does h c s' e = search (rules, one_of, k)
 
     handler_does : (h : ℕ) (act : handler_acts.Act) (s' : Core) → handler_step code size s h act ≡ Some s' → AreCounted s'
     handler_does h act s' e = search (rules, ticket_does, parcel_does, give_does, spare_does)

@@ -3,24 +3,10 @@
 -- through each step and reads the journals off it. A client's history and an object's are kept apart, each by its own
 -- records, and meet in what lies in the lanes.
 use Rattle.std.proofs.Common.{◌≡◌, ◌<◌, ◌≤◌, ℕ, suc, true, false, List, [], filter}
-use Rattle.std.specs.List.{AllByRecursion}
-use Rattle.qs_objects.specs.audit.Journals.{HeldState}
-use Rattle.qs_objects.specs.audit.Parts.{part}
-use Rattle.qs_objects.specs.declared.held.Ticket.{Ticket}
-use Rattle.qs_meaning.specs.audit.Following.{reserves}
-use Rattle.qs_program.specs.audit.Program.{ProgramShape}
-use Rattle.qs_meaning.specs.audit.Serial.{IsLegal, zeros}
-use Rattle.qs_meaning.specs.BlockRecords.{BlockRecord, Begins, IsDone}
-use Rattle.qs_chunk.specs.LaneViews.{ObjectStance, gone, ClientLane}
-use Rattle.qs_chunk.specs.declared.parcel.Parcel.{Parcel}
-use Rattle.qs_client.specs.audit.rules.Client.{between}
-use Rattle.qs_played.specs.audit.Played.{ticket}
-use Rattle.qs_played.proofs.Orders.{counts_after}
+use Rattle.qs_played.proofs.Names.{AllByRecursion, HeldState, part, Ticket, reserves, ProgramShape, IsLegal, zeros, BlockRecord, Begins, IsDone, ticket, fresh_held}
+use Rattle.qs_core_laws.proofs.Names.{ObjectStance, gone, ClientLane, Parcel, between, counts_after, HasNone, IsOpenRecord, Core}
 use Rattle.qs_core_laws.proofs.protocol.ClientInvariants.{PlaceOk, standing_at}
-use Rattle.qs_core_laws.specs.protocol.ClientHistories.{HasNone, IsOpenRecord}
 use Rattle.qs_core_laws.proofs.protocol.ObjectViews.{as_list, ObjectView, ClientLog, HandlerLog, IsObject}
-use Rattle.qs_played.specs.audit.JournalRooms.{fresh_held}
-use Rattle.qs_core_laws.specs.audit.Core.{Core}
 
 -- of each ticket its block record, and for each object what its client sent and got, and how it stands
 pub record LaneHistory : Type 0 where

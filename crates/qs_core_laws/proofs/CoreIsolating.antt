@@ -1,37 +1,13 @@
 -- Runs of the optimised machine are isolated: the histories of their lanes make up an abstract run, whose journals flow
 -- as the handlers served.
 use Rattle.std.proofs.Common.{◌≡◌, ◌<◌, ◌≤◌, ℕ, zero, suc, ◌+◌, ◌&&◌, ◌||◌, Bool, true, false, nat_lt, nat_eq, List, [], ◌∷◌, ◌++◌, length, refl, ap, ap₂, sym, subst, ◌∙◌, arith, rules}
-use Rattle.std.proofs.lemmas.List.{get_or-map, get_or_past, length-map}
-use Rattle.std.proofs.lemmas.List.FromFn.{get_or-map-range_with_len, length-range_with_len}
-use Rattle.std.specs.List.{range_with_len}
-use Rattle.qs_objects.specs.audit.Journals.{HeldState, replay, without_tickets, IsHonest}
-use Rattle.qs_objects.specs.Parts.{HasEntry}
-use Rattle.qs_objects.specs.declared.held.Ticket.{Ticket}
-use Rattle.qs_objects.proofs.Choices.{and_cases}
-use Rattle.qs_meaning.specs.audit.Following.{reserves}
-use Rattle.qs_program.specs.audit.Program.{ProgramShape, blocks_of}
-use Rattle.qs_meaning.specs.audit.Serial.{declared_states, no_state}
-use Rattle.qs_program.specs.Sound.{IsSound}
-use Rattle.qs_meaning.proofs.Each.{each_map}
-use Rattle.qs_meaning.proofs.Histories.{Among, Flow, ObjectCourse, done_of, parts_of}
-use Rattle.qs_meaning.specs.BlockRecords.{IsDone}
-use Rattle.qs_meaning.proofs.SerialRuns.{line}
+use Rattle.qs_played.proofs.Names.{get_or-map, get_or_past, length-map, get_or-map-range_with_len, length-range_with_len, range_with_len, HeldState, replay, without_tickets, IsHonest, HasEntry, Ticket, and_cases, reserves, ProgramShape, blocks_of, declared_states, no_state, IsSound, each_map, Among, Flow, ObjectCourse, done_of, parts_of, IsDone, line, journal_of, state_of, ticket_at, ticket, Played}
 use Rattle.qs_meaning.specs.audit.Interaction as tree
-use Rattle.qs_handler.specs.audit.Handler.{Handler, free, is_free}
-use Rattle.qs_handler.specs.Handler.{serving}
-use Rattle.qs_client.specs.audit.rules.Client.{ClientStage, between}
-use Rattle.qs_client.specs.audit.ClientModel.{is_between, has_ended}
-use Rattle.qs_played.specs.audit.Isolation.{journal_of, state_of, ticket_at}
+use Rattle.qs_core_laws.proofs.Names.{Handler, free, is_free, serving, ClientStage, between, is_between, has_ended, each_among, legal_among, no_block_beyond, Core, core_begin, all_of, core_played, core_plays, held_now, held_or_none, is_done, is_finished, is_idle, CoreRunsAreIsolated, on_way}
 use Rattle.qs_played.specs.Isolation.{IsIsolated}
-use Rattle.qs_played.specs.audit.Played.{ticket, Played}
-use Rattle.qs_played.proofs.Orders.{each_among, legal_among}
 use Rattle.qs_played.proofs.AbstractRun.{IsRun, run_isolated}
-use Rattle.qs_played.proofs.JournalRooms.{no_block_beyond}
 use Rattle.qs_core_laws.proofs.protocol.ClientInvariants.{PlaceOk}
 use Rattle.qs_core_laws.proofs.protocol.ObjectViews.{HandlerLog, ahead}
-use Rattle.qs_core_laws.specs.audit.Core.{Core, core_begin}
-use Rattle.qs_core_laws.specs.audit.CoreSchedule.{all_of, core_played, core_plays, held_now, held_or_none, is_done, is_finished, is_idle}
-use Rattle.qs_core_laws.specs.CoreSchedule.{CoreRunsAreIsolated, on_way}
 use Rattle.qs_core_laws.proofs.protocol.ReservedLists.{lined}
 use Rattle.qs_core_laws.proofs.JournalOrder.{goes}
 use Rattle.qs_core_laws.proofs.CoreInvariant.{LaneHistory, post, TicketOk, CoreInvariant}
@@ -46,16 +22,14 @@ all_of_at is a (suc n) i all low high =
     by_first (nat_lt a i) refl both.0 (λ above. all_of_at is (a + 1) n i both.1 above (omega (arith, high)))
   where
     by_first : (b : Bool) → nat_lt a i ≡ b → is a ≡ true → (a + 1 ≤ i → is i ≡ true) → is i ≡ true
-    by_first true e first rest = rest (let l : a < i = grind (arith, e) in omega (arith, l))
-    by_first false e first rest = let same : a ≡ i = (let l : i ≤ a = grind (arith, e) in omega (arith, l, low)) in subst (λ n. is n ≡ true) same first
+    by_first v e first rest = grind arith
 
 none_of_length : {X : Type 0} (xs : List X) → nat_eq (length xs) 0 ≡ true → xs ≡ []
 none_of_length [] e = refl
 none_of_length (x ∷ xs) e = absurd (let n : length (x ∷ xs) ≡ 0 = grind (arith, e) in omega (arith, n))
 
 free_serves_none : (v : Handler) → is_free v ≡ true → serving v ≡ []
-free_serves_none (free x) e = refl
-free_serves_none _ e = absurd (cc)
+free_serves_none v e = search rules
 
 module _ (program : ProgramShape) (sound : IsSound program) (s : Core) (y : LaneHistory) (g : ℕ → HandlerLog) (k : CoreInvariant program s y g) where
   abbrev r : Played
@@ -100,8 +74,7 @@ module _ (program : ProgramShape) (sound : IsSound program) (s : Core) (y : Lane
   ended_done t e = by_test (nat_lt (suc t.index) (s.client t.client).begun) refl e
     where
       by_place : (pl : ClientStage) → PlaceOk program t (y.sent t) (y.got t) (s.client t.client) (y.block_record t) pl → is_between pl ≡ true → IsDone (y.block_record t).rest
-      by_place (between l) ok b = subst IsDone (sym ok.rest) tt
-      by_place _ ok b = absurd (cc)
+      by_place v ok b = search (rules, ok)
 
       by_test : (b : Bool) → nat_lt (suc t.index) (s.client t.client).begun ≡ b → (b || (nat_eq (suc t.index) (s.client t.client).begun && is_between (s.client t.client).stage)) ≡ true → IsDone (y.block_record t).rest
       by_test true less e =
@@ -119,8 +92,7 @@ module _ (program : ProgramShape) (sound : IsSound program) (s : Core) (y : Lane
 
   -- where an object shows an entry, it is one of the program
   written : (h : ℕ) (t : Ticket) (b : Bool) → nat_lt h (length program.objects) ≡ b → HasEntry t (journal_of r h) → journal_of r h ≡ (shown h).journal
-  written h t true e has = journal_is h (grind (arith, e))
-  written h t false e has = absurd (subst (HasEntry t) (no_journal h (grind (arith, e))) has)
+  written h t v e has = grind (arith, journal_is, no_journal)
 
   -- a finished run has reserved each block
   every : is_finished program s ≡ true → (u : Ticket) → u.index < blocks_of program u.client → Among u s.order

@@ -2,30 +2,16 @@
 -- or the client to which it was given has it. The states that a run shows are taken from there, and isolation speaks of
 -- them. Where the handler gave the object away, both ends of the lane are compared, by induction on what the handler
 -- received.
-use Rattle.std.proofs.Common.{◌≡◌, ◌≤◌, ℕ, suc, Bool, true, false, true≢false, if◌then◌else◌, ◌==◌, ◌&&◌, List, [], ◌∷◌, ◌++◌, filter, flat_map, refl, sym, ap, ap₂, ◌∙◌, subst, ◌⊎◌, inl, inr, Option, Some, None, rules}
-use Rattle.std.specs.List.{AllByRecursion}
-use Rattle.qs_objects.specs.audit.Journals.{HeldState}
-use Rattle.qs_objects.specs.audit.Parts.{part}
-use Rattle.qs_objects.specs.declared.held.Event.{Event}
-use Rattle.qs_objects.specs.declared.held.Ticket.{Ticket}
-use Rattle.qs_objects.specs.declared.Request.{Request}
-use Rattle.qs_objects.proofs.Choices.{eqb_self, apart_eqb, num_cases}
-use Rattle.qs_meaning.specs.audit.Following.{reserves}
-use Rattle.qs_program.specs.audit.Program.{ProgramShape}
+use Rattle.std.proofs.Common.{◌≡◌, ◌≤◌, ℕ, suc, Bool, true, false, true≢false, if◌then◌else◌, ◌==◌, ◌&&◌, List, [], ◌∷◌, ◌++◌, filter, flat_map, refl, sym, ap, ap₂, ◌∙◌, subst, ◌⊎◌, inl, inr, Option, Some, None, rules, arith}
+use Rattle.qs_played.proofs.Names.{AllByRecursion, HeldState, part, Event, Ticket, Request, eqb_self, apart_eqb, num_cases, reserves, ProgramShape}
 use Rattle.qs_chunk.specs.LaneViews.{ObjectStance, sends, asks, holds, gone, ClientLane, HandlerLane, HandlerGives, object_of}
-use Rattle.qs_chunk.specs.declared.parcel.Parcel.{Parcel}
-use Rattle.qs_chunk.specs.audit.LaneParts.{away_at}
+use Rattle.qs_core_laws.proofs.Names.{Parcel, away_at, Handler, free, serves, spares, gives, away, closed, serving, Client, ClientStage, Core, found_by}
 use Rattle.qs_chunk.specs.LaneViews as views
 use Rattle.qs_chunk.specs.declared.parcel.Parcel.TheVariants as parcels
-use Rattle.qs_handler.specs.audit.Handler.{Handler, free, serves, spares, gives, away, closed}
-use Rattle.qs_handler.specs.Handler.{serving}
-use Rattle.qs_client.specs.audit.rules.Client.{Client, ClientStage}
 use Rattle.qs_core_laws.proofs.protocol.ObjectViews.{stance, as_list, HandlerLog, ahead}
 use Rattle.qs_core_laws.proofs.protocol.ClientInvariants.{in_hand, objects_of_block, Lined, standing_at}
 use Rattle.qs_core_laws.proofs.protocol.LaneWays.{LastOf, none_of}
-use Rattle.qs_core_laws.specs.audit.Core.{Core}
 use Rattle.qs_core_laws.proofs.CoreInvariant.{LaneHistory, post, CoreInvariant}
-use Rattle.qs_core_laws.specs.audit.CoreSchedule.{found_by}
 use Rattle.qs_core_laws.proofs.HandlerSteps.{deeds_ok, of_ahead, may_ahead}
 use Rattle.qs_core_laws.proofs.SendingPreserved.{newest}
 
@@ -34,12 +20,10 @@ abbrev pub Where : List Parcel → List HeldState → ObjectStance → HeldState
 Where way up c z = ((way ≡ []) × (up ≡ z ∷ []) × (c ≡ asks)) ⊎ (((way ≡ []) × (up ≡ []) × ((y : HeldState) × (c ≡ holds y))) ⊎ ((y : HeldState) × (w : List Parcel) × (way ≡ parcels.Home y ∷ w) × (up ≡ [])))
 
 pub list_some : (o : Option HeldState) (x : HeldState) → as_list o ≡ x ∷ [] → o ≡ Some x
-list_some None x e = absurd (cc)
-list_some (Some z) x e = ap Some (cc)
+list_some v x e = search rules
 
 pub list_none : (o : Option HeldState) → as_list o ≡ [] → o ≡ None
-list_none None e = refl
-list_none (Some z) e = absurd (cc)
+list_none v e = search rules
 
 tail_is : (a b : HeldState) (xs ys : List HeldState) → a ∷ xs ≡ b ∷ ys → xs ≡ ys
 tail_is a b xs ys e = cc
@@ -58,26 +42,20 @@ lent_where t x z [] way gots gave up es c k l e = absurd (cc (l.1))
 lent_where t x z (parcels.Work chunk ∷ received) way gots gave up es c k l e = lent_where t _ z received way gots gave up k.0 c k.3 l e
 lent_where t x z (parcels.End ∷ received) way gots gave up es c k l e = absurd (cc (l.2))
 lent_where t x z (parcels.Sync ∷ []) way gots gave up es c k l e = waits_where t x z way gots gave up es c k l e
-lent_where t x z (parcels.Sync ∷ (parcels.Home y ∷ received)) way gots gave up es c k l e =
-    lent_where t y z received way k.1 l.0 up k.3 c k.7 l.2 (tail_is x k.0 l.0 (k.1 ++ up) (sym l.1 ∙ (e ∙ ap (λ gs. gs ++ up) k.4)))
+lent_where t x z (parcels.Sync ∷ (parcels.Home y ∷ received)) way gots gave up es c k l e = search (rules, k, tail_is, lent_where t y z received way k.1 l.0 up k.3 c k.7 l.2 (tail_is x k.0 l.0 (k.1 ++ up) (sym l.1 ∙ (e ∙ ap (λ gs. gs ++ up) k.4))))
 lent_where t x z (_ ∷ _) way gots gave up es c k l e = absurd k
 
 hand_holds : (o : Option HeldState) (c : Option (List Request)) (y : HeldState) → in_hand o c ≡ holds y → o ≡ Some y
-hand_holds (Some x) c y e = ap Some (cc)
-hand_holds None (Some rs) y e = absurd (cc)
-hand_holds None None y e = absurd (cc)
+hand_holds v c y e = search rules
 
 awaits_holds : (b : Bool) (o : Option HeldState) (c : Option (List Request)) (y : HeldState) → (if b then asks else in_hand o c) ≡ holds y → o ≡ Some y
-awaits_holds true o c y e = absurd (cc)
-awaits_holds false o c y e = hand_holds o c y e
+awaits_holds v o c y e = search (rules, hand_holds)
 
 gone_holds : (b : Bool) (y : HeldState) → (if b then gone else sends []) ≡ holds y → ⊥
-gone_holds true y e = cc
-gone_holds false y e = cc
+gone_holds v y e = search rules
 
 leaves_holds : (a b : Bool) (o : Option HeldState) (c : Option (List Request)) (y : HeldState) → (if a then in_hand o c else (if b then gone else sends [])) ≡ holds y → o ≡ Some y
-leaves_holds true b o c y e = hand_holds o c y e
-leaves_holds false b o c y e = absurd (gone_holds b y e)
+leaves_holds v b o c y e = search (rules, hand_holds, gone_holds)
 
 place_holds : (program : ProgramShape) (t : Ticket) (m : Client) (pl : ClientStage) (h : ℕ) (y : HeldState) → standing_at program t m pl h ≡ holds y → m.held h ≡ Some y
 place_holds program t m pl h y e = search (rules, gone_holds, awaits_holds, leaves_holds, hand_holds)
@@ -123,8 +101,7 @@ module _ (program : ProgramShape) (lined : (t : Ticket) → Lined (reserves prog
       holds_gone z e = cc
 
       same_no : (t : Ticket) (us : List Ticket) → LastOf t (t ∷ us) → AllByRecursion (λ (v : Ticket). (v.client == t.client) ≡ false) us
-      same_no t us (inl l) = absurd (true≢false (sym (ap₂ (λ a b. a && b) (eqb_self t.client) (eqb_self t.index)) ∙ l.0))
-      same_no t us (inr l) = l.1
+      same_no t us v = search (rules, true≢false, eqb_self)
 
       by_case : (t : Ticket) → reserves program t h ≡ true → suc t.index ≤ (s.client t.client).begun
           → s.down t.client h ≡ (g h).way t ++ flat_map (g h).way (filter (λ (u : Ticket). u.client == t.client) (s.tickets h))
@@ -134,8 +111,7 @@ module _ (program : ProgramShape) (lined : (t : Ticket) → Lined (reserves prog
       by_case t m lt down last given = search (rules, list_some, holds_gone, in_block, place_holds, none_of, same_no, list_none)
 
   is_found : (h : ℕ) (v : Handler) → s.handler h ≡ v → found_by s h v ≡ Some (object_now y h v (g h).lent (g h).way)
-  is_found h (away t) e = away_found h t e
-  is_found h _ e = refl
+  is_found h v e = search (rules, away_found)
 
   -- the object that the run shows
   pub object_found : (h : ℕ) → found_by s h (s.handler h) ≡ Some (now h)

@@ -3,49 +3,17 @@
 -- steps, by `reached_keeps`. It is read off the invariant and the bounds that every run keeps; the order is no longer
 -- than the program has blocks, since it is legal.
 use Rattle.std.proofs.Common.{◌≡◌, ◌≢◌, ◌<◌, ◌≤◌, ◌+◌, ◌-◌, arith, ℕ, suc, ◌==◌, Bool, true, false, if◌then◌else◌, List, [], ◌∷◌, ◌++◌, length, filter, sum_by, refl, sym, ap, ◌∙◌, subst, ⊎_elim, IsSome, IsTrue, rules}
-use Rattle.std.specs.List.{AllByRecursion, range_with_len}
-use Rattle.std.proofs.lemmas.List.{length-append}
-use Rattle.qs_objects.specs.audit.Journals.{HeldState}
-use Rattle.qs_objects.specs.audit.Parts.{same}
-use Rattle.qs_objects.specs.declared.held.Ticket.{Ticket}
-use Rattle.qs_objects.specs.declared.Request.{Request}
-use Rattle.qs_objects.proofs.Choices.{eqb_self, num_cases, not_same, same_self, ticket_cases}
-use Rattle.qs_meaning.specs.audit.Following.{reserves}
-use Rattle.qs_program.specs.audit.Program.{ProgramShape, blocks_of}
-use Rattle.qs_meaning.specs.audit.Serial.{LegalFrom}
-use Rattle.qs_meaning.specs.audit.Solo.{put}
-use Rattle.qs_program.specs.Sound.{IsSound}
-use Rattle.qs_program.specs.audit.Values.{Locals}
-use Rattle.qs_meaning.proofs.Each.{each_both}
-use Rattle.qs_meaning.proofs.Histories.{Apart}
-use Rattle.qs_meaning.proofs.SerialRuns.{legal_apart}
-use Rattle.qs_meaning.proofs.TreeWalks.{put_here, put_there}
-use Rattle.qs_syncset.specs.declared.mode.Mode.{Mode}
-use Rattle.qs_syncset.specs.audit.Codes.{ClientCode, AreCodes, blocks_in}
-use Rattle.qs_chunk.specs.audit.Batch.{Batch}
-use Rattle.qs_chunk.specs.Lanes.{may_stand}
-use Rattle.qs_chunk.specs.declared.parcel.Parcel.{Parcel}
+use Rattle.qs_played.proofs.Names.{AllByRecursion, range_with_len, length-append, HeldState, same, Ticket, Request, eqb_self, num_cases, not_same, same_self, ticket_cases, reserves, ProgramShape, blocks_of, LegalFrom, put, IsSound, Locals, each_both, Apart, legal_apart, put_here, put_there, ticket, fresh_held}
+use Rattle.qs_played.specs.declared.schedule.actor.Actor.{Actor}
+use Rattle.qs_core_laws.proofs.Names.{Mode, ClientCode, AreCodes, blocks_in, Batch, may_stand, Parcel, Handler, free, serves, spares, gives, away, closed, is_away, serving, act_of, between, Act, reserved_inside, apart_kept, counts_after, no_block_beyond, sum_changed, sum_same, Core, core_begin, settings_of, core_plays, found_by, before_it}
 use Rattle.qs_chunk.specs.LaneViews as views
 use Rattle.qs_chunk.specs.declared.parcel.Parcel.TheVariants as parcels
-use Rattle.qs_handler.specs.audit.Handler.{Handler, free, serves, spares, gives, away, closed}
-use Rattle.qs_handler.specs.Handler.{is_away, serving}
 use Rattle.qs_handler.specs.audit.Handler as handlers
 use Rattle.qs_handler.specs.declared.mind.Act.TheVariants as acts
-use Rattle.qs_client.specs.audit.rules.Client.{act_of, between}
-use Rattle.qs_client.specs.declared.rules.act.Act.{Act}
 use Rattle.qs_client.specs.declared.rules.act.Act.TheVariants as wants
-use Rattle.qs_played.specs.audit.Played.{ticket}
-use Rattle.qs_played.specs.declared.schedule.actor.Actor.{Actor}
-use Rattle.qs_played.proofs.ReservedObjects.{reserved_inside}
-use Rattle.qs_played.proofs.Orders.{apart_kept, counts_after}
-use Rattle.qs_played.proofs.JournalRooms.{no_block_beyond, sum_changed, sum_same}
 use Rattle.qs_core_laws.proofs.protocol.ActObjects.{await_at, need_at, not_await, not_need, not_send, send_at}
 use Rattle.qs_core_laws.proofs.protocol.LaneWays.{MayCome}
 use Rattle.qs_core_laws.proofs.protocol.ObjectViews.{HandlerLog}
-use Rattle.qs_played.specs.audit.JournalRooms.{fresh_held}
-use Rattle.qs_core_laws.specs.audit.Core.{Core, core_begin, settings_of}
-use Rattle.qs_core_laws.specs.audit.CoreSchedule.{core_plays, found_by}
-use Rattle.qs_core_laws.specs.CoreSchedule.{before_it}
 use Rattle.qs_core_laws.specs.CoreReached.{NextStands, IsBegun, HandlersServe, ClientsAsk, TicketsStand, OthersRest, CoreStands, ReachedCore}
 use Rattle.qs_core_laws.proofs.CoreBounds.{CoreBounded, run_both}
 use Rattle.qs_core_laws.proofs.protocol.ReservedLists.{lined}
@@ -67,18 +35,7 @@ counts_within p b (t ∷ ts) legal low = counts_within p (put b t.client (suc t.
 -- a client's tickets are as many as its counts say
 counted_from : (p : ProgramShape) (b : ℕ → ℕ) (ts : List Ticket) (c : ℕ) → LegalFrom p b ts → length (filter (λ (t : Ticket). t.client == c) ts) + b c ≡ counts_after b ts c
 counted_from p b [] c legal = omega arith
-counted_from p b (t ∷ ts) c legal =
-    let ih = counted_from p (put b t.client (suc t.index)) ts c legal.2 in
-    ⊎_elim
-    (λ (is : t.client ≡ c).
-    let here : put b t.client (suc t.index) c ≡ suc t.index = subst (λ c. put b t.client (suc t.index) c ≡ suc t.index) is (put_here b t.client (suc t.index)) in
-    let at : t.index ≡ b c = legal.0 ∙ ap b is in
-    let own : (t.client == c) ≡ true = subst (λ c. (t.client == c) ≡ true) is (eqb_self t.client) in
-    rw own (omega (arith, ih, here, at)))
-    (λ (other : (t.client == c) ≡ false).
-    let there = put_there b t.client (suc t.index) c other in
-    rw other (omega (arith, ih, there)))
-    (num_cases t.client c)
+counted_from p b (t ∷ ts) c legal = grind (arith, put_here, eqb_self, put_there, num_cases, counted_from p (put b t.client (suc t.index)) ts c legal.2)
 
 -- an order is no longer than the blocks that are to come
 abbrev left_of : ProgramShape → (ℕ → ℕ) → ℕ
@@ -103,11 +60,7 @@ all_left p = sum_same (λ c. blocks_of p c - 0) (blocks_of p) 0 (length p.client
 
 filter_shorter : {X : Type 0} (f : X → Bool) (xs : List X) → length (filter f xs) ≤ length xs
 filter_shorter f [] = omega arith
-filter_shorter f (x ∷ xs) = by_case (f x) (filter_shorter f xs)
-  where
-    by_case : (b : Bool) → length (filter f xs) ≤ length xs → length (if b then x ∷ filter f xs else filter f xs) ≤ suc (length xs)
-    by_case true ih = omega (arith, ih)
-    by_case false ih = omega (arith, ih)
+filter_shorter f (x ∷ xs) = grind (arith, filter, filter_shorter f xs)
 
 apart_back : (xs ys : List Ticket) → Apart (xs ++ ys) → Apart ys
 apart_back [] ys a = a
@@ -138,12 +91,10 @@ both_none [] ys e = (refl, sym e)
 both_none (x ∷ xs) ys e = absurd (cc)
 
 may_come_stands : (z : HeldState) (parcel : Parcel) (way : List Parcel) → MayCome (views.serves z) parcel way → may_stand false parcel ≡ true
-may_come_stands z (parcels.Home x) way m = absurd m
-may_come_stands z _ way m = refl
+may_come_stands z v way m = search rules
 
 may_come_home : (z : HeldState) (parcel : Parcel) (way : List Parcel) → MayCome (views.lent z) parcel way → may_stand true parcel ≡ true
-may_come_home z (parcels.Home x) way m = refl
-may_come_home z _ way m = absurd m
+may_come_home z v way m = search rules
 
 module _ (program : ProgramShape) (sound : IsSound program) (mode : Mode) (code : ℕ → ClientCode) (codes : AreCodes program mode code) (size : ℕ)
     (s : Core) (y : LaneHistory) (g : ℕ → HandlerLog) (k : CoreInvariant program s y g) (b : CoreBounded program sound mode code codes size s) where
@@ -193,13 +144,10 @@ module _ (program : ProgramShape) (sound : IsSound program) (mode : Mode) (code 
   served_inside h t one = (subst (AllByRecursion (IsBegun program s)) (ap (λ q. q ++ s.tickets h) one) (before_begun h)).0.0
 
   handler_takes : (h c : ℕ) (v : Handler) → s.handler h ≡ v → handlers.act_of v ≡ acts.TakeParcel c → c < length program.clients
-  handler_takes h c (serves t x) e a = let is : t.client ≡ c = cc in subst (λ c. c < length program.clients) is (served_inside h t (ap serving e))
-  handler_takes h c (away t) e a = let is : t.client ≡ c = cc in subst (λ c. c < length program.clients) is (served_inside h t (ap serving e))
-  handler_takes h c _ e a = absurd (cc)
+  handler_takes h c v e a = search (rules, served_inside)
 
   handler_gives : (h c : ℕ) (x : HeldState) (v : Handler) → s.handler h ≡ v → handlers.act_of v ≡ acts.Give c x → c < length program.clients
-  handler_gives h c x (gives t z) e a = let is : t.client ≡ c = cc in subst (λ c. c < length program.clients) is (served_inside h t (ap serving e))
-  handler_gives h c x _ e a = absurd (cc)
+  handler_gives h c x v e a = search (rules, served_inside)
 
   handler_spares : (h c : ℕ) (chunk : Batch Request) (v : Handler) → s.handler h ≡ v → handlers.act_of v ≡ acts.Spare c chunk → (c < length program.clients) × (chunk.capacity ≡ size)
   handler_spares h c chunk v e a = search (rules, served_inside)

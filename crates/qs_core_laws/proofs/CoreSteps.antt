@@ -3,37 +3,14 @@
 -- proof goes by cases on the actor and on its act, where each kind of step has its own lemma in another file, and then
 -- by induction on the list.
 use Rattle.std.proofs.Common.{◌≡◌, ◌<◌, ◌-◌, ℕ, zero, suc, nat_lt, Bool, true, false, if◌then◌else◌, List, [], ◌∷◌, ◌++◌, length, refl, sym, ap, ◌∙◌, subst, Option, Some, None, arith, rules}
-use Rattle.qs_objects.specs.audit.Journals.{HeldState}
-use Rattle.qs_objects.specs.declared.held.Ticket.{Ticket}
-use Rattle.qs_objects.specs.declared.held.Next.TheVariants as nexts
-use Rattle.qs_meaning.specs.Following.{block_tree}
-use Rattle.qs_program.specs.audit.Program.{ProgramShape, blocks_of}
-use Rattle.qs_meaning.specs.audit.Serial.{zeros}
-use Rattle.qs_meaning.specs.audit.Solo.{put}
-use Rattle.qs_program.specs.audit.Sound.{is_in}
-use Rattle.qs_program.specs.Sound.{IsSound}
-use Rattle.qs_program.specs.audit.Values.{Locals}
-use Rattle.qs_meaning.proofs.SoundTrees.{blocks_ask_only}
-use Rattle.qs_syncset.specs.declared.mode.Mode.{Mode}
-use Rattle.qs_syncset.specs.audit.Codes.{ClientCode, AreCodes, blocks_in}
-use Rattle.qs_chunk.specs.LaneViews.{sends}
-use Rattle.qs_chunk.specs.declared.parcel.Parcel.{Parcel}
-use Rattle.qs_handler.specs.audit.Handler.{Handler, free, serves, spares, gives, away, closed, accept_next, accept_parcel, gave}
-use Rattle.qs_handler.specs.audit.Handler as handlers
-use Rattle.qs_client.specs.audit.rules.Client.{Settlement, act_of, between, after_parcel, take_object, take_chunk, begin}
-use Rattle.qs_client.specs.declared.rules.act.Act.{Act}
-use Rattle.qs_client.specs.declared.rules.act.Act.TheVariants.{Reserve, Send, Await, NeedChunk, Finished}
-use Rattle.qs_played.specs.audit.Played.{ticket}
+use Rattle.qs_played.proofs.Names.{HeldState, Ticket, block_tree, ProgramShape, blocks_of, zeros, put, is_in, IsSound, Locals, blocks_ask_only, ticket, fresh_held, or_stay}
 use Rattle.qs_played.specs.declared.schedule.actor.Actor.{Actor}
+use Rattle.qs_objects.specs.declared.held.Next.TheVariants as nexts
+use Rattle.qs_core_laws.proofs.Names.{Mode, ClientCode, AreCodes, blocks_in, sends, Parcel, Handler, free, serves, spares, gives, away, closed, accept_next, accept_parcel, gave, Settlement, act_of, between, after_parcel, take_object, take_chunk, begin, Act, Reserve, Send, Await, NeedChunk, Finished, lane_room, spare_room, Core, client_step, core_begin, core_step, gets, gives_chunk, after_handler, handler_step, handles, lies, put_lane, reserves_from, settings_of, after_act, syncs_after, takes_chunk, takes_parcel, takes_ticket, with_down, with_spare, with_tickets, with_up, synced_block, core_plays}
+use Rattle.qs_handler.specs.audit.Handler as handlers
 use Rattle.qs_played.specs.declared.schedule.actor.Actor.TheVariants as actor
 use Rattle.qs_core_laws.proofs.protocol.ObjectViews.{HandlerLog}
 use Rattle.qs_core_laws.proofs.protocol.ActObjects.{not_send, not_await, not_need, reserve_at}
-use Rattle.qs_played.specs.audit.JournalRooms.{fresh_held}
-use Rattle.qs_chunk.specs.audit.Limits.{lane_room, spare_room}
-use Rattle.qs_core_laws.specs.audit.Core.{Core, client_step, core_begin, core_step, gets, gives_chunk, after_handler, handler_step, handles, lies, put_lane, reserves_from, settings_of, after_act, syncs_after, takes_chunk, takes_parcel, takes_ticket, with_down, with_spare, with_tickets, with_up}
-use Rattle.qs_client.specs.audit.ClientModel.{synced_block}
-use Rattle.qs_core_laws.specs.audit.CoreSchedule.{core_plays}
-use Rattle.qs_played.specs.audit.Schedule.{or_stay}
 use Rattle.qs_core_laws.proofs.CoreInvariant.{LaneHistory, CoreInvariant}
 use Rattle.qs_core_laws.proofs.protocol.ReservedLists.{lined}
 use Rattle.qs_core_laws.proofs.protocol.ProgramTrees.{blocks_are, reserved_is, block_walk}
@@ -43,13 +20,11 @@ use Rattle.qs_core_laws.proofs.BookingPreserved.{reserve_kept}
 use Rattle.qs_core_laws.specs.audit.Core as core
 
 positive : (n : ℕ) → (n ≡ 0 → ⊥) → n ≡ suc (n - 1)
-positive zero non = absurd (non refl)
-positive (suc n) non = omega arith
+positive v non = grind arith
 
 -- a client that reserves has a block left
 reserves_more : (b : Bool) → (if b then Reserve else Finished) ≡ Reserve → b ≡ true
-reserves_more true e = refl
-reserves_more false e = absurd (cc)
+reserves_more v e = search rules
 
 module _ (program : ProgramShape) (sound : IsSound program) (mode : Mode) (code : ℕ → ClientCode) (codes : AreCodes program mode code) (size : ℕ) where
   abbrev pub HasInvariant : Core → Type 0
@@ -57,8 +32,7 @@ module _ (program : ProgramShape) (sound : IsSound program) (mode : Mode) (code 
 
   module _ (s : Core) (y : LaneHistory) (g : ℕ → HandlerLog) (k : CoreInvariant program s y g) where
     one_of : (b : Bool) (a s' : Core) → (if b then Some a else None) ≡ Some s' → HasInvariant a → HasInvariant s'
-    one_of true a s' e h = subst HasInvariant (some_is a s' e) h
-    one_of false a s' e h = absurd (cc)
+    one_of v a s' e h = search (rules, some_is)
 
     -- what the client does next
     abbrev pub next_of : ℕ → Act
@@ -95,9 +69,7 @@ module _ (program : ProgramShape) (sound : IsSound program) (mode : Mode) (code 
         (begun_by c (NeedChunk h) act (λ l i a. not_need (settings_of code size c) (blocks_in code c) (s.client c) l h i a)) act))
 
     pub is_between : (c n : ℕ) → (s.client c).begun ≡ n → next_of c ≡ Reserve → (l : Locals) × ((s.client c).stage ≡ between l)
-    is_between c zero b act = (zeros, (k.idle c b).0)
-    is_between c (suc n) b act =
-        reserve_at program (ticket c n) (y.sent (ticket c n)) (y.got (ticket c n)) (settings_of code size c) (blocks_in code c) (s.client c) (y.block_record (ticket c n)) (s.client c).stage (k.places c n b) act
+    is_between c v b act = search (rules, k, reserve_at)
 
     pub has_more : (c : ℕ) (l : Locals) → (s.client c).stage ≡ between l → next_of c ≡ Reserve → (s.client c).begun < blocks_of program c
     has_more c l at act = search (rules, reserves_more, blocks_are)
@@ -140,8 +112,7 @@ module _ (program : ProgramShape) (sound : IsSound program) (mode : Mode) (code 
 
     -- a parcel that was taken leads the handler somewhere
     handled_to : (a : Core) (h : ℕ) (o : Option Handler) (s' : Core) → after_handler code size a h o ≡ Some s' → (v : Handler) × (o ≡ Some v) × (handles code size a h v ≡ s')
-    handled_to a h None s' e = absurd (cc)
-    handled_to a h (Some v) s' e = (v, refl, some_is _ s' e)
+    handled_to a h w s' e = search (rules, some_is)
 
     serves_does : (h : ℕ) (t : Ticket) (x : HeldState) (ps : List Parcel) (s' : Core) → s.handler h ≡ serves t x → s.down t.client h ≡ ps → takes_parcel code size s h t.client ps ≡ Some s' → HasInvariant s'
     serves_does h t x [] s' v q e = absurd (cc)
@@ -179,8 +150,7 @@ module _ (program : ProgramShape) (sound : IsSound program) (mode : Mode) (code 
     handler_does h (closed x) s' v e = absurd (cc)
 
     pub step_kept : (a : Actor) (s' : Core) → core_step code size s a ≡ Some s' → HasInvariant s'
-    step_kept (actor.Client c) s' e = client_does c (next_of c) s' refl e
-    step_kept (actor.Handler h) s' e = handler_does h (s.handler h) s' refl e
+    step_kept v s' e = search (rules, client_does, next_of, handler_does)
 
   stays_kept : (s : Core) (o : Option Core) → ((s' : Core) → o ≡ Some s' → HasInvariant s') → HasInvariant s → HasInvariant (or_stay s o)
   stays_kept s None step k = k
@@ -211,19 +181,7 @@ module _ (program : ProgramShape) (sound : IsSound program) (mode : Mode) (code 
       stands = λ c n e h. absurd (cc);
       older = λ c n lt h m. absurd (omega (arith, lt));
       outside = λ t h no. (refl, refl);
-      objects = λ h. record {
-        split = refl;
-        served = refl;
-        free = λ z e. cc;
-        opened = λ z e. absurd (cc);
-        sent = tt;
-        lane = tt;
-        gots = tt;
-        later = tt;
-        down = λ c. refl;
-        up = λ c out. refl;
-        rising = tt;
-      };
+      objects = search rules;
     },
   )
 

@@ -3,34 +3,12 @@
 -- `core_syncs_are_counted` is this. The count was kept step by step; here it is read off, by cases on where the client
 -- stands in its block.
 use Rattle.std.proofs.Common.{◌≡◌, ◌<◌, ◌≤◌, ℕ, suc, nat_lt, Bool, true, false, List, [], ◌∷◌, length, map, refl, sym, ap, ap₂, ◌∙◌, subst, inl, inr, arith, rules}
-use Rattle.std.specs.Prelude.{sum_by}
-use Rattle.std.specs.List.{AllByRecursion}
-use Rattle.std.proofs.lemmas.List.{get_or-map}
-use Rattle.std.proofs.lemmas.List.Sums.{sum_by-cons}
-use Rattle.qs_objects.specs.declared.held.Ticket.{Ticket}
-use Rattle.qs_objects.proofs.Elements.{AllByRecursion-get_or}
-use Rattle.qs_meaning.specs.Following.{Leads, block_tree}
-use Rattle.qs_program.specs.audit.Program.{ProgramShape, blocks_of}
-use Rattle.qs_program.specs.Sound.{IsSound}
-use Rattle.qs_syncset.specs.declared.mode.Mode.{Mode}
-use Rattle.qs_syncset.specs.audit.Codes.{ClientCode, AreCodes, reserved_of}
-use Rattle.qs_syncset.specs.SyncCounts.{syncs_along}
-use Rattle.qs_sync_counts.specs.audit.SyncRows.{object_of, syncs_of}
-use Rattle.qs_sync_counts.specs.SyncRows.{syncs_for}
-use Rattle.qs_client.specs.audit.rules.Client.{Client, ClientStage, runs, full, awaits}
-use Rattle.qs_client.specs.audit.ClientModel.{is_between, has_ended, synced_block}
-use Rattle.qs_played.specs.audit.Isolation.{ended_of, ticket_at, trace_of}
-use Rattle.qs_played.specs.Isolation.{entry_of}
-use Rattle.qs_played.specs.audit.Played.{ticket, Played}
+use Rattle.qs_played.proofs.Names.{sum_by, AllByRecursion, get_or-map, sum_by-cons, Ticket, AllByRecursion-get_or, Leads, block_tree, ProgramShape, blocks_of, IsSound, syncs_along, object_of, syncs_of, syncs_for, ended_of, ticket_at, trace_of, entry_of, ticket, Played}
+use Rattle.qs_core_laws.proofs.Names.{Mode, ClientCode, AreCodes, reserved_of, Client, ClientStage, runs, full, awaits, is_between, has_ended, synced_block, listed_inside, legal_blocks, sum_inside, sum_of, total_of, sent_of, total_for, Core, core_begin, settings_of, core_played, core_plays}
 use Rattle.qs_played.specs.SyncSums.{AreSent, AreSyncsCounted, IsCounted, counts_at, syncs_at}
-use Rattle.qs_played.proofs.ReservedObjects.{listed_inside}
-use Rattle.qs_played.proofs.SyncLists.{legal_blocks, sum_inside, sum_of, total_of}
-use Rattle.qs_played.proofs.SyncTallies.{sent_of, total_for}
 use Rattle.qs_core_laws.proofs.protocol.ClientCounts.{CountAt, even_now}
 use Rattle.qs_core_laws.proofs.protocol.ClientInvariants.{holding}
 use Rattle.qs_core_laws.proofs.protocol.ObjectViews.{HandlerLog}
-use Rattle.qs_core_laws.specs.audit.Core.{Core, core_begin, settings_of}
-use Rattle.qs_core_laws.specs.audit.CoreSchedule.{core_played, core_plays}
 use Rattle.qs_core_laws.specs.CoreSyncSums.{CoreSyncsAreCounted}
 use Rattle.qs_core_laws.proofs.protocol.CountedTraces.{sent_as, trace_counted, tree_count}
 use Rattle.qs_core_laws.proofs.CoreCounting.{CountedBy, HaveCounts, run_counted}
@@ -85,8 +63,7 @@ module _ (program : ProgramShape) (sound : IsSound program) (mode : Mode) (code 
     below = AllByRecursion-get_or (λ (t : Ticket). suc t.index ≤ (s.client t.client).begun) s.order i (ticket 0 0) kept.below inside
 
     own_block : t.index < blocks_of program t.client
-    own_block = AllByRecursion-get_or (λ (t : Ticket). t.index < blocks_of program t.client) s.order i (ticket 0 0)
-        (legal_blocks program (λ _. 0) s.order kept.legal) inside
+    own_block = search (rules, AllByRecursion-get_or, legal_blocks, kept)
 
     ended_is : ended_of r i ≡ has_ended (s.client t.client) t.index
     ended_is = get_or-map (λ (t : Ticket). has_ended (s.client t.client) t.index) s.order i (ticket 0 0) false inside
@@ -112,9 +89,7 @@ module _ (program : ProgramShape) (sound : IsSound program) (mode : Mode) (code 
     tree_is h = sym (ap₂ (λ l es. syncs_along (code t.client).dynamic h false (synced_block code t l) es) entry_is trace_is)
 
     counts_sent : AreSent (ended_of r i) (syncs_at r i) (tree_count program sound mode code codes r i)
-    counts_sent = sent_of (ended_of r i) (n t) (syncs_at r i) (tree_count program sound mode code codes r i) (λ h. sym (numbers h))
-        (sent_as (ended_of r i) (n t) (by_tree t) (tree_count program sound mode code codes r i) tree_is
-        (subst (λ b. AreSent b (n t) (by_tree t)) (sym ended_is) (ticket_sent t below)))
+    counts_sent = search (rules, sent_of, r, numbers, sent_as, by_tree, tree_is, ended_is, ticket_sent, below)
 
     keeps_counted : IsCounted program mode r i
     keeps_counted =

@@ -2,30 +2,14 @@
 -- stands on it. A handler's step moves one object's view along the lane of the ticket that is served, and nothing else
 -- changes; what lies first in that lane is of this ticket and may come, by cases on the parcel.
 use Rattle.std.proofs.Common.{◌≡◌, ◌≤◌, arith, ℕ, suc, true, false, ◌==◌, List, [], ◌∷◌, ◌++◌, filter, flat_map, refl, sym, ap, ◌∙◌, subst, Option, Some, None, rules}
-use Rattle.std.specs.List.{AllByRecursion}
-use Rattle.std.proofs.Math.Path.{fun_ext}
-use Rattle.qs_objects.specs.audit.Journals.{HeldState}
-use Rattle.qs_objects.specs.declared.held.Ticket.{Ticket}
-use Rattle.qs_objects.proofs.Choices.{num_cases}
-use Rattle.qs_meaning.specs.audit.Solo.{put}
-use Rattle.qs_meaning.proofs.Each.{each_map, each_back, each_kept, each_passes}
-use Rattle.qs_meaning.proofs.TreeWalks.{put_here, put_there}
-use Rattle.qs_meaning.specs.audit.Following.{reserves}
-use Rattle.qs_program.specs.audit.Program.{ProgramShape}
-use Rattle.qs_chunk.specs.audit.Runs.{ran_all}
-use Rattle.qs_chunk.specs.declared.parcel.Parcel.{Parcel}
+use Rattle.qs_played.proofs.Names.{AllByRecursion, fun_ext, HeldState, Ticket, num_cases, put, each_map, each_back, each_kept, each_passes, put_here, put_there, reserves, ProgramShape, fresh_held}
+use Rattle.qs_core_laws.proofs.Names.{ran_all, Parcel, Handler, free, serves, spares, gives, away, accept_parcel, serving, put_at, put_field, each_among, Core, put_lane}
 use Rattle.qs_chunk.specs.LaneViews as views
 use Rattle.qs_chunk.specs.declared.parcel.Parcel.TheVariants as parcels
-use Rattle.qs_handler.specs.audit.Handler.{Handler, free, serves, spares, gives, away, accept_parcel}
-use Rattle.qs_handler.specs.Handler.{serving}
-use Rattle.qs_played.proofs.FunctionUpdate.{put_at, put_field}
-use Rattle.qs_played.proofs.Orders.{each_among}
 use Rattle.qs_core_laws.proofs.protocol.ObjectViews.{stance, as_list, ObjectView, HandlerLog, ahead, IsObject, IsClientLog}
 use Rattle.qs_core_laws.proofs.protocol.LaneMoves.{HandlerGoes, handler_work, handler_sync, handler_home}
 use Rattle.qs_core_laws.proofs.protocol.LaneWays.{MayCome}
 use Rattle.qs_core_laws.proofs.protocol.ObjectSteps.{take_ok, give_ok, spare_ok, way_head, may_come, parcel_on, parcel_end}
-use Rattle.qs_played.specs.audit.JournalRooms.{fresh_held}
-use Rattle.qs_core_laws.specs.audit.Core.{Core, put_lane}
 use Rattle.qs_core_laws.proofs.CoreInvariant.{LaneHistory, post, deeds, TicketOk, CoreInvariant}
 
 pub put_lane_at : {A : Type 0} (f : ℕ → ℕ → A) (c h : ℕ) (a : A) (d : ℕ) → put_lane f c h a d h ≡ put (λ c. f c h) c a d

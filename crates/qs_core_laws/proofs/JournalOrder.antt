@@ -3,35 +3,12 @@
 -- is an induction along the order, through the tickets that were served, the one that is, and those to come; the room
 -- suffices, as no part is longer than its block's load.
 use Rattle.std.proofs.Common.{◌≡◌, ◌+◌, ◌≤◌, arith, ℕ, Bool, true, false, true≢false, if◌then◌else◌, List, [], ◌∷◌, ◌++◌, map, filter, length, refl, sym, ap, ◌∙◌, subst, inl, inr, append_assoc, append-nil, rules}
-use Rattle.std.specs.List.{AllByRecursion}
-use Rattle.std.proofs.lemmas.List.{length-append}
-use Rattle.qs_objects.specs.audit.Journals.{HeldState, replay, without_tickets, IsHonest}
-use Rattle.qs_objects.specs.Laws.{IsCommand}
-use Rattle.qs_objects.specs.audit.Parts.{command_event}
-use Rattle.qs_objects.specs.Parts.{stamp}
-use Rattle.qs_objects.specs.declared.held.Entry.{Entry}
-use Rattle.qs_objects.specs.declared.held.Event.{Event}
-use Rattle.qs_objects.specs.declared.held.Ticket.{Ticket}
-use Rattle.qs_objects.specs.declared.Request.{Request}
-use Rattle.qs_objects.proofs.ObjectLaws.{command_is}
-use Rattle.qs_meaning.specs.audit.Following.{reserves}
-use Rattle.qs_meaning.specs.Following.{block_tree}
-use Rattle.qs_program.specs.audit.Program.{ProgramShape, text_of}
-use Rattle.qs_program.specs.Sound.{IsSound}
-use Rattle.qs_meaning.proofs.Each.{each_map, each_both, each_unfiltered}
-use Rattle.qs_meaning.proofs.Histories.{Among, Flow, ObjectCourse, NoQuery, OnlyCommands, done_of, parts_of, unstamp_all}
-use Rattle.qs_meaning.proofs.RequestPaths.{requests_within}
+use Rattle.qs_played.proofs.Names.{AllByRecursion, length-append, HeldState, replay, without_tickets, IsHonest, command_event, stamp, Entry, Event, Ticket, Request, command_is, reserves, block_tree, ProgramShape, text_of, IsSound, each_map, each_both, each_unfiltered, Among, Flow, ObjectCourse, NoQuery, OnlyCommands, done_of, parts_of, unstamp_all, requests_within, fresh_held, room_of}
+use Rattle.qs_core_laws.proofs.Names.{IsCommand, commands_in, Handler, free, serves, spares, gives, away, closed, serving, all_left, cost, leads_within, order_fits, total, total_less, Core, on_way}
 use Rattle.qs_chunk.specs.LaneViews.{AllCommands, Extends, gone, ClientLane, HandlerLane, object_of}
-use Rattle.qs_chunk.specs.LaneParts.{commands_in}
-use Rattle.qs_handler.specs.audit.Handler.{Handler, free, serves, spares, gives, away, closed}
-use Rattle.qs_handler.specs.Handler.{serving}
-use Rattle.qs_played.specs.audit.JournalRooms.{fresh_held, room_of}
-use Rattle.qs_played.proofs.JournalRooms.{all_left, cost, leads_within, order_fits, total, total_less}
 use Rattle.qs_core_laws.proofs.protocol.LaneWholes.{chunk_of, match_over, match_whole, waits_are}
 use Rattle.qs_core_laws.proofs.protocol.ObjectViews.{stance, as_list, HandlerLog, PastOf, ahead}
 use Rattle.qs_core_laws.proofs.protocol.GrownJournals.{grown, grown_room, stamped_honest, stamped_replay}
-use Rattle.qs_core_laws.specs.audit.Core.{Core}
-use Rattle.qs_core_laws.specs.CoreSchedule.{on_way}
 use Rattle.qs_core_laws.proofs.CoreInvariant.{LaneHistory, post, TicketOk, CoreInvariant}
 use Rattle.qs_core_laws.proofs.CoreObjects.{object_now}
 use Rattle.qs_core_laws.proofs.CommandsInTransit.{IsMine, IsLater, later, mine_ahead, mine_past, part_out, waits_ahead, waits_out, waits_past}
@@ -195,9 +172,7 @@ module _ (program : ProgramShape) (sound : IsSound program) (s : Core) (y : Lane
 
   goes_along : (ts past q : List Ticket) (x found : HeldState) → filter (λ t. reserves program t h) ts ≡ past ++ q → Past past x found → Tail q found → AllByRecursion (TicketOk program y) ts
       → length x.journal + size_of ts ≤ x.room → JournalLeads x ts
-  goes_along [] [] [] x found e p tail tickets_ok le =
-      let is : x ≡ now = p.0 ∙ tail in
-      ([], ap (λ (o : HeldState). o.journal) (sym is) ∙ sym (append-nil x.journal), (refl, ap (λ (o : HeldState). o.object) is), tt, ap (λ (o : HeldState). o.object) is)
+  goes_along [] [] [] x found e p tail tickets_ok le = search (rules, now, append-nil)
   goes_along (t ∷ ts) past q x found e p tail tickets_ok le = by_case (reserves program t h) refl past q e p tail (λ past q x e p tail le. goes_along ts past q x found e p tail tickets_ok.1 le)
     where
       by_case : (b : Bool) → reserves program t h ≡ b → (past q : List Ticket) → (if b then t ∷ filter (λ t. reserves program t h) ts else filter (λ t. reserves program t h) ts) ≡ past ++ q

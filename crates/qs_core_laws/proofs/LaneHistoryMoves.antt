@@ -2,20 +2,10 @@
 -- ticket (`TicketOk`) holds of that one, and still of every other. The lemmas on a client's act and on a reservation
 -- use this for the client's last ticket. A ticket is either this one or stays as it was; none begins with what this one
 -- left, as it is its client's last.
-use Rattle.std.proofs.Common.{◌≡◌, ◌≤◌, ℕ, zero, suc, false, List, refl, sym, ap, ◌∙◌, subst, ⊎_elim, rules}
-use Rattle.qs_objects.specs.audit.Journals.{HeldState}
-use Rattle.qs_objects.specs.audit.Parts.{part, same}
-use Rattle.qs_objects.specs.declared.held.Ticket.{Ticket}
-use Rattle.qs_objects.proofs.Choices.{ticket_cases}
-use Rattle.qs_program.specs.audit.Program.{ProgramShape}
-use Rattle.qs_program.specs.audit.Values.{Locals}
-use Rattle.qs_meaning.specs.BlockRecords.{BlockRecord, Begins, IsDone}
+use Rattle.std.proofs.Common.{◌≡◌, ◌≤◌, ℕ, zero, suc, false, List, refl, sym, ap, ◌∙◌, subst, ⊎_elim, rules, arith}
+use Rattle.qs_played.proofs.Names.{HeldState, part, same, Ticket, ticket_cases, ProgramShape, Locals, BlockRecord, Begins, IsDone, ticket}
 use Rattle.qs_meaning.specs.audit.Interaction as tree
-use Rattle.qs_chunk.specs.LaneViews.{ObjectStance, gone, ClientLane}
-use Rattle.qs_chunk.specs.declared.parcel.Parcel.{Parcel}
-use Rattle.qs_played.specs.audit.Played.{ticket}
-use Rattle.qs_played.proofs.FunctionUpdate.{put_at, put_at_here, put_at_there}
-use Rattle.qs_core_laws.specs.protocol.ClientHistories.{IsOpenRecord}
+use Rattle.qs_core_laws.proofs.Names.{ObjectStance, gone, ClientLane, Parcel, put_at, put_at_here, put_at_there, IsOpenRecord}
 use Rattle.qs_core_laws.proofs.CoreInvariant.{LaneHistory, TicketOk}
 
 -- a client's last ticket comes before none of its tickets
@@ -43,10 +33,7 @@ module _ (program : ProgramShape) (y : LaneHistory) (t : Ticket) (pg : BlockReco
   ok_here block_record begins lanes over = record {
     block_record = subst (IsOpenRecord program t) (sym (put_at_here y.block_record t pg)) block_record;
     begins = subst (λ (p : BlockRecord). Begins story_at.block_record t.client t.index p.entry) (sym (put_at_here y.block_record t pg)) begins;
-    lane = λ h. subst (λ (p : BlockRecord). ClientLane t false (story_at.sent t h) (story_at.got t h) (part h p.trace) (story_at.stands t h)) (sym (put_at_here y.block_record t pg))
-        (subst (λ (f : ℕ → List Parcel). ClientLane t false (f h) (story_at.got t h) (part h pg.trace) (story_at.stands t h)) (sym (put_at_here y.sent t snt))
-        (subst (λ (f : ℕ → List HeldState). ClientLane t false (snt h) (f h) (part h pg.trace) (story_at.stands t h)) (sym (put_at_here y.got t got))
-        (subst (λ (f : ℕ → ObjectStance). ClientLane t false (snt h) (got h) (part h pg.trace) (f h)) (sym (put_at_here y.stands t stood)) (lanes h))));
+    lane = search (rules, put_at_here);
     gone = λ h e. subst (λ (p : BlockRecord). IsDone p.rest) (sym (put_at_here y.block_record t pg)) (over h (ap (λ (f : ℕ → ObjectStance). f h) (sym (put_at_here y.stands t stood)) ∙ e));
   }
 
@@ -54,9 +41,6 @@ module _ (program : ProgramShape) (y : LaneHistory) (t : Ticket) (pg : BlockReco
   ok_there u n apart old = record {
     block_record = subst (IsOpenRecord program u) (sym (old_record u n)) old.block_record;
     begins = begins_kept u.client u.index (y.block_record u).entry (story_at.block_record u).entry (sym (ap (λ (p : BlockRecord). p.entry) (old_record u n))) apart old.begins;
-    lane = λ h. subst (λ (p : BlockRecord). ClientLane u false (story_at.sent u h) (story_at.got u h) (part h p.trace) (story_at.stands u h)) (sym (old_record u n))
-        (subst (λ (f : ℕ → List Parcel). ClientLane u false (f h) (story_at.got u h) (part h (y.block_record u).trace) (story_at.stands u h)) (sym (put_at_there y.sent t snt u n))
-        (subst (λ (f : ℕ → List HeldState). ClientLane u false (y.sent u h) (f h) (part h (y.block_record u).trace) (story_at.stands u h)) (sym (put_at_there y.got t got u n))
-        (subst (λ (f : ℕ → ObjectStance). ClientLane u false (y.sent u h) (y.got u h) (part h (y.block_record u).trace) (f h)) (sym (put_at_there y.stands t stood u n)) (old.lane h))));
+    lane = search (rules, old_record, put_at_there);
     gone = λ h e. subst (λ (p : BlockRecord). IsDone p.rest) (sym (old_record u n)) (old.gone h (ap (λ (f : ℕ → ObjectStance). f h) (sym (put_at_there y.stands t stood u n)) ∙ e));
   }

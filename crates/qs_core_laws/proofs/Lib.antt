@@ -14,3 +14,4 @@ pub mod CommandsInTransit
 pub mod HandlerSteps
 pub mod SendingPreserved
 pub mod LaneHistoryMoves
+pub mod Names

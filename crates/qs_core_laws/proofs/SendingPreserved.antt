@@ -3,30 +3,9 @@
 -- the lane that it uses move; as no later ticket of this client is in that object's queue, a parcel more is the last of
 -- its lane.
 use Rattle.std.proofs.Common.{◌≡◌, ◌≢◌, ◌<◌, ◌≤◌, arith, ℕ, suc, Bool, true, false, true≢false, if◌then◌else◌, ◌==◌, List, [], ◌∷◌, ◌++◌, filter, refl, sym, ap, ◌∙◌, subst, ◌⊎◌, inl, inr, ⊎_elim, Option, Some, None, rules}
-use Rattle.std.specs.List.{AllByRecursion}
-use Rattle.std.proofs.Math.Path.{fun_ext}
-use Rattle.qs_sync_counts.specs.declared.sync_counts.SyncCount.{SyncCount}
-use Rattle.qs_objects.specs.audit.Journals.{HeldState}
-use Rattle.qs_objects.specs.audit.Parts.{part, same}
-use Rattle.qs_objects.specs.declared.held.Event.{Event}
-use Rattle.qs_objects.specs.declared.held.Ticket.{Ticket}
-use Rattle.qs_objects.proofs.Choices.{apart_eqb, num_cases, ticket_cases, ticket_path, same_self}
-use Rattle.qs_meaning.specs.audit.Solo.{put}
-use Rattle.qs_meaning.proofs.Each.{each_map, each_front, each_kept}
-use Rattle.qs_meaning.proofs.Histories.{Among}
-use Rattle.qs_meaning.specs.BlockRecords.{BlockRecord}
-use Rattle.qs_meaning.proofs.TreeWalks.{put_here, put_there}
-use Rattle.qs_meaning.specs.audit.Following.{reserves}
-use Rattle.qs_program.specs.audit.Program.{ProgramShape}
-use Rattle.qs_chunk.specs.LaneViews.{ObjectStance, asks, gone, ClientLane}
-use Rattle.qs_chunk.specs.declared.parcel.Parcel.{Parcel}
-use Rattle.qs_handler.specs.Handler.{serving}
-use Rattle.qs_client.specs.audit.rules.Client.{Client, Settings, Settlement, act_of, after_parcel, take_chunk}
-use Rattle.qs_client.specs.declared.rules.act.Act.TheVariants.{Send, Await, NeedChunk}
+use Rattle.qs_played.proofs.Names.{AllByRecursion, fun_ext, SyncCount, HeldState, part, same, Event, Ticket, apart_eqb, num_cases, ticket_cases, ticket_path, same_self, put, each_map, each_front, each_kept, Among, BlockRecord, put_here, put_there, reserves, ProgramShape, ticket, fresh_held}
+use Rattle.qs_core_laws.proofs.Names.{ObjectStance, asks, gone, ClientLane, Parcel, serving, Client, Settings, Settlement, act_of, after_parcel, take_chunk, Send, Await, NeedChunk, put_at, put_at_here, put_at_there, legal_among, Core, put_lane}
 use Rattle.qs_client.specs.audit.rules.Client as clients
-use Rattle.qs_played.proofs.FunctionUpdate.{put_at, put_at_here, put_at_there}
-use Rattle.qs_played.specs.audit.Played.{ticket}
-use Rattle.qs_played.proofs.Orders.{legal_among}
 use Rattle.qs_core_laws.proofs.protocol.ObjectViews.{as_list, PastOf, ObjectView, ClientLog, HandlerLog, ahead, IsObject}
 use Rattle.qs_core_laws.proofs.protocol.ClientInvariants.{objects_of_block, Lined, PlaceOk}
 use Rattle.qs_core_laws.proofs.protocol.LaneWays.{LastOf}
@@ -34,8 +13,6 @@ use Rattle.qs_core_laws.proofs.protocol.LaneWholes.{match_over}
 use Rattle.qs_core_laws.proofs.protocol.ClientLogs.{sends_ok, gets_ok, chunks_ok}
 use Rattle.qs_core_laws.proofs.protocol.ActObjects.{send_at, await_at, sent_begun, got_begun, chunk_begun}
 use Rattle.qs_core_laws.proofs.protocol.ObjectSteps.{send_ok, got_ok, last_of, up_serving}
-use Rattle.qs_played.specs.audit.JournalRooms.{fresh_held}
-use Rattle.qs_core_laws.specs.audit.Core.{Core, put_lane}
 use Rattle.qs_core_laws.proofs.CoreInvariant.{LaneHistory, post, deeds, TicketOk, CoreInvariant}
 use Rattle.qs_core_laws.proofs.HandlerSteps.{put_lane_at, put_lane_there, put_up_at, put_up_there, post_path, deeds_ok, of_ahead, may_ahead}
 use Rattle.qs_core_laws.proofs.ClientSteps.{client_moves, state_after, story}
@@ -62,11 +39,7 @@ past_gone sent got events stands (t ∷ ts) x z p l = ((match_over t x p.0 (sent
 pub among_kept : (f : Ticket → Bool) (t : Ticket) (ts : List Ticket) → f t ≡ true → Among t ts → Among t (filter f ts)
 among_kept f t [] e a = a
 among_kept f t (u ∷ us) e (inl is) = rw (subst (λ u. f u ≡ true) is e) (inl is)
-among_kept f t (u ∷ us) e (inr a) = by_case (f u) (among_kept f t us e a)
-  where
-    by_case : (b : Bool) → Among t (filter f us) → Among t (if b then u ∷ filter f us else filter f us)
-    by_case true k = inr k
-    by_case false k = k
+among_kept f t (u ∷ us) e (inr a) = search (rules, filter, among_kept f t us e a)
 
 same_self_not : (t u : Ticket) → t ≡ u → same t u ≡ false → ⊥
 same_self_not t u is n = true≢false (sym (same_self t) ∙ (ap (λ u. same t u) is ∙ n))

@@ -4,38 +4,16 @@
 -- configuration that counts the blocks that each client has begun. At the end each block has ended; where nobody has a
 -- block left, the run is finished.
 use Rattle.std.proofs.Common.{◌≡◌, ◌<◌, ◌≤◌, ◌∙◌, ◌==◌, ◌++◌, ◌∷◌, [], ℕ, zero, suc, Bool, true, false, nat_eq, nat_lt, List, refl, sym, ap, subst, length, map, append_assoc, append-nil, ⊎_elim, arith, rules}
-use Rattle.std.proofs.lemmas.Bool.{lt-ltb}
-use Rattle.std.proofs.lemmas.Bool.Decides.{nat_tests}
-use Rattle.std.specs.List.{AllByRecursion, range_with_len}
-use Rattle.qs_objects.specs.declared.held.Ticket.{Ticket}
-use Rattle.qs_objects.proofs.Choices.{and_cases, num_cases}
-use Rattle.qs_program.specs.audit.Program.{ProgramShape, blocks_of}
-use Rattle.qs_program.specs.Sound.{IsSound}
-use Rattle.qs_meaning.specs.audit.Configurations.{Configuration, IsComplete, configuration_after, configuration_from, first_configuration, one_block_on}
-use Rattle.qs_meaning.specs.audit.Serial.{IsLegal, LegalFrom}
-use Rattle.qs_meaning.specs.audit.Solo.{put}
-use Rattle.qs_meaning.proofs.Orders.{complete_orders_leave_none, legal_on}
-use Rattle.qs_meaning.proofs.TreeWalks.{put_here, put_there}
-use Rattle.qs_syncset.specs.declared.mode.Mode.{Mode}
-use Rattle.qs_syncset.specs.audit.Codes.{ClientCode, AreCodes}
-use Rattle.qs_handler.specs.audit.Handler.{is_free}
-use Rattle.qs_client.specs.audit.ClientModel.{has_ended, is_between}
-use Rattle.qs_played.specs.Isolation.{IsIsolated}
-use Rattle.qs_played.specs.audit.JournalRooms.{fresh_held}
-use Rattle.qs_played.specs.audit.Schedule.{all_named, names_actor}
-use Rattle.qs_played.specs.SyncSums.{AreSyncsCounted}
+use Rattle.qs_played.proofs.Names.{lt-ltb, AllByRecursion, range_with_len, Ticket, and_cases, num_cases, ProgramShape, blocks_of, IsSound, Configuration, IsComplete, configuration_after, configuration_from, first_configuration, one_block_on, IsLegal, LegalFrom, put, complete_orders_leave_none, legal_on, put_here, put_there, fresh_held, all_named, names_actor}
 use Rattle.qs_played.specs.declared.schedule.actor.Actor.{Actor}
+use Rattle.qs_core_laws.proofs.Names.{nat_tests, Mode, ClientCode, AreCodes, is_free, has_ended, is_between, no_block_beyond, plays_by-append, Core, core_begin, core_step, all_of, core_played, core_plays, is_done, is_finished, is_idle, CoreOrdersArePlayed, IsPlayedInOrderOn, IsCoreQuiet, turn_of, two_of_each}
+use Rattle.qs_played.specs.Isolation.{IsIsolated}
+use Rattle.qs_played.specs.SyncSums.{AreSyncsCounted}
 use Rattle.qs_played.specs.declared.schedule.actor.Actor.TheVariants as actor
-use Rattle.qs_played.proofs.JournalRooms.{no_block_beyond}
-use Rattle.qs_played.proofs.Playing.{plays_by-append}
-use Rattle.qs_core_laws.specs.audit.Core.{Core, core_begin, core_step}
-use Rattle.qs_core_laws.specs.audit.CoreSchedule.{all_of, core_played, core_plays, is_done, is_finished, is_idle}
 use Rattle.qs_core_laws.specs.CoreSchedule.{core_scheduled, on_way}
 use Rattle.qs_core_laws.proofs.CoreIsolating.{core_isolated}
 use Rattle.qs_core_laws.proofs.CoreSteps.{HasInvariant, begin_kept, plays_kept}
 use Rattle.qs_core_laws.proofs.CoreSyncs.{core_syncs_counted}
-use Rattle.qs_core_laws.specs.orders.CoreOrders.{CoreOrdersArePlayed, IsPlayedInOrderOn}
-use Rattle.qs_core_laws.specs.orders.CoreQuiet.{IsCoreQuiet, turn_of, two_of_each}
 use Rattle.qs_core_laws.proofs.orders.Turns.{IsWithin, serve_each}
 use Rattle.qs_core_laws.proofs.orders.ClientTurns.{client_turns}
 use Rattle.qs_core_laws.proofs.orders.Entering.{block_over, comes_in, most_turns}

@@ -3,32 +3,10 @@
 -- says, and fewer steps are left after it. Which act it is follows from the client's stage and from what it has in
 -- hand, by what is known of each place in a block (`PlaceOk`).
 use Rattle.std.proofs.Common.{◌≡◌, ◌<◌, ◌∙◌, ◌==◌, ◌+◌, ◌*◌, ◌-◌, ◌&&◌, ◌∷◌, [], ℕ, suc, Bool, true, false, true≢false, if◌then◌else◌, is_some, List, Option, Some, None, refl, sym, ap, subst, length, arith, rules}
-use Rattle.qs_objects.specs.audit.Journals.{HeldState}
-use Rattle.qs_objects.specs.declared.held.Ticket.{Ticket}
-use Rattle.qs_objects.specs.declared.Request.{Request}
-use Rattle.qs_objects.proofs.Choices.{eqb_self, ticket_path}
-use Rattle.qs_program.specs.audit.Program.{ProgramShape}
-use Rattle.qs_program.specs.audit.Sound.{is_in}
-use Rattle.qs_program.specs.Sound.{IsSound}
-use Rattle.qs_program.specs.audit.Values.{Locals}
-use Rattle.qs_meaning.specs.BlockRecords.{BlockRecord}
-use Rattle.qs_meaning.specs.audit.Following.{reserves}
-use Rattle.qs_meaning.specs.audit.Solo.{put}
-use Rattle.qs_meaning.proofs.TreeWalks.{put_here, put_there}
-use Rattle.qs_graph.specs.audit.Synced.{Synced, Call, Sync}
-use Rattle.qs_syncset.specs.declared.mode.Mode.{Mode}
-use Rattle.qs_syncset.specs.audit.Codes.{ClientCode, AreCodes, reserved_of, blocks_in}
-use Rattle.qs_chunk.specs.audit.Batch.{Batch, batch}
-use Rattle.qs_chunk.specs.audit.Limits.{spare_room}
-use Rattle.qs_chunk.specs.declared.parcel.Parcel.{Parcel}
+use Rattle.qs_played.proofs.Names.{HeldState, Ticket, Request, eqb_self, ticket_path, ProgramShape, is_in, IsSound, Locals, BlockRecord, reserves, put, put_here, put_there, or_stay}
+use Rattle.qs_core_laws.proofs.Names.{Synced, Call, Sync, Mode, ClientCode, AreCodes, reserved_of, blocks_in, Batch, batch, spare_room, Parcel, Client, ClientStage, Settings, Settlement, act_at, act_of, after_end, after_home, after_parcel, after_sync, after_work, awaits, between, call, call_act, clear, full, leaves, runs, set_chunk, set_held, set_stage, settle, stop_at, take_chunk, take_object, Act, Await, Finished, NeedChunk, Send, is_between, reserved_inside}
 use Rattle.qs_chunk.specs.declared.parcel.Parcel.TheVariants as parcels
-use Rattle.qs_client.specs.audit.rules.Client.{Client, ClientStage, Settings, Settlement, act_at, act_of, after_end, after_home, after_parcel, after_sync, after_work, awaits, between, call, call_act, clear, full, leaves, runs, set_chunk, set_held, set_stage, settle, stop_at, take_chunk, take_object}
-use Rattle.qs_client.specs.declared.rules.act.Act.{Act}
-use Rattle.qs_client.specs.declared.rules.act.Act.TheVariants.{Await, Finished, NeedChunk, Send}
-use Rattle.qs_client.specs.audit.ClientModel.{is_between}
-use Rattle.qs_played.specs.audit.Schedule.{or_stay}
 use Rattle.qs_played.specs.declared.schedule.actor.Actor.TheVariants as actor
-use Rattle.qs_played.proofs.ReservedObjects.{reserved_inside}
 use Rattle.qs_core_laws.proofs.protocol.ClientInvariants.{NotBoth, PlaceOk, objects_of_block}
 use Rattle.qs_core_laws.specs.audit.Core.{Core, after_act, client_step, core_step, gets, lies, sends, settings_of, takes_chunk, with_spare, with_up}
 use Rattle.qs_core_laws.specs.audit.Core as core

@@ -1,21 +1,11 @@
 -- What a client and a handler share, its *corner*: the handler, its queue of tickets, and the lane between the two.
 -- While a client has its block alone, each corner is one of a few (`Due`), and each step of the handler leads it on to
 -- one where the handler waits for the client again. A step changes one corner, and keeps all others as they are.
-use Rattle.std.proofs.Common.{◌≡◌, ◌∙◌, ◌==◌, ℕ, false, List, [], ◌∷◌, Option, Some, None, refl, sym, ap, subst, rules}
-use Rattle.qs_objects.specs.audit.Journals.{HeldState}
-use Rattle.qs_objects.specs.declared.held.Ticket.{Ticket}
-use Rattle.qs_objects.specs.declared.Request.{Request}
-use Rattle.qs_meaning.specs.audit.Solo.{put}
-use Rattle.qs_meaning.proofs.TreeWalks.{put_here, put_there}
-use Rattle.qs_syncset.specs.audit.Codes.{ClientCode}
-use Rattle.qs_chunk.specs.audit.Batch.{Batch}
-use Rattle.qs_chunk.specs.audit.Runs.{ran_all}
-use Rattle.qs_chunk.specs.declared.parcel.Parcel.{Parcel}
+use Rattle.std.proofs.Common.{◌≡◌, ◌∙◌, ◌==◌, ℕ, false, List, [], ◌∷◌, Option, Some, None, refl, sym, ap, subst, rules, arith}
+use Rattle.qs_played.proofs.Names.{HeldState, Ticket, Request, put, put_here, put_there, or_stay}
+use Rattle.qs_core_laws.proofs.Names.{ClientCode, Batch, ran_all, Parcel, Handler, away, free, gives, serves, spares, Core, core_step, handles, put_lane, with_down, with_spare, with_tickets, with_up}
 use Rattle.qs_chunk.specs.declared.parcel.Parcel.TheVariants as parcels
-use Rattle.qs_handler.specs.audit.Handler.{Handler, away, free, gives, serves, spares}
-use Rattle.qs_played.specs.audit.Schedule.{or_stay}
 use Rattle.qs_played.specs.declared.schedule.actor.Actor.TheVariants as actor
-use Rattle.qs_core_laws.specs.audit.Core.{Core, core_step, handles, put_lane, with_down, with_spare, with_tickets, with_up}
 use Rattle.qs_core_laws.proofs.orders.Settling.{Asks, Gone, Holds, Sends, Stance}
 
 pub lane_here : {A : Type 0} (f : ℕ → ℕ → A) (c h : ℕ) (a : A) → put_lane f c h a c h ≡ a

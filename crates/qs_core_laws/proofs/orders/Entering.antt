@@ -2,34 +2,14 @@
 -- handler of its list has the ticket in its queue, and the client has nothing in hand. Where such a block is over,
 -- again nobody is in a block.
 use Rattle.std.proofs.Common.{◌≡◌, ◌<◌, ◌∙◌, ◌==◌, ◌+◌, ◌*◌, ◌++◌, ◌∷◌, [], ℕ, zero, suc, Bool, true, false, true≢false, if◌then◌else◌, is_some, List, Some, inl, inr, refl, sym, ap, subst, length, replicate, ⊎_elim, arith, rules}
-use Rattle.std.proofs.lemmas.Bool.{lt-ltb}
-use Rattle.qs_objects.specs.audit.Journals.{HeldState}
-use Rattle.qs_objects.specs.declared.held.Ticket.{Ticket}
-use Rattle.qs_objects.proofs.Choices.{num_cases, ticket_path}
-use Rattle.qs_program.specs.audit.Program.{ProgramShape, blocks_of}
-use Rattle.qs_program.specs.audit.Sound.{is_in}
-use Rattle.qs_program.specs.Sound.{IsSound}
-use Rattle.qs_program.specs.audit.Values.{Locals}
-use Rattle.qs_meaning.specs.audit.Following.{reserves}
-use Rattle.qs_meaning.specs.audit.Solo.{put}
-use Rattle.qs_meaning.proofs.TreeWalks.{put_here, put_there}
+use Rattle.qs_played.proofs.Names.{lt-ltb, HeldState, Ticket, num_cases, ticket_path, ProgramShape, blocks_of, is_in, IsSound, Locals, reserves, put, put_here, put_there, ticket, or_stay}
 use Rattle.qs_graph.specs.audit.Steps.{limit}
 use Rattle.qs_graph.specs.audit.Walk.{entry}
-use Rattle.qs_syncset.specs.declared.mode.Mode.{Mode}
-use Rattle.qs_syncset.specs.audit.Codes.{ClientCode, code_at, AreCodes}
-use Rattle.qs_client.specs.audit.run.BlockSizes.{longest}
-use Rattle.qs_client.specs.audit.rules.Client.{Client, ClientStage, Settlement, begin, between}
-use Rattle.qs_client.specs.audit.ClientModel.{is_between, synced_block}
-use Rattle.qs_played.specs.audit.Played.{ticket}
-use Rattle.qs_played.specs.audit.Schedule.{or_stay}
+use Rattle.qs_core_laws.proofs.Names.{Mode, ClientCode, code_at, AreCodes, longest, Client, ClientStage, Settlement, begin, between, is_between, synced_block, reserved_inside, HasNone, Core, core_step, put_ticket, settings_of, IsCoreQuiet, IsLaneClear}
 use Rattle.qs_played.specs.declared.schedule.actor.Actor.TheVariants as actor
-use Rattle.qs_played.proofs.ReservedObjects.{reserved_inside}
-use Rattle.qs_core_laws.specs.protocol.ClientHistories.{HasNone}
 use Rattle.qs_core_laws.proofs.protocol.ClientInvariants.{PlaceOk, objects_of_block}
-use Rattle.qs_core_laws.specs.audit.Core.{Core, core_step, put_ticket, settings_of}
 use Rattle.qs_core_laws.proofs.protocol.ProgramTrees.{blocks_are, reserved_is}
 use Rattle.qs_core_laws.proofs.CoreSteps.{HasInvariant}
-use Rattle.qs_core_laws.specs.orders.CoreQuiet.{IsCoreQuiet, IsLaneClear}
 use Rattle.qs_core_laws.proofs.orders.TreeDepths.{walk_depth}
 use Rattle.qs_core_laws.proofs.orders.Settling.{Gone, IsLeft, IsSettled, hand, settled, stance_at}
 use Rattle.qs_core_laws.proofs.orders.Corners.{Booked, Corner, Free, corner, corner_of, spare_of}

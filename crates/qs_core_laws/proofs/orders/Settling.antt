@@ -2,14 +2,7 @@
 -- stays the same. And what is left of its block is bounded: how many steps it will take, by the depth of the rest of
 -- the tree, by what goes home first, and by the objects that it leaves at the end. Both go by induction on the tree.
 use Rattle.std.proofs.Common.{◌≡◌, ◌<◌, ◌≤◌, ◌==◌, ◌+◌, ◌*◌, ◌&&◌, ◌||◌, ℕ, suc, Bool, true, false, if◌then◌else◌, is_some, ℤ, List, ◌∷◌, length, Option, Some, None, refl, arith, rules}
-use Rattle.qs_objects.specs.audit.Journals.{HeldState, run_one}
-use Rattle.qs_objects.specs.declared.held.Ticket.{Ticket}
-use Rattle.qs_objects.specs.declared.Request.{Request}
-use Rattle.qs_objects.proofs.Choices.{num_cases}
-use Rattle.qs_meaning.specs.audit.Solo.{put, value_of}
-use Rattle.qs_meaning.proofs.TreeWalks.{put_here, put_there}
-use Rattle.qs_program.specs.audit.Sound.{is_in}
-use Rattle.qs_program.specs.audit.Values.{Locals}
+use Rattle.qs_played.proofs.Names.{HeldState, run_one, Ticket, Request, num_cases, put, value_of, put_here, put_there, is_in, Locals}
 use Rattle.qs_graph.specs.audit.Synced.{Synced, Done, Call, Sync, Query}
 use Rattle.qs_client.specs.audit.rules.Client.{Client, ClientStage, Settings, awaits, between, call, end_block, full, leaves, query, runs, set_held, set_stage, settle, stop_at}
 use Rattle.qs_core_laws.proofs.orders.TreeDepths.{IsWithinDepth}

@@ -3,25 +3,11 @@
 -- client again. Here are what holds between the steps (`IsWithin`), the steps of handlers, and what is to be known of a
 -- client's step for it.
 use Rattle.std.proofs.Common.{◌≡◌, ◌<◌, ◌≤◌, ◌∙◌, ◌==◌, ◌+◌, ◌⊎◌, ◌∷◌, [], ℕ, zero, suc, true, false, if◌then◌else◌, is_some, List, inl, inr, sym, ap, subst, length, ⊎_elim, arith, rules}
-use Rattle.std.proofs.lemmas.Bool.Decides.{nat_tests}
-use Rattle.qs_objects.specs.declared.held.Ticket.{Ticket}
-use Rattle.qs_objects.proofs.Choices.{num_cases}
-use Rattle.qs_program.specs.audit.Program.{ProgramShape}
-use Rattle.qs_meaning.specs.audit.Following.{reserves}
-use Rattle.qs_meaning.specs.audit.Solo.{put}
-use Rattle.qs_meaning.proofs.TreeWalks.{put_here, put_there}
-use Rattle.qs_syncset.specs.audit.Codes.{ClientCode}
-use Rattle.qs_chunk.specs.audit.Limits.{spare_room}
-use Rattle.qs_client.specs.audit.rules.Client.{Client}
-use Rattle.qs_client.specs.audit.ClientModel.{is_between}
-use Rattle.qs_played.specs.audit.Schedule.{or_stay}
+use Rattle.qs_core_laws.proofs.Names.{nat_tests, ClientCode, spare_room, Client, is_between, plays_by-append, Core, core_step, core_plays, IsLaneClear, two_of_each}
+use Rattle.qs_played.proofs.Names.{Ticket, num_cases, ProgramShape, reserves, put, put_here, put_there, or_stay}
 use Rattle.qs_played.specs.declared.schedule.actor.Actor.{Actor}
 use Rattle.qs_played.specs.declared.schedule.actor.Actor.TheVariants as actor
-use Rattle.qs_played.proofs.Playing.{plays_by-append}
 use Rattle.qs_core_laws.proofs.protocol.ClientInvariants.{objects_of_block}
-use Rattle.qs_core_laws.specs.audit.Core.{Core, core_step}
-use Rattle.qs_core_laws.specs.audit.CoreSchedule.{core_plays}
-use Rattle.qs_core_laws.specs.orders.CoreQuiet.{IsLaneClear, two_of_each}
 use Rattle.qs_core_laws.proofs.orders.Settling.{Gone, IsLeft, Stance, stance_at}
 use Rattle.qs_core_laws.proofs.orders.Corners.{Due, HasSameLanes, IsChangedAt, IsServedAt, Waits, corner, corner_of, once, once_spare, once_stance, serve_once, spare_of, stance_of, twice_waits}
 

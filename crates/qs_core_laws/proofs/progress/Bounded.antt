@@ -2,38 +2,12 @@
 -- each client is in (`ClientCosts`), of its blocks to come, and of what handlers have still to take and to give. Each
 -- step leaves one less.
 use Rattle.std.proofs.Common.{◌≡◌, ◌<◌, ◌≤◌, ◌∙◌, ◌+◌, ◌-◌, ◌==◌, ℕ, zero, suc, nat_lt, Bool, true, false, if◌then◌else◌, List, [], ◌∷◌, ◌++◌, Option, Some, None, length, get_or, sum_by, refl, sym, ap, ap₂, subst, ⊎_elim, inl, inr, arith, rules}
-use Rattle.std.proofs.lemmas.List.{length-append}
-use Rattle.std.proofs.lemmas.List.Sums.{sum_by-cons}
-use Rattle.qs_objects.specs.audit.Journals.{HeldState}
-use Rattle.qs_objects.specs.declared.held.Next.TheVariants as nexts
-use Rattle.qs_objects.specs.declared.held.Ticket.{Ticket}
-use Rattle.qs_objects.proofs.Choices.{num_cases}
-use Rattle.qs_program.specs.audit.Program.{BlockShape, ClientShape, ProgramShape, block_load, blocks_of, client_at, no_client, text_of}
-use Rattle.qs_program.specs.audit.Sound.{is_in}
-use Rattle.qs_program.specs.Sound.{IsSound}
-use Rattle.qs_program.specs.audit.Values.{Locals}
-use Rattle.qs_program.proofs.Bounds.{sound_block}
-use Rattle.qs_meaning.specs.audit.Following.{reserves}
-use Rattle.qs_meaning.specs.audit.Solo.{put}
-use Rattle.qs_meaning.proofs.TreeWalks.{put_here, put_there}
-use Rattle.qs_graph.specs.audit.Synced.{Synced}
-use Rattle.qs_graph.specs.Synced.{without_syncs}
-use Rattle.qs_syncset.specs.declared.mode.Mode.{Mode}
-use Rattle.qs_syncset.specs.audit.Codes.{ClientCode, AreCodes, blocks_in, reserved_of}
-use Rattle.qs_syncset.proofs.CountedSyncs.{code_asks}
-use Rattle.qs_syncset.proofs.SyncTrees.{IsAsking}
-use Rattle.qs_chunk.specs.audit.Limits.{lane_room, spare_room}
-use Rattle.qs_chunk.specs.declared.parcel.Parcel.{Parcel}
-use Rattle.qs_handler.specs.audit.Handler.{Handler, free, serves, spares, gives, away, closed, accept_next, accept_parcel, gave}
-use Rattle.qs_handler.specs.audit.Handler as handlers
-use Rattle.qs_client.specs.audit.run.BlockSizes.{longest}
-use Rattle.qs_client.specs.audit.rules.Client.{Client, Settlement, between, runs, act_of, after_parcel, begin, take_chunk, take_object}
-use Rattle.qs_client.specs.declared.rules.act.Act.{Act}
-use Rattle.qs_client.specs.declared.rules.act.Act.TheVariants.{Reserve, Send, Await, NeedChunk}
-use Rattle.qs_client.proofs.run.CodeBounds.{longest_covers}
-use Rattle.qs_played.specs.audit.Played.{ticket}
-use Rattle.qs_played.specs.audit.Schedule.{or_stay}
+use Rattle.qs_played.proofs.Names.{length-append, sum_by-cons, HeldState, Ticket, num_cases, is_in, IsSound, Locals, sound_block, reserves, put, put_here, put_there, IsAsking, ticket, or_stay}
 use Rattle.qs_played.specs.declared.schedule.actor.Actor.{Actor}
+use Rattle.qs_objects.specs.declared.held.Next.TheVariants as nexts
+use Rattle.qs_program.specs.audit.Program.{BlockShape, ClientShape, ProgramShape, block_load, blocks_of, client_at, no_client, text_of}
+use Rattle.qs_core_laws.proofs.Names.{Synced, without_syncs, Mode, ClientCode, AreCodes, blocks_in, reserved_of, code_asks, lane_room, spare_room, Parcel, Handler, free, serves, spares, gives, away, closed, accept_next, accept_parcel, gave, longest, Client, Settlement, between, runs, act_of, after_parcel, begin, take_chunk, take_object, Act, Reserve, Send, Await, NeedChunk, longest_covers, Core, after_handler, client_step, core_begin, core_step, gets, gives_chunk, handler_step, put_lane, reserves_from, settings_of, takes_chunk, takes_parcel, takes_ticket, with_down, with_tickets, synced_block, CoreStands, CoreStepsAreBounded, core_steps_made, core_steps_of_block, most_core_steps_of}
+use Rattle.qs_handler.specs.audit.Handler as handlers
 use Rattle.qs_plain_laws.specs.progress.Steps.{made}
 use Rattle.qs_plain_laws.proofs.progress.BlocksLeft.{left_all, left_by, left_one}
 use Rattle.qs_plain_laws.proofs.progress.RequestCounts.{AtMost, tree_within}
@@ -41,9 +15,6 @@ use Rattle.qs_core_laws.proofs.protocol.ActObjects.{await_at, chunk_begun, got_b
 use Rattle.qs_core_laws.proofs.protocol.ClientInvariants.{Lined, PlaceOk, Stops}
 use Rattle.qs_core_laws.proofs.protocol.ObjectViews.{HandlerLog}
 use Rattle.qs_core_laws.proofs.protocol.ReservedLists.{lined}
-use Rattle.qs_core_laws.specs.audit.Core.{Core, after_handler, client_step, core_begin, core_step, gets, gives_chunk, handler_step, put_lane, reserves_from, settings_of, takes_chunk, takes_parcel, takes_ticket, with_down, with_tickets}
-use Rattle.qs_client.specs.audit.ClientModel.{synced_block}
-use Rattle.qs_core_laws.specs.CoreReached.{CoreStands}
 use Rattle.qs_core_laws.specs.audit.Core as core
 use Rattle.qs_core_laws.proofs.CoreBounds.{CoreBounded, run_both, step_bounded}
 use Rattle.qs_core_laws.proofs.protocol.ProgramTrees.{block_walk, reserved_is}
@@ -51,7 +22,6 @@ use Rattle.qs_core_laws.proofs.CoreInvariant.{CoreInvariant, LaneHistory}
 use Rattle.qs_core_laws.proofs.CoreReached.{stands_reached}
 use Rattle.qs_core_laws.proofs.CoreSteps.{HasInvariant, begun_by, has_more, is_between, step_kept}
 use Rattle.qs_core_laws.proofs.HandlerSteps.{some_is}
-use Rattle.qs_core_laws.specs.progress.CoreSteps.{CoreStepsAreBounded, core_steps_made, core_steps_of_block, most_core_steps_of}
 use Rattle.qs_core_laws.proofs.progress.Chunks.{lane_here, lane_there}
 use Rattle.qs_core_laws.proofs.progress.ClientCosts.{Falls, Needs, chunk_cost, got_falls, hand, hands, held_cost, in_block, need_falls, parcel_cost, place_cost, sent_falls, settle_falls}
 use Rattle.qs_core_laws.proofs.progress.Stuck.{stands_of}
@@ -77,8 +47,7 @@ accepted_cost : (v w : Handler) (p : Parcel) → accept_parcel v p ≡ Some w
 accepted_cost v w p e = search (rules, some_is)
 
 next_cost : (v w : Handler) (t : Ticket) → accept_next v (nexts.Ticket t) ≡ Some w → handler_cost w ≡ handler_cost v
-next_cost (free x) w t e = subst (λ w. handler_cost w ≡ 0) (some_is (serves t x) w e) refl
-next_cost _ w t e = absurd (cc (e))
+next_cost v w t e = search (rules, some_is)
 
 below_plus : (f g e : ℕ → ℕ) (n : ℕ) → ((i : ℕ) → g i ≡ f i + e i) → below g n ≡ below f n + below e n
 below_plus f g e zero same = refl
@@ -90,11 +59,7 @@ below_first f (suc n) = let ih = below_first f n in omega (arith, ih)
 
 below_list : {X : Type 0} (f : X → ℕ) (xs : List X) (d : X) → below (λ i. f (get_or xs i d)) (length xs) ≡ sum_by f xs
 below_list f [] d = refl
-below_list f (x ∷ xs) d =
-    let first = below_first (λ i. f (get_or (x ∷ xs) i d)) (length xs) in
-    let others = below_list f xs d in
-    let sum = sum_by-cons f x xs in
-    omega (arith, first, others, sum)
+below_list f (x ∷ xs) d = grind (arith, below_first, sum_by-cons, below_list f xs d)
 
 below_none : (f : ℕ → ℕ) (n : ℕ) → ((i : ℕ) → f i ≡ 0) → below f n ≡ 0
 below_none f zero none = refl
@@ -162,8 +127,7 @@ module _ (p : ProgramShape) where
     where
       one : (h : ℕ) (b : Bool)
           → length (if b then tickets h ++ t ∷ [] else tickets h) + (handler_cost (handler h) + lanes_cost down h) ≡ at_handler tickets handler down h + one_if b
-      one h true = let long = length-append (tickets h) (t ∷ []) in omega (arith, long)
-      one h false = omega arith
+      one h v = grind (arith, length-append)
 
 module _ (p : ProgramShape) (sound : IsSound p) (mode : Mode) (code : ℕ → ClientCode) (codes : AreCodes p mode code) (size : ℕ) where
   abbrev names_at : ℕ → ℕ → List ℕ
@@ -205,8 +169,7 @@ module _ (p : ProgramShape) (sound : IsSound p) (mode : Mode) (code : ℕ → Cl
     in_transit = transit p s.tickets s.handler s.down
 
     one_of : (test : Bool) (a s' : Core) → (if test then Some a else None) ≡ Some s' → Less a n → Less s' n
-    one_of true a s' e h = subst (λ s. Less s n) (some_is a s' e) h
-    one_of false a s' e h = absurd (cc)
+    one_of v a s' e h = search (rules, some_is)
 
     -- one client has moved
     client_moves : (c : ℕ) → c < length p.clients
@@ -223,13 +186,7 @@ module _ (p : ProgramShape) (sound : IsSound p) (mode : Mode) (code : ℕ → Cl
           omega (arith, all, here, most, fewer, few),
           record {
             need = put left.need c need;
-            needs = λ d. ⊎_elim
-                (λ (is : c ≡ d). subst (λ d. Needs (put s.client c m d).stage (put left.need c need d)) is
-                (subst (λ (m : Client). Needs m.stage (put left.need c need c)) (sym (put_here s.client c m)) (subst (Needs m.stage) (sym (put_here left.need c need)) needs)))
-                (λ (other : (c == d) ≡ false).
-                subst (λ (m : Client). Needs m.stage (put left.need c need d)) (sym (put_there s.client c m d other))
-                (subst (Needs (s.client d).stage) (sym (put_there left.need c need d other)) (left.needs d)))
-                (num_cases c d);
+            needs = search (rules, left, put_here, put_there, num_cases);
             most = omega arith;
           },
         )
@@ -279,8 +236,7 @@ module _ (p : ProgramShape) (sound : IsSound p) (mode : Mode) (code : ℕ → Cl
 
       stops : PlaceOk p (now c) (y.sent (now c)) (y.got (now c)) (s.client c) (y.block_record (now c)) (s.client c).stage
           → (rest : Synced) → (s.client c).stage ≡ runs rest → Stops rest
-      stops ok rest is =
-          (subst (PlaceOk p (now c) (y.sent (now c)) (y.got (now c)) (s.client c) (y.block_record (now c))) is ok).1
+      stops ok rest is = search (rules, now)
 
       get_less : (h : ℕ) (o : Option HeldState) (s' : Core) → asks_for c ≡ Await h → gets code size s c h o ≡ Some s'
           → Less s' n
@@ -310,8 +266,7 @@ module _ (p : ProgramShape) (sound : IsSound p) (mode : Mode) (code : ℕ → Cl
       -- between blocks it has nothing in hand
       empty_hands : (j : ℕ) (l : Locals) → (s.client c).begun ≡ j → (s.client c).stage ≡ between l → (names : List ℕ)
           → hands names (s.client c) ≡ 0
-      empty_hands zero l b at names =
-          total_none _ names (λ h. let none = (k.idle c b).1 h in hand_none (s.client c) h none.0 none.1)
+      empty_hands zero l b at names = search (rules, total_none, names, k, b, hand_none)
       empty_hands (suc j) l b at names =
           let ok = subst (PlaceOk p (ticket c j) (y.sent (ticket c j)) (y.got (ticket c j)) (s.client c) (y.block_record (ticket c j))) at (k.places c j b) in
           total_none _ names (λ h. let none = ok.empty h refl in hand_none (s.client c) h none.0 none.1)
@@ -340,12 +295,10 @@ module _ (p : ProgramShape) (sound : IsSound p) (mode : Mode) (code : ℕ → Cl
             code_asks p mode c (code c) sound (codes.own c less) b (longest (code c).blocks) l some (longest_covers (code c).blocks b)
 
         begun_falls : Falls names r.client 0 (in_block names (block_load (text_of p t)) (record (s.client c) { begun = suc b }))
-        begun_falls =
-            settle_falls names (settings_of code size c) t (synced_block code t l) (record (s.client c) { begun = suc b }) (block_load (text_of p t)) most asking
+        begun_falls = search (rules, settle_falls, names, b, most, asking)
 
         longer : r.client.begun ≡ suc b
-        longer =
-            settle_begun (settings_of code size c) t names (synced_block code t l) (record (s.client c) { begun = suc b })
+        longer = search (rules, settle_begun, names, b)
 
         last : suc b - 1 ≡ b
         last = omega arith
@@ -354,14 +307,11 @@ module _ (p : ProgramShape) (sound : IsSound p) (mode : Mode) (code : ℕ → Cl
         zero_first x = omega arith
 
         before : cost_of c (s.client c) (left.need c) ≡ left_from (client_at p c).blocks b
-        before =
-            ap (λ pl. place_cost (names_of c) (s.client c) (left.need c) pl + left_from (client_at p c).blocks b) at ∙ zero_first (left_from (client_at p c).blocks b)
+        before = search (rules, left, left_from, b, zero_first)
 
         after : (need : ℕ)
             → cost_of c r.client need ≡ place_cost names r.client need r.client.stage + left_from (client_at p c).blocks (suc b)
-        after need =
-            ap (λ b. cost_with c r.client need b) longer
-            ∙ ap (λ i. place_cost (reserved_of code (ticket c i)) r.client need r.client.stage + left_from (client_at p c).blocks (suc b)) last
+        after need = search (rules, b, longer, left_from, last)
 
         reserved_less : Less (core.after_reserve code size s c t l r) n
         reserved_less =
@@ -427,24 +377,19 @@ module _ (p : ProgramShape) (sound : IsSound p) (mode : Mode) (code : ℕ → Cl
 
       give_less : (t : Ticket) (x : HeldState) (o : Option HeldState) (s' : Core) → s.handler h ≡ gives t x
           → core.gives code size s h t.client x o ≡ Some s' → Less s' n
-      give_less t x None s' v e =
-          subst (λ s. Less s n) (some_is _ s' e) (gave_less (ap handler_cost v) (ap (λ v. handler_cost (gave v)) v))
-      give_less t x (Some z) s' v e = absurd (cc)
+      give_less t x w s' v e = search (rules, some_is, gave_less)
 
       spare_less : (t : Ticket) (x : HeldState) (m : ℕ) (s' : Core) → s.handler h ≡ spares t x m
           → gives_chunk code size s h t.client ≡ Some s' → Less s' n
-      spare_less t x m s' v e =
-          one_of (nat_lt (s.spare t.client h) spare_room) _ s' e (gave_less (ap handler_cost v) (ap (λ v. handler_cost (gave v)) v))
+      spare_less t x m s' v e = search (rules, one_of, gave_less)
 
       handler_less : (v : Handler) (s' : Core) → s.handler h ≡ v
           → handler_step code size s h (handlers.act_of v) ≡ Some s' → Less s' n
       handler_less (free x) s' v e = ticket_less (s.tickets h) s' refl e
-      handler_less (serves t x) s' v e =
-          parcel_less t.client (s.down t.client h) s' (st.handlers.takes h t.client (ap handlers.act_of v)) refl e
+      handler_less (serves t x) s' v e = search (rules, parcel_less, st)
       handler_less (spares t x m) s' v e = spare_less t x m s' v e
       handler_less (gives t x) s' v e = give_less t x (s.up t.client h) s' v e
-      handler_less (away t) s' v e =
-          parcel_less t.client (s.down t.client h) s' (st.handlers.takes h t.client (ap handlers.act_of v)) refl e
+      handler_less (away t) s' v e = search (rules, parcel_less, st)
       handler_less (closed x) s' v e = absurd (cc)
 
     step_less : (a : Actor) (s' : Core) → core_step code size s a ≡ Some s' → Less s' n

@@ -3,32 +3,16 @@
 -- handler gives one back, there is room for it. Each step keeps this. A step changes what is counted of one lane;
 -- elsewhere the counts stay.
 use Rattle.std.proofs.Common.{◌≡◌, ◌⊎◌, ◌+◌, inl, inr, ℕ, suc, ◌==◌, ◌&&◌, is_some, Bool, true, false, if◌then◌else◌, List, [], ◌∷◌, ◌++◌, refl, sym, ap, ◌∙◌, subst, Option, Some, None, ℤ, arith, rules}
-use Rattle.qs_objects.specs.audit.Journals.{HeldState, run_one}
-use Rattle.qs_objects.specs.declared.held.Ticket.{Ticket}
+use Rattle.qs_played.proofs.Names.{HeldState, run_one, Ticket, Request, eqb_self, num_cases, ProgramShape, Locals, put, value_of, put_here, put_there, or_stay}
+use Rattle.qs_played.specs.declared.schedule.actor.Actor.{Actor}
 use Rattle.qs_objects.specs.declared.held.Next.TheVariants as nexts
-use Rattle.qs_objects.specs.declared.Request.{Request}
-use Rattle.qs_objects.proofs.Choices.{eqb_self, num_cases}
-use Rattle.qs_program.specs.audit.Program.{ProgramShape}
-use Rattle.qs_program.specs.audit.Values.{Locals}
-use Rattle.qs_meaning.specs.audit.Solo.{put, value_of}
-use Rattle.qs_meaning.proofs.TreeWalks.{put_here, put_there}
 use Rattle.qs_graph.specs.audit.Synced.{Synced, Done, Call, Sync, Query}
-use Rattle.qs_syncset.specs.audit.Codes.{ClientCode, blocks_in}
-use Rattle.qs_chunk.specs.declared.parcel.Parcel.{Parcel}
+use Rattle.qs_core_laws.proofs.Names.{ClientCode, blocks_in, Parcel, Handler, free, serves, spares, gives, away, closed, accept_next, accept_parcel, gave, Client, ClientStage, Settings, runs, awaits, leaves, stop_at, act_at, act_of, clear, call_act, end_block, call, query, settle, after_home, after_work, after_sync, after_end, after_parcel, take_chunk, take_object, Act, Send, NeedChunk, Finished, put_kept, Core, client_step, core_begin, core_step, gets, gives_chunk, after_handler, handler_step, put_lane, reserves_from, settings_of, takes_chunk, takes_parcel, takes_ticket, with_down, with_tickets, core_plays}
 use Rattle.qs_chunk.specs.declared.parcel.Parcel.TheVariants as parcels
-use Rattle.qs_handler.specs.audit.Handler.{Handler, free, serves, spares, gives, away, closed, accept_next, accept_parcel, gave}
 use Rattle.qs_handler.specs.Handler as handlers
 use Rattle.qs_handler.specs.audit.Handler as handlers_audit
-use Rattle.qs_client.specs.audit.rules.Client.{Client, ClientStage, Settings, runs, awaits, leaves, stop_at, act_at, act_of, clear, call_act, end_block, call, query, settle, after_home, after_work, after_sync, after_end, after_parcel, take_chunk, take_object}
-use Rattle.qs_client.specs.declared.rules.act.Act.{Act}
-use Rattle.qs_client.specs.declared.rules.act.Act.TheVariants.{Send, NeedChunk, Finished}
-use Rattle.qs_played.specs.audit.Schedule.{or_stay}
-use Rattle.qs_played.specs.declared.schedule.actor.Actor.{Actor}
 use Rattle.qs_played.specs.declared.schedule.actor.Actor.TheVariants as actor
-use Rattle.qs_played.proofs.FunctionUpdate.{put_kept}
 use Rattle.qs_core_laws.proofs.protocol.ActKinds.{outside_not_send, outside_not_need, clears_not_need, full_not_need}
-use Rattle.qs_core_laws.specs.audit.Core.{Core, client_step, core_begin, core_step, gets, gives_chunk, after_handler, handler_step, put_lane, reserves_from, settings_of, takes_chunk, takes_parcel, takes_ticket, with_down, with_tickets}
-use Rattle.qs_core_laws.specs.audit.CoreSchedule.{core_plays}
 use Rattle.qs_core_laws.specs.audit.Core as core
 use Rattle.qs_core_laws.proofs.HandlerSteps.{put_lane_at, put_lane_there, some_is}
 
@@ -83,8 +67,7 @@ less_in_hand f h rs some g = search (rules, eqb_self, num_cases)
 module _ (settings : Settings) (t : Ticket) (names : List ℕ) (g : ℕ) where
   leaving_opened : (m : Client) (hs : List ℕ) (l : Locals)
       → opened ((end_block settings t names m hs l).client.chunk g) ≡ opened (m.chunk g)
-  leaving_opened m [] l = refl
-  leaving_opened m (h ∷ hs) l = refl
+  leaving_opened m v l = search rules
 
   order_opened : (m : Client) (r : Request) (next : Synced) (hd : Option HeldState) (ck : Option (List Request))
       → m.chunk r.object ≡ ck
@@ -95,15 +78,12 @@ module _ (settings : Settings) (t : Ticket) (names : List ℕ) (g : ℕ) where
   ask_opened : (m : Client) (r : Request) (next : ℤ → Synced) (hd : Option HeldState)
       → ((v : ℤ) (m : Client) → opened ((settle settings t names (next v) m).client.chunk g) ≡ opened (m.chunk g))
       → opened ((query settings t names m r next (λ v m. settle settings t names (next v) m) hd).client.chunk g) ≡ opened (m.chunk g)
-  ask_opened m r next (Some x) ih =
-      ih (value_of (run_one x t r).1) (record m { held = put m.held r.object (Some (run_one x t r).0) })
-  ask_opened m r next None ih = refl
+  ask_opened m r next v ih = search rules
 
   sync_opened : (m : Client) (h : ℕ) (next : Synced) (b : Bool)
       → ((m : Client) → opened ((settle settings t names next m).client.chunk g) ≡ opened (m.chunk g))
       → opened ((if b then settle settings t names next m else stop_at m (runs (Sync h next))).client.chunk g) ≡ opened (m.chunk g)
-  sync_opened m h next true ih = ih m
-  sync_opened m h next false ih = refl
+  sync_opened m h next v ih = search rules
 
   settle_opened : (code : Synced) (m : Client)
       → opened ((settle settings t names code m).client.chunk g) ≡ opened (m.chunk g)
@@ -116,23 +96,19 @@ module _ (settings : Settings) (t : Ticket) (names : List ℕ) (g : ℕ) where
 
   home_opened : (m : Client) (h : ℕ) (pl : ClientStage)
       → opened ((after_home settings t names m h pl).client.chunk g) ≡ opened (m.chunk g)
-  home_opened m h (runs code) = settle_opened code (record m { held = put m.held h None })
-  home_opened m h _ = refl
+  home_opened m h v = search (rules, settle_opened)
 
   sync_sent_opened : (m : Client) (pl : ClientStage)
       → opened ((after_sync settings t names m pl).client.chunk g) ≡ opened (m.chunk g)
-  sync_sent_opened m (runs (Done l)) = refl
-  sync_sent_opened m _ = refl
+  sync_sent_opened m v = search rules
 
   end_opened : (m : Client) (pl : ClientStage)
       → opened ((after_end settings t names m pl).client.chunk g) ≡ opened (m.chunk g)
-  end_opened m (leaves k hs l) = leaving_opened m hs l
-  end_opened m _ = refl
+  end_opened m v = search (rules, leaving_opened)
 
   got_opened : (m : Client) (x : HeldState) (pl : ClientStage)
       → opened ((take_object settings t names m x pl).client.chunk g) ≡ opened (m.chunk g)
-  got_opened m x (awaits k code) = settle_opened code (record m { held = put m.held k (Some x) })
-  got_opened m x _ = refl
+  got_opened m x v = search (rules, settle_opened)
 
 -- a chunk that is sent was in hand
 module _ (settings : Settings) where
@@ -156,8 +132,7 @@ module _ (settings : Settings) where
 
   pub call_need : (k : ℕ) (hd : Option HeldState) (ck : Option (List Request)) (h : ℕ)
       → call_act settings k hd ck ≡ NeedChunk h → (k ≡ h) × (ck ≡ None)
-  call_need k None None h e = (cc, refl)
-  call_need k _ _ h e = absurd (cc)
+  call_need k v w h e = search rules
 
   pub at_same : (m : Client) (h k : ℕ) (o : Option (List Request)) → k ≡ h → m.chunk k ≡ o → m.chunk h ≡ o
   at_same m h k o is e = subst (λ h. m.chunk h ≡ o) is e
@@ -196,21 +171,17 @@ lane_here f c h a = put_lane_at f c h a c ∙ put_here (λ c. f c h) c a
 
 pub lane_there : {A : Type 0} (f : ℕ → ℕ → A) (c h : ℕ) (a : A) (d g : ℕ) → Elsewhere c h d g
     → put_lane f c h a d g ≡ f d g
-lane_there f c h a d g (inl other) = ap (λ (r : ℕ → _). r g) (put_there f c (put (f c) h a) d other)
-lane_there f c h a d g (inr other) = put_lane_there f c h a d g other
+lane_there f c h a d g v = search (rules, put_there, put_lane_there)
 
 client_there : (client : ℕ → Client) (c h : ℕ) (m : Client) (d g : ℕ)
     → ((h == g) ≡ false → opened (m.chunk g) ≡ opened ((client c).chunk g)) → Elsewhere c h d g
     → opened ((put client c m d).chunk g) ≡ opened ((client d).chunk g)
-client_there client c h m d g kept (inl other) = ap (λ (m : Client). opened (m.chunk g)) (put_there client c m d other)
-client_there client c h m d g kept (inr other) = put_kept (λ (m : Client). opened (m.chunk g)) client c m (kept other) d
+client_there client c h m d g kept v = search (rules, opened, put_there, put_kept)
 
 handler_there : (handler : ℕ → Handler) (c h : ℕ) (v : Handler) (d g : ℕ)
     → ((c == d) ≡ false → to_give_back v d ≡ to_give_back (handler h) d) → Elsewhere c h d g
     → to_give_back (put handler h v g) d ≡ to_give_back (handler g) d
-handler_there handler c h v d g kept (inl other) =
-    put_kept (λ (v : Handler). to_give_back v d) handler h v (kept other) g
-handler_there handler c h v d g kept (inr other) = ap (λ v. to_give_back v d) (put_there handler h v g other)
+handler_there handler c h v d g kept w = search (rules, put_kept, put_there)
 
 -- a step of a handler that changes no count of another client
 kept_by_accepting : (v w : Handler) (p : Parcel) (t : Ticket) → accept_parcel v p ≡ Some w → handlers.serving v ≡ t ∷ []
@@ -219,8 +190,7 @@ kept_by_accepting v w p t e one = search (rules, some_is, eqb_self)
 
 kept_by_ticket : (v w : Handler) (t : Ticket) → accept_next v (nexts.Ticket t) ≡ Some w → (d : ℕ)
     → to_give_back w d ≡ to_give_back v d
-kept_by_ticket (free x) w t e d = subst (λ w. to_give_back w d ≡ 0) (some_is (serves t x) w e) refl
-kept_by_ticket _ w t e d = absurd (cc (e))
+kept_by_ticket v w t e d = search (rules, some_is)
 
 module _ (code : ℕ → ClientCode) (size : ℕ) where
   module _ (s : Core) (k : FourChunks s) where
@@ -228,8 +198,7 @@ module _ (code : ℕ → ClientCode) (size : ℕ) where
     asks_for c = act_of (settings_of code size c) (blocks_in code c) (s.client c)
 
     one_of : (test : Bool) (a s' : Core) → (if test then Some a else None) ≡ Some s' → FourChunks a → FourChunks s'
-    one_of true a s' e h = subst FourChunks (some_is a s' e) h
-    one_of false a s' e h = absurd (cc)
+    one_of v a s' e h = search (rules, some_is)
 
     -- the client alone changes, and what it has in hand stays
     client_kept : (c : ℕ) (m : Client) → ((g : ℕ) → opened (m.chunk g) ≡ opened ((s.client c).chunk g))
@@ -280,9 +249,7 @@ module _ (code : ℕ → ClientCode) (size : ℕ) where
 
     give_keeps : (h : ℕ) (t : Ticket) (x : HeldState) (o : Option HeldState) (s' : Core) → s.handler h ≡ gives t x
         → core.gives code size s h t.client x o ≡ Some s' → FourChunks s'
-    give_keeps h t x None s' v e =
-        subst FourChunks (some_is _ s' e) (handler_kept h (gave (s.handler h)) (λ d. ap (λ v. to_give_back (gave v) d) v ∙ sym (ap (λ v. to_give_back v d) v)))
-    give_keeps h t x (Some z) s' v e = absurd (cc)
+    give_keeps h t x w s' v e = search (rules, some_is, handler_kept)
 
     spare_keeps : (h : ℕ) (t : Ticket) (x : HeldState) (n : ℕ) (s' : Core) → s.handler h ≡ spares t x n
         → gives_chunk code size s h t.client ≡ Some s' → FourChunks s'
@@ -298,18 +265,15 @@ module _ (code : ℕ → ClientCode) (size : ℕ) where
     handler_acts h (closed x) s' v e = absurd (cc)
 
     step_four : (a : Actor) (s' : Core) → core_step code size s a ≡ Some s' → FourChunks s'
-    step_four (actor.Client c) s' e = client_acts c (asks_for c) s' refl e
-    step_four (actor.Handler h) s' e = handler_acts h (s.handler h) s' refl e
+    step_four v s' e = search (rules, client_acts, handler_acts)
 
   stays_four : (s : Core) (o : Option Core) → ((s' : Core) → o ≡ Some s' → FourChunks s') → FourChunks s
       → FourChunks (or_stay s o)
-  stays_four s None step k = k
-  stays_four s (Some s') step k = step s' refl
+  stays_four s v step k = search rules
 
   pub plays_four : (actors : List Actor) (s : Core) → FourChunks s → FourChunks (core_plays code size actors s)
   plays_four [] s k = k
-  plays_four (a ∷ rest) s k =
-      plays_four rest (or_stay s (core_step code size s a)) (stays_four s (core_step code size s a) (λ s' e. step_four s k a s' e) k)
+  plays_four (a ∷ rest) s k = search (rules, stays_four, step_four, plays_four rest (or_stay s (core_step code size s a)) (stays_four s (core_step code size s a) (λ s' e. step_four s k a s' e) k))
 
   -- after every list of actors
   pub run_four : (program : ProgramShape) (actors : List Actor)

@@ -4,23 +4,10 @@
 -- three; and each object of the list two, for its end. What a client does to its own values takes nothing more, and
 -- each of its acts, with what a handler makes of the parcel, is paid.
 use Rattle.std.proofs.Common.{◌≡◌, ◌≤◌, ◌+◌, ◌*◌, ◌-◌, ◌==◌, ◌&&◌, is_some, nat_lt, ℕ, suc, ℤ, Bool, true, false, if◌then◌else◌, List, [], ◌∷◌, ◌++◌, Option, Some, None, length, refl, sym, ap, subst, arith, rules}
-use Rattle.qs_objects.specs.audit.Journals.{HeldState, run_one}
-use Rattle.qs_objects.specs.declared.held.Ticket.{Ticket}
-use Rattle.qs_objects.specs.declared.Request.{Request}
-use Rattle.qs_program.specs.audit.Sound.{is_in}
-use Rattle.qs_program.specs.audit.Values.{Locals}
-use Rattle.qs_meaning.specs.audit.Solo.{value_of}
-use Rattle.qs_meaning.proofs.TreeWalks.{put_here, put_there}
+use Rattle.qs_played.proofs.Names.{HeldState, run_one, Ticket, Request, is_in, Locals, value_of, put_here, put_there, IsAsking, IsQueryOf}
 use Rattle.qs_graph.specs.audit.Synced.{Synced, Done, Call, Sync, Query}
-use Rattle.qs_graph.specs.Synced.{without_syncs}
-use Rattle.qs_syncset.proofs.SyncTrees.{IsAsking, IsQueryOf}
-use Rattle.qs_chunk.specs.audit.Batch.{Batch}
-use Rattle.qs_chunk.specs.declared.parcel.Parcel.{Parcel}
+use Rattle.qs_core_laws.proofs.Names.{without_syncs, Batch, Parcel, Client, ClientStage, Settings, between, runs, full, awaits, leaves, stop_at, act_at, act_of, clear, call_act, end_block, call, query, settle, set_chunk, set_held, after_home, after_work, after_sync, after_end, after_parcel, take_chunk, take_object, Act, Send, Await, NeedChunk, Finished, put_kept}
 use Rattle.qs_chunk.specs.declared.parcel.Parcel.TheVariants as parcels
-use Rattle.qs_client.specs.audit.rules.Client.{Client, ClientStage, Settings, between, runs, full, awaits, leaves, stop_at, act_at, act_of, clear, call_act, end_block, call, query, settle, set_chunk, set_held, after_home, after_work, after_sync, after_end, after_parcel, take_chunk, take_object}
-use Rattle.qs_client.specs.declared.rules.act.Act.{Act}
-use Rattle.qs_client.specs.declared.rules.act.Act.TheVariants.{Send, Await, NeedChunk, Finished}
-use Rattle.qs_played.proofs.FunctionUpdate.{put_kept}
 use Rattle.qs_plain_laws.proofs.progress.RequestCounts.{AtMost}
 use Rattle.qs_core_laws.proofs.protocol.ActKinds.{call_not_await, clears_not_await, clears_not_need, full_not_await, full_not_need, outside_not_await, outside_not_need, outside_not_send}
 use Rattle.qs_core_laws.proofs.protocol.ClientInvariants.{Lined, Stops}
@@ -72,8 +59,7 @@ module _ (names : List ℕ) where
     pub fits : place_cost m need m.stage + e ≤ b
 
   pub falls_by : (m : Client) (e b e' b' : ℕ) → b + e' ≤ b' + e → Falls m e b → Falls m e' b'
-  falls_by m e b e' b' le f =
-      let fits = f.fits in record { need = f.need; needs = f.needs; fits = omega (arith, le, fits) }
+  falls_by m e b e' b' le f = grind arith
 
   -- what is in hand changes at one object
   module _ (may : ℕ → Bool) (lined : Lined may names) (m : Client) (h : ℕ) (mine : is_in names h ≡ true) where
@@ -86,13 +72,11 @@ module _ (names : List ℕ) where
 
   held_still : (m : Client) (h : ℕ) (o : Option HeldState) → held_cost o ≡ held_cost (m.held h)
       → hands (set_held m h o) ≡ hands m
-  held_still m h o same =
-      total_same (hand m) (hand (set_held m h o)) names (λ i. ap (λ n. n + chunk_cost (m.chunk i)) (put_kept held_cost m.held h o same i))
+  held_still m h o same = search (rules, total_same, hand, put_kept)
 
   chunk_still : (m : Client) (h : ℕ) (o : Option (List Request)) → chunk_cost o ≡ chunk_cost (m.chunk h)
       → hands (set_chunk m h o) ≡ hands m
-  chunk_still m h o same =
-      total_same (hand m) (hand (set_chunk m h o)) names (λ i. ap (λ n. held_cost (m.held i) + n) (put_kept chunk_cost m.chunk h o same i))
+  chunk_still m h o same = search (rules, total_same, hand, put_kept)
 
   module _ (settings : Settings) (t : Ticket) where
     -- about to go on with this
@@ -102,8 +86,7 @@ module _ (names : List ℕ) where
 
     leaving_falls : (m : Client) (hs : List ℕ) (l : Locals)
         → Falls (end_block settings t names m hs l).client 0 (hands m + 2 * length hs)
-    leaving_falls m [] l = record { need = 0; needs = tt; fits = omega arith }
-    leaving_falls m (h ∷ hs) l = record { need = 0; needs = tt; fits = omega arith }
+    leaving_falls m v l = grind arith
 
     call_open : (m : Client) (r : Request) (next : Synced) (rs : List Request) (n : ℕ) → m.chunk r.object ≡ Some rs
         → AtMost (without_syncs next) n → IsAsking next → Goes next
@@ -158,10 +141,8 @@ module _ (names : List ℕ) where
     pub settle_falls : (code : Synced) → Goes code
     settle_falls (Done l) m n most asking =
         falls_by _ 0 (hands m + 2 * length names) 0 (in_block n m) (omega arith) (leaving_falls m names l)
-    settle_falls (Call r next) m n most asking =
-        call_falls m r next (m.held r.object) (m.chunk r.object) n refl most asking (settle_falls next)
-    settle_falls (Sync h next) m n most asking =
-        sync_falls m h next (settings.dynamic && is_some (m.held h)) n most asking (settle_falls next)
+    settle_falls (Call r next) m n most asking = search (rules, call_falls, settle_falls next)
+    settle_falls (Sync h next) m n most asking = search (rules, sync_falls, is_some, settle_falls next)
     settle_falls (Query r next) m n most asking =
         query_falls m r next (m.held r.object) n refl most asking (λ v. settle_falls (next v))
 
@@ -169,51 +150,40 @@ module _ (names : List ℕ) where
 
     call_home : (k : ℕ) (hd : Option HeldState) (ck : Option (List Request)) (h : ℕ) (x : HeldState)
         → call_act settings k hd ck ≡ Send h (parcels.Home x) → (k ≡ h) × (z : HeldState) × (hd ≡ Some z)
-    call_home k (Some z) ck h x e = (cc, z, refl)
-    call_home k None None h x e = absurd (cc)
-    call_home k None (Some rs) h x e = absurd (cc)
+    call_home k v ck h x e = search rules
 
     clears_home : (k : ℕ) (hd : Option HeldState) (ck : Option (List Request)) (other : Act) (h : ℕ) (x : HeldState)
         → (other ≡ Send h (parcels.Home x) → ⊥)
         → clear settings k hd ck other ≡ Send h (parcels.Home x) → (k ≡ h) × (z : HeldState) × (hd ≡ Some z)
-    clears_home k (Some z) ck other h x never e = (cc, z, refl)
-    clears_home k None (Some rs) other h x never e = absurd (cc)
-    clears_home k None None other h x never e = absurd (never e)
+    clears_home k v ck other h x never e = search rules
 
     full_no_home : (k : ℕ) (ck : Option (List Request)) (h : ℕ) (x : HeldState)
         → clear settings k None ck Finished ≡ Send h (parcels.Home x) → ⊥
-    full_no_home k None h x e = cc
-    full_no_home k (Some rs) h x e = cc
+    full_no_home k v h x e = search rules
 
     call_no_sync : (k : ℕ) (hd : Option HeldState) (ck : Option (List Request)) (h : ℕ)
         → call_act settings k hd ck ≡ Send h parcels.Sync → ⊥
-    call_no_sync k None None h e = cc
-    call_no_sync k _ _ h e = cc
+    call_no_sync k v w h e = search rules
 
     call_no_end : (k : ℕ) (hd : Option HeldState) (ck : Option (List Request)) (h : ℕ)
         → call_act settings k hd ck ≡ Send h parcels.End → ⊥
-    call_no_end k None None h e = cc
-    call_no_end k _ _ h e = cc
+    call_no_end k v w h e = search rules
 
     clears_no_end : (k : ℕ) (hd : Option HeldState) (ck : Option (List Request)) (h : ℕ)
         → clear settings k hd ck (Send k parcels.Sync) ≡ Send h parcels.End → ⊥
-    clears_no_end k None None h e = cc
-    clears_no_end k _ _ h e = cc
+    clears_no_end k v w h e = search rules
 
     clears_no_sync : (k : ℕ) (hd : Option HeldState) (ck : Option (List Request)) (h : ℕ)
         → clear settings k hd ck (Send k parcels.End) ≡ Send h parcels.Sync → ⊥
-    clears_no_sync k None None h e = cc
-    clears_no_sync k _ _ h e = cc
+    clears_no_sync k v w h e = search rules
 
     full_no_sync : (k : ℕ) (ck : Option (List Request)) (h : ℕ)
         → clear settings k None ck Finished ≡ Send h parcels.Sync → ⊥
-    full_no_sync k None h e = cc
-    full_no_sync k (Some rs) h e = cc
+    full_no_sync k v h e = search rules
 
     full_no_end : (k : ℕ) (ck : Option (List Request)) (h : ℕ) → clear settings k None ck Finished ≡ Send h parcels.End
         → ⊥
-    full_no_end k None h e = cc
-    full_no_end k (Some rs) h e = cc
+    full_no_end k v h e = search rules
 
     sync_no_home : (k h : ℕ) (x : HeldState) → Send k parcels.Sync ≡ Send h (parcels.Home x) → ⊥
     sync_no_home k h x e = cc
@@ -223,9 +193,7 @@ module _ (names : List ℕ) where
 
     need_held : (k : ℕ) (hd : Option HeldState) (ck : Option (List Request)) (h : ℕ)
         → call_act settings k hd ck ≡ NeedChunk h → hd ≡ None
-    need_held k (Some z) ck h e = absurd (cc)
-    need_held k None (Some rs) h e = refl
-    need_held k None None h e = refl
+    need_held k v ck h e = search rules
 
     held_same : (m : Client) (h k : ℕ) (o : Option HeldState) → k ≡ h → m.held k ≡ o → m.held h ≡ o
     held_same m h k o is e = subst (λ h. m.held h ≡ o) is e
@@ -268,8 +236,7 @@ module _ (names : List ℕ) where
       work_falls : (pl : ClientStage) (n : ℕ) (chunk : Batch Request) → Needs pl n
           → act_at settings blocks m pl ≡ Send h (parcels.Work chunk)
           → Falls (after_work settings t names m h pl).client 3 (place_cost m n pl)
-      work_falls (between l) n chunk needs e =
-          absurd (outside_not_send (nat_lt m.begun blocks) h (parcels.Work chunk) e)
+      work_falls (between l) n chunk needs e = search (rules, outside_not_send)
       work_falls (runs (Call r next)) n chunk needs e =
           let w = call_work settings r.object (m.held r.object) (m.chunk r.object) h (parcels.Work chunk) refl e in
           work_rest (Call r next) n w.1 (at_same settings m h r.object (Some w.1) w.0 w.2) needs
@@ -306,8 +273,7 @@ module _ (names : List ℕ) where
       end_falls (runs (Call r next)) n needs e = absurd (call_no_end r.object (m.held r.object) (m.chunk r.object) h e)
       end_falls (runs (Sync k next)) n needs e = absurd (clears_no_end k (m.held k) (m.chunk k) h e)
       end_falls (full k rest) n needs e = absurd (full_no_end k (m.chunk k) h e)
-      end_falls (leaves k hs l) n needs e =
-          falls_by _ 0 (hands m + 2 * length hs) 2 (place_cost m n (leaves k hs l)) (omega arith) (leaving_falls m hs l)
+      end_falls (leaves k hs l) n needs e = grind (arith, falls_by, hands, leaving_falls)
       end_falls _ n needs e = absurd (cc)
 
       -- whatever it sends
@@ -335,20 +301,14 @@ module _ (names : List ℕ) where
       pub got_falls : (pl : ClientStage) (n : ℕ) (x : HeldState) → ((rest : Synced) → pl ≡ runs rest → Stops rest)
           → Needs pl n → act_at settings blocks m pl ≡ Await h
           → Falls (take_object settings t names m x pl).client 1 (place_cost m n pl)
-      got_falls (awaits k rest) n x stops needs e =
-          let is : k ≡ h = cc in
-          subst (λ k. IsQueryOf k rest → Falls (settle settings t names rest (set_held m k (Some x))).client 1 (in_block n m + 3)) (sym is)
-          (λ of. got_rest rest n x needs.0 of needs.1) needs.2
+      got_falls (awaits k rest) n x stops needs e = search (rules, in_block, got_rest)
       got_falls (between l) n x stops needs e = absurd (outside_not_await (nat_lt m.begun blocks) h e)
       got_falls (runs (Done l)) n x stops needs e = absurd (cc)
-      got_falls (runs (Call r next)) n x stops needs e =
-          absurd (call_not_await settings r.object (m.held r.object) (m.chunk r.object) h e)
-      got_falls (runs (Sync k next)) n x stops needs e =
-          absurd (clears_not_await settings k (m.held k) (m.chunk k) parcels.Sync h e)
+      got_falls (runs (Call r next)) n x stops needs e = search (rules, call_not_await)
+      got_falls (runs (Sync k next)) n x stops needs e = search (rules, clears_not_await)
       got_falls (runs (Query r next)) n x stops needs e = absurd (stops (Query r next) refl)
       got_falls (full k rest) n x stops needs e = absurd (full_not_await settings k (m.chunk k) h e)
-      got_falls (leaves k hs l) n x stops needs e =
-          absurd (clears_not_await settings k (m.held k) (m.chunk k) parcels.End h e)
+      got_falls (leaves k hs l) n x stops needs e = search (rules, clears_not_await)
 
       -- a chunk comes, and the command goes into it
       pub need_falls : (pl : ClientStage) (n : ℕ) → Needs pl n → act_at settings blocks m pl ≡ NeedChunk h
@@ -365,8 +325,7 @@ module _ (names : List ℕ) where
           (subst (λ hd. Falls (call settings t names m' r next (λ m. settle settings t names next m) hd (m'.chunk r.object)).client 0 (in_block (n - 1) m')) (sym none)
           (subst (λ ck. Falls (call settings t names m' r next (λ m. settle settings t names next m) None ck).client 0 (in_block (n - 1) m')) (sym has)
           (call_open m' r next [] (n - 1) has needs.0.1 needs.1 (settle_falls next))))
-      need_falls (runs (Sync k next)) n needs e =
-          absurd (clears_not_need settings k (m.held k) (m.chunk k) parcels.Sync h e)
+      need_falls (runs (Sync k next)) n needs e = search (rules, clears_not_need)
       need_falls (full k rest) n needs e = absurd (full_not_need settings k (m.chunk k) h e)
       need_falls (leaves k hs l) n needs e = absurd (clears_not_need settings k (m.held k) (m.chunk k) parcels.End h e)
       need_falls _ n needs e = absurd (cc)

@@ -2,34 +2,18 @@
 -- ticket before it. So enough rounds finish, as for every machine that is never stuck and makes few steps (`Rounds` of
 -- `qs_plain_laws`).
 use Rattle.std.proofs.Common.{◌≡◌, ◌<◌, ◌∙◌, ◌&&◌, ℕ, Bool, true, false, true≢false, nat_eq, nat_lt, List, [], ◌∷◌, None, Ok, length, refl, sym, ap, arith, rules}
-use Rattle.std.specs.List.{range_with_len}
-use Rattle.qs_objects.specs.declared.held.Ticket.{Ticket}
-use Rattle.qs_objects.proofs.Choices.{and_cases}
-use Rattle.qs_program.specs.audit.Program.{ProgramShape, blocks_of}
-use Rattle.qs_program.specs.Sound.{IsSound}
-use Rattle.qs_syncset.specs.declared.mode.Mode.{Mode}
-use Rattle.qs_syncset.specs.audit.Codes.{ClientCode, AreCodes, blocks_in}
-use Rattle.qs_handler.specs.audit.Handler.{Handler, free, serves, spares, gives, away, closed, is_free}
-use Rattle.qs_handler.specs.audit.Handler as handlers
-use Rattle.qs_client.specs.audit.ClientModel.{is_between}
-use Rattle.qs_client.specs.audit.rules.Client.{ClientStage, act_of}
-use Rattle.qs_client.specs.declared.rules.act.Act.{Act}
-use Rattle.qs_client.specs.declared.rules.act.Act.TheVariants.{Finished}
-use Rattle.qs_played.specs.audit.Played.{Played}
-use Rattle.qs_played.specs.audit.Schedule.{most_rounds}
+use Rattle.qs_played.proofs.Names.{range_with_len, Ticket, and_cases, ProgramShape, blocks_of, IsSound, Played, most_rounds}
 use Rattle.qs_played.specs.declared.schedule.actor.Actor.{Actor}
+use Rattle.qs_core_laws.proofs.Names.{Mode, ClientCode, AreCodes, blocks_in, Handler, free, serves, spares, gives, away, closed, is_free, is_between, ClientStage, act_of, Act, Finished, Core, client_step, core_begin, core_step, handler_step, settings_of, takes_ticket, CoreStands, all_of, core_plays, is_done, is_finished, is_idle, most_core_steps_of}
+use Rattle.qs_handler.specs.audit.Handler as handlers
 use Rattle.qs_played.specs.declared.schedule.actor.Actor.TheVariants as actor
 use Rattle.qs_plain_laws.proofs.progress.Rounds.{enough_rounds}
 use Rattle.qs_core_laws.proofs.protocol.ActObjects.{between_acts}
-use Rattle.qs_core_laws.specs.audit.Core.{Core, client_step, core_begin, core_step, handler_step, settings_of, takes_ticket}
-use Rattle.qs_core_laws.specs.CoreReached.{CoreStands}
-use Rattle.qs_core_laws.specs.audit.CoreSchedule.{all_of, core_plays, is_done, is_finished, is_idle}
 use Rattle.qs_core_laws.specs.CoreSchedule.{IsPlayedIn, core_scheduled}
 use Rattle.qs_core_laws.proofs.protocol.ProgramTrees.{blocks_are}
 use Rattle.qs_core_laws.proofs.CoreIsolating.{all_of_at}
 use Rattle.qs_core_laws.proofs.CoreReached.{reached_keeps}
 use Rattle.qs_core_laws.specs.progress.CoreFinishing.{CoreEnoughRoundsFinish, CoreFinishedRunsStay}
-use Rattle.qs_core_laws.specs.progress.CoreSteps.{most_core_steps_of}
 use Rattle.qs_core_laws.proofs.progress.Bounded.{core_steps_bounded}
 use Rattle.qs_core_laws.proofs.progress.SmallBounds.{core_bounds_small}
 use Rattle.qs_core_laws.proofs.progress.Stuck.{core_runs_never_stuck, stands_of}
@@ -63,13 +47,10 @@ module _ (p : ProgramShape) (sound : IsSound p) (mode : Mode) (code : ℕ → Cl
 
     free_none : (h : ℕ) (v : Handler) → s.handler h ≡ v → is_free v ≡ true → s.tickets h ≡ []
         → core_step code size s (actor.Handler h) ≡ None
-    free_none h (free x) is whole none =
-        ap (λ v. handler_step code size s h (handlers.act_of v)) is ∙ ap (takes_ticket code size s h) none
-    free_none h _ is never none = absurd (true≢false (sym never))
+    free_none h v is whole none = search (rules, true≢false)
 
     handler_none : (h : ℕ) (b : Bool) → nat_lt h (length p.objects) ≡ b → core_step code size s (actor.Handler h) ≡ None
-    handler_none h false out =
-        free_none h _ (st.others.handler h (grind (arith, out))) refl (st.others.tickets h (grind (arith, out)))
+    handler_none h false out = grind (arith, free_none, st)
     handler_none h true less =
         let idle = all_of_at (is_idle p s) 0 (length p.objects) h both.1 (omega arith) (let l : h < length p.objects = grind (arith, less) in omega (arith, l)) in
         let parts = and_cases (is_free (s.handler h) && nat_eq (length (s.tickets h)) 0) (all_of (λ c. nat_eq (length (s.down c h)) 0) (range_with_len 0 (length p.clients))) idle in
@@ -77,8 +58,7 @@ module _ (p : ProgramShape) (sound : IsSound p) (mode : Mode) (code : ℕ → Cl
         free_none h (s.handler h) refl first.0 (no_tickets (s.tickets h) first.1)
 
     nobody_steps : (a : Actor) → core_step code size s a ≡ None
-    nobody_steps (actor.Client c) = client_none c (nat_lt c (length p.clients)) refl
-    nobody_steps (actor.Handler h) = handler_none h (nat_lt h (length p.objects)) refl
+    nobody_steps v = search (rules, client_none, handler_none)
 
 pub core_finished_stay : CoreFinishedRunsStay
 core_finished_stay p sound mode code codes size actors finished a =

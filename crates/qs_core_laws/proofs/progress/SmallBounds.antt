@@ -1,11 +1,7 @@
 -- The steps of a checked program's blocks in the optimised machine are few: its load is limited, it has few blocks, and
 -- a list names few objects.
 use Rattle.std.proofs.Common.{◌≤◌, ◌+◌, ◌*◌, List, [], ◌∷◌, length, sum_by, arith, rules}
-use Rattle.std.proofs.lemmas.List.Sums.{sum_by-cons}
-use Rattle.std.specs.List.{AllByRecursion}
-use Rattle.qs_program.specs.declared.program.Declared.{Declared}
-use Rattle.qs_program.specs.audit.Program.{BlockShape, ClientShape, block_load}
-use Rattle.qs_program.specs.Sound.{IsSoundBlock, IsSoundClient}
+use Rattle.qs_played.proofs.Names.{sum_by-cons, AllByRecursion, Declared, BlockShape, ClientShape, block_load, IsSoundBlock, IsSoundClient}
 use Rattle.qs_plain_laws.proofs.progress.SmallBounds.{list_few}
 use Rattle.qs_core_laws.specs.progress.CoreSteps.{CoreBoundsAreSmall, core_steps_of_block}
 
@@ -21,12 +17,7 @@ module _ (objects : List Declared) (few : length objects ≤ 8) where
   clients_few : (cs : List ClientShape) → AllByRecursion (IsSoundClient objects) cs
       → sum_by (λ (c : ClientShape). sum_by core_steps_of_block c.blocks) cs ≤ 6 * sum_by (λ (c : ClientShape). sum_by block_load c.blocks) cs + 1600 * length cs
   clients_few [] each = omega arith
-  clients_few (c ∷ cs) each =
-      let one = blocks_few c.blocks each.0.each in
-      let most = each.0.blocks in
-      let others = clients_few cs each.1 in
-      rw (sum_by-cons (λ (c : ClientShape). sum_by core_steps_of_block c.blocks) c cs, sum_by-cons (λ (c : ClientShape). sum_by block_load c.blocks) c cs)
-      (omega (arith, one, most, others))
+  clients_few (c ∷ cs) each = search (rules, blocks_few, sum_by-cons, clients_few cs each.1)
 
 pub core_bounds_small : CoreBoundsAreSmall
 core_bounds_small p sound = search (rules, clients_few)

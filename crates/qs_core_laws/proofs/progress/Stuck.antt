@@ -4,38 +4,15 @@
 -- the client has not sent its end, and is in this block. Whatever it does next there is at a handler where it has not
 -- sent its end either, so the ticket is first there too: that handler has a step, or the lane to it is empty, and then
 -- the client has one. With no ticket left nothing lies anywhere, so a client with a block left has a step.
-use Rattle.std.proofs.Common.{◌≡◌, ◌<◌, ◌≤◌, ◌∙◌, ◌==◌, ◌⊎◌, ◌+◌, append-nil, inl, inr, ⊎_elim, ℕ, zero, suc, Bool, true, false, if◌then◌else◌, nat_lt, nat_eq, List, [], ◌∷◌, ◌++◌, Option, Some, None, IsSome, IsTrue, filter, flat_map, length, refl, sym, ap, subst, arith}
-use Rattle.std.proofs.lemmas.Bool.{lt-ltb}
-use Rattle.std.specs.List.{AllByRecursion, range_with_len}
-use Rattle.qs_objects.specs.audit.Journals.{HeldState}
-use Rattle.qs_objects.specs.audit.Parts.{part}
-use Rattle.qs_objects.specs.declared.held.Ticket.{Ticket}
+use Rattle.std.proofs.Common.{◌≡◌, ◌<◌, ◌≤◌, ◌∙◌, ◌==◌, ◌⊎◌, ◌+◌, append-nil, inl, inr, ⊎_elim, ℕ, zero, suc, Bool, true, false, if◌then◌else◌, nat_lt, nat_eq, List, [], ◌∷◌, ◌++◌, Option, Some, None, IsSome, IsTrue, filter, flat_map, length, refl, sym, ap, subst, arith, rules}
+use Rattle.qs_played.proofs.Names.{lt-ltb, AllByRecursion, range_with_len, HeldState, part, Ticket, apart_eqb, eqb_self, num_cases, ProgramShape, blocks_of, IsSound, Locals, reserves, Among, ticket}
 use Rattle.qs_objects.specs.declared.held.Next.TheVariants as nexts
-use Rattle.qs_objects.proofs.Choices.{apart_eqb, eqb_self, num_cases}
-use Rattle.qs_program.specs.audit.Program.{ProgramShape, blocks_of}
-use Rattle.qs_program.specs.Sound.{IsSound}
-use Rattle.qs_program.specs.audit.Values.{Locals}
-use Rattle.qs_meaning.specs.audit.Following.{reserves}
-use Rattle.qs_meaning.proofs.Histories.{Among}
-use Rattle.qs_syncset.specs.declared.mode.Mode.{Mode}
-use Rattle.qs_syncset.specs.audit.Codes.{ClientCode, AreCodes, blocks_in}
-use Rattle.qs_chunk.specs.LaneViews.{asks, gone, ClientLane, HandlerLane}
+use Rattle.qs_core_laws.proofs.Names.{Mode, ClientCode, AreCodes, blocks_in, asks, gone, ClientLane, HandlerLane, may_stand, lane_room, spare_room, Parcel, Handler, free, serves, spares, gives, away, closed, accept_next, accept_parcel, is_free, is_away, serving, Client, ClientStage, Settings, between, awaits, leaves, act_at, act_of, Act, Reserve, Send, Await, NeedChunk, Finished, each_among, legal_among, reserved_inside, Core, after_handler, client_step, core_begin, handler_step, settings_of, takes_chunk, takes_parcel, takes_ticket, with_down, with_tickets, all_of, core_plays, is_done, is_finished, is_idle, before_it}
 use Rattle.qs_chunk.specs.LaneViews as views
-use Rattle.qs_chunk.specs.Lanes.{may_stand}
-use Rattle.qs_chunk.specs.audit.Limits.{lane_room, spare_room}
-use Rattle.qs_chunk.specs.declared.parcel.Parcel.{Parcel}
 use Rattle.qs_chunk.specs.declared.parcel.Parcel.TheVariants as parcels
-use Rattle.qs_handler.specs.audit.Handler.{Handler, free, serves, spares, gives, away, closed, accept_next, accept_parcel, is_free}
-use Rattle.qs_handler.specs.Handler.{is_away, serving}
 use Rattle.qs_handler.specs.audit.Handler as handlers
 use Rattle.qs_handler.specs.declared.mind.Act.TheVariants as acts
-use Rattle.qs_client.specs.audit.rules.Client.{Client, ClientStage, Settings, between, awaits, leaves, act_at, act_of}
-use Rattle.qs_client.specs.declared.rules.act.Act.{Act}
-use Rattle.qs_client.specs.declared.rules.act.Act.TheVariants.{Reserve, Send, Await, NeedChunk, Finished}
-use Rattle.qs_played.specs.audit.Played.{ticket}
 use Rattle.qs_played.specs.declared.schedule.actor.Actor.TheVariants as actor
-use Rattle.qs_played.proofs.Orders.{each_among, legal_among}
-use Rattle.qs_played.proofs.ReservedObjects.{reserved_inside}
 use Rattle.qs_plain_laws.proofs.progress.FirstLeft.{IsFirstLeft, all_over, goes_or_none}
 use Rattle.qs_core_laws.proofs.protocol.ActKinds.{clears_not_need, in_hand_gone, outside_not_need}
 use Rattle.qs_core_laws.proofs.protocol.ActObjects.{await_at, between_acts, need_at, reserve_at, send_at}
@@ -43,10 +20,7 @@ use Rattle.qs_core_laws.proofs.protocol.ClientInvariants.{PlaceOk, standing_at}
 use Rattle.qs_core_laws.proofs.protocol.FullChunks.{finished_at}
 use Rattle.qs_core_laws.proofs.protocol.LaneWays.{gone_over}
 use Rattle.qs_core_laws.proofs.protocol.ObjectViews.{HandlerLog, as_list, ahead, stance}
-use Rattle.qs_core_laws.specs.audit.Core.{Core, after_handler, client_step, core_begin, handler_step, settings_of, takes_chunk, takes_parcel, takes_ticket, with_down, with_tickets}
 use Rattle.qs_core_laws.specs.CoreReached.{CoreStands, ReachedCore}
-use Rattle.qs_core_laws.specs.audit.CoreSchedule.{all_of, core_plays, is_done, is_finished, is_idle}
-use Rattle.qs_core_laws.specs.CoreSchedule.{before_it}
 use Rattle.qs_core_laws.specs.audit.Core as core
 use Rattle.qs_core_laws.proofs.CommandsInTransit.{past_left}
 use Rattle.qs_core_laws.proofs.CoreBounds.{run_both}
@@ -84,38 +58,28 @@ all_pass is (n ∷ ns) each = rw (each n) (all_pass is ns each)
 
 serves_takes : (t : Ticket) (x : HeldState) (p : Parcel) → IsTrue (may_stand false p)
     → IsSome (accept_parcel (serves t x) p)
-serves_takes t x (parcels.Home z) stands = absurd (cc (stands))
-serves_takes t x _ stands = refl
+serves_takes t x v stands = search rules
 
 away_takes : (t : Ticket) (p : Parcel) → IsTrue (may_stand true p) → IsSome (accept_parcel (away t) p)
-away_takes t (parcels.Home z) stands = refl
-away_takes t _ stands = absurd (cc (stands))
+away_takes t v stands = search rules
 
 -- a handler that waits for a parcel of the ticket that it serves
 abbrev WaitsFor : Ticket → Handler → Type 0
 WaitsFor t v = ((x : HeldState) × (v ≡ serves t x)) ⊎ (v ≡ away t)
 
 waits_serves : (t : Ticket) (v : Handler) → WaitsFor t v → serving v ≡ t ∷ []
-waits_serves t v (inl w) = ap serving w.1
-waits_serves t v (inr w) = ap serving w
+waits_serves t v u = search rules
 
 waits_not_over : (t : Ticket) (v : Handler) (lent z : HeldState) → WaitsFor t v → stance v lent ≡ views.over z → ⊥
-waits_not_over t v lent z (inl w) e =
-    let is : views.serves w.0 ≡ views.over z = sym (ap (λ v. stance v lent) w.1) ∙ e in cc
-waits_not_over t v lent z (inr w) e =
-    let is : views.lent lent ≡ views.over z = sym (ap (λ v. stance v lent) w) ∙ e in cc
+waits_not_over t v lent z u e = search (rules, views.serves, views.over, stance, views.lent)
 
 waits_gives_none : (t : Ticket) (v : Handler) (c : ℕ) → WaitsFor t v → to_give_back v c ≡ 0
-waits_gives_none t v c (inl w) = ap (λ v. to_give_back v c) w.1
-waits_gives_none t v c (inr w) = ap (λ v. to_give_back v c) w
+waits_gives_none t v c u = search rules
 
 -- who needs a chunk has not left
 need_stays : (p : ProgramShape) (t : Ticket) (settings : Settings) (n : ℕ) (m : Client) (pl : ClientStage) (h : ℕ)
     → act_at settings n m pl ≡ NeedChunk h → standing_at p t m pl h ≡ gone → ⊥
-need_stays p t settings n m (between l) h e left = outside_not_need (nat_lt m.begun n) h e
-need_stays p t settings n m (awaits k rest) h e left = cc
-need_stays p t settings n m (leaves k hs l) h e left = clears_not_need settings k (m.held k) (m.chunk k) parcels.End h e
-need_stays p t settings n m _ h e left = in_hand_gone (m.held h) (m.chunk h) left
+need_stays p t settings n m v h e left = search (rules, outside_not_need, clears_not_need, in_hand_gone)
 
 module _ (p : ProgramShape) (sound : IsSound p) (mode : Mode) (code : ℕ → ClientCode) (codes : AreCodes p mode code) (size : ℕ)
     (s : Core) (y : LaneHistory) (g : ℕ → HandlerLog) (k : CoreInvariant p s y g) (st : CoreStands p code size s) (four : FourChunks s) (fulls : AllFull s.client) where
@@ -138,8 +102,7 @@ module _ (p : ProgramShape) (sound : IsSound p) (mode : Mode) (code : ℕ → Cl
       (actor.Client c, lt-ltb c (length p.clients) less, subst (λ act. IsSome (client_step code size s c act)) (sym e) some)
 
   some_after : (a : Core) (h : ℕ) (o : Option Handler) → IsSome o → IsSome (after_handler code size a h o)
-  some_after a h None some = absurd (cc)
-  some_after a h (Some v) some = refl
+  some_after a h w some = search rules
 
   -- both ends of the lane of the ticket that a handler serves
   record Meets (h : ℕ) (t : Ticket) : Type 0 where
@@ -178,43 +141,12 @@ module _ (p : ProgramShape) (sound : IsSound p) (mode : Mode) (code : ℕ → Cl
       → handlers.act_of (s.handler h) ≡ acts.TakeParcel t.client
       → ((parcel : Parcel) → IsTrue (may_stand (is_away (s.handler h)) parcel) → IsSome (accept_parcel (s.handler h) parcel))
       → (ps : List Parcel) → s.down t.client h ≡ ps → Goes ⊎ Waits h t
-  by_lane t h mine waits act accepts [] lies = inr (lies, waits)
-  by_lane t h mine waits act accepts (parcel ∷ ps) lies =
-      let taken : takes h t.client (parcel ∷ ps) =
-      some_after (with_down code size s t.client h ps) h (accept_parcel (s.handler h) parcel) (accepts parcel (st.next t.client h parcel ps act lies)) in
-      inl (handler_goes t h mine (subst (λ act. IsSome (handler_step code size s h act)) (sym act) (subst (takes h t.client) (sym lies) taken)))
+  by_lane t h mine waits act accepts v lies = search (rules, takes, some_after, st, handler_goes)
 
   -- the first at a handler: the handler has a step, or waits for its client
   by_handler : (t : Ticket) (us : List Ticket) (h : ℕ) → reserves p t h ≡ true → (v : Handler) → s.handler h ≡ v
       → serving v ++ s.tickets h ≡ t ∷ us → Goes ⊎ Waits h t
-  by_handler t us h mine (free x) is first =
-      let taken : IsSome (takes_ticket code size s h (t ∷ us)) = subst (λ v. IsSome (after_handler code size (with_tickets code size s h us) h (accept_next v (nexts.Ticket t)))) (sym is) refl in
-      inl (handler_goes t h mine (subst (λ v. IsSome (handler_step code size s h (handlers.act_of v))) (sym is) (subst (λ ts. IsSome (takes_ticket code size s h ts)) (sym first) taken)))
-  by_handler t us h mine (serves u x) is first =
-      let same : u ≡ t = cc in
-      let here : s.handler h ≡ serves t x = is ∙ ap (λ u. serves u x) same in
-      by_lane t h mine (inl (x, here)) (ap handlers.act_of here)
-      (λ parcel may. subst (λ v. IsSome (accept_parcel v parcel)) (sym here) (serves_takes t x parcel (subst (λ v. IsTrue (may_stand (is_away v) parcel)) here may)))
-      (s.down t.client h) refl
-  by_handler t us h mine (away u) is first =
-      let same : u ≡ t = cc in
-      let here : s.handler h ≡ away t = is ∙ ap away same in
-      by_lane t h mine (inr here) (ap handlers.act_of here)
-      (λ parcel may. subst (λ v. IsSome (accept_parcel v parcel)) (sym here) (away_takes t parcel (subst (λ v. IsTrue (may_stand (is_away v) parcel)) here may)))
-      (s.down t.client h) refl
-  by_handler t us h mine (spares u x n) is first =
-      let room : nat_lt (s.spare u.client h) spare_room ≡ true =
-      (let all = four u.client h in
-      let own : to_give_back (s.handler h) u.client ≡ 1 = ap (λ v. to_give_back v u.client) is ∙ ap (λ b. if b then 1 else 0) (eqb_self u.client) in
-      lt-ltb (s.spare u.client h) spare_room (omega (arith, all, own))) in
-      inl (handler_goes t h mine (subst (λ v. IsSome (handler_step code size s h (handlers.act_of v))) (sym is) (rw room refl)))
-  by_handler t us h mine (gives u x) is first =
-      let m = meets h u (ap serving is) in
-      let gave = subst (λ v. HandlerLane u false (g h).found ((g h).received u) ((g h).gave u) (stance v (g h).lent)) is m.handler in
-      let none : s.up u.client h ≡ None =
-      list_none (s.up u.client h) (gives_up u (g h).found x ((g h).received u) ((g h).way u) (y.got u h) ((g h).gave u) (as_list (s.up u.client h)) (part h (y.block_record u).trace) (y.stands u h) m.client gave m.gots) in
-      inl (handler_goes t h mine (subst (λ v. IsSome (handler_step code size s h (handlers.act_of v))) (sym is) (subst (λ o. IsSome (core.gives code size s h u.client x o)) (sym none) refl)))
-  by_handler t us h mine (closed x) is first = absurd ((k.objects h).opened x is)
+  by_handler t us h mine v is first = grind (arith, handler_goes, by_lane, serves_takes, away_takes, eqb_self, lt-ltb, meets, stance, list_none, gives_up, core.gives, k, opened)
 
   first_goes : (t : Ticket) (us : List Ticket) (h : ℕ) → reserves p t h ≡ true → before_it s h ≡ t ∷ us
       → Goes ⊎ Waits h t
@@ -223,10 +155,7 @@ module _ (p : ProgramShape) (sound : IsSound p) (mode : Mode) (code : ℕ → Cl
   -- the client for which a handler waits has not sent its end
   taken_all : (h : ℕ) (t : Ticket) → Waits h t
       → ClientLane t false ((g h).received t) (y.got t h) (part h (y.block_record t).trace) (y.stands t h)
-  taken_all h t w =
-      let m = meets h t (waits_serves t (s.handler h) w.1) in
-      let none : (g h).way t ≡ [] = front_none ((g h).way t) (flat_map (g h).way (filter (λ (u : Ticket). u.client == t.client) (s.tickets h))) (sym m.down ∙ w.0) in
-      subst (λ ps. ClientLane t false ps (y.got t h) (part h (y.block_record t).trace) (y.stands t h)) (ap (λ way. (g h).received t ++ way) none ∙ append-nil ((g h).received t)) m.client
+  taken_all h t w = search (rules, meets, waits_serves, front_none, filter, append-nil)
 
   waits_stays : (h : ℕ) (t : Ticket) → Waits h t → y.stands t h ≡ gone → ⊥
   waits_stays h t w left =
@@ -238,18 +167,10 @@ module _ (p : ProgramShape) (sound : IsSound p) (mode : Mode) (code : ℕ → Cl
   -- so it is in this block
   waits_in_block : (h : ℕ) (t : Ticket) → Among t s.order → reserves p t h ≡ true → Waits h t
       → (s.client t.client).begun ≡ suc t.index
-  waits_in_block h t among mine w =
-      let low : suc t.index ≤ (s.client t.client).begun = each_among (λ (t : Ticket). suc t.index ≤ (s.client t.client).begun) t s.order k.below among in
-      ⊎_elim
-      (λ (is : (s.client t.client).begun ≡ suc t.index). is)
-      (λ (other : ((s.client t.client).begun == suc t.index) ≡ false).
-      let ne = apart_eqb (s.client t.client).begun (suc t.index) other in
-      absurd (waits_stays h t w (k.older t.client t.index (omega (arith, ne, low)) h mine)))
-      (num_cases (s.client t.client).begun (suc t.index))
+  waits_in_block h t among mine w = grind (arith, each_among, k, apart_eqb, waits_stays, num_cases)
 
   is_client : (t : Ticket) → Among t s.order → t.client < length p.clients
-  is_client t among =
-      (each_among (λ (t : Ticket). (t.client < length p.clients) × (t.index < (s.client t.client).begun)) t s.order st.tickets.order among).0
+  is_client t among = search (rules, each_among, st)
 
   -- where a client's object is that it waits for
   asked : (h : ℕ) (t : Ticket) → Waits h t → y.stands t h ≡ asks → (x : HeldState) × (s.up t.client h ≡ Some x)
@@ -368,8 +289,7 @@ module _ (p : ProgramShape) (sound : IsSound p) (mode : Mode) (code : ℕ → Cl
         ]
 
     here_goes : (h : ℕ) (us : List Ticket) → reserves p t h ≡ true → before_it s h ≡ t ∷ us → Goes
-    here_goes h us mine first =
-        elim (first_goes t us h mine first) [ inl goes ↦ goes | inr waits ↦ waits_goes h mine waits ]
+    here_goes h us mine first = search (rules, first_goes, waits_goes)
 
   -- where no ticket is left at an object, those that reserve it have left it
   served_all : (h : ℕ) (t : Ticket) → before_it s h ≡ [] → Among t s.order → reserves p t h ≡ true → y.stands t h ≡ gone
@@ -380,10 +300,7 @@ module _ (p : ProgramShape) (sound : IsSound p) (mode : Mode) (code : ℕ → Cl
   -- then all is done, or a client has a step
   module _ (none : (h : ℕ) → before_it s h ≡ []) where
     no_due : (c n : ℕ) → (s.client c).begun ≡ suc n → Due c (ticket c n) → ⊥
-    no_due c n begun d =
-        let many = k.counts c in
-        let among = legal_among p (λ _. 0) s.order c n k.legal (omega arith) (omega (arith, begun, many)) in
-        d.stays (served_all d.object (ticket c n) (none d.object) among d.mine)
+    no_due c n begun d = grind (arith, k, legal_among, served_all)
 
     is_out : (c n : ℕ) → (s.client c).begun ≡ n → (l : Locals) × ((s.client c).stage ≡ between l)
     is_out c zero begun = (_, (k.idle c begun).0)
@@ -407,21 +324,13 @@ module _ (p : ProgramShape) (sound : IsSound p) (mode : Mode) (code : ℕ → Cl
 
     rests : (h : ℕ) (v : Handler) → s.handler h ≡ v → serving v ++ s.tickets h ≡ []
         → (is_free (s.handler h) ≡ true) × (s.tickets h ≡ [])
-    rests h (free x) is e = (ap is_free is, e)
-    rests h (closed x) is e = absurd ((k.objects h).opened x is)
-    rests h _ is e = absurd (cc)
+    rests h v is e = search (rules, k, opened)
 
     lane_empty : (h c : ℕ) → s.down c h ≡ []
-    lane_empty h c =
-        (k.objects h).down c ∙ ap (λ q. flat_map (g h).way (filter (λ (t : Ticket). t.client == c) q)) (none h)
+    lane_empty h c = search (rules, k, filter)
 
     idle : (h : ℕ) → is_idle p s h ≡ true
-    idle h =
-        let r = rests h (s.handler h) refl (none h) in
-        let queue : nat_eq (length (s.tickets h)) 0 ≡ true = ap (λ ts. nat_eq (length ts) 0) r.1 in
-        let lanes : all_of (λ c. nat_eq (length (s.down c h)) 0) (range_with_len 0 (length p.clients)) ≡ true =
-        all_pass (λ c. nat_eq (length (s.down c h)) 0) (range_with_len 0 (length p.clients)) (λ c. ap (λ ps. nat_eq (length ps) 0) (lane_empty h c)) in
-        rw (r.0, queue, lanes) refl
+    idle h = search (rules, rests, all_pass, lane_empty)
 
     last_case : (is_finished p s ≡ true) ⊎ Goes
     last_case =

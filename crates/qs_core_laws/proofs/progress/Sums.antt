@@ -1,7 +1,6 @@
 -- Sums of what stands at numbers, over a list and below a number, and how they change with one of them.
 use Rattle.std.proofs.Common.{◌≡◌, ◌<◌, ◌≤◌, ◌∙◌, ◌+◌, ◌==◌, ◌||◌, ℕ, zero, suc, Bool, true, false, true≢false, if◌then◌else◌, List, [], ◌∷◌, length, refl, sym, ap, subst, ⊎_elim, arith, rules}
-use Rattle.qs_objects.proofs.Choices.{apart_eqb, eqb_self, num_cases}
-use Rattle.qs_program.specs.audit.Sound.{is_in}
+use Rattle.qs_played.proofs.Names.{apart_eqb, eqb_self, num_cases, is_in}
 use Rattle.qs_core_laws.proofs.protocol.ClientInvariants.{Lined}
 
 abbrev pub total : (ℕ → ℕ) → List ℕ → ℕ
@@ -17,8 +16,7 @@ abbrev pub SameApart : ℕ → (ℕ → ℕ) → (ℕ → ℕ) → Type 0
 SameApart k f g = (i : ℕ) → (k == i) ≡ false → g i ≡ f i
 
 pub total_same : (f g : ℕ → ℕ) (hs : List ℕ) → ((i : ℕ) → g i ≡ f i) → total g hs ≡ total f hs
-total_same f g [] same = refl
-total_same f g (h ∷ hs) same = let one = same h in let others = total_same f g hs same in omega (arith, one, others)
+total_same f g v same = grind arith
 
 total_apart : (f g : ℕ → ℕ) (k : ℕ) (hs : List ℕ) → SameApart k f g → is_in hs k ≡ false → total g hs ≡ total f hs
 total_apart f g k [] same out = refl
@@ -29,8 +27,7 @@ total_apart f g k (h ∷ hs) same out =
     (num_cases k h)
   where
     tail : (b : Bool) → (b || is_in hs k) ≡ false → is_in hs k ≡ false
-    tail true e = absurd (true≢false e)
-    tail false e = e
+    tail v e = search (rules, true≢false)
 
 pub total_changed : (may : ℕ → Bool) (f g : ℕ → ℕ) (k : ℕ) (hs : List ℕ) → Lined may hs → SameApart k f g
     → is_in hs k ≡ true → total g hs + f k ≡ total f hs + g k
@@ -51,23 +48,14 @@ total_changed may f g k (h ∷ hs) lined same e =
     other_way h other t = let ne = apart_eqb k h other in let is : h ≡ k = grind (arith, t) in ne (sym is)
 
     tail : (b : Bool) → (b ≡ true → ⊥) → (b || is_in hs k) ≡ true → is_in hs k ≡ true
-    tail true never e = absurd (never refl)
-    tail false never e = e
+    tail v never e = search rules
 
 pub below_same : (f g : ℕ → ℕ) (n : ℕ) → ((i : ℕ) → g i ≡ f i) → below g n ≡ below f n
-below_same f g zero same = refl
-below_same f g (suc n) same = let one = same n in let others = below_same f g n same in omega (arith, one, others)
+below_same f g v same = grind arith
 
 below_apart : (f g : ℕ → ℕ) (k n : ℕ) → SameApart k f g → n ≤ k → below g n ≡ below f n
 below_apart f g k zero same low = refl
-below_apart f g k (suc n) same low =
-    let others = below_apart f g k n same (omega (arith, low)) in
-    let one : g n ≡ f n = same n (not_same (k == n) refl) in
-    omega (arith, one, others)
-  where
-    not_same : (b : Bool) → (k == n) ≡ b → (k == n) ≡ false
-    not_same true e = absurd (let is : k ≡ n = grind (arith, e) in omega (arith, is, low))
-    not_same false e = e
+below_apart f g k (suc n) same low = grind (arith, below_apart f g k n same (omega (arith, low)))
 
 pub below_changed : (f g : ℕ → ℕ) (k n : ℕ) → k < n → SameApart k f g → below g n + f k ≡ below f n + g k
 below_changed f g k zero less same = absurd (omega (arith, less))
@@ -111,8 +99,7 @@ below_listed (h ∷ hs) n =
         let ih = none_yet n (omega (arith, low)) in let one : one_if (h == n) ≡ 0 = apart (h == n) refl in omega (arith, ih, one)
       where
         apart : (b : Bool) → (h == n) ≡ b → one_if (b) ≡ 0
-        apart true e = absurd (let is : h ≡ n = grind (arith, e) in omega (arith, is, low))
-        apart false e = refl
+        apart v e = grind arith
 
     once : (n : ℕ) → below (λ i. one_if (h == i)) n ≤ 1
     once zero = omega arith
@@ -123,5 +110,4 @@ below_listed (h ∷ hs) n =
         (num_cases h n)
       where
         few : (b : Bool) → one_if (b) ≤ 1
-        few true = omega arith
-        few false = omega arith
+        few v = grind arith

@@ -2,32 +2,17 @@
 -- between blocks does it reserve; and nothing that it does to its own values begins a block. The proofs on steps of the
 -- machine and of threads need this. They go by cases on where the client stands (`PlaceOk`), and for its quiet moves by
 -- induction on its block's tree.
-use Rattle.std.proofs.Common.{◌≡◌, ℕ, nat_lt, Bool, true, false, if◌then◌else◌, ◌&&◌, is_some, List, [], ◌∷◌, refl, sym, ap, ◌∙◌, subst, Option, Some, None, ℤ, rules}
-use Rattle.qs_objects.specs.audit.Journals.{HeldState, run_one}
-use Rattle.qs_objects.specs.declared.held.Ticket.{Ticket}
-use Rattle.qs_objects.specs.declared.Request.{Request}
-use Rattle.qs_objects.proofs.Choices.{eqb_self}
-use Rattle.qs_meaning.specs.audit.Following.{reserves}
-use Rattle.qs_meaning.specs.Following.{AsksOnly}
-use Rattle.qs_program.specs.audit.Program.{ProgramShape}
-use Rattle.qs_meaning.specs.audit.Solo.{put, value_of}
-use Rattle.qs_program.specs.audit.Sound.{is_in}
-use Rattle.qs_program.specs.audit.Values.{Locals}
-use Rattle.qs_meaning.specs.BlockRecords.{BlockRecord}
+use Rattle.std.proofs.Common.{◌≡◌, ℕ, nat_lt, Bool, true, false, if◌then◌else◌, ◌&&◌, is_some, List, [], ◌∷◌, refl, sym, ap, ◌∙◌, subst, Option, Some, None, ℤ, rules, arith}
+use Rattle.qs_played.proofs.Names.{HeldState, run_one, Ticket, Request, eqb_self, reserves, AsksOnly, ProgramShape, put, value_of, is_in, Locals, BlockRecord}
 use Rattle.qs_graph.specs.audit.Synced.{Synced, Done, Call, Sync, Query}
-use Rattle.qs_chunk.specs.LaneViews.{asks, gone}
-use Rattle.qs_chunk.specs.declared.parcel.Parcel.{Parcel}
+use Rattle.qs_core_laws.proofs.Names.{asks, gone, Parcel, Reserve, Send, Await, NeedChunk, Finished, Client, ClientStage, Settings, between, runs, full, awaits, leaves, stop_at, act_at, act_of, end_block, call, query, settle, after_home, after_work, after_sync, after_end, after_parcel, take_chunk, apart_from}
 use Rattle.qs_chunk.specs.declared.parcel.Parcel.TheVariants as parcels
-use Rattle.qs_client.specs.declared.rules.act.Act.TheVariants.{Reserve, Send, Await, NeedChunk, Finished}
-use Rattle.qs_client.specs.audit.rules.Client.{Client, ClientStage, Settings, between, runs, full, awaits, leaves, stop_at, act_at, act_of, end_block, call, query, settle, after_home, after_work, after_sync, after_end, after_parcel, take_chunk}
 use Rattle.qs_client.specs.audit.rules.Client as clients
 use Rattle.qs_core_laws.proofs.protocol.ClientInvariants.{in_hand, PlaceOk, standing_at}
-use Rattle.qs_core_laws.specs.protocol.ClientHistories.{apart_from}
 use Rattle.qs_core_laws.proofs.protocol.ActKinds.{outside_not_send, outside_not_await, outside_not_need, call_object, clears_object, full_object, need_object, call_not_await, clears_not_await, full_not_await, clears_not_need, full_not_need, call_not_reserve, clears_not_reserve, full_not_reserve, in_hand_gone}
 
 or_true : (b : Bool) → (b ≡ false → ⊥) → b ≡ true
-or_true true n = refl
-or_true false n = absurd (n refl)
+or_true v n = search rules
 
 pub between_acts : (settings : Settings) (blocks : ℕ) (m : Client) (l : Locals) → m.stage ≡ between l → act_of settings blocks m ≡ (if nat_lt m.begun blocks then Reserve else Finished)
 between_acts settings blocks m l e = ap (act_at settings blocks m) e
@@ -46,23 +31,11 @@ module _ (program : ProgramShape) (t : Ticket) (snt : ℕ → List Parcel) (got 
   -- what is sent goes to a reserved object that isn't left yet
   pub send_at : (m : Client) (pg : BlockRecord) (pl : ClientStage) → PlaceOk program t snt got m pg pl → (h : ℕ) (parcel : Parcel) → act_at settings blocks m pl ≡ Send h parcel → (reserves program t h ≡ true) × (standing_at program t m pl h ≡ gone → ⊥)
   send_at m pg (between l) k h parcel e = absurd (outside_not_send (nat_lt m.begun blocks) h parcel e)
-  send_at m pg (runs (Call r next)) k h parcel e =
-      let is = call_object settings r.object (m.held r.object) (m.chunk r.object) h parcel e in
-      let fine = subst (AsksOnly (reserves program t)) k.0.rest k.0.block_record.fine in
-      (subst (λ h. reserves program t h ≡ true) is fine.1, in_hand_gone (m.held h) (m.chunk h))
-  send_at m pg (runs (Sync g next)) k h parcel e =
-      let is = clears_object settings g (m.held g) (m.chunk g) parcels.Sync h parcel e in
-      (subst (λ h. reserves program t h ≡ true) is k.0.on.0, in_hand_gone (m.held h) (m.chunk h))
-  send_at m pg (full g code) k h parcel e =
-      let is = full_object settings g (m.chunk g) h parcel e in
-      (subst (λ h. reserves program t h ≡ true) is.0 (or_true (reserves program t g) (λ no. is.1 (k.own g no).1)), in_hand_gone (m.held h) (m.chunk h))
+  send_at m pg (runs (Call r next)) k h parcel e = search (rules, call_object, in_hand_gone)
+  send_at m pg (runs (Sync g next)) k h parcel e = search (rules, clears_object, in_hand_gone)
+  send_at m pg (full g code) k h parcel e = search (rules, full_object, or_true, in_hand_gone)
   send_at m pg (awaits g code) k h parcel e = absurd (cc)
-  send_at m pg (leaves g hs l) k h parcel e =
-      let is = clears_object settings g (m.held g) (m.chunk g) parcels.End h parcel e in (
-        subst (λ h. reserves program t h ≡ true) is k.lined.1,
-        subst (λ h. (if is_in (g ∷ hs) h then in_hand (m.held h) (m.chunk h) else apart_from program t h) ≡ gone → ⊥) is
-            (rw (eqb_self g) (in_hand_gone (m.held g) (m.chunk g))),
-      )
+  send_at m pg (leaves g hs l) k h parcel e = search (rules, clears_object, eqb_self, in_hand_gone)
   send_at m pg (runs _) k h parcel e = absurd k.1
 
   -- what is awaited was asked for
@@ -80,8 +53,7 @@ module _ (program : ProgramShape) (t : Ticket) (snt : ℕ → List Parcel) (got 
 -- what a client does to its own values begins no block
 module _ (settings : Settings) (t : Ticket) (names : List ℕ) where
   leaving_begun : (m : Client) (hs : List ℕ) (l : Locals) → (end_block settings t names m hs l).client.begun ≡ m.begun
-  leaving_begun m [] l = refl
-  leaving_begun m (h ∷ hs) l = refl
+  leaving_begun m v l = search rules
 
   order_begun : (m : Client) (r : Request) (next : Synced) (hd : Option HeldState) (ck : Option (List Request)) → ((m : Client) → (settle settings t names next m).client.begun ≡ m.begun)
       → (call settings t names m r next (λ m. settle settings t names next m) hd ck).client.begun ≡ m.begun
@@ -89,12 +61,10 @@ module _ (settings : Settings) (t : Ticket) (names : List ℕ) where
 
   ask_begun : (m : Client) (r : Request) (next : ℤ → Synced) (hd : Option HeldState) → ((v : ℤ) (m : Client) → (settle settings t names (next v) m).client.begun ≡ m.begun)
       → (query settings t names m r next (λ v m. settle settings t names (next v) m) hd).client.begun ≡ m.begun
-  ask_begun m r next (Some x) ih = ih (value_of (run_one x t r).1) (record m { held = put m.held r.object (Some (run_one x t r).0) })
-  ask_begun m r next None ih = refl
+  ask_begun m r next v ih = search rules
 
   sync_begun : (m : Client) (h : ℕ) (next : Synced) (b : Bool) → ((m : Client) → (settle settings t names next m).client.begun ≡ m.begun) → (if b then settle settings t names next m else stop_at m (runs (Sync h next))).client.begun ≡ m.begun
-  sync_begun m h next true ih = ih m
-  sync_begun m h next false ih = refl
+  sync_begun m h next v ih = search rules
 
   pub settle_begun : (code : Synced) (m : Client) → (settle settings t names code m).client.begun ≡ m.begun
   settle_begun (Done l) m = leaving_begun m names l
@@ -103,29 +73,22 @@ module _ (settings : Settings) (t : Ticket) (names : List ℕ) where
   settle_begun (Query r next) m = ask_begun m r next (m.held r.object) (λ v m. settle_begun (next v) m)
 
   home_begun : (m : Client) (h : ℕ) (pl : ClientStage) → (after_home settings t names m h pl).client.begun ≡ m.begun
-  home_begun m h (runs code) = settle_begun code (record m { held = put m.held h None })
-  home_begun m h _ = refl
+  home_begun m h v = search (rules, settle_begun)
 
   work_begun : (m : Client) (h : ℕ) (pl : ClientStage) → (after_work settings t names m h pl).client.begun ≡ m.begun
-  work_begun m h (runs code) = settle_begun code (record m { chunk = put m.chunk h None })
-  work_begun m h (full g code) = settle_begun code (record m { chunk = put m.chunk h None })
-  work_begun m h _ = refl
+  work_begun m h v = search (rules, settle_begun)
 
   sync_sent_begun : (m : Client) (pl : ClientStage) → (after_sync settings t names m pl).client.begun ≡ m.begun
-  sync_sent_begun m (runs (Done l)) = refl
-  sync_sent_begun m _ = refl
+  sync_sent_begun m v = search rules
 
   end_begun : (m : Client) (pl : ClientStage) → (after_end settings t names m pl).client.begun ≡ m.begun
-  end_begun m (leaves g hs l) = leaving_begun m hs l
-  end_begun m _ = refl
+  end_begun m v = search (rules, leaving_begun)
 
   pub sent_begun : (m : Client) (h : ℕ) (parcel : Parcel) → (after_parcel settings t names m h parcel).client.begun ≡ m.begun
   sent_begun m h parcel = search (rules, home_begun, work_begun, sync_sent_begun, end_begun)
 
   pub got_begun : (m : Client) (h : ℕ) (x : HeldState) (pl : ClientStage) → (clients.take_object settings t names m x pl).client.begun ≡ m.begun
-  got_begun m h x (awaits g code) = settle_begun code (record m { held = put m.held g (Some x) })
-  got_begun m h x _ = refl
+  got_begun m h x v = search (rules, settle_begun)
 
   pub chunk_begun : (m : Client) (h : ℕ) (pl : ClientStage) → (take_chunk settings t names m h pl).client.begun ≡ m.begun
-  chunk_begun m h (runs code) = settle_begun code (record m { chunk = put m.chunk h (Some []) })
-  chunk_begun m h _ = refl
+  chunk_begun m h v = search (rules, settle_begun)

@@ -1,33 +1,13 @@
 -- What one client did so far, block by block: for each block its block record, what it sent to each object and what it
 -- got from it, and what each act adds to that. The last block is where the client stands; those before it are over.
 use Rattle.std.proofs.Common.{◌≡◌, ◌<◌, ◌≤◌, arith, ℕ, zero, suc, true, false, if◌then◌else◌, ◌==◌, List, [], ◌∷◌, ◌++◌, refl, sym, ap, ap₂, ◌∙◌, subst, ⊎_elim, append-nil, rules}
-use Rattle.qs_objects.specs.audit.Journals.{HeldState}
-use Rattle.qs_objects.specs.declared.held.Event.{Event}
-use Rattle.qs_objects.specs.declared.held.Ticket.{Ticket}
-use Rattle.qs_objects.proofs.Choices.{apart_eqb, eqb_self, num_cases}
-use Rattle.qs_program.specs.audit.Program.{ProgramShape}
-use Rattle.qs_program.specs.audit.Values.{Locals}
-use Rattle.qs_meaning.specs.audit.Following.{reserves}
-use Rattle.qs_meaning.specs.Following.{AsksOnly, block_tree}
+use Rattle.qs_played.proofs.Names.{HeldState, Event, Ticket, apart_eqb, eqb_self, num_cases, ProgramShape, Locals, reserves, AsksOnly, block_tree, zeros, put, BlockRecord, Begins, IsDone, put_here, put_there, ticket}
 use Rattle.qs_meaning.specs.audit.Interaction as tree
-use Rattle.qs_meaning.specs.audit.Serial.{zeros}
-use Rattle.qs_meaning.specs.audit.Solo.{put}
-use Rattle.qs_meaning.specs.BlockRecords.{BlockRecord, Begins, IsDone}
-use Rattle.qs_meaning.proofs.TreeWalks.{put_here, put_there}
-use Rattle.qs_graph.specs.audit.Synced.{Synced}
-use Rattle.qs_graph.specs.Synced.{without_syncs}
-use Rattle.qs_syncset.specs.SoundSynced.{IsSoundSynced, IsOnReserved}
-use Rattle.qs_chunk.specs.declared.parcel.Parcel.{Parcel}
-use Rattle.qs_client.specs.audit.rules.Client.{Client, Settings, Settlement, act_of, between, begin, after_parcel, take_chunk}
+use Rattle.qs_core_laws.proofs.Names.{Synced, without_syncs, IsSoundSynced, IsOnReserved, Parcel, Client, Settings, Settlement, act_of, between, begin, after_parcel, take_chunk, Send, Await, NeedChunk, put_all, put_both, put_kept, upto, IsBlockHistory, HasNone}
 use Rattle.qs_client.specs.audit.rules.Client as clients
-use Rattle.qs_client.specs.declared.rules.act.Act.TheVariants.{Send, Await, NeedChunk}
-use Rattle.qs_played.specs.audit.Played.{ticket}
-use Rattle.qs_played.proofs.FunctionUpdate.{put_all, put_both, put_kept}
 use Rattle.qs_core_laws.proofs.protocol.ActObjects.{await_at, chunk_begun, got_begun, send_at, sent_begun, settle_begun}
 use Rattle.qs_core_laws.proofs.protocol.BlockLists.{after_not, before_not, upto_more, upto_new}
-use Rattle.qs_core_laws.specs.protocol.ClientHistories.{upto}
 use Rattle.qs_core_laws.proofs.protocol.ClientInvariants.{Leaving, Lined, PlaceOk, objects_of_block}
-use Rattle.qs_core_laws.specs.protocol.ClientHistories.{IsBlockHistory, HasNone}
 use Rattle.qs_core_laws.proofs.protocol.ClientLogs.{books_ok, chunks_ok, gets_ok, sends_ok}
 use Rattle.qs_core_laws.proofs.protocol.SilentSteps.{Ends}
 
@@ -85,8 +65,7 @@ no_history program c blocks m entry trace none at hands empty = record {
 -- a block begins with what the one before it left, whatever becomes of that block's own block record
 begins_still : (block : ℕ → Block) (c k : ℕ) (new : Block) (j : ℕ) (l : Locals) → j ≤ k
     → Begins (λ (t : Ticket). (block t.index).block_record) c j l → Begins (λ (t : Ticket). (put block k new t.index).block_record) c j l
-begins_still block c k new zero l low b = b
-begins_still block c k new (suc j) l low b = ap (λ (b : Block). b.block_record.rest) (put_there block k new j (after_not k j (omega (arith, low)))) ∙ b
+begins_still block c k new v l low b = grind (arith, put_there, after_not)
 
 module _ (program : ProgramShape) (c blocks : ℕ) (settings : Settings) (m : Client) (entry : ℕ → Locals) (trace : ℕ → List Event)
     (snt : ℕ → List Parcel) (got : ℕ → List HeldState) (o : BlockHistories program c blocks m entry trace snt got) where
@@ -97,24 +76,14 @@ module _ (program : ProgramShape) (c blocks : ℕ) (settings : Settings) (m : Cl
     pub over : (k : ℕ) → k < n → IsBlockHistory program c k (o.block k).block_record (o.block k).sent (o.block k).got
 
   pub rests : (l : Locals) → m.stage ≡ between l → (n : ℕ) → m.begun ≡ n → Rests l n
-  rests l at zero e =
-      let i = o.idle e in
-      record { next = cc (sym at ∙ i.0); hands = i.1; over = λ k lt. absurd (omega (arith, lt)) }
+  rests l at zero e = grind (arith, o)
   rests l at (suc k) e =
       let b = o.block k in
       let ok : Leaving program (ticket c k) b.sent b.got m b.block_record [] l = subst (PlaceOk program (ticket c k) b.sent b.got m b.block_record) at (o.last k e) in
       record {
         next = ok.rest;
         hands = λ h. ok.empty h refl;
-        over = λ j lt. ⊎_elim
-            (λ (is : k ≡ j). subst (λ j. IsBlockHistory program c j (o.block j).block_record (o.block j).sent (o.block j).got) is (record {
-              block_record = ok.block_record;
-              done = subst IsDone (sym ok.rest) tt;
-              lanes = ok.lanes;
-              outside = o.outside k (omega (arith, e));
-            }))
-            (λ (other : (k == j) ≡ false). let apart = apart_eqb k j other in o.older j (omega (arith, e, lt, apart)))
-            (num_cases k j);
+        over = grind (arith, o, apart_eqb, num_cases);
       }
 
   -- it did something in the block that it is in
@@ -131,29 +100,13 @@ module _ (program : ProgramShape) (c blocks : ℕ) (settings : Settings) (m : Cl
           block = put o.block k new;
           within = let w = o.within in omega (arith, w, still);
           idle = λ z. absurd (omega (arith, n, z));
-          last = λ j i.
-              let is : k ≡ j = omega (arith, n, i) in
-              subst (λ j. let b = put o.block k new j in PlaceOk program (ticket c j) b.sent b.got r.client b.block_record r.client.stage) is
-              (subst (λ (b : Block). PlaceOk program (ticket c k) b.sent b.got r.client b.block_record r.client.stage) (sym (put_here o.block k new)) ok);
-          older = λ j lt.
-              subst (λ (b : Block). IsBlockHistory program c j b.block_record b.sent b.got) (sym (put_there o.block k new j (after_not k j (omega (arith, n, lt)))))
-              (o.older j (omega (arith, still, lt)));
-          begins = λ j lt.
-              subst (Begins (λ (t : Ticket). (put o.block k new t.index).block_record) c j) (sym (put_kept (λ (b : Block). b.block_record.entry) o.block k new same_entry j))
-              (begins_still o.block c k new j (o.block j).block_record.entry (omega (arith, n, lt)) (o.begins j (omega (arith, still, lt))));
-          outside = λ j lt. put_all (λ j (b : Block). j < suc k → (h : ℕ) → reserves program (ticket c j) h ≡ false → (b.sent h ≡ []) × (b.got h ≡ []))
-              o.block k new
-              (λ lt h no.
-              let old = o.outside k (omega (arith, e)) h no in
-              let here = none h no in
-              (sent_more h ∙ ap₂ (λ a b. a ++ b) old.0 here.0, got_more h ∙ ap₂ (λ a b. a ++ b) old.1 here.1))
-              (λ j other lt. o.outside j (omega (arith, e, lt))) j (omega (arith, n, lt));
+          last = grind (arith, o, put_here);
+          older = grind (arith, put_there, o, after_not);
+          begins = grind (arith, o, put_kept, begins_still);
+          outside = grind (arith, put_all, o);
           entries = λ j lt. o.entries j (omega (arith, still, lt)) ∙ sym (put_kept (λ (b : Block). b.block_record.entry) o.block k new same_entry j);
-          traces = λ j lt. put_both (λ j es (b : Block). j < suc k → es ≡ b.block_record.trace) trace o.block k (trace k ++ r.events) new
-              (λ lt. ap (λ es. es ++ r.events) (o.traces k (omega (arith, e))) ∙ sym trace_is)
-              (λ j other lt. o.traces j (omega (arith, e, lt))) j (omega (arith, n, lt));
-          fresh = λ j low.
-              put_there trace k (trace k ++ r.events) j (before_not k j (omega (arith, n, low))) ∙ o.fresh j (omega (arith, still, low));
+          traces = grind (arith, put_both, o);
+          fresh = grind (arith, put_there, before_not, o);
           sent_is = λ h.
               ap (λ x. x ++ more h) (o.sent_is h ∙ ap (upto (λ k. (o.block k).sent h)) e)
               ∙ (sym (upto_more (λ (b : Block). b.sent h) o.block k new (more h) (sent_more h)) ∙ ap (upto (λ j. (put o.block k new j).sent h)) (sym n));
@@ -174,31 +127,13 @@ module _ (program : ProgramShape) (c blocks : ℕ) (settings : Settings) (m : Cl
         block = put o.block k new;
         within = omega (arith, less, n);
         idle = λ z. absurd (omega (arith, n, z));
-        last = λ j i.
-            let is : k ≡ j = omega (arith, n, i) in
-            subst (λ j. let b = put o.block k new j in PlaceOk program (ticket c j) b.sent b.got r.client b.block_record r.client.stage) is
-            (subst (λ (b : Block). PlaceOk program (ticket c k) b.sent b.got r.client b.block_record r.client.stage) (sym (put_here o.block k new)) ok);
-        older = λ j lt.
-            let low : j < k = omega (arith, n, lt) in
-            subst (λ (b : Block). IsBlockHistory program c j b.block_record b.sent b.got) (sym (put_there o.block k new j (after_not k j low))) (before.over j low);
-        begins = λ j lt. put_all (λ j (b : Block). j < suc k → Begins (λ (t : Ticket). (put o.block k new t.index).block_record) c j b.block_record.entry) o.block k new
-            (λ lt. begins_still o.block c k new k new.block_record.entry (omega arith)
-            (subst (Begins (λ (t : Ticket). (o.block t.index).block_record) c k) (sym entry_is) before.next))
-            (λ j other lt.
-            let apart = apart_eqb k j other in
-            begins_still o.block c k new j (o.block j).block_record.entry (omega (arith, lt)) (o.begins j (omega (arith, lt, apart)))) j (omega (arith, n, lt));
-        outside = λ j lt. put_all (λ j (b : Block). j < suc k → (h : ℕ) → reserves program (ticket c j) h ≡ false → (b.sent h ≡ []) × (b.got h ≡ []))
-            o.block k new
-            (λ lt h no. (none_sent h, none_got h))
-            (λ j other lt h no. let apart = apart_eqb k j other in o.outside j (omega (arith, lt, apart)) h no) j (omega (arith, n, lt));
-        entries = λ j lt. put_both (λ j x (b : Block). j < suc k → x ≡ b.block_record.entry) entry o.block k l new
-            (λ lt. sym entry_is)
-            (λ j other lt. let apart = apart_eqb k j other in o.entries j (omega (arith, lt, apart))) j (omega (arith, n, lt));
-        traces = λ j lt. put_both (λ j es (b : Block). j < suc k → es ≡ b.block_record.trace) trace o.block k (trace k ++ r.events) new
-            (λ lt. ap (λ es. es ++ r.events) (o.fresh k (omega arith)) ∙ sym trace_is)
-            (λ j other lt. let apart = apart_eqb k j other in o.traces j (omega (arith, lt, apart))) j (omega (arith, n, lt));
-        fresh = λ j low.
-            put_there trace k (trace k ++ r.events) j (before_not k j (omega (arith, n, low))) ∙ o.fresh j (omega (arith, n, low));
+        last = grind (arith, o, put_here);
+        older = grind (arith, put_there, o, after_not);
+        begins = search (rules, put_all, o, begins_still, apart_eqb);
+        outside = grind (arith, put_all, o, apart_eqb);
+        entries = grind (arith, put_both, o, apart_eqb);
+        traces = grind (arith, put_both, o, apart_eqb);
+        fresh = grind (arith, put_there, before_not, o);
         sent_is = λ h. o.sent_is h
             ∙ (sym (upto_new (λ (b : Block). b.sent h) o.block k new (none_sent h)) ∙ ap (upto (λ j. (put o.block k new j).sent h)) (sym n));
         got_is = λ h. o.got_is h

@@ -3,12 +3,8 @@
 -- block (`BlockTales`, `HistoryCounts`), and grows so with each act. Only the last block's list changes, so those
 -- before it are joined as before.
 use Rattle.std.proofs.Common.{◌≡◌, ◌<◌, arith, ℕ, zero, suc, false, ◌==◌, List, [], ◌∷◌, ◌++◌, length, slice_index_or, slice_set, refl, ap₂, append_assoc, append-nil, get_or-set_same, get_or-set_other, rules}
-use Rattle.std.proofs.Math.ListN.{get_or-append}
-use Rattle.std.proofs.lemmas.List.{get_or_push}
-use Rattle.qs_objects.proofs.Choices.{eqb_apart, apart_eqb, num_cases}
+use Rattle.qs_played.proofs.Names.{get_or-append, get_or_push, eqb_apart, apart_eqb, num_cases, put, put_here, put_there}
 use Rattle.qs_core_laws.specs.protocol.ClientHistories.{upto}
-use Rattle.qs_meaning.specs.audit.Solo.{put}
-use Rattle.qs_meaning.proofs.TreeWalks.{put_here, put_there}
 
 pub upto_same : {A : Type 0} (f g : ℕ → List A) (n : ℕ) → ((k : ℕ) → k < n → f k ≡ g k) → upto f n ≡ upto g n
 upto_same f g zero e = refl

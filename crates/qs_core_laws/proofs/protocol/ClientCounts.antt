@@ -3,22 +3,10 @@
 -- `HistoryCounts`) keep this with each act. What holds at each place is `CountAt`; each act keeps it, by cases on the
 -- place, and so does quiet work, by induction on the tree.
 use Rattle.std.proofs.Common.{◌≡◌, ℕ, suc, ◌+◌, Bool, true, false, if◌then◌else◌, ◌==◌, ◌&&◌, is_some, List, [], ◌∷◌, ◌++◌, length, refl, sym, ap, ◌∙◌, subst, ⊎_elim, append_assoc, append-nil, Option, Some, None, ℤ, arith, rules}
-use Rattle.qs_objects.specs.audit.Journals.{HeldState, run_one}
-use Rattle.qs_objects.specs.audit.Parts.{command_event}
-use Rattle.qs_objects.specs.declared.held.Event.{Event}
-use Rattle.qs_objects.specs.declared.held.Ticket.{Ticket}
-use Rattle.qs_objects.specs.declared.Request.{Request}
-use Rattle.qs_objects.proofs.Choices.{eqb_self, num_cases}
-use Rattle.qs_meaning.specs.audit.Solo.{event, put, value_of}
-use Rattle.qs_program.specs.audit.Values.{Locals}
-use Rattle.qs_meaning.proofs.TreeWalks.{put_here, put_there}
+use Rattle.qs_played.proofs.Names.{HeldState, run_one, command_event, Event, Ticket, Request, eqb_self, num_cases, event, put, value_of, Locals, put_here, put_there, syncs_along, IsAsking, IsQueryOf}
 use Rattle.qs_graph.specs.audit.Synced.{Synced, Done, Call, Sync, Query}
-use Rattle.qs_syncset.specs.SyncCounts.{syncs_along}
-use Rattle.qs_syncset.proofs.SyncTrees.{IsAsking, IsQueryOf}
-use Rattle.qs_chunk.specs.declared.parcel.Parcel.{Parcel}
+use Rattle.qs_core_laws.proofs.Names.{Parcel, Client, ClientStage, Settings, Settlement, act_at, act_of, between, runs, full, awaits, leaves, call_act, call, clear, take_object, end_block, query, after_parcel, after_end, after_home, after_sync, after_work, settle, stop_at, take_chunk, with_event, work, Send, Finished}
 use Rattle.qs_chunk.specs.declared.parcel.Parcel.TheVariants as parcels
-use Rattle.qs_client.specs.audit.rules.Client.{Client, ClientStage, Settings, Settlement, act_at, act_of, between, runs, full, awaits, leaves, call_act, call, clear, take_object, end_block, query, after_parcel, after_end, after_home, after_sync, after_work, settle, stop_at, take_chunk, with_event, work}
-use Rattle.qs_client.specs.declared.rules.act.Act.TheVariants.{Send, Finished}
 use Rattle.qs_core_laws.proofs.protocol.ActKinds.{outside_not_send}
 use Rattle.qs_core_laws.proofs.protocol.ClientInvariants.{holding}
 
@@ -63,8 +51,7 @@ module _ (settings : Settings) (t : Ticket) (names : List ℕ) (first : Synced) 
   counts_event tr n e r k = subst (λ es. CountAt es n r.client r.client.stage) (append_assoc tr (e ∷ []) r.events) k
 
   leaving_counts : (tr : List Event) (n : ℕ → ℕ) (m : Client) (hs : List ℕ) (l : Locals) → Over tr n → Counts tr n (end_block settings t names m hs l)
-  leaving_counts tr n m [] l k = counts_stay tr n m (between l) k
-  leaving_counts tr n m (h ∷ hs) l k = counts_stay tr n m (leaves h hs l) k
+  leaving_counts tr n m v l k = search (rules, counts_stay)
 
   -- of no trace there are none
   along_none : (h : ℕ) (held : Bool) (code : Synced) → along h held code [] ≡ 0
@@ -81,8 +68,7 @@ module _ (settings : Settings) (t : Ticket) (names : List ℕ) (first : Synced) 
   -- an event more
   even_event : (tr : List Event) (n : ℕ → ℕ) (held after : ℕ → Bool) (code next : Synced) (e : Event)
       → ((h : ℕ) (es : List Event) → along h (held h) code (e ∷ es) ≡ along h (after h) next es) → Even tr n held code → Even (tr ++ e ∷ []) n after next
-  even_event tr n held after code next e is k h es =
-      ap (along h false first) (append_assoc tr (e ∷ []) es) ∙ (k h (e ∷ es) ∙ ap (λ a. n h + a) (is h es))
+  even_event tr n held after code next e is k h es = search (rules, along, append_assoc)
 
   put_false : (held : ℕ → Option HeldState) (g h : ℕ) → held g ≡ None → (if g == h then false else is_some (held h)) ≡ is_some (held h)
   put_false held g h e = search (rules, eqb_self, num_cases)
@@ -133,8 +119,7 @@ module _ (settings : Settings) (t : Ticket) (names : List ℕ) (first : Synced) 
   sync_counts : (tr : List Event) (n : ℕ → ℕ) (m : Client) (g : ℕ) (next : Synced) (b : Bool) → (settings.dynamic && holding m g) ≡ b → IsAsking (Sync g next)
       → Even tr n (holding m) (Sync g next) → (Even tr n (holding m) next → Counts tr n (settle settings t names next m))
       → Counts tr n (if b then settle settings t names next m else stop_at m (runs (Sync g next)))
-  sync_counts tr n m g next true e q k ih = ih (λ h es. k h es ∙ ap (λ a. n h + a) (passed (holding m) g h next es e))
-  sync_counts tr n m g next false e q k ih = counts_stay tr n m (runs (Sync g next)) (k, e, q)
+  sync_counts tr n m g next v e q k ih = search (rules, passed, holding, counts_stay)
 
   pub settle_counts : (code : Synced) (tr : List Event) (n : ℕ → ℕ) (m : Client) → IsAsking code → Even tr n (holding m) code → Counts tr n
       (settle settings t names code m)
@@ -150,8 +135,7 @@ module _ (settings : Settings) (t : Ticket) (names : List ℕ) (first : Synced) 
   home_call tr n m r next k h xs = search rules
 
   and_false : (b : Bool) → (b && false) ≡ false
-  and_false true = refl
-  and_false false = refl
+  and_false v = search rules
 
   -- and before a synchronisation with it
   home_sync : (tr : List Event) (n : ℕ → ℕ) (m : Client) (g : ℕ) (next : Synced) → (settings.dynamic && holding m g) ≡ false → Even tr n (holding m)
@@ -172,12 +156,7 @@ module _ (settings : Settings) (t : Ticket) (names : List ℕ) (first : Synced) 
         (λ now. rw (eqb_self g) (omega (arith, now))) now)
         (λ (other : (g == h) ≡ false). rw other (omega (arith, now)))
         (num_cases g h);
-    later = λ h e es. k h (e ∷ es) ∙ ⊎_elim
-        (λ (is : g ≡ h).
-        subst (λ h. n h + along h (is_some (m.held h)) (Sync g next) (e ∷ es) ≡ put n g (suc (n g)) h + along h (put (holding m) g true h) next (e ∷ es)) is
-        (rw (eqb_self g) (ap (λ b. n g + ((if b then 0 else 1) + along g true next (e ∷ es))) test ∙ omega arith)))
-        (λ (other : (g == h) ≡ false). rw other refl)
-        (num_cases g h);
+    later = grind (arith, along, is_some, holding, eqb_self, num_cases);
   }
 
   -- what a parcel adds
@@ -201,22 +180,12 @@ module _ (settings : Settings) (t : Ticket) (names : List ℕ) (first : Synced) 
       on_send (From tr n m (runs (Call r next))) r.object (parcels.Home x) h p e
       (settle_counts (Call r next) tr n (record m { held = put m.held r.object None }) q (home_call tr n m r next k))
   call_sent tr n m r next None None q k h p e = absurd (cc)
-  call_sent tr n m r next None (Some rs) q k h p e =
-      on_send (From tr n m (runs (Call r next))) r.object (work settings rs) h p e
-      (settle_counts (Call r next) tr n (record m { chunk = put m.chunk r.object None }) q k)
+  call_sent tr n m r next None (Some rs) q k h p e = search (rules, on_send, settle_counts)
 
   clear_sent : (tr : List Event) (n : ℕ → ℕ) (m : Client) (g : ℕ) (next : Synced) (hd : Option HeldState) (ck : Option (List Request))
       → (settings.dynamic && holding m g) ≡ false → IsAsking (Sync g next) → Even tr n (holding m) (Sync g next)
       → (h : ℕ) (p : Parcel) → clear settings g hd ck (Send g parcels.Sync) ≡ Send h p → From tr n m (runs (Sync g next)) h p
-  clear_sent tr n m g next (Some x) ck d q k h p e =
-      on_send (From tr n m (runs (Sync g next))) g (parcels.Home x) h p e
-      (settle_counts (Sync g next) tr n (record m { held = put m.held g None }) q (home_sync tr n m g next d k))
-  clear_sent tr n m g next None (Some rs) d q k h p e =
-      on_send (From tr n m (runs (Sync g next))) g (work settings rs) h p e
-      (settle_counts (Sync g next) tr n (record m { chunk = put m.chunk g None }) q k)
-  clear_sent tr n m g next None None d q k h p e =
-      on_send (From tr n m (runs (Sync g next))) g parcels.Sync h p e
-      (counts_stay tr (put n g (suc (n g))) m (awaits g next) (sync_sent tr n m g next d q k))
+  clear_sent tr n m g next v ck d q k h p e = search (rules, on_send, settle_counts, home_sync, counts_stay, sync_sent)
 
   full_sent : (tr : List Event) (n : ℕ → ℕ) (m : Client) (g : ℕ) (code : Synced) (ck : Option (List Request)) → IsAsking code → Even tr n (holding m) code
       → (h : ℕ) (p : Parcel) → clear settings g None ck Finished ≡ Send h p → From tr n m (full g code) h p
@@ -242,8 +211,7 @@ module _ (settings : Settings) (t : Ticket) (names : List ℕ) (first : Synced) 
   send_counts blocks tr n m k h parcels.End e = from_place blocks tr n m m.stage k h parcels.End e
 
   halts_still : (m : Client) (p : ClientStage) (code : Synced) → Halts m code → Halts (record m { stage = p }) code
-  halts_still m p (Done l) k = k
-  halts_still m p _ k = k
+  halts_still m p v k = search rules
 
   -- the object came whose query is next
   query_comes : (tr : List Event) (n : ℕ → ℕ) (m : Client) (x : HeldState) (g : ℕ) (code : Synced) → Pending tr n (holding m) g code

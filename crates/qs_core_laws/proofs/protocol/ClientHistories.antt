@@ -3,35 +3,14 @@
 -- arbitrary; nothing of threads, queues or other clients is in it. The run is read where nothing is left to be done for
 -- the last act, since each act begins with that.
 use Rattle.std.proofs.Common.{◌≡◌, ◌<◌, arith, ℕ, zero, suc, false, List, [], ◌∷◌, ◌++◌, length, replicate, slice_index_or, refl, sym, ap, ap₂, ◌∙◌, subst, append-nil, ◌+◌, length-append, length-set, rules}
-use Rattle.std.proofs.lemmas.List.{length-replicate}
-use Rattle.qs_objects.specs.audit.Journals.{HeldState}
-use Rattle.qs_objects.specs.declared.held.Event.{Event}
-use Rattle.qs_objects.specs.declared.held.Ticket.{Ticket}
-use Rattle.qs_program.specs.audit.Program.{ProgramShape}
-use Rattle.qs_program.specs.audit.Values.{Locals}
-use Rattle.qs_meaning.specs.audit.Following.{reserves}
-use Rattle.qs_meaning.specs.Following.{AsksOnly, block_tree}
-use Rattle.qs_meaning.specs.audit.Serial.{zeros}
-use Rattle.qs_meaning.specs.audit.Solo.{put}
-use Rattle.qs_graph.specs.Synced.{without_syncs}
-use Rattle.qs_syncset.specs.audit.Codes.{ClientCode, code_at}
-use Rattle.qs_syncset.specs.SoundSynced.{IsSoundSynced, IsOnReserved}
-use Rattle.qs_sync_counts.specs.declared.sync_counts.SyncCount.{SyncCount}
-use Rattle.qs_chunk.specs.declared.parcel.Parcel.{Parcel}
-use Rattle.qs_client.specs.audit.rules.Client.{Client, Settings, Settlement, act_of, between, begin, after_parcel, take_chunk}
+use Rattle.qs_played.proofs.Names.{length-replicate, HeldState, Event, Ticket, ProgramShape, Locals, reserves, AsksOnly, block_tree, zeros, put, SyncCount, ticket, no_events}
+use Rattle.qs_core_laws.proofs.Names.{without_syncs, ClientCode, code_at, IsSoundSynced, IsOnReserved, Parcel, Client, Settings, Settlement, act_of, between, begin, after_parcel, take_chunk, count_sync, outgoing_of, Deed, DeedsLead, RunsTo, got_from, next_ticket, reservations, sent_to, ClientModel, act_due, mind_after_begin, mind_after_chunk, finish, enters, fresh_mind, mind_after_object, hands_out, is_between, tally, tree_at, upto, ClientHistory}
 use Rattle.qs_client.specs.audit.rules.Client as clients
-use Rattle.qs_client.specs.audit.rules.Outgoings.{count_sync, outgoing_of}
 use Rattle.qs_client.specs.declared.rules.act.Act.TheVariants as acts
-use Rattle.qs_client.specs.audit.ClientRuns.{Deed, DeedsLead, RunsTo, got_from, next_ticket, reservations, sent_to}
 use Rattle.qs_client.specs.audit.ClientRuns as deeds
-use Rattle.qs_client.specs.audit.ClientModel.{ClientModel, act_due, mind_after_begin, mind_after_chunk, finish, enters, fresh_mind, mind_after_object, hands_out, is_between, tally, tree_at}
-use Rattle.qs_played.specs.audit.Played.{ticket}
-use Rattle.qs_played.specs.Played.{no_events}
 use Rattle.qs_core_laws.proofs.protocol.ActObjects.{chunk_begun, got_begun, not_await, not_need, not_send, reserve_at, sent_begun, settle_begun}
 use Rattle.qs_core_laws.proofs.protocol.BlockLists.{row_push, row_set}
-use Rattle.qs_core_laws.specs.protocol.ClientHistories.{upto}
 use Rattle.qs_core_laws.proofs.protocol.BlockHistories.{BlockHistories, history_by, history_got, history_reserved, history_sent, history_with_chunk, in_block, no_history, rests}
-use Rattle.qs_core_laws.specs.protocol.ClientHistories.{ClientHistory}
 use Rattle.qs_core_laws.proofs.protocol.ClientInvariants.{Lined, objects_of_block}
 use Rattle.qs_core_laws.proofs.protocol.DeedJoins.{got_join, reservations_join, sent_join}
 use Rattle.qs_core_laws.proofs.protocol.FullChunks.{ComesFull, HasFull, chunk_full, finished_all, finished_at, got_full, reserves_more, sent_full, settle_full}

@@ -3,24 +3,9 @@
 -- this with each act. For each object, all that was sent and got is a lane as its client sees it, which ends where the
 -- client stands to the object now.
 use Rattle.std.proofs.Common.{◌≡◌, ◌⊎◌, ℕ, Bool, true, false, if◌then◌else◌, ◌==◌, is_some, List, [], ◌∷◌, Option, Some, None}
-use Rattle.qs_objects.specs.audit.Journals.{HeldState}
-use Rattle.qs_objects.specs.audit.Parts.{part}
-use Rattle.qs_objects.specs.declared.held.Ticket.{Ticket}
-use Rattle.qs_objects.specs.declared.Request.{Request}
-use Rattle.qs_meaning.specs.audit.Following.{reserves}
-use Rattle.qs_program.specs.audit.Program.{ProgramShape, text_of}
-use Rattle.qs_meaning.specs.audit.Solo.{put}
-use Rattle.qs_program.specs.audit.Sound.{is_in}
-use Rattle.qs_program.specs.audit.Values.{Locals}
-use Rattle.qs_meaning.specs.BlockRecords.{BlockRecord}
+use Rattle.qs_played.proofs.Names.{HeldState, part, Ticket, Request, reserves, ProgramShape, text_of, put, is_in, Locals, BlockRecord}
 use Rattle.qs_meaning.specs.audit.Interaction as tree
-use Rattle.qs_graph.specs.audit.Synced.{Synced, Call, Sync}
-use Rattle.qs_graph.specs.Synced.{without_syncs}
-use Rattle.qs_syncset.specs.SoundSynced.{IsSoundSynced, IsOnReserved}
-use Rattle.qs_core_laws.specs.protocol.ClientHistories.{HasNone, IsOpenRecord, apart_from}
-use Rattle.qs_chunk.specs.LaneViews.{ObjectStance, sends, asks, holds, ClientLane}
-use Rattle.qs_chunk.specs.declared.parcel.Parcel.{Parcel}
-use Rattle.qs_client.specs.audit.rules.Client.{Client, ClientStage, between, runs, full, awaits, leaves}
+use Rattle.qs_core_laws.proofs.Names.{Synced, Call, Sync, without_syncs, IsSoundSynced, IsOnReserved, HasNone, IsOpenRecord, apart_from, ObjectStance, sends, asks, holds, ClientLane, Parcel, Client, ClientStage, between, runs, full, awaits, leaves}
 
 -- how a client stands to an object, by what it has in hand
 abbrev pub in_hand : Option HeldState → Option (List Request) → ObjectStance

@@ -2,24 +2,10 @@
 -- say. The machine's invariant and the tale of a client's whole run take this from here (`sends_ok`, `gets_ok`,
 -- `chunks_ok`, and `books_ok` where a block begins). The proof goes by cases on the client's stage and on what it has
 -- in hand: first the act, then the quiet work.
-use Rattle.std.proofs.Common.{◌≡◌, ℕ, suc, nat_lt, false, true≢false, List, [], ◌∷◌, ◌++◌, refl, sym, ap₂, subst, inl, Option, Some, None, rules}
-use Rattle.qs_objects.specs.audit.Journals.{HeldState}
-use Rattle.qs_objects.specs.declared.held.Ticket.{Ticket}
-use Rattle.qs_objects.specs.declared.Request.{Request}
-use Rattle.qs_meaning.specs.audit.Following.{reserves}
-use Rattle.qs_meaning.specs.Following.{AsksOnly, block_tree}
-use Rattle.qs_program.specs.audit.Program.{ProgramShape}
-use Rattle.qs_meaning.specs.audit.Solo.{put}
-use Rattle.qs_program.specs.audit.Values.{Locals}
-use Rattle.qs_meaning.specs.BlockRecords.{BlockRecord}
-use Rattle.qs_graph.specs.audit.Synced.{Synced, Call, Sync}
-use Rattle.qs_graph.specs.Synced.{without_syncs}
-use Rattle.qs_syncset.specs.SoundSynced.{IsSoundSynced, IsOnReserved}
-use Rattle.qs_chunk.specs.LaneViews.{ClientLane}
-use Rattle.qs_chunk.specs.declared.parcel.Parcel.{Parcel}
+use Rattle.std.proofs.Common.{◌≡◌, ℕ, suc, nat_lt, false, true≢false, List, [], ◌∷◌, ◌++◌, refl, sym, ap₂, subst, inl, Option, Some, None, rules, arith}
+use Rattle.qs_played.proofs.Names.{HeldState, Ticket, Request, reserves, AsksOnly, block_tree, ProgramShape, put, Locals, BlockRecord}
+use Rattle.qs_core_laws.proofs.Names.{Synced, Call, Sync, without_syncs, IsSoundSynced, IsOnReserved, ClientLane, Parcel, Send, Await, NeedChunk, Finished, Client, ClientStage, Settings, Settlement, between, runs, full, awaits, leaves, work, clear, call_act, act_at, act_of, settle, after_home, after_work, after_sync, after_end, after_parcel, take_chunk, begin}
 use Rattle.qs_chunk.specs.declared.parcel.Parcel.TheVariants as parcels
-use Rattle.qs_client.specs.declared.rules.act.Act.TheVariants.{Send, Await, NeedChunk, Finished}
-use Rattle.qs_client.specs.audit.rules.Client.{Client, ClientStage, Settings, Settlement, between, runs, full, awaits, leaves, work, clear, call_act, act_at, act_of, settle, after_home, after_work, after_sync, after_end, after_parcel, take_chunk, begin}
 use Rattle.qs_client.specs.audit.rules.Client as clients
 use Rattle.qs_core_laws.proofs.protocol.ClientInvariants.{in_hand, holding, objects_of_block, Lined, Ready, Leaving, PlaceOk}
 use Rattle.qs_core_laws.proofs.protocol.ActKinds.{outside_not_send, outside_not_await, outside_not_need, call_not_await, clears_not_await, full_not_await, clears_not_need, full_not_need}
@@ -103,8 +89,7 @@ module _ (program : ProgramShape) (t : Ticket) (snt : ℕ → List Parcel) (got 
   sends_at m pg (runs _) k h parcel e = absurd k.1
 
   from_is : (m : Client) (h : ℕ) (parcel : Parcel) → after_parcel settings t (objects_of_block program t) m h parcel ≡ sent_from settings t (objects_of_block program t) m h parcel m.stage
-  from_is m h (parcels.Home x) = refl
-  from_is m h _ = refl
+  from_is m h v = search rules
 
   -- a parcel that was sent
   pub sends_ok : (m : Client) (pg : BlockRecord) (h : ℕ) (parcel : Parcel) → PlaceOk program t snt got m pg m.stage → act_of settings blocks m ≡ Send h parcel
@@ -154,8 +139,7 @@ module _ (program : ProgramShape) (t : Ticket) (snt : ℕ → List Parcel) (got 
       (record {
         block_record = record { path = refl; fine = fine };
         rest = sym e;
-        lanes = λ h. subst (λ ps. ClientLane t false ps (got h) [] (in_hand (m.held h) (m.chunk h))) (sym (ns h)) (subst (λ gs. ClientLane t false [] gs [] (in_hand (m.held h) (m.chunk h))) (sym (ng h))
-            (subst (ClientLane t false [] [] []) (sym (ap₂ in_hand (nh h) (nc h))) ([], refl, refl, refl, tt)));
+        lanes = search rules;
         not_both = λ h. inl (nh h);
         own = λ h out. (nh h, nc h);
         sound = sound_more (λ h. false) (holding (record m { begun = suc m.begun })) code (λ h e. absurd (true≢false (sym e))) sound;

@@ -1,32 +1,16 @@
 -- The counts of one reservation's synchronisations, by its trace: what a block's tree says of them is what its mode
 -- says.
-use Rattle.std.proofs.Common.{◌≡◌, ◌<◌, ℕ, ◌+◌, ◌==◌, Bool, false, if◌then◌else◌, length, ap, ◌∙◌, inl, inr, arith}
-use Rattle.qs_objects.specs.declared.held.Ticket.{Ticket}
-use Rattle.qs_program.specs.audit.Program.{ProgramShape, blocks_of, text_of}
-use Rattle.qs_program.specs.Sound.{IsSound}
-use Rattle.qs_meaning.specs.Following.{Leads, block_tree}
-use Rattle.qs_meaning.specs.audit.Interaction.{Interaction}
+use Rattle.std.proofs.Common.{◌≡◌, ◌<◌, ℕ, ◌+◌, ◌==◌, Bool, false, if◌then◌else◌, length, ap, ◌∙◌, inl, inr, arith, rules}
+use Rattle.qs_played.proofs.Names.{Ticket, ProgramShape, blocks_of, text_of, IsSound, Leads, block_tree, Interaction, IsSentBy, queries, syncs_along, ended_of, ticket_at, trace_of, entry_of, Played, AreListed, AreSent, IsCounted, syncs_at}
 use Rattle.qs_graph.specs.audit.Names.{graph_of}
-use Rattle.qs_syncset.specs.declared.mode.Mode.{Mode}
-use Rattle.qs_syncset.specs.audit.Codes.{ClientCode, code_at, AreCodes}
+use Rattle.qs_core_laws.proofs.Names.{Mode, ClientCode, code_at, AreCodes, syncs_are_counted, longest, no_block_beyond, synced_block, longest_covers}
 use Rattle.qs_syncset.specs.audit.Modes.{is_dynamic}
-use Rattle.qs_syncset.specs.SyncCounts.{IsSentBy, queries, syncs_along}
 use Rattle.qs_syncset.specs.SyncCounts as counts
-use Rattle.qs_syncset.proofs.CountedSyncs.{syncs_are_counted}
 use Rattle.qs_syncset.proofs.QueryRuns.{runs_within}
-use Rattle.qs_client.specs.audit.run.BlockSizes.{longest}
-use Rattle.qs_played.specs.audit.Isolation.{ended_of, ticket_at, trace_of}
-use Rattle.qs_played.specs.Isolation.{entry_of}
-use Rattle.qs_played.specs.audit.Played.{Played}
-use Rattle.qs_played.specs.SyncSums.{AreListed, AreSent, IsCounted, syncs_at}
-use Rattle.qs_played.proofs.JournalRooms.{no_block_beyond}
-use Rattle.qs_client.specs.audit.ClientModel.{synced_block}
-use Rattle.qs_client.proofs.run.CodeBounds.{longest_covers}
 
 -- the same counts, said otherwise
 pub sent_as : (ended : Bool) (sent counts others : ℕ → ℕ) → ((h : ℕ) → counts h ≡ others h) → AreSent ended sent counts → AreSent ended sent others
-sent_as ended sent counts others same (inl exact) = inl (λ h. exact h ∙ same h)
-sent_as ended sent counts others same (inr one) = inr (one.0, one.1, λ h. one.2 h ∙ ap (λ k. (if one.1 == h then 1 else 0) + k) (same h))
+sent_as ended sent counts others same v = search rules
 
 module _ (program : ProgramShape) (sound : IsSound program) (mode : Mode) (code : ℕ → ClientCode) (codes : AreCodes program mode code)
     (r : Played) (i : ℕ) where

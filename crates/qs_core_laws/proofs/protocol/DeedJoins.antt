@@ -1,9 +1,8 @@
 -- A client's deeds, one run of them after another: where they lead, and what was sent, got and reserved by them. So
 -- what is known of a run grows with its next deed, at the end.
-use Rattle.std.proofs.Common.{◌≡◌, arith, ℕ, ◌+◌, Bool, true, false, if◌then◌else◌, ◌==◌, List, [], ◌∷◌, ◌++◌, refl, sym, ap, subst, add-zero}
-use Rattle.qs_client.specs.audit.ClientRuns.{Deed, DeedsLead, got_from, next_ticket, reservations, sent_to}
+use Rattle.std.proofs.Common.{◌≡◌, arith, ℕ, ◌+◌, Bool, true, false, if◌then◌else◌, ◌==◌, List, [], ◌∷◌, ◌++◌, refl, sym, ap, subst, add-zero, rules}
+use Rattle.qs_core_laws.proofs.Names.{Deed, DeedsLead, got_from, next_ticket, reservations, sent_to, ClientModel, mind_after_begin, mind_after_chunk, mind_after_object, next_mind}
 use Rattle.qs_client.specs.audit.ClientRuns as deeds
-use Rattle.qs_client.specs.audit.ClientModel.{ClientModel, mind_after_begin, mind_after_chunk, mind_after_object, next_mind}
 
 -- they lead on
 pub deeds_join : (c : ℕ) (before after : List Deed) (first m end : ClientModel) → DeedsLead c first before m → DeedsLead c m after end
@@ -19,20 +18,17 @@ deeds_join c (deeds.takes_chunk h ∷ before) after first m end lead next =
 -- one more in front, or not
 pub front_join : {A : Type 0} (b : Bool) (x : A) (all front back : List A) → all ≡ front ++ back
     → (if b then x ∷ all else all) ≡ (if b then x ∷ front else front) ++ back
-front_join true x all front back e = ap (λ xs. x ∷ xs) e
-front_join false x all front back e = e
+front_join v x all front back e = search rules
 
 -- what it sent and got, and reserved, by deeds one after another
 pub sent_join : (h : ℕ) (before after : List Deed) → sent_to h (before ++ after) ≡ sent_to h before ++ sent_to h after
 sent_join h [] after = refl
-sent_join h (deeds.sends a p ∷ before) after =
-    front_join (a == h) p (sent_to h (before ++ after)) (sent_to h before) (sent_to h after) (sent_join h before after)
+sent_join h (deeds.sends a p ∷ before) after = search (rules, front_join, sent_join h before after)
 sent_join h (_ ∷ before) after = sent_join h before after
 
 pub got_join : (h : ℕ) (before after : List Deed) → got_from h (before ++ after) ≡ got_from h before ++ got_from h after
 got_join h [] after = refl
-got_join h (deeds.gets a x ∷ before) after =
-    front_join (a == h) x (got_from h (before ++ after)) (got_from h before) (got_from h after) (got_join h before after)
+got_join h (deeds.gets a x ∷ before) after = search (rules, front_join, got_join h before after)
 got_join h (_ ∷ before) after = got_join h before after
 
 pub reservations_join : (before after : List Deed) → reservations (before ++ after) ≡ reservations after + reservations before

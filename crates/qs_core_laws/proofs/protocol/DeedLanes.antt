@@ -1,14 +1,12 @@
 -- How a client stands to the lane of a handler in the midst of its run: what it sent there by its deeds is what its
 -- mind believes, so that what it hands out next may follow.
-use Rattle.std.proofs.Common.{◌≡◌, ℕ, true, false, if◌then◌else◌, ◌==◌, List, [], ◌∷◌, ◌++◌, sym, subst, ⊎_elim, append_assoc, append-nil}
+use Rattle.std.proofs.Common.{◌≡◌, ℕ, true, false, if◌then◌else◌, ◌==◌, List, [], ◌∷◌, ◌++◌, sym, subst, ⊎_elim, append_assoc, append-nil, rules, arith}
 use Rattle.qs_objects.proofs.Choices.{apart_eqb, eqb_self, num_cases}
-use Rattle.qs_chunk.specs.declared.parcel.Parcel.{Parcel}
+use Rattle.qs_core_laws.proofs.Names.{Parcel, Act, ClientModel, mind_after_begin, mind_after_chunk, finish, mind_after_object, hands_out, next_act, next_mind}
 use Rattle.qs_client.specs.run.NextActs.{SendsNothing}
-use Rattle.qs_client.specs.declared.rules.act.Act.{Act}
 use Rattle.qs_client.specs.declared.rules.act.Act.TheVariants as acts
 use Rattle.qs_client.specs.ClientLanes.{MindStandsAt}
 use Rattle.qs_client.specs.audit.ClientRuns.{Deed, DeedsLead, next_ticket, reserves, sends, gets, takes_chunk, sent_to}
-use Rattle.qs_client.specs.audit.ClientModel.{ClientModel, mind_after_begin, mind_after_chunk, finish, mind_after_object, hands_out, next_act, next_mind}
 use Rattle.qs_client.specs.ClientModel.{Asks}
 use Rattle.qs_client.proofs.MindRefinement.{quiet_asks}
 use Rattle.qs_client.proofs.LaneSends.{client_lane_laws}
@@ -24,8 +22,7 @@ quiet_stays m h sent act quiet is = client_lane_laws.quiet m h sent (subst Sends
 module _ (c h : ℕ) where
   pub stands_along : (deeds : List Deed) (m end : ClientModel) (sent : List Parcel) → MindStandsAt m h sent → DeedsLead c m deeds end
       → MindStandsAt end h (sent ++ sent_to h deeds)
-  stands_along [] m end sent stands lead =
-      subst (MindStandsAt end h) (sym (append-nil sent)) (subst (λ (m : ClientModel). MindStandsAt m h sent) lead stands)
+  stands_along [] m end sent stands lead = search (rules, append-nil)
   stands_along (reserves ∷ deeds) m end sent stands lead =
       let t = next_ticket c (next_mind m) in
       stands_along deeds (mind_after_begin (next_mind m) t) end sent

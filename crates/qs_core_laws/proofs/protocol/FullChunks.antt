@@ -1,18 +1,8 @@
 -- A client that stands with a full chunk has that chunk: so where it asks for nothing more it is between blocks.
-use Rattle.std.proofs.Common.{◌≡◌, ◌<◌, ◌≤◌, ℕ, Bool, true, false, if◌then◌else◌, ◌&&◌, is_some, List, [], ◌∷◌, Option, Some, None, ℤ, rules}
-use Rattle.std.proofs.lemmas.Bool.Decides.{nat_tests}
-use Rattle.qs_objects.specs.audit.Journals.{HeldState, run_one}
-use Rattle.qs_objects.specs.declared.held.Ticket.{Ticket}
-use Rattle.qs_objects.specs.declared.Request.{Request}
-use Rattle.qs_program.specs.audit.Program.{ProgramShape}
-use Rattle.qs_program.specs.audit.Values.{Locals}
-use Rattle.qs_meaning.specs.audit.Solo.{put, value_of}
-use Rattle.qs_meaning.specs.BlockRecords.{BlockRecord}
-use Rattle.qs_meaning.proofs.TreeWalks.{put_here}
+use Rattle.std.proofs.Common.{◌≡◌, ◌<◌, ◌≤◌, ℕ, Bool, true, false, if◌then◌else◌, ◌&&◌, is_some, List, [], ◌∷◌, Option, Some, None, ℤ, rules, arith}
+use Rattle.qs_core_laws.proofs.Names.{nat_tests, Parcel, Reserve, Send, Finished, Client, ClientStage, Settings, Settlement, between, runs, full, awaits, leaves, act_at, call_act, call, clear, end_block, query, after_parcel, after_end, after_home, after_sync, after_work, settle, stop_at, take_chunk}
+use Rattle.qs_played.proofs.Names.{HeldState, run_one, Ticket, Request, ProgramShape, Locals, put, value_of, BlockRecord, put_here}
 use Rattle.qs_graph.specs.audit.Synced.{Synced, Done, Call, Sync, Query}
-use Rattle.qs_chunk.specs.declared.parcel.Parcel.{Parcel}
-use Rattle.qs_client.specs.declared.rules.act.Act.TheVariants.{Reserve, Send, Finished}
-use Rattle.qs_client.specs.audit.rules.Client.{Client, ClientStage, Settings, Settlement, between, runs, full, awaits, leaves, act_at, call_act, call, clear, end_block, query, after_parcel, after_end, after_home, after_sync, after_work, settle, stop_at, take_chunk}
 use Rattle.qs_client.specs.audit.rules.Client as clients
 use Rattle.qs_core_laws.proofs.protocol.ActObjects.{between_acts}
 use Rattle.qs_core_laws.proofs.protocol.ClientInvariants.{PlaceOk}
@@ -26,8 +16,7 @@ ComesFull r = HasFull r.client r.client.stage
 
 module _ (settings : Settings) (t : Ticket) (names : List ℕ) where
   leaving_full : (m : Client) (hs : List ℕ) (l : Locals) → ComesFull (end_block settings t names m hs l)
-  leaving_full m [] l = tt
-  leaving_full m (h ∷ hs) l = tt
+  leaving_full m v l = search rules
 
   call_full : (m : Client) (r : Request) (next : Synced) (hd : Option HeldState) (ck : Option (List Request))
       → ((m : Client) → ComesFull (settle settings t names next m)) → ComesFull (call settings t names m r next (λ m. settle settings t names next m) hd ck)
@@ -35,13 +24,11 @@ module _ (settings : Settings) (t : Ticket) (names : List ℕ) where
 
   query_full : (m : Client) (r : Request) (next : ℤ → Synced) (hd : Option HeldState) → ((v : ℤ) (m : Client) → ComesFull (settle settings t names (next v) m))
       → ComesFull (query settings t names m r next (λ v m. settle settings t names (next v) m) hd)
-  query_full m r next (Some x) ih = ih (value_of (run_one x t r).1) (record m { held = put m.held r.object (Some (run_one x t r).0) })
-  query_full m r next None ih = tt
+  query_full m r next v ih = search rules
 
   sync_full : (m : Client) (h : ℕ) (next : Synced) (b : Bool) → ((m : Client) → ComesFull (settle settings t names next m))
       → ComesFull (if b then settle settings t names next m else stop_at m (runs (Sync h next)))
-  sync_full m h next true ih = ih m
-  sync_full m h next false ih = tt
+  sync_full m h next v ih = search rules
 
   pub settle_full : (code : Synced) (m : Client) → ComesFull (settle settings t names code m)
   settle_full (Done l) m = leaving_full m names l
@@ -50,46 +37,36 @@ module _ (settings : Settings) (t : Ticket) (names : List ℕ) where
   settle_full (Query r next) m = query_full m r next (m.held r.object) (λ v m. settle_full (next v) m)
 
   home_full : (m : Client) (h : ℕ) (pl : ClientStage) → HasFull m pl → ComesFull (after_home settings t names m h pl)
-  home_full m h (runs code) k = settle_full code (record m { held = put m.held h None })
-  home_full m h _ k = k
+  home_full m h v k = search (rules, settle_full)
 
   work_full : (m : Client) (h : ℕ) (pl : ClientStage) → HasFull m pl → ComesFull (after_work settings t names m h pl)
-  work_full m h (runs code) k = settle_full code (record m { chunk = put m.chunk h None })
-  work_full m h (full g code) k = settle_full code (record m { chunk = put m.chunk h None })
-  work_full m h _ k = k
+  work_full m h v k = search (rules, settle_full)
 
   sync_sent_full : (m : Client) (pl : ClientStage) → HasFull m pl → ComesFull (after_sync settings t names m pl)
-  sync_sent_full m (runs (Done l)) k = k
-  sync_sent_full m _ k = k
+  sync_sent_full m v k = search rules
 
   end_full : (m : Client) (pl : ClientStage) → HasFull m pl → ComesFull (after_end settings t names m pl)
-  end_full m (leaves g hs l) k = leaving_full m hs l
-  end_full m _ k = k
+  end_full m v k = search (rules, leaving_full)
 
   pub sent_full : (m : Client) (h : ℕ) (parcel : Parcel) → HasFull m m.stage → ComesFull (after_parcel settings t names m h parcel)
   sent_full m h parcel k = search (rules, home_full, work_full, sync_sent_full, end_full)
 
   pub got_full : (m : Client) (x : HeldState) (pl : ClientStage) → HasFull m pl → ComesFull (clients.take_object settings t names m x pl)
-  got_full m x (awaits g code) k = settle_full code (record m { held = put m.held g (Some x) })
-  got_full m x _ k = k
+  got_full m x v k = search (rules, settle_full)
 
   pub chunk_full : (m : Client) (h : ℕ) (pl : ClientStage) → HasFull m pl → ComesFull (take_chunk settings t names m h pl)
-  chunk_full m h (runs code) k = settle_full code (record m { chunk = put m.chunk h (Some []) })
-  chunk_full m h _ k = k
+  chunk_full m h v k = search (rules, settle_full)
 
 -- no act in a block is the last
 module _ (settings : Settings) where
   call_not_last : (h : ℕ) (hd : Option HeldState) (ck : Option (List Request)) → call_act settings h hd ck ≡ Finished → ⊥
-  call_not_last h None None e = cc
-  call_not_last h _ _ e = cc
+  call_not_last h v w e = search rules
 
   clears_not_last : (h : ℕ) (hd : Option HeldState) (ck : Option (List Request)) (parcel : Parcel) → clear settings h hd ck (Send h parcel) ≡ Finished → ⊥
-  clears_not_last h None (Some rs) parcel e = cc
-  clears_not_last h _ _ parcel e = cc
+  clears_not_last h v w parcel e = search rules
 
   full_not_last : (h : ℕ) (ck : Option (List Request)) → is_some ck ≡ true → clear settings h None ck Finished ≡ Finished → ⊥
-  full_not_last h (Some rs) some e = cc
-  full_not_last h None some e = cc
+  full_not_last h v some e = search rules
 
 -- who asks for nothing more is between blocks
 pub finished_at : (program : ProgramShape) (t : Ticket) (snt : ℕ → List Parcel) (got : ℕ → List HeldState) (settings : Settings) (blocks : ℕ)

@@ -1,16 +1,8 @@
 -- An object's journal that has grown by the events of one ticket: it stays honest, replays to the object's state, and
 -- keeps its room. That journals go on along the order of reservations is shown with it, ticket by ticket, of the
 -- machine and of threads.
-use Rattle.std.proofs.Common.{◌≡◌, ◌+◌, ◌≤◌, ℕ, Bool, if◌then◌else◌, List, [], ◌∷◌, ◌++◌, map, length, refl, sym, ap, ◌∙◌, subst, append_assoc, append-nil, None, rules}
-use Rattle.std.proofs.lemmas.List.{length-append, length-map, map-append}
-use Rattle.qs_objects.specs.audit.Act.{act}
-use Rattle.qs_objects.specs.audit.Journals.{HeldState, has_room, with_entry, replay, unstamp, without_tickets, IsHonest}
-use Rattle.qs_objects.specs.Parts.{stamp}
-use Rattle.qs_objects.specs.declared.held.Entry.{Entry}
-use Rattle.qs_objects.specs.declared.held.Event.{Event}
-use Rattle.qs_objects.specs.declared.held.Ticket.{Ticket}
-use Rattle.qs_objects.proofs.Replays.{replay-append, IsHonest-append}
-use Rattle.qs_meaning.proofs.Histories.{unstamp_all}
+use Rattle.std.proofs.Common.{◌≡◌, ◌+◌, ◌≤◌, ℕ, Bool, if◌then◌else◌, List, [], ◌∷◌, ◌++◌, map, length, refl, sym, ap, ◌∙◌, subst, append_assoc, append-nil, None, rules, arith}
+use Rattle.qs_played.proofs.Names.{length-append, length-map, map-append, act, HeldState, has_room, with_entry, replay, unstamp, without_tickets, IsHonest, stamp, Entry, Event, Ticket, replay-append, IsHonest-append, unstamp_all}
 use Rattle.qs_chunk.specs.LaneViews.{Extends}
 
 -- y is x after these events under this ticket, where the journal has room for them
@@ -21,12 +13,7 @@ pub record Grown (t : Ticket) (x : HeldState) (es : List Event) (y : HeldState) 
   pub room : y.room ≡ x.room
 
 pub grown : (t : Ticket) (x : HeldState) (es : List Event) (y : HeldState) → Extends t x es y → length x.journal + length es ≤ x.room → Grown t x es y
-grown t x [] y k le = record {
-  honest = tt;
-  state = ap (λ (o : HeldState). o.object) (sym k);
-  journal = ap (λ (o : HeldState). o.journal) (sym k) ∙ sym (append-nil x.journal);
-  room = ap (λ (o : HeldState). o.room) (sym k);
-}
+grown t x [] y k le = search (rules, append-nil)
 grown t x (e ∷ es) y k le = by_case (has_room x) refl (λ x k le. grown t x es y k le) k
   where
     by_case : (b : Bool) → has_room x ≡ b → ((x : HeldState) → Extends t x es y → length x.journal + length es ≤ x.room → Grown t x es y)
@@ -37,14 +24,10 @@ grown t x (e ∷ es) y k le = by_case (has_room x) refl (λ x k le. grown t x es
 
 -- an honest journal after these events
 pub stamped_honest : (t : Ticket) (x z : HeldState) (es : List Event) (j : List Entry) → Grown t x es z → IsHonest z.object (without_tickets j) → IsHonest x.object (without_tickets (map (stamp t) es ++ j))
-stamped_honest t x z es j e k =
-    let is : without_tickets (map (stamp t) es ++ j) ≡ es ++ without_tickets j = map-append unstamp (map (stamp t) es) j ∙ ap (λ es. es ++ without_tickets j) (unstamp_all t es) in
-    subst (IsHonest x.object) (sym is) (IsHonest-append x.object es (without_tickets j) e.honest (subst (λ s. IsHonest s (without_tickets j)) e.state k))
+stamped_honest t x z es j e k = search (rules, map, map-append, unstamp_all, IsHonest-append)
 
 pub stamped_replay : (t : Ticket) (x z : HeldState) (es : List Event) (j : List Entry) → Grown t x es z → replay x.object (without_tickets (map (stamp t) es ++ j)) ≡ replay z.object (without_tickets j)
-stamped_replay t x z es j e =
-    let is : without_tickets (map (stamp t) es ++ j) ≡ es ++ without_tickets j = map-append unstamp (map (stamp t) es) j ∙ ap (λ es. es ++ without_tickets j) (unstamp_all t es) in
-    ap (replay x.object) is ∙ (replay-append x.object es (without_tickets j) ∙ ap (λ s. replay s (without_tickets j)) (sym e.state))
+stamped_replay t x z es j e = search (rules, map, map-append, unstamp_all, replay-append)
 
 pub grown_room : (t : Ticket) (x z : HeldState) (es : List Event) (n : ℕ) → Grown t x es z → length x.journal + (length es + n) ≤ x.room → length z.journal + n ≤ z.room
 grown_room t x z es n e le = search (rules, length-append, length-map)

@@ -2,46 +2,19 @@
 -- and as its rows count.
 use Rattle.std.proofs.Common.{◌≡◌, ◌<◌, ◌≤◌, arith, ℕ, suc, ◌+◌, Bool, true, false, ◌==◌, is_some, List, [], ◌∷◌, ◌++◌, length, map, slice_index_or, slice_set, refl, sym, ap, ◌∙◌, subst, true≢false, ⊎_elim, length-set, rules}
 use Rattle.std.specs.List.{AllByRecursion, IsDistinct}
-use Rattle.std.proofs.lemmas.List.{get_or-map, length-map}
-use Rattle.qs_objects.specs.audit.Journals.{HeldState}
-use Rattle.qs_objects.specs.declared.held.Event.{Event}
-use Rattle.qs_objects.specs.declared.held.Ticket.{Ticket}
-use Rattle.qs_objects.proofs.Choices.{apart_eqb, eqb_apart, eqb_self, num_cases}
-use Rattle.qs_program.specs.audit.Program.{ProgramShape}
-use Rattle.qs_program.specs.audit.Sound.{is_in}
-use Rattle.qs_program.specs.audit.Values.{Locals}
-use Rattle.qs_meaning.specs.audit.Following.{reserves}
-use Rattle.qs_meaning.specs.Following.{AsksOnly, block_tree}
-use Rattle.qs_meaning.specs.audit.Solo.{put}
-use Rattle.qs_meaning.proofs.TreeWalks.{put_here, put_there}
-use Rattle.qs_graph.specs.Synced.{without_syncs}
-use Rattle.qs_syncset.specs.audit.Codes.{BlockCode, ClientCode, code_at, no_code}
-use Rattle.qs_syncset.specs.SoundSynced.{IsSoundSynced, IsOnReserved}
-use Rattle.qs_syncset.specs.SyncCounts.{syncs_along}
-use Rattle.qs_sync_counts.specs.audit.SyncRows.{fresh_rows, no_syncs, object_of, with_sync}
-use Rattle.qs_sync_counts.specs.SyncRows.{syncs_for}
-use Rattle.qs_sync_counts.specs.declared.sync_counts.SyncCount.{SyncCount}
-use Rattle.qs_syncset.proofs.SyncTrees.{IsAsking}
-use Rattle.qs_chunk.specs.declared.parcel.Parcel.{Parcel}
+use Rattle.qs_played.proofs.Names.{get_or-map, length-map, HeldState, Event, Ticket, apart_eqb, eqb_apart, eqb_self, num_cases, ProgramShape, is_in, Locals, reserves, AsksOnly, block_tree, put, put_here, put_there, syncs_along, fresh_rows, no_syncs, object_of, with_sync, syncs_for, SyncCount, IsAsking, ticket}
+use Rattle.qs_core_laws.proofs.Names.{without_syncs, BlockCode, ClientCode, code_at, no_code, IsSoundSynced, IsOnReserved, Parcel, Client, ClientStage, Settings, Settlement, act_of, between, begin, after_parcel, take_chunk, count_sync, outgoing_of, Deed, DeedsLead, RunsTo, next_ticket, ClientModel, act_due, mind_after_begin, mind_after_chunk, finish, enters, fresh_mind, mind_after_object, hands_out, is_between, lists_of_code, tally, tree_at, put_both, none_for, objects_none, objects_stay, sent_for, ClientHistory}
 use Rattle.qs_chunk.specs.declared.parcel.Parcel.TheVariants as parcels
-use Rattle.qs_client.specs.audit.rules.Client.{Client, ClientStage, Settings, Settlement, act_of, between, begin, after_parcel, take_chunk}
 use Rattle.qs_client.specs.audit.rules.Client as clients
-use Rattle.qs_client.specs.audit.rules.Outgoings.{count_sync, outgoing_of}
 use Rattle.qs_client.specs.declared.rules.act.Act.TheVariants as acts
 use Rattle.qs_client.specs.declared.rules.outgoing.Outgoing.TheVariants as outgoings
-use Rattle.qs_client.specs.audit.ClientRuns.{Deed, DeedsLead, RunsTo, next_ticket}
 use Rattle.qs_client.specs.audit.ClientRuns as deeds
-use Rattle.qs_client.specs.audit.ClientModel.{ClientModel, act_due, mind_after_begin, mind_after_chunk, finish, enters, fresh_mind, mind_after_object, hands_out, is_between, lists_of_code, tally, tree_at}
-use Rattle.qs_played.specs.audit.Played.{ticket}
-use Rattle.qs_played.proofs.FunctionUpdate.{put_both}
-use Rattle.qs_played.proofs.SyncTallies.{none_for, objects_none, objects_stay, sent_for}
 use Rattle.qs_core_laws.proofs.protocol.ActObjects.{chunk_begun, got_begun, not_await, not_need, not_send, send_at, sent_begun, settle_begun}
 use Rattle.qs_core_laws.proofs.protocol.BlockLists.{after_not, before_not, row_push, row_set}
 use Rattle.qs_core_laws.proofs.protocol.BlockHistories.{rests}
 use Rattle.qs_core_laws.proofs.protocol.ClientCounts.{CountAt, Counts, Even, Over, chunk_counts, got_counts, send_counts, settle_counts}
 use Rattle.qs_core_laws.proofs.protocol.ClientInvariants.{Lined, objects_of_block}
 use Rattle.qs_core_laws.proofs.protocol.ClientHistories.{InClientHistory, asks, entry_rows, fresh_tale, getting, in_tale_block, inside, own, own_is, reserves_between}
-use Rattle.qs_core_laws.specs.protocol.ClientHistories.{ClientHistory}
 use Rattle.qs_core_laws.proofs.protocol.ClientHistories.{reserving, sending, taking, trace_rows}
 use Rattle.qs_core_laws.proofs.protocol.MindSteps.{came, chunk_does, deeds_keep, done_still, get_does, reserve_does, send_does}
 
@@ -119,15 +92,8 @@ module _ (program : ProgramShape) (fine : (t : Ticket) (l : Locals) → AsksOnly
         let trace_is = row_set m.traces k row (let long = o.trace_count in let within = o.telling.within in omega (arith, e, long, within)) in
         record {
           syncs = put w.syncs k n;
-          newest = λ j i.
-              let is : k ≡ j = omega (arith, e, still, i) in
-              subst (λ j. At j (entry_rows m j) (slice_index_or (slice_set m.traces k row) j []) (put w.syncs k n j) r.client) is
-              (subst (λ es. At k (entry_rows m k) es (put w.syncs k n k) r.client) (sym (put_here (trace_rows m) k row) ∙ trace_is k)
-              (subst (λ f. At k (entry_rows m k) row f r.client) (sym (put_here w.syncs k n)) now));
-          older = λ j lt.
-              let other : (k == j) ≡ false = after_not k j (omega (arith, e, still, lt)) in
-              subst (λ es. Past j (entry_rows m j) es (put w.syncs k n j)) (sym (put_there (trace_rows m) k row j other) ∙ trace_is j)
-              (subst (λ f. Past j (entry_rows m j) (trace_rows m j) f) (sym (put_there w.syncs k n j other)) (w.older j (omega (arith, still, lt))));
+          newest = grind (arith, w, put_here);
+          older = grind (arith, after_not, w, put_there);
           fresh = λ j low h.
               ap (λ (f : ℕ → ℕ). f h) (put_there w.syncs k n j (before_not k j (omega (arith, e, still, low)))) ∙ w.fresh j (omega (arith, still, low)) h;
           row_count = long;
@@ -290,18 +256,8 @@ module _ (program : ProgramShape) (fine : (t : Ticket) (l : Locals) → AsksOnly
             let none : r.events ≡ row = sym (ap (λ es. es ++ r.events) (o.telling.fresh k (omega arith))) in
             record {
               syncs = w.syncs;
-              newest = λ j i.
-                  let is : k ≡ j = omega (arith, more, i) in
-                  subst (λ j. At j (slice_index_or (m.entries ++ l ∷ []) j []) (slice_index_or (slice_set m.traces k row) j []) (w.syncs j) r.client) is
-                  (subst (λ x. At k x (slice_index_or (slice_set m.traces k row) k []) (w.syncs k) r.client)
-                  (sym (put_here (entry_rows m) k l) ∙ entry_is k (omega arith))
-                  (subst (λ es. At k l es (w.syncs k) r.client) (none ∙ (sym (put_here (trace_rows m) k row) ∙ trace_is k)) now));
-              older = λ j lt.
-                  let low : j < k = omega (arith, more, lt) in
-                  let other : (k == j) ≡ false = after_not k j low in
-                  subst (λ x. Past j x (slice_index_or (slice_set m.traces k row) j []) (w.syncs j))
-                  (sym (put_there (entry_rows m) k l j other) ∙ entry_is j (omega (arith, low)))
-                  (subst (λ es. Past j (entry_rows m j) es (w.syncs j)) (sym (put_there (trace_rows m) k row j other) ∙ trace_is j) (all_past l at j low));
+              newest = grind (arith, w, put_here);
+              older = grind (arith, after_not, w, put_there, all_past);
               fresh = λ j low h. w.fresh j (omega (arith, more, low)) h;
               row_count = w.row_count;
               rows = w.rows;
@@ -340,8 +296,7 @@ module _ (program : ProgramShape) (fine : (t : Ticket) (l : Locals) → AsksOnly
       deeds [] (fresh_mind code size) last (fresh_tale program fine lined c code size reserved_is walk_is, fresh_counts) lead
 
   stands_between : (p : ClientStage) → is_between p ≡ true → (l : Locals) × (p ≡ between l)
-  stands_between (between l) e = (l, refl)
-  stands_between _ e = absurd (true≢false (sym e))
+  stands_between v e = search (rules, true≢false)
 
   -- how many Syncs a client's whole run sent
   pub history_counts : (deeds : List Deed) (end : ClientModel) → RunsTo c (fresh_mind code size) deeds end → (tale : ClientHistory program c code deeds end)

@@ -1,7 +1,7 @@
 -- Only the empty list is a front of the empty list; and where one list is a front of another, their first elements are
 -- equal and the rest is a front of the rest. The proofs on the two ends of a lane compare what was got with what was
 -- given in this way, element by element. Both follow from the definition of `IsFront`.
-use Rattle.std.proofs.Common.{◌≡◌, List, [], ◌∷◌, refl}
+use Rattle.std.proofs.Common.{◌≡◌, List, [], ◌∷◌, refl, rules, arith}
 use Rattle.qs_objects.specs.audit.Parts.{IsFront}
 
 pub front_of_none : {X : Type 0} (xs : List X) → IsFront xs [] → xs ≡ []

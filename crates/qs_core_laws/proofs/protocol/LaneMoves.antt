@@ -1,20 +1,10 @@
 -- A lane as its client or its handler sees it goes on by one move: what the move sends, gives or logs stands at the end
 -- of the lists. Each step of a client at a lane is one of seven such moves, and each step of a handler one of five. As
 -- a lane is read from its first parcel on, the proofs go by induction on what was sent or received so far.
-use Rattle.std.proofs.Common.{◌≡◌, Bool, true, false, List, [], ◌∷◌, ◌++◌, map, refl, sym, ap, ap₂, ◌∙◌, subst, append_assoc}
-use Rattle.std.proofs.lemmas.List.{map-append}
-use Rattle.qs_objects.specs.audit.Journals.{HeldState, run_one}
-use Rattle.qs_objects.specs.Laws.{IsCommand}
-use Rattle.qs_objects.specs.audit.Parts.{command_event}
-use Rattle.qs_objects.specs.declared.held.Event.{Event}
-use Rattle.qs_objects.specs.declared.held.Ticket.{Ticket}
-use Rattle.qs_objects.specs.declared.Request.{Request}
-use Rattle.qs_meaning.specs.audit.Solo.{event}
-use Rattle.qs_meaning.proofs.Each.{each_join}
-use Rattle.qs_chunk.specs.audit.Batch.{Batch}
-use Rattle.qs_chunk.specs.audit.Runs.{ran_all}
+use Rattle.std.proofs.Common.{◌≡◌, Bool, true, false, List, [], ◌∷◌, ◌++◌, map, refl, sym, ap, ap₂, ◌∙◌, subst, append_assoc, rules, arith}
+use Rattle.qs_played.proofs.Names.{map-append, HeldState, run_one, command_event, Event, Ticket, Request, event, each_join}
+use Rattle.qs_core_laws.proofs.Names.{IsCommand, Batch, ran_all, Parcel}
 use Rattle.qs_chunk.specs.LaneViews.{AllCommands, Extends, ObjectStance, sends, asks, holds, gone, ClientLane, Serving, serves, gives, lent, over, HandlerLane}
-use Rattle.qs_chunk.specs.declared.parcel.Parcel.{Parcel}
 use Rattle.qs_chunk.proofs.LaneMatch.{Extends-append}
 use Rattle.qs_chunk.specs.declared.parcel.Parcel.TheVariants as parcels
 
@@ -27,18 +17,13 @@ ContinuesLane t gone sent gots es s = (sent ≡ []) × (gots ≡ []) × (es ≡ 
 
 pub lane_goes : (t : Ticket) (asked : Bool) (sent : List Parcel) (gots : List HeldState) (es : List Event) (s : ObjectStance) (sent' : List Parcel) (gots' : List HeldState) (es' : List Event) (s' : ObjectStance)
     → ClientLane t asked sent gots es s → ContinuesLane t s sent' gots' es' s' → ClientLane t asked (sent ++ sent') (gots ++ gots') (es ++ es') s'
-lane_goes t false [] gots es s sent' gots' es' s' k g =
-    let g' : ClientLane t false sent' gots' (map command_event k.0 ++ es') s' = (subst (λ s. ContinuesLane t s sent' gots' es' s') k.1 g) k.4 in
-    subst (λ gs. ClientLane t false sent' (gs ++ gots') (es ++ es') s') (sym k.2) (subst (λ es. ClientLane t false sent' gots' (es ++ es') s') (sym k.3) g')
+lane_goes t false [] gots es s sent' gots' es' s' k g = search (rules, map)
 lane_goes t false (parcels.Work chunk ∷ sent) gots es s sent' gots' es' s' k g =
     (k.0 ++ es', ap (λ xs. xs ++ es') k.1 ∙ append_assoc (map command_event chunk.items) k.0 es', k.2, lane_goes t false sent gots k.0 s sent' gots' es' s' k.3 g)
 lane_goes t false (parcels.Sync ∷ sent) gots es s sent' gots' es' s' k g = lane_goes t true sent gots es s sent' gots' es' s' k g
-lane_goes t false (parcels.End ∷ sent) gots es s sent' gots' es' s' k g =
-    let e = subst (λ s. ContinuesLane t s sent' gots' es' s') k.3 g in
-    (ap₂ (λ a b. a ++ b) k.0 e.0, ap₂ (λ a b. a ++ b) k.1 e.1, ap₂ (λ a b. a ++ b) k.2 e.2, e.3)
+lane_goes t false (parcels.End ∷ sent) gots es s sent' gots' es' s' k g = search rules
 lane_goes t true [] [] es s sent' gots' es' s' k g = subst (λ es. ClientLane t true sent' gots' (es ++ es') s') (sym k.0) (subst (λ s. ContinuesLane t s sent' gots' es' s') k.1 g)
-lane_goes t true [] (x ∷ gots) es s sent' gots' es' s' k g =
-    subst (λ gs. ClientLane t true sent' (x ∷ (gs ++ gots')) (es ++ es') s') (sym k.1) ((subst (λ s. ContinuesLane t s sent' gots' es' s') k.2 g) x es k.3)
+lane_goes t true [] (x ∷ gots) es s sent' gots' es' s' k g = search rules
 lane_goes t true (parcels.Home x ∷ sent) gots es s sent' gots' es' s' k g =
     (k.0, k.1 ++ gots', k.2, k.3 ++ es', ap (λ gs. gs ++ gots') k.4, ap (λ es. es ++ es') k.5 ∙ append_assoc k.2 k.3 es', k.6, lane_goes t false sent k.1 k.3 s sent' gots' es' s' k.7 g)
 lane_goes t _ (_ ∷ sent) gots es s sent' gots' es' s' k g = absurd k
@@ -77,12 +62,9 @@ pub handler_goes : (t : Ticket) (asked : Bool) (x : HeldState) (got : List Parce
 handler_goes t false x [] gave s got' gave' s' k g = subst (λ gs. HandlerLane t false x got' (gs ++ gave') s') (sym k.0) (subst (λ s. HandlerGoes t s got' gave' s') k.1 g)
 handler_goes t false x (parcels.Work chunk ∷ got) gave s got' gave' s' k g = handler_goes t false (ran_all x t chunk.items) got gave s got' gave' s' k g
 handler_goes t false x (parcels.Sync ∷ got) gave s got' gave' s' k g = handler_goes t true x got gave s got' gave' s' k g
-handler_goes t false x (parcels.End ∷ got) gave s got' gave' s' k g =
-    let e = subst (λ s. HandlerGoes t s got' gave' s') k.2 g in
-    (ap₂ (λ a b. a ++ b) k.0 e.0, ap₂ (λ a b. a ++ b) k.1 e.1, e.2)
+handler_goes t false x (parcels.End ∷ got) gave s got' gave' s' k g = search rules
 handler_goes t true x [] [] s got' gave' s' k g = subst (λ s. HandlerGoes t s got' gave' s') k g
-handler_goes t true x [] (y ∷ gave) s got' gave' s' k g =
-    subst (λ y. HandlerLane t true x got' (y ∷ (gave ++ gave')) s') (sym k.0) (subst (λ gs. HandlerLane t true x got' (x ∷ (gs ++ gave')) s') (sym k.1) (subst (λ s. HandlerGoes t s got' gave' s') k.2 g))
+handler_goes t true x [] (y ∷ gave) s got' gave' s' k g = search rules
 handler_goes t true x (parcels.Home y ∷ got) gave s got' gave' s' k g = (k.0 ++ gave', ap (λ gs. gs ++ gave') k.1, handler_goes t false y got k.0 s got' gave' s' k.2 g)
 handler_goes t _ x (_ ∷ got) gave s got' gave' s' k g = absurd k
 

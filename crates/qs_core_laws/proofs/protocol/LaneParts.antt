@@ -2,17 +2,9 @@
 -- each End. So it is known what is on its way for one ticket (`CommandsInTransit`), and the lanes of a run on threads
 -- are cut into blocks (`LaneCuts`). A client that has left has sent its End, by induction on what it sent; the tickets
 -- are then gone through one by one.
-use Rattle.std.proofs.Common.{◌≡◌, Bool, true, false, true≢false, List, [], ◌∷◌, ◌++◌, flat_map, refl, sym, ap, ◌∙◌, subst, inl, inr, ⊎_elim}
-use Rattle.std.specs.List.{AllByRecursion}
-use Rattle.qs_objects.specs.audit.Journals.{HeldState}
-use Rattle.qs_objects.specs.audit.Parts.{same}
-use Rattle.qs_objects.specs.declared.held.Event.{Event}
-use Rattle.qs_objects.specs.declared.held.Ticket.{Ticket}
-use Rattle.qs_objects.proofs.Choices.{same_self, ticket_cases}
-use Rattle.qs_meaning.proofs.Histories.{Among}
-use Rattle.qs_chunk.specs.LaneViews.{gone, ClientLane}
-use Rattle.qs_chunk.specs.declared.parcel.Parcel.{Parcel}
-use Rattle.qs_chunk.specs.LaneParts.{lane_of, past_end, to_end}
+use Rattle.std.proofs.Common.{◌≡◌, Bool, true, false, true≢false, List, [], ◌∷◌, ◌++◌, flat_map, refl, sym, ap, ◌∙◌, subst, inl, inr, ⊎_elim, rules, arith}
+use Rattle.qs_played.proofs.Names.{AllByRecursion, HeldState, same, Event, Ticket, same_self, ticket_cases, Among}
+use Rattle.qs_core_laws.proofs.Names.{gone, ClientLane, Parcel, lane_of, past_end, to_end}
 use Rattle.qs_chunk.specs.declared.parcel.Parcel.TheVariants as parcels
 use Rattle.qs_core_laws.proofs.protocol.LaneWholes.{IsCut, back_nil}
 
@@ -70,11 +62,7 @@ lane_of_other t (u ∷ us) ps other = rw other.0 (lane_of_other t us (past_end p
 -- of one of these
 pub lane_of_own : (t : Ticket) (way : Ticket → List Parcel) (us : List Ticket) → AreCut way us → Among t us → lane_of t us (flat_map way us) ≡ way t
 lane_of_own t way [] cut a = absurd a
-lane_of_own t way (u ∷ []) cut a =
-    elim a [
-      | inl is ↦ subst (λ u. IsCut (way u) → lane_of t (u ∷ []) (flat_map way (u ∷ [])) ≡ way t) is (λ cut. rw (same_self t) (to_end_cut (way t) cut)) cut.0
-      | inr none ↦ absurd none
-    ]
+lane_of_own t way (u ∷ []) cut a = search (rules, same_self, to_end_cut)
 lane_of_own t way (u ∷ (v ∷ vs)) cut a =
     let ended = cut.1 (λ none. cc none) in
     let later : Among t (v ∷ vs) → lane_of t (v ∷ vs) (past_end (way u ++ flat_map way (v ∷ vs))) ≡ way t = λ b.

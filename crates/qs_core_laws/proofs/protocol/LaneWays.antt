@@ -2,18 +2,11 @@
 -- to receive, or a client nothing more to get, once the other has come so far. The steps at an object (`ObjectSteps`)
 -- stand on this. The proofs go by induction on what the handler received, where each Sync is met by an object that was
 -- given.
-use Rattle.std.proofs.Common.{◌≡◌, ℕ, Bool, true, false, if◌then◌else◌, ◌==◌, List, [], ◌∷◌, ◌++◌, filter, flat_map, refl, sym, ap, ap₂, ◌∙◌, subst, ◌⊎◌, inl, inr, append_assoc, append-nil}
-use Rattle.std.specs.List.{AllByRecursion}
-use Rattle.qs_objects.specs.audit.Journals.{HeldState}
-use Rattle.qs_objects.specs.audit.Parts.{IsFront, same}
-use Rattle.qs_objects.specs.declared.held.Event.{Event}
-use Rattle.qs_objects.specs.declared.held.Ticket.{Ticket}
-use Rattle.qs_objects.proofs.Choices.{eqb_self}
-use Rattle.qs_chunk.specs.audit.Runs.{ran_all}
+use Rattle.std.proofs.Common.{◌≡◌, ℕ, Bool, true, false, if◌then◌else◌, ◌==◌, List, [], ◌∷◌, ◌++◌, filter, flat_map, refl, sym, ap, ap₂, ◌∙◌, subst, ◌⊎◌, inl, inr, append_assoc, append-nil, rules, arith}
+use Rattle.qs_played.proofs.Names.{AllByRecursion, HeldState, IsFront, same, Event, Ticket, eqb_self}
+use Rattle.qs_core_laws.proofs.Names.{ran_all, Parcel, put_at, put_at_here, put_at_there}
 use Rattle.qs_chunk.specs.LaneViews.{ObjectStance, gone, ClientLane, Serving, serves, lent, over, HandlerLane}
-use Rattle.qs_chunk.specs.declared.parcel.Parcel.{Parcel}
 use Rattle.qs_chunk.specs.declared.parcel.Parcel.TheVariants as parcels
-use Rattle.qs_played.proofs.FunctionUpdate.{put_at, put_at_here, put_at_there}
 use Rattle.qs_core_laws.proofs.protocol.LaneFronts.{front_of_none, front_rest}
 
 -- A client that has sent the end, and a handler that has received all of it: the handler has the end.
@@ -36,18 +29,14 @@ MayCome (lent x) (parcels.Home y) way = Unit {0}
 MayCome _ _ way = ⊥
 
 come_serves : (t : Ticket) (z : HeldState) (p : Parcel) (way : List Parcel) (gots : List HeldState) (es : List Event) (c : ObjectStance) → ClientLane t false (p ∷ way) gots es c → MayCome (serves z) p way
-come_serves t z (parcels.Home y) way gots es c k = absurd k
-come_serves t z parcels.End way gots es c k = k.0
-come_serves t z _ way gots es c k = tt
+come_serves t z v way gots es c k = search rules
 
 come_lent : (t : Ticket) (z : HeldState) (p : Parcel) (way : List Parcel) (gots : List HeldState) (es : List Event) (c : ObjectStance) → ClientLane t true (p ∷ way) gots es c → MayCome (lent z) p way
-come_lent t z (parcels.Home y) way gots es c k = tt
-come_lent t z _ way gots es c k = absurd k
+come_lent t z v way gots es c k = search rules
 
 -- nothing comes before what was asked for was given
 come_gives : (t : Ticket) (p : Parcel) (way : List Parcel) (gots : List HeldState) (es : List Event) (c : ObjectStance) → ClientLane t true (p ∷ way) gots es c → gots ≡ [] → ⊥
-come_gives t (parcels.Home y) way gots es c k n = cc (k.4, n)
-come_gives t _ way gots es c k n = k
+come_gives t v way gots es c k n = search rules
 
 pub come : (t : Ticket) (x : HeldState) (received : List Parcel) (p : Parcel) (way : List Parcel) (gots gave : List HeldState) (es : List Event) (c : ObjectStance) (s : Serving)
     → ClientLane t false (received ++ p ∷ way) gots es c → HandlerLane t false x received gave s → IsFront gots gave → MayCome s p way
@@ -106,12 +95,7 @@ none_of c way (u ∷ us) k = rw k.0 (none_of c way us k.1)
 pub last_more : (t : Ticket) (way : Ticket → List Parcel) (p : Parcel) (q : List Ticket) → LastOf t q
     → flat_map (put_at way t (way t ++ p ∷ [])) (filter (λ (u : Ticket). u.client == t.client) q) ≡ flat_map way (filter (λ (u : Ticket). u.client == t.client) q) ++ p ∷ []
 last_more t way p [] l = absurd l
-last_more t way p (u ∷ us) (inl l) = by_case (u.client == t.client) (last_more t way p us l.1)
-  where
-    by_case : (b : Bool) → flat_map (put_at way t (way t ++ p ∷ [])) (filter (λ (u : Ticket). u.client == t.client) us) ≡ flat_map way (filter (λ (u : Ticket). u.client == t.client) us) ++ p ∷ []
-        → flat_map (put_at way t (way t ++ p ∷ [])) (if b then u ∷ filter (λ (u : Ticket). u.client == t.client) us else filter (λ (u : Ticket). u.client == t.client) us) ≡ flat_map way (if b then u ∷ filter (λ (u : Ticket). u.client == t.client) us else filter (λ (u : Ticket). u.client == t.client) us) ++ p ∷ []
-    by_case true ih = ap₂ (λ a b. a ++ b) (put_at_there way t (way t ++ p ∷ []) u l.0) ih ∙ sym (append_assoc (way u) (flat_map way (filter (λ (u : Ticket). u.client == t.client) us)) (p ∷ []))
-    by_case false ih = ih
+last_more t way p (u ∷ us) (inl l) = search (rules, put_at, filter, put_at_there, append_assoc, last_more t way p us l.1)
 last_more t way p (u ∷ us) (inr l) =
     subst (λ u. flat_map (put_at way t (way t ++ p ∷ [])) (filter (λ (u : Ticket). u.client == t.client) (u ∷ us)) ≡ flat_map way (filter (λ (u : Ticket). u.client == t.client) (u ∷ us)) ++ p ∷ []) l.0
     (rw (eqb_self t.client) (ap₂ (λ a b. a ++ b) (put_at_here way t (way t ++ p ∷ [])) (none_of t.client (put_at way t (way t ++ p ∷ [])) us l.1)

@@ -2,20 +2,11 @@
 -- and then those in the open chunk; in a lane that was taken to its End all of it was run. So journals follow the
 -- traces (`JournalOrder`, `JournalFlows`). The proof reads both ends of the lane side by side, by induction on what the
 -- handler received.
-use Rattle.std.proofs.Common.{◌≡◌, Bool, true, false, List, [], ◌∷◌, ◌++◌, map, refl, sym, ap, ap₂, ◌∙◌, subst, append_assoc, append-nil}
-use Rattle.std.proofs.lemmas.List.{map-append}
-use Rattle.qs_objects.specs.audit.Journals.{HeldState}
-use Rattle.qs_objects.specs.Laws.{IsCommand}
-use Rattle.qs_objects.specs.audit.Parts.{IsFront, command_event}
-use Rattle.qs_objects.specs.declared.held.Event.{Event}
-use Rattle.qs_objects.specs.declared.held.Ticket.{Ticket}
-use Rattle.qs_objects.specs.declared.Request.{Request}
-use Rattle.qs_meaning.proofs.Each.{each_join}
-use Rattle.qs_chunk.specs.audit.Runs.{ran_all}
+use Rattle.std.proofs.Common.{◌≡◌, Bool, true, false, List, [], ◌∷◌, ◌++◌, map, refl, sym, ap, ap₂, ◌∙◌, subst, append_assoc, append-nil, rules, arith}
+use Rattle.qs_played.proofs.Names.{map-append, HeldState, IsFront, command_event, Event, Ticket, Request, each_join}
+use Rattle.qs_core_laws.proofs.Names.{IsCommand, ran_all, Parcel, commands_in}
 use Rattle.qs_chunk.specs.LaneViews.{AllCommands, Extends, ObjectStance, sends, gone, ClientLane, Serving, lent, over, HandlerLane, HandlerGives, object_of}
-use Rattle.qs_chunk.specs.declared.parcel.Parcel.{Parcel}
 use Rattle.qs_chunk.proofs.LaneMatch.{Extends-append, Extends-ran_all}
-use Rattle.qs_chunk.specs.LaneParts.{commands_in}
 use Rattle.qs_chunk.specs.declared.parcel.Parcel.TheVariants as parcels
 use Rattle.qs_core_laws.proofs.protocol.LaneFronts.{front_of_none, front_rest}
 
@@ -26,9 +17,7 @@ match_over t x z [] gots gave es c k l f = absurd (cc (l.1))
 match_over t x z (parcels.Work chunk ∷ sent) gots gave es c k l f =
     let r = match_over t (ran_all x t chunk.items) z sent gots gave k.0 c k.3 l f in
     (subst (λ es. Extends t x es z) (sym k.1) (Extends-append t x (ran_all x t chunk.items) z (map command_event chunk.items) k.0 (Extends-ran_all t x chunk.items k.2) r.0), r.1)
-match_over t x z (parcels.End ∷ sent) gots gave es c k l f =
-    let same_one : x ≡ z = cc (l.2) in
-    (subst (λ es. Extends t x es z) (sym k.2) (subst (λ z. Extends t x [] z) same_one refl), k.3)
+match_over t x z (parcels.End ∷ sent) gots gave es c k l f = search rules
 match_over t x z (parcels.Sync ∷ []) gots [] es c k l f = absurd (cc (l))
 match_over t x z (parcels.Sync ∷ []) gots (g ∷ gave) es c k l f = absurd (cc (l.2))
 match_over t x z (parcels.Sync ∷ (parcels.Home w ∷ sent)) gots gave es c k l f =
@@ -51,11 +40,7 @@ pub record Whole (t : Ticket) (x : HeldState) (es : List Event) (c : ObjectStanc
 
 pub waits_are : (t : Ticket) (sent : List Parcel) (es : List Event) (s : ObjectStance) → ClientLane t false sent [] es s → (es ≡ map command_event (commands_in sent ++ chunk_of s)) × AllCommands (commands_in sent ++ chunk_of s)
 waits_are t [] es s c = (c.3 ∙ ap (λ s. map command_event (chunk_of s)) (sym c.1), subst (λ s. AllCommands (chunk_of s)) (sym c.1) c.4)
-waits_are t (parcels.Work chunk ∷ sent) es s c =
-    let r = waits_are t sent c.0 s c.3 in (
-      c.1 ∙ (ap (λ xs. map command_event chunk.items ++ xs) r.0 ∙ (sym (map-append command_event chunk.items (commands_in sent ++ chunk_of s)) ∙ ap (map command_event) (sym (append_assoc chunk.items (commands_in sent) (chunk_of s))))),
-      subst (AllCommands) (sym (append_assoc chunk.items (commands_in sent) (chunk_of s))) (each_join (λ (r : Request). IsCommand r.op) chunk.items (commands_in sent ++ chunk_of s) c.2 r.1),
-    )
+waits_are t (parcels.Work chunk ∷ sent) es s c = search (rules, map, map-append, append_assoc, each_join, waits_are t sent c.0 s c.3)
 waits_are t (parcels.Sync ∷ []) es s c = (c.0 ∙ ap (λ s. map command_event (chunk_of s)) (sym c.1), subst (λ s. AllCommands (chunk_of s)) (sym c.1) tt)
 waits_are t (parcels.Sync ∷ (parcels.Home x ∷ sent)) es s c = absurd (cc (c.4))
 waits_are t (parcels.End ∷ sent) es s c = (c.2 ∙ ap₂ (λ ps s. map command_event (commands_in ps ++ chunk_of s)) (sym c.0) (sym c.3), subst (λ s. AllCommands (commands_in sent ++ chunk_of s)) (sym c.3) (subst (λ ps. AllCommands (commands_in ps ++ [])) (sym c.0) tt))
@@ -63,26 +48,16 @@ waits_are t (_ ∷ _) es s c = absurd c
 
 -- nothing was run
 pub none_whole : (t : Ticket) (x : HeldState) (way : List Parcel) (es : List Event) (c : ObjectStance) → ClientLane t false way [] es c → Whole t x es c x way
-none_whole t x way es c k =
-    let r = waits_are t way es c k in
-    record { ran = []; part = r.0; extends = refl; commands = r.1 }
+none_whole t x way es c k = search (rules, waits_are)
 
 more_whole : (t : Ticket) (x y z : HeldState) (ds es rest : List Event) (c : ObjectStance) (way : List Parcel) → es ≡ ds ++ rest → Extends t x ds y → Whole t y rest c z way → Whole t x es c z way
-more_whole t x y z ds es rest c way e p m = record {
-  ran = ds ++ m.ran;
-  part = e ∙ (ap (λ xs. ds ++ xs) m.part ∙ sym (append_assoc ds m.ran (map command_event (commands_in way ++ chunk_of c))));
-  extends = Extends-append t x y z ds m.ran p m.extends;
-  commands = m.commands;
-}
+more_whole t x y z ds es rest c way e p m = search (rules, append_assoc, map, Extends-append)
 
 asked : (t : Ticket) (x : HeldState) (way : List Parcel) (gots gave : List HeldState) (es : List Event) (c : ObjectStance) (h : Serving) → ClientLane t true way gots es c → HandlerGives x gave h → IsFront gots gave → Whole t x es c (object_of h c way) way
 asked t x [] [] [] es c h k l f = subst (λ h. Whole t x es c (object_of h c []) []) (sym l) (subst (λ c. Whole t x es c x []) (sym k.1) (record { ran = []; part = k.0; extends = refl; commands = tt }))
 asked t x [] [] (g ∷ gave) es c h k l f = subst (λ h. Whole t x es c (object_of h c []) []) (sym l.2) (subst (λ c. Whole t x es c (object_of (lent x) c []) []) (sym k.1) (record { ran = []; part = k.0; extends = refl; commands = tt }))
 asked t x [] (p ∷ gots) [] es c h k l f = absurd (cc (f.1))
-asked t x [] (p ∷ gots) (g ∷ gave) es c h k l f =
-    let same_one : p ≡ x = (front_rest p g gots gave f).0 ∙ l.0 in
-    subst (λ h. Whole t x es c (object_of h c []) []) (sym l.2) (subst (λ c. Whole t x es c (object_of (lent x) c []) []) (sym k.2)
-    (record { ran = es; part = sym (append-nil es); extends = subst (λ p. Extends t p es k.0) same_one k.3; commands = tt }))
+asked t x [] (p ∷ gots) (g ∷ gave) es c h k l f = search (rules, front_rest, append-nil)
 asked t x (parcels.Home y ∷ way) gots [] es c h k l f = absurd (let n = front_of_none gots f in cc (n, k.4))
 asked t x (parcels.Home y ∷ way) gots (g ∷ gave) es c h k l f =
     let both = front_rest k.0 g k.1 gave (subst (λ q. IsFront q (g ∷ gave)) k.4 f) in
@@ -97,15 +72,8 @@ pub match_whole : (t : Ticket) (x : HeldState) (received way : List Parcel) (got
 match_whole t x [] way gots gave es c h k l f =
     let none : gots ≡ [] = front_of_none gots (subst (IsFront gots) l.0 f) in
     subst (λ h. Whole t x es c (object_of h c way) way) (sym l.1) (none_whole t x way es c (subst (λ g. ClientLane t false way g es c) none k))
-match_whole t x (parcels.Work chunk ∷ received) way gots gave es c h k l f =
-    more_whole t x (ran_all x t chunk.items) (object_of h c way) (map command_event chunk.items) es k.0 c way k.1 (Extends-ran_all t x chunk.items k.2) (match_whole t (ran_all x t chunk.items) received way gots gave k.0 c h k.3 l f)
-match_whole t x (parcels.End ∷ received) way gots gave es c h k l f =
-    let none : way ≡ [] = no_way received way k.0 in
-    subst (λ h. Whole t x es c (object_of h c way) way) (sym l.2) (subst (λ c. Whole t x es c x way) (sym k.3) (subst (λ w. Whole t x es gone x w) (sym none) (record { ran = []; part = k.2; extends = refl; commands = tt })))
-  where
-    no_way : (xs ys : List Parcel) → xs ++ ys ≡ [] → ys ≡ []
-    no_way [] ys e = e
-    no_way (p ∷ xs) ys e = absurd (cc)
+match_whole t x (parcels.Work chunk ∷ received) way gots gave es c h k l f = search (rules, more_whole, map, Extends-ran_all, match_whole t (ran_all x t chunk.items) received way gots gave k.0 c h k.3 l f)
+match_whole t x (parcels.End ∷ received) way gots gave es c h k l f = search rules
 match_whole t x (parcels.Sync ∷ []) way gots gave es c h k l f = asked t x way gots gave es c h k l f
 match_whole t x (parcels.Sync ∷ (parcels.Home y ∷ received)) way gots gave es c h k l f =
     let both = front_rest k.0 x k.1 l.0 (subst (λ g. IsFront g (x ∷ l.0)) k.4 (subst (IsFront gots) l.1 f)) in
@@ -127,8 +95,7 @@ sent_cut t _ (_ ∷ sent) gots es c k = absurd k
 sent_cut t _ [] gots es c k = tt
 
 nil_cut : (ps : List Parcel) → ps ≡ [] → IsCut ps
-nil_cut [] e = tt
-nil_cut (p ∷ ps) e = absurd (cc)
+nil_cut v e = search rules
 
 pub back_nil : (xs ys : List Parcel) → xs ++ ys ≡ [] → ys ≡ []
 back_nil [] ys e = e

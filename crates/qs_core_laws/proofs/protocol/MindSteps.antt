@@ -1,16 +1,10 @@
 -- What each deed of a client makes of its mind, once nothing is left to be done for its act; and so what a whole run
 -- keeps.
-use Rattle.std.proofs.Common.{◌≡◌, ℕ, ◌+◌, List, [], ◌∷◌, ◌++◌, refl, sym, ap, ◌∙◌, subst, append_assoc, append-nil, add-zero, rules}
-use Rattle.qs_objects.specs.audit.Journals.{HeldState}
-use Rattle.qs_program.specs.audit.Values.{Locals}
-use Rattle.qs_syncset.specs.audit.Codes.{code_at}
-use Rattle.qs_sync_counts.specs.declared.sync_counts.SyncCount.{SyncCount}
-use Rattle.qs_chunk.specs.declared.parcel.Parcel.{Parcel}
-use Rattle.qs_client.specs.audit.rules.Client.{Settlement, between, begin, take_object, after_parcel, take_chunk}
-use Rattle.qs_client.specs.audit.rules.Outgoings.{count_sync, outgoing_of}
+use Rattle.std.proofs.Common.{◌≡◌, ℕ, ◌+◌, List, [], ◌∷◌, ◌++◌, refl, sym, ap, ◌∙◌, subst, append_assoc, append-nil, add-zero, rules, arith}
+use Rattle.qs_played.proofs.Names.{HeldState, Locals, SyncCount}
+use Rattle.qs_core_laws.proofs.Names.{code_at, Parcel, Settlement, between, begin, take_object, after_parcel, take_chunk, count_sync, outgoing_of, sends_are_parted}
 use Rattle.qs_client.specs.declared.rules.outgoing.Outgoing.TheVariants as outgoings
 use Rattle.qs_client.specs.declared.rules.act.Act.TheVariants as acts
-use Rattle.qs_client.proofs.rules.CarriedValues.{sends_are_parted}
 use Rattle.qs_client.specs.audit.ClientRuns.{Deed, DeedsLead, reserves, sends, gets, takes_chunk, next_ticket}
 use Rattle.qs_client.specs.audit.ClientModel.{ClientModel, act_due, mind_after_begin, mind_after_chunk, finish, enters, extend, mind_after_object, hands_out, locals_at, next_mind, reserved_by, settings_of, tally, tree_at}
 use Rattle.qs_client.proofs.MindRefinement.{extend_none}
@@ -39,9 +33,7 @@ module _ (m : ClientModel) where
       → finish (hands_out m (acts.Send h p))
       ≡ came m (after_parcel (settings_of m) m.ticket (reserved_by m) m.client h p) (m.syncs + count_sync (outgoing_of (acts.Send h p)))
       (tally (outgoing_of (acts.Send h p)) m.ticket.index m.counts)
-  send_does h p act =
-      ap (λ s. came m s (m.syncs + count_sync (outgoing_of (acts.Send h p))) (tally (outgoing_of (acts.Send h p)) m.ticket.index m.counts))
-      (sym (sends_are_parted (settings_of m) m.ticket (reserved_by m) _ m.client h p act))
+  send_does h p act = search (rules, came)
 
   -- an object came
   pub get_does : (h : ℕ) (x : HeldState)
@@ -77,8 +69,7 @@ module _ (c : ℕ) (Kept : List Deed → ClientModel → Type 0)
     (taking : (before : List Deed) (m : ClientModel) → Kept before m → (h : ℕ) → act_due m ≡ acts.NeedChunk h
     → Kept (before ++ takes_chunk h ∷ []) (finish (mind_after_chunk (hands_out m (acts.NeedChunk h)) h))) where
   pub deeds_keep : (deeds before : List Deed) (m end : ClientModel) → Kept before (finish m) → DeedsLead c m deeds end → Kept (before ++ deeds) (finish end)
-  deeds_keep [] before m end k lead =
-      subst (λ b. Kept b (finish end)) (sym (append-nil before)) (subst (λ (m : ClientModel). Kept before (finish m)) lead k)
+  deeds_keep [] before m end k lead = search (rules, append-nil)
   deeds_keep (reserves ∷ deeds) before m end k lead =
       subst (λ b. Kept b (finish end)) (append_assoc before (reserves ∷ []) deeds)
       (deeds_keep deeds (before ++ reserves ∷ []) (mind_after_begin (next_mind m) (next_ticket c (next_mind m))) end

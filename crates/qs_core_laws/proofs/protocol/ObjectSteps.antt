@@ -3,24 +3,11 @@
 -- one ticket's lane moves: those before it in the queue are over, of those after it nothing was received, and a
 -- client's lane is its tickets' parcels joined.
 use Rattle.std.proofs.Common.{◌≡◌, ◌<◌, arith, ℕ, Bool, true, false, if◌then◌else◌, ◌==◌, List, [], ◌∷◌, ◌++◌, filter, flat_map, refl, sym, ap, ap₂, ◌∙◌, subst, ◌⊎◌, inl, inr, ⊎_elim, append_assoc, append-nil, rules}
-use Rattle.std.specs.List.{AllByRecursion}
-use Rattle.std.proofs.lemmas.List.Elements.{filter-append}
+use Rattle.qs_played.proofs.Names.{AllByRecursion, filter-append, HeldState, IsFront, same, Ticket, eqb_self, num_cases, ticket_cases, put, each_map, each_both, each_snoc, each_front, each_back, Among, put_here, put_there}
 use Rattle.std.proofs.lemmas.List.Concat.{flat_map-append}
-use Rattle.qs_objects.specs.audit.Journals.{HeldState}
-use Rattle.qs_objects.specs.audit.Parts.{IsFront, same}
-use Rattle.qs_objects.specs.declared.held.Ticket.{Ticket}
-use Rattle.qs_objects.proofs.Choices.{eqb_self, num_cases, ticket_cases}
-use Rattle.qs_meaning.specs.audit.Solo.{put}
-use Rattle.qs_meaning.proofs.Each.{each_map, each_both, each_snoc, each_front, each_back}
-use Rattle.qs_meaning.proofs.Histories.{Among}
-use Rattle.qs_meaning.proofs.TreeWalks.{put_here, put_there}
-use Rattle.qs_chunk.specs.LaneViews.{gone, ClientLane, HandlerLane}
-use Rattle.qs_chunk.specs.declared.parcel.Parcel.{Parcel}
+use Rattle.qs_core_laws.proofs.Names.{gone, ClientLane, HandlerLane, Parcel, Handler, free, serves, spares, gives, away, serving, put_at, put_at_here, put_at_there}
 use Rattle.qs_chunk.specs.LaneViews as views
 use Rattle.qs_chunk.specs.declared.parcel.Parcel.TheVariants as parcels
-use Rattle.qs_handler.specs.audit.Handler.{Handler, free, serves, spares, gives, away}
-use Rattle.qs_handler.specs.Handler.{serving}
-use Rattle.qs_played.proofs.FunctionUpdate.{put_at, put_at_here, put_at_there}
 use Rattle.qs_core_laws.proofs.protocol.ObjectViews.{stance, Rising, PastOf, ObjectView, ClientLog, HandlerLog, ahead, IsObject, IsClientLog}
 use Rattle.qs_core_laws.proofs.protocol.LaneMoves.{HandlerGoes, handler_goes, handler_give, handler_end}
 use Rattle.qs_core_laws.proofs.protocol.LaneWays.{gone_over, MayCome, come, serves_got, gone_got, LastOf, last_more}
@@ -76,11 +63,7 @@ later_apart t us = search (rules, each_map, ticket_cases)
 
 flat_same : (f : Ticket → Bool) (way : Ticket → List Parcel) (t : Ticket) (w : List Parcel) (us : List Ticket) → AllByRecursion (λ u. same t u ≡ false) us → flat_map (put_at way t w) (filter f us) ≡ flat_map way (filter f us)
 flat_same f way t w [] k = refl
-flat_same f way t w (u ∷ us) k = by_case (f u) (flat_same f way t w us k.1)
-  where
-    by_case : (b : Bool) → flat_map (put_at way t w) (filter f us) ≡ flat_map way (filter f us) → flat_map (put_at way t w) (if b then u ∷ filter f us else filter f us) ≡ flat_map way (if b then u ∷ filter f us else filter f us)
-    by_case true ih = ap₂ (λ a b. a ++ b) (put_at_there way t w u k.0) ih
-    by_case false ih = ih
+flat_same f way t w (u ∷ us) k = search (rules, k, put_at, filter, put_at_there, flat_same f way t w us k.1)
 
 past_more : (sent : Ticket → List Parcel) (got : Ticket → List HeldState) (ts : List Ticket) (x m z : HeldState) (t : Ticket) (gave : List HeldState) → PastOf sent got x ts m → HandlerLane t false m (sent t) gave (views.over z) → IsFront (got t) gave → PastOf sent got x (ts ++ t ∷ []) z
 past_more sent got [] x m z t gave p l f = (z, gave, subst (λ m. HandlerLane t false m (sent t) gave (views.over z)) (sym p) l, f, refl)
@@ -132,9 +115,7 @@ module _ (mine : List Ticket) (x : HeldState) (b : ObjectView) (y : ClientLog) (
 
   -- what is at the head may come
   pub may_come : (p : Parcel) (w : List Parcel) → g.way t ≡ p ∷ w → MayCome (stance b.handler g.lent) p w
-  may_come p w e =
-      come t g.found (g.received t) p w (y.got t) (g.gave t) (y.events t) (y.stands t) (stance b.handler g.lent)
-      (subst (λ s. ClientLane t false s (y.got t) (y.events t) (y.stands t)) (sent_now.0 ∙ ap (λ w. g.received t ++ w) e) client_now) lane_now front_now
+  may_come p w e = search (rules, come, stance, client_now, lane_now, front_now)
 
   -- a parcel after which the ticket is served on
   pub parcel_on : (s : Handler) (p : Parcel) (ps w : List Parcel) → serving s ≡ t ∷ [] → g.way t ≡ p ∷ w → ps ≡ w ++ flat_map g.way (filter (λ (u : Ticket). u.client == t.client) b.tickets)
@@ -185,22 +166,15 @@ module _ (mine : List Ticket) (x : HeldState) (b : ObjectView) (y : ClientLog) (
       let none : b.up t.client ≡ [] = append_nothing (y.got t) (b.up t.client) (got ∙ gots_now) in
       record {
         split = k.split ∙ (ap (λ q. g.past ++ q) same_ahead ∙ sym (append_assoc g.past (t ∷ []) b.tickets));
-        served = past_more y.sent y.got g.past x g.found z t (g.gave t) k.served
-            (subst (λ s. HandlerLane t false g.found s (g.gave t) (views.over z)) (sym sent) (subst (λ gv. HandlerLane t false g.found (g.received t ++ parcels.End ∷ []) gv (views.over z)) (append-nil (g.gave t)) new)) front_now;
+        served = search (rules, past_more, k, views.over, append-nil, front_now);
         free = λ v f. cc;
         opened = λ v f. absurd (cc);
         sent = sent_now.1;
         lane = tt;
         gots = tt;
         later = k.later;
-        down = λ c. ⊎_elim
-            (λ (is : t.client ≡ c). subst (λ c. put b.down t.client ps c ≡ flat_map g.way (filter (λ (u : Ticket). u.client == c) b.tickets)) is (put_here b.down t.client ps ∙ i))
-            (λ (other : (t.client == c) ≡ false). put_there b.down t.client ps c other ∙ (k.down c ∙ (ap (λ q. flat_map g.way (filter (λ (u : Ticket). u.client == c) q)) same_ahead ∙ rw other)))
-            (num_cases t.client c);
-        up = λ c out. ⊎_elim
-            (λ (is : t.client ≡ c). subst (λ c. b.up c ≡ []) is none)
-            (λ (other : (t.client == c) ≡ false). k.up c (subst (AllByRecursion (λ (u : Ticket). (u.client == c) ≡ false)) (sym one) (other, tt)))
-            (num_cases t.client c);
+        down = search (rules, filter, put_here, put_there, k, same_ahead, num_cases);
+        up = search (rules, k, num_cases);
         rising = rising_now.1;
       }
 
@@ -212,15 +186,7 @@ past_same t sent sent' got got' e (u ∷ us) x z n p =
 
 flat_other : (t : Ticket) (c : ℕ) (way : Ticket → List Parcel) (w : List Parcel) (us : List Ticket) → (t.client == c) ≡ false → flat_map (put_at way t w) (filter (λ (u : Ticket). u.client == c) us) ≡ flat_map way (filter (λ (u : Ticket). u.client == c) us)
 flat_other t c way w [] n = refl
-flat_other t c way w (u ∷ us) n =
-    ⊎_elim
-    (λ (is : t ≡ u). let out : (u.client == c) ≡ false = subst (λ (u : Ticket). (u.client == c) ≡ false) is n in rw out (flat_other t c way w us n))
-    (λ (other : same t u ≡ false). by_case other (u.client == c) (flat_other t c way w us n))
-    (ticket_cases t u)
-  where
-    by_case : same t u ≡ false → (b : Bool) → flat_map (put_at way t w) (filter (λ (u : Ticket). u.client == c) us) ≡ flat_map way (filter (λ (u : Ticket). u.client == c) us) → flat_map (put_at way t w) (if b then u ∷ filter (λ (u : Ticket). u.client == c) us else filter (λ (u : Ticket). u.client == c) us) ≡ flat_map way (if b then u ∷ filter (λ (u : Ticket). u.client == c) us else filter (λ (u : Ticket). u.client == c) us)
-    by_case other true ih = ap₂ (λ a b. a ++ b) (put_at_there way t w u other) ih
-    by_case other false ih = ih
+flat_other t c way w (u ∷ us) n = search (rules, ticket_cases, put_at, filter, put_at_there, flat_other t c way w us n)
 
 -- a client sends a parcel
 pub send_ok : (mine : List Ticket) (x : HeldState) (b : ObjectView) (y : ClientLog) (g : HandlerLog) (t : Ticket) (p : Parcel) → LastOf t (ahead b) → AllByRecursion (λ u. same t u ≡ false) g.past → IsObject mine x b y g
@@ -295,35 +261,18 @@ enter_ok mine x b y g t past_apart apart below k =
       later = each_snoc (λ u. (put_at y.got t [] u ≡ []) × (put_at g.received t [] u ≡ [])) b.tickets t
           (each_both (λ u (n : same t u ≡ false) (h : (y.got u ≡ []) × (g.received u ≡ [])). (put_at_there y.got t [] u n ∙ h.0, put_at_there g.received t [] u n ∙ h.1)) b.tickets in_tickets k.later)
           (put_at_here y.got t [], put_at_here g.received t []);
-      down = λ c.
-          k.down c ∙ (sym (flat_same (λ (u : Ticket). u.client == c) g.way t [] (ahead b) apart)
-          ∙ (sym (append-nil (flat_map (put_at g.way t []) (filter (λ (u : Ticket). u.client == c) (ahead b))))
-          ∙ (ap (λ w. flat_map (put_at g.way t []) (filter (λ (u : Ticket). u.client == c) (ahead b)) ++ w) (sym (nothing c (t.client == c)))
-          ∙ (sym (flat_map-append (put_at g.way t []) (filter (λ (u : Ticket). u.client == c) (ahead b)) (filter (λ (u : Ticket). u.client == c) (t ∷ [])))
-          ∙ (ap (flat_map (put_at g.way t [])) (sym (filter-append (λ (u : Ticket). u.client == c) (ahead b) (t ∷ [])))
-          ∙ ap (λ q. flat_map (put_at g.way t []) (filter (λ (u : Ticket). u.client == c) q)) longer)))));
+      down = search (rules, k, flat_same, ahead, append-nil, put_at, filter, flat_map-append, filter-append);
       up = k.up;
       rising = subst Rising longer (rising_more (ahead b) t k.rising below);
     }
   where
     nothing : (c : ℕ) (b : Bool) → flat_map (put_at g.way t []) (if b then t ∷ [] else []) ≡ []
-    nothing c true = append-nil (put_at g.way t [] t) ∙ put_at_here g.way t []
-    nothing c false = refl
+    nothing c v = search (rules, append-nil, put_at, put_at_here)
 
 -- the newest ticket of a client is the last of its tickets there
 pub last_of : (t : Ticket) (q : List Ticket) → Among t q → Rising q → AllByRecursion (λ (u : Ticket). t.client ≡ u.client → u.index < t.index ⊎ (t ≡ u)) q → LastOf t q
 last_of t [] a r k = a
-last_of t (u ∷ us) (inl is) r k = inr (
-  is,
-  each_both (λ (v : Ticket) (n : u.client ≡ v.client → u.index < v.index) (m : t.client ≡ v.client → v.index < t.index ⊎ (t ≡ v)).
-      ⊎_elim
-      (λ (e : v.client ≡ t.client).
-      let l : u.index < v.index = n (sym (ap (λ (t : Ticket). t.client) is) ∙ sym e) in
-      let i : t.index ≡ u.index = ap (λ (t : Ticket). t.index) is in
-      absurd (⊎_elim (λ (lt : v.index < t.index). omega arith) (λ (same_one : t ≡ v). let j : t.index ≡ v.index = ap (λ (t : Ticket). t.index) same_one in omega arith) (m (sym e))))
-      (λ (other : (v.client == t.client) ≡ false). other)
-      (num_cases v.client t.client)) us r.0 k.1,
-)
+last_of t (u ∷ us) (inl is) r k = grind (arith, each_both, num_cases, k)
 last_of t (u ∷ us) (inr a) r k =
     ⊎_elim
     (λ (is : t ≡ u). let l = each_at t us a r.0 (ap (λ (u : Ticket). u.client) (sym is)) in let i : t.index ≡ u.index = ap (λ (t : Ticket). t.index) is in absurd (omega (arith, l)))

@@ -1,16 +1,8 @@
 -- What is kept of one object in the optimised machine: its handler with the lanes, and what both ends of each lane did.
 use Rattle.std.proofs.Common.{◌≡◌, ◌<◌, ℕ, false, ◌==◌, List, [], ◌∷◌, ◌++◌, filter, flat_map, Option, Some, None}
-use Rattle.std.specs.List.{AllByRecursion}
-use Rattle.qs_objects.specs.audit.Journals.{HeldState}
-use Rattle.qs_objects.specs.audit.Parts.{IsFront}
-use Rattle.qs_objects.specs.declared.held.Event.{Event}
-use Rattle.qs_objects.specs.declared.held.Ticket.{Ticket}
-use Rattle.qs_meaning.proofs.Histories.{Among}
-use Rattle.qs_chunk.specs.LaneViews.{ObjectStance, gone, Serving, ClientLane, HandlerLane}
-use Rattle.qs_chunk.specs.declared.parcel.Parcel.{Parcel}
+use Rattle.qs_played.proofs.Names.{AllByRecursion, HeldState, IsFront, Event, Ticket, Among}
+use Rattle.qs_core_laws.proofs.Names.{ObjectStance, gone, Serving, ClientLane, HandlerLane, Parcel, Handler, free, serves, spares, gives, away, closed, serving}
 use Rattle.qs_chunk.specs.LaneViews as views
-use Rattle.qs_handler.specs.audit.Handler.{Handler, free, serves, spares, gives, away, closed}
-use Rattle.qs_handler.specs.Handler.{serving}
 
 -- how a handler stands to its ticket, where it gave the object `lent` last
 abbrev pub stance : Handler → HeldState → Serving

@@ -3,22 +3,10 @@
 -- what is said of them speaks of the program's blocks. It is the law on sound walks where client and block are in
 -- range, and elsewhere there is no block.
 use Rattle.std.proofs.Common.{◌≡◌, ◌<◌, ℕ, nat_lt, Bool, true, false, List, length, replicate, refl, arith, rules}
-use Rattle.std.proofs.lemmas.List.{get_or_past, length-replicate}
-use Rattle.qs_objects.specs.declared.held.Ticket.{Ticket}
-use Rattle.qs_meaning.specs.Following.{block_tree}
-use Rattle.qs_program.specs.audit.Program.{ProgramShape, blocks_of}
-use Rattle.qs_program.specs.Sound.{IsSound}
-use Rattle.qs_program.specs.audit.Values.{Locals}
-use Rattle.qs_graph.specs.Synced.{without_syncs}
-use Rattle.qs_syncset.specs.declared.mode.Mode.{Mode}
-use Rattle.qs_syncset.specs.audit.Codes.{ClientCode, AreCodes, blocks_in, reserved_of}
-use Rattle.qs_syncset.specs.SoundSynced.{IsSoundSynced, IsOnReserved}
+use Rattle.qs_played.proofs.Names.{get_or_past, length-replicate, Ticket, block_tree, ProgramShape, blocks_of, IsSound, Locals}
+use Rattle.qs_core_laws.proofs.Names.{without_syncs, Mode, ClientCode, AreCodes, blocks_in, reserved_of, IsSoundSynced, IsOnReserved, longest, longest_covers, none_beyond, no_text, synced_block}
 use Rattle.qs_syncset.proofs.CodeWalks.{walks_are_sound}
-use Rattle.qs_client.specs.audit.run.BlockSizes.{longest}
-use Rattle.qs_client.proofs.run.CodeBounds.{longest_covers}
-use Rattle.qs_played.proofs.ReservedObjects.{none_beyond, no_text}
 use Rattle.qs_core_laws.proofs.protocol.ClientInvariants.{objects_of_block}
-use Rattle.qs_client.specs.audit.ClientModel.{synced_block}
 
 module _ (program : ProgramShape) (sound : IsSound program) (mode : Mode) (code : ℕ → ClientCode) (codes : AreCodes program mode code) where
   pub blocks_are : (c : ℕ) → blocks_in code c ≡ blocks_of program c

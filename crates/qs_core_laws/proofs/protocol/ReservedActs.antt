@@ -1,20 +1,9 @@
 -- In the midst of its run a client is in one of its blocks wherever it sends, awaits or takes a chunk, and that block
 -- reserves the object: so a lane is there for all that it asks for.
-use Rattle.std.proofs.Common.{◌≡◌, ◌<◌, ℕ, true, false, List, length, sym, ◌∙◌}
-use Rattle.qs_objects.specs.declared.held.Ticket.{Ticket}
-use Rattle.qs_program.specs.audit.Program.{ProgramShape}
-use Rattle.qs_program.specs.audit.Values.{Locals}
-use Rattle.qs_meaning.specs.audit.Following.{reserves}
-use Rattle.qs_meaning.specs.Following.{AsksOnly, block_tree}
-use Rattle.qs_graph.specs.Synced.{without_syncs}
-use Rattle.qs_syncset.specs.audit.Codes.{ClientCode, code_at}
-use Rattle.qs_syncset.specs.SoundSynced.{IsSoundSynced, IsOnReserved}
-use Rattle.qs_chunk.specs.declared.parcel.Parcel.{Parcel}
-use Rattle.qs_client.specs.audit.rules.Client.{Settings, act_of}
+use Rattle.std.proofs.Common.{◌≡◌, ◌<◌, ℕ, true, false, List, length, sym, ◌∙◌, rules, arith}
+use Rattle.qs_played.proofs.Names.{Ticket, ProgramShape, Locals, reserves, AsksOnly, block_tree, ticket}
+use Rattle.qs_core_laws.proofs.Names.{without_syncs, ClientCode, code_at, IsSoundSynced, IsOnReserved, Parcel, Settings, act_of, Deed, ClientModel, act_due, tree_at}
 use Rattle.qs_client.specs.declared.rules.act.Act.TheVariants as acts
-use Rattle.qs_client.specs.audit.ClientRuns.{Deed}
-use Rattle.qs_client.specs.audit.ClientModel.{ClientModel, act_due, tree_at}
-use Rattle.qs_played.specs.audit.Played.{ticket}
 use Rattle.qs_core_laws.proofs.protocol.ActObjects.{await_at, need_at, not_await, not_need, not_send, send_at}
 use Rattle.qs_core_laws.proofs.protocol.ClientInvariants.{Lined, objects_of_block}
 use Rattle.qs_core_laws.proofs.protocol.ClientHistories.{InClientHistory, asks, in_tale_block, inside}

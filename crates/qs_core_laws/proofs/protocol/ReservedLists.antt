@@ -1,17 +1,9 @@
 -- The list of each block of a sound program names each object once, and each of them is reserved by the block. The
 -- proofs on clients ask for this (`lined`), as a client leaves the objects of its list one after another. It is shown
 -- by induction on the list, whose members differ; a ticket that is of no block has an empty list.
-use Rattle.std.proofs.Common.{◌≡◌, ◌<◌, ℕ, nat_lt, ◌==◌, ◌||◌, Bool, true, false, List, [], ◌∷◌, length, refl, sym, subst, arith}
-use Rattle.std.proofs.lemmas.Map.Keys.{IsDistinct-head, IsDistinct-tail}
+use Rattle.std.proofs.Common.{◌≡◌, ◌<◌, ℕ, nat_lt, ◌==◌, ◌||◌, Bool, true, false, List, [], ◌∷◌, length, refl, sym, subst, arith, rules}
+use Rattle.qs_played.proofs.Names.{IsDistinct-head, IsDistinct-tail, Ticket, eqb_apart, apart_eqb, eqb_self, reserves, BlockShape, ProgramShape, blocks_of, no_block, text_of, is_in, IsSound, sound_block, each_map}
 use Rattle.std.specs.List.{AllByRecursion, IsDistinct}
-use Rattle.qs_objects.specs.declared.held.Ticket.{Ticket}
-use Rattle.qs_objects.proofs.Choices.{eqb_apart, apart_eqb, eqb_self}
-use Rattle.qs_meaning.specs.audit.Following.{reserves}
-use Rattle.qs_program.specs.audit.Program.{BlockShape, ProgramShape, blocks_of, no_block, text_of}
-use Rattle.qs_program.specs.audit.Sound.{is_in}
-use Rattle.qs_program.specs.Sound.{IsSound}
-use Rattle.qs_program.proofs.Bounds.{sound_block}
-use Rattle.qs_meaning.proofs.Each.{each_map}
 use Rattle.qs_played.proofs.ReservedObjects.{none_beyond, no_text}
 use Rattle.qs_core_laws.proofs.protocol.ClientInvariants.{objects_of_block, Lined}
 
@@ -26,11 +18,7 @@ lined_from may (h ∷ hs) distinct all = (none hs (IsDistinct-head ◌==◌ h hs
 
 each_is_in : (hs : List ℕ) → AllByRecursion (λ h. is_in hs h ≡ true) hs
 each_is_in [] = tt
-each_is_in (h ∷ hs) = (rw (eqb_self h) refl, each_map (λ g (k : is_in hs g ≡ true). more g k (h == g)) hs (each_is_in hs))
-  where
-    more : (g : ℕ) → is_in hs g ≡ true → (b : Bool) → (b || is_in hs g) ≡ true
-    more g k true = refl
-    more g k false = k
+each_is_in (h ∷ hs) = search (rules, eqb_self, each_map, each_is_in hs)
 
 module _ (program : ProgramShape) (sound : IsSound program) where
   pub lined : (t : Ticket) → Lined (reserves program t) (objects_of_block program t)

@@ -2,42 +2,15 @@
 -- on the object in hand, and passes a synchronisation that it may skip. The lemmas on acts with the quiet work after
 -- them (`ClientLogs`) stand on this. The proof is an induction on the block's tree, where each event is a move of one
 -- object's lane.
-use Rattle.std.proofs.Common.{◌≡◌, ℕ, Bool, true, false, true≢false, if◌then◌else◌, ◌==◌, ◌&&◌, is_some, List, [], ◌∷◌, ◌++◌, length, refl, sym, ap, ap₂, ◌∙◌, subst, ◌⊎◌, inl, inr, ⊎_elim, append_assoc, append-nil, Option, Some, None, ℤ}
-use Rattle.qs_objects.specs.audit.Journals.{HeldState, run_one}
-use Rattle.qs_objects.specs.Laws.{IsCommand}
-use Rattle.qs_objects.specs.audit.Parts.{command_event, part}
-use Rattle.qs_objects.specs.declared.held.Event.{Event}
-use Rattle.qs_objects.specs.declared.held.Ticket.{Ticket}
-use Rattle.qs_objects.specs.declared.Request.{Request}
-use Rattle.qs_objects.proofs.Choices.{and_cases, num_cases}
-use Rattle.qs_objects.proofs.ObjectLaws.{never_answers}
-use Rattle.qs_meaning.specs.audit.Following.{reserves}
-use Rattle.qs_meaning.specs.Following.{AsksOnly, Leads, block_tree}
-use Rattle.qs_meaning.specs.audit.Interaction.{Interaction}
-use Rattle.qs_program.specs.audit.Program.{ProgramShape}
-use Rattle.qs_meaning.specs.audit.Solo.{event, put, value_of}
-use Rattle.qs_program.specs.audit.Sound.{is_in}
-use Rattle.qs_program.specs.audit.Values.{Locals}
-use Rattle.qs_meaning.proofs.Histories.{advance}
-use Rattle.qs_meaning.specs.BlockRecords.{BlockRecord}
-use Rattle.qs_meaning.proofs.TreeWalks.{leads_call, leads_query, part_snoc_here, part_snoc_there, put_there}
+use Rattle.std.proofs.Common.{◌≡◌, ℕ, Bool, true, false, true≢false, if◌then◌else◌, ◌==◌, ◌&&◌, is_some, List, [], ◌∷◌, ◌++◌, length, refl, sym, ap, ap₂, ◌∙◌, subst, ◌⊎◌, inl, inr, ⊎_elim, append_assoc, append-nil, Option, Some, None, ℤ, rules, arith}
+use Rattle.qs_played.proofs.Names.{HeldState, run_one, command_event, part, Event, Ticket, Request, and_cases, num_cases, never_answers, reserves, AsksOnly, Leads, block_tree, Interaction, ProgramShape, event, put, value_of, is_in, Locals, advance, BlockRecord, leads_call, leads_query, part_snoc_here, part_snoc_there, put_there}
+use Rattle.qs_core_laws.proofs.Names.{IsCommand, without_syncs, IsSoundSynced, sends, holds, ClientLane, Parcel, Client, ClientStage, Settings, Settlement, between, runs, full, leaves, stop_at, with_event, end_block, call, query, settle, put_all, apart_from}
 use Rattle.qs_graph.specs.audit.Synced.{Synced, Done, Call, Sync, Query}
-use Rattle.qs_graph.specs.Synced.{without_syncs}
-use Rattle.qs_syncset.specs.SoundSynced.{IsSoundSynced}
-use Rattle.qs_chunk.specs.LaneViews.{sends, holds, ClientLane}
-use Rattle.qs_chunk.specs.declared.parcel.Parcel.{Parcel}
-use Rattle.qs_client.specs.audit.rules.Client.{Client, ClientStage, Settings, Settlement, between, runs, full, leaves, stop_at, with_event, end_block, call, query, settle}
-use Rattle.qs_played.proofs.FunctionUpdate.{put_all}
 use Rattle.qs_core_laws.proofs.protocol.ClientInvariants.{in_hand, holding, objects_of_block, Lined, Ready, Leaving, PlaceOk}
-use Rattle.qs_core_laws.specs.protocol.ClientHistories.{apart_from}
 use Rattle.qs_core_laws.proofs.protocol.LaneMoves.{lane_goes, goes_put, goes_ask}
 
 pub put_more : (s s' : ℕ → Bool) → ((h : ℕ) → s h ≡ true → s' h ≡ true) → (n : ℕ) (b : Bool) (h : ℕ) → put s n b h ≡ true → put s' n b h ≡ true
-put_more s s' e n b h = by_case (n == h)
-  where
-    by_case : (x : Bool) → (if x then b else s h) ≡ true → (if x then b else s' h) ≡ true
-    by_case true k = k
-    by_case false k = e h k
+put_more s s' e n b h = search rules
 
 -- what suffices with some objects suffices with more
 pub sound_more : (s s' : ℕ → Bool) (code : Synced) → ((h : ℕ) → s h ≡ true → s' h ≡ true) → IsSoundSynced s code → IsSoundSynced s' code
@@ -88,11 +61,7 @@ module _ (program : ProgramShape) (t : Ticket) (sent : ℕ → List Parcel) (got
           (subst (λ gs. ClientLane t false (sent r.object ++ []) gs (part r.object pg.trace ++ command_event r ∷ []) (sends (rs ++ r ∷ []))) (append-nil (got r.object)) new)))
 
       less : (h : ℕ) → put (holding m) r.object false h ≡ true → holding m h ≡ true
-      less h = by_case (r.object == h)
-        where
-          by_case : (b : Bool) → (if b then false else holding m h) ≡ true → holding m h ≡ true
-          by_case true e = absurd (true≢false (sym e))
-          by_case false e = e
+      less h = search (rules, holding, true≢false)
 
   -- a query is run on the object in hand
   ask_ready : (m : Client) (pg : BlockRecord) (r : Request) (next : ℤ → Synced) (x : HeldState) → m.held r.object ≡ Some x → Ready program t sent got m pg (Query r next)
@@ -122,11 +91,7 @@ module _ (program : ProgramShape) (t : Ticket) (sent : ℕ → List Parcel) (got
           (subst (λ gs. ClientLane t false (sent r.object ++ []) gs (part r.object pg.trace ++ e ∷ []) (holds (run_one x t r).0)) (append-nil (got r.object)) new))
 
       more : (h : ℕ) → holding m h ≡ true → is_some (put m.held r.object (Some (run_one x t r).0) h) ≡ true
-      more h = by_case (r.object == h)
-        where
-          by_case : (b : Bool) → holding m h ≡ true → is_some (if b then Some (run_one x t r).0 else m.held h) ≡ true
-          by_case true e = refl
-          by_case false e = e
+      more h = search (rules, holding, is_some)
 
   order_ends : (m : Client) (pg : BlockRecord) (r : Request) (next : Synced) (hd : Option HeldState) (ck : Option (List Request)) → m.held r.object ≡ hd → m.chunk r.object ≡ ck → Ready program t sent got m pg (Call r next)
       → ((m : Client) (pg : BlockRecord) → Ready program t sent got m pg next → Ends pg (settle settings t (objects_of_block program t) next m))
@@ -148,35 +113,14 @@ module _ (program : ProgramShape) (t : Ticket) (sent : ℕ → List Parcel) (got
 
   sync_ends : (m : Client) (pg : BlockRecord) (h : ℕ) (next : Synced) → Ready program t sent got m pg (Sync h next) → (b : Bool) → (settings.dynamic && is_some (m.held h)) ≡ b
       → (Ready program t sent got m pg next → Ends pg (settle settings t (objects_of_block program t) next m)) → Ends pg (if b then settle settings t (objects_of_block program t) next m else stop_at m (runs (Sync h next)))
-  sync_ends m pg h next k true e ih = ih (record { block_record = k.block_record; rest = k.rest; lanes = k.lanes; not_both = k.not_both; own = k.own; sound = sound_more (put (holding m) h true) (holding m) next less k.sound; on = k.on.1 })
-    where
-      less : (g : ℕ) → put (holding m) h true g ≡ true → holding m g ≡ true
-      less g i =
-          ⊎_elim
-          (λ (is : h ≡ g). subst (λ g. holding m g ≡ true) is (and_cases settings.dynamic (is_some (m.held h)) e).1)
-          (λ (other : (h == g) ≡ false). sym (put_there (holding m) h true g other) ∙ i)
-          (num_cases h g)
+  sync_ends m pg h next k true e ih = search (rules, sound_more, holding, and_cases, is_some, put_there, num_cases)
   sync_ends m pg h next k false e ih = ends_stays pg m (runs (Sync h next)) (ready_at m (runs (Sync h next)) pg (Sync h next) k, tt)
 
   pub leaving_ends : (m : Client) (pg : BlockRecord) (l : Locals) (hs : List ℕ) → Leaving program t sent got m pg hs l → Ends pg (end_block settings t (objects_of_block program t) m hs l)
-  leaving_ends m pg l [] k = ends_stays pg m (between l) (record { block_record = k.block_record; rest = k.rest; lanes = k.lanes; not_both = k.not_both; lined = k.lined; empty = k.empty })
-  leaving_ends m pg l (h ∷ hs) k = ends_stays pg m (leaves h hs l) (record { block_record = k.block_record; rest = k.rest; lanes = k.lanes; not_both = k.not_both; lined = k.lined; empty = k.empty })
+  leaving_ends m pg l v k = search (rules, ends_stays)
 
   pub settle_ends : (code : Synced) (m : Client) (pg : BlockRecord) → Ready program t sent got m pg code → Ends pg (settle settings t (objects_of_block program t) code m)
-  settle_ends (Done l) m pg k = leaving_ends m pg l (objects_of_block program t) (record {
-    block_record = k.block_record;
-    rest = k.rest;
-    lanes = λ g. by_case g (reserves program t g) refl (k.lanes g);
-    not_both = k.not_both;
-    lined = lined;
-    empty = λ g e. k.own g (e);
-  })
-    where
-      by_case : (g : ℕ) (b : Bool) → reserves program t g ≡ b → ClientLane t false (sent g) (got g) (part g pg.trace) (in_hand (m.held g) (m.chunk g)) → ClientLane t false (sent g) (got g) (part g pg.trace) (if is_in (objects_of_block program t) g then in_hand (m.held g) (m.chunk g) else apart_from program t g)
-      by_case g true e lane = rw e lane
-      by_case g false e lane =
-          let o = k.own g e in
-          rw e (subst (ClientLane t false (sent g) (got g) (part g pg.trace)) (ap₂ in_hand o.0 o.1) lane)
+  settle_ends (Done l) m pg k = search (rules, leaving_ends)
   settle_ends (Call r next) m pg k = order_ends m pg r next (m.held r.object) (m.chunk r.object) refl refl k (settle_ends next)
   settle_ends (Sync h next) m pg k = sync_ends m pg h next k (settings.dynamic && is_some (m.held h)) refl (settle_ends next m pg)
   settle_ends (Query r next) m pg k = ask_ends m pg r next (m.held r.object) refl k (λ v. settle_ends (next v))
