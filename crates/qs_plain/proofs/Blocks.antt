@@ -2,30 +2,17 @@
 -- it, and in the end nobody is in a block. The loops of `turn`, `play_block` and `play_clients` stand on this. Actors
 -- that lead on are joined, one list after another, and the blocks that a list of clients names are taken from its
 -- front.
-use Rattle.std.proofs.Common.{◌≡◌, ◌<◌, ◌∙◌, ◌++◌, ◌∷◌, ◌⊎◌, [], ℕ, suc, true, false, true≢false, List, inl, refl, sym, ap, subst, length, map, append_assoc, append-nil, ⊎_elim}
-use Rattle.std.proofs.lemmas.Bool.{lt-ltb}
-use Rattle.qs_objects.specs.declared.held.Ticket.{Ticket}
-use Rattle.qs_program.specs.audit.Program.{ProgramShape, blocks_of, text_of}
-use Rattle.qs_program.specs.Sound.{IsSound}
-use Rattle.qs_meaning.specs.audit.Configurations.{Configuration, configuration_after, first_configuration, one_block_on}
-use Rattle.qs_meaning.specs.audit.Reduced.{Counts}
-use Rattle.qs_meaning.specs.audit.Serial.{IsLegal, LegalFrom}
-use Rattle.qs_meaning.specs.audit.Solo.{put}
-use Rattle.qs_meaning.proofs.Orders.{configuration-append, legal-rest}
-use Rattle.qs_meaning.proofs.TreeWalks.{put_here}
-use Rattle.qs_serial.specs.audit.NamedOrders.{order_from, order_of}
-use Rattle.qs_played.specs.audit.Schedule.{all_named, or_stay}
+use Rattle.std.proofs.Common.{◌≡◌, ◌<◌, ◌∙◌, ◌++◌, ◌∷◌, ◌⊎◌, [], ℕ, suc, true, false, true≢false, List, inl, refl, sym, ap, subst, length, map, append_assoc, append-nil, ⊎_elim, rules}
+use Rattle.qs_played.proofs.Names.{lt-ltb, Ticket, ProgramShape, blocks_of, text_of, IsSound, Configuration, configuration_after, first_configuration, one_block_on, IsLegal, LegalFrom, put, configuration-append, legal-rest, put_here, all_named, or_stay}
 use Rattle.qs_played.specs.declared.schedule.actor.Actor.{Actor}
+use Rattle.qs_meaning.specs.audit.Reduced.{Counts}
+use Rattle.qs_serial.specs.audit.NamedOrders.{order_from, order_of}
 use Rattle.qs_played.specs.declared.schedule.actor.Actor.TheVariants as actors
-use Rattle.qs_plain_laws.specs.audit.Plain.{Plain, begin, client_at, step}
-use Rattle.qs_plain_laws.specs.audit.PlainSchedule.{is_out, played_of, plays}
-use Rattle.qs_plain_laws.specs.orders.PlainOrders.{IsPlayedInOrder}
-use Rattle.qs_plain_laws.specs.orders.Quiet.{IsQuiet}
+use Rattle.qs_plain_laws.proofs.Names.{Plain, begin, client_at, step, is_out, played_of, plays, IsPlayedInOrder, IsQuiet}
 use Rattle.qs_plain_laws.proofs.orders.AloneSteps.{IsWithin, left_of, named_append}
 use Rattle.qs_plain_laws.proofs.orders.BlockAlone.{named_turn, turn_on}
 use Rattle.qs_plain_laws.proofs.orders.BlockReached.{begin_quiet, comes_in, has_client, out_is, shown_in_order}
-use Rattle.qs_plain.specs.Blocks.{IsOneBlockOn, blocks_begun}
-use Rattle.qs_plain.specs.Rules.{RulesState, plain_of}
+use Rattle.qs_plain.proofs.Names.{IsOneBlockOn, blocks_begun, RulesState, plain_of}
 use Rattle.qs_plain.proofs.Playing.{plays-append}
 
 -- some actors of the program, by whose steps one state comes from another
@@ -115,9 +102,7 @@ module _ (p : ProgramShape) (clients : List ℕ) (c : ℕ) (rest : List ℕ) (r 
       record {
         program = on.program ∙ now.program;
         leads = leads_join p (begin p) (plain_of r) (plain_of n) (subst (λ q. Leads q (plain_of r) (plain_of n)) now.program on.leads) now.leads;
-        quiet = subst (λ b. IsQuiet p n.order b (plain_of n)) same
-            (subst (λ o. IsQuiet p o (put (blocks_begun r) c (suc (blocks_begun r c))) (plain_of n)) (sym on.quiet.order)
-            (subst (λ q. IsQuiet q (r.order ++ record { client = c; index = blocks_begun r c } ∷ []) (put (blocks_begun r) c (suc (blocks_begun r c))) (plain_of n)) now.program on.quiet));
+        quiet = search (rules, client, now);
         whole =
             now.whole
             ∙ sym (append_assoc r.order (ticket ∷ []) (order_from (one_block_on p c g).begun rest))

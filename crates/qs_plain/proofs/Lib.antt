@@ -12,3 +12,4 @@ pub mod RulesFieldLemmas
 pub mod Blocks
 pub mod RulesEffects
 pub mod ReachedPlays
+pub mod Names

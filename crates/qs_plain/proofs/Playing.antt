@@ -2,19 +2,11 @@
 -- its end. The loops of `play`, `play_rounds` and `round` keep that their state is where the actors so far lead. Two
 -- lists of actors are played one after the other, and where a round changes nothing, further rounds change nothing, by
 -- induction.
-use Rattle.std.proofs.Common.{◌≡◌, ℕ, zero, suc, ◌+◌, Bool, true, false, ◌||◌, is_some, List, [], ◌∷◌, ◌++◌, map, None, refl, ap, sym, subst, ◌∙◌, ◌≤◌, length, drop, arith}
-use Rattle.std.proofs.lemmas.List.{drop_all}
-use Rattle.std.specs.Prelude.{Result, IfOk}
-use Rattle.std.specs.Bool.{OnTrue}
-use Rattle.std.specs.List.{range_with_len}
-use Rattle.qs_program.specs.audit.Program.{ProgramShape}
-use Rattle.qs_played.specs.audit.Schedule.{HasStep, actors_of, rounds_of, schedule}
-use Rattle.qs_played.specs.audit.Played.{Played}
+use Rattle.std.proofs.Common.{◌≡◌, ℕ, zero, suc, ◌+◌, Bool, true, false, ◌||◌, is_some, List, [], ◌∷◌, ◌++◌, map, None, ap, subst, ◌∙◌, ◌≤◌, length, drop, arith, rules}
+use Rattle.qs_played.proofs.Names.{drop_all, Result, IfOk, OnTrue, range_with_len, ProgramShape, HasStep, actors_of, rounds_of, schedule, Played, or_stay}
 use Rattle.qs_played.specs.declared.schedule.actor.Actor.{Actor}
 use Rattle.qs_played.proofs.Playing.{plays_by-append, round_more, row_more, step_at_end, step_in_front}
-use Rattle.qs_plain_laws.specs.audit.Plain.{Plain, step}
-use Rattle.qs_plain_laws.specs.audit.PlainSchedule.{played_of, plays}
-use Rattle.qs_played.specs.audit.Schedule.{or_stay}
+use Rattle.qs_plain_laws.proofs.Names.{Plain, step, played_of, plays}
 use Rattle.qs_plain.specs.Rules.{RulesState, Steps, plain_of}
 
 pub plays-append : (p : ProgramShape) (xs ys : List Actor) (s : Plain) → plays p (xs ++ ys) s ≡ plays p ys (plays p xs s)
@@ -32,11 +24,7 @@ plays-round p picks n s = ap (λ xs. plays p xs s) (round_more p picks n) ∙ pl
 -- all picks, and then the rounds
 pub plays-schedule : (p : ProgramShape) (picks : List Actor) (i rounds : ℕ) (old new : RulesState) (s : Plain) → length picks ≤ i → old.program ≡ p → plays p (drop i picks) (plain_of old) ≡ plays p picks s
     → plain_of new ≡ plays old.program (rounds_of rounds (actors_of old.program)) (plain_of old) → plain_of new ≡ plays p (schedule p picks rounds) s
-plays-schedule p picks i rounds old new s end same before after =
-    let picked : plain_of old ≡ plays p picks s = sym (ap (λ xs. plays p xs (plain_of old)) (drop_all i picks end)) ∙ before in
-    after
-    ∙ (λ k. plays (same k) (rounds_of rounds (actors_of (same k))) (picked k))
-    ∙ sym (plays-append p picks (rounds_of rounds (actors_of p)) s)
+plays-schedule p picks i rounds old new s end same before after = search (rules, drop_all, plays-append)
 
 -- what is shown of it
 pub shown-as : {E : Type 0} (result : Result Played E) (p : ProgramShape) (t : Plain) (s : RulesState) → s.program ≡ p → plain_of s ≡ t → IfOk result (λ played. played ≡ played_of s.program (plain_of s))
@@ -47,25 +35,18 @@ shown-as result p t s same there = subst (λ shown. IfOk result (λ played. play
 pub stepped : (old : RulesState) (a : Actor) (b : Bool) (new : RulesState) → OnTrue b (Steps old a new)
     → (b ≡ false → step old.program (plain_of old) a ≡ None) → (b ≡ false → new ≡ old)
     → (plain_of new ≡ or_stay (plain_of old) (step old.program (plain_of old) a)) × (new.program ≡ old.program)
-stepped old a true new steps none unchanged = (sym (ap (or_stay (plain_of old)) steps.0), steps.1)
-stepped old a false new steps none unchanged =
-    (ap plain_of (unchanged refl) ∙ sym (ap (or_stay (plain_of old)) (none refl)), ap (λ (r : RulesState). r.program) (unchanged refl))
+stepped old a v new steps none unchanged = search rules
 
 -- where the last of some actors has stepped, or one before it, somebody of them has a step
 pub has_stepped : (p : ProgramShape) (xs : List Actor) (a : Actor) (first old new : RulesState) (before here : Bool) → old.program ≡ p
     → plain_of old ≡ plays p xs (plain_of first) → OnTrue here (Steps old a new) → (before ≡ true → HasStep (step p) xs (plain_of first)) → (before || here) ≡ true
     → HasStep (step p) (xs ++ a ∷ []) (plain_of first)
-has_stepped p xs a first old new true here same there steps so_far so = step_in_front (step p) xs (a ∷ []) (plain_of first) (so_far refl)
-has_stepped p xs a first old new false true same there steps so_far so =
-    step_at_end (step p) xs a (plain_of first) (ap is_some (sym (λ k. step (same k) (there k) a) ∙ steps.0))
-has_stepped p xs a first old new false false same there steps so_far so = cc
+has_stepped p xs a first old new v here same there steps w so = search (rules, step_in_front, step_at_end, is_some)
 
 -- where a round changes nothing, no further one does
 pub plays-still : (p : ProgramShape) (n k : ℕ) (s : Plain) → plays p (actors_of p) (plays p (rounds_of n (actors_of p)) s) ≡ plays p (rounds_of n (actors_of p)) s
     → plays p (rounds_of (n + k) (actors_of p)) s ≡ plays p (rounds_of n (actors_of p)) s
-plays-still p n zero s same =
-    let none : n + 0 ≡ n = omega (arith) in
-    ap (λ m. plays p (rounds_of m (actors_of p)) s) none
+plays-still p n zero s same = grind arith
 plays-still p n (suc k) s same =
     let more : n + suc k ≡ (n + k) + 1 = omega (arith) in
     ap (λ m. plays p (rounds_of m (actors_of p)) s) more

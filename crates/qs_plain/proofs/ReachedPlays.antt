@@ -2,8 +2,7 @@
 -- needs it.
 use Rattle.std.proofs.Common.{◌≡◌, List, ◌++◌, ap, sym, ◌∙◌}
 use Rattle.qs_played.specs.declared.schedule.actor.Actor.{Actor}
-use Rattle.qs_plain_laws.specs.audit.Plain.{begin}
-use Rattle.qs_plain_laws.specs.audit.PlainSchedule.{plays}
+use Rattle.qs_plain_laws.proofs.Names.{begin, plays}
 use Rattle.qs_plain.specs.Rules.{IsSteppedTo, RulesState, plain_of}
 use Rattle.qs_plain.proofs.Playing.{plays-append}
 

@@ -2,19 +2,13 @@
 -- and one step more leads to such a state again. The contracts of `step`, `keeps_isolated` and `keeps_counted` promise
 -- it. A state that was reached is where a list of actors leads, and the laws speak of every such list; a step is one
 -- more actor at its end.
-use Rattle.std.proofs.Common.{sym, subst, ◌≡◌, Bool, true, false, List, [], ◌∷◌, ◌++◌, refl, ap, ◌∙◌, Option, Some, None}
-use Rattle.std.specs.Bool.{OnTrue}
-use Rattle.std.specs.Prelude.{IfNone, IfSome}
-use Rattle.qs_program.specs.Sound.{IsSound}
-use Rattle.qs_program.specs.audit.Program.{ProgramShape}
-use Rattle.qs_played.specs.Isolation.{IsIsolated}
+use Rattle.std.proofs.Common.{sym, subst, ◌≡◌, Bool, false, List, [], ◌∷◌, ◌++◌, refl, ap, ◌∙◌, Option, rules}
+use Rattle.qs_played.proofs.Names.{OnTrue, IfNone, IfSome, IsSound, ProgramShape, or_stay}
 use Rattle.qs_played.specs.declared.schedule.actor.Actor.{Actor}
-use Rattle.qs_plain_laws.specs.audit.PlainSchedule.{played_of, plays}
-use Rattle.qs_played.specs.audit.Schedule.{or_stay}
+use Rattle.qs_played.specs.Isolation.{IsIsolated}
+use Rattle.qs_plain_laws.proofs.Names.{played_of, plays, commands_in_queue, Plain, begin, step}
 use Rattle.qs_plain_laws.specs.PlainSyncSums.{AreQueriesCounted}
 use Rattle.qs_plain_laws.proofs.PlainSyncs.{plain_syncs_counted}
-use Rattle.qs_plain_laws.specs.PlainIsolation.{commands_in_queue}
-use Rattle.qs_plain_laws.specs.audit.Plain.{Plain, begin, step}
 use Rattle.qs_plain_laws.proofs.Isolating.{runs_isolated}
 use Rattle.qs_plain.specs.Rules.{IsSteppedTo, RulesState, AreRulesCounted, AreIsolated, Steps, plain_of}
 
@@ -36,13 +30,11 @@ stepped old new a (actors, is) steps =
 
 -- a step that may have been made
 pub reached_next : (old new : RulesState) (a : Actor) (b : Bool) → IsSteppedTo old → OnTrue b (Steps old a new) → (b ≡ false → new ≡ old) → IsSteppedTo new
-reached_next old new a true reached steps same = stepped old new a reached steps
-reached_next old new a false reached steps same = subst IsSteppedTo (sym (same refl)) reached
+reached_next old new a v reached steps same = search (rules, stepped)
 
 -- the same of a step that comes with its effect
 pub reached_with_effect : {D : Type 0} (old new : RulesState) (a : Actor) (o : Option D) → IsSteppedTo old → IfSome o (λ _. Steps old a new) → IfNone o (new ≡ old) → IsSteppedTo new
-reached_with_effect old new a (Some d) reached steps same = stepped old new a reached steps
-reached_with_effect old new a None reached steps same = subst IsSteppedTo (sym same) reached
+reached_with_effect old new a v reached steps same = search (rules, stepped)
 
 pub reached_isolated : (r : RulesState) → IsSound r.program → IsSteppedTo r → AreIsolated r
 reached_isolated r sound (actors, is) =

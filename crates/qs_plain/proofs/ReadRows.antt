@@ -2,29 +2,24 @@
 -- entry, its trace and its counts. The contract of `into_played` needs this, since it gives the clients' lists away by
 -- move and shows them through the rows. The proofs go by induction on the list of clients, and on the order.
 use Rattle.std.proofs.Common.{◌≡◌, ◌<◌, ℕ, zero, suc, List, [], ◌∷◌, ◌++◌, length, get_or, get_or-take, map, refl, sym, ap, ◌∙◌, arith}
-use Rattle.qs_objects.specs.declared.held.Ticket.{Ticket}
-use Rattle.qs_played.specs.Played.{ClientRows, HaveRows, counts_of_ticket, entry_in, rows_at, trace_in}
-use Rattle.qs_plain.specs.client.Clients.{AreRowsOf, ClientState, client_state_at, client_of_state}
-use Rattle.qs_plain.specs.BegunBlocks.{AreBegun, AreRows}
+use Rattle.qs_played.proofs.Names.{Ticket, ClientRows, HaveRows, counts_of_ticket, entry_in, rows_at, trace_in}
+use Rattle.qs_plain.proofs.Names.{AreRowsOf, ClientState, client_state_at, client_of_state, AreBegun, AreRows}
 
 pub rows_push : (rows : List ClientRows) (cs : List ClientState) (r : ClientRows) (d : ClientState) → AreRows rows cs → AreRowsOf r (client_of_state d) → AreRows (rows ++ r ∷ []) (cs ++ d ∷ [])
 rows_push [] [] r d before here = (here, tt)
-rows_push [] (e ∷ cs) r d before here = absurd before
-rows_push (q ∷ rows) [] r d before here = absurd before
 rows_push (q ∷ rows) (e ∷ cs) r d before here = (before.0, rows_push rows cs r d before.1 here)
+rows_push _ _ r d before here = absurd before
 
 many_rows : (rows : List ClientRows) (cs : List ClientState) → AreRows rows cs → length rows ≡ length cs
 many_rows [] [] are = refl
-many_rows [] (d ∷ cs) are = absurd are
-many_rows (r ∷ rows) [] are = absurd are
 many_rows (r ∷ rows) (d ∷ cs) are = ap suc (many_rows rows cs are.1)
+many_rows _ _ are = absurd are
 
 row_of : (rows : List ClientRows) (cs : List ClientState) (c : ℕ) → AreRows rows cs → c < length cs → AreRowsOf (rows_at rows c) (client_of_state (client_state_at cs c))
 row_of [] [] c are inside = absurd (omega (arith, inside))
-row_of [] (d ∷ cs) c are inside = absurd are
-row_of (r ∷ rows) [] c are inside = absurd are
 row_of (r ∷ rows) (d ∷ cs) zero are inside = are.0
 row_of (r ∷ rows) (d ∷ cs) (suc c) are inside = row_of rows cs c are.1 (omega (arith, inside))
+row_of _ _ c are inside = absurd are
 
 -- two functions that give one value for each member of a list
 along : {X : Type 0} (f g : Ticket → X) (ts : List Ticket) → ((i : ℕ) (d : Ticket) → i < length ts → f (get_or ts i d) ≡ g (get_or ts i d)) → map f ts ≡ map g ts

@@ -1,32 +1,16 @@
 -- What a step did is what the plain rules' definition says of it. The contracts of `go_on`, `separate` and
 -- `step_handler_with_effect` promise this. A client's effect follows from what its frames ask. A handler's effect is
 -- read before its step, but for a query's reply: that is read after the step, from the entry that the journal has more.
-use Rattle.std.proofs.Common.{◌≡◌, ◌<◌, ℕ, ◌-◌, Bool, true, false, if◌then◌else◌, List, [], ◌∷◌, ◌++◌, map, length, drop, refl, ap, sym, subst, ◌∙◌, Option, Some, None, ℤ, get_or-set_same, length-set}
-use Rattle.std.proofs.Math.ListN.{set}
-use Rattle.std.proofs.lemmas.List.{length-map}
-use Rattle.qs_objects.specs.audit.Act.{act}
-use Rattle.qs_objects.specs.audit.Journals.{HeldState, has_room, run_one, with_entry}
-use Rattle.qs_objects.specs.declared.held.Entry.{Entry}
-use Rattle.qs_objects.specs.declared.held.Ticket.{Ticket}
-use Rattle.qs_objects.specs.declared.Request.{Request}
-use Rattle.qs_meaning.specs.audit.Interaction.{Interaction}
-use Rattle.qs_played.specs.audit.Played.{ticket}
-use Rattle.qs_played.specs.audit.Schedule.{or_stay}
+use Rattle.std.proofs.Common.{◌≡◌, ◌<◌, ℕ, ◌-◌, Bool, true, false, if◌then◌else◌, List, [], ◌∷◌, ◌++◌, map, length, drop, refl, ap, sym, subst, ◌∙◌, Option, Some, None, ℤ, get_or-set_same, length-set, rules}
+use Rattle.qs_played.proofs.Names.{set, length-map, act, HeldState, has_room, run_one, with_entry, Entry, Ticket, Request, Interaction, ticket}
 use Rattle.qs_played.specs.declared.schedule.actor.Actor.TheVariants as actor
-use Rattle.qs_plain_laws.specs.audit.Plain.{Client, Handler, Plain, Private, item_step, no_handler, queue_step, step}
-use Rattle.qs_plain_laws.specs.audit.Plain as plain
+use Rattle.qs_plain_laws.proofs.Names.{Client, Handler, Plain, Private, item_step, queue_step}
 use Rattle.qs_plain_laws.specs.declared.item.QueueItem.{QueueItem}
-use Rattle.qs_plain_laws.specs.declared.item.QueueItem.TheVariants as item
-use Rattle.qs_plain.specs.client.Clients.{ClientState, absent, client_state_at, client_of_state, stage_of}
-use Rattle.qs_plain.specs.client.Frames.{next_of}
+use Rattle.qs_plain_laws.specs.audit.Plain as plain
+use Rattle.qs_plain.proofs.Names.{ClientState, absent, client_state_at, client_of_state, stage_of, next_of, answered, effect_of_client, effect_of_queue, effect_of_queues, effect_of_rest, plain_effect, reply_in, reply_of, unanswered, handler_state_at, RulesState, Steps, plain_of, HandlerState, HasDone, IsShortStep, effect_of_did, last_ticket}
 use Rattle.qs_plain.specs.declared.client.stage.Stage.TheVariants as stage
-use Rattle.qs_plain.specs.handler.Effects.{answered, effect_of_client, effect_of_queue, effect_of_queues, effect_of_rest, plain_effect, reply_in, reply_of, unanswered}
-use Rattle.qs_plain.specs.handler.Handlers.{handler_state_at}
-use Rattle.qs_plain.specs.Rules.{RulesState, Steps, plain_of}
 use Rattle.qs_plain.specs.declared.handler.effect.Effect.{Effect}
 use Rattle.qs_plain.specs.declared.handler.effect.Effect.TheVariants as effect
-use Rattle.qs_plain.specs.handler.Served.{HandlerState}
-use Rattle.qs_plain.specs.StepEffects.{HasDone, IsShortStep, effect_of_did, last_ticket}
 use Rattle.qs_plain.specs.declared.did.Did.{Did}
 use Rattle.qs_plain.proofs.RulesFieldLemmas.{new_rules}
 use Rattle.qs_plain.proofs.RulesSteps.{plain_client, plain_handler}
@@ -55,11 +39,7 @@ moved_here cs c n new is less = ap (λ m. client_state_at (set cs m new) c) is �
 -- and what it did is read off it
 pub effect_is_read : (it : Did) (before : Plain) (r : RulesState) (order : List Ticket) (c n : ℕ) (new : ClientState) (hs : List HandlerState) → n ≡ c → c < length r.clients → IsShortStep it
     → plain_effect before (actor.Client c) ≡ effect_of_did it new.locals (last_ticket c new) → HasDone it before c (new_rules r order n new hs)
-effect_is_read it before r order c n new hs is less short effect = record {
-  there = subst (λ k. c < k) (sym (length-set r.clients n new)) less;
-  short = short;
-  effect = effect ∙ ap (λ (d : ClientState). effect_of_did it d.locals (last_ticket c d)) (sym (moved_here r.clients c n new is less));
-}
+effect_is_read it before r order c n new hs is less short effect = search (rules, it, length-set, moved_here)
 
 -- the effect with its reply
 answer : Option ℤ → Option Effect → Option Effect
@@ -92,23 +72,10 @@ module _ (s t : Plain) (h : ℕ) (less : h < length s.handlers) where
   by_items : (q : Private) (qs : List Private) (items : List QueueItem) (first : Effect) → item_step s h it q qs items ≡ Some t → unanswered (effect_of_queue q.ticket it.held items) ≡ Some first
       → effect_of_queue q.ticket it.held items ≡ answer reply (Some first)
   unfolding answer
-  by_items q qs [] first e is = cc
-  by_items q qs (item.Command r ∷ items) first e is = ap (answer reply) is
-  by_items q qs (item.Query r ∷ items) first e is = ap (λ v. Some (effect.Answers q.ticket r v)) (sym there) ∙ ap (answer reply) is
-    where
-      held_then : HeldState
-      held_then = (run_one it.held q.ticket r).0
-
-      there : reply ≡ (run_one it.held q.ticket r).1
-      there =
-          ap (λ (x : Plain). reply_in (plain.handler_at x.handlers h).held.journal (length it.held.journal)) (sym (ap (or_stay s) e))
-          ∙ ap (λ (x : Handler). reply_in x.held.journal (length it.held.journal)) (get_or-set_same s.handlers h _ no_handler less)
-          ∙ replied it.held q.ticket r
-  by_items q qs (item.EndMark ∷ items) first e is = ap (answer reply) is
+  by_items q qs v first e is = search (rules, answer, reply, plain.handler_at, get_or-set_same, replied)
 
   by_queues : (qs : List Private) (first : Effect) → queue_step s h it qs ≡ Some t → unanswered (effect_of_queues it.held qs) ≡ Some first → effect_of_queues it.held qs ≡ answer reply (Some first)
-  by_queues [] first e is = cc
-  by_queues (q ∷ qs) first e is = by_items q qs q.items first e is
+  by_queues v first e is = search (rules, by_items)
 
 -- a handler's effect, read before its step but for the reply
 pub effect_served : (r new : RulesState) (h : ℕ) (first : Effect) (value : Option ℤ) (before : ℕ) → h < length r.handlers → Steps r (actor.Handler h) new

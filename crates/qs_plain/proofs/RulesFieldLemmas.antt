@@ -1,19 +1,12 @@
 -- The lemmas on the steps of the plain rules are stated here in the words that the proofs of `separate`, `go_on`,
 -- `step_client` and `step_handler` have at hand. There the machine's fields, the numbers, and the client or handler are
 -- read out of the code and only equal to those of the lemmas. The proofs rewrite along these equations.
-use Rattle.std.proofs.Common.{◌≡◌, ◌<◌, ℕ, List, [], ◌∷◌, ◌++◌, Some, length, get_or, ap, ◌∙◌, sym, subst}
-use Rattle.std.proofs.Math.ListN.{set}
-use Rattle.qs_objects.specs.declared.held.Ticket.{Ticket}
-use Rattle.qs_played.specs.audit.Played.{ticket}
+use Rattle.std.proofs.Common.{◌≡◌, ◌<◌, ℕ, List, [], ◌∷◌, ◌++◌, Some, length, get_or, ap, ◌∙◌, sym, subst, rules}
+use Rattle.qs_played.proofs.Names.{set, Ticket, ticket}
 use Rattle.qs_played.specs.declared.schedule.actor.Actor.{Actor}
-use Rattle.qs_played.proofs.Lists.{get_or-any}
+use Rattle.qs_plain_laws.proofs.Names.{get_or-any, step}
 use Rattle.qs_plain_laws.specs.declared.item.QueueItem.{QueueItem}
-use Rattle.qs_plain_laws.specs.audit.Plain.{step}
-use Rattle.qs_plain.specs.client.Clients.{ClientState, absent, client_state_at}
-use Rattle.qs_plain.specs.declared.client.stage.Stage.{Stage}
-use Rattle.qs_plain.specs.handler.Handlers.{CanLogAll, logged_all, handler_state_at, nobody}
-use Rattle.qs_plain.specs.Rules.{RulesState, IsRules, plain_of}
-use Rattle.qs_plain.specs.handler.Served.{HandlerState}
+use Rattle.qs_plain.proofs.Names.{ClientState, absent, client_state_at, Stage, CanLogAll, logged_all, handler_state_at, nobody, RulesState, IsRules, plain_of, HandlerState}
 
 pub within_of : (r s : RulesState) (c : ℕ) → r ≡ s → c < length s.clients → c < length r.clients
 within_of r s c same less = rw same less
@@ -32,9 +25,7 @@ made_kept r order c n new hs others is same kept = subst (λ m. IsRules (new_rul
 
 pub made_steps : (r s : RulesState) (a : Actor) (order later : List Ticket) (c n : ℕ) (new : ClientState) (hs others : List HandlerState) → r ≡ s → n ≡ c → others ≡ hs → order ≡ later
     → step r.program (plain_of r) a ≡ Some (plain_of (new_rules r order c new hs)) → step s.program (plain_of s) a ≡ Some (plain_of (new_rules r later n new others))
-made_steps r s a order later c n new hs others same is others_are longer e =
-    subst (λ x. step x.program (plain_of x) a ≡ Some (plain_of (new_rules r later n new others))) same
-    (e ∙ (λ k. Some (plain_of (new_rules r (longer k) (sym is k) new (sym others_are k)))))
+made_steps r s a order later c n new hs others same is v longer e = search rules
 
 pub longer_order : (order later : List Ticket) (c k n m : ℕ) → later ≡ order ++ record { client = c; index = n } ∷ [] → n ≡ m → m ≡ k → order ++ ticket c k ∷ [] ≡ later
 longer_order order later c k n m e is same = sym (e ∙ ap (λ j. order ++ ticket c j ∷ []) (is ∙ same))
@@ -59,5 +50,4 @@ served_at r cs h n new is kept = subst (λ m. IsRules (rules_after_serving r cs 
 
 pub served_steps : (r s : RulesState) (a : Actor) (cs : List ClientState) (h n : ℕ) (new : HandlerState) → r ≡ s → n ≡ h → step r.program (plain_of r) a ≡ Some (plain_of (rules_after_serving r cs h new))
     → step s.program (plain_of s) a ≡ Some (plain_of (rules_after_serving r cs n new))
-served_steps r s a cs h n new same is e =
-    subst (λ x. step x.program (plain_of x) a ≡ Some (plain_of (rules_after_serving r cs n new))) same (e ∙ (λ k. Some (plain_of (rules_after_serving r cs (sym is k) new))))
+served_steps r s a cs h n new same is e = search rules

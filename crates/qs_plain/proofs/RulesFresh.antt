@@ -1,19 +1,13 @@
 -- The lists that `new` builds are the plain rules before their first step, and what the code keeps holds of them. The
 -- contract of `new` promises both. Each client and each handler is a fresh one by its number, so two lists that have
 -- the same element at each place are equal, by induction; and the blocks to come are all blocks of the program.
-use Rattle.std.proofs.Common.{◌≡◌, ◌<◌, ℕ, suc, ◌+◌, List, [], ◌∷◌, map, length, get_or, sum_by, refl, ap, ◌∙◌, arith}
-use Rattle.std.specs.List.{range_with_len}
-use Rattle.std.proofs.lemmas.List.Sums.{sum_by-cons}
-use Rattle.qs_objects.specs.declared.held.Ticket.{Ticket}
-use Rattle.qs_program.specs.audit.Program.{ProgramShape, ClientShape, no_client}
+use Rattle.std.proofs.Common.{◌≡◌, ◌<◌, ℕ, suc, ◌+◌, List, [], ◌∷◌, map, length, get_or, sum_by, refl, ap, ◌∙◌, arith, rules}
+use Rattle.qs_played.proofs.Names.{range_with_len, sum_by-cons, Ticket, ProgramShape, ClientShape, no_client}
 use Rattle.qs_plain_laws.specs.audit.Plain.{begin, fresh_client, fresh_handler}
 use Rattle.qs_plain_laws.specs.audit.Plain as plain
 use Rattle.qs_plain.specs.client.FreshClients.{AreFresh}
-use Rattle.qs_plain.specs.client.Clients.{ClientState, IsFresh, client_of_state, stage_of, absent, client_state_at}
+use Rattle.qs_plain.proofs.Names.{ClientState, IsFresh, client_of_state, absent, client_state_at, nobody, RulesState, IsRules, plain_of, to_come, HandlerState, handler_of_state}
 use Rattle.qs_plain.specs.handler.Beginning.{AreIdle}
-use Rattle.qs_plain.specs.handler.Handlers.{nobody}
-use Rattle.qs_plain.specs.Rules.{RulesState, IsRules, plain_of, to_come}
-use Rattle.qs_plain.specs.handler.Served.{HandlerState, handler_of_state}
 
 -- a list whose elements are given by their numbers
 listed : {X Y : Type 0} (f : X → Y) (g : ℕ → Y) (xs : List X) (d : X) (a : ℕ) → ((i : ℕ) → i < length xs → f (get_or xs i d) ≡ g (a + i)) → map f xs ≡ map g (range_with_len a (length xs))
@@ -25,18 +19,15 @@ listed f g (x ∷ xs) d a each =
     λ k. first k ∷ others k
 
 fresh_is : (p : ProgramShape) (c : ℕ) (d : ClientState) → IsFresh p c d → client_of_state d ≡ fresh_client c
-fresh_is p c d f =
-    (λ k. record { stage = stage_of (f.stage k) d.frames d.locals; entries = f.entries k; traces = map (λ t. t.events) (f.traces k); counts = f.counts k })
-    ∙ (λ k. record { stage = plain.out (f.locals k); entries = []; traces = []; counts = [] })
+fresh_is p c d f = search (rules, map, plain.out)
 
 to_come_is : (cs : List ClientState) (ds : List ClientShape) → length cs ≡ length ds → ((i : ℕ) → i < length ds → length (get_or cs i absent).prepared ≡ length (get_or ds i no_client).blocks)
     → to_come cs ≡ sum_by (λ (d : ClientShape). length d.blocks) ds
 to_come_is [] [] same each = refl
-to_come_is [] (d ∷ ds) same each = absurd (omega arith)
-to_come_is (c ∷ cs) [] same each = absurd (omega arith)
 to_come_is (c ∷ cs) (d ∷ ds) same each =
     rw (sum_by-cons (λ (x : ClientState). length x.prepared) c cs, sum_by-cons (λ (x : ClientShape). length x.blocks) d ds)
     (omega (arith, each 0 (omega arith), to_come_is cs ds (omega arith) (λ i less. each (suc i) (omega arith))))
+to_come_is _ _ same each = absurd (omega arith)
 
 module _ (p : ProgramShape) (room : ℕ) (cs : List ClientState) (hs : List HandlerState) (fresh : AreFresh p cs) (still : AreIdle p room hs) where
   abbrev pub fresh_rules : List Ticket → RulesState
@@ -46,14 +37,7 @@ module _ (p : ProgramShape) (room : ℕ) (cs : List ClientState) (hs : List Hand
   fresh_to_come = to_come_is cs p.clients fresh.many (λ i less. (fresh.each i less).prepared)
 
   pub fresh_kept : (order : List Ticket) → room ≡ sum_by (λ (d : ClientShape). length d.blocks) p.clients → IsRules (fresh_rules order)
-  fresh_kept order enough = record {
-    clients = fresh.many;
-    own = λ c less. let f = fresh.each c (rw fresh.many at less) in (f.program, f.number);
-    handlers = still.many;
-    rooms = λ h less. rw (still.each h (rw still.many at less)) (omega (arith, fresh_to_come, enough));
-    queues = λ h less. rw (still.each h (rw still.many at less)) tt;
-    apart = λ h less. rw (still.each h (rw still.many at less)) tt;
-  }
+  fresh_kept order enough = grind (arith, fresh, still, fresh_to_come)
 
   pub fresh_plain : plain_of (fresh_rules []) ≡ begin p
   fresh_plain =

@@ -1,39 +1,18 @@
 -- As a client goes on in its block, by a command, a query or the block's end, what the code keeps still holds, and the
 -- step is that of the plain rules. The contract of `go_on` promises both. An item more in a private queue is met by a
 -- request less in the load that is left of the block, so the queues' room suffices; the end mark has its own place.
-use Rattle.std.proofs.Common.{◌≡◌, ◌≢◌, ◌<◌, ◌≤◌, ℕ, ◌+◌, ◌-◌, ◌==◌, if◌then◌else◌, Bool, true, false, ◌||◌, ◌⊎◌, inl, inr, List, [], ◌∷◌, ◌++◌, map, length, get_or, refl, ap, sym, subst, ◌∙◌, arith, Some, None, nat_lt, ℤ, get_or-set_other, get_or-set_same, length-set}
-use Rattle.std.specs.List.{AllByRecursion, list_any}
+use Rattle.std.proofs.Common.{◌≡◌, ◌≢◌, ◌<◌, ◌≤◌, ℕ, ◌+◌, ◌-◌, ◌==◌, if◌then◌else◌, Bool, true, false, ◌||◌, ◌⊎◌, inl, inr, List, [], ◌∷◌, ◌++◌, map, length, get_or, refl, ap, sym, subst, ◌∙◌, arith, Some, None, nat_lt, ℤ, get_or-set_other, get_or-set_same, length-set, rules}
+use Rattle.qs_played.proofs.Names.{AllByRecursion, list_any, length-map, map-set, sum_by-set, Event, Ticket, Request, BlockShape, block_at, blocks_of, event, is_in, IsSound, IsSoundBlock, sound_block, ticket, with_sync, SyncCount, AllByRecursion-get_or}
 use Rattle.std.proofs.Math.ListN.{set, get_or-map}
-use Rattle.std.proofs.lemmas.List.{length-map, map-set}
-use Rattle.std.proofs.lemmas.List.Sums.{sum_by-set}
-use Rattle.qs_objects.specs.declared.held.Event.{Event}
-use Rattle.qs_objects.specs.declared.held.Ticket.{Ticket}
-use Rattle.qs_objects.specs.declared.Request.{Request}
 use Rattle.qs_meaning.specs.audit.Interaction.{Interaction, Done, Call, Query}
-use Rattle.qs_program.specs.audit.Program.{BlockShape, block_at, blocks_of}
-use Rattle.qs_meaning.specs.audit.Solo.{event}
-use Rattle.qs_program.specs.audit.Sound.{is_in}
-use Rattle.qs_program.specs.Sound.{IsSound, IsSoundBlock}
-use Rattle.qs_program.proofs.Bounds.{sound_block}
-use Rattle.qs_played.specs.audit.Played.{ticket}
 use Rattle.qs_played.specs.declared.schedule.actor.Actor.TheVariants as actor
-use Rattle.qs_plain_laws.specs.audit.Plain.{Client, step, client_step, moves_on}
+use Rattle.qs_plain_laws.proofs.Names.{Client, step, client_step, moves_on}
 use Rattle.qs_plain_laws.specs.declared.item.QueueItem.{QueueItem}
 use Rattle.qs_plain_laws.specs.audit.Plain as plain
 use Rattle.qs_plain_laws.specs.declared.item.QueueItem.TheVariants as item
-use Rattle.qs_plain.specs.client.ClientMoves.{after_moves}
-use Rattle.qs_plain.specs.client.Clients.{ClientState, IsClient, IsWithin, current_block, client_of_state, stage_of, absent, client_state_at}
-use Rattle.qs_plain.specs.client.Frames.{Frame, next_of, load_left}
-use Rattle.qs_plain.specs.client.TraceMoves.{counted_in, noted_in, last_of, no_trace}
-use Rattle.qs_sync_counts.specs.audit.SyncRows.{with_sync}
-use Rattle.qs_sync_counts.specs.declared.sync_counts.SyncCount.{SyncCount}
-use Rattle.qs_objects.specs.Traces.{TraceState, trace_state}
-use Rattle.qs_objects.proofs.Elements.{AllByRecursion-get_or}
-use Rattle.qs_plain.specs.declared.client.stage.Stage.{Stage}
+use Rattle.qs_plain.proofs.Names.{after_moves, ClientState, IsClient, IsWithin, current_block, client_of_state, stage_of, absent, client_state_at, Frame, next_of, load_left, counted_in, noted_in, last_of, no_trace, TraceState, trace_state, Stage, handler_state_at, nobody, with_logged_item, logged_at, logged_all, CanLog, CanLogAll, RulesState, IsRules, IsOpen, to_come, is_in_block, plain_of}
 use Rattle.qs_plain.proofs.client.ClientPreserved.{within_of}
 use Rattle.qs_plain.specs.declared.client.stage.Stage.TheVariants as stage
-use Rattle.qs_plain.specs.handler.Handlers.{handler_state_at, nobody, with_logged_item, logged_at, logged_all, CanLog, CanLogAll}
-use Rattle.qs_plain.specs.Rules.{RulesState, IsRules, IsOpen, to_come, is_in_block, plain_of}
 use Rattle.qs_plain.proofs.handler.HandlersPreserved.{equal_or_not, logged_each, length-logged_all}
 use Rattle.qs_plain.proofs.RulesBegin.{each_implies}
 use Rattle.qs_plain.proofs.RulesPreserved.{Continues, logged_kept}
@@ -45,8 +24,7 @@ member_all P [] h member each = cc
 member_all P (x ∷ xs) h member each = by_test (x == h) (λ e. e) member (λ m. member_all P xs h m each.1)
   where
     by_test : (b : Bool) → (b ≡ true → (x == h) ≡ true) → (b || list_any (λ y. y == h) xs) ≡ true → (is_in xs h ≡ true → P h) → P h
-    by_test true same' m later = let e : x ≡ h = grind (arith, same' refl) in subst P e each.0
-    by_test false same' m later = later m
+    by_test v same' m later = grind arith
 
 module _ (r : RulesState) (kept : IsRules r) (sound : IsSound r.program) (c : ℕ) (inside : c < length r.clients)
     (isc : IsClient (client_state_at r.clients c)) (stays : (client_state_at r.clients c).stage ≡ stage.Within) where
@@ -69,11 +47,7 @@ module _ (r : RulesState) (kept : IsRules r) (sound : IsSound r.program) (c : �
   some = within.some
 
   pub in_range : here < blocks_of r.program c
-  in_range =
-      let owned = kept.own c inside in
-      let begun : length old.entries + length old.prepared ≡ blocks_of r.program c =
-      subst (λ p. length old.entries + length old.prepared ≡ blocks_of p c) owned.0 (subst (λ n. length old.entries + length old.prepared ≡ blocks_of old.program n) owned.1 isc.begun) in
-      omega (arith, begun, within.some)
+  in_range = grind (arith, kept, isc)
 
   pub client_in_range : c < length r.program.clients
   client_in_range = omega (arith, kept.clients, inside)
@@ -193,8 +167,7 @@ module _ (r : RulesState) (kept : IsRules r) (sound : IsSound r.program) (c : �
       counts = ap (λ n. set old.counts (n - 1) (with_sync q.object (get_or old.counts (n - 1) []))) isc.counts
 
       client : client_of_state new ≡ plain.stands (plain.with_query_counted (client_of_state old) here q.object) (plain.waiting (λ v. next_of fs (set l x v)))
-      client = ap client_of_state new_is
-          ∙ (λ k. record { stage = plain.waiting (λ v. next_of fs (set l x v)); entries = old.entries; traces = map (λ (t : TraceState). t.events) old.traces; counts = counts k })
+      client = search (rules, plain.waiting, set, map)
 
   pub end_steps : (l : List ℤ) (new : ClientState) → next_of old.frames old.locals ≡ Done l → new ≡ after_moves old stage.Out l [] old.traces old.counts
       → step r.program (plain_of r) (actor.Client c) ≡ Some (plain_of (record { program = r.program; order = r.order; clients = set r.clients c new; handlers = logged_all now item.EndMark r.handlers block.reserved }))

@@ -1,18 +1,13 @@
 -- What the code does to its lists of clients and handlers is what the plain rules do to theirs: an item is logged at
 -- each handler of a list, or an empty private queue comes to each. The lemmas on the three kinds of steps use this to
 -- read the code's state after a step. The proofs go by induction on the list of handlers.
-use Rattle.std.proofs.Common.{◌≡◌, ℕ, List, [], ◌∷◌, ◌++◌, map, get_or, refl, ap, sym, ◌∙◌}
-use Rattle.std.specs.List.{AllByRecursion}
+use Rattle.std.proofs.Common.{◌≡◌, ℕ, List, [], ◌∷◌, map, get_or, refl, ap, ◌∙◌, rules}
+use Rattle.qs_played.proofs.Names.{AllByRecursion, map-set, map-append, Ticket}
 use Rattle.std.proofs.Math.ListN.{set, get_or-map}
-use Rattle.std.proofs.lemmas.List.{map-set, map-append}
-use Rattle.qs_objects.specs.declared.held.Ticket.{Ticket}
+use Rattle.qs_plain_laws.proofs.Names.{log_in, enter, at_each, at_handler, put_item}
 use Rattle.qs_plain_laws.specs.declared.item.QueueItem.{QueueItem}
-use Rattle.qs_plain_laws.specs.audit.Plain.{log_in, enter, at_each, at_handler, put_item}
 use Rattle.qs_plain_laws.specs.audit.Plain as plain
-use Rattle.qs_plain.specs.client.Clients.{ClientState, client_of_state, absent, client_state_at}
-use Rattle.qs_plain.specs.client.Queues.{QueueState, after_put}
-use Rattle.qs_plain.specs.handler.Handlers.{handler_state_at, nobody, with_logged_item, logged_at, logged_all, with_queue, entered_at, entered_all}
-use Rattle.qs_plain.specs.handler.Served.{HandlerState, handler_of_state}
+use Rattle.qs_plain.proofs.Names.{ClientState, client_of_state, absent, client_state_at, QueueState, after_put, handler_state_at, nobody, with_logged_item, logged_at, logged_all, with_queue, entered_at, entered_all, HandlerState, handler_of_state}
 
 pub plain_client : (cs : List ClientState) (c : ℕ) → get_or (map client_of_state cs) c plain.no_client ≡ client_of_state (client_state_at cs c)
 plain_client cs c = get_or-map client_of_state cs c absent
@@ -28,9 +23,7 @@ handler-logged : (t : Ticket) (i : QueueItem) (x : HandlerState) → handler_of_
 handler-logged t i x = λ k. record { queues = queues-logged t i x.queues k; held = x.held }
 
 pub plain-logged_at : (t : Ticket) (i : QueueItem) (hs : List HandlerState) (h : ℕ) → map handler_of_state (logged_at t i hs h) ≡ at_handler (log_in t i) (map handler_of_state hs) h
-plain-logged_at t i hs h =
-    map-set handler_of_state hs h (with_logged_item t i (handler_state_at hs h))
-    ∙ ap (set (map handler_of_state hs) h) (handler-logged t i (handler_state_at hs h) ∙ sym (ap (log_in t i) (plain_handler hs h)))
+plain-logged_at t i hs h = search (rules, map-set, set, map, handler-logged, plain_handler)
 
 pub plain-logged_all : (t : Ticket) (i : QueueItem) (hs : List HandlerState) (rs : List ℕ) → map handler_of_state (logged_all t i hs rs) ≡ at_each (log_in t i) (map handler_of_state hs) rs
 plain-logged_all t i hs [] = refl
@@ -41,15 +34,10 @@ abbrev pub IsEmptyOf : Ticket → ℕ × QueueState → Type 0
 IsEmptyOf t q = q.1.queue ≡ record { ticket = t; items = [] }
 
 handler-entered : (t : Ticket) (q : QueueState) (x : HandlerState) → q.queue ≡ record { ticket = t; items = [] } → handler_of_state (with_queue q x) ≡ enter t (handler_of_state x)
-handler-entered t q x fresh = λ k. record {
-  queues = (map-append (λ (y : QueueState). y.queue) x.queues (q ∷ []) ∙ ap (λ y. map (λ (z : QueueState). z.queue) x.queues ++ y ∷ []) fresh) k;
-  held = x.held;
-}
+handler-entered t q x fresh = search (rules, map-append, map)
 
 pub plain-entered_at : (t : Ticket) (hs : List HandlerState) (q : ℕ × QueueState) → IsEmptyOf t q → map handler_of_state (entered_at hs q) ≡ at_handler (enter t) (map handler_of_state hs) q.0
-plain-entered_at t hs q fresh =
-    map-set handler_of_state hs q.0 (with_queue q.1 (handler_state_at hs q.0))
-    ∙ ap (set (map handler_of_state hs) q.0) (handler-entered t q.1 (handler_state_at hs q.0) fresh ∙ sym (ap (enter t) (plain_handler hs q.0)))
+plain-entered_at t hs q fresh = search (rules, map-set, q, set, map, handler-entered, plain_handler)
 
 pub plain-entered_all : (t : Ticket) (hs : List HandlerState) (qs : List (ℕ × QueueState)) → AllByRecursion (IsEmptyOf t) qs → map handler_of_state (entered_all hs qs) ≡ at_each (enter t) (map handler_of_state hs) (map (λ (q : ℕ × QueueState). q.0) qs)
 plain-entered_all t hs [] fresh = refl

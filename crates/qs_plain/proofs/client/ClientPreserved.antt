@@ -1,28 +1,9 @@
 -- After a command, a query, a reply, the end of a block or the beginning of the next one, a client of the code still
 -- keeps what its type asks of it (`IsClient`). The contracts of `begin`, `ask` and `reply` need it. A request takes one
 -- from the load that is left of its block, so the trace has room for its event; all other parts stay as they were.
-use Rattle.std.proofs.Common.{◌≡◌, ◌<◌, ◌≤◌, ℕ, suc, ◌+◌, ◌-◌, ◌==◌, if◌then◌else◌, Bool, true, false, ◌||◌, List, [], ◌∷◌, ◌++◌, length, get_or, set, sum_by, refl, ap, sym, subst, ◌∙◌, arith, ℤ, length-set, get_or-set_same, add-zero}
-use Rattle.std.specs.List.{list_any}
-use Rattle.std.proofs.lemmas.List.Sums.{sum_by-cons}
-use Rattle.std.proofs.lemmas.List.{length-append}
-use Rattle.std.proofs.Math.Seq.{get_or-append_seam}
-use Rattle.qs_objects.specs.declared.held.Event.{Event}
-use Rattle.qs_program.specs.audit.Program.{BlockShape, blocks_of, block_load}
-use Rattle.qs_program.specs.audit.Sound.{is_in}
-use Rattle.qs_program.specs.Sound.{IsSound, IsSoundBody}
-use Rattle.qs_program.specs.audit.Loads.{load_of}
-use Rattle.qs_program.proofs.Bounds.{sound_block}
-use Rattle.qs_plain.specs.client.Asking.{AreSound}
-use Rattle.qs_plain.specs.client.Clients.{ClientState, IsClient, IsStaged, IsWithin, IsReady, current_block, current_counts, current_trace, block_of_state}
-use Rattle.qs_plain.specs.client.PreparedBlock.{PreparedState}
-use Rattle.qs_plain.specs.client.Frames.{Frame, rest, load_left}
-use Rattle.qs_plain.specs.client.TraceMoves.{counted_in, noted_in, last_of, no_trace}
-use Rattle.qs_sync_counts.specs.audit.SyncRows.{no_syncs, with_sync}
-use Rattle.qs_sync_counts.specs.SyncRows.{AreFew}
-use Rattle.qs_sync_counts.specs.declared.sync_counts.SyncCount.{SyncCount}
-use Rattle.qs_sync_counts.proofs.CountRows.{few_in, few_more, few_none}
-use Rattle.qs_objects.specs.Traces.{TraceState}
-use Rattle.qs_plain.specs.declared.client.stage.Stage.{Stage}
+use Rattle.std.proofs.Common.{◌≡◌, ◌<◌, ◌≤◌, ℕ, suc, ◌+◌, ◌-◌, ◌==◌, if◌then◌else◌, Bool, true, false, ◌||◌, List, [], ◌∷◌, ◌++◌, length, get_or, set, sum_by, refl, ap, sym, subst, ◌∙◌, arith, ℤ, length-set, get_or-set_same, add-zero, rules}
+use Rattle.qs_played.proofs.Names.{list_any, sum_by-cons, length-append, get_or-append_seam, Event, BlockShape, blocks_of, block_load, is_in, IsSound, IsSoundBody, load_of, sound_block, no_syncs, with_sync, AreFew, SyncCount}
+use Rattle.qs_plain.proofs.Names.{AreSound, ClientState, IsClient, IsStaged, IsWithin, IsReady, current_block, current_counts, current_trace, block_of_state, PreparedState, Frame, rest, load_left, counted_in, noted_in, last_of, no_trace, few_in, few_more, few_none, TraceState, Stage}
 use Rattle.qs_plain.specs.declared.client.stage.Stage.TheVariants as stage
 
 sum_by-mono : (f g : ℕ → ℕ) (xs : List ℕ) → ((k : ℕ) → f k ≤ g k) → sum_by f xs ≤ sum_by g xs
@@ -50,9 +31,7 @@ length-noted : (ts : List TraceState) (e : Event) → length (noted_in ts e) ≡
 length-noted ts e = length-set _ _ _
 
 last-noted : (ts : List TraceState) (e : Event) → 0 < length ts → (last_of (noted_in ts e)).room ≡ (last_of ts).room - 1
-last-noted ts e some =
-    let within : length ts - 1 < length ts = omega arith in
-    rw length-noted (ap (λ (t : TraceState). t.room) (get_or-set_same ts (length ts - 1) _ _ within))
+last-noted ts e some = grind (arith, length-noted, get_or-set_same)
 
 module _ {d : ClientState} (kept : IsClient d) where
   staged_at : (s : Stage) → d.stage ≡ s → IsStaged d s
@@ -69,18 +48,7 @@ module _ {d : ClientState} (kept : IsClient d) where
   last_is_current = ap (λ n. get_or d.traces (n - 1) no_trace) kept.traces
 
   abbrev pub at : Stage → List ℤ → List Frame → ℕ → List TraceState → List (List SyncCount) → ClientState
-  at s l fs depth ts cs = record {
-    program = d.program;
-    number = d.number;
-    stage = s;
-    locals = l;
-    frames = fs;
-    depth = depth;
-    entries = d.entries;
-    traces = ts;
-    counts = cs;
-    prepared = d.prepared;
-  }
+  at s l fs depth ts cs = record d { stage = s; locals = l; frames = fs; depth = depth; traces = ts; counts = cs }
 
   within_at : (fs : List Frame) (s : Stage) (l : List ℤ) (depth : ℕ) (ts : List TraceState) (cs : List (List SyncCount)) (waited : ℕ) → 0 < length d.entries → AreSound d.program.objects (current_block d).reserved fs
       → sum_by (load_left fs) (current_block d).reserved + waited ≤ (get_or ts (length d.entries - 1) no_trace).room
@@ -88,26 +56,16 @@ module _ {d : ClientState} (kept : IsClient d) where
   within_at fs s l depth ts cs waited some sound room few = record { some = some; sound = sound; room = room; few = few }
 
   same_place : (ts : List TraceState) (e : Event) → ts ≡ noted_in d.traces e → get_or ts (length d.entries - 1) no_trace ≡ last_of (noted_in d.traces e)
-  same_place ts e is =
-      ap (λ us. get_or us (length d.entries - 1) no_trace) is
-      ∙ ap (λ n. get_or (noted_in d.traces e) (n - 1) no_trace) (sym kept.traces ∙ sym (length-noted d.traces e))
+  same_place ts e is = search (rules, kept, length-noted)
 
   -- the room after an event
   room_noted : (ts : List TraceState) (e : Event) → 0 < length d.entries → ts ≡ noted_in d.traces e → (get_or ts (length d.entries - 1) no_trace).room ≡ (current_trace d).room - 1
-  room_noted ts e some is =
-      ap (λ (t : TraceState). t.room) (same_place ts e is)
-      ∙ last-noted d.traces e (rw kept.traces some)
-      ∙ ap (λ (t : TraceState). t.room - 1) last_is_current
+  room_noted ts e some is = search (rules, same_place, last-noted, kept, last_is_current)
 
   -- the events after one more
   events_noted : (ts : List TraceState) (e : Event) → 0 < length d.entries → ts ≡ noted_in d.traces e
       → length (get_or ts (length d.entries - 1) no_trace).events ≡ length (current_trace d).events + 1
-  events_noted ts e some is =
-      let within : length d.traces - 1 < length d.traces = let same = kept.traces in omega (arith, some, same) in
-      ap (λ (t : TraceState). length t.events) (same_place ts e is)
-      ∙ (ap (λ n. length (get_or (noted_in d.traces e) (n - 1) no_trace).events) (length-noted d.traces e)
-      ∙ (ap (λ (t : TraceState). length t.events) (get_or-set_same d.traces (length d.traces - 1) _ no_trace within)
-      ∙ (length-append (last_of d.traces).events (e ∷ []) ∙ ap (λ (t : TraceState). length t.events + 1) last_is_current)))
+  events_noted ts e some is = grind (arith, kept, same_place, length-noted, get_or-set_same, length-append, last_is_current)
 
   noted_length : (ts : List TraceState) (e : Event) → ts ≡ noted_in d.traces e → length ts ≡ length d.entries
   noted_length ts e is = ap length is ∙ length-noted d.traces e ∙ kept.traces
@@ -117,14 +75,7 @@ module _ {d : ClientState} (kept : IsClient d) where
 
   at_kept : (s : Stage) (l : List ℤ) (fs : List Frame) (depth : ℕ) (ts : List TraceState) (cs : List (List SyncCount)) → depth ≡ d.depth → length ts ≡ length d.entries
       → length cs ≡ length d.entries → IsStaged (at s l fs depth ts cs) s → IsClient (at s l fs depth ts cs)
-  at_kept s l fs depth ts cs same long many staged = record {
-    number = kept.number;
-    begun = kept.begun;
-    traces = long;
-    counts = many;
-    prepared = prepared_at depth same;
-    staged = staged;
-  }
+  at_kept s l fs depth ts cs same long many staged = search (rules, kept, prepared_at)
 
   -- a command was asked
   pub commanded : (l : List ℤ) (fs : List Frame) (depth : ℕ) (ts : List TraceState) (e : Event) (h : ℕ) → d.stage ≡ stage.Within → depth ≡ d.depth → ts ≡ noted_in d.traces e
@@ -167,14 +118,7 @@ module _ {d : ClientState} (kept : IsClient d) where
 
   -- a reply came
   pub answered : (x : ℕ) (l : List ℤ) (ts : List TraceState) (e : Event) → d.stage ≡ stage.Waiting x → ts ≡ noted_in d.traces e → IsClient (at stage.Within l d.frames d.depth ts d.counts)
-  answered x l ts e is noted =
-      let w = waiting_of x is in
-      let room : sum_by (load_left d.frames) (current_block d).reserved + 0 ≤ (get_or ts (length d.entries - 1) no_trace).room = omega (arith, w.room, room_noted ts e w.some noted) in
-      let long = events_noted ts e w.some noted in
-      let few = few_in (suc (length (current_trace d).events + 1)) (suc (length (get_or ts (length d.entries - 1) no_trace).events + 0)) (current_counts d)
-      (omega (arith, long)) w.few in
-      at_kept stage.Within l d.frames d.depth ts d.counts refl (noted_length ts e noted) kept.counts
-      (within_at d.frames stage.Within l d.depth ts d.counts 0 w.some w.sound room few)
+  answered x l ts e is noted = grind (arith, waiting_of, room_noted, events_noted, few_in, at_kept, noted_length, kept, within_at)
 
   -- the trace has room for the command that is asked
   pub can_note : (fs : List Frame) (h : ℕ) → d.stage ≡ stage.Within → is_in (current_block d).reserved h ≡ true → ((k : ℕ) → (if h == k then 1 else 0) + load_left fs k ≤ load_left d.frames k) → 0 < (last_of d.traces).room
@@ -201,10 +145,7 @@ module _ {d : ClientState} (kept : IsClient d) (sound : IsSound d.program) (x : 
   its_block = block_of_state d here
 
   ready : IsReady d.number here d.depth its_block x
-  ready =
-      let at_zero = kept.prepared 0 x (omega (arith, more)) in
-      subst (λ n. IsReady d.number n d.depth (block_of_state d n) x) (add-zero (length d.entries))
-      (subst (IsReady d.number (length d.entries + 0) d.depth (block_of_state d (length d.entries + 0))) (ap (λ ps. get_or ps 0 x) first) at_zero)
+  ready = grind (arith, kept, more, add-zero)
 
   abbrev pub new_client : List ℤ → List Frame → ℕ → List (List ℤ) → List TraceState → List (List SyncCount) → ClientState
   new_client l fs depth es ts cs = record {
@@ -243,8 +184,7 @@ module _ {d : ClientState} (kept : IsClient d) (sound : IsSound d.program) (x : 
       record {
         some = omega (arith, longer es l entries);
         sound = subst (λ n. AreSound d.program.objects (block_of_state d n).reserved fs) (sym place) (subst (AreSound d.program.objects its_block.reserved) (sym alone) (body_sound, tt));
-        room = subst (λ n. sum_by (load_left fs) (block_of_state d n).reserved + 0 ≤ (get_or ts n no_trace).room) (sym place)
-            (subst (λ t. sum_by (load_left fs) its_block.reserved + 0 ≤ t.room) (sym last) (subst (λ gs. sum_by (load_left gs) its_block.reserved + 0 ≤ x.trace.room) (sym alone) (omega (arith, block_load_left, ready.stocked.room))));
+        room = grind (arith, block_load_left);
         few =
             let row : get_or cs here [] ≡ no_syncs its_block.reserved =
             ap (λ rows. get_or rows here []) counts ∙ (ap (λ n. get_or (d.counts ++ x.counts ∷ []) n []) (sym kept.counts)

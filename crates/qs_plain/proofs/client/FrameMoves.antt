@@ -2,22 +2,13 @@
 -- does to the tree of what comes next, to the work and the load that are left, and to the frames' soundness. The
 -- contracts of `begin`, `leave` and `advance` on frames stand on them. The moves are taken one by one: a repeat, one
 -- more turn, a branch, a leave.
-use Rattle.std.proofs.Common.{◌≡◌, ◌<◌, ◌≤◌, ℕ, zero, suc, ◌+◌, ◌-◌, ◌≢◌, ◌⊎◌, ⊎_elim, Bool, true, false, subst, List, [], ◌∷◌, ◌++◌, refl, ap, sym, ◌∙◌, arith, sub-one, slice_set}
-use Rattle.std.specs.List.{AllByRecursion}
-use Rattle.std.proofs.lemmas.List.Sums.{fold-append, sum_by_push}
+use Rattle.std.proofs.Common.{◌≡◌, ◌<◌, ◌≤◌, ℕ, zero, suc, ◌+◌, ◌-◌, ◌≢◌, ◌⊎◌, ⊎_elim, Bool, true, false, subst, List, [], ◌∷◌, ◌++◌, refl, ap, sym, ◌∙◌, arith, sub-one, slice_set, rules}
+use Rattle.qs_played.proofs.Names.{AllByRecursion, fold-append, sum_by_push, IsSoundBody, IsSoundCall, most_variables, Declared, Locals, expr_value}
 use Rattle.qs_program.specs.audit.Statements.{Statements, end, command, query, assign, again, leave, choose}
-use Rattle.qs_program.specs.Sound.{IsSoundBody, IsSoundCall}
-use Rattle.qs_program.specs.audit.Limits.{most_variables}
 use Rattle.qs_program.specs.declared.code.Call.{Call}
 use Rattle.qs_program.specs.declared.code.Expr.{Expr}
 use Rattle.qs_program.specs.declared.code.Test.{Test}
-use Rattle.qs_program.specs.declared.program.Declared.{Declared}
-use Rattle.qs_program.specs.audit.Values.{Locals, expr_value}
-use Rattle.qs_program.specs.audit.Loads.{load_of}
-use Rattle.qs_meaning.specs.audit.Interaction.{meaning}
-use Rattle.qs_plain.specs.client.Asking.{AreSound, IsSoundFrame}
-use Rattle.qs_plain.specs.client.Frames.{Frame, rest, turning, Ahead, inside, above, ahead_of, next_of, work, work_of, frame_work, load_left, frame_load}
-use Rattle.qs_plain.specs.client.Opening.{Assigns, IsAside, Opens}
+use Rattle.qs_plain.proofs.Names.{AreSound, IsSoundFrame, Frame, rest, turning, Ahead, inside, ahead_of, next_of, work, frame_work, load_left, frame_load, Assigns, IsAside, Opens}
 
 pub ahead_of-push : (fs : List Frame) (f : Frame) → ahead_of (fs ++ f ∷ []) ≡ inside (ahead_of fs) f
 ahead_of-push fs f = fold-append inside _ fs (f ∷ [])
@@ -48,13 +39,10 @@ repeats fs gs n body s l aside =
 
 -- one more turn begins
 turns_once : (fs : List Frame) (n : ℕ) (body : Statements) (l : Locals) → next_of (fs ++ turning (suc n) body ∷ []) l ≡ next_of ((fs ++ turning n body ∷ []) ++ rest body ∷ []) l
-turns_once fs n body l =
-    ap (λ (a : Ahead). a.next l) (ahead_of-push fs (turning (suc n) body))
-    ∙ sym (ap (λ (a : Ahead). a.next l) (ahead_of-push (fs ++ turning n body ∷ []) (rest body) ∙ ap (λ a. inside a (rest body)) (ahead_of-push fs (turning n body))))
+turns_once fs n body l = search (rules, ahead_of-push)
 
 pub turns_again : (fs : List Frame) (n : ℕ) (body : Statements) (l : Locals) → n ≢ 0 → next_of (fs ++ turning n body ∷ []) l ≡ next_of ((fs ++ turning (n - 1) body ∷ []) ++ rest body ∷ []) l
-turns_again fs zero body l some = absurd (some refl)
-turns_again fs (suc n) body l some = rw sub-one (turns_once fs n body l)
+turns_again fs v body l some = search (rules, sub-one, turns_once)
 
 -- each of a list and one more
 pub AllByRecursion-push : {X : Type 0} (P : X → Type 0) (xs : List X) (x : X) → AllByRecursion P xs → P x → AllByRecursion P (xs ++ x ∷ [])
@@ -68,8 +56,7 @@ AllByRecursion-popped P (y ∷ ys) x each = let (before, last) = AllByRecursion-
 -- soundness, move by move
 module _ (objects : List Declared) (reserved : List ℕ) where
   pub popped_sound : (fs gs : List Frame) (f g : Frame) → fs ≡ gs ++ f ∷ [] → f ≡ g → AreSound objects reserved fs → AreSound objects reserved gs × IsSoundFrame objects reserved g
-  popped_sound fs gs f g e same sound =
-      AllByRecursion-popped (IsSoundFrame objects reserved) gs g (subst (λ x. AreSound objects reserved (gs ++ x ∷ [])) same (subst (AreSound objects reserved) e sound))
+  popped_sound fs gs f g e same sound = search (rules, AllByRecursion-popped)
 
   pub repeats_sound : (fs gs : List Frame) (n : ℕ) (body s : Statements) → IsAside fs gs s → AreSound objects reserved (fs ++ rest (again n body s) ∷ []) → AreSound objects reserved (gs ++ turning n body ∷ [])
   repeats_sound fs gs n body s aside sound =
@@ -105,17 +92,10 @@ module _ (objects : List Declared) (reserved : List ℕ) where
       AllByRecursion-push (IsSoundFrame objects reserved) gs (rest chosen) (aside.sound objects reserved (AllByRecursion-push (IsSoundFrame objects reserved) fs (rest s) before last.3)) chosen_sound
 
   pub turns_sound : (fs : List Frame) (n m : ℕ) (body : Statements) → AreSound objects reserved fs → IsSoundFrame objects reserved (turning n body) → AreSound objects reserved ((fs ++ turning m body ∷ []) ++ rest body ∷ [])
-  turns_sound fs n m body before last =
-      AllByRecursion-push (IsSoundFrame objects reserved) (fs ++ turning m body ∷ []) (rest body) (AllByRecursion-push (IsSoundFrame objects reserved) fs (turning m body) before last) last
+  turns_sound fs n m body before last = search (rules, AllByRecursion-push)
 
 pub nothing_aside : (fs gs : List Frame) → gs ≡ fs → IsAside fs gs end
-nothing_aside fs gs e = record {
-  ahead = rw e refl;
-  many = rw e (omega arith);
-  work = rw e (omega arith);
-  load = λ h. rw e (omega arith);
-  sound = λ objects reserved sound. rw e (AllByRecursion-popped (IsSoundFrame objects reserved) fs (rest end) sound).0;
-}
+nothing_aside fs gs e = grind (arith, AllByRecursion-popped)
 
 pub opened_none : (fs gs : List Frame) (body : Statements) → fs ≡ gs ++ turning 0 body ∷ [] → Opens fs gs end
 opened_none fs gs body e = record {
@@ -137,10 +117,4 @@ opened_turn fs gs hs (suc n) body some e f = record {
 }
 
 pub assigned_one : (s t u : Statements) (l m k : Locals) (x : ℕ) (e : Expr) → Assigns s l t m → t ≡ assign x e u → k ≡ slice_set m x (expr_value m e) → Assigns s l u k
-assigned_one s t u l m k x e before is sets = record {
-  next = λ next leaves. before.next next leaves ∙ ap (λ r. meaning r next leaves m) is ∙ ap (λ v. meaning u next leaves v) (sym sets);
-  above = sym (ap above is) ∙ before.above;
-  work = omega (arith, before.work, ap work_of is);
-  load = λ h. sym (ap (λ r. load_of r h) is) ∙ before.load h;
-  sound = λ objects reserved sound. (subst (IsSoundBody objects reserved) is (before.sound objects reserved sound)).2;
-}
+assigned_one s t u l m k x e before is sets = grind arith

@@ -1,29 +1,17 @@
 -- Each private queue of a handler is of another ticket. So an item that is logged for a ticket goes into the one queue
 -- that was found, and no other is looked at. The tickets still differ after a step. The proofs go by induction on the
 -- list of queues.
-use Rattle.std.proofs.Common.{◌≡◌, ◌≢◌, ◌<◌, ℕ, zero, suc, ◌-◌, if◌then◌else◌, true, false, ◌⊎◌, inl, inr, List, [], ◌∷◌, ◌++◌, map, length, get_or, refl, ap, sym, ◌∙◌, arith}
-use Rattle.std.specs.List.{AllByRecursion}
-use Rattle.std.proofs.Math.ListN.{set}
-use Rattle.qs_objects.specs.declared.held.Ticket.{Ticket}
-use Rattle.qs_objects.specs.audit.Parts.{same}
-use Rattle.qs_objects.proofs.Choices.{not_same, ticket_cases}
-use Rattle.qs_objects.proofs.Elements.{AllByRecursion-get_or}
+use Rattle.std.proofs.Common.{◌≡◌, ◌≢◌, ◌<◌, ℕ, zero, suc, true, false, List, [], ◌∷◌, ◌++◌, map, length, get_or, refl, ap, sym, ◌∙◌, arith, rules}
+use Rattle.qs_played.proofs.Names.{AllByRecursion, set, Ticket, same, not_same, ticket_cases, AllByRecursion-get_or}
 use Rattle.qs_plain_laws.specs.declared.item.QueueItem.{QueueItem}
 use Rattle.qs_plain.specs.client.Queues.{AreApart, QueueState, after_put}
 
 same_is : (t u : Ticket) → same t u ≡ true → t ≡ u
-same_is t u e = by_case (ticket_cases t u)
-  where
-    by_case : (t ≡ u) ⊎ (same t u ≡ false) → t ≡ u
-    by_case (inl is) = is
-    by_case (inr other) = cc
+same_is t u e = search (rules, ticket_cases)
 
 module _ (t : Ticket) (i : QueueItem) where
   put_elsewhere : (q : QueueState) → same t q.queue.ticket ≡ false → after_put t i q ≡ q
-  put_elsewhere q other =
-      let items : (if same t q.queue.ticket then q.queue.items ++ i ∷ [] else q.queue.items) ≡ q.queue.items = rw other refl in
-      let room : q.room - (if same t q.queue.ticket then 1 else 0) ≡ q.room = rw other (omega arith) in
-      λ k. record { queue = record { ticket = q.queue.ticket; items = items k }; room = room k }
+  put_elsewhere q other = grind arith
 
   -- where none is the ticket's, all stay
   pub put_nowhere : (qs : List QueueState) → AllByRecursion (λ (q : QueueState). same t q.queue.ticket ≡ false) qs → map (after_put t i) qs ≡ qs

@@ -1,27 +1,10 @@
 -- What a client stores of all its blocks, and what contracts see of those that were begun and of those to come: an
 -- event, a query or a block more changes both in step.
-use Rattle.std.proofs.Common.{◌≡◌, ◌<◌, ◌≤◌, ℕ, zero, suc, ◌+◌, ◌-◌, ◌==◌, false, List, [], ◌∷◌, ◌++◌, drop, drop-cons, inl, inr, get_or, get_or-drop, get_or-set_same, get_or-set_other, get_or-take, length, length-set, length-take-le, map, refl, set, sym, ap, ◌∙◌, subst, take, arith, ⊎_elim, ℤ, zero-add}
-use Rattle.std.proofs.Math.Seq.{take-set-lt}
-use Rattle.std.proofs.lemmas.Bool.{cases_lt}
-use Rattle.std.proofs.Math.ListN.{get_or-eq_default}
-use Rattle.std.proofs.lemmas.List.{drop-set-lt, get_or-map, length-append, length-drop, length-map, take_more}
-use Rattle.qs_objects.specs.Traces.{AreEmptyAfter, TraceState, empty_trace, events_of, with_last_event, noted_at, trace_at}
-use Rattle.qs_objects.specs.declared.held.Event.{Event}
-use Rattle.qs_objects.proofs.Choices.{apart_eqb, num_cases}
-use Rattle.qs_sync_counts.specs.audit.SyncRows.{fresh_rows, no_syncs, with_sync}
-use Rattle.qs_sync_counts.specs.declared.sync_counts.SyncCount.{SyncCount}
+use Rattle.std.proofs.Common.{◌≡◌, ◌<◌, ◌≤◌, ℕ, zero, suc, ◌+◌, ◌-◌, List, [], ◌∷◌, ◌++◌, drop, drop-cons, inl, inr, get_or, get_or-drop, get_or-set_same, get_or-set_other, get_or-take, length, length-set, length-take-le, map, refl, set, sym, ap, ◌∙◌, subst, take, arith, ℤ, zero-add, rules}
+use Rattle.qs_played.proofs.Names.{take-set-lt, cases_lt, get_or-eq_default, drop-set-lt, get_or-map, length-append, length-drop, length-map, take_more, Event, apart_eqb, num_cases, fresh_rows, no_syncs, with_sync, SyncCount, IsSound, block_load-whole}
+use Rattle.qs_plain.proofs.Names.{AreEmptyAfter, TraceState, empty_trace, events_of, with_last_event, noted_at, trace_at, AreRowsOf, AreStored, IsClient, IsReady, client_from, client_of_state, begun_with, after_moves, Frame, places_of, rest, Stage, AreQueues, PreparedState, reserved_lists, prepared_of, rooms_of, QueueState, counted_in, last_of, no_trace, noted_in}
 use Rattle.qs_program.specs.audit.Program.{BlockShape, ProgramShape, block_at, block_load, blocks_of, client_at, no_block}
-use Rattle.qs_program.specs.Sound.{IsSound}
-use Rattle.qs_program.proofs.Bounds.{block_load-whole}
-use Rattle.qs_program.specs.audit.Limits.{most_requests}
-use Rattle.qs_plain.specs.client.Clients.{AreRowsOf, AreStored, IsClient, IsReady, client_from, client_of_state}
-use Rattle.qs_plain.specs.client.ClientMoves.{begun_with, after_moves}
-use Rattle.qs_plain.specs.client.Frames.{Frame, places_of, rest}
-use Rattle.qs_plain.specs.declared.client.stage.Stage.{Stage}
 use Rattle.qs_plain.specs.declared.client.stage.Stage.TheVariants as stage
-use Rattle.qs_plain.specs.client.PreparedBlock.{AreQueues, PreparedState, reserved_lists, prepared_of, rooms_of}
-use Rattle.qs_plain.specs.client.Queues.{QueueState}
-use Rattle.qs_plain.specs.client.TraceMoves.{counted_in, last_of, no_trace, noted_in}
 
 abbrev Queues : Type 0
 Queues = List (ℕ × QueueState)
@@ -44,8 +27,7 @@ prepared_at ts cs [] i x traces counts inside = absurd (omega (arith, inside))
 prepared_at [] cs (q ∷ qs) i x traces counts inside = absurd (omega (arith, traces))
 prepared_at (t ∷ ts) [] (q ∷ qs) i x traces counts inside = absurd (omega (arith, counts))
 prepared_at (t ∷ ts) (c ∷ cs) (q ∷ qs) zero x traces counts inside = refl
-prepared_at (t ∷ ts) (c ∷ cs) (q ∷ qs) (suc i) x traces counts inside =
-    prepared_at ts cs qs i x (omega (arith, traces)) (omega (arith, counts)) (omega (arith, inside))
+prepared_at (t ∷ ts) (c ∷ cs) (q ∷ qs) (suc i) x traces counts inside = grind (arith, prepared_at ts cs qs i x (omega (arith, traces)) (omega (arith, counts)) (omega (arith, inside)))
 
 module _ (n : ℕ) (ts : List TraceState) (some : 0 < n) (long : n ≤ length ts) where
   short : length (take n ts) ≡ n
@@ -56,10 +38,7 @@ module _ (n : ℕ) (ts : List TraceState) (some : 0 < n) (long : n ≤ length ts
   last_begun = ap (λ m. get_or (take n ts) (m - 1) no_trace) short ∙ get_or-take n ts (n - 1) no_trace (omega (arith, some))
 
   pub noted_begun : (e : Event) → take n (noted_at ts (n - 1) e) ≡ noted_in (take n ts) e
-  noted_begun e =
-      take-set-lt n ts (n - 1) (with_last_event (trace_at ts (n - 1)) e) (omega (arith, some))
-      ∙ (ap (λ t. set (take n ts) (n - 1) (with_last_event t e)) (sym last_begun)
-      ∙ ap (λ m. set (take n ts) (m - 1) (with_last_event (last_of (take n ts)) e)) (sym short))
+  noted_begun e = grind (arith, take-set-lt, set, take, last_begun, short)
 
   pub noted_later : (e : Event) → drop n (noted_at ts (n - 1) e) ≡ drop n ts
   noted_later e = drop-set-lt n ts (n - 1) (with_last_event (trace_at ts (n - 1)) e) (omega (arith, some))
@@ -69,11 +48,7 @@ module _ (n : ℕ) (cs : List (List SyncCount)) (some : 0 < n) (long : n ≤ len
   more = with_sync h (get_or cs (n - 1) [])
 
   pub counted_begun : take n (set cs (n - 1) (with_sync h (get_or cs (n - 1) []))) ≡ counted_in (take n cs) h
-  counted_begun =
-      let short = length-take-le n cs long in
-      take-set-lt n cs (n - 1) (with_sync h (get_or cs (n - 1) [])) (omega (arith, some))
-      ∙ (ap (λ row. set (take n cs) (n - 1) (with_sync h row)) (sym (get_or-take n cs (n - 1) [] (omega (arith, some))))
-      ∙ ap (λ m. set (take n cs) (m - 1) (with_sync h (get_or (take n cs) (m - 1) []))) (sym short))
+  counted_begun = grind (arith, short, length-take-le, take-set-lt, set, take, get_or-take)
 
   pub counted_later : drop n (set cs (n - 1) (with_sync h (get_or cs (n - 1) []))) ≡ drop n cs
   counted_later = drop-set-lt n cs (n - 1) (with_sync h (get_or cs (n - 1) [])) (omega (arith, some))
@@ -81,39 +56,15 @@ module _ (n : ℕ) (cs : List (List SyncCount)) (some : 0 < n) (long : n ≤ len
 -- what is stored stays so
 pub stored_noted : (n : ℕ) (ts : List TraceState) (cs : List (List SyncCount)) (later : ℕ) (e : Event) → AreStored n ts cs later → 0 < n
     → 0 < (trace_at ts (n - 1)).room → AreStored n (noted_at ts (n - 1) e) cs later
-stored_noted n ts cs later e is some room = record {
-  all_traces = length-set ts (n - 1) (with_last_event (trace_at ts (n - 1)) e) ∙ is.all_traces;
-  all_counts = is.all_counts;
-  sizes = λ k. ⊎_elim
-      (λ (here : n - 1 ≡ k).
-      let long = is.all_traces in
-      let t : TraceState = with_last_event (trace_at ts (n - 1)) e in
-      let same : trace_at (noted_at ts (n - 1) e) (n - 1) ≡ t = get_or-set_same ts (n - 1) t no_trace (omega (arith, some, long)) in
-      let old = is.sizes (n - 1) in
-      let events = length-append (trace_at ts (n - 1)).events (e ∷ []) in
-      subst (λ k. length (trace_at (noted_at ts (n - 1) e) k).events + (trace_at (noted_at ts (n - 1) e) k).room ≤ most_requests) here
-      (subst (λ (t : TraceState). length t.events + t.room ≤ most_requests) (sym same) (omega (arith, old, events, room))))
-      (λ (other : (n - 1 == k) ≡ false).
-      subst (λ (t : TraceState). length t.events + t.room ≤ most_requests)
-      (sym (get_or-set_other ts (n - 1) k (with_last_event (trace_at ts (n - 1)) e) no_trace (λ e. apart_eqb (n - 1) k other (sym e)))) (is.sizes k))
-      (num_cases (n - 1) k);
-}
+stored_noted n ts cs later e is some room = grind (arith, length-set, get_or-set_same, length-append, get_or-set_other, apart_eqb, num_cases)
 
 pub stored_counted : (n : ℕ) (ts : List TraceState) (cs : List (List SyncCount)) (later h : ℕ) → AreStored n ts cs later
     → AreStored n ts (set cs (n - 1) (with_sync h (get_or cs (n - 1) []))) later
-stored_counted n ts cs later h is = record {
-  all_traces = is.all_traces;
-  all_counts = length-set cs (n - 1) (with_sync h (get_or cs (n - 1) [])) ∙ is.all_counts;
-  sizes = is.sizes;
-}
+stored_counted n ts cs later h is = search (rules, length-set)
 
 -- a block more was begun
 pub stored_begun : (n m later : ℕ) (ts : List TraceState) (cs : List (List SyncCount)) → AreStored n ts cs (suc later) → m ≡ n + 1 → AreStored m ts cs later
-stored_begun n m later ts cs is next = record {
-  all_traces = let old = is.all_traces in omega (arith, old, next);
-  all_counts = let old = is.all_counts in omega (arith, old, next);
-  sizes = is.sizes;
-}
+stored_begun n m later ts cs is next = grind arith
 
 -- where no block to come has events, none after the last that was begun has any
 pub empty_later : (n : ℕ) (ts : List TraceState) (cs : List (List SyncCount)) (qs : List Queues) → AreStored n ts cs (length qs) → 0 < n
@@ -136,20 +87,12 @@ empty_later n ts cs qs is some none j after =
 pub next_prepared : (n : ℕ) (ts : List TraceState) (cs : List (List SyncCount)) (q : Queues) (qs : List Queues) → n < length ts → n < length cs
     → prepared_of (drop n ts) (drop n cs) (q ∷ qs)
     ≡ record { trace = get_or ts n no_trace; counts = get_or cs n []; queues = q } ∷ prepared_of (drop (n + 1) ts) (drop (n + 1) cs) qs
-next_prepared n ts cs q qs traces counts =
-    let on : suc n ≡ n + 1 = omega arith in
-    (λ i. prepared_of (drop-cons ts n no_trace traces i) (drop-cons cs n [] counts i) (q ∷ qs))
-    ∙ ap (λ m. record { trace = get_or ts n no_trace; counts = get_or cs n []; queues = q } ∷ prepared_of (drop m ts) (drop m cs) qs) on
+next_prepared n ts cs q qs traces counts = grind (arith, drop-cons, drop)
 
 -- how much is prepared
 pub many_prepared : (n : ℕ) (ts : List TraceState) (cs : List (List SyncCount)) (qs : List Queues) → AreStored n ts cs (length qs)
     → length (prepared_of (drop n ts) (drop n cs) qs) ≡ length qs
-many_prepared n ts cs qs is =
-    let traces = is.all_traces in
-    let counts = is.all_counts in
-    let left = length-drop n ts in
-    let right = length-drop n cs in
-    length_prepared (drop n ts) (drop n cs) qs (omega (arith, left, traces)) (omega (arith, right, counts))
+many_prepared n ts cs qs is = grind (arith, length-drop, length_prepared, drop)
 
 -- how contracts see a client after an event, a query or a block more
 module _ (p : ProgramShape) (c : ℕ) (s : Stage) (l : List ℤ) (fs : List Frame) (depth : ℕ) (es : List (List ℤ)) (ts : List TraceState) (cs : List (List SyncCount)) where
@@ -157,23 +100,13 @@ module _ (p : ProgramShape) (c : ℕ) (s : Stage) (l : List ℤ) (fs : List Fram
       → depth' ≡ depth → ts' ≡ noted_at ts (length es - 1) e
       → client_from p c now l' fs' depth' es ts' cs qs
       ≡ after_moves (client_from p c s l fs depth es ts cs qs) now l' fs' (noted_in (take (length es) ts) e) (take (length es) cs)
-  moved_noted qs is some now l' fs' depth' ts' e same with_last_event =
-      let all = is.all_traces in
-      let long : length es ≤ length ts = omega (arith, all) in
-      let begun : take (length es) ts' ≡ noted_in (take (length es) ts) e = ap (take (length es)) with_last_event ∙ noted_begun (length es) ts some long e in
-      let later : drop (length es) ts' ≡ drop (length es) ts = ap (drop (length es)) with_last_event ∙ noted_later (length es) ts some long e in
-      λ i. record (client_from p c now l' fs' (same i) es ts cs qs) { traces = begun i; prepared = prepared_of (later i) (drop (length es) cs) qs }
+  moved_noted qs is some now l' fs' depth' ts' e same v = grind (arith, take, noted_begun, drop, noted_later)
 
   pub moved_counted : (qs : List Queues) → AreStored (length es) ts cs (length qs) → 0 < length es → (now : Stage) (l' : List ℤ) (fs' : List Frame) (depth' : ℕ) (cs' : List (List SyncCount)) (h : ℕ)
       → depth' ≡ depth → cs' ≡ set cs (length es - 1) (with_sync h (get_or cs (length es - 1) []))
       → client_from p c now l' fs' depth' es ts cs' qs
       ≡ after_moves (client_from p c s l fs depth es ts cs qs) now l' fs' (take (length es) ts) (counted_in (take (length es) cs) h)
-  moved_counted qs is some now l' fs' depth' cs' h same counted =
-      let all = is.all_counts in
-      let long : length es ≤ length cs = omega (arith, all) in
-      let begun : take (length es) cs' ≡ counted_in (take (length es) cs) h = ap (take (length es)) counted ∙ counted_begun (length es) cs some long h in
-      let later : drop (length es) cs' ≡ drop (length es) cs = ap (drop (length es)) counted ∙ counted_later (length es) cs some long h in
-      λ i. record (client_from p c now l' fs' (same i) es ts cs qs) { counts = begun i; prepared = prepared_of (drop (length es) ts) (later i) qs }
+  moved_counted qs is some now l' fs' depth' cs' h same counted = grind (arith, take, counted_begun, drop, counted_later)
 
   abbrev pub first_prepared : Queues → PreparedState
   first_prepared q = record { trace = get_or ts (length es) no_trace; counts = get_or cs (length es) []; queues = q }
@@ -183,30 +116,12 @@ module _ (p : ProgramShape) (c : ℕ) (s : Stage) (l : List ℤ) (fs : List Fram
 
   pub begun_first : (q : Queues) (qs qs' : List Queues) → qs ≡ q ∷ qs' → AreStored (length es) ts cs (length qs)
       → (client_from p c s l fs depth es ts cs qs).prepared ≡ first_prepared q ∷ later_prepared qs'
-  begun_first q qs qs' first is =
-      let traces = is.all_traces in
-      let counts = is.all_counts in
-      let more = ap length first in
-      ap (λ xs. prepared_of (drop (length es) ts) (drop (length es) cs) xs) first
-      ∙ next_prepared (length es) ts cs q qs' (omega (arith, traces, more)) (omega (arith, counts, more))
+  begun_first q qs qs' first is = grind (arith, more, drop, next_prepared)
 
   pub moved_begun : (q : Queues) (qs qs' : List Queues) → qs ≡ q ∷ qs' → AreStored (length es) ts cs (length qs) → (fs' : List Frame) (depth' : ℕ) (es' : List (List ℤ))
       → depth' ≡ depth → fs' ≡ fs ++ rest (block_at p c (length es)).body ∷ [] → es' ≡ es ++ l ∷ []
       → client_from p c stage.Within l fs' depth' es' ts cs qs' ≡ begun_with (client_from p c s l fs depth es ts cs qs) (first_prepared q) (later_prepared qs')
-  moved_begun q qs qs' first is fs' depth' es' same frames entries =
-      let all_traces = is.all_traces in
-      let all_counts = is.all_counts in
-      let more = ap length first in
-      let many : length es' ≡ length es + 1 = ap length entries ∙ length-append es (l ∷ []) in
-      let traces : take (length es') ts ≡ take (length es) ts ++ get_or ts (length es) no_trace ∷ [] =
-      ap (λ m. take m ts) many ∙ take_more ts (length es) no_trace (omega (arith, all_traces, more)) in
-      let counts : take (length es') cs ≡ take (length es) cs ++ get_or cs (length es) [] ∷ [] =
-      ap (λ m. take m cs) many ∙ take_more cs (length es) [] (omega (arith, all_counts, more)) in
-      λ i. record (client_from p c stage.Within l (frames i) (same i) (entries i) ts cs qs') {
-        traces = traces i;
-        counts = counts i;
-        prepared = prepared_of (drop (many i) ts) (drop (many i) cs) qs';
-      }
+  moved_begun q qs qs' first is fs' depth' es' same frames entries = grind (arith, more, length-append, take, take_more, drop)
 
 -- before the first block
 module _ (p : ProgramShape) (c : ℕ) (sound : IsSound p) (inside : c < length p.clients) where
@@ -227,21 +142,7 @@ module _ (p : ProgramShape) (c : ℕ) (sound : IsSound p) (inside : c < length p
       get_or-map no_syncs (reserved_lists p c) k [] [] (omega (arith, below, long)) ∙ ap no_syncs (get_or-map (λ (b : BlockShape). b.reserved) (client_at p c).blocks k no_block [] below)
 
   pub stored_fresh : (qs : List Queues) → length qs ≡ blocks_of p c → AreStored 0 (map empty_trace (rooms_of p c)) (fresh_rows (reserved_lists p c)) (length qs)
-  stored_fresh qs many =
-      let traces = length_fresh in
-      let counts = length_none in
-      record {
-        all_traces = omega (arith, traces, many);
-        all_counts = omega (arith, counts, many);
-        sizes = λ k. elim (cases_lt k (blocks_of p c)) [
-          | inl below ↦
-              let load = sound.load in
-              let whole = block_load-whole p c k inside below in
-              subst (λ (t : TraceState). length t.events + t.room ≤ most_requests) (sym (trace_fresh k below)) (omega (arith, load, whole))
-          | inr beyond ↦
-              subst (λ (t : TraceState). length t.events + t.room ≤ most_requests) (sym (get_or-eq_default (map empty_trace (rooms_of p c)) no_trace {n = k} (omega (arith, traces, beyond)))) (omega arith)
-        ];
-      }
+  stored_fresh qs many = grind (arith, length_fresh, length_none, sound, block_load-whole, trace_fresh, get_or-eq_default, map)
 
   pub client_fresh : (l : List ℤ) (depth : ℕ) (qs : List Queues) → length qs ≡ blocks_of p c → ((j : ℕ) → j < blocks_of p c → places_of (rest (block_at p c j).body) ≤ depth)
       → ((j : ℕ) (q : Queues) → j < blocks_of p c → AreQueues c j (block_at p c j) (get_or qs j q))
@@ -262,13 +163,7 @@ module _ (p : ProgramShape) (c : ℕ) (sound : IsSound p) (inside : c < length p
             let ready : IsReady c i depth (block_at p c i) (record { trace = get_or (map empty_trace (rooms_of p c)) i no_trace; counts = get_or (fresh_rows (reserved_lists p c)) i []; queues = get_or qs i [] }) =
             record {
               frames = fits i lt;
-              stocked = record {
-                trace = ap (λ (t : TraceState). t.events) (trace_fresh i lt);
-                counts = counts_fresh i lt;
-                room = subst (λ (t : TraceState). block_load (block_at p c i) ≤ t.room) (sym (trace_fresh i lt)) (omega arith);
-                objects = here.objects;
-                queues = here.each;
-              };
+              stocked = grind (arith, trace_fresh, counts_fresh, here);
             } in
             subst (λ n. IsReady c n depth (block_at p c n) (get_or (prepared_of (map empty_trace (rooms_of p c)) (fresh_rows (reserved_lists p c)) qs) i x)) (sym (zero-add i))
             (subst (IsReady c i depth (block_at p c i)) (sym it) ready);
@@ -277,9 +172,8 @@ module _ (p : ProgramShape) (c : ℕ) (sound : IsSound p) (inside : c < length p
 
 -- what a client hands out
 events_taken : (n : ℕ) (ts : List TraceState) → take n (events_of ts) ≡ events_of (take n ts)
-events_taken zero ts = refl
-events_taken (suc n) [] = refl
 events_taken (suc n) (t ∷ ts) = ap (λ rest. t.events ∷ rest) (events_taken n ts)
+events_taken _ _ = refl
 
 pub rows_are : (p : ProgramShape) (c : ℕ) (s : Stage) (l : List ℤ) (fs : List Frame) (depth : ℕ) (es : List (List ℤ)) (ts : List TraceState) (cs : List (List SyncCount)) (qs : List Queues)
     → AreStored (length es) ts cs (length qs) → AreRowsOf (record { traces = events_of ts; entries = es; counts = cs }) (client_of_state (client_from p c s l fs depth es ts cs qs))

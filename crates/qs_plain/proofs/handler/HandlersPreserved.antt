@@ -2,25 +2,16 @@
 -- that, or it is as it was. The lemmas on a step in a block and on the beginning of one (`RulesGo`, `RulesBegin`) need
 -- it to say what holds of all handlers afterwards. The proof goes by induction on the list, which names each handler
 -- once.
-use Rattle.std.proofs.Common.{◌≡◌, ◌≢◌, ◌<◌, ℕ, ◌==◌, Bool, true, false, ◌⊎◌, inl, inr, List, [], ◌∷◌, map, length, refl, ap, sym, subst, ◌∙◌, arith, length-set, get_or-set_other, get_or-set_same}
+use Rattle.std.proofs.Common.{◌≡◌, ◌≢◌, ◌<◌, ℕ, ◌==◌, false, ◌⊎◌, inl, inr, List, [], ◌∷◌, map, length, refl, ap, sym, subst, ◌∙◌, arith, length-set, get_or-set_other, get_or-set_same}
 use Rattle.std.specs.List.{AllByRecursion, IsDistinct}
-use Rattle.std.proofs.lemmas.Map.Keys.{IsDistinct-head, IsDistinct-tail}
-use Rattle.qs_objects.specs.declared.held.Ticket.{Ticket}
+use Rattle.qs_played.proofs.Names.{IsDistinct-head, IsDistinct-tail, Ticket}
+use Rattle.qs_played.proofs.Lists.{apart}
 use Rattle.qs_plain_laws.specs.declared.item.QueueItem.{QueueItem}
-use Rattle.qs_plain.specs.client.Queues.{QueueState}
-use Rattle.qs_plain.specs.handler.Handlers.{handler_state_at, nobody, with_logged_item, logged_at, logged_all, with_queue, entered_at, entered_all}
-use Rattle.qs_plain.specs.handler.Served.{HandlerState}
+use Rattle.qs_plain.proofs.Names.{QueueState, handler_state_at, nobody, with_logged_item, logged_at, logged_all, with_queue, entered_at, entered_all, HandlerState}
 
 -- two numbers are equal or not
 pub equal_or_not : (m n : ℕ) → (m ≡ n) ⊎ (m ≢ n)
-equal_or_not m n = by_test (m == n) refl
-  where
-    by_test : (b : Bool) → (m == n) ≡ b → (m ≡ n) ⊎ (m ≢ n)
-    by_test true e = inl (grind (arith, e))
-    by_test false e = inr (λ same. let yes' : (m == n) ≡ true = rw same (grind arith) in cc)
-
-differ : (h k : ℕ) → (h == k) ≡ false → k ≢ h
-differ h k no' same = let yes' : (h == k) ≡ true = rw same (grind arith) in cc
+equal_or_not m n = grind arith
 
 pub length-logged_all : (t : Ticket) (i : QueueItem) (hs : List HandlerState) (rs : List ℕ) → length (logged_all t i hs rs) ≡ length hs
 length-logged_all t i hs [] = refl
@@ -34,7 +25,7 @@ logged_elsewhere : (t : Ticket) (i : QueueItem) (hs : List HandlerState) (rs : L
 logged_elsewhere t i hs [] k far = refl
 logged_elsewhere t i hs (h ∷ rest) k far =
     logged_elsewhere t i (logged_at t i hs h) rest k far.1
-    ∙ get_or-set_other hs h k (with_logged_item t i (handler_state_at hs h)) nobody (λ same. differ k h far.0 (sym same))
+    ∙ get_or-set_other hs h k (with_logged_item t i (handler_state_at hs h)) nobody (λ same. apart k h far.0 (sym same))
 
 -- an item was logged at the handler, or it is as it was
 pub logged_each : (t : Ticket) (i : QueueItem) (hs : List HandlerState) (rs : List ℕ) → IsDistinct ◌==◌ rs → AllByRecursion (λ h. h < length hs) rs → (k : ℕ)
@@ -60,7 +51,7 @@ entered_elsewhere : (hs : List HandlerState) (qs : List (ℕ × QueueState)) (k 
 entered_elsewhere hs [] k far = refl
 entered_elsewhere hs (q ∷ rest) k far =
     entered_elsewhere (entered_at hs q) rest k far.1
-    ∙ get_or-set_other hs q.0 k (with_queue q.1 (handler_state_at hs q.0)) nobody (λ same. differ k q.0 far.0 (sym same))
+    ∙ get_or-set_other hs q.0 k (with_queue q.1 (handler_state_at hs q.0)) nobody (λ same. apart k q.0 far.0 (sym same))
 
 -- a private queue with the property came to the handler, or it is as it was
 pub entered_each : (P : ℕ → QueueState → Type 0) (hs : List HandlerState) (qs : List (ℕ × QueueState)) → AllByRecursion (λ (q : ℕ × QueueState). P q.0 q.1) qs

@@ -2,11 +2,9 @@
 -- list. The loops of `enter_all` and `log_all` change the handlers of a block's list one after another, and what the
 -- rest of them must fulfil has to last. The proof goes by induction on the list.
 use Rattle.std.proofs.Common.{◌≡◌, ◌<◌, ℕ, ◌==◌, false, List, [], ◌∷◌, length, sym, subst, length-set, get_or-set_other}
-use Rattle.std.specs.List.{AllByRecursion}
-use Rattle.std.proofs.Math.ListN.{set}
+use Rattle.qs_played.proofs.Names.{AllByRecursion, set}
 use Rattle.qs_played.proofs.Lists.{apart}
-use Rattle.qs_plain.specs.handler.Handlers.{handler_state_at, nobody}
-use Rattle.qs_plain.specs.handler.Served.{HandlerState}
+use Rattle.qs_plain.proofs.Names.{handler_state_at, nobody, HandlerState}
 
 abbrev pub Can : (HandlerState → Type 0) → List HandlerState → ℕ → Type 0
 Can P hs h = (h < length hs) × P (handler_state_at hs h)

@@ -1,14 +1,8 @@
-use Rattle.std.proofs.Common.{◌<◌, ◌+◌, ◌∙◌, ◌∷◌, [], add-one, ap, arith, drop, get_or, subst, sym}
-use Rattle.std.proofs.Math.Seq.{drop-cons}
-use Rattle.std.proofs.lemmas.List.{drop_all, length-map}
+use Rattle.std.proofs.Common.{◌<◌, ◌+◌, ◌∷◌, [], add-one, arith, drop, get_or, subst, sym, rules}
+use Rattle.qs_played.proofs.Names.{drop-cons, drop_all, length-map}
 use Rattle.qs_serial.specs.audit.NamedOrders.{order_of}
-use Rattle.qs_played.proofs.ShownRuns.{if_shown}
-use Rattle.qs_plain_laws.specs.audit.Plain.{begin, begun_blocks}
-use Rattle.qs_plain_laws.specs.audit.PlainSchedule.{played_of}
-use Rattle.qs_plain_laws.proofs.Ordering.{IsOrdered, ordered_begin, ordered_plays, tickets_begun}
-use Rattle.qs_plain_laws.specs.orders.PlainOrders.{IsPlayedInOrder}
-use Rattle.qs_plain.specs.client.Clients.{client_of_state}
-use Rattle.qs_plain.specs.Rules.{plain_of}
+use Rattle.qs_plain.proofs.Names.{if_shown, IsOrdered, ordered_begin, ordered_plays, tickets_begun, client_of_state, plain_of}
+use Rattle.qs_plain_laws.proofs.Names.{begin, begun_blocks, played_of, IsPlayedInOrder}
 use Rattle.qs_plain.proofs.Blocks.{ArePlayed, all_played, next_left, one_more, played_first}
 use Rattle.qs_plain.proofs.ReadingOff.{at_client}
 use Rattle.qs_plain.proofs.orders.play_clients.Goals as goal
@@ -17,11 +11,7 @@ use Rattle.qs_plain.proofs.orders.play_clients.Goals.{In-loop-client}
 -- the client at this place, and those after it
 now_played : (c : In-loop-client) → ArePlayed c.args.program.now c.args.clients.now
     (get_or c.args.clients.now c.loop-client.client-index 0 ∷ drop (c.loop-client.client-index + 1) c.args.clients.now) c.loop-client.rules
-now_played c =
-    let cs = c.args.clients.now in
-    let i = c.loop-client.client-index in
-    subst (λ rest. ArePlayed c.args.program.now cs rest c.loop-client.rules)
-    (drop-cons cs i 0 c.loop-client-test.true ∙ ap (λ n. get_or cs i 0 ∷ drop n cs) (sym (add-one i))) c.loop-client.invariant
+now_played c = search (rules, drop-cons, drop, add-one)
 
 pub loop-client-init : goal.loop-client-init
 loop-client-init c = played_first c.args.program.now c.args.clients.now c.in_ok-rules.rules c.in_ok-rules.ensures.fresh.0 c.in_ok-rules.ensures.fresh.1

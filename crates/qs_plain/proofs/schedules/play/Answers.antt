@@ -1,21 +1,12 @@
 use Rattle.std.proofs.Common.{◌≡◌, ◌∙◌, ◌<◌, sym, subst, get_or, arith}
-use Rattle.std.proofs.lemmas.List.{length-map}
-use Rattle.std.specs.Prelude.{Result, IfOk}
-use Rattle.qs_meaning.specs.audit.Serial.{IsLegal}
+use Rattle.qs_played.proofs.Names.{length-map, Result, IfOk, IsLegal, schedule, Played}
 use Rattle.qs_played.specs.Isolation.{IsIsolated}
-use Rattle.qs_played.specs.audit.Schedule.{schedule}
-use Rattle.qs_played.specs.audit.Played.{Played}
-use Rattle.qs_played.proofs.ShownRuns.{if_shown}
-use Rattle.qs_plain_laws.specs.PlainIsolation.{commands_in_queue}
-use Rattle.qs_plain_laws.specs.audit.Plain.{begin, begun_blocks}
-use Rattle.qs_plain_laws.specs.audit.PlainSchedule.{played_of, plays}
+use Rattle.qs_plain.proofs.Names.{if_shown, IsOrdered, ordered_begin, ordered_plays, tickets_begun, client_of_state, plain_of}
+use Rattle.qs_plain_laws.proofs.Names.{commands_in_queue, begin, begun_blocks, played_of, plays}
 use Rattle.qs_plain_laws.specs.PlainSchedule.{scheduled}
-use Rattle.qs_plain_laws.proofs.Ordering.{IsOrdered, ordered_begin, ordered_plays, tickets_begun}
 use Rattle.qs_plain_laws.specs.PlainSyncSums.{AreQueriesCounted}
 use Rattle.qs_plain_laws.proofs.Isolating.{runs_isolated}
 use Rattle.qs_plain_laws.proofs.PlainSyncs.{plain_syncs_counted}
-use Rattle.qs_plain.specs.client.Clients.{client_of_state}
-use Rattle.qs_plain.specs.Rules.{plain_of}
 use Rattle.qs_plain.proofs.Playing.{plays-schedule, shown-as}
 use Rattle.qs_plain.proofs.ReadingOff.{at_client}
 use Rattle.qs_plain.proofs.schedules.play.Goals as goal

@@ -1,6 +1,5 @@
 use Rattle.std.proofs.Common.{◌≡◌, drop}
-use Rattle.qs_plain_laws.specs.audit.Plain.{begin}
-use Rattle.qs_plain_laws.specs.audit.PlainSchedule.{plays}
+use Rattle.qs_plain_laws.proofs.Names.{begin, plays}
 use Rattle.qs_plain.specs.Rules.{plain_of}
 use Rattle.qs_plain.proofs.schedules.play.Given as goal
 

@@ -1,6 +1,5 @@
 use Rattle.std.proofs.Common.{◌≡◌, ◌&&◌, ◌∙◌, ap, sym, map, drop, ◌+◌, get_or}
-use Rattle.qs_played.proofs.Lists.{get_or-any}
-use Rattle.qs_plain_laws.specs.audit.PlainSchedule.{all_done, is_done}
+use Rattle.qs_plain_laws.proofs.Names.{get_or-any, all_done, is_done}
 use Rattle.qs_plain.specs.client.Clients.{ClientState, client_of_state, absent}
 use Rattle.qs_plain.proofs.ReadingOff.{done_from}
 use Rattle.qs_plain.proofs.showing.are_done.Goals.{then-done, else-done}

@@ -1,8 +1,7 @@
 use Rattle.std.proofs.Common.{◌≡◌, ◌&&◌, map, drop}
 use Rattle.qs_program.specs.audit.Program.{ProgramShape}
 use Rattle.qs_plain_laws.specs.audit.PlainSchedule.{all_done}
-use Rattle.qs_plain.specs.client.Clients.{client_of_state}
-use Rattle.qs_plain.specs.BegunBlocks.{AreOwn}
+use Rattle.qs_plain.proofs.Names.{client_of_state, AreOwn}
 use Rattle.qs_plain.proofs.showing.are_done.Given as goal
 
 abbrev pub invariant-loop-client : goal.invariant-loop-client

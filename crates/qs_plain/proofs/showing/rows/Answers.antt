@@ -1,8 +1,5 @@
 use Rattle.std.proofs.Common.{◌≡◌, ◌++◌, ◌∷◌, [], rules, length, sym, subst, ◌∙◌}
-use Rattle.std.specs.Vec.Iter.{into_iter_items, into_iter_len}
-use Rattle.std.proofs.lemmas.Iterator.Adapters.{YieldsList-from_vec}
-use Rattle.std.proofs.lemmas.Iterator.Consumers.{YieldsList-end}
-use Rattle.std.proofs.lemmas.List.{map-id}
+use Rattle.qs_played.proofs.Names.{into_iter_items, into_iter_len, YieldsList-from_vec, YieldsList-end, map-id}
 use Rattle.qs_plain.specs.BegunBlocks.{AreRows}
 use Rattle.qs_plain.proofs.ReadRows.{rows_push}
 use Rattle.qs_plain.proofs.showing.rows.Goals as goal

@@ -1,7 +1,5 @@
 use Rattle.std.proofs.Common.{◌≡◌, ◌≤◌, ◌+◌, ◌*◌}
-use Rattle.qs_program.specs.audit.Limits.{most_objects}
-use Rattle.qs_program.specs.audit.Program.{blocks_of}
-use Rattle.qs_sync_counts.specs.SyncRows.{begun_rows}
+use Rattle.qs_played.proofs.Names.{most_objects, blocks_of, begun_rows}
 use Rattle.qs_plain.specs.client.PreparedBlock.{reserved_lists}
 use Rattle.qs_plain.proofs.client.client.fresh_query_counts.Given as goal
 

@@ -1,8 +1,7 @@
 use Rattle.std.proofs.Common.{◌≡◌, ◌<◌, ◌+◌, ℕ, List, [], ◌∷◌, ◌++◌, get_or, length, sym, ap, ◌∙◌, arith}
-use Rattle.std.proofs.lemmas.List.{get_or-map, length-map, take_more}
+use Rattle.qs_played.proofs.Names.{get_or-map, length-map, take_more, block_load-whole}
 use Rattle.qs_objects.specs.Sums.{total}
 use Rattle.qs_program.specs.audit.Program.{block_at, block_load, client_at, no_block}
-use Rattle.qs_program.proofs.Bounds.{block_load-whole}
 use Rattle.qs_plain.specs.client.PreparedBlock.{rooms_of}
 use Rattle.qs_plain.proofs.client.client.fresh_traces.Goals as goal
 

@@ -1,9 +1,6 @@
 use Rattle.std.proofs.Common.{◌≡◌, ℕ, List, [], ◌∷◌, ◌++◌, map, ap, sym, refl, ◌∙◌, subst, arith, get_or}
-use Rattle.std.proofs.lemmas.List.{take_more}
-use Rattle.std.specs.List.{AllByRecursion}
-use Rattle.qs_program.specs.audit.Program.{block_at}
-use Rattle.qs_plain.specs.client.PreparedBlock.{IsReadyQueue}
-use Rattle.qs_plain.specs.client.Queues.{QueueState}
+use Rattle.qs_played.proofs.Names.{take_more, AllByRecursion, block_at}
+use Rattle.qs_plain.proofs.Names.{IsReadyQueue, QueueState}
 use Rattle.qs_plain.proofs.client.client.prepare.Goals as goal
 
 objects_push : (qs : List (ℕ × QueueState)) (q : ℕ × QueueState) → map (λ (q : ℕ × QueueState). q.0) (qs ++ q ∷ []) ≡ map (λ (q : ℕ × QueueState). q.0) qs ++ q.0 ∷ []

@@ -1,9 +1,7 @@
 use Rattle.std.proofs.Common.{◌≡◌, ◌≤◌, ℕ, ◌+◌, ◌-◌, length, map, take}
 use Rattle.std.specs.VecDeque.{deque_len, deque_capacity}
-use Rattle.std.specs.List.{AllByRecursion}
-use Rattle.qs_program.specs.audit.Program.{block_at}
-use Rattle.qs_plain.specs.client.Queues.{QueueState}
-use Rattle.qs_plain.specs.client.PreparedBlock.{IsReadyQueue}
+use Rattle.qs_played.proofs.Names.{AllByRecursion, block_at}
+use Rattle.qs_plain.proofs.Names.{QueueState, IsReadyQueue}
 use Rattle.qs_plain.proofs.client.client.prepare.Given as goal
 
 abbrev pub invariant-loop-object : goal.invariant-loop-object

@@ -1,6 +1,5 @@
 use Rattle.std.proofs.Common.{◌≡◌, ◌≤◌, false, drop, length}
-use Rattle.std.specs.List.{AllByRecursion}
-use Rattle.qs_objects.specs.audit.Parts.{same}
+use Rattle.qs_played.proofs.Names.{AllByRecursion, same}
 use Rattle.qs_plain.specs.client.Queues.{QueueState}
 use Rattle.qs_plain.proofs.client.private_queue.last_place.Given as goal
 

@@ -1,11 +1,7 @@
 use Rattle.std.proofs.Common.{◌==◌, ℕ, ◌≡◌, ◌<◌, get_or, ap, sym, subst, ◌∙◌, map}
-use Rattle.std.proofs.Math.ListN.{set}
-use Rattle.std.specs.List.{AllByRecursion}
-use Rattle.std.proofs.lemmas.Map.Keys.{IsDistinct-head, IsDistinct-tail}
+use Rattle.qs_played.proofs.Names.{set, AllByRecursion, IsDistinct-head, IsDistinct-tail}
 use Rattle.qs_played.proofs.Lists.{get_or-any}
-use Rattle.qs_plain.specs.client.Queues.{QueueState}
-use Rattle.qs_plain.specs.handler.Handlers.{CanEnter, CanEnterAll, entered_all, with_queue, handler_state_at, nobody}
-use Rattle.qs_plain.specs.handler.Served.{HandlerState}
+use Rattle.qs_plain.proofs.Names.{QueueState, CanEnter, CanEnterAll, entered_all, with_queue, handler_state_at, nobody, HandlerState}
 use Rattle.qs_plain.proofs.handler.HandlersSteps.{can_after}
 use Rattle.qs_plain.proofs.handler.handlers.enter_all.Goals as goal
 

@@ -1,6 +1,5 @@
 use Rattle.std.proofs.Common.{◌≡◌, ℕ, map, length}
-use Rattle.qs_plain.specs.client.Queues.{QueueState}
-use Rattle.qs_plain.specs.handler.Handlers.{CanEnterAll, entered_all}
+use Rattle.qs_plain.proofs.Names.{QueueState, CanEnterAll, entered_all}
 use Rattle.qs_plain.proofs.handler.handlers.enter_all.Given as goal
 
 abbrev pub invariant-each : goal.invariant-each

@@ -1,9 +1,7 @@
 use Rattle.std.proofs.Common.{◌==◌, get_or, drop, ◌+◌, ap, sym, subst, ◌∙◌}
-use Rattle.std.specs.List.{AllByRecursion}
-use Rattle.std.proofs.lemmas.Map.Keys.{IsDistinct-head, IsDistinct-tail}
+use Rattle.qs_played.proofs.Names.{AllByRecursion, IsDistinct-head, IsDistinct-tail}
 use Rattle.qs_played.proofs.Lists.{from_here}
-use Rattle.qs_plain.specs.handler.Handlers.{CanLog, CanLogAll, logged_all, with_logged_item, handler_state_at}
-use Rattle.qs_plain.specs.handler.Served.{HandlerState, IsLoggable}
+use Rattle.qs_plain.proofs.Names.{CanLog, CanLogAll, logged_all, with_logged_item, handler_state_at, HandlerState, IsLoggable}
 use Rattle.qs_plain.proofs.handler.HandlersSteps.{can_after}
 use Rattle.qs_plain.proofs.handler.handlers.log_all.Goals as goal
 

@@ -1,24 +1,12 @@
-use Rattle.std.proofs.Common.{◌≡◌, ◌<◌, ◌≤◌, ℕ, ◌+◌, ◌-◌, ◌==◌, if◌then◌else◌, [], true, Some, length, ap, sym, subst, ◌∙◌, arith, refl}
-use Rattle.std.proofs.Math.ListN.{set}
-use Rattle.qs_objects.specs.declared.held.Ticket.{Ticket}
-use Rattle.qs_program.specs.audit.Program.{BlockShape, block_at}
-use Rattle.qs_program.specs.audit.Sound.{is_in}
-use Rattle.qs_program.specs.Sound.{IsSound}
-use Rattle.qs_program.specs.audit.Values.{request_of}
-use Rattle.qs_played.specs.audit.Played.{ticket}
+use Rattle.std.proofs.Common.{◌≡◌, ◌<◌, ◌≤◌, ℕ, ◌+◌, ◌-◌, ◌==◌, if◌then◌else◌, [], true, Some, length, ap, sym, subst, ◌∙◌, arith, refl, rules}
+use Rattle.qs_played.proofs.Names.{set, Ticket, BlockShape, block_at, is_in, IsSound, request_of, ticket}
 use Rattle.qs_played.specs.declared.schedule.actor.Actor.TheVariants as actor
 use Rattle.qs_plain_laws.specs.declared.item.QueueItem.TheVariants as item
-use Rattle.qs_plain.specs.client.ClientMoves.{AsksNext}
-use Rattle.qs_plain.specs.client.Clients.{ClientState, IsClient, client_state_at, current_block}
-use Rattle.qs_plain.specs.client.Frames.{load_left}
+use Rattle.qs_plain.proofs.Names.{AsksNext, ClientState, IsClient, client_state_at, current_block, load_left, plain_effect, CanLog, logged_at, IsRules, RulesState, plain_of, to_come, last_ticket}
 use Rattle.qs_plain.specs.declared.client.client.Asked.TheVariants as asked
 use Rattle.qs_plain.specs.declared.client.stage.Stage.TheVariants as stage
-use Rattle.qs_plain.specs.handler.Effects.{plain_effect}
 use Rattle.qs_plain.specs.declared.handler.effect.Effect.TheVariants as effects
 use Rattle.qs_plain.specs.declared.did.Did.TheVariants as dids
-use Rattle.qs_plain.specs.handler.Handlers.{CanLog, logged_at}
-use Rattle.qs_plain.specs.Rules.{IsRules, RulesState, plain_of, to_come}
-use Rattle.qs_plain.specs.StepEffects.{last_ticket}
 use Rattle.qs_plain.proofs.RulesEffects.{effect_is_read, effect_within}
 use Rattle.qs_plain.proofs.RulesGo.{can_log, can_log_all, moved_to_come, asked_kept, ended_kept, command_steps, query_steps, end_steps}
 use Rattle.qs_plain.proofs.RulesFieldLemmas.{within_of, stage_of, here_of, made_kept, made_steps, can_log_all_of, logged_all_of}
@@ -41,19 +29,7 @@ record Known (c : After-begun) : Type 0 where
   pub now : ticket c.args.number (c.begun.result - 1) ≡ ticket c.args.number (length (client_state_at (state_of c).clients c.args.number).entries - 1)
 
 known : (c : After-begun) → Known c
-known c =
-    let less : c.args.number < length (state_of c).clients = within_of _ _ c.args.number c.self.view_is c.requires.number in
-    let here : c.index_mut-client.result.now ≡ client_state_at (state_of c).clients c.args.number =
-    here_of _ c.args.number _ _ c.from.ensures less c.index_mut-client.ensures.value in
-    record {
-      kept = c.self.invariant.0;
-      sound = c.keeps_sound.ensures.sound;
-      less = less;
-      here = here;
-      isc = subst IsClient here c.begun.ensures.kept;
-      stays = stage_of _ _ c.args.number stage.Within c.self.view_is c.requires.within;
-      now = ap (λ n. ticket c.args.number (n - 1)) (c.begun.ensures.value ∙ ap (λ (d : ClientState). length d.entries) here);
-    }
+known c = search (rules, within_of, here_of, stage_of)
 
 pub log_command-requires : goal.log_command-requires
 log_command-requires c =

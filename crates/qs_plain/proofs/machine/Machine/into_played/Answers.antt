@@ -1,12 +1,8 @@
 use Rattle.std.proofs.Common.{◌≡◌, ◌∙◌, ◌&&◌, ap, sym, subst, map, get_or, sum_by, [], Bool, true, false}
-use Rattle.qs_objects.specs.declared.held.Ticket.{Ticket}
+use Rattle.qs_played.proofs.Names.{Ticket, HaveRows, counts_of_ticket, entry_in, trace_in}
 use Rattle.qs_plain_laws.specs.audit.PlainSchedule.{all_done, all_idle, has_ended, syncs_of}
-use Rattle.qs_plain.specs.client.Clients.{ClientState, client_of_state, client_state_at}
-use Rattle.qs_played.specs.Played.{HaveRows, counts_of_ticket, entry_in, trace_in}
-use Rattle.qs_plain.specs.BegunBlocks.{AreBegun, AreOwn, AreRows}
+use Rattle.qs_plain.proofs.Names.{ClientState, client_of_state, client_state_at, AreBegun, AreOwn, AreRows, RulesState, IsRules, HandlerState, handler_of_state}
 use Rattle.qs_plain.proofs.ReadRows.{counts_are, entries_are, have_rows, traces_are}
-use Rattle.qs_plain.specs.Rules.{RulesState, IsRules}
-use Rattle.qs_plain.specs.handler.Served.{HandlerState, handler_of_state}
 use Rattle.qs_plain.proofs.ReadingOff.{at_client, all_syncs, all_journals, all_states}
 use Rattle.qs_plain.proofs.machine.Machine.into_played.Goals.{then-are_done, else-are_done}
 use Rattle.qs_plain.proofs.machine.Machine.into_played.Goals as goal

@@ -1,7 +1,6 @@
 use Rattle.std.proofs.Common.{List, refl, ap, ◌∙◌, arith}
 use Rattle.qs_objects.specs.declared.held.Ticket.{Ticket}
-use Rattle.qs_played.proofs.Lists.{empty_of}
-use Rattle.qs_plain_laws.specs.audit.Plain.{Plain}
+use Rattle.qs_plain_laws.proofs.Names.{empty_of, Plain}
 use Rattle.qs_plain.specs.Rules.{plain_of}
 use Rattle.qs_plain.proofs.RulesFresh.{fresh_to_come, fresh_kept, fresh_plain}
 use Rattle.qs_plain.proofs.machine.Machine.new.Goals as goal

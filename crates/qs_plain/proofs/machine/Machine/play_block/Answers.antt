@@ -1,12 +1,8 @@
-use Rattle.std.proofs.Common.{◌≡◌, ◌∙◌, ◌∷◌, ap, false, map, refl, subst, sym}
-use Rattle.qs_objects.specs.declared.held.Ticket.{Ticket}
-use Rattle.qs_program.specs.audit.Program.{BlockShape, block_at, text_of}
-use Rattle.qs_program.specs.Sound.{IsSound}
+use Rattle.std.proofs.Common.{◌≡◌, ◌∙◌, ◌∷◌, false, map, refl, subst, sym, rules}
+use Rattle.qs_played.proofs.Names.{Ticket, text_of, IsSound}
 use Rattle.qs_played.specs.declared.schedule.actor.Actor.TheVariants as actors
-use Rattle.qs_plain_laws.specs.audit.Plain.{client_at}
-use Rattle.qs_plain_laws.specs.audit.PlainSchedule.{is_out, plays}
-use Rattle.qs_plain.specs.Blocks.{blocks_begun}
-use Rattle.qs_plain.specs.Rules.{RulesState, plain_of}
+use Rattle.qs_plain_laws.proofs.Names.{client_at, is_out, plays}
+use Rattle.qs_plain.proofs.Names.{blocks_begun, RulesState, plain_of}
 use Rattle.qs_plain.proofs.Blocks.{fewer_left, stands_first, stands_on}
 use Rattle.qs_plain.proofs.Playing.{stepped}
 use Rattle.qs_plain.proofs.machine.Machine.play_block.Goals as goal
@@ -23,14 +19,7 @@ out_false : (c : After-turn) → is_out (client_at (plain_of c.turns.self) c.arg
 out_false c = sym c.is_out.ensures.value ∙ c.turns-test.true
 
 turned : (c : After-turn) → plain_of c.turn.new.self ≡ plays c.args.self.now.program (actors.Client c.args.client ∷ map actors.Handler (text_of c.args.self.now.program (ticket_in c)).reserved) (plain_of c.turns.self)
-turned c =
-    let block =
-    c.block.ensures.value
-    ∙ ap (λ (r : RulesState). block_at r.program c.args.client c.begun-index.result) c.self.view_is
-    ∙ ap (block_at c.args.self.now.program c.args.client) c.begun-index.ensures.value in
-    let reserved = c.reserved-reserved.ensures.value ∙ ap (λ (b : BlockShape). b.reserved) block in
-    c.turn.ensures.turn
-    ∙ (λ k. plays (c.turns.invariant.program k) (actors.Client c.args.client ∷ map actors.Handler (reserved k)) (plain_of c.turns.self))
+turned c = search (rules, map)
 
 pub turns-init : goal.turns-init
 turns-init c =

@@ -1,8 +1,7 @@
 use Rattle.std.proofs.Common.{◌≡◌, ◌++◌, ◌∷◌, [], suc}
 use Rattle.qs_meaning.specs.audit.Solo.{put}
 use Rattle.qs_plain_laws.proofs.orders.AloneSteps.{left_of}
-use Rattle.qs_plain.specs.Blocks.{blocks_begun}
-use Rattle.qs_plain.specs.Rules.{plain_of}
+use Rattle.qs_plain.proofs.Names.{blocks_begun, plain_of}
 use Rattle.qs_plain.proofs.Blocks.{Stands}
 use Rattle.qs_plain.proofs.machine.Machine.play_block.Given as goal
 

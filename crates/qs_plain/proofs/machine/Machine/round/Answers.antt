@@ -1,13 +1,8 @@
-use Rattle.std.proofs.Common.{◌≡◌, ◌∙◌, ◌++◌, [], List, ap, refl, subst, sym, map, length, ℕ, ◌+◌, arith}
-use Rattle.std.proofs.lemmas.List.{append-nil}
-use Rattle.std.specs.List.{range_with_len}
-use Rattle.qs_program.specs.audit.Program.{ProgramShape}
-use Rattle.std.proofs.lemmas.Bool.{or_parts}
+use Rattle.std.proofs.Common.{◌≡◌, ◌∙◌, ◌++◌, [], List, ap, refl, subst, sym, map, length, ℕ, ◌+◌, arith, rules}
+use Rattle.qs_played.proofs.Names.{append-nil, range_with_len, ProgramShape, or_parts, HasStep, or_stay}
 use Rattle.qs_played.specs.declared.schedule.actor.Actor.{Actor}
 use Rattle.qs_played.specs.declared.schedule.actor.Actor.TheVariants as actors
-use Rattle.qs_plain_laws.specs.audit.Plain.{Plain, step}
-use Rattle.qs_plain_laws.specs.audit.PlainSchedule.{plays}
-use Rattle.qs_played.specs.audit.Schedule.{HasStep, or_stay}
+use Rattle.qs_plain_laws.proofs.Names.{step, plays}
 use Rattle.qs_played.proofs.Playing.{row_more}
 use Rattle.qs_plain.specs.Rules.{RulesState, plain_of}
 use Rattle.qs_plain.proofs.Playing.{has_stepped, plays-append, plays-more, stepped}
@@ -17,10 +12,7 @@ one_more : (start old new : RulesState) (f : ℕ → Actor) (n : ℕ) → old.pr
     → plain_of old ≡ plays start.program (map f (range_with_len 0 n)) (plain_of start)
     → plain_of new ≡ or_stay (plain_of old) (step old.program (plain_of old) (f n))
     → plain_of new ≡ plays start.program (map f (range_with_len 0 (n + 1))) (plain_of start)
-one_more start old new f n same before moved =
-    moved ∙ ap (λ (p : ProgramShape). or_stay (plain_of old) (step p (plain_of old) (f n))) same
-    ∙ ap (λ (s : Plain). or_stay s (step start.program s (f n))) before
-    ∙ sym (plays-more start.program f n (plain_of start))
+one_more start old new f n same before moved = search (rules, plays-more)
 
 -- the first clients, and handlers
 abbrev clients_to : ℕ → List Actor

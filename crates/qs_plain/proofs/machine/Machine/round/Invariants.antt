@@ -1,9 +1,7 @@
 use Rattle.std.proofs.Common.{◌≡◌, ◌++◌, true, false, length, map}
-use Rattle.std.specs.List.{range_with_len}
+use Rattle.qs_played.proofs.Names.{range_with_len, HasStep}
 use Rattle.qs_played.specs.declared.schedule.actor.Actor.TheVariants as actor
-use Rattle.qs_played.specs.audit.Schedule.{HasStep}
-use Rattle.qs_plain_laws.specs.audit.Plain.{step}
-use Rattle.qs_plain_laws.specs.audit.PlainSchedule.{plays}
+use Rattle.qs_plain_laws.proofs.Names.{step, plays}
 use Rattle.qs_plain.specs.Rules.{plain_of}
 use Rattle.qs_plain.proofs.machine.Machine.round.Given as goal
 

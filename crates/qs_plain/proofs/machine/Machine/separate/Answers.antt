@@ -1,14 +1,9 @@
 use Rattle.std.proofs.Common.{◌≡◌, ◌+◌, ◌-◌, [], ◌∷◌, Some, length, ap, subst, ◌∙◌, arith}
-use Rattle.std.proofs.lemmas.List.{length-append}
-use Rattle.std.proofs.Math.ListN.{set}
+use Rattle.qs_played.proofs.Names.{length-append, set, ticket}
 use Rattle.qs_played.specs.declared.schedule.actor.Actor.TheVariants as actor
 use Rattle.qs_plain.specs.client.ClientMoves.{Begins}
-use Rattle.qs_played.specs.audit.Played.{ticket}
-use Rattle.qs_plain.specs.client.Clients.{ClientState, IsClient, client_state_at}
+use Rattle.qs_plain.proofs.Names.{ClientState, IsClient, client_state_at, plain_effect, to_come, RulesState, plain_of, last_ticket}
 use Rattle.qs_plain.specs.declared.client.stage.Stage.TheVariants as stage
-use Rattle.qs_plain.specs.handler.Effects.{plain_effect}
-use Rattle.qs_plain.specs.Rules.{to_come, RulesState, plain_of}
-use Rattle.qs_plain.specs.StepEffects.{last_ticket}
 use Rattle.qs_plain.specs.declared.handler.effect.Effect.TheVariants as effects
 use Rattle.qs_plain.specs.declared.did.Did.TheVariants as dids
 use Rattle.qs_plain.proofs.RulesEffects.{effect_is_read, effect_out}

@@ -1,7 +1,6 @@
 use Rattle.std.proofs.Common.{ap, subst, arith}
 use Rattle.qs_played.specs.declared.schedule.actor.Actor.TheVariants as actor
-use Rattle.qs_plain.specs.Rules.{RulesState}
-use Rattle.qs_plain.specs.handler.Served.{ServesFirst}
+use Rattle.qs_plain.proofs.Names.{RulesState, ServesFirst}
 use Rattle.qs_plain.proofs.RulesServe.{done_steps, served_rules, replied_rules, replied_to_come, reply_steps}
 use Rattle.qs_plain.proofs.RulesFieldLemmas.{handlers_within, handler_here, served_at, served_steps}
 use Rattle.qs_plain.specs.declared.handler.handler.Served.TheVariants as served

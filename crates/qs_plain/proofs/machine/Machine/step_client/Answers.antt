@@ -1,8 +1,7 @@
 use Rattle.std.proofs.Common.{◌≡◌, None, ap, sym, subst, ◌∙◌, arith, length}
 use Rattle.qs_played.specs.declared.schedule.actor.Actor.TheVariants as actor
 use Rattle.qs_plain_laws.specs.audit.Plain.{step}
-use Rattle.qs_plain.specs.client.Clients.{ClientState, IsClient}
-use Rattle.qs_plain.specs.Rules.{RulesState, plain_of}
+use Rattle.qs_plain.proofs.Names.{ClientState, IsClient, RulesState, plain_of}
 use Rattle.qs_plain.proofs.RulesServe.{none_out}
 use Rattle.qs_plain.proofs.RulesFieldLemmas.{within_of, here_of}
 use Rattle.qs_plain.proofs.machine.Machine.step_client.Goals as goal

@@ -1,8 +1,5 @@
 use Rattle.std.proofs.Common.{ap, sym, ◌∙◌, Some, length, map}
-use Rattle.qs_plain.specs.handler.Effects.{effect_of_queues, unanswered}
-use Rattle.qs_plain.specs.handler.Handlers.{handler_state_at}
-use Rattle.qs_plain.specs.Rules.{RulesState}
-use Rattle.qs_plain.specs.handler.Served.{HandlerState}
+use Rattle.qs_plain.proofs.Names.{effect_of_queues, unanswered, handler_state_at, RulesState, HandlerState}
 use Rattle.qs_plain.proofs.RulesEffects.{effect_served}
 use Rattle.qs_plain.proofs.RulesFieldLemmas.{handlers_within, handler_here}
 use Rattle.qs_plain.proofs.machine.Machine.step_handler_with_effect.Goals as goal

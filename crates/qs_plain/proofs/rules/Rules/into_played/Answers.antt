@@ -1,15 +1,7 @@
 use Rattle.std.proofs.Common.{◌<◌, arith, get_or, subst, sym}
-use Rattle.std.specs.Prelude.{IfOk}
-use Rattle.std.proofs.lemmas.List.{length-map}
-use Rattle.qs_meaning.specs.audit.Serial.{IsLegal}
-use Rattle.qs_program.specs.Sound.{IsSound}
-use Rattle.qs_played.specs.audit.Played.{Played}
-use Rattle.qs_played.proofs.ShownRuns.{if_shown}
-use Rattle.qs_plain_laws.specs.audit.Plain.{begin, begun_blocks}
-use Rattle.qs_plain_laws.specs.audit.PlainSchedule.{played_of}
-use Rattle.qs_plain_laws.proofs.Ordering.{IsOrdered, ordered_begin, ordered_plays, tickets_begun}
-use Rattle.qs_plain.specs.client.Clients.{client_of_state}
-use Rattle.qs_plain.specs.Rules.{AreIsolated, AreRulesCounted, RulesState, plain_of}
+use Rattle.qs_played.proofs.Names.{IfOk, length-map, IsLegal, IsSound, Played}
+use Rattle.qs_plain.proofs.Names.{if_shown, IsOrdered, ordered_begin, ordered_plays, tickets_begun, client_of_state, AreIsolated, AreRulesCounted, RulesState, plain_of}
+use Rattle.qs_plain_laws.proofs.Names.{begin, begun_blocks, played_of}
 use Rattle.qs_plain.proofs.Reaching.{reached_counted, reached_isolated}
 use Rattle.qs_plain.proofs.ReadingOff.{at_client}
 use Rattle.qs_plain.proofs.rules.Rules.into_played.Goals as goal

@@ -1,16 +1,7 @@
 use Rattle.std.proofs.Common.{◌≡◌, ◌<◌, ◌-◌, [], None, ap, get_or, get_or-take, length, refl, set, sym, subst, take, ◌∙◌, arith, true}
-use Rattle.qs_objects.specs.Traces.{TraceState, noted_at, trace_at}
-use Rattle.qs_objects.specs.declared.held.Event.{Event}
-use Rattle.qs_program.specs.audit.Sound.{is_in}
-use Rattle.qs_program.specs.audit.Values.{request_of}
-use Rattle.qs_sync_counts.specs.audit.SyncRows.{with_sync}
-use Rattle.qs_sync_counts.specs.SyncRows.{AreFew, CountsState}
-use Rattle.qs_sync_counts.proofs.CountRows.{few_in}
-use Rattle.qs_plain.specs.client.Clients.{AreStored, ClientState, IsClient, client_from, current_block}
-use Rattle.qs_meaning.specs.audit.Solo.{event}
+use Rattle.qs_plain.proofs.Names.{TraceState, noted_at, trace_at, few_in, AreStored, ClientState, IsClient, client_from, current_block, AsksNext, after_moves, no_trace, noted_in}
+use Rattle.qs_played.proofs.Names.{Event, is_in, request_of, with_sync, AreFew, CountsState, event}
 use Rattle.qs_plain.specs.declared.client.client.Asked.TheVariants as asked
-use Rattle.qs_plain.specs.client.ClientMoves.{AsksNext, after_moves}
-use Rattle.qs_plain.specs.client.TraceMoves.{no_trace, noted_in}
 use Rattle.qs_plain.specs.declared.client.stage.Stage.TheVariants as stages
 use Rattle.qs_objects.proofs.Arities.{arity_small}
 use Rattle.qs_plain.proofs.client.ClientPreserved.{within_of, commanded, queried, ended, can_note}

@@ -1,10 +1,6 @@
 use Rattle.std.proofs.Common.{◌≡◌, [], ◌∷◌, ◌++◌, ◌≤◌, add-zero, length, ap, refl, sym, subst, ◌∙◌, arith}
-use Rattle.std.proofs.lemmas.List.{length-append}
-use Rattle.qs_program.specs.audit.Program.{BlockShape, block_at}
-use Rattle.qs_plain.specs.client.Clients.{AreStored, ClientState, IsClient, IsStaged, client_from}
-use Rattle.qs_plain.specs.client.Frames.{places_of, rest}
-use Rattle.qs_plain.specs.client.FrameViews.{Stack}
-use Rattle.qs_program.specs.audit.Statements.{Statements}
+use Rattle.qs_played.proofs.Names.{length-append, BlockShape, block_at, Statements}
+use Rattle.qs_plain.proofs.Names.{AreStored, ClientState, IsClient, IsStaged, client_from, places_of, rest, Stack}
 use Rattle.qs_plain.specs.client.ClientMoves.{Begins, begun_with}
 use Rattle.qs_plain.specs.declared.client.stage.Stage.TheVariants as stages
 use Rattle.qs_plain.proofs.client.ClientPreserved.{begun_kept}

@@ -1,17 +1,8 @@
 use Rattle.std.proofs.Common.{◌≡◌, ◌<◌, ◌≤◌, ℕ, List, [], ap, drop, get_or, length, map, refl, sym, take, ◌∙◌, subst, arith, below_more, vec_capacity}
-use Rattle.std.proofs.lemmas.List.{length-append}
-use Rattle.qs_program.specs.audit.Program.{BlockShape, block_at, blocks_of}
-use Rattle.qs_program.specs.audit.Statements.{Statements}
+use Rattle.qs_played.proofs.Names.{length-append, BlockShape, block_at, blocks_of, Statements, zeros, fresh_rows}
 use Rattle.qs_played.proofs.Lists.{each_more}
-use Rattle.qs_plain.specs.client.Frames.{rest, places_of}
-use Rattle.qs_plain.specs.client.PreparedBlock.{AreQueues, reserved_lists, prepared_of, rooms_of}
-use Rattle.qs_plain.specs.client.Clients.{AreStored, IsClient, client_from}
-use Rattle.qs_plain.specs.client.FrameViews.{Stack}
-use Rattle.qs_plain.specs.client.Queues.{QueueState}
+use Rattle.qs_plain.proofs.Names.{rest, places_of, AreQueues, reserved_lists, prepared_of, rooms_of, AreStored, IsClient, client_from, Stack, QueueState, empty_trace}
 use Rattle.qs_plain.specs.declared.client.stage.Stage.TheVariants as stages
-use Rattle.qs_meaning.specs.audit.Serial.{zeros}
-use Rattle.qs_objects.specs.Traces.{empty_trace}
-use Rattle.qs_sync_counts.specs.audit.SyncRows.{fresh_rows}
 use Rattle.qs_plain.proofs.client.StoredClients.{client_fresh, many_prepared, stored_fresh}
 use Rattle.qs_plain.proofs.client.client.ClientState.new.Goals as goal
 

@@ -1,8 +1,6 @@
 use Rattle.std.proofs.Common.{◌≡◌, ◌<◌, ◌≤◌, ℕ, List, [], length, get_or, vec_capacity}
 use Rattle.qs_program.specs.audit.Program.{block_at}
-use Rattle.qs_plain.specs.client.Frames.{rest, places_of}
-use Rattle.qs_plain.specs.client.PreparedBlock.{AreQueues}
-use Rattle.qs_plain.specs.client.Queues.{QueueState}
+use Rattle.qs_plain.proofs.Names.{rest, places_of, AreQueues, QueueState}
 use Rattle.qs_plain.proofs.client.client.ClientState.new.Given as goal
 
 abbrev pub invariant-loop-index : goal.invariant-loop-index

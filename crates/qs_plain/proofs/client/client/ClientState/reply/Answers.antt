@@ -1,13 +1,7 @@
-use Rattle.std.proofs.Common.{◌≡◌, ◌<◌, ◌-◌, None, Option, Some, ℤ, pos, length, get_or-take, ap, sym, refl, set, slice_set, subst, ◌∙◌, arith}
-use Rattle.std.specs.Prelude.{unwrap_or}
+use Rattle.std.proofs.Common.{◌≡◌, ◌<◌, ◌-◌, Option, ℤ, pos, length, get_or-take, ap, sym, refl, set, slice_set, subst, ◌∙◌, arith, rules}
+use Rattle.qs_played.proofs.Names.{unwrap_or, Event, value_of}
 use Rattle.std.proofs.lemmas.Int.{to_z-of_z, ints}
-use Rattle.qs_objects.specs.Traces.{TraceState, noted_at, trace_at}
-use Rattle.qs_objects.specs.declared.held.Event.{Event}
-use Rattle.qs_plain.specs.client.Clients.{AreStored, ClientState, IsClient, client_from}
-use Rattle.qs_plain.specs.client.ClientMoves.{Replies, RepliesAt, after_moves}
-use Rattle.qs_meaning.specs.audit.Solo.{value_of}
-use Rattle.qs_plain.specs.client.TraceMoves.{no_trace, noted_in}
-use Rattle.qs_plain.specs.declared.client.stage.Stage.{Stage}
+use Rattle.qs_plain.proofs.Names.{TraceState, noted_at, trace_at, AreStored, ClientState, IsClient, client_from, Replies, RepliesAt, after_moves, no_trace, noted_in, Stage}
 use Rattle.qs_plain.specs.declared.client.stage.Stage.TheVariants as stages
 use Rattle.qs_plain.proofs.client.ClientPreserved.{waiting_of, answered}
 use Rattle.qs_plain.proofs.client.StoredClients.{empty_later, many_prepared, moved_noted, stored_noted}
@@ -16,8 +10,7 @@ use mir.Val.{to_z, of_z}
 use mir.Syntax.{w64}
 
 unwrapped : (v : Option ℤ) → unwrap_or v (pos 0) ≡ value_of v
-unwrapped None = refl
-unwrapped (Some v) = refl
+unwrapped w = search rules
 
 pub note-requires-clause-last : goal.note-requires-clause-last
 note-requires-clause-last c =

@@ -1,18 +1,11 @@
 use Rattle.std.proofs.Common.{◌≡◌, ◌<◌, ◌≤◌, ◌+◌, ℕ, [], List, ap, get_or, get_or-take, length, length-take-le, sum_by, sym, ◌∙◌, take, arith}
-use Rattle.std.proofs.lemmas.List.{get_or-map, length-map, take_more}
-use Rattle.std.proofs.lemmas.List.Sums.{sum_by_push}
-use Rattle.qs_objects.specs.Traces.{TraceState, events_of, trace_at}
-use Rattle.qs_objects.specs.declared.held.Event.{Event}
-use Rattle.qs_played.specs.audit.Schedule.{queries_in}
-use Rattle.qs_plain.specs.client.Clients.{ClientState}
-use Rattle.qs_plain.specs.client.TraceMoves.{no_trace}
+use Rattle.qs_played.proofs.Names.{get_or-map, length-map, take_more, sum_by_push, Event, queries_in}
+use Rattle.qs_plain.proofs.Names.{TraceState, events_of, trace_at, ClientState}
 use Rattle.qs_plain.proofs.client.client.ClientState.syncs.Goals as goal
 
 -- the events of a block that was begun, among those of all
 events_begun : (n k : ℕ) (ts : List TraceState) → k < n → n ≤ length ts → get_or (events_of (take n ts)) k [] ≡ (trace_at ts k).events
-events_begun n k ts inside long =
-    let short = length-take-le n ts long in
-    get_or-map (λ (t : TraceState). t.events) (take n ts) k no_trace [] (omega (arith, inside, short)) ∙ ap (λ (t : TraceState). t.events) (get_or-take n ts k no_trace inside)
+events_begun n k ts inside long = grind (arith, length-take-le, get_or-map, take, get_or-take)
 
 pub loop-block-preserved : goal.loop-block-preserved
 loop-block-preserved c =

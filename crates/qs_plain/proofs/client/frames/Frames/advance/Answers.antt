@@ -1,7 +1,6 @@
 use Rattle.std.proofs.Common.{arith, ap, subst, ◌++◌, ◌∷◌, []}
 use Rattle.qs_program.specs.Views.{statements_of}
-use Rattle.qs_plain.specs.client.Frames.{rest, load_left}
-use Rattle.qs_plain.specs.client.Asking.{AreSound, IsSoundFrame}
+use Rattle.qs_plain.proofs.Names.{rest, load_left, AreSound, IsSoundFrame}
 use Rattle.qs_plain.proofs.client.FrameMoves.{AllByRecursion-popped, load_left-push}
 use Rattle.qs_plain.proofs.client.frames.Frames.advance.Goals as goal
 

@@ -1,6 +1,5 @@
 use Rattle.std.proofs.Common.{◌≡◌, ◌⊎◌, inl, inr, ap, arith}
-use Rattle.qs_program.specs.Views.{statements_of}
-use Rattle.qs_program.specs.audit.Statements.{leave}
+use Rattle.qs_played.proofs.Names.{statements_of, leave}
 use Rattle.qs_plain.specs.client.Frames.{rest}
 use Rattle.qs_plain.proofs.client.FrameMoves.{repeats, load_left-push, repeats_sound, leaves_sound, chooses_sound, commands_sound, queries_sound, assigns_all_sound}
 use Rattle.qs_plain.proofs.client.frames.Frames.begin.Goals.{then-is_met, else-is_met}

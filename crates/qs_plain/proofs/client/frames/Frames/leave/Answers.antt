@@ -1,6 +1,5 @@
 use Rattle.std.proofs.Common.{arith, ap, sym, ◌∙◌}
-use Rattle.qs_plain.specs.client.Frames.{Ahead}
-use Rattle.qs_plain.specs.client.FrameViews.{frame_of}
+use Rattle.qs_plain.proofs.Names.{Ahead, frame_of}
 use Rattle.qs_plain.proofs.client.FrameMoves.{popped_ahead, popped_work, popped_load, popped_sound}
 use Rattle.qs_plain.proofs.client.frames.Frames.leave.Goals as goal
 

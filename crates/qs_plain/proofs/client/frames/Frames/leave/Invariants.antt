@@ -1,7 +1,6 @@
 use Rattle.std.proofs.Common.{◌≡◌, ◌≤◌, ℕ, List, length}
 use Rattle.qs_program.specs.declared.program.Declared.{Declared}
-use Rattle.qs_plain.specs.client.Asking.{AreSound}
-use Rattle.qs_plain.specs.client.Frames.{ahead_of, work, load_left}
+use Rattle.qs_plain.proofs.Names.{AreSound, ahead_of, work, load_left}
 use Rattle.qs_plain.proofs.client.frames.Frames.leave.Given as goal
 
 abbrev pub invariant-loop-frame : goal.invariant-loop-frame

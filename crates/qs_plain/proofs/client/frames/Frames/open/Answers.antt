@@ -1,7 +1,5 @@
 use Rattle.std.proofs.Common.{◌∙◌, ◌++◌, ◌∷◌, [], ap, subst}
-use Rattle.qs_plain.specs.client.Frames.{turning}
-use Rattle.qs_plain.specs.client.FrameViews.{Stack, frame_of}
-use Rattle.qs_plain.specs.client.Opening.{Opens}
+use Rattle.qs_plain.proofs.Names.{turning, Stack, frame_of, Opens}
 use Rattle.qs_plain.proofs.client.FrameMoves.{opened_none, opened_turn}
 use Rattle.qs_plain.proofs.client.frames.Frames.open.Goals as goal
 

@@ -1,6 +1,5 @@
 use Rattle.std.proofs.Common.{◌≡◌, [], refl, subst, sym, arith, length}
-use Rattle.std.proofs.lemmas.List.{nil_from_length}
-use Rattle.qs_program.specs.Views.{statements_of}
+use Rattle.qs_played.proofs.Names.{nil_from_length, statements_of}
 use Rattle.qs_plain.specs.client.Opening.{IsAside}
 use Rattle.qs_plain.proofs.client.FrameMoves.{nothing_aside}
 use Rattle.qs_plain.proofs.client.frames.Frames.set_aside.Goals as goal

@@ -1,7 +1,6 @@
 use Rattle.std.proofs.Common.{◌≡◌, ◌≤◌, ℕ, List}
 use Rattle.qs_program.specs.declared.program.Declared.{Declared}
-use Rattle.qs_plain.specs.client.Asking.{AreSound}
-use Rattle.qs_plain.specs.client.Frames.{next_of, work, load_left}
+use Rattle.qs_plain.proofs.Names.{AreSound, next_of, work, load_left}
 use Rattle.qs_plain.proofs.client.frames.Frames.settle.Given as goal
 
 abbrev pub invariant-moves : goal.invariant-moves

@@ -2,8 +2,7 @@ use Rattle.std.proofs.Common.{◌<◌, ◌≤◌, ◌+◌, length, ap, sym, subs
 use Rattle.std.proofs.lemmas.List.{length-drop}
 use Rattle.qs_plain.proofs.client.OnePlace.{put_nowhere}
 use Rattle.qs_plain.proofs.handler.Logged.{logged_there, room_there}
-use Rattle.qs_plain.specs.client.Queues.{IsPlace}
-use Rattle.qs_plain.specs.handler.Served.{HandlerState}
+use Rattle.qs_plain.proofs.Names.{IsPlace, HandlerState}
 use Rattle.qs_plain.proofs.handler.handler.HandlerState.log.Goals as goal
 
 pub put-requires : goal.put-requires

@@ -3,8 +3,7 @@ use Rattle.std.proofs.lemmas.List.{length-drop}
 use Rattle.qs_plain_laws.specs.declared.item.QueueItem.TheVariants as items
 use Rattle.qs_plain.proofs.client.OnePlace.{put_nowhere}
 use Rattle.qs_plain.proofs.handler.Logged.{logged_there, room_there}
-use Rattle.qs_plain.specs.client.Queues.{IsPlace}
-use Rattle.qs_plain.specs.handler.Served.{HandlerState}
+use Rattle.qs_plain.proofs.Names.{IsPlace, HandlerState}
 use Rattle.qs_plain.proofs.handler.handler.HandlerState.log_command.Goals as goal
 
 pub put_command-requires : goal.put_command-requires
