@@ -2,35 +2,14 @@
 -- its block, each turn leaves fewer steps of the client, and in the end nobody is in a block. The loops of `turn`,
 -- `play_block` and `play_clients` stand on this. Actors that lead on are joined, one list after another, and the blocks
 -- that a list of clients names are taken from its front.
-use Rattle.std.proofs.Common.{◌≡◌, ◌<◌, ◌≤◌, ◌∙◌, ◌+◌, ◌++◌, ◌∷◌, [], ℕ, zero, suc, Bool, true, false, None, List, refl, sym, ap, subst, length, slice_index_or, nat_eq, nat_lt, add-one, append_assoc, append-nil, arith}
-use Rattle.std.proofs.lemmas.Bool.Decides.{nat_tests}
-use Rattle.std.specs.Bool.{OnTrue}
-use Rattle.qs_objects.specs.declared.held.Ticket.{Ticket}
-use Rattle.std.specs.List.{AllByRecursion}
-use Rattle.qs_program.specs.audit.Limits.{most_blocks}
-use Rattle.qs_program.specs.audit.Program.{ClientShape, ProgramShape, blocks_of, no_client}
-use Rattle.qs_program.specs.declared.program.Declared.{Declared}
-use Rattle.qs_program.specs.Sound.{IsSound, IsSoundClient}
-use Rattle.qs_meaning.specs.audit.Configurations.{Configuration, configuration_after, first_configuration, one_block_on}
+use Rattle.std.proofs.Common.{◌≡◌, ◌<◌, ◌≤◌, ◌∙◌, ◌+◌, ◌++◌, ◌∷◌, [], ℕ, zero, suc, Bool, true, false, List, refl, sym, ap, subst, length, slice_index_or, append_assoc, append-nil, arith, rules}
+use Rattle.qs_core_laws.proofs.Names.{Mode, has_ended, is_between, no_block_beyond, Core, AreCodes, core_played, core_plays, IsPlayedInOrderOn, IsCoreQuiet, turn_of}
+use Rattle.qs_played.proofs.Names.{Ticket, AllByRecursion, most_blocks, ClientShape, ProgramShape, blocks_of, no_client, Declared, IsSound, IsSoundClient, Configuration, configuration_after, first_configuration, one_block_on, IsLegal, LegalFrom, put, configuration-append, legal-rest, few_reserved, all_named}
+use Rattle.qs_played.specs.declared.schedule.actor.Actor.{Actor}
 use Rattle.qs_meaning.specs.audit.Reduced.{Counts}
-use Rattle.qs_meaning.specs.audit.Serial.{IsLegal, LegalFrom}
-use Rattle.qs_meaning.specs.audit.Solo.{put}
-use Rattle.qs_meaning.proofs.Orders.{configuration-append, legal-rest}
 use Rattle.qs_serial.specs.audit.NamedOrders.{order_from, order_of}
 use Rattle.qs_graph.specs.audit.Steps.{limit}
-use Rattle.qs_syncset.specs.declared.mode.Mode.{Mode}
-use Rattle.qs_syncset.proofs.ShortLists.{few_reserved}
-use Rattle.qs_client.specs.audit.ClientModel.{has_ended, is_between}
-use Rattle.qs_played.specs.audit.Schedule.{all_named}
-use Rattle.qs_played.specs.declared.schedule.actor.Actor.{Actor}
-use Rattle.qs_played.specs.declared.schedule.actor.Actor.TheVariants as actor
-use Rattle.qs_played.proofs.JournalRooms.{no_block_beyond}
-use Rattle.qs_core_laws.specs.audit.Core.{Core}
-use Rattle.qs_syncset.specs.audit.Codes.{AreCodes}
-use Rattle.qs_core_laws.specs.audit.CoreSchedule.{core_played, core_plays}
 use Rattle.qs_core_laws.proofs.CoreSteps.{HasInvariant, plays_kept, run_kept}
-use Rattle.qs_core_laws.specs.orders.CoreOrders.{IsPlayedInOrderOn}
-use Rattle.qs_core_laws.specs.orders.CoreQuiet.{IsCoreQuiet, turn_of}
 use Rattle.qs_core_laws.proofs.orders.BlocksPlayed.{begin_quiet, has_begun, named_append, shown_in_order, turn_in, turn_named, turn_on}
 use Rattle.qs_core_laws.proofs.orders.Entering.{block_over, most_turns}
 use Rattle.qs_core_laws.proofs.orders.Turns.{IsWithin}
@@ -57,10 +36,7 @@ fit_of m s view sound state reached = subst IsFit view (record {
 
 -- where a client's last block is this one, it has ended exactly where the client stands between two blocks
 pub ended_is : (s : Core) (t : Ticket) → (s.client t.client).begun ≡ suc t.index → has_ended (s.client t.client) t.index ≡ is_between (s.client t.client).stage
-ended_is s t begun =
-    let out : nat_lt (suc t.index) (s.client t.client).begun ≡ false = grind (arith, begun) in
-    let last : nat_eq (suc t.index) (s.client t.client).begun ≡ true = grind (arith, nat_tests, begun) in
-    rw (out, last) refl
+ended_is s t begun = grind (arith, begun)
 
 -- how the code reads off how many blocks a client has begun, and whether one has ended
 pub begun_is : (m s : CoreState) (c : ℕ) → m ≡ s → (client_part_at m.clients c).mind.client.begun ≡ blocks_begun s c
@@ -83,9 +59,7 @@ few_blocks p c n k sound same less = let most = few p.objects p.clients sound.ea
 -- the blocks of a program are over within fewer turns than a count of 64 bits has
 pub few_turns : (p : ProgramShape) → IsSound p → (t : Ticket) → t.index < blocks_of p t.client → most_turns p t < 18446744073709551615
 unfolding limit
-few_turns p sound t some =
-    let few = few_reserved p t.client t.index sound (no_block_beyond p t.client (omega (arith, some))) some in
-    omega (arith, few)
+few_turns p sound t some = grind (arith, few, few_reserved, no_block_beyond)
 
 -- the ticket of a client's next block
 abbrev pub next_ticket : CoreState → ℕ → Ticket
@@ -159,12 +133,7 @@ module _ (first : CoreState) (fit : IsFit first) (quiet : IsQuietNow first) (c :
 
   -- where it has ended
   pub one_on : (turns : ℕ) (s : CoreState) → StandsIn first c turns s → is_between ((core_of s).client c).stage ≡ true → IsOneBlockOn first c s
-  one_on turns s now outside = record {
-    actors = now.actors;
-    named = now.named;
-    goes = now.goes;
-    quiet = block_over first.program fit.sound fit.mode (codes_of first) fit.codes first.size later begun t latest now.n (core_of s) now.within (kept_at now.actors s now.goes) outside;
-  }
+  one_on turns s now outside = search (rules, now, block_over, fit, later, begun, latest, kept_at)
 
   -- it has ended before the turns are counted out
   pub turns_fit : (turns : ℕ) (s : CoreState) → StandsIn first c turns s → turns < 18446744073709551615
@@ -172,11 +141,7 @@ module _ (first : CoreState) (fit : IsFit first) (quiet : IsQuietNow first) (c :
 
   -- the client is one of the machine's
   pub client_inside : (turns : ℕ) (m s : CoreState) → m ≡ s → IsCoreState m → StandsIn first c turns s → c < length m.clients
-  client_inside turns m s view state now =
-      let less = client in
-      let many = state.clients in
-      let same = ap (λ (x : CoreState). length x.program.clients) view ∙ ap (λ (q : ProgramShape). length q.clients) now.goes.program in
-      omega (arith, less, many, same)
+  client_inside turns m s view state now = grind (arith, client, now)
 
 -- some actors of the program have led there
 abbrev pub IsPlayedTo : ProgramShape → Mode → ℕ → CoreState → Type 0
@@ -226,8 +191,7 @@ module _ (p : ProgramShape) (mode : Mode) (size : ℕ) (clients : List ℕ) (c :
       (λ i. put (counts i) c (suc (counts i c))) ∙ sym (ap (λ (h : Configuration). h.begun) there) in
       record {
         played = played_to p mode size s n on.actors on.named on.goes now.played;
-        quiet = subst (λ b. IsCoreQuiet n.order b (core_of n)) same
-            (subst (λ o. IsCoreQuiet o (put (blocks_begun s) c (suc (blocks_begun s c))) (core_of n)) (sym (own ∙ on.quiet.order)) on.quiet);
+        quiet = search rules;
         whole =
             now.whole
             ∙ sym (append_assoc s.order (ticket ∷ []) (order_from (one_block_on p c g).begun rest))
@@ -252,9 +216,4 @@ played_first p mode size clients s fresh =
 -- what is shown once all were played
 pub all_played : (p : ProgramShape) → IsSound p → (mode : Mode) (size : ℕ) (clients : List ℕ) → IsLegal p (order_of clients) → (s : CoreState) → ArePlayed p mode size clients [] s
     → IsPlayedInOrderOn p mode size (order_of clients) (core_played s.program (core_of s))
-all_played p sound mode size clients legal s now =
-    let whole : order_of clients ≡ s.order = now.whole ∙ append-nil s.order in
-    let on = now.played.2 in
-    subst (λ q. IsPlayedInOrderOn p mode size (order_of clients) (core_played q (core_of s))) (sym on.program)
-    (shown_in_order p sound mode (codes_of s) on.codes size (order_of clients) legal now.played.0 now.played.1 (core_of s) on.played
-    (subst (λ o. IsCoreQuiet o (configuration_after p o).begun (core_of s)) (sym whole) now.quiet))
+all_played p sound mode size clients legal s now = search (rules, now, append-nil, shown_in_order, begun)

@@ -2,16 +2,11 @@
 -- those that a schedule shows. The contracts of `step`, `keeps_counted`, `into_played` and `play_core` promise it. A
 -- state that was reached is where some list of actors leads, and the law `core_syncs_counted` speaks of every such
 -- list.
-use Rattle.std.proofs.Common.{◌≡◌, ℕ, List, sym, subst}
-use Rattle.qs_program.specs.audit.Program.{ProgramShape}
-use Rattle.qs_program.specs.Sound.{IsSound}
-use Rattle.qs_syncset.specs.declared.mode.Mode.{Mode}
-use Rattle.qs_played.specs.audit.Schedule.{schedule}
-use Rattle.qs_played.specs.SyncSums.{AreSyncsCounted}
+use Rattle.std.proofs.Common.{◌≡◌, ℕ, List, sym, subst, rules}
+use Rattle.qs_played.proofs.Names.{ProgramShape, IsSound, schedule, Played}
 use Rattle.qs_played.specs.declared.schedule.actor.Actor.{Actor}
-use Rattle.qs_played.specs.audit.Played.{Played}
-use Rattle.qs_syncset.specs.audit.Codes.{AreCodes}
-use Rattle.qs_core_laws.specs.audit.CoreSchedule.{core_played}
+use Rattle.qs_core_laws.proofs.Names.{Mode, core_played}
+use Rattle.qs_played.specs.SyncSums.{AreSyncsCounted}
 use Rattle.qs_core_laws.proofs.CoreSyncs.{core_syncs_counted}
 use Rattle.qs_core.specs.state.CoreState.{CoreState, IsPlayedOn, IsReachedCore, codes_of, core_of, CoreIsCounted}
 
@@ -23,6 +18,4 @@ core_is_counted s sound reached mode codes =
 -- what is shown after the whole schedule
 pub schedule_counted : (p : ProgramShape) (mode : Mode) (size : ℕ) (picks : List Actor) (rounds : ℕ) (s : CoreState) (played : Played)
     → IsPlayedOn p mode size (schedule p picks rounds) s → played ≡ core_played s.program (core_of s) → CoreIsCounted s → AreSyncsCounted p mode played
-schedule_counted p mode size picks rounds s played on is counted =
-    let here = counted mode (subst (λ q. AreCodes q mode (codes_of s)) (sym on.program) on.codes) in
-    subst (AreSyncsCounted p mode) (sym is) (subst (λ q. AreSyncsCounted q mode (core_played s.program (core_of s))) on.program here)
+schedule_counted p mode size picks rounds s played on is counted = search rules

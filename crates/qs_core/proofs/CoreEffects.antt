@@ -1,35 +1,25 @@
 -- What an actor does next, read off the code's clients and handlers, is what the definition says of the optimised
 -- machine's state. The contracts of `next_effect` and `requests` promise it. A client's act and a handler's state are
 -- those of the machine; an actor beyond the lists does nothing.
-use Rattle.std.proofs.Common.{◌≡◌, ◌<◌, ◌≤◌, ℕ, List, [], length, None, refl, sym, ap, arith}
-use Rattle.qs_chunk.specs.declared.parcel.Parcel.{Parcel}
-use Rattle.qs_handler.specs.audit.Handler.{Handler, act_of, away, closed, free, gives, serves, spares}
+use Rattle.std.proofs.Common.{◌≡◌, ◌<◌, ◌≤◌, ℕ, List, [], length, None, ap, arith, rules}
+use Rattle.qs_core_laws.proofs.Names.{Parcel, act_due}
+use Rattle.qs_handler.specs.audit.Handler.{Handler, act_of}
 use Rattle.qs_handler.specs.declared.mind.Act.TheVariants as acts
-use Rattle.qs_client.specs.audit.ClientModel.{act_due}
-use Rattle.qs_client.specs.audit.rules.Client.{act_of as client_act}
 use Rattle.qs_played.specs.declared.schedule.actor.Actor.TheVariants as actor
 use Rattle.qs_core_laws.specs.CoreReached.{ReachedCore}
-use Rattle.qs_core.specs.parts.CarriedRequests.{first_requests, sent_requests}
-use Rattle.qs_core.specs.parts.CoreHandlers.{core_handler_at, handler_with_act}
-use Rattle.qs_core.specs.parts.LaneStates.{lane_at}
+use Rattle.qs_core.proofs.Names.{first_requests, sent_requests, core_handler_at, handler_with_act, lane_at}
 use Rattle.qs_core.specs.state.CoreState.{CoreKeeps, CoreState, IsCoreState, codes_of, core_of, client_part_at}
 use Rattle.qs_core.specs.CoreEffects.{act_at, core_effect, core_requests, effect_of_client, effect_of_handler, requests_of_handler}
 use Rattle.qs_core.proofs.shown.CoreReadings.{handler_is, tickets_are}
 
 -- a handler that takes a parcel takes the first one of its client's lane
 pub requests_taken : (down : ℕ → List Parcel) (h : Handler) (c : ℕ) → act_of h ≡ acts.TakeParcel c → requests_of_handler down h ≡ first_requests (down c)
-requests_taken down (free x) c is = cc
-requests_taken down (serves t x) c is = let same : t.client ≡ c = cc in ap (λ n. first_requests (down n)) same
-requests_taken down (spares t x n) c is = cc
-requests_taken down (gives t x) c is = cc
-requests_taken down (away t) c is = let same : t.client ≡ c = cc in ap (λ n. first_requests (down n)) same
-requests_taken down (closed x) c is = cc
+requests_taken down v c is = search rules
 
 module _ (s : CoreState) (kept : IsCoreState s) where
   pub act_is : (c : ℕ) → c < length s.clients → act_at (codes_of s) s.size (core_of s) c ≡ act_due (client_part_at s.clients c).mind
   unfolding core_of
-  act_is c inside =
-      λ k. client_act (record { dynamic = (client_part_at s.clients c).mind.code.dynamic; size = sym (kept.sides c inside).size k }) (length (client_part_at s.clients c).mind.code.blocks) (client_part_at s.clients c).mind.client
+  act_is c inside = search (rules, kept)
 
   pub client_does : (c : ℕ) → c < length s.clients
       → core_effect (codes_of s) s.size (core_of s) (actor.Client c) ≡ effect_of_client c (client_part_at s.clients c).mind.client.begun (act_due (client_part_at s.clients c).mind)
@@ -55,29 +45,16 @@ module _ (s : CoreState) (kept : IsCoreState s) where
   module _ (keeps : CoreKeeps s) where
     pub no_client_does : (c : ℕ) → length s.clients ≤ c → None ≡ core_effect (codes_of s) s.size (core_of s) (actor.Client c)
     unfolding ReachedCore
-    no_client_does c out =
-        let first = keeps.others.client c (omega (arith, out, kept.clients)) in
-        let none = kept.codes.none c (omega (arith, out, kept.clients)) in
-        rw first (rw none refl)
+    no_client_does c out = grind (arith, keeps, kept)
 
     pub no_client_sends : (c : ℕ) → length s.clients ≤ c → [] ≡ core_requests (codes_of s) s.size (core_of s) (actor.Client c)
     unfolding ReachedCore
-    no_client_sends c out =
-        let first = keeps.others.client c (omega (arith, out, kept.clients)) in
-        let none = kept.codes.none c (omega (arith, out, kept.clients)) in
-        rw first (rw none refl)
+    no_client_sends c out = grind (arith, keeps, kept)
 
     pub no_handler_does : (h : ℕ) → length s.handlers ≤ h → None ≡ core_effect (codes_of s) s.size (core_of s) (actor.Handler h)
     unfolding ReachedCore
-    no_handler_does h out =
-        let beyond : length s.program.objects ≤ h = omega (arith, out, kept.handlers) in
-        let idle = keeps.others.handler h beyond in
-        let empty = keeps.others.tickets h beyond in
-        rw idle (rw empty refl)
+    no_handler_does h out = grind (arith, kept, keeps)
 
     pub no_handler_takes : (h : ℕ) → length s.handlers ≤ h → [] ≡ core_requests (codes_of s) s.size (core_of s) (actor.Handler h)
     unfolding ReachedCore
-    no_handler_takes h out =
-        let beyond : length s.program.objects ≤ h = omega (arith, out, kept.handlers) in
-        let idle = keeps.others.handler h beyond in
-        rw idle refl
+    no_handler_takes h out = grind (arith, kept, keeps)

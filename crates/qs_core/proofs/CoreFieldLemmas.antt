@@ -2,24 +2,11 @@
 -- There the machine's fields, the client's number and the client itself are read out of the code and only equal to
 -- those of the lemmas. The proofs rewrite along these equations, and look at both cases, that a step was made and that
 -- none was.
-use Rattle.std.proofs.Common.{◌≡◌, ◌<◌, ℕ, Bool, true, false, List, [], ◌∷◌, ◌++◌, length, get_or, Option, Some, None, refl, sym, ap, subst, ◌∙◌, arith}
-use Rattle.std.specs.Bool.{OnTrue}
-use Rattle.std.proofs.Math.ListN.{set}
-use Rattle.std.proofs.lemmas.List.{set-get_or}
-use Rattle.qs_objects.specs.declared.held.Ticket.{Ticket}
-use Rattle.qs_objects.proofs.Elements.{AllByRecursion-get_or}
-use Rattle.qs_program.specs.audit.Program.{block_at, blocks_of}
-use Rattle.qs_program.specs.Sound.{IsSound}
-use Rattle.qs_client.specs.audit.rules.Client.{act_of as client_act}
-use Rattle.qs_client.specs.audit.ClientModel.{act_due, mind_after_begin}
-use Rattle.qs_client.specs.MindState.{IsMind, mind_of}
-use Rattle.qs_client.specs.declared.rules.act.Act.{Act}
+use Rattle.std.proofs.Common.{◌≡◌, ◌<◌, ℕ, Bool, false, List, [], ◌∷◌, ◌++◌, length, get_or, Option, Some, None, refl, sym, ap, subst, ◌∙◌, arith, rules}
+use Rattle.qs_played.proofs.Names.{OnTrue, set, set-get_or, Ticket, AllByRecursion-get_or, block_at, blocks_of, IsSound, ticket}
+use Rattle.qs_core_laws.proofs.Names.{act_of as client_act, mind_after_begin, IsMind, mind_of, Act, get_or-any, core_step, settings_of, blocks_in}
 use Rattle.qs_client.specs.declared.rules.act.Act.TheVariants as wants
-use Rattle.qs_played.specs.audit.Played.{ticket}
-use Rattle.qs_played.proofs.Lists.{get_or-any}
 use Rattle.qs_played.specs.declared.schedule.actor.Actor.TheVariants as actor
-use Rattle.qs_core_laws.specs.audit.Core.{core_step, settings_of}
-use Rattle.qs_syncset.specs.audit.Codes.{blocks_in}
 use Rattle.qs_core_laws.specs.CoreReached.{ReachedCore}
 use Rattle.qs_core.specs.parts.CoreClients.{AreStocked, CoreClientState, HasLane, IsCoreClient, LaneStays, LaneSteps, turns_to, whole_of}
 use Rattle.qs_core.specs.parts.CoreHandlers.{CanEnterAll, CoreHandlerState, with_ticket_at_all}
@@ -48,10 +35,7 @@ module _ (r s : CoreState) (view : r ≡ s) (kept : IsCoreState r) (keeps : Core
 
   machine_act : client_act (settings_of (codes_of r) r.size c) (blocks_in (codes_of r) c) ((core_of r).client c) ≡ d.act
   unfolding core_of
-  machine_act =
-      (λ k. client_act (record { dynamic = (client_part_at r.clients c).mind.code.dynamic; size = sym (kept.sides c inside).size k }) (length (client_part_at r.clients c).mind.code.blocks) (client_part_at r.clients c).mind.client)
-      ∙ ap (λ (x : ClientPart). act_due x.mind) here
-      ∙ sym formed.act
+  machine_act = search (rules, kept, inside, here, formed)
 
   lanes_are : length d.lanes ≡ length r.program.objects
   lanes_are = ap (λ (x : ClientPart). length x.lanes) (sym here) ∙ (kept.sides c inside).lanes
@@ -62,11 +46,7 @@ module _ (r s : CoreState) (view : r ≡ s) (kept : IsCoreState r) (keeps : Core
 
   by_act : (a : Act) → d.act ≡ a → (h : ℕ) → turns_to a ≡ Some h → h < length r.program.objects
   unfolding ReachedCore number_of
-  by_act wants.Reserve e h turned = cc
-  by_act (wants.Send g p) e h turned = subst (λ m. m < length r.program.objects) (ap number_of turned) (keeps_here.clients.sends c g p (machine_act ∙ e))
-  by_act (wants.Await g) e h turned = subst (λ m. m < length r.program.objects) (ap number_of turned) (keeps_here.clients.awaits c g (machine_act ∙ e))
-  by_act (wants.NeedChunk g) e h turned = subst (λ m. m < length r.program.objects) (ap number_of turned) (keeps_here.clients.needs c g (machine_act ∙ e))
-  by_act wants.Finished e h turned = cc
+  by_act v e h turned = search (rules, machine_act)
 
   pub has_lane : HasLane d
   has_lane h turned = let in_program = by_act d.act refl h turned in omega (arith, in_program, lanes_are)
@@ -80,18 +60,10 @@ module _ (r s : CoreState) (view : r ≡ s) (kept : IsCoreState r) (keeps : Core
     at_number P h = subst (λ m. P (with_clients r (set r.clients m new))) (sym number) h
 
     pub go_kept : IsCoreState after
-    go_kept = by_case b refl steps
-      where
-        by_case : (x : Bool) → b ≡ x → OnTrue x (LaneSteps d new) → IsCoreState after
-        by_case true e moves = at_number IsCoreState (client_kept r kept c inside d here formed stocked ok has_lane new moves)
-        by_case false e moves = subst (λ cs. IsCoreState (with_clients r cs)) (sym (ap (set r.clients n) (unchanged e ∙ value) ∙ set-get_or r.clients n d)) kept
+    go_kept = search (rules, after, at_number, client_kept, inside, here, stocked, has_lane, set, set-get_or)
 
     pub go_steps : OnTrue b (CoreSteps s (actor.Client c) after)
-    go_steps = by_case b steps
-      where
-        by_case : (x : Bool) → OnTrue x (LaneSteps d new) → OnTrue x (CoreSteps s (actor.Client c) after)
-        by_case true moves = subst (λ y. CoreSteps y (actor.Client c) after) view (at_number (CoreSteps r (actor.Client c)) (client_steps r kept c inside d here formed stocked ok has_lane new moves))
-        by_case false moves = tt
+    go_steps = search (rules, after, at_number, client_steps, inside, here, stocked, has_lane)
 
     pub go_none : (d.act ≡ wants.Reserve → ⊥) → b ≡ false → core_step (codes_of s) s.size (core_of s) (actor.Client c) ≡ None
     go_none other e = subst (λ y. core_step (codes_of y) y.size (core_of y) (actor.Client c) ≡ None) view (client_rests r kept c inside d here formed ok has_lane (stays e) other)
@@ -151,13 +123,7 @@ module _ (r s : CoreState) (view : r ≡ s) (kept : IsCoreState r) (keeps : Core
       new_state = record { program = r.program; size = r.size; order = order; clients = set r.clients n' new; handlers = hs }
 
       made_is : booked_state new booked_here are_formed lanes_here ≡ new_state
-      made_is = sym (λ k. record {
-        program = r.program;
-        size = r.size;
-        order = (longer ∙ ap (λ (t : Ticket). r.order ++ t ∷ []) u_is) k;
-        clients = set r.clients (number' k) new;
-        handlers = (entered ∙ (λ i. with_ticket_at_all (u_is i) r.handlers (xs_are i))) k;
-      })
+      made_is = search (rules, set)
 
       pub made_kept : IsCoreState new_state
       made_kept = subst IsCoreState made_is (booked_kept new booked_here are_formed lanes_here)

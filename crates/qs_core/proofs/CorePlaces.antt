@@ -1,10 +1,8 @@
 -- What is read of the code's clients and handlers is what the machine's state says: the tickets before a handler, the
 -- lanes, and what a client wants next, which is at the lane to a handler of the program. The contracts of `handler` and
 -- `client` promise it.
-use Rattle.std.proofs.Common.{◌≡◌, ◌<◌, ℕ, length, Some, refl, ap, sym, subst, ◌∙◌, arith}
-use Rattle.qs_client.specs.audit.ClientModel.{act_due}
-use Rattle.qs_client.specs.declared.rules.act.Act.{Act}
-use Rattle.qs_client.specs.declared.rules.act.Act.TheVariants as wants
+use Rattle.std.proofs.Common.{◌≡◌, ◌<◌, ℕ, length, Some, refl, ap, sym, ◌∙◌, arith}
+use Rattle.qs_core_laws.proofs.Names.{act_due, Act}
 use Rattle.qs_core_laws.specs.CoreReached.{ReachedCore}
 use Rattle.qs_core.specs.parts.CoreClients.{CoreClientState, IsCoreClient, turns_to, whole_of}
 use Rattle.qs_core.specs.parts.CoreHandlers.{CoreHandlerState, core_handler_at, handler_with_act}
@@ -31,11 +29,7 @@ module _ (s : CoreState) (kept : IsCoreState s) where
     -- a client turns to the lane to a handler of the program
     turns_inside : CoreKeeps s → (a : Act) → act_at (codes_of s) s.size (core_of s) c ≡ a → (h : ℕ) → turns_to a ≡ Some h → h < length s.program.objects
     unfolding ReachedCore
-    turns_inside keeps wants.Reserve e h turned = cc
-    turns_inside keeps (wants.Send g p) e h turned = let is : g ≡ h = grind (arith, turned) in subst (λ m. m < length s.program.objects) is (keeps.clients.sends c g p e)
-    turns_inside keeps (wants.Await g) e h turned = let is : g ≡ h = grind (arith, turned) in subst (λ m. m < length s.program.objects) is (keeps.clients.awaits c g e)
-    turns_inside keeps (wants.NeedChunk g) e h turned = let is : g ≡ h = grind (arith, turned) in subst (λ m. m < length s.program.objects) is (keeps.clients.needs c g e)
-    turns_inside keeps wants.Finished e h turned = cc
+    turns_inside keeps v e h turned = grind arith
 
     pub wanted_inside : CoreKeeps s → (h : ℕ) → turns_to (act_at (codes_of s) s.size (core_of s) c) ≡ Some h → h < length s.program.objects
     wanted_inside keeps = turns_inside keeps (act_at (codes_of s) s.size (core_of s) c) refl

@@ -1,44 +1,18 @@
 -- These lemmas play a schedule of the optimised machine one actor at a time, and say what is shown at its end. The loop
 -- of `play_core` keeps that its state is where the actors so far lead (`IsPlayedOn`). An actor adds its step or
 -- nothing.
-use Rattle.std.proofs.Common.{◌≡◌, ◌<◌, ℕ, zero, suc, ◌+◌, Bool, true, false, length, get_or, take, arith, List, [], ◌∷◌, ◌++◌, None, refl, ap, sym, subst, ◌∙◌, add-one}
-use Rattle.std.specs.Bool.{OnTrue}
-use Rattle.qs_program.specs.audit.Program.{ProgramShape}
-use Rattle.qs_syncset.specs.declared.mode.Mode.{Mode}
-use Rattle.qs_played.specs.Isolation.{IsIsolated}
-use Rattle.qs_played.specs.audit.Schedule.{schedule, or_stay}
-use Rattle.qs_played.specs.audit.Played.{Played}
+use Rattle.std.proofs.Common.{◌≡◌, ◌<◌, ℕ, zero, suc, ◌+◌, Bool, false, length, get_or, take, arith, List, [], ◌∷◌, ◌++◌, None, refl, ap, ◌∙◌, add-one, rules}
+use Rattle.qs_played.proofs.Names.{OnTrue, ProgramShape, schedule, Played}
 use Rattle.qs_played.specs.declared.schedule.actor.Actor.{Actor}
-use Rattle.qs_core_laws.specs.audit.Core.{core_begin, core_step}
-use Rattle.qs_syncset.specs.audit.Codes.{AreCodes}
-use Rattle.qs_core_laws.specs.audit.CoreSchedule.{core_played, core_plays}
-use Rattle.qs_core_laws.specs.CoreSchedule.{IsShown, core_scheduled, on_way}
+use Rattle.qs_core_laws.proofs.Names.{Mode, core_step, core_played}
+use Rattle.qs_core_laws.specs.CoreSchedule.{IsShown, core_scheduled}
 use Rattle.qs_core.specs.state.CoreState.{CoreIsIsolated, CoreState, CoreSteps, IsFreshCore, IsPlayedOn, IsShownIsolated, codes_of, core_of}
 use Rattle.qs_core.proofs.state.CoreReaching.{core_plays_more}
 
 -- one actor more
 pub played_more : (p : ProgramShape) (mode : Mode) (size : ℕ) (actors : List Actor) (old new : CoreState) (a : Actor) (b : Bool) → IsPlayedOn p mode size actors old → OnTrue b (CoreSteps old a new)
     → (b ≡ false → core_step (codes_of old) old.size (core_of old) a ≡ None) → (b ≡ false → new ≡ old) → IsPlayedOn p mode size (actors ++ a ∷ []) new
-played_more p mode size actors old new a true on steps none same = record {
-  program = steps.program ∙ on.program;
-  size = steps.size ∙ on.size;
-  codes = subst (AreCodes p mode) (sym steps.codes) on.codes;
-  played =
-      sym (ap (or_stay (core_of old)) steps.steps)
-      ∙ (λ k. or_stay (on.played k) (core_step (codes_of old) (on.size k) (on.played k) a))
-      ∙ sym (core_plays_more (codes_of old) size actors a (core_begin p))
-      ∙ (λ k. core_plays (sym steps.codes k) size (actors ++ a ∷ []) (core_begin p));
-}
-played_more p mode size actors old new a false on steps none same =
-    subst (IsPlayedOn p mode size (actors ++ a ∷ [])) (sym (same refl)) (record {
-      program = on.program;
-      size = on.size;
-      codes = on.codes;
-      played =
-          sym (ap (or_stay (core_of old)) (none refl))
-          ∙ (λ k. or_stay (on.played k) (core_step (codes_of old) (on.size k) (on.played k) a))
-          ∙ sym (core_plays_more (codes_of old) size actors a (core_begin p));
-    })
+played_more p mode size actors old new a v on steps none same = search (rules, core_plays_more)
 
 -- before the first actor
 pub fresh_played : (p : ProgramShape) (mode : Mode) (size : ℕ) (s : CoreState) → IsFreshCore p mode size s → IsPlayedOn p mode size [] s
@@ -56,16 +30,9 @@ take_more xs i d less = ap (λ n. take n xs) (add-one i) ∙ take_next xs i d le
 pub schedule_shown : (p : ProgramShape) (mode : Mode) (size : ℕ) (picks : List Actor) (rounds : ℕ) (s : CoreState) (played : Played) → IsPlayedOn p mode size (schedule p picks rounds) s
     → played ≡ core_played s.program (core_of s) → IsShown p mode size picks rounds played
 unfolding core_scheduled
-schedule_shown p mode size picks rounds s played on is =
-    (codes_of s, on.codes, is ∙ (λ k. core_played (on.program k) (on.played k)))
+schedule_shown p mode size picks rounds s played on is = search rules
 
 pub schedule_isolated : (p : ProgramShape) (mode : Mode) (size : ℕ) (picks : List Actor) (rounds : ℕ) (s : CoreState) (played : Played) → IsPlayedOn p mode size (schedule p picks rounds) s
     → played ≡ core_played s.program (core_of s) → CoreIsIsolated s → IsShownIsolated p mode size picks rounds played
 unfolding core_scheduled IsShownIsolated
-schedule_isolated p mode size picks rounds s played on is isolated = (
-  codes_of s,
-  on.codes,
-  is ∙ (λ k. core_played (on.program k) (on.played k)),
-  subst (λ x. IsIsolated p played (on_way x)) on.played
-      (subst (λ r. IsIsolated p r (on_way (core_of s))) (sym is) (subst (λ q. IsIsolated q (core_played s.program (core_of s)) (on_way (core_of s))) on.program isolated)),
-)
+schedule_isolated p mode size picks rounds s played on is isolated = search rules

@@ -6,3 +6,4 @@ pub mod CoreFieldLemmas
 pub mod CoreBlocks
 pub mod CoreEffects
 pub mod CorePlaces
+pub mod Names

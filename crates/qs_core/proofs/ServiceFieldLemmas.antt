@@ -2,25 +2,16 @@
 -- There the machine's fields, the numbers, the handler and the client are read out of the code and only equal to those
 -- of the lemmas. The proofs rewrite along these equations, and look at both cases, that a step was made and that none
 -- was.
-use Rattle.std.proofs.Common.{◌≡◌, ◌<◌, ◌≤◌, ℕ, Bool, true, false, List, [], ◌∷◌, length, get_or, Option, Some, None, refl, sym, ap, subst, ◌∙◌, arith}
-use Rattle.std.specs.Bool.{OnTrue}
-use Rattle.std.proofs.Math.ListN.{set}
-use Rattle.std.proofs.lemmas.List.{set-get_or}
-use Rattle.std.specs.Prelude.{IsTrue}
-use Rattle.qs_objects.specs.declared.Request.{Request}
-use Rattle.qs_objects.proofs.Elements.{AllByRecursion-get_or}
-use Rattle.qs_chunk.specs.audit.Batch.{Batch, batch}
-use Rattle.qs_chunk.specs.Lanes.{may_stand}
-use Rattle.qs_handler.specs.audit.Handler.{Handler, act_of, away, closed, free, gives, serves, spares}
-use Rattle.qs_handler.specs.Handler.{is_away}
+use Rattle.std.proofs.Common.{◌≡◌, ◌<◌, ◌≤◌, ℕ, Bool, false, [], length, get_or, Option, Some, None, refl, sym, ap, subst, ◌∙◌, arith, rules}
+use Rattle.qs_played.proofs.Names.{OnTrue, set, set-get_or, Request, AllByRecursion-get_or}
+use Rattle.qs_core_laws.proofs.Names.{Batch, batch, core_step}
+use Rattle.qs_handler.specs.audit.Handler.{Handler, act_of}
 use Rattle.qs_handler.specs.declared.mind.Act.{Act}
 use Rattle.qs_handler.specs.declared.mind.Act.TheVariants as acts
 use Rattle.qs_played.specs.declared.schedule.actor.Actor.TheVariants as actor
-use Rattle.qs_core_laws.specs.audit.Core.{core_step}
 use Rattle.qs_core_laws.specs.CoreReached.{ReachedCore}
 use Rattle.qs_core.specs.parts.CoreClients.{AreStocked, CoreClientState, Meets, whole_of}
-use Rattle.qs_core.specs.parts.CoreHandlers.{CoreHandlerState, IsCoreHandler, MayCome, TakesTicket, handler_with_act, lane_step_of_handler, turns_to}
-use Rattle.qs_core.specs.parts.LaneStates.{lane_at}
+use Rattle.qs_core.proofs.Names.{CoreHandlerState, IsCoreHandler, MayCome, TakesTicket, handler_with_act, lane_step_of_handler, turns_to, lane_at}
 use Rattle.qs_core.specs.state.CoreState.{CoreKeeps, CoreState, CoreSteps, IsCoreState, ClientPart, all_blocks, codes_of, core_of, core_handler_of, client_part_at, client_part, tickets_at}
 use Rattle.qs_core.proofs.state.CoreBooking.{ticket_kept, ticket_rests, ticket_steps}
 use Rattle.qs_core.proofs.state.CoreLists.{map_here}
@@ -57,18 +48,7 @@ module _ (r s : CoreState) (view : r ≡ s) (kept : IsCoreState r) (keeps : Core
   -- where it turns to no lane it wants a ticket
   pub wants_ticket : turns_to d.act ≡ None → d.act ≡ acts.TakeTicket
   unfolding core_of ReachedCore
-  wants_ticket none = by_handler (handler_with_act d) refl
-    where
-      act_is : (x : Handler) → handler_with_act d ≡ x → d.act ≡ act_of x
-      act_is x is = formed.act ∙ ap act_of is
-
-      by_handler : (x : Handler) → handler_with_act d ≡ x → d.act ≡ acts.TakeTicket
-      by_handler (free y) is = act_is (free y) is
-      by_handler (serves t y) is = let bad : turns_to (act_of (serves t y)) ≡ None = ap turns_to (sym (act_is (serves t y) is)) ∙ none in cc
-      by_handler (spares t y m) is = let bad : turns_to (act_of (spares t y m)) ≡ None = ap turns_to (sym (act_is (spares t y m) is)) ∙ none in cc
-      by_handler (gives t y) is = let bad : turns_to (act_of (gives t y)) ≡ None = ap turns_to (sym (act_is (gives t y) is)) ∙ none in cc
-      by_handler (away t) is = let bad : turns_to (act_of (away t)) ≡ None = ap turns_to (sym (act_is (away t) is)) ∙ none in cc
-      by_handler (closed y) is = absurd (keeps_here.handlers.opened h y (here ∙ is))
+  wants_ticket none = search (rules, formed, here)
 
   -- after it took a ticket, or where there is none
   module _ (asked : d.act ≡ acts.TakeTicket) (new : CoreHandlerState) (b : Bool) (takes : OnTrue b (TakesTicket d new)) (none : b ≡ false → d.tickets ≡ []) (unchanged : b ≡ false → new ≡ d) where
@@ -76,20 +56,10 @@ module _ (r s : CoreState) (view : r ≡ s) (kept : IsCoreState r) (keeps : Core
     state_after_ticket = with_handlers r (set r.handlers n new)
 
     pub take_kept : IsCoreState state_after_ticket
-    take_kept = by_case b refl takes
-      where
-        by_case : (x : Bool) → b ≡ x → OnTrue x (TakesTicket d new) → IsCoreState state_after_ticket
-        by_case true e took = subst (λ m. IsCoreState (with_handlers r (set r.handlers m new))) (sym number) (ticket_kept r kept h inside d here queue formed roomy asked new took)
-        by_case false e took = subst (λ hs. IsCoreState (with_handlers r hs)) (sym (ap (set r.handlers n) (unchanged e ∙ value) ∙ set-get_or r.handlers n d)) kept
+    take_kept = search (rules, set, ticket_kept, inside, here, queue, roomy, set-get_or)
 
     pub take_steps : OnTrue b (CoreSteps s (actor.Handler h) state_after_ticket)
-    take_steps = by_case b takes
-      where
-        by_case : (x : Bool) → OnTrue x (TakesTicket d new) → OnTrue x (CoreSteps s (actor.Handler h) state_after_ticket)
-        by_case true took =
-            subst (λ y. CoreSteps y (actor.Handler h) state_after_ticket) view
-            (subst (λ m. CoreSteps r (actor.Handler h) (with_handlers r (set r.handlers m new))) (sym number) (ticket_steps r kept h inside d here queue formed roomy asked new took))
-        by_case false took = tt
+    take_steps = search (rules, set, ticket_steps, inside, here, queue, roomy)
 
     pub take_none : b ≡ false → core_step (codes_of s) s.size (core_of s) (actor.Handler h) ≡ None
     take_none e = subst (λ y. core_step (codes_of y) y.size (core_of y) (actor.Handler h) ≡ None) view (ticket_rests r kept h inside d here queue formed roomy asked (none e))
@@ -102,11 +72,7 @@ module _ (r s : CoreState) (view : r ≡ s) (kept : IsCoreState r) (keeps : Core
 
     by_act : (a : Act) → d.act ≡ a → turns_to a ≡ Some c → c < length r.program.clients
     unfolding core_of ReachedCore number_of
-    by_act acts.TakeTicket e t = cc
-    by_act (acts.TakeParcel g) e t = subst (λ m. m < length r.program.clients) (ap number_of t) (keeps_here.handlers.takes h g (machine_act ∙ e))
-    by_act (acts.Give g x) e t = subst (λ m. m < length r.program.clients) (ap number_of t) (keeps_here.handlers.gives h g x (machine_act ∙ e))
-    by_act (acts.Spare g k) e t = subst (λ m. m < length r.program.clients) (ap number_of t) (keeps_here.handlers.spares h g k (machine_act ∙ e)).0
-    by_act acts.Closed e t = cc
+    by_act v e t = search (rules, machine_act)
 
     pub there : c < length r.clients
     there = let in_program = by_act d.act refl turned in omega (arith, in_program, kept.clients)
@@ -119,40 +85,21 @@ module _ (r s : CoreState) (view : r ≡ s) (kept : IsCoreState r) (keeps : Core
       stocked = subst AreStocked (sym (value' ∙ ap (λ m. get_or r.clients m g) number')) (AllByRecursion-get_or AreStocked r.clients c g kept.stocked there)
 
       pub lane_there : h < length g.lanes
-      lane_there =
-          let lanes : length g.lanes ≡ length r.program.objects = ap (λ (x : ClientPart). length x.lanes) (sym found) ∙ (kept.sides c there).lanes in
-          omega (arith, lanes, inside, kept.handlers)
+      lane_there = grind (arith, found, kept, there, inside)
 
       pub may_come : MayCome d (lane_at g.lanes h)
       unfolding core_of ReachedCore number_of
-      may_come c' p ps asked first =
-          let same : c' ≡ c = ap number_of (ap turns_to (sym asked) ∙ turned) in
-          let down : (lane_at (client_part_at r.clients c').lanes h).down ≡ p ∷ ps = ap (λ m. (lane_at (client_part_at r.clients m).lanes h).down) same ∙ ap (λ (x : ClientPart). (lane_at x.lanes h).down) found ∙ first in
-          subst (λ (x : Handler). IsTrue (may_stand (is_away x) p)) here (keeps_here.next c' h p ps (machine_act ∙ asked) down)
+      may_come c' p ps asked first = search (rules, found, here, machine_act)
 
       size_is : (whole_of g).size ≡ r.size
       size_is = ap (λ (x : ClientPart). x.mind.size) (sym found) ∙ (kept.sides c there).size
 
       spare_empty : (x : Handler) (k : Batch Request) → act_of x ≡ acts.Spare c k → k.items ≡ []
-      spare_empty (free y) k e = cc
-      spare_empty (serves t y) k e = cc
-      spare_empty (spares t y m) k e = sym (ap chunk_items e)
-        where
-          chunk_items : Act → List Request
-          chunk_items acts.TakeTicket = []
-          chunk_items (acts.TakeParcel i) = []
-          chunk_items (acts.Give i z) = []
-          chunk_items (acts.Spare i z) = z.items
-          chunk_items acts.Closed = []
-      spare_empty (gives t y) k e = cc
-      spare_empty (away t) k e = cc
-      spare_empty (closed y) k e = cc
+      spare_empty v k e = search rules
 
       fits : (k : Batch Request) → d.act ≡ acts.Spare c k → k ≡ batch [] (whole_of g).size
       unfolding core_of ReachedCore
-      fits k e =
-          let sized : k.capacity ≡ r.size = (keeps_here.handlers.spares h c k (machine_act ∙ e)).1 in
-          λ i. record { items = spare_empty (handler_with_act d) k (sym formed.act ∙ e) i; capacity = (sized ∙ sym size_is) i }
+      fits k e = search (rules, k, machine_act, spare_empty, formed, size_is)
 
       -- after a step at that lane, or without one
       module _ (later : CoreHandlerState) (new : CoreClientState) (b : Bool) (meets : OnTrue b (Meets h g d new later))
@@ -167,29 +114,10 @@ module _ (r s : CoreState) (view : r ≡ s) (kept : IsCoreState r) (keeps : Core
         met_is x is = λ i. record { program = r.program; size = r.size; order = r.order; clients = set r.clients (sym number' i) (sym is i); handlers = set r.handlers (sym number i) later }
 
         pub meet_kept : IsCoreState state_after_visit
-        meet_kept = by_case b refl meets
-          where
-            by_case : (x : Bool) → b ≡ x → OnTrue x (Meets h g d new later) → IsCoreState state_after_visit
-            by_case true e m = subst IsCoreState (met_is _ m.formed) (handler_kept r kept h inside d here queue formed roomy c turned there g found stocked fits later m.lane m.steps)
-            by_case false e m =
-                subst IsCoreState (λ i. record {
-                  program = r.program;
-                  size = r.size;
-                  order = r.order;
-                  clients = sym (ap (set r.clients n') (same_formed e ∙ value') ∙ set-get_or r.clients n' g) i;
-                  handlers = sym (ap (set r.handlers n) (same_handler e ∙ value) ∙ set-get_or r.handlers n d) i;
-                }) kept
+        meet_kept = search (rules, met_is, handler_kept, inside, here, queue, roomy, there, found, stocked, fits, set, set-get_or)
 
         pub meet_steps : OnTrue b (CoreSteps s (actor.Handler h) state_after_visit)
-        meet_steps = by_case b meets
-          where
-            by_case : (x : Bool) → OnTrue x (Meets h g d new later) → OnTrue x (CoreSteps s (actor.Handler h) state_after_visit)
-            by_case true m =
-                subst (λ y. CoreSteps y (actor.Handler h) state_after_visit) view
-                (subst (CoreSteps r (actor.Handler h)) (met_is _ m.formed) (handler_steps r kept h inside d here queue formed roomy c turned there g found stocked fits later m.lane m.steps))
-            by_case false m = tt
+        meet_steps = search (rules, met_is, handler_steps, inside, here, queue, roomy, there, found, stocked, fits)
 
         pub meet_none : b ≡ false → core_step (codes_of s) s.size (core_of s) (actor.Handler h) ≡ None
-        meet_none e =
-            subst (λ y. core_step (codes_of y) y.size (core_of y) (actor.Handler h) ≡ None) view
-            (handler_rests r kept h inside d here queue formed roomy c turned there g found stocked (none e))
+        meet_none e = search (rules, handler_rests, inside, here, queue, roomy, there, found, stocked)

@@ -1,57 +1,22 @@
 -- A client whose mind handed out its next act: the mind and the kept act are together the client of the definition.
-use Rattle.std.proofs.Common.{◌≡◌, ℕ, ◌<◌, ◌∷◌, ◌++◌, List, [], true, nat_lt, Some, None, length, get_or, refl, sym, ap, subst, ◌∙◌, add-zero, append-nil}
-use Rattle.std.proofs.Math.ListN.{set}
-use Rattle.std.proofs.lemmas.List.{set-get_or}
-use Rattle.qs_objects.specs.audit.Journals.{HeldState}
-use Rattle.qs_objects.specs.declared.held.Event.{Event}
-use Rattle.qs_objects.specs.declared.held.Ticket.{Ticket}
-use Rattle.qs_objects.specs.declared.Request.{Request}
-use Rattle.qs_syncset.specs.audit.Codes.{ClientCode}
-use Rattle.qs_chunk.specs.audit.Batch.{Batch}
-use Rattle.qs_chunk.specs.declared.parcel.Parcel.{Parcel}
-use Rattle.qs_client.specs.audit.rules.Client.{Settlement}
-use Rattle.qs_sync_counts.specs.audit.SyncRows.{fresh_rows}
-use Rattle.qs_chunk.specs.audit.Limits.{lane_room}
-use Rattle.qs_client.specs.audit.ClientModel.{ClientModel, lists_of_code, act_due, mind_after_chunk, comes_to, count_syncs, finish, extend, mind_after_object, hands_out, next_act, next_mind, settings_of, mind_after_begin, enters, fresh_mind, locals_at}
+use Rattle.std.proofs.Common.{◌≡◌, ℕ, ◌<◌, ◌∷◌, ◌++◌, List, [], true, nat_lt, Some, None, length, get_or, refl, sym, ap, subst, ◌∙◌, add-zero, rules}
+use Rattle.qs_played.proofs.Names.{set, HeldState, Ticket, Request}
+use Rattle.qs_core_laws.proofs.Names.{ClientCode, Batch, Parcel, Settlement, lane_room, MindState, mind_of, Act, get_or-any}
+use Rattle.qs_client.proofs.MindRefinement.{extend_none}
+use Rattle.qs_client.specs.audit.ClientModel.{ClientModel, act_due, mind_after_chunk, comes_to, count_syncs, finish, mind_after_object, hands_out, next_act, next_mind, settings_of, mind_after_begin, enters, fresh_mind, locals_at}
 use Rattle.qs_client.specs.ClientModel.{Asks, with_act_again}
-use Rattle.qs_client.specs.MindState.{MindState, mind_of}
-use Rattle.qs_client.specs.declared.rules.act.Act.{Act}
 use Rattle.qs_client.proofs.rules.CarriedValues.{acts_lose_nothing}
 use Rattle.qs_client.specs.declared.rules.act.Act.TheVariants as acts
-use Rattle.qs_played.proofs.Lists.{get_or-any}
 use Rattle.qs_core.specs.parts.CoreClients.{CoreClientState, IsCoreClient, LaneSteps, lane_step_of_client, turns_to, whole_of}
 use Rattle.qs_core.specs.parts.LaneStates.{LaneState, fresh_lane, lane_at, with_down, with_spare, with_up}
 
-extended_by_none : (ts : List (List Event)) (k : ℕ) → extend ts k [] ≡ ts
-extended_by_none ts k = ap (set ts k) (append-nil (get_or ts k [])) ∙ set-get_or ts k []
-
 -- a mind that has come to its next act stays there
 pub come_stays : (m : ClientModel) (r : Settlement) → finish (comes_to m r) ≡ comes_to m r
-come_stays m r = λ k. record {
-  code = m.code;
-  size = m.size;
-  ticket = m.ticket;
-  client = r.client;
-  entries = m.entries;
-  traces = extended_by_none (extend m.traces m.ticket.index r.events) m.ticket.index k;
-  syncs = add-zero m.syncs k;
-  counts = m.counts;
-  outgoing = (comes_to m r).outgoing;
-}
+come_stays m r = search (rules, extend_none, add-zero)
 
 -- with what the act carries it is as it was
 pub whole_again : (m : ClientModel) (r : Settlement) → with_act_again (hands_out (comes_to m r) (act_due (comes_to m r))) (act_due (comes_to m r)) ≡ comes_to m r
-whole_again m r = λ k. record {
-  code = m.code;
-  size = m.size;
-  ticket = m.ticket;
-  client = (acts_lose_nothing (settings_of m) (length m.code.blocks) r.client).whole k;
-  entries = m.entries;
-  traces = (comes_to m r).traces;
-  syncs = m.syncs;
-  counts = m.counts;
-  outgoing = (comes_to m r).outgoing;
-}
+whole_again m r = λ k. record (comes_to m r) { client = (acts_lose_nothing (settings_of m) (length m.code.blocks) r.client).whole k }
 
 -- a part with the next act of a mind that has come to it
 pub record IsFormedOf (n : ClientModel) (s : CoreClientState) : Type 0 where
@@ -64,13 +29,7 @@ module _ (m : ClientModel) (r : Settlement) (s : CoreClientState) (handed : mind
   whole_is = (λ k. with_act_again (handed k) (act k)) ∙ whole_again m r
 
   pub formed_of : IsFormedOf (comes_to m r) s
-  formed_of = record {
-    whole_is = whole_is;
-    formed = record {
-      act = act ∙ ap act_due (sym whole_is);
-      mind = handed ∙ (λ k. hands_out (sym whole_is k) (sym act k));
-    };
-  }
+  formed_of = search (rules, whole_is)
 
 -- where the mind that was asked last has come to its next act already
 pub formed_after : (m : ClientModel) (r : Settlement) (old : MindState) (s : CoreClientState) → mind_of old ≡ comes_to m r → s.act ≡ next_act (mind_of old) → mind_of s.mind ≡ next_mind (mind_of old) → IsFormedOf (comes_to m r) s
@@ -163,16 +122,7 @@ booked_formed s kept t u m is came act handed =
 
 -- an act that sends to one handler sends what it sends
 send_same : (a : Act) (h g : ℕ) (p q : Parcel) → a ≡ acts.Send h p → a ≡ acts.Send g q → a ≡ acts.Send h q
-send_same a h g p q one other =
-    let same : g ≡ h = ap handler_in (sym other ∙ one) in
-    other ∙ ap (λ n. acts.Send n q) same
-  where
-    handler_in : Act → ℕ
-    handler_in acts.Reserve = 0
-    handler_in (acts.Send n r) = n
-    handler_in (acts.Await n) = 0
-    handler_in (acts.NeedChunk n) = 0
-    handler_in acts.Finished = 0
+send_same a h g p q one other = search rules
 
 -- the same, as the code says it: `now` is the part, n the handler's number, and l its lane
 module _ (s now : CoreClientState) (kept : IsCoreClient s) (same : s ≡ now) (h n : ℕ) (number : n ≡ h) (there : h < length now.lanes) (l : LaneState) (l_is : l ≡ get_or s.lanes n l) where
@@ -190,42 +140,19 @@ module _ (s now : CoreClientState) (kept : IsCoreClient s) (same : s ≡ now) (h
 
   pub code_sent : (p q : Parcel) (g : ℕ) → now.act ≡ acts.Send h p → s.act ≡ acts.Send g q → nat_lt (length l.down) lane_room ≡ true → (t : CoreClientState) → t.act ≡ next_act (mind_of s.mind) → mind_of t.mind ≡ next_mind (mind_of s.mind)
       → (k : LaneState) → k ≡ with_down l (l.down ++ q ∷ []) → t.lanes ≡ set_to k → IsCoreClient t × LaneSteps now t
-  code_sent p q g asked is room t act handed k pushed lanes =
-      let sends : s.act ≡ acts.Send h q = send_same s.act h g p q (ap (λ (x : CoreClientState). x.act) same ∙ asked) is in (
-        (formed_done s.mind t act handed).formed,
-        subst (λ (x : CoreClientState). LaneSteps x t) same
-            (sent_steps s kept t h q sends (subst (λ (x : LaneState). nat_lt (length x.down) lane_room ≡ true) lane_is room) act handed
-            (lanes ∙ lanes_are k _ (pushed ∙ ap (λ (x : LaneState). with_down x (x.down ++ q ∷ [])) lane_is))),
-      )
+  code_sent p q g asked is room t act handed k pushed lanes = search (rules, send_same, formed_done, sent_steps, lane_is, lanes_are)
 
   pub code_got : (x : HeldState) (m : MindState) → now.act ≡ acts.Await h → l.up ≡ Some x → mind_of m ≡ mind_after_object (mind_of s.mind) x → (t : CoreClientState) → t.act ≡ next_act (mind_of m) → mind_of t.mind ≡ next_mind (mind_of m)
       → (k : LaneState) → k ≡ with_up l None → t.lanes ≡ set_to k → IsCoreClient t × LaneSteps now t
-  code_got x m asked lies came t act handed k taken lanes =
-      let waits : s.act ≡ acts.Await h = ap (λ (y : CoreClientState). y.act) same ∙ asked in
-      let own_is : mind_of s.mind ≡ whole_of s = mind_is s kept (acts.Await h) waits (same_handed s) in (
-        (formed_after (whole_of s) _ m t (came ∙ ap (λ (y : ClientModel). mind_after_object y x) own_is) act handed).formed,
-        subst (λ (y : CoreClientState). LaneSteps y t) same
-            (got_steps s kept t h x m waits (ap (λ (y : LaneState). y.up) (sym lane_is) ∙ lies) came act handed
-            (lanes ∙ lanes_are k _ (taken ∙ ap (λ (y : LaneState). with_up y None) lane_is))),
-      )
+  code_got x m asked lies came t act handed k taken lanes = search (rules, mind_is, same_handed, formed_after, got_steps, lane_is, lanes_are)
 
   pub code_chunk : (b : Batch Request) (m : MindState) → now.act ≡ acts.NeedChunk h → mind_of m ≡ mind_after_chunk (mind_of s.mind) h → (t : CoreClientState) → t.act ≡ next_act (mind_of m) → mind_of t.mind ≡ next_mind (mind_of m)
       → (k : LaneState) → l ≡ with_spare k (b ∷ k.spare) → t.lanes ≡ set_to k → IsCoreClient t × LaneSteps now t
-  code_chunk b m asked came t act handed k taken lanes =
-      let needs : s.act ≡ acts.NeedChunk h = ap (λ (y : CoreClientState). y.act) same ∙ asked in
-      let own_is : mind_of s.mind ≡ whole_of s = mind_is s kept (acts.NeedChunk h) needs (same_handed s) in
-      let rest : k ≡ with_spare (lane_at s.lanes h) k.spare = (λ i. with_spare (sym taken i) k.spare) ∙ ap (λ (y : LaneState). with_spare y k.spare) lane_is in (
-        (formed_after (whole_of s) _ m t (came ∙ ap (λ (y : ClientModel). mind_after_chunk y h) own_is) act handed).formed,
-        subst (λ (y : CoreClientState). LaneSteps y t) same
-            (chunk_steps s kept t h b k.spare m needs (ap (λ (y : LaneState). y.spare) (sym lane_is ∙ taken)) came act handed
-            (lanes ∙ lanes_are k _ rest)),
-      )
+  code_chunk b m asked came t act handed k taken lanes = search (rules, mind_is, same_handed, lane_is, formed_after, chunk_steps, lanes_are)
 
 -- what asks for a chunk asks for it in the mind
 pub asked_chunk : (s now : CoreClientState) → IsCoreClient s → s ≡ now → (h : ℕ) → now.act ≡ acts.NeedChunk h → Asks (mind_of s.mind) (acts.NeedChunk h)
-asked_chunk s now kept same h asked =
-    let needs : s.act ≡ acts.NeedChunk h = ap (λ (y : CoreClientState). y.act) same ∙ asked in
-    asks s kept (acts.NeedChunk h) needs (same_handed s) (asked_whole s kept (acts.NeedChunk h) needs)
+asked_chunk s now kept same h asked = search (rules, asks, same_handed, asked_whole)
 
 -- a client before its first block
 module _ (code : ClientCode) (size : ℕ) where
@@ -233,30 +160,10 @@ module _ (code : ClientCode) (size : ℕ) where
   first = fresh_mind code size
 
   first_stays : finish first ≡ first
-  first_stays = λ k. record {
-    code = code;
-    size = size;
-    ticket = first.ticket;
-    client = first.client;
-    entries = [];
-    traces = extended_by_none first.traces 0 k;
-    syncs = 0;
-    counts = fresh_rows (lists_of_code code.blocks);
-    outgoing = first.outgoing;
-  }
+  first_stays = λ k. record first { traces = extend_none first.traces 0 k }
 
   first_again : with_act_again (hands_out first (act_due first)) (act_due first) ≡ first
-  first_again = λ k. record {
-    code = code;
-    size = size;
-    ticket = first.ticket;
-    client = (acts_lose_nothing (settings_of first) (length code.blocks) first.client).whole k;
-    entries = [];
-    traces = first.traces;
-    syncs = 0;
-    counts = fresh_rows (lists_of_code code.blocks);
-    outgoing = first.outgoing;
-  }
+  first_again = λ k. record first { client = (acts_lose_nothing (settings_of first) (length code.blocks) first.client).whole k }
 
   module _ (old : MindState) (s : CoreClientState) (fresh : mind_of old ≡ first) (act : s.act ≡ next_act (mind_of old)) (handed : mind_of s.mind ≡ next_mind (mind_of old)) where
     stays : finish (mind_of old) ≡ first
@@ -273,13 +180,7 @@ module _ (code : ClientCode) (size : ℕ) where
     first_whole = (λ k. with_act_again (handed_is k) (act_is k)) ∙ first_again
 
     pub fresh_formed : IsFormedOf first s
-    fresh_formed = record {
-      whole_is = first_whole;
-      formed = record {
-        act = act_is ∙ ap act_due (sym first_whole);
-        mind = handed_is ∙ (λ k. hands_out (sym first_whole k) (sym act_is k));
-      };
-    }
+    fresh_formed = search (rules, whole_is, first_whole, act_is, handed_is)
 
 -- whatever lies in its lanes
 pub lanes_aside : (s : CoreClientState) → IsCoreClient s → (ls : List LaneState) → IsCoreClient (record { mind = s.mind; act = s.act; lanes = ls })

@@ -2,12 +2,9 @@
 -- `take_parcel` hands it on, and the mind asks for this. What is known speaks of the mind together with what its act
 -- carries; an act that takes a parcel carries nothing, so this is the mind itself, by cases on its state.
 use Rattle.std.proofs.Common.{◌≡◌, ℕ, true, refl, ap, ◌∙◌, subst, ◌∷◌, List}
-use Rattle.qs_objects.specs.audit.Journals.{HeldState}
-use Rattle.std.specs.Prelude.{IsTrue}
-use Rattle.qs_chunk.specs.Lanes.{may_stand}
-use Rattle.qs_chunk.specs.declared.parcel.Parcel.{Parcel}
+use Rattle.qs_played.proofs.Names.{HeldState, IsTrue}
+use Rattle.qs_core_laws.proofs.Names.{may_stand, Parcel, is_away, serving, with_act}
 use Rattle.qs_handler.specs.audit.Handler.{Handler, free, serves, spares, gives, away, closed, act_of}
-use Rattle.qs_handler.specs.Handler.{is_away, serving, with_act}
 use Rattle.qs_handler.specs.declared.mind.Act.{Act}
 use Rattle.qs_handler.specs.declared.mind.Act.TheVariants as acts
 use Rattle.qs_core.specs.parts.CoreHandlers.{CoreHandlerState, MayCome, takes_ticket}

@@ -1,9 +1,7 @@
 -- A chunk is turned round once as its requests are copied: what was copied lies behind what is left, and once all are
 -- copied it lies as it did. `requests_of` needs this, since a chunk gives its requests only one after another.
 use Rattle.std.proofs.Common.{◌≡◌, ◌<◌, List, [], ◌∷◌, ◌++◌, length, ap, sym, ◌∙◌, append_assoc, arith}
-use Rattle.std.proofs.lemmas.List.{append-nil, length-append}
-use Rattle.std.specs.Prelude.{Result, Ok, Err, IfOk, IsOk}
-use Rattle.qs_objects.specs.declared.Request.{Request}
+use Rattle.qs_played.proofs.Names.{append-nil, length-append, Result, Ok, Err, IfOk, IsOk, Request}
 
 abbrev pub IsTurned : (whole now copied left : List Request) → Type 0
 IsTurned whole now copied left = (now ≡ left ++ copied) × (whole ≡ copied ++ left)

@@ -1,23 +1,15 @@
 -- What is read off the code's lists of clients and handlers is what the optimised machine shows, and all of it is there
 -- to be read. The contract of `into_played` promises it. What is shown is compared part by part: a client or a handler
 -- of the program is in its list, and an object is where its handler's state says, by cases on that state.
-use Rattle.std.proofs.Common.{◌≡◌, ◌<◌, ℕ, zero, suc, ◌+◌, Bool, ◌&&◌, [], ◌∷◌, length, map, get_or, sum_by, nat_eq, Some, IsSome, refl, ap, sym, subst, ◌∙◌, arith}
-use Rattle.std.specs.List.{range_with_len}
-use Rattle.qs_objects.specs.audit.Journals.{HeldState}
-use Rattle.qs_objects.specs.declared.Request.{Request}
-use Rattle.qs_objects.proofs.Elements.{AllByRecursion-get_or}
-use Rattle.qs_program.specs.Sound.{IsSound}
-use Rattle.qs_chunk.specs.audit.Batch.{Batch}
-use Rattle.qs_handler.specs.audit.Handler.{Handler, free, serves, spares, gives, away, closed, act_of, is_free}
+use Rattle.std.proofs.Common.{◌≡◌, ◌<◌, ℕ, zero, suc, ◌+◌, Bool, ◌&&◌, [], ◌∷◌, length, map, sum_by, nat_eq, Some, IsSome, refl, ap, sym, subst, ◌∙◌, arith, rules}
+use Rattle.qs_played.proofs.Names.{range_with_len, HeldState, Request, AllByRecursion-get_or, IsSound, fresh_held}
+use Rattle.qs_core_laws.proofs.Names.{Batch, is_between, all_of, core_played, found_by, held_now, held_or_none, is_done, is_finished, is_idle}
+use Rattle.qs_handler.specs.audit.Handler.{Handler, free, act_of}
 use Rattle.qs_handler.specs.declared.mind.Act.{Act}
 use Rattle.qs_handler.specs.declared.mind.Act.TheVariants as acts
-use Rattle.qs_client.specs.audit.ClientModel.{is_between}
-use Rattle.qs_played.specs.audit.JournalRooms.{fresh_held}
-use Rattle.qs_core_laws.specs.CoreReached.{IsBegun, ReachedCore}
-use Rattle.qs_core_laws.specs.audit.CoreSchedule.{all_of, core_played, found_by, held_now, held_or_none, is_done, is_finished, is_idle}
-use Rattle.qs_core.specs.parts.CoreHandlers.{is_waiting, CoreHandlerState, handler_with_act, no_core_handler, core_handler_at, turns_to}
-use Rattle.qs_core.specs.parts.LaneStates.{lane_at}
-use Rattle.qs_core.specs.shown.CoreShown.{AreBegunBy, AreShowable, AreSomewhere, HaveLanes, TurnTo, are_clear, core_in, core_held_at, is_clear, is_through, core_object_at, object_with, shown_by}
+use Rattle.qs_core_laws.specs.CoreReached.{ReachedCore}
+use Rattle.qs_core.proofs.Names.{is_waiting, CoreHandlerState, handler_with_act, no_core_handler, core_handler_at, turns_to}
+use Rattle.qs_core.specs.shown.CoreShown.{AreBegunBy, AreShowable, AreSomewhere, HaveLanes, TurnTo, are_clear, core_in, core_held_at, is_through, core_object_at, object_with, shown_by}
 use Rattle.qs_core.specs.state.CoreState.{CoreKeeps, CoreState, IsCoreState, core_of, core_handler_of, client_part_at, tickets_at}
 use Rattle.qs_core.proofs.state.CoreLists.{map_here}
 
@@ -33,11 +25,7 @@ all_range f g a (suc n) same = λ k. same a (omega arith) k && all_range f g (a 
 -- a handler turns to a client for a parcel, or to give the object or a chunk
 turned_at : (n : ℕ) (act : Act) → ((c : ℕ) → act ≡ acts.TakeParcel c → c < n) → ((c : ℕ) (x : HeldState) → act ≡ acts.Give c x → c < n)
     → ((c : ℕ) (chunk : Batch Request) → act ≡ acts.Spare c chunk → c < n) → (c : ℕ) → turns_to act ≡ Some c → c < n
-turned_at n acts.TakeTicket parcel object chunk c e = cc
-turned_at n (acts.TakeParcel d) parcel object chunk c e = let is : d ≡ c = grind (arith, e) in subst (λ k. k < n) is (parcel d refl)
-turned_at n (acts.Give d x) parcel object chunk c e = let is : d ≡ c = grind (arith, e) in subst (λ k. k < n) is (object d x refl)
-turned_at n (acts.Spare d b) parcel object chunk c e = let is : d ≡ c = grind (arith, e) in subst (λ k. k < n) is (chunk d b refl)
-turned_at n acts.Closed parcel object chunk c e = cc
+turned_at n v parcel object chunk c e = grind arith
 
 module _ (s : CoreState) (h : ℕ) (inside : h < length s.handlers) where
   pub handler_is : core_handler_of s.program s.handlers h ≡ handler_with_act (core_handler_at s.handlers h)
@@ -48,12 +36,7 @@ module _ (s : CoreState) (h : ℕ) (inside : h < length s.handlers) where
 
   found_same : (x : Handler) → found_by (core_of s) h x ≡ found_by (core_in s.clients) h x
   unfolding core_of
-  found_same (free x) = refl
-  found_same (serves t x) = refl
-  found_same (spares t x n) = refl
-  found_same (gives t x) = refl
-  found_same (away t) = refl
-  found_same (closed x) = refl
+  found_same v = search rules
 
   object_is : found_by (core_of s) h ((core_of s).handler h) ≡ core_object_at s.clients s.handlers h
   unfolding core_of object_with
@@ -61,14 +44,11 @@ module _ (s : CoreState) (h : ℕ) (inside : h < length s.handlers) where
 
   idle_is : length s.program.clients ≡ length s.clients → is_idle s.program (core_of s) h ≡ (is_waiting (core_handler_at s.handlers h) && are_clear s.clients h)
   unfolding core_of
-  idle_is many =
-      λ k. is_free (handler_is k) && nat_eq (length (tickets_are k)) 0 && all_of (λ c. is_clear (lane_at (client_part_at s.clients c).lanes h)) (range_with_len 0 (many k))
+  idle_is many = search (rules, handler_is, tickets_are)
 
 begun_in : (s : CoreState) → IsCoreState s → CoreKeeps s → AreBegunBy s.clients s.order
 unfolding core_of ReachedCore
-begun_in s is keeps i d inside =
-    let begun = AllByRecursion-get_or (IsBegun s.program (core_of s)) s.order i d keeps.tickets.order inside in
-    (subst (λ n. (get_or s.order i d).client < n) (sym is.clients) begun.0, begun.1)
+begun_in s is keeps i d inside = search (rules, AllByRecursion-get_or)
 
 pub lanes_in : (s : CoreState) → IsCoreState s → HaveLanes s.clients s.handlers
 lanes_in s is h inside c here = let lanes = (is.sides c here).lanes in omega (arith, lanes, is.handlers, inside)
@@ -76,9 +56,7 @@ lanes_in s is h inside c here = let lanes = (is.sides c here).lanes in omega (ar
 -- the client of the lane that a handler turns to is one of the program
 pub turned_inside : (s : CoreState) → CoreKeeps s → (h c : ℕ) → turns_to (act_of ((core_of s).handler h)) ≡ Some c → c < length s.program.clients
 unfolding core_of ReachedCore
-turned_inside s keeps h c turned =
-    turned_at (length s.program.clients) (act_of (core_handler_of s.program s.handlers h)) (keeps.handlers.takes h) (keeps.handlers.gives h)
-    (λ d chunk e. (keeps.handlers.spares h d chunk e).0) c turned
+turned_inside s keeps h c turned = search (rules, turned_at)
 
 pub turns_in : (s : CoreState) → IsCoreState s → CoreKeeps s → TurnTo s.clients s.handlers
 unfolding core_of
@@ -91,14 +69,7 @@ somewhere_in s keeps h inside = subst IsSome (object_is s h inside) (keeps.found
 
 -- all that is shown can be read off
 pub showable : (s : CoreState) → IsCoreState s → CoreKeeps s → IsSound s.program → AreShowable s.order s.clients s.handlers
-showable s is keeps sound = record {
-  clients = omega (arith, is.clients, sound.clients);
-  handlers = omega (arith, is.handlers, sound.objects);
-  begun = begun_in s is keeps;
-  lanes = lanes_in s is;
-  turns = turns_in s is keeps;
-  somewhere = somewhere_in s keeps;
-}
+showable s is keeps sound = grind (arith, begun_in, lanes_in, turns_in, somewhere_in)
 
 done_is : (s : CoreState) → IsCoreState s → (c : ℕ) → c < length s.program.clients → is_done s.program (core_of s) c ≡ is_through (client_part_at s.clients c).mind
 unfolding core_of
@@ -106,13 +77,7 @@ done_is s is c inside = let m = (client_part_at s.clients c).mind in ap (λ n. i
 
 pub finished_is : (s : CoreState) → IsCoreState s → is_finished s.program (core_of s) ≡ (shown_by s.order s.clients s.handlers).finished
 unfolding shown_by
-finished_is s is =
-    let done = all_range (is_done s.program (core_of s)) (λ c. is_through (client_part_at s.clients c).mind) 0 (length s.program.clients) (λ c less. done_is s is c (omega (arith, less))) in
-    let idle = all_range (is_idle s.program (core_of s)) (λ h. is_waiting (core_handler_at s.handlers h) && are_clear s.clients h) 0 (length s.program.objects)
-    (λ h less. idle_is s h (omega (arith, less, is.handlers)) (sym is.clients)) in
-    (λ k. done k && idle k)
-    ∙ (λ k. all_of (λ c. is_through (client_part_at s.clients c).mind) (range_with_len 0 (sym is.clients k))
-    && all_of (λ h. is_waiting (core_handler_at s.handlers h) && are_clear s.clients h) (range_with_len 0 (sym is.handlers k)))
+finished_is s is = grind (arith, all_range, done_is, idle_is)
 
 held_is : (s : CoreState) → IsCoreState s → (h : ℕ) → h < length s.program.objects → held_now (core_of s) h ≡ core_held_at s.clients s.handlers h
 held_is s is h inside = ap held_or_none (object_is s h (omega (arith, inside, is.handlers)))
@@ -120,9 +85,7 @@ held_is s is h inside = ap held_or_none (object_is s h (omega (arith, inside, is
 -- a reading of each object
 of_objects : {A : Type 0} (f : HeldState → A) (s : CoreState) → IsCoreState s
     → map (λ h. f (held_now (core_of s) h)) (range_with_len 0 (length s.program.objects)) ≡ map (λ h. f (core_held_at s.clients s.handlers h)) (range_with_len 0 (length s.handlers))
-of_objects f s is =
-    map_range (λ h. f (held_now (core_of s) h)) (λ h. f (core_held_at s.clients s.handlers h)) 0 (length s.program.objects) (λ h less. ap f (held_is s is h (omega (arith, less))))
-    ∙ ap (λ n. map (λ h. f (core_held_at s.clients s.handlers h)) (range_with_len 0 n)) (sym is.handlers)
+of_objects f s is = grind (arith, map_range, held_is, map)
 
 -- what the machine shows is what is read off its lists
 pub shown_is : (s : CoreState) → IsCoreState s → core_played s.program (core_of s) ≡ shown_by s.order s.clients s.handlers

@@ -1,32 +1,21 @@
 -- An object is with its handler, or else where the client to which the handler turns has left it: in their lane or in
 -- the client's hands. The code's `object` looks for an object in this way; beside it stands that the Syncs of a client
 -- are few enough for `syncs_of` to add up. The proofs go by cases on the handler's state.
-use Rattle.std.proofs.Common.{◌≡◌, ◌<◌, ◌≤◌, ℕ, ◌+◌, Bool, true, false, ◌&&◌, List, [], ◌∷◌, ◌++◌, length, Some, None, refl, ap, sym, ◌∙◌, arith, add-one, zero-add}
-use Rattle.std.specs.List.{range_with_len}
-use Rattle.qs_objects.specs.audit.Journals.{HeldState}
+use Rattle.std.proofs.Common.{◌≡◌, ◌<◌, ◌≤◌, ℕ, ◌+◌, Bool, true, ◌&&◌, List, [], ◌∷◌, ◌++◌, length, Some, None, ap, sym, ◌∙◌, arith, add-one, zero-add, rules}
+use Rattle.qs_played.proofs.Names.{range_with_len, HeldState}
 use Rattle.qs_graph.specs.audit.Steps.{limit}
-use Rattle.qs_chunk.specs.audit.LaneParts.{away_at}
-use Rattle.qs_handler.specs.audit.Handler.{Handler, free, serves, spares, gives, away, closed, act_of}
-use Rattle.qs_handler.specs.Handler.{held_of}
-use Rattle.qs_client.proofs.run.CodeBounds.{few_blocks}
-use Rattle.qs_client.specs.MindState.{IsMind, mind_of}
-use Rattle.qs_played.proofs.Lists.{range_more}
-use Rattle.qs_core_laws.specs.audit.Core.{Core}
-use Rattle.qs_core_laws.specs.audit.CoreSchedule.{all_of, found_by}
+use Rattle.qs_core_laws.proofs.Names.{away_at, held_of, few_blocks, IsMind, mind_of, range_more, Core, all_of, found_by}
+use Rattle.qs_handler.specs.audit.Handler.{Handler, act_of}
 use Rattle.qs_core.specs.parts.CoreClients.{CoreClientState, IsCoreClient, whole_of}
-use Rattle.qs_core.specs.parts.CoreHandlers.{CoreHandlerState, IsCoreHandler, handler_with_act, turns_to}
-use Rattle.qs_core.specs.parts.LaneStates.{lane_at}
+use Rattle.qs_core.proofs.Names.{CoreHandlerState, IsCoreHandler, handler_with_act, turns_to, lane_at, client_part_at}
 use Rattle.qs_core.proofs.parts.CoreMinds.{whole_mind}
 use Rattle.qs_core.specs.shown.CoreShown.{TurnsTo, core_in, most_syncs, object_with}
-use Rattle.qs_core.specs.state.CoreState.{client_part_at}
 
 and_true : (b : Bool) → (b && true) ≡ b
-and_true true = refl
-and_true false = refl
+and_true v = search rules
 
 and_and : (a b c : Bool) → (a && (b && c)) ≡ ((a && b) && c)
-and_and true b c = refl
-and_and false b c = refl
+and_and v b c = search rules
 
 all_push : (is : ℕ → Bool) (ns : List ℕ) (n : ℕ) → all_of is (ns ++ n ∷ []) ≡ (all_of is ns && is n)
 all_push is [] n = and_true (is n)
@@ -42,37 +31,19 @@ all_more is n =
 -- at most 64 blocks, and in each at most as many Syncs as a walk has nodes
 pub few_syncs : (s : CoreClientState) → IsCoreClient s → IsMind (mind_of s.mind) → (whole_of s).syncs ≤ most_syncs
 unfolding limit
-few_syncs s kept ok =
-    let m = whole_mind s kept ok in
-    let few = few_blocks (whole_of s).code m.code in
-    omega (arith, m.syncs, m.blocks, few)
+few_syncs s kept ok = grind (arith, whole_mind, few_blocks)
 
 module _ (s : Core) (h : ℕ) where
   -- the handler has its object
   found_here : (x : Handler) (y : HeldState) → held_of x ≡ Some y → found_by s h x ≡ Some y
-  found_here (free x) y e = e
-  found_here (serves t x) y e = e
-  found_here (spares t x n) y e = e
-  found_here (gives t x) y e = e
-  found_here (away t) y e = cc
-  found_here (closed x) y e = e
+  found_here v y e = search rules
 
   -- it gave the object away to the client that it serves
   found_away : (x : Handler) (c : ℕ) → held_of x ≡ None → turns_to (act_of x) ≡ Some c → found_by s h x ≡ away_at (s.up c h) (s.down c h) ((s.client c).held h)
-  found_away (free x) c e turned = cc
-  found_away (serves t x) c e turned = cc
-  found_away (spares t x n) c e turned = cc
-  found_away (gives t x) c e turned = cc
-  found_away (away t) c e turned = let is : t.client ≡ c = grind (arith, turned) in λ k. away_at (s.up (is k) h) (s.down (is k) h) ((s.client (is k)).held h)
-  found_away (closed x) c e turned = cc
+  found_away v c e turned = grind arith
 
 never_lost : (x : Handler) → held_of x ≡ None → turns_to (act_of x) ≡ None → ⊥
-never_lost (free x) e turned = cc
-never_lost (serves t x) e turned = cc
-never_lost (spares t x n) e turned = cc
-never_lost (gives t x) e turned = cc
-never_lost (away t) e turned = cc
-never_lost (closed x) e turned = cc
+never_lost v e turned = search rules
 
 -- where the object of a handler of number h is
 module _ (cs : List CoreClientState) (h : ℕ) (s : CoreHandlerState) where

@@ -1,7 +1,7 @@
 -- A client or a handler whose number lies beyond the code's lists has no step in the optimised machine. The contract of
 -- `step` asks for this, since the code answers false for such an actor. The machine's invariant says that a client
 -- beyond the program has no step, and that a handler beyond it is idle and has no ticket.
-use Rattle.std.proofs.Common.{◌≡◌, ◌≤◌, ℕ, length, None, refl, sym, ap, subst, ◌∙◌, arith}
+use Rattle.std.proofs.Common.{◌≡◌, ◌≤◌, ℕ, length, None, sym, subst, arith}
 use Rattle.qs_played.specs.declared.schedule.actor.Actor.{Actor}
 use Rattle.qs_played.specs.declared.schedule.actor.Actor.TheVariants as actor
 use Rattle.qs_core_laws.specs.audit.Core.{core_step}
@@ -17,14 +17,8 @@ module _ (r s : CoreState) (view : r ≡ s) (kept : IsCoreState r) (keeps : Core
 
   pub absent_client : (c : ℕ) → a ≡ actor.Client c → length r.clients ≤ c → HasNone s
   unfolding ReachedCore
-  absent_client c is out =
-      let beyond : length r.program.clients ≤ c = omega (arith, out, kept.clients) in
-      subst HasNone view (ap (core_step (codes_of r) r.size (core_of r)) is ∙ keeps_here.others.steps c beyond)
+  absent_client c is out = grind (arith, kept)
 
   pub absent_handler : (h : ℕ) → a ≡ actor.Handler h → length r.handlers ≤ h → HasNone s
   unfolding ReachedCore
-  absent_handler h is out =
-      let beyond : length r.program.objects ≤ h = omega (arith, out, kept.handlers) in
-      let idle = keeps_here.others.handler h beyond in
-      let empty = keeps_here.others.tickets h beyond in
-      subst HasNone view (ap (core_step (codes_of r) r.size (core_of r)) is ∙ (rw idle (rw empty refl)))
+  absent_handler h is out = grind (arith, kept)

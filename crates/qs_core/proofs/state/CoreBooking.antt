@@ -2,43 +2,21 @@
 -- after that step, and what the code keeps still holds. The code's calls that reserve a block and take a ticket promise
 -- this. The step is known for functions of numbers, and the changed lists are read as these functions; there is room,
 -- as no order has more tickets than the program has blocks.
-use Rattle.std.proofs.Common.{◌≡◌, ◌<◌, ◌≤◌, ℕ, ◌+◌, ◌==◌, ◌||◌, Bool, true, false, nat_lt, if◌then◌else◌, List, [], ◌∷◌, ◌++◌, length, filter, get_or, Option, Some, None, refl, sym, ap, subst, ◌∙◌, arith}
-use Rattle.std.specs.List.{AllByRecursion}
-use Rattle.std.proofs.Math.ListN.{set}
-use Rattle.std.proofs.Math.Path.{fun_ext}
-use Rattle.std.proofs.lemmas.List.{length-append, length-set}
-use Rattle.qs_objects.specs.audit.Journals.{HeldState}
-use Rattle.qs_objects.specs.declared.held.Ticket.{Ticket}
-use Rattle.qs_objects.specs.declared.Request.{Request}
+use Rattle.std.proofs.Common.{◌≡◌, ◌<◌, ◌≤◌, ℕ, ◌+◌, ◌==◌, ◌||◌, Bool, true, nat_lt, if◌then◌else◌, List, [], ◌∷◌, ◌++◌, length, filter, get_or, Option, Some, None, refl, sym, ap, subst, ◌∙◌, arith, rules}
+use Rattle.qs_played.proofs.Names.{AllByRecursion, set, fun_ext, length-append, length-set, HeldState, Ticket, Request, AllByRecursion-get_or, block_at, blocks_of, put, is_in, IsSound, IsSoundBlock, Locals, sound_block, ticket}
+use Rattle.qs_played.specs.declared.schedule.actor.Actor.{Actor}
 use Rattle.qs_objects.specs.declared.held.Next.TheVariants as nexts
-use Rattle.qs_objects.proofs.Elements.{AllByRecursion-get_or}
-use Rattle.qs_program.specs.audit.Program.{block_at, blocks_of}
-use Rattle.qs_meaning.specs.audit.Solo.{put}
-use Rattle.qs_program.specs.audit.Sound.{is_in}
-use Rattle.qs_program.specs.Sound.{IsSound, IsSoundBlock}
-use Rattle.qs_program.specs.audit.Values.{Locals}
-use Rattle.qs_program.proofs.Bounds.{sound_block}
-use Rattle.qs_graph.specs.audit.Synced.{Done, Call, Sync, Query}
-use Rattle.qs_syncset.specs.audit.Codes.{ClientCode, IsCodeOf, code_at, AreCodes}
+use Rattle.qs_graph.specs.audit.Synced.{Call, Sync}
+use Rattle.qs_core_laws.proofs.Names.{ClientCode, IsCodeOf, code_at, AreCodes, serving, acts_lose_nothing, ClientStage, act_at, between, runs, full, leaves, call_act, clear, IsMind, mind_of, Act, Core, core_step, before_it}
 use Rattle.qs_chunk.specs.declared.parcel.Parcel.TheVariants as parcels
 use Rattle.qs_handler.specs.audit.Handler.{Handler, act_of, accept_next}
-use Rattle.qs_handler.specs.Handler.{serving}
-use Rattle.qs_handler.proofs.HandlerActs.{acts_lose_nothing}
 use Rattle.qs_handler.specs.declared.mind.Act.TheVariants as acts
-use Rattle.qs_client.specs.audit.rules.Client.{ClientStage, act_at, between, runs, full, awaits, leaves, call_act, clear}
 use Rattle.qs_client.specs.audit.ClientModel.{ClientModel, act_due, mind_after_begin, mind_after_begin_with, locals_at, settings_of}
-use Rattle.qs_client.specs.MindState.{IsMind, mind_of}
-use Rattle.qs_client.specs.declared.rules.act.Act.{Act}
 use Rattle.qs_client.specs.declared.rules.act.Act.TheVariants as wants
-use Rattle.qs_played.specs.audit.Played.{ticket}
-use Rattle.qs_played.specs.declared.schedule.actor.Actor.{Actor}
 use Rattle.qs_played.specs.declared.schedule.actor.Actor.TheVariants as actor
-use Rattle.qs_core_laws.specs.audit.Core.{Core, core_step}
 use Rattle.qs_core_laws.specs.CoreReached.{CoreStands, IsBegun, ReachedCore}
-use Rattle.qs_core_laws.specs.CoreSchedule.{before_it}
 use Rattle.qs_core.specs.parts.CoreClients.{AreStocked, CoreClientState, IsCoreClient, whole_of}
-use Rattle.qs_core.specs.parts.CoreHandlers.{CanEnterAll, CoreHandlerState, IsCoreHandler, TakesTicket, with_ticket_at_all, handler_with_act, no_core_handler, core_handler_at}
-use Rattle.qs_core.specs.parts.LaneStates.{IsStocked}
+use Rattle.qs_core.proofs.Names.{CanEnterAll, CoreHandlerState, IsCoreHandler, TakesTicket, with_ticket_at_all, handler_with_act, no_core_handler, core_handler_at}
 use Rattle.qs_core.proofs.parts.CoreMinds.{whole_mind}
 use Rattle.qs_core.proofs.parts.ClientModels.{IsFormedOf}
 use Rattle.qs_core.specs.state.CoreState.{CoreKeeps, CoreState, CoreSteps, IsCoreState, IsSide, ClientPart, all_blocks, codes_of, core_from, core_of, core_handler_of, client_part_at, client_part, tickets_at}
@@ -58,44 +36,35 @@ members (x ∷ rs) P each = (each x self, members rs P (λ h m. each h (by_test 
     self = let same : (x == x) ≡ true = grind arith in rw same refl
 
     by_test : (h : ℕ) (b : Bool) → is_in rs h ≡ true → (b || is_in rs h) ≡ true
-    by_test h true m = refl
-    by_test h false m = m
+    by_test h v m = search rules
 
 member_of : (rs : List ℕ) (h : ℕ) {n : ℕ} → is_in rs h ≡ true → AllByRecursion (λ k. k < n) rs → h < n
 member_of [] h member all = cc
 member_of (x ∷ rs) h {n} member all = by_test (x == h) refl member (λ m. member_of rs h m all.1)
   where
     by_test : (b : Bool) → (x == h) ≡ b → (b || is_in rs h) ≡ true → (is_in rs h ≡ true → h < n) → h < n
-    by_test true e m later = let same : x ≡ h = grind (arith, e) in subst (λ k. k < n) same all.0
-    by_test false e m later = later m
+    by_test v e m later = grind arith
 
 -- a client that wants to reserve stands between blocks, with one to come
 pub reserving_at : (n : ClientModel) → act_due n ≡ wants.Reserve → (l : Locals) × (n.client.stage ≡ between l) × (n.client.begun < length n.code.blocks)
 reserving_at n asked = by_place n.client.stage refl asked
   where
     not_cleared : (h : ℕ) (x : Option HeldState) (k : Option (List Request)) (other : Act) → (other ≡ wants.Reserve → ⊥) → clear (settings_of n) h x k other ≡ wants.Reserve → ⊥
-    not_cleared h (Some x) k other differs is = cc
-    not_cleared h None (Some rs) other differs is = cc
-    not_cleared h None None other differs is = differs is
+    not_cleared h v k other differs is = search rules
 
     by_place : (p : ClientStage) → n.client.stage ≡ p → act_at (settings_of n) (length n.code.blocks) n.client p ≡ wants.Reserve → (l : Locals) × (n.client.stage ≡ between l) × (n.client.begun < length n.code.blocks)
     by_place (between l) e a = by_count (nat_lt n.client.begun (length n.code.blocks)) refl a
       where
         by_count : (b : Bool) → nat_lt n.client.begun (length n.code.blocks) ≡ b → (if b then wants.Reserve else wants.Finished) ≡ wants.Reserve → (l : Locals) × (n.client.stage ≡ between l) × (n.client.begun < length n.code.blocks)
-        by_count true less is = (l, e, grind (arith, less))
-        by_count false less is = cc
-    by_place (runs (Done l)) e a = cc
+        by_count v less is = grind arith
     by_place (runs (Call r next)) e a = by_hands (n.client.held r.object) (n.client.chunk r.object) a
       where
         by_hands : (x : Option HeldState) (k : Option (List Request)) → call_act (settings_of n) r.object x k ≡ wants.Reserve → (l : Locals) × (n.client.stage ≡ between l) × (n.client.begun < length n.code.blocks)
-        by_hands (Some x) k is = cc
-        by_hands None None is = cc
-        by_hands None (Some rs) is = cc
+        by_hands v k is = search rules
     by_place (runs (Sync h next)) e a = absurd (not_cleared h (n.client.held h) (n.client.chunk h) (wants.Send h parcels.Sync) (λ is. cc) a)
-    by_place (runs (Query r next)) e a = cc
     by_place (full h rest) e a = absurd (not_cleared h None (n.client.chunk h) wants.Finished (λ is. cc) a)
-    by_place (awaits h rest) e a = cc
     by_place (leaves h hs l) e a = absurd (not_cleared h (n.client.held h) (n.client.chunk h) (wants.Send h parcels.End) (λ is. cc) a)
+    by_place _ e a = cc
 
 module _ (s : CoreState) (kept : IsCoreState s) (sound : IsSound s.program) (keeps : CoreKeeps s)
     (keeps_on : (a : Actor) (x : Core) → core_step (codes_of s) s.size (core_of s) a ≡ Some x → ReachedCore s.program (codes_of s) s.size x)
@@ -258,11 +227,7 @@ module _ (s : CoreState) (kept : IsCoreState s) (sound : IsSound s.program) (kee
     is_side = subst (IsSide s.program s.size c) here (kept.sides c inside)
 
     new_side : IsSide s.program s.size c (client_part new)
-    new_side = record {
-      lanes = ap length lanes_stay ∙ is_side.lanes;
-      size = ap (λ (m : ClientModel). m.size) new_is ∙ is_side.size;
-      owner = λ less. ap (λ (m : ClientModel). m.ticket.client) new_is;
-    }
+    new_side = search (rules, new_is)
 
     pub reserve_kept : IsCoreState booked_after
     reserve_kept = record {
@@ -270,9 +235,7 @@ module _ (s : CoreState) (kept : IsCoreState s) (sound : IsSound s.program) (kee
       handlers = length_entered now s.handlers list ∙ kept.handlers;
       sides = λ n less. subst (IsSide s.program s.size n) (λ i. sym (side_put s.clients c new inside) i n)
           (all_put (IsSide s.program s.size) (length s.clients) (client_part_at s.clients) c (client_part new) new_side kept.sides n (subst (λ m. n < m) (length-set s.clients c new) less));
-      stocked = all_set AreStocked s.clients c new
-          (subst (λ (m : ClientModel). AllByRecursion (IsStocked m.size) new.lanes) (sym new_is) (subst (AllByRecursion (IsStocked own.size)) (sym lanes_stay) stocked))
-          kept.stocked;
+      stocked = search (rules, all_set, new_is, kept);
       rooms = rooms_entered now (all_blocks s.program) s.handlers list handlers_exist kept.rooms;
       mode = kept.mode;
       codes = subst (AreCodes s.program kept.mode) (sym codes_then) kept.codes;
@@ -314,12 +277,4 @@ module _ (s : CoreState) (kept : IsCoreState s) (h : ℕ) (inside : h < length s
         tickets_then = ap (put (tickets_at s.handlers) h) (sym (ap (λ (x : CoreHandlerState). x.tickets) takes.5)) ∙ sym (tickets_put_at s.handlers h new inside)
 
     pub ticket_kept : IsCoreState taken_after
-    ticket_kept = record {
-      clients = kept.clients;
-      handlers = length-set s.handlers h new ∙ kept.handlers;
-      sides = kept.sides;
-      stocked = kept.stocked;
-      rooms = all_set (λ (x : CoreHandlerState). all_blocks s.program ≤ x.room) s.handlers h new (subst (λ (x : CoreHandlerState). all_blocks s.program ≤ x.room) (sym takes.5) roomy) kept.rooms;
-      mode = kept.mode;
-      codes = kept.codes;
-    }
+    ticket_kept = search (rules, kept, length-set, all_set, takes)

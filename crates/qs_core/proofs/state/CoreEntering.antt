@@ -4,17 +4,9 @@
 -- sum over the clients.
 use Rattle.std.proofs.Common.{◌≡◌, ◌<◌, ◌≤◌, ℕ, zero, suc, ◌+◌, ◌==◌, ◌||◌, Bool, true, false, nat_lt, if◌then◌else◌, List, [], ◌∷◌, ◌++◌, length, filter, sum_by, refl, sym, ap, subst, ◌∙◌, arith}
 use Rattle.std.specs.List.{AllByRecursion, IsDistinct, range_with_len}
-use Rattle.std.proofs.lemmas.List.{length-set, get_or-set_other}
-use Rattle.std.proofs.lemmas.Map.Keys.{IsDistinct-head, IsDistinct-tail}
-use Rattle.qs_objects.specs.declared.held.Ticket.{Ticket}
-use Rattle.qs_objects.proofs.Elements.{AllByRecursion-get_or}
-use Rattle.qs_program.specs.audit.Program.{ProgramShape}
-use Rattle.qs_meaning.specs.audit.Solo.{put}
-use Rattle.qs_program.specs.audit.Sound.{is_in}
-use Rattle.qs_client.proofs.rules.Puts.{put_same}
+use Rattle.qs_played.proofs.Names.{length-set, get_or-set_other, IsDistinct-head, IsDistinct-tail, Ticket, AllByRecursion-get_or, ProgramShape, put, is_in}
+use Rattle.qs_core.proofs.Names.{put_same, CanEnterAll, CoreHandlerState, with_ticket, with_ticket_at_all, with_ticket_at, handler_with_act, no_core_handler, core_handler_at, core_handler_of, tickets_at}
 use Rattle.qs_played.proofs.Lists.{sum_by-range_more}
-use Rattle.qs_core.specs.parts.CoreHandlers.{CanEnterAll, CoreHandlerState, with_ticket, with_ticket_at_all, with_ticket_at, handler_with_act, no_core_handler, core_handler_at}
-use Rattle.qs_core.specs.state.CoreState.{core_handler_of, tickets_at}
 use Rattle.qs_core.proofs.state.CoreLists.{all_set, handler_put, map_here, tickets_put_at}
 
 module _ (t : Ticket) where
@@ -51,8 +43,7 @@ module _ (t : Ticket) where
       by_test : (b : Bool) → (h == n) ≡ b
           → (if is_in rest n then (if b then tickets_at hs h ++ t ∷ [] else tickets_at hs n) ++ t ∷ [] else (if b then tickets_at hs h ++ t ∷ [] else tickets_at hs n))
           ≡ (if b || is_in rest n then tickets_at hs n ++ t ∷ [] else tickets_at hs n)
-      by_test true e = let same : h ≡ n = grind (arith, e) in rw (not_in rest h n e (IsDistinct-head ◌==◌ h rest distinct)) (ap (λ m. tickets_at hs m ++ t ∷ []) same)
-      by_test false e = refl
+      by_test v e = grind (arith, not_in, IsDistinct-head)
 
   abbrev CanEnter : List CoreHandlerState → ℕ → Type 0
   CanEnter hs h = (h < length hs) × (length (core_handler_at hs h).tickets < (core_handler_at hs h).room)
@@ -83,13 +74,7 @@ of_client n order = length (filter (λ (t : Ticket). t.client == n) order)
 
 one_more : (n : ℕ) (order : List Ticket) → below (n + 1) order ≡ below n order + of_client n order
 one_more n [] = refl
-one_more n (t ∷ order) = by_test (nat_lt t.client n) (t.client == n) refl refl (one_more n order)
-  where
-    by_test : (a b : Bool) → nat_lt t.client n ≡ a → (t.client == n) ≡ b → below (n + 1) order ≡ below n order + of_client n order → below (n + 1) (t ∷ order) ≡ below n (t ∷ order) + of_client n (t ∷ order)
-    by_test true true e f m = let bad : ⊥ = grind (arith, e, f) in absurd bad
-    by_test true false e f m = let g : nat_lt t.client (n + 1) ≡ true = grind (arith, e) in rw g (rw e (rw f (omega (arith, m))))
-    by_test false true e f m = let g : nat_lt t.client (n + 1) ≡ true = grind (arith, f) in rw g (rw e (rw f (omega (arith, m))))
-    by_test false false e f m = let g : nat_lt t.client (n + 1) ≡ false = grind (arith, e, f) in rw g (rw e (rw f m))
+one_more n (t ∷ order) = grind (arith, below, one_more n order)
 
 none_below : (order : List Ticket) → below 0 order ≡ 0
 none_below [] = refl

@@ -1,16 +1,11 @@
 -- Where one client changes at one of its lanes, each field of the optimised machine, as a function of numbers, changes
 -- at that place alone, or not at all. The lemmas that show a client's or a handler's step field by field use this for
 -- each field. Two functions are compared at each number, by whether it is the one that was changed.
-use Rattle.std.proofs.Common.{◌≡◌, ◌<◌, ℕ, Bool, true, false, if◌then◌else◌, ◌==◌, ◌&&◌, List, length, refl, sym, ap, subst, ◌∙◌, arith}
-use Rattle.std.proofs.Math.ListN.{set}
-use Rattle.std.proofs.Math.Path.{fun_ext}
-use Rattle.qs_objects.specs.declared.held.Ticket.{Ticket}
-use Rattle.qs_meaning.specs.audit.Solo.{put}
+use Rattle.std.proofs.Common.{◌≡◌, ◌<◌, ℕ, Bool, if◌then◌else◌, ◌==◌, ◌&&◌, List, length, refl, sym, ap, ◌∙◌, arith, rules}
+use Rattle.qs_played.proofs.Names.{set, fun_ext, Ticket, put, ticket}
 use Rattle.qs_client.proofs.rules.Puts.{put_field, put_same, put_set_at}
-use Rattle.qs_played.specs.audit.Played.{ticket}
 use Rattle.qs_core_laws.specs.audit.Core.{put_lane, put_ticket}
-use Rattle.qs_core.specs.parts.LaneStates.{LaneState, fresh_lane, lane_at}
-use Rattle.qs_core.specs.state.CoreState.{ClientPart}
+use Rattle.qs_core.proofs.Names.{LaneState, fresh_lane, lane_at, ClientPart}
 
 -- a field at each place
 abbrev pub each : {A B : Type 0} → (A → B) → (ℕ → A) → ℕ → B
@@ -40,13 +35,10 @@ in_lanes f sides c h = f (lane_at (sides c).lanes h)
 
 module _ {B : Type 0} (f : LaneState → B) (sides : ℕ → ClientPart) (c : ℕ) (v : ClientPart) (h : ℕ) (l : LaneState) (inside : h < length (sides c).lanes) (changed : v.lanes ≡ set (sides c).lanes h l) where
   pub lanes_put : in_lanes f (put sides c v) ≡ put_lane (in_lanes f sides) c h (f l)
-  lanes_put =
-      field_put (λ (s : ClientPart). in_lane f s.lanes) sides c v
-      ∙ ap (put (in_lanes f sides) c) (ap (in_lane f) changed ∙ lane_put f (sides c).lanes h l inside)
+  lanes_put = search (rules, field_put, lane_put)
 
   pub lanes_kept : f l ≡ f (lane_at (sides c).lanes h) → in_lanes f (put sides c v) ≡ in_lanes f sides
-  lanes_kept is =
-      field_kept (λ (s : ClientPart). in_lane f s.lanes) sides c v (ap (in_lane f) changed ∙ lane_kept f (sides c).lanes h l inside is)
+  lanes_kept is = search (rules, field_kept, lane_kept)
 
 -- a client whose lanes stay
 pub lanes_stay : {B : Type 0} (f : LaneState → B) (sides : ℕ → ClientPart) (c : ℕ) (v : ClientPart) → v.lanes ≡ (sides c).lanes → in_lanes f (put sides c v) ≡ in_lanes f sides
@@ -67,5 +59,4 @@ tickets_put {B = B} f sides c k v b is =
   where
     at_ticket : (t : Ticket) (x : Bool) → (c == t.client) ≡ x
         → (if x then put (f (sides c)) k b else f (sides t.client)) t.index ≡ (if x && (k == t.index) then b else f (sides t.client) t.index)
-    at_ticket t true e = let here : c ≡ t.client = grind (arith, e) in subst (λ n. put (f (sides c)) k b t.index ≡ (if k == t.index then b else f (sides n) t.index)) here refl
-    at_ticket t false e = refl
+    at_ticket t v e = grind arith

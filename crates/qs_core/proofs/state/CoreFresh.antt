@@ -1,26 +1,12 @@
 -- The lists that `new` builds are the optimised machine before its first step, and all that the code keeps holds of
 -- them. The contract of `new` promises both. The machine's fields are compared at each number: within the lists every
 -- client and every handler is a fresh one, and beyond them nobody has begun anything.
-use Rattle.std.proofs.Common.{◌≡◌, ◌<◌, ◌≤◌, ℕ, zero, suc, ◌+◌, Bool, true, false, nat_lt, List, [], ◌∷◌, map, length, replicate, get_or, sum_by, refl, sym, ap, subst, ◌∙◌, arith, ◌⊎◌, inl, inr, None}
-use Rattle.std.specs.List.{AllByRecursion, range_with_len}
-use Rattle.std.proofs.Math.Path.{fun_ext}
-use Rattle.std.proofs.lemmas.List.{length-map}
-use Rattle.std.proofs.lemmas.List.Sums.{sum_by-cons}
-use Rattle.qs_objects.specs.declared.held.Event.{Event}
-use Rattle.qs_objects.specs.declared.held.Ticket.{Ticket}
-use Rattle.qs_program.specs.audit.Program.{ClientShape, ProgramShape, blocks_of, no_client, text_of}
-use Rattle.qs_program.specs.Sound.{IsSound}
-use Rattle.qs_syncset.specs.declared.mode.Mode.{Mode}
-use Rattle.qs_syncset.specs.audit.Codes.{BlockCode, ClientCode, IsCodeOf, code_at, no_code, AreCodes}
-use Rattle.qs_sync_counts.specs.audit.SyncRows.{fresh_rows, no_syncs}
-use Rattle.qs_handler.specs.audit.Handler.{free}
-use Rattle.qs_client.specs.audit.ClientModel.{ClientModel, fresh_mind, lists_of_code}
-use Rattle.qs_played.specs.audit.JournalRooms.{fresh_held}
-use Rattle.qs_core_laws.specs.audit.Core.{core_begin}
+use Rattle.std.proofs.Common.{◌≡◌, ◌<◌, ◌≤◌, ℕ, zero, suc, ◌+◌, Bool, true, false, nat_lt, List, [], ◌∷◌, map, length, replicate, get_or, sum_by, refl, sym, ap, subst, ◌∙◌, arith, ◌⊎◌, inl, inr, None, rules}
+use Rattle.qs_played.proofs.Names.{AllByRecursion, range_with_len, fun_ext, length-map, sum_by-cons, Event, Ticket, ClientShape, ProgramShape, blocks_of, no_client, text_of, IsSound, fresh_rows, no_syncs, fresh_held}
+use Rattle.qs_core_laws.proofs.Names.{Mode, BlockCode, ClientCode, IsCodeOf, code_at, no_code, AreCodes, free, ClientModel, fresh_mind, lists_of_code, core_begin}
 use Rattle.qs_core_laws.proofs.protocol.ProgramTrees.{reserved_is}
 use Rattle.qs_core.specs.parts.CoreClients.{AreStocked, CoreClientState, whole_of}
-use Rattle.qs_core.specs.parts.CoreHandlers.{CoreHandlerState, handler_with_act, no_core_handler}
-use Rattle.qs_core.specs.parts.LaneStates.{IsStocked, LaneState, fresh_lane, lane_at}
+use Rattle.qs_core.proofs.Names.{CoreHandlerState, handler_with_act, no_core_handler, IsStocked, LaneState, fresh_lane, lane_at}
 use Rattle.qs_core.specs.state.CoreState.{AreFreshClients, AreFreshHandlers, CoreState, IsCoreState, IsSide, ClientPart, all_blocks, codes_of, core_of, core_handler_of, no_client_part, client_part_at, client_part, tickets_at}
 use Rattle.qs_core.proofs.state.CoreLists.{map_here}
 
@@ -40,15 +26,13 @@ abbrev no_events : List Event
 no_events = []
 
 none_at : (n k : ℕ) → get_or (replicate n no_events) k [] ≡ []
-none_at zero k = refl
-none_at (suc n) zero = refl
 none_at (suc n) (suc k) = none_at n k
+none_at _ _ = refl
 
 -- no Sync of a block is counted before the first
 none_counted : (blocks : List BlockCode) (k : ℕ) → get_or (fresh_rows (lists_of_code blocks)) k [] ≡ no_syncs (get_or blocks k no_code).reserved
-none_counted [] k = refl
-none_counted (b ∷ blocks) zero = refl
 none_counted (b ∷ blocks) (suc k) = none_counted blocks k
+none_counted _ _ = refl
 
 -- any lane of a client that has begun nothing
 lane_fresh : (size n h : ℕ) → (lane_at (replicate n (fresh_lane size)) h ≡ fresh_lane size) ⊎ (lane_at (replicate n (fresh_lane size)) h ≡ fresh_lane 0)
@@ -58,10 +42,7 @@ lane_fresh size (suc n) (suc h) = lane_fresh size n h
 
 -- a field that is the same in all fresh lanes
 lane_field : {A : Type 0} (f : LaneState → A) (a : A) → ((size : ℕ) → f (fresh_lane size) ≡ a) → (size n h : ℕ) → f (lane_at (replicate n (fresh_lane size)) h) ≡ a
-lane_field f a each size n h = elim (lane_fresh size n h) [
-  | inl is ↦ ap f is ∙ each size
-  | inr is ↦ ap f is ∙ each 0
-]
+lane_field f a each size n h = search (rules, lane_fresh)
 
 -- the member at a place
 pick : {A : Type 0} (xs : List A) (i : ℕ) → i < length xs → A
@@ -191,9 +172,7 @@ module _ (p : ProgramShape) (mode : Mode) (chunk room : ℕ) (cs : List CoreClie
     stocked = each_of AreStocked cs (λ d c less.
         let f = clients.each c d (omega (arith, less, clients.many)) in
         subst (λ n. AllByRecursion (IsStocked n) (get_or cs c d).lanes) (sym (ap (λ (m : ClientModel). m.size) f.mind)) (subst (AllByRecursion (IsStocked chunk)) (sym f.lanes) (replicate_stocked chunk (length p.objects))));
-    rooms = each_of (λ (x : CoreHandlerState). all_blocks p ≤ x.room) hs (λ d h less.
-        let is = handlers.each h d (omega (arith, less, handlers.many)) in
-        let rooms_is : (get_or hs h d).room ≡ room = ap (λ (x : CoreHandlerState). x.room) is in omega (arith, rooms_is, enough));
+    rooms = grind (arith, each_of, handlers);
     mode = mode;
     codes = codes_are;
   }

@@ -2,18 +2,9 @@
 -- number. The code replaces one client or one handler in a step, while the machine is defined by functions, so all
 -- lemmas that lead from one to the other use this. The proofs go by induction on the list.
 use Rattle.std.proofs.Common.{◌≡◌, ◌<◌, ℕ, zero, suc, Bool, true, false, ◌==◌, if◌then◌else◌, List, [], ◌∷◌, length, map, get_or, refl, sym, ap, subst, ◌∙◌, arith}
-use Rattle.std.specs.List.{AllByRecursion}
-use Rattle.std.proofs.Math.ListN.{set}
-use Rattle.std.proofs.Math.Path.{fun_ext}
-use Rattle.std.proofs.lemmas.List.{length-map, map-set, get_or-set_same, get_or-set_other}
-use Rattle.qs_program.specs.audit.Program.{ProgramShape}
-use Rattle.qs_meaning.specs.audit.Solo.{put}
+use Rattle.qs_played.proofs.Names.{AllByRecursion, set, fun_ext, length-map, map-set, get_or-set_same, get_or-set_other, ProgramShape, put, fresh_held}
 use Rattle.qs_handler.specs.audit.Handler.{Handler, free}
-use Rattle.qs_client.proofs.rules.Puts.{put_same, put_set_at}
-use Rattle.qs_played.specs.audit.JournalRooms.{fresh_held}
-use Rattle.qs_core.specs.parts.CoreClients.{CoreClientState}
-use Rattle.qs_core.specs.parts.CoreHandlers.{CoreHandlerState, handler_with_act}
-use Rattle.qs_core.specs.state.CoreState.{core_handler_of, no_client_part, client_part_at, client_part, tickets_at}
+use Rattle.qs_core.proofs.Names.{put_same, put_set_at, CoreClientState, CoreHandlerState, handler_with_act, core_handler_of, no_client_part, client_part_at, client_part, tickets_at}
 
 -- a list of what its members show, changed at one place
 pub map_put : {A B : Type 0} (f : A → B) (xs : List A) (n : ℕ) (x : A) (d : B) → n < length xs → (m : ℕ) → get_or (map f (set xs n x)) m d ≡ put (λ k. get_or (map f xs) k d) n (f x) m

@@ -2,30 +2,15 @@
 -- and what the code keeps still holds; where the lane allows no step, the machine has none. The code's calls that make
 -- these steps promise it. The step is known for functions of numbers, and the lists with one member replaced are read
 -- as these functions.
-use Rattle.std.proofs.Common.{◌≡◌, ◌<◌, ◌≤◌, ℕ, ◌-◌, ◌==◌, Bool, true, false, if◌then◌else◌, List, [], length, Option, Some, None, refl, sym, ap, subst, ◌∙◌, arith}
-use Rattle.std.specs.List.{AllByRecursion}
-use Rattle.std.proofs.Math.ListN.{set}
-use Rattle.std.proofs.lemmas.List.{length-set}
-use Rattle.qs_objects.specs.declared.held.Ticket.{Ticket}
-use Rattle.qs_objects.specs.declared.Request.{Request}
-use Rattle.qs_objects.proofs.Elements.{AllByRecursion-get_or}
-use Rattle.qs_meaning.specs.audit.Solo.{put}
-use Rattle.qs_chunk.specs.audit.Batch.{Batch, batch}
+use Rattle.std.proofs.Common.{◌≡◌, ◌<◌, ◌≤◌, ℕ, ◌-◌, ◌==◌, Bool, true, false, if◌then◌else◌, List, [], length, Option, Some, None, refl, sym, ap, subst, ◌∙◌, arith, rules}
+use Rattle.qs_played.proofs.Names.{AllByRecursion, set, length-set, Ticket, Request, AllByRecursion-get_or, put, ticket}
+use Rattle.qs_core_laws.proofs.Names.{Batch, batch, acts_lose_nothing, ClientModel, act_due, IsMind, mind_of, Act, sends_are_parted, Core, client_step, core_step, AreCodes}
 use Rattle.qs_handler.specs.audit.Handler.{Handler, act_of}
-use Rattle.qs_handler.proofs.HandlerActs.{acts_lose_nothing}
 use Rattle.qs_handler.specs.declared.mind.Act.TheVariants as acts
-use Rattle.qs_client.specs.audit.ClientModel.{ClientModel, act_due}
-use Rattle.qs_client.specs.MindState.{IsMind, mind_of}
-use Rattle.qs_client.specs.declared.rules.act.Act.{Act}
-use Rattle.qs_client.proofs.rules.CarriedValues.{sends_are_parted}
 use Rattle.qs_client.specs.declared.rules.act.Act.TheVariants as wants
-use Rattle.qs_played.specs.audit.Played.{ticket}
 use Rattle.qs_played.specs.declared.schedule.actor.Actor.TheVariants as actor
-use Rattle.qs_core_laws.specs.audit.Core.{Core, client_step, core_step}
-use Rattle.qs_syncset.specs.audit.Codes.{AreCodes}
 use Rattle.qs_core.specs.parts.CoreClients.{AreStocked, CoreClientState, HasLane, IsCoreClient, LaneStays, LaneSteps, lane_step_of_client, turns_to, whole_of}
-use Rattle.qs_core.specs.parts.CoreHandlers.{CoreHandlerState, IsCoreHandler, handler_with_act}
-use Rattle.qs_core.specs.parts.LaneStates.{IsStocked, LaneState, lane_at}
+use Rattle.qs_core.proofs.Names.{CoreHandlerState, IsCoreHandler, handler_with_act, IsStocked, LaneState, lane_at}
 use Rattle.qs_core.proofs.parts.LaneStock.{handler_stocked}
 use Rattle.qs_core.proofs.parts.CoreMinds.{KeepsMind, lane_begun, step_keeps, whole_mind}
 use Rattle.qs_core.specs.parts.CoreHandlers as forms
@@ -74,9 +59,7 @@ module _ (s : CoreState) (kept : IsCoreState s) (c : ℕ) (inside : c < length s
   some = lane_begun own moves.handler own_ok (ap turns_to (sym formed.act) ∙ moves.turned)
 
   own_ticket : own.ticket ≡ ticket c (own.client.begun - 1)
-  own_ticket =
-      let index : own.ticket.index ≡ own.client.begun - 1 = omega (arith, own_ok.ticket some) in
-      λ k. record { client = is_side.owner some k; index = index k }
+  own_ticket = grind (arith, some)
 
   owned : (client_part_at s.clients c).mind.ticket ≡ ticket c ((client_part_at s.clients c).mind.client.begun - 1)
   owned = subst (λ (x : ClientPart). x.mind.ticket ≡ ticket c (x.mind.client.begun - 1)) (sym here) own_ticket
@@ -114,17 +97,7 @@ module _ (s : CoreState) (kept : IsCoreState s) (c : ℕ) (inside : c < length s
 
   pub client_steps : CoreSteps s (actor.Client c) after
   unfolding core_of
-  client_steps = record {
-    steps =
-        subst (λ n. core_step (codes_of s) n (core_of s) (actor.Client c) ≡ Some (core_of after)) (kept.sides c inside).size
-        (stepped
-        ∙ ap (λ (x : ClientPart). result_of (lane_step_of_client x.mind old.act (lane_at x.lanes moves.handler))) here
-        ∙ ap result_of moves.steps
-        ∙ ap (λ (x : ℕ → ClientPart). Some (core_from s.order x (core_handler_of s.program s.handlers) (tickets_at s.handlers))) sides_are);
-    program = refl;
-    size = refl;
-    codes = codes_are;
-  }
+  client_steps = search (rules, after, kept, stepped, moves, sides_are, codes_are)
 
   new_side : IsSide s.program s.size c (client_part new)
   new_side = record {
@@ -268,11 +241,7 @@ module _ (s : CoreState) (kept : IsCoreState s) (h : ℕ) (inside : h < length s
     guest_side = subst (IsSide s.program s.size c) found (kept.sides c there)
 
     visited_side : IsSide s.program s.size c (client_part client_after_visit)
-    visited_side = record {
-      lanes = length-set guest.lanes h k ∙ guest_side.lanes;
-      size = ap (λ (m : ClientModel). m.size) same_mind ∙ guest_side.size;
-      owner = subst (λ (m : ClientModel). 0 < m.client.begun → m.ticket.client ≡ c) (sym same_mind) guest_side.owner;
-    }
+    visited_side = search (rules, length-set, same_mind)
 
     lane_stocked : IsStocked (whole_of guest).size k
     lane_stocked =
@@ -285,9 +254,7 @@ module _ (s : CoreState) (kept : IsCoreState s) (h : ℕ) (inside : h < length s
       handlers = length-set s.handlers h new ∙ kept.handlers;
       sides = λ n less. subst (IsSide s.program s.size n) (λ i. sym (side_put s.clients c client_after_visit there) i n)
           (all_put (IsSide s.program s.size) (length s.clients) (client_part_at s.clients) c (client_part client_after_visit) visited_side kept.sides n (subst (λ m. n < m) (length-set s.clients c client_after_visit) less));
-      stocked = all_set AreStocked s.clients c client_after_visit
-          (subst (λ (m : ClientModel). AllByRecursion (IsStocked m.size) client_after_visit.lanes) (sym same_mind) (all_set (IsStocked (whole_of guest).size) guest.lanes h k lane_stocked stocked))
-          kept.stocked;
+      stocked = search (rules, all_set, same_mind, lane_stocked, kept);
       rooms = all_set (λ (x : CoreHandlerState). all_blocks s.program ≤ x.room) s.handlers h new (subst (λ (x : CoreHandlerState). all_blocks s.program ≤ x.room) (sym moves.2) roomy) kept.rooms;
       mode = kept.mode;
       codes = subst (AreCodes s.program kept.mode) (sym codes_then) kept.codes;

@@ -2,19 +2,12 @@
 -- list led. So each state that `step` leads to is again one that can be reached, and the contracts of `step`,
 -- `keeps_isolated` and `into_played` promise of it what the laws say of every list of actors: that it is isolated, and
 -- what else holds after each list.
-use Rattle.std.proofs.Common.{◌≡◌, ℕ, Bool, true, false, List, [], ◌∷◌, ◌++◌, Some, refl, ap, sym, subst, ◌∙◌}
-use Rattle.std.specs.Bool.{OnTrue}
-use Rattle.qs_program.specs.Sound.{IsSound}
-use Rattle.qs_syncset.specs.declared.mode.Mode.{Mode}
-use Rattle.qs_syncset.specs.audit.Codes.{ClientCode, AreCodes}
-use Rattle.qs_played.specs.Isolation.{IsIsolated}
+use Rattle.std.proofs.Common.{◌≡◌, ℕ, Bool, false, List, [], ◌∷◌, ◌++◌, Some, sym, subst, ◌∙◌, rules}
+use Rattle.qs_played.proofs.Names.{OnTrue, IsSound, or_stay}
 use Rattle.qs_played.specs.declared.schedule.actor.Actor.{Actor}
-use Rattle.qs_played.proofs.Playing.{plays_by-append}
-use Rattle.qs_core_laws.specs.audit.Core.{Core, core_begin, core_step}
+use Rattle.qs_core_laws.proofs.Names.{Mode, ClientCode, AreCodes, plays_by-append, Core, core_begin, core_step, core_played, core_plays, on_way}
+use Rattle.qs_played.specs.Isolation.{IsIsolated}
 use Rattle.qs_core_laws.specs.CoreReached.{ReachedCore}
-use Rattle.qs_core_laws.specs.audit.CoreSchedule.{core_played, core_plays}
-use Rattle.qs_core_laws.specs.CoreSchedule.{on_way}
-use Rattle.qs_played.specs.audit.Schedule.{or_stay}
 use Rattle.qs_core_laws.proofs.CoreIsolating.{core_isolated}
 use Rattle.qs_core_laws.proofs.CoreReached.{reached_keeps}
 use Rattle.qs_core.specs.state.CoreState.{CoreIsIsolated, CoreKeeps, CoreState, CoreSteps, StepsAreReached, IsCoreState, IsReachedCore, codes_of, core_of}
@@ -26,13 +19,10 @@ core_plays_more code size actors a s = plays_by-append (core_step code size) act
 -- one step more from where a list of actors leads
 one_more : (s : CoreState) (a : Actor) (x : Core) (reached : IsReachedCore s) → core_step (codes_of s) s.size (core_of s) a ≡ Some x
     → core_plays (codes_of s) s.size (reached.0 ++ a ∷ []) (core_begin s.program) ≡ x
-one_more s a x (actors, is) e =
-    core_plays_more (codes_of s) s.size actors a (core_begin s.program)
-    ∙ (sym (ap (λ y. or_stay y (core_step (codes_of s) s.size y a)) is) ∙ ap (or_stay (core_of s)) e)
+one_more s a x v e = search (rules, core_plays_more)
 
 pub core_keeps : (s : CoreState) → IsSound s.program → IsCoreState s → IsReachedCore s → CoreKeeps s
-core_keeps s sound kept reached =
-    subst (ReachedCore s.program (codes_of s) s.size) (sym reached.1) (reached_keeps s.program sound kept.mode (codes_of s) kept.codes s.size reached.0)
+core_keeps s sound kept reached = search (rules, reached, reached_keeps)
 
 pub core_goes_on : (s : CoreState) → IsSound s.program → IsCoreState s → IsReachedCore s → StepsAreReached s
 core_goes_on s sound kept reached = λ a x e.
@@ -47,8 +37,7 @@ core_stepped old new a reached steps = (
 
 -- a step that may have been made
 pub core_next : (old new : CoreState) (a : Actor) (b : Bool) → IsReachedCore old → OnTrue b (CoreSteps old a new) → (b ≡ false → new ≡ old) → IsReachedCore new
-core_next old new a true reached steps same = core_stepped old new a reached steps
-core_next old new a false reached steps same = subst IsReachedCore (sym (same refl)) reached
+core_next old new a v reached steps same = search (rules, core_stepped)
 
 isolated_by : (s : CoreState) (mode : Mode) → IsSound s.program → AreCodes s.program mode (codes_of s) → IsReachedCore s → CoreIsIsolated s
 isolated_by s mode sound codes reached =

@@ -2,24 +2,13 @@
 -- list have one ticket more, and the client stands at its block's beginning. The lemma that says so of the code's lists
 -- stands on this one. The machine is compared field by field; the client's values at entry, added at the end of a list,
 -- are one more place of a function.
-use Rattle.std.proofs.Common.{◌≡◌, ◌<◌, ℕ, zero, suc, false, ◌==◌, arith, if◌then◌else◌, List, [], ◌∷◌, ◌++◌, length, get_or, refl, sym, ap, ◌∙◌, Some}
-use Rattle.std.proofs.Math.Path.{fun_ext}
-use Rattle.qs_objects.specs.declared.held.Event.{Event}
-use Rattle.qs_objects.specs.declared.held.Ticket.{Ticket}
-use Rattle.qs_meaning.specs.audit.Solo.{put}
-use Rattle.qs_program.specs.audit.Values.{Locals}
-use Rattle.qs_syncset.specs.audit.Codes.{ClientCode, code_at}
-use Rattle.qs_handler.specs.audit.Handler.{Handler}
-use Rattle.qs_client.specs.audit.rules.Client.{Settlement, between, begin}
+use Rattle.std.proofs.Common.{◌≡◌, ◌<◌, ℕ, zero, suc, false, ◌==◌, arith, if◌then◌else◌, List, [], ◌∷◌, ◌++◌, length, get_or, refl, Some, rules}
+use Rattle.qs_played.proofs.Names.{Ticket, put, Locals, ticket}
+use Rattle.qs_core_laws.proofs.Names.{ClientCode, code_at, Handler, Settlement, between, begin, core_step, may}
 use Rattle.qs_client.specs.audit.ClientModel.{ClientModel, act_due, mind_after_begin_with, settings_of, tree_at}
-use Rattle.qs_client.proofs.rules.Puts.{put_set_at}
+use Rattle.qs_core.proofs.Names.{put_set_at, ClientPart, core_from}
 use Rattle.qs_client.specs.declared.rules.act.Act.TheVariants as acts
-use Rattle.qs_played.specs.audit.Played.{ticket}
 use Rattle.qs_played.specs.declared.schedule.actor.Actor.TheVariants as actor
-use Rattle.qs_core_laws.specs.audit.Core.{core_step, may, reserves_from}
-use Rattle.qs_core.specs.parts.LaneStates.{LaneState}
-use Rattle.qs_core.specs.state.CoreState.{ClientPart, core_from}
-use Rattle.qs_core.proofs.state.ClientFields.{counts_in, entries_in, traces_in}
 use Rattle.qs_core.proofs.state.CoreFields.{field_put, field_kept, lanes_stay, tickets_kept, tickets_put}
 
 -- a list with one more at its end
@@ -53,24 +42,4 @@ module _ (order : List Ticket) (sides : ℕ → ClientPart) (handler : ℕ → H
   pub reserve_steps : own.client.stage ≡ between l → act_due own ≡ acts.Reserve → length own.entries ≡ own.client.begun → own.client.begun < length own.traces
       → get_or own.traces own.client.begun [] ≡ []
       → core_step code own.size (core_from order sides handler tickets) (actor.Client c) ≡ Some (core_from (order ++ next_of ∷ []) (put sides c reserved_side) handler more_tickets)
-  reserve_steps place_is asked counted traced empty = rw asked (ap (reserves_from code own.size (core_from order sides handler tickets) c) place_is ∙ (λ k. Some (record {
-    order = order ++ next_of ∷ [];
-    client = sym (field_put (λ (s : ClientPart). s.mind.client) sides c reserved_side) k;
-    syncs = sym (field_kept (λ (s : ClientPart). s.mind.syncs) sides c reserved_side refl) k;
-    sync_counts = sym (tickets_kept counts_in sides c reserved_side refl) k;
-    down = sym (lanes_stay (λ (x : LaneState). x.down) sides c reserved_side refl) k;
-    up = sym (lanes_stay (λ (x : LaneState). x.up) sides c reserved_side refl) k;
-    spare = sym (lanes_stay (λ (x : LaneState). length x.spare) sides c reserved_side refl) k;
-    handler = handler;
-    tickets = more_tickets;
-    entry = sym (tickets_put entries_in sides c own.client.begun reserved_side l entries_are) k;
-    trace = sym (tickets_put traces_in sides c own.client.begun reserved_side by_block.events traces_are) k;
-  })))
-    where
-      entries_are : entries_in reserved_side ≡ put (entries_in (sides c)) own.client.begun l
-      entries_are = fun_ext (last_put own.entries l []) ∙ ap (λ n. put (entries_in (sides c)) n l) counted
-
-      traces_are : traces_in reserved_side ≡ put (traces_in (sides c)) own.client.begun by_block.events
-      traces_are =
-          fun_ext (put_set_at own.traces own.client.begun (traces_in (sides c) own.client.begun ++ by_block.events) [] traced)
-          ∙ ap (λ (es : List Event). put (traces_in (sides c)) own.client.begun (es ++ by_block.events)) empty
+  reserve_steps v asked counted traced empty = search (rules, code, next_of, field_put, field_kept, tickets_kept, lanes_stay, tickets_put, last_put, put_set_at)

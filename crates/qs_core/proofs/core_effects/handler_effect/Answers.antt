@@ -1,6 +1,5 @@
 use Rattle.std.proofs.Common.{◌<◌, length, sym, ap, subst, ◌∙◌, arith}
-use Rattle.qs_core.specs.parts.CoreHandlers.{turns_to}
-use Rattle.qs_core.specs.shown.CoreShown.{TurnsTo}
+use Rattle.qs_core.proofs.Names.{turns_to, TurnsTo}
 use Rattle.qs_core.proofs.shown.CoreShowing.{turned_inside}
 use Rattle.qs_core.proofs.core_effects.handler_effect.Goals as goal
 

@@ -1,13 +1,9 @@
 use Rattle.std.proofs.Common.{◌≡◌, length, sym, ap, subst, ◌∙◌, arith}
 use Rattle.std.specs.Prelude.{IfOk}
 use Rattle.qs_handler.specs.audit.Handler.{act_of}
-use Rattle.qs_core.specs.parts.CarriedRequests.{first_requests}
-use Rattle.qs_core.specs.parts.CoreHandlers.{CoreHandlerState, core_handler_at, handler_with_act, turns_to}
-use Rattle.qs_core.specs.parts.LaneStates.{lane_at}
-use Rattle.qs_core.specs.state.CoreState.{ClientPart, client_part_at}
+use Rattle.qs_core.proofs.Names.{first_requests, CoreHandlerState, core_handler_at, handler_with_act, turns_to, lane_at, ClientPart, client_part_at, TurnsTo}
 use Rattle.qs_core.proofs.CoreEffects.{requests_taken}
 use Rattle.qs_core.proofs.CoreFieldLemmas.{client_here}
-use Rattle.qs_core.specs.shown.CoreShown.{TurnsTo}
 use Rattle.qs_core.proofs.shown.CoreShowing.{turned_inside}
 use Rattle.qs_core.proofs.core_effects.handler_requests.Goals as goal
 

@@ -1,6 +1,5 @@
 use Rattle.std.proofs.Common.{◌≡◌, ◌<◌, ℕ, length, get_or}
-use Rattle.qs_core.specs.parts.CoreClients.{CoreClientState}
-use Rattle.qs_core.specs.state.CoreState.{IsFreshClient}
+use Rattle.qs_core.proofs.Names.{CoreClientState, IsFreshClient}
 use Rattle.qs_core.proofs.core_machine.fresh_clients.Given as goal
 
 abbrev pub invariant-loop-number : goal.invariant-loop-number

@@ -1,10 +1,8 @@
-use Rattle.std.proofs.Common.{◌+◌, ◌∙◌, ◌∷◌, [], add-one, ap, drop, get_or, subst, sym}
-use Rattle.std.proofs.Math.Seq.{drop-cons}
-use Rattle.std.proofs.lemmas.List.{drop_all}
+use Rattle.std.proofs.Common.{◌+◌, ◌∷◌, [], add-one, drop, get_or, subst, sym, rules}
+use Rattle.qs_played.proofs.Names.{drop-cons, drop_all}
 use Rattle.qs_serial.specs.audit.NamedOrders.{order_of}
 use Rattle.qs_played.proofs.ShownRuns.{if_shown}
-use Rattle.qs_core_laws.specs.audit.CoreSchedule.{core_played}
-use Rattle.qs_core_laws.specs.orders.CoreOrders.{IsPlayedInOrderOn}
+use Rattle.qs_core_laws.proofs.Names.{core_played, IsPlayedInOrderOn}
 use Rattle.qs_core.specs.state.CoreState.{core_of}
 use Rattle.qs_core.proofs.CoreBlocks.{ArePlayed, all_played, next_left, one_more, own_order, played_first, quiet_now}
 use Rattle.qs_core.proofs.core_orders.play_clients.Goals as goal
@@ -13,11 +11,7 @@ use Rattle.qs_core.proofs.core_orders.play_clients.Goals.{In-loop-client}
 -- the client at this place, and those after it
 now_played : (c : In-loop-client) → ArePlayed c.args.program.now c.args.mode c.args.size c.args.clients.now
     (get_or c.args.clients.now c.loop-client.client-index 0 ∷ drop (c.loop-client.client-index + 1) c.args.clients.now) c.loop-client.core
-now_played c =
-    let cs = c.args.clients.now in
-    let i = c.loop-client.client-index in
-    subst (λ rest. ArePlayed c.args.program.now c.args.mode c.args.size cs rest c.loop-client.core)
-    (drop-cons cs i 0 c.loop-client-test.true ∙ ap (λ n. get_or cs i 0 ∷ drop n cs) (sym (add-one i))) c.loop-client.invariant
+now_played c = search (rules, drop-cons, drop, add-one)
 
 pub loop-client-init : goal.loop-client-init
 loop-client-init c = played_first c.args.program.now c.args.mode c.args.size c.args.clients.now c.in_ok-core.core c.in_ok-core.ensures.fresh

@@ -2,8 +2,7 @@ use Rattle.std.proofs.Common.{take, sym, subst}
 use Rattle.std.proofs.lemmas.List.{take_all}
 use Rattle.qs_played.specs.SyncSums.{AreSyncsCounted}
 use Rattle.qs_played.proofs.ShownRuns.{if_shown}
-use Rattle.qs_core_laws.specs.audit.CoreSchedule.{core_played}
-use Rattle.qs_core_laws.specs.CoreSchedule.{IsShown}
+use Rattle.qs_core_laws.proofs.Names.{core_played, IsShown}
 use Rattle.qs_core.specs.state.CoreState.{IsPlayedOn, IsShownIsolated, core_of}
 use Rattle.qs_core.proofs.CoreCounted.{schedule_counted}
 use Rattle.qs_core.proofs.CoreGoing.{rounds_played}

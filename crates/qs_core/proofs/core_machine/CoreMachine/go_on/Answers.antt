@@ -1,6 +1,5 @@
 use Rattle.std.proofs.Common.{ap, ◌∙◌}
-use Rattle.qs_core.specs.parts.CoreClients.{CoreClientState}
-use Rattle.qs_core.specs.state.CoreState.{CoreState}
+use Rattle.qs_core.proofs.Names.{CoreClientState, CoreState}
 use Rattle.qs_core.proofs.CoreFieldLemmas.{go_kept, go_none, go_steps, has_lane, formed_is}
 use Rattle.qs_core.proofs.core_machine.CoreMachine.go_on.Goals as goal
 

@@ -1,11 +1,7 @@
 use Rattle.std.proofs.Common.{◌≡◌, List, ap, sym, subst, ◌∙◌, IfOk}
-use Rattle.qs_objects.specs.declared.held.Ticket.{Ticket}
-use Rattle.qs_program.specs.Sound.{IsSound}
-use Rattle.qs_played.specs.audit.Played.{Played}
-use Rattle.qs_core.specs.parts.CoreClients.{CoreClientState}
-use Rattle.qs_core.specs.parts.CoreHandlers.{CoreHandlerState}
+use Rattle.qs_played.proofs.Names.{Ticket, IsSound, Played}
+use Rattle.qs_core.proofs.Names.{CoreClientState, CoreHandlerState, CoreState, IsCoreState}
 use Rattle.qs_core.specs.shown.CoreShown.{AreShowable, shown_by}
-use Rattle.qs_core.specs.state.CoreState.{CoreState, IsCoreState}
 use Rattle.qs_core.proofs.shown.CoreReadings.{shown_is, showable}
 use Rattle.qs_core.proofs.core_machine.CoreMachine.into_played.Goals as goal
 

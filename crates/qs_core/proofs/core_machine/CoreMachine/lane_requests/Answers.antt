@@ -1,8 +1,6 @@
 use Rattle.std.proofs.Common.{◌≡◌, ◌<◌, ap, arith, drop, length, sym, subst, ◌∙◌}
 use Rattle.std.specs.Prelude.{IfOk}
-use Rattle.qs_core.specs.parts.CarriedRequests.{first_requests}
-use Rattle.qs_core.specs.parts.LaneStates.{lane_at}
-use Rattle.qs_core.specs.state.CoreState.{CoreState, client_part_at}
+use Rattle.qs_core.proofs.Names.{first_requests, lane_at, CoreState, client_part_at}
 use Rattle.qs_core.proofs.CorePlaces.{lanes_are}
 use Rattle.qs_core.proofs.core_machine.CoreMachine.lane_requests.Goals as goal
 

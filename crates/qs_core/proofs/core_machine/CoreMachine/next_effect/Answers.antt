@@ -1,10 +1,7 @@
 use Rattle.std.proofs.Common.{◌<◌, ◌≤◌, ap, length, sym, subst, ◌∙◌, arith}
 use Rattle.qs_client.specs.audit.ClientModel.{act_due}
-use Rattle.qs_core.specs.parts.CoreHandlers.{core_handler_at, handler_with_act}
-use Rattle.qs_core.specs.parts.LaneStates.{lane_at}
+use Rattle.qs_core.proofs.Names.{core_handler_at, handler_with_act, lane_at, core_effect, effect_of_client, effect_of_handler, TurnsTo}
 use Rattle.qs_core.specs.state.CoreState.{CoreState, codes_of, core_of, client_part_at}
-use Rattle.qs_core.specs.CoreEffects.{core_effect, effect_of_client, effect_of_handler}
-use Rattle.qs_core.specs.shown.CoreShown.{TurnsTo}
 use Rattle.qs_core.proofs.CoreEffects.{client_does, handler_does, no_client_does, no_handler_does}
 use Rattle.qs_core.proofs.shown.CoreReadings.{turns_in}
 use Rattle.qs_core.proofs.core_machine.CoreMachine.next_effect.Goals as goal

@@ -1,12 +1,8 @@
 use Rattle.std.proofs.Common.{◌≡◌, ◌<◌, ◌≤◌, ap, length, sym, subst, ◌∙◌, arith}
 use Rattle.std.specs.Prelude.{IfOk}
 use Rattle.qs_client.specs.audit.ClientModel.{act_due}
-use Rattle.qs_core.specs.parts.CarriedRequests.{sent_requests}
-use Rattle.qs_core.specs.parts.CoreHandlers.{core_handler_at, handler_with_act}
-use Rattle.qs_core.specs.parts.LaneStates.{lane_at}
+use Rattle.qs_core.proofs.Names.{sent_requests, core_handler_at, handler_with_act, lane_at, core_requests, requests_of_handler, TurnsTo}
 use Rattle.qs_core.specs.state.CoreState.{CoreState, codes_of, core_of, client_part_at}
-use Rattle.qs_core.specs.CoreEffects.{core_requests, requests_of_handler}
-use Rattle.qs_core.specs.shown.CoreShown.{TurnsTo}
 use Rattle.qs_core.proofs.CoreEffects.{client_sends, handler_takes, no_client_sends, no_handler_takes}
 use Rattle.qs_core.proofs.shown.CoreReadings.{turns_in}
 use Rattle.qs_core.proofs.core_machine.CoreMachine.requests.Goals as goal

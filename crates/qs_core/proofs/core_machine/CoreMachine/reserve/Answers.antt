@@ -1,10 +1,7 @@
 use Rattle.std.proofs.Common.{◌≡◌, ap, sym, subst, ◌∙◌, arith}
-use Rattle.qs_objects.specs.declared.held.Ticket.{Ticket}
-use Rattle.qs_program.specs.audit.Program.{BlockShape, block_at}
-use Rattle.qs_played.specs.audit.Played.{ticket}
+use Rattle.qs_played.proofs.Names.{Ticket, BlockShape, block_at, ticket}
 use Rattle.qs_core.specs.parts.CoreClients.{CoreClientState, whole_of}
-use Rattle.qs_core.specs.parts.CoreHandlers.{CanEnterAll}
-use Rattle.qs_core.specs.state.CoreState.{CoreState}
+use Rattle.qs_core.proofs.Names.{CanEnterAll, CoreState}
 use Rattle.qs_core.proofs.CoreFieldLemmas.{enters, in_blocks, made_kept, made_steps, order_roomy, formed_is}
 use Rattle.qs_core.proofs.core_machine.CoreMachine.reserve.Goals as goal
 

@@ -1,6 +1,5 @@
 use Rattle.std.proofs.Common.{ap, sym, ◌∙◌, arith}
-use Rattle.qs_core.specs.parts.CoreHandlers.{CoreHandlerState, turns_to}
-use Rattle.qs_core.specs.state.CoreState.{CoreState}
+use Rattle.qs_core.proofs.Names.{CoreHandlerState, turns_to, CoreState}
 use Rattle.qs_core.proofs.ServiceFieldLemmas.{lane_there, may_come, meet_kept, meet_none, meet_steps, formed_is, there}
 use Rattle.qs_core.proofs.core_machine.CoreMachine.serve_lane.Goals as goal
 

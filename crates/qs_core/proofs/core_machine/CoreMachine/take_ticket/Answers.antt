@@ -1,6 +1,5 @@
 use Rattle.std.proofs.Common.{ap, sym, ◌∙◌}
-use Rattle.qs_core.specs.parts.CoreHandlers.{CoreHandlerState, turns_to}
-use Rattle.qs_core.specs.state.CoreState.{CoreState}
+use Rattle.qs_core.proofs.Names.{CoreHandlerState, turns_to, CoreState}
 use Rattle.qs_core.proofs.ServiceFieldLemmas.{formed_is, take_kept, take_none, take_steps, wants_ticket}
 use Rattle.qs_core.proofs.core_machine.CoreMachine.take_ticket.Goals as goal
 

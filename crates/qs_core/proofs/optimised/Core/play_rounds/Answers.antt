@@ -1,7 +1,6 @@
 use Rattle.std.proofs.Common.{◌≡◌, ◌+◌, ◌-◌, sym, subst, arith}
 use Rattle.qs_played.specs.audit.Schedule.{actors_of, rounds_of}
-use Rattle.qs_core.specs.state.CoreState.{CoreState}
-use Rattle.qs_core.specs.CoreOrders.{CoreGoes}
+use Rattle.qs_core.proofs.Names.{CoreState, CoreGoes}
 use Rattle.qs_core.proofs.CoreGoing.{goes_none, round_on, still_rounds}
 use Rattle.qs_core.proofs.optimised.Core.play_rounds.Goals as goal
 

@@ -1,12 +1,8 @@
 use Rattle.std.proofs.Common.{◌≡◌, ◌++◌, ◌∷◌, [], ℕ, List, true, false, ap, refl, sym, subst, ◌∙◌, length, map, arith}
-use Rattle.std.proofs.lemmas.List.{append-nil}
-use Rattle.std.specs.List.{range_with_len}
-use Rattle.qs_program.specs.audit.Program.{ProgramShape}
-use Rattle.qs_played.specs.audit.Schedule.{HasStep}
+use Rattle.qs_played.proofs.Names.{append-nil, range_with_len, ProgramShape, HasStep}
 use Rattle.qs_played.specs.declared.schedule.actor.Actor.{Actor}
 use Rattle.qs_played.specs.declared.schedule.actor.Actor.TheVariants as actors
-use Rattle.qs_played.proofs.Playing.{row_more, step_in_front}
-use Rattle.qs_core_laws.specs.audit.Core.{core_step}
+use Rattle.qs_core_laws.proofs.Names.{row_more, step_in_front, core_step}
 use Rattle.qs_core.specs.state.CoreState.{CoreState, codes_of, core_of}
 use Rattle.qs_core.specs.CoreOrders.{CoreGoes}
 use Rattle.qs_core.proofs.CoreGoing.{goes_more, goes_none, has_stepped}

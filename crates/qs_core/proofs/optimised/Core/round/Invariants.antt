@@ -1,6 +1,5 @@
 use Rattle.std.proofs.Common.{◌≡◌, true, false, ◌++◌, length, map}
-use Rattle.std.specs.List.{range_with_len}
-use Rattle.qs_played.specs.audit.Schedule.{HasStep}
+use Rattle.qs_played.proofs.Names.{range_with_len, HasStep}
 use Rattle.qs_played.specs.declared.schedule.actor.Actor.TheVariants as actor
 use Rattle.qs_core_laws.specs.audit.Core.{core_step}
 use Rattle.qs_core.specs.state.CoreState.{codes_of, core_of}

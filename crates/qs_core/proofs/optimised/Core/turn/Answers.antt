@@ -2,8 +2,7 @@ use Rattle.std.proofs.Common.{◌≡◌, ◌∷◌, [], ap, arith, length, subst
 use Rattle.qs_program.specs.audit.Program.{ProgramShape}
 use Rattle.qs_played.specs.declared.schedule.actor.Actor.TheVariants as actors
 use Rattle.qs_core_laws.specs.orders.CoreQuiet.{two_of_each}
-use Rattle.qs_core.specs.CoreOrders.{CoreGoes}
-use Rattle.qs_core.specs.state.CoreState.{CoreState}
+use Rattle.qs_core.proofs.Names.{CoreGoes, CoreState}
 use Rattle.qs_core.proofs.CoreGoing.{goes_more, goes_none, goes_twice}
 use Rattle.qs_core.proofs.optimised.Core.turn.Goals as goal
 

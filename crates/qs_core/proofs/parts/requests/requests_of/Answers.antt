@@ -1,6 +1,5 @@
 use Rattle.std.proofs.Common.{◌≡◌, ◌<◌, ◌∷◌, [], ◌++◌, length, ap, refl, sym, ◌∙◌, arith}
-use Rattle.std.proofs.lemmas.List.{length-append}
-use Rattle.qs_objects.specs.declared.Request.{Request}
+use Rattle.qs_played.proofs.Names.{length-append, Request}
 use Rattle.qs_chunk.specs.audit.Batch.{Batch}
 use Rattle.qs_core.proofs.parts.TurnedChunks.{as_many, none_copied, once_ok, one_more}
 use Rattle.qs_core.proofs.parts.requests.requests_of.Goals as goal

@@ -1,8 +1,7 @@
 use Rattle.std.proofs.Common.{◌≡◌, ◌&&◌}
 use Rattle.std.specs.List.{range_with_len}
 use Rattle.qs_core_laws.specs.audit.CoreSchedule.{all_of}
-use Rattle.qs_core.specs.parts.CoreHandlers.{is_waiting, core_handler_at}
-use Rattle.qs_core.specs.shown.CoreShown.{are_clear}
+use Rattle.qs_core.proofs.Names.{is_waiting, core_handler_at, are_clear}
 use Rattle.qs_core.proofs.shown.core_showing.are_idle.Given as goal
 
 abbrev pub invariant-loop-number : goal.invariant-loop-number

@@ -1,7 +1,6 @@
 use Rattle.std.proofs.Common.{◌<◌, length, sym, ap, subst, ◌∙◌}
 use Rattle.qs_chunk.specs.audit.LaneParts.{away_at}
-use Rattle.qs_core.specs.parts.LaneStates.{lane_at}
-use Rattle.qs_core.specs.state.CoreState.{client_part_at}
+use Rattle.qs_core.proofs.Names.{lane_at, client_part_at}
 use Rattle.qs_core.proofs.shown.CoreShowing.{object_away, object_here, object_never_lost, turned_inside}
 use Rattle.qs_core.proofs.shown.core_showing.object.Goals as goal
 

@@ -1,12 +1,6 @@
 -- Each turn of the loop brings the object of the next handler, whose number is how many have come before it.
 use Rattle.std.proofs.Common.{◌≡◌, ◌<◌, ℕ, ◌+◌, ◌++◌, ◌∷◌, [], List, length, map, sym, ap, subst, ◌∙◌, arith, rules, zero-add, IsSome}
-use Rattle.std.specs.List.{range_with_len}
-use Rattle.std.proofs.lemmas.Iterator.Adapters.{YieldsList-from_vec}
-use Rattle.std.proofs.lemmas.Iterator.Consumers.{YieldsList-end, YieldsList-turn}
-use Rattle.std.proofs.lemmas.List.{length_push}
-use Rattle.std.proofs.lemmas.List.FromFn.{map-range_with_len_more}
-use Rattle.qs_objects.specs.audit.Journals.{HeldState}
-use Rattle.qs_program.specs.audit.Limits.{most_handlers}
+use Rattle.qs_played.proofs.Names.{range_with_len, YieldsList-from_vec, YieldsList-end, YieldsList-turn, length_push, map-range_with_len_more, HeldState, most_handlers}
 use Rattle.qs_played.proofs.Lists.{get_or-any}
 use Rattle.qs_core.specs.parts.CoreHandlers.{CoreHandlerState, core_handler_at, no_core_handler}
 use Rattle.qs_core.specs.shown.CoreShown.{TurnsTo, core_held_at, held_with, object_with}

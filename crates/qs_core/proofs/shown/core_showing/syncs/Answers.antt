@@ -1,7 +1,6 @@
 use Rattle.std.proofs.Common.{◌+◌, ℕ, ap, sym, ◌∙◌, sum_by, arith}
 use Rattle.std.specs.List.{range_with_len}
-use Rattle.qs_client.specs.audit.ClientModel.{ClientModel}
-use Rattle.qs_played.proofs.Lists.{sum_by-range_more}
+use Rattle.qs_core_laws.proofs.Names.{ClientModel, sum_by-range_more}
 use Rattle.qs_core.specs.state.CoreState.{client_part_at}
 use Rattle.qs_core.proofs.shown.core_showing.syncs.Goals as goal
 

@@ -1,7 +1,6 @@
 use Rattle.std.proofs.Common.{◌≡◌, ◌≤◌, ◌*◌, sum_by}
 use Rattle.std.specs.List.{range_with_len}
-use Rattle.qs_core.specs.shown.CoreShown.{most_syncs}
-use Rattle.qs_core.specs.state.CoreState.{client_part_at}
+use Rattle.qs_core.proofs.Names.{most_syncs, client_part_at}
 use Rattle.qs_core.proofs.shown.core_showing.syncs.Given as goal
 
 abbrev pub invariant-loop-number : goal.invariant-loop-number

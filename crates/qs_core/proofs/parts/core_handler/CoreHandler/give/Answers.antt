@@ -2,8 +2,7 @@ use Rattle.std.proofs.Common.{◌≡◌, None, Some, Option, rules, ap, sym, ◌
 use Rattle.qs_objects.specs.audit.Journals.{HeldState}
 use Rattle.qs_handler.specs.audit.Handler.{act_of, gave}
 use Rattle.qs_handler.specs.declared.mind.Act.{Act}
-use Rattle.qs_core.specs.parts.CoreHandlers.{CoreHandlerState, gives_up, handler_with_act, lane_step_of_handler}
-use Rattle.qs_core.specs.parts.LaneStates.{LaneState}
+use Rattle.qs_core.proofs.Names.{CoreHandlerState, gives_up, handler_with_act, lane_step_of_handler, LaneState}
 use Rattle.qs_core.specs.contracts.parts.core_handler.CoreHandler.{the_view}
 use Rattle.qs_core.proofs.parts.HandlerGifts.{given_next, given_rests}
 use Rattle.qs_core.proofs.parts.core_handler.CoreHandler.give.Goals as goal

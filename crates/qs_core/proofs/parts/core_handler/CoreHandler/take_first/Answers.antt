@@ -1,6 +1,5 @@
 use Rattle.std.proofs.Common.{ap, sym, subst, ◌∙◌}
-use Rattle.qs_core.specs.parts.CoreHandlers.{CoreHandlerState, MayCome}
-use Rattle.qs_core.specs.parts.LaneStates.{LaneState}
+use Rattle.qs_core.proofs.Names.{CoreHandlerState, MayCome, LaneState}
 use Rattle.qs_core.proofs.parts.HandlerFronts.{first_may_stand}
 use Rattle.qs_core.proofs.parts.core_handler.CoreHandler.take_first.Goals as goal
 
