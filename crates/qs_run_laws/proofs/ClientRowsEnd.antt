@@ -1,16 +1,9 @@
 -- The minds with which the clients end have a row for each block of the order. What is shown of a run is read from
 -- these rows, and reading a row asks that it is there. Each mind ends with as many rows as its client has blocks, and
 -- each ticket of a legal order is one of them.
-use Rattle.std.proofs.Common.{◌<◌, arith, ℕ, sym, subst, length}
-use Rattle.std.specs.List.{AllByRecursion}
-use Rattle.qs_objects.specs.declared.held.Ticket.{Ticket}
-use Rattle.qs_program.specs.audit.Program.{ProgramShape, blocks_of}
-use Rattle.qs_program.specs.Sound.{IsSound}
-use Rattle.qs_meaning.proofs.Each.{each_map}
-use Rattle.qs_syncset.specs.audit.Codes.{ClientCode, AreCodes}
-use Rattle.qs_syncset.specs.declared.mode.Mode.{Mode}
-use Rattle.qs_client.specs.audit.ClientModel.{ClientModel}
-use Rattle.qs_played.proofs.JournalRooms.{no_block_beyond}
+use Rattle.std.proofs.Common.{◌<◌, arith, ℕ, sym, subst, length, rules}
+use Rattle.qs_played.proofs.Names.{AllByRecursion, Ticket, ProgramShape, blocks_of, IsSound, each_map}
+use Rattle.qs_core_laws.proofs.Names.{ClientCode, AreCodes, Mode, ClientModel, no_block_beyond}
 use Rattle.qs_run_laws.specs.audit.ThreadRuns.{IsThreadRun, ThreadRun}
 use Rattle.qs_run_laws.proofs.ThreadHistories.{count_is, inside, rows_end}
 use Rattle.qs_run_laws.proofs.ThreadsIsolated.{mind_is}

@@ -2,20 +2,8 @@
 -- each client sent, so for each ticket the journal gets what the block's trace says of the object; a block that does
 -- not reserve the object adds nothing. The room suffices, as no block's part is longer than its load.
 use Rattle.std.proofs.Common.{◌≡◌, ◌+◌, ◌≤◌, arith, ℕ, Bool, true, false, true≢false, if◌then◌else◌, List, [], ◌∷◌, ◌++◌, map, flat_map, filter, length, refl, sym, ap, ◌∙◌, subst, inl, append_assoc, append-nil, rules}
-use Rattle.std.specs.List.{AllByRecursion}
-use Rattle.qs_objects.specs.audit.Journals.{HeldState, replay, without_tickets, IsHonest}
-use Rattle.qs_objects.specs.Parts.{stamp}
-use Rattle.qs_objects.specs.declared.held.Entry.{Entry}
-use Rattle.qs_objects.specs.declared.held.Event.{Event}
-use Rattle.qs_objects.specs.declared.held.Ticket.{Ticket}
-use Rattle.qs_program.specs.audit.Program.{ProgramShape}
-use Rattle.qs_meaning.specs.audit.Following.{reserves}
-use Rattle.qs_meaning.proofs.Histories.{Flow, ObjectCourse, done_of, parts_of}
-use Rattle.qs_meaning.specs.BlockRecords.{IsDone, BlockRecord}
-use Rattle.qs_chunk.specs.LaneViews.{ClientLane, Extends, gone, sends}
-use Rattle.qs_chunk.specs.declared.parcel.Parcel.{Parcel}
-use Rattle.qs_played.proofs.JournalRooms.{total}
-use Rattle.qs_core_laws.specs.protocol.ClientHistories.{apart_from}
+use Rattle.qs_played.proofs.Names.{AllByRecursion, HeldState, replay, without_tickets, IsHonest, stamp, Entry, Event, Ticket, ProgramShape, reserves, Flow, ObjectCourse, done_of, parts_of, IsDone, BlockRecord}
+use Rattle.qs_core_laws.proofs.Names.{ClientLane, Extends, gone, sends, Parcel, total, apart_from}
 use Rattle.qs_core_laws.proofs.protocol.LaneWholes.{match_over}
 use Rattle.qs_core_laws.proofs.protocol.ObjectViews.{PastOf}
 use Rattle.qs_core_laws.proofs.protocol.GrownJournals.{Grown, grown, grown_room, stamped_honest, stamped_replay}
@@ -82,14 +70,7 @@ module _ (p : ProgramShape) (block_record : Ticket → BlockRecord) (h : ℕ) (s
   -- along the order, where the journal has room
   pub grows : (ts : List Ticket) (x : HeldState) → AllByRecursion IsOver ts → PastOf sent got x (filter (λ t. reserves p t h) ts) end
       → length x.journal + size_of ts ≤ x.room → JournalGrowth x ts
-  grows [] x over past room = record {
-    more = [];
-    journal = ap (λ (o : HeldState). o.journal) (sym past) ∙ sym (append-nil x.journal);
-    by_tickets = refl;
-    flow = (refl, ap (λ (o : HeldState). o.object) past);
-    honest = tt;
-    replayed = ap (λ (o : HeldState). o.object) past;
-  }
+  grows [] x over past room = search (rules, append-nil)
   grows (t ∷ ts) x over past room = by_case (reserves p t h) refl past (λ x past room. grows ts x over.1 past room)
     where
       by_case : (b : Bool) → reserves p t h ≡ b → PastOf sent got x (if b then t ∷ filter (λ t. reserves p t h) ts else filter (λ t. reserves p t h) ts) end

@@ -3,16 +3,8 @@
 -- gave. The client's lists go block by block and the handler's turn by turn, each up to an `End`, with one object for
 -- each `Sync`; so the first block is the first turn, and so on.
 use Rattle.std.proofs.Common.{◌≡◌, arith, ℕ, suc, Bool, true, false, if◌then◌else◌, ◌==◌, List, [], ◌∷◌, ◌++◌, flat_map, length, refl, sym, ap, ap₂, ◌∙◌, subst, rules}
-use Rattle.std.specs.List.{AllByRecursion}
-use Rattle.qs_objects.specs.audit.Journals.{HeldState}
-use Rattle.qs_objects.specs.audit.Parts.{IsFront}
-use Rattle.qs_objects.specs.declared.held.Event.{Event}
-use Rattle.qs_objects.specs.declared.held.Ticket.{Ticket}
-use Rattle.qs_objects.proofs.Choices.{eqb_self}
-use Rattle.qs_meaning.proofs.Each.{each_kept}
-use Rattle.qs_chunk.specs.LaneViews.{ClientLane, HandlerLane, gone, over}
-use Rattle.qs_chunk.specs.audit.Runs.{ran_all}
-use Rattle.qs_chunk.specs.declared.parcel.Parcel.{Parcel}
+use Rattle.qs_played.proofs.Names.{AllByRecursion, HeldState, IsFront, Event, Ticket, eqb_self, each_kept}
+use Rattle.qs_core_laws.proofs.Names.{ClientLane, HandlerLane, gone, over, ran_all, Parcel}
 use Rattle.qs_chunk.specs.declared.parcel.Parcel.TheVariants.{Work, Sync, Home, End}
 use Rattle.qs_handler.specs.HandlerTurns.{Turn, TurnsLead, turns_for}
 use Rattle.qs_core_laws.proofs.protocol.LaneFronts.{front_rest}

@@ -2,32 +2,11 @@
 -- blocks of a client are its tickets in the order and that a handler's turns are the tickets of the order that reserve
 -- it; the lanes give that the two ends had the same. So a handler served whole what the clients of its tickets sent,
 -- one ticket after another.
-use Rattle.std.proofs.Common.{◌≡◌, ◌<◌, arith, ℕ, true, false, if◌then◌else◌, nat_lt, ◌==◌, List, [], ◌∷◌, map, flat_map, length, refl, sym, ap, ◌∙◌, subst, append-nil}
-use Rattle.std.specs.List.{AllByRecursion}
-use Rattle.qs_objects.specs.audit.Journals.{HeldState}
-use Rattle.qs_objects.specs.audit.Parts.{IsFront, part}
-use Rattle.qs_objects.specs.declared.held.Ticket.{Ticket}
-use Rattle.qs_objects.proofs.Choices.{eqb_true}
-use Rattle.qs_program.specs.audit.Program.{ProgramShape, blocks_of}
-use Rattle.qs_program.specs.Sound.{IsSound}
-use Rattle.qs_meaning.specs.audit.Following.{reserves}
-use Rattle.qs_meaning.proofs.Each.{each_both, each_kept, each_map, each_passes}
-use Rattle.qs_syncset.specs.audit.Codes.{ClientCode, AreCodes}
-use Rattle.qs_syncset.specs.declared.mode.Mode.{Mode}
-use Rattle.qs_chunk.specs.audit.LaneRun.{IsLaneRun}
-use Rattle.qs_chunk.specs.LaneViews.{ClientLane, HandlerLane, gone, over, sends}
-use Rattle.qs_chunk.specs.declared.parcel.Parcel.{Parcel}
-use Rattle.qs_handler.specs.audit.HandlerRuns.{given_to, received_from}
-use Rattle.qs_handler.specs.HandlerTurns.{Turn, TurnsLead, turns_for}
-use Rattle.qs_client.specs.audit.ClientRuns.{got_from, reservations, sent_to}
-use Rattle.qs_played.specs.audit.Played.{ticket}
-use Rattle.qs_played.proofs.JournalRooms.{no_block_beyond}
-use Rattle.qs_played.proofs.ReservedObjects.{reserved_inside}
-use Rattle.qs_core_laws.specs.protocol.ClientHistories.{upto}
+use Rattle.std.proofs.Common.{◌≡◌, ◌<◌, arith, ℕ, true, false, if◌then◌else◌, nat_lt, ◌==◌, List, [], ◌∷◌, map, flat_map, length, refl, sym, ap, ◌∙◌, subst, append-nil, rules}
+use Rattle.qs_played.proofs.Names.{AllByRecursion, HeldState, IsFront, part, Ticket, eqb_true, ProgramShape, blocks_of, IsSound, reserves, each_both, each_kept, each_map, each_passes, ticket, fresh_held}
+use Rattle.qs_core_laws.proofs.Names.{ClientCode, AreCodes, Mode, IsLaneRun, ClientLane, HandlerLane, gone, over, sends, Parcel, given_to, received_from, got_from, reservations, sent_to, no_block_beyond, reserved_inside, upto}
+use Rattle.qs_run_laws.proofs.Names.{Turn, TurnsLead, turns_for, of_client, of_handler, IsThreadRun, ThreadRun}
 use Rattle.qs_core_laws.proofs.protocol.ObjectViews.{PastOf}
-use Rattle.qs_played.specs.audit.JournalRooms.{fresh_held}
-use Rattle.qs_desk.specs.audit.Tickets.{of_client, of_handler}
-use Rattle.qs_run_laws.specs.audit.ThreadRuns.{IsThreadRun, ThreadRun}
 use Rattle.qs_run_laws.proofs.ClientTickets.{along_turns, legal_tickets, upto_tickets, without_others}
 use Rattle.qs_run_laws.proofs.LaneCuts.{AreFronts, IsMet, Sent, block_whole, turns_meet}
 use Rattle.qs_run_laws.proofs.ThreadHistories.{block_begun, count_is, count_of, deeds_of, held_of, inside, tale, tasks_of, turned, turns_are}

@@ -6,3 +6,4 @@ pub mod LanesMeet
 pub mod ThreadsIsolated
 pub mod RunOutcomes
 pub mod ClientRowsEnd
+pub mod Names

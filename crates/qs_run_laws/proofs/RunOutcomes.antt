@@ -2,30 +2,9 @@
 -- serial run of its order has the same blocks, one place for each ticket; from that follow entries, traces, journals
 -- and states. The synchronisations of a block follow from its trace, by the lemma that the optimised machine uses too.
 use Rattle.std.proofs.Common.{◌≡◌, ◌<◌, ◌≤◌, ◌+◌, arith, ℕ, zero, suc, false, List, [], ◌∷◌, ◌++◌, map, flat_map, length, refl, sym, ap, ap₂, ◌∙◌, subst, inl, rules}
-use Rattle.std.proofs.lemmas.List.{get_or-map}
-use Rattle.std.specs.List.{AllByRecursion, AllZip, range_with_len}
-use Rattle.qs_objects.specs.audit.Journals.{HeldState}
-use Rattle.qs_objects.specs.audit.Parts.{part}
-use Rattle.qs_objects.specs.Parts.{stamp}
-use Rattle.qs_objects.specs.declared.held.Entry.{Entry}
-use Rattle.qs_objects.specs.declared.held.Ticket.{Ticket}
-use Rattle.qs_program.specs.audit.Program.{ProgramShape, blocks_of}
-use Rattle.qs_program.specs.Sound.{IsSound}
-use Rattle.qs_meaning.specs.Following.{Leads, block_tree}
-use Rattle.qs_meaning.specs.Serial.{SerialBlock, serial}
-use Rattle.qs_meaning.proofs.SerialRuns.{Agrees, legal_apart, runs_serially}
-use Rattle.qs_syncset.specs.audit.Codes.{ClientCode, AreCodes}
-use Rattle.qs_syncset.specs.SyncCounts.{syncs_along}
-use Rattle.qs_sync_counts.specs.audit.SyncRows.{object_of}
-use Rattle.qs_sync_counts.specs.SyncRows.{syncs_for}
-use Rattle.qs_syncset.specs.declared.mode.Mode.{Mode}
-use Rattle.qs_client.specs.audit.ClientModel.{synced_block}
-use Rattle.qs_played.specs.audit.Isolation.{ended_of, ticket_at, trace_of}
-use Rattle.qs_played.specs.Isolation.{entry_of}
-use Rattle.qs_played.specs.audit.Played.{ticket}
+use Rattle.qs_played.proofs.Names.{get_or-map, AllByRecursion, AllZip, range_with_len, HeldState, part, stamp, Entry, Ticket, ProgramShape, blocks_of, IsSound, Leads, block_tree, SerialBlock, serial, Agrees, legal_apart, runs_serially, syncs_along, object_of, syncs_for, ended_of, ticket_at, trace_of, entry_of, ticket}
+use Rattle.qs_core_laws.proofs.Names.{ClientCode, AreCodes, Mode, synced_block, no_block_beyond, among_once}
 use Rattle.qs_played.specs.SyncSums.{AreSent, AreSyncsCounted, IsCounted, counts_at, syncs_at}
-use Rattle.qs_played.proofs.JournalRooms.{no_block_beyond}
-use Rattle.qs_played.proofs.Orders.{among_once}
 use Rattle.qs_core_laws.proofs.protocol.ClientInvariants.{objects_of_block}
 use Rattle.qs_core_laws.proofs.protocol.HistoryCounts.{IsTallied}
 use Rattle.qs_core_laws.proofs.protocol.CountedTraces.{trace_counted, tree_count}

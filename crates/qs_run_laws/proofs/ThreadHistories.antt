@@ -2,44 +2,17 @@
 -- The laws on one client and on one handler say so from the deeds and the tasks alone. Beyond the clients and objects
 -- of the program nobody does anything, so that the later lemmas need not ask whether a number is one of them.
 use Rattle.std.proofs.Common.{◌≡◌, ◌<◌, ◌≤◌, arith, ℕ, Bool, true, false, if◌then◌else◌, nat_lt, List, [], ◌∷◌, ◌++◌, map, length, refl, sym, ap, ap₂, ◌∙◌, subst, rules}
-use Rattle.std.specs.List.{AllByRecursion}
-use Rattle.qs_objects.specs.audit.Journals.{HeldState}
+use Rattle.qs_played.proofs.Names.{AllByRecursion, HeldState, Ticket, ProgramShape, blocks_of, IsSound, Locals, reserves, block_tree, blocks_ask_only, IsAsking, ticket, fresh_held}
 use Rattle.qs_objects.specs.declared.held.Next.TheVariants as nexts
-use Rattle.qs_objects.specs.declared.held.Ticket.{Ticket}
-use Rattle.qs_program.specs.audit.Program.{ProgramShape, blocks_of}
-use Rattle.qs_program.specs.Sound.{IsSound}
-use Rattle.qs_program.specs.audit.Values.{Locals}
-use Rattle.qs_meaning.specs.audit.Following.{reserves}
-use Rattle.qs_meaning.specs.Following.{block_tree}
-use Rattle.qs_meaning.proofs.SoundTrees.{blocks_ask_only}
-use Rattle.qs_graph.specs.Synced.{without_syncs}
-use Rattle.qs_syncset.specs.audit.Codes.{BlockCode, ClientCode, code_at, AreCodes}
-use Rattle.qs_syncset.specs.SoundSynced.{IsSoundSynced, IsOnReserved}
-use Rattle.qs_syncset.specs.declared.mode.Mode.{Mode}
-use Rattle.qs_syncset.proofs.CountedSyncs.{code_asks}
-use Rattle.qs_syncset.proofs.SyncTrees.{IsAsking}
-use Rattle.qs_client.specs.audit.run.BlockSizes.{longest}
+use Rattle.qs_core_laws.proofs.Names.{without_syncs, BlockCode, ClientCode, code_at, AreCodes, IsSoundSynced, IsOnReserved, Mode, code_asks, longest, free, closed, Task, takes, TasksLead, taken_by, Deed, RunsTo, ClientModel, finish, fresh_mind, hands_out, next_act, next_mind, tree_at, no_block_beyond, reserved_inside, legal_blocks, ClientHistory, longest_covers}
 use Rattle.qs_client.specs.declared.rules.act.Act.TheVariants as acts
-use Rattle.qs_handler.specs.audit.Handler.{free, closed}
-use Rattle.qs_handler.specs.audit.HandlerRuns.{Task, takes, TasksLead, taken_by}
-use Rattle.qs_handler.specs.HandlerTurns.{HasTurns, Turn}
+use Rattle.qs_run_laws.proofs.Names.{HasTurns, Turn, of_handler, IsThreadRun, ThreadRun}
 use Rattle.qs_handler.proofs.RunTurns.{handlers_take_turns}
-use Rattle.qs_client.specs.audit.ClientRuns.{Deed, RunsTo}
-use Rattle.qs_client.specs.audit.ClientModel.{ClientModel, finish, fresh_mind, hands_out, next_act, next_mind, tree_at}
-use Rattle.qs_played.specs.audit.Played.{ticket}
-use Rattle.qs_played.proofs.JournalRooms.{no_block_beyond}
-use Rattle.qs_played.proofs.ReservedObjects.{reserved_inside}
-use Rattle.qs_played.proofs.SyncLists.{legal_blocks}
 use Rattle.qs_core_laws.proofs.protocol.ClientInvariants.{objects_of_block}
 use Rattle.qs_core_laws.proofs.protocol.ClientHistories.{client_history}
-use Rattle.qs_core_laws.specs.protocol.ClientHistories.{ClientHistory}
 use Rattle.qs_core_laws.proofs.protocol.HistoryCounts.{HistoryCounts, history_counts, in_counts}
-use Rattle.qs_played.specs.audit.JournalRooms.{fresh_held}
 use Rattle.qs_core_laws.proofs.protocol.ReservedLists.{lined}
-use Rattle.qs_client.proofs.run.CodeBounds.{longest_covers}
 use Rattle.qs_core_laws.proofs.protocol.ProgramTrees.{block_walk, blocks_are, reserved_is}
-use Rattle.qs_desk.specs.audit.Tickets.{of_handler}
-use Rattle.qs_run_laws.specs.audit.ThreadRuns.{IsThreadRun, ThreadRun}
 
 -- the tickets of turns, by what was taken up to the closing mark
 turned_tickets : (us : List Turn) (ts : List Ticket)
@@ -54,11 +27,7 @@ turned_tickets _ _ e = absurd (cc)
 -- no block reserves what is no object
 none_reserve : (p : ProgramShape) → IsSound p → (h : ℕ) → length p.objects ≤ h → (ts : List Ticket) → of_handler p h ts ≡ []
 none_reserve p sound h out [] = refl
-none_reserve p sound h out (t ∷ ts) = by_case (reserves p t h) refl (none_reserve p sound h out ts)
-  where
-    by_case : (b : Bool) → reserves p t h ≡ b → of_handler p h ts ≡ [] → (if b then t ∷ of_handler p h ts else of_handler p h ts) ≡ []
-    by_case true own ih = absurd (let own_object = reserved_inside p sound t h own in omega (arith, own_object, out))
-    by_case false other ih = ih
+none_reserve p sound h out (t ∷ ts) = grind (arith, reserved_inside, none_reserve p sound h out ts)
 
 module _ (p : ProgramShape) (sound : IsSound p) (mode : Mode) (code : ℕ → ClientCode) (codes : AreCodes p mode code) (size : ℕ) (r : ThreadRun)
     (run : IsThreadRun p code size r) where

@@ -2,34 +2,10 @@
 -- journals grow along the order of reservations; and by the one lemma on abstract runs such a run does what the serial
 -- run does.
 use Rattle.std.proofs.Common.{◌≡◌, ◌<◌, ◌≤◌, arith, ℕ, zero, suc, Bool, true, false, nat_lt, get_or, [], length, refl, sym, ap, ◌∙◌, subst, rules}
-use Rattle.std.proofs.lemmas.List.{get_or-map, get_or_past, length-map}
-use Rattle.std.proofs.lemmas.List.FromFn.{get_or-map-range_with_len, length-range_with_len}
-use Rattle.std.specs.List.{AllByRecursion, range_with_len}
-use Rattle.qs_objects.specs.audit.Journals.{HeldState, replay, without_tickets, IsHonest}
-use Rattle.qs_objects.specs.audit.Parts.{part}
-use Rattle.qs_objects.specs.Parts.{HasEntry}
-use Rattle.qs_objects.specs.declared.held.Ticket.{Ticket}
-use Rattle.qs_objects.proofs.Elements.{AllByRecursion-get_or}
-use Rattle.qs_program.specs.audit.Program.{ProgramShape, blocks_of, text_of}
-use Rattle.qs_program.specs.Sound.{IsSound}
-use Rattle.qs_program.specs.audit.Values.{Locals}
-use Rattle.qs_meaning.specs.Following.{block_tree}
-use Rattle.qs_meaning.specs.audit.Serial.{declared_states, no_state}
-use Rattle.qs_meaning.proofs.Each.{each_map}
-use Rattle.qs_meaning.proofs.Histories.{Among, Flow}
-use Rattle.qs_meaning.specs.BlockRecords.{Begins, IsBlockRecord, BlockRecord}
-use Rattle.qs_meaning.proofs.RequestPaths.{requests_within}
-use Rattle.qs_meaning.proofs.SerialRuns.{line}
-use Rattle.qs_syncset.specs.audit.Codes.{ClientCode, AreCodes}
-use Rattle.qs_syncset.specs.declared.mode.Mode.{Mode}
-use Rattle.qs_client.specs.audit.ClientModel.{ClientModel}
-use Rattle.qs_played.specs.audit.Isolation.{journal_of, state_of, ticket_at}
+use Rattle.qs_played.proofs.Names.{get_or-map, get_or_past, length-map, get_or-map-range_with_len, length-range_with_len, AllByRecursion, range_with_len, HeldState, replay, without_tickets, IsHonest, part, HasEntry, Ticket, AllByRecursion-get_or, ProgramShape, blocks_of, text_of, IsSound, Locals, block_tree, declared_states, no_state, each_map, Among, Flow, Begins, IsBlockRecord, BlockRecord, requests_within, line, journal_of, state_of, ticket_at, fresh_held, room_of, Played, ticket}
+use Rattle.qs_core_laws.proofs.Names.{ClientCode, AreCodes, Mode, ClientModel, all_left, cost, leads_within, no_block_beyond, order_fits, total_less, legal_among}
 use Rattle.qs_played.specs.Isolation.{IsIsolated}
-use Rattle.qs_played.specs.audit.JournalRooms.{fresh_held, room_of}
-use Rattle.qs_played.specs.audit.Played.{Played, ticket}
 use Rattle.qs_played.proofs.AbstractRun.{IsRun, run_isolated}
-use Rattle.qs_played.proofs.JournalRooms.{all_left, cost, leads_within, no_block_beyond, order_fits, total_less}
-use Rattle.qs_played.proofs.Orders.{legal_among}
 use Rattle.qs_run_laws.specs.audit.ThreadRuns.{IsThreadRun, ThreadRun, counts_by, entry_by, shown_by, trace_by}
 use Rattle.qs_run_laws.proofs.ClientTickets.{legal_counts}
 use Rattle.qs_run_laws.proofs.JournalFlows.{JournalGrowth, IsOver, grows, size_of}
