@@ -1,24 +1,12 @@
 -- What `collect_outcome` shows is an outcome. Its calls say what each of them did, one after another, and change the
 -- desk's name for itself and the handlers on the way; here all of it is said of the desk and the workers as they were
 -- in the beginning, and the lemmas on these are brought together.
-use Rattle.std.proofs.Common.{◌≡◌, ◌≤◌, ℕ, List, length, map, sym, ap, ◌∙◌, subst}
-use Rattle.std.specs.List.{AllByRecursion}
-use Rattle.qs_objects.specs.audit.Act.{State}
-use Rattle.qs_objects.specs.declared.held.Entry.{Entry}
-use Rattle.qs_objects.specs.declared.held.Ticket.{Ticket}
-use Rattle.qs_program.specs.audit.Program.{ProgramShape}
-use Rattle.qs_program.specs.Sound.{IsSound}
+use Rattle.std.proofs.Common.{◌≡◌, ◌≤◌, ℕ, List, length, map, sym, ap, ◌∙◌, subst, rules, arith}
+use Rattle.qs_played.proofs.Names.{AllByRecursion, State, Entry, Ticket, ProgramShape, IsSound, IsLegal, ClientRows, HaveRows}
 use Rattle.qs_program.specs.Limits.{most_tickets}
-use Rattle.qs_meaning.specs.audit.Serial.{IsLegal}
 use Rattle.qs_syncset.specs.declared.mode.Mode.{Mode}
-use Rattle.qs_desk.specs.Views.{DeskView}
+use Rattle.qs_run.proofs.Names.{DeskView, IsOutcome, HaveRun, ClientWorker, HandlerWorker, AreAllJoined, AreCountsShort, HasTakenAll, IsBooked, worker_journal, worker_rows, shown_when_over, worker_state, without_lanes_below}
 use Rattle.qs_desk.proofs.Orders as orders
-use Rattle.qs_played.specs.Played.{ClientRows, HaveRows}
-use Rattle.qs_run_laws.specs.Outcomes.{IsOutcome}
-use Rattle.qs_run.specs.Workers.{HaveRun}
-use Rattle.qs_run.specs.declared.worker.ClientWorker.{ClientWorker}
-use Rattle.qs_run.specs.declared.worker.HandlerWorker.{HandlerWorker}
-use Rattle.qs_run.specs.Collected.{AreAllJoined, AreCountsShort, HasTakenAll, IsBooked, worker_journal, worker_rows, shown_when_over, worker_state, without_lanes_below}
 use Rattle.qs_run.proofs.CollectedWorkers.{all_collected, journals_still, states_still}
 use Rattle.qs_run.proofs.ShownOutcome.{have_rows, outcome, short}
 use Rattle.qs_run.proofs.CollectedRun.{IsCollected}
@@ -33,12 +21,7 @@ pub record IsShowable (p : ProgramShape) (mode : Mode) (size : ℕ) (order : Lis
 module _ {D : Type 0} (p : ProgramShape) (sound : IsSound p) (mode : Mode) (size : ℕ) (handlers : List (HandlerWorker D)) (clients : List (ClientWorker D))
     (ran : HaveRun p mode size handlers clients) where
   by_collected : (order : List Ticket) → IsCollected p order handlers clients → IsShowable p mode size order (map worker_rows clients) (map worker_journal handlers) (map worker_state handlers)
-  by_collected order joined = record {
-    few = orders.short p order sound joined.legal;
-    rows_there = have_rows p sound mode size order handlers clients ran joined;
-    short_rows = short p sound mode size order handlers clients ran joined;
-    is_outcome = outcome p sound mode size order handlers clients ran joined;
-  }
+  by_collected order joined = search (rules, orders.short, have_rows, short, outcome)
 
   -- the desk before, after the clients and after the handlers were collected; the handlers before, and without their
   -- lanes

@@ -3,40 +3,15 @@
 -- handler took all that was pushed to it, and that what went into a lane came out of it, is known only after the
 -- comparisons. A run of threads has functions of numbers, and the workers are lists; so the deeds and the mind of a
 -- client, and the tasks and the object of a handler, are looked up in these lists.
-use Rattle.std.proofs.Common.{◌≡◌, ◌<◌, ℕ, true, false, List, [], Option, Some, None, length, slice_get, sym, ap, ◌∙◌, subst, arith, IsSome}
-use Rattle.std.proofs.lemmas.List.Elements.{length_all_zip}
-use Rattle.std.proofs.lemmas.Option.{slice_get_past}
-use Rattle.std.specs.List.{AllByRecursion}
-use Rattle.qs_objects.specs.audit.Journals.{HeldState}
-use Rattle.qs_objects.specs.declared.held.Ticket.{Ticket}
-use Rattle.qs_program.specs.audit.Program.{ProgramShape, blocks_of}
-use Rattle.qs_program.specs.Sound.{IsSound}
-use Rattle.qs_meaning.specs.audit.Following.{reserves}
-use Rattle.qs_meaning.specs.audit.Serial.{IsLegal}
-use Rattle.qs_syncset.specs.audit.Codes.{ClientCode, IsCodeOf, AreCodes}
-use Rattle.qs_syncset.specs.declared.mode.Mode.{Mode}
-use Rattle.qs_chunk.specs.audit.LaneRun.{IsLaneRun}
-use Rattle.qs_chunk.specs.declared.parcel.Parcel.{Parcel}
-use Rattle.qs_handler.specs.audit.Handler.{free, closed}
-use Rattle.qs_handler.specs.audit.HandlerRuns.{Task, TasksLead, given_to, received_from, taken_by}
+use Rattle.std.proofs.Common.{◌≡◌, ◌<◌, ℕ, true, false, List, [], Option, Some, None, length, slice_get, sym, ap, ◌∙◌, subst, arith, IsSome, rules}
+use Rattle.qs_played.proofs.Names.{length_all_zip, slice_get_past, AllByRecursion, HeldState, Ticket, ProgramShape, blocks_of, IsSound, reserves, IsLegal, ticket, fresh_held}
+use Rattle.qs_core_laws.proofs.Names.{ClientCode, IsCodeOf, AreCodes, Mode, IsLaneRun, Parcel, free, closed, Task, TasksLead, given_to, received_from, taken_by, Deed, RunsTo, got_from, reservations, sent_to, ClientModel, fresh_mind, mind_of, no_block_beyond, reserved_inside}
 use Rattle.qs_handler.proofs.RunTurns.{handlers_take_turns}
-use Rattle.qs_client.specs.audit.ClientRuns.{Deed, RunsTo, got_from, reservations, sent_to}
-use Rattle.qs_client.specs.audit.ClientModel.{ClientModel, fresh_mind}
-use Rattle.qs_client.specs.MindState.{mind_of}
 use Rattle.qs_run.specs.client.ClientThreads as running
 use Rattle.qs_desk.specs.audit.Tickets.{of_client, pushed_to}
-use Rattle.qs_desk.specs.Views.{ShareView, TicketsView}
+use Rattle.qs_run.proofs.Names.{ShareView, TicketsView, InView, OutView, AreOneLane, ClientHasRun, HandlerHasServed, HaveRun, ClientWorker, HandlerWorker, HasTakenAll, AreEndsJoined, IsBooked}
 use Rattle.qs_run.specs.handler.HandlerThreads as handling
-use Rattle.qs_lane.specs.Views.{InView, OutView}
-use Rattle.qs_played.specs.audit.Played.{ticket}
-use Rattle.qs_played.specs.audit.JournalRooms.{fresh_held}
-use Rattle.qs_played.proofs.JournalRooms.{no_block_beyond}
-use Rattle.qs_played.proofs.ReservedObjects.{reserved_inside}
 use Rattle.qs_run_laws.specs.audit.ThreadRuns.{IsThreadRun, ThreadRun}
-use Rattle.qs_run.specs.Workers.{AreOneLane, ClientHasRun, HandlerHasServed, HaveRun}
-use Rattle.qs_run.specs.declared.worker.ClientWorker.{ClientWorker}
-use Rattle.qs_run.specs.declared.worker.HandlerWorker.{HandlerWorker}
-use Rattle.qs_run.specs.Collected.{HasTakenAll, AreEndsJoined, IsBooked}
 use Rattle.qs_run.proofs.ListPlaces.{IsBothAt, all_at, both_at, there}
 
 -- all that is known of the workers together once they are joined
@@ -174,8 +149,7 @@ module _ {D : Type 0} (p : ProgramShape) (sound : IsSound p) (mode : Mode) (size
     own = λ c own.
         let a = client_at c own in
         subst (λ k. IsCodeOf p mode c k) (sym (ap code_in a.first_is)) (ran.ready.all_clients.each c a.first a.first_is).0.mind.code;
-    none = λ c out. ap (λ (w : Option (ClientWorker D)). (code_in w).blocks)
-        (slice_get_past ran.before_clients c (let all = ran.ready.all_clients.many in omega (arith, out, all)));
+    none = grind (arith, slice_get_past, ran);
   }
 
   pub threads_run : IsThreadRun p code size threads

@@ -2,28 +2,14 @@
 -- that they can be joined; there are no more workers than there is room for; and in the end all is known of them that
 -- makes a run of threads (`IsCollected`). When the handlers are collected, their ends of lanes have been taken out
 -- already, but their tickets, journals and states are as before.
-use Rattle.std.proofs.Common.{◌≡◌, ◌≤◌, ℕ, zero, suc, true, List, [], ◌∷◌, ◌++◌, Option, Some, None, length, map, refl, sym, ap, ◌∙◌, subst, arith}
-use Rattle.std.specs.List.{AllByRecursion}
-use Rattle.qs_objects.specs.audit.Journals.{HeldState}
-use Rattle.qs_objects.specs.declared.held.Next.{Next}
+use Rattle.std.proofs.Common.{◌≡◌, ◌≤◌, ℕ, zero, suc, true, List, [], ◌∷◌, ◌++◌, Option, Some, None, length, map, refl, sym, ap, ◌∙◌, subst, arith, rules}
+use Rattle.qs_played.proofs.Names.{AllByRecursion, HeldState, Ticket, ProgramShape, IsSound, most_handlers, IsLegal}
+use Rattle.qs_run.proofs.Names.{Next, TicketsView, InView, OutView, AreOneLane, ClientHasRun, HandlerHasServed, HaveRun, ClientWorker, HandlerWorker, AreAllJoined, AreAllPaired, HasTakenAll, IsBooked, worker_journal, worker_state, without_lanes_below}
 use Rattle.qs_objects.specs.declared.held.Next.TheVariants.{Closed}
-use Rattle.qs_objects.specs.declared.held.Ticket.{Ticket}
-use Rattle.qs_program.specs.audit.Program.{ProgramShape}
-use Rattle.qs_program.specs.Sound.{IsSound}
-use Rattle.qs_program.specs.audit.Limits.{most_handlers}
-use Rattle.qs_meaning.specs.audit.Serial.{IsLegal}
-use Rattle.qs_syncset.specs.declared.mode.Mode.{Mode}
-use Rattle.qs_handler.specs.audit.HandlerRuns.{Task}
-use Rattle.qs_client.specs.audit.ClientRuns.{Deed}
+use Rattle.qs_core_laws.proofs.Names.{Mode, Task, Deed}
 use Rattle.qs_run.specs.client.ClientThreads as running
 use Rattle.qs_desk.specs.audit.Tickets.{pushed_to}
-use Rattle.qs_desk.specs.Views.{TicketsView}
 use Rattle.qs_run.specs.handler.HandlerThreads as handling
-use Rattle.qs_lane.specs.Views.{InView, OutView}
-use Rattle.qs_run.specs.Workers.{AreOneLane, ClientHasRun, HandlerHasServed, HaveRun}
-use Rattle.qs_run.specs.declared.worker.ClientWorker.{ClientWorker}
-use Rattle.qs_run.specs.declared.worker.HandlerWorker.{HandlerWorker}
-use Rattle.qs_run.specs.Collected.{AreAllJoined, AreAllPaired, HasTakenAll, IsBooked, worker_journal, worker_state, without_lanes_below}
 use Rattle.qs_run.proofs.ListPlaces.{first_of, map_still}
 use Rattle.qs_run.proofs.CollectedRun.{IsCollected, handlers_many}
 
@@ -34,30 +20,16 @@ TakesAll p order t = (before : List Next) → t.taken ≡ before ++ Closed ∷ [
 -- the names of ends stay, so the ends of one lane are those of one lane after the run too
 one_lane_still : (h c : ℕ) (deeds : List Deed) (tasks : List Task) (a b : Option OutView) (u v : Option InView)
     → running.HasDone h deeds a b → AreOneLane a u → handling.HasServed c tasks u v → AreOneLane b v
-one_lane_still h c deeds tasks None None None None done one served = tt
-one_lane_still h c deeds tasks None None None (Some v) done one served = absurd served
-one_lane_still h c deeds tasks None None (Some u) v done one served = absurd one
-one_lane_still h c deeds tasks None (Some b) u v done one served = absurd done
-one_lane_still h c deeds tasks (Some a) None u v done one served = absurd done
-one_lane_still h c deeds tasks (Some a) (Some b) None v done one served = absurd one
-one_lane_still h c deeds tasks (Some a) (Some b) (Some u) None done one served = absurd served
-one_lane_still h c deeds tasks (Some a) (Some b) (Some u) (Some v) done one served = done.0 ∙ (one ∙ sym served.0)
+one_lane_still h c deeds tasks w z u v done one served = search rules
 
 module _ {D : Type 0} where
   module _ (p : ProgramShape) (mode : Mode) (size : ℕ) (handlers : List (HandlerWorker D)) (clients : List (ClientWorker D))
       (ran : HaveRun p mode size handlers clients) where
     pub all_paired : AreAllPaired handlers clients
-    all_paired c w es h r er =
-        let a = first_of ClientHasRun ran.before_clients clients ran.ran c w es in
-        let b = first_of (HandlerHasServed p) ran.before_handlers handlers ran.served h r er in
-        one_lane_still h c a.2.deeds b.2.tasks (running.out_lane_at a.0.lanes h) (running.out_lane_at w.lanes h) (handling.in_lane_at b.0.lanes c)
-        (handling.in_lane_at r.lanes c) (a.2.done.ends h) (ran.ready.lanes c h a.0 b.0 a.1 b.1) (b.2.served.ends c)
+    all_paired c w es h r er = search (rules, first_of, ran, one_lane_still, w)
 
     pub few_handlers : IsSound p → length handlers ≤ most_handlers
-    few_handlers sound =
-        let many = handlers_many p mode size handlers clients ran in
-        let few = sound.objects in
-        omega (arith, many, few)
+    few_handlers sound = search (rules, handlers_many)
 
   -- a handler without lanes has its tickets, its journal and its state still
   tickets_still : (n : ℕ) (w : HandlerWorker D) → (without_lanes_below n w).tickets ≡ w.tickets
@@ -82,9 +54,4 @@ module _ {D : Type 0} where
   pub all_collected : (p : ProgramShape) (order : List Ticket) (n : ℕ) (handlers left : List (HandlerWorker D)) (clients : List (ClientWorker D)) → IsLegal p order
       → AllByRecursion (IsBooked order) clients → AreAllJoined handlers clients → left ≡ map (without_lanes_below n) handlers → AllByRecursion (HasTakenAll p order) left
       → IsCollected p order handlers clients
-  all_collected p order n handlers left clients legal booked joined is followed = record {
-    legal = legal;
-    booked = booked;
-    taken_all = all_taken_before p order n handlers (subst (AllByRecursion (HasTakenAll p order)) is followed);
-    lanes = λ c h w r es er. joined c w es h r er;
-  }
+  all_collected p order n handlers left clients legal booked joined is followed = search (rules, all_taken_before)

@@ -2,22 +2,12 @@
 -- which nothing is taken. The desk has eight places of each; those of the clients and handlers that the program has are
 -- filled, by their numbers.
 use Rattle.std.proofs.Common.{◌≡◌, ℕ, zero, suc, ◌<◌, ◌≤◌, true, nat_lt, if◌then◌else◌, [], map, length, get_or, Some, None, refl, ap, ◌∙◌, arith, rules, tests}
-use Rattle.std.proofs.lemmas.List.{get_or-map}
-use Rattle.qs_program.specs.audit.Program.{ProgramShape}
-use Rattle.qs_program.specs.audit.Limits.{most_clients, most_handlers, most_objects}
+use Rattle.qs_played.proofs.Names.{get_or-map, ProgramShape, most_clients, most_handlers, most_objects}
 use Rattle.qs_desk.specs.TicketQueues.{tickets_at}
 use Rattle.qs_desk.specs.Places.{places, share_at}
 
 place_at : (i : ℕ) → i < most_handlers → get_or places i 0 ≡ i
-place_at zero less = refl
-place_at (suc zero) less = refl
-place_at (suc (suc zero)) less = refl
-place_at (suc (suc (suc zero))) less = refl
-place_at (suc (suc (suc (suc zero)))) less = refl
-place_at (suc (suc (suc (suc (suc zero))))) less = refl
-place_at (suc (suc (suc (suc (suc (suc zero)))))) less = refl
-place_at (suc (suc (suc (suc (suc (suc (suc zero))))))) less = refl
-place_at (suc (suc (suc (suc (suc (suc (suc (suc i)))))))) less = absurd (omega (arith, less))
+place_at v less = grind arith
 
 at_place : {X : Type 0} (f : ℕ → X) (i : ℕ) (d : X) → i < most_handlers → get_or (map f places) i d ≡ f i
 at_place f i d less = get_or-map f places i 0 d less ∙ ap f (place_at i less)

@@ -1,27 +1,17 @@
 -- Whether some block of a client reserves a handler (`ever_reserves`), against single blocks and against the numbers of
 -- a program. Lanes are made by the first and asked for by the second, and no lane is made for a client or a handler
 -- that the program does not have.
-use Rattle.std.proofs.Common.{◌≡◌, ℕ, zero, suc, ◌<◌, ◌≤◌, ◌==◌, Bool, true, false, ◌||◌, List, [], ◌∷◌, length, get_or, refl, sym, ap, ◌∙◌, arith}
-use Rattle.std.specs.List.{AllByRecursion, list_any}
-use Rattle.std.proofs.lemmas.Bool.{false≢true}
-use Rattle.std.proofs.lemmas.List.{get_or_past}
-use Rattle.qs_objects.specs.declared.held.Ticket.{Ticket}
+use Rattle.std.proofs.Common.{◌≡◌, ℕ, zero, suc, ◌<◌, ◌≤◌, ◌==◌, Bool, true, false, ◌||◌, List, [], ◌∷◌, length, get_or, refl, sym, ap, ◌∙◌, arith, rules}
+use Rattle.qs_meaning.proofs.Groups.{or_right}
+use Rattle.qs_played.proofs.Names.{AllByRecursion, list_any, false≢true, get_or_past, Ticket, is_in, IsSound, IsSoundBlock, IsSoundClient, Declared, reserves}
 use Rattle.qs_program.specs.audit.Program.{BlockShape, ClientShape, ProgramShape, client_at, no_block, no_client}
-use Rattle.qs_program.specs.audit.Sound.{is_in}
-use Rattle.qs_program.specs.Sound.{IsSound, IsSoundBlock, IsSoundClient}
-use Rattle.qs_program.specs.declared.program.Declared.{Declared}
-use Rattle.qs_meaning.specs.audit.Following.{reserves}
 use Rattle.qs_run.specs.Prepared.{ever_reserves}
-
-or_true : (a b : Bool) → b ≡ true → (a || b) ≡ true
-or_true true b is = refl
-or_true false b is = is
 
 -- a test that some member passes, though what stands for no member does not
 any_at : {X : Type 0} (f : X → Bool) (xs : List X) (i : ℕ) (d : X) → f d ≡ false → f (get_or xs i d) ≡ true → list_any f xs ≡ true
 any_at f [] i d none is = absurd (false≢true (sym none ∙ is))
 any_at f (x ∷ xs) zero d none is = ap (λ b. b || list_any f xs) is
-any_at f (x ∷ xs) (suc i) d none is = or_true (f x) (list_any f xs) (any_at f xs i d none is)
+any_at f (x ∷ xs) (suc i) d none is = or_right (f x) (list_any f xs) (any_at f xs i d none is)
 
 within : {X : Type 0} (f : X → Bool) (xs : List X) (i : ℕ) (d : X) → f d ≡ false → f (get_or xs i d) ≡ true → i < length xs
 within f [] i d none is = absurd (false≢true (sym none ∙ is))

@@ -1,27 +1,20 @@
 -- The ends of lanes in their places while they are made. One loop goes through the clients and the other through the
 -- handlers of a client; the lanes so far are there and the places of the others are empty, and each new end changes its
 -- own place alone. In the end all lanes of the program are there, and beyond its clients and handlers there is none.
-use Rattle.std.proofs.Common.{◌≡◌, ℕ, ◌+◌, ◌<◌, ◌≤◌, Bool, false, List, Option, None, length, sym, subst, ◌∙◌, inl, inr, below_more, arith}
-use Rattle.std.proofs.lemmas.Bool.{cases_lt}
-use Rattle.qs_program.specs.audit.Program.{ProgramShape}
-use Rattle.qs_program.specs.Sound.{IsSound}
-use Rattle.qs_lane.specs.Views.{InView, OutView}
-use Rattle.qs_run.specs.Prepared.{AreNewEnds, ever_reserves, in_at, out_at}
+use Rattle.std.proofs.Common.{◌≡◌, ℕ, ◌+◌, ◌<◌, ◌≤◌, Bool, false, List, Option, None, length, sym, subst, ◌∙◌, inl, inr, below_more, arith, rules}
+use Rattle.qs_played.proofs.Names.{cases_lt, ProgramShape, IsSound}
+use Rattle.qs_run.proofs.Names.{InView, OutView, AreNewEnds, ever_reserves, in_at, out_at}
 use Rattle.qs_run.proofs.EverReserved.{past_clients, past_handlers}
 
 -- the ends at two places are those that were put there
 ends_moved : (size : ℕ) (wanted : Bool) (out placed_out : Option OutView) (inside placed_in : Option InView) → AreNewEnds size wanted out inside
     → placed_out ≡ out → placed_in ≡ inside → AreNewEnds size wanted placed_out placed_in
-ends_moved size wanted out placed_out inside placed_in ends is_out is_in =
-    subst (λ o. AreNewEnds size wanted o placed_in) (sym is_out) (subst (λ i. AreNewEnds size wanted out i) (sym is_in) ends)
+ends_moved size wanted out v inside w ends u z = search rules
 
 -- there are no ends where no lane is wanted
 no_ends : (size : ℕ) (wanted : Bool) (out : Option OutView) (inside : Option InView) → wanted ≡ false → out ≡ None → inside ≡ None
     → AreNewEnds size wanted out inside
-no_ends size wanted out inside unwanted no_out no_in =
-    ends_moved size wanted None out None inside
-    (record { sending = record { there = sym unwanted; fresh = tt }; taking = record { there = sym unwanted; fresh = tt }; one = tt })
-    no_out no_in
+no_ends size wanted out inside unwanted v w = search (rules, ends_moved)
 
 module _ (p : ProgramShape) (size : ℕ) (outs : List (List (Option OutView))) (ins : List (List (Option InView))) where
   -- the ends between client c and handler h are in their places
@@ -34,17 +27,11 @@ module _ (p : ProgramShape) (size : ℕ) (outs : List (List (Option OutView))) (
 
   -- with the lanes to the handlers of the program a client has all of its lanes
   pub all_handlers : IsSound p → (c n : ℕ) → length p.objects ≤ n → ((h : ℕ) → h < n → AreEndsBetween c h) → ((h : ℕ) → n ≤ h → AreNoEndsAt c h) → (h : ℕ) → AreEndsBetween c h
-  all_handlers sound c n many done rest h = elim (cases_lt h n) [
-    | inl less ↦ done h less
-    | inr past ↦ no_ends size (ever_reserves p c h) (out_at outs c h) (in_at ins c h) (past_handlers p sound c h (omega (arith, many, past))) (rest h past).0 (rest h past).1
-  ]
+  all_handlers sound c n many done rest h = grind (arith, no_ends, past_handlers)
 
   -- with the lanes of the clients of the program all lanes are there
   pub all_clients : (n : ℕ) → length p.clients ≤ n → ((c h : ℕ) → c < n → AreEndsBetween c h) → ((c h : ℕ) → n ≤ c → AreNoEndsAt c h) → (c h : ℕ) → AreEndsBetween c h
-  all_clients n many done rest c h = elim (cases_lt c n) [
-    | inl less ↦ done c h less
-    | inr past ↦ no_ends size (ever_reserves p c h) (out_at outs c h) (in_at ins c h) (past_clients p c h (omega (arith, many, past))) (rest c h past).0 (rest c h past).1
-  ]
+  all_clients n many done rest c h = grind (arith, no_ends, past_clients)
 
   module _ (outs_before : List (List (Option OutView))) (ins_before : List (List (Option InView))) where
     -- the places of a client are as they were before
@@ -56,19 +43,11 @@ pub one_client_more : (p : ProgramShape) (size : ℕ) (outs outs_before : List (
     → ((c h : ℕ) → c < n → AreEndsBetween p size outs_before ins_before c h) → ((h : ℕ) → AreEndsBetween p size outs ins n h)
     → ((c h : ℕ) → (c ≡ n → ⊥) → AreEndsSame p size outs ins outs_before ins_before c h)
     → (c h : ℕ) → c < n + 1 → AreEndsBetween p size outs ins c h
-one_client_more p size outs outs_before ins ins_before n done here others = λ c h less.
-    below_more (λ k. (h : ℕ) → AreEndsBetween p size outs ins k h) n
-    (λ k below h.
-    let same = others k h (λ (e : k ≡ n). omega (arith, e, below)) in
-    ends_moved size (ever_reserves p k h) (out_at outs_before k h) (out_at outs k h) (in_at ins_before k h) (in_at ins k h) (done k h below) same.0 same.1)
-    here c less h
+one_client_more p size outs v ins w n done here others = grind (arith, below_more, ends_moved)
 
 -- and the places of those after it are as free as before
 pub rest_free : (p : ProgramShape) (size : ℕ) (outs outs_before : List (List (Option OutView))) (ins ins_before : List (List (Option InView))) (n : ℕ)
     → ((c h : ℕ) → n ≤ c → AreNoEndsAt p size outs_before ins_before c h)
     → ((c h : ℕ) → (c ≡ n → ⊥) → AreEndsSame p size outs ins outs_before ins_before c h)
     → (c h : ℕ) → n + 1 ≤ c → AreNoEndsAt p size outs ins c h
-rest_free p size outs outs_before ins ins_before n rest others c h past =
-    let same = others c h (λ (e : c ≡ n). omega (arith, e, past)) in
-    let free = rest c h (omega (arith, past)) in
-    (same.0 ∙ free.0, same.1 ∙ free.1)
+rest_free p size outs v ins w n rest others c h past = grind arith

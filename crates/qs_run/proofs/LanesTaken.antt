@@ -2,14 +2,11 @@
 -- them is taken out of its place. So two loops change the handlers: one goes through the handlers of one client, the
 -- other through the clients. These lemmas say, for the step of each loop, that the ends which are not taken yet are as
 -- before the run was collected, and which are taken afterwards.
-use Rattle.std.proofs.Common.{◌≡◌, ◌≢◌, ◌<◌, ◌≤◌, ◌+◌, ℕ, zero, suc, List, [], ◌∷◌, Option, Some, None, length, map, get_or, slice_get, slice_set, refl, sym, ap, ◌∙◌, subst, arith, add-one}
+use Rattle.std.proofs.Common.{◌≡◌, ◌≢◌, ◌<◌, ◌≤◌, ◌+◌, ℕ, zero, suc, List, [], ◌∷◌, Option, Some, None, length, map, get_or, slice_get, slice_set, refl, sym, ap, ◌∙◌, subst, arith, add-one, rules}
 use Rattle.std.proofs.lemmas.List.{get_or-set_other}
-use Rattle.qs_lane.specs.Views.{OutView}
+use Rattle.qs_run.proofs.Names.{OutView, AreEndsJoined, AreLanesJoined, AreLanesPaired, without_lane_of, without_lanes_below, AreOneLane, HandlerWorker}
 use Rattle.qs_run.specs.client.ClientThreads as running
 use Rattle.qs_run.specs.handler.HandlerThreads as handling
-use Rattle.qs_run.specs.Collected.{AreEndsJoined, AreLanesJoined, AreLanesPaired, without_lane_of, without_lanes_below}
-use Rattle.qs_run.specs.Workers.{AreOneLane}
-use Rattle.qs_run.specs.declared.worker.HandlerWorker.{HandlerWorker}
 use Rattle.qs_run.proofs.ListPlaces.{front_set, here_at, map_back, map_front, map_get}
 
 module _ {D : Type 0} where
@@ -21,16 +18,11 @@ module _ {D : Type 0} where
 
   -- a client's ends and the handlers', whose earlier lanes were without_lane_of
   pub paired_still : (lanes : List (Option OutView)) (n : ℕ) (hs : List (HandlerWorker D)) → AreLanesPaired lanes n hs → AreLanesPaired lanes n (map (without_lanes_below n) hs)
-  paired_still lanes n hs paired h r e =
-      let back = map_back (without_lanes_below n) hs h r e in
-      let same : handling.in_lane_at back.0.lanes n ≡ handling.in_lane_at r.lanes n =
-      sym (lane_still n n back.0 (omega arith)) ∙ ap (λ (s : HandlerWorker D). handling.in_lane_at s.lanes n) back.2 in
-      subst (AreOneLane (running.out_lane_at lanes h)) same (paired h back.0 back.1)
+  paired_still lanes n hs paired h r e = grind (arith, map_back, r, lane_still)
 
   -- and where they are joined now, those before the first client was collected are joined
   pub joined_before : (lanes : List (Option OutView)) (n : ℕ) (hs : List (HandlerWorker D)) → AreLanesJoined lanes n (map (without_lanes_below n) hs) → AreLanesJoined lanes n hs
-  joined_before lanes n hs joined h r e =
-      subst (AreEndsJoined (running.out_lane_at lanes h)) (lane_still n n r (omega arith)) (joined h (without_lanes_below n r) (map_get (without_lanes_below n) hs h r e))
+  joined_before lanes n hs joined h r e = grind (arith, lane_still, map_get)
 
   -- the steps of the loop through the clients
   pub none_taken : (hs : List (HandlerWorker D)) → hs ≡ map (without_lanes_below 0) hs

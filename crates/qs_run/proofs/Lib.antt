@@ -12,3 +12,4 @@ pub mod CollectedOutcome
 pub mod StartAnswers
 pub mod StartedGroups
 pub mod ReversedPairs
+pub mod Names

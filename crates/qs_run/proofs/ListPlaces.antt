@@ -1,10 +1,8 @@
 -- What is at the places of lists. The contracts of this crate say of all handlers, or of all clients, what holds at
 -- each place of a list, and the loops go through lists from the front, push to the end, or change one place after
 -- another. These lemmas say how each such step changes what holds at the places; they know nothing of workers.
-use Rattle.std.proofs.Common.{◌≡◌, ◌<◌, ◌≤◌, ◌+◌, ℕ, zero, suc, List, [], ◌∷◌, ◌++◌, Option, Some, None, length, map, drop, get_or, slice_get, slice_set, refl, sym, ap, ap₂, ◌∙◌, subst, arith, add-one}
-use Rattle.std.proofs.lemmas.List.{length_push}
-use Rattle.std.proofs.lemmas.Option.{none-some, same_Some, slice_get-map, slice_get_read}
-use Rattle.std.specs.List.{AllByRecursion, AllZip}
+use Rattle.std.proofs.Common.{◌≡◌, ◌<◌, ◌≤◌, ◌+◌, ℕ, zero, suc, List, [], ◌∷◌, ◌++◌, Option, Some, None, length, map, drop, get_or, slice_get, slice_set, refl, sym, ap, ap₂, ◌∙◌, subst, arith, add-one, rules}
+use Rattle.qs_played.proofs.Names.{length_push, none-some, same_Some, slice_get-map, slice_get_read, AllByRecursion, AllZip}
 use Rattle.std.specs.Option.{option_map}
 use Rattle.qs_run.specs.Workers.{IsListOf}
 
@@ -42,16 +40,16 @@ one_more P n xs more put x before here same is = record {
 
 -- the first of what is left of a list from place i on is its member there
 pub at_front : {X : Type 0} (xs : List X) (i : ℕ) (x : X) (rest : List X) → drop i xs ≡ x ∷ rest → slice_get xs i ≡ Some x
-at_front [] zero x rest is = absurd (cc)
-at_front [] (suc i) x rest is = absurd (cc)
 at_front (y ∷ ys) zero x rest is = cc
 at_front (y ∷ ys) (suc i) x rest is = at_front ys i x rest is
+at_front [] zero x rest is = absurd (cc)
+at_front [] (suc i) x rest is = absurd (cc)
 
 behind : {X : Type 0} (xs : List X) (i : ℕ) (x : X) (rest : List X) → drop i xs ≡ x ∷ rest → rest ≡ drop (suc i) xs
-behind [] zero x rest is = absurd (cc)
-behind [] (suc i) x rest is = absurd (cc)
 behind (y ∷ ys) zero x rest is = cc
 behind (y ∷ ys) (suc i) x rest is = behind ys i x rest is
+behind [] zero x rest is = absurd (cc)
+behind [] (suc i) x rest is = absurd (cc)
 
 -- and behind it is what is left from the next place on
 pub left_behind : {X : Type 0} (xs : List X) (i : ℕ) (x : X) (rest : List X) → drop i xs ≡ x ∷ rest → rest ≡ drop (i + 1) xs
@@ -100,10 +98,9 @@ module _ {X Y : Type 0} (R : X → Y → Type 0) where
   -- a place of the second list has one in the first
   pub first_of : (xs : List X) (ys : List Y) → AllZip R xs ys → (i : ℕ) (y : Y) → slice_get ys i ≡ Some y → (x : X) × (slice_get xs i ≡ Some x) × R x y
   first_of [] [] all i y e = cc
-  first_of [] (b ∷ ys) all i y e = absurd all
-  first_of (a ∷ xs) [] all i y e = absurd all
   first_of (a ∷ xs) (b ∷ ys) all zero y e = let same : b ≡ y = cc in (a, refl, subst (R a) same all.0)
   first_of (a ∷ xs) (b ∷ ys) all (suc i) y e = first_of xs ys all.1 i y e
+  first_of _ _ all i y e = absurd all
 
 -- A list in which a function was applied at the first n places.
 module _ {X : Type 0} (f : X → X) where
@@ -114,10 +111,9 @@ module _ {X : Type 0} (f : X → X) where
 
   -- later places are as they were
   pub front_get : (n i : ℕ) (xs : List X) → n ≤ i → slice_get (map_front n xs) i ≡ slice_get xs i
-  front_get zero i xs le = refl
-  front_get (suc n) i [] le = refl
   front_get (suc n) zero (x ∷ xs) le = absurd (omega (arith, le))
   front_get (suc n) (suc i) (x ∷ xs) le = front_get n i xs (omega (arith, le))
+  front_get _ i _ le = refl
 
   -- the next place is the one that is changed next
   pub front_set : (n : ℕ) (xs : List X) (x : X) → slice_get xs n ≡ Some x → slice_set (map_front n xs) n (f x) ≡ map_front (suc n) xs

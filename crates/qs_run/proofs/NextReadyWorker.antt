@@ -2,22 +2,12 @@
 -- front, and take from the desk's places what lies at the number of the worker. As the parts are in the order of the
 -- workers and the desk's places are filled for all of them, the next object or mind, the next row of lanes, and the
 -- tickets or the share are those of one handler or client.
-use Rattle.std.proofs.Common.{◌≡◌, ◌≢◌, ℕ, zero, suc, ◌+◌, ◌<◌, ◌≤◌, List, [], ◌∷◌, map, length, drop, get_or, set, Option, Some, None, sym, ap, ◌∙◌, arith}
-use Rattle.std.proofs.lemmas.List.{get_or-set_other}
-use Rattle.std.proofs.lemmas.Option.{get_or_from_slice_get, none-some, same_Some, slice_get_within}
-use Rattle.qs_objects.specs.audit.Journals.{HeldState}
-use Rattle.qs_program.specs.audit.Program.{ProgramShape}
-use Rattle.qs_program.specs.Sound.{IsSound}
-use Rattle.qs_syncset.specs.declared.mode.Mode.{Mode}
-use Rattle.qs_client.specs.MindState.{MindState}
+use Rattle.std.proofs.Common.{◌≡◌, ◌≢◌, ℕ, zero, suc, ◌+◌, ◌<◌, ◌≤◌, List, [], ◌∷◌, map, length, drop, get_or, set, Option, Some, None, sym, ap, ◌∙◌, arith, rules}
+use Rattle.qs_played.proofs.Names.{get_or-set_other, get_or_from_slice_get, none-some, same_Some, slice_get_within, HeldState, ProgramShape, IsSound}
+use Rattle.qs_core_laws.proofs.Names.{Mode, MindState}
 use Rattle.qs_desk.specs.TicketQueues.{tickets_at}
 use Rattle.qs_desk.specs.Places.{places, share_at}
-use Rattle.qs_desk.specs.Views.{ShareView, TicketsView}
-use Rattle.qs_lane.specs.Views.{InView, OutView}
-use Rattle.qs_run.specs.declared.worker.ClientWorker.{ClientWorker}
-use Rattle.qs_run.specs.declared.worker.HandlerWorker.{HandlerWorker}
-use Rattle.qs_run.specs.Prepared.{IsClientOf, IsHandlerOf, IsNewIn, IsNewOut, ever_reserves, in_at, out_at}
-use Rattle.qs_run.specs.Workers.{IsListOf, IsMindAtStart, IsObjectAtStart}
+use Rattle.qs_run.proofs.Names.{ShareView, TicketsView, InView, OutView, ClientWorker, HandlerWorker, IsClientOf, IsHandlerOf, IsNewIn, IsNewOut, ever_reserves, in_at, out_at, IsListOf, IsMindAtStart, IsObjectAtStart}
 use Rattle.qs_run.proofs.ListPlaces.{at_front}
 use Rattle.qs_run.proofs.ReadyWorkers.{client_of, handler_of}
 use Rattle.qs_run.proofs.DeskStart.{share_there, tickets_there}

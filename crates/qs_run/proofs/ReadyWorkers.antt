@@ -2,24 +2,14 @@
 -- what it makes, and the threads are started with no more than that. Each worker has its own row of the ends of lanes;
 -- as there is a new lane wherever a block of a client reserves a handler, each worker has the lanes that its thread
 -- will ask for, and the two ends of each lane are in two workers.
-use Rattle.std.proofs.Common.{◌≡◌, ℕ, ◌<◌, true, List, [], Option, length, get_or, sym, ap, ◌∙◌, subst, arith}
-use Rattle.qs_program.specs.audit.Program.{ProgramShape}
-use Rattle.qs_program.specs.Sound.{IsSound}
-use Rattle.qs_meaning.specs.audit.Following.{reserves}
-use Rattle.qs_syncset.specs.declared.mode.Mode.{Mode}
-use Rattle.qs_syncset.specs.audit.Codes.{IsCodeOf}
+use Rattle.std.proofs.Common.{◌≡◌, ℕ, ◌<◌, true, List, [], Option, length, get_or, sym, ap, ◌∙◌, subst, arith, rules}
+use Rattle.qs_played.proofs.Names.{ProgramShape, IsSound, reserves, fresh_held}
+use Rattle.qs_core_laws.proofs.Names.{Mode, IsCodeOf, mind_of}
 use Rattle.qs_client.specs.audit.ClientModel as minds
-use Rattle.qs_client.specs.MindState.{mind_of}
 use Rattle.qs_run.specs.client.ClientThreads as running
 use Rattle.qs_run.specs.handler.HandlerThreads as handling
 use Rattle.qs_desk.specs.Tickets.{ticket}
-use Rattle.qs_desk.specs.Views.{ShareView, TicketsView}
-use Rattle.qs_lane.specs.Views.{InView, OutView}
-use Rattle.qs_played.specs.audit.JournalRooms.{fresh_held}
-use Rattle.qs_run.specs.Workers.{AreOneLane, AreReady, IsListOf, IsMindAtStart}
-use Rattle.qs_run.specs.declared.worker.ClientWorker.{ClientWorker}
-use Rattle.qs_run.specs.declared.worker.HandlerWorker.{HandlerWorker}
-use Rattle.qs_run.specs.Prepared.{AreNewEnds, IsClientOf, IsHandlerOf, IsNewIn, IsNewOut, ever_reserves, in_at, out_at}
+use Rattle.qs_run.proofs.Names.{ShareView, TicketsView, InView, OutView, AreOneLane, AreReady, IsListOf, IsMindAtStart, ClientWorker, HandlerWorker, AreNewEnds, IsClientOf, IsHandlerOf, IsNewIn, IsNewOut, ever_reserves, in_at, out_at}
 use Rattle.qs_run.proofs.EverReserved.{client_within, ever}
 
 module _ {D : Type 0} where
@@ -27,21 +17,7 @@ module _ {D : Type 0} where
   pub handler_of : (p : ProgramShape) (ins : List (List (Option InView))) (h : ℕ) (w : HandlerWorker D) → IsSound p
       → ((c k : ℕ) → IsNewIn (ever_reserves p c k) (in_at ins c k)) → w.held ≡ fresh_held p h → w.tickets ≡ record { handler = h; taken = [] }
       → w.lanes ≡ get_or ins h [] → IsHandlerOf p ins h w
-  handler_of p ins h w sound made held tickets row =
-      let at : w.tickets.handler ≡ h = ap (λ (t : TicketsView). t.handler) tickets in
-      let at_row : (c : ℕ) → IsNewIn (ever_reserves p c h) (handling.in_lane_at w.lanes c) = λ c. subst (λ r. IsNewIn (ever_reserves p c h) (handling.in_lane_at r c)) (sym row) (made c h) in
-      record {
-        own = record { number = at; object = held };
-        row = row;
-        ready = record {
-          taken = ap (λ (t : TicketsView). t.taken) tickets;
-          fresh = λ c. (at_row c).fresh;
-          reached = λ t is.
-              let here : reserves p t h ≡ true = subst (λ n. reserves p t n ≡ true) at is in
-              let less : t.client < length p.clients = client_within p t h here in
-              (omega (arith, less, sound.clients), (at_row t.client).there ∙ ever p t h here);
-        };
-      }
+  handler_of p ins h w sound made held tickets row = grind (arith, w, client_within, ever)
 
   -- a client with its row, its mind and its share of which nothing is booked
   pub client_of : (p : ProgramShape) (mode : Mode) (size : ℕ) (outs : List (List (Option OutView))) (c : ℕ) (w : ClientWorker D) → IsSound p

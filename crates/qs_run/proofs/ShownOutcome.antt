@@ -2,37 +2,14 @@
 -- is an outcome (`IsOutcome`). And it can be shown: each block of the order has its row, and its counts are few enough
 -- to be added up. The law speaks of functions of numbers and the code has lists, so the two are compared place by
 -- place.
-use Rattle.std.proofs.Common.{◌≡◌, ◌<◌, ◌≤◌, ℕ, zero, suc, true, List, [], ◌∷◌, length, map, get_or, slice_get, refl, sym, ap, ◌∙◌, subst, arith}
-use Rattle.std.proofs.lemmas.List.{get_or-map, length-map}
-use Rattle.std.proofs.lemmas.List.FromFn.{fill_by_all}
-use Rattle.std.specs.List.{range_with_len}
-use Rattle.std.specs.Prelude.{sum_by}
-use Rattle.qs_objects.specs.audit.Journals.{HeldState}
-use Rattle.qs_objects.specs.declared.held.Ticket.{Ticket}
-use Rattle.qs_objects.proofs.Elements.{AllByRecursion-get_or}
-use Rattle.qs_program.specs.audit.Program.{ProgramShape, blocks_of}
-use Rattle.qs_program.specs.Sound.{IsSound}
-use Rattle.qs_program.specs.audit.Limits.{most_objects}
-use Rattle.qs_meaning.specs.audit.Serial.{no_state}
-use Rattle.qs_sync_counts.specs.audit.SyncRows.{object_of, syncs_of}
-use Rattle.qs_syncset.specs.declared.mode.Mode.{Mode}
-use Rattle.qs_syncset.proofs.ShortLists.{few_reserved}
-use Rattle.qs_client.specs.audit.ClientModel.{ClientModel}
-use Rattle.qs_played.specs.audit.Isolation.{ticket_at}
-use Rattle.qs_played.specs.audit.JournalRooms.{fresh_held}
-use Rattle.qs_played.specs.audit.Played.{ticket}
-use Rattle.qs_played.specs.Played.{ClientRows, HaveRows, counts_of_ticket, rows_at}
+use Rattle.std.proofs.Common.{◌≡◌, ◌<◌, ◌≤◌, ℕ, zero, suc, true, List, [], ◌∷◌, length, map, get_or, slice_get, refl, sym, ap, ◌∙◌, subst, arith, rules}
+use Rattle.qs_played.proofs.Names.{get_or-map, length-map, fill_by_all, range_with_len, sum_by, HeldState, Ticket, AllByRecursion-get_or, ProgramShape, blocks_of, IsSound, most_objects, no_state, object_of, syncs_of, few_reserved, ticket_at, fresh_held, ticket, ClientRows, HaveRows, counts_of_ticket, rows_at}
+use Rattle.qs_core_laws.proofs.Names.{Mode, ClientModel, no_block_beyond, legal_blocks}
 use Rattle.qs_played.specs.SyncSums.{AreSyncsCounted, counts_at}
-use Rattle.qs_played.proofs.JournalRooms.{no_block_beyond}
-use Rattle.qs_played.proofs.SyncLists.{legal_blocks}
-use Rattle.qs_run_laws.specs.Outcomes.{IsOutcome}
+use Rattle.qs_run.proofs.Names.{IsOutcome, HaveRun, ClientWorker, HandlerWorker, AreCountsShort, worker_journal, shown_when_over, worker_rows, worker_state}
 use Rattle.qs_run_laws.specs.audit.ThreadRuns.{ThreadRun, counts_by, shown_by}
 use Rattle.qs_run_laws.proofs.ClientRowsEnd.{HasRow, rows_there}
 use Rattle.qs_run_laws.proofs.RunOutcomes.{runs_have_outcomes}
-use Rattle.qs_run.specs.Workers.{HaveRun}
-use Rattle.qs_run.specs.declared.worker.ClientWorker.{ClientWorker}
-use Rattle.qs_run.specs.declared.worker.HandlerWorker.{HandlerWorker}
-use Rattle.qs_run.specs.Collected.{AreCountsShort, worker_journal, shown_when_over, worker_rows, worker_state}
 use Rattle.qs_run.proofs.ListPlaces.{from_places}
 use Rattle.qs_run.proofs.CollectedRun.{IsCollected, clients_many, code, codes, handlers_many, held_in, mind_in, threads, threads_run}
 
@@ -41,9 +18,8 @@ mind_rows m = record { traces = m.traces; entries = m.entries; counts = m.counts
 
 module _ {D : Type 0} where
   rows_are : (cs : List (ClientWorker D)) (c : ℕ) → rows_at (map worker_rows cs) c ≡ mind_rows (mind_in (slice_get cs c))
-  rows_are [] c = refl
-  rows_are (w ∷ cs) zero = refl
   rows_are (w ∷ cs) (suc c) = rows_are cs c
+  rows_are _ _ = refl
 
   held_at : {X : Type 0} (f : HeldState → X) (d : X) (x : HeldState) (hs : List (HandlerWorker D)) (h : ℕ) → h < length hs
       → get_or (map (λ (w : HandlerWorker D). f w.held) hs) h d ≡ f (held_in x (slice_get hs h))

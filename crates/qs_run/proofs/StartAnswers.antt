@@ -1,12 +1,11 @@
 -- How the answers of a starter add up: its answer for the next worker, and then its answers for those after it. They
 -- are wanted at each turn of the recursion that starts the workers. And what a lent starter has answered is what the
 -- starter itself has.
-use Rattle.std.proofs.Common.{◌≡◌, ◌+◌, ◌<◌, ℕ, zero, suc, Bool, true, List, [], ◌∷◌, ◌++◌, Option, Some, None, Result, Ok, Err, refl, sym, ap, ◌∙◌, subst, arith}
+use Rattle.std.proofs.Common.{◌≡◌, ◌+◌, ◌<◌, ℕ, zero, suc, Bool, true, List, [], ◌∷◌, ◌++◌, Option, Some, None, Result, Ok, Err, refl, sym, ap, ◌∙◌, subst, arith, rules}
 use Rattle.std.specs.Prelude.{IfErr, IfOk, replicate}
 use Rattle.qs_played.specs.declared.fault.RunFault.{RunFault}
 use Rattle.qs_played.specs.declared.fault.RunFault.TheVariants.{Memory, Threads}
-use Rattle.qs_run.specs.Groups.{WasAsked, WasAskedFrom}
-use Rattle.qs_run.specs.Starts.{AreAnswers, IsRefusal, IsRefusedAStart, LetAllStart}
+use Rattle.qs_run.proofs.Names.{WasAsked, WasAskedFrom, AreAnswers, IsRefusal, IsRefusedAStart, LetAllStart}
 use Rattle.qs_run.specs.declared.start.group.Ended.{Ended}
 
 module _ {S : Type 0} (Answers : S → ℕ → Bool → S → Type 0) where
@@ -17,12 +16,7 @@ module _ {S : Type 0} (Answers : S → ℕ → Bool → S → Type 0) where
   -- the next worker may start, and so may all after it
   pub one_more_starts : (n many all : ℕ) (b : Bool) (before next after : S) → all ≡ many + 1 → b ≡ true → Answers before n b next
       → LetAllStart Answers (n + 1) many next after → LetAllStart Answers n all before after
-  one_more_starts n many all b before next after count granted answer rest =
-      let later : n + 1 ≡ suc n = omega arith in
-      let whole : suc many ≡ all = omega (arith, count) in
-      let answers : AreAnswers Answers n (replicate (suc many) true) before after =
-      (next, subst (λ it. Answers before n it next) granted answer, subst (λ m. AreAnswers Answers m (replicate many true) next after) later rest) in
-      subst (λ m. AreAnswers Answers n (replicate m true) before after) whole answers
+  one_more_starts n many all b before next after count granted answer rest = grind arith
 
   -- the next worker may start, and the start of one after it was refused
   pub refused_later : (n many all : ℕ) (b : Bool) (before next after : S) → all ≡ many + 1 → b ≡ true → Answers before n b next
@@ -37,17 +31,13 @@ module _ {S : Type 0} (Answers : S → ℕ → Bool → S → Type 0) where
   pub asked_one_more : (n many all : ℕ) (b : Bool) (before next after : S) (from : Option ℕ) → all ≡ many + 1 → b ≡ true → Answers before n b next
       → WasAsked Answers (n + 1) many next from after → WasAsked Answers n all before from after
   asked_one_more n many all b before next after None count granted answer rest = refused_later n many all b before next after count granted answer rest
-  asked_one_more n many all b before next after (Some at) count granted answer rest =
-      (omega (arith, count, rest.0), one_more_starts n many all b before next after count granted answer rest.1)
+  asked_one_more n many all b before next after (Some at) count granted answer rest = grind (arith, one_more_starts)
 
   -- the workers of a group were let start, and then the others inside of them were or were not, as P says
   inside_too : (P : ℕ → ℕ → S → S → Type 0) → ((n many all : ℕ) (b : Bool) (before next after : S) → all ≡ many + 1 → b ≡ true → Answers before n b next → P (n + 1) many next after → P n all before after)
       → (many more all n at : ℕ) (before asked after : S) → all ≡ many + more → at ≡ n + many → LetAllStart Answers n many before asked
       → P at more asked after → P n all before after
-  inside_too P one_more zero more all n at before asked after count from same rest =
-      let here : at ≡ n = omega (arith, from) in
-      let whole : more ≡ all = omega (arith, count) in
-      subst (λ m. P n m before after) whole (subst (λ m. P m more before after) here (subst (λ it. P at more it after) same rest))
+  inside_too P one_more zero more all n at before asked after count from same rest = grind arith
   inside_too P one_more (suc k) more all n at before asked after count from (next, answer, others) rest =
       let later : suc n ≡ n + 1 = omega arith in
       one_more n (k + more) all true before next after (omega (arith, count)) refl answer
@@ -61,8 +51,7 @@ module _ {S : Type 0} (Answers : S → ℕ → Bool → S → Type 0) where
   asked_inside n many more all before asked (Some at) (Err held) count group inside =
       inside_too (IsRefusedAStart Answers) refused_later many more all n at before asked held.starter count group.0 group.1 inside
   asked_inside n many more all before asked None (Ok ran) count group inside = absurd inside
-  asked_inside n many more all before asked None (Err held) count (k, last, less, answers) inside =
-      (k, last, omega (arith, count, less), subst (λ it. AreAnswers Answers n (replicate k true ++ last ∷ []) before it) (sym inside) answers)
+  asked_inside n many more all before asked None (Err held) count (k, last, less, answers) inside = grind arith
 
 -- What is lent has the starter as it is now, and the answers are those of the starter; N is some name that stays.
 module _ {S L N : Type 0} (Answers : S → ℕ → Bool → S → Type 0) (now : L → S) (name : L → N) where
@@ -73,9 +62,7 @@ module _ {S L N : Type 0} (Answers : S → ℕ → Bool → S → Type 0) (now :
   lent_chain : (n : ℕ) (bs : List Bool) (before after : L) → AreAnswers LentAnswers n bs before after
       → (name after ≡ name before) × AreAnswers Answers n bs (now before) (now after)
   lent_chain n [] before after same = (ap name same, ap now same)
-  lent_chain n (b ∷ bs) before after (next, answer, rest) =
-      let later = lent_chain (suc n) bs next after rest in
-      (later.0 ∙ answer.0, (now next, answer.1, later.1))
+  lent_chain n (b ∷ bs) before after (next, answer, rest) = search (rules, lent_chain (suc n) bs next after rest)
 
   -- all may start
   pub lent_all : (many : ℕ) (before after : L) → LetAllStart LentAnswers 0 many before after
@@ -85,10 +72,7 @@ module _ {S L N : Type 0} (Answers : S → ℕ → Bool → S → Type 0) (now :
   -- the run is refused
   pub lent_refusal : (many : ℕ) (fault : RunFault) (before after : L) → IsRefusal LentAnswers many fault before after
       → (name after ≡ name before) × IsRefusal Answers many fault (now before) (now after)
-  lent_refusal many Memory before after same = (ap name same, ap now same)
-  lent_refusal many Threads before after (k, last, less, answers) =
-      let chain = lent_chain 0 (replicate k true ++ last ∷ []) before after answers in
-      (chain.0, (k, last, less, chain.1))
+  lent_refusal many v before after same = search (rules, lent_chain)
 
   -- of a run that may be refused
   pub lent_run : {R : Type 0} (many : ℕ) (r : Result R RunFault) (before after : L) → IfOk r (λ _. LetAllStart LentAnswers 0 many before after)

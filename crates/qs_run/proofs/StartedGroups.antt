@@ -1,18 +1,15 @@
 -- With one more worker that ended as the rest of its group did: all have worked, or all are as they were.
-use Rattle.std.proofs.Common.{◌≡◌, ◌+◌, ℕ, Bool, true≢false, List, [], ◌∷◌, ◌++◌, Result, Ok, Err, vec_len, vec_capacity, refl, sym, ap, ◌∙◌, arith}
-use Rattle.std.specs.Prelude.{IfErr, IfOk, IsErr}
-use Rattle.std.specs.List.{AllZip}
-use Rattle.qs_run.specs.Groups.{IsWith, inside_of}
-use Rattle.qs_run.specs.Workers.{HasFollowed}
+use Rattle.std.proofs.Common.{◌≡◌, ◌+◌, ℕ, Bool, true≢false, List, [], ◌∷◌, ◌++◌, Result, Ok, Err, vec_len, vec_capacity, refl, sym, ap, ◌∙◌, arith, rules}
+use Rattle.qs_played.proofs.Names.{IfErr, IfOk, IsErr, AllZip}
+use Rattle.qs_run.proofs.Names.{IsWith, inside_of, HasFollowed}
 use Rattle.qs_run.specs.declared.start.group.Group.{Group}
 
 module _ {V W : Type 0} (HasWorked : V → W → Type 0) where
   pushed : (ready : List V) (workers : List W) (before : V) (after : W) → AllZip HasWorked ready workers → HasWorked before after
       → AllZip HasWorked (ready ++ before ∷ []) (workers ++ after ∷ [])
   pushed [] [] before after all worked = (worked, tt)
-  pushed [] (w ∷ ws) before after all worked = absurd all
-  pushed (v ∷ vs) [] before after all worked = absurd all
   pushed (v ∷ vs) (w ∷ ws) before after all worked = (all.0, pushed vs ws before after all.1 worked)
+  pushed _ _ before after all worked = absurd all
 
 module _ {S V W A B T : Type 0} (HasWorked : V → W → Type 0) where
   -- all of the group have worked
@@ -27,18 +24,9 @@ module _ {S V W A B T : Type 0} (HasWorked : V → W → Type 0) where
       (group : Result (Group S W A T) (Group S V B T)) → IsWith rest mine group → HasFollowed HasWorked go worker mine
       → HaveWorked ready many room rest → AreKept ready kept rest
       → HaveWorked (ready ++ worker ∷ []) (many + 1) room group × AreKept (ready ++ worker ∷ []) kept group × (inside_of group ≡ inside_of rest)
-  one_more ready worker go many room kept (Ok rest) (Ok mine) (Ok group) more followed worked held =
-      let all = pushed HasWorked _ _ _ _ worked.0 followed.1 in
-      ((rw more.workers all, omega (arith, more.many, worked.1), more.capacity ∙ worked.2), tt, ap Ok more.inside)
-  one_more ready worker go many room kept (Err rest) (Err mine) (Err group) more followed worked held =
-      (tt, (more.workers ∙ (rw held.0 rw followed.1 refl), more.capacity ∙ held.1), ap Err more.inside)
-  one_more ready worker go many room kept (Ok rest) (Ok mine) (Err group) more followed worked held = absurd more
-  one_more ready worker go many room kept (Ok rest) (Err mine) group more followed worked held = absurd more
-  one_more ready worker go many room kept (Err rest) (Ok mine) group more followed worked held = absurd more
-  one_more ready worker go many room kept (Err rest) (Err mine) (Ok group) more followed worked held = absurd more
+  one_more ready worker go many room kept v w u more followed worked held = grind (arith, pushed)
 
 module _ {S V W A B T : Type 0} where
   -- where the start of a worker was refused, none has run
   pub none_ran : (P : Group S W A T → Type 0) (rest : Result (Group S W A T) (Group S V B T)) → IsErr (inside_of rest) → IfOk rest P
-  none_ran P (Ok rest) held = absurd (true≢false (sym held))
-  none_ran P (Err rest) held = tt
+  none_ran P v held = search (rules, true≢false)

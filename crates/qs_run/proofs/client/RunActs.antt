@@ -1,24 +1,10 @@
 -- What a client asks for in the midst of its run can be had. It is read off the client's tale so far: the block that it
 -- is in, with what that block sent and got; and off how it stands to each lane.
-use Rattle.std.proofs.Common.{◌≡◌, ◌<◌, arith, ℕ, true, false, List, [], length, replicate, refl, subst, Some}
-use Rattle.std.proofs.lemmas.List.{length-replicate}
-use Rattle.qs_program.specs.audit.Program.{ProgramShape, blocks_of}
-use Rattle.qs_program.specs.audit.Values.{Locals}
-use Rattle.qs_meaning.specs.audit.Following.{reserves}
-use Rattle.qs_meaning.specs.Following.{block_tree}
-use Rattle.qs_meaning.proofs.SoundTrees.{blocks_ask_only}
-use Rattle.qs_graph.specs.Synced.{without_syncs}
-use Rattle.qs_syncset.specs.audit.Codes.{ClientCode, code_at}
-use Rattle.qs_syncset.specs.SoundSynced.{IsSoundSynced, IsOnReserved}
+use Rattle.std.proofs.Common.{◌≡◌, ◌<◌, arith, ℕ, true, false, List, [], length, replicate, refl, subst, Some, rules}
+use Rattle.qs_played.proofs.Names.{length-replicate, ProgramShape, blocks_of, Locals, reserves, block_tree, blocks_ask_only}
+use Rattle.qs_core_laws.proofs.Names.{without_syncs, ClientCode, code_at, IsSoundSynced, IsOnReserved, is_asked, MayFollow, Parcel, longest, Act, Deed, reservations, sent_to, ClientModel, finish, fresh_mind, next_act, tree_at, longest_covers}
 use Rattle.qs_syncset.proofs.CodeWalks.{walks_are_sound}
-use Rattle.qs_chunk.specs.audit.Lanes.{is_asked}
-use Rattle.qs_chunk.specs.Lanes.{MayFollow}
-use Rattle.qs_chunk.specs.declared.parcel.Parcel.{Parcel}
-use Rattle.qs_client.specs.audit.run.BlockSizes.{longest}
-use Rattle.qs_client.specs.declared.rules.act.Act.{Act}
 use Rattle.qs_client.specs.declared.rules.act.Act.TheVariants as acts
-use Rattle.qs_client.specs.audit.ClientRuns.{Deed, reservations, sent_to}
-use Rattle.qs_client.specs.audit.ClientModel.{ClientModel, finish, fresh_mind, next_act, tree_at}
 use Rattle.qs_client.proofs.LaneSends.{client_lane_laws}
 use Rattle.qs_desk.specs.Tickets.{ticket}
 use Rattle.qs_core_laws.proofs.protocol.ClientInvariants.{objects_of_block}
@@ -26,7 +12,6 @@ use Rattle.qs_core_laws.proofs.protocol.ClientHistories.{InClientHistory, in_tal
 use Rattle.qs_core_laws.proofs.protocol.DeedLanes.{stands_along}
 use Rattle.qs_core_laws.proofs.protocol.ReservedActs.{await_reserved, need_reserved, send_reserved}
 use Rattle.qs_core_laws.proofs.protocol.ReservedLists.{lined}
-use Rattle.qs_client.proofs.run.CodeBounds.{longest_covers}
 use Rattle.qs_run.specs.client.RunActs.{IsMidRun, RunActLaws, lane_of}
 
 module _ (p : ProgramShape) (c : ℕ) (code : ClientCode) (size : ℕ) (deeds : List Deed) (m : ClientModel) (run : IsMidRun p c code size deeds m) where
@@ -56,14 +41,13 @@ module _ (p : ProgramShape) (c : ℕ) (code : ClientCode) (size : ℕ) (deeds : 
   own_of g h same own = let is : g ≡ h = cc in subst IsOwn is (own.0, inside own.0 own.1, own.2)
 
   pub act_reserved : (h : ℕ) (act : Act) → next_act m ≡ act → lane_of act ≡ Some h → IsOwn h
-  act_reserved h acts.Reserve is uses = absurd (cc)
   act_reserved h (acts.Send g parcel) is uses =
       own_of g h uses (send_reserved p (blocks_ask_only p run.sound) (lined p run.sound) c code size own_list own_walk deeds (finish m) tale g parcel is)
   act_reserved h (acts.Await g) is uses =
       own_of g h uses (await_reserved p (blocks_ask_only p run.sound) (lined p run.sound) c code size own_list own_walk deeds (finish m) tale g is)
   act_reserved h (acts.NeedChunk g) is uses =
       own_of g h uses (need_reserved p (blocks_ask_only p run.sound) (lined p run.sound) c code size own_list own_walk deeds (finish m) tale g is)
-  act_reserved h acts.Finished is uses = absurd (cc)
+  act_reserved h _ is uses = absurd (cc)
 
   -- its chunks' size stays
   pub size_is : m.size ≡ size
@@ -79,10 +63,7 @@ module _ (p : ProgramShape) (c : ℕ) (code : ClientCode) (size : ℕ) (deeds : 
   begun_is = tale.reserved
 
   pub block_left : next_act m ≡ acts.Reserve → reservations deeds < blocks_of p c
-  block_left is =
-      let found = reserves_between p (blocks_ask_only p run.sound) (lined p run.sound) c code size own_list own_walk deeds (finish m) tale is in
-      let begun = begun_is in
-      omega (arith, inside (finish m).client.begun found.2, begun)
+  block_left is = grind (arith, reserves_between, run, lined, own_list, own_walk, tale, begun_is, inside)
 
 pub run_act_laws : RunActLaws
 run_act_laws = record {

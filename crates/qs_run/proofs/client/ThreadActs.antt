@@ -1,30 +1,12 @@
 -- What each act of a client's thread keeps: its deeds grow by one, and its share and its ends of lanes show it; and
 -- what each call needs.
-use Rattle.std.proofs.Common.{◌≡◌, ◌<◌, arith, ℕ, ◌+◌, true, true≢false, false, List, [], ◌∷◌, ◌++◌, refl, sym, ap, ◌∙◌, subst, add-zero, append-nil, Option, Some, None}
-use Rattle.std.specs.Prelude.{IsSome, slice_set}
-use Rattle.qs_objects.specs.audit.Journals.{HeldState}
-use Rattle.qs_objects.specs.declared.Request.{Request}
-use Rattle.qs_objects.specs.declared.held.Ticket.{Ticket}
-use Rattle.qs_objects.proofs.Choices.{eqb_self}
-use Rattle.qs_program.specs.audit.Program.{ProgramShape, blocks_of}
-use Rattle.qs_program.specs.Sound.{IsSound}
-use Rattle.qs_program.specs.audit.Limits.{most_handlers}
-use Rattle.qs_meaning.specs.audit.Following.{reserves}
-use Rattle.qs_syncset.specs.audit.Codes.{IsCodeOf}
-use Rattle.qs_syncset.specs.declared.mode.Mode.{Mode}
-use Rattle.qs_chunk.specs.audit.Batch.{Batch, batch}
-use Rattle.qs_chunk.specs.audit.Lanes.{is_asked}
-use Rattle.qs_chunk.specs.Lanes.{MayFollow}
-use Rattle.qs_chunk.specs.declared.parcel.Parcel.{Parcel}
-use Rattle.qs_client.specs.declared.rules.act.Act.{Act}
+use Rattle.std.proofs.Common.{◌≡◌, ◌<◌, arith, ℕ, ◌+◌, true, true≢false, false, List, [], ◌∷◌, ◌++◌, refl, sym, ap, ◌∙◌, subst, add-zero, append-nil, Option, Some, None, rules}
+use Rattle.qs_played.proofs.Names.{IsSome, slice_set, HeldState, Request, Ticket, eqb_self, ProgramShape, blocks_of, IsSound, most_handlers, reserves}
+use Rattle.qs_core_laws.proofs.Names.{IsCodeOf, Mode, Batch, batch, is_asked, MayFollow, Parcel, Act, Deed, DeedsLead, next_ticket, reservations, sent_to, ClientModel, mind_after_begin, mind_after_chunk, finish, fresh_mind, mind_after_object, hands_out, next_act, next_mind, reserved_inside}
 use Rattle.qs_client.specs.declared.rules.act.Act.TheVariants as acts
-use Rattle.qs_client.specs.audit.ClientRuns.{Deed, DeedsLead, next_ticket, reservations, sent_to}
 use Rattle.qs_client.specs.audit.ClientRuns as deeds
-use Rattle.qs_client.specs.audit.ClientModel.{ClientModel, mind_after_begin, mind_after_chunk, finish, fresh_mind, mind_after_object, hands_out, next_act, next_mind}
 use Rattle.qs_desk.specs.Tickets.{ticket}
-use Rattle.qs_desk.specs.Views.{ShareView}
-use Rattle.qs_lane.specs.Views.{OutView}
-use Rattle.qs_played.proofs.ReservedObjects.{reserved_inside}
+use Rattle.qs_run.proofs.Names.{ShareView, OutView}
 use Rattle.qs_core_laws.proofs.protocol.DeedJoins.{deeds_join, reservations_join}
 use Rattle.qs_run.specs.client.ClientThreads.{AreDone, HasDone, IsFresh, out_lane_at}
 use Rattle.qs_run.specs.client.RunActs.{IsMidRun, lane_of}
@@ -33,24 +15,19 @@ use Rattle.qs_run.proofs.client.RunActs.{act_reserved, begun_is, block_left, sen
 
 -- where there was a lane there is one
 still_there : (h : ℕ) (done : List Deed) (a b : Option OutView) → HasDone h done a b → IsSome a → IsSome b
-still_there h done None b was some = absurd (true≢false (sym some))
-still_there h done (Some l) None was some = absurd was
-still_there h done (Some l) (Some k) was some = refl
+still_there h done v b was some = search (rules, true≢false)
 
 some_lane : (o : Option OutView) → IsSome o → (k : OutView) × (o ≡ Some k)
-some_lane None some = absurd (true≢false (sym some))
-some_lane (Some k) some = (k, refl)
+some_lane v some = search (rules, true≢false)
 
 -- what is known of a lane that began fresh
 lane_shows : (size h : ℕ) (done : List Deed) (start : Option OutView) (lane : OutView) → IsFresh size start → HasDone h done start (Some lane)
     → (lane.size ≡ size) × (lane.sent ≡ sent_to h done)
-lane_shows size h done None lane fresh was = absurd was
-lane_shows size h done (Some first) lane fresh was = (was.1 ∙ fresh.0, was.2)
+lane_shows size h done v lane fresh was = search (rules, fresh)
 
 -- before its first deed a lane is as it was
 nothing_done : (size h : ℕ) (start : Option OutView) → IsFresh size start → HasDone h [] start start
-nothing_done size h None fresh = tt
-nothing_done size h (Some lane) fresh = (refl, refl, fresh.1, fresh.2, sym (add-zero lane.taken))
+nothing_done size h v fresh = search (rules, fresh, add-zero)
 
 share_path : (s : ShareView) (c n : ℕ) → s.client ≡ c → s.count ≡ n → s ≡ record { client = c; count = n }
 share_path s c n a b = λ i. record { client = a i; count = b i }
@@ -62,8 +39,7 @@ module _ (p : ProgramShape) (c : ℕ) (first : ClientModel) (start : List (Optio
 
   -- before its first block
   pub begins : (share : ShareView) → share.client ≡ c → share.count ≡ 0 → ((h : ℕ) → IsFresh first.size (out_lane_at start h)) → HasDeeds first share start
-  begins share client none fresh =
-      ([], refl, record { booked = share_path share c 0 client none; ends = λ h. nothing_done first.size h (out_lane_at start h) (fresh h) })
+  begins share client none fresh = search (rules, share_path, nothing_done)
 
   module _ (sound : IsSound p) (code : (mode : Mode) × IsCodeOf p mode c first.code) (at_first : first ≡ fresh_mind first.code first.size)
       (fresh : (h : ℕ) → IsFresh first.size (out_lane_at start h))
@@ -81,8 +57,7 @@ module _ (p : ProgramShape) (c : ℕ) (first : ClientModel) (start : List (Optio
         (omega (arith, object, few), still_there h kept.0 (out_lane_at start h) (out_lane_at lanes h) (kept.2.ends h) (reached own.0 h own.1 own.2))
 
     shows : (h : ℕ) (lane : OutView) → out_lane_at lanes h ≡ Some lane → (lane.size ≡ first.size) × (lane.sent ≡ sent_to h kept.0)
-    shows h lane is =
-        lane_shows first.size h kept.0 (out_lane_at start h) lane (fresh h) (subst (HasDone h kept.0 (out_lane_at start h)) is (kept.2.ends h))
+    shows h lane is = search (rules, lane_shows, kept)
 
     -- it reserves where a block is left
     pub has_left : next_act m ≡ acts.Reserve → share.count < blocks_of p share.client
@@ -105,18 +80,14 @@ module _ (p : ProgramShape) (c : ℕ) (first : ClientModel) (start : List (Optio
           kept.0 ++ d ∷ [],
           deeds_join c kept.0 (d ∷ []) first m m' kept.1 (is, lead),
           record {
-            booked = share_is ∙ share_path (record share { count = share.count + 1 }) c (reservations (kept.0 ++ d ∷ []))
-                (ap (λ (s : ShareView). s.client) kept.2.booked)
-                (let before = ap (λ (s : ShareView). s.count) kept.2.booked in let all = reservations_join kept.0 (d ∷ []) in omega (arith, before, all));
+            booked = grind (arith, share_path, kept, reservations_join);
             ends = λ h. as_before h kept.0 d (out_lane_at start h) (out_lane_at lanes h) (refl, refl, refl) (kept.2.ends h);
           },
         )
 
     -- a deed that reserves nothing
     same_share : (d : Deed) → reservations (d ∷ []) ≡ 0 → share ≡ record { client = c; count = reservations (kept.0 ++ d ∷ []) }
-    same_share d none =
-        kept.2.booked
-        ∙ ap (λ n. record { client = c; count = n }) (let all = reservations_join kept.0 (d ∷ []) in omega (arith, all, none))
+    same_share d none = grind (arith, kept, reservations_join)
 
     -- what it sends may follow
     pub may_follow : (h : ℕ) (parcel : Parcel) → next_act m ≡ acts.Send h parcel → (lane : OutView) → out_lane_at lanes h ≡ Some lane

@@ -1,10 +1,9 @@
 -- A gate that was passed for what a handler took so far, and then for what it takes next, was passed for all of that.
 -- The loop of a handler's thread stands on it. It goes by induction on what was taken first.
-use Rattle.std.proofs.Common.{ℕ, List, [], ◌∷◌, ◌++◌, sym, subst}
-use Rattle.qs_objects.specs.declared.held.Next.{Next}
+use Rattle.std.proofs.Common.{ℕ, List, [], ◌∷◌, ◌++◌, sym, subst, rules, arith}
+use Rattle.qs_run.proofs.Names.{Next, ArePassed}
 use Rattle.qs_objects.specs.declared.held.Next.TheVariants as nexts
 use Rattle.qs_objects.specs.declared.held.Ticket.{Ticket}
-use Rattle.qs_run.specs.handler.Passes.{ArePassed}
 
 pub passed_more : {L : Type 0} (moves : L → Ticket → ℕ → L → Type 0) (object : ℕ) (taken more : List Next) (log then end : L)
     → ArePassed moves object log taken then → ArePassed moves object then more end → ArePassed moves object log (taken ++ more) end

@@ -1,7 +1,7 @@
 -- When more tasks are added at the end of a run, it leads to where they lead, and what it took, received and gave is
 -- what both parts did, one after the other. The loop of a handler's thread adds one task at a time, and its invariant
 -- stands on this. It goes by induction on the tasks of the first part.
-use Rattle.std.proofs.Common.{◌≡◌, ◌+◌, arith, ℕ, suc, Bool, true, false, if◌then◌else◌, ◌==◌, List, [], ◌∷◌, ◌++◌, refl, sym, ap, subst}
+use Rattle.std.proofs.Common.{◌≡◌, ◌+◌, arith, ℕ, suc, Bool, true, false, if◌then◌else◌, ◌==◌, List, [], ◌∷◌, ◌++◌, refl, sym, ap, subst, rules}
 use Rattle.qs_handler.specs.audit.Handler.{Handler, gave}
 use Rattle.qs_handler.specs.audit.HandlerRuns.{Task, takes, receives, gives, spares, TasksLead, given_to, received_from, taken_by}
 use Rattle.qs_run.specs.handler.HandlerThreads.{spared_to}
@@ -23,12 +23,7 @@ taken_more (spares c x ∷ tasks) more = taken_more tasks more
 pub received_more : (c : ℕ) (tasks more : List Task) → received_from c (tasks ++ more) ≡ received_from c tasks ++ received_from c more
 received_more c [] more = refl
 received_more c (takes x ∷ tasks) more = received_more c tasks more
-received_more c (receives d p ∷ tasks) more = by_test (d == c) (received_more c tasks more)
-  where
-    by_test : (b : Bool) → received_from c (tasks ++ more) ≡ received_from c tasks ++ received_from c more
-        → (if b then p ∷ received_from c (tasks ++ more) else received_from c (tasks ++ more)) ≡ (if b then p ∷ received_from c tasks else received_from c tasks) ++ received_from c more
-    by_test true ih = ap (λ ps. p ∷ ps) ih
-    by_test false ih = ih
+received_more c (receives d p ∷ tasks) more = search (rules, received_more c tasks more)
 received_more c (gives d x ∷ tasks) more = received_more c tasks more
 received_more c (spares d x ∷ tasks) more = received_more c tasks more
 
@@ -36,12 +31,7 @@ pub given_more : (c : ℕ) (tasks more : List Task) → given_to c (tasks ++ mor
 given_more c [] more = refl
 given_more c (takes x ∷ tasks) more = given_more c tasks more
 given_more c (receives d p ∷ tasks) more = given_more c tasks more
-given_more c (gives d x ∷ tasks) more = by_test (d == c) (given_more c tasks more)
-  where
-    by_test : (b : Bool) → given_to c (tasks ++ more) ≡ given_to c tasks ++ given_to c more
-        → (if b then x ∷ given_to c (tasks ++ more) else given_to c (tasks ++ more)) ≡ (if b then x ∷ given_to c tasks else given_to c tasks) ++ given_to c more
-    by_test true ih = ap (λ xs. x ∷ xs) ih
-    by_test false ih = ih
+given_more c (gives d x ∷ tasks) more = search (rules, given_more c tasks more)
 given_more c (spares d x ∷ tasks) more = given_more c tasks more
 
 pub spared_more : (c : ℕ) (tasks more : List Task) → spared_to c (tasks ++ more) ≡ spared_to c tasks + spared_to c more
@@ -49,9 +39,4 @@ spared_more c [] more = omega arith
 spared_more c (takes x ∷ tasks) more = spared_more c tasks more
 spared_more c (receives d p ∷ tasks) more = spared_more c tasks more
 spared_more c (gives d x ∷ tasks) more = spared_more c tasks more
-spared_more c (spares d x ∷ tasks) more = by_test (d == c) (spared_more c tasks more)
-  where
-    by_test : (b : Bool) → spared_to c (tasks ++ more) ≡ spared_to c tasks + spared_to c more
-        → (if b then suc (spared_to c (tasks ++ more)) else spared_to c (tasks ++ more)) ≡ (if b then suc (spared_to c tasks) else spared_to c tasks) + spared_to c more
-    by_test true ih = omega (arith, ih)
-    by_test false ih = ih
+spared_more c (spares d x ∷ tasks) more = grind (arith, spared_more c tasks more)

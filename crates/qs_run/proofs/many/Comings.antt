@@ -1,23 +1,17 @@
 -- The ends of runs stand in the order in which they first came: an order that comes to one of them leaves the first
 -- runs as they are, and an end that is added first came by the last run, which is behind all others.
-use Rattle.std.proofs.Common.{◌≡◌, ◌<◌, ◌∙◌, ℕ, zero, suc, Some, List, [], ◌∷◌, ◌++◌, length, slice_get, refl, sym, ap, subst, arith, inl, inr}
-use Rattle.std.specs.List.{AllByRecursion, AllZip}
+use Rattle.std.proofs.Common.{◌≡◌, ◌<◌, ◌∙◌, ℕ, zero, suc, Some, List, [], ◌∷◌, ◌++◌, length, slice_get, refl, sym, ap, subst, arith, inl, inr, rules}
+use Rattle.qs_played.proofs.Names.{AllByRecursion, AllZip, map-append, slice_get-map, slice_get_within, Ticket, ProgramShape, each_map}
 use Rattle.std.specs.Option.{option_map}
-use Rattle.std.proofs.lemmas.List.{map-append}
-use Rattle.std.proofs.lemmas.Option.{slice_get-map, slice_get_within}
 use Rattle.std.proofs.lemmas.Slice.Zip.{all_zipped_more}
-use Rattle.qs_objects.specs.declared.held.Ticket.{Ticket}
-use Rattle.qs_program.specs.audit.Program.{ProgramShape}
 use Rattle.qs_meaning.specs.Configurations.{outcome_of}
-use Rattle.qs_meaning.proofs.Each.{each_map}
 use Rattle.qs_outcomes.specs.Outcomes.{outcome_at}
 use Rattle.qs_standings.specs.Standings.{StandingShape}
 use Rattle.qs_standings.proofs.Lists.{pairs_join}
 use Rattle.qs_tally.specs.Counting.{IsAdded, IsCounted, not_yet}
-use Rattle.qs_tally.specs.Tallies.{CameTo, CountedShape, HasCome, IsCountOf, standings_in}
+use Rattle.qs_run.proofs.Names.{CameTo, CountedShape, HasCome, IsCountOf, standings_in, AreAsTheyCame, CameFirstBy}
 use Rattle.qs_tally.proofs.Counts.{same_standings, standing_of, times_within}
 use Rattle.qs_tally.proofs.Places.{each_at, get_front, get_snoc, zip_map}
-use Rattle.qs_run.specs.many.Repeats.{AreAsTheyCame, CameFirstBy}
 
 get_last : {X : Type 0} (xs : List X) (y : X) → slice_get (xs ++ y ∷ []) (length xs) ≡ Some y
 get_last [] y = refl
@@ -40,19 +34,12 @@ came_none p ends count come = subst (λ es. AreAsTheyCame p [] (standings_in es)
 
 module _ (p : ProgramShape) (order : List Ticket) (orders : List (List Ticket)) where
   still_first : (s : StandingShape) (run : ℕ) → CameFirstBy p orders s run → CameFirstBy p (orders ++ order ∷ []) s run
-  still_first s run came = record {
-    by_order = get_front orders (order ∷ []) run s.order came.by_order;
-    first = λ i o less at same. elim (get_snoc orders order i o at) [
-      | inl h ↦ came.first i o less h same
-      | inr h ↦ (let within = slice_get_within orders run s.order came.by_order in let last = h.0 in absurd (omega (arith, less, within, last)))
-    ];
-  }
+  still_first s run came = grind (arith, get_front, get_snoc, slice_get_within)
 
   all_within : (ss : List StandingShape) (runs : List ℕ) → AllZip (CameFirstBy p orders) ss runs → AllByRecursion (λ i. i < length orders) runs
   all_within [] [] h = tt
-  all_within [] (i ∷ is) h = absurd h
-  all_within (s ∷ ss) [] h = absurd h
   all_within (s ∷ ss) (i ∷ is) h = (slice_get_within orders i s.order h.0.by_order, all_within ss is h.1)
+  all_within _ _ h = absurd h
 
   came_again : (ends : List StandingShape) → AreAsTheyCame p orders ends → AreAsTheyCame p (orders ++ order ∷ []) ends
   came_again ends came = (came.0, zip_map still_first ends came.0 came.1, came.2)
@@ -68,13 +55,7 @@ module _ (p : ProgramShape) (order : List Ticket) (orders : List (List Ticket)) 
         (there.1.2 ∙ same ∙ a.is_end.outcome ∙ ap (outcome_of p) a.along)
 
     first_now : CameFirstBy p (orders ++ order ∷ []) a.standing (length orders)
-    first_now = record {
-      by_order = get_last orders order ∙ ap (λ ts. Some ts) (sym a.along);
-      first = λ i o less at same. elim (get_snoc orders order i o at) [
-        | inl h ↦ new_end i o h same
-        | inr h ↦ (let last = h.0 in absurd (omega (arith, less, last)))
-      ];
-    }
+    first_now = grind (arith, get_last, a, get_snoc, new_end)
 
     came_new : AreAsTheyCame p orders (standings_in before) → AreAsTheyCame p (orders ++ order ∷ []) (standings_in after)
     came_new came = subst (AreAsTheyCame p (orders ++ order ∷ [])) (sym (ap standings_in a.longer ∙ map-append standing_of before (not_yet a.standing ∷ []))) (

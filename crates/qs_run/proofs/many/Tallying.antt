@@ -1,16 +1,9 @@
 -- One more run: what is said of a tally of so many runs is said of one more, once its order was counted.
-use Rattle.std.proofs.Common.{◌≡◌, ◌≤◌, ℕ, suc, Bool, Some, List, [], ◌∷◌, ◌++◌, length, map, slice_get, refl, sym, subst, arith, length-append}
-use Rattle.std.proofs.lemmas.List.{length-map, map-append}
-use Rattle.qs_objects.specs.declared.held.Ticket.{Ticket}
-use Rattle.qs_program.specs.audit.Program.{ProgramShape}
-use Rattle.qs_meaning.specs.audit.Configurations.{IsComplete}
-use Rattle.qs_meaning.proofs.Each.{each_snoc}
+use Rattle.std.proofs.Common.{◌≡◌, ◌≤◌, ℕ, suc, Bool, Some, List, [], ◌∷◌, ◌++◌, length, map, slice_get, refl, sym, subst, arith, length-append, rules}
+use Rattle.qs_played.proofs.Names.{length-map, map-append, Ticket, ProgramShape, IsComplete, each_snoc, Played}
 use Rattle.qs_syncset.specs.declared.mode.Mode.{Mode}
-use Rattle.qs_played.specs.audit.Played.{Played}
-use Rattle.qs_run_laws.specs.Outcomes.{IsOutcome}
+use Rattle.qs_run.proofs.Names.{IsOutcome, AreAsTheyCame, IsTallyBy, CountedShape, IsCountOf, standings_in}
 use Rattle.qs_tally.specs.Counting.{IsBegun, IsCounted}
-use Rattle.qs_run.specs.many.Repeats.{AreAsTheyCame, IsTallyBy}
-use Rattle.qs_tally.specs.Tallies.{CountedShape, IsCountOf, standings_in}
 use Rattle.qs_tally.proofs.Counts.{counted_on, times_within}
 use Rattle.qs_tally.proofs.Goes.{listed_on, unlisted_on}
 use Rattle.qs_run.proofs.many.Comings.{came_none, came_on}
@@ -23,15 +16,7 @@ complete_of p mode size o is = record { legal = is.legal; once = is.once }
 
 pub tally_begun : (p : ProgramShape) (mode : Mode) (size limit : ℕ) (listed : Bool) (ends : List CountedShape) → IsBegun p limit listed ends
     → IsTallyBy p mode size 0 limit (record { ends = ends; listed = listed })
-tally_begun p mode size limit listed ends begun = record {
-  runs = [];
-  all_runs = refl;
-  each = tt;
-  counted = begun.counted;
-  listed = begun.listed_all;
-  unlisted = begun.unlisted;
-  as_they_came = λ e. came_none p ends begun.counted (begun.unlisted e).1;
-}
+tally_begun p mode size limit listed ends begun = search (rules, came_none)
 
 -- each end has come at most as often as there were runs
 pub few_times : (p : ProgramShape) (mode : Mode) (size many limit : ℕ) (listed : Bool) (ends : List CountedShape) → IsTallyBy p mode size many limit (record { ends = ends; listed = listed })

@@ -1,16 +1,9 @@
 -- Each turn of the loop collects the next client. The handlers' ends of its lanes are still there, so its lanes can be
 -- joined, and what is known of them holds of the handlers as they were before the loop.
 use Rattle.std.proofs.Common.{◌≡◌, ◌++◌, ◌∷◌, List, [], length, map, refl, sym, ap, ◌∙◌, subst, arith, rules}
-use Rattle.std.proofs.lemmas.Iterator.Adapters.{YieldsList-from_vec}
-use Rattle.std.proofs.lemmas.Iterator.Consumers.{YieldsList-turn}
-use Rattle.std.proofs.lemmas.List.{length-map, length_push, map_push}
-use Rattle.std.proofs.lemmas.Option.{slice_get_read}
-use Rattle.qs_meaning.proofs.Each.{each_snoc}
-use Rattle.qs_desk.specs.Views.{DeskView}
-use Rattle.qs_played.specs.Played.{ClientRows}
+use Rattle.qs_played.proofs.Names.{YieldsList-from_vec, YieldsList-turn, length-map, length_push, map_push, slice_get_read, each_snoc, ClientRows}
+use Rattle.qs_run.proofs.Names.{DeskView, ClientWorker, AreLanesJoined, AreLanesPaired, IsBooked, worker_rows, without_lane_of}
 use Rattle.qs_played.proofs.Lists.{empty_of}
-use Rattle.qs_run.specs.declared.worker.ClientWorker.{ClientWorker}
-use Rattle.qs_run.specs.Collected.{AreLanesJoined, AreLanesPaired, IsBooked, worker_rows, without_lane_of}
 use Rattle.qs_run.proofs.LanesTaken.{joined_before, none_taken, one_more_taken, paired_still}
 use Rattle.qs_run.proofs.ListPlaces.{pushed}
 use Rattle.qs_run.proofs.collect.clients.collect_clients.Goals as goal

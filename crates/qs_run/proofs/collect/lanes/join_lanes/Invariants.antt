@@ -2,8 +2,7 @@
 use Rattle.std.proofs.Common.{◌≡◌, ◌<◌, ◌≤◌, ℕ, Some, slice_get}
 use Rattle.qs_run.specs.client.ClientThreads as running
 use Rattle.qs_run.specs.handler.HandlerThreads as handling
-use Rattle.qs_run.specs.declared.worker.HandlerWorker.{HandlerWorker}
-use Rattle.qs_run.specs.Collected.{AreEndsJoined, without_lane_of}
+use Rattle.qs_run.proofs.Names.{HandlerWorker, AreEndsJoined, without_lane_of}
 use Rattle.qs_run.proofs.ListPlaces.{map_front}
 use Rattle.qs_run.proofs.collect.lanes.join_lanes.Given as goal
 

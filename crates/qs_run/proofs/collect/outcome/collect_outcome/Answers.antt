@@ -1,10 +1,9 @@
 -- The calls of `collect_outcome` can be made, and what it shows is an outcome: `CollectedOutcome` says so of what the
 -- calls gave back.
-use Rattle.std.proofs.Common.{◌≡◌, length, map, sym, ap, ◌∙◌, subst, arith}
+use Rattle.std.proofs.Common.{◌≡◌, length, map, sym, ap, ◌∙◌, subst, arith, rules}
 use Rattle.std.proofs.lemmas.List.{length-map, with_items_is}
 use Rattle.std.specs.Vec.{with_items}
-use Rattle.qs_run_laws.specs.Outcomes.{IsOutcome}
-use Rattle.qs_run.specs.Collected.{AreAllPaired, without_lanes_below}
+use Rattle.qs_run.proofs.Names.{IsOutcome, AreAllPaired, without_lanes_below}
 use Rattle.qs_run.proofs.CollectedOutcome.{IsShowable, all_showable}
 use Rattle.qs_run.proofs.CollectedWorkers.{all_paired, few_handlers}
 use Rattle.qs_run.proofs.collect.outcome.collect_outcome.Given.{Over}
@@ -30,10 +29,7 @@ collect_handlers-journals-requires-clause-states_room g c =
 -- the handlers without their lanes, as a vector again after the clients were collected through a slice of it
 handlers_left : (g : Over) (c : goal.After-into_order g)
     → (with_items c.args.results.handlers c.collect_clients-rows.new.handlers).items ≡ map (without_lanes_below c.args.results.clients.len) c.as_mut_slice.result.now
-handlers_left g c =
-    let taken = c.collect_clients-rows.ensures.lanes_taken in
-    let many = ap length taken ∙ (length-map c.as_mut_slice.result.now (without_lanes_below c.args.results.clients.len) ∙ ap length c.as_mut_slice.ensures.value) in
-    with_items_is c.args.results.handlers c.collect_clients-rows.new.handlers (many ∙ sym c.args.results.handlers.ok.0) ∙ taken
+handlers_left g c = search (rules, c, with_items_is)
 
 what_is_shown : (g : Over) (c : goal.After-into_order g)
     → IsShowable g.D.DeskName.program c.args.mode c.args.size c.into_order.result.items c.collect_clients-rows.result.items c.collect_handlers-journals.result.0.items

@@ -1,8 +1,6 @@
 -- The counts of the blocks so far are added up.
 use Rattle.std.proofs.Common.{◌≡◌, ◌≤◌, ◌*◌, sum_by, take}
-use Rattle.qs_program.specs.audit.Limits.{most_objects}
-use Rattle.qs_sync_counts.specs.audit.SyncRows.{syncs_of}
-use Rattle.qs_sync_counts.specs.SyncRows.{greatest_count}
+use Rattle.qs_played.proofs.Names.{most_objects, syncs_of, greatest_count}
 use Rattle.qs_run.proofs.collect.show.all_syncs.Given as goal
 
 abbrev pub invariant-loop-place : goal.invariant-loop-place

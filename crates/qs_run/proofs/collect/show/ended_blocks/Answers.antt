@@ -1,8 +1,6 @@
 -- Each turn of the loop adds that one more block has ended.
 use Rattle.std.proofs.Common.{◌<◌, ◌++◌, ◌∷◌, [], true, length, map, take, get_or, sym, ap, ◌∙◌, arith}
-use Rattle.std.proofs.lemmas.List.{map_push, take_more}
-use Rattle.qs_objects.specs.declared.held.Ticket.{Ticket}
-use Rattle.qs_played.specs.audit.Played.{ticket}
+use Rattle.qs_played.proofs.Names.{map_push, take_more, Ticket, ticket}
 use Rattle.qs_run.proofs.collect.show.ended_blocks.Goals as goal
 
 pub loop-ticket-preserved : goal.loop-ticket-preserved

@@ -1,9 +1,6 @@
 -- The counts that are added up are those of the blocks of the order, of which each has few.
 use Rattle.std.proofs.Common.{◌≤◌, length, map, sym, ap, ◌∙◌, subst}
-use Rattle.std.specs.List.{AllByRecursion}
-use Rattle.qs_program.specs.audit.Limits.{most_objects}
-use Rattle.qs_played.specs.audit.Played.{Played}
-use Rattle.qs_played.specs.Played.{counts_of_ticket}
+use Rattle.qs_played.proofs.Names.{AllByRecursion, most_objects, Played, counts_of_ticket}
 use Rattle.qs_run.proofs.ListPlaces.{all_mapped}
 use Rattle.qs_run.proofs.collect.show.shown_outcome.Goals as goal
 

@@ -1,9 +1,8 @@
 use Rattle.std.proofs.Common.{◌∷◌, [], refl, subst, sym, ap, ◌∙◌}
-use Rattle.qs_desk.specs.Views.{TicketsView}
+use Rattle.qs_run.proofs.Names.{TicketsView, ArePassed}
 use Rattle.qs_handler.specs.audit.Handler.{free}
 use Rattle.qs_run.proofs.handler.Passed.{passed_more}
 use Rattle.qs_run.proofs.handler.ServedTasks.{all_served, begins, is_asked_for, is_empty, kept_by_chunk, kept_by_object, kept_by_parcel, kept_to_end, parcel_stands, reaches_asker, reaches_sender, reaches_spared, took_ticket}
-use Rattle.qs_run.specs.handler.Passes.{ArePassed}
 use Rattle.qs_run.proofs.handler.serving.serve.Goals as goal
 
 pub loop-init : goal.loop-init

@@ -1,13 +1,9 @@
 use Rattle.std.proofs.Common.{◌≡◌, ◌<◌, ◌^◌, List, [], add-one, arith, refl, rules, subst, suc, sym}
-use Rattle.qs_program.specs.audit.Program.{ProgramShape}
+use Rattle.qs_played.proofs.Names.{ProgramShape, IsComplete}
 use Rattle.qs_standings.specs.declared.rows.Row.{Row}
 use Rattle.qs_standings.specs.Rows.{rows_in}
-use Rattle.qs_meaning.specs.audit.Configurations.{IsComplete}
 use Rattle.qs_tally.specs.Counting.{AreTabled, IsCounted}
-use Rattle.qs_run.specs.Starts.{worker_count}
-use Rattle.qs_run.specs.many.Refusals.{LetRunsStart}
-use Rattle.qs_run.specs.many.Repeats.{IsTallyBy}
-use Rattle.qs_tally.specs.Tallies.{CountedShape}
+use Rattle.qs_run.proofs.Names.{worker_count, LetRunsStart, IsTallyBy, CountedShape}
 use Rattle.qs_run.proofs.many.Refusing.{memory_told, run_told}
 use Rattle.qs_run.proofs.many.Tallying.{complete_of, few_times, tally_begun, tally_on}
 use Rattle.qs_run.proofs.many.repeats.run_times_with.Goals as goal

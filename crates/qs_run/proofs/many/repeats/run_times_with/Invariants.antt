@@ -1,8 +1,5 @@
 use Rattle.qs_standings.specs.Rows.{rows_in}
-use Rattle.qs_tally.specs.Counting.{AreTabled}
-use Rattle.qs_run.specs.Starts.{worker_count}
-use Rattle.qs_run.specs.many.Refusals.{LetRunsStart}
-use Rattle.qs_run.specs.many.Repeats.{IsTallyBy}
+use Rattle.qs_run.proofs.Names.{AreTabled, worker_count, LetRunsStart, IsTallyBy}
 use Rattle.qs_run.proofs.many.repeats.run_times_with.Given as goal
 
 abbrev pub invariant-loop-run : goal.invariant-loop-run

@@ -1,9 +1,7 @@
 -- The worker that a turn of the loop makes is that of the next client, so it is ready, and it is the next of the list.
 use Rattle.std.proofs.Common.{sym, ◌∙◌, arith}
-use Rattle.std.specs.Vec.Iter.{into_iter_items}
-use Rattle.std.proofs.lemmas.Option.{none-some, slice_get_within}
-use Rattle.qs_run.specs.declared.worker.ClientWorker.{ClientWorker}
-use Rattle.qs_run.specs.Prepared.{IsClientOf}
+use Rattle.qs_played.proofs.Names.{into_iter_items, none-some, slice_get_within}
+use Rattle.qs_run.proofs.Names.{ClientWorker, IsClientOf}
 use Rattle.qs_run.proofs.ListPlaces.{at_front, left_behind, one_more}
 use Rattle.qs_run.proofs.NextReadyWorker.{client_here, rest_after, share_found}
 use Rattle.qs_run.proofs.prepare.workers.add_clients.Goals as goal

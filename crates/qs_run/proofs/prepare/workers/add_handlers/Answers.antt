@@ -1,8 +1,7 @@
 -- The worker that a turn of the loop makes is that of the next handler, so it is ready, and it is the next of the list.
 use Rattle.std.proofs.Common.{sym, ◌∙◌, arith}
 use Rattle.std.specs.Vec.Iter.{into_iter_items}
-use Rattle.qs_run.specs.declared.worker.HandlerWorker.{HandlerWorker}
-use Rattle.qs_run.specs.Prepared.{IsHandlerOf}
+use Rattle.qs_run.proofs.Names.{HandlerWorker, IsHandlerOf}
 use Rattle.qs_run.proofs.ListPlaces.{left_behind, one_more}
 use Rattle.qs_run.proofs.NextReadyWorker.{handler_here, rest_after}
 use Rattle.qs_run.proofs.prepare.workers.add_handlers.Goals as goal

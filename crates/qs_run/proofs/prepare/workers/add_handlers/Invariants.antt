@@ -1,9 +1,7 @@
 -- The workers of the handlers so far are there. What is left of the parts begins with what belongs to the next of them.
 use Rattle.std.proofs.Common.{◌≡◌, ℕ, ◌≤◌, None, drop}
-use Rattle.std.specs.Prelude.{slice_index_or, vec_capacity}
-use Rattle.std.specs.Vec.Iter.{into_iter_items}
-use Rattle.qs_run.specs.Prepared.{IsHandlerOf}
-use Rattle.qs_run.specs.Workers.{IsListOf}
+use Rattle.qs_played.proofs.Names.{slice_index_or, vec_capacity, into_iter_items}
+use Rattle.qs_run.proofs.Names.{IsHandlerOf, IsListOf}
 use Rattle.qs_run.proofs.prepare.workers.add_handlers.Given as goal
 
 abbrev pub invariant-loop-handler : goal.invariant-loop-handler

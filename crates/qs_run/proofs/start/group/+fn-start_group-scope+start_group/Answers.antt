@@ -2,8 +2,7 @@
 -- starter was asked for it first, and then for the others.
 use Rattle.std.proofs.Common.{◌≡◌, ◌+◌, None, vec_len, vec_capacity, arith, rules}
 use Rattle.std.specs.Prelude.{IfErr, IsErr}
-use Rattle.qs_run.specs.Groups.{inside_of}
-use Rattle.qs_run.specs.Workers.{HasFollowed}
+use Rattle.qs_run.proofs.Names.{inside_of, HasFollowed}
 use Rattle.qs_run.proofs.StartAnswers.{asked_one_more, refused_here}
 use Rattle.qs_run.proofs.StartedGroups.{none_ran, one_more}
 use Rattle.qs_run.proofs.start.group.+fn-start_group-scope+start_group.Goals as goal
