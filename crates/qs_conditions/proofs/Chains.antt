@@ -1,13 +1,13 @@
 -- What goes on from what is read so far: nothing where no link stands, and else what is read with one more; the number
 -- of steps does not matter, where there are enough. The loops that read sums and conditions stand on it, and so does
 -- the proof that every condition is read. The invariant of the loops is `Continues`.
-use Rattle.std.proofs.Common.{◌≡◌, ℕ, zero, suc, ◌<◌, ◌≤◌, List, [], ◌∷◌, ◌++◌, length, refl, ap, ◌∙◌, arith, append_assoc, Bool, Option, Some, None, Ok, Err}
+use Rattle.std.proofs.Common.{◌≡◌, ℕ, zero, suc, ◌<◌, List, [], ◌∷◌, ◌++◌, length, refl, ap, ◌∙◌, arith, append_assoc, Bool, Option, Some, None, Ok, Err}
 use Rattle.qs_conditions.specs.declared.signs.Placed.{Placed}
 use Rattle.qs_conditions.specs.declared.condition.Step.{Step}
 use Rattle.qs_conditions.specs.declared.fault.SignFault.{SignFault}
 use Rattle.qs_conditions.specs.declared.fault.SignFault.TheVariants.{Form, Memory}
 use Rattle.qs_conditions.specs.Conditions.{Tree, steps_of}
-use Rattle.qs_conditions.specs.Reading.{Read, ◌>>=◌, with_found, found, link_by, summand_at, sum_further, chain_at, chain}
+use Rattle.qs_conditions.specs.Reading.{Read, ◌>>=◌, with_found, go_on, found, link_by, summand_at, sum_further, chain_at, chain}
 use Rattle.qs_conditions.specs.declared.condition.Summand.{Summand}
 use Rattle.qs_conditions.specs.Results.{Fails}
 
@@ -20,21 +20,19 @@ module _ {M : Type 0} (further : M → List Placed → Option (Read M)) where
   unfolding chain
   chain_is m ts read r = r.runs (suc (length ts)) (omega arith)
 
-  by_steps : (m : M) (ts : List Placed) (read : Read M) → ((n : ℕ) → length ts ≤ n → chain_at further (suc n) m ts ≡ read) → Runs further m ts read
-  by_steps m ts read h = record { runs = at }
-    where
-      at : (n : ℕ) → length ts < n → chain_at further n m ts ≡ read
-      at zero lt = absurd (omega arith)
-      at (suc n) lt = h n (omega arith)
+  step_at : (n : ℕ) (m : M) (ts : List Placed) (o : Option (Read M)) (read : Read M) → length ts < n → further m ts ≡ o
+      → ((k : ℕ) → n ≡ suc k → go_on m ts o (chain_at further k) ≡ read) → chain_at further n m ts ≡ read
+  step_at zero m ts o read lt e h = absurd (omega arith)
+  step_at (suc n) m ts o read lt e h = rw e (h n refl)
 
   pub runs_end : (m : M) (ts : List Placed) → further m ts ≡ None → Runs further m ts (Ok (m, ts))
-  runs_end m ts e = by_steps m ts (Ok (m, ts)) (λ n lt. rw e refl)
+  runs_end m ts e = record { runs = λ n lt. step_at n m ts None (Ok (m, ts)) lt e (λ k is. refl) }
 
   pub runs_fail : (left : ℕ) (m : M) (ts : List Placed) → further m ts ≡ Some (Err left) → Runs further m ts (Err left)
-  runs_fail left m ts e = by_steps m ts (Err left) (λ n lt. rw e refl)
+  runs_fail left m ts e = record { runs = λ n lt. step_at n m ts (Some (Err left)) (Err left) lt e (λ k is. refl) }
 
   pub runs_on : (m : M) (ts : List Placed) (x : M × List Placed) (read : Read M) → further m ts ≡ Some (Ok x) → length x.1 < length ts → Runs further x.0 x.1 read → Runs further m ts read
-  runs_on m ts x read e less r = by_steps m ts read (λ n lt. rw e (r.runs n (omega (arith, lt, less))))
+  runs_on m ts x read e less r = record { runs = λ n lt. step_at n m ts (Some (Ok x)) read lt e (λ k is. r.runs k (omega (arith, lt, less, is))) }
 
 -- the code has read done and the signs from rest on are left; the whole is what goes on from there
 pub record Continues {M : Type 0} (further : M → List Placed → Option (Read M)) (whole : Read M) (done : M) (rest : List Placed) : Type 0 where
@@ -61,15 +59,15 @@ pub record Added (further : Tree → List Placed → Option (Read Tree)) (whole 
   pub reading : Continues further whole tree rest
   pub steps : now ≡ old ++ steps_of tree
 
--- a first element that is read, and what goes on from it
-pub begins_with : {M : Type 0} (further : M → List Placed → Option (Read M)) (first : Read M) (m : M) (rest : List Placed) → first ≡ Ok (m, rest) → Continues further (first >>= λ x. chain further x.0 x.1) m rest
-begins_with further first m rest e = rw e (begins further m rest)
-
 -- conditions with a sign between them
 module _ (part : List Placed → Read Tree) (find : List Placed → Option (List Placed)) (join : Tree → Tree → Tree) (step : Step)
     (joins : (c d : Tree) → steps_of (join c d) ≡ steps_of c ++ steps_of d ++ step ∷ []) where
   abbrev joined : Tree → List Placed → Option (Read Tree)
   joined c ts = with_found (find ts) (λ rest. part rest >>= λ d. Ok (join c d.0, d.1))
+
+  pub added_first : (first : Read Tree) (old now : List Step) (rest : List Placed) → ((c : Tree) × (first ≡ Ok (c, rest)) × (now ≡ old ++ steps_of c))
+      → Added joined (first >>= λ x. chain joined x.0 x.1) old now rest
+  added_first first old now rest e = record { tree = e.0; reading = rw e.1 (begins joined e.0 rest); steps = e.2 }
 
   pub added_more : (whole : Read Tree) (old now next last : List Step) (rest after left : List Placed) (d : Tree) → Added joined whole old now rest → find rest ≡ Some after → part after ≡ Ok (d, left) → length left < length rest
       → next ≡ now ++ steps_of d → last ≡ next ++ step ∷ [] → Added joined whole old last left

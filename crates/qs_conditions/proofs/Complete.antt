@@ -64,12 +64,10 @@ first_complete x ts rest (inl (e, h)) u =
 first_complete x ts rest (inr (e, y, b, h)) u = rw (found_is minus_by s.Minus ts y b) (summand_complete x true y rest e h u)
 
 link_is : (negative : Bool) (us : List Placed) → link_by (plus_or_minus negative) us ≡ Some (negative, us)
-link_is true us = refl
-link_is false us = refl
+link_is negative us = grind arith
 
 link_opens : (negative : Bool) (us : List Placed) → open_by (plus_or_minus negative) us ≡ None
-link_opens true us = refl
-link_opens false us = refl
+link_opens negative us = grind arith
 
 further_opens : (xs : List Summand) (ts rest : List Placed) → AreFurther xs ts rest → found open_by rest ≡ None → found open_by ts ≡ None
 further_opens [] ts rest h u = rw h u
@@ -160,4 +158,4 @@ one_tree c d ts g h = cc (condition_complete c ts g, condition_complete d ts h)
 
 -- where no reading goes on there is no condition
 pub no_condition : (ts : List Placed) (left : ℕ) → tree_of ts ≡ Err left → (c : Tree) → IsCondition c ts → ⊥
-no_condition ts left e c h = cc (e, condition_complete c ts h)
+no_condition ts left e c h = cc (condition_complete c ts h)

@@ -8,7 +8,7 @@ use Rattle.qs_conditions.specs.declared.condition.Value.{Value}
 use Rattle.qs_conditions.specs.declared.condition.Value.TheVariants as v
 use Rattle.qs_conditions.specs.declared.condition.Summand.{Summand}
 use Rattle.qs_conditions.specs.Conditions.{Tree, compare, negation, both, either}
-use Rattle.qs_conditions.specs.Grammar.{Begins, IsNumber, AreMore, AreNumbers, IsValue, IsSummand, plus_or_minus, AreFurther, IsFirst, IsSum, Phrase, IsComparison, IsBothOf, IsEitherOf, IsNegation, IsNested, IsPart}
+use Rattle.qs_conditions.specs.Grammar.{Begins, IsNumber, AreMore, AreNumbers, IsValue, IsSummand, plus_or_minus, AreFurther, IsFirst, IsSum, Phrase, IsComparison, IsBothOf, IsEitherOf, IsPart}
 
 pub begins_shorter : (sign : Sign) (ts rest : List Placed) → Begins sign ts rest → length rest < length ts
 begins_shorter sign ts rest (x, e, p) = rw p (omega arith)
@@ -68,16 +68,10 @@ module _ (Part : Phrase) (shorter : (c : Tree) (ts rest : List Placed) → Part 
       omega (arith, either_shorter c ts x h, begins_shorter s.Or x y b, both_shorter d y rest k)
   either_shorter c ts rest h = both_shorter c ts rest h
 
-  negation_shorter : (c : Tree) (ts rest : List Placed) → IsNegation Part c ts rest → length rest < length ts
-  negation_shorter (negation c) ts rest (x, b, h) = omega (arith, begins_shorter s.Not ts x b, shorter c x rest h)
-  negation_shorter _ ts rest h = absurd h
-
-  nested_shorter : (c : Tree) (ts rest : List Placed) → IsNested Part c ts rest → length rest < length ts
-  nested_shorter c ts rest (x, y, b, h, k) =
-      omega (arith, begins_shorter s.Open ts x b, either_shorter c x y h, begins_shorter s.Close y rest k)
-
 pub part_shorter : (nested : ℕ) (c : Tree) (ts rest : List Placed) → IsPart nested c ts rest → length rest < length ts
 part_shorter zero c ts rest h = comparison_shorter c ts rest h
 part_shorter (suc n) c ts rest (inl h) = comparison_shorter c ts rest h
-part_shorter (suc n) c ts rest (inr (inl h)) = negation_shorter (IsPart n) (part_shorter n) c ts rest h
-part_shorter (suc n) c ts rest (inr (inr h)) = nested_shorter (IsPart n) (part_shorter n) c ts rest h
+part_shorter (suc n) (negation c) ts rest (inr (inl (x, b, h))) = omega (arith, begins_shorter s.Not ts x b, part_shorter n c x rest h)
+part_shorter (suc n) _ ts rest (inr (inl h)) = absurd h
+part_shorter (suc n) c ts rest (inr (inr (x, y, b, h, k))) =
+    omega (arith, begins_shorter s.Open ts x b, either_shorter (IsPart n) (part_shorter n) c x y h, begins_shorter s.Close y rest k)

@@ -30,12 +30,18 @@ passed (suc k) place [] within = absurd (omega arith)
 passed (suc k) place (b ∷ bs) within =
     let e : place + suc k ≡ suc place + k = omega arith in rw e (passed k (suc place) bs (omega arith))
 
+run_step : (passes : Bool) (n m : ℕ) → n ≤ m → (if passes then 1 + n else 0) ≤ suc m
+run_step passes n m h = grind arith
+
 run_within : (test : ℕ → Bool) (bs : List ℕ) → run_of test bs ≤ length bs
 run_within test [] = omega arith
-run_within test (b ∷ bs) = let h = run_within test bs in let here : (if test b then 1 + run_of test bs else 0) ≤ suc (length bs) = grind (arith, h) in here
+run_within test (b ∷ bs) = run_step (test b) (run_of test bs) (length bs) (run_within test bs)
 
 run_some : (test : ℕ → Bool) (b : ℕ) (bs : List ℕ) → test b ≡ true → 0 < run_of test (b ∷ bs)
 run_some test b bs e = rw e (omega arith)
+
+or_left : (a b c : Bool) → a ≡ true → (a || b || c) ≡ true
+or_left a b c e = rw e refl
 
 -- a sign has bytes, and they are the text's
 abbrev IsCounted : ℕ → Result (Sign × ℕ) ConditionFault → Type 0
@@ -52,16 +58,18 @@ pair_counted false place most sign (Some x) = (omega arith, omega arith)
 pair_counted false place most sign None = tt
 
 byte_counted : (place : ℕ) (found : Option (ℕ × Sign)) (bs : List ℕ) (single : Option Sign) → IsCounted (suc (length bs)) (byte_sign place (pair_of found bs) single)
+byte_counted place None bs (Some x) = (omega arith, omega arith)
+byte_counted place None bs None = tt
+byte_counted place (Some p) [] (Some x) = (omega arith, omega arith)
+byte_counted place (Some p) [] None = tt
 byte_counted place (Some p) (b ∷ bs) single = pair_counted (nat_eq b p.0) place (length bs) p.1 single
-byte_counted place _ bs (Some x) = (omega arith, omega arith)
-byte_counted place _ bs None = tt
 
 sign_counted : (place : ℕ) (text : List ℕ) → IsCounted (length text) (sign_at place text)
 sign_counted place [] = tt
 sign_counted place (b ∷ bs) =
     counted_if (is_letter b) (suc (length bs)) (name_sign place (b ∷ bs) (run_of is_name_byte (b ∷ bs))) _
     (λ e. counted_if (nat_lt 16 (run_of is_name_byte (b ∷ bs))) (suc (length bs)) (Err _) (Ok _) (λ _. tt)
-    (λ _. (run_some is_name_byte b bs (ap (λ letter. letter || is_digit b || nat_eq b 95) e), run_within is_name_byte (b ∷ bs))))
+    (λ _. (run_some is_name_byte b bs (or_left (is_letter b) (is_digit b) (nat_eq b 95) e), run_within is_name_byte (b ∷ bs))))
     (λ _. counted_if (is_digit b) (suc (length bs)) (number_sign place (b ∷ bs) (run_of is_digit (b ∷ bs))) _
     (λ e. counted_if (nat_lt 18 (run_of is_digit (b ∷ bs))) (suc (length bs)) (Err _) (Ok _) (λ _. tt)
     (λ _. (run_some is_digit b bs e, run_within is_digit (b ∷ bs))))
@@ -129,18 +137,23 @@ short_number place text us n value e is short written =
     rw (same, less, v) refl
 
 -- no fault of signs is one of form, or of memory
+abbrev IsSignFault : ConditionFault → Type 0
+IsSignFault (f.Form place) = ⊥
+IsSignFault f.Memory = ⊥
+IsSignFault _ = Unit {0}
+
 abbrev IsOfSigns : {A : Type 0} → Result A ConditionFault → Type 0
-IsOfSigns (Err (f.Form place)) = ⊥
-IsOfSigns (Err f.Memory) = ⊥
-IsOfSigns _ = Unit {0}
+IsOfSigns (Ok x) = Unit {0}
+IsOfSigns (Err fault) = IsSignFault fault
 
 of_signs_if : {A : Type 0} (b : Bool) (x y : Result A ConditionFault) → IsOfSigns x → IsOfSigns y → IsOfSigns (if b then x else y)
 of_signs_if true x y h k = h
 of_signs_if false x y h k = k
 
 byte_of_signs : (place : ℕ) (pair single : Option Sign) → IsOfSigns (byte_sign place pair single)
+byte_of_signs place (Some x) single = tt
 byte_of_signs place None (Some x) = tt
-byte_of_signs place _ _ = tt
+byte_of_signs place None None = tt
 
 sign_of_signs : (place : ℕ) (text : List ℕ) → IsOfSigns (sign_at place text)
 sign_of_signs place [] = tt
@@ -153,13 +166,11 @@ sign_of_signs place (b ∷ bs) =
 
 before_of_signs : (x : Placed) (r : Result (List Placed) ConditionFault) → IsOfSigns r → IsOfSigns (before x r)
 before_of_signs x (Ok xs) h = tt
-before_of_signs x (Err e) h = h
+before_of_signs x (Err fault) h = h
 
 with_of_signs : (place : ℕ) (r : Result (Sign × ℕ) ConditionFault) (next : ℕ → Result (List Placed) ConditionFault) → IsOfSigns r → ((more : ℕ) → IsOfSigns (next more)) → IsOfSigns (with_sign place r next)
 with_of_signs place (Ok x) next h k = before_of_signs (placed place x.0) (next (x.1 - 1)) (k (x.1 - 1))
-with_of_signs place (Err (f.Form at)) next h k = h
-with_of_signs place (Err f.Memory) next h k = h
-with_of_signs place (Err _) next h k = tt
+with_of_signs place (Err fault) next h k = h
 
 from_of_signs : (bs : List ℕ) (place skip : ℕ) → IsOfSigns (signs_from place skip bs)
 from_of_signs [] place skip = tt
@@ -168,10 +179,7 @@ from_of_signs (b ∷ bs) place zero =
     of_signs_if (is_space b) (signs_from (suc place) 0 bs) _ (from_of_signs bs (suc place) 0)
     (with_of_signs place (sign_at place (b ∷ bs)) (λ more. signs_from (suc place) more bs) (sign_of_signs place (b ∷ bs)) (λ more. from_of_signs bs (suc place) more))
 
-no_form : (r : Result (List Placed) ConditionFault) (place : ℕ) → IsOfSigns r → r ≡ Err (f.Form place) → ⊥
-no_form r place h e = subst IsOfSigns e h
-
 pub fault_of : (text : List ℕ) (fault : ConditionFault) → signs_of text ≡ Err fault → IsFaultOf text fault
-fault_of text (f.Form place) e = no_form (signs_of text) place (from_of_signs text 0 0) e
+fault_of text (f.Form place) e = subst IsOfSigns e (from_of_signs text 0 0)
 fault_of text f.Memory e = tt
 fault_of text _ e = e

@@ -39,76 +39,24 @@ found_some : {A : Type 0} (by : Sign → List Placed → Option A) (ts : List Pl
 found_some by [] y p = cc
 found_some by (x ∷ us) y p = (x, us, refl, p)
 
--- a sign that is looked for is there
-abbrev Only : (Sign → List Placed → Option (List Placed)) → Sign → Type 0
-Only by sign = (t : Sign) (us rest : List Placed) → by t us ≡ Some rest → (t ≡ sign) × (us ≡ rest)
+-- what is looked for is a sign, with what it holds
+abbrev Finds : {X : Type 0} → (Sign → List Placed → Option X) → Sign → X → List Placed → Type 0
+Finds by sign x rest = (t : Sign) (us : List Placed) → by t us ≡ Some x → (t ≡ sign) × (us ≡ rest)
 
-found_begins : (by : Sign → List Placed → Option (List Placed)) (sign : Sign) (ts rest : List Placed) → Only by sign → found by ts ≡ Some rest → Begins sign ts rest
-found_begins by sign ts rest only p =
-    let (x, us, e, q) = found_some by ts rest p in
-    let k = only x.sign us rest q in (x, k.0, e ∙ ap (λ ws. x ∷ ws) k.1)
+found_begins : {X : Type 0} (by : Sign → List Placed → Option X) (sign : Sign) (x : X) (ts rest : List Placed) → Finds by sign x rest → found by ts ≡ Some x → Begins sign ts rest
+found_begins by sign x ts rest finds p =
+    let (y, us, e, q) = found_some by ts x p in
+    let k = finds y.sign us q in (y, k.0, e ∙ ap (λ ws. y ∷ ws) k.1)
 
-open_only : Only open_by s.Open
-open_only s.Open us rest p = (refl, some_inj us rest p)
-open_only _ us rest p = cc
+close_begins : (ts rest : List Placed) → found close_by ts ≡ Some rest → Begins s.Close ts rest
+close_begins ts rest p = found_begins close_by s.Close rest ts rest (λ t us q. grind arith) p
 
-close_only : Only close_by s.Close
-close_only s.Close us rest p = (refl, some_inj us rest p)
-close_only _ us rest p = cc
+-- a sign that is due
+due_begins : {A : Type 0} (by : Sign → List Placed → Option (Result A ℕ)) (sign : Sign) (x : A) (ts rest : List Placed) → Finds by sign (Ok x) rest → due ts (found by ts) ≡ Ok x → Begins sign ts rest
+due_begins by sign x ts rest finds p = found_begins by sign (Ok x) ts rest finds (due_some ts (found by ts) x p)
 
-minus_only : Only minus_by s.Minus
-minus_only s.Minus us rest p = (refl, some_inj us rest p)
-minus_only _ us rest p = cc
-
-and_only : Only and_by s.And
-and_only s.And us rest p = (refl, some_inj us rest p)
-and_only _ us rest p = cc
-
-or_only : Only or_by s.Or
-or_only s.Or us rest p = (refl, some_inj us rest p)
-or_only _ us rest p = cc
-
--- a sign that is due is there, with what it holds
-abbrev Holds : {A : Type 0} → (Sign → List Placed → Option (Read A)) → (A → Sign) → Type 0
-Holds {A = A} by sign = (t : Sign) (us : List Placed) (x : A × List Placed) → by t us ≡ Some (Ok x) → (t ≡ sign x.0) × (us ≡ x.1)
-
-due_begins : {A : Type 0} (by : Sign → List Placed → Option (Read A)) (sign : A → Sign) (ts : List Placed) (x : A × List Placed) → Holds by sign → due ts (found by ts) ≡ Ok x → Begins (sign x.0) ts x.1
-due_begins by sign ts x holds p =
-    let (y, us, e, q) = found_some by ts (Ok x) (due_some ts (found by ts) x p) in
-    let k = holds y.sign us x q in (y, k.0, e ∙ ap (λ ws. y ∷ ws) k.1)
-
-name_holds : Holds name_by (λ n. s.Name n)
-name_holds (s.Name n) us x p = let e : (n, us) ≡ x = cc in (ap (λ y. s.Name y.0) e, ap (λ y. y.1) e)
-name_holds _ us x p = cc
-
-natural_holds : Holds natural_by (λ n. s.Number n)
-natural_holds (s.Number n) us x p = let e : (n, us) ≡ x = cc in (ap (λ y. s.Number y.0) e, ap (λ y. y.1) e)
-natural_holds _ us x p = cc
-
-relation_holds : Holds relation_by (λ r. s.Relation r)
-relation_holds (s.Relation r) us x p = let e : (r, us) ≡ x = cc in (ap (λ y. s.Relation y.0) e, ap (λ y. y.1) e)
-relation_holds _ us x p = cc
-
--- a sign that is due and holds nothing
-abbrev IsAlone : (Sign → List Placed → Option (Result (List Placed) ℕ)) → Sign → Type 0
-IsAlone by sign = (t : Sign) (us rest : List Placed) → by t us ≡ Some (Ok rest) → (t ≡ sign) × (us ≡ rest)
-
-alone_begins : (by : Sign → List Placed → Option (Result (List Placed) ℕ)) (sign : Sign) (ts rest : List Placed) → IsAlone by sign → due ts (found by ts) ≡ Ok rest → Begins sign ts rest
-alone_begins by sign ts rest alone p =
-    let (y, us, e, q) = found_some by ts (Ok rest) (due_some ts (found by ts) rest p) in
-    let k = alone y.sign us rest q in (y, k.0, e ∙ ap (λ ws. y ∷ ws) k.1)
-
-dot_alone : IsAlone dot_by s.Dot
-dot_alone s.Dot us rest p = (refl, cc)
-dot_alone _ us rest p = cc
-
-comma_alone : IsAlone comma_by s.Comma
-comma_alone s.Comma us rest p = (refl, cc)
-comma_alone _ us rest p = cc
-
-closed_alone : IsAlone closed_by s.Close
-closed_alone s.Close us rest p = (refl, cc)
-closed_alone _ us rest p = cc
+natural_begins : (ts : List Placed) (x : ℕ × List Placed) → natural_at ts ≡ Ok x → Begins (s.Number x.0) ts x.1
+natural_begins ts x p = due_begins natural_by (s.Number x.0) x ts x.1 (λ t us q. grind arith) p
 
 -- numbers
 number_by_sound : (t : Sign) (us : List Placed) (x : ℤ × List Placed) (first : Placed) (ts : List Placed) → number_by t us ≡ Some (Ok x) → first.sign ≡ t → ts ≡ first ∷ us → IsNumber x.0 ts x.1
@@ -116,7 +64,7 @@ number_by_sound (s.Number n) us x first ts p q e =
     let k : (pos n, us) ≡ x = cc in subst (λ y. IsNumber y.0 ts y.1) k (n, inl (refl, (first, q, e)))
 number_by_sound s.Minus us x first ts p q e =
     let (n, u, k) = bind_last (natural_at us) (λ n. (neg_ℤ (pos n.0), n.1)) x (some_inj _ _ p) in
-    subst (λ y. IsNumber y.0 ts y.1) k (n.0, inr (refl, us, (first, q, e), due_begins natural_by (λ n. s.Number n) us n natural_holds u))
+    subst (λ y. IsNumber y.0 ts y.1) k (n.0, inr (refl, us, (first, q, e), natural_begins us n u))
 number_by_sound _ us x first ts p q e = cc
 
 number_sound : (ts : List Placed) (x : ℤ × List Placed) → number_at ts ≡ Ok x → IsNumber x.0 ts x.1
@@ -127,44 +75,32 @@ number_sound ts x p =
 abbrev Extends : ℕ → List ℤ → List Placed → List ℤ × List Placed → Type 0
 Extends n done ts x = (zs : List ℤ) × (x.0 ≡ done ++ zs) × AreMore zs ts x.1 × (length zs ≤ n)
 
-no_more : (n : ℕ) (done : List ℤ) (ts rest : List Placed) (x : List ℤ × List Placed) → found close_by ts ≡ Some rest → (done, rest) ≡ x → Extends n done ts x
-no_more n done ts rest x e p =
-    subst (Extends n done ts) p ([], sym (append-nil done), found_begins close_by s.Close ts rest close_only e, omega arith)
+no_more : (n : ℕ) (done : List ℤ) (ts rest : List Placed) → found close_by ts ≡ Some rest → Extends n done ts (done, rest)
+no_more n done ts rest e = ([], sym (append-nil done), close_begins ts rest e, omega arith)
 
-more_step : (n : ℕ) (done : List ℤ) (ts : List Placed) (x : List ℤ × List Placed) → ((zs : List ℤ) (us : List Placed) (y : List ℤ × List Placed) → more_at n zs us ≡ Ok y → Extends n zs us y)
-    → (comma_at ts >>= λ x. number_at x >>= λ z. more_at n (done ++ z.0 ∷ []) z.1) ≡ Ok x → Extends (suc n) done ts x
-more_step n done ts x ih p =
-    let (u, b, p') = bind_some (comma_at ts) (λ x. number_at x >>= λ z. more_at n (done ++ z.0 ∷ []) z.1) x p in
-    let (z, h, p'') = bind_some (number_at u) (λ z. more_at n (done ++ z.0 ∷ []) z.1) x p' in
-    let (zs, e, k, few) = ih (done ++ z.0 ∷ []) z.1 x p'' in
-    (z.0 ∷ zs, e ∙ append_assoc done (z.0 ∷ []) zs, (u, z.1, alone_begins comma_by s.Comma ts u comma_alone b, number_sound u z h, k), omega (arith, few))
-
-more_zero : (done : List ℤ) (ts : List Placed) (o : Option (List Placed)) (x : List ℤ × List Placed) → found close_by ts ≡ o → closed_or done o (Err (length ts)) ≡ Ok x → Extends 0 done ts x
-more_zero done ts None x e p = cc
-more_zero done ts (Some rest) x e p = no_more 0 done ts rest x e (ok_inj _ x p)
-
-more_suc : (n : ℕ) (done : List ℤ) (ts : List Placed) (o : Option (List Placed)) (x : List ℤ × List Placed) → ((zs : List ℤ) (us : List Placed) (y : List ℤ × List Placed) → more_at n zs us ≡ Ok y → Extends n zs us y)
-    → found close_by ts ≡ o → closed_or done o (comma_at ts >>= λ x. number_at x >>= λ z. more_at n (done ++ z.0 ∷ []) z.1) ≡ Ok x → Extends (suc n) done ts x
-more_suc n done ts None x ih e p = more_step n done ts x ih p
-more_suc n done ts (Some rest) x ih e p = no_more (suc n) done ts rest x e (ok_inj _ x p)
+closed_sound : (P : List ℤ × List Placed → Type 0) (zs : List ℤ) (o : Option (List Placed)) (read : Read (List ℤ)) (x : List ℤ × List Placed) → closed_or zs o read ≡ Ok x
+    → ((rest : List Placed) → o ≡ Some rest → P (zs, rest)) → (read ≡ Ok x → P x) → P x
+closed_sound P zs None read x p closed other = other p
+closed_sound P zs (Some rest) read x p closed other = subst P (ok_inj _ x p) (closed rest refl)
 
 more_sound : (n : ℕ) (done : List ℤ) (ts : List Placed) (x : List ℤ × List Placed) → more_at n done ts ≡ Ok x → Extends n done ts x
-more_sound zero done ts x p = more_zero done ts (found close_by ts) x refl p
-more_sound (suc n) done ts x p = more_suc n done ts (found close_by ts) x (more_sound n) refl p
+more_sound zero done ts x p = closed_sound (Extends 0 done ts) done (found close_by ts) (Err (length ts)) x p (no_more 0 done ts) (λ q. cc)
+more_sound (suc n) done ts x p =
+    closed_sound (Extends (suc n) done ts) done (found close_by ts) (comma_at ts >>= λ x. number_at x >>= λ z. more_at n (done ++ z.0 ∷ []) z.1) x p (no_more (suc n) done ts) (λ q.
+    (let (u, b, p') = bind_some (comma_at ts) (λ x. number_at x >>= λ z. more_at n (done ++ z.0 ∷ []) z.1) x q in
+    let (z, h, p'') = bind_some (number_at u) (λ z. more_at n (done ++ z.0 ∷ []) z.1) x p' in
+    let (zs, e, k, few) = more_sound n (done ++ z.0 ∷ []) z.1 x p'' in
+    (z.0 ∷ zs, e ∙ append_assoc done (z.0 ∷ []) zs, (u, z.1, due_begins comma_by s.Comma u ts u (λ t us q. grind arith) b, number_sound u z h, k), omega (arith, few))))
 
 abbrev AreArgs : List Placed → List ℤ × List Placed → Type 0
 AreArgs ts x = AreNumbers x.0 ts x.1 × (length x.0 ≤ 3)
 
-args_or : (ts : List Placed) (o : Option (List Placed)) (x : List ℤ × List Placed) → found close_by ts ≡ o → closed_or [] o (number_at ts >>= λ z. more_at 2 (z.0 ∷ []) z.1) ≡ Ok x → AreArgs ts x
-args_or ts None x e p =
-    let (z, h, p') = bind_some (number_at ts) (λ z. more_at 2 (z.0 ∷ []) z.1) x p in
-    let (zs, q, k, few) = more_sound 2 (z.0 ∷ []) z.1 x p' in
-    subst (λ ws. AreNumbers ws ts x.1 × (length ws ≤ 3)) (sym q) ((z.1, number_sound ts z h, k), omega (arith, few))
-args_or ts (Some rest) x e p =
-    subst (AreArgs ts) (ok_inj _ x p) (found_begins close_by s.Close ts rest close_only e, omega arith)
-
 args_sound : (ts : List Placed) (x : List ℤ × List Placed) → args_at ts ≡ Ok x → AreArgs ts x
-args_sound ts x p = args_or ts (found close_by ts) x refl p
+args_sound ts x p =
+    closed_sound (AreArgs ts) [] (found close_by ts) (number_at ts >>= λ z. more_at 2 (z.0 ∷ []) z.1) x p (λ rest e. (close_begins ts rest e, omega arith)) (λ q.
+    (let (z, h, p') = bind_some (number_at ts) (λ z. more_at 2 (z.0 ∷ []) z.1) x q in
+    let (zs, e, k, few) = more_sound 2 (z.0 ∷ []) z.1 x p' in
+    subst (λ ws. AreNumbers ws ts x.1 × (length ws ≤ 3)) (sym e) ((z.1, number_sound ts z h, k), omega (arith, few))))
 
 -- values
 variable_sound : (n m : List ℕ) (ts us ws zs : List Placed) (o : Option (List Placed)) (x : Value × List Placed) → Begins (s.Name n) ts us → Begins s.Dot us ws → Begins (s.Name m) ws zs → found open_by zs ≡ o → variable_or n m zs o ≡ Ok x → IsValue x.0 ts x.1
@@ -173,13 +109,13 @@ variable_sound n m ts us ws zs None x b d k e p =
 variable_sound n m ts us ws zs (Some rest) x b d k e p =
     let (a, h, q) = bind_last (args_at rest) (λ a. (v.Reply n m a.0, a.1)) x p in
     let g = args_sound rest a h in
-    subst (λ y. IsValue y.0 ts y.1) q (us, ws, zs, rest, b, d, k, found_begins open_by s.Open zs rest open_only e, g.0, g.1)
+    subst (λ y. IsValue y.0 ts y.1) q (us, ws, zs, rest, b, d, k, found_begins open_by s.Open rest zs rest (λ t us q. grind arith) e, g.0, g.1)
 
 named_sound : (n : List ℕ) (ts us : List Placed) (x : Value × List Placed) → Begins (s.Name n) ts us → named_at n us ≡ Ok x → IsValue x.0 ts x.1
 named_sound n ts us x b p =
     let (w, d, p') = bind_some (dot_at us) (λ x. name_at x >>= λ m. variable_or n m.0 m.1 (found open_by m.1)) x p in
     let (m, k, p'') = bind_some (name_at w) (λ m. variable_or n m.0 m.1 (found open_by m.1)) x p' in
-    variable_sound n m.0 ts us w m.1 (found open_by m.1) x b (alone_begins dot_by s.Dot us w dot_alone d) (due_begins name_by (λ n. s.Name n) w m name_holds k) refl p''
+    variable_sound n m.0 ts us w m.1 (found open_by m.1) x b (due_begins dot_by s.Dot w us w (λ t us q. grind arith) d) (due_begins name_by (s.Name m.0) m w m.1 (λ t us q. grind arith) k) refl p''
 
 value_by_sound : (t : Sign) (us : List Placed) (x : Value × List Placed) (first : Placed) (ts : List Placed) → value_by t us ≡ Some (Ok x) → first.sign ≡ t → ts ≡ first ∷ us → IsValue x.0 ts x.1
 value_by_sound (s.Number n) us x first ts p q e =
@@ -199,7 +135,7 @@ summand_sound negative ts x p =
 minus_or_sound : (ts : List Placed) (o : Option (List Placed)) (x : Summand × List Placed) → found minus_by ts ≡ o → minus_or ts o ≡ Ok x → IsFirst x.0 ts x.1
 minus_or_sound ts None x e p = let h = summand_sound false ts x p in inl (h.0, h.1)
 minus_or_sound ts (Some rest) x e p =
-    let h = summand_sound true rest x p in inr (h.0, rest, found_begins minus_by s.Minus ts rest minus_only e, h.1)
+    let h = summand_sound true rest x p in inr (h.0, rest, found_begins minus_by s.Minus rest ts rest (λ t us q. grind arith) e, h.1)
 
 first_sound : (ts : List Placed) (x : Summand × List Placed) → first_at ts ≡ Ok x → IsFirst x.0 ts x.1
 first_sound ts x p = minus_or_sound ts (found minus_by ts) x refl p
@@ -226,16 +162,6 @@ with_some : {A B : Type 0} (o : Option A) (f : A → B) (y : B) → with_found o
 with_some None f y p = cc
 with_some (Some x) f y p = (x, refl, some_inj _ y p)
 
-link_by_sound : (t : Sign) (us : List Placed) (x : Bool × List Placed) → link_by t us ≡ Some x → (t ≡ plus_or_minus x.0) × (us ≡ x.1)
-link_by_sound s.Plus us x p = let e : (false, us) ≡ x = cc in (ap (λ y. plus_or_minus y.0) e, ap (λ y. y.1) e)
-link_by_sound s.Minus us x p = let e : (true, us) ≡ x = cc in (ap (λ y. plus_or_minus y.0) e, ap (λ y. y.1) e)
-link_by_sound _ us x p = cc
-
-link_sound : (ts : List Placed) (x : Bool × List Placed) → found link_by ts ≡ Some x → Begins (plus_or_minus x.0) ts x.1
-link_sound ts x p =
-    let (y, us, e, q) = found_some link_by ts x p in
-    let k = link_by_sound y.sign us x q in (y, k.0, e ∙ ap (λ ws. y ∷ ws) k.1)
-
 further_one_more : (xs : List Summand) (x : Summand) (ts us ws rest : List Placed) → AreFurther xs ts us → Begins (plus_or_minus x.negative) us ws → IsSummand x ws rest → AreFurther (xs ++ x ∷ []) ts rest
 further_one_more [] x ts us ws rest h b k = (ws, rest, subst (λ zs. Begins (plus_or_minus x.negative) zs ws) (sym h) b, k, refl)
 further_one_more (y ∷ ys) x ts us ws rest (a, c, d, e, h) b k = (a, c, d, e, further_one_more ys x c us ws rest h b k)
@@ -249,7 +175,7 @@ sum_goes start xs ts x h p =
     let (l, e, q) = with_some (found link_by ts) (λ p. summand_at p.0 p.1 >>= λ x. Ok (xs ++ x.0 ∷ [], x.1)) (Ok x) p in
     let (y, k, r) = bind_last (summand_at l.0 l.1) (λ y. (xs ++ y.0 ∷ [], y.1)) x q in
     let g = summand_sound l.0 l.1 y k in
-    subst (λ z. IsSum z.0 start z.1) r (sum_one_more xs y.0 start ts l.1 y.1 h (subst (λ n. Begins (plus_or_minus n) ts l.1) (sym g.0) (link_sound ts l e)) g.1)
+    subst (λ z. IsSum z.0 start z.1) r (sum_one_more xs y.0 start ts l.1 y.1 h (subst (λ n. Begins (plus_or_minus n) ts l.1) (sym g.0) (found_begins link_by (plus_or_minus l.0) l ts l.1 (λ t us q. grind arith) e)) g.1)
 
 sum_sound : (ts : List Placed) (x : List Summand × List Placed) → sum_at ts ≡ Ok x → IsSum x.0 ts x.1
 sum_sound ts x p =
@@ -261,7 +187,7 @@ comparison_sound ts x p =
     let (a, h, p') = bind_some (sum_at ts) (λ a. relation_at a.1 >>= λ r. sum_at r.1 >>= λ b. Ok (compare a.0 r.0 b.0, b.1)) x p in
     let (r, b, p'') = bind_some (relation_at a.1) (λ r. sum_at r.1 >>= λ b. Ok (compare a.0 r.0 b.0, b.1)) x p' in
     let (d, k, q) = bind_last (sum_at r.1) (λ b. (compare a.0 r.0 b.0, b.1)) x p'' in
-    subst (λ w. IsComparison w.0 ts w.1) q (a.1, r.1, sum_sound ts a h, due_begins relation_by (λ r. s.Relation r) a.1 r relation_holds b, sum_sound r.1 d k)
+    subst (λ w. IsComparison w.0 ts w.1) {x = (compare a.0 r.0 d.0, d.1)} q (a.1, r.1, sum_sound ts a h, due_begins relation_by (s.Relation r.0) r a.1 r.1 (λ t us q. grind arith) b, sum_sound r.1 d k)
 
 -- conditions with signs between them
 module _ (Part : Phrase) (part : List Placed → Read Tree) (sound : (ts : List Placed) (x : Tree × List Placed) → part ts ≡ Ok x → Part x.0 ts x.1) where
@@ -277,7 +203,7 @@ module _ (Part : Phrase) (part : List Placed → Read Tree) (sound : (ts : List 
   and_goes start c ts x h p =
       let (l, e, q) = with_some (found and_by ts) (λ rest. part rest >>= λ d. Ok (both c d.0, d.1)) (Ok x) p in
       let (d, k, r) = bind_last (part l) (λ d. (both c d.0, d.1)) x q in
-      subst (λ z. IsBothOf Part z.0 start z.1) r (inr (ts, l, h, found_begins and_by s.And ts l and_only e, sound l d k))
+      subst (λ z. IsBothOf Part z.0 start z.1) r (inr (ts, l, h, found_begins and_by s.And l ts l (λ t us q. grind arith) e, sound l d k))
 
   both_sound : (ts : List Placed) (x : Tree × List Placed) → both_of part ts ≡ Ok x → IsBothOf Part x.0 ts x.1
   both_sound ts x p =
@@ -288,7 +214,7 @@ module _ (Part : Phrase) (part : List Placed → Read Tree) (sound : (ts : List 
   or_goes start c ts x h p =
       let (l, e, q) = with_some (found or_by ts) (λ rest. both_of part rest >>= λ d. Ok (either c d.0, d.1)) (Ok x) p in
       let (d, k, r) = bind_last (both_of part l) (λ d. (either c d.0, d.1)) x q in
-      subst (λ z. IsEitherOf Part z.0 start z.1) r (inr (ts, l, h, found_begins or_by s.Or ts l or_only e, both_sound l d k))
+      subst (λ z. IsEitherOf Part z.0 start z.1) r (inr (ts, l, h, found_begins or_by s.Or l ts l (λ t us q. grind arith) e, both_sound l d k))
 
   either_sound : (ts : List Placed) (x : Tree × List Placed) → either_of part ts ≡ Ok x → IsEitherOf Part x.0 ts x.1
   either_sound ts x p =
@@ -306,7 +232,7 @@ module _ (Part : Phrase) (part : List Placed → Read Tree) (sound : (ts : List 
   inner_by_sound s.Open us read x first ts p o q e =
       let (c, h, p') = bind_some (either_of part us) (λ c. closed_at c.1 >>= λ rest. Ok (c.0, rest)) x (some_inj _ _ p ∙ o) in
       let (rest, b, k) = bind_last (closed_at c.1) (λ rest. (c.0, rest)) x p' in
-      subst (λ z. IsInner z.0 ts z.1) k (inr (us, c.1, (first, q, e), either_sound us c h, alone_begins closed_by s.Close c.1 rest closed_alone b))
+      subst (λ z. IsInner z.0 ts z.1) k (inr (us, c.1, (first, q, e), either_sound us c h, due_begins closed_by s.Close rest c.1 rest (λ t us q. grind arith) b))
   inner_by_sound _ us read x first ts p o q e = cc
 
   inner_sound : (ts : List Placed) (o : Option (Read Tree)) (x : Tree × List Placed) → found (inner_by part) ts ≡ o → or_comparison ts o ≡ Ok x → IsComparison x.0 ts x.1 ⊎ IsInner x.0 ts x.1

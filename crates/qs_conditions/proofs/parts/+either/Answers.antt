@@ -2,17 +2,13 @@ use Rattle.std.proofs.Common.{◌∙◌, ap, arith, refl, append_assoc, [], ◌�
 use Rattle.std.proofs.lemmas.Result.{err_from_is_err_and}
 use Rattle.qs_conditions.specs.declared.condition.Step.TheVariants.{And, Or, Not}
 use Rattle.qs_conditions.specs.Conditions.{negation, both, either, steps_of}
-use Rattle.qs_conditions.specs.Reading.{found, and_by, or_by, part_in, both_in, and_further, or_further}
-use Rattle.qs_conditions.proofs.Chains.{begins_with, added_more, added_ends, added_fails}
+use Rattle.qs_conditions.specs.Reading.{found, and_by, or_by, part_in, both_in}
+use Rattle.qs_conditions.proofs.Chains.{added_first, added_more, added_ends, added_fails}
 use Rattle.qs_conditions.proofs.parts.+either.Goals as goal
 
 pub both-each-init : goal.both-each-init
 both-each-init t c = record {
-  added = record {
-    tree = c.in_ok-rest.ensures.exact.0;
-    reading = begins_with (and_further (part_in c.args.nested)) (part_in c.args.nested c.args.signs.now) c.in_ok-rest.ensures.exact.0 c.in_ok-rest.rest.now c.in_ok-rest.ensures.exact.1;
-    steps = c.in_ok-rest.ensures.exact.2;
-  };
+  added = added_first (part_in c.args.nested) (found and_by) both And (λ c d. refl) _ _ _ _ c.in_ok-rest.ensures.exact;
   shorter = c.in_ok-rest.ensures.shorter;
 }
 
@@ -35,11 +31,7 @@ both-each-preserved t c = record {
 
 pub either-each-init : goal.either-each-init
 either-each-init t c = record {
-  added = record {
-    tree = c.in_ok-rest.ensures.exact.0;
-    reading = begins_with (or_further (part_in c.args.nested)) (both_in c.args.nested c.args.signs.now) c.in_ok-rest.ensures.exact.0 c.in_ok-rest.rest.now c.in_ok-rest.ensures.exact.1;
-    steps = c.in_ok-rest.ensures.exact.2;
-  };
+  added = added_first (both_in c.args.nested) (found or_by) either Or (λ c d. refl) _ _ _ _ c.in_ok-rest.ensures.exact;
   shorter = c.in_ok-rest.ensures.shorter;
 }
 
