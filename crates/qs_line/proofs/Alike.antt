@@ -2,11 +2,11 @@
 -- lists one kind, but for a stray word, where both are refusals, and for the word `help`, which this command leaves
 -- out.
 use Rattle.std.proofs.Common.{◌≡◌, ℕ, Bool, zero, suc, List, [], ◌∷◌, Option, Some, None, true, false, refl, ap, inl, inr}
-use Rattle.std.specs.Prelude.{⊤, ◌&&◌, ◌||◌, ◌==◌, not, nat_lt, length, drop, find, is_some, encode_utf8, slice_get, codes, if◌then◌else◌}
+use Rattle.std.specs.Prelude.{⊤, ◌&&◌, ◌||◌, not, length, drop, find, is_some, encode_utf8, slice_get, codes, if◌then◌else◌}
 use Rattle.std.specs.Str.{bytes_eq, chars}
 use Rattle.std.specs.Option.{option_map_or}
 use Rattle.clap.specs.Faults.{action_fault, bundle_step_fault, built_fault, bundle_fault, check_fault, count_fault, default_fault, defaults_fault, entered_fault, fault_of, flag_word_fault, flags_fault, level_fault, long_fault, option_fault, other_fault, positional_fault, react_fault, settle_fault, short_fault, step_fault, stray_fault, turn_fault, use_fault, walk_fault}
-use Rattle.clap.specs.Kinds.{IsAmong, Kinds, check_kinds, or_else, range_kinds, request_kinds, values_kinds}
+use Rattle.clap.specs.Kinds.{IsAmong, Kinds, or_else, range_kinds, request_kinds, values_kinds}
 use Rattle.clap.specs.Simple.{App, Shape, argument_words, built, entered, label_of, names_of}
 use Rattle.clap.specs.Lexer.{long_of, short_of}
 use Rattle.clap.specs.Facts.{parser_of_value, unwrap_or_range}
@@ -50,30 +50,15 @@ values : (again : Bool) (p : ValueParser) (vs : List Text) → Alike (values_kin
 values again p [] = none
 values again p (v ∷ vs) = in_turn _ _ (either _ none (one _)) (values again p vs)
 
-range_by : (a b c d e : Bool)
-    → Alike (if a then kind.InvalidValue ∷ []
-    else (if b then (if c then [] else kind.WrongNumberOfValues ∷ [])
-    else (if d then kind.TooFewValues ∷ [] else (if e then kind.TooManyValues ∷ [] else []))))
-range_by true b c d e = one kind.InvalidValue
-range_by false true true d e = none
-range_by false true false d e = one kind.WrongNumberOfValues
-range_by false false c true e = one kind.TooFewValues
-range_by false false c false true = one kind.TooManyValues
-range_by false false c false false = none
-
 ranges : (least most n : ℕ) → Alike (range_kinds least most n)
-ranges least most n = range_by (nat_lt 0 least && n == 0) (least == most) (least == n) (nat_lt n least) (nat_lt most n)
+ranges least most n = search (either, one, none)
 
 requests : (a : ArgAction) → Alike (request_kinds a)
-requests action.Set = none
-requests action.Append = none
-requests action.SetTrue = none
-requests action.SetFalse = none
-requests action.Count = none
 requests action.Help = one _
 requests action.HelpShort = one _
 requests action.HelpLong = one _
 requests action.Version = one _
+requests _ = none
 
 counts : (a : Rule) (vs : List Text) (rows : List Row) → Alike (count_fault a vs rows)
 counts a [] rows = either _ none (one _)
@@ -85,10 +70,7 @@ actions action.SetTrue again a vs rows = in_turn _ _ (either _ (one _) none) (va
 actions action.SetFalse again a vs rows = in_turn _ _ (either _ (one _) none) (values _ _ vs)
 actions action.Append again a vs rows = values _ _ vs
 actions action.Count again a vs rows = counts a vs rows
-actions action.Help again a vs rows = requests action.Help
-actions action.HelpShort again a vs rows = requests action.HelpShort
-actions action.HelpLong again a vs rows = requests action.HelpLong
-actions action.Version again a vs rows = requests action.Version
+actions _ again a vs rows = one _
 
 uses : (again : Bool) (a : Rule) (vs : List Text) (rows : List Row) → Alike (use_fault again a vs rows)
 uses again a vs rows = in_turn _ _ (ranges (unwrap_or_range a.range).start_inclusive (most_values a) (length vs)) (actions (action_of a) again a (values_or_missing a vs) rows)
@@ -168,14 +150,8 @@ unfolding defaults_fault
 defaults rows [] = none
 defaults rows (a ∷ rest) = in_turn _ _ (default rows a) (defaults (with_default rows a) rest)
 
-checked : (a b c : Bool) → Alike (check_kinds a b c)
-checked true b c = one kind.DisplayHelpOnMissingArgumentOrSubcommand
-checked false true c = one kind.MissingSubcommand
-checked false false true = one kind.MissingRequiredArgument
-checked false false false = none
-
 checks : (s : Shape) (rows : List Row) (has : Bool) → Alike (check_fault s rows has)
-checks s rows has = checked _ _ _
+checks s rows has = search (either, one, none)
 
 levels : (s : Shape) (names : Names) → HasNoHelpWord s names → (h : Held) (words : List Text) (has : Bool) (below : Kinds) → Alike below
     → Alike (level_fault s names h words has below)

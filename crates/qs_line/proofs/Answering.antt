@@ -20,11 +20,8 @@ use Rattle.qs_line.proofs.Alike.{Alike}
 pub fault_among : (kinds : Kinds) (e : Error) (f : LineFault) → HasKind kinds e → IsFault (kind_of e) f → IsFaultAmong kinds f
 fault_among kinds e fault.Memory has is = tt
 fault_among kinds e fault.Refused (inl memory) is = absurd (is.2 memory)
-fault_among kinds e fault.Refused (inr among) is = (kind_of e, among, is)
-fault_among kinds e (fault.Help text) (inl memory) is = absurd (cc (sym is ∙ memory))
-fault_among kinds e (fault.Help text) (inr among) is = (kind_of e, among, is)
-fault_among kinds e (fault.Version text) (inl memory) is = absurd (cc (sym is ∙ memory))
-fault_among kinds e (fault.Version text) (inr among) is = (kind_of e, among, is)
+fault_among kinds e _ (inl memory) is = absurd (cc (sym is ∙ memory))
+fault_among kinds e _ (inr among) is = (kind_of e, among, is)
 
 neither_is_refused : (k : ErrorKind) → k ≢ DisplayHelp → k ≢ DisplayVersion → line_of_kind k ≡ refused
 neither_is_refused DisplayHelp no_help no_version = absurd (no_help refl)
@@ -39,15 +36,10 @@ first_says k ks other alike (inr among) = alike.each other among
 pub fault_is_answer : (kinds : Kinds) (request : Option Request) (f : LineFault) → Alike kinds → IsFaultAmong kinds f
     → IsAnswer (line_by kinds request) (Err f)
 fault_is_answer kinds request fault.Memory alike among = tt
-fault_is_answer [] request fault.Refused alike among = absurd among.1
+fault_is_answer [] request _ alike among = absurd among.1
 fault_is_answer (k ∷ ks) request fault.Refused alike among =
     sym (first_says k ks among.0 alike among.1) ∙ neither_is_refused among.0 among.2.0 among.2.1
-fault_is_answer [] request (fault.Help text) alike among = absurd among.1
-fault_is_answer (k ∷ ks) request (fault.Help text) alike among =
-    sym (first_says k ks among.0 alike among.1) ∙ ap line_of_kind among.2
-fault_is_answer [] request (fault.Version text) alike among = absurd among.1
-fault_is_answer (k ∷ ks) request (fault.Version text) alike among =
-    sym (first_says k ks among.0 alike among.1) ∙ ap line_of_kind among.2
+fault_is_answer (k ∷ ks) request _ alike among = sym (first_says k ks among.0 alike among.1) ∙ ap line_of_kind among.2
 
 -- a line that does not ask for the page on the language is what clap makes of it
 pub other_line : (words : List Text) → asks_language words ≡ false

@@ -1,15 +1,15 @@
 -- A line's claim is that of a text which was read as a condition, whichever words stand beside it: what a word asks for
 -- is found test by test, and each request with a claim comes of one place.
-use Rattle.std.proofs.Common.{◌≡◌, ◌∙◌, Bool, true, false, ℕ, List, [], ◌∷◌, codes, Option, Some, None, Result, Ok, Err, if◌then◌else◌, ◌&&◌, ◌⊎◌, not, inl, inr, refl, sym, ap, subst}
+use Rattle.std.proofs.Common.{arith, ◌≡◌, ◌∙◌, Bool, true, false, ℕ, List, [], ◌∷◌, codes, Option, Some, None, Result, Ok, Err, if◌then◌else◌, ◌&&◌, ◌⊎◌, not, inl, inr, refl, sym, ap, subst}
 use Rattle.std.specs.Prelude.{◌++◌, option_and_then, option_map, unwrap_or}
 use Rattle.std.specs.List.{AllByRecursion}
 use Rattle.std.specs.Option.{option_map_or}
 use Rattle.std.specs.Str.{bytes_eq}
+use Rattle.std.proofs.lemmas.Bool.{false_from_ne_true}
 use Rattle.std.proofs.lemmas.Slice.Eq.{bytes_eq-Decides}
 use Rattle.clap.specs.Faults.{fault_of}
 use Rattle.clap.specs.Kinds.{Kinds}
 use Rattle.clap.specs.Words.{Row, Text, all_of, first_of, subcommand_of}
-use Rattle.clap.specs.declared.error.kind.ErrorKind.TheVariants.{DisplayHelp, DisplayVersion}
 use Rattle.clap.specs.declared.error.kind.ErrorKind.{ErrorKind}
 use Rattle.qs_conditions.specs.Claims.{word as word_of}
 use Rattle.qs_conditions.specs.Conditions.{Tree, steps_of}
@@ -100,77 +100,43 @@ abbrev IsPlain : Request → Type 0
 IsPlain q = HaveConditions q × (style_of q ≡ None)
 
 -- what is asked for is such a request, where something is
-abbrev Has : Option Request → Type 0
-Has r = (q : Request) → r ≡ Some q → IsPlain q
+module _ (Is : Request → Type 0) where
+  abbrev Has : Option Request → Type 0
+  Has r = (q : Request) → r ≡ Some q → Is q
 
-none : Has None
-none q e = absurd (cc e)
+  none : Has None
+  none q e = absurd (cc e)
 
-test : (b : Bool) (x y : Option Request) → Has x → Has y → Has (if b then x else y)
-test true x y a b = a
-test false x y a b = b
+  test : (b : Bool) (x y : Option Request) → Has x → Has y → Has (if b then x else y)
+  test true x y a b = a
+  test false x y a b = b
 
-each : {A : Type 0} (f : A → Request) (o : Option A) → ((a : A) → IsPlain (f a)) → Has (option_map f o)
-each f None all q e = absurd (cc e)
-each f (Some a) all q e = let h : f a ≡ q = cc e in subst IsPlain h (all a)
+  each : {A : Type 0} (f : A → Request) (o : Option A) → ((a : A) → Is (f a)) → Has (option_map f o)
+  each f None all q e = absurd (cc e)
+  each f (Some a) all q e = let h : f a ≡ q = cc e in subst Is h (all a)
 
-next : {A : Type 0} (f : A → Option Request) (o : Option A) → ((a : A) → o ≡ Some a → Has (f a)) → Has (option_and_then f o)
-next f None all q e = absurd (cc e)
-next f (Some a) all q e = all a refl q e
+  next : {A : Type 0} (f : A → Option Request) (o : Option A) → ((a : A) → o ≡ Some a → Has (f a)) → Has (option_and_then f o)
+  next f None all q e = absurd (cc e)
+  next f (Some a) all q e = all a refl q e
 
 module _ (word : Text) (rows : List Row) where
-  checks : Has (check_at rows)
-  checks = each check (format_at rows) (λ how. (tt, refl))
+  tallies : Has IsPlain (tally_at rows)
+  tallies = next IsPlain _ (format_at rows) (λ how e. next IsPlain _ (mode_at rows) (λ mode f. next IsPlain _ (chunk_at rows) (λ chunk g. each IsPlain (tally how mode chunk) (times_at rows) (λ times. (tt, refl)))))
 
-  graphs : Has (graph_at rows)
-  graphs = each graph (graph_format_at rows) (λ how. (tt, refl))
+  answers : Has IsPlain (ask_at rows)
+  answers = next IsPlain _ (claims_at rows) (λ claims is. next IsPlain _ (format_at rows) (λ how e. next IsPlain _ (limit_at rows) (λ limit f. each IsPlain (ask claims how limit) (front_at rows) (λ front. (of_rows rows claims is, refl)))))
 
-  tables : Has (syncs_at rows)
-  tables = next _ (format_at rows) (λ how e. each (syncs how) (plan_at rows) (λ plan. (tt, refl)))
+  lists : Has IsPlain (list_at rows)
+  lists = next IsPlain _ (outcomes_format_at rows) (λ how e. next IsPlain _ (limit_at rows) (λ limit f. next IsPlain _ (threads_beside how rows) (λ threads g. each IsPlain (outcomes how limit threads) (front_at rows) (λ front. (tt, refl)))))
 
-  tallies : Has (tally_at rows)
-  tallies = next _ (format_at rows) (λ how e. next _ (mode_at rows) (λ mode f. next _ (chunk_at rows) (λ chunk g. each (tally how mode chunk) (times_at rows) (λ times. (tt, refl)))))
-
-  answers : Has (ask_at rows)
-  answers = next _ (claims_at rows) (λ claims is. next _ (format_at rows) (λ how e. next _ (limit_at rows) (λ limit f. each (ask claims how limit) (front_at rows) (λ front. (of_rows rows claims is, refl)))))
-
-  lists : Has (list_at rows)
-  lists = next _ (outcomes_format_at rows) (λ how e. next _ (limit_at rows) (λ limit f. next _ (threads_beside how rows) (λ threads g. each (outcomes how limit threads) (front_at rows) (λ front. (tt, refl)))))
-
-  estimates : Has (estimate_at rows)
-  estimates = next _ (format_at rows) (λ how e. each (estimate how) (front_at rows) (λ front. (tt, refl)))
-
-  those_alike : Has (alike_at rows)
-  those_alike = next _ (format_at rows) (λ how e. each (alike how) (limit_at rows) (λ limit. (tt, refl)))
-
-  those_outcomes : Has (outcomes_at rows)
-  those_outcomes = test (flag_at (codes "alike") rows) (alike_at rows) (list_at rows) those_alike lists
-
-  those_fronts : Has (fronts_at rows)
-  those_fronts = next _ (format_at rows) (λ how e. next _ (blocks_at rows) (λ blocks f. next _ (limit_at rows) (λ limit g. each (fronts how blocks limit) (leads_at rows) (λ orders. (tt, refl)))))
-
-  -- what a word asks for that is behind those of runs
-  abbrev last : Option Request
-  last =
-      if bytes_eq word (codes "syncs") then syncs_at rows
-      else if bytes_eq word (codes "outcomes") then outcomes_at rows
-      else if bytes_eq word (codes "ask") then ask_at rows
-      else if bytes_eq word (codes "fronts") then fronts_at rows
-      else if bytes_eq word (codes "estimate") then estimate_at rows else None
-
-  lasts : Has last
-  lasts =
-      test (bytes_eq word (codes "syncs")) (syncs_at rows) _ tables
-      (test (bytes_eq word (codes "outcomes")) (outcomes_at rows) _ those_outcomes
-      (test (bytes_eq word (codes "ask")) (ask_at rows) _ answers
-      (test (bytes_eq word (codes "fronts")) (fronts_at rows) _ those_fronts
-      (test (bytes_eq word (codes "estimate")) (estimate_at rows) None estimates none))))
+  those_fronts : Has IsPlain (fronts_at rows)
+  those_fronts = next IsPlain _ (format_at rows) (λ how e. next IsPlain _ (blocks_at rows) (λ blocks f. next IsPlain _ (limit_at rows) (λ limit g. each IsPlain (fronts how blocks limit) (leads_at rows) (λ orders. (tt, refl)))))
 
   -- what is asked for is plain, or it is the run that is asked for
   abbrev Either : (r s : Option Request) → Type 0
   Either r s = (q : Request) → r ≡ Some q → IsPlain q ⊎ (s ≡ Some q)
 
-  plain : (r s : Option Request) → Has r → Either r s
+  plain : (r s : Option Request) → Has IsPlain r → Either r s
   plain r s has q e = inl (has q e)
 
   same : (r : Option Request) → Either r r
@@ -180,51 +146,47 @@ module _ (word : Text) (rows : List Row) where
   choose true r x y p = same r
   choose false r x y p = p
 
-  past : (b : Bool) (r x s : Option Request) → Has r → Either x s → Either (if b then r else x) s
+  past : (b : Bool) (r x s : Option Request) → Has IsPlain r → Either x s → Either (if b then r else x) s
   past true r x s p q = plain r s p
   past false r x s p q = q
 
-  of_run : (named timed : Bool) → Either (if named then (if timed then tally_at rows else single_run_at rows) else last)
+  of_run : (named timed : Bool) (last : Option Request) → Has IsPlain last → Either (if named then (if timed then tally_at rows else single_run_at rows) else last)
       (if named && not timed then single_run_at rows else None)
-  of_run true true = plain (tally_at rows) None tallies
-  of_run true false = same (single_run_at rows)
-  of_run false timed = plain last None lasts
+  of_run true true last h = plain (tally_at rows) None tallies
+  of_run true false last h = same (single_run_at rows)
+  of_run false timed last h = plain last None h
 
   of_word_alone : Either (request_of_word word rows) (run_of_word word rows)
   of_word_alone =
-      past (bytes_eq word (codes "check")) (check_at rows) _ (run_of_word word rows) checks
-      (past (bytes_eq word (codes "graph")) (graph_at rows) _ (run_of_word word rows) graphs
+      past (bytes_eq word (codes "check")) (check_at rows) _ (run_of_word word rows) (each IsPlain check (format_at rows) (λ how. (tt, refl)))
+      (past (bytes_eq word (codes "graph")) (graph_at rows) _ (run_of_word word rows) (each IsPlain graph (graph_format_at rows) (λ how. (tt, refl)))
       (choose (bytes_eq word (codes "rules")) (rules_at rows) _ _
-      (choose (bytes_eq word (codes "play")) (play_at rows) _ _ (of_run (bytes_eq word (codes "run")) (has_times rows)))))
+      (choose (bytes_eq word (codes "play")) (play_at rows) _ _
+      (of_run (bytes_eq word (codes "run")) (has_times rows) _
+      (test IsPlain (bytes_eq word (codes "syncs")) (syncs_at rows) _ (next IsPlain _ (format_at rows) (λ how e. each IsPlain (syncs how) (plan_at rows) (λ plan. (tt, refl))))
+      (test IsPlain (bytes_eq word (codes "outcomes")) (outcomes_at rows) _
+      (test IsPlain (flag_at (codes "alike") rows) (alike_at rows) (list_at rows) (next IsPlain _ (format_at rows) (λ how e. each IsPlain (alike how) (limit_at rows) (λ limit. (tt, refl)))) lists)
+      (test IsPlain (bytes_eq word (codes "ask")) (ask_at rows) _ answers
+      (test IsPlain (bytes_eq word (codes "fronts")) (fronts_at rows) _ those_fronts
+      (test IsPlain (bytes_eq word (codes "estimate")) (estimate_at rows) None
+      (next IsPlain _ (format_at rows) (λ how e. each IsPlain (estimate how) (front_at rows) (λ front. (tt, refl)))) (none IsPlain))))))))))
 
   of_word : Either (request_at word rows) (runs_at word rows)
   of_word = choose (has_apart rows) None (request_of_word word rows) (run_of_word word rows) of_word_alone
 
   -- a run has a style
-  abbrev HasStyle : Option Request → Type 0
-  HasStyle r = (q : Request) → r ≡ Some q → (style : ReportStyle) × (style_of q ≡ Some style)
+  abbrev IsStyled : Request → Type 0
+  IsStyled q = (style : ReportStyle) × (style_of q ≡ Some style)
 
-  styled : (b : Bool) (x y : Option Request) → HasStyle x → HasStyle y → HasStyle (if b then x else y)
-  styled true x y p q = p
-  styled false x y p q = q
-
-  each_styled : {A : Type 0} (style : ReportStyle) (f : A → Request) (o : Option A) → ((a : A) → style_of (f a) ≡ Some style) → HasStyle (option_map f o)
-  each_styled style f None all q e = absurd (cc e)
-  each_styled style f (Some a) all q e = let h : f a ≡ q = cc e in (style, subst (λ q. style_of q ≡ Some style) h (all a))
-
-  next_styled : {A : Type 0} (f : A → Option Request) (o : Option A) → ((a : A) → HasStyle (f a)) → HasStyle (option_and_then f o)
-  next_styled f None all q e = absurd (cc e)
-  next_styled f (Some a) all q e = all a q e
-
-  runs_styled : HasStyle (runs_at word rows)
+  runs_styled : Has IsStyled (runs_at word rows)
   runs_styled =
-      styled (has_apart rows) None (run_of_word word rows) (λ q e. absurd (cc e))
-      (styled (bytes_eq word (codes "rules")) (rules_at rows) _
-      (next_styled _ (style_at rows) (λ style. each_styled style (rules style) (styled_plan_at style rows) (λ plan. refl)))
-      (styled (bytes_eq word (codes "play")) (play_at rows) _
-      (next_styled _ (style_at rows) (λ style. next_styled _ (mode_at rows) (λ mode. next_styled _ (chunk_at rows) (λ chunk. each_styled style (play style mode chunk) (styled_plan_at style rows) (λ plan. refl)))))
-      (styled (bytes_eq word (codes "run") && not (has_times rows)) (single_run_at rows) None
-      (next_styled _ (style_at rows) (λ style. next_styled _ (mode_at rows) (λ mode. each_styled style (run style mode) (chunk_at rows) (λ chunk. refl)))) (λ q e. absurd (cc e)))))
+      test IsStyled (has_apart rows) None (run_of_word word rows) (none IsStyled)
+      (test IsStyled (bytes_eq word (codes "rules")) (rules_at rows) _
+      (next IsStyled _ (style_at rows) (λ style e. each IsStyled (rules style) (styled_plan_at style rows) (λ plan. (style, refl))))
+      (test IsStyled (bytes_eq word (codes "play")) (play_at rows) _
+      (next IsStyled _ (style_at rows) (λ style e. next IsStyled _ (mode_at rows) (λ mode f. next IsStyled _ (chunk_at rows) (λ chunk g. each IsStyled (play style mode chunk) (styled_plan_at style rows) (λ plan. (style, refl))))))
+      (test IsStyled (bytes_eq word (codes "run") && not (has_times rows)) (single_run_at rows) None
+      (next IsStyled _ (style_at rows) (λ style e. next IsStyled _ (mode_at rows) (λ mode f. each IsStyled (run style mode) (chunk_at rows) (λ chunk. (style, refl))))) (none IsStyled))))
 
 -- a run that is asked for is what the word asks for
 is_word : (word : Text) (bytes : List ℕ) → bytes_eq word bytes ≡ true → word ≡ bytes
@@ -256,27 +218,15 @@ of_runs word rows q = by (has_apart rows)
 
 -- a run's request has no claim
 runs_have_none : (q : Request) (style : ReportStyle) → style_of q ≡ Some style → HaveConditions q
-runs_have_none (rules style plan) own e = tt
-runs_have_none (play style mode size plan) own e = tt
-runs_have_none (run style mode size) own e = tt
-runs_have_none (check how) own e = absurd (cc e)
-runs_have_none (graph how) own e = absurd (cc e)
-runs_have_none (syncs how plan) own e = absurd (cc e)
-runs_have_none (tally how mode size times) own e = absurd (cc e)
-runs_have_none (ask claims how limit list) own e = absurd (cc e)
-runs_have_none (estimate how list) own e = absurd (cc e)
-runs_have_none (fronts how blocks limit orders) own e = absurd (cc e)
-runs_have_none (alike how limit) own e = absurd (cc e)
-runs_have_none (outcomes how limit threads list) own e = absurd (cc e)
+runs_have_none (ask claims how limit list) style e = absurd (cc e)
+runs_have_none _ style e = tt
 
 of_request : (r : Option Request) (request : Request) → line_met r ≡ asks request → r ≡ Some request
 of_request None request e = absurd (cc e)
 of_request (Some q) request e = let h : q ≡ request = cc e in ap Some h
 
 no_kind : (kind : ErrorKind) (request : Request) → line_of_kind kind ≡ asks request → ⊥
-no_kind DisplayHelp request e = cc e
-no_kind DisplayVersion request e = cc e
-no_kind _ request e = cc e
+no_kind kind request e = grind arith
 
 of_kinds : (kinds : Kinds) (r : Option Request) (request : Request) → line_by kinds r ≡ asks request → (kinds ≡ []) × (r ≡ Some request)
 of_kinds [] r request e = (refl, of_request r request e)
@@ -295,12 +245,8 @@ the_page words asked = rw asked refl
 
 -- what a line that asks for something asks for is what the word that clap meets does
 module _ (words : List Text) (request : Request) (e : line_in words ≡ asks request) where
-  no_page : (b : Bool) → asks_language words ≡ b → asks_language words ≡ false
-  no_page true language = absurd (let h : help ≡ asks request = sym (the_page words language) ∙ e in cc h)
-  no_page false language = language
-
   other : asks_language words ≡ false
-  other = no_page (asks_language words) refl
+  other = false_from_ne_true (asks_language words) (λ asked. let h : help ≡ asks request = sym (the_page words asked) ∙ e in cc h)
 
   met : (fault_of qs_app words ≡ []) × (request_met (subcommand_of qs_app words) ≡ Some request)
   met = of_kinds (fault_of qs_app words) (request_met (subcommand_of qs_app words)) request (sym (other_line words other) ∙ e)

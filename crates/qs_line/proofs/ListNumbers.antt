@@ -1,43 +1,32 @@
 -- A text of one letter, `c` or `h`, and one digit has no `@` at its front, so it is read as its actor, once; a list of
 -- such texts is read as these actors, and names them. It goes by cases of the letter, and by induction on the list.
-use Rattle.std.proofs.Common.{◌≡◌, ◌≤◌, ◌+◌, ◌-◌, ◌==◌, ℕ, suc, Bool, true, false, List, [], ◌∷◌, length, map, Option, Some, None, Ok, Result, refl, ap, ap₂, ◌∙◌, arith, nat_le, if◌then◌else◌, option_map, option_and_then, unwrap_or}
+use Rattle.std.proofs.Common.{◌≡◌, ◌≤◌, ◌+◌, ◌==◌, ℕ, suc, false, List, [], ◌∷◌, length, map, Option, Some, None, Ok, Result, refl, ap, ap₂, ◌∙◌, arith, nat_le, if◌then◌else◌, option_map, option_and_then, unwrap_or}
 use Rattle.std.specs.List.{fold, slice_split}
 use Rattle.std.proofs.lemmas.List.{length-map}
-use Rattle.std.proofs.lemmas.Bool.{eqb-true, false_from_ne_true, le-leb}
-use Rattle.qs_script.specs.audit.tokens.Tokens.{is_digit}
+use Rattle.std.proofs.lemmas.Bool.{le-leb}
+use Rattle.std.proofs.lemmas.Bool.Decides.{nat_tests}
 use Rattle.qs_played.specs.declared.schedule.actor.Actor.{Actor}
-use Rattle.qs_played.specs.declared.schedule.actor.Actor.TheVariants.{Client, Handler}
+use Rattle.qs_played.specs.declared.schedule.actor.Actor.TheVariants.{Client}
 use Rattle.qs_program.specs.audit.Program.{ProgramShape}
 use Rattle.qs_line.specs.declared.parts.Part.{Part}
 use Rattle.qs_line.specs.declared.fault.ListFault.{ListFault}
 use Rattle.qs_line.specs.audit.Limits.{most_actors}
 use Rattle.qs_line.specs.audit.Named.{actor_of, named_client, listed_from, repeated}
 use Rattle.qs_line.specs.Numbers.{ClientNumbersStay, NumbersStay, numbers_of}
-use Rattle.qs_line.specs.audit.Parts.{actor_by, actor_in, has_handler, named_in, once, part_in, parts_of, within_limit, without_handlers}
+use Rattle.qs_line.specs.audit.Parts.{actor_in, has_handler, named_in, once, part_in, parts_of, within_limit, without_handlers}
 
-other : (n m : ℕ) → (n ≡ m → ⊥) → (n == m) ≡ false
-other n m h = false_from_ne_true (n == m) (λ e. h (eqb-true n m e))
-
-by_letter : (isc ish : Bool) (l d : ℕ) (a : Actor) → (l == 99) ≡ isc → (l == 104) ≡ ish
-    → (if isc then Some (Client (d - 48)) else if ish then Some (Handler (d - 48)) else None) ≡ Some a
-    → (l == 64) ≡ false
-by_letter true ish l d a c h e = other l 64 (λ q. omega (arith, q, eqb-true l 99 c))
-by_letter false true l d a c h e = other l 64 (λ q. omega (arith, q, eqb-true l 104 h))
-by_letter false false l d a c h e = absurd (cc e)
+by_letter : (l d : ℕ) (a : Actor) → actor_in (l ∷ d ∷ []) ≡ Some a → (l == 64) ≡ false
+by_letter l d a e = grind (arith, nat_tests)
 
 -- there is no `@` at the front
 abbrev IsPlain : List ℕ → Type 0
 IsPlain [] = ⊥
 IsPlain (l ∷ rest) = (l == 64) ≡ false
 
-by_digit : (b : Bool) (l d : ℕ) (a : Actor) → (if b then actor_by l (d - 48) else None) ≡ Some a → IsPlain (l ∷ d ∷ [])
-by_digit true l d a e = by_letter (l == 99) (l == 104) l d a refl refl e
-by_digit false l d a e = absurd (cc e)
-
 plain : (text : List ℕ) (a : Actor) → actor_in text ≡ Some a → IsPlain text
 plain [] a e = absurd (cc e)
 plain (x ∷ []) a e = absurd (cc e)
-plain (x ∷ y ∷ []) a e = by_digit (is_digit y) x y a e
+plain (x ∷ y ∷ []) a e = by_letter x y a e
 plain (x ∷ y ∷ z ∷ rest) a e = absurd (cc e)
 
 part_by_plain : (text : List ℕ) (a : Actor) → IsPlain text → actor_in text ≡ Some a → part_in text ≡ Some (once a)

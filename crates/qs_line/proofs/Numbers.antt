@@ -39,12 +39,12 @@ parsed_rounds text (Ok n) h =
     rw h.1 (sym (number_in-some 0 4294967295 text h.0.0 (omega (arith, h.0.1)) (omega arith) (omega (arith, h.0.1))))
 parsed_rounds text (Err e) h = sym (number_in-none 0 4294967295 text (λ numeral at_least at_most. h (numeral, omega (arith, at_most))))
 
--- of 32 bits and in a range within these: a text that does not parse is no number of the range, one that parses is its
--- number where that is in the range, and else none
-pub unparsed_within : {E : Type 0} (low high : ℕ) (text : List ℕ) (r : Result ℕ E) → high < 2 ^ 32 → ParsesUnsigned 32 10 text r
+-- of so many bits and in a range within these: a text that does not parse is no number of the range, one that parses is
+-- its number where that is in the range, and else none
+pub unparsed_within : {E : Type 0} (bits low high : ℕ) (text : List ℕ) (r : Result ℕ E) → high < 2 ^ bits → ParsesUnsigned bits 10 text r
     → result_ok r ≡ None → number_in low high text ≡ None
-unparsed_within low high text (Ok n) fits h e = absurd (cc e)
-unparsed_within low high text (Err error) fits h e =
+unparsed_within bits low high text (Ok n) fits h e = absurd (cc e)
+unparsed_within bits low high text (Err error) fits h e =
     number_in-none low high text (λ numeral at_least at_most. h (numeral, omega (arith, at_most, fits)))
 
 pub parsed_within : {E : Type 0} (low high n : ℕ) (text : List ℕ) (r : Result ℕ E) → ParsesUnsigned 32 10 text r → result_ok r ≡ Some n
@@ -54,10 +54,6 @@ parsed_within low high n text (Ok m) h e at_least at_most =
     let is : n ≡ digits_value 10 (without_leading_plus text) = sym same ∙ h.1 in
     ap Some is ∙ sym (number_in-some low high text h.0.0 (omega (arith, h.0.1)) (omega (arith, is, at_least)) (omega (arith, is, at_most)))
 parsed_within low high n text (Err error) h e at_least at_most = absurd (cc e)
-
-pub unparsed_chunk : {E : Type 0} (text : List ℕ) (r : Result ℕ E) → ParsesUnsigned 8 10 text r → result_ok r ≡ None → number_in 1 32 text ≡ None
-unparsed_chunk text (Ok n) h e = absurd (cc e)
-unparsed_chunk text (Err error) h e = number_in-none 1 32 text (λ numeral at_least at_most. h (numeral, omega (arith, at_most)))
 
 -- a number is a size where it is from 1 to 32
 chunk_by : (n : ℕ) (made : Option ℕ) (text : List ℕ) → IsNumeral 10 (without_leading_plus text) → n ≡ digits_value 10 (without_leading_plus text)

@@ -8,7 +8,7 @@ use Rattle.qs_program.specs.audit.Program.{ProgramShape, blocks_of, own_block}
 use Rattle.qs_program.specs.Sound.{IsSound}
 use Rattle.qs_meaning.proofs.Each.{each_map}
 use Rattle.qs_graph.specs.declared.node.Node.{Node}
-use Rattle.qs_graph.specs.declared.node.Node.TheVariants.{Entry, Local, Branch, Sync, Query, Call, Exit}
+use Rattle.qs_graph.specs.declared.node.Node.TheVariants.{Sync}
 use Rattle.qs_graph.specs.audit.Names.{graph_of}
 use Rattle.qs_graph.specs.audit.Nodes.{ControlGraph, place_at, exit}
 use Rattle.qs_graph.specs.WellFormed.{IsGraphNode, IsInRange}
@@ -33,13 +33,8 @@ block_added p c k head nodes reserved g sets first line all r e held f h =
     )
 
 same_removed : (f g : Holding) (v : Node) → IsInRange v → ((h : ℕ) → h < 8 → f h ≡ g h) → is_removed f v ≡ is_removed g v
-same_removed f g Entry range same = refl
-same_removed f g (Local a) range same = refl
-same_removed f g (Branch b) range same = refl
 same_removed f g (Sync h) range same = same h range
-same_removed f g (Query x q) range same = refl
-same_removed f g (Call q) range same = refl
-same_removed f g Exit range same = refl
+same_removed f g _ range same = refl
 
 -- whichever sets fit, the texts of the nodes are the same
 pub same_nodes : (p : ProgramShape) (c k : ℕ) → IsSound p → (node : NodeText) (one other : List (List Bool)) → AreSetsOf (graph_of p c k) one → AreSetsOf (graph_of p c k) other

@@ -1,12 +1,18 @@
 -- What is put at the end of a text in parts is put there as one text. Every function that writes several parts stands
 -- on it: it is taken once for each part but the first.
-use Rattle.std.proofs.Common.{◌≡◌, ℕ, ◌+◌, List, [], ◌++◌, ap, ◌∙◌, append_assoc, add-one}
+use Rattle.std.proofs.Common.{◌≡◌, ℕ, ◌+◌, List, [], ◌++◌, ap, ◌∙◌, append_assoc, add-one, OnOk, Result, Ok, Err}
 use Rattle.qs_text.specs.audit.Texts.{texts_up_to}
 use Rattle.qs_text.specs.Texts.{Puts}
 
 -- a part, and one after it
 pub then : {part next first before after : List ℕ} → Puts part first before → Puts next before after → Puts (part ++ next) first after
 then {part} {next} {first} one other = record { is = other.is ∙ ap (λ l. l ++ next) one.is ∙ append_assoc first part next }
+
+-- the same where the second is put by a call whose result is handed on
+pub last : {E : Type 0} {part first before : List ℕ} (r : Result (Unit {0}) E) (next after : List ℕ) → Puts part first before → OnOk r (Puts next before after)
+    → OnOk r (Puts (part ++ next) first after)
+last (Ok x) next after one other = then one other
+last (Err e) next after one other = tt
 
 -- what was put where nothing was
 pub all_that_is : {text first after : List ℕ} → first ≡ [] → Puts text first after → after ≡ text

@@ -1,6 +1,7 @@
 -- Two ends whose objects are the same, and whose variables are as far as the clients' texts name them, are the same
 -- outcome, since a variable that no text names is 0, and nothing stands past the last client and the last object.
-use Rattle.std.proofs.Common.{◌≡◌, ◌<◌, ℕ, zero, suc, List, [], ◌∷◌, ◌++◌, length, get_or, take, drop, refl, sym, ap, ap₂, ◌∙◌, subst, arith}
+use Rattle.std.proofs.Common.{◌≡◌, ◌<◌, ℕ, List, ◌++◌, length, get_or, take, drop, sym, ap, ◌∙◌, subst, arith, pos}
+use Rattle.std.proofs.lemmas.List.{ext_get_or, get_or-take, length-take}
 use Rattle.qs_objects.specs.declared.held.Ticket.{Ticket}
 use Rattle.qs_objects.specs.Objects.{IsInRange}
 use Rattle.qs_program.specs.audit.Program.{ProgramShape, client_at}
@@ -18,24 +19,11 @@ use Rattle.qs_standings.specs.Standings.{StandingShape}
 use Rattle.qs_text.specs.TellApart.{AreSame}
 use Rattle.qs_text.specs.audit.Words.{no_state}
 
--- two lists of one length that are the same at each of their places are so everywhere
-everywhere : {X : Type 0} (d : X) (xs ys : List X) → length xs ≡ length ys → ((i : ℕ) → i < length xs → get_or xs i d ≡ get_or ys i d)
-    → (i : ℕ) → get_or xs i d ≡ get_or ys i d
-everywhere d [] [] long each i = refl
-everywhere d [] (y ∷ ys) long each i = absurd (let e : 0 ≡ length (y ∷ ys) = long in omega (arith, e))
-everywhere d (x ∷ xs) [] long each i = absurd (let e : length (x ∷ xs) ≡ 0 = long in omega (arith, e))
-everywhere d (x ∷ xs) (y ∷ ys) long each zero = each 0 (omega arith)
-everywhere d (x ∷ xs) (y ∷ ys) long each (suc i) =
-    everywhere d xs ys (let e : length (x ∷ xs) ≡ length (y ∷ ys) = long in omega (arith, e)) (λ i less. each (suc i) (omega (arith, less))) i
-
 same_front : (n : ℕ) (l m : Locals) → length l ≡ length m → AreSame n l m → take n l ≡ take n m
-same_front zero l m long each = refl
-same_front (suc n) [] [] long each = refl
-same_front (suc n) [] (y ∷ m) long each = absurd (let e : 0 ≡ length (y ∷ m) = long in omega (arith, e))
-same_front (suc n) (x ∷ l) [] long each = absurd (let e : length (x ∷ l) ≡ 0 = long in omega (arith, e))
-same_front (suc n) (x ∷ l) (y ∷ m) long each =
-    ap₂ (λ z zs. z ∷ zs) (each 0 (omega arith))
-    (same_front n l m (let e : length (x ∷ l) ≡ length (y ∷ m) = long in omega (arith, e)) (λ i less. each (suc i) (omega (arith, less))))
+same_front n l m long each =
+    let long_l = length-take n l in let long_m = length-take n m in
+    ext_get_or (pos 0) (take n l) (take n m) (omega (arith, long, long_l, long_m)) (λ i less.
+    (let below : i < n = omega (arith, less, long_l) in get_or-take n l i (pos 0) below ∙ (each i below ∙ sym (get_or-take n m i (pos 0) below))))
 
 same_named : (p : ProgramShape) (c : ℕ) (l m : Locals) → AreNamedAlone p c l → AreNamedAlone p c m
     → AreSame (length (client_at p c).variables) l m → l ≡ m
@@ -59,9 +47,8 @@ module _ (p : ProgramShape) (sound : IsSound p) (front other : List Ticket) (s t
       → ((c : ℕ) → c < length p.clients → AreSame (length (client_at p c).variables) (get_or s.locals c zeros) (get_or t.locals c zeros))
       → outcome_at s ≡ outcome_at t
   same_outcome states variables =
-      let objects = everywhere no_state s.states t.states (a.places.states ∙ sym b.places.states)
-      (λ h less. states h (omega (arith, less, a.places.states))) in
-      let clients = everywhere zeros s.locals t.locals (a.places.locals ∙ sym b.places.locals)
+      let objects = ext_get_or no_state s.states t.states (a.places.states ∙ sym b.places.states) (λ h less. states h (omega (arith, less, a.places.states))) in
+      let clients = ext_get_or zeros s.locals t.locals (a.places.locals ∙ sym b.places.locals)
       (λ c less. same_named p c (get_or s.locals c zeros) (get_or t.locals c zeros) (named p sound front s a c) (named p sound other t b c)
       (variables c (omega (arith, less, a.places.locals)))) in
-      λ i. record { locals = λ c. clients c i; states = λ h. objects h i }
+      λ i. record { locals = λ c. get_or (clients i) c zeros; states = λ h. get_or (objects i) h no_state }

@@ -33,9 +33,8 @@ itself : (x : Text) → is_eq (cmp x x) ≡ true
 itself x = by_answer (cmp x x) (nat_list_cmp_total.antisymm x x)
   where
     by_answer : (o : Ordering) → o ≡ ordering_reverse o → is_eq o ≡ true
-    by_answer Less e = absurd (cc (e))
     by_answer Equal e = refl
-    by_answer Greater e = absurd (cc (e))
+    by_answer _ e = cc (e)
 
 one_text : (x y : Text) → lt x y ≡ false → lt y x ≡ false → x ≡ y
 one_text x y h k = by_answers (cmp x y) (cmp y x) refl (nat_list_cmp_total.antisymm x y) h k
@@ -44,8 +43,7 @@ one_text x y h k = by_answers (cmp x y) (cmp y x) refl (nat_list_cmp_total.antis
     by_answers Equal r is e h k = slice_cmp-IsAntisymmetric nat_cmp-IsAntisymmetric x y is
     by_answers Less r is e h k = absurd (cc (h))
     by_answers Greater Less is e h k = absurd (cc (k))
-    by_answers Greater Equal is e h k = absurd (cc (e))
-    by_answers Greater Greater is e h k = absurd (cc (e))
+    by_answers Greater _ is e h k = absurd (cc (e))
 
 -- a text that is there at least once has a place
 place_of : (z : Text) (xs : List Text) → 1 ≤ sum_by (is_it z) xs → (j : ℕ) × (j < length xs) × (is_eq (cmp z (get_or xs j [])) ≡ true)
@@ -73,8 +71,7 @@ first_least z y ys up some =
   where
     is_equal : (o : Ordering) → is_eq o ≡ true → o ≡ Equal
     is_equal Equal e = refl
-    is_equal Less e = absurd (cc (e))
-    is_equal Greater e = absurd (cc (e))
+    is_equal _ e = cc (e)
 
 later_sorted : (x : Text) (xs : List Text) → IsSortedBy lt (x ∷ xs) → IsSortedBy lt xs
 later_sorted x xs up k d low less =

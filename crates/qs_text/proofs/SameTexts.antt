@@ -1,25 +1,18 @@
 -- What is held at a node is fixed by the graph, although the held sets may be any that fit; and texts of which each is
 -- fixed are fixed as a whole. The laws that a program has one text of its graphs stand on it. It goes by induction on
 -- the number of texts.
-use Rattle.std.proofs.Common.{◌≡◌, ℕ, zero, suc, ◌<◌, Bool, true, false, if◌then◌else◌, List, [], ◌∷◌, ◌++◌, length, refl, sym, ap₂, ◌∙◌, arith}
+use Rattle.std.proofs.Common.{◌≡◌, ℕ, zero, suc, ◌<◌, Bool, if◌then◌else◌, List, [], ◌∷◌, ◌++◌, length, refl, sym, ap₂, ◌∙◌, arith}
 use Rattle.std.specs.List.{AllByRecursion, filter}
+use Rattle.std.proofs.lemmas.Bool.Decides.{same_from_decides}
 use Rattle.qs_graph.specs.audit.Nodes.{ControlGraph}
 use Rattle.qs_syncset.specs.held.Flow.{Holding}
 use Rattle.qs_syncset.specs.held.Table.{AreSetsOf, has}
 use Rattle.qs_text.specs.audit.Texts.{texts_up_to}
 use Rattle.qs_text.specs.Texts.{AreTextsUpTo}
 
-same_truth : (a b : Bool) → (a ≡ true → b ≡ true) → (b ≡ true → a ≡ true) → a ≡ b
-same_truth true b there back = sym (there refl)
-same_truth false true there back = back refl
-same_truth false false there back = refl
-
 pub same_sets : (g : ControlGraph) (one other : List (List Bool)) → AreSetsOf g one → AreSetsOf g other
     → (n : ℕ) → n < length g.nodes → (h : ℕ) → h < 8 → has one n h ≡ has other n h
-same_sets g one other a b n inside h below =
-    let x = a.exact n h inside below in
-    let y = b.exact n h inside below in
-    same_truth (has one n h) (has other n h) (λ t. y.1 (x.0 t)) (λ t. x.1 (y.0 t))
+same_sets g one other a b n inside h below = same_from_decides (has one n h) (has other n h) (a.exact n h inside below) (b.exact n h inside below)
 
 pub same_filter : (f g : Holding) (hs : List ℕ) → AllByRecursion (λ h. f h ≡ g h) hs → filter f hs ≡ filter g hs
 same_filter f g [] each = refl

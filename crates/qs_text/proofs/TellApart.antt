@@ -51,11 +51,7 @@ abbrev pub IsBehind : List ℕ → Type 0
 IsBehind us = (get_or us 0 0 < 48) ⊎ (57 < get_or us 0 0)
 
 no_digit : (us : List ℕ) (c : ℕ) (cs vs : List ℕ) → IsBehind us → AllDigits 10 (c ∷ cs) → us ≡ c ∷ vs → ⊥
-no_digit us c cs vs behind digits e = by_case behind (ap (λ l. get_or l 0 0) e)
-  where
-    by_case : IsBehind us → get_or us 0 0 ≡ c → ⊥
-    by_case (inl low) first = omega (arith, digit_from_value c digits.0, low, first)
-    by_case (inr high) first = omega (arith, digit_from_value c digits.0, high, first)
+no_digit us c cs vs behind digits e = grind (arith, digit_from_value c digits.0, ap (λ l. get_or l 0 0) e)
 
 digits_tell : (ds es us vs : List ℕ) → AllDigits 10 ds → AllDigits 10 es → IsBehind us → IsBehind vs → ds ++ us ≡ es ++ vs → (ds ≡ es) × (us ≡ vs)
 digits_tell [] [] us vs x y a b e = (refl, e)
@@ -202,14 +198,9 @@ content_tells : (c d : Content) (us vs : List ℕ) → ContentTells c d us vs
 content_tells (account b) (account c) us vs x y v w p q e =
     let both = number_tells b c us vs v.0 w.0 p q (cancel (codes " account ") (signed_decimal b ++ us) (signed_decimal c ++ vs) e) in
     (ap account both.0, both.1)
-content_tells (account b) (buffer k xs) us vs x y v w p q e = absurd (let h : 97 ≡ 98 = head (tail e) in omega (arith, h))
-content_tells (account b) (grid k rows) us vs x y v w p q e = absurd (let h : 97 ≡ 103 = head (tail e) in omega (arith, h))
-content_tells (buffer k xs) (account c) us vs x y v w p q e = absurd (let h : 98 ≡ 97 = head (tail e) in omega (arith, h))
 content_tells (buffer k xs) (buffer m ys) us vs x y v w p q e = buffers_tell k m xs ys us vs x y v w p q e
-content_tells (buffer k xs) (grid m rows) us vs x y v w p q e = absurd (let h : 98 ≡ 103 = head (tail e) in omega (arith, h))
-content_tells (grid k rows) (account c) us vs x y v w p q e = absurd (let h : 103 ≡ 97 = head (tail e) in omega (arith, h))
-content_tells (grid k rows) (buffer m ys) us vs x y v w p q e = absurd (let h : 103 ≡ 98 = head (tail e) in omega (arith, h))
 content_tells (grid k rows) (grid l others) us vs x y v w p q e = grids_tell k l rows others us vs x y v w p q e
+content_tells _ _ us vs x y v w p q e = absurd (let h = head (tail e) in omega (arith, h))
 
 pub state_tells : (name : List ℕ) (s t : State) (us vs : List ℕ) → IsInRange s.content → IsInRange t.content → IsOfWords s → IsOfWords t
     → IsBehind us → IsBehind vs → state_text name s ++ us ≡ state_text name t ++ vs → (s ≡ t) × (us ≡ vs)

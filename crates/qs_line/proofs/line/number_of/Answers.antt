@@ -5,7 +5,7 @@ use Rattle.qs_line.proofs.line.number_of.Goals as goal
 pub returns-in_err-number : goal.returns-in_err-number
 returns-in_err-number c = record {
   number = c.from_residual.ensures
-      ∙ sym (unparsed_within 1 c.args.most c.args.text.now c.parse.result (omega arith) c.parse.ensures.value.0 (sym c.ok.ensures.value ∙ c.in_err-number.was));
+      ∙ sym (unparsed_within 32 1 c.args.most c.args.text.now c.parse.result (omega arith) c.parse.ensures.value.0 (sym c.ok.ensures.value ∙ c.in_err-number.was));
 }
 
 pub returns-else-number-most : goal.returns-else-number-most

@@ -1,6 +1,7 @@
-use Rattle.std.proofs.Common.{◌≡◌, ◌++◌, ap, ◌∙◌, length, get_or, pos, arith}
+use Rattle.std.proofs.Common.{◌≡◌, ◌++◌, ap, codes, ◌∙◌, length, get_or, pos, arith}
+use Rattle.std.specs.Fmt.{signed_decimal}
 use Rattle.qs_objects.specs.audit.Objects.{values_of}
-use Rattle.qs_text.proofs.Joined.{at_each_place, each_place_more, one_place_more, spaced_joined}
+use Rattle.qs_text.proofs.Joined.{at_each_place, each_place_more, one_place_more, all_parted}
 use Rattle.qs_text.specs.TellApart.{IsWord}
 use Rattle.qs_text.specs.audit.Texts.{texts_up_to, spaced_value}
 use Rattle.qs_text.proofs.states.put_joined.Goals as goal
@@ -17,6 +18,6 @@ returns c =
     let values = values_of c.args.object.now.content in
     let all : c.loop-place.place ≡ length values = omega arith in
     record {
-      ok = c.loop-place.invariant.0 ∙ ap (λ n. c.args.out.now.items ++ texts_up_to n (spaced_value values)) all ∙ ap (λ l. c.args.out.now.items ++ l) (spaced_joined values);
+      ok = c.loop-place.invariant.0 ∙ ap (λ n. c.args.out.now.items ++ texts_up_to n (spaced_value values)) all ∙ ap (λ l. c.args.out.now.items ++ l) (all_parted (codes " ") signed_decimal (pos 0) values);
       words = at_each_place IsWord (pos 0) values (λ i less. c.loop-place.invariant.1 i (omega (arith, all, less)));
     }
