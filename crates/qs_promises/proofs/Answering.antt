@@ -2,7 +2,7 @@
 -- not what the run shows; and each complete order is reached by some picks. A run's order is legal, and so is each
 -- beginning of it. Of an answer no more is used than what it says of the witness, or of there being none: which alike
 -- clients stand for one another is nothing to it.
-use Rattle.std.proofs.Common.{◌≡◌, ◌∙◌, ℕ, Bool, true, false, not, List, ◌++◌, Option, Some, None, refl, sym, ap, subst}
+use Rattle.std.proofs.Common.{arith, ◌≡◌, ◌∙◌, ℕ, Bool, true, false, not, List, ◌++◌, Option, Some, None, refl, sym, ap, subst}
 use Rattle.std.specs.Prelude.{IfSome, is_some}
 use Rattle.qs_objects.specs.declared.held.Ticket.{Ticket}
 use Rattle.qs_program.specs.audit.Program.{ProgramShape}
@@ -34,12 +34,10 @@ use Rattle.qs_promises.proofs.Ending.{finished_covered, machine_reaches, rules_r
 use Rattle.qs_promises.proofs.SerialPlaces.{serial_order}
 
 not_true : (b : Bool) → not b ≡ true → b ≡ false
-not_true true e = absurd (cc e)
-not_true false e = refl
+not_true b e = grind arith
 
 not_false : (b : Bool) → not b ≡ false → b ≡ true
-not_false true e = refl
-not_false false e = absurd (cc e)
+not_false b e = grind arith
 
 -- each legal order is come to
 pub rules_come : (p : ProgramShape) → IsSound p → (order : List Ticket) → IsLegal p order
@@ -80,9 +78,7 @@ module _ (p : ProgramShape) (front : List Ticket) (asked : OrderOutcome → Bool
   abbrev Given : Quantifier → Option StandingShape → Type 0
   Given q.Always w = Gives (NoneMeets p front asked) IsMetEnd w
   Given q.Some w = Gives (NoneMeets p front asked) IsMetEnd w
-  Given q.Throughout w = Gives (NoneMeetsOnTheWay p front asked) (IsCourseWitnessAfter p front asked) w
-  Given q.Ever w = Gives (NoneMeetsOnTheWay p front asked) (IsCourseWitnessAfter p front asked) w
-  Given q.Never w = Gives (NoneMeetsOnTheWay p front asked) (IsCourseWitnessAfter p front asked) w
+  Given _ w = Gives (NoneMeetsOnTheWay p front asked) (IsCourseWitnessAfter p front asked) w
 
   met_end : (k : Classes) (s : StandingShape) → IsWitnessAfter p k front asked s → IsMetEnd s
   met_end k s is = record {
@@ -95,9 +91,7 @@ module _ (p : ProgramShape) (front : List Ticket) (asked : OrderOutcome → Bool
   given : (kind : Quantifier) (k : Classes) (a : AnswerShape) → IsAnswerBy kind p k front asked a → Given kind a.witness
   given q.Always k a is = gives (met_end k) a.witness (λ e. (is.none e).0) is.witness
   given q.Some k a is = gives (met_end k) a.witness (λ e. (is.none e).0) is.witness
-  given q.Throughout k a is = gives (λ s way. way) a.witness (λ e. (is.none e).0) is.witness
-  given q.Ever k a is = gives (λ s way. way) a.witness (λ e. (is.none e).0) is.witness
-  given q.Never k a is = gives (λ s way. way) a.witness (λ e. (is.none e).0) is.witness
+  given _ k a is = gives (λ s way. way) a.witness (λ e. (is.none e).0) is.witness
 
 -- ---- what it says of runs
 
@@ -153,10 +147,8 @@ module _ (p : ProgramShape) (sound : IsSound p) (c : Tree) (front : List Ticket)
   says q.Some means (Some s) end = some_end true (λ o e. sym (means o) ∙ e) s end
   says q.Throughout means None none = every_way true (λ o e. not_false (holds_at p c o) (sym (means o) ∙ e)) none
   says q.Throughout means (Some s) way = some_way false (λ o e. not_true (holds_at p c o) (sym (means o) ∙ e)) s way
-  says q.Ever means None none = every_way false (λ o e. sym (means o) ∙ e) none
-  says q.Ever means (Some s) way = some_way true (λ o e. sym (means o) ∙ e) s way
-  says q.Never means None none = every_way false (λ o e. sym (means o) ∙ e) none
-  says q.Never means (Some s) way = some_way true (λ o e. sym (means o) ∙ e) s way
+  says _ means None none = every_way false (λ o e. sym (means o) ∙ e) none
+  says _ means (Some s) way = some_way true (λ o e. sym (means o) ∙ e) s way
 
 pub answers_of_runs : AnswersAreOfRuns
 answers_of_runs p sound claim c steps front a (k, classes, is) =

@@ -1,17 +1,15 @@
 -- Each run is as if serial: its blocks are isolated, and what a place of the serial run is follows from the order up to
 -- there. `IsAsIfSerial` says it by where the blocks before a place lead, so that its reader need not know what a serial
 -- run and its places are.
-use Rattle.std.proofs.Common.{◌≡◌, ◌∙◌, ◌<◌, ℕ, zero, suc, arith, List, [], ◌∷◌, get_or, length, take, drop, refl, sym, ap, subst}
+use Rattle.std.proofs.Common.{◌≡◌, ◌∙◌, ◌<◌, ℕ, List, length, take, drop, sym, ap, subst}
 use Rattle.std.proofs.lemmas.List.{take-append-drop}
 use Rattle.qs_objects.specs.audit.Parts.{IsFront}
 use Rattle.qs_objects.specs.declared.held.Ticket.{Ticket}
 use Rattle.qs_program.specs.audit.Program.{ProgramShape, text_of}
-use Rattle.qs_program.specs.audit.Values.{Locals}
 use Rattle.qs_meaning.specs.audit.Configurations.{first_configuration}
 use Rattle.qs_meaning.specs.Configurations.{OrderOutcome}
 use Rattle.qs_meaning.specs.audit.Serial.{IsLegal, declared_states, zeros}
-use Rattle.qs_meaning.specs.Serial.{SerialBlock, serial_from}
-use Rattle.qs_meaning.specs.audit.Solo.{States, put, solo}
+use Rattle.qs_meaning.specs.audit.Solo.{solo}
 use Rattle.qs_meaning.proofs.Orders.{configurations_follow_orders, legal-front}
 use Rattle.qs_played.specs.audit.Isolation.{ticket_at, trace_of}
 use Rattle.qs_played.specs.Isolation.{IsIsolatedBlock, no_block, serial_block}
@@ -22,17 +20,7 @@ use Rattle.qs_promises.specs.BlockAlone.{left_before}
 use Rattle.qs_promises.proofs.Between.{undisturbed}
 use Rattle.qs_promises.proofs.Ending.{finished_whole}
 use Rattle.qs_promises.proofs.Isolating.{all_isolated}
-use Rattle.qs_promises.proofs.SerialPlaces.{place_of, place_trace, serial_order}
-
--- a place's variables at entry are those that the blocks before it leave its client
-place_entry : (p : ProgramShape) (ls : ℕ → Locals) (st : States) (ts : List Ticket) (i : ℕ) (d : Ticket)
-    (e : SerialBlock) → i < length ts
-    → (get_or (serial_from p ls st ts).places i e).entry ≡ (serial_from p ls st (take i ts)).locals (get_or ts i d).client
-place_entry p ls st [] i d e less = absurd (omega (arith, less))
-place_entry p ls st (t ∷ ts) zero d e less = refl
-place_entry p ls st (t ∷ ts) (suc i) d e less =
-    let o = solo (text_of p t).body (ls t.client) st in
-    place_entry p (put ls t.client o.locals) o.states ts i d e (omega (arith, less))
+use Rattle.qs_promises.proofs.SerialPlaces.{place_is, place_of, serial_order}
 
 legal_before : (p : ProgramShape) (order : List Ticket) (i : ℕ) → IsLegal p order → IsLegal p (take i order)
 legal_before p order i legal =
@@ -44,11 +32,11 @@ has_its_own : (p : ProgramShape) (r : Played) (i : ℕ) → i < length r.order �
 has_its_own p r i less legal b =
     let t = ticket_at r i in
     let before = configurations_follow_orders p (take i r.order) (legal_before p r.order i legal) in
-    let entered = place_entry p (λ _. zeros) (declared_states p) r.order i (ticket 0 0) no_block less in
+    let place = place_is p (λ _. zeros) (declared_states p) r.order i (ticket 0 0) no_block less in
     let is : alone_at p r i ≡ (serial_block p r i).trace =
     ap (λ (o : OrderOutcome). (solo (text_of p t).body (o.locals t.client) o.states).trace) before
-    ∙ (ap (λ l. (solo (text_of p t).body l (left_before p r i)).trace) (sym entered)
-    ∙ sym (place_trace p (λ _. zeros) (declared_states p) r.order i (ticket 0 0) no_block less)) in
+    ∙ (ap (λ l. (solo (text_of p t).body l (left_before p r i)).trace) (sym place.0)
+    ∙ sym place.2) in
     record { beginning = subst (IsFront (trace_of r i)) (sym is) b.front; ended = λ e. b.whole e ∙ sym is }
 
 pub as_if_serial : RunsAreAsIfSerial

@@ -1,7 +1,7 @@
 -- A journal is its tickets' entries, one ticket after another along an order that has none twice; so between two
 -- entries of one ticket stands none of another. By induction on the order: the entries of the first ticket are in
 -- front, and none of the rest is of it.
-use Rattle.std.proofs.Common.{◌≡◌, ◌≢◌, ◌∙◌, ◌<◌, ℕ, zero, suc, arith, Bool, true, false, true≢false, ⊎_elim, if◌then◌else◌, List, [], ◌∷◌, ◌++◌, flat_map, length, map, refl, sym, subst}
+use Rattle.std.proofs.Common.{◌≡◌, ◌≢◌, ◌∙◌, ◌<◌, ℕ, zero, suc, arith, Bool, true, false, ⊎_elim, if◌then◌else◌, List, [], ◌∷◌, ◌++◌, flat_map, length, map, refl, sym, subst}
 use Rattle.std.proofs.lemmas.List.{map-append}
 use Rattle.std.specs.List.{AllByRecursion}
 use Rattle.qs_objects.specs.audit.Parts.{command_event, entries_of, same}
@@ -38,12 +38,10 @@ all_before t (u ∷ own) rest mine others (suc b) (suc c) bc inside is =
 joined : (t : Ticket) (own rest : List Ticket) → AllByRecursion (λ u. u ≡ t) own → AllByRecursion (λ u. t ≢ u) rest
     → NoOtherBetween rest → NoOtherBetween (own ++ rest)
 joined t [] rest mine others k a b c ab bc inside is = k a b c ab bc inside is
-joined t (u ∷ own) rest mine others k zero zero c ab bc inside is = absurd (omega (arith, ab))
-joined t (u ∷ own) rest mine others k zero (suc b) zero ab bc inside is = absurd (omega (arith, bc))
+joined t (u ∷ own) rest mine others k a zero c ab bc inside is = absurd (omega (arith, ab))
+joined t (u ∷ own) rest mine others k a b zero ab bc inside is = absurd (omega (arith, bc))
 joined t (u ∷ own) rest mine others k zero (suc b) (suc c) ab bc inside is =
     all_before t own rest mine.1 others b c (omega (arith, bc)) (omega (arith, inside)) (sym is ∙ mine.0) ∙ sym mine.0
-joined t (u ∷ own) rest mine others k (suc a) zero c ab bc inside is = absurd (omega (arith, ab))
-joined t (u ∷ own) rest mine others k (suc a) (suc b) zero ab bc inside is = absurd (omega (arith, bc))
 joined t (u ∷ own) rest mine others k (suc a) (suc b) (suc c) ab bc inside is =
     joined t own rest mine.1 others k a b c (omega (arith, ab)) (omega (arith, bc)) (omega (arith, inside)) is
 
@@ -52,10 +50,7 @@ own_entries t [] = tt
 own_entries t (x ∷ j) = by_case (same t x.ticket) refl (own_entries t j)
   where
     mine : same t x.ticket ≡ true → x.ticket ≡ t
-    mine is =
-        ⊎_elim (λ (here : t ≡ x.ticket). sym here)
-        (λ (other : same t x.ticket ≡ false). absurd (true≢false (sym is ∙ other)))
-        (ticket_cases t x.ticket)
+    mine is = ⊎_elim (λ (here : t ≡ x.ticket). sym here) (λ (other : same t x.ticket ≡ false). absurd (cc (is, other))) (ticket_cases t x.ticket)
 
     by_case : (b : Bool) → same t x.ticket ≡ b → AllByRecursion (λ u. u ≡ t) (tickets_of (entries_of t j))
         → AllByRecursion (λ u. u ≡ t) (tickets_of (if b then x ∷ entries_of t j else entries_of t j))

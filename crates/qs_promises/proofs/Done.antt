@@ -41,12 +41,7 @@ legal_within p n (t ∷ ts) legal (suc i) inside =
 -- a client that has begun all its blocks and stands between two of them is past each of them
 past_all : (k begun many : ℕ) (between : Bool) → k < many → nat_eq begun many ≡ true → between ≡ true
     → (nat_lt (suc k) begun || (nat_eq (suc k) begun && between)) ≡ true
-past_all k begun many between less all is = by_test (nat_lt (suc k) begun) refl
-  where
-    by_test : (b : Bool) → nat_lt (suc k) begun ≡ b → (b || (nat_eq (suc k) begun && between)) ≡ true
-    by_test true e = refl
-    by_test false e =
-        let last : nat_eq (suc k) begun ≡ true = grind (arith, nat_tests, e, less, all) in rw (last, is) refl
+past_all k begun many between less all is = grind (arith, nat_tests)
 
 done_at : (p : ProgramShape) (n : ℕ) (cs : List Client) (i : ℕ) → all_done p n cs ≡ true → i < length cs
     → is_done p (n + i) (get_or cs i no_client) ≡ true

@@ -23,8 +23,8 @@ use Rattle.qs_plain_laws.proofs.orders.BlockReached.{orders_played}
 use Rattle.qs_core_laws.proofs.orders.BlocksPlayed.{core_orders_played}
 use Rattle.qs_promises.specs.audit.Finished.{IsWholeRun, ShowsStates}
 use Rattle.qs_promises.specs.Finished.{FinishedRunsAreWhole}
-use Rattle.qs_promises.specs.Outcomes.{AlikeListsAreOfRuns, CanHappen, FinishedRunsAreCovered, Happens, IsAmong, IsCovered, ListedOutcomesCanHappen, ListsAreOfRuns, MachineReachesCompleteOrders, RulesReachCompleteOrders}
-use Rattle.qs_promises.specs.audit.Runs.{by_rules, on_machine}
+use Rattle.qs_promises.specs.Outcomes.{AlikeListsAreOfRuns, CanHappen, FinishedRunsAreCovered, Happens, IsAmong, IsCovered, ListedOutcomesCanHappen, IsReached, ListsAreOfRuns, MachineReachesCompleteOrders, RulesReachCompleteOrders}
+use Rattle.qs_promises.specs.audit.Runs.{IsRun, Way, by_rules, on_machine}
 use Rattle.qs_core_laws.proofs.ProgramCodes.{program_codes}
 use Rattle.qs_promises.proofs.Calls.{run_of_played, run_of_played_in}
 use Rattle.qs_promises.proofs.Done.{EndsWhole, ends_whole}
@@ -73,23 +73,17 @@ whole_covered p r whole =
 pub finished_covered : FinishedRunsAreCovered
 finished_covered p sound way r run finished = whole_covered p r (finished_whole p sound way r run finished)
 
+pub reached : (p : ProgramShape) → IsSound p → (way : Way) (order : List Ticket) (r : Played) → IsRun p way r → r.order ≡ order → r.finished ≡ true
+    → IsReached p way order r
+reached p sound way order r run is finished =
+    record { run = run; order = is; finished = finished; covered = finished_covered p sound way r run finished }
+
 pub rules_reach : RulesReachCompleteOrders
 rules_reach p sound order complete =
     let found = orders_played p sound order complete.legal in
     let shown = found.1 in
     let run = run_of_played p shown.picks 0 found.0 shown.played in
-    let finished : found.0.finished ≡ true = shown.finished complete in (
-      shown.picks,
-      (
-        found.0,
-        record {
-          run = run;
-          order = shown.order;
-          finished = finished;
-          covered = finished_covered p sound (by_rules shown.picks 0) found.0 run finished;
-        },
-      ),
-    )
+    (shown.picks, (found.0, reached p sound (by_rules shown.picks 0) order found.0 run shown.order (shown.finished complete)))
 
 pub machine_reaches : MachineReachesCompleteOrders
 machine_reaches p sound mode size order complete =
@@ -97,18 +91,7 @@ machine_reaches p sound mode size order complete =
     let found = core_orders_played p sound mode codes.0 codes.1 size order complete.legal in
     let shown = found.1 in
     let run = run_of_played_in p mode size shown.picks 0 found.0 shown.played in
-    let finished : found.0.finished ≡ true = shown.finished complete in (
-      shown.picks,
-      (
-        found.0,
-        record {
-          run = run;
-          order = shown.order;
-          finished = finished;
-          covered = finished_covered p sound (on_machine mode size shown.picks 0) found.0 run finished;
-        },
-      ),
-    )
+    (shown.picks, (found.0, reached p sound (on_machine mode size shown.picks 0) order found.0 run shown.order (shown.finished complete)))
 
 happens : (p : ProgramShape) → IsSound p → (s : StandingShape) → IsComplete p s.order → outcome_at s ≡ outcome_of p s.order → Happens p s
 happens p sound s complete outcome = record {
@@ -117,13 +100,10 @@ happens p sound s complete outcome = record {
   machine = λ mode size. machine_reaches p sound mode size s.order complete;
 }
 
-can_happen : (p : ProgramShape) → IsSound p → (s : StandingShape) → IsListed p s → IsLeast p s → CanHappen p s
-can_happen p sound s listed least =
-    record { listed = listed; least = least; happens = happens p sound s listed.complete listed.outcome }
-
 pub listed_happen : ListedOutcomesCanHappen
 listed_happen p sound found listed least =
-    each_both {P = IsListed p} {Q = IsLeast p} {R = CanHappen p} (can_happen p sound) found listed least
+    each_both {P = IsListed p} {Q = IsLeast p} {R = CanHappen p}
+    (λ s is least. record { listed = is; least = least; happens = happens p sound s is.complete is.outcome }) found listed least
 
 pub lists_of_runs : ListsAreOfRuns
 lists_of_runs p sound front all are = record {

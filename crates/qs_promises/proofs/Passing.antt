@@ -1,6 +1,6 @@
 -- What a list of fronts says of runs: the order of a finished run is complete, so it comes to what an order comes to that
 -- goes on from one of the fronts; and the order of a front is legal, so some picks lead there.
-use Rattle.std.proofs.Common.{◌≡◌, ◌+◌, ℕ, List, ◌++◌, length, sym, subst, arith, length-append}
+use Rattle.std.proofs.Common.{◌≡◌, ◌+◌, ℕ, List, length, sym, subst, arith, length-append}
 use Rattle.qs_objects.specs.declared.held.Ticket.{Ticket}
 use Rattle.qs_program.specs.audit.Program.{ProgramShape}
 use Rattle.qs_program.specs.Sound.{IsSound}

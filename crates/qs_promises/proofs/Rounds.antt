@@ -24,10 +24,10 @@ use Rattle.qs_core_laws.proofs.progress.SmallBounds.{core_bounds_small}
 use Rattle.qs_promises.specs.EnoughRounds.{DefaultRoundsAreEnough, DefaultRoundsFinish, EnoughRoundsFinish}
 use Rattle.qs_promises.specs.EveryBeginning.{EveryBeginningLeadsToAnOutcome}
 use Rattle.qs_promises.specs.Outcomes.{IsReached}
-use Rattle.qs_promises.specs.audit.Runs.{IsRun, by_rules, on_machine, on_threads}
+use Rattle.qs_promises.specs.audit.Runs.{by_rules, on_machine, on_threads}
 use Rattle.qs_core_laws.proofs.ProgramCodes.{program_codes}
 use Rattle.qs_promises.proofs.Calls.{over_on_threads, played_in_of_run, played_of_run}
-use Rattle.qs_promises.proofs.Ending.{finished_covered}
+use Rattle.qs_promises.proofs.Ending.{reached}
 
 -- ---- enough rounds
 
@@ -83,53 +83,27 @@ module _ (p : ProgramShape) where
 module _ (p : ProgramShape) (sound : IsSound p) (picks : List Actor) (named : all_named p picks ≡ true) where
   rules_ended : (r : Played) × IsReached p (by_rules (schedule p picks (most_steps_of p)) 0) r.order r
   rules_ended =
-      let few = rules_few p sound in
+      let named_all = schedule_named p picks (most_steps_of p) named in
       let all = schedule p picks (most_steps_of p) in
       let r = played_of p (plays p all (begin p)) in
-      let run : IsRun p (by_rules all 0) r = (
-        omega arith,
-        schedule_named p picks (most_steps_of p) named,
-        ap (λ actors. played_of p (plays p actors (begin p))) (sym (append-nil all)),
-      ) in
-      let finished : r.finished ≡ true =
-      rounds_finish p sound picks (most_steps_of p) (omega arith) r
-      (played_of_run p picks (most_steps_of p) r (few, named, refl)) in (
+      let shows = ap (λ actors. played_of p (plays p actors (begin p))) (sym (append-nil all)) in (
         r,
-        record {
-          run = run;
-          order = refl;
-          finished = finished;
-          covered = finished_covered p sound (by_rules all 0) r run finished;
-        },
+        reached p sound (by_rules all 0) r.order r (omega arith, named_all, shows) refl
+            (rounds_finish p sound picks (most_steps_of p) (omega arith) r (played_of_run p picks (most_steps_of p) r (rules_few p sound, named, refl))),
       )
 
   module _ (mode : Mode) (size : ℕ) where
-    machine_ended : (r : Played)
-        × IsReached p (on_machine mode size (schedule p picks (most_core_steps_of p)) 0) r.order r
+    machine_ended : (r : Played) × IsReached p (on_machine mode size (schedule p picks (most_core_steps_of p)) 0) r.order r
     machine_ended =
-        let few = machine_few p sound in
+        let named_all = schedule_named p picks (most_core_steps_of p) named in
         let codes = program_codes p sound mode in
         let all = schedule p picks (most_core_steps_of p) in
         let r = core_played p (core_plays codes.0 size all (core_begin p)) in
-        let run : IsRun p (on_machine mode size all 0) r = (
-          omega arith,
-          schedule_named p picks (most_core_steps_of p) named,
-          (
-            codes.0,
-            codes.1,
-            ap (λ actors. core_played p (core_plays codes.0 size actors (core_begin p))) (sym (append-nil all)),
-          ),
-        ) in
-        let finished : r.finished ≡ true =
-        core_rounds_finish p sound mode size picks (most_core_steps_of p) (omega arith) r
-        (played_in_of_run p mode size picks (most_core_steps_of p) r (few, named, (codes.0, codes.1, refl))) in (
+        let shows = ap (λ actors. core_played p (core_plays codes.0 size actors (core_begin p))) (sym (append-nil all)) in (
           r,
-          record {
-            run = run;
-            order = refl;
-            finished = finished;
-            covered = finished_covered p sound (on_machine mode size all 0) r run finished;
-          },
+          reached p sound (on_machine mode size all 0) r.order r (omega arith, named_all, (codes.0, codes.1, shows)) refl
+              (core_rounds_finish p sound mode size picks (most_core_steps_of p) (omega arith) r
+              (played_in_of_run p mode size picks (most_core_steps_of p) r (machine_few p sound, named, (codes.0, codes.1, refl)))),
         )
 
 pub every_beginning : EveryBeginningLeadsToAnOutcome
@@ -141,15 +115,5 @@ every_beginning p sound (on_machine mode size picks rounds) begun run = (
   rounds_of (most_core_steps_of p) (actors_of p),
   machine_ended p sound (schedule p picks rounds) (schedule_named p picks rounds run.1) mode size,
 )
-every_beginning p sound (on_threads mode size) begun run = (
-  [],
-  (
-    begun,
-    record {
-      run = run;
-      order = refl;
-      finished = (over_on_threads p mode size begun run).finished;
-      covered = finished_covered p sound (on_threads mode size) begun run (over_on_threads p mode size begun run).finished;
-    },
-  ),
-)
+every_beginning p sound (on_threads mode size) begun run =
+    ([], (begun, reached p sound (on_threads mode size) begun.order begun run refl (over_on_threads p mode size begun run).finished))

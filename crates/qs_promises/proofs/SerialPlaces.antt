@@ -17,25 +17,19 @@ use Rattle.qs_promises.specs.BlockAlone.{BlocksAreAsIfAlone, BlocksThatAgreeDoTh
 use Rattle.qs_promises.specs.SerialOrder.{IsInSerialOrder, RunsAreInSerialOrder}
 use Rattle.qs_promises.proofs.Isolating.{all_isolated}
 
-place_starts : (p : ProgramShape) (ls : ℕ → Locals) (st : States) (ts : List Ticket) (i : ℕ) (e : SerialBlock)
-    → i < length ts
-    → (get_or (serial_from p ls st ts).places i e).starts ≡ (serial_from p ls st (take i ts)).states
-place_starts p ls st [] i e less = absurd (omega (arith, less))
-place_starts p ls st (t ∷ ts) zero e less = refl
-place_starts p ls st (t ∷ ts) (suc i) e less =
-    let o = solo (text_of p t).body (ls t.client) st in
-    place_starts p (put ls t.client o.locals) o.states ts i e (omega (arith, less))
+-- a block at a place: its variables and its states are those that the blocks before it leave, and so it runs alone
+abbrev IsPlace : ProgramShape → (ℕ → Locals) → States → List Ticket → ℕ → Ticket → SerialBlock → Type 0
+IsPlace p ls st ts i d b =
+    let before = serial_from p ls st (take i ts) in
+    (b.entry ≡ before.locals (get_or ts i d).client) × (b.starts ≡ before.states)
+    × (b.trace ≡ (solo (text_of p (get_or ts i d)).body b.entry before.states).trace)
 
-pub place_trace : (p : ProgramShape) (ls : ℕ → Locals) (st : States) (ts : List Ticket) (i : ℕ) (d : Ticket)
-    (e : SerialBlock) → i < length ts
-    → (get_or (serial_from p ls st ts).places i e).trace
-    ≡ (solo (text_of p (get_or ts i d)).body (get_or (serial_from p ls st ts).places i e).entry
-    (serial_from p ls st (take i ts)).states).trace
-place_trace p ls st [] i d e less = absurd (omega (arith, less))
-place_trace p ls st (t ∷ ts) zero d e less = refl
-place_trace p ls st (t ∷ ts) (suc i) d e less =
-    let o = solo (text_of p t).body (ls t.client) st in
-    place_trace p (put ls t.client o.locals) o.states ts i d e (omega (arith, less))
+pub place_is : (p : ProgramShape) (ls : ℕ → Locals) (st : States) (ts : List Ticket) (i : ℕ) (d : Ticket) (e : SerialBlock)
+    → i < length ts → IsPlace p ls st ts i d (get_or (serial_from p ls st ts).places i e)
+place_is p ls st [] i d e less = absurd (omega (arith, less))
+place_is p ls st (t ∷ ts) zero d e less = (refl, refl, refl)
+place_is p ls st (t ∷ ts) (suc i) d e less =
+    let o = solo (text_of p t).body (ls t.client) st in place_is p (put ls t.client o.locals) o.states ts i d e (omega (arith, less))
 
 -- the order up to a place settles it
 place_front : (p : ProgramShape) (ls : ℕ → Locals) (st : States) (ts : List Ticket) (i : ℕ) (e : SerialBlock)
@@ -63,12 +57,12 @@ as_if_alone : (p : ProgramShape) (r : Played) (i : ℕ) → i < length r.order �
 as_if_alone p r i less b =
     let is : alone p r i ≡ (serial_block p r i).trace =
     ap (λ l. (solo (text_of p (ticket_at r i)).body l (left_before p r i)).trace) b.entry
-    ∙ sym (place_trace p (λ _. zeros) (declared_states p) r.order i (ticket 0 0) no_block less) in
+    ∙ sym (place_is p (λ _. zeros) (declared_states p) r.order i (ticket 0 0) no_block less).2 in
     record {
       beginning = subst (IsFront (trace_of r i)) (sym is) b.front;
       done = λ e. b.whole e ∙ sym is;
       found = λ h has.
-          b.starts h has ∙ ap (λ st. st h) (place_starts p (λ _. zeros) (declared_states p) r.order i no_block less);
+          b.starts h has ∙ ap (λ st. st h) (place_is p (λ _. zeros) (declared_states p) r.order i (ticket 0 0) no_block less).1;
     }
 
 show_the_same : (p : ProgramShape) (r s : Played) (i : ℕ) → take (suc i) r.order ≡ take (suc i) s.order

@@ -1,6 +1,6 @@
 -- Shapes that are put at the end one after another are put there as one list. Every function that draws stands on it:
 -- it is taken once for each shape but the first.
-use Rattle.std.proofs.Common.{◌≡◌, ℕ, ◌+◌, List, [], ◌∷◌, ◌++◌, ap, sym, ◌∙◌, append_assoc, append-nil, add-one}
+use Rattle.std.proofs.Common.{ℕ, ◌+◌, List, [], ◌∷◌, ◌++◌, ap, sym, ◌∙◌, append_assoc, append-nil, add-one, OnOk, Result, Ok, Err}
 use Rattle.std.specs.List.{concat}
 use Rattle.std.proofs.lemmas.List.Folds.{concat-append}
 use Rattle.qs_text.specs.Texts.{Puts}
@@ -20,9 +20,15 @@ and_then {shapes} {others} {first} one other = record {
       ∙ ap (λ l. first ++ l) (sym (concat-append shapes others));
 }
 
--- shapes by another name
-pub also : {shapes others : List Shape} {first after : List ℕ} → shapes ≡ others → Draws shapes first after → Draws others first after
-also {first = first} e draws = record { is = draws.is ∙ ap (λ l. first ++ concat l) e }
+-- the same where the last is drawn by a call whose result is handed on
+pub last_shape : {E : Type 0} (r : Result (Unit {0}) E) (shape : Shape) (first after : List ℕ) → OnOk r (Puts shape first after) → OnOk r (Draws (shape ∷ []) first after)
+last_shape (Ok x) shape first after puts = drawn puts
+last_shape (Err e) shape first after puts = tt
+
+pub last_shapes : {E : Type 0} {shapes : List Shape} {first before : List ℕ} (r : Result (Unit {0}) E) (others : List Shape) (after : List ℕ)
+    → Draws shapes first before → OnOk r (Draws others before after) → OnOk r (Draws (shapes ++ others) first after)
+last_shapes (Ok x) others after one other = and_then one other
+last_shapes (Err e) others after one other = tt
 
 -- the shapes of one place more
 pub one_place_more : (shapes : ℕ → List Shape) (n : ℕ) {first before after : List ℕ} → Draws (shapes_up_to n shapes) first before

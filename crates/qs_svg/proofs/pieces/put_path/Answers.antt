@@ -1,16 +1,7 @@
-use Rattle.std.proofs.Common.{ap, codes}
-use Rattle.std.proofs.lemmas.Result.{on_ok_weaker}
-use Rattle.qs_svg.specs.audit.Shapes.{with_number}
-use Rattle.qs_text.proofs.Parts.{named, then}
+use Rattle.qs_text.proofs.Parts.{last, then}
 use Rattle.qs_svg.proofs.pieces.put_path.Goals as goal
 
 pub returns : goal.returns
 returns c =
-    let client = named (ap (with_number (codes " c")) c.from.ensures) c.in_ok-put_count.ensures.ok in
-    let x = named (ap (with_number (codes "' d='M")) c.from-2.ensures) c.in_ok-put_count-2.ensures.ok in
-    record {
-      ok = on_ok_weaker c.put_count-3.result
-          (λ e. then (then (then (then c.in_ok-put_word.ensures.ok c.in_ok-put_word-2.ensures.ok) client) x)
-          (named (ap (with_number (codes ",")) c.from-3.ensures) e))
-          c.put_count-3.ensures.ok;
-    }
+    let client = then (then c.in_ok-put_word.ensures.ok c.in_ok-put_word-2.ensures.ok) (rw c.from.ensures at c.in_ok-put_count.ensures.ok) in
+    record { ok = last _ _ _ (then client (rw c.from-2.ensures at c.in_ok-put_count-2.ensures.ok)) (rw c.from-3.ensures at c.put_count-3.ensures.ok) }

@@ -1,9 +1,8 @@
 use Rattle.std.proofs.Common.{◌≡◌, ◌∙◌, ap, arith}
-use Rattle.qs_svg.specs.audit.Shapes.{shapes_up_to}
 use Rattle.qs_svg.specs.audit.Stretches.{all_columns}
 use Rattle.qs_svg.specs.audit.Places.{bands_of}
 use Rattle.qs_svg.specs.audit.Blocks.{row_names}
-use Rattle.qs_svg.proofs.Parts.{also, one_place_more}
+use Rattle.qs_svg.proofs.Parts.{one_place_more}
 use Rattle.qs_svg.proofs.rows.put_all_names.Goals as goal
 
 pub loop-band-preserved : goal.loop-band-preserved
@@ -14,4 +13,4 @@ pub returns : goal.returns
 returns c =
     let bands = c.bands_of-band-end.ensures.bands ∙ ap bands_of c.all_columns.ensures.columns in
     let all : c.loop-band.band ≡ bands_of (all_columns c.args.played.now) = omega (arith, bands) in
-    record { ok = also (ap (λ n. shapes_up_to n (row_names c.args.program.now c.args.played.now c.args.layout c.args.row)) all) c.loop-band.invariant }
+    record { ok = rw all at c.loop-band.invariant }

@@ -1,9 +1,7 @@
-use Rattle.std.proofs.Common.{◌≤◌, ◌+◌, ◌∙◌, List, add-one, ap, ap₂, arith, length}
-use Rattle.qs_objects.specs.declared.held.Entry.{Entry}
-use Rattle.qs_text.specs.declared.fates.fate.Fate.{Fate}
+use Rattle.std.proofs.Common.{◌≤◌, ◌+◌, ◌∙◌, add-one, ap, arith, length}
 use Rattle.qs_svg.specs.audit.Stretches.{journal_of, stretch, stretch_fates, ticket_at}
 use Rattle.qs_svg.specs.audit.Blocks.{cell}
-use Rattle.qs_svg.proofs.Parts.{also, one_place_more}
+use Rattle.qs_svg.proofs.Parts.{one_place_more}
 use Rattle.qs_svg.proofs.StretchEnds.{fates_of_length, fates_of_stretch, stretch_ends, stretch_of}
 use Rattle.qs_svg.proofs.rows.put_cells.Goals as goal
 
@@ -38,9 +36,8 @@ loop-column-preserved c =
     inv.1 c.entries_for-count.ensures.count c.min.ensures in
     let entries = stretch_of run h i c.journal_of-journal.result.now start (start + c.min.result) journal inv.1 ends in
     let fates = fates_of_stretch p run h i c.args.fates.now start (start + c.min.result) c.requires.fates inv.1 ends in
-    let here = ap₂ (λ (es : List Entry) (fs : List Fate). cell p run c.args.layout i h es fs) entries fates in
     let within : start + c.min.result ≤ length (journal_of run h) = omega (arith, c.min.ensures, inv.0, ap length journal) in (
       within,
       rw add-one ends,
-      one_place_more (λ j. cell p run c.args.layout j h (stretch run h j) (stretch_fates p run h j)) i inv.2 (also here c.in_ok-put_cell.ensures.ok),
+      one_place_more (λ j. cell p run c.args.layout j h (stretch run h j) (stretch_fates p run h j)) i inv.2 (rw (entries, fates) at c.in_ok-put_cell.ensures.ok),
     )

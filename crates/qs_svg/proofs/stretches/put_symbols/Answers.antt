@@ -1,12 +1,10 @@
-use Rattle.std.proofs.Common.{ℕ, ◌∙◌, ap, ap₂, arith, get_or, length, ◌<◌}
+use Rattle.std.proofs.Common.{ℕ, ◌∙◌, ap, arith, get_or, length, ◌<◌}
 use Rattle.std.proofs.lemmas.List.{get_or_default}
-use Rattle.qs_objects.specs.declared.held.Entry.{Entry}
-use Rattle.qs_text.specs.declared.fates.fate.Fate.{Fate}
 use Rattle.qs_text.specs.declared.fates.fate.Fate.TheVariants.{Done}
 use Rattle.qs_svg.specs.audit.Stretches.{no_entry}
 use Rattle.qs_svg.specs.audit.Places.{symbol_x, symbol_y}
 use Rattle.qs_svg.specs.audit.Blocks.{request_shapes}
-use Rattle.qs_svg.proofs.Parts.{also, one_place_more}
+use Rattle.qs_svg.proofs.Parts.{one_place_more}
 use Rattle.qs_svg.proofs.stretches.put_symbols.Goals as goal
 
 pub loop-number-preserved : goal.loop-number-preserved
@@ -22,7 +20,5 @@ loop-number-preserved c =
     let inside : c.from-place.result < length entries = omega (arith, c.loop-number-test.true, c.min-count.ensures, place) in
     let entry = c.index-entries-place.is ∙ get_or_default entries c.from-place.result _ no_entry inside ∙ ap (λ j. get_or entries j no_entry) place in
     let fate = c.fate_at.ensures.fate ∙ ap (λ j. get_or fates j Done) place in
-    let corner = ap₂ (λ a b. request_shapes p a b c.index-entries-place.result c.fate_at.result) c.corner_of-corner.ensures.x c.corner_of-corner.ensures.y in
-    let here = corner ∙ ap₂ (λ (e : Entry) (f : Fate). request_shapes p x (y n) e f) entry fate in
     one_place_more (λ j. request_shapes p x (y j) (get_or entries j no_entry) (get_or fates j Done)) n c.loop-number.invariant
-    (also here c.in_ok-put_request.ensures.ok)
+    (rw (c.corner_of-corner.ensures.x, c.corner_of-corner.ensures.y, entry, fate) at c.in_ok-put_request.ensures.ok)

@@ -1,7 +1,7 @@
-use Rattle.std.proofs.Common.{◌≡◌, ap, arith}
+use Rattle.std.proofs.Common.{◌≡◌, arith}
 use Rattle.qs_objects.specs.audit.Objects.{values_of}
-use Rattle.qs_text.specs.audit.Texts.{spaced_value, texts_up_to}
-use Rattle.qs_text.proofs.Parts.{named, one_text_more}
+use Rattle.qs_text.specs.audit.Texts.{spaced_value}
+use Rattle.qs_text.proofs.Parts.{one_text_more}
 use Rattle.qs_svg.proofs.words.put_first_values.Goals as goal
 
 pub loop-place-preserved : goal.loop-place-preserved
@@ -9,7 +9,4 @@ loop-place-preserved c =
     one_text_more (spaced_value (values_of c.args.object.now.content)) c.loop-place.place c.loop-place.invariant c.in_ok-put_value.ensures.ok
 
 pub returns : goal.returns
-returns c =
-    let values = values_of c.args.object.now.content in
-    let all : c.loop-place.place ≡ c.args.told = omega arith in
-    record { ok = named (ap (λ n. texts_up_to n (spaced_value values)) all) c.loop-place.invariant }
+returns c = let all : c.loop-place.place ≡ c.args.told = omega arith in record { ok = rw all at c.loop-place.invariant }
