@@ -1,5 +1,7 @@
 -- A line that is put piece by piece, and lines behind lines. What is written without asking for room stands on it.
 use Rattle.std.proofs.Common.{◌≡◌, List, [], ◌∷◌, ◌++◌, codes, length, ℕ, zero, suc, ◌+◌, ◌-◌, take, drop, flat_map, ℤ, get_or, pos, refl, sym, ap, ◌∙◌, append_assoc, append-nil, length-drop, arith, Option, Some}
+use lib.Seq.{take-add}
+use Rattle.std.proofs.lemmas.Grind.{flat_map-append}
 use Rattle.std.proofs.lemmas.List.{take_all}
 use Rattle.std.specs.Fmt.{signed_decimal}
 use Rattle.qs_objects.specs.declared.Request.{Request}
@@ -17,24 +19,11 @@ one_argument [] one = absurd (omega (arith, one))
 one_argument (x ∷ []) one = append-nil (signed_decimal x)
 one_argument (x ∷ y ∷ ys) one = absurd (omega (arith, one))
 
--- five texts behind another one
-five_behind : (old a b d e x : List ℕ) → old ++ a ++ b ++ d ++ e ++ x ≡ old ++ (a ++ b ++ d ++ e ++ x)
-five_behind old a b d e x =
-    let two = append_assoc old a b in
-    let three = ap (λ t. t ++ d) two ∙ append_assoc old (a ++ b) d in
-    let four = ap (λ t. t ++ e) three ∙ append_assoc old (a ++ b ++ d) e in
-    ap (λ t. t ++ x) four ∙ append_assoc old (a ++ b ++ d ++ e) x
-
 -- a line, put in three pieces
 line_shown : (p : ProgramShape) (r : Request) (reply : Option ℤ) (old first second last : List ℕ)
     → first ≡ old ++ (object_at p r.object).name ++ codes "." ++ word r.op ++ codes "(" → second ≡ first ++ args_text r.args
     → last ≡ second ++ (codes ")" ++ (reply_text reply ++ codes "\n")) → last ≡ old ++ line_text p r reply
-line_shown p r reply old first second last f s l =
-    let front = (object_at p r.object).name ++ codes "." ++ word r.op ++ codes "(" ++ args_text r.args in
-    let rest = reply_text reply ++ codes "\n" in
-    l ∙ ap (λ t. t ++ (codes ")" ++ rest)) (s ∙ ap (λ t. t ++ args_text r.args) f ∙ five_behind old (object_at p r.object).name (codes ".") (word r.op) (codes "(") (args_text r.args))
-    ∙ append_assoc old front (codes ")" ++ rest)
-    ∙ ap (λ t. old ++ t) (sym (append_assoc (front ++ codes ")") (reply_text reply) (codes "\n") ∙ append_assoc front (codes ")") rest))
+line_shown p r reply old first second last f s l = rw (l, s, f) (simp append_assoc)
 
 -- a line with no argument, put in two pieces
 pub line_without : (p : ProgramShape) (r : Request) (reply : Option ℤ) (old first last : List ℕ) → length r.args ≡ 0
@@ -52,27 +41,11 @@ line_with_one p r reply old first second last one f s l = line_shown p r reply o
 
 -- a reply, put in three pieces
 pub reply_behind : (second : List ℕ) (reply : ℤ) → second ++ codes ") = " ++ signed_decimal reply ++ codes "\n" ≡ second ++ (codes ")" ++ (reply_text (Some reply) ++ codes "\n"))
-reply_behind second reply =
-    ap (λ t. t ++ codes "\n") (append_assoc second (codes ") = ") (signed_decimal reply)) ∙ append_assoc second (codes ") = " ++ signed_decimal reply) (codes "\n")
-
-none : {X : Type 0} (n : ℕ) → take {A = X} n [] ≡ []
-none zero = refl
-none (suc n) = refl
-
-same : (k : ℕ) → k ≡ zero + k
-same k = omega arith
-
-next : (i k : ℕ) → suc (i + k) ≡ suc i + k
-next i k = omega arith
+reply_behind second reply = simp append_assoc
 
 -- the texts of the first items, and of those behind them
 taken_both : {X : Type 0} (text : X → List ℕ) (i k : ℕ) (xs : List X) → flat_map text (take i xs) ++ flat_map text (take k (drop i xs)) ≡ flat_map text (take (i + k) xs)
-taken_both text zero k xs = ap (λ n. flat_map text (take n xs)) (same k)
-taken_both text (suc i) k [] = ap (flat_map text) (none k ∙ sym (none (suc i + k)))
-taken_both text (suc i) k (x ∷ xs) =
-    append_assoc (text x) (flat_map text (take i xs)) (flat_map text (take k (drop i xs)))
-    ∙ ap (λ l. text x ++ l) (taken_both text i k xs)
-    ∙ ap (λ n. flat_map text (take n (x ∷ xs))) (next i k)
+taken_both text i k xs = sym (ap (flat_map text) (take-add i k xs) ∙ flat_map-append text (take i xs) (take k (drop i xs)))
 
 -- some more items are there
 pub items_more : {X : Type 0} (text : X → List ℕ) (xs : List X) (i k : ℕ) (old mid new : List ℕ) → mid ≡ old ++ flat_map text (take i xs)

@@ -17,7 +17,4 @@ loop-client-preserved c = (
 pub returns : goal.returns
 returns c =
     let all : c.loop-client.client ≡ length c.args.program.now.clients = omega arith in
-    record {
-      ok = c.loop-client.invariant.0 ∙ ap (λ n. c.args.out.now.items ++ texts_up_to n (client_line c.args.program.now c.args.standing.now)) all;
-      words = λ i less. c.loop-client.invariant.1 i (omega (arith, all, less));
-    }
+    rw (← all) (record { ok = c.loop-client.invariant.0; words = c.loop-client.invariant.1 })

@@ -16,7 +16,4 @@ loop-object-preserved c = (
 pub returns : goal.returns
 returns c =
     let all : c.loop-object.object ≡ length c.args.program.now.objects = omega arith in
-    record {
-      ok = c.loop-object.invariant.0 ∙ ap (λ n. c.args.out.now.items ++ texts_up_to n (object_line c.args.program.now c.args.standing.now)) all;
-      words = λ i less. c.loop-object.invariant.1 i (omega (arith, all, less));
-    }
+    rw (← all) (record { ok = c.loop-object.invariant.0; words = c.loop-object.invariant.1 })
