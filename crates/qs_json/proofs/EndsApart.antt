@@ -94,14 +94,9 @@ grids_tell k l rows others us vs x y v w p q e =
 
 content_tells : (c d : Content) (us vs : List ℕ) → ContentTells c d us vs
 content_tells (account b) (account c) us vs x y v w p q e = accounts_tell b c us vs x y v w p q e
-content_tells (account b) (buffer k xs) us vs x y v w p q e = absurd (let h : 97 ≡ 98 = byte 9 _ _ e in omega (arith, h))
-content_tells (account b) (grid k rows) us vs x y v w p q e = absurd (let h : 97 ≡ 103 = byte 9 _ _ e in omega (arith, h))
-content_tells (buffer k xs) (account c) us vs x y v w p q e = absurd (let h : 98 ≡ 97 = byte 9 _ _ e in omega (arith, h))
 content_tells (buffer k xs) (buffer m ys) us vs x y v w p q e = buffers_tell k m xs ys us vs x y v w p q e
-content_tells (buffer k xs) (grid m rows) us vs x y v w p q e = absurd (let h : 98 ≡ 103 = byte 9 _ _ e in omega (arith, h))
-content_tells (grid k rows) (account c) us vs x y v w p q e = absurd (let h : 103 ≡ 97 = byte 9 _ _ e in omega (arith, h))
-content_tells (grid k rows) (buffer m ys) us vs x y v w p q e = absurd (let h : 103 ≡ 98 = byte 9 _ _ e in omega (arith, h))
 content_tells (grid k rows) (grid l others) us vs x y v w p q e = grids_tell k l rows others us vs x y v w p q e
+content_tells _ _ us vs x y v w p q e = absurd (let h = byte 9 _ _ e in omega (arith, h))
 
 state_tells : (name : List ℕ) (s t : State) (us vs : List ℕ) → IsInRange s.content → IsInRange t.content → IsOfWords s → IsOfWords t
     → state_json name s ++ us ≡ state_json name t ++ vs → (s ≡ t) × (us ≡ vs)

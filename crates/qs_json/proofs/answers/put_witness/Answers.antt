@@ -1,11 +1,5 @@
-use Rattle.std.proofs.Common.{List, ap}
-use Rattle.qs_objects.specs.declared.held.Ticket.{Ticket}
-use Rattle.std.proofs.lemmas.Result.{on_ok_weaker}
-use Rattle.qs_json.specs.AnswerJson.{order_field}
-use Rattle.qs_text.proofs.Parts.{named, then}
+use Rattle.qs_text.proofs.Parts.{last, then}
 use Rattle.qs_json.proofs.answers.put_witness.Goals as goal
 
 pub returns : goal.returns
-returns c =
-    let head = named (ap (λ (order : List Ticket). order_field c.args.quantifier order) c.order.ensures.order) c.in_ok-put_order.ensures.ok in
-    record { ok = on_ok_weaker c.put_word.result (λ e. then (then head c.in_ok-put_standing.ensures.ok) e) c.put_word.ensures.ok }
+returns c = record { ok = last _ _ _ (then (rw c.order.ensures.order at c.in_ok-put_order.ensures.ok) c.in_ok-put_standing.ensures.ok) c.put_word.ensures.ok }

@@ -2,8 +2,7 @@ use Rattle.std.proofs.Common.{◌≡◌, ap, arith, get_or, length}
 use Rattle.qs_meaning.specs.audit.Serial.{zeros}
 use Rattle.qs_program.specs.audit.Program.{client_at}
 use Rattle.qs_text.specs.TellApart.{AreWords}
-use Rattle.qs_text.specs.audit.Texts.{texts_up_to}
-use Rattle.qs_json.specs.audit.Pieces.{comma_at, element}
+use Rattle.qs_json.specs.audit.Pieces.{comma_at}
 use Rattle.qs_json.specs.OutcomesJson.{client_json}
 use Rattle.qs_json.proofs.Elements.{one_element_more}
 use Rattle.qs_text.proofs.Joined.{each_place_more}
@@ -20,7 +19,4 @@ loop-client-preserved c = (
 pub returns : goal.returns
 returns c =
     let all : c.loop-client.client ≡ length c.args.program.now.clients = omega arith in
-    record {
-      ok = named (ap (λ n. texts_up_to n (element (client_json c.args.program.now c.args.standing.now))) all) c.loop-client.invariant.0;
-      words = λ i less. c.loop-client.invariant.1 i (omega (arith, all, less));
-    }
+    rw (← all) (record { ok = c.loop-client.invariant.0; words = c.loop-client.invariant.1 })

@@ -1,8 +1,7 @@
 use Rattle.std.proofs.Common.{◌≡◌, ap, arith, get_or, length}
 use Rattle.qs_text.specs.TellApart.{IsOfWords}
 use Rattle.qs_text.specs.audit.Words.{no_state}
-use Rattle.qs_text.specs.audit.Texts.{texts_up_to}
-use Rattle.qs_json.specs.audit.Pieces.{comma_at, element}
+use Rattle.qs_json.specs.audit.Pieces.{comma_at}
 use Rattle.qs_json.specs.OutcomesJson.{object_json}
 use Rattle.qs_json.proofs.Elements.{one_element_more}
 use Rattle.qs_text.proofs.Joined.{each_place_more}
@@ -19,7 +18,4 @@ loop-object-preserved c = (
 pub returns : goal.returns
 returns c =
     let all : c.loop-object.object ≡ length c.args.program.now.objects = omega arith in
-    record {
-      ok = named (ap (λ n. texts_up_to n (element (object_json c.args.program.now c.args.standing.now))) all) c.loop-object.invariant.0;
-      words = λ i less. c.loop-object.invariant.1 i (omega (arith, all, less));
-    }
+    rw (← all) (record { ok = c.loop-object.invariant.0; words = c.loop-object.invariant.1 })

@@ -1,6 +1,5 @@
-use Rattle.std.proofs.lemmas.Result.{on_ok_weaker}
-use Rattle.qs_text.proofs.Parts.{then}
+use Rattle.qs_text.proofs.Parts.{last}
 use Rattle.qs_json.proofs.outcomes.put_outcome_head.Goals as goal
 
 pub returns : goal.returns
-returns c = record { ok = on_ok_weaker c.put_order.result (λ e. then c.in_ok-put_count.ensures.ok e) c.put_order.ensures.ok }
+returns c = record { ok = last _ _ _ c.in_ok-put_count.ensures.ok c.put_order.ensures.ok }

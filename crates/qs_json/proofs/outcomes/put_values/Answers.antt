@@ -1,9 +1,6 @@
-use Rattle.std.proofs.Common.{◌≡◌, ap, arith, get_or, length, pos}
+use Rattle.std.proofs.Common.{◌≡◌, arith, get_or, length, pos}
 use Rattle.qs_text.proofs.Joined.{each_place_more}
-use Rattle.qs_text.proofs.Parts.{named}
 use Rattle.qs_text.specs.TellApart.{IsWord}
-use Rattle.qs_text.specs.audit.Texts.{texts_up_to}
-use Rattle.qs_json.specs.audit.Pieces.{element}
 use Rattle.qs_json.specs.audit.Variables.{variable_json}
 use Rattle.qs_json.proofs.Elements.{one_element_more}
 use Rattle.qs_json.proofs.outcomes.put_values.Goals as goal
@@ -18,7 +15,4 @@ loop-number-preserved c = (
 pub returns : goal.returns
 returns c =
     let all : c.loop-number.number ≡ length c.args.variables.now = omega arith in
-    record {
-      ok = named (ap (λ n. texts_up_to n (element (variable_json c.args.variables.now c.args.locals.now))) all) c.loop-number.invariant.0;
-      words = λ x less. c.loop-number.invariant.1 x (omega (arith, all, less));
-    }
+    rw (← all) (record { ok = c.loop-number.invariant.0; words = c.loop-number.invariant.1 })

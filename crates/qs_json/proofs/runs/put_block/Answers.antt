@@ -1,12 +1,5 @@
-use Rattle.std.proofs.Common.{ap, codes, decimal}
-use Rattle.std.proofs.lemmas.Result.{on_ok_weaker}
-use Rattle.qs_json.specs.audit.Pieces.{field}
-use Rattle.qs_text.proofs.Parts.{named, then}
+use Rattle.qs_text.proofs.Parts.{last, then}
 use Rattle.qs_json.proofs.runs.put_block.Goals as goal
 
 pub returns : goal.returns
-returns c = record {
-  ok = on_ok_weaker c.put_truth.result
-      (λ e. then (then c.in_ok-put_client_name.ensures.ok (named (ap (λ n. field (codes "block") (decimal n)) c.from.ensures) c.in_ok-put_count.ensures.ok)) e)
-      c.put_truth.ensures.ok;
-}
+returns c = record { ok = last _ _ _ (then c.in_ok-put_client_name.ensures.ok (rw c.from.ensures at c.in_ok-put_count.ensures.ok)) c.put_truth.ensures.ok }

@@ -1,11 +1,5 @@
-use Rattle.std.proofs.lemmas.Result.{on_ok_weaker}
-use Rattle.qs_text.proofs.Parts.{then}
+use Rattle.qs_text.proofs.Parts.{last, then}
 use Rattle.qs_json.proofs.states.put_values.Goals as goal
 
-pub returns : goal.returns
-returns c = record {
-  ok = on_ok_weaker c.put_word-2.result
-      (λ e. then (then c.in_ok-put_word.ensures.ok c.in_ok-put_joined.ensures.ok) e)
-      c.put_word-2.ensures.ok;
-  words = on_ok_weaker c.put_word-2.result (λ e. c.in_ok-put_joined.ensures.words) c.put_word-2.ensures.ok;
-}
+pub returns-clause-ok : goal.returns-clause-ok
+returns-clause-ok c = last _ _ _ (then c.in_ok-put_word.ensures.ok c.in_ok-put_joined.ensures.ok) c.put_word-2.ensures.ok
