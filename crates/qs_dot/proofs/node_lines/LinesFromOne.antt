@@ -3,6 +3,7 @@
 -- blocks and the items.
 use Rattle.std.proofs.Common.{◌≡◌, ◌<◌, ◌≤◌, ℕ, zero, suc, ◌+◌, Bool, true, false, if◌then◌else◌, nat_eq, List, [], ◌∷◌, ◌++◌, length, drop, map, ap, sym, ◌∙◌, length-append, length-drop, arith}
 use Rattle.std.specs.List.{AllByRecursion}
+use Rattle.qs_meaning.proofs.Each.{each_join}
 use Rattle.std.proofs.lemmas.List.{length-map}
 use Rattle.qs_script.specs.declared.tree.tree.Block.{Block}
 use Rattle.qs_script.specs.declared.tree.tree.Item.{Item}
@@ -24,10 +25,6 @@ FromOne es = AllByRecursion (λ e. 1 ≤ e) es
 -- there are so many entries at least, and none is below 1
 abbrev Enough : ℕ → List ℕ → Type 0
 Enough count es = (count ≤ length es) × FromOne es
-
-joined : (xs ys : List ℕ) → FromOne xs → FromOne ys → FromOne (xs ++ ys)
-joined [] ys h k = k
-joined (x ∷ xs) ys h k = (h.0, joined xs ys h.1 k)
 
 first : (n : ℕ) (es : List ℕ) → 0 < n → Enough n es → 1 ≤ first_entry es
 first n [] some h = absurd (omega (arith, some, h.0))
@@ -78,7 +75,7 @@ statements es (choose t one rest) h =
     let b = anchor_count rest in
     let in_it : Enough (a + b) inside = left 2 (a + b) es (as_many (2 + (a + b)) (anchor_count (choose t one rest)) es (omega (arith, length-append (anchors false one) (anchors false rest))) h) in (
       first (anchor_count (choose t one rest)) es (omega arith) h,
-      joined (statement_nodes inside one) (statement_nodes (drop a inside) rest)
+      each_join (λ e. 1 ≤ e) (statement_nodes inside one) (statement_nodes (drop a inside) rest)
           (statements inside one (fewer a (a + b) inside (omega arith) in_it)) (statements (drop a inside) rest (left a b inside in_it)),
     )
 statements es (choose_else t one other rest) h =
@@ -92,9 +89,9 @@ statements es (choose_else t one other rest) h =
     (omega (arith, length-append (anchors false one) (anchors false other ++ anchors false rest), length-append (anchors false other) (anchors false rest))) h) in
     let after_it : Enough (b + d) otherwise = left a (b + d) inside in_it in (
       first (anchor_count (choose_else t one other rest)) es (omega arith) h,
-      joined (statement_nodes inside one) (statement_nodes otherwise other ++ statement_nodes (drop b otherwise) rest)
+      each_join (λ e. 1 ≤ e) (statement_nodes inside one) (statement_nodes otherwise other ++ statement_nodes (drop b otherwise) rest)
           (statements inside one (fewer a (a + (b + d)) inside (omega arith) in_it))
-          (joined (statement_nodes otherwise other) (statement_nodes (drop b otherwise) rest)
+          (each_join (λ e. 1 ≤ e) (statement_nodes otherwise other) (statement_nodes (drop b otherwise) rest)
           (statements otherwise other (fewer b (b + d) otherwise (omega arith) after_it)) (statements (drop b otherwise) rest (left b d otherwise after_it))),
     )
 statements es (again n body rest) h =
@@ -107,7 +104,7 @@ statements es (again n body rest) h =
       one,
       (
         one,
-        joined (statement_nodes inside body) (statement_nodes (drop a inside) rest)
+        each_join (λ e. 1 ≤ e) (statement_nodes inside body) (statement_nodes (drop a inside) rest)
             (statements inside body (fewer a (a + b) inside (omega arith) in_it)) (statements (drop a inside) rest (left a b inside in_it)),
       ),
     )

@@ -38,12 +38,7 @@ module _ (objects : List Name) (kinds : List Kind) (variables : List Name) where
   statements_count es (tree.choose t first rest) =
       let inside = drop (length (test_anchors t)) es in
       let after = drop (anchor_count first) inside in
-      omega (
-        arith,
-        length-append (statement_nodes inside first) (statement_nodes after rest),
-        statements_count inside first,
-        statements_count after rest,
-      )
+      omega (arith, length-append (statement_nodes inside first) (statement_nodes after rest), statements_count inside first, statements_count after rest)
   statements_count es (tree.choose_else t first other rest) =
       let inside = drop (length (test_anchors t)) es in
       let otherwise = drop (anchor_count first) inside in
@@ -59,12 +54,7 @@ module _ (objects : List Name) (kinds : List Kind) (variables : List Name) where
   statements_count es (tree.again n body rest) =
       let inside = drop 1 es in
       let after = drop (anchor_count body) inside in
-      omega (
-        arith,
-        length-append (statement_nodes inside body) (statement_nodes after rest),
-        statements_count inside body,
-        statements_count after rest,
-      )
+      omega (arith, length-append (statement_nodes inside body) (statement_nodes after rest), statements_count inside body, statements_count after rest)
   statements_count es (tree.leave rest) = omega (arith, statements_count (drop 1 es) rest)
 
   -- so do the blocks
@@ -72,11 +62,7 @@ module _ (objects : List Name) (kinds : List Kind) (variables : List Name) where
       → length (get_or (blocks_nodes es bs) k []) + 1 ≡ length (block_graph (get_or (map (block_shape objects kinds variables) bs) k no_block).body)
   blocks_count es [] k h = absurd (omega (arith, h))
   blocks_count es (b ∷ bs) zero h =
-      omega (
-        arith,
-        statements_count (drop (1 + length b.reserved) es) b.body,
-        graph_count (body_of objects kinds variables b.body),
-      )
+      omega (arith, statements_count (drop (1 + length b.reserved) es) b.body, graph_count (body_of objects kinds variables b.body))
   blocks_count es (b ∷ bs) (suc k) h = blocks_count (drop (length (block_anchors b)) es) bs k (omega (arith, h))
 
 -- each block of a client has a line for each node of its graph but Exit
