@@ -3,7 +3,9 @@
 -- actors; then for picks and rounds.
 use Rattle.std.proofs.Common.{◌≡◌, ◌<◌, ◌≤◌, ℕ, suc, ◌+◌, Bool, true, false, List, [], ◌∷◌, ◌++◌, codes, flat_map, length, get_or, Option, Some, None, refl, ap, sym, ◌∙◌, append_assoc, append-nil, arith, if◌then◌else◌, subst}
 use Rattle.std.specs.List.{AllByRecursion}
-use Rattle.std.proofs.lemmas.List.{get_or_append_left, length-append}
+use Rattle.std.proofs.lemmas.Grind.{flat_map-append}
+use Rattle.std.proofs.lemmas.List.{get_or-append-add, get_or_append_left, length-append}
+use Rattle.qs_meaning.proofs.Each.{each_join, each_map}
 use Rattle.qs_program.specs.audit.Program.{ProgramShape}
 use Rattle.qs_played.specs.audit.Schedule.{actors_of, or_stay, plays_by, rounds_of}
 use Rattle.qs_played.specs.declared.schedule.actor.Actor.{Actor}
@@ -15,21 +17,9 @@ use Rattle.qs_steps.specs.CoreSteps.{core_steps, core_told}
 use Rattle.qs_steps.specs.StepNames.{AreLinesOf, IsAsked, IsRising, Line, SaysNothing, StepsAreNamed, line_text, named}
 use Rattle.qs_steps.proofs.TellingRuns.{steppers_append}
 
-both_parts : (P : Line → Type 0) (ks ls : List Line) → AllByRecursion P ks → AllByRecursion P ls → AllByRecursion P (ks ++ ls)
-both_parts P [] ls first second = second
-both_parts P (k ∷ ks) ls first second = (first.0, both_parts P ks ls first.1 second)
-
-each_part : (P Q : Line → Type 0) (ls : List Line) → ((l : Line) → P l → Q l) → AllByRecursion P ls → AllByRecursion Q ls
-each_part P Q [] to all = tt
-each_part P Q (l ∷ ls) to all = (to l all.0, each_part P Q ls to all.1)
-
 named_append : (ks ls : List Line) → named (ks ++ ls) ≡ named ks ++ named ls
 named_append [] ls = refl
 named_append (k ∷ ks) ls = ap (λ xs. (if k.stepped then k.actor ∷ [] else []) ++ xs) (named_append ks ls) ∙ sym (append_assoc (if k.stepped then k.actor ∷ [] else []) (named ks) (named ls))
-
-texts_append : (p : ProgramShape) (ks ls : List Line) → flat_map (line_text p) (ks ++ ls) ≡ flat_map (line_text p) ks ++ flat_map (line_text p) ls
-texts_append p [] ls = refl
-texts_append p (k ∷ ks) ls = ap (λ xs. line_text p k ++ xs) (texts_append p ks ls) ∙ sym (append_assoc (line_text p k) (flat_map (line_text p) ks) (flat_map (line_text p) ls))
 
 rises_sooner : (n m : ℕ) (ls : List Line) → n ≤ m → IsRising m ls → IsRising n ls
 rises_sooner n m [] less rising = tt
@@ -69,7 +59,7 @@ module _ {S : Type 0} (step : S → Actor → Option S) (p : ProgramShape) (told
   made_text b n [] s = refl
   made_text b n (a ∷ rest) s =
       (λ k. one_text b n s a (step s a) k ++ made_text b (n + 1) rest (or_stay s (step s a)) k)
-      ∙ sym (texts_append p (line_made b n s a (step s a)) (lines_made b (n + 1) rest (or_stay s (step s a))))
+      ∙ sym (flat_map-append (line_text p) (line_made b n s a (step s a)) (lines_made b (n + 1) rest (or_stay s (step s a))))
 
   one_named : (b : Bool) (n : ℕ) (s : S) (a : Actor) (o : Option S) → named (line_made b n s a o) ≡ stepper step a o
   unfolding line_made
@@ -94,7 +84,7 @@ module _ {S : Type 0} (step : S → Actor → Option S) (p : ProgramShape) (told
   unfolding lines_made
   made_idle b n [] s = tt
   made_idle b n (a ∷ rest) s =
-      both_parts SaysNothing (line_made b n s a (step s a)) (lines_made b (n + 1) rest (or_stay s (step s a))) (one_idle b n s a (step s a)) (made_idle b (n + 1) rest (or_stay s (step s a)))
+      each_join SaysNothing (line_made b n s a (step s a)) (lines_made b (n + 1) rest (or_stay s (step s a))) (one_idle b n s a (step s a)) (made_idle b (n + 1) rest (or_stay s (step s a)))
 
   one_at : (b : Bool) (n : ℕ) (s : S) (a : Actor) (rest : List Actor) (o : Option S) → AllByRecursion (IsAt n (a ∷ rest)) (line_made b n s a o)
   unfolding line_made
@@ -107,8 +97,8 @@ module _ {S : Type 0} (step : S → Actor → Option S) (p : ProgramShape) (told
   made_at b n [] s = tt
   made_at b n (a ∷ rest) s =
       let later = lines_made b (n + 1) rest (or_stay s (step s a)) in
-      both_parts (IsAt n (a ∷ rest)) (line_made b n s a (step s a)) later (one_at b n s a rest (step s a))
-      (each_part (IsAt (n + 1) rest) (IsAt n (a ∷ rest)) later (one_later n a rest) (made_at b (n + 1) rest (or_stay s (step s a))))
+      each_join (IsAt n (a ∷ rest)) (line_made b n s a (step s a)) later (one_at b n s a rest (step s a))
+      (each_map {P = IsAt (n + 1) rest} {Q = IsAt n (a ∷ rest)} (one_later n a rest) later (made_at b (n + 1) rest (or_stay s (step s a))))
 
   one_rises : (b : Bool) (n : ℕ) (s : S) (a : Actor) (o : Option S) (ks : List Line) → IsRising (n + 1) ks → IsRising n (line_made b n s a o ++ ks)
   unfolding line_made
@@ -134,16 +124,12 @@ module _ {S : Type 0} (step : S → Actor → Option S) (p : ProgramShape) (told
     actor = λ d. get_or_append_left picks others d is.place is.inside ∙ is.actor d;
   }
 
-  behind : (picks others : List Actor) (i : ℕ) (d : Actor) → get_or (picks ++ others) (length picks + i) d ≡ get_or others i d
-  behind [] others i d = let none : 0 + i ≡ i = omega arith in ap (λ m. get_or others m d) none
-  behind (a ∷ picks) others i d = let next : suc (length picks) + i ≡ suc (length picks + i) = omega arith in ap (λ m. get_or (a ∷ (picks ++ others)) m d) next ∙ behind picks others i d
-
   then_asked : (picks others : List Actor) (l : Line) → IsAt (length picks + 1) others l → IsAsked (picks ++ others) l
   then_asked picks others l is = record {
     place = length picks + is.place;
     number = omega (arith, is.number);
     inside = omega (arith, is.inside, length-append picks others);
-    actor = λ d. behind picks others is.place d ∙ is.actor d;
+    actor = λ d. get_or-append-add picks others is.place d ∙ is.actor d;
   }
 
   pub all_named : (picks others : List Actor) (s : S) → AreLinesOf p (picks ++ others) (steppers_by step (picks ++ others) s)
@@ -155,11 +141,11 @@ module _ {S : Type 0} (step : S → Actor → Option S) (p : ProgramShape) (told
       let number : length picks + 1 ≡ 1 + length picks = omega arith in
       record {
         lines = first ++ second;
-        text = (λ k. made_text true 1 picks s k ++ made_text false (length picks + 1) others t k) ∙ sym (texts_append p first second);
+        text = (λ k. made_text true 1 picks s k ++ made_text false (length picks + 1) others t k) ∙ sym (flat_map-append (line_text p) first second);
         steppers = named_append first second ∙ (λ k. made_named true 1 picks s k ++ made_named false (length picks + 1) others t k) ∙ sym (steppers_append step picks others s);
-        idle = both_parts SaysNothing first second (made_idle true 1 picks s) (made_idle false (length picks + 1) others t);
-        asked = both_parts (IsAsked (picks ++ others)) first second (each_part (IsAt 1 picks) (IsAsked (picks ++ others)) first (first_asked picks others) (made_at true 1 picks s))
-            (each_part (IsAt (length picks + 1) others) (IsAsked (picks ++ others)) second (then_asked picks others) (made_at false (length picks + 1) others t));
+        idle = each_join SaysNothing first second (made_idle true 1 picks s) (made_idle false (length picks + 1) others t);
+        asked = each_join (IsAsked (picks ++ others)) first second (each_map {P = IsAt 1 picks} {Q = IsAsked (picks ++ others)} (first_asked picks others) first (made_at true 1 picks s))
+            (each_map {P = IsAt (length picks + 1) others} {Q = IsAsked (picks ++ others)} (then_asked picks others) second (made_at false (length picks + 1) others t));
         rising = made_rises true 1 picks s second (subst (λ m. IsRising m second) number
             (subst (IsRising (length picks + 1)) (append-nil second) (made_rises false (length picks + 1) others t [] tt)));
       }

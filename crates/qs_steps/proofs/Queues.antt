@@ -1,16 +1,15 @@
 -- The texts of queues as the code writes them: one part after another, one number more of a range, and one parcel more
 -- of a lane; and what the code answers of a client is what the definitions say of it.
 use Rattle.std.proofs.Common.{◌≡◌, ◌<◌, ◌==◌, ℕ, suc, ◌+◌, Bool, true, false, List, [], ◌∷◌, ◌++◌, cond, length, get_or, take, Option, Some, None, refl, ap, sym, ◌∙◌, add-one, append-nil, append_assoc, zero-add, arith, codes, flat_map}
-use Rattle.std.specs.Prelude.{MatchOption, nat_lt}
+use Rattle.std.specs.Prelude.{MatchOption}
 use Rattle.std.specs.List.{range_with_len}
 use Rattle.std.proofs.lemmas.Grind.{flat_map-append}
 use Rattle.std.proofs.lemmas.List.{flat_map_more, take_more}
 use Rattle.qs_objects.specs.declared.held.Ticket.{Ticket}
-use Rattle.qs_program.specs.audit.Program.{ProgramShape, blocks_of}
+use Rattle.qs_program.specs.audit.Program.{ProgramShape}
 use Rattle.qs_played.proofs.Lists.{range_more}
-use Rattle.qs_plain_laws.specs.audit.Plain.{Client, StageOfClient, out, within, waiting, begun_blocks}
+use Rattle.qs_plain_laws.specs.audit.Plain.{Client, StageOfClient}
 use Rattle.qs_plain.specs.Awaiting.{awaited_by}
-use Rattle.qs_plain.specs.declared.awaited.Awaited.TheVariants.{Nothing, Done}
 use Rattle.qs_steps.specs.PlainQueues.{spaced, wait_text}
 use Rattle.qs_steps.specs.Telling.{awaited_text}
 
@@ -57,13 +56,7 @@ elements_more f xs before between after i d inside first second =
 
 -- what a client waits for, by the code's answer
 pub wait_is : (p : ProgramShape) (c : ℕ) (it : Client) (stage : StageOfClient) → awaited_text (awaited_by p c it stage) ≡ wait_text p c it stage
-wait_is p c it (out l) = by_test (nat_lt (begun_blocks it) (blocks_of p c))
-  where
-    by_test : (b : Bool) → awaited_text (cond b Nothing Done) ≡ cond b (codes "waits for nothing") (codes "is done")
-    by_test true = refl
-    by_test false = refl
-wait_is p c it (within rest) = refl
-wait_is p c it (waiting next) = refl
+wait_is p c it stage = grind arith
 
 -- an optional ticket as a list
 pub one_of : (o : Option Ticket) (xs ys : List Ticket) → MatchOption o (xs ≡ []) (λ t. xs ≡ t ∷ []) → MatchOption o (ys ≡ []) (λ t. ys ≡ t ∷ []) → ys ≡ xs

@@ -4,7 +4,8 @@
 use Rattle.std.proofs.Common.{◌≡◌, ℕ, zero, suc, ◌+◌, ◌*◌, Bool, false, true, List, [], ◌∷◌, ◌++◌, map, length, Option, Some, None, refl, ap, sym, subst, ◌∙◌, append_assoc, append-nil, arith}
 use Rattle.std.specs.Prelude.{Result, Ok, Err, OnOk}
 use Rattle.std.specs.List.{range_with_len}
-use Rattle.std.proofs.lemmas.List.{length-append, length-map}
+use Rattle.std.proofs.lemmas.List.{length-append}
+use Rattle.std.proofs.lemmas.List.FromFn.{length-map-range_with_len}
 use Rattle.qs_program.specs.audit.Program.{ProgramShape}
 use Rattle.qs_played.specs.audit.Schedule.{actors_of, or_stay, plays_by, rounds_of}
 use Rattle.qs_played.specs.declared.schedule.actor.Actor.{Actor}
@@ -13,15 +14,8 @@ use Rattle.qs_played.proofs.Playing.{plays_by-append, row_more}
 use Rattle.qs_steps.specs.Told.{line_of, lines_by, stepper, steppers_by}
 use Rattle.qs_steps.specs.Telling.{AreTold, IsAsked, IsScheduleTold, LeadTo, NoneStep, View, asked_line}
 
-pub length-range : (a n : ℕ) → length (range_with_len a n) ≡ n
-length-range a zero = refl
-length-range a (suc n) = ap suc (length-range (a + 1) n)
-
-pub length-row : (f : ℕ → Actor) (n : ℕ) → length (map f (range_with_len 0 n)) ≡ n
-length-row f n = length-map (range_with_len 0 n) f ∙ length-range 0 n
-
 pub length-turn : (p : ProgramShape) → length (actors_of p) ≡ length p.clients + length p.objects
-length-turn p = omega (arith, length-append (map actor.Client (range_with_len 0 (length p.clients))) (map actor.Handler (range_with_len 0 (length p.objects))), length-row actor.Client (length p.clients), length-row actor.Handler (length p.objects))
+length-turn p = omega (arith, length-append (map actor.Client (range_with_len 0 (length p.clients))) (map actor.Handler (range_with_len 0 (length p.objects))), length-map-range_with_len actor.Client 0 (length p.clients), length-map-range_with_len actor.Handler 0 (length p.objects))
 
 pub length-rounds : (turn : List Actor) (n : ℕ) → length (rounds_of n turn) ≡ n * length turn
 length-rounds turn zero = grind arith

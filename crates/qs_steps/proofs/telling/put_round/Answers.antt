@@ -3,7 +3,8 @@ use Rattle.std.specs.List.{range_with_len}
 use Rattle.std.proofs.lemmas.Bool.{or_parts}
 use Rattle.std.proofs.lemmas.List.{length-append}
 use Rattle.qs_played.specs.declared.schedule.actor.Actor.TheVariants as actor
-use Rattle.qs_steps.proofs.TellingRuns.{length-row, row_still, row_told}
+use Rattle.std.proofs.lemmas.List.FromFn.{length-map-range_with_len}
+use Rattle.qs_steps.proofs.TellingRuns.{row_still, row_told}
 use Rattle.qs_steps.proofs.telling.put_round.Goals as goal
 
 pub loop-client-preserved : goal.loop-client-preserved
@@ -12,7 +13,7 @@ loop-client-preserved g c =
     let p = c.args.program.now in
     let i = c.loop-client.client in
     let it = c.in_ok-stepped in
-    let number : (c.args.asked + 1) + c.from.result ≡ (c.args.asked + 1) + length (map actor.Client (range_with_len 0 i)) = omega (arith, c.from.ensures, length-row actor.Client i) in
+    let number : (c.args.asked + 1) + c.from.result ≡ (c.args.asked + 1) + length (map actor.Client (range_with_len 0 i)) = omega (arith, c.from.ensures, length-map-range_with_len actor.Client 0 i) in
     record {
       told = row_told v p false (c.args.asked + 1) _ [] actor.Client i _ _ _ _ _ _ _ c.loop-client.invariant.told it.ensures.asked it.ensures.line number;
       still = λ none.
@@ -28,7 +29,7 @@ loop-handler-preserved g c =
     let it = c.in_ok-stepped-2 in
     let clients = map actor.Client (range_with_len 0 (length p.clients)) in
     let number : ((c.args.asked + 1) + c.clients-clients.result) + c.from-in-loop-handler.result ≡ (c.args.asked + 1) + length (clients ++ map actor.Handler (range_with_len 0 h)) =
-    omega (arith, c.clients-clients.ensures.value, c.from-in-loop-handler.ensures, length-append clients (map actor.Handler (range_with_len 0 h)), length-row actor.Client (length p.clients), length-row actor.Handler h) in
+    omega (arith, c.clients-clients.ensures.value, c.from-in-loop-handler.ensures, length-append clients (map actor.Handler (range_with_len 0 h)), length-map-range_with_len actor.Client 0 (length p.clients), length-map-range_with_len actor.Handler 0 h) in
     record {
       told = row_told v p false (c.args.asked + 1) _ clients actor.Handler h _ _ _ _ _ _ _ c.loop-handler.invariant.told it.ensures.asked it.ensures.line number;
       still = λ none.
