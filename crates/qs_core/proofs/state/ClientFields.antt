@@ -15,13 +15,6 @@ use Rattle.qs_core.specs.parts.LaneStates.{LaneState, lane_at, with_down}
 use Rattle.qs_core.specs.parts.LaneStates as lanes
 use Rattle.qs_core.proofs.state.CoreFields.{by_ticket, each, field_put, in_lanes, lanes_put, lanes_kept, tickets_kept, tickets_put}
 
--- what a client has of each block
-abbrev pub entries_in : ClientPart → ℕ → Locals
-entries_in s k = get_or s.mind.entries k []
-
-abbrev pub traces_in : ClientPart → ℕ → List Event
-traces_in s k = get_or s.mind.traces k []
-
 abbrev pub counts_in : ClientPart → ℕ → List SyncCount
 counts_in s k = get_or s.mind.counts k []
 
@@ -96,9 +89,6 @@ module _ (order : List Ticket) (sides : ℕ → ClientPart) (handler : ℕ → H
           more : List SyncCount
           more = with_sync h (get_or own.counts now.index [])
 
-          counted_there : counts_in (side_after parcels.Sync) ≡ put (counts_in (sides c)) now.index more
-          counted_there = search (rules, set, put_set_at)
-
           tallies_are : (q : Parcel) → by_ticket counts_in (put sides c (side_after q)) ≡ (lies code own.size before c h q).sync_counts
           tallies_are v = search (rules, tickets_kept, tickets_put)
 
@@ -125,10 +115,6 @@ module _ (order : List Ticket) (sides : ℕ → ClientPart) (handler : ℕ → H
     abbrev pub result_of : Option (ClientModel × LaneState) → Option Core
     result_of None = None
     result_of (Some q) = Some (after q.0 q.1)
-
-    abbrev handler_or_none : Option ℕ → ℕ
-    handler_or_none None = 0
-    handler_or_none (Some n) = n
 
     module _ (parted : SendsAreParted) where
       abbrev IsStepOf : Act → Type 0

@@ -237,9 +237,6 @@ module _ (s : CoreState) (kept : IsCoreState s) (h : ℕ) (inside : h < length s
         tickets_then : tickets_at s.handlers ≡ tickets_at (set s.handlers h new)
         tickets_then = sym (tickets_keep s.handlers h new inside (ap (λ (x : CoreHandlerState). x.tickets) moves.2 ∙ sym queue))
 
-    guest_side : IsSide s.program s.size c (client_part guest)
-    guest_side = subst (IsSide s.program s.size c) found (kept.sides c there)
-
     visited_side : IsSide s.program s.size c (client_part client_after_visit)
     visited_side = search (rules, length-set, same_mind)
 

@@ -75,10 +75,6 @@ module _ (code : ℕ → ClientCode) (size : ℕ) (order : List Ticket) (sides :
     spared : (b : Batch Request) (room : Bool) → nat_lt (length lane.spare) 4 ≡ room → step_result (acts.Spare c b) ≡ result_of (lane_step_of_handler (handler h) (acts.Spare c b) lane)
     spared b v e = search (rules, comes, lane, lanes_kept, lanes_put, one_more)
 
-    abbrev client_or_none : Option ℕ → ℕ
-    client_or_none None = 0
-    client_or_none (Some n) = n
-
     at_act : (act : Act) → turns_to act ≡ Some c → step_result act ≡ result_of (lane_step_of_handler (handler h) act lane)
     at_act v e = search (rules, lane, takes, given, spared)
 
