@@ -1,6 +1,6 @@
 -- The signs of a text are the one at its front and those of the bytes after it. The loop that lists the signs stands on
 -- it. The bytes of a sign are passed over by induction on their number.
-use Rattle.std.proofs.Common.{◌≡◌, ℕ, zero, suc, ◌+◌, ◌-◌, ◌<◌, ◌≤◌, Bool, true, false, if◌then◌else◌, ◌||◌, nat_eq, nat_lt, List, [], ◌∷◌, ◌++◌, length, take, drop, get_or, min, refl, ap, sym, ◌∙◌, append_assoc, arith, Option, Some, None, Result, Ok, Err, length-drop, lt-ltb, subst}
+use Rattle.std.proofs.Common.{◌≡◌, ℕ, zero, suc, ◌+◌, ◌-◌, ◌<◌, ◌≤◌, Bool, true, false, if◌then◌else◌, ◌||◌, nat_eq, nat_lt, List, [], ◌∷◌, ◌++◌, length, take, drop, get_or, min, refl, ap, sym, ◌∙◌, append_assoc, arith, Option, Result, Ok, Err, length-drop, lt-ltb, subst}
 use Rattle.std.proofs.lemmas.List.{drop_more, drop-drop, take-take}
 use Rattle.std.proofs.Math.Dec.{ltb}
 use Rattle.qs_conditions.specs.SignResults.{IsFaultOf}
@@ -52,17 +52,8 @@ counted_if : (b : Bool) (most : ℕ) (x y : Result (Sign × ℕ) ConditionFault)
 counted_if true most x y h k = h refl
 counted_if false most x y h k = k refl
 
-pair_counted : (b : Bool) (place most : ℕ) (sign : Sign) (single : Option Sign) → IsCounted (suc (suc most)) (byte_sign place (if b then Some sign else None) single)
-pair_counted true place most sign single = (omega arith, omega arith)
-pair_counted false place most sign (Some x) = (omega arith, omega arith)
-pair_counted false place most sign None = tt
-
 byte_counted : (place : ℕ) (found : Option (ℕ × Sign)) (bs : List ℕ) (single : Option Sign) → IsCounted (suc (length bs)) (byte_sign place (pair_of found bs) single)
-byte_counted place None bs (Some x) = (omega arith, omega arith)
-byte_counted place None bs None = tt
-byte_counted place (Some p) [] (Some x) = (omega arith, omega arith)
-byte_counted place (Some p) [] None = tt
-byte_counted place (Some p) (b ∷ bs) single = pair_counted (nat_eq b p.0) place (length bs) p.1 single
+byte_counted place found bs single = grind arith
 
 sign_counted : (place : ℕ) (text : List ℕ) → IsCounted (length text) (sign_at place text)
 sign_counted place [] = tt
@@ -76,8 +67,7 @@ sign_counted place (b ∷ bs) =
     (λ _. byte_counted place (at b pairs) bs (at b singles)))
 
 counted_ok : (most : ℕ) (r : Result (Sign × ℕ) ConditionFault) (x : Sign × ℕ) → IsCounted most r → r ≡ Ok x → (0 < x.1) × (x.1 ≤ most)
-counted_ok most (Ok y) x h e = let same : y ≡ x = cc in (omega (arith, ap (λ z. z.1) same, h.0), omega (arith, ap (λ z. z.1) same, h.1))
-counted_ok most (Err e) x h p = cc
+counted_ok most r x h e = grind arith
 
 pub sign_within : (place : ℕ) (text : List ℕ) (x : Sign × ℕ) → sign_at place text ≡ Ok x → (0 < x.1) × (x.1 ≤ length text)
 sign_within place text x e = counted_ok (length text) (sign_at place text) x (sign_counted place text) e
@@ -151,9 +141,7 @@ of_signs_if true x y h k = h
 of_signs_if false x y h k = k
 
 byte_of_signs : (place : ℕ) (pair single : Option Sign) → IsOfSigns (byte_sign place pair single)
-byte_of_signs place (Some x) single = tt
-byte_of_signs place None (Some x) = tt
-byte_of_signs place None None = tt
+byte_of_signs place pair single = grind arith
 
 sign_of_signs : (place : ℕ) (text : List ℕ) → IsOfSigns (sign_at place text)
 sign_of_signs place [] = tt
@@ -165,12 +153,10 @@ sign_of_signs place (b ∷ bs) =
     (byte_of_signs place (pair_of (at b pairs) bs) (at b singles)))
 
 before_of_signs : (x : Placed) (r : Result (List Placed) ConditionFault) → IsOfSigns r → IsOfSigns (before x r)
-before_of_signs x (Ok xs) h = tt
-before_of_signs x (Err fault) h = h
+before_of_signs x r h = grind arith
 
 with_of_signs : (place : ℕ) (r : Result (Sign × ℕ) ConditionFault) (next : ℕ → Result (List Placed) ConditionFault) → IsOfSigns r → ((more : ℕ) → IsOfSigns (next more)) → IsOfSigns (with_sign place r next)
-with_of_signs place (Ok x) next h k = before_of_signs (placed place x.0) (next (x.1 - 1)) (k (x.1 - 1))
-with_of_signs place (Err fault) next h k = h
+with_of_signs place r next h k = grind arith
 
 from_of_signs : (bs : List ℕ) (place skip : ℕ) → IsOfSigns (signs_from place skip bs)
 from_of_signs [] place skip = tt

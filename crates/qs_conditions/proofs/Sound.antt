@@ -13,13 +13,11 @@ use Rattle.qs_conditions.specs.Grammar.{Begins, first_place, IsNumber, AreMore, 
 use Rattle.qs_conditions.specs.Reading.{Read, ◌>>=◌, found, due, with_found, go_on, chain_at, chain, open_by, close_by, minus_by, and_by, or_by, dot_by, comma_by, closed_by, name_by, natural_by, relation_by, link_by, dot_at, comma_at, closed_at, name_at, natural_at, relation_at, number_by, number_at, closed_or, more_at, args_at, variable_or, named_at, value_by, value_at, summand_of, summand_at, minus_or, first_at, sum_further, sum_at, comparison_at, and_further, both_of, or_further, either_of, inner_by, or_comparison, part_in, either_in, at_end, tree_of}
 
 bind_some : {A B : Type 0} (r : Result A ℕ) (f : A → Result B ℕ) (y : B) → (r >>= f) ≡ Ok y → (x : A) × (r ≡ Ok x) × f x ≡ Ok y
-bind_some (Err left) f y p = cc
-bind_some (Ok x) f y p = (x, refl, p)
+bind_some r f y p = grind arith
 
 -- the last step of what is read
 bind_last : {A B : Type 0} (r : Result A ℕ) (f : A → B) (y : B) → (r >>= λ x. Ok (f x)) ≡ Ok y → (x : A) × (r ≡ Ok x) × f x ≡ y
-bind_last (Err left) f y p = cc
-bind_last (Ok x) f y p = (x, refl, cc)
+bind_last r f y p = grind arith
 
 abbrev got : {A : Type 0} → A → Result A ℕ
 got x = Ok x
@@ -31,8 +29,7 @@ some_inj : {A : Type 0} (x y : A) → Some x ≡ Some y → x ≡ y
 some_inj x y p = cc
 
 due_some : {A : Type 0} (ts : List Placed) (o : Option (Result A ℕ)) (x : A) → due ts o ≡ Ok x → o ≡ Some (Ok x)
-due_some ts None x p = cc
-due_some ts (Some r) x p = ap Some p
+due_some ts o x p = grind arith
 
 -- what is found is found at a first sign
 found_some : {A : Type 0} (by : Sign → List Placed → Option A) (ts : List Placed) (y : A) → found by ts ≡ Some y → (x : Placed) × (us : List Placed) × (ts ≡ x ∷ us) × by x.sign us ≡ Some y
@@ -159,8 +156,7 @@ module _ {M : Type 0} (further : M → List Placed → Option (Read M)) (Good : 
 
 -- sums
 with_some : {A B : Type 0} (o : Option A) (f : A → B) (y : B) → with_found o f ≡ Some y → (x : A) × (o ≡ Some x) × f x ≡ y
-with_some None f y p = cc
-with_some (Some x) f y p = (x, refl, some_inj _ y p)
+with_some o f y p = grind arith
 
 further_one_more : (xs : List Summand) (x : Summand) (ts us ws rest : List Placed) → AreFurther xs ts us → Begins (plus_or_minus x.negative) us ws → IsSummand x ws rest → AreFurther (xs ++ x ∷ []) ts rest
 further_one_more [] x ts us ws rest h b k = (ws, rest, subst (λ zs. Begins (plus_or_minus x.negative) zs ws) (sym h) b, k, refl)
@@ -245,8 +241,7 @@ part_sound zero ts x p = comparison_sound ts x p
 part_sound (suc n) ts x p = inner_sound (IsPart n) (part_in n) (part_sound n) ts (found (inner_by (part_in n)) ts) x refl p
 
 end_sound : (c d : Tree) (ts : List Placed) → at_end c ts ≡ Ok d → (c ≡ d) × (ts ≡ [])
-end_sound c d [] p = (ok_inj c d p, refl)
-end_sound c d (x ∷ ts) p = cc
+end_sound c d ts p = grind arith
 
 -- what is read is a condition
 pub condition_sound : (c : Tree) (ts : List Placed) → tree_of ts ≡ Ok c → IsCondition c ts
