@@ -89,4 +89,5 @@ IsFaultTold draws text fault old new = IsToldBy text fault (plain_words draws fa
 -- nothing was written, or a front of the lines of what a script of so many bytes, with these templates and this program,
 -- uses and leaves of each limit
 abbrev pub AreLimitsTold : ℕ → TemplateUse → ProgramShape → Option (List ℕ) → Option (List ℕ) → Type 0
-AreLimitsTold bytes templates p old new = Keeps old new ⊎ AppendsFront old new (limits_text bytes templates p)
+AreLimitsTold bytes templates p old new =
+    Keeps old new ⊎ ((said : List ℕ) × (said ≡ limits_text bytes templates p) × AppendsFront old new said)
