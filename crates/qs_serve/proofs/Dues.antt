@@ -222,10 +222,10 @@ due_by_outcomes how p limit threads front clients (Refused (fault.Play f)) named
 due_by_outcomes how p limit threads front clients (Refused (fault.Order f)) named is = absurd is
 due_by_outcomes how p limit threads front clients (Refused (fault.Run f)) named is = absurd is
 
--- where no place was found there is none
-pub none_found : (found due : Option ℕ) → found ≡ due → is_some found ≡ false → due ≡ None
-none_found None due e h = sym e
-none_found (Some i) due e h = absurd (cc h)
+-- where a place was found there is one
+pub found_some : (found due : Option ℕ) → found ≡ due → true ≡ is_some found → due ≡ None → ⊥
+found_some None due e h none = absurd (cc h)
+found_some (Some i) due e h none = absurd (cc (e, none))
 
 -- a witness has its places, wherever it was found
 places_at_end : (p : ProgramShape) (k : Classes) (front : List Ticket) (asked : OrderOutcome → Bool) (w : Option StandingShape)

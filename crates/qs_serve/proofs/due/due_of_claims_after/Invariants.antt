@@ -4,4 +4,4 @@ use Rattle.qs_serve.specs.Due.{AreAnswersTo}
 use Rattle.qs_serve.proofs.due.due_of_claims_after.Given as goal
 
 abbrev pub invariant-loop-claim : goal.invariant-loop-claim
-invariant-loop-claim l = AreAnswersTo l.format l.program l.limit l.clients (take l.claim-index l.claims) l.hold l.text.items
+invariant-loop-claim g l = AreAnswersTo l.format l.program l.limit l.clients (take l.claim-index l.claims) l.hold l.text.items
