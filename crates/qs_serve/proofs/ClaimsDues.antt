@@ -30,8 +30,8 @@ pub answers_more : (how : Format) (p : ProgramShape) (limit : ℕ) (clients : Li
     (hold holds : Bool) (text own : List ℕ) → AreAnswersTo how p limit clients claims hold text
     → IsAnswerTextTo how p claim limit clients holds own
     → AreAnswersTo how p limit clients (claims ++ claim ∷ []) (hold && holds) (text ++ own)
-answers_more how p limit clients [] claim hold holds text own (yes, none) is =
-    (own, [], holds, true, is, (refl, refl), ap (λ b. b && holds) yes ∙ and_true holds, ap (λ t. t ++ own) none ∙ sym (append-nil own))
+answers_more how p limit clients [] claim hold holds text own (true_by, none) is =
+    (own, [], holds, true, is, (refl, refl), ap (λ b. b && holds) true_by ∙ and_true holds, ap (λ t. t ++ own) none ∙ sym (append-nil own))
 answers_more how p limit clients (c ∷ cs) claim hold holds text own (first, rest, one, others, answer, are, both, e) is = (
   first,
   rest ++ own,
