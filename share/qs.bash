@@ -28,7 +28,7 @@ _qs() {
         run) settings="--mode --chunk --counts --refusals --times --format --warn --help" ;;
         syncs) settings="--order --format --warn --help" ;;
         outcomes) settings="--limit --after --ends --alike --threads --format --warn --help" ;;
-        ask) settings="--always --some --throughout --ever --never --limit --after --format --warn --help" ;;
+        ask) settings="--always --some --throughout --ever --never --values --limit --after --format --warn --help" ;;
         fronts) settings="--limit --after --leads --format --warn --help" ;;
         estimate) settings="--after --format --warn --help" ;;
     esac

@@ -296,7 +296,7 @@ export function configurationsIn(dot: string): ConfigurationGraph {
   const graph: ConfigurationGraph = { configurations: [], moves: [] };
   for (const line of linesOf(dot)) {
     const node = /^ {2}n(\d+) \[label="([^"]*)"/.exec(line);
-    const edge = /^ {2}n(\d+) -> n(\d+) \[label=<.*<td>(\w+)<\/td>/.exec(line);
+    const edge = /^ {2}n(\d+) -> n(\d+) \[label=<.*<td>(\w+) \d+<\/td>/.exec(line);
     if (edge !== null) graph.moves.push({ from: Number(edge[1]), to: Number(edge[2]), client: edge[3]! });
     else if (node !== null) {
       const [what, ...lines] = node[2]!.split("\\n");

@@ -44,6 +44,7 @@ pub(crate) fn holds_always(alloc: Global, program: &Program, text: &str) -> Opti
         return None;
     }
     let claim = Claim {
+        line: 0,
         quantifier: Quantifier::Always,
         condition,
     };

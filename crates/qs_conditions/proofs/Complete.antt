@@ -9,8 +9,8 @@ use Rattle.qs_conditions.specs.declared.condition.Value.{Value}
 use Rattle.qs_conditions.specs.declared.condition.Value.TheVariants as v
 use Rattle.qs_conditions.specs.declared.condition.Summand.{Summand}
 use Rattle.qs_conditions.specs.Conditions.{Tree, compare, negation, both, either}
-use Rattle.qs_conditions.specs.Grammar.{Begins, IsNumber, AreMore, AreNumbers, IsValue, IsSummand, plus_or_minus, AreFurther, IsFirst, IsSum, Phrase, IsComparison, IsBothOf, IsEitherOf, IsPart, IsCondition}
-use Rattle.qs_conditions.specs.Reading.{Read, found, open_by, close_by, minus_by, and_by, or_by, dot_by, comma_by, closed_by, name_by, natural_by, relation_by, link_by, number_by, number_at, more_at, args_at, value_by, value_at, summand_of, summand_at, first_at, sum_further, sum_at, comparison_at, and_further, both_of, or_further, either_of, inner_by, part_in, tree_of}
+use Rattle.qs_conditions.specs.Grammar.{Begins, IsNumber, AreMore, AreNumbers, IsValue, IsSummand, plus_or_minus, AreFurther, IsFirst, IsSum, Phrase, IsComparison, IsBothOf, IsEitherOf, IsPart, IsCondition, IsWholeSum}
+use Rattle.qs_conditions.specs.Reading.{Read, found, open_by, close_by, minus_by, and_by, or_by, dot_by, comma_by, closed_by, name_by, natural_by, relation_by, link_by, number_by, number_at, more_at, args_at, value_by, value_at, summand_of, summand_at, first_at, sum_further, sum_at, comparison_at, and_further, both_of, or_further, either_of, inner_by, part_in, tree_of, whole_sum}
 use Rattle.qs_conditions.proofs.Chains.{Runs, chain_is, runs_end, runs_on}
 use Rattle.qs_conditions.proofs.Counts.{begins_shorter, summand_shorter, both_shorter, part_shorter}
 
@@ -159,3 +159,11 @@ one_tree c d ts g h = cc (condition_complete c ts g, condition_complete d ts h)
 -- where no reading goes on there is no condition
 pub no_condition : (ts : List Placed) (left : ℕ) → tree_of ts ≡ Err left → (c : Tree) → IsCondition c ts → ⊥
 no_condition ts left e c h = cc (condition_complete c ts h)
+
+-- a sum alone is read
+pub whole_sum_complete : (xs : List Summand) (ts : List Placed) → IsWholeSum xs ts → whole_sum ts ≡ Ok xs
+whole_sum_complete xs ts h = rw (sum_complete xs ts [] h (refl, refl)) refl
+
+-- where no reading goes on there is no sum
+pub no_sum : (ts : List Placed) (left : ℕ) → whole_sum ts ≡ Err left → (xs : List Summand) → IsWholeSum xs ts → ⊥
+no_sum ts left e xs h = cc (whole_sum_complete xs ts h)

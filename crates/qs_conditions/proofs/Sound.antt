@@ -9,8 +9,8 @@ use Rattle.qs_conditions.specs.declared.condition.Value.{Value}
 use Rattle.qs_conditions.specs.declared.condition.Value.TheVariants as v
 use Rattle.qs_conditions.specs.declared.condition.Summand.{Summand}
 use Rattle.qs_conditions.specs.Conditions.{Tree, compare, negation, both, either}
-use Rattle.qs_conditions.specs.Grammar.{Begins, first_place, IsNumber, AreMore, AreNumbers, IsValue, IsSummand, plus_or_minus, AreFurther, IsFirst, IsSum, Phrase, IsComparison, IsBothOf, IsEitherOf, IsNegation, IsNested, IsPart, IsCondition}
-use Rattle.qs_conditions.specs.Reading.{Read, ◌>>=◌, found, due, with_found, go_on, chain_at, chain, open_by, close_by, minus_by, and_by, or_by, dot_by, comma_by, closed_by, name_by, natural_by, relation_by, link_by, dot_at, comma_at, closed_at, name_at, natural_at, relation_at, number_by, number_at, closed_or, more_at, args_at, variable_or, named_at, value_by, value_at, summand_of, summand_at, minus_or, first_at, sum_further, sum_at, comparison_at, and_further, both_of, or_further, either_of, inner_by, or_comparison, part_in, either_in, at_end, tree_of}
+use Rattle.qs_conditions.specs.Grammar.{Begins, first_place, IsNumber, AreMore, AreNumbers, IsValue, IsSummand, plus_or_minus, AreFurther, IsFirst, IsSum, Phrase, IsComparison, IsBothOf, IsEitherOf, IsNegation, IsNested, IsPart, IsCondition, IsWholeSum}
+use Rattle.qs_conditions.specs.Reading.{Read, ◌>>=◌, found, due, with_found, go_on, chain_at, chain, open_by, close_by, minus_by, and_by, or_by, dot_by, comma_by, closed_by, name_by, natural_by, relation_by, link_by, dot_at, comma_at, closed_at, name_at, natural_at, relation_at, number_by, number_at, closed_or, more_at, args_at, variable_or, named_at, value_by, value_at, summand_of, summand_at, minus_or, first_at, sum_further, sum_at, comparison_at, and_further, both_of, or_further, either_of, inner_by, or_comparison, part_in, either_in, at_end, tree_of, whole_sum}
 
 bind_some : {A B : Type 0} (r : Result A ℕ) (f : A → Result B ℕ) (y : B) → (r >>= f) ≡ Ok y → (x : A) × (r ≡ Ok x) × f x ≡ Ok y
 bind_some r f y p = grind arith
@@ -240,8 +240,9 @@ part_sound : (nested : ℕ) (ts : List Placed) (x : Tree × List Placed) → par
 part_sound zero ts x p = comparison_sound ts x p
 part_sound (suc n) ts x p = inner_sound (IsPart n) (part_in n) (part_sound n) ts (found (inner_by (part_in n)) ts) x refl p
 
-end_sound : (c d : Tree) (ts : List Placed) → at_end c ts ≡ Ok d → (c ≡ d) × (ts ≡ [])
-end_sound c d ts p = grind arith
+end_sound : {A : Type 0} (c d : A) (ts : List Placed) → at_end c ts ≡ Ok d → (c ≡ d) × (ts ≡ [])
+end_sound c d [] p = (ok_inj c d p, refl)
+end_sound c d (t ∷ ts) p = cc
 
 -- what is read is a condition
 pub condition_sound : (c : Tree) (ts : List Placed) → tree_of ts ≡ Ok c → IsCondition c ts
@@ -249,3 +250,10 @@ condition_sound c ts p =
     let (x, h, q) = bind_some (either_in 16 ts) (λ c. at_end c.0 c.1) c p in
     let e = end_sound x.0 c x.1 q in
     subst (λ d. IsEitherOf (IsPart 16) d ts []) e.0 (subst (λ us. IsEitherOf (IsPart 16) x.0 ts us) e.1 (either_sound (IsPart 16) (part_in 16) (part_sound 16) ts x h))
+
+-- and a sum that is read alone is a sum
+pub whole_sum_sound : (xs : List Summand) (ts : List Placed) → whole_sum ts ≡ Ok xs → IsWholeSum xs ts
+whole_sum_sound xs ts p =
+    let (x, h, q) = bind_some (sum_at ts) (λ y. at_end y.0 y.1) xs p in
+    let e = end_sound x.0 xs x.1 q in
+    subst (λ ys. IsSum ys ts []) e.0 (subst (λ us. IsSum x.0 ts us) e.1 (sum_sound ts x h))

@@ -116,3 +116,7 @@ IsEither nested = IsEitherOf (IsPart nested)
 -- the condition is all that the signs say
 abbrev pub IsCondition : Tree → List Placed → Type 0
 IsCondition c ts = IsEither most_nested c ts []
+
+-- the sum is all that the signs say
+abbrev pub IsWholeSum : List Summand → List Placed → Type 0
+IsWholeSum xs ts = IsSum xs ts []

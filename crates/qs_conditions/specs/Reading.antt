@@ -226,10 +226,14 @@ abbrev pub either_in : ℕ → List Placed → Read Tree
 either_in nested = either_of (part_in nested)
 
 -- nothing may follow
-abbrev pub at_end : Tree → List Placed → Result Tree ℕ
-at_end c [] = Ok c
-at_end c (x ∷ ts) = Err (length (x ∷ ts))
+abbrev pub at_end : {A : Type 0} → A → List Placed → Result A ℕ
+at_end a [] = Ok a
+at_end a (x ∷ ts) = Err (length (x ∷ ts))
 
 -- the tree of all the signs, or how many are left where no reading goes on
 abbrev pub tree_of : List Placed → Result Tree ℕ
 tree_of ts = either_in most_nested ts >>= λ c. at_end c.0 c.1
+
+-- the sum of all the signs, likewise
+abbrev pub whole_sum : List Placed → Result (List Summand) ℕ
+whole_sum ts = sum_at ts >>= λ x. at_end x.0 x.1

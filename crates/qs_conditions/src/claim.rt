@@ -38,6 +38,8 @@ impl Quantifier {
 /// A condition, and of what it is to hold.
 #[derive(Drop)]
 pub struct Claim {
+    /// The line of the script on which the claim stands, from 1; 0 where it stands on the command line.
+    pub line: usize,
     pub quantifier: Quantifier,
     pub condition: Condition,
 }

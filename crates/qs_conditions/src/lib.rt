@@ -23,5 +23,5 @@ pub use limits::MOST_NESTED;
 pub use qs_objects::Args;
 pub use qs_script::tokens::Name;
 pub use qs_script::tree::Relation;
-pub use reader::read_condition;
+pub use reader::{read_condition, read_sum};
 pub use signs::{Placed, Sign};

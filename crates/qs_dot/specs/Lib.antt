@@ -3,6 +3,7 @@ pub mod Written
 pub mod DotText
 pub mod Charts
 pub mod EndText
+pub mod ShortText
 pub mod ChartDot
 -- What crates promise one another, what proofs use, and worked examples.
 pub mod ChartLaws

@@ -38,7 +38,7 @@ pub(crate) fn put_objects(
 }
 
 // A client with its variables, on a line of its own.
-fn put_client(
+pub(crate) fn put_client(
     out: &mut Vec<u8>,
     program: &Program,
     standing: &Standing,

@@ -12,6 +12,7 @@ mod end_text;
 pub mod laws;
 pub mod node_lines;
 mod nodes;
+mod short_text;
 mod written;
 
 pub use blocks::dot_text;

@@ -1,5 +1,5 @@
 -- The answer to a claim on a program: one object on a line.
-use Rattle.std.specs.Prelude.{◌≡◌, ◌≤◌, ℕ, Bool, List, ◌++◌, codes, decimal, Option, Some, None}
+use Rattle.std.specs.Prelude.{◌≡◌, ◌≤◌, ℕ, Bool, List, ◌++◌, codes, decimal, if◌then◌else◌, nat_eq, Option, Some, None}
 use Rattle.qs_objects.specs.declared.held.Ticket.{Ticket}
 use Rattle.qs_program.specs.audit.Program.{ProgramShape}
 use Rattle.qs_serial.specs.audit.NamedOrders.{order_of}
@@ -14,9 +14,13 @@ use Rattle.qs_report.specs.AnswerText.{is_yes}
 use Rattle.qs_json.specs.audit.Pieces.{array, field, first_field, truth}
 use Rattle.qs_json.specs.OutcomesJson.{next_client_json, standing_fields}
 
--- the quantifier with true or false
-abbrev pub answer_field : Quantifier → Bool → List ℕ
-answer_field q holds = first_field (word q) (truth holds)
+-- the quantifier with true or false; before it the line of the file of claims on which the claim stands, unless it
+-- stands on the command line
+abbrev pub answer_fields : (line : ℕ) → Quantifier → Bool → List ℕ
+answer_fields line q holds =
+    if nat_eq line 0
+    then first_field (word q) (truth holds)
+    else first_field (codes "line") (decimal line) ++ field (word q) (truth holds)
 
 -- the order of a witness: a complete order, or one after whose blocks the program stands there
 abbrev pub order_field : Quantifier → List Ticket → List ℕ
@@ -37,15 +41,16 @@ witness_or_null p q (Some s) = witness_json p q s
 abbrev pub witness_field : ProgramShape → Quantifier → Option StandingShape → List ℕ
 witness_field p q witness = field (codes "witness") (witness_or_null p q witness)
 
--- the answer, the witness, and how many configurations were noted
-abbrev pub json_of_answer : ProgramShape → Quantifier → AnswerShape → List ℕ
-json_of_answer p q a =
-    answer_field q (is_yes q a) ++ witness_field p q a.witness
+-- where the claim stands, the answer, the witness, and how many configurations were noted
+abbrev pub json_of_answer : ProgramShape → (line : ℕ) → Quantifier → AnswerShape → List ℕ
+json_of_answer p line q a =
+    answer_fields line q (is_yes q a) ++ witness_field p q a.witness
     ++ field (codes "configurations") (decimal a.configurations) ++ codes "}\n"
 
 -- There is an answer to the claim on the program after the blocks of these clients, with no more configurations than
--- the limit; it is yes or no, and this is its text.
-unfoldable pub IsAnswerJson : ProgramShape → Claim → (limit : ℕ) → (front : List ℕ) → (holds : Bool) → List ℕ → Type 0
-IsAnswerJson p claim limit front holds text =
+-- the limit; it is yes or no, and this is its text, with that line.
+unfoldable pub IsAnswerJson : ProgramShape → (line : ℕ) → Claim → (limit : ℕ) → (front : List ℕ) → (holds : Bool) → List ℕ
+    → Type 0
+IsAnswerJson p line claim limit front holds text =
     (a : AnswerShape) × IsAnswerTo claim p (order_of front) a × (a.configurations ≤ limit)
-    × (holds ≡ is_yes claim.quantifier a) × (text ≡ json_of_answer p claim.quantifier a)
+    × (holds ≡ is_yes claim.quantifier a) × (text ≡ json_of_answer p line claim.quantifier a)

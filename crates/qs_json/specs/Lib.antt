@@ -8,6 +8,7 @@ pub mod EndsJson
 pub mod AlikeJson
 pub mod FrontsJson
 pub mod AnswerJson
+pub mod ValuesJson
 pub mod TallyJson
 pub mod EstimateJson
 pub mod SyncsJson

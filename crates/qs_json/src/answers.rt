@@ -2,13 +2,15 @@
 
 ghost use Rattle.std.specs.Prelude.{◌≡◌, ◌++◌, codes, IfOk, IfSome, OnOk};
 ghost use Rattle.std.specs.List.{join_by};
+ghost use Rattle.qs_conditions.specs.Claims.{word};
 ghost use Rattle.qs_outcomes.specs.Outcomes.{HasPlaces};
 ghost use Rattle.qs_text.specs.Texts.{Puts};
 ghost use Rattle.qs_json.specs.OutcomesJson.{next_client_json};
-ghost use Rattle.qs_json.specs.AnswerJson.{answer_field, json_of_answer, order_field, witness_field, witness_json};
+ghost use Rattle.qs_json.specs.audit.Pieces.{truth};
+ghost use Rattle.qs_json.specs.AnswerJson.{answer_fields, json_of_answer, order_field, witness_field, witness_json};
 
 use crate::outcomes::{put_joined, put_standing};
-use crate::pieces::put_truth;
+use crate::pieces::truth_word;
 use qs_conditions::Quantifier;
 use qs_objects::Ticket;
 use qs_outcomes::{Answer, Standing};
@@ -17,17 +19,35 @@ use qs_report::is_yes;
 use qs_text::{put_count, put_word};
 use std::alloc::{AllocError, Global};
 
-// The answer, as a first field.
-fn put_answer(out: &mut Vec<u8>, quantifier: Quantifier, holds: bool) -> Result<(), AllocError>
-    ensures ok { OnOk result (Puts (answer_field quantifier holds) out.old.items out.new.items) }
+// These bytes, the name of the answer, and the answer.
+fn put_answer_after(
+    out: &mut Vec<u8>,
+    before: &[u8],
+    quantifier: Quantifier,
+    holds: bool,
+) -> Result<(), AllocError>
+    ensures ok { OnOk result (Puts (before.now ++ (word quantifier ++ codes "\":" ++ truth holds)) out.old.items out.new.items) }
 {
-    match quantifier {
-        Quantifier::Always => put_truth(out, b"{\"always\":", holds),
-        Quantifier::Some => put_truth(out, b"{\"some\":", holds),
-        Quantifier::Throughout => put_truth(out, b"{\"throughout\":", holds),
-        Quantifier::Ever => put_truth(out, b"{\"ever\":", holds),
-        Quantifier::Never => put_truth(out, b"{\"never\":", holds),
+    put_word(out, before)?;
+    put_word(out, quantifier.word())?;
+    put_word(out, b"\":")?;
+    put_word(out, truth_word(holds))
+}
+
+// The line of the file on which the claim stands, where it stands in one, and the answer.
+fn put_answer(
+    out: &mut Vec<u8>,
+    line: usize,
+    quantifier: Quantifier,
+    holds: bool,
+) -> Result<(), AllocError>
+    ensures ok { OnOk result (Puts (answer_fields line quantifier holds) out.old.items out.new.items) }
+{
+    if line == 0 {
+        return put_answer_after(out, b"{\"", quantifier, holds);
     }
+    put_count(out, b"{\"line\":", line as u64)?;
+    put_answer_after(out, b",\"", quantifier, holds)
 }
 
 // A word, the clients of an order, and the bracket that closes them.
@@ -83,20 +103,22 @@ fn put_witness_field(
     }
 }
 
-/// The answer to a claim as an object on a line: the answer; where there is a witness, the order that leads to it with
-/// the objects and the clients; and how many configurations were noted. An error says that an allocation failed, and
-/// nothing is left.
+/// The answer to a claim as an object on a line: the line of the file on which the claim stands, which is 0 where it
+/// stands on the command line and is not told then; the answer; where there is a witness, the order that leads to it
+/// with the objects and the clients; and how many configurations were noted. An error says that an allocation failed,
+/// and nothing is left.
 pub fn answer_json(
     alloc: Global,
     program: &Program,
+    line: usize,
     quantifier: Quantifier,
     answer: &Answer,
 ) -> Result<Vec<u8>, AllocError>
     requires places { IfSome answer.now.witness (HasPlaces program.now) }
-    ensures text { IfOk result (λ bytes. bytes.items ≡ json_of_answer program.now quantifier answer.now) }
+    ensures text { IfOk result (λ bytes. bytes.items ≡ json_of_answer program.now line quantifier answer.now) }
 {
     let mut out = Vec::new(alloc);
-    put_answer(&mut out, quantifier, is_yes(quantifier, answer))?;
+    put_answer(&mut out, line, quantifier, is_yes(quantifier, answer))?;
     put_witness_field(&mut out, program, quantifier, answer)?;
     put_count(
         &mut out,

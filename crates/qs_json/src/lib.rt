@@ -21,6 +21,7 @@ mod runs;
 mod states;
 mod syncs;
 mod tallies;
+mod values;
 
 pub use alike::alike_json;
 pub use answers::answer_json;
@@ -34,3 +35,4 @@ pub use outcomes::outcomes_json;
 pub use runs::run_json;
 pub use syncs::syncs_json;
 pub use tallies::tally_json;
+pub use values::values_json;

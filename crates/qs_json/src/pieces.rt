@@ -10,7 +10,8 @@ use qs_program::Program;
 use qs_text::{client_name, object_name, put, put_all, put_number};
 use std::alloc::AllocError;
 
-fn truth_word(is_true: bool) -> &'static [u8]
+// The word of a truth.
+pub(crate) fn truth_word(is_true: bool) -> &'static [u8]
     ensures word { result.now ≡ truth is_true }
 {
     if is_true { b"true" } else { b"false" }

@@ -1,8 +1,8 @@
 -- A line's claim is that of a text which was read as a condition, whichever words stand beside it: what a word asks for
 -- is found test by test, and each request with a claim comes of one place.
 use Rattle.std.proofs.Common.{arith, ◌≡◌, ◌∙◌, Bool, true, false, ℕ, List, [], ◌∷◌, codes, Option, Some, None, Result, Ok, Err, if◌then◌else◌, ◌&&◌, ◌⊎◌, not, inl, inr, refl, sym, ap, subst}
-use Rattle.std.specs.Prelude.{◌++◌, option_and_then, option_map, unwrap_or}
-use Rattle.std.specs.List.{AllByRecursion}
+use Rattle.std.specs.Prelude.{◌+◌, ◌==◌, ◌++◌, option_and_then, option_map, unwrap_or}
+use Rattle.std.specs.List.{AllByRecursion, slice_split}
 use Rattle.std.specs.Option.{option_map_or}
 use Rattle.std.specs.Str.{bytes_eq}
 use Rattle.std.proofs.lemmas.Bool.{false_from_ne_true}
@@ -11,19 +11,23 @@ use Rattle.clap.specs.Faults.{fault_of}
 use Rattle.clap.specs.Kinds.{Kinds}
 use Rattle.clap.specs.Words.{Row, Text, all_of, first_of, subcommand_of}
 use Rattle.clap.specs.declared.error.kind.ErrorKind.{ErrorKind}
-use Rattle.qs_conditions.specs.Claims.{word as word_of}
 use Rattle.qs_conditions.specs.Conditions.{Tree, steps_of}
 use Rattle.qs_conditions.specs.Reading.{tree_of}
-use Rattle.qs_conditions.specs.Reads.{condition_in, steps_by_signs, steps_by_tree}
+use Rattle.qs_conditions.specs.Reads.{condition_in, sum_in, steps_by_signs, steps_by_tree}
 use Rattle.qs_conditions.specs.Signs.{signs_of}
-use Rattle.qs_conditions.specs.declared.claim.Claim.{Claim}
+use Rattle.qs_conditions.specs.declared.condition.Summand.{Summand}
+use Rattle.qs_line.specs.declared.line.Asking.{Asking}
+use Rattle.qs_line.specs.declared.line.Asking.TheVariants as asking
+use Rattle.qs_line.specs.declared.question.Question.{Question}
+use Rattle.qs_line.specs.declared.question.Question.TheVariants as question
 use Rattle.qs_conditions.specs.declared.claim.Quantifier.{Quantifier}
 use Rattle.qs_conditions.specs.declared.claim.Quantifier.TheVariants as quantifier
 use Rattle.qs_conditions.specs.declared.condition.Step.{Step}
 use Rattle.qs_conditions.specs.declared.fault.ConditionFault.{ConditionFault}
 use Rattle.qs_conditions.specs.declared.signs.Placed.{Placed}
 use Rattle.qs_line.proofs.Answering.{other_line}
-use Rattle.qs_line.specs.Claims.{ClaimsHaveConditions, HaveConditions, IsOfCondition}
+use Rattle.qs_line.specs.Claims.{ClaimsHaveConditions, HaveConditions, IsOfCondition, ScriptClaimsHaveConditions}
+use Rattle.qs_line.specs.ScriptClaims.{claim_on, claim_parts, claim_said, claims_from, claims_in, claims_on, quantifier_in}
 use Rattle.qs_line.specs.audit.Apart.{flag_at, has_apart}
 use Rattle.qs_line.specs.audit.Parts.{each_in}
 use Rattle.qs_line.specs.audit.RunLines.{run_by, run_in, run_of_word, runs_at, style_of}
@@ -31,7 +35,7 @@ use Rattle.qs_line.specs.RunLines.{LinesOfRunsAreThese, RunsAreLines}
 use Rattle.qs_line.specs.declared.line.ReportStyle.{ReportStyle}
 use Rattle.qs_line.specs.audit.Command.{qs_app}
 use Rattle.qs_line.specs.audit.Line.{Request, alike, ask, asks, asks_language, check, chunk_at, estimate, fronts, graph, has_times, help, mode_at, outcomes, plan_at, play, play_at, rules, rules_at, run, single_run_at, style_at, styled_plan_at, syncs, tally}
-use Rattle.qs_line.specs.Line.{alike_at, ask_at, blocks_at, check_at, claim_in, claims_at, claims_by, estimate_at, format_at, front_at, fronts_at, graph_at, graph_format_at, leads_at, limit_at, line_by, line_in, line_met, line_of_kind, list_at, outcomes_at, outcomes_format_at, request_at, request_met, request_of_word, some_claims, syncs_at, tally_at, threads_beside, times_at}
+use Rattle.qs_line.specs.Line.{alike_at, ask_at, blocks_at, check_at, estimate_at, format_at, front_at, fronts_at, graph_at, graph_format_at, leads_at, limit_at, line_by, line_in, line_met, line_of_kind, list_at, outcomes_at, outcomes_format_at, question_in, questions_at, questions_by, request_at, request_met, request_of_word, setting_name, syncs_at, tally_at, threads_beside, times_at}
 
 by_tree : (t : Result Tree ℕ) (steps : List Step) → steps_by_tree t ≡ Some steps → (c : Tree) × (steps ≡ steps_of c)
 by_tree (Ok c) steps e = (c, (let h : steps_of c ≡ steps = cc e in sym h))
@@ -41,59 +45,99 @@ by_signs : (ts : Result (List Placed) ConditionFault) (steps : List Step) → st
 by_signs (Ok ts) steps e = by_tree (tree_of ts) steps e
 by_signs (Err f) steps e = absurd (cc e)
 
-of_steps : (q : Quantifier) (o : Option (List Step)) (claim : Claim) → ((steps : List Step) → o ≡ Some steps → (c : Tree) × (steps ≡ steps_of c))
-    → option_map (λ steps. record { quantifier = q; condition = steps }) o ≡ Some claim → IsOfCondition claim
-of_steps q None claim are e = absurd (cc e)
-of_steps q (Some steps) claim are e = let h : record { quantifier = q; condition = steps } ≡ claim = cc e in subst IsOfCondition h (are steps refl)
+of_steps : (line : ℕ) (q : Quantifier) (o : Option (List Step)) (claim : Question) → ((steps : List Step) → o ≡ Some steps → (c : Tree) × (steps ≡ steps_of c))
+    → option_map (λ steps. question.Claim (record { line = line; quantifier = q; condition = steps })) o ≡ Some claim → IsOfCondition claim
+of_steps line q None claim are e = absurd (cc e)
+of_steps line q (Some steps) claim are e = let h : question.Claim (record { line = line; quantifier = q; condition = steps }) ≡ claim = cc e in subst IsOfCondition h (are steps refl)
 
-in_text : (q : Quantifier) (text : Text) (claim : Claim) → claim_in q text ≡ Some claim → IsOfCondition claim
-in_text q text claim e = of_steps q (condition_in text) claim (by_signs (signs_of text)) e
+of_sum : (o : Option (List Summand)) (claim : Question) → option_map question.Values o ≡ Some claim → IsOfCondition claim
+of_sum None claim e = absurd (cc e)
+of_sum (Some sum) claim e = let h : question.Values sum ≡ claim = cc e in subst IsOfCondition h tt
+
+in_text : (how : Asking) (text : Text) (claim : Question) → question_in how text ≡ Some claim → IsOfCondition claim
+in_text (asking.Claims q) text claim e = of_steps 0 q (condition_in text) claim (by_signs (signs_of text)) e
+in_text asking.Values text claim e = of_sum (sum_in text) claim e
 
 -- the claims of texts, where each is a condition
-each_of : (one : Text → Option Claim) → ((text : Text) (claim : Claim) → one text ≡ Some claim → IsOfCondition claim)
-    → (texts : List Text) (claims : List Claim) → each_in one texts ≡ Some claims → AllByRecursion IsOfCondition claims
+each_of : (one : Text → Option Question) → ((text : Text) (claim : Question) → one text ≡ Some claim → IsOfCondition claim)
+    → (texts : List Text) (claims : List Question) → each_in one texts ≡ Some claims → AllByRecursion IsOfCondition claims
 each_of one are [] claims e = let h : [] ≡ claims = cc e in subst (AllByRecursion IsOfCondition) h tt
 each_of one are (text ∷ texts) claims e = by (one text) (each_in one texts) (are text) (each_of one are texts) e
   where
-    by : (o : Option Claim) (os : Option (List Claim)) → ((claim : Claim) → o ≡ Some claim → IsOfCondition claim)
-        → ((rest : List Claim) → os ≡ Some rest → AllByRecursion IsOfCondition rest)
+    by : (o : Option Question) (os : Option (List Question)) → ((claim : Question) → o ≡ Some claim → IsOfCondition claim)
+        → ((rest : List Question) → os ≡ Some rest → AllByRecursion IsOfCondition rest)
         → option_and_then (λ first. option_map (λ rest. first ∷ rest) os) o ≡ Some claims → AllByRecursion IsOfCondition claims
     by None os its rests f = absurd (cc f)
     by (Some first) None its rests f = absurd (cc f)
     by (Some first) (Some rest) its rests f =
         let h : first ∷ rest ≡ claims = cc f in subst (AllByRecursion IsOfCondition) h (its first refl, rests rest refl)
 
-joined : (xs ys : List Claim) → AllByRecursion IsOfCondition xs → AllByRecursion IsOfCondition ys
+joined : (xs ys : List Question) → AllByRecursion IsOfCondition xs → AllByRecursion IsOfCondition ys
     → AllByRecursion IsOfCondition (xs ++ ys)
 joined [] ys a b = b
 joined (x ∷ xs) ys a b = (a.0, joined xs ys a.1 b)
 
-of_setting : (q : Quantifier) (rows : List Row) (before : Option (List Claim))
-    → ((claims : List Claim) → before ≡ Some claims → AllByRecursion IsOfCondition claims)
-    → (claims : List Claim) → claims_by q rows before ≡ Some claims → AllByRecursion IsOfCondition claims
-of_setting q rows None are claims e = absurd (cc e)
-of_setting q rows (Some first) are claims e =
-    by (each_in (claim_in q) (unwrap_or (all_of (word_of q) rows) []))
-    (each_of (claim_in q) (in_text q) (unwrap_or (all_of (word_of q) rows) [])) e
+-- the claim that a word and a text on a line of a script make, and those of its lines
+said : (line : ℕ) (word rest : List ℕ) (claim : Question) → claim_said line word rest ≡ Some claim → IsOfCondition claim
+said line word rest claim e = by (quantifier_in word) e
   where
-    by : (o : Option (List Claim)) → ((own : List Claim) → o ≡ Some own → AllByRecursion IsOfCondition own)
+    by : (o : Option Quantifier) → option_and_then (λ q. claim_on line q rest) o ≡ Some claim → IsOfCondition claim
+    by None f = absurd (cc f)
+    by (Some q) f = of_steps line q (condition_in rest) claim (by_signs (signs_of rest)) f
+
+on_line : (line : ℕ) (text : List ℕ) (claims : List Question) → claims_on line text ≡ Some claims → AllByRecursion IsOfCondition claims
+on_line line text claims e = by (claim_parts text) e
+  where
+    by_claim : (o : Option Question) → ((claim : Question) → o ≡ Some claim → IsOfCondition claim) → option_map (λ claim. claim ∷ []) o ≡ Some claims
+        → AllByRecursion IsOfCondition claims
+    by_claim None are f = absurd (cc f)
+    by_claim (Some claim) are f = let h : claim ∷ [] ≡ claims = cc f in subst (AllByRecursion IsOfCondition) h (are claim refl, tt)
+
+    by : (o : Option (List ℕ × List ℕ)) → option_map_or (λ (parts : List ℕ × List ℕ). option_map (λ claim. claim ∷ []) (claim_said line parts.0 parts.1)) o (Some []) ≡ Some claims
+        → AllByRecursion IsOfCondition claims
+    by None f = let h : [] ≡ claims = cc f in subst (AllByRecursion IsOfCondition) h tt
+    by (Some parts) f = by_claim (claim_said line parts.0 parts.1) (said line parts.0 parts.1) f
+
+-- those of a line and of what follows it
+after_line : (line : ℕ) (before : List Question) (texts : List (List ℕ)) (claims : List Question)
+    → ((own : List Question) → AllByRecursion IsOfCondition own → claims_from (line + 1) (before ++ own) texts ≡ Some claims → AllByRecursion IsOfCondition claims)
+    → (o : Option (List Question)) → ((own : List Question) → o ≡ Some own → AllByRecursion IsOfCondition own)
+    → option_and_then (λ own. claims_from (line + 1) (before ++ own) texts) o ≡ Some claims → AllByRecursion IsOfCondition claims
+after_line line before texts claims follow None its e = absurd (cc e)
+after_line line before texts claims follow (Some own) its e = follow own (its own refl) e
+
+from_lines : (line : ℕ) (before : List Question) (texts : List (List ℕ)) → AllByRecursion IsOfCondition before
+    → (claims : List Question) → claims_from line before texts ≡ Some claims → AllByRecursion IsOfCondition claims
+from_lines line before [] are claims e = let h : before ≡ claims = cc e in subst (AllByRecursion IsOfCondition) h are
+from_lines line before (text ∷ texts) are claims e =
+    after_line line before texts claims
+    (λ own its is. from_lines (line + 1) (before ++ own) texts (joined before own are its) claims is)
+    (claims_on line text) (on_line line text) e
+
+pub script_claims_have_conditions : ScriptClaimsHaveConditions
+script_claims_have_conditions text claims e = from_lines 1 [] (slice_split (λ byte. byte == 10) text) tt claims e
+
+of_setting : (how : Asking) (rows : List Row) (before : Option (List Question))
+    → ((claims : List Question) → before ≡ Some claims → AllByRecursion IsOfCondition claims)
+    → (claims : List Question) → questions_by how rows before ≡ Some claims → AllByRecursion IsOfCondition claims
+of_setting how rows None are claims e = absurd (cc e)
+of_setting how rows (Some first) are claims e =
+    by (each_in (question_in how) (unwrap_or (all_of (setting_name how) rows) []))
+    (each_of (question_in how) (in_text how) (unwrap_or (all_of (setting_name how) rows) [])) e
+  where
+    by : (o : Option (List Question)) → ((own : List Question) → o ≡ Some own → AllByRecursion IsOfCondition own)
         → option_map (λ own. first ++ own) o ≡ Some claims → AllByRecursion IsOfCondition claims
     by None its f = absurd (cc f)
     by (Some own) its f =
         let h : first ++ own ≡ claims = cc f in
         subst (AllByRecursion IsOfCondition) h (joined first own (are first refl) (its own refl))
 
--- where there are some claims, they are these
-some : (o : Option (List Claim)) (claims : List Claim) → option_and_then some_claims o ≡ Some claims → o ≡ Some claims
-some None claims e = absurd (cc e)
-some (Some []) claims e = absurd (cc e)
-some (Some (first ∷ rest)) claims e = e
-
-of_rows : (rows : List Row) (claims : List Claim) → claims_at rows ≡ Some claims → AllByRecursion IsOfCondition claims
+of_rows : (rows : List Row) (claims : List Question) → questions_at rows ≡ Some claims → AllByRecursion IsOfCondition claims
 of_rows rows claims e =
-    of_setting quantifier.Never rows _ (of_setting quantifier.Ever rows _ (of_setting quantifier.Throughout rows _
-    (of_setting quantifier.Some rows _ (of_setting quantifier.Always rows (Some [])
-    (λ none is. let h : [] ≡ none = cc is in subst (AllByRecursion IsOfCondition) h tt))))) claims (some _ claims e)
+    of_setting asking.Values rows _ (of_setting (asking.Claims quantifier.Never) rows _
+    (of_setting (asking.Claims quantifier.Ever) rows _ (of_setting (asking.Claims quantifier.Throughout) rows _
+    (of_setting (asking.Claims quantifier.Some) rows _ (of_setting (asking.Claims quantifier.Always) rows (Some [])
+    (λ none is. let h : [] ≡ none = cc is in subst (AllByRecursion IsOfCondition) h tt)))))) claims e
 
 -- a request that is of no run and has its condition, if it asks a claim
 abbrev IsPlain : Request → Type 0
@@ -124,7 +168,7 @@ module _ (word : Text) (rows : List Row) where
   tallies = next IsPlain _ (format_at rows) (λ how e. next IsPlain _ (mode_at rows) (λ mode f. next IsPlain _ (chunk_at rows) (λ chunk g. each IsPlain (tally how mode chunk) (times_at rows) (λ times. (tt, refl)))))
 
   answers : Has IsPlain (ask_at rows)
-  answers = next IsPlain _ (claims_at rows) (λ claims is. next IsPlain _ (format_at rows) (λ how e. next IsPlain _ (limit_at rows) (λ limit f. each IsPlain (ask claims how limit) (front_at rows) (λ front. (of_rows rows claims is, refl)))))
+  answers = next IsPlain _ (questions_at rows) (λ claims is. next IsPlain _ (format_at rows) (λ how e. next IsPlain _ (limit_at rows) (λ limit f. each IsPlain (ask claims how limit) (front_at rows) (λ front. (of_rows rows claims is, refl)))))
 
   lists : Has IsPlain (list_at rows)
   lists = next IsPlain _ (outcomes_format_at rows) (λ how e. next IsPlain _ (limit_at rows) (λ limit f. next IsPlain _ (threads_beside how rows) (λ threads g. each IsPlain (outcomes how limit threads) (front_at rows) (λ front. (tt, refl)))))

@@ -7,6 +7,7 @@ pub mod Named
 pub mod Line
 pub mod RunLines
 pub mod Claims
+pub mod ScriptClaims
 -- What crates promise one another, what proofs use, and worked examples.
 pub mod Numbers
 pub mod language

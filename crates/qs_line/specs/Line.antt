@@ -9,9 +9,7 @@ use Rattle.clap.specs.Words.{Row, Text, all_of, first_of, subcommand_of}
 use Rattle.clap.specs.declared.error.kind.ErrorKind.TheVariants.{DisplayHelp, DisplayVersion, OutOfMemory}
 use Rattle.clap.specs.declared.error.kind.ErrorKind.{ErrorKind}
 use Rattle.qs_conditions.specs.Claims.{word as word_of}
-use Rattle.qs_conditions.specs.Reads.{condition_in}
-use Rattle.qs_conditions.specs.declared.claim.Claim.{Claim}
-use Rattle.qs_conditions.specs.declared.claim.Quantifier.{Quantifier}
+use Rattle.qs_conditions.specs.Reads.{condition_in, sum_in}
 use Rattle.qs_conditions.specs.declared.claim.Quantifier.TheVariants as quantifier
 use Rattle.qs_line.specs.audit.Parts.{clients_in, each_in}
 use Rattle.qs_line.specs.Parts.{orders_in}
@@ -31,6 +29,10 @@ use Rattle.qs_line.specs.declared.line.ReportFormat.{ReportFormat}
 use Rattle.qs_line.specs.declared.line.ReportFormat.TheVariants as report_format
 use Rattle.qs_line.specs.declared.line.Settings.{Settings}
 use Rattle.qs_line.specs.declared.line.Settings.TheVariants as word
+use Rattle.qs_line.specs.declared.line.Asking.{Asking}
+use Rattle.qs_line.specs.declared.line.Asking.TheVariants as asking
+use Rattle.qs_line.specs.declared.question.Question.{Question}
+use Rattle.qs_line.specs.declared.question.Question.TheVariants as question
 use Rattle.qs_line.specs.declared.plan.Plan.{Plan}
 use Rattle.qs_line.specs.declared.plan.Plan.TheVariants as plan
 use Rattle.qs_line.specs.audit.Line.{PlanShape, by_schedule, by_order, Request, check, graph, rules, play, syncs, run, tally, ask, estimate, fronts, alike, outcomes, number_in, mode_at, chunk_at, has_times, plan_at, rules_at, play_at, single_run_at, Line, asks, help, version, refused, asks_language}
@@ -62,7 +64,7 @@ format_of_request (play style mode chunk plan) = format_beside_report style.form
 format_of_request (syncs how plan) = how
 format_of_request (run style mode chunk) = format_beside_report style.format
 format_of_request (tally how mode chunk times) = how
-format_of_request (ask claims how limit front) = how
+format_of_request (ask questions how limit front) = how
 format_of_request (estimate how front) = how
 format_of_request (fronts how blocks limit orders) = how
 format_of_request (alike how limit) = how
@@ -80,7 +82,7 @@ request_of (word.Play style mode chunk plan) = play style mode chunk (plan_of pl
 request_of (word.Syncs how plan) = syncs how (plan_of plan)
 request_of (word.Run style mode chunk) = run style mode chunk
 request_of (word.Tally how mode chunk times) = tally how mode chunk times
-request_of (word.Ask claims how limit front) = ask claims.items how limit front.items
+request_of (word.Ask questions how limit front) = ask questions.items how limit front.items
 request_of (word.Estimate how front) = estimate how front.items
 request_of (word.Fronts how blocks limit orders) =
     fronts how blocks limit (map (λ (order : Vec Part Global). order.items) orders.items)
@@ -168,34 +170,36 @@ tally_at rows =
 abbrev pub run_at : List Row → Option Request
 run_at rows = if has_times rows then tally_at rows else single_run_at rows
 
--- the claim of a text, where the text is a condition
-abbrev pub claim_in : Quantifier → Text → Option Claim
-claim_in q text = option_map (λ steps. record { quantifier = q; condition = steps }) (condition_in text)
+-- what a setting of `ask` asks: claims, or the values of sums
+abbrev pub setting_name : Asking → Text
+setting_name (asking.Claims q) = word_of q
+setting_name asking.Values = codes "values"
 
--- the claims before these, and the claims of a setting, one for each of its texts, where each is a condition
-abbrev pub claims_by : Quantifier → List Row → (before : Option (List Claim)) → Option (List Claim)
-claims_by q rows before =
-    option_and_then (λ claims. option_map (λ own. claims ++ own)
-    (each_in (claim_in q) (unwrap_or (all_of (word_of q) rows) []))) before
+-- the question of a text, where the text is a condition, or a sum
+abbrev pub question_in : Asking → Text → Option Question
+question_in (asking.Claims q) text =
+    option_map (λ steps. question.Claim (record { line = 0; quantifier = q; condition = steps })) (condition_in text)
+question_in asking.Values text = option_map question.Values (sum_in text)
 
--- where there are some
-abbrev pub some_claims : List Claim → Option (List Claim)
-some_claims [] = None
-some_claims (claim ∷ claims) = Some (claim ∷ claims)
+-- the questions before these, and those of a setting, one for each of its texts, where each can be read
+abbrev pub questions_by : Asking → List Row → (before : Option (List Question)) → Option (List Question)
+questions_by how rows before =
+    option_and_then (λ questions. option_map (λ own. questions ++ own)
+    (each_in (question_in how) (unwrap_or (all_of (setting_name how) rows) []))) before
 
--- the claims of a line: first those of all ends, then those of some, throughout, of some configuration on the way and of
--- none, each as they follow one another on the line
-abbrev pub claims_at : List Row → Option (List Claim)
-claims_at rows =
-    option_and_then some_claims (claims_by quantifier.Never rows (claims_by quantifier.Ever rows
-    (claims_by quantifier.Throughout rows (claims_by quantifier.Some rows
-    (claims_by quantifier.Always rows (Some []))))))
+-- the questions of a line: first the claims of all ends, then those of some, throughout, of some configuration on the way
+-- and of none, each as they follow one another on the line, and then which values sums have
+abbrev pub questions_at : List Row → Option (List Question)
+questions_at rows =
+    questions_by asking.Values rows (questions_by (asking.Claims quantifier.Never) rows
+    (questions_by (asking.Claims quantifier.Ever) rows (questions_by (asking.Claims quantifier.Throughout) rows
+    (questions_by (asking.Claims quantifier.Some) rows (questions_by (asking.Claims quantifier.Always) rows (Some []))))))
 
--- answers, as text or as JSON
+-- answers, as text or as JSON; where there are no questions, to the claims of the script
 abbrev pub ask_at : List Row → Option Request
 ask_at rows =
-    option_and_then (λ claims. option_and_then (λ how. option_and_then (λ limit. option_map (ask claims how limit)
-    (front_at rows)) (limit_at rows)) (format_at rows)) (claims_at rows)
+    option_and_then (λ questions. option_and_then (λ how. option_and_then (λ limit. option_map (ask questions how limit)
+    (front_at rows)) (limit_at rows)) (format_at rows)) (questions_at rows)
 
 -- by how many threads outcomes are searched for: a drawing by one alone
 abbrev pub threads_beside : OutcomesFormat → List Row → Option ℕ

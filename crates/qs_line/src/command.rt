@@ -22,11 +22,11 @@ fn option<'a>(alloc: Global, name: &'a str, value: &'a str, said: &'a str) -> Ar
         .action(ArgAction::Set)
 }
 
-fn condition_option<'a>(alloc: Global, name: &'a str, said: &'a str) -> Arg<'a>
+fn question_option<'a>(alloc: Global, name: &'a str, value: &'a str, said: &'a str) -> Arg<'a>
     ensures rule { rule_of result ≡ condition_rule name.entry.now }
     ensures local { result.global ≡ false }
 {
-    option(alloc, name, "COND", said).action(ArgAction::Append)
+    option(alloc, name, value, said).action(ArgAction::Append)
 }
 
 fn mode_option<'a>(alloc: Global) -> Arg<'a>
@@ -223,31 +223,33 @@ fn run_command<'a>(alloc: Global) -> Result<Command<'a>, AllocError>
     shared(alloc, run, help::REPORT_FORMAT)
 }
 
-// With a setting that takes a condition.
-fn with_condition<'a>(
+// With a setting that takes a condition or a sum.
+fn with_question<'a>(
     alloc: Global,
     command: Command<'a>,
     name: &'a str,
+    value: &'a str,
     said: &'a str,
 ) -> Result<Command<'a>, AllocError>
     requires local { (fields_of command).has_globals ≡ false }
     ensures app { IfOk result (λ whole. app_of whole ≡ with_rule (app_of command.entry) (condition_rule name.entry.now)) }
     ensures local { IfOk result (λ whole. (fields_of whole).has_globals ≡ false) }
 {
-    command.arg(condition_option(alloc, name, said))
+    command.arg(question_option(alloc, name, value, said))
 }
 
-// With the settings that take a condition.
+// With the settings that take a condition or a sum.
 fn claimed<'a>(alloc: Global, command: Command<'a>) -> Result<Command<'a>, AllocError>
     requires local { (fields_of command).has_globals ≡ false }
     ensures app { IfOk result (λ whole. app_of whole ≡ claimed_app (app_of command.entry)) }
     ensures local { IfOk result (λ whole. (fields_of whole).has_globals ≡ false) }
 {
-    let always = with_condition(alloc, command, "always", help::ALWAYS)?;
-    let some = with_condition(alloc, always, "some", help::SOME)?;
-    let throughout = with_condition(alloc, some, "throughout", help::THROUGHOUT)?;
-    let ever = with_condition(alloc, throughout, "ever", help::EVER)?;
-    with_condition(alloc, ever, "never", help::NEVER)
+    let always = with_question(alloc, command, "always", "COND", help::ALWAYS)?;
+    let some = with_question(alloc, always, "some", "COND", help::SOME)?;
+    let throughout = with_question(alloc, some, "throughout", "COND", help::THROUGHOUT)?;
+    let ever = with_question(alloc, throughout, "ever", "COND", help::EVER)?;
+    let never = with_question(alloc, ever, "never", "COND", help::NEVER)?;
+    with_question(alloc, never, "values", "SUM", help::VALUES)
 }
 
 // With whose blocks were run before.

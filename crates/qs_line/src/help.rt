@@ -166,7 +166,7 @@ Clients are alike if their texts are the same but for names. `qs ask` asks about
 );
 
 pub const ASK: &str =
-    "Answers whether a condition holds at all ends, at some, or on the way, with an order that shows it";
+    "Answers whether conditions hold at all ends, at some, or on the way, and which values a sum has";
 
 pub const ASK_EXAMPLE: &str = with_limits!(
     "\
@@ -181,8 +181,12 @@ Examples:
       does it hold at the beginning, or after some block of some order?
   qs ask --never 'ann.x == 20' < my.script
       does it hold at none of these?
+  qs ask --values 'ann.x + bob.x' < my.script
+      which values does it have at the ends, and after which order?
   qs ask --after @bob --always 'a.balance() == 200' < my.script
       the same of what comes after a block of bob
+  qs ask < my.script
+      do the claims of the script hold, lines as `#? always a.balance() == 200`?
 
 A condition compares sums of numbers, of variables as bob.x, and of queries as a.balance(), by ==,
 !=, <, <=, > or >=; comparisons are joined by &&, || and !, with parentheses. One that begins with a
@@ -254,6 +258,8 @@ pub const THROUGHOUT: &str = "Answers whether it holds at the beginning and afte
 pub const EVER: &str = "Answers whether it holds at the beginning or after some block";
 
 pub const NEVER: &str = "Answers whether it holds at none of these";
+
+pub const VALUES: &str = "Lists the values that it has at the ends, with an order for each";
 
 pub const AFTER: &str = "Whose blocks were run before, as @bob*2,@ann";
 

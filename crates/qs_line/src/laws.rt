@@ -1,6 +1,6 @@
 //! What the definitions say, for readers.
 
-ghost use Rattle.qs_line.specs.Claims.{ClaimsHaveConditions};
+ghost use Rattle.qs_line.specs.Claims.{ClaimsHaveConditions, ScriptClaimsHaveConditions};
 ghost use Rattle.qs_line.specs.Numbers.{ClientNumbersStay, NumbersStay};
 ghost use Rattle.qs_line.specs.RunLines.{LinesOfRunsAreThese, RunsAreLines};
 
@@ -11,9 +11,10 @@ pub fn numbers_stay()
     ensures clients { ClientNumbersStay }
 {}
 
-/// Where a line asks a claim, the claim is of a condition. It does nothing.
+/// Where a line asks a claim, the claim is of a condition; and so is each claim of a script. It does nothing.
 pub fn claims_have_conditions()
     ensures conditions { ClaimsHaveConditions }
+    ensures of_scripts { ScriptClaimsHaveConditions }
 {}
 
 /// The words of which `run_in` says that they ask for a run are a line that does, and there is no other such line. It

@@ -13,7 +13,9 @@ mod line;
 mod named;
 mod parts;
 mod plan;
+mod question;
 mod reading;
+mod script_claims;
 mod told;
 
 pub use apart::{APART, Setting};
@@ -26,5 +28,7 @@ pub use line::{
 pub use named::{actors_of, clients_of};
 pub use parts::{Part, Who};
 pub use plan::Plan;
+pub use question::Question;
 pub use reading::{clients_in, list_in, part_of};
+pub use script_claims::{claim_parts, claims_in, quantifier_of};
 pub use told::{refusal, value_after};

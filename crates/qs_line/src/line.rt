@@ -3,12 +3,12 @@
 ghost use Rattle.std.specs.Prelude.{◌≡◌, [], ◌∷◌, Err, IfOk, IfErr, map, option_and_then, option_map, unwrap_or};
 ghost use Rattle.clap.specs.Words.{all_of, found_of, kind_of, rows_of, subcommand_of, subcommand_rows_of};
 ghost use Rattle.clap.specs.Faults.{fault_of};
-ghost use Rattle.qs_conditions.specs.Claims.{word as word_of};
 ghost use Rattle.std.specs.List.{list_any};
+ghost use Rattle.qs_line.specs.declared.line.Asking.TheVariants as Asking;
 ghost use Rattle.qs_line.specs.audit.Apart.{both_stand_at, flag_at, has_apart, stands_at};
 ghost use Rattle.qs_line.specs.audit.Command.{qs_app};
 ghost use Rattle.qs_line.specs.audit.Line.{asks_language, help, chunk_at, has_times, mode_at, number_in, play_at, report_format_at, rules_at, single_run_at, style_at, styled_plan, can_tell};
-ghost use Rattle.qs_line.specs.Line.{IsAnswer, IsFault, IsFaultAmong, alike_at, ask_at, blocks_at, check_at, claim_in, claims_at, claims_by, estimate_at, fronts_at, has_threads, list_at, format_at, front_at, graph_at, graph_format_at, is_verbose_in, is_verbose_met, leads_at, limit_at, line_in, outcomes_at, outcomes_format_at, plan_of, request_at, request_met, request_of, request_of_word, run_at, syncs_at, tally_at, threads_at, threads_beside, times_at, warns_in, warns_met};
+ghost use Rattle.qs_line.specs.Line.{IsAnswer, IsFault, IsFaultAmong, alike_at, ask_at, blocks_at, check_at, estimate_at, fronts_at, has_threads, list_at, format_at, front_at, graph_at, graph_format_at, is_verbose_in, is_verbose_met, leads_at, limit_at, line_in, outcomes_at, outcomes_format_at, plan_of, question_in, questions_at, questions_by, request_at, request_met, request_of, request_of_word, run_at, setting_name, syncs_at, tally_at, threads_at, threads_beside, times_at, warns_in, warns_met};
 
 use crate::apart::{APART, Setting};
 use crate::command::command;
@@ -17,11 +17,12 @@ use crate::language::language_page;
 use crate::limits::{MOST_FRONT, MOST_THREADS, MOST_TIMES};
 use crate::parts::Part;
 use crate::plan::{Plan, given_plan};
+use crate::question::Question;
 use crate::reading::{clients_in, orders_in};
 use clap::error::ErrorKind;
 use clap::{ArgMatches, Error};
 use qs_chunk::ChunkSize;
-use qs_conditions::{Claim, ConditionFault, Quantifier, read_condition};
+use qs_conditions::{Claim, ConditionFault, Quantifier, read_condition, read_sum};
 use qs_syncset::Mode;
 use std::alloc::{AllocError, Global};
 
@@ -173,7 +174,7 @@ pub enum Settings {
     /// Check it, and answer whether conditions hold of all ends, of some, or throughout.
     Ask {
         /// The conditions, and of what they are to hold; at least one.
-        claims: Vec<Claim>,
+        questions: Vec<Question>,
         /// How the answers are written.
         format: Format,
         /// How many configurations are looked at, at most.
@@ -380,8 +381,8 @@ fn can_tell(format: ReportFormat) -> bool
     ensures value { result ≡ can_tell format }
 {
     match format {
-        ReportFormat::Text => true,
-        ReportFormat::Json | ReportFormat::Svg => false,
+        ReportFormat::Text | ReportFormat::Json => true,
+        ReportFormat::Svg => false,
     }
 }
 
@@ -570,78 +571,113 @@ fn run_settings(found: &ArgMatches<'_>) -> Option<Settings>
     }
 }
 
-// The name of the setting of a quantifier.
-fn setting_of(quantifier: Quantifier) -> &'static str
-    ensures name { result.now ≡ word_of quantifier }
+// What a setting of `ask` asks: claims, or the values of sums.
+#[derive(Clone, Copy, Debug)]
+pub(crate) enum Asking {
+    Claims(Quantifier),
+    Values,
+}
+
+// The name of such a setting.
+fn setting_of(asking: Asking) -> &'static str
+    ensures name { result.now ≡ setting_name asking }
 {
-    match quantifier {
-        Quantifier::Always => "always",
-        Quantifier::Some => "some",
-        Quantifier::Throughout => "throughout",
-        Quantifier::Ever => "ever",
-        Quantifier::Never => "never",
+    match asking {
+        Asking::Claims(Quantifier::Always) => "always",
+        Asking::Claims(Quantifier::Some) => "some",
+        Asking::Claims(Quantifier::Throughout) => "throughout",
+        Asking::Claims(Quantifier::Ever) => "ever",
+        Asking::Claims(Quantifier::Never) => "never",
+        Asking::Values => "values",
     }
 }
 
 // The claim of a text: None where it is no condition.
-fn claim_of(alloc: Global, quantifier: Quantifier, text: &str) -> Result<Option<Claim>, AllocError>
-    ensures claim { IfOk result (λ claim. claim ≡ claim_in quantifier text.now) }
+fn claim_of(
+    alloc: Global,
+    quantifier: Quantifier,
+    text: &str,
+) -> Result<Option<Question>, AllocError>
+    ensures claim { IfOk result (λ claim. claim ≡ question_in (Asking.Claims quantifier) text.now) }
 {
     match read_condition(alloc, text.as_bytes()) {
-        Ok(condition) => Ok(Some(Claim {
+        Ok(condition) => Ok(Some(Question::Claim(Claim {
+            line: 0,
             quantifier,
             condition,
-        })),
+        }))),
         Err(ConditionFault::Memory) => Err(AllocError),
         Err(_) => Ok(None),
     }
 }
 
-// The claims before these, and those of a setting: None where one of them is no condition.
-fn with_claims(
+// The question of a sum's text: None where it is no sum.
+fn values_of(alloc: Global, text: &str) -> Result<Option<Question>, AllocError>
+    ensures values { IfOk result (λ question. question ≡ question_in Asking.Values text.now) }
+{
+    match read_sum(alloc, text.as_bytes()) {
+        Ok(sum) => Ok(Some(Question::Values(sum))),
+        Err(ConditionFault::Memory) => Err(AllocError),
+        Err(_) => Ok(None),
+    }
+}
+
+// The question of a text: None where it can't be read.
+fn question_of(alloc: Global, asking: Asking, text: &str) -> Result<Option<Question>, AllocError>
+    ensures question { IfOk result (λ question. question ≡ question_in asking text.now) }
+{
+    match asking {
+        Asking::Claims(quantifier) => claim_of(alloc, quantifier, text),
+        Asking::Values => values_of(alloc, text),
+    }
+}
+
+// The questions before these, and those of a setting: None where one of them can't be read.
+fn with_questions(
     alloc: Global,
     found: &ArgMatches<'_>,
-    quantifier: Quantifier,
-    before: Option<Vec<Claim>>,
-) -> Result<Option<Vec<Claim>>, AllocError>
-    ensures claims { IfOk result (λ claims. option_map (λ all. all.items) claims
-        ≡ claims_by quantifier (rows_of (found_of found.now)) (option_map (λ all. all.items) before)) }
+    asking: Asking,
+    before: Option<Vec<Question>>,
+) -> Result<Option<Vec<Question>>, AllocError>
+    ensures questions { IfOk result (λ questions. option_map (λ all. all.items) questions
+        ≡ questions_by asking (rows_of (found_of found.now)) (option_map (λ all. all.items) before)) }
 {
-    let Some(mut claims) = before else {
+    let Some(mut questions) = before else {
         return Ok(None);
     };
-    let Some(texts) = texts_at(found, setting_of(quantifier)) else {
-        return Ok(Some(claims));
+    let Some(texts) = texts_at(found, setting_of(asking)) else {
+        return Ok(Some(questions));
     };
     for text in texts {
-        match claim_of(alloc, quantifier, text)? {
-            Some(claim) => claims.push(claim)?,
+        match question_of(alloc, asking, text)? {
+            Some(question) => questions.push(question)?,
             None => return Ok(None),
         }
     }
-    Ok(Some(claims))
+    Ok(Some(questions))
 }
 
-// The claims of a line: None where it has none, or one that is no condition.
-fn given_claims(alloc: Global, found: &ArgMatches<'_>) -> Result<Option<Vec<Claim>>, AllocError>
-    ensures claims { IfOk result (λ claims. option_map (λ all. all.items) claims ≡ claims_at (rows_of (found_of found.now))) }
+// The questions of a line: None where one of them can't be read.
+fn given_questions(
+    alloc: Global,
+    found: &ArgMatches<'_>,
+) -> Result<Option<Vec<Question>>, AllocError>
+    ensures questions { IfOk result (λ questions. option_map (λ all. all.items) questions ≡ questions_at (rows_of (found_of found.now))) }
 {
-    let always = with_claims(alloc, found, Quantifier::Always, Some(Vec::new(alloc)))?;
-    let some = with_claims(alloc, found, Quantifier::Some, always)?;
-    let throughout = with_claims(alloc, found, Quantifier::Throughout, some)?;
-    let ever = with_claims(alloc, found, Quantifier::Ever, throughout)?;
-    let never = with_claims(alloc, found, Quantifier::Never, ever)?;
-    match never {
-        Some(claims) if !claims.is_empty() => Ok(Some(claims)),
-        _ => Ok(None),
-    }
+    let none = Some(Vec::new(alloc));
+    let always = with_questions(alloc, found, Asking::Claims(Quantifier::Always), none)?;
+    let some = with_questions(alloc, found, Asking::Claims(Quantifier::Some), always)?;
+    let throughout = with_questions(alloc, found, Asking::Claims(Quantifier::Throughout), some)?;
+    let ever = with_questions(alloc, found, Asking::Claims(Quantifier::Ever), throughout)?;
+    let never = with_questions(alloc, found, Asking::Claims(Quantifier::Never), ever)?;
+    with_questions(alloc, found, Asking::Values, never)
 }
 
 fn ask_settings(alloc: Global, found: &ArgMatches<'_>) -> Result<Option<Settings>, AllocError>
     ensures settings { IfOk result (λ settings. option_map request_of settings ≡ ask_at (rows_of (found_of found.now))) }
 {
-    let (Some(claims), Some(format), Some(limit), Some(front)) = (
-        given_claims(alloc, found)?,
+    let (Some(questions), Some(format), Some(limit), Some(front)) = (
+        given_questions(alloc, found)?,
         format_of(found),
         limit_of(found),
         given_front(alloc, found)?,
@@ -649,7 +685,7 @@ fn ask_settings(alloc: Global, found: &ArgMatches<'_>) -> Result<Option<Settings
         return Ok(None);
     };
     Ok(Some(Settings::Ask {
-        claims,
+        questions,
         format,
         limit,
         front,
@@ -857,8 +893,7 @@ fn page(alloc: Global) -> LineFault
 
 /// The settings of a line, whose first word is the program's name: those that `clap` finds, and its defaults. `Refused`
 /// comes exactly where `clap` refuses the words by an error, where the two settings of a pair of `APART` stand
-/// together, where a format, a mode, a number, a list or a condition does not read, where `ask` has no condition, where
-/// a number of threads stands beside a drawing, or where steps or queues are asked for beside a report that is no text;
+/// together, where a format, a mode, a number, a list or a condition does not read, where a number of threads stands beside a drawing, or where steps or queues are asked for beside a picture;
 /// `Help` and `Version` come exactly where it answers with help or with the version, and `Help` where the words are
 /// `help language`. `Memory` may come in place of each.
 pub fn read_line<'a>(alloc: Global, words: &'a [&'a str]) -> Result<Settings, LineFault>

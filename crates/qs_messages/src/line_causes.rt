@@ -1,5 +1,6 @@
 //! Why a command line is refused, in words: of its settings, its lists and its conditions.
 
+mod claims;
 mod condition;
 mod hints;
 mod line;

@@ -7,3 +7,4 @@ pub mod Replies
 pub mod Sought
 pub mod NamedSets
 pub mod NamedStay
+pub mod Noting

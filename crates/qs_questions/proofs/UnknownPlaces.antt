@@ -47,13 +47,13 @@ module _ (p : ProgramShape) where
   known true n u h = (refl, h)
   known false n u h = cc
 
-  has_values : (xs : List Summand) → first_unknown_of p xs ≡ None → HasValues p xs
+  pub has_values : (xs : List Summand) → first_unknown_of p xs ≡ None → HasValues p xs
   has_values [] h = tt
   has_values (x ∷ xs) h =
       let k = known (has_value p x.value) x.place (first_unknown_of p xs) h in
       (k.0, has_values xs k.1)
 
-  none_unknown : (xs : List Summand) → HasValues p xs → first_unknown_of p xs ≡ None
+  pub none_unknown : (xs : List Summand) → HasValues p xs → first_unknown_of p xs ≡ None
   none_unknown [] h = refl
   none_unknown (x ∷ xs) h =
       ap (λ (b : Bool). cond b (first_unknown_of p xs) (Some x.place)) h.0 ∙ none_unknown xs h.1

@@ -2,6 +2,8 @@
 pub mod Questions
 pub mod NamedClients
 pub mod Claims
+pub mod SumValues
 -- What crates promise one another, what proofs use, and worked examples.
 pub mod Laws
 pub mod Answering
+pub mod Noting

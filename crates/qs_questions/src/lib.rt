@@ -2,7 +2,7 @@
 //! come to its end.
 //!
 //! ```rust
-//! let claim = Claim { quantifier: Quantifier::Always, condition };
+//! let claim = Claim { line: 0, quantifier: Quantifier::Always, condition };
 //! let found = qs_questions::answer(alloc, &program, &claim, &[], 1_000_000, &mut watcher).ok()?;
 //! ```
 #![tactic(auto)]
@@ -13,6 +13,7 @@ mod clients;
 pub mod laws;
 mod named;
 mod stack;
+mod sums;
 mod unknown;
 mod values;
 
@@ -20,4 +21,5 @@ pub use asking::holds;
 pub use claims::answer;
 pub use clients::named_clients;
 pub use named::{ClientVariable, ObjectQuery};
-pub use unknown::first_unknown;
+pub use sums::{SumValue, values_of};
+pub use unknown::{first_unknown, first_unknown_in_sum};

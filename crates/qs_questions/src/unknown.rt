@@ -1,8 +1,8 @@
-//! Whether a program has what a condition asks for.
+//! Whether a program has what a condition, or a sum, asks for.
 
 ghost use Rattle.std.specs.Prelude.{◌≡◌, ◌↔◌, [], ◌∷◌, None};
 ghost use Rattle.qs_conditions.specs.Conditions.{Tree, steps_of};
-ghost use Rattle.qs_questions.specs.Questions.{HasAllValues, first_unknown_in, first_unknown_of, has_value};
+ghost use Rattle.qs_questions.specs.Questions.{HasAllValues, HasValues, first_unknown_in, first_unknown_of, has_value};
 
 use crate::named::{asked_of, variable_of};
 use qs_conditions::{Condition, Step, Sum, Value};
@@ -60,4 +60,12 @@ pub fn first_unknown(condition: &Condition, program: &Program) -> Option<usize>
         }
     }
     None
+}
+
+/// The place of the first value of a sum that the program does not have. None exactly where it has all.
+pub fn first_unknown_in_sum(sum: &Sum, program: &Program) -> Option<usize>
+    ensures exact { result ≡ first_unknown_of program.now sum.now }
+    ensures all { (result ≡ None) ↔ HasValues program.now sum.now }
+{
+    first_unknown_of(program, sum)
 }

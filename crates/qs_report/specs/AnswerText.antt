@@ -1,5 +1,5 @@
 -- The answer to a claim on a program, as bytes.
-use Rattle.std.specs.Prelude.{◌≡◌, ◌≤◌, ℕ, Bool, List, [], ◌++◌, codes, if◌then◌else◌, length, Option, Some, None, is_some}
+use Rattle.std.specs.Prelude.{◌≡◌, ◌≤◌, ℕ, Bool, List, [], ◌++◌, codes, if◌then◌else◌, length, nat_eq, Option, Some, None, is_some}
 use Rattle.qs_program.specs.audit.Program.{ProgramShape}
 use Rattle.qs_serial.specs.audit.NamedOrders.{order_of}
 use Rattle.qs_conditions.specs.Claims.{answer_by, word}
@@ -11,6 +11,10 @@ use Rattle.qs_questions.specs.Claims.{IsAnswerTo}
 use Rattle.qs_standings.specs.Standings.{StandingShape}
 use Rattle.qs_text.specs.audit.Texts.{count_line, texts_up_to}
 use Rattle.qs_report.specs.OutcomesText.{client_line, clients_text, object_line}
+
+-- the line of the file of claims on which the claim stands; none where it stands on the command line
+abbrev pub place_line : (line : ℕ) → List ℕ
+place_line line = if nat_eq line 0 then [] else count_line (codes "line") line
 
 -- the quantifier with yes or no
 abbrev pub answer_line : Quantifier → Bool → List ℕ
@@ -39,14 +43,16 @@ witness_text_in p q (Some s) = witness_text p q s
 abbrev pub is_yes : Quantifier → AnswerShape → Bool
 is_yes q a = answer_by q (is_some a.witness)
 
--- yes or no, the witness, and how many configurations were noted
-abbrev pub text_of_answer : ProgramShape → Quantifier → AnswerShape → List ℕ
-text_of_answer p q a =
-    answer_line q (is_yes q a) ++ witness_text_in p q a.witness ++ count_line (codes "configurations") a.configurations
+-- where the claim stands, yes or no, the witness, and how many configurations were noted
+abbrev pub text_of_answer : ProgramShape → (line : ℕ) → Quantifier → AnswerShape → List ℕ
+text_of_answer p line q a =
+    place_line line ++ answer_line q (is_yes q a) ++ witness_text_in p q a.witness
+    ++ count_line (codes "configurations") a.configurations
 
 -- There is an answer to the claim on the program after the blocks of these clients, with no more configurations than
--- the limit; it is yes or no, and this is its text.
-unfoldable pub IsAnswerText : ProgramShape → Claim → (limit : ℕ) → (front : List ℕ) → (holds : Bool) → List ℕ → Type 0
-IsAnswerText p claim limit front holds text =
+-- the limit; it is yes or no, and this is its text, with that line.
+unfoldable pub IsAnswerText : ProgramShape → (line : ℕ) → Claim → (limit : ℕ) → (front : List ℕ) → (holds : Bool) → List ℕ
+    → Type 0
+IsAnswerText p line claim limit front holds text =
     (a : AnswerShape) × IsAnswerTo claim p (order_of front) a × (a.configurations ≤ limit)
-    × (holds ≡ is_yes claim.quantifier a) × (text ≡ text_of_answer p claim.quantifier a)
+    × (holds ≡ is_yes claim.quantifier a) × (text ≡ text_of_answer p line claim.quantifier a)

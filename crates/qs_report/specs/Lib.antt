@@ -8,6 +8,7 @@ pub mod EndsText
 pub mod AlikeText
 pub mod FrontsText
 pub mod AnswerText
+pub mod ValuesText
 pub mod TallyText
 pub mod EstimateText
 pub mod SyncTable

@@ -2,7 +2,7 @@
 
 ghost use Rattle.std.specs.Prelude.{◌≡◌, ◌++◌, IfOk, IfSome, OnOk};
 ghost use Rattle.qs_outcomes.specs.Outcomes.{HasPlaces};
-ghost use Rattle.qs_report.specs.AnswerText.{answer_line, is_yes as is_yes_by, text_of_answer, witness_text, witness_text_in, lead_word};
+ghost use Rattle.qs_report.specs.AnswerText.{answer_line, is_yes as is_yes_by, lead_word, place_line, text_of_answer, witness_text, witness_text_in};
 
 use crate::outcomes::{put_clients, put_clients_in, put_objects};
 use qs_conditions::Quantifier;
@@ -10,6 +10,17 @@ use qs_outcomes::{Answer, Standing};
 use qs_program::Program;
 use qs_text::{put, put_all, put_count_line};
 use std::alloc::{AllocError, Global};
+
+// The line of the file on which the claim stands, where it stands in one.
+fn put_place_line(out: &mut Vec<u8>, line: usize) -> Result<(), AllocError>
+    ensures ok { OnOk result (out.new.items ≡ out.old.items ++ place_line line) }
+{
+    if line == 0 {
+        Ok(())
+    } else {
+        put_count_line(out, b"line", line as u64)
+    }
+}
 
 // The line that says yes or no.
 fn put_answer_line(out: &mut Vec<u8>, quantifier: Quantifier, holds: bool) -> Result<(), AllocError>
@@ -62,19 +73,22 @@ fn put_witness_in(
     }
 }
 
-/// The text of the answer to a claim: the quantifier with `yes` or `no`; where there is a witness, the order that leads
+/// The text of the answer to a claim: the line of the file on which the claim stands, which is 0 where it stands on the
+/// command line and is not told then; the quantifier with `yes` or `no`; where there is a witness, the order that leads
 /// to it, the objects' lines and the clients' lines; and how many configurations were noted. An error says that an
 /// allocation failed, and nothing is left.
 pub fn answer_text(
     alloc: Global,
     program: &Program,
+    line: usize,
     quantifier: Quantifier,
     answer: &Answer,
 ) -> Result<Vec<u8>, AllocError>
     requires places { IfSome answer.now.witness (HasPlaces program.now) }
-    ensures text { IfOk result (λ bytes. bytes.items ≡ text_of_answer program.now quantifier answer.now) }
+    ensures text { IfOk result (λ bytes. bytes.items ≡ text_of_answer program.now line quantifier answer.now) }
 {
     let mut out = Vec::new(alloc);
+    put_place_line(&mut out, line)?;
     put_answer_line(&mut out, quantifier, is_yes(quantifier, answer))?;
     put_witness_in(&mut out, program, quantifier, answer)?;
     put_count_line(&mut out, b"configurations", answer.configurations as u64)?;

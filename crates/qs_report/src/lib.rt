@@ -23,6 +23,7 @@ mod sync_table;
 mod syncs;
 mod tallies;
 mod tickets;
+mod values;
 
 pub use alike::{alike_text, all_of};
 pub use answers::{answer_text, is_yes};
@@ -37,3 +38,4 @@ pub use runs::{report, report_counts, report_run, report_run_counts, report_with
 pub use sync_table::{ModeCounts, SyncTable};
 pub use syncs::syncs_text;
 pub use tallies::{came, end_at, tally_text};
+pub use values::values_text;

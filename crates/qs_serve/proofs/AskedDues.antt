@@ -1,11 +1,12 @@
 -- What is due by a line and an input, in two parts: what they ask for, or what is due without a program; and what is made
 -- of a program. The functions of `asking` and `choosing` stand on it. Each goes by cases on the line, on what is due, or
 -- on whether the input's bytes are known.
-use Rattle.std.proofs.Common.{◌⊎◌, ℕ, Bool, List, Option, Some, None, sym, subst, inr, take}
-use Rattle.std.specs.Prelude.{IfSome}
+use Rattle.std.proofs.Common.{◌≡◌, ◌⊎◌, ◌∙◌, ℕ, Bool, List, Option, Some, None, ap, false, inl, refl, sym, subst, true, inr, take}
+use Rattle.std.specs.Prelude.{IfSome, MatchBool}
 use Rattle.qs_line.specs.declared.line.Settings.{Settings}
 use Rattle.qs_line.specs.audit.Line.{Line, Request, alike, ask, asks, check, estimate, fronts, graph, help, outcomes, play, refused, rules, run, syncs, tally, version}
-use Rattle.qs_line.specs.Line.{request_of}
+use Rattle.qs_line.specs.Line.{format_by, format_of_request, request_of}
+use Rattle.qs_line.specs.declared.question.Question.{Question}
 use Rattle.qs_program.specs.audit.Program.{ProgramShape}
 use Rattle.qs_report.specs.declared.faults.Fault.{Fault}
 use Rattle.qs_report.specs.declared.faults.Fault.TheVariants as fault
@@ -15,7 +16,7 @@ use Rattle.qs_tally.specs.Tallies.{TallyShape}
 use Rattle.qs_played.specs.declared.fault.RunFault.{RunFault}
 use Rattle.qs_line.specs.declared.line.Format.{Format}
 use Rattle.qs_serve.specs.audit.Due.{longest}
-use Rattle.qs_serve.specs.Due.{HasAsked, HasAskedFor, HasAskedTimes, HasStarted, IsCounted, IsAsked, IsDue, IsDueOfProgram, IsFoundBefore, IsOfScript, IsOutOfMemory, IsProgramRead, IsRefusedBy, IsStartedBy, IsUnbegun, Lines, Serves, ServesStarting}
+use Rattle.qs_serve.specs.Due.{HasAsked, HasAskedFor, HasAskedTimes, HasStarted, IsCounted, IsAsked, IsDue, IsDueOfProgram, IsDueOfTextAlone, IsDueOfWhole, IsDueWithoutThreads, IsFoundBefore, IsOfScript, IsOutOfMemory, IsProgramOf, IsProgramRead, IsRefusedBy, IsStartedBy, IsUnbegun, Lines, Serves, ServesStarting, claims_of_script, takes_threads, with_claims}
 use Rattle.qs_serve.specs.Reading.{Reading}
 use Rattle.qs_serve.specs.declared.due.Due.{Due}
 use Rattle.qs_serve.specs.declared.due.Due.TheVariants.{Text, No, Refused}
@@ -25,13 +26,78 @@ use Rattle.qs_serve.proofs.Dues.{due_by_program}
 pub due_by_asked : (line : Line) (known : Option (List ℕ)) (failed : Bool) (settings : Settings) (lines : Lines) (p : ProgramShape) (due : Due)
     → IsAsked line known failed settings lines p → (¬ IsRefusedBy fault.Input due)
     → IsOutOfMemory due ⊎ IsDueOfProgram (request_of settings) lines p due → IsDue line known failed due
-due_by_asked line None failed settings lines p due (is, (fine, of)) input made =
+due_by_asked line None failed settings lines p due (request, is, whole, (fine, of)) input made =
     subst (λ l. IsDue l None failed due) (sym is)
-    (subst (λ b. IsDue (asks (request_of settings)) None b due) (sym fine) (input, inr tt))
-due_by_asked line (Some bytes) failed settings lines p due (is, (fine, of)) input made =
+    (subst (λ b. IsDue (asks request) None b due) (sym fine) (input, inr tt))
+due_by_asked line (Some bytes) failed settings lines p due (request, is, (found, whole, claims), (fine, of)) input made =
+    let text = take longest bytes in
+    let its : request_of settings ≡ with_claims request (claims_of_script text) = whole ∙ ap (with_claims request) claims in
     subst (λ l. IsDue l (Some bytes) failed due) (sym is)
-    (subst (λ b. IsDue (asks (request_of settings)) (Some bytes) b due) (sym fine)
-    (input, due_by_program (request_of settings) (take longest bytes) lines p due of made))
+    (subst (λ b. IsDue (asks request) (Some bytes) b due) (sym fine) (
+      input,
+      subst (λ r. IsOutOfMemory due ⊎ IsDueOfWhole r text due) its
+          (due_by_program (request_of settings) text lines p due of made),
+    ))
+
+-- its format is that of the line
+with_same_format : (request : Request) (found : List Question) → format_of_request (with_claims request found) ≡ format_of_request request
+with_same_format (ask claims how limit front) found = refl
+with_same_format (check how) found = refl
+with_same_format (graph how) found = refl
+with_same_format (rules style plan) found = refl
+with_same_format (play style mode size plan) found = refl
+with_same_format (syncs how plan) found = refl
+with_same_format (run style mode size) found = refl
+with_same_format (tally how mode size times) found = refl
+with_same_format (estimate how front) found = refl
+with_same_format (fronts how blocks limit orders) found = refl
+with_same_format (alike how limit) found = refl
+with_same_format (outcomes how limit threads front) found = refl
+
+pub format_by_asked : (line : Line) (known : Option (List ℕ)) (failed : Bool) (settings : Settings) (lines : Lines) (p : ProgramShape)
+    → IsAsked line known failed settings lines p → format_of_request (request_of settings) ≡ format_by line
+format_by_asked line known failed settings lines p (request, is, (found, whole, claims), read) =
+    subst (λ l. format_of_request (request_of settings) ≡ format_by l) (sym is)
+    (ap format_of_request whole ∙ with_same_format request found)
+
+-- and it takes threads where the line does
+with_same_threads : (request : Request) (found : List Question) → takes_threads (with_claims request found) ≡ takes_threads request
+with_same_threads (ask claims how limit front) found = refl
+with_same_threads (check how) found = refl
+with_same_threads (graph how) found = refl
+with_same_threads (rules style plan) found = refl
+with_same_threads (play style mode size plan) found = refl
+with_same_threads (syncs how plan) found = refl
+with_same_threads (run style mode size) found = refl
+with_same_threads (tally how mode size times) found = refl
+with_same_threads (estimate how front) found = refl
+with_same_threads (fronts how blocks limit orders) found = refl
+with_same_threads (alike how limit) found = refl
+with_same_threads (outcomes how limit threads front) found = refl
+
+without_threads : (b : Bool) (P Q : Type 0) → b ≡ false → MatchBool b P Q → Q
+without_threads true P Q e is = absurd (cc e)
+without_threads false P Q e is = is
+
+where_none : (b : Bool) (P Q : Type 0) → b ≡ false → Q → MatchBool b P Q
+where_none true P Q e is = absurd (cc e)
+where_none false P Q e is = is
+
+of_text_alone : (request full : Request) (text : List ℕ) (due : Due) → full ≡ with_claims request (claims_of_script text)
+    → takes_threads request ≡ false → IsOutOfMemory due ⊎ IsDueOfWhole full text due → IsDueOfTextAlone request text due
+of_text_alone request full text due e none (inl memory) = inl memory
+of_text_alone request full text due e none (inr is) =
+    inr (where_none (takes_threads request) _ _ none (subst (λ r. IsDueOfWhole r text due) e is))
+
+-- what is due of the program of a text, where there are no threads, is due of the text
+pub due_alone : (request full : Request) (text : List ℕ) (found : Lines) (p : ProgramShape) (due : Due)
+    → full ≡ with_claims request (claims_of_script text) → IsProgramOf full text found p → takes_threads request ≡ false
+    → IsDueWithoutThreads full found p due → IsDueOfTextAlone request text due
+due_alone request full text found p due e of none (inl memory) = inl memory
+due_alone request full text found p due e of none (inr made) =
+    let alone : takes_threads full ≡ false = ap takes_threads e ∙ with_same_threads request (claims_of_script text) ∙ none in
+    of_text_alone request full text due e none
+    (due_by_program full text found p due of (inr (without_threads (takes_threads full) _ _ alone made)))
 
 -- of the script that was read
 of_read : (request : Request) (known : Option (List ℕ)) (failed : Bool) (lines : Lines) (p : ProgramShape) (P : ProgramShape → Type 0)
@@ -90,29 +156,30 @@ module _ {S : Type 0} (Answers : S → ℕ → Bool → S → Type 0) (before af
   started_times request times known failed lines p (Refused (fault.Outcomes f)) read asked = tt
 
   -- by what was asked for
-  started_for : (request : Request) (known : Option (List ℕ)) (failed : Bool) (lines : Lines) (p : ProgramShape) (due : Due)
-      → IsProgramRead request known failed lines p → HasAskedFor Answers request p before after due
+  started_for : (request : Request) (found : List Question) (known : Option (List ℕ)) (failed : Bool) (lines : Lines) (p : ProgramShape) (due : Due)
+      → IsProgramRead (with_claims request found) known failed lines p → HasAskedFor Answers (with_claims request found) p before after due
       → IsStartedBy Answers (asks request) known before after due
-  started_for (run style mode size) known failed lines p due read asked = started (run style mode size) known failed lines p due read asked
-  started_for (tally how mode size times) known failed lines p due read asked =
+  started_for (run style mode size) found known failed lines p due read asked = started (run style mode size) known failed lines p due read asked
+  started_for (tally how mode size times) found known failed lines p due read asked =
       started_times (tally how mode size times) times known failed lines p due read asked
-  started_for (check how) known failed lines p due read asked = tt
-  started_for (graph how) known failed lines p due read asked = tt
-  started_for (rules style plan) known failed lines p due read asked = tt
-  started_for (play style mode size plan) known failed lines p due read asked = tt
-  started_for (syncs how plan) known failed lines p due read asked = tt
-  started_for (ask claim how limit front) known failed lines p due read asked = tt
-  started_for (estimate how front) known failed lines p due read asked = tt
-  started_for (fronts how blocks limit orders) known failed lines p due read asked = tt
-  started_for (alike how limit) known failed lines p due read asked = tt
-  started_for (outcomes how limit threads front) known failed lines p due read asked = tt
+  started_for (check how) found known failed lines p due read asked = tt
+  started_for (graph how) found known failed lines p due read asked = tt
+  started_for (rules style plan) found known failed lines p due read asked = tt
+  started_for (play style mode size plan) found known failed lines p due read asked = tt
+  started_for (syncs how plan) found known failed lines p due read asked = tt
+  started_for (ask claim how limit front) found known failed lines p due read asked = tt
+  started_for (estimate how front) found known failed lines p due read asked = tt
+  started_for (fronts how blocks limit orders) found known failed lines p due read asked = tt
+  started_for (alike how limit) found known failed lines p due read asked = tt
+  started_for (outcomes how limit threads front) found known failed lines p due read asked = tt
 
   pub started_by_asked : (line : Line) (known : Option (List ℕ)) (failed : Bool) (settings : Settings) (lines : Lines) (p : ProgramShape) (due : Due)
       → IsAsked line known failed settings lines p → HasAskedFor Answers (request_of settings) p before after due
       → IsStartedBy Answers line known before after due
-  started_by_asked line known failed settings lines p due (is, read) asked =
+  started_by_asked line known failed settings lines p due (request, is, (found, whole, claims), read) asked =
       subst (λ l. IsStartedBy Answers l known before after due) (sym is)
-      (started_for (request_of settings) known failed lines p due read asked)
+      (started_for request found known failed lines p due (subst (λ r. IsProgramRead r known failed lines p) whole read)
+      (subst (λ r. HasAskedFor Answers r p before after due) whole asked))
 
   pub started_unbegun : (line : Line) (known : Option (List ℕ)) (due : Due) → IsUnbegun line due
       → IsStartedBy Answers line known before after due

@@ -35,6 +35,12 @@ use Rattle.qs_line.specs.declared.line.GraphFormat.TheVariants as graph_format
 use Rattle.qs_line.specs.declared.line.ReportStyle.{ReportStyle}
 use Rattle.qs_line.specs.audit.Line.{Line, Request, alike, ask, asks, check, estimate, fronts, graph, help, outcomes, play, refused, rules, run, syncs, tally, version}
 use Rattle.qs_conditions.specs.declared.claim.Claim.{Claim}
+use Rattle.qs_conditions.specs.declared.condition.Summand.{Summand}
+use Rattle.qs_line.specs.declared.question.Question.TheVariants as question
+use Rattle.qs_questions.specs.SumValues.{AreValuesOf}
+use Rattle.qs_questions.specs.declared.sums.SumValue.{SumValue}
+use Rattle.qs_report.specs.ValuesText.{IsValuesText}
+use Rattle.qs_json.specs.ValuesJson.{IsValuesJson}
 use Rattle.qs_outcomes.specs.Answers.{AnswerShape}
 use Rattle.std.specs.Prelude.{IfSome}
 use Rattle.std.specs.List.{AllByRecursion}
@@ -60,7 +66,7 @@ use Rattle.qs_core.specs.state.CoreState.{IsShownIsolated}
 use Rattle.qs_played.specs.Isolation.{IsIsolated}
 use Rattle.qs_serve.specs.audit.RunReports.{report_by}
 use Rattle.qs_serve.specs.audit.Due.{told_report}
-use Rattle.qs_serve.specs.Due.{AreLinesFor, AreLinesWhere, IsAnswerAfterDue, IsAnswerTextTo, IsAnswered, IsCounted, IsDue, IsDueAfter, answer_in, most_numbered, IsDueOfProgram, IsDueOfText, IsListOf, IsOutOfMemory, IsProgramOf, IsRefusedBy, IsReportBetween, IsReportOf, IsSomeText, IsTextBy, IsTextOfOutcomes, Lines, IsUnanswered, IsUnlisted, due_status, limit_in, listed_as, IsTextOfList}
+use Rattle.qs_serve.specs.Due.{AreLinesFor, AreLinesWhere, AreValuesDue, IsAnswerAfterDue, IsAnswered, IsClaimAnswer, IsCounted, IsDue, IsDueAfter, answer_in, most_numbered, IsDueOfProgram, IsDueOfWhole, IsListOf, IsOutOfMemory, IsProgramOf, IsRefusedBy, IsReportBetween, IsReportOf, IsSomeText, IsTextBy, IsTextOfOutcomes, Lines, IsUnanswered, IsUnlisted, due_status, limit_in, listed_as, values_in, IsTextOfList, IsValuesAnswer}
 use Rattle.qs_serve.specs.declared.due.Due.{Due}
 use Rattle.qs_serve.specs.declared.due.Due.TheVariants.{Text, No, Refused}
 
@@ -251,18 +257,41 @@ answer_places claim p front a (k, classes, is) = places_by claim.quantifier p k 
 
 -- an answer that is due by a claim, in either format
 answered_by : (holds : Bool) (how : Format) (p : ProgramShape) (claim : Claim) (limit : ℕ) (clients : List ℕ) (a : AnswerShape) (text : List ℕ)
-    → IsAnswerTo claim p (order_of clients) a → a.configurations ≤ limit → is_yes claim.quantifier a ≡ holds → text ≡ answer_in how p claim.quantifier a
-    → IsAnswerTextTo how p claim limit clients holds text
+    → IsAnswerTo claim p (order_of clients) a → a.configurations ≤ limit → is_yes claim.quantifier a ≡ holds → text ≡ answer_in how p claim a
+    → IsClaimAnswer how p claim limit clients holds text
 unfolding IsAnswerText IsAnswerJson
 answered_by holds format.Text p claim limit clients a text are within is e = (a, are, within, sym is, e)
 answered_by holds format.Json p claim limit clients a text are within is e = (a, are, within, sym is, e)
 
 pub answer_after : (how : Format) (p : ProgramShape) (claim : Claim) (limit : ℕ) (clients : List ℕ) (a : AnswerShape) (due : Due)
-    → IsAnswerTo claim p (order_of clients) a → a.configurations ≤ limit → IsAnswered how p claim.quantifier a due
-    → IsAnswerAfterDue how p claim limit clients due
+    → IsAnswerTo claim p (order_of clients) a → a.configurations ≤ limit → IsAnswered how p claim a due
+    → IsAnswerAfterDue how p (question.Claim claim) limit clients due
 answer_after how p claim limit clients a (Text bytes) are within is = answered_by true how p claim limit clients a bytes.items are within is.0 is.1
 answer_after how p claim limit clients a (No bytes) are within is = answered_by false how p claim limit clients a bytes.items are within is.0 is.1
-answer_after how p claim limit clients a (Refused f) are within is = subst (λ g. IsAnswerAfterDue how p claim limit clients (Refused g)) (sym is) tt
+answer_after how p claim limit clients a (Refused f) are within is = subst (λ g. IsAnswerAfterDue how p (question.Claim claim) limit clients (Refused g)) (sym is) tt
+
+-- the values of a sum that are due by a question, in either format
+values_by : (how : Format) (p : ProgramShape) (sum : List Summand) (limit : ℕ) (clients : List ℕ) (all : OutcomesShape) (values : List SumValue) (text : List ℕ)
+    → AreOutcomesAfter p (order_of clients) all → all.configurations ≤ limit → AreValuesOf p sum all.found values → text ≡ values_in how values all
+    → IsValuesAnswer how p sum limit clients text
+unfolding IsValuesText IsValuesJson
+values_by format.Text p sum limit clients all values text are within exact is = (all, values, are, within, exact, is)
+values_by format.Json p sum limit clients all values text are within exact is = (all, values, are, within, exact, is)
+
+pub values_after : (how : Format) (p : ProgramShape) (sum : List Summand) (limit : ℕ) (clients : List ℕ) (all : OutcomesShape) (due : Due)
+    → AreOutcomesAfter p (order_of clients) all → all.configurations ≤ limit → AreValuesDue how p sum all due
+    → IsAnswerAfterDue how p (question.Values sum) limit clients due
+values_after how p sum limit clients all (Text bytes) are within (values, exact, is) =
+    (refl, values_by how p sum limit clients all values bytes.items are within exact is)
+values_after how p sum limit clients all (No bytes) are within is = absurd is
+values_after how p sum limit clients all (Refused f) are within is =
+    subst (λ g. IsAnswerAfterDue how p (question.Values sum) limit clients (Refused g)) (sym is) tt
+
+pub values_are_no_input : (how : Format) (p : ProgramShape) (sum : List Summand) (all : OutcomesShape) (due : Due) → AreValuesDue how p sum all due
+    → ¬ IsRefusedBy fault.Input due
+values_are_no_input how p sum all (Text bytes) is = λ none. none
+values_are_no_input how p sum all (No bytes) is = λ none. none
+values_are_no_input how p sum all (Refused f) is = λ e. absurd (cc (is, e))
 
 -- each end of a tally has its places
 places_of : (p : ProgramShape) (ends : List CountedShape) → AllByRecursion (IsEnd p) (standings_in ends)
@@ -326,7 +355,7 @@ shown_is_legal p mode size picks rounds played is = is.3.legal
 
 -- what is due of the program of a text is due of the text
 by_program : (request : Request) (text : List ℕ) (s : List Item) (due : Due) → IsScriptText text s → fault_of s ≡ None
-    → IsDueOfProgram request (node_lines text s) (program_of_items s) due → IsDueOfText request text due
+    → IsDueOfProgram request (node_lines text s) (program_of_items s) due → IsDueOfWhole request text due
 by_program request text s (Text bytes) script sound is = (s, script, sound, is)
 by_program request text s (No bytes) script sound is = (s, script, sound, is)
 by_program request text s (Refused fault.CommandLine) script sound is = (s, script, sound, is)
@@ -340,7 +369,7 @@ by_program request text s (Refused (fault.Read f)) script sound is = absurd is
 by_program request text s (Refused (fault.Check f)) script sound is = absurd is
 
 pub due_by_program : (request : Request) (text : List ℕ) (found : Lines) (p : ProgramShape) (due : Due) → IsProgramOf request text found p
-    → IsOutOfMemory due ⊎ IsDueOfProgram request found p due → IsOutOfMemory due ⊎ IsDueOfText request text due
+    → IsOutOfMemory due ⊎ IsDueOfProgram request found p due → IsOutOfMemory due ⊎ IsDueOfWhole request text due
 due_by_program request text found p due of (inl memory) = inl memory
 due_by_program request text found p due (s, script, sound, e, are) (inr is) =
     inr (by_program request text s due script sound

@@ -3,15 +3,23 @@
 -- by what the line asks for it is the report of a run, and all runs are as if serial.
 use Rattle.std.proofs.Common.{◌≡◌, ℕ, Bool, List, [], ◌∷◌, ◌++◌, ◌∙◌, Option, Some, None, Result, Ok, Err, true, false, refl, sym, ap, subst, inl, inr, take, IsOkAnd, Vec}
 use Rattle.std.specs.List.{AllByRecursion}
-use Rattle.std.specs.Prelude.{IfSome, MatchBool, if◌then◌else◌}
+use Rattle.std.specs.Prelude.{IfSome, MatchBool, if◌then◌else◌, unwrap_or}
 use Rattle.std.specs.Global.{Global}
 use Rattle.std.specs.Io.KnownBytes.{Appends}
 use Rattle.qs_check.specs.audit.Checked.{fault_of}
 use Rattle.qs_check.proofs.SoundTexts.{sound_accepted}
 use Rattle.qs_conditions.specs.Conditions.{Tree, steps_of}
 use Rattle.qs_conditions.specs.declared.claim.Claim.{Claim}
+use Rattle.qs_conditions.specs.declared.condition.Summand.{Summand}
+use Rattle.qs_line.specs.declared.question.Question.{Question}
+use Rattle.qs_line.specs.declared.question.Question.TheVariants as question
+use Rattle.qs_questions.specs.SumValues.{AreValuesOf}
+use Rattle.qs_questions.specs.declared.sums.SumValue.{SumValue}
+use Rattle.qs_report.specs.ValuesText.{IsValuesText}
+use Rattle.qs_json.specs.ValuesJson.{IsValuesJson}
 use Rattle.qs_script.proofs.grammar.Form.{formed}
-use Rattle.qs_line.proofs.Claims.{claims_have_conditions, runs_are_lines}
+use Rattle.qs_line.proofs.Claims.{claims_have_conditions, runs_are_lines, script_claims_have_conditions}
+use Rattle.qs_line.specs.ScriptClaims.{claims_in}
 use Rattle.qs_line.specs.Claims.{IsOfCondition}
 use Rattle.qs_line.specs.audit.RunLines.{style_of}
 use Rattle.qs_line.specs.audit.Line.{Line, Request, alike, ask, asks, by_order, by_schedule, check, estimate, fronts, graph, outcomes, play, rules, run, syncs, tally}
@@ -54,9 +62,9 @@ use Rattle.qs_serve.specs.audit.RunReports.{report_by}
 use Rattle.qs_script.specs.audit.Reads.{IsScriptText}
 use Rattle.qs_serial.specs.audit.NamedOrders.{order_of}
 use Rattle.qs_serve.specs.audit.Due.{longest, told_report}
-use Rattle.qs_serve.specs.Due.{AreAnswersTo, AreFrontsTexts, AreLinesWhere, IsAlikeText, IsFrontsText, IsAnswerBy, IsAnswerTextTo, IsDue, IsDueOfLine, IsDueOfText, IsDueOfTextAlone, IsTextBy, IsTextOfOutcomes, Lines, Serves, answer_in, due_status, due_text, takes_threads}
+use Rattle.qs_serve.specs.Due.{AreAnswersTo, AreFrontsTexts, AreLinesWhere, IsAlikeText, IsFrontsText, IsAnswerBy, IsAnswerTextTo, IsClaimAnswer, IsDue, IsDueOfLine, IsDueOfText, IsDueOfTextAlone, IsDueOfWhole, IsTextBy, IsTextOfOutcomes, IsValuesAnswer, Lines, Serves, answer_in, claims_of_script, due_status, due_text, questions_or, takes_threads, values_in, with_claims}
 use Rattle.qs_serve.specs.audit.Headline.{IsAskedFor, IsHeadline, IsReported, IsToTheEnd}
-use Rattle.qs_serve.specs.Headline.{AreAnsweredTruly, AreAnswersTrue, AreListsTrue, AreTrueAnswers, AreTrueFronts, IsTextOfAll, IsTrueList, IsTrueOfRuns}
+use Rattle.qs_serve.specs.Headline.{AreAnsweredTruly, AreAnswersTrue, AreListsTrue, AreTrueAnswers, AreTrueFronts, AreTrueValues, IsTextOfAll, IsTrueAnswerTo, IsTrueList, IsTrueOfRuns}
 use Rattle.qs_serve.specs.Reading.{Reading}
 use Rattle.qs_serve.specs.declared.due.Due.{Due}
 use Rattle.qs_serve.specs.declared.due.Due.TheVariants.{Text, No, Refused}
@@ -158,6 +166,22 @@ by_request (fronts how blocks limit orders) style text bytes old new s e script 
 by_request (alike how limit) style text bytes old new s e script accepted is written = absurd (cc e)
 by_request (outcomes how limit threads front) style text bytes old new s e script accepted is written = absurd (cc e)
 
+-- a request for a run is the same with any claims
+with_no_claims : (request : Request) (style : ReportStyle) (found : List Question) → style_of request ≡ Some style
+    → with_claims request found ≡ request
+with_no_claims (ask claims how limit front) style found e = absurd (cc e)
+with_no_claims (check how) style found e = refl
+with_no_claims (graph how) style found e = refl
+with_no_claims (rules own plan) style found e = refl
+with_no_claims (play own mode size plan) style found e = refl
+with_no_claims (syncs how plan) style found e = refl
+with_no_claims (run own mode size) style found e = refl
+with_no_claims (tally how mode size times) style found e = refl
+with_no_claims (estimate how front) style found e = refl
+with_no_claims (fronts how blocks limit orders) style found e = refl
+with_no_claims (alike how limit) style found e = refl
+with_no_claims (outcomes how limit threads front) style found e = refl
+
 -- what is due of known bytes, where a text is due
 text_due : (request : Request) (known : Option (List ℕ)) (failed : Bool) (due : Due) → IsDue (asks request) known failed due
     → ((f : Fault) → due ≡ Refused f → ⊥) → IfSome known (λ bytes. IsDueOfText request (take longest bytes) due)
@@ -185,13 +209,20 @@ of_known : (known : Option (List ℕ)) (P Q : List ℕ → Type 0) → ((bytes :
 of_known None P Q goes is = tt
 of_known (Some bytes) P Q goes is = goes bytes is
 
+by_whole : (request : Request) (style : ReportStyle) (text : List ℕ) (old new : Option (List ℕ)) (how : Format) (due : Due)
+    → style_of request ≡ Some style → 0 ≡ due_status due → IsDueOfWhole request text due → Appends old new (due_text how due)
+    → IsReported request style text old new
+by_whole request style text old new how (Text bytes) e zero (s, script, accepted, is) written =
+    by_request request style text bytes.items old new s e script accepted is written
+by_whole request style text old new how (No bytes) e zero is written = absurd (cc zero)
+by_whole request style text old new how (Refused f) e zero is written = absurd (zero_is_none f (sym zero))
+
 by_due : (request : Request) (style : ReportStyle) (text : List ℕ) (old new : Option (List ℕ)) (how : Format) (due : Due)
     → style_of request ≡ Some style → 0 ≡ due_status due → IsDueOfText request text due → Appends old new (due_text how due)
     → IsReported request style text old new
-by_due request style text old new how (Text bytes) e zero (s, script, accepted, is) written =
-    by_request request style text bytes.items old new s e script accepted is written
-by_due request style text old new how (No bytes) e zero is written = absurd (cc zero)
-by_due request style text old new how (Refused f) e zero is written = absurd (zero_is_none f (sym zero))
+by_due request style text old new how due e zero is written =
+    by_whole request style text old new how due e zero
+    (subst (λ r. IsDueOfWhole r text due) (with_no_claims request style (claims_of_script text) e) is) written
 
 -- the headline
 pub headline : (words : List (List ℕ)) (before after : Reading) (old new : Option (List ℕ)) (failed : Bool) (status : ℕ)
@@ -206,43 +237,70 @@ headline words before after old new failed status (due, how, is_due, formatted, 
 
 -- an answer, as text or as JSON
 an_answer : (claim : Claim) (how : Format) (limit : ℕ) (clients : List ℕ) (holds : Bool) (p : ProgramShape) (bytes : List ℕ)
-    → IsAnswerTextTo how p claim limit clients holds bytes
-    → (a : AnswerShape) × IsAnswerTo claim p (order_of clients) a × (holds ≡ is_yes claim.quantifier a) × (bytes ≡ answer_in how p claim.quantifier a)
+    → IsClaimAnswer how p claim limit clients holds bytes
+    → (a : AnswerShape) × IsAnswerTo claim p (order_of clients) a × (holds ≡ is_yes claim.quantifier a) × (bytes ≡ answer_in how p claim a)
 unfolding IsAnswerText IsAnswerJson
 an_answer claim format.Text limit clients holds p bytes (a, are, within, holding, is) = (a, are, holding, is)
 an_answer claim format.Json limit clients holds p bytes (a, are, within, holding, is) = (a, are, holding, is)
 
--- answers that are written are true of all runs
-true_answers : (p : ProgramShape) → IsSound p → (how : Format) (limit : ℕ) (front : List Part) (clients : List ℕ)
-    → clients_of p front ≡ Ok clients → (claims : List Claim) → AllByRecursion IsOfCondition claims → (hold : Bool)
-    (text : List ℕ) → AreAnswersTo how p limit clients claims hold text → AreTrueAnswers p how front claims hold text
-true_answers p sound how limit front clients named [] have hold text is = is
-true_answers p sound how limit front clients named (claim ∷ claims) (own, have) hold text (first, rest, holds, others, is, are, both, e) =
-    let found = an_answer claim how limit clients holds p first is in (
-      first,
-      rest,
-      holds,
-      others,
+-- the values of a sum, as text or as JSON
+values_of : (sum : List Summand) (how : Format) (limit : ℕ) (clients : List ℕ) (p : ProgramShape) (bytes : List ℕ)
+    → IsValuesAnswer how p sum limit clients bytes
+    → (all : OutcomesShape) × (values : List SumValue) × AreOutcomesAfter p (order_of clients) all
+    × AreValuesOf p sum all.found values × (bytes ≡ values_in how values all)
+unfolding IsValuesText IsValuesJson
+values_of sum format.Text limit clients p bytes (all, values, are, within, exact, is) = (all, values, are, exact, is)
+values_of sum format.Json limit clients p bytes (all, values, are, within, exact, is) = (all, values, are, exact, is)
+
+-- an answer that is written is true of all runs
+true_answer : (p : ProgramShape) → IsSound p → (how : Format) (limit : ℕ) (front : List Part) (clients : List ℕ)
+    → clients_of p front ≡ Ok clients → (q : Question) → IsOfCondition q → (holds : Bool) (text : List ℕ)
+    → IsAnswerTextTo how p q limit clients holds text → IsTrueAnswerTo p how front q holds text
+true_answer p sound how limit front clients named (question.Claim claim) own holds text is =
+    let found = an_answer claim how limit clients holds p text is in
+    record {
+      answer = found.0;
+      is = sym found.2;
+      told = found.3;
+      condition = own.0;
+      steps = own.1;
+      of_runs = of_named (λ xs. Says claim.quantifier holds p own.0 (order_of xs)) _ clients named
+          (subst (λ b. Says claim.quantifier b p own.0 (order_of clients)) (sym found.2)
+          (answers_of_runs p sound claim own.0 own.1 (order_of clients) found.0 found.1));
+    }
+true_answer p sound how limit front clients named (question.Values sum) own holds text (yes_it_is, is) =
+    let found = values_of sum how limit clients p text is in (
+      yes_it_is,
       record {
-        answer = found.0;
-        is = sym found.2;
-        told = found.3;
-        condition = own.0;
-        steps = own.1;
-        of_runs = of_named (λ xs. Says claim.quantifier holds p own.0 (order_of xs)) _ clients named
-            (subst (λ b. Says claim.quantifier b p own.0 (order_of clients)) (sym found.2)
-            (answers_of_runs p sound claim own.0 own.1 (order_of clients) found.0 found.1));
+        all = found.0;
+        of_runs = of_named (λ xs. IsWholeList p (order_of xs) found.0.found) _ clients named
+            (lists_of_runs p sound (order_of clients) found.0 found.2);
+        values = found.1;
+        exact = found.3;
+        told = found.4;
       },
-      true_answers p sound how limit front clients named claims have others rest are,
-      both,
-      e,
     )
 
-by_answers : (claims : List Claim) (how : Format) (limit : ℕ) (front : List Part) (hold : Bool) (text bytes : List ℕ)
+true_answers : (p : ProgramShape) → IsSound p → (how : Format) (limit : ℕ) (front : List Part) (clients : List ℕ)
+    → clients_of p front ≡ Ok clients → (questions : List Question) → AllByRecursion IsOfCondition questions → (hold : Bool)
+    (text : List ℕ) → AreAnswersTo how p limit clients questions hold text → AreTrueAnswers p how front questions hold text
+true_answers p sound how limit front clients named [] have hold text is = is
+true_answers p sound how limit front clients named (q ∷ questions) (own, have) hold text (first, rest, holds, others, is, are, both, e) = (
+  first,
+  rest,
+  holds,
+  others,
+  true_answer p sound how limit front clients named q own holds first is,
+  true_answers p sound how limit front clients named questions have others rest are,
+  both,
+  e,
+)
+
+by_answers : (claims : List Question) (how : Format) (limit : ℕ) (front : List Part) (hold : Bool) (text bytes : List ℕ)
     (old new : Option (List ℕ)) (s : List Item) → IsScriptText text s → fault_of s ≡ None
     → AllByRecursion IsOfCondition claims → IsAnswerBy (ask claims how limit front) (program_of_items s) hold bytes
     → Appends old new bytes → AreAnsweredTruly claims how front hold text old new
-by_answers claims how limit front hold text bytes old new s script accepted have (known, is) written =
+by_answers claims how limit front hold text bytes old new s script accepted have (some, known, is) written =
     let who = named (clients_of (program_of_items s) front) _ is in
     record {
       script = s;
@@ -253,9 +311,9 @@ by_answers claims how limit front hold text bytes old new s script accepted have
       answers = true_answers (program_of_items s) (sound_script text s script accepted) how limit front who.0 who.1 claims have hold bytes who.2;
     }
 
-answered_due : (claims : List Claim) (how shown : Format) (limit : ℕ) (front : List Part) (hold : Bool) (text : List ℕ)
+answered_due : (claims : List Question) (how shown : Format) (limit : ℕ) (front : List Part) (hold : Bool) (text : List ℕ)
     (old new : Option (List ℕ)) (due : Due) → AllByRecursion IsOfCondition claims
-    → (if hold then 0 else 1) ≡ due_status due → IsDueOfText (ask claims how limit front) text due
+    → (if hold then 0 else 1) ≡ due_status due → IsDueOfWhole (ask claims how limit front) text due
     → Appends old new (due_text shown due) → AreAnsweredTruly claims how front hold text old new
 answered_due claims how shown limit front true text old new (Text bytes) have e (s, script, accepted, is) written =
     by_answers claims how limit front true text bytes.items old new s script accepted have is written
@@ -275,6 +333,17 @@ no_four : (holds : Bool) (status : ℕ) → status ≡ (if holds then 0 else 1) 
 no_four true status e four = absurd (cc (e, four))
 no_four false status e four = absurd (cc (e, four))
 
+-- the claims that are asked are of conditions, on the line and in the script
+found_have : (o : Option (List Question)) → ((claims : List Question) → o ≡ Some claims → AllByRecursion IsOfCondition claims)
+    → AllByRecursion IsOfCondition (unwrap_or o [])
+found_have None have = tt
+found_have (Some claims) have = have claims refl
+
+asked_have : (claims found : List Question) → AllByRecursion IsOfCondition claims → AllByRecursion IsOfCondition found
+    → AllByRecursion IsOfCondition (questions_or claims found)
+asked_have [] found own others = others
+asked_have (claim ∷ claims) found own others = own
+
 pub answers : (words : List (List ℕ)) (before after : Reading) (old new : Option (List ℕ)) (failed : Bool) (status : ℕ)
     → Serves words before after old new failed status → AreAnswersTrue words before.remaining old new status
 answers words before after old new failed status (due, how, is_due, formatted, front, ending) claims shown limit clients line holds e =
@@ -282,8 +351,11 @@ answers words before after old new failed status (due, how, is_due, formatted, f
     let none = not_refused (if holds then 0 else 1) due (no_fault holds) (sym e ∙ all.1) in
     let of_line = subst (λ l. IsDue l before.remaining after.has_failed due) line is_due in
     of_known before.remaining _ _
-    (λ bytes is. answered_due claims shown how limit clients holds (take longest bytes) old new due
-    (claims_have_conditions words (ask claims shown limit clients) line) (sym e ∙ all.1) is all.0)
+    (λ bytes is. answered_due (questions_or claims (claims_of_script (take longest bytes))) shown how limit clients holds
+    (take longest bytes) old new due
+    (asked_have claims (claims_of_script (take longest bytes)) (claims_have_conditions words (ask claims shown limit clients) line)
+    (found_have (claims_in (take longest bytes)) (script_claims_have_conditions (take longest bytes))))
+    (sym e ∙ all.1) is all.0)
     (text_due (ask claims shown limit clients) before.remaining after.has_failed due of_line none)
 
 -- all outcomes, as they were asked for
@@ -313,9 +385,10 @@ module _ (p : ProgramShape) (sound : IsSound p) where
       )
 
   -- what a text says is so of the runs of the program
-  true_of_runs : (request : Request) (lines : Lines) (bytes : List ℕ) → IsTextBy request lines p bytes → IsTrueOfRuns request p bytes
+  true_of_runs : (request : Request) (found : List Question) (lines : Lines) (bytes : List ℕ) → IsTextBy (with_claims request found) lines p bytes
+      → IsTrueOfRuns request p bytes
   unfolding IsAlikeText
-  true_of_runs (outcomes how limit threads front) lines bytes is =
+  true_of_runs (outcomes how limit threads front) own lines bytes is =
       let who = named (clients_of p front) _ is in
       let found = all_outcomes how limit who.0 p bytes who.2 in (
         found.0,
@@ -323,10 +396,10 @@ module _ (p : ProgramShape) (sound : IsSound p) where
         of_named (λ xs. IsWholeList p (order_of xs) found.0.found) _ who.0 who.1
             (lists_of_runs p sound (order_of who.0) found.0 found.1),
       )
-  true_of_runs (alike how limit) lines bytes (k, classes, (all, are, within, is)) =
+  true_of_runs (alike how limit) own lines bytes (k, classes, (all, are, within, is)) =
       (k, classes, (all, alike_lists_of_runs p sound k all are, is))
-  true_of_runs (fronts how blocks limit orders) lines bytes is = true_fronts how blocks orders bytes is
-  true_of_runs (tally how mode size times) lines bytes (t, by, is) = (
+  true_of_runs (fronts how blocks limit orders) own lines bytes is = true_fronts how blocks orders bytes is
+  true_of_runs (tally how mode size times) own lines bytes (t, by, is) = (
     t,
     record {
       runs = by.runs;
@@ -337,7 +410,7 @@ module _ (p : ProgramShape) (sound : IsSound p) where
     },
     is,
   )
-  true_of_runs _ lines bytes is = tt
+  true_of_runs _ own lines bytes is = tt
 
 listed_due : (request : Request) (shown : Format) (text : List ℕ) (old new : Option (List ℕ)) (due : Due)
     → 0 ≡ due_status due → IsDueOfText request text due → Appends old new (due_text shown due) → IsTrueList request text old new
@@ -347,7 +420,7 @@ listed_due request shown text old new (Text bytes) e (s, script, accepted, is) w
   accepted = accepted;
   bytes = bytes.items;
   written = written;
-  of_runs = true_of_runs (program_of_items s) (sound_script text s script accepted) request (node_lines text s) bytes.items is;
+  of_runs = true_of_runs (program_of_items s) (sound_script text s script accepted) request (claims_of_script text) (node_lines text s) bytes.items is;
 }
 listed_due request shown text old new (No bytes) e is written = absurd (cc e)
 listed_due request shown text old new (Refused f) e is written = absurd (zero_is_none f (sym e))

@@ -1,5 +1,5 @@
 -- Beside what the headline reaches (`audit/Due.antt`): what else contracts and proofs use.
-use Rattle.std.specs.Prelude.{◌≡◌, ◌≤◌, ℕ, ◌⊎◌, List, [], ◌∷◌, ◌++◌, min, take, Bool, true, false, if◌then◌else◌, ◌&&◌, Option, Some, None, Ok, Err, Result, Vec, ⊤, IfSome, IsErr, IsOkAnd, MatchBool}
+use Rattle.std.specs.Prelude.{◌≡◌, ◌≢◌, ◌≤◌, ℕ, ◌⊎◌, List, [], ◌∷◌, ◌++◌, min, take, Bool, true, false, if◌then◌else◌, ◌&&◌, Option, Some, None, Ok, Err, Result, Vec, ⊤, IfSome, IsErr, IsOkAnd, MatchBool, unwrap_or}
 use Rattle.std.specs.Global.{Global}
 use Rattle.std.specs.Io.KnownBytes.{Appends}
 use Rattle.qs_script.specs.declared.fault.ReadFault.TheVariants as read
@@ -31,7 +31,7 @@ use Rattle.qs_conditions.specs.declared.claim.Claim.{Claim}
 use Rattle.qs_conditions.specs.declared.claim.Quantifier.{Quantifier}
 use Rattle.qs_outcomes.specs.Answers.{AnswerShape}
 use Rattle.qs_questions.specs.Claims.{HasMoreFor}
-use Rattle.qs_questions.specs.Questions.{first_unknown_in}
+use Rattle.qs_questions.specs.Questions.{first_unknown_in, first_unknown_of}
 use Rattle.qs_json.specs.AlikeJson.{all_alike_json}
 use Rattle.qs_json.specs.FrontsJson.{all_fronts_json}
 use Rattle.qs_json.specs.AnswerJson.{IsAnswerJson, json_of_answer}
@@ -97,10 +97,22 @@ use Rattle.qs_line.specs.declared.line.OutcomesFormat.TheVariants as outcomes_fo
 use Rattle.qs_line.specs.declared.line.LineFault.{LineFault}
 use Rattle.qs_line.specs.declared.line.LineFault.TheVariants as line_fault
 use Rattle.qs_line.specs.declared.line.ReportStyle.{ReportStyle}
+use Rattle.qs_line.specs.declared.line.ReportFormat.{ReportFormat}
+use Rattle.qs_line.specs.declared.line.ReportFormat.TheVariants as report_format
 use Rattle.qs_line.specs.declared.line.Settings.{Settings}
+use Rattle.qs_line.specs.declared.question.Question.{Question}
+use Rattle.qs_line.specs.declared.question.Question.TheVariants as question
+use Rattle.qs_conditions.specs.declared.condition.Summand.{Summand}
+use Rattle.qs_questions.specs.SumValues.{AreValuesOf}
+use Rattle.qs_questions.specs.declared.sums.SumValue.{SumValue}
+use Rattle.qs_report.specs.ValuesText.{IsValuesText, text_of_values}
+use Rattle.qs_json.specs.ValuesJson.{IsValuesJson, json_of_values}
+use Rattle.qs_steps.specs.declared.wanted.Form.{Form}
+use Rattle.qs_steps.specs.declared.wanted.Form.TheVariants as form
 use Rattle.qs_line.specs.declared.parts.Part.{Part}
 use Rattle.qs_line.specs.audit.Line.{Line, PlanShape, Request, alike, ask, asks, by_order, by_schedule, check, estimate, fronts, graph, help, outcomes, play, refused, rules, run, syncs, tally, version}
 use Rattle.qs_line.specs.Line.{format_by, format_of_request, line_in, request_of}
+use Rattle.qs_line.specs.ScriptClaims.{claims_in}
 use Rattle.qs_serve.specs.audit.RunReports.{report_by}
 use Rattle.qs_serve.specs.Reading.{Reading}
 use Rattle.qs_serve.specs.declared.due.Due.{Due}
@@ -184,15 +196,17 @@ IsListOf ends how p all (No bytes) = ⊥
 IsListOf ends how p all (Refused f) = f ≡ fault.Memory
 
 -- an answer, as text or as JSON
-abbrev pub answer_in : Format → ProgramShape → Quantifier → AnswerShape → List ℕ
-answer_in format.Text p q a = text_of_answer p q a
-answer_in format.Json p q a = json_of_answer p q a
+abbrev pub answer_in : Format → ProgramShape → Claim → AnswerShape → List ℕ
+answer_in format.Text p claim a = text_of_answer p claim.line claim.quantifier a
+answer_in format.Json p claim a = json_of_answer p claim.line claim.quantifier a
 
 -- this answer, which is yes or no; or that an allocation failed
-abbrev pub IsAnswered : Format → ProgramShape → Quantifier → AnswerShape → Due → Type 0
-IsAnswered how p q a (Text bytes) = (is_yes q a ≡ true) × (bytes.items ≡ answer_in how p q a)
-IsAnswered how p q a (No bytes) = (is_yes q a ≡ false) × (bytes.items ≡ answer_in how p q a)
-IsAnswered how p q a (Refused f) = f ≡ fault.Memory
+abbrev pub IsAnswered : Format → ProgramShape → Claim → AnswerShape → Due → Type 0
+IsAnswered how p claim a (Text bytes) =
+    (is_yes claim.quantifier a ≡ true) × (bytes.items ≡ answer_in how p claim a)
+IsAnswered how p claim a (No bytes) =
+    (is_yes claim.quantifier a ≡ false) × (bytes.items ≡ answer_in how p claim a)
+IsAnswered how p claim a (Refused f) = f ≡ fault.Memory
 
 -- a tally of so many runs, as text or as JSON
 abbrev pub tally_in : Format → ProgramShape → (runs : ℕ) → TallyShape → List ℕ
@@ -311,31 +325,37 @@ IsTabled how p t (Refused f) = f ≡ fault.Memory
 abbrev pub IsSyncsText : Format → ProgramShape → List Ticket → List ℕ → Type 0
 IsSyncsText how p order text = (t : TableShape) × IsExactTable p order t × (text ≡ syncs_in how p t)
 
+-- how steps and queues are told beside a report in a format
+abbrev pub form_of : ReportFormat → Form
+form_of report_format.Text = form.Text
+form_of report_format.Json = form.Json
+form_of report_format.Svg = form.Text
+
 -- the lines of the steps of a schedule under the plain rules, by the actors that its picks name in the program; of an
 -- order none are told
-abbrev pub AreStepsOfRules : PlanShape → ProgramShape → List ℕ → Type 0
-AreStepsOfRules (by_schedule rounds picks) p lines =
-    IsOkAnd (actors_of p picks) (λ actors. lines ≡ plain_steps p actors rounds)
-AreStepsOfRules (by_order list) p lines = lines ≡ []
+abbrev pub AreStepsOfRules : Form → PlanShape → ProgramShape → List ℕ → Type 0
+AreStepsOfRules how (by_schedule rounds picks) p lines =
+    IsOkAnd (actors_of p picks) (λ actors. lines ≡ plain_steps how p actors rounds)
+AreStepsOfRules how (by_order list) p lines = lines ≡ []
 
 -- and those of the queues at its end
-abbrev pub AreQueuesOfRules : PlanShape → ProgramShape → List ℕ → Type 0
-AreQueuesOfRules (by_schedule rounds picks) p lines =
-    IsOkAnd (actors_of p picks) (λ actors. lines ≡ plain_queues p actors rounds)
-AreQueuesOfRules (by_order list) p lines = lines ≡ []
+abbrev pub AreQueuesOfRules : Form → PlanShape → ProgramShape → List ℕ → Type 0
+AreQueuesOfRules how (by_schedule rounds picks) p lines =
+    IsOkAnd (actors_of p picks) (λ actors. lines ≡ plain_queues how p actors rounds)
+AreQueuesOfRules how (by_order list) p lines = lines ≡ []
 
 -- the same in the optimised machine, by the codes of the mode
-abbrev pub AreStepsOfPlay : Mode → ℕ → PlanShape → ProgramShape → List ℕ → Type 0
-AreStepsOfPlay mode size (by_schedule rounds picks) p lines =
+abbrev pub AreStepsOfPlay : Form → Mode → ℕ → PlanShape → ProgramShape → List ℕ → Type 0
+AreStepsOfPlay how mode size (by_schedule rounds picks) p lines =
     IsOkAnd (actors_of p picks) (λ actors. (code : ℕ → ClientCode) × AreCodes p mode code
-    × (lines ≡ core_steps p code size actors rounds))
-AreStepsOfPlay mode size (by_order list) p lines = lines ≡ []
+    × (lines ≡ core_steps how p code size actors rounds))
+AreStepsOfPlay how mode size (by_order list) p lines = lines ≡ []
 
-abbrev pub AreQueuesOfPlay : Mode → ℕ → PlanShape → ProgramShape → List ℕ → Type 0
-AreQueuesOfPlay mode size (by_schedule rounds picks) p lines =
+abbrev pub AreQueuesOfPlay : Form → Mode → ℕ → PlanShape → ProgramShape → List ℕ → Type 0
+AreQueuesOfPlay how mode size (by_schedule rounds picks) p lines =
     IsOkAnd (actors_of p picks) (λ actors. (code : ℕ → ClientCode) × AreCodes p mode code
-    × (lines ≡ core_queues p code size actors rounds))
-AreQueuesOfPlay mode size (by_order list) p lines = lines ≡ []
+    × (lines ≡ core_queues how p code size actors rounds))
+AreQueuesOfPlay how mode size (by_order list) p lines = lines ≡ []
 
 -- what stands beside a report: lines of this kind where they are asked for, and else nothing
 abbrev pub AreLinesWhere : (asked : Bool) → (List ℕ → Type 0) → List ℕ → Type 0
@@ -369,28 +389,46 @@ IsTextOfOutcomes outcomes_format.Dot p limit clients text =
     IsChartDot p (limit_in outcomes_format.Dot limit) clients text
 
 -- the answer to a claim on a program after the blocks of some clients, yes or no, as text or as JSON
-abbrev pub IsAnswerTextTo : Format → ProgramShape → Claim → (limit : ℕ) → (clients : List ℕ) → (holds : Bool)
+abbrev pub IsClaimAnswer : Format → ProgramShape → Claim → (limit : ℕ) → (clients : List ℕ) → (holds : Bool)
     → List ℕ → Type 0
-IsAnswerTextTo format.Text p claim limit clients holds text = IsAnswerText p claim limit clients holds text
-IsAnswerTextTo format.Json p claim limit clients holds text = IsAnswerJson p claim limit clients holds text
+IsClaimAnswer format.Text p claim limit clients holds text = IsAnswerText p claim.line claim limit clients holds text
+IsClaimAnswer format.Json p claim limit clients holds text = IsAnswerJson p claim.line claim limit clients holds text
 
--- the answers to claims, one behind another; together they are yes where each of them is
-abbrev pub AreAnswersTo : Format → ProgramShape → (limit : ℕ) → (clients : List ℕ) → List Claim → (hold : Bool) → List ℕ
-    → Type 0
+-- the values of a sum at these ends, as text or as JSON
+abbrev pub values_in : Format → List SumValue → OutcomesShape → List ℕ
+values_in format.Text values all = text_of_values values all
+values_in format.Json values all = json_of_values values all
+
+-- the values that a sum has after the blocks of some clients, as text or as JSON
+abbrev pub IsValuesAnswer : Format → ProgramShape → (sum : List Summand) → (limit : ℕ) → (clients : List ℕ) → List ℕ → Type 0
+IsValuesAnswer format.Text p sum limit clients text = IsValuesText p sum limit clients text
+IsValuesAnswer format.Json p sum limit clients text = IsValuesJson p sum limit clients text
+
+-- the answer to a question; where it asks for values, it counts as yes
+abbrev pub IsAnswerTextTo : Format → ProgramShape → Question → (limit : ℕ) → (clients : List ℕ) → (holds : Bool)
+    → List ℕ → Type 0
+IsAnswerTextTo how p (question.Claim claim) limit clients holds text = IsClaimAnswer how p claim limit clients holds text
+IsAnswerTextTo how p (question.Values sum) limit clients holds text =
+    (holds ≡ true) × IsValuesAnswer how p sum limit clients text
+
+-- the answers to questions, one behind another; together they are yes where each of them is
+abbrev pub AreAnswersTo : Format → ProgramShape → (limit : ℕ) → (clients : List ℕ) → List Question → (hold : Bool)
+    → List ℕ → Type 0
 AreAnswersTo how p limit clients [] hold text = (hold ≡ true) × (text ≡ [])
-AreAnswersTo how p limit clients (claim ∷ claims) hold text =
-    (own rest : List ℕ) × (holds others : Bool) × IsAnswerTextTo how p claim limit clients holds own
-    × AreAnswersTo how p limit clients claims others rest × (hold ≡ (holds && others)) × (text ≡ own ++ rest)
+AreAnswersTo how p limit clients (q ∷ questions) hold text =
+    (own rest : List ℕ) × (holds others : Bool) × IsAnswerTextTo how p q limit clients holds own
+    × AreAnswersTo how p limit clients questions others rest × (hold ≡ (holds && others)) × (text ≡ own ++ rest)
 
--- a claim's condition speaks of what the program has
-abbrev pub IsOfProgram : ProgramShape → Claim → Type 0
-IsOfProgram p claim = first_unknown_in p claim.condition ≡ None
+-- a question's condition or sum speaks of what the program has
+abbrev pub IsOfProgram : ProgramShape → Question → Type 0
+IsOfProgram p (question.Claim claim) = first_unknown_in p claim.condition ≡ None
+IsOfProgram p (question.Values sum) = first_unknown_of p sum ≡ None
 
--- the answers to a request whose conditions speak of what the program has
+-- the answers to a request that asks something, and that of what the program has
 abbrev pub IsAnswerBy : Request → ProgramShape → (holds : Bool) → List ℕ → Type 0
-IsAnswerBy (ask claims how limit front) p holds text =
-    AllByRecursion (IsOfProgram p) claims
-    × IsOkAnd (clients_of p front) (λ clients. AreAnswersTo how p limit clients claims holds text)
+IsAnswerBy (ask questions how limit front) p holds text =
+    (questions ≢ []) × AllByRecursion (IsOfProgram p) questions
+    × IsOkAnd (clients_of p front) (λ clients. AreAnswersTo how p limit clients questions holds text)
 IsAnswerBy _ p holds text = ⊥
 
 -- what a request makes of a program: its counts; its graphs; the report of its run by the plain rules or in the
@@ -405,13 +443,13 @@ IsTextBy (check how) lines p text = text ≡ counts_by_format how p
 IsTextBy (graph how) lines p text = IsTextOfGraphs how lines p text
 IsTextBy (rules style plan) lines p text =
     (played : Played) × (steps queues : List ℕ) × IsShownByRules plan p played
-    × AreLinesWhere style.steps (AreStepsOfRules plan p) steps
-    × AreLinesWhere style.queues (AreQueuesOfRules plan p) queues
+    × AreLinesWhere style.steps (AreStepsOfRules (form_of style.format) plan p) steps
+    × AreLinesWhere style.queues (AreQueuesOfRules (form_of style.format) plan p) queues
     × (text ≡ told_report steps queues (report_by style p played))
 IsTextBy (play style mode size plan) lines p text =
     (played : Played) × (steps queues : List ℕ) × IsShownByPlay mode size plan p played
-    × AreLinesWhere style.steps (AreStepsOfPlay mode size plan p) steps
-    × AreLinesWhere style.queues (AreQueuesOfPlay mode size plan p) queues
+    × AreLinesWhere style.steps (AreStepsOfPlay (form_of style.format) mode size plan p) steps
+    × AreLinesWhere style.queues (AreQueuesOfPlay (form_of style.format) mode size plan p) queues
     × (text ≡ told_report steps queues (report_by style p played))
 IsTextBy (syncs how plan) lines p text =
     (order : List Ticket) × IsCountedOrder plan p order × IsSyncsText how p order text
@@ -421,7 +459,7 @@ IsTextBy (tally how mode size times) lines p text =
     (t : TallyShape) × IsTallyBy p mode size times most_numbered t × (text ≡ tally_in how p times t)
 IsTextBy (estimate how front) lines p text =
     IsOkAnd (clients_of p front) (λ clients. IsEstimateText how p clients text)
-IsTextBy (ask claims how limit front) lines p text = IsAnswerBy (ask claims how limit front) p true text
+IsTextBy (ask questions how limit front) lines p text = IsAnswerBy (ask questions how limit front) p true text
 IsTextBy (fronts how blocks limit orders) lines p text = AreFrontsTexts how p blocks orders text
 IsTextBy (alike how limit) lines p text = IsAlikeText how p limit text
 IsTextBy (outcomes how limit threads front) lines p text =
@@ -432,13 +470,14 @@ abbrev pub IsUnnamed : PlanShape → ProgramShape → Type 0
 IsUnnamed (by_schedule rounds picks) p = IsErr (actors_of p picks)
 IsUnnamed (by_order list) p = IsErr (clients_of p list)
 
--- so does the list that a request asks by, or one of its conditions speaks of what the program does not have
+-- so does the list that a request asks by, or it asks nothing, or one of its questions asks for what the program does not
+-- have
 abbrev pub IsUnnamedBy : Request → ProgramShape → Type 0
 IsUnnamedBy (rules style plan) p = IsUnnamed plan p
 IsUnnamedBy (play style mode size plan) p = IsUnnamed plan p
 IsUnnamedBy (syncs how plan) p = IsUnnamed plan p
-IsUnnamedBy (ask claims how limit front) p =
-    HasOne (λ claim. ¬ IsOfProgram p claim) claims ⊎ IsErr (clients_of p front)
+IsUnnamedBy (ask questions how limit front) p =
+    (questions ≡ []) ⊎ (HasOne (λ q. ¬ IsOfProgram p q) questions ⊎ IsErr (clients_of p front))
 IsUnnamedBy (estimate how front) p = IsErr (clients_of p front)
 IsUnnamedBy (fronts how blocks limit orders) p = HasOne (λ order. IsErr (clients_of p order)) orders
 IsUnnamedBy (outcomes how limit threads front) p = IsErr (clients_of p front)
@@ -486,10 +525,15 @@ IsUnlisted p limit clients outcomes_fault.Order = ¬ IsLegal p (order_of clients
 IsUnlisted p limit clients outcomes_fault.Memory = Unit {0}
 
 -- why a claim is not answered after the blocks of some clients
-abbrev pub IsUnanswered : ProgramShape → Claim → ℕ → List ℕ → OutcomesFault → Type 0
-IsUnanswered p claim limit clients outcomes_fault.Limit = HasMoreFor claim p (order_of clients) limit
-IsUnanswered p claim limit clients outcomes_fault.Order = ¬ IsLegal p (order_of clients)
-IsUnanswered p claim limit clients outcomes_fault.Memory = Unit {0}
+abbrev pub IsUnansweredClaim : ProgramShape → Claim → ℕ → List ℕ → OutcomesFault → Type 0
+IsUnansweredClaim p claim limit clients outcomes_fault.Limit = HasMoreFor claim p (order_of clients) limit
+IsUnansweredClaim p claim limit clients outcomes_fault.Order = ¬ IsLegal p (order_of clients)
+IsUnansweredClaim p claim limit clients outcomes_fault.Memory = Unit {0}
+
+-- why a question is not answered
+abbrev pub IsUnanswered : ProgramShape → Question → ℕ → List ℕ → OutcomesFault → Type 0
+IsUnanswered p (question.Claim claim) limit clients f = IsUnansweredClaim p claim limit clients f
+IsUnanswered p (question.Values sum) limit clients f = IsUnlisted p limit clients f
 
 -- why there is no estimate after the blocks of some clients: they name no legal order
 abbrev pub IsUnestimated : ProgramShape → List ℕ → OutcomesFault → Type 0
@@ -512,8 +556,8 @@ AreUnlistedAlike p limit outcomes_fault.Memory = Unit {0}
 
 -- why outcomes that a request asks for are not listed
 abbrev pub IsUnlistedBy : Request → ProgramShape → OutcomesFault → Type 0
-IsUnlistedBy (ask claims how limit front) p f =
-    IsOkAnd (clients_of p front) (λ clients. HasOne (λ claim. IsUnanswered p claim limit clients f) claims)
+IsUnlistedBy (ask questions how limit front) p f =
+    IsOkAnd (clients_of p front) (λ clients. HasOne (λ q. IsUnanswered p q limit clients f) questions)
 IsUnlistedBy (estimate how front) p f = IsOkAnd (clients_of p front) (λ clients. IsUnestimated p clients f)
 IsUnlistedBy (fronts how blocks limit orders) p f =
     HasOne (λ order. IsOkAnd (clients_of p order) (λ clients. AreNoFronts p blocks limit clients f)) orders
@@ -549,24 +593,30 @@ IsFaultOfOrder p blocks limit order (fault.Outcomes f) =
     IsOkAnd (clients_of p order) (λ clients. AreNoFronts p blocks limit clients f)
 IsFaultOfOrder p blocks limit order _ = ⊥
 
--- what is due of a claim after the blocks of some clients: the answer, why there is none, or that an allocation failed
-abbrev pub IsAnswerAfterDue : Format → ProgramShape → Claim → (limit : ℕ) → (clients : List ℕ) → Due → Type 0
-IsAnswerAfterDue how p claim limit clients (Text bytes) = IsAnswerTextTo how p claim limit clients true bytes.items
-IsAnswerAfterDue how p claim limit clients (No bytes) = IsAnswerTextTo how p claim limit clients false bytes.items
-IsAnswerAfterDue how p claim limit clients (Refused fault.Memory) = Unit {0}
-IsAnswerAfterDue how p claim limit clients (Refused (fault.Outcomes f)) =
-    IsUnanswered p claim limit clients f
-IsAnswerAfterDue how p claim limit clients (Refused _) = ⊥
+-- what is due of a question after the blocks of some clients: the answer, why there is none, or that an allocation failed
+abbrev pub IsAnswerAfterDue : Format → ProgramShape → Question → (limit : ℕ) → (clients : List ℕ) → Due → Type 0
+IsAnswerAfterDue how p q limit clients (Text bytes) = IsAnswerTextTo how p q limit clients true bytes.items
+IsAnswerAfterDue how p q limit clients (No bytes) = IsAnswerTextTo how p q limit clients false bytes.items
+IsAnswerAfterDue how p q limit clients (Refused fault.Memory) = Unit {0}
+IsAnswerAfterDue how p q limit clients (Refused (fault.Outcomes f)) = IsUnanswered p q limit clients f
+IsAnswerAfterDue how p q limit clients (Refused _) = ⊥
 
--- what is due of claims after the blocks of some clients: the answers, why there is none to one of them, or that an
+-- what is due of the values of a sum at these ends: their text, or that an allocation failed
+abbrev pub AreValuesDue : Format → ProgramShape → (sum : List Summand) → OutcomesShape → Due → Type 0
+AreValuesDue how p sum all (Text bytes) =
+    (values : List SumValue) × AreValuesOf p sum all.found values × (bytes.items ≡ values_in how values all)
+AreValuesDue how p sum all (No bytes) = ⊥
+AreValuesDue how p sum all (Refused f) = f ≡ fault.Memory
+
+-- what is due of questions after the blocks of some clients: the answers, why there is none to one of them, or that an
 -- allocation failed
-abbrev pub AreAnswersDue : Format → ProgramShape → List Claim → (limit : ℕ) → (clients : List ℕ) → Due → Type 0
-AreAnswersDue how p claims limit clients (Text bytes) = AreAnswersTo how p limit clients claims true bytes.items
-AreAnswersDue how p claims limit clients (No bytes) = AreAnswersTo how p limit clients claims false bytes.items
-AreAnswersDue how p claims limit clients (Refused fault.Memory) = Unit {0}
-AreAnswersDue how p claims limit clients (Refused (fault.Outcomes f)) =
-    HasOne (λ claim. IsUnanswered p claim limit clients f) claims
-AreAnswersDue how p claims limit clients (Refused _) = ⊥
+abbrev pub AreAnswersDue : Format → ProgramShape → List Question → (limit : ℕ) → (clients : List ℕ) → Due → Type 0
+AreAnswersDue how p questions limit clients (Text bytes) = AreAnswersTo how p limit clients questions true bytes.items
+AreAnswersDue how p questions limit clients (No bytes) = AreAnswersTo how p limit clients questions false bytes.items
+AreAnswersDue how p questions limit clients (Refused fault.Memory) = Unit {0}
+AreAnswersDue how p questions limit clients (Refused (fault.Outcomes f)) =
+    HasOne (λ q. IsUnanswered p q limit clients f) questions
+AreAnswersDue how p questions limit clients (Refused _) = ⊥
 
 -- an answer in parts: its text, and whether it is yes
 abbrev pub HasParts : Due → Result (Vec ℕ Global × Bool) Fault → Type 0
@@ -612,34 +662,52 @@ AreLinesFor (play style mode size plan) found lines = ⊤
 AreLinesFor (syncs how plan) found lines = ⊤
 AreLinesFor (run style mode size) found lines = ⊤
 AreLinesFor (tally how mode size times) found lines = ⊤
-AreLinesFor (ask claims how limit front) found lines = ⊤
+AreLinesFor (ask questions how limit front) found lines = ⊤
 AreLinesFor (estimate how front) found lines = ⊤
 AreLinesFor (fronts how blocks limit orders) found lines = ⊤
 AreLinesFor (alike how limit) found lines = ⊤
 AreLinesFor (outcomes how limit threads front) found lines = ⊤
 
--- what a request makes of a text: the result of its program, or the fault of the text, of its script, of the list whose
--- names are the script's, of its schedule, of its order, of its threads or of its outcomes
-abbrev pub IsDueOfText : Request → List ℕ → Due → Type 0
-IsDueOfText request text (Text bytes) =
+-- what a request that has its questions makes of a text: the result of its program, or the fault of the text, of its script,
+-- of the list whose names are the script's, of its schedule, of its order, of its threads or of its outcomes
+abbrev pub IsDueOfWhole : Request → List ℕ → Due → Type 0
+IsDueOfWhole request text (Text bytes) =
     (s : List Item) × IsScriptText text s × (fault_of s ≡ None)
     × IsTextBy request (node_lines text s) (program_of_items s) bytes.items
-IsDueOfText request text (No bytes) =
+IsDueOfWhole request text (No bytes) =
     (s : List Item) × IsScriptText text s × (fault_of s ≡ None)
     × IsAnswerBy request (program_of_items s) false bytes.items
-IsDueOfText request text (Refused (fault.Read f)) = IsRefused f text
-IsDueOfText request text (Refused (fault.Check f)) = (s : List Item) × IsScriptText text s × (fault_of s ≡ Some f)
-IsDueOfText request text (Refused fault.CommandLine) =
+IsDueOfWhole request text (Refused (fault.Read f)) = IsRefused f text
+IsDueOfWhole request text (Refused (fault.Check f)) = (s : List Item) × IsScriptText text s × (fault_of s ≡ Some f)
+IsDueOfWhole request text (Refused fault.CommandLine) =
     (s : List Item) × IsScriptText text s × (fault_of s ≡ None) × IsUnnamedBy request (program_of_items s)
-IsDueOfText request text (Refused (fault.Play f)) =
+IsDueOfWhole request text (Refused (fault.Play f)) =
     (s : List Item) × IsScriptText text s × (fault_of s ≡ None) × IsUnplayedBy request (program_of_items s) f
-IsDueOfText request text (Refused (fault.Order f)) =
+IsDueOfWhole request text (Refused (fault.Order f)) =
     (s : List Item) × IsScriptText text s × (fault_of s ≡ None) × IsUnorderedBy request (program_of_items s) f
-IsDueOfText request text (Refused (fault.Run f)) =
+IsDueOfWhole request text (Refused (fault.Run f)) =
     (s : List Item) × IsScriptText text s × (fault_of s ≡ None) × IsRun request
-IsDueOfText request text (Refused (fault.Outcomes f)) =
+IsDueOfWhole request text (Refused (fault.Outcomes f)) =
     (s : List Item) × IsScriptText text s × (fault_of s ≡ None) × IsUnlistedBy request (program_of_items s) f
-IsDueOfText request text (Refused _) = ⊥
+IsDueOfWhole request text (Refused _) = ⊥
+
+-- the claims of a script's text; none where one of them can't be read
+abbrev pub claims_of_script : List ℕ → List Question
+claims_of_script text = unwrap_or (claims_in text) []
+
+-- the questions of a line, or where it has none the claims of the script
+abbrev pub questions_or : (of_line of_script : List Question) → List Question
+questions_or [] of_script = of_script
+questions_or (q ∷ questions) of_script = q ∷ questions
+
+-- a request with the claims of a script, where it asks questions and has none
+abbrev pub with_claims : Request → List Question → Request
+with_claims (ask questions how limit front) of_script = ask (questions_or questions of_script) how limit front
+with_claims request of_script = request
+
+-- what a request makes of a text: where it asks questions and has none, the claims of the text are asked
+abbrev pub IsDueOfText : Request → List ℕ → Due → Type 0
+IsDueOfText request text due = IsDueOfWhole (with_claims request (claims_of_script text)) text due
 
 -- why a text has no program: it is no script, or its script is refused
 abbrev pub IsFaultOfText : List ℕ → Fault → Type 0
@@ -747,10 +815,17 @@ abbrev pub IsProgramRead : Request → Option (List ℕ) → Bool → Lines → 
 IsProgramRead request known failed lines p =
     (failed ≡ false) × IfSome known (λ bytes. IsProgramOf request (take longest bytes) lines p)
 
+-- the settings are those of a request with the claims of the input's script, where these are asked
+abbrev pub AreWholeSettings : Request → Option (List ℕ) → Settings → Type 0
+AreWholeSettings request known settings =
+    (found : List Question) × (request_of settings ≡ with_claims request found)
+    × IfSome known (λ bytes. found ≡ claims_of_script (take longest bytes))
+
 -- so it is for the settings of a line
 abbrev pub IsAsked : Line → Option (List ℕ) → Bool → Settings → Lines → ProgramShape → Type 0
 IsAsked line known failed settings lines p =
-    (line ≡ asks (request_of settings)) × IsProgramRead (request_of settings) known failed lines p
+    (request : Request) × (line ≡ asks request) × AreWholeSettings request known settings
+    × IsProgramRead (request_of settings) known failed lines p
 
 -- a fault that is found before anything is made of a program
 abbrev pub IsFoundBefore : Fault → Type 0

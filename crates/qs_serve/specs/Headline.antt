@@ -16,6 +16,11 @@ use Rattle.qs_line.specs.declared.line.OutcomesFormat.{OutcomesFormat}
 use Rattle.qs_line.specs.declared.line.OutcomesFormat.TheVariants as outcomes_format
 use Rattle.qs_line.specs.declared.line.ReportStyle.{ReportStyle}
 use Rattle.qs_line.specs.declared.parts.Part.{Part}
+use Rattle.qs_line.specs.declared.question.Question.{Question}
+use Rattle.qs_line.specs.declared.question.Question.TheVariants as question
+use Rattle.qs_conditions.specs.declared.condition.Summand.{Summand}
+use Rattle.qs_questions.specs.SumValues.{AreValuesOf}
+use Rattle.qs_questions.specs.declared.sums.SumValue.{SumValue}
 use Rattle.qs_outcomes.specs.Answers.{AnswerShape}
 use Rattle.qs_outcomes.specs.alike.AlikeOutcomes.{AlikeShape}
 use Rattle.qs_outcomes.specs.Outcomes.{OutcomesShape}
@@ -31,7 +36,7 @@ use Rattle.qs_script.specs.audit.Reads.{IsScriptText}
 use Rattle.qs_serial.specs.audit.NamedOrders.{order_of}
 use Rattle.qs_serve.specs.audit.Due.{longest}
 use Rattle.qs_serve.specs.audit.Headline.{IsReported}
-use Rattle.qs_serve.specs.Due.{AreTheClasses, IsTextOfList, alike_in, answer_in, fronts_in, tally_in}
+use Rattle.qs_serve.specs.Due.{AreTheClasses, IsTextOfList, alike_in, answer_in, claims_of_script, fronts_in, questions_or, tally_in, values_in}
 use Rattle.qs_script.specs.declared.tree.tree.Item.{Item}
 use Rattle.qs_standings.specs.Standings.{StandingShape}
 use Rattle.qs_syncset.specs.declared.mode.Mode.{Mode}
@@ -43,35 +48,50 @@ pub record IsTrueAnswer (p : ProgramShape) (how : Format) (front : List Part) (c
     : Type 0 where
   pub answer : AnswerShape
   pub is : is_yes claim.quantifier answer ≡ holds
-  pub told : text ≡ answer_in how p claim.quantifier answer
+  pub told : text ≡ answer_in how p claim answer
   pub condition : Tree
   pub steps : claim.condition ≡ steps_of condition
   pub of_runs : IsOkAnd (clients_of p front) (λ clients. Says claim.quantifier holds p condition (order_of clients))
 
--- such answers to claims, one behind another; together they are yes where each of them is
-abbrev pub AreTrueAnswers : ProgramShape → Format → (front : List Part) → List Claim → (hold : Bool) → List ℕ → Type 0
-AreTrueAnswers p how front [] hold text = (hold ≡ true) × (text ≡ [])
-AreTrueAnswers p how front (claim ∷ claims) hold text =
-    (own rest : List ℕ) × (holds others : Bool) × IsTrueAnswer p how front claim holds own
-    × AreTrueAnswers p how front claims others rest × (hold ≡ (holds && others)) × (text ≡ own ++ rest)
+-- This is the text of the values that a sum has at the ends of all finished runs whose order begins with the blocks of the
+-- clients that the front names: each of them, and no other.
+pub record AreTrueValues (p : ProgramShape) (how : Format) (front : List Part) (sum : List Summand) (text : List ℕ) : Type 0 where
+  pub all : OutcomesShape
+  pub of_runs : IsOkAnd (clients_of p front) (λ clients. IsWholeList p (order_of clients) all.found)
+  pub values : List SumValue
+  pub exact : AreValuesOf p sum all.found values
+  pub told : text ≡ values_in how values all
 
--- The text is a script, which is accepted, and what was written are true answers to the claims on its program.
-pub record AreAnsweredTruly (claims : List Claim) (how : Format) (front : List Part) (hold : Bool) (text : List ℕ)
+-- a true answer to a question
+abbrev pub IsTrueAnswerTo : ProgramShape → Format → (front : List Part) → Question → (holds : Bool) → List ℕ → Type 0
+IsTrueAnswerTo p how front (question.Claim claim) holds text = IsTrueAnswer p how front claim holds text
+IsTrueAnswerTo p how front (question.Values sum) holds text = (holds ≡ true) × AreTrueValues p how front sum text
+
+-- such answers to questions, one behind another; together they are yes where each of them is
+abbrev pub AreTrueAnswers : ProgramShape → Format → (front : List Part) → List Question → (hold : Bool) → List ℕ → Type 0
+AreTrueAnswers p how front [] hold text = (hold ≡ true) × (text ≡ [])
+AreTrueAnswers p how front (q ∷ questions) hold text =
+    (own rest : List ℕ) × (holds others : Bool) × IsTrueAnswerTo p how front q holds own
+    × AreTrueAnswers p how front questions others rest × (hold ≡ (holds && others)) × (text ≡ own ++ rest)
+
+-- The text is a script, which is accepted, and what was written are true answers to the questions on its program.
+pub record AreAnsweredTruly (questions : List Question) (how : Format) (front : List Part) (hold : Bool) (text : List ℕ)
     (old new : Option (List ℕ)) : Type 0 where
   pub script : List Item
   pub read : IsScriptText text script
   pub accepted : fault_of script ≡ None
   pub bytes : List ℕ
   pub written : Appends old new bytes
-  pub answers : AreTrueAnswers (program_of_items script) how front claims hold bytes
+  pub answers : AreTrueAnswers (program_of_items script) how front questions hold bytes
 
--- Where the line asks claims, the status 0 says yes to all of them and the status 1 says no to one, and what was written
--- says so truly.
+-- Where the line asks questions, or the claims of the script, the status 0 says yes to all of them and the status 1 says
+-- no to one, and what was written says so truly.
 abbrev pub AreAnswersTrue : List (List ℕ) → Option (List ℕ) → (old new : Option (List ℕ)) → (status : ℕ) → Type 0
 AreAnswersTrue words known old new status =
-    (claims : List Claim) (how : Format) (limit : ℕ) (front : List Part) → line_in words ≡ asks (ask claims how limit front)
-    → (hold : Bool) → status ≡ (if hold then 0 else 1)
-    → IfSome known (λ bytes. AreAnsweredTruly claims how front hold (take longest bytes) old new)
+    (questions : List Question) (how : Format) (limit : ℕ) (front : List Part)
+    → line_in words ≡ asks (ask questions how limit front) → (hold : Bool) → status ≡ (if hold then 0 else 1)
+    → IfSome known (λ bytes. AreAnsweredTruly (questions_or questions (claims_of_script (take longest bytes))) how front hold
+    (take longest bytes) old new)
 
 -- all outcomes after a front in a format: a list, their ends alone, or a drawing in which ends have their numbers
 abbrev pub IsTextOfAll : OutcomesFormat → ProgramShape → OutcomesShape → List ℕ → Type 0

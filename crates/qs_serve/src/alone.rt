@@ -4,7 +4,7 @@ ghost use Rattle.std.specs.Prelude.{◌≡◌, IfErr, IfOk, map};
 ghost use Rattle.qs_line.specs.Line.{line_in, request_of};
 ghost use Rattle.qs_serve.specs.Due.{IsDueOfFault, IsDueOfLine, IsDueOfTextAlone, IsFormatOfLine, due_text, format_of_answer, refusal_in, takes_threads as takes_threads_in};
 
-use crate::asking::prepared;
+use crate::asking::prepared_whole;
 use crate::due::{Due, due_of_fault, due_of_program};
 use crate::output::write_refusal;
 use qs_line::{Format, LineFault, Settings, read_line};
@@ -21,14 +21,16 @@ fn takes_threads(settings: &Settings) -> bool
 }
 
 // What settings make of a text.
-fn due_of_text_alone(alloc: Global, settings: &Settings, text: &[u8]) -> Due
-    ensures due { IsDueOfTextAlone (request_of settings.now) text.now result }
+fn due_of_text_alone(alloc: Global, settings: Settings, text: &[u8]) -> Due
+    ensures due { IsDueOfTextAlone (request_of settings) text.now result }
 {
-    if takes_threads(settings) {
+    if takes_threads(&settings) {
         return Due::Refused(Fault::CommandLine);
     }
-    match prepared(alloc, settings, text) {
-        Ok(it) => due_of_program(alloc, settings, &it.program, &it.lines, &mut Unwatched),
+    match prepared_whole(alloc, settings, text) {
+        Ok((settings, it)) => {
+            due_of_program(alloc, &settings, &it.program, &it.lines, &mut Unwatched)
+        }
         Err(fault) => Due::Refused(fault),
     }
 }
@@ -41,10 +43,8 @@ fn due_of_answer(alloc: Global, line: Result<Settings, LineFault>, text: &[u8]) 
 {
     match line {
         Ok(settings) => {
-            let due = due_of_text_alone(alloc, &settings, text);
             let format = settings.format();
-            drop(settings);
-            (due, format)
+            (due_of_text_alone(alloc, settings, text), format)
         }
         Err(fault) => (due_of_fault(fault), Format::Text),
     }

@@ -5,6 +5,7 @@ ghost use Rattle.qs_report.specs.declared.faults.Fault.TheVariants as fault;
 ghost use Rattle.qs_line.specs.declared.line.OutcomesFormat.TheVariants as outcomes_format;
 ghost use Rattle.qs_line.specs.audit.Line.{ask, check, graph, outcomes, run};
 ghost use Rattle.qs_line.specs.Line.{request_of};
+ghost use Rattle.qs_line.specs.declared.question.Question.TheVariants as Question;
 ghost use Rattle.qs_serve.specs.Due.{AreAnswersDue, HasAsked, HasParts, IsAnswerAfterDue, IsAnswered, IsDueAfter, IsDueOfFault, IsDueOfList, IsDueOfProgram, IsDueWithoutThreads, IsOfProgram, IsRefusedBy, IsListOf, IsTextOf, IsOutOfMemory, due_status, listed_as};
 ghost use Rattle.std.specs.List.{AllByRecursion};
 ghost use Rattle.qs_outcomes.specs.Outcomes.{HasPlaces};
@@ -16,18 +17,19 @@ use crate::plays::{due_of_play, due_of_rules};
 use crate::reports::due_of_outcome;
 use crate::searches::{Search, due_by_threads, due_of_alike};
 use crate::syncs::due_of_syncs;
+use crate::values::due_of_values_after;
 use qs_check::Program;
 use qs_chunk::ChunkSize;
-use qs_conditions::{Claim, Quantifier};
+use qs_conditions::Claim;
 use qs_dot::node_lines::NodeLines;
 use qs_dot::{MOST_PLACES, chart_dot, dot_text};
 use qs_json::{answer_json, counts_json, ends_json, graph_json, outcomes_json};
 use qs_line::{
-    Format, GraphFormat, LineFault, ListFault, OutcomesFormat, Part, ReportStyle, Settings,
-    clients_of,
+    Format, GraphFormat, LineFault, ListFault, OutcomesFormat, Part, Question, ReportStyle,
+    Settings, clients_of,
 };
 use qs_outcomes::{AllOutcomes, Answer, Watcher, outcomes_watched};
-use qs_questions::{answer, first_unknown};
+use qs_questions::{answer, first_unknown, first_unknown_in_sum};
 use qs_report::{
     Fault, answer_text, check_text, ends_text, graph_text, is_yes, outcomes_text, status,
 };
@@ -130,18 +132,18 @@ pub(crate) fn due_of_run<S: Starter, T: Threads + Wait + Sync>(
 fn due_of_answer(
     alloc: Global,
     program: &Program,
-    quantifier: Quantifier,
+    claim: &Claim,
     format: Format,
     answer: Answer,
 ) -> Due
     requires places { IfSome answer.witness (HasPlaces program.now) }
-    ensures due { IsAnswered format program.now quantifier answer result }
+    ensures due { IsAnswered format program.now claim.now answer result }
 {
     let text = match format {
-        Format::Text => answer_text(alloc, program, quantifier, &answer),
-        Format::Json => answer_json(alloc, program, quantifier, &answer),
+        Format::Text => answer_text(alloc, program, claim.line, claim.quantifier, &answer),
+        Format::Json => answer_json(alloc, program, claim.line, claim.quantifier, &answer),
     };
-    let holds = is_yes(quantifier, &answer);
+    let holds = is_yes(claim.quantifier, &answer);
     drop(answer);
     match text {
         Ok(bytes) if holds => Due::Text(bytes),
@@ -162,11 +164,35 @@ fn due_of_claim_after<P: Watcher>(
     watcher: &mut P,
 ) -> Due
     ensures not_input { ¬ IsRefusedBy fault.Input result }
-    ensures due { IsAnswerAfterDue format program.now claim.now limit clients.now result }
+    ensures due { IsAnswerAfterDue format program.now (Question.Claim claim.now) limit clients.now result }
 {
     match answer(alloc, program, claim, clients, limit, watcher) {
-        Ok(answer) => due_of_answer(alloc, program, claim.quantifier, format, answer),
+        Ok(answer) => due_of_answer(alloc, program, claim, format, answer),
         Err(fault) => Due::Refused(Fault::Outcomes(fault)),
+    }
+}
+
+// What is due of a question after the blocks of some clients, found over so many configurations at most; a watcher is
+// told of each.
+fn due_of_question_after<P: Watcher>(
+    alloc: Global,
+    program: &Program,
+    question: &Question,
+    format: Format,
+    limit: u32,
+    clients: &[u8],
+    watcher: &mut P,
+) -> Due
+    ensures not_input { ¬ IsRefusedBy fault.Input result }
+    ensures due { IsAnswerAfterDue format program.now question.now limit clients.now result }
+{
+    match question {
+        Question::Claim(claim) => {
+            due_of_claim_after(alloc, program, claim, format, limit, clients, watcher)
+        }
+        Question::Values(sum) => {
+            due_of_values_after(alloc, program, sum, format, limit, clients, watcher)
+        }
     }
 }
 
@@ -188,37 +214,48 @@ fn both(one: bool, other: bool) -> bool
     one && other
 }
 
-// Whether the condition of some claim speaks of what the program does not have.
-fn has_unknown(program: &Program, claims: &[Claim]) -> bool
-    ensures known { result ≡ false → AllByRecursion (IsOfProgram program.now) claims.now }
-    ensures unknown { result ≡ true → HasOne (λ claim. ¬ IsOfProgram program.now claim) claims.now }
+// Whether a question asks for what the program does not have.
+fn is_unknown(program: &Program, question: &Question) -> bool
+    ensures known { result ≡ false → IsOfProgram program.now question.now }
+    ensures unknown { result ≡ true → ¬ IsOfProgram program.now question.now }
 {
-    for claim in claims {
-        if first_unknown(&claim.condition, program).is_some() {
+    match question {
+        Question::Claim(claim) => first_unknown(&claim.condition, program).is_some(),
+        Question::Values(sum) => first_unknown_in_sum(sum, program).is_some(),
+    }
+}
+
+// Whether some question asks for what the program does not have.
+fn has_unknown(program: &Program, questions: &[Question]) -> bool
+    ensures known { result ≡ false → AllByRecursion (IsOfProgram program.now) questions.now }
+    ensures unknown { result ≡ true → HasOne (λ question. ¬ IsOfProgram program.now question) questions.now }
+{
+    for question in questions {
+        if is_unknown(program, question) {
             return true;
         }
     }
     false
 }
 
-// The answers to claims after the blocks of some clients, one behind another, each found over so many configurations at
-// most; a watcher is told of each.
-fn due_of_claims_after<P: Watcher>(
+// The answers to questions after the blocks of some clients, one behind another, each found over so many configurations
+// at most; a watcher is told of each.
+fn due_of_questions_after<P: Watcher>(
     alloc: Global,
     program: &Program,
-    claims: &[Claim],
+    questions: &[Question],
     format: Format,
     limit: u32,
     clients: &[u8],
     watcher: &mut P,
 ) -> Due
     ensures not_input { ¬ IsRefusedBy fault.Input result }
-    ensures due { AreAnswersDue format program.now claims.now limit clients.now result }
+    ensures due { AreAnswersDue format program.now questions.now limit clients.now result }
 {
     let mut text = Vec::new(alloc);
     let mut hold = true;
-    for claim in claims {
-        let due = due_of_claim_after(alloc, program, claim, format, limit, clients, watcher);
+    for question in questions {
+        let due = due_of_question_after(alloc, program, question, format, limit, clients, watcher);
         match parts_of(due) {
             Ok((own, holds)) => {
                 hold = both(hold, holds);
@@ -232,31 +269,34 @@ fn due_of_claims_after<P: Watcher>(
     if hold { Due::Text(text) } else { Due::No(text) }
 }
 
-// The answers to claims after the blocks of the clients that a list names. A condition that speaks of what the program
-// does not have is refused.
-fn due_of_claims<P: Watcher>(
+// The answers to questions after the blocks of the clients that a list names. A question that asks for what the program
+// does not have is refused, and so is to ask nothing.
+fn due_of_questions<P: Watcher>(
     alloc: Global,
     program: &Program,
-    claims: &[Claim],
+    questions: &[Question],
     format: Format,
     limit: u32,
     front: &[Part],
     watcher: &mut P,
 ) -> Due
     ensures not_input { ¬ IsRefusedBy fault.Input result }
-    ensures due { IsOutOfMemory result ⊎ IsDueOfProgram (ask claims.now format limit front.now) [] program.now result }
+    ensures due { IsOutOfMemory result ⊎ IsDueOfProgram (ask questions.now format limit front.now) [] program.now result }
 {
-    if has_unknown(program, claims) {
+    if questions.is_empty() {
+        return Due::Refused(Fault::CommandLine);
+    }
+    if has_unknown(program, questions) {
         return Due::Refused(Fault::CommandLine);
     }
     let clients = match clients_of(alloc, program, front) {
         Ok(clients) => clients,
         Err(fault) => return due_of_list(fault),
     };
-    due_of_claims_after(
+    due_of_questions_after(
         alloc,
         program,
-        claims,
+        questions,
         format,
         limit,
         clients.as_slice(),
@@ -378,14 +418,14 @@ pub(crate) fn due_of_program<P: Watcher>(
             due_of_estimate(alloc, program, *format, front.as_slice())
         }
         Settings::Ask {
-            claims,
+            questions,
             format,
             limit,
             front,
-        } => due_of_claims(
+        } => due_of_questions(
             alloc,
             program,
-            claims.as_slice(),
+            questions.as_slice(),
             *format,
             *limit,
             front.as_slice(),

@@ -21,6 +21,7 @@ mod serving;
 mod syncs;
 mod tallies;
 mod telling;
+mod values;
 
 pub use alone::{bytes_of, due_without_threads};
 pub use due::Due;

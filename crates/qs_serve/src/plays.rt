@@ -4,16 +4,16 @@ ghost use Rattle.std.specs.Prelude.{◌≡◌, ◌⊎◌, ◌||◌, []};
 ghost use Rattle.qs_report.specs.declared.faults.Fault.TheVariants as fault;
 ghost use Rattle.qs_line.specs.audit.Line.{by_order, by_schedule, play, rules};
 ghost use Rattle.qs_line.specs.Line.{plan_of};
-ghost use Rattle.qs_serve.specs.Due.{IsDueOfProgram, IsOutOfMemory, IsRefusedBy};
+ghost use Rattle.qs_serve.specs.Due.{IsDueOfProgram, IsOutOfMemory, IsRefusedBy, form_of};
 
 use crate::due::{Due, due_of_list};
 use crate::reports::{due_of_played, due_of_told};
 use qs_check::Program;
 use qs_chunk::ChunkSize;
 use qs_core::{play, play_in_order, play_plain, play_plain_in_order};
-use qs_line::{Part, Plan, ReportStyle, actors_of, clients_of};
+use qs_line::{Part, Plan, ReportFormat, ReportStyle, actors_of, clients_of};
 use qs_report::Fault;
-use qs_steps::{Wanted, play_told, rules_told};
+use qs_steps::{Form, Wanted, play_told, rules_told};
 use qs_syncset::Mode;
 use std::alloc::Global;
 
@@ -28,10 +28,16 @@ fn is_told(style: ReportStyle) -> bool
 fn wanted_by(style: ReportStyle) -> Wanted
     ensures steps { result.steps ≡ style.steps }
     ensures queues { result.queues ≡ style.queues }
+    ensures form { result.form ≡ form_of style.format }
 {
+    let form = match style.format {
+        ReportFormat::Text | ReportFormat::Svg => Form::Text,
+        ReportFormat::Json => Form::Json,
+    };
     Wanted {
         steps: style.steps,
         queues: style.queues,
+        form,
     }
 }
 

@@ -10,6 +10,7 @@ use Rattle.qs_core_laws.specs.audit.CoreSchedule.{core_plays}
 use Rattle.qs_core.specs.state.CoreState.{CoreState, IsFreshCore, IsPlayedOn, codes_of}
 use Rattle.qs_steps.specs.Told.{steps_by}
 use Rattle.qs_steps.specs.CoreSteps.{core_steps, core_told}
+use Rattle.qs_steps.specs.declared.wanted.Form.{Form}
 use Rattle.qs_steps.specs.Telling.{CoreKept, LeadTo, core_view, steps_from}
 
 module _ (p : ProgramShape) (mode : Mode) (size : ℕ) (picks : List Actor) (rounds : ℕ) (s new : CoreState) (fresh : IsFreshCore p mode size s) (lead : LeadTo core_view (schedule p picks rounds) s new) where
@@ -29,6 +30,6 @@ module _ (p : ProgramShape) (mode : Mode) (size : ℕ) (picks : List Actor) (rou
   }
 
   -- and these are the lines of its steps
-  pub core_steps_on : steps_from core_view p picks rounds s ≡ core_steps p (codes_of new) new.size picks rounds
+  pub core_steps_on : (f : Form) → steps_from core_view f p picks rounds s ≡ core_steps f p (codes_of new) new.size picks rounds
   unfolding core_steps
-  core_steps_on = λ k. steps_by (core_step (same_code k) (same_size k)) p (core_told (fresh.program k) (same_code k) (same_size k)) picks rounds (fresh.begins k)
+  core_steps_on f = λ k. steps_by (core_step (same_code k) (same_size k)) f p (core_told f (fresh.program k) (same_code k) (same_size k)) picks rounds (fresh.begins k)

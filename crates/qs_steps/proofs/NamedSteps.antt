@@ -1,7 +1,7 @@
 -- The lines of a list of actors, made one by one beside the text: they are the text's, those that tell a step are of
 -- the actors that stepped, and each has the number and the actor that was asked. For any machine, by induction on the
 -- actors; then for picks and rounds.
-use Rattle.std.proofs.Common.{◌≡◌, ◌<◌, ◌≤◌, ℕ, suc, ◌+◌, Bool, true, false, List, [], ◌∷◌, ◌++◌, codes, flat_map, length, get_or, Option, Some, None, refl, ap, sym, ◌∙◌, append_assoc, append-nil, arith, if◌then◌else◌, subst}
+use Rattle.std.proofs.Common.{◌≡◌, ◌<◌, ◌≤◌, ℕ, suc, ◌+◌, Bool, true, false, List, [], ◌∷◌, ◌++◌, flat_map, length, get_or, Option, Some, None, refl, ap, sym, ◌∙◌, append_assoc, append-nil, arith, if◌then◌else◌, subst}
 use Rattle.std.specs.List.{AllByRecursion}
 use Rattle.std.proofs.lemmas.Grind.{flat_map-append}
 use Rattle.std.proofs.lemmas.List.{get_or-append-add, get_or_append_left, length-append}
@@ -11,7 +11,8 @@ use Rattle.qs_played.specs.audit.Schedule.{actors_of, or_stay, plays_by, rounds_
 use Rattle.qs_played.specs.declared.schedule.actor.Actor.{Actor}
 use Rattle.qs_plain_laws.specs.audit.Plain.{begin, step}
 use Rattle.qs_core_laws.specs.audit.Core.{core_begin, core_step}
-use Rattle.qs_steps.specs.Told.{line_of, lines_by, stepper, steppers_by}
+use Rattle.qs_steps.specs.Told.{idle_told, line_of, lines_by, stepper, steppers_by}
+use Rattle.qs_steps.specs.declared.wanted.Form.{Form}
 use Rattle.qs_steps.specs.PlainSteps.{plain_steps, plain_told}
 use Rattle.qs_steps.specs.CoreSteps.{core_steps, core_told}
 use Rattle.qs_steps.specs.StepNames.{AreLinesOf, IsAsked, IsRising, Line, SaysNothing, StepsAreNamed, line_text, named}
@@ -38,28 +39,28 @@ here_first n a rest b what = record { place = 0; number = omega arith; inside = 
 one_later : (n : ℕ) (a : Actor) (rest : List Actor) (l : Line) → IsAt (n + 1) rest l → IsAt n (a ∷ rest) l
 one_later n a rest l is = record { place = suc is.place; number = omega (arith, is.number); inside = omega (arith, is.inside); actor = is.actor }
 
-module _ {S : Type 0} (step : S → Actor → Option S) (p : ProgramShape) (told : S → Actor → List ℕ) where
+module _ {S : Type 0} (step : S → Actor → Option S) (f : Form) (p : ProgramShape) (told : S → Actor → List ℕ) where
   line_made : Bool → ℕ → S → Actor → Option S → List Line
   line_made b n s a (Some t) = record { number = n; actor = a; stepped = true; what = told s a } ∷ []
-  line_made true n s a None = record { number = n; actor = a; stepped = false; what = codes "does nothing" } ∷ []
+  line_made true n s a None = record { number = n; actor = a; stepped = false; what = idle_told f } ∷ []
   line_made false n s a None = []
 
   lines_made : Bool → ℕ → List Actor → S → List Line
   lines_made b n [] s = []
   lines_made b n (a ∷ rest) s = line_made b n s a (step s a) ++ lines_made b (n + 1) rest (or_stay s (step s a))
 
-  one_text : (b : Bool) (n : ℕ) (s : S) (a : Actor) (o : Option S) → line_of step p told b n s a o ≡ flat_map (line_text p) (line_made b n s a o)
+  one_text : (b : Bool) (n : ℕ) (s : S) (a : Actor) (o : Option S) → line_of step f p told b n s a o ≡ flat_map (line_text f p) (line_made b n s a o)
   unfolding line_made
   one_text b n s a (Some t) = sym (append-nil _)
   one_text true n s a None = sym (append-nil _)
   one_text false n s a None = refl
 
-  made_text : (b : Bool) (n : ℕ) (actors : List Actor) (s : S) → lines_by step p told b n actors s ≡ flat_map (line_text p) (lines_made b n actors s)
+  made_text : (b : Bool) (n : ℕ) (actors : List Actor) (s : S) → lines_by step f p told b n actors s ≡ flat_map (line_text f p) (lines_made b n actors s)
   unfolding lines_made
   made_text b n [] s = refl
   made_text b n (a ∷ rest) s =
       (λ k. one_text b n s a (step s a) k ++ made_text b (n + 1) rest (or_stay s (step s a)) k)
-      ∙ sym (flat_map-append (line_text p) (line_made b n s a (step s a)) (lines_made b (n + 1) rest (or_stay s (step s a))))
+      ∙ sym (flat_map-append (line_text f p) (line_made b n s a (step s a)) (lines_made b (n + 1) rest (or_stay s (step s a))))
 
   one_named : (b : Bool) (n : ℕ) (s : S) (a : Actor) (o : Option S) → named (line_made b n s a o) ≡ stepper step a o
   unfolding line_made
@@ -74,22 +75,22 @@ module _ {S : Type 0} (step : S → Actor → Option S) (p : ProgramShape) (told
       named_append (line_made b n s a (step s a)) (lines_made b (n + 1) rest (or_stay s (step s a)))
       ∙ (λ k. one_named b n s a (step s a) k ++ made_named b (n + 1) rest (or_stay s (step s a)) k)
 
-  one_idle : (b : Bool) (n : ℕ) (s : S) (a : Actor) (o : Option S) → AllByRecursion SaysNothing (line_made b n s a o)
+  one_idle : (b : Bool) (n : ℕ) (s : S) (a : Actor) (o : Option S) → AllByRecursion (SaysNothing f) (line_made b n s a o)
   unfolding line_made
   one_idle b n s a (Some t) = (λ e. cc, tt)
   one_idle true n s a None = (λ e. refl, tt)
   one_idle false n s a None = tt
 
-  made_idle : (b : Bool) (n : ℕ) (actors : List Actor) (s : S) → AllByRecursion SaysNothing (lines_made b n actors s)
+  made_idle : (b : Bool) (n : ℕ) (actors : List Actor) (s : S) → AllByRecursion (SaysNothing f) (lines_made b n actors s)
   unfolding lines_made
   made_idle b n [] s = tt
   made_idle b n (a ∷ rest) s =
-      each_join SaysNothing (line_made b n s a (step s a)) (lines_made b (n + 1) rest (or_stay s (step s a))) (one_idle b n s a (step s a)) (made_idle b (n + 1) rest (or_stay s (step s a)))
+      each_join (SaysNothing f) (line_made b n s a (step s a)) (lines_made b (n + 1) rest (or_stay s (step s a))) (one_idle b n s a (step s a)) (made_idle b (n + 1) rest (or_stay s (step s a)))
 
   one_at : (b : Bool) (n : ℕ) (s : S) (a : Actor) (rest : List Actor) (o : Option S) → AllByRecursion (IsAt n (a ∷ rest)) (line_made b n s a o)
   unfolding line_made
   one_at b n s a rest (Some t) = (here_first n a rest true (told s a), tt)
-  one_at true n s a rest None = (here_first n a rest false (codes "does nothing"), tt)
+  one_at true n s a rest None = (here_first n a rest false (idle_told f), tt)
   one_at false n s a rest None = tt
 
   made_at : (b : Bool) (n : ℕ) (actors : List Actor) (s : S) → AllByRecursion (IsAt n actors) (lines_made b n actors s)
@@ -132,8 +133,8 @@ module _ {S : Type 0} (step : S → Actor → Option S) (p : ProgramShape) (told
     actor = λ d. get_or-append-add picks others is.place d ∙ is.actor d;
   }
 
-  pub all_named : (picks others : List Actor) (s : S) → AreLinesOf p (picks ++ others) (steppers_by step (picks ++ others) s)
-      (lines_by step p told true 1 picks s ++ lines_by step p told false (length picks + 1) others (plays_by step picks s))
+  pub all_named : (picks others : List Actor) (s : S) → AreLinesOf f p (picks ++ others) (steppers_by step (picks ++ others) s)
+      (lines_by step f p told true 1 picks s ++ lines_by step f p told false (length picks + 1) others (plays_by step picks s))
   all_named picks others s =
       let t = plays_by step picks s in
       let first = lines_made true 1 picks s in
@@ -141,9 +142,9 @@ module _ {S : Type 0} (step : S → Actor → Option S) (p : ProgramShape) (told
       let number : length picks + 1 ≡ 1 + length picks = omega arith in
       record {
         lines = first ++ second;
-        text = (λ k. made_text true 1 picks s k ++ made_text false (length picks + 1) others t k) ∙ sym (flat_map-append (line_text p) first second);
+        text = (λ k. made_text true 1 picks s k ++ made_text false (length picks + 1) others t k) ∙ sym (flat_map-append (line_text f p) first second);
         steppers = named_append first second ∙ (λ k. made_named true 1 picks s k ++ made_named false (length picks + 1) others t k) ∙ sym (steppers_append step picks others s);
-        idle = each_join SaysNothing first second (made_idle true 1 picks s) (made_idle false (length picks + 1) others t);
+        idle = each_join (SaysNothing f) first second (made_idle true 1 picks s) (made_idle false (length picks + 1) others t);
         asked = each_join (IsAsked (picks ++ others)) first second (each_map {P = IsAt 1 picks} {Q = IsAsked (picks ++ others)} (first_asked picks others) first (made_at true 1 picks s))
             (each_map {P = IsAt (length picks + 1) others} {Q = IsAsked (picks ++ others)} (then_asked picks others) second (made_at false (length picks + 1) others t));
         rising = made_rises true 1 picks s second (subst (λ m. IsRising m second) number
@@ -153,6 +154,6 @@ module _ {S : Type 0} (step : S → Actor → Option S) (p : ProgramShape) (told
 pub steps_named : StepsAreNamed
 unfolding plain_steps core_steps
 steps_named = record {
-  by_rules = λ p picks rounds. all_named (step p) p (plain_told p) picks (rounds_of rounds (actors_of p)) (begin p);
-  by_machine = λ p code size picks rounds. all_named (core_step code size) p (core_told p code size) picks (rounds_of rounds (actors_of p)) (core_begin p);
+  by_rules = λ f p picks rounds. all_named (step p) f p (plain_told f p) picks (rounds_of rounds (actors_of p)) (begin p);
+  by_machine = λ f p code size picks rounds. all_named (core_step code size) f p (core_told f p code size) picks (rounds_of rounds (actors_of p)) (core_begin p);
 }

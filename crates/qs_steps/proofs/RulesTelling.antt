@@ -10,11 +10,12 @@ use Rattle.qs_plain.specs.Rules.{RulesState, plain_of}
 use Rattle.qs_steps.specs.Told.{steps_by}
 use Rattle.qs_steps.specs.PlainSteps.{plain_steps, plain_told}
 use Rattle.qs_steps.specs.Telling.{LeadTo, rules_view, steps_from}
+use Rattle.qs_steps.specs.declared.wanted.Form.{Form}
 
 module _ (p : ProgramShape) (picks : List Actor) (rounds : ℕ) (r : RulesState) (own : r.program ≡ p) (begins : plain_of r ≡ begin p) where
-  pub rules_steps : steps_from rules_view p picks rounds r ≡ plain_steps p picks rounds
+  pub rules_steps : (f : Form) → steps_from rules_view f p picks rounds r ≡ plain_steps f p picks rounds
   unfolding plain_steps
-  rules_steps = λ k. steps_by (step (own k)) p (plain_told (own k)) picks rounds (begins k)
+  rules_steps f = λ k. steps_by (step (own k)) f p (plain_told f (own k)) picks rounds (begins k)
 
   pub rules_scheduled : (new : RulesState) → LeadTo rules_view (schedule p picks rounds) r new → plain_of new ≡ scheduled p picks rounds
   unfolding scheduled

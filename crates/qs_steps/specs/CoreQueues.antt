@@ -1,10 +1,9 @@
--- Where a run of the optimised machine has not finished: which tickets each handler has before it, what lies in the
--- lanes to it, and what each client waits for.
-use Rattle.std.specs.Prelude.{ℕ, zero, suc, if◌then◌else◌, nat_lt, List, [], ◌∷◌, ◌++◌, codes, decimal, flat_map, length, Option, Some, None}
-use Rattle.std.specs.List.{range_with_len}
+-- Where a run of the optimised machine is: which tickets each handler has before it, what lies in the lanes to it, and
+-- what each client waits for.
+use Rattle.std.specs.Prelude.{ℕ, zero, suc, if◌then◌else◌, nat_lt, List, [], ◌∷◌, ◌++◌, codes, flat_map, length, Option, Some, None}
 use Rattle.qs_objects.specs.audit.Journals.{HeldState}
 use Rattle.qs_objects.specs.declared.held.Ticket.{Ticket}
-use Rattle.qs_program.specs.audit.Program.{ProgramShape, client_at, object_at}
+use Rattle.qs_program.specs.audit.Program.{ProgramShape, client_at}
 use Rattle.qs_syncset.specs.audit.Codes.{ClientCode}
 use Rattle.qs_chunk.specs.audit.Limits.{lane_room}
 use Rattle.qs_chunk.specs.declared.parcel.Parcel.{Parcel}
@@ -16,65 +15,90 @@ use Rattle.qs_core_laws.specs.audit.Core.{Core}
 use Rattle.qs_core_laws.specs.audit.CoreSchedule.{is_finished}
 use Rattle.qs_core_laws.specs.CoreSchedule.{before_it, core_scheduled}
 use Rattle.qs_core.specs.CoreEffects.{act_at}
-use Rattle.qs_steps.specs.CoreSteps.{requests_text}
+use Rattle.qs_json.specs.audit.Pieces.{comma_at, first_field, quoted}
+use Rattle.qs_steps.specs.CoreSteps.{requests_field}
+use Rattle.qs_steps.specs.Forms.{listed, numbered, only_json, requests_in, ticket_json}
+use Rattle.qs_steps.specs.Queues.{client_in, is_done, queue_in, queues_by, unless_silent, waits_at, waits_nothing}
 use Rattle.qs_steps.specs.Told.{ticket_text}
+use Rattle.qs_steps.specs.declared.wanted.Form.{Form}
+use Rattle.qs_steps.specs.declared.wanted.Form.TheVariants as form
 
 -- a chunk by its requests, and each other parcel by a word
-abbrev pub parcel_text : ProgramShape → Parcel → List ℕ
-parcel_text p (Work chunk) = codes "[" ++ requests_text p chunk.items ++ codes "]"
-parcel_text p Sync = codes "sync"
-parcel_text p (Home x) = codes "home"
-parcel_text p End = codes "end"
+abbrev pub chunk_in : Form → (requests : List ℕ) → List ℕ
+chunk_in form.Text requests = codes "[" ++ requests ++ codes "]"
+chunk_in form.Json requests =
+    first_field (codes "parcel") (quoted (codes "chunk")) ++ requests_field requests ++ codes "}"
 
--- a lane in which nothing lies has no line
-abbrev pub lane_line : ProgramShape → (c : ℕ) → List Parcel → List ℕ
-lane_line p c [] = []
-lane_line p c (x ∷ xs) =
-    codes "lane " ++ (client_at p c).name ++ flat_map (λ y. codes " " ++ parcel_text p y) (x ∷ xs) ++ codes "\n"
+abbrev pub word_in : Form → List ℕ → List ℕ
+word_in form.Text word = word
+word_in form.Json word = first_field (codes "parcel") (quoted word) ++ codes "}"
 
-abbrev pub waiting_line : ProgramShape → Ticket → List ℕ
-waiting_line p t = ticket_text p t ++ codes "\n"
+abbrev pub parcel_in : Form → ProgramShape → Parcel → List ℕ
+parcel_in f p (Work chunk) = chunk_in f (requests_in f p chunk.items)
+parcel_in f p Sync = word_in f (codes "sync")
+parcel_in f p (Home x) = word_in f (codes "home")
+parcel_in f p End = word_in f (codes "end")
+
+-- what stands before the parcel at a place: in text a space, and in JSON a comma, but before the first
+abbrev pub gap_in : Form → ℕ → List ℕ
+gap_in form.Text i = codes " "
+gap_in form.Json i = comma_at i
+
+abbrev pub parcels_in : Form → ProgramShape → List Parcel → List ℕ
+parcels_in form.Text p xs = flat_map (λ x. codes " " ++ parcel_in form.Text p x) xs
+parcels_in form.Json p xs = listed form.Json (parcel_in form.Json p) xs
+
+-- in text a lane in which nothing lies has no line
+abbrev pub lane_in : Form → ProgramShape → (c : ℕ) → List Parcel → List ℕ
+lane_in form.Text p c [] = []
+lane_in form.Text p c (x ∷ xs) =
+    codes "lane " ++ (client_at p c).name ++ parcels_in form.Text p (x ∷ xs) ++ codes "\n"
+lane_in form.Json p c xs =
+    first_field (codes "client") (quoted (client_at p c).name) ++ codes ",\"parcels\":[" ++ parcels_in form.Json p xs
+    ++ codes "]}"
+
+abbrev pub waiting_in : Form → ProgramShape → Ticket → List ℕ
+waiting_in form.Text p t = ticket_text p t ++ codes "\n"
+waiting_in form.Json p t = ticket_json p t
 
 -- the ticket that a handler serves and those in its queue, and then the lanes to it
-abbrev pub handler_lines : ProgramShape → Core → (h : ℕ) → List ℕ
-handler_lines p s h =
-    codes "queue " ++ (object_at p h).name ++ codes " " ++ decimal (length (before_it s h)) ++ codes "\n"
-    ++ flat_map (waiting_line p) (before_it s h)
-    ++ flat_map (λ c. lane_line p c (s.down c h)) (range_with_len 0 (length p.clients))
+abbrev pub handler_in : Form → ProgramShape → Core → (h : ℕ) → List ℕ
+handler_in f p s h =
+    queue_in f (waiting_in f p) p h (before_it s h)
+    ++ only_json f (codes ",\"lanes\":[") ++ numbered f (λ c. lane_in f p c (s.down c h)) (length p.clients)
+    ++ only_json f (codes "]}")
 
-abbrev pub wait_for_object : ProgramShape → (h : ℕ) → Option HeldState → List ℕ
-wait_for_object p h None = codes "waits for " ++ (object_at p h).name
-wait_for_object p h (Some x) = codes "waits for nothing"
+abbrev pub waits_object : Form → ProgramShape → (h : ℕ) → List ℕ
+waits_object f = waits_at f (codes "waits for ") (codes "object")
 
-abbrev pub wait_for_chunk : ProgramShape → (h : ℕ) → (spare : ℕ) → List ℕ
-wait_for_chunk p h zero = codes "waits for an empty chunk of " ++ (object_at p h).name
-wait_for_chunk p h (suc n) = codes "waits for nothing"
+abbrev pub waits_chunk : Form → ProgramShape → (h : ℕ) → List ℕ
+waits_chunk f = waits_at f (codes "waits for an empty chunk of ") (codes "chunk")
+
+abbrev pub wait_for_object : Form → ProgramShape → (h : ℕ) → Option HeldState → List ℕ
+wait_for_object f p h None = waits_object f p h
+wait_for_object f p h (Some x) = waits_nothing f
+
+abbrev pub wait_for_chunk : Form → ProgramShape → (h : ℕ) → (spare : ℕ) → List ℕ
+wait_for_chunk f p h zero = waits_chunk f p h
+wait_for_chunk f p h (suc n) = waits_nothing f
 
 -- a client waits for an object, for an empty chunk, or for room in a lane
-abbrev pub wait_text : ProgramShape → Core → (c : ℕ) → Act → List ℕ
-wait_text p s c wants.Reserve = codes "waits for nothing"
-wait_text p s c (wants.Send h parcel) =
-    if nat_lt (length (s.down c h)) lane_room then codes "waits for nothing" else codes "waits for room to "
-    ++ (object_at p h).name
-wait_text p s c (wants.Await h) = wait_for_object p h (s.up c h)
-wait_text p s c (wants.NeedChunk h) = wait_for_chunk p h (s.spare c h)
-wait_text p s c wants.Finished = codes "is done"
+abbrev pub wait_in : Form → ProgramShape → Core → (c : ℕ) → Act → List ℕ
+wait_in f p s c wants.Reserve = waits_nothing f
+wait_in f p s c (wants.Send h parcel) =
+    if nat_lt (length (s.down c h)) lane_room then waits_nothing f else waits_at f (codes "waits for room to ")
+    (codes "room") p h
+wait_in f p s c (wants.Await h) = wait_for_object f p h (s.up c h)
+wait_in f p s c (wants.NeedChunk h) = wait_for_chunk f p h (s.spare c h)
+wait_in f p s c wants.Finished = is_done f
 
-module _ (p : ProgramShape) (code : ℕ → ClientCode) (size : ℕ) where
-  abbrev pub client_line : Core → ℕ → List ℕ
-  client_line s c =
-      codes "client " ++ (client_at p c).name ++ codes " " ++ wait_text p s c (act_at code size s c) ++ codes "\n"
+module _ (f : Form) (p : ProgramShape) (code : ℕ → ClientCode) (size : ℕ) where
+  abbrev pub client_of : Core → ℕ → List ℕ
+  client_of s c = client_in f p c (wait_in f p s c (act_at code size s c))
 
-  -- all handlers and then all clients, in text order
-  abbrev pub all_queues : Core → List ℕ
-  all_queues s =
-      flat_map (handler_lines p s) (range_with_len 0 (length p.objects))
-      ++ flat_map (client_line s) (range_with_len 0 (length p.clients))
-
-  -- of a run that is finished nothing is told
-  abbrev pub queues_text : Core → List ℕ
-  queues_text s = if is_finished p s then [] else all_queues s
+  abbrev pub queues_in : Core → List ℕ
+  queues_in s = unless_silent f (is_finished p s) (queues_by f p (handler_in f p s) (client_of s))
 
   -- after a schedule
   unfoldable pub core_queues : List Actor → (rounds : ℕ) → List ℕ
-  core_queues picks rounds = queues_text (core_scheduled p code size picks rounds)
+  core_queues picks rounds = queues_in (core_scheduled p code size picks rounds)

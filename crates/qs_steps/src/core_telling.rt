@@ -10,7 +10,7 @@ ghost use Rattle.qs_steps.specs.Telling.{IsToldIn, played_in};
 use crate::core_lines::put_core_line;
 use crate::core_queues::put_core_queues;
 use crate::telling::{Machine, Turn, play_steps, queues_of};
-use crate::wanted::{Told, Wanted};
+use crate::wanted::{Form, Told, Wanted};
 use qs_chunk::ChunkSize;
 use qs_core::Core;
 use qs_objects::Object;
@@ -75,11 +75,11 @@ impl Machine for Core<'_> {
 
     fn put_queues(
         &mut self,
-        alloc: Global,
         out: &mut Vec<u8>,
         program: &Program,
+        form: Form,
     ) -> Result<(), AllocError> {
-        put_core_queues(alloc, out, program, self)
+        put_core_queues(out, program, form, self)
     }
 }
 
@@ -98,8 +98,8 @@ fn tell(
     ensures counted { IfOk result (λ told. AreSyncsCounted program.now mode told.played) }
 {
     let mut core = Core::new(alloc, program, mode, size)?;
-    let steps = play_steps(alloc, program, &mut core, picks, rounds, wanted.steps)?;
-    let queues = queues_of(alloc, program, &mut core, wanted.queues)?;
+    let steps = play_steps(alloc, program, &mut core, picks, rounds, wanted)?;
+    let queues = queues_of(alloc, program, &mut core, wanted)?;
     let played = core.into_played(alloc)?;
     Ok(Told {
         steps,

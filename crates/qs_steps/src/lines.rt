@@ -2,10 +2,14 @@
 
 ghost use Rattle.std.specs.Prelude.{◌≡◌, ◌++◌, OnOk, codes, decimal, flat_map};
 ghost use Rattle.qs_program.specs.audit.Program.{client_at, object_at, text_of};
+ghost use Rattle.qs_json.specs.audit.Pieces.{first_field};
+ghost use Rattle.qs_steps.specs.Forms.{between as between_two, name_in, names_in};
 ghost use Rattle.qs_steps.specs.Telling.{idle_line};
-ghost use Rattle.qs_steps.specs.Told.{actor_text, names_text, reserves_text, ticket_text};
+ghost use Rattle.qs_steps.specs.Told.{actor_field, actor_text, idle_told, line_end, line_head, reserves_json, reserves_text, ticket_text};
 
+use crate::forms::{between, put_client_name, put_does_ticket, put_name, put_object_name};
 use crate::telling::Turn;
+use crate::wanted::Form;
 use itoa::Buffer;
 use qs_objects::Ticket;
 use qs_played::Actor;
@@ -23,29 +27,88 @@ fn actor_name(program: &Program, actor: Actor) -> &[u8]
     }
 }
 
-/// Puts the number of a line and who steps.
-pub(crate) fn put_who(out: &mut Vec<u8>, program: &Program, turn: Turn) -> Result<(), AllocError>
+// Who steps, as a field.
+fn put_actor_field(out: &mut Vec<u8>, program: &Program, actor: Actor) -> Result<(), AllocError>
+    ensures ok { OnOk result (out.new.items ≡ out.old.items ++ actor_field program.now actor) }
+{
+    match actor {
+        Actor::Client(client) => put_client_name(out, program, b",\"client\":", client),
+        Actor::Handler(handler) => put_object_name(out, program, b",\"object\":", handler),
+    }
+}
+
+// The number of a line of text, and who steps.
+fn put_text_head(
+    out: &mut Vec<u8>,
+    program: &Program,
+    number: u64,
+    actor: Actor,
+) -> Result<(), AllocError>
     ensures ok { OnOk result (out.new.items
-        ≡ out.old.items ++ (decimal turn.number ++ codes " " ++ actor_text program.now turn.actor ++ codes " ")) }
+        ≡ out.old.items ++ (decimal number ++ codes " " ++ actor_text program.now actor ++ codes " ")) }
 {
     let mut buffer = Buffer::new();
-    let name = actor_name(program, turn.actor);
-    put_all(
-        out,
-        &[buffer.format(turn.number).as_bytes(), b" ", name, b" "],
-    )
+    let name = actor_name(program, actor);
+    put_all(out, &[buffer.format(number).as_bytes(), b" ", name, b" "])
+}
+
+// The same as the first fields of an object.
+fn put_json_head(
+    out: &mut Vec<u8>,
+    program: &Program,
+    number: u64,
+    actor: Actor,
+) -> Result<(), AllocError>
+    ensures ok { OnOk result (out.new.items
+        ≡ out.old.items ++ (first_field (codes "step") (decimal number) ++ actor_field program.now actor)) }
+{
+    let mut buffer = Buffer::new();
+    put_all(out, &[b"{\"step\":", buffer.format(number).as_bytes()])?;
+    put_actor_field(out, program, actor)
+}
+
+/// Puts the number of a line and who steps.
+pub(crate) fn put_head(out: &mut Vec<u8>, program: &Program, turn: Turn) -> Result<(), AllocError>
+    ensures ok { OnOk result (out.new.items
+        ≡ out.old.items ++ line_head turn.form program.now turn.number turn.actor) }
+{
+    match turn.form {
+        Form::Text => put_text_head(out, program, turn.number, turn.actor),
+        Form::Json => put_json_head(out, program, turn.number, turn.actor),
+    }
+}
+
+/// What ends a line.
+pub(crate) fn end_of_line(form: Form) -> &'static [u8]
+    ensures word { result.now ≡ line_end form }
+{
+    match form {
+        Form::Text => b"\n",
+        Form::Json => b"}\n",
+    }
+}
+
+// What is told of a pick that does not step.
+fn idle_words(form: Form) -> &'static [u8]
+    ensures words { result.now ≡ idle_told form }
+{
+    match form {
+        Form::Text => b"does nothing",
+        Form::Json => b",\"does\":\"nothing\"",
+    }
 }
 
 /// Puts the line of an actor that did not step: a pick has one, and an actor of a round has none.
 pub(crate) fn put_idle(out: &mut Vec<u8>, program: &Program, turn: Turn) -> Result<(), AllocError>
     ensures ok { OnOk result (out.new.items
-        ≡ out.old.items ++ idle_line program.now turn.is_pick turn.number turn.actor) }
+        ≡ out.old.items ++ idle_line turn.form program.now turn.is_pick turn.number turn.actor) }
 {
     if !turn.is_pick {
         return Ok(());
     }
-    put_who(out, program, turn)?;
-    put(out, b"does nothing\n")
+    put_head(out, program, turn)?;
+    put(out, idle_words(turn.form))?;
+    put(out, end_of_line(turn.form))
 }
 
 /// Puts a ticket.
@@ -69,25 +132,36 @@ pub(crate) fn put_ticket(
     )
 }
 
-// Further names, each after a space.
-fn put_other_names(out: &mut Vec<u8>, program: &Program, objects: &[u8]) -> Result<(), AllocError>
-    ensures ok { OnOk result (out.new.items ≡ out.old.items ++ flat_map (λ h. codes " " ++ (object_at program.now h).name) objects.now) }
+// Further names, each after what stands between two.
+fn put_other_names(
+    out: &mut Vec<u8>,
+    program: &Program,
+    form: Form,
+    objects: &[u8],
+) -> Result<(), AllocError>
+    ensures ok { OnOk result (out.new.items ≡ out.old.items ++ flat_map (λ h. between_two form ++ name_in form (object_at program.now h).name) objects.now) }
 {
     for object in objects {
-        put_all(out, &[b" ", object_name(program, usize::from(*object))])?;
+        put(out, between(form))?;
+        put_name(out, form, object_name(program, usize::from(*object)))?;
     }
     Ok(())
 }
 
-// The names of objects, joined by spaces.
-fn put_names(out: &mut Vec<u8>, program: &Program, objects: &[u8]) -> Result<(), AllocError>
-    ensures ok { OnOk result (out.new.items ≡ out.old.items ++ names_text program.now objects.now) }
+// The names of objects.
+fn put_names(
+    out: &mut Vec<u8>,
+    program: &Program,
+    form: Form,
+    objects: &[u8],
+) -> Result<(), AllocError>
+    ensures ok { OnOk result (out.new.items ≡ out.old.items ++ names_in form program.now objects.now) }
 {
     match objects {
         [] => Ok(()),
         [first, others @ ..] => {
-            put(out, object_name(program, usize::from(*first)))?;
-            put_other_names(out, program, others)
+            put_name(out, form, object_name(program, usize::from(*first)))?;
+            put_other_names(out, program, form, others)
         }
     }
 }
@@ -114,33 +188,24 @@ pub(crate) fn put_reserves(
     ensures ok { OnOk result (out.new.items ≡ out.old.items ++ reserves_text program.now ticket) }
 {
     put(out, b"reserves ")?;
-    put_names(out, program, reserved_by(program, ticket))?;
+    put_names(out, program, Form::Text, reserved_by(program, ticket))?;
     put(out, b" (")?;
     put_ticket(out, program, ticket)?;
     put(out, b")")
 }
 
-/// Puts a handler's object, and how many are before the handler.
-pub(crate) fn put_head(
+/// Puts the same as fields.
+pub(crate) fn put_reserves_json(
     out: &mut Vec<u8>,
     program: &Program,
-    handler: u8,
-    count: usize,
+    ticket: Ticket,
 ) -> Result<(), AllocError>
-    ensures ok { OnOk result (out.new.items ≡ out.old.items ++ (codes "queue " ++ (object_at program.now handler).name ++ codes " " ++ decimal count ++ codes "\n")) }
+    ensures ok { OnOk result (out.new.items ≡ out.old.items ++ reserves_json program.now ticket) }
 {
-    let mut buffer = Buffer::new();
-    let name = object_name(program, usize::from(handler));
-    put_all(
-        out,
-        &[
-            b"queue ",
-            name,
-            b" ",
-            buffer.format(count).as_bytes(),
-            b"\n",
-        ],
-    )
+    put_does_ticket(out, program, b"reserves", ticket)?;
+    put(out, b",\"objects\":[")?;
+    put_names(out, program, Form::Json, reserved_by(program, ticket))?;
+    put(out, b"]")
 }
 
 /// Puts words and a client.
@@ -154,4 +219,17 @@ pub(crate) fn put_client(
 {
     put(out, words)?;
     put(out, client_name(program, client))
+}
+
+/// Puts words and a handler's object.
+pub(crate) fn put_object(
+    out: &mut Vec<u8>,
+    program: &Program,
+    words: &[u8],
+    object: u8,
+) -> Result<(), AllocError>
+    ensures ok { OnOk result (out.new.items ≡ out.old.items ++ (words.now ++ (object_at program.now object).name)) }
+{
+    put(out, words)?;
+    put(out, object_name(program, usize::from(object)))
 }

@@ -15,7 +15,7 @@ ghost use Rattle.qs_steps.specs.Telling.{played_in};
 use crate::plain_lines::put_line;
 use crate::plain_queues::put_plain_queues;
 use crate::telling::{Machine, Turn, play_steps, queues_of};
-use crate::wanted::{Told, Wanted};
+use crate::wanted::{Form, Told, Wanted};
 use qs_objects::Object;
 use qs_plain::Rules;
 use qs_played::{Actor, MOST_ROUNDS, PlayFault, are_named};
@@ -68,11 +68,11 @@ impl Machine for Rules<'_> {
 
     fn put_queues(
         &mut self,
-        _alloc: Global,
         out: &mut Vec<u8>,
         program: &Program,
+        form: Form,
     ) -> Result<(), AllocError> {
-        put_plain_queues(out, program, self)
+        put_plain_queues(out, program, form, self)
     }
 }
 
@@ -84,16 +84,16 @@ fn tell(
     rounds: u32,
     wanted: Wanted,
 ) -> Result<Told, AllocError>
-    ensures steps { IfOk result (λ told. told.steps.items ≡ (if wanted.steps then plain_steps program.now picks.now rounds else [])) }
-    ensures queues { IfOk result (λ told. told.queues.items ≡ (if wanted.queues then plain_queues program.now picks.now rounds else [])) }
+    ensures steps { IfOk result (λ told. told.steps.items ≡ (if wanted.steps then plain_steps wanted.form program.now picks.now rounds else [])) }
+    ensures queues { IfOk result (λ told. told.queues.items ≡ (if wanted.queues then plain_queues wanted.form program.now picks.now rounds else [])) }
     ensures played { IfOk result (λ told. told.played ≡ played_of program.now (scheduled program.now picks.now rounds)) }
     ensures legal { IfOk result (λ told. IsLegal program.now told.played.order) }
     ensures isolated { IfOk result (λ told. IsIsolated program.now told.played (commands_in_queue (scheduled program.now picks.now rounds))) }
     ensures counted { IfOk result (λ told. AreQueriesCounted program.now (scheduled program.now picks.now rounds) told.played) }
 {
     let mut rules = Rules::new(alloc, program)?;
-    let steps = play_steps(alloc, program, &mut rules, picks, rounds, wanted.steps)?;
-    let queues = queues_of(alloc, program, &mut rules, wanted.queues)?;
+    let steps = play_steps(alloc, program, &mut rules, picks, rounds, wanted)?;
+    let queues = queues_of(alloc, program, &mut rules, wanted)?;
     let played = rules.into_played(alloc)?;
     Ok(Told {
         steps,
@@ -114,8 +114,8 @@ pub fn rules_told(
     wanted: Wanted,
 ) -> Result<Told, PlayFault>
     ensures played { IsPlayed program.now picks.now rounds (played_in result) }
-    ensures steps { IfOk result (λ told. told.steps.items ≡ (if wanted.steps then plain_steps program.now picks.now rounds else [])) }
-    ensures queues { IfOk result (λ told. told.queues.items ≡ (if wanted.queues then plain_queues program.now picks.now rounds else [])) }
+    ensures steps { IfOk result (λ told. told.steps.items ≡ (if wanted.steps then plain_steps wanted.form program.now picks.now rounds else [])) }
+    ensures queues { IfOk result (λ told. told.queues.items ≡ (if wanted.queues then plain_queues wanted.form program.now picks.now rounds else [])) }
     ensures legal { IfOk result (λ told. IsLegal program.now told.played.order) }
     ensures isolated { IfOk result (λ told. IsIsolated program.now told.played (commands_in_queue (scheduled program.now picks.now rounds))) }
     ensures counted { IfOk result (λ told. AreQueriesCounted program.now (scheduled program.now picks.now rounds) told.played) }

@@ -4,13 +4,16 @@ ghost use Rattle.std.specs.Prelude.{◌≡◌, ◌≤◌, ◌+◌, ◌^◌, ◌+
 ghost use Rattle.qs_played.specs.audit.Schedule.{actors_of, rounds_of, schedule};
 ghost use Rattle.qs_steps.specs.Telling.{AreTold, IsAsked, IsScheduleTold, LeadTo, NoneStep, View, asked_line, own_program, steps_from};
 
+use crate::wanted::{Form, Wanted};
 use qs_played::Actor;
 use qs_program::Program;
 use std::alloc::{AllocError, Global};
 
-/// The turn of an actor that is asked to step: by a pick or in a round, and its number among all turns.
+/// The turn of an actor that is asked to step: by a pick or in a round, and its number among all turns; and how it is
+/// told.
 #[derive(Clone, Copy)]
 pub(crate) struct Turn {
+    pub form: Form,
     pub is_pick: bool,
     pub number: u64,
     pub actor: Actor,
@@ -30,7 +33,7 @@ pub(crate) trait Machine {
     ) -> Result<bool, AllocError>
         requires own { own_program view self.old ≡ program.now }
         ensures line { IfOk result (λ stepped. out.new.items ≡ out.old.items
-            ++ asked_line view program.now turn.is_pick turn.number turn.actor stepped self.old) }
+            ++ asked_line view turn.form program.now turn.is_pick turn.number turn.actor stepped self.old) }
         ensures asked { IfOk result (λ stepped. IsAsked view turn.actor stepped self.old self.new) };
 
     /// One actor is asked to step, and has no line: whether it stepped.
@@ -44,12 +47,12 @@ pub(crate) trait Machine {
     /// What lies where; the machine stays the same.
     fn put_queues(
         &mut self,
-        alloc: Global,
         out: &mut Vec<u8>,
         program: &Program,
+        form: Form,
     ) -> Result<(), AllocError>
         requires own { own_program view self.old ≡ program.now }
-        ensures text { OnOk result (out.new.items ≡ out.old.items ++ view.queues (view.kept self.old) (view.state self.old)) }
+        ensures text { OnOk result (out.new.items ≡ out.old.items ++ view.queues form (view.kept self.old) (view.state self.old)) }
         ensures same { self.new ≡ self.old };
 }
 
@@ -58,16 +61,18 @@ fn put_picks<M: Machine>(
     alloc: Global,
     out: &mut Vec<u8>,
     program: &Program,
+    form: Form,
     machine: &mut M,
     picks: &[Actor],
 ) -> Result<(), AllocError>
     requires own { own_program M.view machine.old ≡ program.now }
-    ensures told { OnOk result (AreTold M.view program.now true 1 picks.now out.old.items machine.old out.new.items machine.new) }
+    ensures told { OnOk result (AreTold M.view form program.now true 1 picks.now out.old.items machine.old out.new.items machine.new) }
 {
     let mut number = 0;
     for pick in picks {
         number += 1;
         let turn = Turn {
+            form,
             is_pick: true,
             number,
             actor: *pick,
@@ -83,12 +88,13 @@ fn put_round<M: Machine>(
     alloc: Global,
     out: &mut Vec<u8>,
     program: &Program,
+    form: Form,
     machine: &mut M,
     asked: u64,
 ) -> Result<bool, AllocError>
     requires own { own_program M.view machine.old ≡ program.now }
     requires room { asked ≤ 2 ^ 63 }
-    ensures told { OnOk result (AreTold M.view program.now false (asked + 1) (actors_of program.now) out.old.items machine.old out.new.items machine.new) }
+    ensures told { OnOk result (AreTold M.view form program.now false (asked + 1) (actors_of program.now) out.old.items machine.old out.new.items machine.new) }
     ensures still { IfOk result (λ stepped. stepped ≡ false → NoneStep M.view (actors_of program.now) machine.old machine.new) }
 {
     program.keeps_sound();
@@ -96,6 +102,7 @@ fn put_round<M: Machine>(
     let mut stepped = false;
     for client in 0..program.clients() as u8 {
         let turn = Turn {
+            form,
             is_pick: false,
             number: asked + 1 + u64::from(client),
             actor: Actor::Client(client),
@@ -104,6 +111,7 @@ fn put_round<M: Machine>(
     }
     for handler in 0..program.objects() as u8 {
         let turn = Turn {
+            form,
             is_pick: false,
             number: asked + 1 + clients + u64::from(handler),
             actor: Actor::Handler(handler),
@@ -119,19 +127,20 @@ fn put_rounds<M: Machine>(
     alloc: Global,
     out: &mut Vec<u8>,
     program: &Program,
+    form: Form,
     machine: &mut M,
     picks: u64,
     rounds: u32,
 ) -> Result<(), AllocError>
     requires own { own_program M.view machine.old ≡ program.now }
     requires room { picks ≤ 2 ^ 62 }
-    ensures told { OnOk result (AreTold M.view program.now false (picks + 1) (rounds_of rounds (actors_of program.now)) out.old.items machine.old out.new.items machine.new) }
+    ensures told { OnOk result (AreTold M.view form program.now false (picks + 1) (rounds_of rounds (actors_of program.now)) out.old.items machine.old out.new.items machine.new) }
 {
     program.keeps_sound();
     let actors = (program.clients() + program.objects()) as u64;
     for round in 0..rounds {
         let asked = picks + u64::from(round) * actors;
-        if !put_round(alloc, out, program, machine, asked)? {
+        if !put_round(alloc, out, program, form, machine, asked)? {
             return Ok(());
         }
     }
@@ -143,15 +152,24 @@ fn put_schedule<M: Machine>(
     alloc: Global,
     out: &mut Vec<u8>,
     program: &Program,
+    form: Form,
     machine: &mut M,
     picks: &[Actor],
     rounds: u32,
 ) -> Result<(), AllocError>
     requires own { own_program M.view machine.old ≡ program.now }
-    ensures told { OnOk result (IsScheduleTold M.view program.now picks.now rounds out.old.items machine.old out.new.items machine.new) }
+    ensures told { OnOk result (IsScheduleTold M.view form program.now picks.now rounds out.old.items machine.old out.new.items machine.new) }
 {
-    put_picks(alloc, out, program, machine, picks)?;
-    put_rounds(alloc, out, program, machine, picks.len() as u64, rounds)
+    put_picks(alloc, out, program, form, machine, picks)?;
+    put_rounds(
+        alloc,
+        out,
+        program,
+        form,
+        machine,
+        picks.len() as u64,
+        rounds,
+    )
 }
 
 // The whole schedule, and no text.
@@ -171,15 +189,24 @@ pub(crate) fn play_steps<M: Machine>(
     machine: &mut M,
     picks: &[Actor],
     rounds: u32,
-    tells: bool,
+    wanted: Wanted,
 ) -> Result<Vec<u8>, AllocError>
     requires own { own_program M.view machine.old ≡ program.now }
-    ensures text { IfOk result (λ out. out.items ≡ (if tells then steps_from M.view program.now picks.now rounds machine.old else [])) }
+    ensures text { IfOk result (λ out. out.items ≡ (if wanted.steps then steps_from M.view wanted.form program.now picks.now rounds machine.old else [])) }
     ensures lead { OnOk result (LeadTo M.view (schedule program.now picks.now rounds) machine.old machine.new) }
 {
+    let tells = wanted.steps;
     if tells {
         let mut out = Vec::new(alloc);
-        put_schedule(alloc, &mut out, program, machine, picks, rounds)?;
+        put_schedule(
+            alloc,
+            &mut out,
+            program,
+            wanted.form,
+            machine,
+            picks,
+            rounds,
+        )?;
         Ok(out)
     } else {
         play(machine, picks, rounds);
@@ -192,15 +219,15 @@ pub(crate) fn queues_of<M: Machine>(
     alloc: Global,
     program: &Program,
     machine: &mut M,
-    tells: bool,
+    wanted: Wanted,
 ) -> Result<Vec<u8>, AllocError>
     requires own { own_program M.view machine.old ≡ program.now }
-    ensures text { IfOk result (λ out. out.items ≡ (if tells then M.view.queues (M.view.kept machine.old) (M.view.state machine.old) else [])) }
+    ensures text { IfOk result (λ out. out.items ≡ (if wanted.queues then M.view.queues wanted.form (M.view.kept machine.old) (M.view.state machine.old) else [])) }
     ensures same { machine.new ≡ machine.old }
 {
-    if tells {
+    if wanted.queues {
         let mut out = Vec::new(alloc);
-        machine.put_queues(alloc, &mut out, program)?;
+        machine.put_queues(&mut out, program, wanted.form)?;
         Ok(out)
     } else {
         Ok(Vec::new(alloc))

@@ -2,13 +2,24 @@
 
 use qs_played::Played;
 
-/// What is asked for beside a report: a line for each step, and what lies where at the end.
+/// How steps and queues are told.
+#[derive(Clone, Copy, Debug, PartialEq, Eq)]
+pub enum Form {
+    /// As lines of text; of the queues of a finished run nothing is told.
+    Text,
+    /// As objects of JSON: one on a line for each step, and one on a line for all queues.
+    Json,
+}
+
+/// What is asked for beside a report: what each step did, and what lies where at the end.
 #[derive(Clone, Copy, Debug, PartialEq, Eq)]
 pub struct Wanted {
     /// A line for each step.
     pub steps: bool,
-    /// What lies where at the end of a run that has not finished.
+    /// What lies where at the end.
     pub queues: bool,
+    /// The form of both.
+    pub form: Form,
 }
 
 /// What a run has told and shown: its steps, what lies where, and what is played. A text that was not asked for is
@@ -16,7 +27,7 @@ pub struct Wanted {
 pub struct Told {
     /// The lines of the steps.
     pub steps: Vec<u8>,
-    /// The lines that say what lies where.
+    /// What lies where.
     pub queues: Vec<u8>,
     /// What the run shows.
     pub played: Played,

@@ -1,7 +1,7 @@
 -- No picture has more shapes than it may have: a stretch has its frame, two shapes for each of the requests that are
--- drawn, and two texts. Where few stretches are drawn, each has up to 12 requests, and else 4; so both stay below the
+-- drawn, and three texts. Where few stretches are drawn, each has up to 12 requests, and else 4; so both stay below the
 -- limit.
-use Rattle.std.proofs.Common.{◌≡◌, ℕ, zero, suc, ◌+◌, ◌*◌, ◌-◌, ◌≤◌, min, List, [], ◌∷◌, length, refl, arith, Bool, true, false, ◌&&◌, if◌then◌else◌, nat_eq, nat_le, nat_lt, get_or, slice_get, Option, None, Some, ◌++◌, length-append}
+use Rattle.std.proofs.Common.{◌≡◌, ℕ, zero, suc, ◌+◌, ◌*◌, ◌-◌, ◌≤◌, min, List, [], ◌∷◌, length, refl, arith, Bool, true, false, ◌&&◌, if◌then◌else◌, nat_eq, nat_le, nat_lt, get_or, slice_get, Option, None, Some, ◌++◌, codes, length-append}
 use Rattle.std.proofs.lemmas.Bool.Decides.{nat_tests}
 use Rattle.std.proofs.lemmas.Nat.{mul-le}
 use Rattle.std.proofs.Math.Nat.{mul-add, mul_assoc, mul_comm, suc-mul}
@@ -10,15 +10,17 @@ use Rattle.qs_program.specs.audit.Program.{ProgramShape}
 use Rattle.qs_played.specs.audit.Played.{Played}
 use Rattle.qs_objects.specs.audit.Act.{State}
 use Rattle.qs_program.specs.audit.Program.{object_at}
+use Rattle.qs_program.specs.audit.Values.{Locals}
 use Rattle.qs_text.specs.declared.fates.fate.Fate.{Fate}
 use Rattle.qs_text.specs.declared.fates.fate.Fate.TheVariants.{Done}
 use Rattle.qs_svg.specs.declared.layout.Layout.{Layout}
-use Rattle.qs_svg.specs.audit.Shapes.{Shape, shapes_up_to, text_at}
-use Rattle.qs_svg.specs.audit.Stretches.{all_columns, columns_of, ended_at, journal_of, most_columns, most_symbols, no_entry, queries_in, reserves, sent_for, stretch, stretch_fates, stretch_start, syncs_at, ticket_at}
-use Rattle.qs_svg.specs.audit.Places.{bands_of, layout_of, row_y, symbol_x, symbol_y}
-use Rattle.qs_svg.specs.audit.Blocks.{cell, column, columns_left, columns_text, left_text, more_symbols, more_text, request_shapes, requests_words, row, row_left, row_names, state_shapes, stretch_frame, stretch_shapes, symbols, sync_symbols, sync_text}
+use Rattle.qs_svg.specs.audit.Shapes.{Shape, fitted_text, shapes_up_to}
+use Rattle.qs_svg.specs.audit.Stretches.{all_columns, columns_of, ended_at, journal_of, most_columns, most_symbols, no_entry, queries_in, reserves, sent_for, state_at, stretch, stretch_fates, stretch_start, syncs_at, ticket_at}
+use Rattle.qs_svg.specs.audit.Places.{band_y, bands_of, layout_of, row_y, symbol_x, symbol_y}
+use Rattle.qs_svg.specs.audit.Blocks.{cell, column, columns_left, columns_text, left_shapes, left_text, more_symbols, more_text, request_shapes, row, row_end, row_left, row_name, state_shapes, stretch_frame, stretch_shapes, symbols, sync_symbols, sync_text, whole_cell}
 use Rattle.qs_svg.specs.audit.Legend.{client_shapes, sign_shapes}
-use Rattle.qs_svg.specs.audit.RunSvg.{ground, heading, legend_shapes, row_shapes, run_shapes}
+use Rattle.qs_svg.specs.audit.RunSvg.{client_end, client_line, end_shapes, ground, has_variables, heading, legend_shapes, lines_before, row_shapes, run_shapes}
+use Rattle.qs_svg.specs.audit.Words.{declared_words, state_words}
 use Rattle.qs_svg.specs.Few.{AreFewShapes}
 
 -- so many places with so many shapes each
@@ -68,44 +70,54 @@ cell_few p run l i h entries fates =
       few_syncs,
     ))
 
--- what is said of an object: three texts
+-- and what it left
+whole_few : (p : ProgramShape) (run : Played) (l : Layout) (h i : ℕ) → length (whole_cell p run l h i) ≤ l.most * 2 + 4
+whole_few p run l h i =
+    let entries = stretch run h i in
+    let fates = stretch_fates p run h i in
+    let s = state_at p run h (suc i) in
+    let left = fitted_text (symbol_x i) (symbol_y l i h l.lines + 24) 170 (codes "= " ++ state_words s) in
+    omega (
+      arith,
+      length-append (cell p run l i h entries fates) (left_shapes run l i h s),
+      cell_few p run l i h entries fates,
+      one_or_none (reserves run i h) left,
+    )
+
+-- what is said of an object beside its name: two texts
 state_few : (s : Option State) (y : ℕ) → length (state_shapes s y) ≤ 1
 state_few None y = omega arith
 state_few (Some s) y = omega arith
 
-names_few : (p : ProgramShape) (run : Played) (l : Layout) (h band : ℕ) → length (row_names p run l h band) ≤ 3
-names_few p run l h band =
-    let name = text_at 12 (row_y l band h + 21) (object_at p h).name ∷ [] in
-    let requests = text_at 12 (row_y l band h + 37) (requests_words (length (journal_of run h))) ∷ [] in
+row_end_few : (p : ProgramShape) (run : Played) (l : Layout) (h band : ℕ) → length (row_end p run l h band) ≤ 2
+row_end_few p run l h band =
+    let declared = fitted_text 12 (row_y l band h + 37) 180 (declared_words (object_at p h).kind (length (journal_of run h))) ∷ [] in
     let state = state_shapes (slice_get run.states h) (row_y l band h + 53) in
-    omega (
-      arith,
-      length-append (name ++ requests) state,
-      length-append name requests,
-      state_few (slice_get run.states h) (row_y l band h + 53),
-    )
+    omega (arith, length-append declared state, state_few (slice_get run.states h) (row_y l band h + 53))
 
 bands_few : (n : ℕ) → n ≤ 65 → bands_of n ≤ 10
 bands_few n few = omega (arith, few)
 
--- a row: what is said of its object in ten bands at most, its stretches, and one text
-row_few : (p : ProgramShape) (run : Played) (l : Layout) (h : ℕ) → length (row p run l h) ≤ 31 + columns_of run * (l.most * 2 + 3)
+-- a row: the name of its object in ten bands at most, two texts, its stretches, and one text
+row_few : (p : ProgramShape) (run : Played) (l : Layout) (h : ℕ) → length (row p run l h) ≤ 13 + columns_of run * (l.most * 2 + 4)
 row_few p run l h =
     let requests = length (journal_of run h) in
     let bands = bands_of (all_columns run) in
-    let names = shapes_up_to bands (row_names p run l h) in
-    let drawn = λ (i : ℕ). cell p run l i h (stretch run h i) (stretch_fates p run h i) in
-    let stretches = shapes_up_to (columns_of run) drawn in
+    let names = shapes_up_to bands (row_name p l h) in
+    let end = row_end p run l h (bands - 1) in
+    let stretches = shapes_up_to (columns_of run) (whole_cell p run l h) in
     let left = requests - stretch_start run h (columns_of run) in
-    let few_names = up_to_few bands 3 (row_names p run l h) (names_few p run l h) in
+    let few_names = up_to_few bands 1 (row_name p l h) (λ band. omega arith) in
     let few_bands = bands_few (all_columns run) (omega arith) in
-    let few = up_to_few (columns_of run) (l.most * 2 + 3) drawn (λ i. cell_few p run l i h (stretch run h i) (stretch_fates p run h i)) in
+    let few = up_to_few (columns_of run) (l.most * 2 + 4) (whole_cell p run l h) (whole_few p run l h) in
     let few_left = one_or_none (nat_lt most_columns (length run.order)) (left_text l h left) in
     omega (
       arith,
-      length-append (names ++ stretches) (row_left run l h left),
-      length-append names stretches,
+      length-append (names ++ end ++ stretches) (row_left run l h left),
+      length-append (names ++ end) stretches,
+      length-append names end,
       few_names,
+      row_end_few p run l h (bands - 1),
       few_bands,
       few,
       few_left,
@@ -113,17 +125,24 @@ row_few p run l h =
 
 -- the stretches of all rows: few of many requests, or many of few
 stretches_in : (b : Bool) (rows columns : ℕ) → (b ≡ true → columns * rows ≤ 192) → columns * rows ≤ 512
-    → rows * (columns * ((if b then 12 else 4) * 2 + 3)) ≤ 5632
-stretches_in true rows columns few all = omega (arith, mul_assoc rows columns 27, mul_comm rows columns, few refl)
-stretches_in false rows columns few all = omega (arith, mul_assoc rows columns 11, mul_comm rows columns, all)
+    → rows * (columns * ((if b then 12 else 4) * 2 + 4)) ≤ 6144
+stretches_in true rows columns few all = omega (arith, mul_assoc rows columns 28, mul_comm rows columns, few refl)
+stretches_in false rows columns few all = omega (arith, mul_assoc rows columns 12, mul_comm rows columns, all)
 
-stretches_few : (rows columns : ℕ) → rows ≤ 8 → columns ≤ 64 → rows * (columns * (most_symbols columns rows * 2 + 3)) ≤ 5632
+stretches_few : (rows columns : ℕ) → rows ≤ 8 → columns ≤ 64 → rows * (columns * (most_symbols columns rows * 2 + 4)) ≤ 6144
 stretches_few rows columns few_rows few_columns =
     stretches_in (nat_le (columns * rows) 192) rows columns (λ e. grind (arith, nat_tests)) (mul-le columns rows 64 8 few_columns few_rows)
 
--- all shapes: the legend, the columns, what is left, and the rows
+-- the variables at the end: two shapes for each client
+ends_few : (p : ProgramShape) (locals : Option (ℕ → Locals)) (y : ℕ) → length (end_shapes p locals y) ≤ length p.clients * 2
+ends_few p None y = omega arith
+ends_few p (Some locals) y =
+    up_to_few (length p.clients) 2 (client_end p locals y)
+    (λ c. some_or_none (has_variables p c) (client_line p locals (y + 16 * lines_before p c) c) 2 (omega arith))
+
+-- all shapes: the legend, the columns, what is left, the rows, and the variables at the end
 pub few_shapes : AreFewShapes
-few_shapes p run sound =
+few_shapes p run locals sound =
     let columns = columns_of run in
     let objects = length p.objects in
     let most = most_symbols columns objects in
@@ -137,12 +156,15 @@ few_shapes p run sound =
     let few_clients = up_to_few (length p.clients) 2 (client_shapes p) (λ c. omega arith) in
     let few_columns = up_to_few columns 3 (column p run l) (λ i. omega arith) in
     let few_left = one_or_none (nat_lt most_columns (length run.order)) (columns_text run l) in
-    let few_rows = up_to_few objects (31 + columns * (most * 2 + 3)) (row p run l) (row_few p run l) in
+    let few_rows = up_to_few objects (13 + columns * (most * 2 + 4)) (row p run l) (row_few p run l) in
+    let bottom = band_y l (bands_of (all_columns run)) in
+    let ends = end_shapes p locals bottom in
     let few_stretches = stretches_few objects columns sound.objects (omega arith) in
     let within : columns ≤ 64 = omega arith in
-    let counted : length (run_shapes p run l) ≤ 17 + length p.clients * 2 + columns * 3 + 1 + objects * (31 + columns * (most * 2 + 3)) =
+    let counted : length (run_shapes p run locals l) ≤ 17 + length p.clients * 4 + columns * 3 + 1 + objects * (13 + columns * (most * 2 + 4)) =
     omega (
       arith,
+      length-append (legend ++ all_names ++ left ++ rows) ends,
       length-append (legend ++ all_names ++ left) rows,
       length-append (legend ++ all_names) left,
       length-append legend all_names,
@@ -152,5 +174,6 @@ few_shapes p run sound =
       few_columns,
       few_left,
       few_rows,
+      ends_few p locals bottom,
     ) in
-    omega (arith, counted, mul-add objects 31 (columns * (most * 2 + 3)), few_stretches, within, sound.clients, sound.objects)
+    omega (arith, counted, mul-add objects 13 (columns * (most * 2 + 4)), few_stretches, within, sound.clients, sound.objects)

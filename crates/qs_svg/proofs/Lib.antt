@@ -3,5 +3,6 @@ pub mod SentFor
 pub mod StretchEnds
 pub mod FatesOfRows
 pub mod FewShapes
+pub mod FewLines
 pub mod WholeStretches
 mod ToldValues

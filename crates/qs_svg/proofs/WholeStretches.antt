@@ -1,19 +1,24 @@
 -- In an isolated run a journal is its tickets' entries one after another, in the order of the reservations. So where
 -- the stretches before a ticket's are cut off, what is left begins with all of its entries: by induction on the place
--- of the ticket.
+-- of the ticket. And what a journal does, its stretches do one after another.
 use Rattle.std.proofs.Common.{◌≡◌, ℕ, zero, suc, ◌+◌, ◌-◌, ◌<◌, ◌≤◌, min, Bool, true, false, if◌then◌else◌, List, [], ◌∷◌, ◌++◌, length, take, drop, flat_map, refl, sym, subst, true≢false, ⊎_elim, ap, ap₂, ◌∙◌, arith, length-append}
-use Rattle.std.proofs.lemmas.List.{drop-drop, length-drop}
+use Rattle.std.proofs.lemmas.List.{drop-drop, length-drop, map-append}
 use Rattle.std.proofs.lemmas.List.Sums.{length-filter}
 use Rattle.std.proofs.Math.ListN.{drop_of_length-le}
 use Rattle.std.proofs.Math.Seq.{drop-append_seam, drop-cons, take-append_seam}
+use Rattle.std.proofs.lemmas.List.Folds.{drop_split}
+use Rattle.qs_meaning.specs.audit.Serial.{declared_states}
 use Rattle.qs_objects.proofs.Choices.{ticket_cases}
+use Rattle.qs_objects.proofs.Replays.{replay-append}
+use Rattle.qs_objects.specs.audit.Journals.{replay, unstamp, without_tickets}
 use Rattle.qs_objects.specs.audit.Parts.{entries_of, same}
 use Rattle.qs_objects.specs.declared.held.Entry.{Entry}
 use Rattle.qs_objects.specs.declared.held.Ticket.{Ticket}
 use Rattle.qs_played.specs.Isolation.{IsIsolated}
+use Rattle.qs_program.specs.audit.Program.{ProgramShape}
 use Rattle.qs_played.specs.audit.Played.{Played}
 use Rattle.qs_text.specs.audit.Words.{first_ticket}
-use Rattle.qs_svg.specs.audit.Stretches.{entries_for, journal_of, stretch, stretch_start, ticket_at}
+use Rattle.qs_svg.specs.audit.Stretches.{entries_for, journal_of, state_at, stretch, stretch_start, ticket_at}
 use Rattle.qs_svg.specs.OneColour.{AreOfColour, AreRowsOfWholeBlocks}
 
 same_is : (t u : Ticket) → same t u ≡ true → t ≡ u
@@ -77,12 +82,30 @@ module _ (run : Played) (h : ℕ) (order : journal_of run h ≡ flat_map (λ t. 
       let left = left_from (length run.order) (omega arith) ∙ ap (flat_map own) (drop_of_length-le run.order (omega arith)) in
       omega (arith, ap length left, length-drop (stretch_start run h (length run.order)) (journal_of run h), within (length run.order))
 
+-- what is left to run from a stretch on leads where the whole journal does
+runs_on : (p : ProgramShape) (run : Played) (h i : ℕ)
+    → replay (state_at p run h i) (without_tickets (drop (stretch_start run h i) (journal_of run h)))
+    ≡ replay (declared_states p h) (without_tickets (journal_of run h))
+runs_on p run h zero = refl
+runs_on p run h (suc i) =
+    let journal = journal_of run h in
+    let s = state_at p run h i in
+    let own = stretch run h i in
+    let rest = drop (stretch_start run h (suc i)) journal in
+    let parts = ap without_tickets (drop_split journal (stretch_start run h i) (stretch_start run h (suc i)) (omega arith)) ∙ map-append unstamp own rest in
+    sym (ap (replay s) parts ∙ replay-append s (without_tickets own) (without_tickets rest)) ∙ runs_on p run h i
+
 pub rows_of_whole_blocks : AreRowsOfWholeBlocks
 unfolding IsIsolated
 rows_of_whole_blocks p run waits isolated h inside =
     let order = (isolated.objects h inside).order in
+    let all = all_taken run h order in
+    let none : drop (stretch_start run h (length run.order)) (journal_of run h) ≡ [] = drop_of_length-le (journal_of run h) (omega (arith, all)) in
     record {
       whole = λ i place. whole run h order i place;
       colour = λ i place. subst (AreOfColour (ticket_at run i).client) (sym (whole run h order i place)) (of_colour (ticket_at run i) (journal_of run h));
-      all = all_taken run h order;
+      all = all;
+      last =
+          sym (ap (λ (es : List Entry). replay (state_at p run h (length run.order)) (without_tickets es)) none)
+          ∙ (runs_on p run h (length run.order) ∙ (isolated.objects h inside).replayed);
     }

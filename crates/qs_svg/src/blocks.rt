@@ -5,13 +5,12 @@ ghost use Rattle.qs_svg.specs.audit.Shapes.{shapes_up_to};
 ghost use Rattle.qs_svg.specs.Shapes.{Draws};
 ghost use Rattle.qs_text.specs.Texts.{Puts};
 ghost use Rattle.qs_svg.specs.audit.Stretches.{columns_of as columns_in};
-ghost use Rattle.qs_svg.specs.audit.Places.{first_row as first_of, frame_height, last_row as last_of};
-ghost use Rattle.qs_svg.specs.audit.Blocks.{block_frame, column as column_shapes, column_names, columns_left};
+ghost use Rattle.qs_svg.specs.audit.Places.{first_row as first_of, last_row as last_of, reach};
+ghost use Rattle.qs_svg.specs.audit.Blocks.{block_line, column as column_shapes, column_names, columns_left};
 
 use crate::facts::{MOST_COLUMNS, columns_of, has_ended, ticket_at};
 use crate::layout::{Layout, band_edge, column_edge, height_of_row, row_edge};
 use crate::pieces::{put_counted, put_name, put_path, put_things};
-use crate::stretches::side;
 use crate::words::put_block_words;
 use qs_objects::Ticket;
 use qs_played::Played;
@@ -41,16 +40,16 @@ fn last_row(objects: &[u8]) -> u8
     last
 }
 
-// How high a frame over some rows is.
+// How far it is from the frame in one row to the end of that in another.
 fn height(layout: Layout, first: u8, last: u8) -> u64
-    ensures height { result ≡ frame_height layout first last }
+    ensures height { result ≡ reach layout first last }
 {
     let row = u64::from(height_of_row(layout));
-    u64::from(last.saturating_sub(first)) * row + (row - 2)
+    u64::from(last.saturating_sub(first)) * row + (row - 12)
 }
 
-// The frame of a block, over all rows of its objects.
-fn put_frame(
+// The line of a block, beside all rows of its objects.
+fn put_line(
     out: &mut Vec<u8>,
     program: &Program,
     layout: Layout,
@@ -59,15 +58,13 @@ fn put_frame(
     ended: bool,
     rows: (u8, u8),
 ) -> Result<(), AllocError>
-    ensures ok { OnOk result (Puts (block_frame program.now ticket ended layout column rows.0 rows.1) out.old.items out.new.items) }
+    ensures ok { OnOk result (Puts (block_line program.now ticket ended layout column rows.0 rows.1) out.old.items out.new.items) }
 {
     let (first, last) = rows;
-    let x = column_edge(column) + 193;
-    let y = row_edge(layout, column / 7, first) + 1;
+    let x = column_edge(column) + 8;
+    let y = row_edge(layout, column / 7, first) + 6;
     put_path(out, b"block", ticket.client, x, y)?;
-    put_count(out, b"h-190v", height(layout, first, last))?;
-    put_word(out, b"h190")?;
-    put_word(out, side(ended))?;
+    put_count(out, b"v", height(layout, first, last))?;
     put_word(out, b"'><title>")?;
     put_block_words(out, program, ticket, ended)?;
     put_word(out, b"</title></path>\n")
@@ -106,7 +103,7 @@ fn put_column(
     let objects = played.sync_objects(place);
     let rows = (first_row(objects), last_row(objects));
     put_names(out, program, layout, column, ticket)?;
-    put_frame(out, program, layout, column, ticket, ended, rows)
+    put_line(out, program, layout, column, ticket, ended, rows)
 }
 
 /// Puts all columns.

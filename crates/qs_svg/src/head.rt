@@ -152,18 +152,19 @@ fn put_description(out: &mut Vec<u8>, program: &Program, played: &Played) -> Res
     put_objects_told(out, program, played)
 }
 
-/// Puts the beginning of a picture.
+/// Puts the beginning of a picture, with so many lines below its bands.
 pub(crate) fn put_head(
     out: &mut Vec<u8>,
     program: &Program,
     played: &Played,
+    lines: u8,
     layout: Layout,
 ) -> Result<(), AllocError>
-    ensures ok { OnOk result (Puts (head_text program.now played.now layout) out.old.items out.new.items) }
+    ensures ok { OnOk result (Puts (head_text program.now played.now lines layout) out.old.items out.new.items) }
 {
     program.keeps_sound();
     let columns = all_columns(played);
-    let height = band_edge(layout, bands_of(columns));
+    let height = band_edge(layout, bands_of(columns)) + 16 * u32::from(lines);
     put_size(out, width_of(columns, program.clients()), u64::from(height))?;
     put_word(out, b"<title id='title'>")?;
     put_title(out, program, played)?;

@@ -9,7 +9,8 @@ pub fn few_shapes()
 {}
 
 /// In the picture of an isolated run each stretch is all that its object ran for its ticket, in the colour of that
-/// ticket's client, and with the last ticket no request is left; it does nothing.
+/// ticket's client; with the last ticket no request is left, and what the object holds then is its last state; it does
+/// nothing.
 pub fn rows_of_whole_blocks()
     ensures rows { AreRowsOfWholeBlocks }
 {}

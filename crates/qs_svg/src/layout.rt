@@ -40,7 +40,7 @@ pub(crate) fn height_of_row(layout: Layout) -> u32
     ensures height { result ≡ row_height layout }
     ensures few { result < 2 ^ 13 }
 {
-    38 + 16 * u32::from(layout.lines)
+    54 + 16 * u32::from(layout.lines)
 }
 
 /// How high a band is.
@@ -120,7 +120,7 @@ fn room_for(rows: usize, most: u8, requests: usize) -> Layout
 {
     Layout {
         rows: rows as u8,
-        lines: requests.min(usize::from(most) + 1).max(2) as u8,
+        lines: requests.min(usize::from(most) + 1).max(1) as u8,
         most,
     }
 }

@@ -19,7 +19,7 @@ pub(crate) fn put_style(out: &mut Vec<u8>) -> Result<(), AllocError>
         out,
         &[
             b"<style>\n",
-            b"text{font:12px Helvetica,Arial,Liberation Sans,sans-serif;fill:#1c1c1c}.head{font-weight:bold}\n",
+            b"text{font:11px Menlo,Consolas,DejaVu Sans Mono,Liberation Mono,monospace;fill:#1c1c1c}.head{font-weight:bold}\n",
             b".ground{fill:#fff}.sign{fill:#555}.side{fill:none;stroke:#555}\n",
             b".c0{fill:#0060a8;stroke:#0060a8}.c1{fill:#b84a00;stroke:#b84a00}.c2{fill:#00795a;stroke:#00795a}.c3{fill:#a3317f;stroke:#a3317f}\n",
             b".c4{fill:#6a4fc0;stroke:#6a4fc0}.c5{fill:#7d6400;stroke:#7d6400}.c6{fill:#c0262d;stroke:#c0262d}.c7{fill:#3f6470;stroke:#3f6470}\n",
@@ -29,17 +29,17 @@ pub(crate) fn put_style(out: &mut Vec<u8>) -> Result<(), AllocError>
             b".c0{fill:#5db4ff;stroke:#5db4ff}.c1{fill:#ff9f5a;stroke:#ff9f5a}.c2{fill:#3fd6a4;stroke:#3fd6a4}.c3{fill:#f08fd0;stroke:#f08fd0}\n",
             b".c4{fill:#b6a2ff;stroke:#b6a2ff}.c5{fill:#e3c44a;stroke:#e3c44a}.c6{fill:#ff7f7f;stroke:#ff7f7f}.c7{fill:#a8c7d3;stroke:#a8c7d3}\n",
             b"}\n",
-            b".symbol{stroke:none}.void{fill:none}.stretch{fill-opacity:.14;stroke-width:1}.block{fill:none;stroke-width:2}\n",
+            b".symbol{stroke:none}.void{fill:none}.stretch{fill-opacity:.14;stroke-width:1}.block{fill:none;stroke-width:4}\n",
             b"</style>\n",
         ],
     )
 }
 
 // A square in a client's colour.
-fn put_square(out: &mut Vec<u8>, client: u8) -> Result<(), AllocError>
-    ensures ok { OnOk result (Puts (client_square client) out.old.items out.new.items) }
+pub(crate) fn put_square(out: &mut Vec<u8>, client: u8, x: u32, y: u32) -> Result<(), AllocError>
+    ensures ok { OnOk result (Puts (client_square client x y) out.old.items out.new.items) }
 {
-    put_path(out, b"symbol", client, 12 + 130 * u32::from(client), 38)?;
+    put_path(out, b"symbol", client, x, y)?;
     put_word(out, b"h8v8h-8z'/>\n")
 }
 
@@ -47,9 +47,9 @@ fn put_square(out: &mut Vec<u8>, client: u8) -> Result<(), AllocError>
 fn put_client(out: &mut Vec<u8>, program: &Program, client: u8) -> Result<(), AllocError>
     ensures ok { OnOk result (Draws (client_shapes program.now client) out.old.items out.new.items) }
 {
-    put_square(out, client)?;
-    let x = 26 + 130 * u32::from(client);
-    put_name(out, x, 46, client_name(program, client))
+    let x = 130 * u32::from(client);
+    put_square(out, client, 12 + x, 38)?;
+    put_name(out, 26 + x, 46, client_name(program, client))
 }
 
 /// Puts all clients.
@@ -72,19 +72,19 @@ pub(crate) fn put_signs(out: &mut Vec<u8>) -> Result<(), AllocError>
         &[
             b"<path class='sign' d='M12,60h8v8h-8z'/>\n",
             b"<text x='26' y='68'>command</text>\n",
-            b"<path class='sign' d='M102,64a4,4 0 1 1 8,0a4,4 0 1 1-8,0z'/>\n",
-            b"<text x='116' y='68'>query</text>\n",
-            b"<text x='172' y='68'>&#9670; synchronisations sent</text>\n",
-            b"<text x='332' y='68'>&#9671; skipped</text>\n",
-            b"<path class='side' d='M428,58h-14v12h14z'/>\n",
-            b"<text x='434' y='68'>block that has ended</text>\n",
-            b"<path class='side' d='M584,58h-14v12h14'/>\n",
-            b"<text x='590' y='68'>open block</text>\n",
+            b"<path class='sign' d='M90,64a4,4 0 1 1 8,0a4,4 0 1 1-8,0z'/>\n",
+            b"<text x='104' y='68'>query</text>\n",
+            b"<text x='154' y='68'>&#9670; synchronisations sent</text>\n",
+            b"<text x='330' y='68'>&#9671; skipped</text>\n",
+            b"<path class='side' d='M430,58h-14v12h14z'/>\n",
+            b"<text x='436' y='68'>block that has ended</text>\n",
+            b"<path class='side' d='M606,58h-14v12h14'/>\n",
+            b"<text x='612' y='68'>open block</text>\n",
             b"<path class='side' d='M12,82h8v8h-8zl8,8m0-8l-8,8'/>\n",
             b"<text x='26' y='90'>command that was refused</text>\n",
-            b"<path class='side' d='M202,86a4,4 0 1 1 8,0a4,4 0 1 1-8,0z'/>\n",
-            b"<text x='216' y='90'>query of what is not there</text>\n",
-            b"<text x='398' y='90'>under a name: how many requests it ran, and its last state</text>\n",
+            b"<path class='side' d='M208,86a4,4 0 1 1 8,0a4,4 0 1 1-8,0z'/>\n",
+            b"<text x='222' y='90'>query of what is not there</text>\n",
+            b"<text x='416' y='90'>last in a frame: what the object held after it</text>\n",
         ],
     )
 }

@@ -67,6 +67,19 @@ fn plural(count: usize) -> &'static [u8]
     if count == 1 { b"" } else { b"s" }
 }
 
+// So many things.
+pub(crate) fn put_counted_word(
+    out: &mut Vec<u8>,
+    count: usize,
+    word: &[u8],
+) -> Result<(), AllocError>
+    ensures ok { OnOk result (Puts (counted count word.now) out.old.items out.new.items) }
+{
+    put_count(out, b"", count as u64)?;
+    put_word(out, word)?;
+    put_word(out, plural(count))
+}
+
 // A text of so many things, as one shape.
 pub(crate) fn put_things(
     out: &mut Vec<u8>,
@@ -78,26 +91,25 @@ pub(crate) fn put_things(
     ensures ok { OnOk result (Puts (text_at x y (counted count word.now)) out.old.items out.new.items) }
 {
     put_text(out, x, y)?;
-    put_count(out, b"", count as u64)?;
-    put_word(out, word)?;
-    put_word(out, plural(count))?;
+    put_counted_word(out, count, word)?;
     put_word(out, b"</text>\n")
 }
 
-// What squeezes a text that would be wider than its place.
+// What makes a text smaller that would be wider than its place.
 fn put_squeezed(out: &mut Vec<u8>, width: u32, characters: usize) -> Result<(), AllocError>
     ensures ok { OnOk result (Puts (squeezed width characters) out.old.items out.new.items) }
 {
     let room = (width / 7) as usize;
     if room < characters {
-        put_count(out, b"' textLength='", u64::from(width))?;
-        put_word(out, b"' lengthAdjust='spacingAndGlyphs")
+        let size = u64::from(width) * 8 / 5 / characters as u64;
+        put_count(out, b"' style='font-size:", size)?;
+        put_word(out, b"px")
     } else {
         Ok(())
     }
 }
 
-// A text that is squeezed where it would be wider than its place, as one shape.
+// A text that is smaller where it would be wider than its place, as one shape.
 pub(crate) fn put_fitted(
     out: &mut Vec<u8>,
     x: u32,

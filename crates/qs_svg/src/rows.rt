@@ -1,27 +1,27 @@
 // The row of an object.
 
-ghost use Rattle.std.specs.Prelude.{◌≡◌, ◌<◌, ◌-◌, IfOk, OnOk, [], ◌∷◌, length, slice_get};
+ghost use Rattle.std.specs.Prelude.{◌≡◌, ◌<◌, ◌-◌, IfOk, OnOk, [], ◌∷◌, ◌++◌, length, slice_get};
+ghost use Rattle.qs_objects.specs.audit.Journals.{replay, without_tickets};
 ghost use Rattle.qs_text.specs.audit.fates.Fates.{fates_of};
 ghost use Rattle.qs_text.specs.fates.Fates.{all_fates};
 ghost use Rattle.qs_svg.specs.audit.Shapes.{fitted_text, shapes_up_to};
 ghost use Rattle.qs_svg.specs.Shapes.{Draws};
-ghost use Rattle.qs_svg.specs.audit.Stretches.{all_columns as columns_in_all, columns_of as columns_in, stretch, stretch_fates, stretch_start};
-ghost use Rattle.qs_svg.specs.audit.Places.{bands_of as bands_for};
+ghost use Rattle.qs_svg.specs.audit.Stretches.{columns_of as columns_in, stretch_start};
 ghost use Rattle.qs_svg.specs.audit.Words.{state_words};
-ghost use Rattle.qs_svg.specs.audit.Blocks.{cell, row as row_shapes, row_left, row_names, state_shapes};
+ghost use Rattle.qs_svg.specs.audit.Blocks.{cell, left_shapes, row as row_shapes, row_end, row_left, row_name, state_shapes, whole_cell};
 
 use crate::facts::{
     MOST_COLUMNS, all_columns, columns_of, entries_for, journal_of, reserves, ticket_at,
 };
-use crate::layout::{Layout, Spot, bands_of, column_edge, row_edge};
+use crate::layout::{Layout, Spot, bands_of, column_edge, row_edge, symbol_left, symbol_top};
 use crate::pieces::{put_fitted, put_name, put_things};
 use crate::stretches::put_stretch;
-use crate::words::put_state_words;
+use crate::words::{put_declared, put_state_words};
 use qs_objects::{Entry, Object};
 use qs_played::Played;
 use qs_program::Program;
 use qs_text::fates::{Fate, JournalFates};
-use qs_text::object_name;
+use qs_text::{object_name, put_word};
 use std::alloc::{AllocError, Global};
 
 // What stands of an object in the column of a ticket.
@@ -44,6 +44,51 @@ fn put_cell(
     }
 }
 
+// Has an object run the requests of some entries.
+fn run_entries(object: &mut Object, entries: &[Entry])
+    ensures state { object.new ≡ replay object.old (without_tickets entries.now) }
+{
+    for entry in entries {
+        let _reply = object.apply(&entry.request);
+    }
+}
+
+// A state, after a word.
+fn put_state_at(
+    out: &mut Vec<u8>,
+    alloc: Global,
+    corner: (u32, u32),
+    width: u32,
+    word: &[u8],
+    object: &Object,
+) -> Result<(), AllocError>
+    ensures ok { OnOk result (Draws (fitted_text corner.0 corner.1 width (word.now ++ state_words object.now) ∷ []) out.old.items out.new.items) }
+{
+    let mut words = Vec::new(alloc);
+    put_word(&mut words, word)?;
+    put_state_words(&mut words, object)?;
+    put_fitted(out, corner.0, corner.1, width, words.as_slice())
+}
+
+// What an object held after a stretch, where there is one.
+fn put_left_state(
+    out: &mut Vec<u8>,
+    alloc: Global,
+    played: &Played,
+    spot: Spot,
+    object: &Object,
+) -> Result<(), AllocError>
+    requires place { spot.column < length played.now.order }
+    ensures ok { OnOk result (Draws (left_shapes played.now spot.layout spot.column spot.row object.now) out.old.items out.new.items) }
+{
+    if reserves(played, usize::from(spot.column), usize::from(spot.row)) {
+        let y = symbol_top(spot, spot.layout.lines) + 24;
+        put_state_at(out, alloc, (symbol_left(spot), y), 170, b"= ", object)
+    } else {
+        Ok(())
+    }
+}
+
 // The stretches of a row; answers where in the journal the next stretch would begin.
 fn put_cells(
     out: &mut Vec<u8>,
@@ -54,13 +99,14 @@ fn put_cells(
     row: u8,
     fates: &[Fate],
 ) -> Result<usize, AllocError>
+    requires row { row < length program.now.objects }
     requires fates { fates.now ≡ fates_of program.now played.now row }
     ensures ok { IfOk result (λ start. Draws
-        (shapes_up_to (columns_in played.now) (λ i. cell program.now played.now layout i row (stretch played.now row i) (stretch_fates program.now played.now row i)))
-        out.old.items out.new.items) }
+        (shapes_up_to (columns_in played.now) (whole_cell program.now played.now layout row)) out.old.items out.new.items) }
     ensures start { IfOk result (λ start. start ≡ stretch_start played.now row (columns_in played.now)) }
 {
     let journal = journal_of(played, usize::from(row));
+    let mut object = program.declared_object(alloc, row)?;
     let mut start = 0;
     for column in 0..columns_of(played) as u8 {
         let count = entries_for(ticket_at(played, usize::from(column)), journal);
@@ -79,18 +125,11 @@ fn put_cells(
             &journal[start..end],
             &fates[start..end],
         )?;
+        run_entries(&mut object, &journal[start..end]);
+        put_left_state(out, alloc, played, spot, &object)?;
         start = end;
     }
     Ok(start)
-}
-
-// A state, under the names.
-fn put_state_of(out: &mut Vec<u8>, alloc: Global, object: &Object, y: u32) -> Result<(), AllocError>
-    ensures ok { OnOk result (Draws (fitted_text 12 y 176 (state_words object.now) ∷ []) out.old.items out.new.items) }
-{
-    let mut words = Vec::new(alloc);
-    put_state_words(&mut words, object)?;
-    put_fitted(out, 12, y, 176, words.as_slice())
 }
 
 // The last state of an object.
@@ -105,12 +144,12 @@ fn put_state(
 {
     match played.states().get(usize::from(row)) {
         None => Ok(()),
-        Some(object) => put_state_of(out, alloc, object, y),
+        Some(object) => put_state_at(out, alloc, (12, y), 180, b"ends as ", object),
     }
 }
 
-// What is said of an object before its row of a band.
-fn put_names(
+// How an object is declared, how many requests it ran, and its last state.
+fn put_row_end(
     out: &mut Vec<u8>,
     alloc: Global,
     program: &Program,
@@ -119,34 +158,43 @@ fn put_names(
     row: u8,
     band: u8,
 ) -> Result<(), AllocError>
-    ensures ok { OnOk result (Draws (row_names program.now played.now layout row band) out.old.items out.new.items) }
+    requires row { row < length program.now.objects }
+    ensures ok { OnOk result (Draws (row_end program.now played.now layout row band) out.old.items out.new.items) }
 {
     let y = row_edge(layout, band, row);
-    let object = usize::from(row);
-    put_name(out, 12, y + 21, object_name(program, object))?;
-    put_things(
-        out,
-        12,
-        y + 37,
-        journal_of(played, object).len(),
-        b" request",
-    )?;
+    let requests = journal_of(played, usize::from(row)).len();
+    let mut words = Vec::new(alloc);
+    put_declared(&mut words, program.kind(row), requests)?;
+    put_fitted(out, 12, y + 37, 180, words.as_slice())?;
     put_state(out, alloc, played, row, y + 53)
 }
 
-// The same in each band.
-fn put_all_names(
+// The name of an object before its row of a band.
+fn put_row_name(
     out: &mut Vec<u8>,
-    alloc: Global,
     program: &Program,
-    played: &Played,
     layout: Layout,
     row: u8,
+    band: u8,
 ) -> Result<(), AllocError>
-    ensures ok { OnOk result (Draws (shapes_up_to (bands_for (columns_in_all played.now)) (row_names program.now played.now layout row)) out.old.items out.new.items) }
+    ensures ok { OnOk result (Draws (row_name program.now layout row band) out.old.items out.new.items) }
 {
-    for band in 0..bands_of(all_columns(played)) {
-        put_names(out, alloc, program, played, layout, row, band)?;
+    let y = row_edge(layout, band, row);
+    put_name(out, 12, y + 21, object_name(program, usize::from(row)))
+}
+
+// The same in each band.
+fn put_row_names(
+    out: &mut Vec<u8>,
+    program: &Program,
+    layout: Layout,
+    row: u8,
+    bands: u8,
+) -> Result<(), AllocError>
+    ensures ok { OnOk result (Draws (shapes_up_to bands (row_name program.now layout row)) out.old.items out.new.items) }
+{
+    for band in 0..bands {
+        put_row_name(out, program, layout, row, band)?;
     }
     Ok(())
 }
@@ -184,7 +232,9 @@ pub(crate) fn put_row(
     requires fates { fates.now ≡ all_fates program.now played.now }
     ensures ok { OnOk result (Draws (row_shapes program.now played.now layout row) out.old.items out.new.items) }
 {
-    put_all_names(out, alloc, program, played, layout, row)?;
+    let bands = bands_of(all_columns(played));
+    put_row_names(out, program, layout, row, bands)?;
+    put_row_end(out, alloc, program, played, layout, row, bands - 1)?;
     let object = usize::from(row);
     let start = put_cells(out, alloc, program, played, layout, row, fates.of(object))?;
     let requests = journal_of(played, object).len();

@@ -52,7 +52,7 @@ fn form_of(query: bool) -> &'static [u8]
 }
 
 // The right side of a frame, which is there where the block has ended.
-pub(crate) fn side(ended: bool) -> &'static [u8]
+fn side(ended: bool) -> &'static [u8]
     ensures side { result.now ≡ right_side ended }
 {
     if ended { b"z" } else { b"" }
@@ -221,7 +221,7 @@ fn put_frame(
     let x = column_edge(spot.column) + 188;
     let y = row_edge(spot.layout, spot.column / 7, spot.row) + 6;
     put_path(out, b"stretch", ticket.client, x, y)?;
-    put_count(out, b"h-180v", 16 * u64::from(spot.layout.lines) + 26)?;
+    put_count(out, b"h-180v", 16 * u64::from(spot.layout.lines) + 42)?;
     put_word(out, b"h180")?;
     put_word(out, side(ended))?;
     put_word(out, b"'><title>")?;

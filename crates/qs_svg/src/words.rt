@@ -1,19 +1,20 @@
 // What is said in words.
 
-ghost use Rattle.std.specs.Prelude.{◌≡◌, ◌<◌, ◌≤◌, OnOk, length};
+ghost use Rattle.std.specs.Prelude.{◌≡◌, ◌<◌, ◌≤◌, OnOk, length, pos, slice_index_or};
 ghost use Rattle.qs_objects.specs.audit.Objects.{kind_of, values_of};
 ghost use Rattle.qs_objects.specs.declared.object.Kind.TheVariants as kinds;
 ghost use Rattle.qs_text.specs.audit.Texts.{spaced_value, texts_up_to};
 ghost use Rattle.qs_text.specs.Texts.{Puts};
-ghost use Rattle.qs_svg.specs.audit.Words.{args_words, gap_words, block_words, content_words, entry_words, fate_words, line_words, state_words, ticket_words, told_in, stretch_words, value_room, value_size, values_end, values_words, with_integer};
+ghost use Rattle.qs_svg.specs.audit.Words.{args_words, before_variable, gap_words, block_words, client_words, content_words, declared_words, entry_words, fate_words, kind_words, line_words, refused_words, state_words, ticket_words, told_in, stretch_words, value_room, value_size, values_end, values_words, variable_words, with_integer};
 
+use crate::pieces::put_counted_word;
 use itoa::Buffer;
 use qs_objects::{Entry, Kind, Object, Ticket};
-use qs_program::Program;
+use qs_program::{Locals, Names, Program};
 use qs_text::fates::Fate;
 use qs_text::{
     client_name, ended_word, object_name, put_args, put_count, put_number, put_reply,
-    put_whole_request, put_word,
+    put_whole_request, put_word, variable_name,
 };
 use std::alloc::AllocError;
 
@@ -141,33 +142,52 @@ fn put_size(out: &mut Vec<u8>, word: &[u8], size: i64) -> Result<(), AllocError>
     put_number(out, size)
 }
 
-// What a buffer holds.
-fn put_buffer(out: &mut Vec<u8>, object: &Object, capacity: i64) -> Result<(), AllocError>
-    ensures ok { OnOk result (Puts (content_words (kinds.Buffer capacity) (values_of object.now.content)) out.old.items out.new.items) }
-{
-    put_size(out, b"buffer ", capacity)?;
-    put_word(out, b" ")?;
-    put_values(out, object)
-}
-
-// What a grid holds.
-fn put_grid(out: &mut Vec<u8>, object: &Object, rows: i64, columns: i64) -> Result<(), AllocError>
-    ensures ok { OnOk result (Puts (content_words (kinds.Grid rows columns) (values_of object.now.content)) out.old.items out.new.items) }
-{
-    put_size(out, b"grid ", rows)?;
-    put_size(out, b" ", columns)?;
-    put_word(out, b" ")?;
-    put_values(out, object)
-}
-
 // What an object holds.
 fn put_content(out: &mut Vec<u8>, object: &Object) -> Result<(), AllocError>
     ensures ok { OnOk result (Puts (content_words (kind_of object.now.content) (values_of object.now.content)) out.old.items out.new.items) }
 {
     match object.kind() {
+        Kind::Account { balance } => put_number(out, balance),
+        Kind::Buffer { .. } | Kind::Grid { .. } => put_values(out, object),
+    }
+}
+
+// Two numbers, each after a word.
+fn put_grid(out: &mut Vec<u8>, rows: i64, columns: i64) -> Result<(), AllocError>
+    ensures ok { OnOk result (Puts (kind_words (kinds.Grid rows columns)) out.old.items out.new.items) }
+{
+    put_size(out, b"grid ", rows)?;
+    put_size(out, b" ", columns)
+}
+
+// A kind with its numbers.
+fn put_kind(out: &mut Vec<u8>, kind: Kind) -> Result<(), AllocError>
+    ensures ok { OnOk result (Puts (kind_words kind) out.old.items out.new.items) }
+{
+    match kind {
         Kind::Account { balance } => put_size(out, b"account ", balance),
-        Kind::Buffer { capacity } => put_buffer(out, object, capacity),
-        Kind::Grid { rows, columns } => put_grid(out, object, rows, columns),
+        Kind::Buffer { capacity } => put_size(out, b"buffer ", capacity),
+        Kind::Grid { rows, columns } => put_grid(out, rows, columns),
+    }
+}
+
+/// Puts how an object is declared, and how many requests there are.
+pub(crate) fn put_declared(out: &mut Vec<u8>, kind: Kind, requests: usize) -> Result<(), AllocError>
+    ensures ok { OnOk result (Puts (declared_words kind requests) out.old.items out.new.items) }
+{
+    put_kind(out, kind)?;
+    put_word(out, b", ")?;
+    put_counted_word(out, requests, b" request")
+}
+
+// How many commands an object refused, where it refused some.
+fn put_refused(out: &mut Vec<u8>, refused: i64) -> Result<(), AllocError>
+    ensures ok { OnOk result (Puts (refused_words refused) out.old.items out.new.items) }
+{
+    if refused == 0 {
+        Ok(())
+    } else {
+        put_size(out, b", refused ", refused)
     }
 }
 
@@ -176,7 +196,59 @@ pub(crate) fn put_state_words(out: &mut Vec<u8>, object: &Object) -> Result<(), 
     ensures ok { OnOk result (Puts (state_words object.now) out.old.items out.new.items) }
 {
     put_content(out, object)?;
-    put_size(out, b", refused ", object.refused())
+    put_refused(out, object.refused())
+}
+
+// What stands before a variable, by its number.
+fn before(number: usize) -> &'static [u8]
+    ensures before { result.now ≡ before_variable number }
+{
+    if number == 0 { b" ends with " } else { b", " }
+}
+
+// The value of a variable, by its number.
+fn value_of(locals: &Locals, number: usize) -> i64
+    ensures value { result ≡ slice_index_or locals.now number (pos 0) }
+{
+    locals.get(number).copied().unwrap_or(0)
+}
+
+// A variable with its value, by its number.
+fn put_variable(
+    out: &mut Vec<u8>,
+    variables: &Names,
+    locals: &Locals,
+    number: usize,
+) -> Result<(), AllocError>
+    ensures ok { OnOk result (Puts (variable_words variables.now locals.now number) out.old.items out.new.items) }
+{
+    put_word(out, before(number))?;
+    put_word(out, variable_name(variables, number))?;
+    put_size(out, b" = ", value_of(locals, number))
+}
+
+// All variables of a client.
+fn put_variables(out: &mut Vec<u8>, variables: &Names, locals: &Locals) -> Result<(), AllocError>
+    ensures ok { OnOk result (Puts (texts_up_to (length variables.now) (variable_words variables.now locals.now)) out.old.items out.new.items) }
+{
+    for number in 0..variables.len() {
+        put_variable(out, variables, locals, number)?;
+    }
+    Ok(())
+}
+
+/// Puts a client with its variables.
+pub(crate) fn put_client_words(
+    out: &mut Vec<u8>,
+    program: &Program,
+    client: u8,
+    locals: &Locals,
+) -> Result<(), AllocError>
+    requires client { client < length program.now.clients }
+    ensures ok { OnOk result (Puts (client_words program.now client locals.now) out.old.items out.new.items) }
+{
+    put_word(out, client_name(program, client))?;
+    put_variables(out, program.variables(client), locals)
 }
 
 // A ticket.

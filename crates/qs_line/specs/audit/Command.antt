@@ -95,19 +95,19 @@ outcomes_app =
     shared_app (with_rule (with_rule (with_rule (search_app (new_app (codes "outcomes"))) (flag_rule (codes "ends")))
     (flag_rule (codes "alike"))) threads_rule)
 
--- `--NAME COND`, as often as one likes
+-- `--NAME COND` or `--NAME SUM`, as often as one likes
 abbrev pub condition_rule : Text → Rule
 condition_rule name = record (option_rule name) { action = Some Append }
 
--- `.. [--always COND].. [--some COND].. [--throughout COND].. [--ever COND].. [--never COND]..`
+-- `.. [--always COND].. [--some COND].. [--throughout COND].. [--ever COND].. [--never COND].. [--values SUM]..`
 abbrev pub claimed_app : App → App
 claimed_app app =
-    with_rule (with_rule (with_rule (with_rule (with_rule app (condition_rule (codes "always")))
+    with_rule (with_rule (with_rule (with_rule (with_rule (with_rule app (condition_rule (codes "always")))
     (condition_rule (codes "some"))) (condition_rule (codes "throughout"))) (condition_rule (codes "ever")))
-    (condition_rule (codes "never"))
+    (condition_rule (codes "never"))) (condition_rule (codes "values"))
 
--- `ask [--always COND].. [--some COND].. [--throughout COND].. [--ever COND].. [--never COND].. [--limit N]
--- [--after LIST] [--format F] [--warn]`
+-- `ask [--always COND].. [--some COND].. [--throughout COND].. [--ever COND].. [--never COND].. [--values SUM]..
+-- [--limit N] [--after LIST] [--format F] [--warn]`
 abbrev pub ask_app : App
 ask_app = shared_app (search_app (claimed_app (new_app (codes "ask"))))
 

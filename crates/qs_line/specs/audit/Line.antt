@@ -8,10 +8,10 @@ use Rattle.clap.specs.Words.{Row, Text, first_of}
 use Rattle.qs_played.specs.audit.Schedule.{most_rounds}
 use Rattle.qs_syncset.specs.declared.mode.Mode.{Mode}
 use Rattle.qs_syncset.specs.declared.mode.Mode.TheVariants.{Plain, Dynamic, Static, Both}
-use Rattle.qs_conditions.specs.declared.claim.Claim.{Claim}
 use Rattle.qs_line.specs.audit.Apart.{flag_at}
 use Rattle.qs_line.specs.audit.Parts.{clients_in, list_in}
 use Rattle.qs_line.specs.declared.parts.Part.{Part}
+use Rattle.qs_line.specs.declared.question.Question.{Question}
 use Rattle.qs_line.specs.declared.line.Format.{Format}
 use Rattle.qs_line.specs.declared.line.GraphFormat.{GraphFormat}
 use Rattle.qs_line.specs.declared.line.OutcomesFormat.{OutcomesFormat}
@@ -28,8 +28,8 @@ pub data PlanShape : Type 0 where
 -- what is asked for: the counts; the graphs; a run by the plain rules; one in the optimised machine, in a mode and by
 -- chunks of a size; how many synchronisations each mode sends for the blocks of an order; a run on threads, or so many
 -- of them, whose ends are counted; after the blocks of some clients, how many configurations there can be; or, after
--- these and with so many configurations at most, whether conditions hold of all ends, of some or throughout, or all
--- outcomes, or their ends alone, by so many threads; or, after the blocks of each of some lists of clients, the
+-- these and with so many configurations at most, whether conditions hold of all ends, of some or throughout and which
+-- values sums have, or all outcomes, or their ends alone, by so many threads; or, after the blocks of each of some lists of clients, the
 -- configurations after so many blocks more; or, with so many configurations at most, one of all outcomes that differ by
 -- alike clients in each other's places. Each is asked for in a format, and of a run the counts of synchronisations and
 -- what was refused may be asked for as well, and of a schedule a line for each step, and what lies where at its end.
@@ -41,7 +41,7 @@ pub data Request : Type 0 where
   syncs : Format → PlanShape → Request
   run : ReportStyle → Mode → ℕ → Request
   tally : Format → Mode → (chunk : ℕ) → (times : ℕ) → Request
-  ask : (claims : List Claim) → Format → (limit : ℕ) → (front : List Part) → Request
+  ask : (questions : List Question) → Format → (limit : ℕ) → (front : List Part) → Request
   estimate : Format → (front : List Part) → Request
   fronts : Format → (blocks : ℕ) → (limit : ℕ) → (orders : List (List Part)) → Request
   alike : Format → (limit : ℕ) → Request
@@ -104,10 +104,10 @@ abbrev pub plan_at : List Row → Option PlanShape
 plan_at rows =
     option_map_or (λ text. option_map by_order (clients_in text)) (first_of (codes "order") rows) (schedule_at rows)
 
--- steps and queues can be told beside a report as text alone
+-- steps and queues can be told beside a report, and not beside a picture
 abbrev pub can_tell : ReportFormat → Bool
 can_tell report_format.Text = true
-can_tell report_format.Json = false
+can_tell report_format.Json = true
 can_tell report_format.Svg = false
 
 -- a plan of a report in a style; none where its steps or its queues are asked for and can't be told

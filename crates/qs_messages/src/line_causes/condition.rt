@@ -2,16 +2,26 @@
 
 use crate::causes::{Usual, mistake, name_bytes};
 use crate::line_causes::program::program_of;
-use crate::line_causes::unknown::{asked_at, say_unknown, span_of};
-use qs_conditions::{ConditionFault, read_condition};
+use crate::line_causes::unknown::{Asked, asked_at, asked_in, say_unknown, span_of};
+use qs_check::Program;
+use qs_conditions::{ConditionFault, read_condition, read_sum};
 use qs_diagnosis::{Diagnosis, Span, put_diagnosis};
 use qs_line::value_after;
-use qs_questions::first_unknown;
+use qs_questions::{first_unknown, first_unknown_in_sum};
 use std::alloc::{AllocError, Global};
 
 const UNPARSED: &[u8] = b"the condition cannot be parsed";
 
 const UNKNOWN: &[u8] = b"the condition asks for what the script does not have";
+
+const NO_SUM: &[u8] = b"the sum cannot be parsed";
+
+const UNKNOWN_SUM: &[u8] = b"the sum asks for what the script does not have";
+
+const SUM: &[u8] = b"a sum adds up numbers, variables and queries, as in `a.balance() + ann.x - 3`";
+
+// The setting that takes a sum.
+const VALUES: &str = "--values";
 
 const FORM: &[u8] =
     b"a condition compares sums, as in `a.balance() + 5 >= ann.x`, and `&&`, `||`, `!` and parentheses join comparisons";
@@ -120,25 +130,34 @@ fn meant_at(text: &[u8], fault: ConditionFault) -> Option<(Span, Usual)> {
     }
 }
 
+/// A condition in a text: that of a line's word, which is all of it, or that of a claim in a script.
+#[derive(Clone, Copy)]
+pub(crate) struct Quoted<'a> {
+    pub(crate) text: &'a [u8],
+    /// Where the condition begins in the text.
+    pub(crate) start: usize,
+    pub(crate) condition: &'a [u8],
+}
+
 // Puts a cause with its place in a condition.
 fn put_at(
     alloc: Global,
     out: &mut Vec<u8>,
-    condition: &str,
+    quoted: Quoted<'_>,
     span: Span,
     cause: &[u8],
     label: &[u8],
     help: &[u8],
 ) -> Result<(), AllocError> {
-    let text = condition.as_bytes();
+    let start = quoted.start.saturating_add(span.start);
     let span = Span {
-        start: span.start.min(text.len()),
+        start: start.min(quoted.text.len()),
         length: span.length,
     };
     put_diagnosis(
         alloc,
         out,
-        text,
+        quoted.text,
         &Diagnosis {
             cause,
             span,
@@ -149,7 +168,7 @@ fn put_at(
 }
 
 // Where a condition cannot be parsed, and why.
-fn place_of(fault: ConditionFault, condition: &str) -> Option<(usize, &'static [u8])> {
+fn place_of(fault: ConditionFault, condition: &[u8]) -> Option<(usize, &'static [u8])> {
     match fault {
         ConditionFault::Byte { place } => Some((place, b"unexpected character")),
         ConditionFault::Number { place } => Some((place, b"a number has at most 18 digits")),
@@ -173,6 +192,15 @@ fn is_setting(word: &str, setting: &str) -> bool {
     }
 }
 
+// A condition that is all of a word.
+fn whole<'a>(word: &'a str) -> Quoted<'a> {
+    Quoted {
+        text: word.as_bytes(),
+        start: 0,
+        condition: word.as_bytes(),
+    }
+}
+
 /// Puts where the first condition after a setting that cannot be parsed cannot, if one stands on the line.
 pub(crate) fn put_condition<'a>(
     alloc: Global,
@@ -183,31 +211,71 @@ pub(crate) fn put_condition<'a>(
     for (place, word) in words.iter().enumerate() {
         if out.is_empty() && is_setting(word, setting) {
             if let Some(condition) = value_after(&words[place..], setting) {
-                put_unparsed(alloc, out, condition)?;
+                put_unparsed(alloc, out, whole(condition))?;
             }
         }
     }
     Ok(())
 }
 
-// Puts where a condition cannot be parsed, if it cannot.
-fn put_unparsed(alloc: Global, out: &mut Vec<u8>, condition: &str) -> Result<(), AllocError> {
-    let fault = match read_condition(alloc, condition.as_bytes()) {
-        Ok(_) => return Ok(()),
-        Err(fault) => fault,
-    };
-    if let Some((span, usual)) = meant_at(condition.as_bytes(), fault) {
-        return put_at(alloc, out, condition, span, usual.cause, b"", usual.help);
+// Puts why a condition or a sum cannot be parsed.
+fn put_fault(
+    alloc: Global,
+    out: &mut Vec<u8>,
+    quoted: Quoted<'_>,
+    fault: ConditionFault,
+    cause: &[u8],
+    help: &[u8],
+) -> Result<(), AllocError> {
+    let text = quoted.condition;
+    if let Some((span, usual)) = meant_at(text, fault) {
+        return put_at(alloc, out, quoted, span, usual.cause, b"", usual.help);
     }
-    match place_of(fault, condition) {
+    match place_of(fault, text) {
         Some((start, label)) => {
-            let text = condition.as_bytes();
             let length = name_bytes(&text[start.min(text.len())..]).max(1);
-            let span = Span { start, length };
-            put_at(alloc, out, condition, span, UNPARSED, label, FORM)
+            put_at(
+                alloc,
+                out,
+                quoted,
+                Span { start, length },
+                cause,
+                label,
+                help,
+            )
         }
         None => Err(AllocError),
     }
+}
+
+/// Puts where a condition cannot be parsed, if it cannot.
+pub(crate) fn put_unparsed(
+    alloc: Global,
+    out: &mut Vec<u8>,
+    quoted: Quoted<'_>,
+) -> Result<(), AllocError> {
+    match read_condition(alloc, quoted.condition) {
+        Ok(_) => Ok(()),
+        Err(fault) => put_fault(alloc, out, quoted, fault, UNPARSED, FORM),
+    }
+}
+
+/// Puts where the first sum of a line that cannot be parsed cannot, if one stands there.
+pub(crate) fn put_sum<'a>(
+    alloc: Global,
+    out: &mut Vec<u8>,
+    words: &'a [&'a str],
+) -> Result<(), AllocError> {
+    for (place, word) in words.iter().enumerate() {
+        if out.is_empty() && is_setting(word, VALUES) {
+            if let Some(sum) = value_after(&words[place..], VALUES) {
+                if let Err(fault) = read_sum(alloc, sum.as_bytes()) {
+                    put_fault(alloc, out, whole(sum), fault, NO_SUM, SUM)?;
+                }
+            }
+        }
+    }
+    Ok(())
 }
 
 /// Puts where the first condition after a setting that asks for what the script of a text does not have does so, if one
@@ -222,34 +290,86 @@ pub(crate) fn put_unknown<'a>(
     for (place, word) in words.iter().enumerate() {
         if out.is_empty() && is_setting(word, setting) {
             if let Some(condition) = value_after(&words[place..], setting) {
-                put_unknown_in(alloc, out, condition, text)?;
+                if let Some(program) = program_of(alloc, text) {
+                    put_unknown_in(alloc, out, whole(condition), &program)?;
+                }
             }
         }
     }
     Ok(())
 }
 
-// Puts where a condition asks for what the script of a text does not have, if it does.
-fn put_unknown_in(
+// Puts that a condition or a sum asks at a place for what a script does not have.
+fn put_unknown_at(
     alloc: Global,
     out: &mut Vec<u8>,
-    condition: &str,
+    quoted: Quoted<'_>,
+    program: &Program,
+    place: usize,
+    value: Option<Asked<'_>>,
+    cause: &[u8],
+) -> Result<(), AllocError> {
+    let Some(value) = value else {
+        return Ok(());
+    };
+    let unknown = say_unknown(alloc, program, value)?;
+    let span = span_of(quoted.condition, place, value, &unknown);
+    let (label, help) = (unknown.label.as_slice(), unknown.help.as_slice());
+    put_at(alloc, out, quoted, span, cause, label, help)
+}
+
+/// Puts where a condition asks for what a script does not have, if it does.
+pub(crate) fn put_unknown_in(
+    alloc: Global,
+    out: &mut Vec<u8>,
+    quoted: Quoted<'_>,
+    program: &Program,
+) -> Result<(), AllocError> {
+    let Ok(asked) = read_condition(alloc, quoted.condition) else {
+        return Ok(());
+    };
+    match first_unknown(&asked, program) {
+        Some(place) => {
+            let value = asked_at(&asked, place);
+            put_unknown_at(alloc, out, quoted, program, place, value, UNKNOWN)
+        }
+        None => Ok(()),
+    }
+}
+
+/// Puts where the first sum of a line that asks for what the script of a text does not have does so, if one does.
+pub(crate) fn put_unknown_sum<'a>(
+    alloc: Global,
+    out: &mut Vec<u8>,
+    words: &'a [&'a str],
     text: &[u8],
 ) -> Result<(), AllocError> {
-    let Some(program) = program_of(alloc, text) else {
+    for (place, word) in words.iter().enumerate() {
+        if out.is_empty() && is_setting(word, VALUES) {
+            if let Some(sum) = value_after(&words[place..], VALUES) {
+                put_unknown_of(alloc, out, sum, text)?;
+            }
+        }
+    }
+    Ok(())
+}
+
+// Puts where a sum asks for what the script of a text does not have, if it does.
+fn put_unknown_of(
+    alloc: Global,
+    out: &mut Vec<u8>,
+    sum: &str,
+    text: &[u8],
+) -> Result<(), AllocError> {
+    let (Some(program), Ok(asked)) = (program_of(alloc, text), read_sum(alloc, sum.as_bytes()))
+    else {
         return Ok(());
     };
-    let Ok(asked) = read_condition(alloc, condition.as_bytes()) else {
-        return Ok(());
-    };
-    let Some(place) = first_unknown(&asked, &program) else {
-        return Ok(());
-    };
-    let Some(value) = asked_at(&asked, place) else {
-        return Ok(());
-    };
-    let unknown = say_unknown(alloc, &program, value)?;
-    let span = span_of(condition.as_bytes(), place, value, &unknown);
-    let (label, help) = (unknown.label.as_slice(), unknown.help.as_slice());
-    put_at(alloc, out, condition, span, UNKNOWN, label, help)
+    match first_unknown_in_sum(&asked, &program) {
+        Some(place) => {
+            let value = asked_in(&asked, place);
+            put_unknown_at(alloc, out, whole(sum), &program, place, value, UNKNOWN_SUM)
+        }
+        None => Ok(()),
+    }
 }

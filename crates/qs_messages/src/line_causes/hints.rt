@@ -17,7 +17,7 @@ fn owners_of(name: &str) -> Option<&'static str> {
         "after" => Some("`outcomes`, `ask`, `fronts` and `estimate`"),
         "ends" | "alike" | "threads" => Some("`outcomes`"),
         "leads" => Some("`fronts`"),
-        "always" | "some" | "throughout" | "ever" | "never" => Some("`ask`"),
+        "always" | "some" | "throughout" | "ever" | "never" | "values" => Some("`ask`"),
         "format" | "warn" => Some("each word"),
         _ => None,
     }
@@ -112,7 +112,10 @@ fn put_signed<'a>(out: &mut Vec<u8>, words: &'a [&'a str]) -> Result<(), AllocEr
         let Some(value) = words.get(place.saturating_add(1)) else {
             return Ok(());
         };
-        if CLAIMS.contains(word) && value.starts_with("-") && !value.starts_with("--") {
+        if (CLAIMS.contains(word) || *word == "--values")
+            && value.starts_with("-")
+            && !value.starts_with("--")
+        {
             return put_all(
                 out,
                 &[

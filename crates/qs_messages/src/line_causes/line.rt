@@ -1,6 +1,6 @@
 // What is said of a command line that is refused.
 
-use crate::line_causes::condition::put_condition;
+use crate::line_causes::condition::{put_condition, put_sum};
 use crate::line_causes::hints::put_hint;
 use qs_diagnosis::{put, put_all};
 use qs_line::{APART, MOST_ACTORS, Setting, Who, part_of, refusal, value_after};
@@ -11,9 +11,6 @@ const SCRIPT: &[u8] = b"\nThe script comes on standard input: qs check < my.scri
 
 const HELP: &[u8] =
     b"\n`qs --help` says what can be done with a script, and `qs help language` how it is written.\n";
-
-const NO_CLAIM: &[u8] =
-    b"error: `ask` needs a condition: `--always`, `--some`, `--throughout`, `--ever` or `--never`\n  = help: `qs ask --help` says what each of them asks\n";
 
 const NO_WORD: &[u8] =
     b"error: no word stands on the line: `check`, `graph`, `rules`, `play`, `run`, `syncs`, `outcomes`, `ask`, `fronts` or `estimate`\n  = help: `qs --help` says what each of them does\n";
@@ -92,9 +89,6 @@ fn names_file<'a>(words: &'a [&'a str]) -> bool {
 // does not have, or a value that cannot be parsed.
 fn put_value<'a>(alloc: Global, out: &mut Vec<u8>, words: &'a [&'a str]) -> Result<(), AllocError> {
     put_apart(out, words)?;
-    if out.is_empty() && words.get(1) == Some(&"ask") && !has_claim(words) {
-        return put(out, NO_CLAIM);
-    }
     if out.is_empty() {
         put_format(out, words)?;
     }
@@ -111,6 +105,7 @@ fn put_value<'a>(alloc: Global, out: &mut Vec<u8>, words: &'a [&'a str]) -> Resu
         for setting in CLAIMS {
             put_condition(alloc, out, words, setting)?;
         }
+        put_sum(alloc, out, words)?;
     }
     Ok(())
 }
@@ -156,16 +151,6 @@ fn put_apart<'a>(out: &mut Vec<u8>, words: &'a [&'a str]) -> Result<(), AllocErr
     Ok(())
 }
 
-// Whether a condition stands on the line.
-fn has_claim<'a>(words: &'a [&'a str]) -> bool {
-    for setting in CLAIMS {
-        if value_after(words, setting).is_some() {
-            return true;
-        }
-    }
-    false
-}
-
 fn put_beside(out: &mut Vec<u8>, one: &str, other: &str) -> Result<(), AllocError> {
     put(out, b"error: the argument '")?;
     put(out, one.as_bytes())?;
@@ -183,15 +168,15 @@ fn picture_of(word: &str) -> &'static str {
     }
 }
 
-// Settings whose text is no drawing and no picture, and those that stand beside a report as text alone.
-const UNDRAWN: [Setting; 4] = [
+// Settings whose text is no drawing and no picture, or stands beside none.
+const UNDRAWN: [Setting; 6] = [
     Setting::Ends,
     Setting::Alike,
     Setting::Threads,
     Setting::Times,
+    Setting::Steps,
+    Setting::Queues,
 ];
-
-const BESIDE_TEXT: [Setting; 2] = [Setting::Steps, Setting::Queues];
 
 // Puts which format the word does not have, or which setting does not stand beside the format.
 fn put_format<'a>(out: &mut Vec<u8>, words: &'a [&'a str]) -> Result<(), AllocError> {
@@ -201,11 +186,6 @@ fn put_format<'a>(out: &mut Vec<u8>, words: &'a [&'a str]) -> Result<(), AllocEr
     let picture = picture_of(word);
     if format != "text" && format != "json" && (picture.is_empty() || format != picture) {
         return put_no_format(out, format, picture);
-    }
-    for setting in BESIDE_TEXT {
-        if format != "text" && stands(words, setting) {
-            return put_beside_format(out, setting, format);
-        }
     }
     for setting in UNDRAWN {
         if format == picture && stands(words, setting) {

@@ -1,12 +1,13 @@
 // What is said of a line that is refused.
 
-use crate::line_causes::condition::put_unknown;
+use crate::line_causes::claims::put_claims;
+use crate::line_causes::condition::{put_unknown, put_unknown_sum};
 use crate::line_causes::line::{CLAIMS, put_line};
 use crate::line_causes::lists::put_names;
 use std::alloc::{AllocError, Global};
 
 /// Puts why a line is refused: what the line itself does wrong, or else which name of its lists or of its condition the
-/// script of the text does not have.
+/// script of the text does not have; or what is wrong with the claims of the script, where these are asked.
 pub fn put_refused<'a>(
     alloc: Global,
     out: &mut Vec<u8>,
@@ -21,6 +22,10 @@ pub fn put_refused<'a>(
         for setting in CLAIMS {
             put_unknown(alloc, out, words, text, setting)?;
         }
+        put_unknown_sum(alloc, out, words, text)?;
+    }
+    if out.is_empty() {
+        put_claims(alloc, out, words, text)?;
     }
     Ok(())
 }

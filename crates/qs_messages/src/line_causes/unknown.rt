@@ -23,7 +23,8 @@ pub(crate) struct Unknown {
     pub(crate) help: Vec<u8>,
 }
 
-fn asked_in<'a>(sum: &'a Sum, place: usize) -> Option<Asked<'a>> {
+/// What a sum asks for at a place.
+pub(crate) fn asked_in<'a>(sum: &'a Sum, place: usize) -> Option<Asked<'a>> {
     for summand in sum.as_slice() {
         if summand.place == place {
             return match &summand.value {

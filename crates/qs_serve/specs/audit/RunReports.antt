@@ -20,7 +20,7 @@ locals_at_end p run = if run.finished then Some (configuration_after p run.order
 abbrev pub report_in : ReportFormat → (refusals counts : Bool) → ProgramShape → Played → List ℕ
 report_in report_format.Text refusals counts p played = styled_run_text refusals counts p played
 report_in report_format.Json refusals counts p played = run_json counts p played (locals_at_end p played)
-report_in report_format.Svg refusals counts p played = run_svg p played
+report_in report_format.Svg refusals counts p played = run_svg p played (locals_at_end p played)
 
 abbrev pub report_by : ReportStyle → ProgramShape → Played → List ℕ
 report_by style p played = report_in style.format style.refusals style.counts p played

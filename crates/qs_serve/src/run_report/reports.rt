@@ -5,6 +5,7 @@ ghost use Rattle.qs_json.specs.audit.RunJson.{run_json as json_of_run};
 ghost use Rattle.qs_meaning.specs.audit.Serial.{IsLegal};
 ghost use Rattle.qs_report.specs.audit.Report.{styled_run_text};
 ghost use Rattle.qs_serve.specs.audit.RunReports.{locals_at_end, report_by};
+ghost use Rattle.qs_svg.specs.audit.RunSvg.{run_svg as svg_of_run};
 
 use crate::run_report::ends::end_of;
 use qs_json::run_json;
@@ -48,6 +49,15 @@ fn report_json(
     run_json(alloc, program, played, end.as_ref(), counts)
 }
 
+// The picture of what was played, with the variables at its end.
+fn report_svg(alloc: Global, program: &Program, played: &Played) -> Result<Vec<u8>, AllocError>
+    requires legal { IsLegal program.now played.now.order }
+    ensures picture { IfOk result (λ picture. picture.items ≡ svg_of_run program.now played.now (locals_at_end program.now played.now)) }
+{
+    let end = end_of(alloc, program, played)?;
+    run_svg(alloc, program, played, end.as_ref())
+}
+
 /// The report of what was played, in the style that is asked for. An error says that an allocation failed.
 pub fn styled_report(
     alloc: Global,
@@ -61,7 +71,7 @@ pub fn styled_report(
     match style.format {
         ReportFormat::Text => report_text(alloc, program, style, played),
         ReportFormat::Json => report_json(alloc, program, played, style.counts),
-        ReportFormat::Svg => run_svg(alloc, program, played),
+        ReportFormat::Svg => report_svg(alloc, program, played),
     }
 }
 

@@ -1,5 +1,5 @@
 -- The shapes of a run: those of the columns, one for each block, and those of the rows, one for each object.
-use Rattle.std.specs.Prelude.{ℕ, ◌+◌, ◌-◌, ◌*◌, min, List, [], ◌∷◌, ◌++◌, codes, length, slice_index_or, Option, None, Some, slice_get, Bool, ◌&&◌, if◌then◌else◌, nat_eq, nat_lt}
+use Rattle.std.specs.Prelude.{ℕ, ◌+◌, ◌-◌, ◌*◌, min, suc, List, [], ◌∷◌, ◌++◌, codes, length, slice_index_or, Option, None, Some, slice_get, Bool, ◌&&◌, if◌then◌else◌, nat_eq, nat_lt}
 use Rattle.qs_objects.specs.audit.Act.{State}
 use Rattle.qs_objects.specs.audit.Operations.{is_query}
 use Rattle.qs_objects.specs.declared.held.Entry.{Entry}
@@ -10,9 +10,9 @@ use Rattle.qs_text.specs.declared.fates.fate.Fate.{Fate}
 use Rattle.qs_text.specs.declared.fates.fate.Fate.TheVariants.{Done, Refused, NoValue}
 use Rattle.qs_svg.specs.declared.layout.Layout.{Layout}
 use Rattle.qs_svg.specs.audit.Shapes.{Shape, fitted_text, path_end, path_start, shapes_up_to, text_at, with_number}
-use Rattle.qs_svg.specs.audit.Stretches.{all_columns, columns_of, ended_at, journal_of, most_columns, no_entry, objects_at, queries_in, reserves, sent_for, stretch_fates, syncs_at, ticket_at, stretch, stretch_start}
-use Rattle.qs_svg.specs.audit.Places.{band_of, band_y, bands_of, column_x, first_row, frame_height, last_row, row_y, symbol_x, symbol_y}
-use Rattle.qs_svg.specs.audit.Words.{block_words, counted, entry_words, line_words, state_words, stretch_words}
+use Rattle.qs_svg.specs.audit.Stretches.{all_columns, columns_of, ended_at, journal_of, most_columns, no_entry, objects_at, queries_in, reserves, sent_for, state_at, stretch_fates, syncs_at, ticket_at, stretch, stretch_start}
+use Rattle.qs_svg.specs.audit.Places.{band_of, band_y, bands_of, column_x, first_row, last_row, reach, row_y, symbol_x, symbol_y}
+use Rattle.qs_svg.specs.audit.Words.{block_words, counted, declared_words, entry_words, line_words, state_words, stretch_words}
 
 -- a query is a circle, a command a square
 abbrev pub form : Bool → List ℕ
@@ -47,7 +47,7 @@ right_side ended = if ended then codes "z" else []
 abbrev pub stretch_frame : ProgramShape → Ticket → (ended : Bool) → Layout → (i h requests : ℕ) → Shape
 stretch_frame p t ended l i h requests =
     path_start (codes "stretch") t.client (column_x i + 188) (row_y l (band_of i) h + 6)
-    ++ with_number (codes "h-180v") (16 * l.lines + 26) ++ codes "h180" ++ right_side ended
+    ++ with_number (codes "h-180v") (16 * l.lines + 42) ++ codes "h180" ++ right_side ended
     ++ path_end (stretch_words p t h requests)
 
 -- the requests of a stretch that are drawn, and how many more there are
@@ -87,22 +87,36 @@ stretch_shapes p run l i h entries fates =
 abbrev pub cell : ProgramShape → Played → Layout → (i h : ℕ) → List Entry → List Fate → List Shape
 cell p run l i h entries fates = if reserves run i h then stretch_shapes p run l i h entries fates else []
 
--- what is said of an object before its row of a band: its name, the number of its requests, and its last state
+-- last in the frame of a stretch: what the object held after it
+abbrev pub left_shapes : Played → Layout → (i h : ℕ) → State → List Shape
+left_shapes run l i h s =
+    if reserves run i h
+    then fitted_text (symbol_x i) (symbol_y l i h l.lines + 24) 170 (codes "= " ++ state_words s) ∷ []
+    else []
+
+-- what is said of an object before its row: its name in each band, and in the last one how it is declared, the number
+-- of its requests, and its last state
 abbrev pub requests_words : ℕ → List ℕ
 requests_words n = counted n (codes " request")
 
 abbrev pub state_shapes : Option State → (y : ℕ) → List Shape
 state_shapes None y = []
-state_shapes (Some s) y = fitted_text 12 y 176 (state_words s) ∷ []
+state_shapes (Some s) y = fitted_text 12 y 180 (codes "ends as " ++ state_words s) ∷ []
 
-abbrev pub row_names : ProgramShape → Played → Layout → (h band : ℕ) → List Shape
-row_names p run l h band =
-    (text_at 12 (row_y l band h + 21) (object_at p h).name ∷ [])
-    ++ (text_at 12 (row_y l band h + 37) (requests_words (length (journal_of run h))) ∷ [])
+abbrev pub row_name : ProgramShape → Layout → (h band : ℕ) → List Shape
+row_name p l h band = text_at 12 (row_y l band h + 21) (object_at p h).name ∷ []
+
+abbrev pub row_end : ProgramShape → Played → Layout → (h band : ℕ) → List Shape
+row_end p run l h band =
+    (fitted_text 12 (row_y l band h + 37) 180 (declared_words (object_at p h).kind (length (journal_of run h))) ∷ [])
     ++ state_shapes (slice_get run.states h) (row_y l band h + 53)
 
--- the row of an object: what is said of it in each band, a stretch for each column, and in the further column what is
--- left
+-- what stands of an object in a column: the stretch, and what it left
+abbrev pub whole_cell : ProgramShape → Played → Layout → (h i : ℕ) → List Shape
+whole_cell p run l h i =
+    cell p run l i h (stretch run h i) (stretch_fates p run h i) ++ left_shapes run l i h (state_at p run h (suc i))
+
+-- the row of an object: what is said of it, a stretch for each column, and in the further column what is left
 abbrev pub left_text : Layout → (h requests : ℕ) → Shape
 left_text l h requests =
     text_at (column_x most_columns + 12) (row_y l (band_of most_columns) h + 21) (requests_words requests)
@@ -113,18 +127,18 @@ row_left run l h requests =
 
 abbrev pub row : ProgramShape → Played → Layout → (h : ℕ) → List Shape
 row p run l h =
-    shapes_up_to (bands_of (all_columns run)) (row_names p run l h)
-    ++ shapes_up_to (columns_of run) (λ i. cell p run l i h (stretch run h i) (stretch_fates p run h i))
+    shapes_up_to (bands_of (all_columns run)) (row_name p l h)
+    ++ row_end p run l h (bands_of (all_columns run) - 1)
+    ++ shapes_up_to (columns_of run) (whole_cell p run l h)
     ++ row_left run l h (length (journal_of run h) - stretch_start run h (columns_of run))
 
--- the frame of a block, over all rows of the objects that it reserves
-abbrev pub block_frame : ProgramShape → Ticket → (ended : Bool) → Layout → (i first last : ℕ) → Shape
-block_frame p t ended l i first last =
-    path_start (codes "block") t.client (column_x i + 193) (row_y l (band_of i) first + 1)
-    ++ with_number (codes "h-190v") (frame_height l first last) ++ codes "h190"
-    ++ right_side ended ++ path_end (block_words p t ended)
+-- the line of a block, which holds together the frames of its stretches, at their left side
+abbrev pub block_line : ProgramShape → Ticket → (ended : Bool) → Layout → (i first last : ℕ) → Shape
+block_line p t ended l i first last =
+    path_start (codes "block") t.client (column_x i + 8) (row_y l (band_of i) first + 6)
+    ++ with_number (codes "v") (reach l first last) ++ path_end (block_words p t ended)
 
--- the column of a ticket: whose it is, the number of its block, and the frame
+-- the column of a ticket: whose it is, the number of its block, and the line
 abbrev pub column_names : ProgramShape → Layout → ℕ → Ticket → List Shape
 column_names p l i t =
     (text_at (column_x i + 8) (band_y l (band_of i) + 14) (client_at p t.client).name ∷ [])
@@ -133,7 +147,7 @@ column_names p l i t =
 abbrev pub column : ProgramShape → Played → Layout → ℕ → List Shape
 column p run l i =
     column_names p l i (ticket_at run i)
-    ++ (block_frame p (ticket_at run i) (ended_at run i) l i (first_row (objects_at run i))
+    ++ (block_line p (ticket_at run i) (ended_at run i) l i (first_row (objects_at run i))
     (last_row (objects_at run i))
     ∷ [])
 

@@ -8,9 +8,9 @@ use Rattle.qs_svg.specs.audit.Stretches.{columns_of, longest, most_symbols}
 use Rattle.qs_svg.specs.declared.layout.Layout.{Layout}
 
 -- A stretch has lines for as many requests as the longest has, or as are drawn and one more that counts the others; but
--- two at least, so that what is said of an object has room.
+-- one at least, so that what is said of an object has room.
 abbrev pub lines_for : (most requests : ℕ) → ℕ
-lines_for most requests = max 2 (min requests (most + 1))
+lines_for most requests = max 1 (min requests (most + 1))
 
 abbrev pub layout_with : (rows most requests : ℕ) → Layout
 layout_with rows most requests = record { rows = rows; lines = lines_for most requests; most = most }
@@ -32,7 +32,7 @@ bands_of columns = max 1 ((columns + 6) / 7)
 
 -- how high a row is, and a band, which has the names of its columns above
 abbrev pub row_height : Layout → ℕ
-row_height l = 38 + 16 * l.lines
+row_height l = 54 + 16 * l.lines
 
 abbrev pub band_height : Layout → ℕ
 band_height l = 52 + l.rows * row_height l
@@ -58,13 +58,13 @@ first_row objects = fold min 7 objects
 abbrev pub last_row : List ℕ → ℕ
 last_row objects = fold max 0 objects
 
--- how high a frame over these rows is, a pixel within them
-abbrev pub frame_height : Layout → (first last : ℕ) → ℕ
-frame_height l first last = (last - first) * row_height l + (row_height l - 2)
+-- how far it is from the upper edge of the frame in one row to the lower edge of that in another
+abbrev pub reach : Layout → (first last : ℕ) → ℕ
+reach l first last = (last - first) * row_height l + (row_height l - 12)
 
--- the size of a picture: the legend and the names of all clients have room
+-- the size of a picture: the legend and the names of all clients have room, and below the bands so many lines
 abbrev pub picture_width : (columns clients : ℕ) → ℕ
 picture_width columns clients = max (max 800 (24 + 130 * clients)) (212 + 196 * min columns 7)
 
-abbrev pub picture_height : Layout → (bands : ℕ) → ℕ
-picture_height l bands = band_y l bands
+abbrev pub picture_height : Layout → (bands lines : ℕ) → ℕ
+picture_height l bands lines = band_y l bands + 16 * lines

@@ -1,6 +1,6 @@
 -- What is drawn: a list of shapes, each of them one element of the picture with its text, and what stands at its
 -- beginning.
-use Rattle.std.specs.Prelude.{ℕ, zero, suc, ◌/◌, List, [], ◌++◌, codes, decimal, length, if◌then◌else◌, nat_lt}
+use Rattle.std.specs.Prelude.{ℕ, zero, suc, ◌*◌, ◌/◌, List, [], ◌++◌, codes, decimal, length, if◌then◌else◌, nat_lt}
 
 -- the text of one element: a path, a text or a rectangle
 abbrev pub Shape : Type 0
@@ -32,11 +32,12 @@ text_start x y = with_number (codes "<text x='") x ++ with_number (codes "' y='"
 abbrev pub text_at : (x y : ℕ) → List ℕ → Shape
 text_at x y words = text_start x y ++ words ++ codes "</text>\n"
 
--- a text that would be wider than its place is squeezed: a character is reckoned as 7 pixels
+-- a text that would be wider than its place is written smaller: a character is reckoned as 7 pixels, and as 5 eighths
+-- of the size of its letters where that is said
 abbrev pub squeezed : (width characters : ℕ) → List ℕ
 squeezed width characters =
     if nat_lt (width / 7) characters
-    then with_number (codes "' textLength='") width ++ codes "' lengthAdjust='spacingAndGlyphs" else []
+    then with_number (codes "' style='font-size:") (width * 8 / 5 / characters) ++ codes "px" else []
 
 abbrev pub fitted_text : (x y width : ℕ) → List ℕ → Shape
 fitted_text x y width words =

@@ -4,6 +4,9 @@
 -- where a block was not alone, two colours stand in one stretch.
 use Rattle.std.specs.Prelude.{ℕ, zero, suc, ◌+◌, ◌-◌, ◌*◌, min, max, ◌==◌, List, [], ◌∷◌, map, length, slice_index_or, slice_range, None, Bool, false, if◌then◌else◌, nat_le}
 use Rattle.std.specs.List.{count_by}
+use Rattle.qs_meaning.specs.audit.Serial.{declared_states}
+use Rattle.qs_objects.specs.audit.Act.{State}
+use Rattle.qs_objects.specs.audit.Journals.{replay, without_tickets}
 use Rattle.qs_objects.specs.audit.Parts.{same}
 use Rattle.qs_objects.specs.audit.Operations.{is_query}
 use Rattle.qs_objects.specs.declared.Op.TheVariants.{Balance}
@@ -83,6 +86,11 @@ stretch_start run h (suc i) =
 
 abbrev pub stretch : Played → ℕ → ℕ → List Entry
 stretch run h i = slice_range (journal_of run h) (stretch_start run h i) (stretch_start run h (suc i))
+
+-- the state of an object where the stretch of a ticket begins: as declared, it has run the stretches before
+abbrev pub state_at : ProgramShape → Played → ℕ → ℕ → State
+state_at p run h zero = declared_states p h
+state_at p run h (suc i) = replay (state_at p run h i) (without_tickets (stretch run h i))
 
 -- what became of its requests
 abbrev pub stretch_fates : ProgramShape → Played → ℕ → ℕ → List Fate

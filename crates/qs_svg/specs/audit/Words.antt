@@ -1,7 +1,8 @@
 -- What is said in words: of tickets, of objects, and of the whole run. Names are lower-case letters, digits and `_`
 -- alone, so nothing in a picture has to be escaped.
-use Rattle.std.specs.Prelude.{ℕ, ℤ, suc, ◌+◌, ◌-◌, List, [], ◌∷◌, ◌++◌, codes, length, flat_map, Bool, if◌then◌else◌, nat_eq, nat_le, nat_lt}
+use Rattle.std.specs.Prelude.{ℕ, ℤ, pos, suc, ◌+◌, ◌-◌, List, [], ◌∷◌, ◌++◌, codes, length, flat_map, slice_index_or, Bool, if◌then◌else◌, nat_eq, nat_le, nat_lt}
 use Rattle.std.specs.Fmt.{signed_decimal}
+use Rattle.std.specs.Ordering.{int_eq}
 use Rattle.qs_objects.specs.audit.Act.{State}
 use Rattle.qs_objects.specs.audit.Objects.{kind_of, values_of}
 use Rattle.qs_objects.specs.audit.Operations.{word}
@@ -9,7 +10,9 @@ use Rattle.qs_objects.specs.declared.held.Entry.{Entry}
 use Rattle.qs_objects.specs.declared.held.Ticket.{Ticket}
 use Rattle.qs_objects.specs.declared.object.Kind.{Kind}
 use Rattle.qs_objects.specs.declared.object.Kind.TheVariants as kinds
+use Rattle.qs_program.specs.audit.Numbering.{Name}
 use Rattle.qs_program.specs.audit.Program.{ProgramShape, client_at, object_at}
+use Rattle.qs_program.specs.audit.Values.{Locals}
 use Rattle.qs_played.specs.audit.Played.{Played}
 use Rattle.qs_text.specs.declared.fates.fate.Fate.{Fate}
 use Rattle.qs_text.specs.declared.fates.fate.Fate.TheVariants.{Done, Refused, NoValue}
@@ -67,15 +70,37 @@ abbrev pub with_integer : List ℕ → ℤ → List ℕ
 with_integer word z = word ++ signed_decimal z
 
 abbrev pub content_words : Kind → List ℤ → List ℕ
-content_words (kinds.Account balance) values = with_integer (codes "account ") balance
-content_words (kinds.Buffer capacity) values =
-    with_integer (codes "buffer ") capacity ++ codes " " ++ values_words values
-content_words (kinds.Grid rows columns) values =
-    with_integer (codes "grid ") rows ++ with_integer (codes " ") columns ++ codes " " ++ values_words values
+content_words (kinds.Account balance) values = signed_decimal balance
+content_words (kinds.Buffer capacity) values = values_words values
+content_words (kinds.Grid rows columns) values = values_words values
+
+-- and how many commands it refused, where it refused some
+abbrev pub refused_words : ℤ → List ℕ
+refused_words n = if int_eq n (pos 0) then [] else with_integer (codes ", refused ") n
 
 abbrev pub state_words : State → List ℕ
-state_words s =
-    content_words (kind_of s.content) (values_of s.content) ++ with_integer (codes ", refused ") s.refused
+state_words s = content_words (kind_of s.content) (values_of s.content) ++ refused_words s.refused
+
+-- a kind with its numbers, as it is declared, and how many requests there are
+abbrev pub kind_words : Kind → List ℕ
+kind_words (kinds.Account balance) = with_integer (codes "account ") balance
+kind_words (kinds.Buffer capacity) = with_integer (codes "buffer ") capacity
+kind_words (kinds.Grid rows columns) = with_integer (codes "grid ") rows ++ with_integer (codes " ") columns
+
+abbrev pub declared_words : Kind → (requests : ℕ) → List ℕ
+declared_words kind n = kind_words kind ++ codes ", " ++ counted n (codes " request")
+
+-- a client with its variables at the end, in the order of their first appearance
+abbrev pub before_variable : ℕ → List ℕ
+before_variable x = if nat_eq x 0 then codes " ends with " else codes ", "
+
+abbrev pub variable_words : List Name → Locals → ℕ → List ℕ
+variable_words names l x =
+    before_variable x ++ slice_index_or names x [] ++ with_integer (codes " = ") (slice_index_or l x (pos 0))
+
+abbrev pub client_words : ProgramShape → ℕ → Locals → List ℕ
+client_words p c l =
+    (client_at p c).name ++ texts_up_to (length (client_at p c).variables) (variable_words (client_at p c).variables l)
 
 -- a ticket
 abbrev pub ticket_words : ProgramShape → Ticket → List ℕ

@@ -1,7 +1,5 @@
-use Rattle.std.proofs.Common.{◌≡◌, ◌∙◌, length, drop, ap, Ok, Err}
-use Rattle.std.proofs.lemmas.List.{take_rest}
+use Rattle.std.proofs.Common.{◌≡◌, Ok, Err, refl}
 use Rattle.qs_conditions.specs.Signs.{signs_of}
-use Rattle.qs_conditions.specs.Grammar.{first_place}
 use Rattle.qs_conditions.specs.Reading.{tree_of}
 use Rattle.qs_conditions.proofs.Complete.{no_condition}
 use Rattle.qs_conditions.proofs.Sound.{condition_sound}
@@ -25,4 +23,4 @@ returns-in-Err-Form c =
     let left = c.in-Err-Form.left in
     let cut : signs_of c.args.text.now ≡ Ok ts = rw c.as_slice-all.ensures.value c.in_ok-signs.ensures.signs in
     let stops : tree_of ts ≡ Err left = rw c.in-Err-Form.field-0-is at c.in-Err-Form.ensures.exact in
-    record { found = tt; none = steps_not_found c.args.text.now ts left cut stops; exact = (ts, cut, no_condition ts left stops, (left, stops, c.first_place-place.ensures.exact ∙ ap (first_place (length c.args.text.now)) (take_rest ts c.saturating_sub.result ∙ ap (λ n. drop n ts) c.saturating_sub.ensures))) }
+    rw c.form_fault.ensures.form (record { found = tt; none = steps_not_found c.args.text.now ts left cut stops; exact = (ts, cut, no_condition ts left stops, (left, stops, refl)) })

@@ -4,4 +4,5 @@ use Rattle.qs_dot.specs.ChartDot.{lead_line}
 use Rattle.qs_dot.proofs.chart_text.put_leads.Given as goal
 
 abbrev pub invariant-loop-lead : goal.invariant-loop-lead
-invariant-loop-lead l = l.out.items ≡ l.initial.out.items ++ flat_map (lead_line l.program) (take l.lead-index l.leads)
+invariant-loop-lead l =
+    l.out.items ≡ l.initial.out.items ++ flat_map (lead_line l.program l.places) (take l.lead-index l.leads)

@@ -9,4 +9,5 @@ returns-clause-app c =
     let some = c.in_ok-some.ensures.app ∙ ap (λ a. with_rule a (condition_rule (codes "some"))) c.in_ok-always.ensures.app in
     let throughout = c.in_ok-throughout.ensures.app ∙ ap (λ a. with_rule a (condition_rule (codes "throughout"))) some in
     let ever = c.in_ok-ever.ensures.app ∙ ap (λ a. with_rule a (condition_rule (codes "ever"))) throughout in
-    follows c.with_condition-5.result _ _ (λ whole is. is ∙ ap (λ a. with_rule a (condition_rule (codes "never"))) ever) c.with_condition-5.ensures.app
+    let never = c.in_ok-never.ensures.app ∙ ap (λ a. with_rule a (condition_rule (codes "never"))) ever in
+    follows c.with_question-6.result _ _ (λ whole is. is ∙ ap (λ a. with_rule a (condition_rule (codes "values"))) never) c.with_question-6.ensures.app

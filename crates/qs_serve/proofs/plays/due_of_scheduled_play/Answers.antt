@@ -7,7 +7,7 @@ use Rattle.qs_steps.specs.CoreSteps.{core_steps}
 use Rattle.qs_steps.specs.Telling.{played_in}
 use Rattle.qs_line.specs.audit.Named.{actors_of}
 use Rattle.qs_line.specs.audit.Line.{by_schedule, play}
-use Rattle.qs_serve.specs.Due.{AreQueuesOfPlay, AreStepsOfPlay, IsDueOfProgram, IsOutOfMemory}
+use Rattle.qs_serve.specs.Due.{AreQueuesOfPlay, AreStepsOfPlay, IsDueOfProgram, IsOutOfMemory, form_of}
 use Rattle.qs_serve.proofs.Dues.{alone, due_by_lines, due_by_report, lines_where, no_queues, no_steps, of_named, shown_is_legal}
 use Rattle.qs_serve.proofs.plays.due_of_scheduled_play.Goals as goal
 use Rattle.qs_serve.proofs.plays.due_of_scheduled_play.Goals.{in-Ok-play_told, in-Err-play_told}
@@ -31,6 +31,7 @@ returns-then-is_told-clause-due c =
     let rounds = c.args.rounds in
     let picks = c.args.picks.now in
     let plan = by_schedule rounds picks in
+    let how = form_of style.format in
     let xs = c.as_slice.result.now in
     let named : actors_of p picks ≡ Ok xs = c.in-Ok.ensures.actors ∙ sym (ap (λ xs. Ok xs) c.as_slice.ensures.value) in
     elim c.match-play_told.branch [
@@ -52,18 +53,20 @@ returns-then-is_told-clause-due c =
               of_named (λ actors. IsPlayedIn p mode size actors rounds (Ok told.played)) (actors_of p picks) xs named shown,
               core_default_rounds_finish p c.keeps_sound.ensures.sound mode size xs rounds told.played shown,
             ),
-            lines_where style.steps (AreStepsOfPlay mode size plan p) (core_steps p code size xs rounds) told.steps.items
-                (subst (λ b. told.steps.items ≡ (if b then core_steps p code size xs rounds else []))
-                c.wanted_by-wanted.ensures.steps texts.2)
+            lines_where style.steps (AreStepsOfPlay how mode size plan p) (core_steps how p code size xs rounds) told.steps.items
+                (subst (λ f. told.steps.items ≡ (if style.steps then core_steps f p code size xs rounds else [])) c.wanted_by-wanted.ensures.form
+                (subst (λ b. told.steps.items ≡ (if b then core_steps c.wanted_by-wanted.result.form p code size xs rounds else []))
+                c.wanted_by-wanted.ensures.steps texts.2))
                 (of_named (λ actors. (code2 : ℕ → ClientCode) × AreCodes p mode code2
-                × (core_steps p code size xs rounds ≡ core_steps p code2 size actors rounds)) (actors_of p picks) xs named
+                × (core_steps how p code size xs rounds ≡ core_steps how p code2 size actors rounds)) (actors_of p picks) xs named
                 (code, codes, refl)),
-            lines_where style.queues (AreQueuesOfPlay mode size plan p) (core_queues p code size xs rounds)
+            lines_where style.queues (AreQueuesOfPlay how mode size plan p) (core_queues how p code size xs rounds)
                 told.queues.items
-                (subst (λ b. told.queues.items ≡ (if b then core_queues p code size xs rounds else []))
-                c.wanted_by-wanted.ensures.queues texts.3)
+                (subst (λ f. told.queues.items ≡ (if style.queues then core_queues f p code size xs rounds else [])) c.wanted_by-wanted.ensures.form
+                (subst (λ b. told.queues.items ≡ (if b then core_queues c.wanted_by-wanted.result.form p code size xs rounds else []))
+                c.wanted_by-wanted.ensures.queues texts.3))
                 (of_named (λ actors. (code2 : ℕ → ClientCode) × AreCodes p mode code2
-                × (core_queues p code size xs rounds ≡ core_queues p code2 size actors rounds)) (actors_of p picks) xs named
+                × (core_queues how p code size xs rounds ≡ core_queues how p code2 size actors rounds)) (actors_of p picks) xs named
                 (code, codes, refl)),
             e,
           )) w.due_of_told.ensures.due)
@@ -90,7 +93,7 @@ returns-in-Ok-play-clause-due c =
             c.as_slice-2.result.now (c.in-Ok.ensures.actors ∙ sym (ap (λ xs. Ok xs) c.as_slice-2.ensures.value)) shown,
         core_default_rounds_finish p c.keeps_sound.ensures.sound c.args.mode c.args.chunk c.as_slice-2.result.now c.args.rounds played shown,
       ),
-      no_steps c.args.style.steps c.args.style.queues (AreStepsOfPlay c.args.mode c.args.chunk (by_schedule c.args.rounds c.args.picks.now) p) (sym c.is_told.ensures.value ∙ c.if-is_told.false),
-      no_queues c.args.style.steps c.args.style.queues (AreQueuesOfPlay c.args.mode c.args.chunk (by_schedule c.args.rounds c.args.picks.now) p) (sym c.is_told.ensures.value ∙ c.if-is_told.false),
+      no_steps c.args.style.steps c.args.style.queues (AreStepsOfPlay (form_of c.args.style.format) c.args.mode c.args.chunk (by_schedule c.args.rounds c.args.picks.now) p) (sym c.is_told.ensures.value ∙ c.if-is_told.false),
+      no_queues c.args.style.steps c.args.style.queues (AreQueuesOfPlay (form_of c.args.style.format) c.args.mode c.args.chunk (by_schedule c.args.rounds c.args.picks.now) p) (sym c.is_told.ensures.value ∙ c.if-is_told.false),
       alone text _ e,
     )) c.due_of_played.ensures.due

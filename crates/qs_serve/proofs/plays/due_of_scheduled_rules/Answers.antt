@@ -6,7 +6,7 @@ use Rattle.qs_steps.specs.PlainSteps.{plain_steps}
 use Rattle.qs_steps.specs.Telling.{played_in}
 use Rattle.qs_line.specs.audit.Named.{actors_of}
 use Rattle.qs_line.specs.audit.Line.{by_schedule, rules}
-use Rattle.qs_serve.specs.Due.{AreQueuesOfRules, AreStepsOfRules, IsDueOfProgram, IsOutOfMemory}
+use Rattle.qs_serve.specs.Due.{AreQueuesOfRules, AreStepsOfRules, IsDueOfProgram, IsOutOfMemory, form_of}
 use Rattle.qs_serve.proofs.Dues.{alone, due_by_lines, due_by_report, lines_where, no_queues, no_steps, of_named}
 use Rattle.qs_serve.proofs.plays.due_of_scheduled_rules.Goals as goal
 use Rattle.qs_serve.proofs.plays.due_of_scheduled_rules.Goals.{in-Ok-rules_told, in-Err-rules_told}
@@ -18,6 +18,7 @@ returns-then-is_told-clause-due c =
     let rounds = c.args.rounds in
     let picks = c.args.picks.now in
     let plan = by_schedule rounds picks in
+    let how = form_of style.format in
     let xs = c.as_slice.result.now in
     let named : actors_of p picks ≡ Ok xs = c.in-Ok.ensures.actors ∙ sym (ap (λ xs. Ok xs) c.as_slice.ensures.value) in
     elim c.match-rules_told.branch [
@@ -35,14 +36,16 @@ returns-then-is_told-clause-due c =
               of_named (λ actors. IsPlayed p actors rounds (Ok told.played)) (actors_of p picks) xs named shown,
               default_rounds_finish p c.keeps_sound.ensures.sound xs rounds told.played shown,
             ),
-            lines_where style.steps (AreStepsOfRules plan p) (plain_steps p xs rounds) told.steps.items
-                (subst (λ b. told.steps.items ≡ (if b then plain_steps p xs rounds else [])) c.wanted_by-wanted.ensures.steps
-                w.in-Ok-rules_told.ensures.steps)
-                (of_named (λ actors. plain_steps p xs rounds ≡ plain_steps p actors rounds) (actors_of p picks) xs named refl),
-            lines_where style.queues (AreQueuesOfRules plan p) (plain_queues p xs rounds) told.queues.items
-                (subst (λ b. told.queues.items ≡ (if b then plain_queues p xs rounds else [])) c.wanted_by-wanted.ensures.queues
-                w.in-Ok-rules_told.ensures.queues)
-                (of_named (λ actors. plain_queues p xs rounds ≡ plain_queues p actors rounds) (actors_of p picks) xs named refl),
+            lines_where style.steps (AreStepsOfRules how plan p) (plain_steps how p xs rounds) told.steps.items
+                (subst (λ f. told.steps.items ≡ (if style.steps then plain_steps f p xs rounds else [])) c.wanted_by-wanted.ensures.form
+                (subst (λ b. told.steps.items ≡ (if b then plain_steps c.wanted_by-wanted.result.form p xs rounds else [])) c.wanted_by-wanted.ensures.steps
+                w.in-Ok-rules_told.ensures.steps))
+                (of_named (λ actors. plain_steps how p xs rounds ≡ plain_steps how p actors rounds) (actors_of p picks) xs named refl),
+            lines_where style.queues (AreQueuesOfRules how plan p) (plain_queues how p xs rounds) told.queues.items
+                (subst (λ f. told.queues.items ≡ (if style.queues then plain_queues f p xs rounds else [])) c.wanted_by-wanted.ensures.form
+                (subst (λ b. told.queues.items ≡ (if b then plain_queues c.wanted_by-wanted.result.form p xs rounds else [])) c.wanted_by-wanted.ensures.queues
+                w.in-Ok-rules_told.ensures.queues))
+                (of_named (λ actors. plain_queues how p xs rounds ≡ plain_queues how p actors rounds) (actors_of p picks) xs named refl),
             e,
           )) w.due_of_told.ensures.due)
       | in-Err-rules_told w ↦
@@ -67,7 +70,7 @@ returns-in-Ok-play_plain-clause-due c =
             c.as_slice-2.result.now (c.in-Ok.ensures.actors ∙ sym (ap (λ xs. Ok xs) c.as_slice-2.ensures.value)) shown,
         default_rounds_finish p c.keeps_sound.ensures.sound c.as_slice-2.result.now c.args.rounds played shown,
       ),
-      no_steps c.args.style.steps c.args.style.queues (AreStepsOfRules (by_schedule c.args.rounds c.args.picks.now) p) (sym c.is_told.ensures.value ∙ c.if-is_told.false),
-      no_queues c.args.style.steps c.args.style.queues (AreQueuesOfRules (by_schedule c.args.rounds c.args.picks.now) p) (sym c.is_told.ensures.value ∙ c.if-is_told.false),
+      no_steps c.args.style.steps c.args.style.queues (AreStepsOfRules (form_of c.args.style.format) (by_schedule c.args.rounds c.args.picks.now) p) (sym c.is_told.ensures.value ∙ c.if-is_told.false),
+      no_queues c.args.style.steps c.args.style.queues (AreQueuesOfRules (form_of c.args.style.format) (by_schedule c.args.rounds c.args.picks.now) p) (sym c.is_told.ensures.value ∙ c.if-is_told.false),
       alone text _ e,
     )) c.due_of_played.ensures.due

@@ -1,9 +1,10 @@
 -- The clients before this one are there.
-use Rattle.std.proofs.Common.{◌≡◌, ◌++◌, flat_map}
-use Rattle.std.specs.List.{range_with_len}
+use Rattle.std.proofs.Common.{◌≡◌, ◌++◌}
 use Rattle.qs_core.specs.state.CoreState.{codes_of, core_of}
-use Rattle.qs_steps.specs.CoreQueues.{client_line}
+use Rattle.qs_steps.specs.CoreQueues.{client_of}
+use Rattle.qs_steps.specs.Forms.{numbered}
 use Rattle.qs_steps.proofs.core_queues.put_clients.Given as goal
 
 abbrev pub invariant-loop-client : goal.invariant-loop-client
-invariant-loop-client l = l.out.items ≡ l.initial.out.items ++ flat_map (client_line l.program (codes_of l.core) l.core.size (core_of l.core)) (range_with_len 0 l.client)
+invariant-loop-client l =
+    l.out.items ≡ l.initial.out.items ++ numbered l.form (client_of l.form l.program (codes_of l.core) l.core.size (core_of l.core)) l.client

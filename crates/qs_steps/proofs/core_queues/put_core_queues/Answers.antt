@@ -1,23 +1,26 @@
-use Rattle.std.proofs.Common.{◌++◌, ap, flat_map, length, sym, ◌∙◌}
-use Rattle.std.specs.List.{range_with_len}
+use Rattle.std.proofs.Common.{ap, sym, ◌∙◌}
 use Rattle.qs_core_laws.specs.audit.CoreSchedule.{is_finished}
-use Rattle.qs_core.specs.state.CoreState.{CoreState, codes_of, core_of}
-use Rattle.qs_steps.specs.CoreQueues.{all_queues, client_line}
-use Rattle.qs_steps.proofs.Queues.{text_if_finished, text_if_open}
+use Rattle.qs_core.specs.state.CoreState.{codes_of, core_of}
+use Rattle.qs_steps.specs.CoreQueues.{client_of, handler_in}
+use Rattle.qs_steps.specs.Queues.{is_silent, queues_by}
+use Rattle.qs_steps.proofs.Queues.{text_if_silent, text_if_told}
 use Rattle.qs_steps.proofs.TellingRuns.{on_ok}
 use Rattle.qs_steps.proofs.core_queues.put_core_queues.Goals as goal
 
-pub returns-then-is_finished-clause-ok : goal.returns-then-is_finished-clause-ok
-returns-then-is_finished-clause-ok c =
+pub returns-then-says_nothing-clause-ok : goal.returns-then-says_nothing-clause-ok
+returns-then-says_nothing-clause-ok c =
+    let f = c.args.form in
     let p = c.args.program.now in
     let s = c.args.core.now in
-    text_if_finished (is_finished p (core_of s)) (all_queues p (codes_of s) s.size (core_of s)) c.args.out.now.items
-    (sym (ap (λ q. is_finished q (core_of s)) c.requires.own) ∙ sym c.is_finished.ensures.value ∙ c.if-is_finished.true)
+    let told = c.says_nothing.ensures.silent ∙ ap (is_silent f) (c.is_finished.ensures.value ∙ ap (λ q. is_finished q (core_of s)) c.requires.own) in
+    text_if_silent (is_silent f (is_finished p (core_of s))) (queues_by f p (handler_in f p (core_of s)) (client_of f p (codes_of s) s.size (core_of s))) c.args.out.now.items
+    (sym told ∙ c.if-says_nothing.true)
 
 pub returns-clause-ok : goal.returns-clause-ok
 returns-clause-ok c =
+    let f = c.args.form in
     let p = c.args.program.now in
     let s = c.args.core.now in
-    let open_run = sym (ap (λ q. is_finished q (core_of s)) c.requires.own) ∙ sym c.is_finished.ensures.value ∙ c.if-is_finished.false in
-    on_ok c.put_clients.result c.put_clients.ensures.ok (λ last. text_if_open _ _ _ c.args.out.now.items _ _ open_run c.in_ok-put_handlers.ensures.ok
-    (last ∙ ap (λ (x : CoreState). c.put_handlers.new.out.items ++ flat_map (client_line p (codes_of x) x.size (core_of x)) (range_with_len 0 (length p.clients))) c.in_ok-put_handlers.ensures.same))
+    let told = c.says_nothing.ensures.silent ∙ ap (is_silent f) (c.is_finished.ensures.value ∙ ap (λ q. is_finished q (core_of s)) c.requires.own) in
+    on_ok c.put_all_queues.result c.put_all_queues.ensures.ok (λ last. text_if_told (is_silent f (is_finished p (core_of s)))
+    (queues_by f p (handler_in f p (core_of s)) (client_of f p (codes_of s) s.size (core_of s))) c.args.out.now.items _ (sym told ∙ c.if-says_nothing.false) last)

@@ -1,8 +1,8 @@
-use Rattle.std.proofs.Common.{◌≡◌, ◌++◌, ap, arith, flat_map, length, ◌∙◌}
-use Rattle.std.specs.List.{range_with_len}
+use Rattle.std.proofs.Common.{◌≡◌, ◌++◌, ap, arith, length, ◌∙◌}
 use Rattle.qs_core.specs.state.CoreState.{CoreState, core_of}
-use Rattle.qs_steps.specs.CoreQueues.{handler_lines}
-use Rattle.qs_steps.proofs.Queues.{numbers_more}
+use Rattle.qs_steps.specs.CoreQueues.{handler_in}
+use Rattle.qs_steps.specs.Forms.{numbered}
+use Rattle.qs_steps.proofs.Queues.{numbered_more}
 use Rattle.qs_steps.proofs.core_queues.put_handlers.Goals as goal
 
 pub put_handler-requires : goal.put_handler-requires
@@ -15,9 +15,9 @@ pub loop-handler-preserved : goal.loop-handler-preserved
 loop-handler-preserved c =
     let p = c.args.program.now in
     let h = c.loop-handler.handler in
-    let one = c.in_ok-put_handler.ensures.ok ∙ ap (λ (x : CoreState). c.loop-handler.out.items ++ handler_lines p (core_of x) h) c.loop-handler.invariant.same in
+    let one = c.in_ok-put_handler.ensures.ok ∙ ap (λ (x : CoreState). c.put_comma.new.out.items ++ handler_in c.args.form p (core_of x) h) c.loop-handler.invariant.same in
     record {
-      text = numbers_more (handler_lines p (core_of c.args.core.now)) c.args.out.now.items _ _ h c.loop-handler.invariant.text one;
+      text = numbered_more c.args.form (handler_in c.args.form p (core_of c.args.core.now)) c.args.out.now.items _ _ _ h _ c.from.ensures c.loop-handler.invariant.text c.in_ok-put_comma.ensures.ok one;
       same = c.in_ok-put_handler.ensures.same ∙ c.loop-handler.invariant.same;
     }
 
@@ -25,4 +25,4 @@ pub returns-clause-ok : goal.returns-clause-ok
 returns-clause-ok c =
     let p = c.args.program.now in
     let all : c.loop-handler.handler ≡ length p.objects = omega (arith, c.loop-handler.auto.handler-end, c.loop-handler-test.false, c.objects-handler-end.ensures.value) in
-    c.loop-handler.invariant.text ∙ ap (λ n. c.args.out.now.items ++ flat_map (handler_lines p (core_of c.args.core.now)) (range_with_len 0 n)) all
+    c.loop-handler.invariant.text ∙ ap (λ n. c.args.out.now.items ++ numbered c.args.form (handler_in c.args.form p (core_of c.args.core.now)) n) all

@@ -1,9 +1,9 @@
-use Rattle.std.proofs.Common.{◌≡◌, ◌<◌, ◌++◌, ap, arith, flat_map, length, subst, sym, ◌∙◌}
-use Rattle.std.specs.List.{range_with_len}
+use Rattle.std.proofs.Common.{◌≡◌, ◌<◌, ◌++◌, ap, arith, length, subst, sym, ◌∙◌}
 use Rattle.qs_program.specs.audit.Program.{ProgramShape}
 use Rattle.qs_core.specs.state.CoreState.{CoreState, core_of}
-use Rattle.qs_steps.specs.CoreQueues.{lane_line}
-use Rattle.qs_steps.proofs.Queues.{numbers_more}
+use Rattle.qs_steps.specs.CoreQueues.{lane_in}
+use Rattle.qs_steps.specs.Forms.{numbered}
+use Rattle.qs_steps.proofs.Queues.{numbered_more}
 use Rattle.qs_steps.proofs.core_queues.put_lanes.Goals as goal
 
 pub put_lane-requires : goal.put_lane-requires
@@ -19,9 +19,9 @@ pub loop-client-preserved : goal.loop-client-preserved
 loop-client-preserved c =
     let p = c.args.program.now in
     let n = c.loop-client.client in
-    let one = c.in_ok-put_lane.ensures.ok ∙ ap (λ (x : CoreState). c.loop-client.out.items ++ lane_line p n ((core_of x).down n c.args.handler)) c.loop-client.invariant.same in
+    let one = c.in_ok-put_lane.ensures.ok ∙ ap (λ (x : CoreState). c.put_comma.new.out.items ++ lane_in c.args.form p n ((core_of x).down n c.args.handler)) c.loop-client.invariant.same in
     record {
-      text = numbers_more (λ m. lane_line p m ((core_of c.args.core.now).down m c.args.handler)) c.args.out.now.items _ _ n c.loop-client.invariant.text one;
+      text = numbered_more c.args.form (λ m. lane_in c.args.form p m ((core_of c.args.core.now).down m c.args.handler)) c.args.out.now.items _ _ _ n _ c.from.ensures c.loop-client.invariant.text c.in_ok-put_comma.ensures.ok one;
       same = c.in_ok-put_lane.ensures.same ∙ c.loop-client.invariant.same;
     }
 
@@ -29,4 +29,4 @@ pub returns-clause-ok : goal.returns-clause-ok
 returns-clause-ok c =
     let p = c.args.program.now in
     let all : c.loop-client.client ≡ length p.clients = omega (arith, c.loop-client.auto.client-end, c.loop-client-test.false, c.clients-client-end.ensures.value) in
-    c.loop-client.invariant.text ∙ ap (λ n. c.args.out.now.items ++ flat_map (λ m. lane_line p m ((core_of c.args.core.now).down m c.args.handler)) (range_with_len 0 n)) all
+    c.loop-client.invariant.text ∙ ap (λ n. c.args.out.now.items ++ numbered c.args.form (λ m. lane_in c.args.form p m ((core_of c.args.core.now).down m c.args.handler)) n) all

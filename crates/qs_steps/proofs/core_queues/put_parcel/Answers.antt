@@ -1,6 +1,6 @@
 use Rattle.std.proofs.Common.{◌++◌, ap, arith, get_or, length, sym, ◌∙◌}
 use Rattle.qs_core.specs.state.CoreState.{core_of}
-use Rattle.qs_steps.specs.CoreQueues.{parcel_text}
+use Rattle.qs_steps.specs.CoreQueues.{parcel_in}
 use Rattle.qs_steps.proofs.CoreQueuesText.{chunk_is, parcel_is}
 use Rattle.qs_steps.proofs.TellingRuns.{on_ok}
 use Rattle.qs_steps.proofs.core_queues.put_parcel.Goals as goal
@@ -13,7 +13,7 @@ returns-in-Work-clause-ok c =
     let down = (core_of c.args.core.now).down c.args.client c.args.handler in
     let x = c.parcel.result.now in
     let is = c.parcel.ensures.value ∙ ap (λ ps. get_or ps c.args.place x) c.lane_of.ensures.lane.down in
-    on_ok c.put_chunk_at.result c.put_chunk_at.ensures.ok (λ text d. text ∙ ap (λ ys. c.args.out.now.items ++ ys) (chunk_is c.args.program.now down c.args.place c.requires.place x is _ c.in-Work.is d))
+    on_ok c.put_chunk_at.result c.put_chunk_at.ensures.ok (λ text d. text ∙ ap (λ ys. c.args.out.now.items ++ ys) (chunk_is c.args.form c.args.program.now down c.args.place c.requires.place x is _ c.in-Work.is d))
 
 pub returns-in-Sync-clause-ok : goal.returns-in-Sync-clause-ok
 returns-in-Sync-clause-ok c =
@@ -21,7 +21,7 @@ returns-in-Sync-clause-ok c =
     let down = (core_of c.args.core.now).down c.args.client c.args.handler in
     let x = c.parcel.result.now in
     let is = c.parcel.ensures.value ∙ ap (λ ps. get_or ps c.args.place x) c.lane_of.ensures.lane.down in
-    on_ok c.put.result c.put.ensures.ok (λ text d. text ∙ ap (λ ys. c.args.out.now.items ++ ys) (ap (parcel_text p) (sym c.in-Sync.is) ∙ parcel_is p down c.args.place c.requires.place x is d))
+    on_ok c.put_parcel_word.result c.put_parcel_word.ensures.ok (λ text d. text ∙ ap (λ ys. c.args.out.now.items ++ ys) (ap (parcel_in c.args.form p) (sym c.in-Sync.is) ∙ parcel_is c.args.form p down c.args.place c.requires.place x is d))
 
 pub returns-in-Home-clause-ok : goal.returns-in-Home-clause-ok
 returns-in-Home-clause-ok c =
@@ -29,7 +29,7 @@ returns-in-Home-clause-ok c =
     let down = (core_of c.args.core.now).down c.args.client c.args.handler in
     let x = c.parcel.result.now in
     let is = c.parcel.ensures.value ∙ ap (λ ps. get_or ps c.args.place x) c.lane_of.ensures.lane.down in
-    on_ok c.put-in-Home.result c.put-in-Home.ensures.ok (λ text d. text ∙ ap (λ ys. c.args.out.now.items ++ ys) (ap (parcel_text p) (sym c.in-Home.is) ∙ parcel_is p down c.args.place c.requires.place x is d))
+    on_ok c.put_parcel_word-in-Home.result c.put_parcel_word-in-Home.ensures.ok (λ text d. text ∙ ap (λ ys. c.args.out.now.items ++ ys) (ap (parcel_in c.args.form p) (sym c.in-Home.is) ∙ parcel_is c.args.form p down c.args.place c.requires.place x is d))
 
 pub returns-in-End-clause-ok : goal.returns-in-End-clause-ok
 returns-in-End-clause-ok c =
@@ -37,4 +37,4 @@ returns-in-End-clause-ok c =
     let down = (core_of c.args.core.now).down c.args.client c.args.handler in
     let x = c.parcel.result.now in
     let is = c.parcel.ensures.value ∙ ap (λ ps. get_or ps c.args.place x) c.lane_of.ensures.lane.down in
-    on_ok c.put-in-End.result c.put-in-End.ensures.ok (λ text d. text ∙ ap (λ ys. c.args.out.now.items ++ ys) (ap (parcel_text p) (sym c.in-End.is) ∙ parcel_is p down c.args.place c.requires.place x is d))
+    on_ok c.put_parcel_word-in-End.result c.put_parcel_word-in-End.ensures.ok (λ text d. text ∙ ap (λ ys. c.args.out.now.items ++ ys) (ap (parcel_in c.args.form p) (sym c.in-End.is) ∙ parcel_is c.args.form p down c.args.place c.requires.place x is d))

@@ -1,9 +1,10 @@
-use Rattle.std.proofs.Common.{◌<◌, ◌≤◌, ◌++◌, ap, arith, codes, flat_map, get_or, length, subst, sym, ◌∙◌}
+use Rattle.std.proofs.Common.{◌<◌, ◌≤◌, ◌++◌, ap, arith, get_or, length, subst, sym, ◌∙◌}
 use Rattle.std.proofs.lemmas.List.{take_all}
 use Rattle.qs_chunk.specs.declared.parcel.Parcel.TheVariants.{End}
 use Rattle.qs_core.specs.state.CoreState.{CoreState, core_of}
-use Rattle.qs_steps.specs.CoreQueues.{parcel_text}
-use Rattle.qs_steps.proofs.Queues.{elements_more, joined}
+use Rattle.qs_steps.specs.CoreQueues.{gap_in, parcel_in, parcels_in}
+use Rattle.qs_steps.proofs.CoreQueuesText.{parcels_more}
+use Rattle.qs_steps.proofs.Queues.{joined}
 use Rattle.qs_steps.proofs.core_queues.put_parcels.Goals as goal
 
 pub put_parcel-requires : goal.put_parcel-requires
@@ -24,10 +25,10 @@ loop-place-preserved c =
     let down = (core_of s).down c.args.client c.args.handler in
     let i = c.loop-place.place in
     let inside : i < length down = omega (arith, c.loop-place-test.true, c.parcels-place-end.ensures.value, ap length c.lane_of.ensures.lane.down) in
-    let one = c.in_ok-put_parcel.ensures.ok End ∙ ap (λ (x : CoreState). c.put.new.out.items ++ parcel_text p (get_or ((core_of x).down c.args.client c.args.handler) i End)) c.loop-place.invariant.same in
+    let one = c.in_ok-put_parcel.ensures.ok End ∙ ap (λ (x : CoreState). c.put_gap.new.out.items ++ parcel_in c.args.form p (get_or ((core_of x).down c.args.client c.args.handler) i End)) c.loop-place.invariant.same in
     record {
-      text = elements_more (λ y. codes " " ++ parcel_text p y) down c.args.out.now.items _ _ i End inside c.loop-place.invariant.text
-          (joined _ _ _ (codes " ") (parcel_text p (get_or down i End)) c.in_ok-put.ensures.ok one);
+      text = parcels_more c.args.form p down c.args.out.now.items _ _ i End inside c.loop-place.invariant.text
+          (joined _ _ _ (gap_in c.args.form i) (parcel_in c.args.form p (get_or down i End)) c.in_ok-put_gap.ensures.ok one);
       same = c.in_ok-put_parcel.ensures.same ∙ c.loop-place.invariant.same;
     }
 
@@ -35,4 +36,4 @@ pub returns-clause-ok : goal.returns-clause-ok
 returns-clause-ok c =
     let down = (core_of c.args.core.now).down c.args.client c.args.handler in
     let all : length down ≤ c.loop-place.place = omega (arith, c.loop-place-test.false, c.parcels-place-end.ensures.value, ap length c.lane_of.ensures.lane.down) in
-    c.loop-place.invariant.text ∙ ap (λ ys. c.args.out.now.items ++ flat_map (λ y. codes " " ++ parcel_text c.args.program.now y) ys) (take_all c.loop-place.place down all)
+    c.loop-place.invariant.text ∙ ap (λ ys. c.args.out.now.items ++ parcels_in c.args.form c.args.program.now ys) (take_all c.loop-place.place down all)

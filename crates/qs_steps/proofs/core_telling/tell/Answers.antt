@@ -4,7 +4,7 @@ use Rattle.qs_core_laws.specs.audit.CoreSchedule.{core_played}
 use Rattle.qs_core.specs.state.CoreState.{CoreState, IsPlayedOn, codes_of, core_of}
 use Rattle.qs_core.proofs.CoreCounted.{schedule_counted}
 use Rattle.qs_core.proofs.CorePlaying.{schedule_isolated}
-use Rattle.qs_steps.specs.CoreQueues.{queues_text}
+use Rattle.qs_steps.specs.CoreQueues.{queues_in}
 use Rattle.qs_steps.proofs.CoreQueuesText.{told_in}
 use Rattle.qs_steps.proofs.CoreTelling.{core_steps_on, scheduled_on}
 use Rattle.qs_steps.proofs.core_telling.tell.Goals as goal
@@ -27,8 +27,8 @@ returns c =
     let it = c.in_ok-played in
     record {
       told = told_in p mode size picks rounds wanted s c.in_ok-steps.steps.items c.in_ok-queues.queues.items it.played on
-          (c.in_ok-steps.ensures.text ∙ ap (λ l. cond wanted.steps l []) (core_steps_on p mode size picks rounds _ s fresh lead))
-          (c.in_ok-queues.ensures.text ∙ ap (λ q. cond wanted.queues (queues_text q (codes_of s) s.size (core_of s)) []) on.program)
+          (c.in_ok-steps.ensures.text ∙ ap (λ l. cond wanted.steps l []) (core_steps_on p mode size picks rounds _ s fresh lead wanted.form))
+          (c.in_ok-queues.ensures.text ∙ ap (λ q. cond wanted.queues (queues_in wanted.form q (codes_of s) s.size (core_of s)) []) on.program)
           (it.ensures.shown ∙ ap (λ (x : CoreState). core_played x.program (core_of x)) same);
       isolated = schedule_isolated p mode size picks rounds t it.played later it.ensures.shown it.ensures.isolated;
       counted = schedule_counted p mode size picks rounds t it.played later it.ensures.shown it.ensures.counted;

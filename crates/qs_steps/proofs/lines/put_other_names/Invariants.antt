@@ -1,7 +1,8 @@
--- The names before this one are there, each after a space.
-use Rattle.std.proofs.Common.{◌≡◌, ◌++◌, codes, flat_map, take}
+-- The names before this one are there, each after what stands between two.
+use Rattle.std.proofs.Common.{◌≡◌, ◌++◌, flat_map, take}
 use Rattle.qs_program.specs.audit.Program.{object_at}
+use Rattle.qs_steps.specs.Forms.{between, name_in}
 use Rattle.qs_steps.proofs.lines.put_other_names.Given as goal
 
 abbrev pub invariant-loop-object : goal.invariant-loop-object
-invariant-loop-object l = l.out.items ≡ l.initial.out.items ++ flat_map (λ h. codes " " ++ (object_at l.program h).name) (take l.object-index l.objects)
+invariant-loop-object l = l.out.items ≡ l.initial.out.items ++ flat_map (λ h. between l.form ++ name_in l.form (object_at l.program h).name) (take l.object-index l.objects)

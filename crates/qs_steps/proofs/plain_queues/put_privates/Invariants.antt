@@ -1,8 +1,9 @@
--- The lines of the private queues before this one are there.
-use Rattle.std.proofs.Common.{◌≡◌, ◌++◌, flat_map, take}
+-- The private queues before this place are there.
+use Rattle.std.proofs.Common.{◌≡◌, ◌++◌, take}
 use Rattle.qs_plain.specs.client.Queues.{QueueState}
-use Rattle.qs_steps.specs.PlainQueues.{private_line}
+use Rattle.qs_steps.specs.Forms.{listed}
+use Rattle.qs_steps.specs.PlainQueues.{private_in}
 use Rattle.qs_steps.proofs.plain_queues.put_privates.Given as goal
 
-abbrev pub invariant-loop-queue : goal.invariant-loop-queue
-invariant-loop-queue l = l.out.items ≡ l.initial.out.items ++ flat_map (λ (q : QueueState). private_line l.program q.queue) (take l.queue-index l.queues)
+abbrev pub invariant-loop-place : goal.invariant-loop-place
+invariant-loop-place l = l.out.items ≡ l.initial.out.items ++ listed l.form (λ (q : QueueState). private_in l.form l.program q.queue) (take l.place l.queues)

@@ -1,5 +1,6 @@
 use Rattle.std.proofs.Common.{◌++◌, ap, codes, flat_map, sym, ◌∙◌}
-use Rattle.qs_steps.specs.PlainQueues.{item_text}
+use Rattle.qs_steps.specs.PlainQueues.{item_in}
+use Rattle.qs_steps.specs.declared.wanted.Form.TheVariants as form
 use Rattle.qs_steps.proofs.Queues.{empty_list, filled_list, joined, spaced_both, spaced_none}
 use Rattle.qs_steps.proofs.TellingRuns.{on_ok}
 use Rattle.qs_steps.proofs.plain_queues.put_spaced.Goals as goal
@@ -8,7 +9,7 @@ pub returns-then-is_empty : goal.returns-then-is_empty
 returns-then-is_empty c =
     let p = c.args.program.now in
     let none = c.items.ensures.filled (empty_list c.items.result.0.now c.is_empty.result c.is_empty.ensures c.if-is_empty.true) in
-    record { ok = on_ok c.put.result c.put.ensures.ok (λ text. text ∙ ap (λ xs. c.args.out.now.items ++ xs) (sym (spaced_none (item_text p) c.args.queue.now.queue.items none))) }
+    record { ok = on_ok c.put.result c.put.ensures.ok (λ text. text ∙ ap (λ xs. c.args.out.now.items ++ xs) (sym (spaced_none (item_in form.Text p) c.args.queue.now.queue.items none))) }
 
 pub returns-in_ok-put_items : goal.returns-in_ok-put_items
 returns-in_ok-put_items c =
@@ -16,6 +17,6 @@ returns-in_ok-put_items c =
     let first = c.items.result.0.now in
     let second = c.items.result.1.now in
     record {
-      ok = on_ok c.put_items-else-is_empty.result c.put_items-else-is_empty.ensures.ok (λ last. joined c.args.out.now.items _ _ (flat_map (λ i. codes " " ++ item_text p i) first) (flat_map (λ i. codes " " ++ item_text p i) second) c.in_ok-put_items.ensures.ok last
-          ∙ ap (λ xs. c.args.out.now.items ++ xs) (sym (spaced_both (item_text p) first second c.args.queue.now.queue.items (filled_list first c.is_empty.result c.is_empty.ensures c.if-is_empty.false) c.items.ensures.items)));
+      ok = on_ok c.put_items-else-is_empty.result c.put_items-else-is_empty.ensures.ok (λ last. joined c.args.out.now.items _ _ (flat_map (λ i. codes " " ++ item_in form.Text p i) first) (flat_map (λ i. codes " " ++ item_in form.Text p i) second) c.in_ok-put_items.ensures.ok last
+          ∙ ap (λ xs. c.args.out.now.items ++ xs) (sym (spaced_both (item_in form.Text p) first second c.args.queue.now.queue.items (filled_list first c.is_empty.result c.is_empty.ensures c.if-is_empty.false) c.items.ensures.items)));
     }

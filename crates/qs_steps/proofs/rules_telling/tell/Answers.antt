@@ -8,7 +8,7 @@ use Rattle.qs_plain_laws.specs.audit.PlainSchedule.{played_of}
 use Rattle.qs_plain_laws.specs.PlainSchedule.{scheduled}
 use Rattle.qs_plain_laws.specs.PlainSyncSums.{AreQueriesCounted}
 use Rattle.qs_plain.specs.Rules.{RulesState, plain_of}
-use Rattle.qs_steps.specs.PlainQueues.{plain_queues, queues_text}
+use Rattle.qs_steps.specs.PlainQueues.{plain_queues, queues_in}
 use Rattle.qs_steps.proofs.RulesTelling.{rules_scheduled, rules_steps}
 use Rattle.qs_steps.proofs.rules_telling.tell.Goals as goal
 use Rattle.qs_steps.proofs.rules_telling.tell.Goals.{In_ok-played}
@@ -27,7 +27,7 @@ shown c = c.in_ok-played.ensures.shown ∙ (λ k. played_of (own c k) (state c k
 pub returns-clause-steps : goal.returns-clause-steps
 returns-clause-steps c =
     let fresh = c.in_ok-rules.ensures.fresh in
-    c.in_ok-steps.ensures.text ∙ ap (λ l. cond c.args.wanted.steps l []) (rules_steps c.args.program.now c.args.picks.now c.args.rounds _ fresh.0 fresh.1)
+    c.in_ok-steps.ensures.text ∙ ap (λ l. cond c.args.wanted.steps l []) (rules_steps c.args.program.now c.args.picks.now c.args.rounds _ fresh.0 fresh.1 c.args.wanted.form)
 
 pub returns-clause-queues : goal.returns-clause-queues
 unfolding plain_queues
@@ -36,7 +36,7 @@ returns-clause-queues c =
     let fresh = c.in_ok-rules.ensures.fresh in
     let lead = c.in_ok-steps.ensures.lead in
     let there = rules_scheduled p c.args.picks.now c.args.rounds _ fresh.0 fresh.1 _ lead in
-    c.in_ok-queues.ensures.text ∙ (λ k. cond c.args.wanted.queues (queues_text ((lead.kept ∙ fresh.0) k) (there k)) [])
+    c.in_ok-queues.ensures.text ∙ (λ k. cond c.args.wanted.queues (queues_in c.args.wanted.form ((lead.kept ∙ fresh.0) k) (there k)) [])
 
 pub returns-clause-played : goal.returns-clause-played
 returns-clause-played c = shown (goal.at.returns-clause-played c).In_ok-played

@@ -9,6 +9,6 @@ returns-else-tells g c =
     let picks = c.args.picks.now in
     let rounds = c.args.rounds in
     record {
-      text = c.new.ensures.items ∙ sym (ap (λ b. cond b (steps_from v c.args.program.now picks rounds c.args.machine.now) []) c.if-tells.false);
+      text = c.new.ensures.items ∙ sym (ap (λ b. cond b (steps_from v c.args.wanted.form c.args.program.now picks rounds c.args.machine.now) []) c.if-tells.false);
       lead = subst (λ p. LeadTo v (schedule p picks rounds) c.args.machine.now c.play.new.machine) c.requires.own c.play.ensures.lead;
     }

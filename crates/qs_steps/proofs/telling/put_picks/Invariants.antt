@@ -5,5 +5,5 @@ use Rattle.qs_steps.proofs.telling.put_picks.Given as goal
 abbrev pub invariant-loop-pick : goal.invariant-loop-pick
 invariant-loop-pick g l = record {
   number : l.number ≡ l.pick-index;
-  told : AreTold g.M.Machine.view l.program true 1 (take l.pick-index l.picks) l.initial.out.items l.initial.machine l.out.items l.machine;
+  told : AreTold g.M.Machine.view l.form l.program true 1 (take l.pick-index l.picks) l.initial.out.items l.initial.machine l.out.items l.machine;
 }

@@ -1,7 +1,10 @@
-use Rattle.std.proofs.Common.{◌≤◌, ◌+◌, ◌∙◌, add-one, ap, arith, length}
-use Rattle.qs_svg.specs.audit.Stretches.{journal_of, stretch, stretch_fates, ticket_at}
-use Rattle.qs_svg.specs.audit.Blocks.{cell}
-use Rattle.qs_svg.proofs.Parts.{one_place_more}
+use Rattle.std.proofs.Common.{◌≡◌, ◌≤◌, ◌+◌, ◌∙◌, List, add-one, ap, ap₂, arith, length}
+use Rattle.qs_objects.specs.audit.Act.{State}
+use Rattle.qs_objects.specs.audit.Journals.{replay, without_tickets}
+use Rattle.qs_objects.specs.declared.held.Entry.{Entry}
+use Rattle.qs_svg.specs.audit.Stretches.{journal_of, state_at, stretch, stretch_fates, ticket_at}
+use Rattle.qs_svg.specs.audit.Blocks.{whole_cell}
+use Rattle.qs_svg.proofs.Parts.{and_then, one_place_more}
 use Rattle.qs_svg.proofs.StretchEnds.{fates_of_length, fates_of_stretch, stretch_ends, stretch_of}
 use Rattle.qs_svg.proofs.rows.put_cells.Goals as goal
 
@@ -36,8 +39,12 @@ loop-column-preserved c =
     inv.1 c.entries_for-count.ensures.count c.min.ensures in
     let entries = stretch_of run h i c.journal_of-journal.result.now start (start + c.min.result) journal inv.1 ends in
     let fates = fates_of_stretch p run h i c.args.fates.now start (start + c.min.result) c.requires.fates inv.1 ends in
-    let within : start + c.min.result ≤ length (journal_of run h) = omega (arith, c.min.ensures, inv.0, ap length journal) in (
+    let within : start + c.min.result ≤ length (journal_of run h) = omega (arith, c.min.ensures, inv.0, ap length journal) in
+    let left : c.run_entries.new.object ≡ state_at p run h (i + 1) =
+    rw add-one (c.run_entries.ensures.state ∙ ap₂ (λ (s : State) (es : List Entry). replay s (without_tickets es)) inv.3 entries) in (
       within,
       rw add-one ends,
-      one_place_more (λ j. cell p run c.args.layout j h (stretch run h j) (stretch_fates p run h j)) i inv.2 (rw (entries, fates) at c.in_ok-put_cell.ensures.ok),
+      one_place_more (whole_cell p run c.args.layout h) i inv.2
+          (and_then (rw (entries, fates) at c.in_ok-put_cell.ensures.ok) (rw (left, add-one) at c.in_ok-put_left_state.ensures.ok)),
+      left,
     )

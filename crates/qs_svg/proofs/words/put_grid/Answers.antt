@@ -1,10 +1,9 @@
 use Rattle.std.proofs.Common.{w64}
 use Rattle.std.proofs.lemmas.Int.{to_z-of_z}
-use Rattle.qs_text.proofs.Parts.{last, then}
+use Rattle.qs_text.proofs.Parts.{last}
 use Rattle.qs_svg.proofs.words.put_grid.Goals as goal
 
 pub returns : goal.returns
 returns c =
     let rows = rw (to_z-of_z w64 c.args.rows c.ranges.rows) at c.in_ok-put_size.ensures.ok in
-    let columns = rw (to_z-of_z w64 c.args.columns c.ranges.columns) at c.in_ok-put_size-2.ensures.ok in
-    record { ok = last _ _ _ (then (then rows columns) c.in_ok-put_word.ensures.ok) c.put_values.ensures.ok }
+    record { ok = last _ _ _ rows (rw (to_z-of_z w64 c.args.columns c.ranges.columns) at c.put_size-2.ensures.ok) }

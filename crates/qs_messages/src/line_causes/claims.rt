@@ -1,0 +1,106 @@
+// What is said of the claims of a script, where these are asked and cannot be.
+
+use crate::line_causes::condition::{Quoted, put_unknown_in, put_unparsed};
+use crate::line_causes::program::program_of;
+use qs_check::Program;
+use qs_diagnosis::{Diagnosis, Span, put, put_diagnosis};
+use qs_line::{Settings, claim_parts, quantifier_of, read_line};
+use std::alloc::{AllocError, Global};
+
+const NO_WORD: &[u8] = b"the claim cannot be parsed";
+
+const WORDS: &[u8] =
+    b"`#?` is followed by `always`, `some`, `throughout`, `ever` or `never`, and by a condition";
+
+const NONE: &[u8] =
+    b"error: no condition stands on the line, and the script has no claim\n  = help: write one on the line, as `--always 'a.balance() == 98'`, or in the script, as a line `#? always a.balance() == 98`\n";
+
+// Whether a line asks the claims of the script.
+fn asks_the_script<'a>(alloc: Global, words: &'a [&'a str]) -> bool {
+    match read_line(alloc, words) {
+        Ok(Settings::Ask { questions, .. }) => questions.is_empty(),
+        _ => false,
+    }
+}
+
+// Puts that a line's word is no quantifier's.
+fn put_word(
+    alloc: Global,
+    out: &mut Vec<u8>,
+    text: &[u8],
+    start: usize,
+    word: &[u8],
+) -> Result<(), AllocError> {
+    let span = Span {
+        start: start.min(text.len()),
+        length: word.len().max(1),
+    };
+    put_diagnosis(
+        alloc,
+        out,
+        text,
+        &Diagnosis {
+            cause: NO_WORD,
+            span,
+            label: b"",
+            help: WORDS,
+        },
+    )
+}
+
+// Puts what is wrong with the claim of a word and a condition, if something is.
+fn put_claim(
+    alloc: Global,
+    out: &mut Vec<u8>,
+    quoted: Quoted<'_>,
+    word: &[u8],
+    program: &Program,
+) -> Result<(), AllocError> {
+    if quantifier_of(word).is_none() {
+        let start = quoted.start.saturating_sub(word.len());
+        return put_word(alloc, out, quoted.text, start, word);
+    }
+    put_unparsed(alloc, out, quoted)?;
+    if out.is_empty() {
+        put_unknown_in(alloc, out, quoted, program)?;
+    }
+    Ok(())
+}
+
+/// Puts what is wrong with the first claim of a script's text that cannot be parsed, or asks for what the script does not
+/// have, where a line asks the script's claims; or that the script has none.
+pub(crate) fn put_claims<'a>(
+    alloc: Global,
+    out: &mut Vec<u8>,
+    words: &'a [&'a str],
+    text: &[u8],
+) -> Result<(), AllocError> {
+    if !asks_the_script(alloc, words) {
+        return Ok(());
+    }
+    let Some(program) = program_of(alloc, text) else {
+        return Ok(());
+    };
+    let mut has_some = false;
+    let mut end = 0usize;
+    for line in text.split(|byte| *byte == b'\n') {
+        end = end.saturating_add(line.len());
+        if let Some((word, condition)) = claim_parts(line) {
+            has_some = true;
+            if out.is_empty() {
+                let start = end.saturating_sub(condition.len());
+                let quoted = Quoted {
+                    text,
+                    start,
+                    condition,
+                };
+                put_claim(alloc, out, quoted, word, &program)?;
+            }
+        }
+        end = end.saturating_add(1);
+    }
+    if !has_some {
+        put(out, NONE)?;
+    }
+    Ok(())
+}

@@ -1,8 +1,0 @@
--- What is said in the bands before this one is there.
-use Rattle.qs_svg.specs.audit.Shapes.{shapes_up_to}
-use Rattle.qs_svg.specs.Shapes.{Draws}
-use Rattle.qs_svg.specs.audit.Blocks.{row_names}
-use Rattle.qs_svg.proofs.rows.put_all_names.Given as goal
-
-abbrev pub invariant-loop-band : goal.invariant-loop-band
-invariant-loop-band l = Draws (shapes_up_to l.band (row_names l.program l.played l.layout l.row)) l.initial.out.items l.out.items
