@@ -10,10 +10,10 @@ _qs() {
         "check --format") COMPREPLY=($(compgen -W "text json" -- "$word")); return ;;
         "graph --format") COMPREPLY=($(compgen -W "text json dot" -- "$word")); return ;;
         "rules --format") COMPREPLY=($(compgen -W "text json svg" -- "$word")); return ;;
-        "play --mode") COMPREPLY=($(compgen -W "none dynamic static both" -- "$word")); return ;;
         "play --format") COMPREPLY=($(compgen -W "text json svg" -- "$word")); return ;;
-        "run --mode") COMPREPLY=($(compgen -W "none dynamic static both" -- "$word")); return ;;
+        "play --mode") COMPREPLY=($(compgen -W "none dynamic static both" -- "$word")); return ;;
         "run --format") COMPREPLY=($(compgen -W "text json svg" -- "$word")); return ;;
+        "run --mode") COMPREPLY=($(compgen -W "none dynamic static both" -- "$word")); return ;;
         "syncs --format") COMPREPLY=($(compgen -W "text json" -- "$word")); return ;;
         "outcomes --format") COMPREPLY=($(compgen -W "text json dot" -- "$word")); return ;;
         "ask --format") COMPREPLY=($(compgen -W "text json" -- "$word")); return ;;
@@ -23,14 +23,14 @@ _qs() {
     case "${COMP_WORDS[1]}" in
         check) settings="--verbose --format --warn --help" ;;
         graph) settings="--format --warn --help" ;;
-        rules) settings="--rounds --pick --order --counts --refusals --steps --queues --format --warn --help" ;;
-        play) settings="--mode --chunk --rounds --pick --order --counts --refusals --steps --queues --format --warn --help" ;;
-        run) settings="--mode --chunk --counts --refusals --times --format --warn --help" ;;
-        syncs) settings="--order --format --warn --help" ;;
-        outcomes) settings="--limit --after --ends --alike --threads --format --warn --help" ;;
-        ask) settings="--always --some --throughout --ever --never --values --limit --after --format --warn --help" ;;
-        fronts) settings="--limit --after --leads --format --warn --help" ;;
-        estimate) settings="--after --format --warn --help" ;;
+        rules) settings="--format --warn --help --rounds --pick --order --counts --refusals --steps --queues" ;;
+        play) settings="--format --warn --help --mode --chunk --rounds --pick --order --counts --refusals --steps --queues" ;;
+        run) settings="--times --format --warn --help --mode --chunk --counts --refusals" ;;
+        syncs) settings="--format --warn --help --order" ;;
+        outcomes) settings="--format --warn --help --limit --threads --after --ends --alike" ;;
+        ask) settings="--format --warn --help --always --some --throughout --ever --never --values --limit --after" ;;
+        fronts) settings="--format --warn --help --limit --after --leads" ;;
+        estimate) settings="--format --warn --help --after" ;;
     esac
     COMPREPLY=($(compgen -W "$settings" -- "$word"))
 }

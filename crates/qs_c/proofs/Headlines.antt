@@ -21,14 +21,14 @@ refused_is_not_zero f (Refused g) is e = zero_is_none g (sym e)
 pub headline_of_call : (word words script before after : List ℕ) (status answer : ℕ)
     → IsAnswered word words script before after status answer
     → IsHeadlineOfCall word words script before after status answer
-headline_of_call word words script before after status answer (due, how, inl (utf8, (of, formatted)), cut, long, e) zero request style asked is = (
-  due_text how due,
+headline_of_call word words script before after status answer (due, how, details, inl (utf8, (of, formatted)), cut, long, e) zero request style asked is = (
+  due_text how details due,
   cut,
   long,
-  headline_alone (line_in (line_words word words)) script due how of (sym zero ∙ e) request style
+  headline_alone (line_in (line_words word words)) script due how details of (sym zero ∙ e) request style
       (runs_are_lines (line_words word words) request asked) is,
 )
-headline_of_call word words script before after status answer (due, how, inr (text, inl memory), cut, long, e) zero request style asked is =
+headline_of_call word words script before after status answer (due, how, details, inr (text, inl memory), cut, long, e) zero request style asked is =
     absurd (refused_is_not_zero fault.Memory due memory (sym zero ∙ e))
-headline_of_call word words script before after status answer (due, how, inr (text, inr (utf8, line)), cut, long, e) zero request style asked is =
+headline_of_call word words script before after status answer (due, how, details, inr (text, inr (utf8, line)), cut, long, e) zero request style asked is =
     absurd (refused_is_not_zero fault.CommandLine due line (sym zero ∙ e))

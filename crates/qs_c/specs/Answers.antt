@@ -39,8 +39,9 @@ cut_into text room = take (length room) text ++ drop (length text) room
 -- what a call answers
 abbrev pub IsAnswered : (word words script before after : List ℕ) → (status answer : ℕ) → Type 0
 IsAnswered word words script before after status answer =
-    (due : Due) × (how : Format) × IsDueOfWords word words script due how
-    × (after ≡ cut_into (due_text how due) before) × (answer ≡ length (due_text how due)) × (status ≡ due_status due)
+    (due : Due) × (how : Format) × (details : List ℕ) × IsDueOfWords word words script due how
+    × (after ≡ cut_into (due_text how details due) before) × (answer ≡ length (due_text how details due))
+    × (status ≡ due_status due)
 
 -- Where the status is 0 and the words ask for a run, the text reports a run of the script's program that is as if its
 -- blocks had been run one after another, each whole and alone; as much of it is written as there is room for.

@@ -6,7 +6,7 @@ ghost use Rattle.qs_c.specs.Answers.{IsAnswered, IsDueOfWords, cut_into, line_wo
 
 use qs_line::Format;
 use qs_report::Fault;
-use qs_serve::{Due, bytes_of, due_without_threads};
+use qs_serve::{Due, bytes_of, details_of, due_without_threads};
 use std::alloc::{AllocError, Global};
 use std::str;
 
@@ -40,16 +40,25 @@ fn line_of<'a>(alloc: Global, word: &'a str, text: &'a str) -> Result<Vec<&'a st
     Ok(words)
 }
 
-// What is due by a word, a text of further words and a script, and in which format.
-fn due_of_words(alloc: Global, word: &str, words: &[u8], script: &[u8]) -> (Due, Format)
+// What is due by a word, a text of further words and a script, in which format, and what a refusal as JSON says of why
+// and where.
+fn due_of_words(alloc: Global, word: &str, words: &[u8], script: &[u8]) -> (Due, Format, Vec<u8>)
     ensures due { IsDueOfWords word.now words.now script.now result.0 result.1 }
 {
     let Ok(text) = str::from_utf8(words) else {
-        return (Due::Refused(Fault::CommandLine), Format::Text);
+        return (
+            Due::Refused(Fault::CommandLine),
+            Format::Text,
+            Vec::new(alloc),
+        );
     };
     match line_of(alloc, word, text) {
-        Ok(line) => due_without_threads(alloc, line.as_slice(), script),
-        Err(_) => (Due::Refused(Fault::Memory), Format::Text),
+        Ok(line) => {
+            let (due, format) = due_without_threads(alloc, line.as_slice(), script);
+            let details = details_of(alloc, line.as_slice(), script, format, &due);
+            (due, format, details)
+        }
+        Err(_) => (Due::Refused(Fault::Memory), Format::Text, Vec::new(alloc)),
     }
 }
 
@@ -75,9 +84,11 @@ pub(crate) fn answered(
 ) -> usize
     ensures answer { IsAnswered word.now words.now script.now room.old room.new status.new result }
 {
-    let (due, format) = due_of_words(alloc, word, words, script);
+    let (due, format, details) = due_of_words(alloc, word, words, script);
     *status = due.status();
-    match bytes_of(alloc, format, due) {
+    let bytes = bytes_of(alloc, format, details.as_slice(), due);
+    drop(details);
+    match bytes {
         Ok(bytes) => put_text(bytes.as_slice(), room),
         Err(_) => {
             *status = Due::Refused(Fault::Memory).status();

@@ -16,10 +16,11 @@ refusal words line =
     ∙ append_assoc words quote (line ++ codes "}}\n") in
     ap (λ l. codes "{\"refused\":{\"fault\":\"" ++ l) (sym body)
 
--- the text of a fault, by its words and its place
-pub refusal_of : (fault : Fault) (words : List ℕ) (place : Option ℕ) → words ≡ fault_words fault → place ≡ fault_place fault
-    → codes "{\"refused\":{\"fault\":\"" ++ (words ++ (codes "\"" ++ (line_json place ++ codes "}}\n"))) ≡ fault_json fault
-refusal_of fault words place is at =
-    refusal words (line_json place)
-    ∙ ap₂ (λ (w : List ℕ) (p : Option ℕ). first_field (codes "refused") (first_field (codes "fault") (quoted w) ++ line_json p ++ codes "}") ++ codes "}\n")
+-- the text of a fault, by its words, its place and further fields
+pub refusal_of : (fault : Fault) (words : List ℕ) (place : Option ℕ) (details : List ℕ) → words ≡ fault_words fault → place ≡ fault_place fault
+    → codes "{\"refused\":{\"fault\":\"" ++ (words ++ (codes "\"" ++ (line_json place ++ (details ++ codes "}}\n")))) ≡ fault_json fault details
+refusal_of fault words place details is at =
+    ap (λ l. codes "{\"refused\":{\"fault\":\"" ++ (words ++ (codes "\"" ++ l))) (sym (append_assoc (line_json place) details (codes "}}\n")))
+    ∙ refusal words (line_json place ++ details)
+    ∙ ap₂ (λ (w : List ℕ) (p : Option ℕ). first_field (codes "refused") (first_field (codes "fault") (quoted w) ++ (line_json p ++ details) ++ codes "}") ++ codes "}\n")
     is at

@@ -3,7 +3,7 @@
 ghost use Rattle.std.specs.Prelude.{◌≡◌};
 ghost use Rattle.qs_line.specs.audit.Apart.{is_flag, name_of};
 
-/// A setting that does not stand beside some other.
+/// A setting that does not stand beside some other, or beside some format.
 #[derive(Clone, Copy, Debug)]
 pub enum Setting {
     /// Whose blocks run, one whole block after another.
@@ -79,11 +79,9 @@ impl Setting {
 }
 
 /// Settings that do not stand together on a line: no two of a pair.
-pub const APART: [(Setting, Setting); 10] = [
+pub const APART: [(Setting, Setting); 8] = [
     (Setting::Order, Setting::Pick),
     (Setting::Order, Setting::Rounds),
-    (Setting::Order, Setting::Steps),
-    (Setting::Order, Setting::Queues),
     (Setting::Times, Setting::Counts),
     (Setting::Times, Setting::Refusals),
     (Setting::Alike, Setting::Ends),

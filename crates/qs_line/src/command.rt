@@ -26,14 +26,18 @@ fn question_option<'a>(alloc: Global, name: &'a str, value: &'a str, said: &'a s
     ensures rule { rule_of result ≡ condition_rule name.entry.now }
     ensures local { result.global ≡ false }
 {
-    option(alloc, name, value, said).action(ArgAction::Append)
+    option(alloc, name, value, said)
+        .action(ArgAction::Append)
+        .help_heading(help::QUESTIONS)
 }
 
 fn mode_option<'a>(alloc: Global) -> Arg<'a>
     ensures rule { rule_of result ≡ defaulted_rule (codes "mode") (codes "both") }
     ensures local { result.global ≡ false }
 {
-    option(alloc, "mode", "M", help::MODE).default_value("both")
+    option(alloc, "mode", "M", help::MODE)
+        .default_value("both")
+        .help_heading(help::MACHINE)
 }
 
 fn chunk_option<'a>(alloc: Global) -> Arg<'a>
@@ -43,6 +47,7 @@ fn chunk_option<'a>(alloc: Global) -> Arg<'a>
     option(alloc, "chunk", "N", help::CHUNK)
         .default_value("8")
         .value_parser(value_parser!(u8).range(1..=32))
+        .help_heading(help::MACHINE)
 }
 
 fn limit_option<'a>(alloc: Global) -> Arg<'a>
@@ -52,6 +57,7 @@ fn limit_option<'a>(alloc: Global) -> Arg<'a>
     option(alloc, "limit", "N", help::LIMIT)
         .default_value("1000000")
         .value_parser(value_parser!(u32).range(1..=4294967295))
+        .help_heading(help::SEARCH)
 }
 
 fn times_option<'a>(alloc: Global) -> Arg<'a>
@@ -78,7 +84,25 @@ fn threads_option<'a>(alloc: Global) -> Arg<'a>
     ensures rule { rule_of result ≡ threads_rule }
     ensures local { result.global ≡ false }
 {
-    option(alloc, "threads", "N", help::THREADS).value_parser(value_parser!(u32).range(1..=64))
+    option(alloc, "threads", "N", help::THREADS)
+        .value_parser(value_parser!(u32).range(1..=64))
+        .help_heading(help::SEARCH)
+}
+
+// A flag that says what is shown.
+fn shown_flag<'a>(alloc: Global, name: &'a str, said: &'a str) -> Arg<'a>
+    ensures rule { rule_of result ≡ flag_rule name.entry.now }
+    ensures local { result.global ≡ false }
+{
+    flag(alloc, name, said).help_heading(help::SHOWN)
+}
+
+// A setting that says whose blocks or steps come, or came before.
+fn list_option<'a>(alloc: Global, name: &'a str, value: &'a str, said: &'a str) -> Arg<'a>
+    ensures rule { rule_of result ≡ option_rule name.entry.now }
+    ensures local { result.global ≡ false }
+{
+    option(alloc, name, value, said).help_heading(help::WHO)
 }
 
 fn flag<'a>(alloc: Global, name: &'a str, said: &'a str) -> Arg<'a>
@@ -120,9 +144,9 @@ fn scheduled<'a>(alloc: Global, command: Command<'a>) -> Result<Command<'a>, All
     ensures local { IfOk result (λ whole. (fields_of whole).has_globals ≡ false) }
 {
     command
-        .arg(option(alloc, "rounds", "N", help::ROUNDS))?
-        .arg(option(alloc, "pick", "LIST", help::PICK))?
-        .arg(option(alloc, "order", "LIST", help::ORDER))
+        .arg(list_option(alloc, "rounds", "N", help::ROUNDS))?
+        .arg(list_option(alloc, "pick", "LIST", help::PICK))?
+        .arg(list_option(alloc, "order", "LIST", help::ORDER))
 }
 
 // With the settings that say what a report shows beside the requests.
@@ -132,8 +156,8 @@ fn shown<'a>(alloc: Global, command: Command<'a>) -> Result<Command<'a>, AllocEr
     ensures local { IfOk result (λ whole. (fields_of whole).has_globals ≡ false) }
 {
     command
-        .arg(flag(alloc, "counts", help::COUNTS))?
-        .arg(flag(alloc, "refusals", help::REFUSALS))
+        .arg(shown_flag(alloc, "counts", help::COUNTS))?
+        .arg(shown_flag(alloc, "refusals", help::REFUSALS))
 }
 
 // With the settings of a run that is played: who goes when, and whether the counts, what was refused, the steps and the
@@ -145,8 +169,8 @@ fn planned<'a>(alloc: Global, command: Command<'a>) -> Result<Command<'a>, Alloc
 {
     let scheduled = scheduled(alloc, command)?;
     shown(alloc, scheduled)?
-        .arg(flag(alloc, "steps", help::STEPS))?
-        .arg(flag(alloc, "queues", help::QUEUES))
+        .arg(shown_flag(alloc, "steps", help::STEPS))?
+        .arg(shown_flag(alloc, "queues", help::QUEUES))
 }
 
 fn check_command<'a>(alloc: Global) -> Result<Command<'a>, AllocError>
@@ -210,7 +234,7 @@ fn syncs_command<'a>(alloc: Global) -> Result<Command<'a>, AllocError>
     ensures local { IfOk result (λ command. (fields_of command).has_globals ≡ false) }
 {
     let syncs = word(alloc, "syncs", help::SYNCS, help::SYNCS_EXAMPLE);
-    let ordered = syncs.arg(option(alloc, "order", "LIST", help::ORDER))?;
+    let ordered = syncs.arg(list_option(alloc, "order", "LIST", help::ORDER))?;
     shared(alloc, ordered, help::FORMAT)
 }
 
@@ -258,7 +282,7 @@ fn after<'a>(alloc: Global, command: Command<'a>) -> Result<Command<'a>, AllocEr
     ensures app { IfOk result (λ whole. app_of whole ≡ after_app (app_of command.entry)) }
     ensures local { IfOk result (λ whole. (fields_of whole).has_globals ≡ false) }
 {
-    command.arg(option(alloc, "after", "LIST", help::AFTER))
+    command.arg(list_option(alloc, "after", "LIST", help::AFTER))
 }
 
 // With the settings of a search.
@@ -276,8 +300,8 @@ fn outcomes_command<'a>(alloc: Global) -> Result<Command<'a>, AllocError>
 {
     let outcomes = word(alloc, "outcomes", help::OUTCOMES, help::OUTCOMES_EXAMPLE);
     let listed = search(alloc, outcomes)?
-        .arg(flag(alloc, "ends", help::ENDS))?
-        .arg(flag(alloc, "alike", help::ALIKE))?
+        .arg(shown_flag(alloc, "ends", help::ENDS))?
+        .arg(shown_flag(alloc, "alike", help::ALIKE))?
         .arg(threads_option(alloc))?;
     shared(alloc, listed, help::OUTCOMES_FORMAT)
 }
@@ -298,7 +322,7 @@ fn fronts_command<'a>(alloc: Global) -> Result<Command<'a>, AllocError>
     let fronts = word(alloc, "fronts", help::FRONTS, help::FRONTS_EXAMPLE).arg(blocks_argument(
         alloc,
     ))?;
-    let led = search(alloc, fronts)?.arg(option(alloc, "leads", "LISTS", help::LEADS))?;
+    let led = search(alloc, fronts)?.arg(list_option(alloc, "leads", "LISTS", help::LEADS))?;
     shared(alloc, led, help::FORMAT)
 }
 

@@ -85,7 +85,7 @@ Examples:
 
 An actor is a client or an object, by number or by name with an @ before it: c1 or @bob, h0 or @a.
 `@bob*2` stands for `@bob,@bob`; after a number there is no `*`. An order stands without picks and
-rounds. Steps and queues are told beside a report that is text, and not beside an order."
+rounds. Steps and queues are told beside a report that is text or JSON."
 );
 
 pub const PLAY: &str = "Plays the script on the optimised machine: lanes of chunks, and coalescing";
@@ -100,7 +100,7 @@ Examples:
 
 An actor is a client or an object, by number or by name with an @ before it: c1 or @bob, h0 or @a.
 `@bob*2` stands for `@bob,@bob`; after a number there is no `*`. An order stands without picks and
-rounds. Steps and queues are told beside a report that is text, and not beside an order.
+rounds. Steps and queues are told beside a report that is text or JSON.
 
 Along one order of reservations neither the mode nor the size of chunks changes what a block sees.
 They change how many synchronisations are sent, and may change who comes first."
@@ -219,6 +219,18 @@ Examples:
   qs estimate --after @bob,@ann < my.script
       the same after a block of bob and then one of ann"
 );
+
+// Headings of settings.
+
+pub const WHO: &str = "Who goes when";
+
+pub const SHOWN: &str = "What is shown";
+
+pub const MACHINE: &str = "The machine";
+
+pub const SEARCH: &str = "The search";
+
+pub const QUESTIONS: &str = "Questions";
 
 pub const FORMAT: &str = "How it is written: text or json";
 

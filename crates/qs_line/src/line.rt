@@ -106,10 +106,10 @@ pub struct ReportStyle {
     pub refusals: bool,
     /// As text, as JSON or as a picture.
     pub format: ReportFormat,
-    /// Whether a line for each step stands before it: only where a schedule is played and the report is text.
+    /// Whether a line for each step stands before it: only where the run is played and the report is no picture.
     pub steps: bool,
-    /// Whether, after the report of a run that has not finished, stands what lies where and who waits: only where steps
-    /// may be told.
+    /// Whether, after the report, stands what lies where and who waits, in text of a run that has not finished: only
+    /// where steps may be told.
     pub queues: bool,
 }
 

@@ -134,6 +134,23 @@ fn told<'a>(
     }
 }
 
+/// The text of what is said of a fault; nothing of a read that failed.
+pub(crate) fn told_whole<'a>(
+    alloc: Global,
+    words: &'a [&'a str],
+    text: &[u8],
+    fault: &Fault,
+) -> Result<Vec<u8>, AllocError> {
+    match plain_words(fault, draws(words)) {
+        Some(plain) => {
+            let mut out = Vec::new(alloc);
+            out.extend_from_slice(plain)?;
+            Ok(out)
+        }
+        None => told(alloc, words, text, fault),
+    }
+}
+
 // Writes that the input could not be read, and why, where that is known.
 fn tell_input<W: Write>(alloc: Global, why: Option<&io::Error>, err: &mut W)
     ensures told { IsInputTold (W.contents err.old) (W.contents err.new) }

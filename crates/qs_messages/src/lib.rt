@@ -2,6 +2,7 @@
 #![tactic(auto)]
 
 mod causes;
+mod details;
 mod fault;
 mod limit_use;
 mod limits;
@@ -9,6 +10,7 @@ mod line_causes;
 mod warned;
 mod warnings;
 
+pub use details::fault_details;
 pub use fault::tell_fault;
 pub use limit_use::{TemplateUse, template_use};
 pub use limits::tell_limits;

@@ -13,4 +13,5 @@ mod unknown;
 
 pub use order::{put_front, put_order};
 pub use pick::put_pick;
+pub(crate) use refused::is_of_claims;
 pub use refused::put_refused;

@@ -336,8 +336,8 @@ impl<'p> Machine<'p> {
         }
     }
 
-    // Whether a client stands between two blocks.
-    fn is_out(&self, number: u8) -> bool
+    /// Whether a client stands between two blocks.
+    pub(crate) fn is_out(&self, number: u8) -> bool
         ensures value { result ≡ is_out (the_client (plain_of self.now) number).stage }
     {
         match self.clients.get(usize::from(number)) {
@@ -346,8 +346,8 @@ impl<'p> Machine<'p> {
         }
     }
 
-    // How many blocks a client has begun.
-    fn begun(&self, number: u8) -> usize
+    /// How many blocks a client has begun.
+    pub(crate) fn begun(&self, number: u8) -> usize
         ensures value { result ≡ blocks_begun self.now number }
     {
         match self.clients.get(usize::from(number)) {

@@ -208,8 +208,8 @@ module _ {S : Type 0} (Answers : S → ℕ → Bool → S → Type 0) (before af
   -- what a starter was asked can be left unsaid
   pub serves_of : (words : List (List ℕ)) (input rest : Reading) (old new : Option (List ℕ)) (failed : Bool) (status : ℕ)
       → ServesStarting Answers before after words input rest old new failed status → Serves words input rest old new failed status
-  serves_of words input rest old new failed status (due, how, is, formatted, asked, front, ending) =
-      (due, how, is, formatted, front, ending)
+  serves_of words input rest old new failed status (due, how, details, is, formatted, asked, front, ending) =
+      (due, how, details, is, formatted, front, ending)
 
   -- what a tally has asked, whatever is due of it
   pub asked_times : (how : Format) (p : ProgramShape) (times : ℕ) (t : TallyShape) (due : Due) → IsCounted how p times t due

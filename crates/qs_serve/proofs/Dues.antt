@@ -2,8 +2,8 @@
 -- text, the report of a run is due where the line asked for that run, and what is due of the program of a text is due of
 -- the text. The function `serve` and those that find what is due stand on it. Each goes by cases on what the line asks
 -- for and on the answer.
-use Rattle.std.proofs.Common.{◌≡◌, ◌≤◌, ◌⊎◌, ◌||◌, if◌then◌else◌, ℕ, Bool, List, [], ◌∷◌, ◌∙◌, Option, Some, None, Result, Ok, true, false, refl, sym, subst, inl, inr, IsOkAnd}
-use Rattle.std.specs.Prelude.{is_some}
+use Rattle.std.proofs.Common.{◌≡◌, ◌≤◌, ◌⊎◌, ◌||◌, if◌then◌else◌, ℕ, Bool, List, [], ◌∷◌, ◌∙◌, Option, Some, None, Result, Ok, Err, true, false, refl, sym, subst, inl, inr, IsOkAnd}
+use Rattle.std.specs.Prelude.{IsErrOf, is_some}
 use Rattle.std.proofs.lemmas.List.{append-nil}
 use Rattle.qs_played.specs.audit.Played.{Played}
 use Rattle.qs_report.specs.declared.faults.Fault.{Fault}
@@ -15,6 +15,7 @@ use Rattle.qs_played.specs.declared.fault.PlayFault.TheVariants as play_fault
 use Rattle.qs_program.specs.audit.Program.{ProgramShape}
 use Rattle.qs_serial.specs.audit.NamedOrders.{order_of}
 use Rattle.qs_serial.specs.declared.fault.OrderFault.TheVariants as order_fault
+use Rattle.qs_serial.specs.declared.fault.OrderFault.{OrderFault}
 use Rattle.qs_outcomes.specs.Outcomes.{AreOutcomesAfter, OutcomesShape}
 use Rattle.qs_outcomes.specs.declared.fault.OutcomesFault.TheVariants as outcomes_fault
 use Rattle.qs_script.specs.declared.tree.tree.Item.{Item}
@@ -66,7 +67,7 @@ use Rattle.qs_core.specs.state.CoreState.{IsShownIsolated}
 use Rattle.qs_played.specs.Isolation.{IsIsolated}
 use Rattle.qs_serve.specs.audit.RunReports.{report_by}
 use Rattle.qs_serve.specs.audit.Due.{told_report}
-use Rattle.qs_serve.specs.Due.{AreLinesFor, AreLinesWhere, AreValuesDue, IsAnswerAfterDue, IsAnswered, IsClaimAnswer, IsCounted, IsDue, IsDueAfter, answer_in, most_numbered, IsDueOfProgram, IsDueOfWhole, IsListOf, IsOutOfMemory, IsProgramOf, IsRefusedBy, IsReportBetween, IsReportOf, IsSomeText, IsTextBy, IsTextOfOutcomes, Lines, IsUnanswered, IsUnlisted, due_status, limit_in, listed_as, values_in, IsTextOfList, IsValuesAnswer}
+use Rattle.qs_serve.specs.Due.{AreLinesFor, AreLinesWhere, AreValuesDue, IsAnswerAfterDue, IsAnswered, IsClaimAnswer, IsCounted, IsDue, IsDueAfter, answer_in, most_numbered, IsDueOfProgram, IsDueOfWhole, IsListOf, IsOutOfMemory, IsProgramOf, IsRefusedBy, IsUnordered, IsReportBetween, IsReportOf, IsSomeText, IsTextBy, IsTextOfOutcomes, Lines, IsUnanswered, IsUnlisted, due_status, limit_in, listed_as, values_in, IsTextOfList, IsValuesAnswer}
 use Rattle.qs_serve.specs.declared.due.Due.{Due}
 use Rattle.qs_serve.specs.declared.due.Due.TheVariants.{Text, No, Refused}
 
@@ -167,12 +168,14 @@ due_by_report request style p played (Text bytes) by is = inr (by bytes.items is
 due_by_report request style p played (No bytes) by is = absurd is
 due_by_report request style p played (Refused f) by is = inl (subst (λ g. IsOutOfMemory (Refused g)) (sym is) tt)
 
--- where no lines are asked for, none stand beside a report
-pub no_lines : (asked : Bool) (Are : List ℕ → Type 0) → Are [] → AreLinesWhere asked Are []
-no_lines true Are are = are
-no_lines false Are are = refl
+-- an order that is refused for what it is
+pub unordered : {A : Type 0} (p : ProgramShape) (clients : List ℕ) (r : Result A OrderFault) (f : OrderFault) → r ≡ Err f
+    → (IsErrOf r order_fault.Order → ¬ IsLegal p (order_of clients)) → (IsErrOf r order_fault.Memory → IsLegal p (order_of clients))
+    → IsUnordered p clients f
+unordered p clients r order_fault.Order is illegal legal = illegal is
+unordered p clients r order_fault.Memory is illegal legal = legal is
 
--- and none where neither steps nor queues are asked for
+-- where neither steps nor queues are asked for, none stand beside a report
 pub no_steps : (steps queues : Bool) (Are : List ℕ → Type 0) → (steps || queues) ≡ false → AreLinesWhere steps Are []
 no_steps true queues Are none = absurd (cc none)
 no_steps false queues Are none = refl

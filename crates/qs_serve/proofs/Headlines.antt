@@ -209,30 +209,30 @@ of_known : (known : Option (List ℕ)) (P Q : List ℕ → Type 0) → ((bytes :
 of_known None P Q goes is = tt
 of_known (Some bytes) P Q goes is = goes bytes is
 
-by_whole : (request : Request) (style : ReportStyle) (text : List ℕ) (old new : Option (List ℕ)) (how : Format) (due : Due)
-    → style_of request ≡ Some style → 0 ≡ due_status due → IsDueOfWhole request text due → Appends old new (due_text how due)
+by_whole : (request : Request) (style : ReportStyle) (text : List ℕ) (old new : Option (List ℕ)) (how : Format) (details : List ℕ) (due : Due)
+    → style_of request ≡ Some style → 0 ≡ due_status due → IsDueOfWhole request text due → Appends old new (due_text how details due)
     → IsReported request style text old new
-by_whole request style text old new how (Text bytes) e zero (s, script, accepted, is) written =
+by_whole request style text old new how details (Text bytes) e zero (s, script, accepted, is) written =
     by_request request style text bytes.items old new s e script accepted is written
-by_whole request style text old new how (No bytes) e zero is written = absurd (cc zero)
-by_whole request style text old new how (Refused f) e zero is written = absurd (zero_is_none f (sym zero))
+by_whole request style text old new how details (No bytes) e zero is written = absurd (cc zero)
+by_whole request style text old new how details (Refused f) e zero is written = absurd (zero_is_none f (sym zero))
 
-by_due : (request : Request) (style : ReportStyle) (text : List ℕ) (old new : Option (List ℕ)) (how : Format) (due : Due)
-    → style_of request ≡ Some style → 0 ≡ due_status due → IsDueOfText request text due → Appends old new (due_text how due)
+by_due : (request : Request) (style : ReportStyle) (text : List ℕ) (old new : Option (List ℕ)) (how : Format) (details : List ℕ) (due : Due)
+    → style_of request ≡ Some style → 0 ≡ due_status due → IsDueOfText request text due → Appends old new (due_text how details due)
     → IsReported request style text old new
-by_due request style text old new how due e zero is written =
-    by_whole request style text old new how due e zero
+by_due request style text old new how details due e zero is written =
+    by_whole request style text old new how details due e zero
     (subst (λ r. IsDueOfWhole r text due) (with_no_claims request style (claims_of_script text) e) is) written
 
 -- the headline
 pub headline : (words : List (List ℕ)) (before after : Reading) (old new : Option (List ℕ)) (failed : Bool) (status : ℕ)
     → Serves words before after old new failed status → status ≡ 0 → IsHeadline words before.remaining old new
-headline words before after old new failed status (due, how, is_due, formatted, front, ending) zero request style asked e =
+headline words before after old new failed status (due, how, details, is_due, formatted, front, ending) zero request style asked e =
     let all = done _ failed status (due_status due) ending (λ four. absurd (cc (zero, four))) in
     let none = not_refused 0 due (λ f z. zero_is_none f (sym z)) (sym zero ∙ all.1) in
     let of_line = subst (λ l. IsDue l before.remaining after.has_failed due) (runs_are_lines words request asked) is_due in
     of_known before.remaining _ _
-    (λ bytes is. by_due request style (take longest bytes) old new how due e (sym zero ∙ all.1) is all.0)
+    (λ bytes is. by_due request style (take longest bytes) old new how details due e (sym zero ∙ all.1) is all.0)
     (text_due request before.remaining after.has_failed due of_line none)
 
 -- an answer, as text or as JSON
@@ -311,18 +311,18 @@ by_answers claims how limit front hold text bytes old new s script accepted have
       answers = true_answers (program_of_items s) (sound_script text s script accepted) how limit front who.0 who.1 claims have hold bytes who.2;
     }
 
-answered_due : (claims : List Question) (how shown : Format) (limit : ℕ) (front : List Part) (hold : Bool) (text : List ℕ)
+answered_due : (claims : List Question) (how shown : Format) (details : List ℕ) (limit : ℕ) (front : List Part) (hold : Bool) (text : List ℕ)
     (old new : Option (List ℕ)) (due : Due) → AllByRecursion IsOfCondition claims
     → (if hold then 0 else 1) ≡ due_status due → IsDueOfWhole (ask claims how limit front) text due
-    → Appends old new (due_text shown due) → AreAnsweredTruly claims how front hold text old new
-answered_due claims how shown limit front true text old new (Text bytes) have e (s, script, accepted, is) written =
+    → Appends old new (due_text shown details due) → AreAnsweredTruly claims how front hold text old new
+answered_due claims how shown details limit front true text old new (Text bytes) have e (s, script, accepted, is) written =
     by_answers claims how limit front true text bytes.items old new s script accepted have is written
-answered_due claims how shown limit front true text old new (No bytes) have e is written = absurd (cc e)
-answered_due claims how shown limit front true text old new (Refused f) have e is written = absurd (zero_is_none f (sym e))
-answered_due claims how shown limit front false text old new (Text bytes) have e is written = absurd (cc e)
-answered_due claims how shown limit front false text old new (No bytes) have e (s, script, accepted, is) written =
+answered_due claims how shown details limit front true text old new (No bytes) have e is written = absurd (cc e)
+answered_due claims how shown details limit front true text old new (Refused f) have e is written = absurd (zero_is_none f (sym e))
+answered_due claims how shown details limit front false text old new (Text bytes) have e is written = absurd (cc e)
+answered_due claims how shown details limit front false text old new (No bytes) have e (s, script, accepted, is) written =
     by_answers claims how limit front false text bytes.items old new s script accepted have is written
-answered_due claims how shown limit front false text old new (Refused f) have e is written = absurd (one_is_none f (sym e))
+answered_due claims how shown details limit front false text old new (Refused f) have e is written = absurd (one_is_none f (sym e))
 
 -- a status of yes or no is not that of a fault, and not that of a failed write
 no_fault : (holds : Bool) (f : Fault) → (if holds then 0 else 1) ≡ due_status (Refused f) → ⊥
@@ -346,12 +346,12 @@ asked_have (claim ∷ claims) found own others = own
 
 pub answers : (words : List (List ℕ)) (before after : Reading) (old new : Option (List ℕ)) (failed : Bool) (status : ℕ)
     → Serves words before after old new failed status → AreAnswersTrue words before.remaining old new status
-answers words before after old new failed status (due, how, is_due, formatted, front, ending) claims shown limit clients line holds e =
+answers words before after old new failed status (due, how, details, is_due, formatted, front, ending) claims shown limit clients line holds e =
     let all = done _ failed status (due_status due) ending (no_four holds status e) in
     let none = not_refused (if holds then 0 else 1) due (no_fault holds) (sym e ∙ all.1) in
     let of_line = subst (λ l. IsDue l before.remaining after.has_failed due) line is_due in
     of_known before.remaining _ _
-    (λ bytes is. answered_due (questions_or claims (claims_of_script (take longest bytes))) shown how limit clients holds
+    (λ bytes is. answered_due (questions_or claims (claims_of_script (take longest bytes))) shown how details limit clients holds
     (take longest bytes) old new due
     (asked_have claims (claims_of_script (take longest bytes)) (claims_have_conditions words (ask claims shown limit clients) line)
     (found_have (claims_in (take longest bytes)) (script_claims_have_conditions (take longest bytes))))
@@ -412,9 +412,9 @@ module _ (p : ProgramShape) (sound : IsSound p) where
   )
   true_of_runs _ own lines bytes is = tt
 
-listed_due : (request : Request) (shown : Format) (text : List ℕ) (old new : Option (List ℕ)) (due : Due)
-    → 0 ≡ due_status due → IsDueOfText request text due → Appends old new (due_text shown due) → IsTrueList request text old new
-listed_due request shown text old new (Text bytes) e (s, script, accepted, is) written = record {
+listed_due : (request : Request) (shown : Format) (details : List ℕ) (text : List ℕ) (old new : Option (List ℕ)) (due : Due)
+    → 0 ≡ due_status due → IsDueOfText request text due → Appends old new (due_text shown details due) → IsTrueList request text old new
+listed_due request shown details text old new (Text bytes) e (s, script, accepted, is) written = record {
   script = s;
   read = script;
   accepted = accepted;
@@ -422,17 +422,17 @@ listed_due request shown text old new (Text bytes) e (s, script, accepted, is) w
   written = written;
   of_runs = true_of_runs (program_of_items s) (sound_script text s script accepted) request (claims_of_script text) (node_lines text s) bytes.items is;
 }
-listed_due request shown text old new (No bytes) e is written = absurd (cc e)
-listed_due request shown text old new (Refused f) e is written = absurd (zero_is_none f (sym e))
+listed_due request shown details text old new (No bytes) e is written = absurd (cc e)
+listed_due request shown details text old new (Refused f) e is written = absurd (zero_is_none f (sym e))
 
 pub lists : (words : List (List ℕ)) (before after : Reading) (old new : Option (List ℕ)) (failed : Bool) (status : ℕ)
     → Serves words before after old new failed status → status ≡ 0 → AreListsTrue words before.remaining old new
-lists words before after old new failed status (due, how, is_due, formatted, front, ending) zero request line =
+lists words before after old new failed status (due, how, details, is_due, formatted, front, ending) zero request line =
     let all = done _ failed status (due_status due) ending (λ four. absurd (cc (zero, four))) in
     let none = not_refused 0 due (λ f z. zero_is_none f (sym z)) (sym zero ∙ all.1) in
     let of_line = subst (λ l. IsDue l before.remaining after.has_failed due) line is_due in
     of_known before.remaining _ _
-    (λ bytes is. listed_due request how (take longest bytes) old new due (sym zero ∙ all.1) is all.0)
+    (λ bytes is. listed_due request how details (take longest bytes) old new due (sym zero ∙ all.1) is all.0)
     (text_due request before.remaining after.has_failed due of_line none)
 
 -- Where there are no threads, a text that is due is due of the script's text.
@@ -446,11 +446,11 @@ due_of_text request text bytes (inl memory) = absurd memory
 due_of_text request text bytes (inr is) = picked (takes_threads request) _ is
 
 -- the headline of what is due by a line and a script's text
-pub headline_alone : (line : Line) (text : List ℕ) (due : Due) (how : Format) → IsDueOfLine line text due → 0 ≡ due_status due
+pub headline_alone : (line : Line) (text : List ℕ) (due : Due) (how : Format) (details : List ℕ) → IsDueOfLine line text due → 0 ≡ due_status due
     → (request : Request) (style : ReportStyle) → line ≡ asks request → style_of request ≡ Some style
-    → IsReported request style text (Some []) (Some (due_text how due))
-headline_alone line text (Text bytes) how is zero request style asked e =
-    by_due request style text (Some []) (Some bytes.items) how (Text bytes) e zero
+    → IsReported request style text (Some []) (Some (due_text how details due))
+headline_alone line text (Text bytes) how details is zero request style asked e =
+    by_due request style text (Some []) (Some bytes.items) how details (Text bytes) e zero
     (due_of_text request text bytes (subst (λ l. IsDueOfLine l text (Text bytes)) asked is)) refl
-headline_alone line text (No bytes) how is zero request style asked e = absurd (cc zero)
-headline_alone line text (Refused f) how is zero request style asked e = absurd (zero_is_none f (sym zero))
+headline_alone line text (No bytes) how details is zero request style asked e = absurd (cc zero)
+headline_alone line text (Refused f) how details is zero request style asked e = absurd (zero_is_none f (sym zero))

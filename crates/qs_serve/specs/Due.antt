@@ -73,6 +73,7 @@ use Rattle.qs_played.specs.declared.fault.PlayFault.{PlayFault}
 use Rattle.qs_played.specs.declared.fault.RunFault.{RunFault}
 use Rattle.qs_played.specs.audit.Played.{Played}
 use Rattle.qs_played.specs.audit.Schedule.{most_rounds}
+use Rattle.qs_played.specs.declared.schedule.actor.Actor.{Actor}
 use Rattle.qs_objects.specs.declared.held.Ticket.{Ticket}
 use Rattle.qs_syncset.specs.declared.mode.Mode.{Mode}
 use Rattle.qs_syncset.specs.declared.mode.Mode.TheVariants.{Both}
@@ -81,6 +82,7 @@ use Rattle.qs_report.specs.SyncsText.{syncs_text}
 use Rattle.qs_json.specs.SyncsJson.{syncs_json}
 use Rattle.qs_steps.specs.CoreQueues.{core_queues}
 use Rattle.qs_steps.specs.CoreSteps.{core_steps}
+use Rattle.qs_steps.specs.Orders.{PlayOrder, PlayOrderIn, core_order_queues, core_order_steps, plain_order_queues, plain_order_steps}
 use Rattle.qs_steps.specs.PlainQueues.{plain_queues}
 use Rattle.qs_steps.specs.PlainSteps.{plain_steps}
 use Rattle.qs_run_laws.specs.Outcomes.{IsOutcome}
@@ -119,15 +121,15 @@ use Rattle.qs_serve.specs.declared.due.Due.{Due}
 use Rattle.qs_serve.specs.declared.due.Due.TheVariants.{Text, No, Refused}
 use Rattle.qs_serve.specs.audit.Due.{told_report, longest}
 
--- a refusal, as text or as JSON
-abbrev pub refusal_in : Format → Fault → List ℕ
-refusal_in format.Text f = fault_text f
-refusal_in format.Json f = fault_json f
+-- a refusal, as text, or as JSON with further fields, which say in words why and where
+abbrev pub refusal_in : Format → (details : List ℕ) → Fault → List ℕ
+refusal_in format.Text details f = fault_text f
+refusal_in format.Json details f = fault_json f details
 
-abbrev pub due_text : Format → Due → List ℕ
-due_text how (Text bytes) = bytes.items
-due_text how (No bytes) = bytes.items
-due_text how (Refused f) = refusal_in how f
+abbrev pub due_text : Format → (details : List ℕ) → Due → List ℕ
+due_text how details (Text bytes) = bytes.items
+due_text how details (No bytes) = bytes.items
+due_text how details (Refused f) = refusal_in how details f
 
 abbrev pub due_status : Due → ℕ
 due_status (Text bytes) = 0
@@ -331,31 +333,39 @@ form_of report_format.Text = form.Text
 form_of report_format.Json = form.Json
 form_of report_format.Svg = form.Text
 
--- the lines of the steps of a schedule under the plain rules, by the actors that its picks name in the program; of an
--- order none are told
+-- the lines of the steps of a schedule under the plain rules, by the actors that its picks name in the program; or of
+-- actors that play the blocks of an order, one after another
 abbrev pub AreStepsOfRules : Form → PlanShape → ProgramShape → List ℕ → Type 0
 AreStepsOfRules how (by_schedule rounds picks) p lines =
     IsOkAnd (actors_of p picks) (λ actors. lines ≡ plain_steps how p actors rounds)
-AreStepsOfRules how (by_order list) p lines = lines ≡ []
+AreStepsOfRules how (by_order list) p lines =
+    IsOkAnd (clients_of p list) (λ clients. (actors : List Actor) × PlayOrder p (order_of clients) actors
+    × (lines ≡ plain_order_steps how p actors))
 
 -- and those of the queues at its end
 abbrev pub AreQueuesOfRules : Form → PlanShape → ProgramShape → List ℕ → Type 0
 AreQueuesOfRules how (by_schedule rounds picks) p lines =
     IsOkAnd (actors_of p picks) (λ actors. lines ≡ plain_queues how p actors rounds)
-AreQueuesOfRules how (by_order list) p lines = lines ≡ []
+AreQueuesOfRules how (by_order list) p lines =
+    IsOkAnd (clients_of p list) (λ clients. (actors : List Actor) × PlayOrder p (order_of clients) actors
+    × (lines ≡ plain_order_queues how p actors))
 
 -- the same in the optimised machine, by the codes of the mode
 abbrev pub AreStepsOfPlay : Form → Mode → ℕ → PlanShape → ProgramShape → List ℕ → Type 0
 AreStepsOfPlay how mode size (by_schedule rounds picks) p lines =
     IsOkAnd (actors_of p picks) (λ actors. (code : ℕ → ClientCode) × AreCodes p mode code
     × (lines ≡ core_steps how p code size actors rounds))
-AreStepsOfPlay how mode size (by_order list) p lines = lines ≡ []
+AreStepsOfPlay how mode size (by_order list) p lines =
+    IsOkAnd (clients_of p list) (λ clients. (code : ℕ → ClientCode) × AreCodes p mode code × (actors : List Actor)
+    × PlayOrderIn p code size (order_of clients) actors × (lines ≡ core_order_steps p code size how actors))
 
 abbrev pub AreQueuesOfPlay : Form → Mode → ℕ → PlanShape → ProgramShape → List ℕ → Type 0
 AreQueuesOfPlay how mode size (by_schedule rounds picks) p lines =
     IsOkAnd (actors_of p picks) (λ actors. (code : ℕ → ClientCode) × AreCodes p mode code
     × (lines ≡ core_queues how p code size actors rounds))
-AreQueuesOfPlay how mode size (by_order list) p lines = lines ≡ []
+AreQueuesOfPlay how mode size (by_order list) p lines =
+    IsOkAnd (clients_of p list) (λ clients. (code : ℕ → ClientCode) × AreCodes p mode code × (actors : List Actor)
+    × PlayOrderIn p code size (order_of clients) actors × (lines ≡ core_order_queues p code size how actors))
 
 -- what stands beside a report: lines of this kind where they are asked for, and else nothing
 abbrev pub AreLinesWhere : (asked : Bool) → (List ℕ → Type 0) → List ℕ → Type 0
@@ -896,20 +906,20 @@ IsKeptBy version known due kept = ⊤
 IsKeptBy refused known due kept = ⊤
 
 -- all of the due text was written, with its status
-abbrev pub IsDone : Format → Option (List ℕ) → Option (List ℕ) → Due → ℕ → Type 0
-IsDone how old new due status = Appends old new (due_text how due) × (status ≡ due_status due)
+abbrev pub IsDone : Format → (details : List ℕ) → Option (List ℕ) → Option (List ℕ) → Due → ℕ → Type 0
+IsDone how details old new due status = Appends old new (due_text how details due) × (status ≡ due_status due)
 
 -- a front of the due text was written; all of it, with its status, exactly where no write and no flush has failed
 abbrev pub Serves : List (List ℕ) → (before after : Reading) → Option (List ℕ) → Option (List ℕ) → Bool → ℕ → Type 0
 Serves words before after old new write_failed status =
-    (due : Due) × (how : Format) × IsDue (line_in words) before.remaining after.has_failed due
+    (due : Due) × (how : Format) × (details : List ℕ) × IsDue (line_in words) before.remaining after.has_failed due
     × IsFormat (line_in words) before after due how
-    × AppendsFront old new (due_text how due) × MatchBool write_failed (status ≡ 4) (IsDone how old new due status)
+    × AppendsFront old new (due_text how details due) × MatchBool write_failed (status ≡ 4) (IsDone how details old new due status)
 
 -- the same, with what a run on threads has asked its starter
 abbrev pub ServesStarting : {S : Type 0} → (S → ℕ → Bool → S → Type 0) → S → S → List (List ℕ)
     → (before after : Reading) → Option (List ℕ) → Option (List ℕ) → Bool → ℕ → Type 0
 ServesStarting Answers unasked asked words before after old new write_failed status =
-    (due : Due) × (how : Format) × IsDue (line_in words) before.remaining after.has_failed due
+    (due : Due) × (how : Format) × (details : List ℕ) × IsDue (line_in words) before.remaining after.has_failed due
     × IsFormat (line_in words) before after due how × IsStartedBy Answers (line_in words) before.remaining unasked asked due
-    × AppendsFront old new (due_text how due) × MatchBool write_failed (status ≡ 4) (IsDone how old new due status)
+    × AppendsFront old new (due_text how details due) × MatchBool write_failed (status ≡ 4) (IsDone how details old new due status)

@@ -62,23 +62,33 @@ pub fn due_without_threads<'a>(alloc: Global, words: &'a [&'a str], text: &[u8])
 }
 
 // The bytes of a refusal, in a format.
-fn bytes_of_refusal(alloc: Global, format: Format, fault: &Fault) -> Result<Vec<u8>, AllocError>
-    ensures bytes { IfOk result (λ bytes. bytes.items ≡ refusal_in format fault.now) }
+fn bytes_of_refusal(
+    alloc: Global,
+    format: Format,
+    details: &[u8],
+    fault: &Fault,
+) -> Result<Vec<u8>, AllocError>
+    ensures bytes { IfOk result (λ bytes. bytes.items ≡ refusal_in format details.now fault.now) }
 {
     let mut out = Vec::new(alloc);
-    if write_refusal(&mut out, &mut Watch::new(), format, fault) {
+    if write_refusal(&mut out, &mut Watch::new(), format, details, fault) {
         Ok(out)
     } else {
         Err(AllocError)
     }
 }
 
-/// The bytes of what is due, in a format. An error says that an allocation failed.
-pub fn bytes_of(alloc: Global, format: Format, due: Due) -> Result<Vec<u8>, AllocError>
-    ensures bytes { IfOk result (λ bytes. bytes.items ≡ due_text format due) }
+/// The bytes of what is due, in a format; a refusal as JSON has further fields. An error says that an allocation failed.
+pub fn bytes_of(
+    alloc: Global,
+    format: Format,
+    details: &[u8],
+    due: Due,
+) -> Result<Vec<u8>, AllocError>
+    ensures bytes { IfOk result (λ bytes. bytes.items ≡ due_text format details.now due) }
 {
     match due {
         Due::Text(bytes) | Due::No(bytes) => Ok(bytes),
-        Due::Refused(fault) => bytes_of_refusal(alloc, format, &fault),
+        Due::Refused(fault) => bytes_of_refusal(alloc, format, details, &fault),
     }
 }

@@ -29,3 +29,4 @@ pub use input::Counted;
 pub use qs_report::Fault;
 pub use qs_text::Watch;
 pub use serving::{Call, Terminals, refuse, serve, serve_with};
+pub use telling::details_of;

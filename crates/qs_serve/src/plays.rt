@@ -13,7 +13,7 @@ use qs_chunk::ChunkSize;
 use qs_core::{play, play_in_order, play_plain, play_plain_in_order};
 use qs_line::{Part, Plan, ReportFormat, ReportStyle, actors_of, clients_of};
 use qs_report::Fault;
-use qs_steps::{Form, Wanted, play_told, rules_told};
+use qs_steps::{Form, Wanted, play_order_told, play_told, rules_order_told, rules_told};
 use qs_syncset::Mode;
 use std::alloc::Global;
 
@@ -79,6 +79,13 @@ fn due_of_ordered_rules(alloc: Global, program: &Program, style: ReportStyle, li
         Ok(clients) => clients,
         Err(fault) => return due_of_list(fault),
     };
+    if is_told(style) {
+        let wanted = wanted_by(style);
+        return match rules_order_told(alloc, program, clients.as_slice(), wanted) {
+            Ok(told) => due_of_told(alloc, program, style, told),
+            Err(fault) => Due::Refused(Fault::Order(fault)),
+        };
+    }
     match play_plain_in_order(alloc, program, clients.as_slice()) {
         Ok(played) => due_of_played(alloc, program, style, played),
         Err(fault) => Due::Refused(Fault::Order(fault)),
@@ -153,6 +160,14 @@ fn due_of_ordered_play(
         Ok(clients) => clients,
         Err(fault) => return due_of_list(fault),
     };
+    if is_told(style) {
+        let wanted = wanted_by(style);
+        let clients = clients.as_slice();
+        return match play_order_told(alloc, program, mode, chunk, clients, wanted) {
+            Ok(told) => due_of_told(alloc, program, style, told),
+            Err(fault) => Due::Refused(Fault::Order(fault)),
+        };
+    }
     match play_in_order(alloc, program, mode, chunk, clients.as_slice()) {
         Ok(played) => due_of_played(alloc, program, style, played),
         Err(fault) => Due::Refused(Fault::Order(fault)),

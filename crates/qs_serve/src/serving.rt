@@ -1,6 +1,6 @@
 // The program over a reader and a writer.
 
-ghost use Rattle.std.specs.Prelude.{◌≡◌, ◌+◌, ◌≤◌, ◌⊎◌, false, None, map, IsTrue, MatchBool};
+ghost use Rattle.std.specs.Prelude.{◌≡◌, ◌+◌, ◌≤◌, ◌⊎◌, [], false, None, map, IsTrue, MatchBool};
 ghost use Rattle.std.specs.Io.KnownBytes.{Keeps};
 ghost use Rattle.qs_line.specs.Line.{is_verbose_in, line_in, request_by, warns_in};
 ghost use Rattle.qs_line.specs.declared.line.Format.TheVariants as format;
@@ -16,7 +16,7 @@ use crate::choosing::due_of_words;
 use crate::due::Due;
 use crate::input::Counted;
 use crate::output::finish;
-use crate::telling::{tell, tell_unread, tell_waiting};
+use crate::telling::{details_of, is_fine, tell, tell_unread, tell_waiting};
 use qs_line::Format;
 use qs_report::Fault;
 use qs_run::{FreeStart, Starter};
@@ -97,14 +97,15 @@ pub fn serve_with<
     tell_waiting(alloc, words, terminals, err);
     let mut text = Vec::new(alloc);
     let (due, format, it) = due_of_words(rt, words, input, &mut text, terminals.err, err, starter);
-    let status = finish(out, watch, format, &due);
+    let details = details_of(alloc, words, text.as_slice(), format, &due);
+    let status = finish(out, watch, format, details.as_slice(), &due);
     tell(
         alloc,
         words,
         text.as_slice(),
         &due,
         input.why(),
-        status != 4,
+        is_fine(status, watch),
         err,
     );
     tell_beside(alloc, words, text.as_slice(), &it, &due, terminals.err, err);
@@ -159,10 +160,10 @@ pub fn refuse<W: Write, E: Write>(
 ) -> u8
     requires fine { watch.old.has_failed ≡ false }
     ensures front { AppendsFront (W.contents out.old) (W.contents out.new) (fault_text fault) }
-    ensures status { MatchBool watch.new.has_failed (result ≡ 4) (IsDone format.Text (W.contents out.old) (W.contents out.new) (Due.Refused fault) result) }
+    ensures status { MatchBool watch.new.has_failed (result ≡ 4) (IsDone format.Text [] (W.contents out.old) (W.contents out.new) (Due.Refused fault) result) }
 {
     let due = Due::Refused(fault);
-    let status = finish(out, watch, Format::Text, &due);
+    let status = finish(out, watch, Format::Text, &[], &due);
     tell_unread(&due, err);
     status
 }

@@ -6,8 +6,8 @@ ghost use Rattle.qs_serve.specs.Due.{IsSomeText};
 
 use crate::due::Due;
 use crate::serving::Terminals;
-use qs_line::read_line;
-use qs_messages::tell_fault;
+use qs_line::{Format, read_line};
+use qs_messages::{fault_details, tell_fault};
 use qs_report::Fault;
 use qs_text::{Watch, write_text};
 use std::alloc::Global;
@@ -36,6 +36,30 @@ pub(crate) fn tell_waiting<'a, W: Write>(
         let mut watch = Watch::new();
         write_text(err, &mut watch, WAITING);
     }
+}
+
+/// The fields that a refusal as JSON has beside the fault: where it is and why, and what helps. None beside a result or
+/// a refusal as text, and where memory runs out.
+pub fn details_of<'a>(
+    alloc: Global,
+    words: &'a [&'a str],
+    text: &[u8],
+    format: Format,
+    due: &Due,
+) -> Vec<u8> {
+    if let (Due::Refused(fault), Format::Json) = (due, format) {
+        if let Ok(details) = fault_details(alloc, words, text, fault) {
+            return details;
+        }
+    }
+    Vec::new(alloc)
+}
+
+/// Whether nothing has to be said of the output: it was written, or its reader has closed its end of a pipe.
+pub(crate) fn is_fine<W>(status: u8, watch: &Watch<W>) -> bool
+    ensures fine { status ≡ 0 → IsTrue result }
+{
+    status != 4 || watch.is_closed()
 }
 
 /// Says why a run was refused, or that its output could not be written. Nothing, where neither is so. Of a read that

@@ -5,3 +5,4 @@ pub mod CoreTelling
 pub mod NamedSteps
 pub mod Queues
 pub mod CoreQueuesText
+pub mod OrdersTold

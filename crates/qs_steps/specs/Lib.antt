@@ -10,4 +10,5 @@ pub mod CoreQueues
 -- What crates promise one another, what proofs use, and worked examples.
 pub mod StepReplays
 pub mod Telling
+pub mod Orders
 pub mod StepNames

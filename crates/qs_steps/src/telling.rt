@@ -1,6 +1,6 @@
 //! The steps of a schedule, told as they are made, and what lies where after it, of any machine.
 
-ghost use Rattle.std.specs.Prelude.{◌≡◌, ◌≤◌, ◌+◌, ◌^◌, ◌++◌, [], false, if◌then◌else◌, true, IfOk, OnOk};
+ghost use Rattle.std.specs.Prelude.{◌≡◌, ◌≤◌, ◌<◌, ◌+◌, ◌^◌, ◌++◌, [], false, if◌then◌else◌, length, true, IfOk, OnOk};
 ghost use Rattle.qs_played.specs.audit.Schedule.{actors_of, rounds_of, schedule};
 ghost use Rattle.qs_steps.specs.Telling.{AreTold, IsAsked, IsScheduleTold, LeadTo, NoneStep, View, asked_line, own_program, steps_from};
 
@@ -56,26 +56,35 @@ pub(crate) trait Machine {
         ensures same { self.new ≡ self.old };
 }
 
-// The picks, one step each.
-fn put_picks<M: Machine>(
+/// How actors are told that are asked to step, and how many were asked before.
+#[derive(Clone, Copy)]
+pub(crate) struct Asked {
+    pub form: Form,
+    pub is_pick: bool,
+    pub before: u64,
+}
+
+/// Some actors, one step each.
+pub(crate) fn put_actors<M: Machine>(
     alloc: Global,
     out: &mut Vec<u8>,
     program: &Program,
-    form: Form,
+    asked: Asked,
     machine: &mut M,
-    picks: &[Actor],
+    actors: &[Actor],
 ) -> Result<(), AllocError>
     requires own { own_program M.view machine.old ≡ program.now }
-    ensures told { OnOk result (AreTold M.view form program.now true 1 picks.now out.old.items machine.old out.new.items machine.new) }
+    requires room { asked.before + length actors.now < 2 ^ 64 }
+    ensures told { OnOk result (AreTold M.view asked.form program.now asked.is_pick (1 + asked.before) actors.now out.old.items machine.old out.new.items machine.new) }
 {
-    let mut number = 0;
-    for pick in picks {
+    let mut number = asked.before;
+    for actor in actors {
         number += 1;
         let turn = Turn {
-            form,
-            is_pick: true,
+            form: asked.form,
+            is_pick: asked.is_pick,
             number,
-            actor: *pick,
+            actor: *actor,
         };
         let _stepped = machine.put_step(alloc, out, program, turn)?;
     }
@@ -160,7 +169,12 @@ fn put_schedule<M: Machine>(
     requires own { own_program M.view machine.old ≡ program.now }
     ensures told { OnOk result (IsScheduleTold M.view form program.now picks.now rounds out.old.items machine.old out.new.items machine.new) }
 {
-    put_picks(alloc, out, program, form, machine, picks)?;
+    let asked = Asked {
+        form,
+        is_pick: true,
+        before: 0,
+    };
+    put_actors(alloc, out, program, asked, machine, picks)?;
     put_rounds(
         alloc,
         out,

@@ -1,10 +1,10 @@
 // Writing with an eye on failures.
 
-ghost use Rattle.std.specs.Prelude.{◌≡◌, ◌<◌, ◌≤◌, IfSome, IsTrue, MatchOption, false, flat_map, is_none, length, not, take, ◌||◌};
+ghost use Rattle.std.specs.Prelude.{◌≡◌, ◌<◌, ◌≤◌, IfSome, IsTrue, MatchOption, false, true, flat_map, is_none, length, not, take, ◌||◌};
 ghost use Rattle.std.specs.Io.KnownBytes.{Appends, Keeps};
 ghost use Rattle.qs_text.specs.Texts.{AppendsFront};
 
-use std::io::Write;
+use std::io::{Error, ErrorKind, Write};
 use std::marker::{Model, PhantomData};
 
 /// What became of the calls of a `W`: whether a write or a flush has failed, and whether the last call was a flush that
@@ -13,6 +13,7 @@ use std::marker::{Model, PhantomData};
 pub struct Watch<W> {
     has_failed: bool,
     is_flushed: bool,
+    is_closed: bool,
     writer: PhantomData<W>,
 }
 
@@ -33,8 +34,28 @@ impl<W> Watch<W> {
         Watch {
             has_failed: false,
             is_flushed: false,
+            is_closed: false,
             writer: PhantomData,
         }
+    }
+}
+
+impl<W> Watch<W> {
+    /// Whether the last call that failed did since the reader had closed its end of a pipe.
+    pub fn is_closed(&self) -> bool {
+        self.is_closed
+    }
+
+    // A call has failed.
+    fn fail(&mut self, error: Option<Error>)
+        ensures failed { self.new.has_failed ≡ true }
+        ensures same { self.new.is_flushed ≡ self.old.is_flushed }
+    {
+        self.has_failed = true;
+        self.is_closed = match error {
+            Some(error) => error.kind() == ErrorKind::BrokenPipe,
+            None => false,
+        };
     }
 }
 
@@ -51,8 +72,8 @@ impl<W: Write> Watch<W> {
         self.is_flushed = false;
         match out.write(bytes) {
             Ok(n) if n > 0 => Some(n),
-            _ => {
-                self.has_failed = true;
+            other => {
+                self.fail(other.err());
                 None
             }
         }
@@ -64,12 +85,17 @@ impl<W: Write> Watch<W> {
         ensures failed { self.new.has_failed ≡ (self.old.has_failed || not result) }
         ensures flushed { self.new.is_flushed ≡ result }
     {
-        let is_done = out.flush().is_ok();
-        self.is_flushed = is_done;
-        if !is_done {
-            self.has_failed = true;
+        match out.flush() {
+            Ok(()) => {
+                self.is_flushed = true;
+                true
+            }
+            Err(error) => {
+                self.is_flushed = false;
+                self.fail(Some(error));
+                false
+            }
         }
-        is_done
     }
 }
 

@@ -1,12 +1,14 @@
 //! What lies where in the optimised machine, and what its clients want next.
 
 ghost use Rattle.std.specs.Prelude.{◌≡◌, ◌<◌, ℕ, IfOk, Some, drop, length};
+ghost use Rattle.qs_client.specs.audit.ClientModel.{has_ended};
 ghost use Rattle.qs_core_laws.specs.audit.CoreSchedule.{is_finished};
 ghost use Rattle.qs_core.specs.parts.CarriedRequests.{first_requests};
 ghost use Rattle.qs_core.specs.parts.CoreClients.{turns_to};
 ghost use Rattle.qs_core.specs.parts.CoreHandlers.{handler_with_act};
 ghost use Rattle.qs_core.specs.state.CoreState.{codes_of, core_of};
 ghost use Rattle.qs_core.specs.CoreEffects.{AreLanesOf, act_at};
+ghost use Rattle.qs_core.specs.CoreOrders.{blocks_begun};
 
 use super::Core;
 use crate::parts::{CoreClient, CoreHandler};
@@ -31,6 +33,24 @@ impl Core<'_> {
     {
         self.machine.keeps_machine();
         handler_at(self.machine.handlers(), handler)
+    }
+
+    /// How many blocks a client of the program has begun.
+    pub fn begun(&self, client: u8) -> usize
+        requires { client < length self.now.program.clients }
+        ensures value { result ≡ blocks_begun self.now client }
+    {
+        self.machine.keeps_machine();
+        self.machine.begun(client)
+    }
+
+    /// Whether the block of this number of a client of the program has ended.
+    pub fn has_ended(&self, client: u8, index: u8) -> bool
+        requires { client < length self.now.program.clients }
+        ensures value { result ≡ has_ended ((core_of self.now).client client) index }
+    {
+        self.machine.keeps_machine();
+        self.machine.has_ended(client, index)
     }
 
     /// A client of the program, with what it wants next and its lanes. It turns to the lane to a handler of the

@@ -52,7 +52,7 @@ with_each s others = map (λ other. (s, other)) others
 -- no two of a pair stand together
 abbrev pub apart : List (Setting × Setting)
 apart =
-    with_each setting.Order (setting.Pick ∷ setting.Rounds ∷ setting.Steps ∷ setting.Queues ∷ [])
+    with_each setting.Order (setting.Pick ∷ setting.Rounds ∷ [])
     ++ with_each setting.Times (setting.Counts ∷ setting.Refusals ∷ [])
     ++ with_each setting.Alike (setting.Ends ∷ setting.After ∷ setting.Threads ∷ [])
     ++ with_each setting.Leads (setting.After ∷ [])

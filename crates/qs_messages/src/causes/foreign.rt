@@ -60,8 +60,8 @@ fn for_statement(word: &[u8]) -> Option<Usual> {
             b"leave it out; `--pick` and `--order` choose a schedule",
         ),
         b"assert" | b"check" => mistake(
-            b"a script has no assertions: a condition stands on the command line",
-            b"`qs ask --always 'ann.x == 1'` says whether it holds at each end",
+            b"a script has no assertions: a claim stands on a comment line of its own",
+            b"write `#? always ann.x == 1` there, and `qs ask` says whether it holds at each end",
         ),
         b"switch" | b"case" | b"match" => mistake(
             b"the only choice is an `if`",

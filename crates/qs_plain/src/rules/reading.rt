@@ -2,9 +2,10 @@
 
 ghost use Rattle.std.specs.Prelude.{◌≡◌, map, option_copied, option_map, slice_get};
 ghost use Rattle.qs_plain.specs.client.Queues.{QueueState};
-ghost use Rattle.qs_plain_laws.specs.audit.Plain.{Handler, handler_at};
-ghost use Rattle.qs_plain_laws.specs.audit.PlainSchedule.{is_finished};
+ghost use Rattle.qs_plain_laws.specs.audit.Plain.{Handler, client_at, handler_at};
+ghost use Rattle.qs_plain_laws.specs.audit.PlainSchedule.{is_finished, is_out};
 ghost use Rattle.qs_plain.specs.Awaiting.{awaited_at};
+ghost use Rattle.qs_plain.specs.Blocks.{blocks_begun};
 ghost use Rattle.qs_plain.specs.Rules.{plain_of};
 
 use super::Rules;
@@ -32,6 +33,20 @@ impl Rules<'_> {
         ensures value { option_copied result ≡ option_map (λ (x : Handler). x.held) (slice_get (plain_of self.now).handlers handler) }
     {
         self.machine.held(handler)
+    }
+
+    /// Whether a client stands between two blocks; one that is not there does.
+    pub fn is_out(&self, client: u8) -> bool
+        ensures value { result ≡ is_out (client_at (plain_of self.now) client).stage }
+    {
+        self.machine.is_out(client)
+    }
+
+    /// How many blocks a client has begun; one that is not there none.
+    pub fn begun(&self, client: u8) -> usize
+        ensures value { result ≡ blocks_begun self.now client }
+    {
+        self.machine.begun(client)
     }
 
     /// What a client waits for; one that is not there is done.

@@ -10,6 +10,7 @@ returns-clause-headline g c =
     headline (map {A = Bor (List ℕ)} {B = List ℕ} (λ word. word.now) c.args.call.words.now) c.args.input.now c.due_of_words-due.new.input _ _ c.finish-status.new.watch.has_failed c.finish-status.result (
       c.due_of_words-due.result.0,
       c.due_of_words-due.result.1,
+      c.as_slice-2.result.now,
       c.due_of_words-due.ensures.due,
       c.due_of_words-due.ensures.format,
       c.finish-status.ensures.front,
@@ -22,6 +23,7 @@ returns-clause-answers g c =
     c.due_of_words-due.new.input _ _ c.finish-status.new.watch.has_failed c.finish-status.result (
       c.due_of_words-due.result.0,
       c.due_of_words-due.result.1,
+      c.as_slice-2.result.now,
       c.due_of_words-due.ensures.due,
       c.due_of_words-due.ensures.format,
       c.finish-status.ensures.front,
@@ -34,6 +36,7 @@ returns-clause-lists g c =
     c.due_of_words-due.new.input _ _ c.finish-status.new.watch.has_failed c.finish-status.result (
       c.due_of_words-due.result.0,
       c.due_of_words-due.result.1,
+      c.as_slice-2.result.now,
       c.due_of_words-due.ensures.due,
       c.due_of_words-due.ensures.format,
       c.finish-status.ensures.front,
@@ -63,5 +66,5 @@ returns-clause-silent g c = λ zero no_terminal no_warnings no_limits.
     Keeps-trans _ _ _ (c.tell_waiting.ensures.silent no_terminal)
     (Keeps-trans _ _ _ (c.due_of_words-due.ensures.silent no_terminal)
     (Keeps-trans _ _ _
-    (c.tell.ensures.silent (zero_is_text c.due_of_words-due.result.0 due) (rw zero refl))
+    (c.tell.ensures.silent (zero_is_text c.due_of_words-due.result.0 due) (c.is_fine.ensures.fine zero))
     (c.tell_beside.ensures.unasked no_terminal no_warnings no_limits)))
